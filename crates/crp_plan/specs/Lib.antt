@@ -1,0 +1,7 @@
+pub mod Rows
+pub mod Bay
+pub mod Kept
+pub mod Faults
+pub mod Walks
+pub mod Plans
+pub mod BayNames
