@@ -5,3 +5,4 @@ pub mod Faults
 pub mod Walks
 pub mod Plans
 pub mod BayNames
+pub mod Devices

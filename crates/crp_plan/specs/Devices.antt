@@ -1,0 +1,29 @@
+-- Sources and sinks of bytes: the count of their failures, and the front of a text that a sink took.
+use Rattle.std.specs.Prelude.{◌≡◌, ℕ, ◌+◌, ◌-◌, ◌^◌, ◌<◌, ◌≤◌, List, length, take, Option, Result, MatchResult}
+use Rattle.std.specs.Io.KnownBytes.{Appends}
+
+-- The count has grown by one. It stops at the largest u64.
+abbrev pub CountsOne : ℕ → ℕ → Type 0
+CountsOne old new = (old < 2 ^ 64 - 1 → new ≡ old + 1) × (2 ^ 64 - 1 ≤ old → new ≡ old)
+
+-- A source counts each Err.
+abbrev pub CountsRead : {E : Type 0} → ℕ → ℕ → Result ℕ E → Type 0
+CountsRead old new r = MatchResult r (λ _. new ≡ old) (λ _. CountsOne old new)
+
+-- A sink counts an answer of 0 to a piece that is not empty.
+abbrev pub CountsTaken : ℕ → ℕ → ℕ → List ℕ → Type 0
+CountsTaken old new n piece = (0 < n → new ≡ old) × (length piece ≡ 0 → new ≡ old)
+    × (n ≡ 0 → 0 < length piece → CountsOne old new)
+
+-- A sink counts that answer, and each Err.
+abbrev pub CountsWrite : {E : Type 0} → ℕ → ℕ → Result ℕ E → List ℕ → Type 0
+CountsWrite old new r piece =
+    MatchResult r (λ n. CountsTaken old new n piece) (λ _. CountsOne old new)
+
+-- The count has grown, where it was not at its end.
+abbrev pub HasFailed : ℕ → ℕ → Type 0
+HasFailed old new = old < 2 ^ 64 - 1 → old < new
+
+-- Known bytes grow by a front of the text.
+abbrev pub AppendsFront : Option (List ℕ) → Option (List ℕ) → List ℕ → Type 0
+AppendsFront old new text = (n : ℕ) × Appends old new (take n text)

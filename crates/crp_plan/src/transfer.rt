@@ -1,0 +1,170 @@
+//! A whole text, from a source or to a sink.
+ghost use Rattle.std.specs.Prelude.{◌≡◌, ℕ, List, ◌+◌, ◌-◌, ◌<◌, ◌≤◌, ◌++◌, false, true, length, take, vec_len, IfOk, IfSome, OnOk, OnErr, IsErrOf, flat_map};
+ghost use Rattle.std.specs.Io.KnownBytes.{Appends, Consumes, Keeps, IsAtEnd};
+ghost use Rattle.crp_plan.specs.Devices.{AppendsFront, HasFailed};
+
+use crate::device::{Failure, Sink, Source};
+use std::alloc::Global;
+use thiserror::Error;
+
+/// Why a text was not read.
+#[derive(Clone, Copy, Debug, Drop, PartialEq, Eq, Error)]
+pub enum ReadFault {
+    /// The source failed, or was interrupted once too often.
+    #[error("a read failed")]
+    Failed,
+    /// More bytes came than are allowed.
+    #[error("too many bytes")]
+    TooLarge,
+    /// No memory is left.
+    #[error("no memory is left")]
+    Memory,
+}
+
+/// The sink failed, was interrupted once too often, or took nothing of a piece.
+#[derive(Clone, Copy, Debug, Drop, PartialEq, Eq, Error)]
+#[error("a write failed")]
+pub struct WriteFailed;
+
+/// How many interrupted calls a run passes over.
+pub const MOST_INTERRUPTIONS: u32 = 1000;
+
+const PIECE: usize = 4096;
+
+// One read. The answer says whether more may come.
+fn read_piece<R: Source>(
+    reader: &mut R,
+    bytes: &mut Vec<u8>,
+    limit: usize,
+    interruptions: &mut u32,
+) -> Result<bool, ReadFault>
+    requires within { vec_len bytes.old ≤ limit }
+    requires passed { interruptions.old ≤ 1000 }
+    ensures grows { OnOk result ((got : List ℕ) × (bytes.new.items ≡ bytes.old.items ++ got)
+        × Consumes (R.remaining reader.old) (R.remaining reader.new) got) }
+    ensures end { IfOk result (λ more. more ≡ false → IsAtEnd (R.remaining reader.new)) }
+    ensures within { OnOk result (vec_len bytes.new ≤ limit) }
+    ensures nearer { IfOk result (λ more. more ≡ true
+        → limit + 1000 + vec_len bytes.old + interruptions.old < limit + 1000 + vec_len bytes.new + interruptions.new) }
+    ensures large { IsErrOf result ReadFault.TooLarge
+        → IfSome (R.remaining reader.old) (λ xs. limit < vec_len bytes.old + length xs) }
+    ensures failed { IsErrOf result ReadFault.Failed
+        → HasFailed (R.failures reader.old) (R.failures reader.new) }
+    ensures count { R.failures reader.old ≤ R.failures reader.new }
+    ensures passed { (interruptions.old ≤ interruptions.new) × (interruptions.new ≤ 1000) }
+{
+    let mut piece = [0u8; PIECE];
+    match reader.read(&mut piece) {
+        Ok(0) => Ok(false),
+        Ok(n) => {
+            if limit - bytes.len() < n {
+                return Err(ReadFault::TooLarge);
+            }
+            match bytes.extend_from_slice(&piece[..n]) {
+                Ok(()) => Ok(true),
+                Err(_) => Err(ReadFault::Memory),
+            }
+        }
+        Err(Failure::Interrupted) => {
+            if *interruptions >= MOST_INTERRUPTIONS {
+                return Err(ReadFault::Failed);
+            }
+            *interruptions += 1;
+            Ok(true)
+        }
+        Err(Failure::Failed) => Err(ReadFault::Failed),
+    }
+}
+
+/// All that a source has left, where that is no more than `limit` bytes.
+pub fn read_all<R: Source>(
+    alloc: Global,
+    reader: &mut R,
+    limit: usize,
+    interruptions: &mut u32,
+) -> Result<Vec<u8>, ReadFault>
+    requires { interruptions.old ≤ 1000 }
+    ensures all { IfOk result (λ bytes. IfSome (R.remaining reader.old) (λ xs. bytes.items ≡ xs)) }
+    ensures end { OnOk result (IsAtEnd (R.remaining reader.new)) }
+    ensures within { IfOk result (λ bytes. vec_len bytes ≤ limit) }
+    ensures large { IsErrOf result ReadFault.TooLarge
+        → IfSome (R.remaining reader.old) (λ xs. limit < length xs) }
+    ensures failed { IsErrOf result ReadFault.Failed
+        → HasFailed (R.failures reader.old) (R.failures reader.new) }
+    ensures count { R.failures reader.old ≤ R.failures reader.new }
+    ensures passed { (interruptions.old ≤ interruptions.new) × (interruptions.new ≤ 1000) }
+{
+    let mut bytes = Vec::new(alloc);
+    while read_piece(reader, &mut bytes, limit, interruptions)? {}
+    Ok(bytes)
+}
+
+// One write of a text that is not empty. The answer is how much of it was taken.
+fn write_piece<W: Sink>(
+    writer: &mut W,
+    text: &[u8],
+    interruptions: &mut u32,
+) -> Result<usize, WriteFailed>
+    requires some { 0 < length text.now }
+    requires passed { interruptions.old ≤ 1000 }
+    ensures bound { IfOk result (λ n. n ≤ length text.now) }
+    ensures ok { IfOk result (λ n. Appends (W.contents writer.old) (W.contents writer.new) (take n text.now)) }
+    ensures err { OnErr result (Keeps (W.contents writer.old) (W.contents writer.new)) }
+    ensures nearer { IfOk result (λ n. interruptions.old < n + interruptions.new) }
+    ensures failed { OnErr result (HasFailed (W.failures writer.old) (W.failures writer.new)) }
+    ensures count { W.failures writer.old ≤ W.failures writer.new }
+    ensures passed { (interruptions.old ≤ interruptions.new) × (interruptions.new ≤ 1000) }
+{
+    match writer.write(text) {
+        Ok(0) => Err(WriteFailed),
+        Ok(n) => Ok(n),
+        Err(Failure::Interrupted) => {
+            if *interruptions >= MOST_INTERRUPTIONS {
+                return Err(WriteFailed);
+            }
+            *interruptions += 1;
+            Ok(0)
+        }
+        Err(Failure::Failed) => Err(WriteFailed),
+    }
+}
+
+/// Hands a whole text to a sink.
+pub fn write_all<W: Sink>(
+    writer: &mut W,
+    text: &[u8],
+    interruptions: &mut u32,
+) -> Result<(), WriteFailed>
+    requires { interruptions.old ≤ 1000 }
+    ensures all { OnOk result (Appends (W.contents writer.old) (W.contents writer.new) text.now) }
+    ensures front { AppendsFront (W.contents writer.old) (W.contents writer.new) text.now }
+    ensures failed { OnErr result (HasFailed (W.failures writer.old) (W.failures writer.new)) }
+    ensures count { W.failures writer.old ≤ W.failures writer.new }
+    ensures passed { (interruptions.old ≤ interruptions.new) × (interruptions.new ≤ 1000) }
+{
+    let mut rest = text;
+    while !rest.is_empty() {
+        let n = write_piece(writer, rest, interruptions)?;
+        rest = &rest[n..];
+    }
+    Ok(())
+}
+
+/// Hands several texts to a sink, one after the other.
+pub fn write_each<W: Sink>(
+    writer: &mut W,
+    texts: &[Vec<u8>],
+    interruptions: &mut u32,
+) -> Result<(), WriteFailed>
+    requires { interruptions.old ≤ 1000 }
+    ensures all { OnOk result (Appends (W.contents writer.old) (W.contents writer.new) (flat_map (λ text. text.items) texts.now)) }
+    ensures front { AppendsFront (W.contents writer.old) (W.contents writer.new) (flat_map (λ text. text.items) texts.now) }
+    ensures failed { OnErr result (HasFailed (W.failures writer.old) (W.failures writer.new)) }
+    ensures count { W.failures writer.old ≤ W.failures writer.new }
+    ensures passed { (interruptions.old ≤ interruptions.new) × (interruptions.new ≤ 1000) }
+{
+    for text in texts {
+        write_all(writer, text, interruptions)?;
+    }
+    Ok(())
+}
