@@ -1,0 +1,10 @@
+//! The program `crp`.
+#![tactic(auto)]
+
+mod move_lines;
+
+use std::process::ExitCode;
+
+fn main(_rt: HostRuntime) -> ExitCode {
+    ExitCode::from(0)
+}

@@ -1,0 +1,120 @@
+//! The moves of a plan as lines of text.
+ghost use Rattle.std.specs.Prelude.{◌≡◌, ◌≤◌, ◌<◌, ◌+◌, ◌-◌, ℕ, suc, List, [], ◌++◌, ◌∷◌, IfOk, OnOk, length, map, codes, decimal, vec_len};
+ghost use Rattle.crp_plan.specs.declared.moves.Move.{Move as Step};
+ghost use Rattle.crp_plan.specs.Rows.{total};
+ghost use Rattle.crp_plan.specs.Bay.{Position, IsSound, Legal, IsPlan, path_of, start};
+ghost use Rattle.crp.specs.MoveLines.{stack_at, top_of, name_of, rank_names, place, container, move_line, TellsMoves};
+
+use crp_plan::{Move, Plan, Walk};
+use itoa::Buffer;
+use std::alloc::{AllocError, Global};
+
+/// The numbers of the ranks from 1 as their names.
+pub fn names_of_ranks(alloc: Global, containers: u8) -> Result<Vec<Vec<u8>>, AllocError>
+    ensures { IfOk result (λ names. map (λ name. name.items) names.items ≡ rank_names containers) }
+{
+    let mut names = Vec::new(alloc);
+    for i in 0..containers {
+        let mut name = Vec::new(alloc);
+        push_decimal(&mut name, i + 1)?;
+        names.push(name)?;
+    }
+    Ok(names)
+}
+
+fn push_decimal(text: &mut Vec<u8>, n: u8) -> Result<(), AllocError>
+    ensures { OnOk result (text.new.items ≡ text.old.items ++ decimal n) }
+{
+    let mut digits = Buffer::new();
+    text.extend_from_slice(digits.format(n).as_bytes())
+}
+
+fn push_place(text: &mut Vec<u8>, row: u8, tier: u8) -> Result<(), AllocError>
+    ensures { OnOk result (text.new.items ≡ text.old.items ++ place row tier) }
+{
+    text.push(b' ')?;
+    push_decimal(text, row)?;
+    text.push(b'.')?;
+    push_decimal(text, tier)
+}
+
+// What a rank is called.
+fn name_at(names: &[Vec<u8>], rank: u8) -> &[u8]
+    ensures { result.now ≡ name_of (map (λ name. name.items) names.now) rank }
+{
+    match names.get(rank.saturating_sub(1) as usize) {
+        Some(name) => name.as_slice(),
+        None => b"",
+    }
+}
+
+fn push_container(text: &mut Vec<u8>, names: &[Vec<u8>], rank: u8) -> Result<(), AllocError>
+    ensures { OnOk result (text.new.items ≡ text.old.items ++ container (map (λ name. name.items) names.now) rank) }
+{
+    text.push(b' ')?;
+    text.extend_from_slice(name_at(names, rank))?;
+    text.push(b'\n')?;
+    Ok(())
+}
+
+// The line of a move, before it is made.
+fn push_line(
+    text: &mut Vec<u8>,
+    names: &[Vec<u8>],
+    walk: &Walk,
+    step: Move,
+) -> Result<(), AllocError>
+    requires sound { IsSound walk.now }
+    requires legal { (t : Position) × Legal walk.now step t }
+    ensures { OnOk result (text.new.items ≡ text.old.items ++ move_line (map (λ name. name.items) names.now) walk.now step) }
+{
+    match step {
+        Move::Shift { from, to } => {
+            let stack = walk.stack(from);
+            text.extend_from_slice(b"shift")?;
+            push_place(text, from, stack.len() as u8)?;
+            push_place(text, to, walk.stack(to).len() as u8 + 1)?;
+            push_container(text, names, stack[stack.len() - 1])
+        }
+        Move::Take { row } => {
+            text.extend_from_slice(b"take")?;
+            push_place(text, row, walk.stack(row).len() as u8)?;
+            push_container(text, names, walk.next())
+        }
+    }
+}
+
+// Makes a legal move.
+fn make(walk: &mut Walk, step: Move)
+    requires sound { IsSound walk.old }
+    requires legal { (t : Position) × Legal walk.old step t }
+    ensures { Legal walk.old step walk.new }
+{
+    match step {
+        Move::Shift { to, .. } => {
+            let _from = walk.shift(to);
+        }
+        Move::Take { .. } => {
+            let _row = walk.take_next();
+        }
+    }
+}
+
+/// The lines of all moves of a plan.
+pub fn lines_of(
+    alloc: Global,
+    plan: &Plan,
+    moves: &[Move],
+    names: &[Vec<u8>],
+) -> Result<Vec<u8>, AllocError>
+    requires { IsPlan plan.now.problem moves.now }
+    ensures { IfOk result (λ text. TellsMoves (map (λ name. name.items) names.now) (start plan.now.problem) moves.now text.items) }
+{
+    let mut walk = Walk::before(plan.problem());
+    let mut text = Vec::new(alloc);
+    for step in moves {
+        push_line(&mut text, names, &walk, *step)?;
+        make(&mut walk, *step);
+    }
+    Ok(text)
+}
