@@ -15,7 +15,8 @@ use Rattle.crp_cert.specs.declared.head.Head.{Head}
 use Rattle.crp_cert.specs.declared.size.Size.{Size}
 use Rattle.crp_cert.specs.Reading.{tag_at}
 use Rattle.crp_cert.specs.Text.{title_line, bay_line, size_line, row_line, claim_line, plan_line, head_text, size_of, IsSize, IsHead}
-use Rattle.crp_cert.proofs.Parts.{AreLow, tag_again, bay_once, size_once, rows_once, claim_once, plan_once}
+use Rattle.crp_cert.proofs.Numbers.{tag_again}
+use Rattle.crp_cert.proofs.Lines.{AreLow, bay_once, size_once, rows_once, claim_once, plan_once}
 
 pub head_then : (head : Head) (rest : List ℕ) → head_text head ++ rest
     ≡ title_line ++ (bay_line head.bay ++ (size_line (size_of head.problem) ++ (flat_map row_line head.problem.stacks ++ (claim_line head.claim ++ (plan_line head.plan ++ rest)))))

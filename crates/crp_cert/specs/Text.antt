@@ -62,3 +62,7 @@ pub record IsHead (head : Head) : Type 0 where
 abbrev pub head_text : Head → List ℕ
 head_text head =
     title_line ++ (bay_line head.bay ++ (size_line (size_of head.problem) ++ (flat_map row_line head.problem.stacks ++ (claim_line head.claim ++ plan_line head.plan))))
+
+-- the bytes begin with the head's text; what follows it is anything
+abbrev pub IsHeadOf : List ℕ → Head → Type 0
+IsHeadOf bytes head = IsHead head × ((rest : List ℕ) × (bytes ≡ head_text head ++ rest))

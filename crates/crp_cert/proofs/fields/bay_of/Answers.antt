@@ -1,7 +1,7 @@
 use Rattle.std.proofs.Common.{◌++◌, sym, ap, ◌∙◌, refl, subst}
 use Rattle.crp_plan.specs.BayNames.{YardBay, IsYardBay}
 use Rattle.crp_cert.specs.Text.{bay_line}
-use Rattle.crp_cert.proofs.Parts.{name_none, name_is, name_takes}
+use Rattle.crp_cert.proofs.Lines.{name_none, name_is, name_takes}
 use Rattle.crp_cert.proofs.fields.bay_of.Goals as goal
 
 pub returns-in_default-clause-none : goal.returns-in_default-clause-none
