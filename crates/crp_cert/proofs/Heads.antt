@@ -1,0 +1,93 @@
+-- A text begins with at most one head's text.
+use Rattle.std.proofs.Common.{◌≡◌, ℕ, ◌*◌, ◌≤◌, List, [], ◌∷◌, ◌++◌, length, get_or, Option, sym, ap, ◌∙◌, arith, append_assoc, All}
+use Rattle.std.specs.List.{flat_map, AllByRecursion}
+use Rattle.std.proofs.lemmas.List.{get_or-replicate}
+use Rattle.std.proofs.lemmas.List.Elements.{recursion_from_All}
+use Rattle.std.proofs.lemmas.List.Sums.{sum_by-cons}
+use Rattle.std.proofs.lemmas.Option.{same_Some}
+use Rattle.crp_plan.specs.BayNames.{YardBay}
+use Rattle.crp_plan.specs.Rows.{total, tallest, FitRows}
+use Rattle.crp_plan.specs.Bay.{Problem, IsProblem}
+use Rattle.crp_plan.specs.Faults.{stated}
+use Rattle.crp_plan.proofs.Steps.{same_rows}
+use Rattle.crp_plan.proofs.Tallies.{low_heights, tallest_low, few_containers, cap_low, in_bay}
+use Rattle.crp_cert.specs.declared.head.Head.{Head}
+use Rattle.crp_cert.specs.declared.size.Size.{Size}
+use Rattle.crp_cert.specs.Reading.{tag_at}
+use Rattle.crp_cert.specs.Text.{title_line, bay_line, size_line, row_line, claim_line, plan_line, head_text, size_of, IsSize, IsHead}
+use Rattle.crp_cert.proofs.Numbers.{tag_again}
+use Rattle.crp_cert.proofs.Lines.{AreLow, bay_once, size_once, rows_once, claim_once, plan_once}
+
+pub head_then : (head : Head) (rest : List ℕ) → head_text head ++ rest
+    ≡ title_line ++ (bay_line head.bay ++ (size_line (size_of head.problem) ++ (flat_map row_line head.problem.stacks ++ (claim_line head.claim ++ (plan_line head.plan ++ rest)))))
+head_then head rest =
+    let claims : List ℕ = claim_line head.claim in let plans : List ℕ = plan_line head.plan in
+    let rows : List ℕ = flat_map row_line head.problem.stacks in let sizes : List ℕ = size_line (size_of head.problem) in let bays : List ℕ = bay_line head.bay in
+    five title_line bays sizes rows claims plans rest
+  where
+    five : (t b s r c p rest : List ℕ) → (t ++ (b ++ (s ++ (r ++ (c ++ p))))) ++ rest ≡ t ++ (b ++ (s ++ (r ++ (c ++ (p ++ rest)))))
+    five t b s r c p rest = simp append_assoc
+
+all_low : (heights : List ℕ) → AllByRecursion (λ height. height ≤ tallest heights) heights
+all_low heights = below (tallest heights) heights (omega arith)
+  where
+    below : (m : ℕ) (heights : List ℕ) → tallest heights ≤ m → AllByRecursion (λ height. height ≤ m) heights
+    below m [] le = tt
+    below m (height ∷ heights) le = (omega arith, below m heights (omega arith))
+
+room : (m : ℕ) (heights : List ℕ) (stacks : List (List ℕ)) → FitRows heights stacks → AllByRecursion (λ height. height ≤ m) heights → total stacks ≤ length stacks * m
+room m [] [] fit low = omega arith
+room m [] (stack ∷ stacks) fit low = absurd fit
+room m (height ∷ heights) [] fit low = absurd fit
+room m (height ∷ heights) (stack ∷ stacks) fit low =
+    let a = fit.0 in let b = low.0 in
+    omega (arith, sum_by-cons length stack stacks, room m heights stacks fit.1 low.1)
+
+pub size_is : (head : Head) → IsHead head → IsSize (size_of head.problem)
+size_is head is =
+    let p : Problem = head.problem in
+    let rows : length p.stacks ≡ length p.heights = same_rows p.heights p.stacks is.problem.stacks_fit in
+    let some = is.problem.some_rows in let few = is.problem.few_rows in
+    let first : get_or p.heights 0 0 ≡ tallest p.heights = ap (λ l. get_or l 0 0) is.same_heights ∙ get_or-replicate (length p.stacks) 0 (tallest p.heights) 0 (omega arith) in
+    let high = (is.problem.heights_fit 0 0 (omega arith)).0 in
+    record {
+      some_rows = omega arith;
+      few_rows = omega arith;
+      some_tiers = omega (arith, first, high);
+      few_tiers = tallest_low 8 p.heights (low_heights p is.problem);
+      ordered_fit = is.problem.ordered_fit;
+      room = room (tallest p.heights) p.heights p.stacks is.problem.stacks_fit (all_low p.heights);
+    }
+
+pub stacks_low : (p : Problem) → IsProblem p → AllByRecursion (AreLow 8) p.stacks
+stacks_low p is = both p.heights p.stacks is.stacks_fit (low_heights p is)
+    (in_bay (λ x. x ≤ 99) p.stacks (λ x some. let h = is.no_other x some in omega (arith, few_containers p is, h.1)))
+  where
+    both : (heights : List ℕ) (stacks : List (List ℕ)) → FitRows heights stacks → AllByRecursion (λ height. height ≤ 8) heights → AllByRecursion (λ stack. All (λ x. x ≤ 99) stack) stacks → AllByRecursion (AreLow 8) stacks
+    both [] [] fit low ranks = tt
+    both [] (stack ∷ stacks) fit low ranks = absurd fit
+    both (height ∷ heights) [] fit low ranks = absurd fit
+    both (height ∷ heights) (stack ∷ stacks) fit low ranks =
+        let a = fit.0 in let b = low.0 in
+        ((omega arith, recursion_from_All (λ x. x ≤ 99) stack ranks.0), both heights stacks fit.1 low.1 ranks.1)
+
+problem_is : (head : Head) → IsHead head → head.problem ≡ stated (size_of head.problem).tiers (size_of head.problem).ordered head.problem.stacks
+problem_is head is = ap (λ (h : List ℕ). record head.problem { heights = h }) is.same_heights
+
+pub head_once : (a b : Head) (x y : List ℕ) → IsHead a → IsHead b → head_text a ++ x ≡ head_text b ++ y → (a ≡ b) × (x ≡ y)
+head_once a b x y is-a is-b e =
+    let e0 = sym (head_then a x) ∙ e ∙ head_then b y in
+    let e1 = same_Some _ _ (sym (tag_again title_line _) ∙ ap (tag_at title_line) e0 ∙ tag_again title_line _) in
+    let bays = bay_once a.bay b.bay _ _ is-a.name is-b.name e1 in
+    let sizes = size_once (size_of a.problem) (size_of b.problem) _ _ (size_is a is-a) (size_is b is-b) bays.1 in
+    let len : length a.problem.stacks ≡ length b.problem.stacks = ap (λ (s : Size). s.rows) sizes.0 in
+    let rows = rows_once 8 a.problem.stacks b.problem.stacks _ _ len (stacks_low a.problem is-a.problem) (stacks_low b.problem is-b.problem) sizes.1 in
+    let problems : a.problem ≡ b.problem =
+    problem_is a is-a ∙ ap (λ (s : Size). stated s.tiers s.ordered a.problem.stacks) sizes.0 ∙ ap (stated (size_of b.problem).tiers (size_of b.problem).ordered) rows.0 ∙ sym (problem_is b is-b) in
+    let low-a = cap_low a.problem is-a.problem in let low-b = cap_low b.problem is-b.problem in let c-a = is-a.claim in let c-b = is-b.claim in
+    let claims = claim_once 673 a.claim b.claim _ _ (omega arith) (omega arith) (omega arith) rows.1 in
+    let plans = plan_once a.plan b.plan x y is-a.plan is-b.plan claims.1 in (
+      ap (λ (n : YardBay). record a { bay = n }) bays.0 ∙ ap (λ (p : Problem). record a { bay = b.bay; problem = p }) problems
+          ∙ ap (λ (n : ℕ). record a { bay = b.bay; problem = b.problem; claim = n }) claims.0 ∙ ap (λ (o : Option (List ℕ)). record b { plan = o }) plans.0,
+      plans.1,
+    )

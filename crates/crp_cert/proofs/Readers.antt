@@ -1,0 +1,100 @@
+-- Readers of a line: what is read is what the line says, and the line is read again.
+use Rattle.std.proofs.Common.{◌≡◌, ℕ, ◌≤◌, Bool, true, cond, List, [], ◌∷◌, ◌++◌, length, Option, Some, None, refl, sym, ap, ◌∙◌, nat_le, ◌&&◌, subst}
+use Rattle.std.specs.Prelude.{IfSome}
+use Rattle.std.specs.List.{list_all, AllByRecursion}
+use Rattle.std.proofs.lemmas.Bool.{and_parts, and_from, leb-true, le-leb}
+use Rattle.std.proofs.lemmas.Option.{none-some, some_pair_parts}
+use Rattle.std.proofs.lemmas.List.Elements.{recursion_from_All, All-from_recursion}
+use Rattle.crp_plan.specs.BayNames.{YardBay, IsYardBay}
+use Rattle.crp_cert.specs.Text.{bay_line, size_line, claim_line, plan_line, IsSize, AreRows}
+use Rattle.crp_cert.specs.Faults.{BeginsWith}
+use Rattle.crp_cert.specs.Reading.{◌>>=◌, name_at, size_at, claim_at, plan_at}
+use Rattle.crp_cert.proofs.Numbers.{bind_some, if_some}
+use Rattle.crp_cert.proofs.Lines.{name_takes, name_again, size_takes, size_again, claim_takes, claim_again, plan_takes, plan_again, plan_low}
+
+pub record IsReader {A : Type 0} (fits : A → Type 0) (line : A → List ℕ) (at : List ℕ → Option (A × List ℕ)) : Type 0 where
+  pub takes : (bytes : List ℕ) (x : A) (rest : List ℕ) → at bytes ≡ Some (x, rest) → fits x × (bytes ≡ line x ++ rest)
+  pub again : (x : A) (rest : List ℕ) → fits x → at (line x ++ rest) ≡ Some (x, rest)
+
+-- where nothing is read, no line stands that may
+pub none_stands : {A : Type 0} {fits : A → Type 0} {line : A → List ℕ} {at : List ℕ → Option (A × List ℕ)} → IsReader fits line at → (bytes : List ℕ) → at bytes ≡ None → ¬ BeginsWith fits line bytes
+none_stands {at = at} reads bytes e stands = none-some (stands.0, stands.2.0) (sym e ∙ ap at stands.2.1 ∙ reads.again stands.0 stands.2.0 stands.1)
+
+-- and where no line stands that may, nothing is read
+pub none_read : {A : Type 0} {fits : A → Type 0} {line : A → List ℕ} {at : List ℕ → Option (A × List ℕ)} → IsReader fits line at → (bytes : List ℕ) → ¬ BeginsWith fits line bytes → at bytes ≡ None
+none_read {A} {fits} {line} {at} reads bytes nothing = by_cases (at bytes) refl
+  where
+    by_cases : (o : Option (A × List ℕ)) → at bytes ≡ o → at bytes ≡ None
+    by_cases None e = e
+    by_cases (Some x) e = let t = reads.takes bytes x.0 x.1 e in absurd (nothing (x.0, t.0, (x.1, t.1)))
+
+-- a test of each element
+pub all_to : {X : Type 0} (P : X → Type 0) (p : X → Bool) → ((x : X) → p x ≡ true → P x) → (xs : List X) → list_all p xs ≡ true → AllByRecursion P xs
+all_to P p h [] e = tt
+all_to P p h (x ∷ xs) e = let a = and_parts (p x) (list_all p xs) e in (h x a.0, all_to P p h xs a.1)
+
+pub all_from : {X : Type 0} (P : X → Type 0) (p : X → Bool) → ((x : X) → P x → p x ≡ true) → (xs : List X) → AllByRecursion P xs → list_all p xs ≡ true
+all_from P p h [] all = refl
+all_from P p h (x ∷ xs) all = and_from (p x) (list_all p xs) (h x all.0) (all_from P p h xs all.1)
+
+-- ---- the name of a bay
+
+abbrev is_printed : ℕ → Bool
+is_printed b = nat_le 33 b && nat_le b 126
+
+abbrev is_yard_bay : YardBay → Bool
+is_yard_bay name = nat_le 1 (length name.block) && (nat_le (length name.block) 17 && (list_all is_printed name.block && (nat_le 1 name.bay && nat_le name.bay 9999)))
+
+named_to : (name : YardBay) → is_yard_bay name ≡ true → IsYardBay name
+named_to name e =
+    let a = and_parts (nat_le 1 (length name.block)) (nat_le (length name.block) 17 && (list_all is_printed name.block && (nat_le 1 name.bay && nat_le name.bay 9999))) e in
+    let b = and_parts (nat_le (length name.block) 17) (list_all is_printed name.block && (nat_le 1 name.bay && nat_le name.bay 9999)) a.1 in
+    let c = and_parts (list_all is_printed name.block) (nat_le 1 name.bay && nat_le name.bay 9999) b.1 in
+    let d = and_parts (nat_le 1 name.bay) (nat_le name.bay 9999) c.1 in
+    record {
+      some_characters = leb-true 1 (length name.block) a.0;
+      few_characters = leb-true (length name.block) 17 b.0;
+      printed = All-from_recursion (λ b. (33 ≤ b) × (b ≤ 126)) name.block (all_to (λ b. (33 ≤ b) × (b ≤ 126)) is_printed (λ b e. let p = and_parts (nat_le 33 b) (nat_le b 126) e in (leb-true 33 b p.0, leb-true b 126 p.1)) name.block c.0);
+      counts = leb-true 1 name.bay d.0;
+      four_digits = leb-true name.bay 9999 d.1;
+    }
+
+named_from : (name : YardBay) → IsYardBay name → is_yard_bay name ≡ true
+named_from name is =
+    and_from _ _ (le-leb 1 (length name.block) is.some_characters) (and_from _ _ (le-leb (length name.block) 17 is.few_characters)
+    (and_from _ _ (all_from (λ b. (33 ≤ b) × (b ≤ 126)) is_printed (λ b h. and_from (nat_le 33 b) (nat_le b 126) (le-leb 33 b h.0) (le-leb b 126 h.1)) name.block (recursion_from_All (λ b. (33 ≤ b) × (b ≤ 126)) name.block is.printed))
+    (and_from _ _ (le-leb 1 name.bay is.counts) (le-leb name.bay 9999 is.four_digits))))
+
+abbrev to_name : List ℕ × ℕ → YardBay
+to_name x = record { block = x.0; bay = x.1 }
+
+abbrev kept_name : (List ℕ × ℕ) × List ℕ → Option (YardBay × List ℕ)
+kept_name x = cond (is_yard_bay (to_name x.0)) (Some (to_name x.0, x.1)) None
+
+abbrev pub bay_at : List ℕ → Option (YardBay × List ℕ)
+bay_at bytes = name_at bytes >>= kept_name
+
+pub bay_reader : IsReader IsYardBay bay_line bay_at
+bay_reader = record { takes = takes; again = again }
+  where
+    takes : (bytes : List ℕ) (name : YardBay) (rest : List ℕ) → bay_at bytes ≡ Some (name, rest) → IsYardBay name × (bytes ≡ bay_line name ++ rest)
+    takes bytes name rest e =
+        let x = bind_some (name_at bytes) kept_name (name, rest) e in
+        let k = if_some (is_yard_bay (to_name x.0.0)) (Some (to_name x.0.0, x.0.1)) (name, rest) x.2 in
+        let p = some_pair_parts (to_name x.0.0) name x.0.1 rest k.1 in
+        let t = (name_takes bytes x.0.0.0 x.0.0.1 x.0.1 x.1).0 in
+        (subst IsYardBay p.0 (named_to (to_name x.0.0) k.0), t ∙ ap (λ (n : YardBay). bay_line n ++ x.0.1) p.0 ∙ ap (λ l. bay_line name ++ l) p.1)
+
+    again : (name : YardBay) (rest : List ℕ) → IsYardBay name → bay_at (bay_line name ++ rest) ≡ Some (name, rest)
+    again name rest is = ap (λ o. o >>= kept_name) (name_again name rest is) ∙ ap (λ (b : Bool). cond b (Some (name, rest)) None) (named_from name is)
+
+-- ---- the other lines
+
+pub size_reader : IsReader IsSize size_line size_at
+size_reader = record { takes = size_takes; again = size_again }
+
+pub claim_reader : (most : ℕ) → most ≤ 9999 → IsReader (λ claim. claim ≤ most) claim_line (claim_at most)
+claim_reader most few = record { takes = claim_takes most; again = λ claim rest low. claim_again most claim rest low few }
+
+pub plan_reader : IsReader (λ plan. IfSome plan AreRows) plan_line plan_at
+plan_reader = record { takes = plan_takes; again = λ plan rest fits. plan_again plan rest (plan_low plan fits) }

@@ -1,0 +1,233 @@
+//! The fields of a line.
+ghost use Rattle.std.specs.Prelude.{◌≡◌, ◌≤◌, ◌<◌, ◌+◌, ◌*◌, ◌-◌, ◌^◌, ◌++◌, ℕ, List, IfOk, IfSome, IfNone, length, drop, codes};
+ghost use Rattle.crp_plan.specs.BayNames.{YardBay, IsYardBay};
+ghost use Rattle.crp_cert.specs.Text.{bay_line};
+ghost use Rattle.crp_cert.specs.Reading.{Reads, tag_at, digits_at, number_at, spaced_at, newline_at, numbers_at, word_at, size_at, claim_at, is_size, name_at, row_at, plan_at};
+
+use crate::rows::Rows;
+use crate::size::Size;
+use crp_plan::BayName;
+use std::alloc::{AllocError, Global};
+
+/// What follows a tag.
+pub fn after_tag<'a>(tag: &[u8], bytes: &'a [u8]) -> Option<&'a [u8]>
+    ensures { Reads (λ x. x.now) result (tag_at tag.now bytes.now) }
+{
+    let mut rest = bytes;
+    for t in tag {
+        let [b, after @ ..] = rest else {
+            return None;
+        };
+        if *b != *t {
+            return None;
+        }
+        rest = after;
+    }
+    Some(rest)
+}
+
+fn further_digits(limit: u32, first: u32, bytes: &[u8]) -> Option<(u32, &[u8])>
+    requires limit { limit ≤ 9999 }
+    requires first { first ≤ limit }
+    ensures value { Reads (λ x. (x.0, x.1.now)) result (digits_at limit first bytes.now) }
+    ensures low { IfSome result (λ x. x.0 ≤ limit) }
+{
+    let mut value = first;
+    for (i, b) in bytes.iter().enumerate() {
+        if *b < b'0' || *b > b'9' {
+            return Some((value, &bytes[i..]));
+        }
+        let more = 10 * value + (*b - b'0') as u32;
+        if more > limit {
+            return None;
+        }
+        value = more;
+    }
+    Some((value, &bytes[bytes.len()..]))
+}
+
+fn number(limit: u32, bytes: &[u8]) -> Option<(u32, &[u8])>
+    requires most { limit ≤ 9999 }
+    requires least { 9 ≤ limit }
+    ensures value { Reads (λ x. (x.0, x.1.now)) result (number_at limit bytes.now) }
+    ensures low { IfSome result (λ x. x.0 ≤ limit) }
+{
+    match bytes {
+        [b'0', rest @ ..] => Some((0, rest)),
+        [b, rest @ ..] if *b >= b'0' && *b <= b'9' => further_digits(
+            limit,
+            (*b - b'0') as u32,
+            rest,
+        ),
+        _ => None,
+    }
+}
+
+/// A space and a number up to the limit.
+pub fn spaced(limit: u32, bytes: &[u8]) -> Option<(u32, &[u8])>
+    requires most { limit ≤ 9999 }
+    requires least { 9 ≤ limit }
+    ensures value { Reads (λ x. (x.0, x.1.now)) result (spaced_at limit bytes.now) }
+    ensures low { IfSome result (λ x. x.0 ≤ limit) }
+{
+    match bytes {
+        [b' ', rest @ ..] => number(limit, rest),
+        _ => None,
+    }
+}
+
+/// What follows the end of the line.
+pub fn after_newline(bytes: &[u8]) -> Option<&[u8]>
+    ensures { Reads (λ x. x.now) result (newline_at bytes.now) }
+{
+    match bytes {
+        [b'\n', rest @ ..] => Some(rest),
+        _ => None,
+    }
+}
+
+/// What stands before the first space, and what stands from there on.
+pub fn word(bytes: &[u8]) -> Option<(&[u8], &[u8])>
+    ensures { Reads (λ x. (x.0.now, x.1.now)) result (word_at bytes.now) }
+{
+    for (i, b) in bytes.iter().enumerate() {
+        if *b == b' ' {
+            return Some(bytes.split_at(i));
+        }
+    }
+    None
+}
+
+#[tactic(auto, unfolding(crate::specs::Reading::size_at))]
+pub fn size_of(bytes: &[u8]) -> Option<(Size, &[u8])>
+    ensures { Reads (λ x. (x.0, x.1.now)) result (size_at bytes.now) }
+{
+    let rest = after_tag(b"size", bytes)?;
+    let (rows, rest) = spaced(99, rest)?;
+    let (tiers, rest) = spaced(99, rest)?;
+    let (ordered, rest) = spaced(99, rest)?;
+    let (total, rest) = spaced(99, rest)?;
+    let rest = after_newline(rest)?;
+    let size = Size {
+        rows: rows as u8,
+        tiers: tiers as u8,
+        ordered: ordered as u8,
+        total: total as u8,
+    };
+    if !is_allowed(size) {
+        return None;
+    }
+    Some((size, rest))
+}
+
+fn is_allowed(size: Size) -> bool
+    requires rows { size.rows ≤ 99 }
+    requires tiers { size.tiers ≤ 99 }
+    ensures { result ≡ is_size size }
+{
+    size.rows >= 1
+        && size.rows <= 12
+        && size.tiers >= 1
+        && size.tiers <= 8
+        && size.ordered <= size.total
+        && size.total as u32 <= size.rows as u32 * size.tiers as u32
+}
+
+#[tactic(auto, unfolding(crate::specs::Reading::claim_at))]
+pub fn claim_of(cap: u32, bytes: &[u8]) -> Option<(u32, &[u8])>
+    ensures { Reads (λ x. (x.0, x.1.now)) result (claim_at cap bytes.now) }
+{
+    let rest = after_tag(b"at least", bytes)?;
+    let (claim, rest) = spaced(9999, rest)?;
+    let rest = after_newline(rest)?;
+    if claim > cap {
+        return None;
+    }
+    Some((claim, rest))
+}
+
+/// Numbers of one or two digits to the end of the line, at most so many.
+pub fn numbers(
+    alloc: Global,
+    most: usize,
+    bytes: &[u8],
+) -> Result<Option<(Vec<u8>, &[u8])>, AllocError>
+    requires { most ≤ 672 }
+    ensures { IfOk result (λ found. Reads (λ x. (x.0.items, x.1.now)) found (numbers_at most bytes.now)) }
+{
+    let mut numbers = Vec::new(alloc);
+    let mut rest = bytes;
+    for _ in 0..most {
+        if let Some(after) = after_newline(rest) {
+            return Ok(Some((numbers, after)));
+        }
+        let Some((number, after)) = spaced(99, rest) else {
+            return Ok(None);
+        };
+        numbers.push(number as u8)?;
+        rest = after;
+    }
+    match after_newline(rest) {
+        Some(after) => Ok(Some((numbers, after))),
+        None => Ok(None),
+    }
+}
+
+#[tactic(auto, unfolding(crate::specs::Reading::name_at))]
+fn name_of(bytes: &[u8]) -> Option<((&[u8], u32), &[u8])>
+    ensures value { Reads (λ x. ((x.0.0.now, x.0.1), x.1.now)) result (name_at bytes.now) }
+    ensures low { IfSome result (λ x. x.0.1 ≤ 9999) }
+{
+    let rest = after_tag(b"bay ", bytes)?;
+    let (block, rest) = word(rest)?;
+    let (bay, rest) = spaced(9999, rest)?;
+    let rest = after_newline(rest)?;
+    Some(((block, bay), rest))
+}
+
+/// The name of the bay that a line says.
+pub fn bay_of(bytes: &[u8]) -> Option<(BayName, &[u8])>
+    ensures found { IfSome result (λ x. IsYardBay x.0 × (bytes.now ≡ bay_line x.0 ++ x.1.now)) }
+    ensures none { IfNone result ((name : YardBay) (rest : List ℕ) → IsYardBay name → bytes.now ≡ bay_line name ++ rest → ⊥) }
+{
+    let Some(((block, bay), rest)) = name_of(bytes) else {
+        return None;
+    };
+    let Some(name) = BayName::new(block, bay as u16) else {
+        return None;
+    };
+    Some((name, rest))
+}
+
+/// The ranks of a row, at most so many, of one or two digits.
+#[tactic(auto, unfolding(crate::specs::Reading::row_at))]
+pub fn row_of(
+    alloc: Global,
+    most: usize,
+    bytes: &[u8],
+) -> Result<Option<(Vec<u8>, &[u8])>, AllocError>
+    requires { most ≤ 672 }
+    ensures { IfOk result (λ found. Reads (λ x. (x.0.items, x.1.now)) found (row_at most bytes.now)) }
+{
+    let Some(rest) = after_tag(b"row", bytes) else {
+        return Ok(None);
+    };
+    numbers(alloc, most, rest)
+}
+
+/// What a plan line says: the rows of a plan, or that there is none.
+#[tactic(auto, unfolding(crate::specs::Reading::plan_at))]
+pub fn plan_of(alloc: Global, bytes: &[u8]) -> Result<Option<(Option<Rows>, &[u8])>, AllocError>
+    ensures { IfOk result (λ found. Reads (λ x. (x.0, x.1.now)) found (plan_at bytes.now)) }
+{
+    let Some(rest) = after_tag(b"plan", bytes) else {
+        return Ok(None);
+    };
+    if let Some(after) = after_tag(b" -\n", rest) {
+        return Ok(Some((None, after)));
+    }
+    match numbers(alloc, 672, rest)? {
+        Some((rows, after)) => Ok(Some((Some(Rows::of(rows)), after))),
+        None => Ok(None),
+    }
+}

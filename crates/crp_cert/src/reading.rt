@@ -1,0 +1,108 @@
+//! Reading the head of a certificate.
+ghost use Rattle.std.specs.Prelude.{◌≡◌, ℕ, ◌≤◌, ◌<◌, ◌+◌, ◌⊎◌, List, ◌++◌, ◌∷◌, [], IfOk, IfErr, IfSome, IfNone, length, vec_len};
+ghost use Rattle.std.specs.List.{flat_map};
+ghost use Rattle.crp_plan.specs.Faults.{stacks_of, stated};
+ghost use Rattle.crp_cert.specs.Text.{IsSize, IsHeadOf, row_line};
+ghost use Rattle.crp_cert.specs.Faults.{BeginsWith, AreFirstStacks, IsNextStack, IsFirstFault};
+ghost use Rattle.crp_cert.specs.Reading.{IsStackFault};
+
+use crate::fault::CertFault;
+use crate::fields::{after_tag, bay_of, claim_of, plan_of, row_of, size_of};
+use crate::head::Head;
+use crate::ranks::{are_all, are_new};
+use crate::size::Size;
+use crp_plan::Problem;
+use std::alloc::{AllocError, Global};
+
+/// Adds the stack that the next row line tells, and gives what follows the line; none where no
+/// stack may be told there.
+fn next_stack<'a>(
+    alloc: Global,
+    size: Size,
+    stacks: &mut Vec<Vec<u8>>,
+    bytes: &'a [u8],
+) -> Result<Option<&'a [u8]>, AllocError>
+    requires size { IsSize size }
+    requires first { AreFirstStacks size (stacks_of stacks.old.items) }
+    requires more { vec_len stacks.old < size.rows }
+    ensures found { IfOk result (λ told. IfSome told (λ rest. (stack : List ℕ) × IsNextStack size (stacks_of stacks.old.items) stack × (bytes.now ≡ row_line stack ++ rest.now) × (stacks_of stacks.new.items ≡ stacks_of stacks.old.items ++ stack ∷ []))) }
+    ensures none { IfOk result (λ told. IfNone told (¬ BeginsWith (IsNextStack size (stacks_of stacks.old.items)) row_line bytes.now)) }
+{
+    let Some((stack, rest)) = row_of(alloc, size.tiers as usize, bytes)? else {
+        return Ok(None);
+    };
+    if !are_new(size.total, &stack, stacks) {
+        return Ok(None);
+    }
+    stacks.push(stack)?;
+    if stacks.len() == size.rows as usize && !are_all(size.total, stacks) {
+        return Ok(None);
+    }
+    Ok(Some(rest))
+}
+
+/// The stacks that the row lines tell, and what follows the last of these lines.
+fn all_stacks(alloc: Global, size: Size, bytes: &[u8]) -> Result<(Vec<Vec<u8>>, &[u8]), CertFault>
+    requires { IsSize size }
+    ensures first { IfOk result (λ told. AreFirstStacks size (stacks_of told.0.items)) }
+    ensures all { IfOk result (λ told. vec_len told.0 ≡ size.rows) }
+    ensures text { IfOk result (λ told. bytes.now ≡ flat_map row_line (stacks_of told.0.items) ++ told.1.now) }
+    ensures refused { IfErr result (λ fault. (fault ≡ CertFault.Memory) ⊎ IsStackFault size bytes.now fault) }
+{
+    let mut stacks = Vec::new(alloc);
+    let mut rest = bytes;
+    for row in 0..size.rows {
+        let Some(after) = next_stack(alloc, size, &mut stacks, rest)? else {
+            return Err(CertFault::Row {
+                line: 4 + row as u32,
+            });
+        };
+        rest = after;
+    }
+    Ok((stacks, rest))
+}
+
+/// The problem that a size and all stacks of the bay tell.
+fn problem_of(size: Size, stacks: &[Vec<u8>]) -> Problem
+    requires size { IsSize size }
+    requires first { AreFirstStacks size (stacks_of stacks.now) }
+    requires all { length stacks.now ≡ size.rows }
+    ensures { result ≡ stated size.tiers size.ordered (stacks_of stacks.now) }
+{
+    match Problem::new(size.tiers, size.ordered, stacks) {
+        Ok(problem) => problem,
+        Err(_) => unreachable!(),
+    }
+}
+
+/// The head that the bytes begin with, down to its plan line. What follows is not looked at. Else
+/// the first line that is not as said, or that no memory is left.
+pub fn read_head(alloc: Global, bytes: &[u8]) -> Result<Head, CertFault>
+    ensures found { IfOk result (IsHeadOf bytes.now) }
+    ensures refused { IfErr result (λ fault. (fault ≡ CertFault.Memory) ⊎ IsFirstFault bytes.now fault) }
+{
+    let Some(rest) = after_tag(b"CRP-CERT 1\n", bytes) else {
+        return Err(CertFault::Opening { line: 1 });
+    };
+    let Some((bay, rest)) = bay_of(rest) else {
+        return Err(CertFault::Opening { line: 2 });
+    };
+    let Some((size, rest)) = size_of(rest) else {
+        return Err(CertFault::Size { line: 3 });
+    };
+    let (stacks, rest) = all_stacks(alloc, size, rest)?;
+    let problem = problem_of(size, &stacks);
+    let line = 4 + size.rows as u32;
+    let Some((claim, rest)) = claim_of(problem.cap(), rest) else {
+        return Err(CertFault::Claim { line });
+    };
+    let Some((plan, _)) = plan_of(alloc, rest)? else {
+        return Err(CertFault::Plan { line: line + 1 });
+    };
+    Ok(Head {
+        bay,
+        problem,
+        claim,
+        plan,
+    })
+}
