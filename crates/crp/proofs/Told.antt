@@ -2,8 +2,7 @@
 use Rattle.std.proofs.Common.{◌≡◌, ℕ, ◌≤◌, ◌-◌, List, [], ◌∷◌, ◌++◌, length, Option, Some, None, IfSome, IfNone, slice_get, drop, get_or, ◌+◌, ◌<◌, drop-cons, add-one, refl, sym, ap, ◌∙◌, subst, arith, append_assoc, append-nil}
 use Rattle.std.proofs.lemmas.Option.{slice_get_within}
 use Rattle.crp_plan.specs.declared.moves.Move.{Move}
-use Rattle.crp_plan.specs.declared.moves.Move.TheVariants.{Shift, Take}
-use Rattle.crp_plan.specs.Bay.{Position, IsSound, IsTaken, IsShifted, Legal, Runs, IsFinished}
+use Rattle.crp_plan.specs.Bay.{Position, IsSound, IsTaken, IsShifted, Legal, Runs}
 use Rattle.crp_plan.specs.Walks.{NoneToTake}
 use Rattle.crp_plan.proofs.Sound.{sound_legal}
 use Rattle.crp_plan.proofs.Determined.{one_take, one_source, legal_is}

@@ -2,6 +2,8 @@
 #![tactic(auto)]
 
 mod move_lines;
+mod outcome;
+mod replaying;
 
 use std::process::ExitCode;
 

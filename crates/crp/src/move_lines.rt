@@ -6,7 +6,7 @@ ghost use Rattle.crp_plan.specs.Bay.{Position, IsSound, Legal, IsPlan, path_of, 
 ghost use Rattle.crp.specs.MoveLines.{stack_at, top_of, name_of, rank_names, place, container, move_line, TellsMoves};
 
 use crp_plan::{Move, Plan, Walk};
-use itoa::Buffer;
+use itoa::{Buffer, Integer};
 use std::alloc::{AllocError, Global};
 
 /// The numbers of the ranks from 1 as their names.
@@ -22,8 +22,9 @@ pub fn names_of_ranks(alloc: Global, containers: u8) -> Result<Vec<Vec<u8>>, All
     Ok(names)
 }
 
-fn push_decimal(text: &mut Vec<u8>, n: u8) -> Result<(), AllocError>
-    ensures { OnOk result (text.new.items ≡ text.old.items ++ decimal n) }
+/// Adds a number in decimal.
+pub fn push_decimal<N: Integer>(text: &mut Vec<u8>, n: N) -> Result<(), AllocError>
+    ensures { OnOk result (text.new.items ≡ text.old.items ++ N.text n) }
 {
     let mut digits = Buffer::new();
     text.extend_from_slice(digits.format(n).as_bytes())

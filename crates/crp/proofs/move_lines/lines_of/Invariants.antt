@@ -1,6 +1,6 @@
 -- The other moves go on from here, and what they tell stands behind the lines so far.
-use Rattle.std.proofs.Common.{List, map, drop}
-use Rattle.crp_plan.specs.Bay.{Position, start}
+use Rattle.std.proofs.Common.{map, drop}
+use Rattle.crp_plan.specs.Bay.{start}
 use Rattle.crp.proofs.Told.{IsTold}
 use Rattle.crp.proofs.move_lines.lines_of.Given as goal
 

@@ -1,0 +1,73 @@
+-- A call of a command over a source and a sink: what it saw, what it wrote, and what each fault tells.
+use Rattle.std.specs.Prelude.{◌≡◌, ℕ, ◌<◌, List, length, Option, IfSome, Result, Ok, Err}
+use Rattle.std.specs.Io.KnownBytes.{Appends, Keeps}
+use Rattle.crp_plan.specs.Devices.{AppendsFront, HasFailed}
+use Rattle.crp_plan.specs.declared.transfer.ReadFault.{ReadFault}
+use Rattle.crp_plan.specs.declared.transfer.ReadFault.TheVariants as reading
+use Rattle.crp_cert.specs.declared.fault.CertFault.{CertFault}
+use Rattle.crp_cert.specs.declared.fault.CertFault.TheVariants as cert
+use Rattle.crp.specs.declared.outcome.Status.{Status}
+use Rattle.crp.specs.declared.outcome.Status.TheVariants as status
+use Rattle.crp.specs.declared.outcome.ToolFault.{ToolFault}
+use Rattle.crp.specs.declared.outcome.ToolFault.TheVariants as fault
+
+-- these bytes are those that a source had, where it told them
+abbrev pub IsGiven : Option (List ℕ) → List ℕ → Type 0
+IsGiven known text = IfSome known (λ xs. text ≡ xs)
+
+-- what a call saw and left: the bytes that its source had, what its sink held before and holds after, and both counts of failures
+-- before and after
+pub record Seen : Type 0 where
+  pub given : Option (List ℕ)
+  pub held : Option (List ℕ)
+  pub holds : Option (List ℕ)
+  pub source_before : ℕ
+  pub source_after : ℕ
+  pub sink_before : ℕ
+  pub sink_after : ℕ
+
+-- the whole report of the bytes that the source had was written, and nothing else
+abbrev pub Writes : (List ℕ → List ℕ → Type 0) → Seen → Type 0
+Writes IsReport s = (text : List ℕ) × (report : List ℕ) × IsGiven s.given text × IsReport text report × Appends s.held s.holds report
+
+-- the bytes that the source had are refused in this way, and nothing was written
+abbrev pub RefusedWith : (List ℕ → ToolFault → Type 0) → Seen → ToolFault → Type 0
+RefusedWith IsRefused s f = Keeps s.held s.holds × ((text : List ℕ) × IsGiven s.given text × IsRefused text f)
+
+-- what a fault tells of a call that writes a report of at most `limit` bytes: a refusal, a read or a write that has failed in this call,
+-- more bytes than the limit, or want of memory; a front of the report may have been written only where a write failed
+abbrev pub Tells : ℕ → (List ℕ → List ℕ → Type 0) → (List ℕ → ToolFault → Type 0) → Seen → ToolFault → Type 0
+Tells limit IsReport IsRefused s (fault.Cert f) = RefusedWith IsRefused s (fault.Cert f)
+Tells limit IsReport IsRefused s (fault.Plan f) = RefusedWith IsRefused s (fault.Plan f)
+Tells limit IsReport IsRefused s fault.Read = Keeps s.held s.holds × HasFailed s.source_before s.source_after
+Tells limit IsReport IsRefused s fault.Write = HasFailed s.sink_before s.sink_after
+    × ((text : List ℕ) × (report : List ℕ) × IsGiven s.given text × IsReport text report × AppendsFront s.held s.holds report)
+Tells limit IsReport IsRefused s fault.TooLarge = Keeps s.held s.holds × IfSome s.given (λ xs. limit < length xs)
+Tells limit IsReport IsRefused s fault.Memory = Keeps s.held s.holds
+
+-- how a command tells what went wrong in a layer below
+abbrev pub read_told : ReadFault → ToolFault
+read_told reading.Failed = fault.Read
+read_told reading.TooLarge = fault.TooLarge
+read_told reading.Memory = fault.Memory
+
+abbrev pub cert_told : CertFault → ToolFault
+cert_told (cert.Opening line) = fault.Cert (cert.Opening line)
+cert_told (cert.Size line) = fault.Cert (cert.Size line)
+cert_told (cert.Row line) = fault.Cert (cert.Row line)
+cert_told (cert.Claim line) = fault.Cert (cert.Claim line)
+cert_told (cert.Plan line) = fault.Cert (cert.Plan line)
+cert_told cert.Memory = fault.Memory
+
+-- the exit status of the program: 0 decided, 1 a budget ended, 3 input refused, 4 want of memory, 5 a read or write fault, 6 a certificate,
+-- head or plan refused
+abbrev pub exit_code : Result Status ToolFault → ℕ
+exit_code (Ok status.Decided) = 0
+exit_code (Ok status.Budget) = 1
+exit_code (Ok status.Memory) = 4
+exit_code (Err fault.TooLarge) = 3
+exit_code (Err fault.Memory) = 4
+exit_code (Err fault.Read) = 5
+exit_code (Err fault.Write) = 5
+exit_code (Err (fault.Cert f)) = 6
+exit_code (Err (fault.Plan f)) = 6

@@ -1,0 +1,95 @@
+//! The command `replay`: from the bytes of a certificate's head to the moves of its plan.
+ghost use Rattle.std.specs.Prelude.{◌≡◌, ℕ, List, ◌++◌, ◌∷◌, [], IfOk, IfErr, OnOk, MatchResult, codes, decimal, length};
+ghost use Rattle.crp_plan.specs.Bay.{IsPlan, path_of, relocations};
+ghost use Rattle.crp_plan.specs.Rows.{total};
+ghost use Rattle.crp_cert.specs.Text.{bay_line};
+ghost use Rattle.crp.specs.Calls.{Seen, Writes, Tells};
+ghost use Rattle.crp.specs.MoveLines.{TellsMoves};
+ghost use Rattle.crp.specs.Replay.{count_line, TellsPlan, IsHeadReport, IsReplay, IsNoReplay, IsNoReport};
+
+use crate::move_lines::{lines_of, names_of_ranks, push_decimal};
+use crate::outcome::{Status, ToolFault};
+use crp_cert::{Head, read_head};
+use crp_plan::{BayName, Move, Plan, Sink, Source, read_all, write_all};
+use std::alloc::{AllocError, Global};
+
+/// The most bytes of a certificate file.
+pub const MOST_BYTES: usize = 268_435_456;
+
+fn push_bay(text: &mut Vec<u8>, bay: &BayName) -> Result<(), AllocError>
+    ensures { OnOk result (text.new.items ≡ text.old.items ++ bay_line bay.now) }
+{
+    text.extend_from_slice(b"bay ")?;
+    text.extend_from_slice(bay.block())?;
+    text.push(b' ')?;
+    push_decimal(text, bay.bay())?;
+    text.push(b'\n')?;
+    Ok(())
+}
+
+fn push_count(text: &mut Vec<u8>, moves: &[Move], count: u32) -> Result<(), AllocError>
+    requires { count ≡ relocations moves.now }
+    ensures { OnOk result (text.new.items ≡ text.old.items ++ count_line moves.now) }
+{
+    text.extend_from_slice(b"moves ")?;
+    push_decimal(text, moves.len())?;
+    text.extend_from_slice(b" relocations ")?;
+    push_decimal(text, count)?;
+    text.push(b'\n')?;
+    Ok(())
+}
+
+// The count of a plan's moves, and its moves, with ranks as names.
+fn push_plan(alloc: Global, text: &mut Vec<u8>, plan: &Plan) -> Result<(), AllocError>
+    ensures { OnOk result ((more : List ℕ) × TellsPlan plan.now.problem plan.now.path more × (text.new.items ≡ text.old.items ++ more)) }
+{
+    let moves = plan.moves(alloc)?;
+    let names = names_of_ranks(alloc, plan.problem().total())?;
+    let lines = lines_of(alloc, plan, &moves, &names)?;
+    push_count(text, &moves, plan.count())?;
+    text.extend_from_slice(&lines)
+}
+
+// What is told of a head.
+fn report_of(alloc: Global, head: &Head) -> Result<Vec<u8>, ToolFault>
+    ensures told { IfOk result (λ report. IsHeadReport head.now report.items) }
+    ensures refused { IfErr result (IsNoReport head.now) }
+{
+    let mut report = Vec::new(alloc);
+    push_bay(&mut report, &head.bay)?;
+    match &head.plan {
+        None => {
+            report.extend_from_slice(b"no plan\n")?;
+            Ok(report)
+        }
+        Some(rows) => {
+            let plan = Plan::from_rows(&head.problem, rows.as_slice())?;
+            push_plan(alloc, &mut report, &plan)?;
+            Ok(report)
+        }
+    }
+}
+
+/// Writes the bay of the head that a source's bytes begin with, and the moves of its plan.
+pub fn replay<R: Source, W: Sink>(
+    alloc: Global,
+    reader: &mut R,
+    writer: &mut W,
+) -> Result<Status, ToolFault>
+    ensures { let seen : Seen = record {
+      given = R.remaining reader.old;
+      held = W.contents writer.old;
+      holds = W.contents writer.new;
+      source_before = R.failures reader.old;
+      source_after = R.failures reader.new;
+      sink_before = W.failures writer.old;
+      sink_after = W.failures writer.new;
+    } in MatchResult result (λ status. (status ≡ Status.Decided) × Writes IsReplay seen) (Tells 268435456 IsReplay IsNoReplay seen) }
+{
+    let mut interruptions = 0;
+    let bytes = read_all(alloc, reader, MOST_BYTES, &mut interruptions)?;
+    let head = read_head(alloc, &bytes)?;
+    let report = report_of(alloc, &head)?;
+    write_all(writer, &report, &mut interruptions)?;
+    Ok(Status::Decided)
+}
