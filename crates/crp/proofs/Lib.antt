@@ -1,3 +1,4 @@
 -- Lemmas on what is written.
 pub mod Told
 pub mod Replayed
+pub mod Asking

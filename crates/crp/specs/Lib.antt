@@ -2,3 +2,4 @@
 pub mod MoveLines
 pub mod Calls
 pub mod Replay
+pub mod Words

@@ -1,9 +1,11 @@
 //! The program `crp`.
 #![tactic(auto)]
 
+mod job;
 mod move_lines;
 mod outcome;
 mod replaying;
+mod words;
 
 use std::process::ExitCode;
 
