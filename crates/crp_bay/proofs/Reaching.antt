@@ -1,10 +1,10 @@
 -- Positions that paths lead to, and how they go on.
-use Rattle.std.proofs.Common.{◌≡◌, ◌≢◌, ℕ, zero, suc, ◌+◌, ◌-◌, ◌<◌, ◌≤◌, Bool, true, false, not, ◌==◌, ◌&&◌, nat_le, nat_lt, List, [], ◌∷◌, ◌++◌, length, filter, Contains, All, get_or, Some, slice_get, refl, sym, ap, ◌∙◌, subst, ⊎_elim, arith, append-nil}
+use Rattle.std.proofs.Common.{◌≡◌, ℕ, zero, suc, ◌+◌, ◌-◌, ◌<◌, ◌≤◌, Bool, true, false, not, ◌==◌, List, [], ◌∷◌, ◌++◌, length, filter, Contains, All, get_or, Some, slice_get, refl, sym, ap, ◌∙◌, subst, ⊎_elim, arith, append-nil}
 use Rattle.std.specs.List.Sorted.{IsStrictlyIncreasing}
 use Rattle.std.proofs.lemmas.List.Elements.{filter-append}
-use Rattle.std.proofs.lemmas.Option.{same_Some, slice_get_within, get_or_from_slice_get, slice_get-get_or}
-use Rattle.std.proofs.lemmas.Bool.{cases_Bool, and_from, both_ways, le-leb, lt-ltb, eqb-true, false_from_ne_true, ne_eqb, not_from_false}
-use Rattle.crp_plan.specs.Rows.{holds, total, FitRows}
+use Rattle.std.proofs.lemmas.Option.{same_Some}
+use Rattle.std.proofs.lemmas.Bool.{cases_Bool, and_from, both_ways, le-leb, lt-ltb, false_from_ne_true, ne_eqb, not_from_false}
+use Rattle.crp_plan.specs.Rows.{holds, total}
 use Rattle.crp_plan.specs.Bay.{Problem, IsProblem, start, Position, IsSound, IsAt, IsShifted, Runs, IsFinished}
 use Rattle.crp_plan.specs.Walks.{NoneToTake, Settles}
 use Rattle.crp_plan.specs.declared.moves.Move.{Move}
@@ -12,9 +12,9 @@ use Rattle.crp_plan.specs.declared.moves.Move.TheVariants.{Shift, Take}
 use Rattle.crp_plan.proofs.Lists.{times_held}
 use Rattle.crp_plan.proofs.Covered.{at_sound}
 use Rattle.crp_plan.proofs.Paths.{same_at}
-use Rattle.crp_plan.proofs.Steps.{at_first, at_next, goes_by, heights_kept, same_rows, within}
+use Rattle.crp_plan.proofs.Steps.{at_next, goes_by, heights_kept, same_rows, within}
 use Rattle.crp_plan.proofs.Tallies.{few_containers}
-use Rattle.crp_bay.specs.Positions.{place, source, stack_at, settled, can_shift, child, counted, targets}
+use Rattle.crp_bay.specs.Positions.{source, stack_at, settled, can_shift, child, counted, targets}
 use Rattle.crp_bay.specs.Reached.{IsReached, IsLegalRow, HasRoom}
 use Rattle.crp_bay.proofs.Walked.{placed, is_place, begins_at, Allows, allows, row_is_target, target_goes_on, every_target, rises}
 use Rattle.crp_bay.proofs.Walked as walked

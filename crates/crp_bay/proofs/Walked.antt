@@ -1,18 +1,18 @@
 -- The computed position at a path is the position at the path.
-use Rattle.std.proofs.Common.{◌≡◌, ◌≢◌, ℕ, zero, suc, ◌+◌, ◌-◌, ◌<◌, ◌≤◌, ◌⊎◌, inl, inr, ⊎_elim, Bool, true, false, cond, not, ◌==◌, ◌&&◌, nat_le, nat_lt, ◌↔◌, List, [], ◌∷◌, ◌++◌, length, filter, Contains, get_or, Option, Some, None, slice_get, slice_set, refl, sym, ap, ◌∙◌, subst, arith, append_assoc, append-nil, add-one}
-use Rattle.std.proofs.lemmas.Option.{same_Some, slice_get_within, get_or_from_slice_get, slice_get-get_or}
-use Rattle.std.proofs.lemmas.Bool.{cases_Bool, cases_eq, cases_lt, or_cases, or_left, or_right, and_parts, and_from, leb-true, le-leb, ltb-true, lt-ltb, eq-eqb, eqb-true, eqb-false, ne_eqb, both_ways, not-true, not_from_false}
+use Rattle.std.proofs.Common.{◌≡◌, ◌≢◌, ℕ, zero, suc, ◌+◌, ◌-◌, ◌<◌, ◌≤◌, ◌⊎◌, inl, inr, ⊎_elim, Bool, true, false, not, ◌==◌, ◌&&◌, nat_le, nat_lt, List, [], ◌∷◌, ◌++◌, length, filter, Contains, get_or, Some, None, slice_get, slice_set, refl, sym, ap, ◌∙◌, subst, arith, append_assoc, append-nil, add-one}
+use Rattle.std.proofs.lemmas.Option.{same_Some, get_or_from_slice_get, slice_get-get_or}
+use Rattle.std.proofs.lemmas.Bool.{cases_Bool, cases_eq, or_cases, or_left, or_right, and_parts, and_from, leb-true, le-leb, ltb-true, lt-ltb, eq-eqb, eqb-true, eqb-false, ne_eqb, both_ways, not-true, not_from_false}
 use Rattle.crp_plan.specs.declared.moves.Move.{Move}
 use Rattle.crp_plan.specs.declared.moves.Move.TheVariants.{Shift, Take}
 use Rattle.crp_plan.specs.Rows.{holds, occurrences, FitRows}
-use Rattle.crp_plan.specs.Bay.{Problem, IsProblem, start, IsAt, Position, IsSound, IsTaken, IsShifted, Legal, Runs, IsFinished, path_of}
+use Rattle.crp_plan.specs.Bay.{Problem, IsProblem, start, IsAt, Position, IsSound, IsTaken, IsShifted, Runs, path_of}
 use Rattle.crp_bay.specs.Positions.{top, without_top, ends_in, place, source, stack_at, can_take, taken, settle, settled, can_shift, shifted, child, counted, targets, walk, at}
 use Rattle.crp_plan.proofs.Lists.{times, times_held, times_not_held, times_push, same_is_one, snoc_parts}
 use Rattle.crp_plan.proofs.Determined.{same_row, no_shift_beside_take, times_top, times_under}
 use Rattle.crp_plan.proofs.Sound.{sound_legal, sound_start, sound_taken}
 use Rattle.crp_plan.proofs.Paths.{NoTake, same_at, last_shift}
-use Rattle.crp_plan.proofs.Covered.{Settled, passes, at_sound, at_child}
-use Rattle.crp_bay.proofs.Members.{not_in_nil, in_head, in_tail, in_cons_cases, in_filter, from_filter}
+use Rattle.crp_plan.proofs.Covered.{passes, at_sound, at_child}
+use Rattle.crp_bay.proofs.Members.{in_head, in_tail, in_filter, from_filter}
 
 -- a stack with something in it is its rest and its top
 pub top_splits : (x : ℕ) (ys : List ℕ) → x ∷ ys ≡ without_top (x ∷ ys) ++ top (x ∷ ys) ∷ []

@@ -41,6 +41,7 @@ fn six_containers_three_relocations(rt: HostRuntime) -> Result<(), Fail> {
     targets_are(&rt, &start, &[2, 3]);
     assert_eq!(rt; start.next(), 1);
     assert_eq!(rt; start.ordered(), 6);
+    assert_eq!(rt; start.rows(), 3);
     assert_eq!(rt; start.height(3), 3);
     for (row, fits) in [(0, false), (1, false), (2, true), (3, true), (4, false)] {
         assert_eq!(rt; start.fits(row), fits, "row {row}");

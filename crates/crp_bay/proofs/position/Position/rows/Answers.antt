@@ -1,5 +1,4 @@
-use Rattle.std.proofs.Common.{arith, ap, length}
-use Rattle.crp_plan.specs.Bay.{Position}
+use Rattle.std.proofs.Common.{arith}
 use Rattle.crp_bay.proofs.Reaching.{reached_rows}
 use Rattle.crp_bay.proofs.position.Position.rows.Goals as goal
 

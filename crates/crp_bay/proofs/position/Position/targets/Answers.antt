@@ -1,7 +1,6 @@
 use Rattle.arrayvec.specs.ArrayVec.{ArrayVec}
-use Rattle.std.proofs.Common.{[], ◌∷◌, length-append, ◌≡◌, List, length, sym, ap, ◌∙◌, subst, arith, ℕ, Contains, ◌-◌}
+use Rattle.std.proofs.Common.{[], ◌∷◌, length-append, ◌≡◌, length, sym, ap, ◌∙◌, subst, arith, ℕ}
 use Rattle.std.specs.List.Sorted.{IsStrictlyIncreasing}
-use Rattle.crp_bay.specs.Reached.{IsLegalRow}
 use Rattle.crp_bay.specs.Positions.{can_shift, targets}
 use Rattle.crp_bay.proofs.Reaching.{looked_yes, looked_no, looked_all, targets_legal, targets_rise, no_targets}
 use Rattle.crp_bay.proofs.position.Position.targets.Goals as goal
