@@ -16,6 +16,7 @@ use Rattle.crp_plan.proofs.Steps.{at_next, goes_by, heights_kept, same_rows, wit
 use Rattle.crp_plan.proofs.Tallies.{few_containers}
 use Rattle.crp_bay.specs.Positions.{source, stack_at, settled, can_shift, child, counted, targets}
 use Rattle.crp_bay.specs.Reached.{IsReached, IsLegalRow, HasRoom}
+use Rattle.crp_bay.proofs.Members.{from_filter}
 use Rattle.crp_bay.proofs.Walked.{placed, is_place, begins_at, Allows, allows, row_is_target, target_goes_on, every_target, rises}
 use Rattle.crp_bay.proofs.Walked as walked
 
@@ -94,6 +95,10 @@ stops_target s w row e r none c =
 -- the targets are the legal rows
 pub targets_legal : (s : Position) (p : Problem) (path : List ℕ) (row : ℕ) → IsProblem p → IsAt p path s → (Contains (targets s) row → IsLegalRow p path row) × (IsLegalRow p path row → Contains (targets s) row)
 targets_legal s p path row is a = (λ c. (child s row, target_goes_on p path s row is a c), λ l. (every_target p path s row l.0 is a l.1).0)
+
+-- the computed test of a row tells the targets
+pub can_from_target : (s : Position) (row : ℕ) → Contains (targets s) row → can_shift s row ≡ true
+can_from_target s row c = (from_filter (can_shift s) (counted 1 (length s.heights)) row c).0
 
 -- the test of a row
 pub shift_fits : (s : Position) (row : ℕ) (stack : List ℕ) → IsReached s → s.next ≤ s.ordered → HasRoom s row → slice_get s.stacks (row - 1) ≡ Some stack → holds s.next stack ≡ false → can_shift s row ≡ true

@@ -14,6 +14,7 @@ pub fn walks()
     ensures goes_on { (p : Problem) (path : List ℕ) (s : Place) (row : ℕ) → IsProblem p → IsAt p path s → Contains (targets s) row → IsAt p (path ++ row ∷ []) (child s row) }
     ensures every_row { (p : Problem) (path : List ℕ) (s : Place) (row : ℕ) (t : Place) → IsProblem p → IsAt p path s → IsAt p (path ++ row ∷ []) t → Contains (targets s) row × (child s row ≡ t) }
     ensures rising { (s : Place) → IsStrictlyIncreasing (targets s) }
+    ensures row_test { (s : Place) (row : ℕ) → (Contains (targets s) row ↔ IsTrue (can_shift s row)) }
 {}
 
 /// What holds in every position that a path leads to.
