@@ -24,38 +24,47 @@ use Rattle.crp_bay.proofs.Walked as walked
 pub reached_sound : (s : Position) → IsReached s → IsSound s
 reached_sound s r = at_sound r.problem r.path s r.is_problem r.is_at
 
+-- nothing is left to take
 pub reached_settled : (s : Position) → IsReached s → NoneToTake s
 reached_settled s r = r.is_at.no_take
 
+-- the heights are those of the problem
 pub reached_heights : (s : Position) → (r : IsReached s) → s.heights ≡ r.problem.heights
 reached_heights s r = heights_kept (start r.problem) s r.is_at.moves r.is_at.runs
 
+-- there are 1 to 12 rows
 pub reached_rows : (s : Position) → IsReached s → (1 ≤ length s.heights) × (length s.heights ≤ 12)
 reached_rows s r =
     let a = r.is_problem.some_rows in let b = r.is_problem.few_rows in
     (omega (arith, ap length (reached_heights s r)), omega (arith, ap length (reached_heights s r)))
 
+-- there is one stack for each row
 pub reached_same_rows : (s : Position) → IsReached s → length s.stacks ≡ length s.heights
 reached_same_rows s r = let sound : IsSound s = reached_sound s r in same_rows s.heights s.stacks sound.stacks_fit
 
+-- each row is 1 to 8 high
 pub reached_low : (s : Position) → IsReached s → All (λ height. (1 ≤ height) × (height ≤ 8)) s.heights
 reached_low s r = subst (All (λ height. (1 ≤ height) × (height ≤ 8))) (sym (reached_heights s r)) r.is_problem.heights_fit
 
+-- moves keep how many are to leave
 ordered_kept : (s t : Position) (moves : List Move) → Runs s moves t → t.ordered ≡ s.ordered
 ordered_kept s t [] r = ap (λ v. v.ordered) (sym r)
 ordered_kept s t (Shift from to ∷ moves) r = let k = r.1 in ordered_kept r.0 t moves r.2 ∙ ap (λ v. v.ordered) k.after
 ordered_kept s t (Take row ∷ moves) r = let k = r.1 in ordered_kept r.0 t moves r.2 ∙ ap (λ v. v.ordered) k.after
 
+-- at most 96 containers are to leave
 pub reached_ordered : (s : Position) → IsReached s → s.ordered ≤ 96
 reached_ordered s r =
     let fit : r.problem.ordered ≤ total r.problem.stacks = r.is_problem.ordered_fit in
     omega (arith, ordered_kept (start r.problem) s r.is_at.moves r.is_at.runs, few_containers r.problem r.is_problem)
 
+-- the next rank only grows
 next_counts : (s t : Position) (moves : List Move) → 1 ≤ s.next → Runs s moves t → 1 ≤ t.next
 next_counts s t [] lo r = let e : s.next ≡ t.next = ap (λ v. v.next) r in omega arith
 next_counts s t (Shift from to ∷ moves) lo r = let k = r.1 in let e : r.0.next ≡ s.next = ap (λ v. v.next) k.after in next_counts r.0 t moves (omega arith) r.2
 next_counts s t (Take row ∷ moves) lo r = let k = r.1 in let e : r.0.next ≡ suc s.next = ap (λ v. v.next) k.after in next_counts r.0 t moves (omega arith) r.2
 
+-- the next rank is between 1 and one past the last
 pub reached_next : (s : Position) → IsReached s → (1 ≤ s.next) × (s.next ≤ s.ordered + 1)
 reached_next s r = (next_counts (start r.problem) s r.is_at.moves (omega arith) r.is_at.runs, let w = within r.problem r.path s r.is_at in omega arith)
 
@@ -69,6 +78,7 @@ goes_at s w row from u t e k f p path is a =
     let P : Position → Type 0 = λ v. IsShifted v from row u in
     at_next p path row s t a (record { from = from; after = u; shift = subst P e k; settles = f })
 
+-- where a legal shift leads is reached
 pub goes_reached : (s w : Position) (row from : ℕ) (u t : Position) → w ≡ s → IsReached s → IsShifted w from row u → Settles u t → IsReached t
 goes_reached s w row from u t e r k f = record {
   problem = r.problem;
@@ -77,6 +87,7 @@ goes_reached s w row from u t e r k f = record {
   is_at = goes_at s w row from u t e k f r.problem r.path r.is_problem r.is_at;
 }
 
+-- a legal shift goes to a target, and leads to the computed position
 pub goes_target : (s w : Position) (row from : ℕ) (u t : Position) → w ≡ s → IsReached s → IsShifted w from row u → Settles u t → Contains (targets s) row × (child s row ≡ t)
 goes_target s w row from u t e r k f =
     every_target r.problem r.path s row t r.is_problem r.is_at (goes_at s w row from u t e k f r.problem r.path r.is_problem r.is_at)
@@ -88,6 +99,7 @@ stops_at s w row e none p path is a l =
     let P : Position → Type 0 = λ v. IsShifted v g.0 row g.1 in
     none g.0 g.1 (subst P (sym e) g.2)
 
+-- a row with no legal shift is no target
 pub stops_target : (s w : Position) (row : ℕ) → w ≡ s → IsReached s → ((from : ℕ) (t : Position) → IsShifted w from row t → ⊥) → Contains (targets s) row → ⊥
 stops_target s w row e r none c =
     stops_at s w row e none r.problem r.path r.is_problem r.is_at (child s row, target_goes_on r.problem r.path s row r.is_problem r.is_at c)
@@ -113,6 +125,7 @@ shift_fits s row stack r le room here free =
     (and_from _ _ (le-leb 1 row room.counts)
     (and_from _ _ (not_from_false (source s == row - 1) (ne_eqb (source s) (row - 1) ne)) (lt-ltb _ _ room.shorter)))
 
+-- a computed target has room, and something is left to leave
 pub shift_needs : (s : Position) (row : ℕ) → can_shift s row ≡ true → (s.next ≤ s.ordered) × HasRoom s row
 shift_needs s row h =
     let a : Allows s row = allows s row h in let lo = a.counts in
@@ -120,6 +133,7 @@ shift_needs s row h =
     let there : row - 1 < length s.heights = walked.within s.heights (row - 1) (omega arith) in
     (a.unfinished, record { counts = lo; there = omega arith; shorter = room })
 
+-- the next container does not stand in a computed target
 pub shift_free : (s : Position) (row : ℕ) (stack : List ℕ) → IsReached s → can_shift s row ≡ true → slice_get s.stacks (row - 1) ≡ Some stack → holds s.next stack ≡ true → ⊥
 shift_free s row stack r h here held =
     let a : Allows s row = allows s row h in let sound : IsSound s = reached_sound s r in
@@ -130,12 +144,15 @@ pub counted_push : (from more : ℕ) → counted from (suc more) ≡ counted fro
 counted_push from zero = ap (λ x. x ∷ []) (omega arith)
 counted_push from (suc more) = ap (λ l. from ∷ l) (counted_push (suc from) more ∙ ap (λ x. counted (suc from) more ++ x ∷ []) (omega arith))
 
+-- what is kept of one more row
 pub filter_more : (p : ℕ → Bool) (n : ℕ) → filter p (counted 1 (suc n)) ≡ filter p (counted 1 n) ++ filter p (suc n ∷ [])
 filter_more p n = ap (filter p) (counted_push 1 n ∙ ap (λ x. counted 1 n ++ x ∷ []) (omega arith)) ∙ filter-append p (counted 1 n) (suc n ∷ [])
 
+-- one more row that passes
 pub filter_yes : (p : ℕ → Bool) (n : ℕ) → p (suc n) ≡ true → filter p (counted 1 (suc n)) ≡ filter p (counted 1 n) ++ suc n ∷ []
 filter_yes p n t = filter_more p n ∙ ap (λ l. filter p (counted 1 n) ++ l) (rw t refl)
 
+-- one more row that does not pass
 pub filter_no : (p : ℕ → Bool) (n : ℕ) → p (suc n) ≡ false → filter p (counted 1 (suc n)) ≡ filter p (counted 1 n)
 filter_no p n f = filter_more p n ∙ ap (λ l. filter p (counted 1 n) ++ l) (rw f refl) ∙ append-nil (filter p (counted 1 n))
 
@@ -152,14 +169,17 @@ looked_yes p row old new lo e t made =
     let n : suc (row - 1) ≡ row = omega arith in let m : suc (row - 1) ≡ row + 1 - 1 = omega arith in
     made ∙ ap (λ l. l ++ row ∷ []) e ∙ ap (λ x. filter p (counted 1 (row - 1)) ++ x ∷ []) (sym n) ∙ sym (filter_yes p (row - 1) (ap p n ∙ sym t)) ∙ ap (λ k. filter p (counted 1 k)) m
 
+-- the same where the row does not pass
 pub looked_no : (p : ℕ → Bool) (row : ℕ) (old new : List ℕ) → 1 ≤ row → old ≡ filter p (counted 1 (row - 1)) → false ≡ p row → new ≡ old → new ≡ filter p (counted 1 (row + 1 - 1))
 looked_no p row old new lo e f made =
     let n : suc (row - 1) ≡ row = omega arith in let m : suc (row - 1) ≡ row + 1 - 1 = omega arith in
     made ∙ e ∙ sym (filter_no p (row - 1) (ap p n ∙ sym f)) ∙ ap (λ k. filter p (counted 1 k)) m
 
+-- after all rows the targets are found
 pub looked_all : (s : Position) (row : ℕ) (items : List ℕ) → items ≡ filter (can_shift s) (counted 1 (row - 1)) → row - 1 ≡ length s.heights → items ≡ targets s
 looked_all s row items e all = e ∙ ap (λ n. filter (can_shift s) (counted 1 n)) all
 
+-- the targets rise
 pub targets_rise : (s : Position) → IsStrictlyIncreasing (targets s)
 targets_rise s k h = rises (can_shift s) 1 (length s.heights) k h
 
@@ -168,5 +188,6 @@ none_kept : (p : ℕ → Bool) (xs : List ℕ) → ((x : ℕ) → p x ≡ false)
 none_kept p [] f = refl
 none_kept p (x ∷ xs) f = rw (f x) (none_kept p xs f)
 
+-- a finished position has no targets
 pub no_targets : (s : Position) → IsFinished s → targets s ≡ []
 no_targets s end = none_kept (can_shift s) (counted 1 (length s.heights)) (λ row. false_from_ne_true (can_shift s row) (λ h. let r = shift_needs s row h in absurd (omega (arith, r.0))))

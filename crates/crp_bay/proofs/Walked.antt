@@ -19,15 +19,18 @@ pub top_splits : (x : ℕ) (ys : List ℕ) → x ∷ ys ≡ without_top (x ∷ y
 top_splits x [] = refl
 top_splits x (y ∷ ys) = ap (λ l. x ∷ l) (top_splits y ys)
 
+-- a stack that holds something is its rest and its top
 pub held_splits : (x : ℕ) (stack : List ℕ) → holds x stack ≡ true → stack ≡ without_top stack ++ top stack ∷ []
 held_splits x [] h = cc
 held_splits x (y ∷ ys) h = top_splits y ys
 
+-- what is put on top is on top
 pub ends_push : (x : ℕ) (rest : List ℕ) (y : ℕ) → ends_in x (rest ++ y ∷ []) ≡ (y == x)
 ends_push x [] y = refl
 ends_push x (z ∷ []) y = refl
 ends_push x (z ∷ w ∷ rest) y = ends_push x (w ∷ rest) y
 
+-- what a stack holds after a push was there before, or is the new top
 pub holds_push : (x : ℕ) (rest : List ℕ) (y : ℕ) → holds x (rest ++ y ∷ []) ≡ true → (holds x rest ≡ true) ⊎ ((y == x) ≡ true)
 holds_push x [] y h = ⊎_elim (λ e. inr e) (λ e. cc) (or_cases (y == x) false h)
 holds_push x (z ∷ rest) y h = ⊎_elim
@@ -43,6 +46,7 @@ placed x (stack ∷ stacks) h = ⊎_elim
     (λ f. let r = placed x stacks (omega (arith, Rattle.crp_plan.proofs.Lists.occurrences-cons x stack stacks, times_not_held x stack f)) in (r.0, rw f r.1, r.2))
     (cases_Bool (holds x stack))
 
+-- the row where a rank stands is the computed one
 pub is_place : (x : ℕ) (stacks : List (List ℕ)) (i : ℕ) (stack : List ℕ) → occurrences x stacks ≤ 1 → slice_get stacks i ≡ Some stack → 1 ≤ times x stack → place x stacks ≡ i
 is_place x stacks i stack once e t =
     let found = placed x stacks (let l = Rattle.crp_plan.proofs.Lists.at_le_sum (times x) stacks i stack e in omega arith) in
@@ -55,6 +59,7 @@ pub record Found (s : Position) : Type 0 where
   pub is_at : stack_at s (source s) ≡ stack
   pub held : holds s.next stack ≡ true
 
+-- the next container is found where it is computed
 pub found : (s : Position) → IsSound s → s.next ≤ s.ordered → Found s
 found s sound le =
     let w = sound.waiting s.next (omega arith) le in
@@ -69,6 +74,7 @@ take_found s row t sound k =
     and_from (nat_le s.next s.ordered) (ends_in s.next (stack_at s (source s))) (le-leb s.next s.ordered k.unfinished)
     (ap (ends_in s.next) here ∙ ends_push s.next k.rest s.next ∙ eq-eqb s.next s.next refl)
 
+-- a computed take is legal
 pub take_made : (s : Position) → IsSound s → can_take s ≡ true → IsTaken s (suc (source s)) (taken s)
 take_made s sound h =
     let parts = and_parts (nat_le s.next s.ordered) (ends_in s.next (stack_at s (source s))) h in
@@ -87,9 +93,11 @@ take_made s sound h =
           ∙ ap (λ l. record s { next = suc s.next; stacks = slice_set s.stacks (suc (source s) - 1) (without_top l) }) f.is_at;
     }
 
+-- takes alone lead to a position where none is left
 abbrev SettlesAs : Position → Position → Type 0
 SettlesAs s t = (takes : List Move) × Runs s takes t × (path_of takes ≡ []) × NoTake t
 
+-- enough computed takes settle a position
 settles_to : (most : ℕ) (s : Position) → IsSound s → s.ordered + 1 ≤ s.next + most → SettlesAs s (settle most s)
 settles_to zero s sound enough = ([], refl, refl, λ row t k. let u = k.unfinished in absurd (omega arith))
 settles_to (suc most) s sound enough = ⊎_elim
@@ -99,9 +107,11 @@ settles_to (suc most) s sound enough = ⊎_elim
     (λ f. rw f ([], refl, refl, λ row t k. both_ways (can_take s) f (take_found s row t sound k)))
     (cases_Bool (can_take s))
 
+-- the settled position is reached by takes alone, and none is left
 pub settled_is : (s : Position) → IsSound s → SettlesAs s (settled s)
 settled_is s sound = settles_to (s.ordered + 1 - s.next) s sound (omega arith)
 
+-- the settled start is the position at the empty path
 pub begins_at : (p : Problem) → IsProblem p → IsAt p [] (settled (start p))
 begins_at p is =
     let r = settled_is (start p) (sound_start p is) in
@@ -125,6 +135,7 @@ pub record Allows (s : Position) (row : ℕ) : Type 0 where
   pub another : source s ≢ row - 1
   pub room : length (stack_at s (row - 1)) < get_or s.heights (row - 1) 0
 
+-- what the computed test of a row says
 pub allows : (s : Position) (row : ℕ) → can_shift s row ≡ true → Allows s row
 allows s row h =
     let a = and_parts (nat_le s.next s.ordered) (nat_le 1 row && (not (source s == row - 1) && nat_lt (length (stack_at s (row - 1))) (get_or s.heights (row - 1) 0))) h in
@@ -137,17 +148,20 @@ allows s row h =
       room = ltb-true (length (stack_at s (row - 1))) (get_or s.heights (row - 1) 0) c.1;
     }
 
+-- there are as many heights as stacks
 fit_lengths : (heights : List ℕ) (stacks : List (List ℕ)) → FitRows heights stacks → length heights ≡ length stacks
 fit_lengths [] [] fit = refl
 fit_lengths [] (x ∷ xs) fit = absurd fit
 fit_lengths (h ∷ hs) [] fit = absurd fit
 fit_lengths (h ∷ hs) (x ∷ xs) fit = ap suc (fit_lengths hs xs fit.1)
 
+-- an index whose height is above 0 is within the rows
 pub within : (hs : List ℕ) (i : ℕ) → 0 < get_or hs i 0 → i < length hs
 within [] i h = absurd (omega arith)
 within (x ∷ hs) zero h = omega arith
 within (x ∷ hs) (suc i) h = let r = within hs i h in omega arith
 
+-- a computed target can be shifted to
 pub shift_made : (s : Position) (row : ℕ) → IsSound s → NoTake s → can_shift s row ≡ true → IsShifted s (suc (source s)) row (shifted s row)
 shift_made s row sound none h =
     let a = allows s row h in
@@ -185,6 +199,7 @@ shift_made s row sound none h =
     made : ℕ → List ℕ → Position
     made i from = record s { stacks = slice_set (slice_set s.stacks i (without_top from)) (row - 1) (stack_at s (row - 1) ++ top from ∷ []) }
 
+-- a computed target goes on the path
 pub goes_to : (p : Problem) (path : List ℕ) (s : Position) (row : ℕ) → IsProblem p → IsAt p path s → can_shift s row ≡ true → IsAt p (path ++ row ∷ []) (child s row)
 goes_to p path s row is a h =
     let sound : IsSound s = at_sound p path s is a in
@@ -209,6 +224,7 @@ last_legal p path s row t is a b =
     let same : l.before ≡ s = same_at p path l.before s is here a in
     ap (λ v. can_shift v row) (sym same) ∙ shift_found l.before l.from row l.after sound l.shift
 
+-- a row that passes the test is a target
 pub row_is_target : (s : Position) (row : ℕ) → can_shift s row ≡ true → Contains (targets s) row
 row_is_target s row h =
     let a = allows s row h in
@@ -216,9 +232,11 @@ row_is_target s row h =
     let lt : row - 1 < length s.heights = within s.heights (row - 1) (let r = a.room in omega arith) in
     in_filter (can_shift s) (counted 1 (length s.heights)) row (in_counted 1 (length s.heights) row lo (omega arith)) h
 
+-- each target goes on the path
 pub target_goes_on : (p : Problem) (path : List ℕ) (s : Position) (row : ℕ) → IsProblem p → IsAt p path s → Contains (targets s) row → IsAt p (path ++ row ∷ []) (child s row)
 target_goes_on p path s row is a c = goes_to p path s row is a (from_filter (can_shift s) (counted 1 (length s.heights)) row c).0
 
+-- each row by which the path goes on is a target, and leads to the computed position
 pub every_target : (p : Problem) (path : List ℕ) (s : Position) (row : ℕ) (t : Position) → IsProblem p → IsAt p path s → IsAt p (path ++ row ∷ []) t → Contains (targets s) row × (child s row ≡ t)
 every_target p path s row t is a b =
     let h = last_legal p path s row t is a b in
@@ -241,6 +259,7 @@ leads_before p path more t is b =
     let l = passes (start p) t b.moves path more (sound_start p is) b.runs b.no_take b.by_path in
     (l.middle, record { moves = l.first; runs = l.to_it; by_path = l.by_path; no_take = l.no_take })
 
+-- where a path leads, the computed walk leads
 pub walk_reaches : (p : Problem) (path more : List ℕ) (s t : Position) → IsProblem p → IsAt p path s → IsAt p (path ++ more) t → walk s more ≡ Some t
 walk_reaches p path [] s t is a b = ap Some (same_at p path s t is a (rw append-nil at b))
 walk_reaches p path (row ∷ more) s t is a b =
@@ -250,9 +269,11 @@ walk_reaches p path (row ∷ more) s t is a b =
     let r = walk_reaches p (path ++ row ∷ []) more (child s row) t is (goes_to p path s row is a h) b' in
     rw h r
 
+-- the position at a path is the computed one
 pub at_reads : (p : Problem) (path : List ℕ) (s : Position) → IsProblem p → IsAt p path s → at p path ≡ Some s
 at_reads p path s is a = walk_reaches p [] path (settled (start p)) s is (begins_at p is) a
 
+-- the computed position is the one at the path
 pub at_means : (p : Problem) (path : List ℕ) (s : Position) → IsProblem p → at p path ≡ Some s → IsAt p path s
 at_means p path s is e = walk_leads p [] path (settled (start p)) s is (begins_at p is) e
 
@@ -268,6 +289,7 @@ rises_from p from (suc more) (suc k) h = ⊎_elim
     (λ f. rw f (let r = rises_from p (suc from) more (suc k) (rw f at h) in omega arith))
     (cases_Bool (p from))
 
+-- each kept number is below the one after it
 rises_suc : (p : ℕ → Bool) (from more k : ℕ) → suc k < length (filter p (counted from more)) → get_or (filter p (counted from more)) k 0 < get_or (filter p (counted from more)) (suc k) 0
 rises_suc p from zero k h = absurd (omega arith)
 rises_suc p from (suc more) zero h = ⊎_elim
@@ -279,5 +301,6 @@ rises_suc p from (suc more) (suc k) h = ⊎_elim
     (λ f. rw f (rises_suc p (suc from) more (suc k) (rw f at h)))
     (cases_Bool (p from))
 
+-- the same, as it is said of lists
 pub rises : (p : ℕ → Bool) (from more k : ℕ) → k + 1 < length (filter p (counted from more)) → get_or (filter p (counted from more)) k 0 < get_or (filter p (counted from more)) (k + 1) 0
 rises p from more k h = rw add-one (rises_suc p from more k (omega arith))

@@ -9,6 +9,7 @@ top [] = 0
 top (x ∷ []) = x
 top (x ∷ y ∷ ys) = top (y ∷ ys)
 
+-- the stack without its top
 abbrev pub without_top : List ℕ → List ℕ
 without_top [] = []
 without_top (x ∷ []) = []
@@ -29,12 +30,15 @@ place x (stack ∷ stacks) = if holds x stack then 0 else suc (place x stacks)
 abbrev pub source : Position → ℕ
 source s = place s.next s.stacks
 
+-- the stack at an index, or the empty one
 abbrev pub stack_at : Position → ℕ → List ℕ
 stack_at s i = slice_index_or s.stacks i []
 
+-- the next container is on top of its stack, and is to leave
 abbrev pub can_take : Position → Bool
 can_take s = nat_le s.next s.ordered && ends_in s.next (stack_at s (source s))
 
+-- where the take leads
 abbrev pub taken : Position → Position
 taken s = record s { next = suc s.next; stacks = slice_set s.stacks (source s) (without_top (stack_at s (source s))) }
 
@@ -52,6 +56,7 @@ abbrev pub can_shift : Position → ℕ → Bool
 can_shift s row =
     nat_le s.next s.ordered && (nat_le 1 row && (not (source s == row - 1) && nat_lt (length (stack_at s (row - 1))) (slice_index_or s.heights (row - 1) 0)))
 
+-- where the shift to the row leads, before the takes after it
 abbrev pub shifted : Position → ℕ → Position
 shifted s row =
     record s { stacks = slice_set (slice_set s.stacks (source s) (without_top (stack_at s (source s)))) (row - 1) (stack_at s (row - 1) ++ top (stack_at s (source s)) ∷ []) }
@@ -69,6 +74,7 @@ counted from (suc more) = from ∷ counted (suc from) more
 abbrev pub targets : Position → List ℕ
 targets s = filter (can_shift s) (counted 1 (length s.heights))
 
+-- where a path leads from a position, if each of its rows is a legal one
 abbrev pub walk : Position → List ℕ → Option Position
 walk s [] = Some s
 walk s (row ∷ path) = if can_shift s row then walk (child s row) path else None

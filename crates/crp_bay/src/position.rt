@@ -50,8 +50,12 @@ impl Position {
     /// The position after one relocation to the row, and the retrievals that are legal then. `None`
     /// exactly where that relocation is not legal.
     pub fn child(&self, row: u8) -> Option<Position>
-        ensures legal { (p : Statement) (path : List ℕ) → IsProblem p → IsAt p path self.now → (IsSome result ↔ IsLegalRow p path row) }
-        ensures at { IfSome result (λ t. (p : Statement) (path : List ℕ) → IsProblem p → IsAt p path self.now → IsAt p (path ++ row ∷ []) t) }
+        ensures legal { (p : Statement) (path : List ℕ) → IsProblem p → IsAt p path self.now
+            → (IsSome result ↔ IsLegalRow p path row) }
+        ensures at { IfSome result (λ t. (p : Statement) (path : List ℕ) → IsProblem p
+            → IsAt p path self.now → IsAt p (path ++ row ∷ []) t) }
+
+        // What the definitions compute.
         ensures target { IsSome result ↔ Contains (targets self.now) row }
         ensures value { IfSome result (λ t. t ≡ child self.now row) }
     {
@@ -131,9 +135,12 @@ impl Position {
 
     /// The rows to which a relocation is legal, rising; none where the position is finished or dead.
     pub fn targets(&self) -> ArrayVec<u8, MAX_ROWS>
-        ensures legal { (p : Statement) (path : List ℕ) (row : ℕ) → IsProblem p → IsAt p path self.now → (Contains result.items row ↔ IsLegalRow p path row) }
+        ensures legal { (p : Statement) (path : List ℕ) (row : ℕ) → IsProblem p → IsAt p path self.now
+            → (Contains result.items row ↔ IsLegalRow p path row) }
         ensures rising { IsStrictlyIncreasing result.items }
         ensures done { IsFinished self.now → result.items ≡ [] }
+
+        // What the definitions compute.
         ensures value { result.items ≡ targets self.now }
     {
         let mut targets = ArrayVec::new();

@@ -8,6 +8,7 @@ use Rattle.crp_bounds.specs.Bounds.{holds_lower, blocked_in, blocking}
 use Rattle.crp_plan.proofs.Lists.{times, one_if, sum_put, at_le_sum, get_put_other, times_push, times-cons, same_is_one, occurrences-cons}
 use Rattle.crp_plan.proofs.Sound.{apart}
 
+-- one container more on top of a list
 pub blocked_push : (ordered : ℕ) (under stack : List ℕ) (c : ℕ) →
     blocked_in ordered under (stack ++ c ∷ []) ≡ blocked_in ordered under stack + one_if (holds_lower ordered c (under ++ stack))
 blocked_push ordered under [] c =
@@ -18,6 +19,7 @@ blocked_push ordered under (x ∷ stack) c =
     ap (λ l. one_if (holds_lower ordered c l)) (append_assoc under (x ∷ []) stack) in
     omega (arith, blocked_push ordered (under ++ x ∷ []) stack c)
 
+-- a held rank, in order and lower than c, is found by the test
 pub lower_from_held : (ordered n c : ℕ) (stack : List ℕ) → n ≤ ordered → n < c → holds n stack ≡ true → holds_lower ordered c stack ≡ true
 lower_from_held ordered n c [] hn hc h = cc
 lower_from_held ordered n c (y ∷ stack) hn hc h =
@@ -39,6 +41,7 @@ none_lower ordered c (y ∷ stack) none =
     omega (arith, none y (leb-true y ordered both.0) (ltb-true y c both.1), times-cons y y stack, same_is_one y)) in
     rw (front, tail) refl
 
+-- without ordered containers nothing is blocked in a list
 pub blocked_none : (ordered : ℕ) (under stack : List ℕ) → ((d : ℕ) → d ≤ ordered → (times d under ≡ 0) × (times d stack ≡ 0)) → blocked_in ordered under stack ≡ 0
 blocked_none ordered under [] none = refl
 blocked_none ordered under (x ∷ stack) none =
@@ -48,6 +51,7 @@ blocked_none ordered under (x ∷ stack) none =
     (omega (arith, p.0, p.1, times_push d under x, times-cons d x stack), omega (arith, p.1, times-cons d x stack))) in
     omega (arith, ap one_if e)
 
+-- without ordered containers nothing is blocked
 pub blocking_none : (ordered : ℕ) (stacks : List (List ℕ)) → ((d : ℕ) → d ≤ ordered → occurrences d stacks ≡ 0) → sum_by (λ stack. blocked_in ordered [] stack) stacks ≡ 0
 blocking_none ordered [] none = refl
 blocking_none ordered (stack ∷ stacks) none =
@@ -64,6 +68,7 @@ above_next s from to t sound k =
     let ne : c ≢ s.next = k.not_top in
     ⊎_elim (λ lt. absurd (omega (arith, sound.gone c lt))) (λ le. omega arith) (cases_lt c s.next)
 
+-- a take leaves the blocking bound
 pub blocking_taken : (s : Position) (row : ℕ) (t : Position) → IsSound s → IsTaken s row t → blocking t ≡ blocking s
 blocking_taken s row t sound k =
     let N : ℕ = s.ordered in let n : ℕ = s.next in
@@ -73,6 +78,7 @@ blocking_taken s row t sound k =
     omega (arith, sum_put (λ st. blocked_in N [] st) s.stacks (row - 1) (k.rest ++ n ∷ []) k.rest k.stack, blocked_push N [] k.rest n, ap one_if none) in
     ap blocking k.after ∙ e
 
+-- a shift takes one off the blocking bound, unless the container blocks again
 pub blocking_shifted : (s : Position) (from to : ℕ) (t : Position) → IsSound s → (k : IsShifted s from to t) →
     blocking t + 1 ≡ blocking s + one_if (holds_lower s.ordered k.moved k.onto)
 blocking_shifted s from to t sound k =
@@ -92,6 +98,7 @@ blocking_shifted s from to t sound k =
     ) in
     ap (λ x. x + 1) (ap blocking k.after) ∙ e
 
+-- a test counts one at most
 pub one_if-le : (b : Bool) → one_if b ≤ 1
 one_if-le true = omega arith
 one_if-le false = omega arith

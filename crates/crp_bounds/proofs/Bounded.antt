@@ -18,19 +18,24 @@ use Rattle.crp_bounds.proofs.Stuck.{Extends, counted_grows, counted_absent, coun
 steps : (ordered next : ℕ) → next ≤ ordered → suc ordered - next ≡ suc (ordered - next)
 steps ordered next h = omega arith
 
+-- the first step of the look-ahead
 one_step : (ordered : ℕ) (heights : List ℕ) (stacks : List (List ℕ)) (next : ℕ) → next ≤ ordered →
     stuck_from ordered heights (suc ordered - next) stacks next ≡ stuck_above ordered heights stacks next + stuck_from ordered heights (ordered - next) (map (below next) stacks) (suc next)
 one_step ordered heights stacks next h = ap (λ m. stuck_from ordered heights m stacks next) (steps ordered next h)
 
+-- a rank on top that stands once does not stand below
 rest_absent : (k : ℕ) (rest : List ℕ) → times k (rest ++ k ∷ []) ≤ 1 → times k rest ≡ 0
 rest_absent k rest h = omega (arith, times_push k rest k, same_is_one k)
 
+-- nothing stands above the top
 top_above : (k : ℕ) → above k (k ∷ []) ≡ []
 top_above k = rw (eq-eqb k k refl) refl
 
+-- nothing stands below a rank that stands alone
 top_below : (k : ℕ) → below k (k ∷ []) ≡ []
 top_below k = rw (eq-eqb k k refl) refl
 
+-- a take leaves the look-ahead bound
 pub ahead_taken : (s : Position) (row : ℕ) (t : Position) → IsSound s → IsTaken s row t → look_ahead t ≡ look_ahead s
 ahead_taken s row t sound k =
     let N : ℕ = s.ordered in let n : ℕ = s.next in let A : List (List ℕ) = s.stacks in let B : List (List ℕ) = slice_set s.stacks (row - 1) k.rest in
@@ -52,6 +57,7 @@ ahead_taken s row t sound k =
     omega (arith, same, one_step N s.heights A n k.unfinished, counts, ap (λ l. stuck_from N s.heights (N - n) l (suc n)) cut, ap (λ m. stuck_from N s.heights m B (suc n)) fewer) in
     ap look_ahead k.after ∙ to
 
+-- a shift takes one at most off the look-ahead bound
 pub ahead_shifted : (s : Position) (from to : ℕ) (t : Position) → IsSound s → IsShifted s from to t → look_ahead s ≤ 1 + look_ahead t
 ahead_shifted s from to t sound k =
     let N : ℕ = s.ordered in let n : ℕ = s.next in let c : ℕ = k.moved in let hs : List ℕ = s.heights in
@@ -90,6 +96,7 @@ ahead_shifted s from to t sound k =
     let P : Position → Type 0 = λ v. look_ahead s ≤ 1 + look_ahead v in
     subst P (sym k.after) to_u
 
+-- a shift takes one at most off the blocking bound
 pub blocking_falls : (s : Position) (from to : ℕ) (t : Position) → IsSound s → IsShifted s from to t → blocking s ≤ 1 + blocking t
 blocking_falls s from to t sound k = omega (arith, blocking_shifted s from to t sound k)
 
@@ -101,6 +108,7 @@ ahead_runs s (Shift from to ∷ moves) t sound r =
 ahead_runs s (Take row ∷ moves) t sound r =
     omega (arith, ahead_taken s row r.0 sound r.1, ahead_runs r.0 moves t (sound_taken s row r.0 sound r.1) r.2)
 
+-- the same for the blocking bound
 pub blocking_runs : (s : Position) (moves : List Move) (t : Position) → IsSound s → Runs s moves t → blocking s ≤ relocations moves + blocking t
 blocking_runs s [] t sound r = omega (arith, ap blocking r)
 blocking_runs s (Shift from to ∷ moves) t sound r =
@@ -108,17 +116,21 @@ blocking_runs s (Shift from to ∷ moves) t sound r =
 blocking_runs s (Take row ∷ moves) t sound r =
     omega (arith, blocking_taken s row r.0 sound r.1, blocking_runs r.0 moves t (sound_taken s row r.0 sound r.1) r.2)
 
+-- at the end nothing is blocked
 pub blocking_end : (t : Position) → IsSound t → IsFinished t → blocking t ≡ 0
 blocking_end t sound end = blocking_none t.ordered t.stacks (λ d le. sound.gone d (omega arith))
 
+-- at the end nothing counts
 pub ahead_end : (t : Position) → IsSound t → IsFinished t → look_ahead t ≡ 0
 ahead_end t sound end =
     let none : suc t.ordered - t.next ≡ 0 = omega arith in
     omega (arith, blocking_end t sound end, ap (λ m. stuck_from t.ordered t.heights m t.stacks t.next) none)
 
+-- the look-ahead bound is below every run to the end
 pub ahead_bound : (s : Position) (moves : List Move) (t : Position) → IsSound s → Runs s moves t → IsFinished t → look_ahead s ≤ relocations moves
 ahead_bound s moves t sound r end = omega (arith, ahead_runs s moves t sound r, ahead_end t (sound_runs s moves t sound r) end)
 
+-- the blocking bound is below every run to the end
 pub blocking_bound : (s : Position) (moves : List Move) (t : Position) → IsSound s → Runs s moves t → IsFinished t → blocking s ≤ relocations moves
 blocking_bound s moves t sound r end = omega (arith, blocking_runs s moves t sound r, blocking_end t (sound_runs s moves t sound r) end)
 
@@ -128,6 +140,7 @@ no_path [] e = refl
 no_path (Shift from to ∷ moves) e = cc
 no_path (Take row ∷ moves) e = no_path moves e
 
+-- the last shift of a longer path starts at the position of the shorter
 grown_run : (p : Problem) (path : List ℕ) (row : ℕ) (s t : Position) → IsProblem p → IsAt p path s → IsAt p (path ++ row ∷ []) t →
     (l : LastShift (start p) path row t) → s ≡ l.before
 grown_run p path row s t is a b l =
@@ -139,6 +152,7 @@ grown_run p path row s t is a b l =
       no_take = λ x v k. no_shift_beside_take l.before x l.from row v l.after sound k l.shift;
     })
 
+-- along a legal row the look-ahead bound falls by one at most
 pub ahead_path : (p : Problem) (path : List ℕ) (row : ℕ) (s t : Position) → IsProblem p → IsAt p path s → IsAt p (path ++ row ∷ []) t → look_ahead s ≤ 1 + look_ahead t
 ahead_path p path row s t is a b =
     let l = last_shift (start p) t b.moves path row b.runs b.by_path in
@@ -147,6 +161,7 @@ ahead_path p path row s t is a b =
     let sound' : IsSound l.after = sound_shifted l.before l.from row l.after sound l.shift in
     omega (arith, ap look_ahead e, ahead_shifted l.before l.from row l.after sound l.shift, ahead_runs l.after l.takes t sound' l.from_it, no_path l.takes l.all_takes)
 
+-- along a legal row the blocking bound falls by one at most
 pub blocking_path : (p : Problem) (path : List ℕ) (row : ℕ) (s t : Position) → IsProblem p → IsAt p path s → IsAt p (path ++ row ∷ []) t → blocking s ≤ 1 + blocking t
 blocking_path p path row s t is a b =
     let l = last_shift (start p) t b.moves path row b.runs b.by_path in

@@ -27,6 +27,7 @@ pub blocked_more : (ordered : ℕ) (stacks : List (List ℕ)) (row count more : 
 blocked_more ordered stacks row count more stack lo here e f =
     omega (arith, e, f, ap (sum_by (λ st. blocked_in ordered [] st)) (rows_more stacks row stack lo here), sum_by_push (λ st. blocked_in ordered [] st) (take (row - 1) stacks) stack)
 
+-- all stacks are counted
 pub blocked_all : (s : Position) (row count : ℕ) → IsReached s → length s.heights ≤ row - 1 → count ≡ sum_by (λ st. blocked_in s.ordered [] st) (take (row - 1) s.stacks) → count ≡ blocking s
 blocked_all s row count r end e = e ∙ ap (sum_by (λ st. blocked_in s.ordered [] st)) (rows_all s.stacks row (omega (arith, reached_same_rows s r)))
 
@@ -34,6 +35,7 @@ blocked_all s row count r end e = e ∙ ap (sum_by (λ st. blocked_in s.ordered 
 pub blocking_below : (s : Position) (count : ℕ) → IsReached s → count ≡ blocking s → (moves : List Move) → Completes s moves → count ≤ relocations moves
 blocking_below s count r e moves k = omega (arith, e, blocking_bound s moves k.0 (reached_sound s r) k.1 k.2)
 
+-- the same for the look-ahead bound
 pub ahead_below : (s : Position) (count : ℕ) → IsReached s → count ≡ look_ahead s → (moves : List Move) → Completes s moves → count ≤ relocations moves
 ahead_below s count r e moves k = omega (arith, e, ahead_bound s moves k.0 (reached_sound s r) k.1 k.2)
 

@@ -6,6 +6,7 @@ use Rattle.crp_plan.proofs.Covered.{from_at, at_sound, relocations-path}
 use Rattle.crp_bounds.specs.Bounds.{look_ahead, blocking}
 use Rattle.crp_bounds.proofs.Bounded.{ahead_bound, blocking_bound}
 
+-- the rest of the plan has at least the bound
 pub cut_floor : (p : Problem) (path more : List ℕ) (s : Position) (moves : List Move) → IsProblem p → IsAt p path s → IsPlan p moves → path_of moves ≡ path ++ more →
     (length path + look_ahead s ≤ relocations moves) × (length path + blocking s ≤ relocations moves)
 cut_floor p path more s moves is a plan e =

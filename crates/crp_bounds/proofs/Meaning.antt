@@ -26,6 +26,7 @@ abbrev pub WithoutPlace : ℕ → ℕ → List ℕ → List (List ℕ) → ℕ �
 WithoutPlace ordered k heights stacks c = (i height : ℕ) (stack : List ℕ) → slice_get heights i ≡ Some height → slice_get stacks i ≡ Some stack →
     holds k stack ≡ false → length stack < height → HasLower ordered c stack
 
+-- what the test says of the stacks without k
 pub no_place_reads : (ordered k : ℕ) (heights : List ℕ) (stacks : List (List ℕ)) (c : ℕ) → has_no_place ordered k heights stacks c ≡ true → WithoutPlace ordered k heights stacks c
 no_place_reads ordered k heights stacks c t i height stack hi xi other short =
     ⊎_elim
@@ -33,6 +34,7 @@ no_place_reads ordered k heights stacks c t i height stack hi xi other short =
     (λ rest. ⊎_elim (λ own. absurd (both_ways (holds k stack) other own)) (λ low. lower_found ordered c stack low) (or_cases (holds k stack) (holds_lower ordered c stack) rest))
     (or_cases (nat_le height (length stack)) (holds k stack || holds_lower ordered c stack) (no_place_at ordered k heights stacks i height stack c hi xi t))
 
+-- when the test passes
 pub no_place_means : (ordered k : ℕ) (heights : List ℕ) (stacks : List (List ℕ)) (c : ℕ) → WithoutPlace ordered k heights stacks c → has_no_place ordered k heights stacks c ≡ true
 no_place_means ordered k [] stacks c h = refl
 no_place_means ordered k (height ∷ heights) [] c h = refl
@@ -59,6 +61,7 @@ no_place_elsewhere ordered k own heights stacks stack c here held once t i heigh
     (cases_Bool (holds k other)) in
     no_place_reads ordered k heights stacks c t i height other hi xi free short
 
+-- and the other way round
 pub elsewhere_no_place : (ordered k own : ℕ) (heights : List ℕ) (stacks : List (List ℕ)) (stack : List ℕ) (c : ℕ) → slice_get stacks own ≡ Some stack → holds k stack ≡ true →
     HasNoPlace ordered own heights stacks c → has_no_place ordered k heights stacks c ≡ true
 elsewhere_no_place ordered k own heights stacks stack c here held h =

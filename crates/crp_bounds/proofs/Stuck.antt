@@ -21,14 +21,17 @@ Extends [] (y ∷ ys) = ⊥
 Extends (x ∷ xs) [] = ⊥
 Extends (x ∷ xs) (y ∷ ys) = IsPrefix x y × Extends xs ys
 
+-- what is found in a list is found in a longer one
 any_append : (p : ℕ → Bool) (xs ys : List ℕ) → list_any p xs ≡ true → list_any p (xs ++ ys) ≡ true
 any_append p [] ys h = cc
 any_append p (x ∷ xs) ys h =
     ⊎_elim (λ e. or_left (p x) (list_any p (xs ++ ys)) e) (λ e. or_right (p x) (list_any p (xs ++ ys)) (any_append p xs ys e)) (or_cases (p x) (list_any p xs) h)
 
+-- the same of a list that goes on
 pub any_prefix : (p : ℕ → Bool) (xs ys : List ℕ) → IsPrefix xs ys → list_any p xs ≡ true → list_any p ys ≡ true
 any_prefix p xs ys pre h = ap (list_any p) pre.1 ∙ any_append p xs pre.0 h
 
+-- a list that goes on is not shorter
 pub length_prefix : (xs ys : List ℕ) → IsPrefix xs ys → length xs ≤ length ys
 length_prefix xs ys pre = omega (arith, ap length pre.1, length-append xs pre.0)
 
@@ -36,6 +39,7 @@ length_prefix xs ys pre = omega (arith, ap length pre.1, length-append xs pre.0)
 abbrev pub is_no_place : ℕ → ℕ → ℕ → List ℕ → ℕ → Bool
 is_no_place ordered k height stack c = nat_le height (length stack) || (holds k stack || holds_lower ordered c stack)
 
+-- a stack that grows is no place still
 pub no_place_row : (ordered k height : ℕ) (xs ys : List ℕ) (c : ℕ) → IsPrefix xs ys → is_no_place ordered k height xs c ≡ true → is_no_place ordered k height ys c ≡ true
 no_place_row ordered k height xs ys c pre h =
     ⊎_elim
@@ -48,6 +52,7 @@ no_place_row ordered k height xs ys c pre h =
     (or_cases (holds k xs) (holds_lower ordered c xs) e)))
     (or_cases (nat_le height (length xs)) (holds k xs || holds_lower ordered c xs) h)
 
+-- stacks that grow leave no place still
 pub no_place_grows : (ordered k : ℕ) (heights : List ℕ) (xs ys : List (List ℕ)) (c : ℕ) → Extends xs ys →
     has_no_place ordered k heights xs c ≡ true → has_no_place ordered k heights ys c ≡ true
 no_place_grows ordered k [] xs ys c ext h = refl
@@ -84,16 +89,20 @@ no_place_at ordered k (h ∷ hs) (x ∷ xs) (suc i) height stack c hi xi t =
     let p = and_parts (is_no_place ordered k h x c) (has_no_place ordered k hs xs c) t in
     no_place_at ordered k hs xs i height stack c hi xi p.1
 
+-- a test that passes more often counts more
 pub one_if-mono : (a b : Bool) → (a ≡ true → b ≡ true) → one_if a ≤ one_if b
 one_if-mono true b h = omega (arith, ap one_if (h refl))
 one_if-mono false b h = omega arith
 
+-- what counts at the head of a list
 count-cons : (p : ℕ → Bool) (x : ℕ) (xs : List ℕ) → count_by p (x ∷ xs) ≡ one_if (p x) + count_by p xs
 count-cons p x xs = sum_by-cons (λ y. one_if (p y)) x xs
 
+-- what counts in two lists
 pub count-append : (p : ℕ → Bool) (xs ys : List ℕ) → count_by p (xs ++ ys) ≡ count_by p xs + count_by p ys
 count-append p xs ys = sum_by-append (λ y. one_if (p y)) xs ys
 
+-- a test that passes more often counts more in a list
 pub count_grows : (p q : ℕ → Bool) → ((c : ℕ) → p c ≡ true → q c ≡ true) → (xs : List ℕ) → count_by p xs ≤ count_by q xs
 count_grows p q h [] = omega arith
 count_grows p q h (x ∷ xs) = omega (arith, count-cons p x xs, count-cons q x xs, one_if-mono (p x) (q x) (h x), count_grows p q h xs)
@@ -102,9 +111,11 @@ count_grows p q h (x ∷ xs) = omega (arith, count-cons p x xs, count-cons q x x
 abbrev pub counted : (ℕ → Bool) → ℕ → List (List ℕ) → ℕ
 counted p k stacks = sum_by (λ stack. count_by p (above k stack)) stacks
 
+-- the count over one stack more
 counted-cons : (p : ℕ → Bool) (k : ℕ) (x : List ℕ) (xs : List (List ℕ)) → counted p k (x ∷ xs) ≡ count_by p (above k x) + counted p k xs
 counted-cons p k x xs = sum_by-cons (λ stack. count_by p (above k stack)) x xs
 
+-- more stands above k in a list that goes on
 above_grows : (p : ℕ → Bool) (k : ℕ) (xs rest : List ℕ) → count_by p (above k xs) ≤ count_by p (above k (xs ++ rest))
 above_grows p k xs rest =
     ⊎_elim
@@ -112,6 +123,7 @@ above_grows p k xs rest =
     (λ none. omega (arith, ap (count_by p) (above_absent k xs (times_not_held k xs none))))
     (cases_Bool (holds k xs))
 
+-- more counts in stacks that grow
 pub counted_grows : (p q : ℕ → Bool) (k : ℕ) → ((c : ℕ) → p c ≡ true → q c ≡ true) → (xs ys : List (List ℕ)) → Extends xs ys → counted p k xs ≤ counted q k ys
 counted_grows p q k h [] [] ext = omega arith
 counted_grows p q k h [] (y ∷ ys) ext = absurd ext
@@ -128,6 +140,7 @@ counted_grows p q k h (x ∷ xs) (y ∷ ys) ext =
       counted_grows p q k h xs ys ext.1,
     )
 
+-- a list that goes on does so below k
 below_prefix : (k : ℕ) (xs rest : List ℕ) → IsPrefix (below k xs) (below k (xs ++ rest))
 below_prefix k xs rest =
     ⊎_elim
@@ -135,6 +148,7 @@ below_prefix k xs rest =
     (λ none. (below k rest, below_not_held k xs rest none ∙ ap (λ l. l ++ below k rest) (sym (below_absent k xs (times_not_held k xs none)))))
     (cases_Bool (holds k xs))
 
+-- stacks that grow do so below k
 pub below_grows : (k : ℕ) (xs ys : List (List ℕ)) → Extends xs ys → Extends (map (below k) xs) (map (below k) ys)
 below_grows k [] [] ext = tt
 below_grows k [] (y ∷ ys) ext = absurd ext
@@ -155,13 +169,16 @@ stuck_grows ordered heights (suc more) xs ys k ext =
       stuck_grows ordered heights more (map (below k) xs) (map (below k) ys) (suc k) (below_grows k xs ys ext),
     )
 
+-- a list goes on from itself
 pub prefix_self : (xs : List ℕ) → IsPrefix xs xs
 prefix_self xs = ([], sym (append-nil xs))
 
+-- stacks go on from themselves
 pub extends_self : (xs : List (List ℕ)) → Extends xs xs
 extends_self [] = tt
 extends_self (x ∷ xs) = (prefix_self x, extends_self xs)
 
+-- a stack with more on top goes on from itself
 pub extends_put : (xs : List (List ℕ)) (i : ℕ) (x more : List ℕ) → slice_get xs i ≡ Some x → Extends xs (slice_set xs i (x ++ more))
 extends_put [] i x more h = tt
 extends_put (y ∷ ys) zero x more h = let e : y ≡ x = same_Some y x h in ((more, ap (λ l. l ++ more) (sym e)), extends_self ys)
@@ -182,6 +199,7 @@ cut_absent k (x ∷ xs) h =
     let b : map (below k) xs ≡ xs = cut_absent k xs (omega (arith, c, h)) in
     cc
 
+-- nothing counts above a rank that is not there
 pub counted_absent : (p : ℕ → Bool) (k : ℕ) (xs : List (List ℕ)) → occurrences k xs ≡ 0 → counted p k xs ≡ 0
 counted_absent p k [] h = refl
 counted_absent p k (x ∷ xs) h =

@@ -3,9 +3,11 @@ use Rattle.std.proofs.Common.{◌≡◌, ℕ, List, [], ◌∷◌, refl}
 use Rattle.crp_plan.specs.Bay.{Problem, start}
 use Rattle.crp_bounds.specs.Bounds.{blocking, look_ahead}
 
+-- three rows of three tiers
 abbrev three : List ℕ
 three = 3 ∷ 3 ∷ 3 ∷ []
 
+-- the blocking bound and the look-ahead bound at the start of a problem
 abbrev HasBounds : Problem → ℕ → ℕ → Type 0
 HasBounds p low high = (blocking (start p) ≡ low) × (look_ahead (start p) ≡ high)
 
@@ -17,6 +19,7 @@ one_empty_row = (refl, refl)
 blocker_blocks_again : HasBounds (record { heights = three; ordered = 4; stacks = (1 ∷ 4 ∷ []) ∷ (2 ∷ []) ∷ (3 ∷ []) ∷ [] }) 1 2
 blocker_blocks_again = (refl, refl)
 
+-- two blockers, each with a place
 six_containers : HasBounds (record { heights = three; ordered = 6; stacks = (1 ∷ 5 ∷ 4 ∷ []) ∷ (6 ∷ []) ∷ (3 ∷ 2 ∷ []) ∷ [] }) 2 2
 six_containers = (refl, refl)
 
@@ -40,9 +43,11 @@ stay_over_stay = (refl, refl)
 cut_row_has_room : HasBounds (record { heights = three; ordered = 6; stacks = (4 ∷ 1 ∷ 6 ∷ []) ∷ (2 ∷ 5 ∷ []) ∷ (3 ∷ []) ∷ [] }) 2 4
 cut_row_has_room = (refl, refl)
 
+-- 6 counts again, and 3 does not
 one_of_two_blocks_again : HasBounds (record { heights = three; ordered = 6; stacks = (1 ∷ 3 ∷ 6 ∷ []) ∷ (5 ∷ 4 ∷ []) ∷ (2 ∷ []) ∷ [] }) 2 3
 one_of_two_blocks_again = (refl, refl)
 
+-- two blockers, each with a place, in four rows
 seven_containers : HasBounds (record { heights = 3 ∷ three; ordered = 7; stacks = (1 ∷ 6 ∷ 5 ∷ []) ∷ (7 ∷ []) ∷ (4 ∷ 3 ∷ []) ∷ (2 ∷ []) ∷ [] }) 2 2
 seven_containers = (refl, refl)
 
