@@ -1,0 +1,5 @@
+pub use Rattle.crp_plan.specs.Rows
+pub use Rattle.crp_plan.specs.Bay
+pub use Rattle.crp_plan.specs.Walks
+pub mod Positions
+pub mod Reached

@@ -1,0 +1,10 @@
+//! Positions of a bay between relocations: where a path of destination rows leads, and how it can go on.
+#![tactic(auto)]
+
+mod laws;
+mod position;
+#[cfg(test)]
+mod tests;
+
+pub use laws::{reached_positions, walks};
+pub use position::Position;

@@ -1,0 +1,11 @@
+use Rattle.crp_bounds.proofs.Meaning.{no_place_elsewhere, elsewhere_no_place, cut_reads}
+use Rattle.crp_bounds.proofs.laws.words_mean.Goals as goal
+
+pub returns : goal.returns
+returns c = record {
+  no_place = λ ordered k own heights stacks stack x here held once. (
+    no_place_elsewhere ordered k own heights stacks stack x here held once,
+    elsewhere_no_place ordered k own heights stacks stack x here held,
+  );
+  cut = cut_reads;
+}

@@ -1,0 +1,15 @@
+//! Lower bounds on the relocations that a position of a bay still takes.
+#![tactic(auto)]
+
+mod ahead;
+mod blockers;
+mod laws;
+#[cfg(test)]
+mod tests;
+
+pub use ahead::look_ahead;
+pub use blockers::blocking;
+pub use laws::{
+    blocking_bounds, bounds_fall_slowly, look_ahead_bounds, look_ahead_is_higher, paths_grow,
+    plans_pass, words_mean,
+};

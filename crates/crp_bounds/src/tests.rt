@@ -1,0 +1,80 @@
+use crate::{blocking, look_ahead};
+use crp_bay::Position;
+use crp_plan::Problem;
+use std::alloc::{AllocError, Global};
+use std::process::Abort;
+use std::test::Fail;
+
+fn rows_of(alloc: Global, rows: &[&[u8]]) -> Result<Vec<Vec<u8>>, AllocError> {
+    let mut stacks = Vec::new(alloc);
+    for row in rows {
+        stacks.push(row.to_vec(alloc)?)?;
+    }
+    Ok(stacks)
+}
+
+fn start_of(alloc: Global, tiers: u8, ordered: u8, rows: &[&[u8]]) -> Result<Position, Fail> {
+    let stacks = rows_of(alloc, rows)?;
+    Ok(Position::start(&Problem::new(tiers, ordered, &stacks)?))
+}
+
+fn bounds_are(rt: &impl Abort, position: &Position, low: u32, high: u32, what: &str) {
+    assert_eq!(rt; blocking(position), low, "blocking: {what}");
+    assert_eq!(rt; look_ahead(position), high, "look-ahead: {what}");
+}
+
+#[test]
+fn worked_bounds(rt: HostRuntime) -> Result<(), Fail> {
+    let cases: [(u8, u8, &[&[u8]], u32, u32, &str); 10] = [
+        (2, 2, &[&[1, 2], &[]], 1, 1, "one empty row"),
+        (2, 2, &[&[2, 1], &[]], 0, 0, "nothing to relocate"),
+        (
+            3,
+            4,
+            &[&[1, 4], &[2], &[3]],
+            1,
+            2,
+            "the blocker blocks again",
+        ),
+        (3, 6, &[&[1, 5, 4], &[6], &[3, 2]], 2, 2, "six containers"),
+        (3, 2, &[&[1, 2]], 1, 2, "no other row"),
+        (2, 1, &[&[1, 2], &[]], 1, 1, "a stay over an ordered one"),
+        (
+            3,
+            7,
+            &[&[1, 6, 5], &[7], &[4, 3], &[2]],
+            2,
+            2,
+            "seven containers",
+        ),
+        (3, 6, &[&[4, 1, 6], &[2, 5], &[3]], 2, 4, "two count again"),
+        (3, 6, &[&[1, 3, 6], &[5, 4], &[2]], 2, 3, "one counts again"),
+        (1, 0, &[&[]], 0, 0, "an empty bay"),
+    ];
+    for (tiers, ordered, rows, low, high, what) in cases {
+        let position = start_of(rt.alloc(), tiers, ordered, rows)?;
+        bounds_are(&rt, &position, low, high, what);
+    }
+    Ok(())
+}
+
+#[test]
+fn stay_over_stay_does_not_count(rt: HostRuntime) -> Result<(), Fail> {
+    let position = start_of(rt.alloc(), 3, 1, &[&[1, 4], &[2, 3], &[]])?;
+    bounds_are(&rt, &position, 1, 1, "4 over 1 alone");
+    Ok(())
+}
+
+#[test]
+fn bounds_along_a_best_plan(rt: HostRuntime) -> Result<(), Fail> {
+    let start = start_of(rt.alloc(), 3, 6, &[&[1, 5, 4], &[6], &[3, 2]])?;
+    let first = start.child(2).expect(&rt, "a legal row");
+    let second = first.child(2).expect(&rt, "a legal row");
+    let third = second.child(1).expect(&rt, "a legal row");
+    let other = start.child(3).expect(&rt, "a legal row");
+    bounds_are(&rt, &first, 1, 2, "5 blocks again");
+    bounds_are(&rt, &other, 2, 2, "after the other row");
+    bounds_are(&rt, &second, 1, 1, "before the last");
+    bounds_are(&rt, &third, 0, 0, "at the end");
+    Ok(())
+}
