@@ -1,5 +1,5 @@
 -- From the getters of clap's matches to what the words ask for.
-use Rattle.std.proofs.Common.{◌≡◌, ◌∙◌, ◌⊎◌, ◌<◌, ◌^◌, ℕ, List, Option, Some, None, IfSome, IfNone, Result, refl, sym, subst, inl, inr, option_map, codes, true}
+use Rattle.std.proofs.Common.{◌≡◌, ◌∙◌, ◌⊎◌, List, Option, Some, None, refl, sym, subst, inl, inr, option_map, codes, true}
 use Rattle.clap.specs.Words.{IsAmong, Row, Text, fault_of, first_of, is_simple}
 use Rattle.clap.specs.Faults.{is_simple_and_free}
 use Rattle.clap.specs.declared.error.kind.ErrorKind.{ErrorKind}

@@ -1,11 +1,15 @@
--- What a replay has written, and how its refusals are told.
+-- What is written of a head, and how refusals are told.
 use Rattle.std.proofs.Common.{◌≡◌, ℕ, List, ◌++◌, Option, Some, None, ◌⊎◌, inl, inr, refl, ap, ◌∙◌, append_assoc}
 use Rattle.std.specs.Io.KnownBytes.{Keeps}
 use Rattle.crp_cert.specs.declared.fault.CertFault.{CertFault}
 use Rattle.crp_cert.specs.declared.fault.CertFault.TheVariants as cert
 use Rattle.crp_cert.specs.Faults.{IsFirstFault}
-use Rattle.crp.specs.Calls.{Seen, IsGiven, Tells, cert_told}
-use Rattle.crp.specs.Replay.{IsReplay, IsNoReplay}
+use Rattle.crp_cert.specs.declared.head.Head.{Head}
+use Rattle.crp_cert.specs.Text.{IsHeadOf}
+use Rattle.crp.specs.declared.outcome.ToolFault.{ToolFault}
+use Rattle.crp.specs.declared.outcome.ToolFault.TheVariants as fault
+use Rattle.crp.specs.Calls.{Seen, IsGiven, IsNoHead, Tells, cert_told}
+use Rattle.crp.specs.Replay.{IsReplay, IsNoReplay, IsNoReport}
 
 -- five pieces, one after the other
 pub five_pieces : (text one two three four five a b c d e : List ℕ) → one ≡ text ++ a → two ≡ one ++ b → three ≡ two ++ c → four ≡ three ++ d → five ≡ four ++ e →
@@ -20,17 +24,37 @@ pub keeps_same : (known : Option (List ℕ)) → Keeps known known
 keeps_same None = tt
 keeps_same (Some xs) = refl
 
--- a refused head, where nothing was written
-pub cert_refused : (limit : ℕ) (seen : Seen) (bytes : List ℕ) (f : CertFault) → Keeps seen.held seen.holds → IsGiven seen.given bytes → (f ≡ cert.Memory) ⊎ IsFirstFault bytes f →
-    Tells limit IsReplay IsNoReplay seen (cert_told f)
-cert_refused limit seen bytes cert.Memory keeps given why = keeps
-cert_refused limit seen bytes (cert.Opening line) keeps given (inl e) = absurd (cc)
-cert_refused limit seen bytes (cert.Opening line) keeps given (inr first) = (keeps, (bytes, given, first))
-cert_refused limit seen bytes (cert.Size line) keeps given (inl e) = absurd (cc)
-cert_refused limit seen bytes (cert.Size line) keeps given (inr first) = (keeps, (bytes, given, first))
-cert_refused limit seen bytes (cert.Row line) keeps given (inl e) = absurd (cc)
-cert_refused limit seen bytes (cert.Row line) keeps given (inr first) = (keeps, (bytes, given, first))
-cert_refused limit seen bytes (cert.Claim line) keeps given (inl e) = absurd (cc)
-cert_refused limit seen bytes (cert.Claim line) keeps given (inr first) = (keeps, (bytes, given, first))
-cert_refused limit seen bytes (cert.Plan line) keeps given (inl e) = absurd (cc)
-cert_refused limit seen bytes (cert.Plan line) keeps given (inr first) = (keeps, (bytes, given, first))
+-- why no head was read, as read_head tells it
+pub no_head : (limit : ℕ) (given : Option (List ℕ)) (before after : ℕ) (bytes : List ℕ) (f : CertFault) → IsGiven given bytes → (f ≡ cert.Memory) ⊎ IsFirstFault bytes f →
+    IsNoHead limit given before after (cert_told f)
+no_head limit known before after bytes cert.Memory given why = tt
+no_head limit known before after bytes (cert.Opening line) given (inl e) = absurd (cc)
+no_head limit known before after bytes (cert.Opening line) given (inr first) = (bytes, given, first)
+no_head limit known before after bytes (cert.Size line) given (inl e) = absurd (cc)
+no_head limit known before after bytes (cert.Size line) given (inr first) = (bytes, given, first)
+no_head limit known before after bytes (cert.Row line) given (inl e) = absurd (cc)
+no_head limit known before after bytes (cert.Row line) given (inr first) = (bytes, given, first)
+no_head limit known before after bytes (cert.Claim line) given (inl e) = absurd (cc)
+no_head limit known before after bytes (cert.Claim line) given (inr first) = (bytes, given, first)
+no_head limit known before after bytes (cert.Plan line) given (inl e) = absurd (cc)
+no_head limit known before after bytes (cert.Plan line) given (inr first) = (bytes, given, first)
+
+-- a command without a head tells why, where nothing was written
+pub no_head_told : (limit : ℕ) (IsReport : List ℕ → List ℕ → Type 0) (IsRefused : List ℕ → ToolFault → Type 0) (seen : Seen) (f : ToolFault) → Keeps seen.held seen.holds →
+    ((bytes : List ℕ) (g : CertFault) → IsFirstFault bytes g → IsRefused bytes (fault.Cert g)) → IsNoHead limit seen.given seen.source_before seen.source_after f → Tells limit IsReport IsRefused seen f
+no_head_told limit IsReport IsRefused seen (fault.Cert f) keeps refuses none = (keeps, (none.0, none.1, refuses none.0 f none.2))
+no_head_told limit IsReport IsRefused seen (fault.Plan f) keeps refuses none = absurd none
+no_head_told limit IsReport IsRefused seen fault.Read keeps refuses none = (keeps, none)
+no_head_told limit IsReport IsRefused seen fault.Write keeps refuses none = absurd none
+no_head_told limit IsReport IsRefused seen fault.TooLarge keeps refuses none = (keeps, none)
+no_head_told limit IsReport IsRefused seen fault.Memory keeps refuses none = keeps
+
+-- a replay without a report tells why, where nothing was written
+pub no_report_told : (limit : ℕ) (seen : Seen) (bytes : List ℕ) (head : Head) (f : ToolFault) → Keeps seen.held seen.holds → IsGiven seen.given bytes → IsHeadOf bytes head → IsNoReport head f →
+    Tells limit IsReplay IsNoReplay seen f
+no_report_told limit seen bytes head (fault.Cert f) keeps given is none = absurd none
+no_report_told limit seen bytes head (fault.Plan f) keeps given is none = (keeps, (bytes, given, (head, is, none)))
+no_report_told limit seen bytes head fault.Read keeps given is none = absurd none
+no_report_told limit seen bytes head fault.Write keeps given is none = absurd none
+no_report_told limit seen bytes head fault.TooLarge keeps given is none = absurd none
+no_report_told limit seen bytes head fault.Memory keeps given is none = keeps

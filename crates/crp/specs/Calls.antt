@@ -6,6 +6,7 @@ use Rattle.crp_plan.specs.declared.transfer.ReadFault.{ReadFault}
 use Rattle.crp_plan.specs.declared.transfer.ReadFault.TheVariants as reading
 use Rattle.crp_cert.specs.declared.fault.CertFault.{CertFault}
 use Rattle.crp_cert.specs.declared.fault.CertFault.TheVariants as cert
+use Rattle.crp_cert.specs.Faults.{IsFirstFault}
 use Rattle.crp.specs.declared.outcome.Status.{Status}
 use Rattle.crp.specs.declared.outcome.Status.TheVariants as status
 use Rattle.crp.specs.declared.outcome.ToolFault.{ToolFault}
@@ -44,6 +45,16 @@ Tells limit IsReport IsRefused s fault.Write = HasFailed s.sink_before s.sink_af
     × ((text : List ℕ) × (report : List ℕ) × IsGiven s.given text × IsReport text report × AppendsFront s.held s.holds report)
 Tells limit IsReport IsRefused s fault.TooLarge = Keeps s.held s.holds × IfSome s.given (λ xs. limit < length xs)
 Tells limit IsReport IsRefused s fault.Memory = Keeps s.held s.holds
+
+-- why no head was read from a source: its bytes begin with none, it has failed in this call, it has more bytes than the limit, or memory
+-- is wanted
+abbrev pub IsNoHead : ℕ → Option (List ℕ) → ℕ → ℕ → ToolFault → Type 0
+IsNoHead limit given before after (fault.Cert f) = (text : List ℕ) × IsGiven given text × IsFirstFault text f
+IsNoHead limit given before after fault.Read = HasFailed before after
+IsNoHead limit given before after fault.TooLarge = IfSome given (λ xs. limit < length xs)
+IsNoHead limit given before after fault.Memory = Unit {0}
+IsNoHead limit given before after (fault.Plan f) = ⊥
+IsNoHead limit given before after fault.Write = ⊥
 
 -- how a command tells what went wrong in a layer below
 abbrev pub read_told : ReadFault → ToolFault

@@ -2,4 +2,5 @@
 pub mod MoveLines
 pub mod Calls
 pub mod Replay
+pub mod Bound
 pub mod Words

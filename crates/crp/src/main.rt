@@ -1,6 +1,8 @@
 //! The program `crp`.
 #![tactic(auto)]
 
+mod bounding;
+mod heads;
 mod job;
 mod move_lines;
 mod outcome;

@@ -2,30 +2,16 @@
 ghost use Rattle.std.specs.Prelude.{◌≡◌, ℕ, List, ◌++◌, ◌∷◌, [], IfOk, IfErr, OnOk, MatchResult, codes, decimal, length};
 ghost use Rattle.crp_plan.specs.Bay.{IsPlan, path_of, relocations};
 ghost use Rattle.crp_plan.specs.Rows.{total};
-ghost use Rattle.crp_cert.specs.Text.{bay_line};
 ghost use Rattle.crp.specs.Calls.{Seen, Writes, Tells};
 ghost use Rattle.crp.specs.MoveLines.{TellsMoves};
 ghost use Rattle.crp.specs.Replay.{count_line, TellsPlan, IsHeadReport, IsReplay, IsNoReplay, IsNoReport};
 
+use crate::heads::{head_from, push_bay};
 use crate::move_lines::{lines_of, names_of_ranks, push_decimal};
 use crate::outcome::{Status, ToolFault};
-use crp_cert::{Head, read_head};
-use crp_plan::{BayName, Move, Plan, Sink, Source, read_all, write_all};
+use crp_cert::Head;
+use crp_plan::{Move, Plan, Sink, Source, write_all};
 use std::alloc::{AllocError, Global};
-
-/// The most bytes of a certificate file.
-pub const MOST_BYTES: usize = 268_435_456;
-
-fn push_bay(text: &mut Vec<u8>, bay: &BayName) -> Result<(), AllocError>
-    ensures { OnOk result (text.new.items ≡ text.old.items ++ bay_line bay.now) }
-{
-    text.extend_from_slice(b"bay ")?;
-    text.extend_from_slice(bay.block())?;
-    text.push(b' ')?;
-    push_decimal(text, bay.bay())?;
-    text.push(b'\n')?;
-    Ok(())
-}
 
 fn push_count(text: &mut Vec<u8>, moves: &[Move], count: u32) -> Result<(), AllocError>
     requires { count ≡ relocations moves.now }
@@ -87,8 +73,7 @@ pub fn replay<R: Source, W: Sink>(
     } in MatchResult result (λ status. (status ≡ Status.Decided) × Writes IsReplay seen) (Tells 268435456 IsReplay IsNoReplay seen) }
 {
     let mut interruptions = 0;
-    let bytes = read_all(alloc, reader, MOST_BYTES, &mut interruptions)?;
-    let head = read_head(alloc, &bytes)?;
+    let head = head_from(alloc, reader, &mut interruptions)?;
     let report = report_of(alloc, &head)?;
     write_all(writer, &report, &mut interruptions)?;
     Ok(Status::Decided)

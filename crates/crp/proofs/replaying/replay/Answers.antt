@@ -1,20 +1,34 @@
 use Rattle.std.proofs.Common.{subst, sym}
 use Rattle.std.proofs.lemmas.Result.{err_from_is_err_and}
-use Rattle.crp.specs.Calls.{IsGiven}
-use Rattle.crp.specs.Replay.{IsHeadReport}
-use Rattle.crp.proofs.Replayed.{cert_refused, keeps_same}
+use Rattle.crp.specs.Calls.{Seen}
+use Rattle.crp.specs.Replay.{IsReplay, IsNoReplay, IsHeadReport}
+use Rattle.crp.proofs.Replayed.{no_head_told, no_report_told, keeps_same}
 use Rattle.crp.proofs.replaying.replay.Goals as goal
 
 pub returns-in_err-head : goal.returns-in_err-head
 returns-in_err-head g c =
-    let p = err_from_is_err_and c.from_residual-in_err-head.result c.from_residual-in_err-head.ensures.1 in
-    let given = subst (IsGiven (g.R.Source.remaining c.args.reader.now)) (sym c.deref.ensures.value) c.in_ok-bytes.ensures.all in
-    rw (p.1, p.2) (cert_refused _ _ c.deref.result.now c.in_err-head.field-0.0 (keeps_same _) given c.in_err-head.ensures.refused)
+    let p = err_from_is_err_and c.from_residual.result c.from_residual.ensures.1 in
+    let seen : Seen = record {
+      given = g.R.Source.remaining c.args.reader.now;
+      held = g.W.Sink.contents c.args.writer.now;
+      holds = g.W.Sink.contents c.args.writer.now;
+      source_before = g.R.Source.failures c.args.reader.now;
+      source_after = g.R.Source.failures c.head_from.new.reader;
+      sink_before = g.W.Sink.failures c.args.writer.now;
+      sink_after = g.W.Sink.failures c.args.writer.now;
+    } in
+    rw (p.1, p.2) (no_head_told 268435456 IsReplay IsNoReplay seen c.in_err-head.field-0.0 (keeps_same _) (λ bytes f first. first) c.in_err-head.ensures.none)
+
+pub returns-in_err-report : goal.returns-in_err-report
+returns-in_err-report g c =
+    let p = err_from_is_err_and c.from_residual-in_err-report.result c.from_residual-in_err-report.ensures.1 in
+    let found = c.in_ok-head.ensures.found in
+    rw (p.1, p.2) (no_report_told _ _ found.0 c.in_ok-head.head c.in_err-report.field-0.0 (keeps_same _) found.1 found.2 c.in_err-report.ensures.refused)
 
 pub returns-in_err-write_all : goal.returns-in_err-write_all
 returns-in_err-write_all g c =
     let p = err_from_is_err_and c.from_residual-in_err-write_all.result c.from_residual-in_err-write_all.ensures.1 in
-    let given = subst (IsGiven (g.R.Source.remaining c.args.reader.now)) (sym c.deref.ensures.value) c.in_ok-bytes.ensures.all in
-    let told = subst (IsHeadReport c.in_ok-head.head) (sym c.deref-2.ensures.value) c.in_ok-report.ensures.told in
+    let told = subst (IsHeadReport c.in_ok-head.head) (sym c.deref.ensures.value) c.in_ok-report.ensures.told in
+    let found = c.in_ok-head.ensures.found in
     rw (p.1, p.2)
-    (c.in_err-write_all.ensures.failed, (c.deref.result.now, c.deref-2.result.now, given, (c.in_ok-head.head, c.in_ok-head.ensures.found, told), c.in_err-write_all.ensures.front))
+    (c.in_err-write_all.ensures.failed, (found.0, c.deref.result.now, found.1, (c.in_ok-head.head, found.2, told), c.in_err-write_all.ensures.front))

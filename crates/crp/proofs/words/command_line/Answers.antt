@@ -5,9 +5,6 @@ use Rattle.clap.specs.Simple.{app_of_fields}
 use Rattle.crp.specs.Words.{leaf, top}
 use Rattle.crp.proofs.words.command_line.Goals as goal
 
-abbrev set_top : App → App
-set_top a = record a { top = record a.top { has_version = true; no_binary_name = true; subcommand_required = true } }
-
 pub returns : goal.returns
 returns c =
     let named : app_of c.in_ok-bin_name.field-0 ≡ app_of c.new.result = ap app_of_fields c.in_ok-bin_name.ensures.0 in

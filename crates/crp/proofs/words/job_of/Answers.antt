@@ -1,9 +1,6 @@
-use Rattle.std.proofs.Common.{◌≡◌, ◌∙◌, Bor, ℕ, List, Some, None, ap, arith, sym, rules, codes, slice_index, option_map}
-use Rattle.clap.specs.Words.{Row, first_of, found_of, rows_of}
+use Rattle.std.proofs.Common.{◌≡◌, ◌∙◌, Bor, ℕ, List, Some, None, ap, sym, rules, codes, option_map}
+use Rattle.clap.specs.Words.{first_of, found_of, rows_of}
 use Rattle.clap.proofs.WalkLemmas.{first_value-rows}
-use Rattle.crp.specs.Words.{Asks}
-use Rattle.crp.specs.declared.job.Job.{Job}
-use Rattle.crp.specs.declared.job.Job.TheVariants as job
 use Rattle.crp.proofs.Asking.{file_asked, no_job}
 use Rattle.crp.proofs.words.job_of.Goals as goal
 

@@ -1,0 +1,28 @@
+use Rattle.std.proofs.Common.{subst, sym}
+use Rattle.std.proofs.lemmas.Result.{err_from_is_err_and}
+use Rattle.crp.specs.Calls.{Seen}
+use Rattle.crp.specs.Bound.{IsBound, IsNoBound, IsBoundReport}
+use Rattle.crp.proofs.Replayed.{no_head_told, keeps_same}
+use Rattle.crp.proofs.bounding.bound.Goals as goal
+
+pub returns-in_err-head : goal.returns-in_err-head
+returns-in_err-head g c =
+    let p = err_from_is_err_and c.from_residual.result c.from_residual.ensures.1 in
+    let seen : Seen = record {
+      given = g.R.Source.remaining c.args.reader.now;
+      held = g.W.Sink.contents c.args.writer.now;
+      holds = g.W.Sink.contents c.args.writer.now;
+      source_before = g.R.Source.failures c.args.reader.now;
+      source_after = g.R.Source.failures c.head_from.new.reader;
+      sink_before = g.W.Sink.failures c.args.writer.now;
+      sink_after = g.W.Sink.failures c.args.writer.now;
+    } in
+    rw (p.1, p.2) (no_head_told 268435456 IsBound IsNoBound seen c.in_err-head.field-0.0 (keeps_same _) (λ bytes f first. first) c.in_err-head.ensures.none)
+
+pub returns-in_err-write_all : goal.returns-in_err-write_all
+returns-in_err-write_all g c =
+    let p = err_from_is_err_and c.from_residual-in_err-write_all.result c.from_residual-in_err-write_all.ensures.1 in
+    let told = subst (IsBoundReport c.in_ok-head.head) (sym c.deref.ensures.value) c.in_ok-report.ensures in
+    let found = c.in_ok-head.ensures.found in
+    rw (p.1, p.2)
+    (c.in_err-write_all.ensures.failed, (found.0, c.deref.result.now, found.1, (c.in_ok-head.head, found.2, told), c.in_err-write_all.ensures.front))

@@ -1,0 +1,11 @@
+use Rattle.std.proofs.Common.{subst, sym}
+use Rattle.std.proofs.lemmas.Result.{err_from_is_err_and}
+use Rattle.crp.specs.Calls.{IsGiven}
+use Rattle.crp.proofs.Replayed.{no_head}
+use Rattle.crp.proofs.heads.head_from.Goals as goal
+
+pub returns-in_err-head-clause-none : goal.returns-in_err-head-clause-none
+returns-in_err-head-clause-none g c =
+    let p = err_from_is_err_and c.from_residual-in_err-head.result c.from_residual-in_err-head.ensures.1 in
+    let given = subst (IsGiven (g.R.Source.remaining c.args.reader.now)) (sym c.deref.ensures.value) c.in_ok-bytes.ensures.all in
+    rw (p.1, p.2) (no_head _ _ _ _ c.deref.result.now c.in_err-head.field-0.0 given c.in_err-head.ensures.refused)

@@ -1,0 +1,41 @@
+//! Heads of certificates: read from a source, and the line of their bay.
+ghost use Rattle.std.specs.Prelude.{◌≡◌, ◌≤◌, ℕ, List, ◌++◌, ◌∷◌, [], IfOk, IfErr, OnOk, length};
+ghost use Rattle.crp_cert.specs.Text.{bay_line, IsHeadOf};
+ghost use Rattle.crp.specs.Calls.{IsGiven, IsNoHead};
+
+use crate::move_lines::push_decimal;
+use crate::outcome::ToolFault;
+use crp_cert::{Head, read_head};
+use crp_plan::{BayName, Source, read_all};
+use std::alloc::{AllocError, Global};
+
+/// The most bytes of a certificate file.
+pub const MOST_BYTES: usize = 268_435_456;
+
+/// The head that a source's bytes begin with. All bytes are read.
+pub fn head_from<R: Source>(
+    alloc: Global,
+    reader: &mut R,
+    interruptions: &mut u32,
+) -> Result<Head, ToolFault>
+    requires { interruptions.old ≤ 1000 }
+    ensures found { IfOk result (λ head. (text : List ℕ) × IsGiven (R.remaining reader.old) text × IsHeadOf text head) }
+    ensures none { IfErr result (IsNoHead 268435456 (R.remaining reader.old) (R.failures reader.old) (R.failures reader.new)) }
+    ensures passed { interruptions.new ≤ 1000 }
+{
+    let bytes = read_all(alloc, reader, MOST_BYTES, interruptions)?;
+    let head = read_head(alloc, &bytes)?;
+    Ok(head)
+}
+
+/// Adds the line of a bay.
+pub fn push_bay(text: &mut Vec<u8>, bay: &BayName) -> Result<(), AllocError>
+    ensures { OnOk result (text.new.items ≡ text.old.items ++ bay_line bay.now) }
+{
+    text.extend_from_slice(b"bay ")?;
+    text.extend_from_slice(bay.block())?;
+    text.push(b' ')?;
+    push_decimal(text, bay.bay())?;
+    text.push(b'\n')?;
+    Ok(())
+}
