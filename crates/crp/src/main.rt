@@ -1,4 +1,4 @@
-//! The program `crp`.
+//! The program `crp`: plans for a container yard that gives its containers to a ship in a fixed order.
 #![tactic(auto)]
 
 mod bounding;
@@ -7,10 +7,13 @@ mod job;
 mod move_lines;
 mod outcome;
 mod replaying;
+mod running;
+#[cfg(test)]
+mod tests;
 mod words;
 
 use std::process::ExitCode;
 
-fn main(_rt: HostRuntime) -> ExitCode {
-    ExitCode::from(0)
+fn main(rt: HostRuntime) -> ExitCode {
+    ExitCode::from(running::run(&rt))
 }

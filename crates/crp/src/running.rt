@@ -1,0 +1,114 @@
+//! A run of the program: its words, its files, and what it tells the user.
+use crate::bounding::bound;
+use crate::job::{Job, Usage};
+use crate::outcome::{Status, ToolFault, exit_of};
+use crate::replaying::replay;
+use crate::words::job;
+use crp_plan::{Counted, Source};
+use std::alloc::{AllocError, Global};
+use std::fs::File;
+use std::{env, io};
+
+// The exit status where the words are wrong.
+const WRONG_USAGE: u8 = 2;
+
+// The exit status where help or the version could not be written.
+const FAILED_WRITE: u8 = 5;
+
+// The words after the program's name.
+fn words_of(rt: &HostRuntime) -> io::Result<Vec<String>> {
+    let mut words = Vec::new(rt.alloc());
+    for word in env::args(rt)?.skip(1) {
+        words.push(word)?;
+    }
+    Ok(words)
+}
+
+// The texts behind the words.
+fn texts_of<'a>(alloc: Global, words: &'a [String]) -> Result<Vec<&'a str>, AllocError> {
+    let mut texts = Vec::new(alloc);
+    for word in words {
+        texts.push(word.as_str())?;
+    }
+    Ok(texts)
+}
+
+// What is done with the bytes of a file.
+#[derive(Clone, Copy)]
+enum Command {
+    Replay,
+    Bound,
+}
+
+fn run_from<R: Source>(
+    rt: &HostRuntime,
+    command: Command,
+    source: &mut R,
+) -> Result<Status, ToolFault> {
+    let mut sink = Counted::new(rt.stdout());
+    match command {
+        Command::Replay => replay(rt.alloc(), source, &mut sink),
+        Command::Bound => bound(rt.alloc(), source, &mut sink),
+    }
+}
+
+// A file named `-` is the standard input.
+fn run_on(rt: &HostRuntime, command: Command, name: &str) -> Result<Status, ToolFault> {
+    if name == "-" {
+        return run_from(rt, command, &mut Counted::new(rt.stdin()));
+    }
+    match File::open(rt, name) {
+        Ok(file) => run_from(rt, command, &mut Counted::new(file)),
+        Err(_) => Err(ToolFault::Read),
+    }
+}
+
+fn start(rt: &HostRuntime, job: Job<'_>) -> Result<Status, ToolFault> {
+    match job {
+        Job::Replay(file) => run_on(rt, Command::Replay, file),
+        Job::Bound(file) => run_on(rt, Command::Bound, file),
+    }
+}
+
+// The exit status, with the fault's line on the standard error.
+fn told(rt: &HostRuntime, answer: &Result<Status, ToolFault>) -> u8 {
+    if let Err(fault) = answer {
+        let _ = eprintln!(rt; "crp: {fault}");
+    }
+    exit_of(answer)
+}
+
+fn told_usage(rt: &HostRuntime, usage: &Usage) -> u8 {
+    match usage {
+        Usage::Help(text) => match print!(rt; "{text}") {
+            Ok(()) => 0,
+            Err(_) => FAILED_WRITE,
+        },
+        Usage::Wrong(text) => {
+            let _ = eprint!(rt; "{text}");
+            WRONG_USAGE
+        }
+        Usage::Memory => told(rt, &Err(ToolFault::Memory)),
+    }
+}
+
+/// Runs the program, and says its exit status.
+pub fn run(rt: &HostRuntime) -> u8 {
+    let words = match words_of(rt) {
+        Ok(words) => words,
+        Err(error) => {
+            if error.kind() == io::ErrorKind::OutOfMemory {
+                return told(rt, &Err(ToolFault::Memory));
+            }
+            let _ = eprintln!(rt; "error: a word is no text");
+            return WRONG_USAGE;
+        }
+    };
+    let Ok(texts) = texts_of(rt.alloc(), &words) else {
+        return told(rt, &Err(ToolFault::Memory));
+    };
+    match job(rt.alloc(), &texts) {
+        Ok(job) => told(rt, &start(rt, job)),
+        Err(usage) => told_usage(rt, &usage),
+    }
+}

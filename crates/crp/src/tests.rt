@@ -1,0 +1,4 @@
+//! What no contract says: worked examples byte for byte, texts of faults, and devices that fail in mid-stream.
+mod commands;
+mod failing;
+mod usage;
