@@ -18,6 +18,7 @@ use Rattle.crp_cert.specs.Text.{title_line, bay_line, size_line, row_line, claim
 use Rattle.crp_cert.proofs.Numbers.{tag_again}
 use Rattle.crp_cert.proofs.Lines.{AreLow, bay_once, size_once, rows_once, claim_once, plan_once}
 
+-- the text of a head and what follows it, line by line
 pub head_then : (head : Head) (rest : List ℕ) → head_text head ++ rest
     ≡ title_line ++ (bay_line head.bay ++ (size_line (size_of head.problem) ++ (flat_map row_line head.problem.stacks ++ (claim_line head.claim ++ (plan_line head.plan ++ rest)))))
 head_then head rest =
@@ -28,6 +29,7 @@ head_then head rest =
     five : (t b s r c p rest : List ℕ) → (t ++ (b ++ (s ++ (r ++ (c ++ p))))) ++ rest ≡ t ++ (b ++ (s ++ (r ++ (c ++ (p ++ rest)))))
     five t b s r c p rest = simp append_assoc
 
+-- no height is above the tallest
 all_low : (heights : List ℕ) → AllByRecursion (λ height. height ≤ tallest heights) heights
 all_low heights = below (tallest heights) heights (omega arith)
   where
@@ -35,6 +37,7 @@ all_low heights = below (tallest heights) heights (omega arith)
     below m [] le = tt
     below m (height ∷ heights) le = (omega arith, below m heights (omega arith))
 
+-- no more containers than places
 room : (m : ℕ) (heights : List ℕ) (stacks : List (List ℕ)) → FitRows heights stacks → AllByRecursion (λ height. height ≤ m) heights → total stacks ≤ length stacks * m
 room m [] [] fit low = omega arith
 room m [] (stack ∷ stacks) fit low = absurd fit
@@ -43,6 +46,7 @@ room m (height ∷ heights) (stack ∷ stacks) fit low =
     let a = fit.0 in let b = low.0 in
     omega (arith, sum_by-cons length stack stacks, room m heights stacks fit.1 low.1)
 
+-- what the size line of a head says is within the limits
 pub size_is : (head : Head) → IsHead head → IsSize (size_of head.problem)
 size_is head is =
     let p : Problem = head.problem in
@@ -59,6 +63,7 @@ size_is head is =
       room = room (tallest p.heights) p.heights p.stacks is.problem.stacks_fit (all_low p.heights);
     }
 
+-- no stack is higher than eight, and ranks have one digit or two
 pub stacks_low : (p : Problem) → IsProblem p → AllByRecursion (AreLow 8) p.stacks
 stacks_low p is = both p.heights p.stacks is.stacks_fit (low_heights p is)
     (in_bay (λ x. x ≤ 99) p.stacks (λ x some. let h = is.no_other x some in omega (arith, few_containers p is, h.1)))
@@ -71,9 +76,11 @@ stacks_low p is = both p.heights p.stacks is.stacks_fit (low_heights p is)
         let a = fit.0 in let b = low.0 in
         ((omega arith, recursion_from_All (λ x. x ≤ 99) stack ranks.0), both heights stacks fit.1 low.1 ranks.1)
 
+-- the problem of a head is what its size and its stacks state
 problem_is : (head : Head) → IsHead head → head.problem ≡ stated (size_of head.problem).tiers (size_of head.problem).ordered head.problem.stacks
 problem_is head is = ap (λ (h : List ℕ). record head.problem { heights = h }) is.same_heights
 
+-- a text begins with one head's text at most
 pub head_once : (a b : Head) (x y : List ℕ) → IsHead a → IsHead b → head_text a ++ x ≡ head_text b ++ y → (a ≡ b) × (x ≡ y)
 head_once a b x y is-a is-b e =
     let e0 = sym (head_then a x) ∙ e ∙ head_then b y in

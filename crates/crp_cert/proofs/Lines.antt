@@ -19,6 +19,7 @@ use Rattle.crp_cert.proofs.Numbers.{bind_some, if_some, if_none, chosen, tag_tak
 
 -- ---- words
 
+-- a word is what the bytes begin with
 pub word_takes : (bytes word rest : List ℕ) → word_at bytes ≡ Some (word, rest) → bytes ≡ word ++ rest
 word_takes [] word rest e = absurd cc
 word_takes (b ∷ bytes) word rest e =
@@ -30,6 +31,7 @@ word_takes (b ∷ bytes) word rest e =
     ap (λ l. b ∷ l) (word_takes bytes x.0.0 x.0.1 x.1) ∙ ap (λ w. w ++ x.0.1) p.0 ∙ ap (λ r. word ++ r) p.1)
     (chosen (b == 32) (Some ([], b ∷ bytes)) (word_at bytes >>= λ x. Some (b ∷ x.0, x.1)) (Some (word, rest)) e)
 
+-- a word of printed characters is read again
 pub word_again : (word rest : List ℕ) → AllByRecursion (λ b. (33 ≤ b) × (b ≤ 126)) word → word_at (word ++ 32 ∷ rest) ≡ Some (word, 32 ∷ rest)
 word_again [] rest low = refl
 word_again (b ∷ word) rest low =
@@ -38,13 +40,16 @@ word_again (b ∷ word) rest low =
 
 -- ---- lines
 
+-- a line of numbers and what follows it, piece by piece
 pub numbers_line_then : (word ns rest : List ℕ) → numbers_line word ns ++ rest ≡ word ++ (spaced ns ++ 10 ∷ rest)
 numbers_line_then word ns rest =
     append_assoc word (spaced ns ++ 10 ∷ []) rest ∙ ap (λ l. word ++ l) (append_assoc (spaced ns) (10 ∷ []) rest)
 
+-- the first of some numbers and what follows it
 pub spaced_then : (n : ℕ) (ns rest : List ℕ) → spaced (n ∷ ns) ++ rest ≡ 32 ∷ (decimal n ++ (spaced ns ++ rest))
 spaced_then n ns rest = append_assoc (32 ∷ decimal n) (spaced ns) rest
 
+-- a size line is read again
 pub size_again : (size : Size) (rest : List ℕ) → IsSize size → size_at (size_line size ++ rest) ≡ Some (size, rest)
 unfolding size_at
 size_again size rest is =
@@ -65,6 +70,7 @@ size_again size rest is =
     is_size_from : (size : Size) → IsSize size → is_size size ≡ true
     is_size_from size is = and_from _ _ (le-leb 1 size.rows is.some_rows) (and_from _ _ (le-leb size.rows 12 is.few_rows) (and_from _ _ (le-leb 1 size.tiers is.some_tiers) (and_from _ _ (le-leb size.tiers 8 is.few_tiers) (and_from _ _ (le-leb size.ordered size.total is.ordered_fit) (le-leb size.total (size.rows * size.tiers) is.room)))))
 
+-- a claim line is read again
 pub claim_again : (most claim : ℕ) (rest : List ℕ) → claim ≤ most → most ≤ 9999 → claim_at most (claim_line claim ++ rest) ≡ Some (claim, rest)
 unfolding claim_at
 claim_again most claim rest low few =
@@ -74,10 +80,12 @@ claim_again most claim rest low few =
 
 -- ---- rows and plans
 
+-- a row line is read again
 pub row_again : (most : ℕ) (stack rest : List ℕ) → length stack ≤ most → AllByRecursion (λ n. n ≤ 99) stack → row_at most (row_line stack ++ rest) ≡ Some (stack, rest)
 unfolding row_at
 row_again most stack rest few low = ap (row_at most) (numbers_line_then (codes "row") stack rest) ∙ numbers_again most stack rest few low
 
+-- what is read of a row line is what it says
 pub row_takes : (most : ℕ) (bytes stack rest : List ℕ) → row_at most bytes ≡ Some (stack, rest) → (bytes ≡ row_line stack ++ rest) × (length stack ≤ most) × AllByRecursion (λ n. n ≤ 99) stack
 unfolding row_at
 row_takes most bytes stack rest e =
@@ -87,6 +95,7 @@ row_takes most bytes stack rest e =
 
 -- ---- names of bays
 
+-- the line of a bay is read again
 pub name_again : (name : YardBay) (rest : List ℕ) → IsYardBay name → name_at (bay_line name ++ rest) ≡ Some ((name.block, name.bay), rest)
 unfolding name_at
 name_again name rest is =
@@ -101,6 +110,7 @@ name_again name rest is =
     let e : spaced_at 9999 after ≡ Some (name.bay, d) = spaced_again_at 9999 name.bay d (omega arith) (omega arith) low (stops [] rest) in
     ap name_at text ∙ rw (w, e) refl
 
+-- what is read of the line of a bay is what it says
 pub name_takes : (bytes block : List ℕ) (bay : ℕ) (rest : List ℕ) → name_at bytes ≡ Some ((block, bay), rest) → (bytes ≡ bay_line (record { block = block; bay = bay }) ++ rest) × (bay ≤ 9999)
 unfolding name_at
 name_takes bytes block bay rest e =
@@ -119,10 +129,12 @@ name_takes bytes block bay rest e =
     append_assoc (codes "bay ") (block ++ (spaced (bay ∷ []) ++ 10 ∷ [])) rest ∙ ap (λ x. codes "bay " ++ x) (append_assoc block (spaced (bay ∷ []) ++ 10 ∷ []) rest ∙ ap (λ x. block ++ x) back) in
     (tag_takes (codes "bay ") bytes a.0 a.1 ∙ ap (λ x. codes "bay " ++ x) text ∙ sym whole, subst (λ x. x ≤ 9999) same_bay s.1)
 
+-- where nothing is read, no bay's line stands
 pub name_none : (bytes : List ℕ) (name : YardBay) (rest : List ℕ) → name_at bytes ≡ None → IsYardBay name → bytes ≡ bay_line name ++ rest → ⊥
 name_none bytes name rest none is e =
     none-some ((name.block, name.bay), rest) (sym none ∙ ap name_at e ∙ name_again name rest is)
 
+-- what is read is the name whose line stands there
 pub name_is : (bytes block : List ℕ) (bay : ℕ) (after : List ℕ) (name : YardBay) (rest : List ℕ) → name_at bytes ≡ Some ((block, bay), after) → IsYardBay name → bytes ≡ bay_line name ++ rest →
     (name ≡ record { block = block; bay = bay }) × (rest ≡ after)
 name_is bytes block bay after name rest read is e =
@@ -133,21 +145,27 @@ name_is bytes block bay after name rest read is e =
 
 -- ---- a line begins with one text at most
 
+-- bytes begin with one bay's line at most
 pub bay_once : (a b : YardBay) (x y : List ℕ) → IsYardBay a → IsYardBay b → bay_line a ++ x ≡ bay_line b ++ y → (a ≡ b) × (x ≡ y)
 bay_once a b x y is-a is-b e = name_is (bay_line b ++ y) b.block b.bay y a x (name_again b y is-b) is-a (sym e)
 
+-- bytes begin with one size line at most
 pub size_once : (a b : Size) (x y : List ℕ) → IsSize a → IsSize b → size_line a ++ x ≡ size_line b ++ y → (a ≡ b) × (x ≡ y)
 size_once a b x y is-a is-b e = some_pair_parts a b x y (sym (size_again a x is-a) ∙ ap size_at e ∙ size_again b y is-b)
 
+-- bytes begin with one claim line at most
 pub claim_once : (most a b : ℕ) (x y : List ℕ) → a ≤ most → b ≤ most → most ≤ 9999 → claim_line a ++ x ≡ claim_line b ++ y → (a ≡ b) × (x ≡ y)
 claim_once most a b x y low-a low-b few e = some_pair_parts a b x y (sym (claim_again most a x low-a few) ∙ ap (claim_at most) e ∙ claim_again most b y low-b few)
 
+-- not too many numbers, each of one digit or two
 abbrev pub AreLow : ℕ → List ℕ → Type 0
 AreLow most ns = (length ns ≤ most) × AllByRecursion (λ n. n ≤ 99) ns
 
+-- bytes begin with one row line at most
 pub row_once : (most : ℕ) (a b x y : List ℕ) → AreLow most a → AreLow most b → row_line a ++ x ≡ row_line b ++ y → (a ≡ b) × (x ≡ y)
 row_once most a b x y low-a low-b e = some_pair_parts a b x y (sym (row_again most a x low-a.0 low-a.1) ∙ ap (row_at most) e ∙ row_again most b y low-b.0 low-b.1)
 
+-- bytes begin with so many row lines in one way at most
 pub rows_once : (most : ℕ) (as' bs : List (List ℕ)) (x y : List ℕ) → length as' ≡ length bs → AllByRecursion (AreLow most) as' → AllByRecursion (AreLow most) bs →
     flat_map row_line as' ++ x ≡ flat_map row_line bs ++ y → (as' ≡ bs) × (x ≡ y)
 rows_once most [] [] x y len low-a low-b e = (refl, e)
@@ -160,6 +178,7 @@ rows_once most (a ∷ as') (b ∷ bs) x y len low-a low-b e =
 
 -- ---- plans
 
+-- a number begins with a digit
 starts_high : (n : ℕ) → n < 2 ^ 64 → (d : ℕ) × (tail : List ℕ) × (decimal n ≡ d ∷ tail) × (48 ≤ d)
 starts_high n small = decimal_by_steps P one step n small
   where
@@ -172,9 +191,11 @@ starts_high n small = decimal_by_steps P one step n small
     step : (m : ℕ) (ds : List ℕ) → 10 ≤ m → P (m / 10) ds → P m (ds ++ (48 + m % 10) ∷ [])
     step m ds ten h = (h.0, h.1 ++ (48 + m % 10) ∷ [], ap (λ l. l ++ (48 + m % 10) ∷ []) h.2, h.3)
 
+-- what stands behind the word of a plan line where there is no plan
 abbrev dash : List ℕ
 dash = 32 ∷ 45 ∷ 10 ∷ []
 
+-- numbers do not begin as no plan does
 no_dash : (rows rest : List ℕ) → AllByRecursion (λ n. n ≤ 99) rows → tag_at dash (spaced rows ++ 10 ∷ rest) ≡ None
 no_dash [] rest low = refl
 no_dash (n ∷ ns) rest low =
@@ -185,24 +206,29 @@ no_dash (n ∷ ns) rest low =
     let text : decimal n ++ more ≡ h.0 ∷ (h.1 ++ more) = ap (λ l. l ++ more) h.2 in
     ap (tag_at dash) (spaced_then n ns (10 ∷ rest)) ∙ ap (λ l. tag_at dash (32 ∷ l)) text ∙ rw (ne_eqb h.0 45 (λ e. omega arith)) refl
 
+-- a plan line is read again
 pub plan_again : (plan : Option (List ℕ)) (rest : List ℕ) → IfSome plan (λ rows. (length rows ≤ 672) × AllByRecursion (λ n. n ≤ 99) rows) → plan_at (plan_line plan ++ rest) ≡ Some (plan, rest)
 unfolding plan_at
 plan_again None rest fits = refl
 plan_again (Some rows) rest fits =
     ap plan_at (numbers_line_then (codes "plan") rows rest) ∙ rw (no_dash rows rest fits.1, numbers_again 672 rows rest fits.0 fits.1) refl
 
+-- the rows of a plan line, by recursion
 pub plan_low : (a : Option (List ℕ)) → IfSome a AreRows → IfSome a (λ rows. (length rows ≤ 672) × AllByRecursion (λ n. n ≤ 99) rows)
 plan_low None h = tt
 plan_low (Some rows) h = (h.0, recursion_from_All (λ n. n ≤ 99) rows h.1)
 
+-- bytes begin with one plan line at most
 pub plan_once : (a b : Option (List ℕ)) (x y : List ℕ) → IfSome a AreRows → IfSome b AreRows → plan_line a ++ x ≡ plan_line b ++ y → (a ≡ b) × (x ≡ y)
 plan_once a b x y fits-a fits-b e = some_pair_parts a b x y (sym (plan_again a x (plan_low a fits-a)) ∙ ap plan_at e ∙ plan_again b y (plan_low b fits-b))
 
 -- ---- lines that are taken
 
+-- one more number before some
 join : (n : ℕ) (ns bytes more rest : List ℕ) → bytes ≡ 32 ∷ (decimal n ++ more) → more ≡ spaced ns ++ 10 ∷ rest → bytes ≡ spaced (n ∷ ns) ++ 10 ∷ rest
 join n ns bytes more rest e f = e ∙ ap (λ x. 32 ∷ (decimal n ++ x)) f ∙ sym (spaced_then n ns (10 ∷ rest))
 
+-- a size that passes the test is within the limits
 is_size_to : (size : Size) → is_size size ≡ true → IsSize size
 is_size_to size e =
     let a = and_parts (nat_le 1 size.rows) (nat_le size.rows 12 && (nat_le 1 size.tiers && (nat_le size.tiers 8 && (nat_le size.ordered size.total && nat_le size.total (size.rows * size.tiers))))) e in
@@ -219,15 +245,19 @@ is_size_to size e =
       room = leb-true size.total (size.rows * size.tiers) f.1;
     }
 
+-- what is not read yet
 abbrev Rest : Type 0
 Rest = List ℕ
 
+-- a size of four numbers
 abbrev made_size : ℕ → ℕ → ℕ → ℕ → Size
 made_size r t n m = record { rows = r; tiers = t; ordered = n; total = m }
 
+-- the size if it passes the test
 abbrev kept_size : Size → Rest → Option (Size × Rest)
 kept_size size rest = cond (is_size size) (Some (size, rest)) None
 
+-- what is read of a size line is what it says
 pub size_takes : (bytes : List ℕ) (size : Size) (rest : List ℕ) → size_at bytes ≡ Some (size, rest) → IsSize size × (bytes ≡ size_line size ++ rest)
 unfolding size_at
 size_takes bytes size rest e =
@@ -252,6 +282,7 @@ size_takes bytes size rest e =
         let whole : bytes ≡ size_line (made_size r t n m) ++ f = tag_takes (codes "size") bytes a ea ∙ ap (λ l. codes "size" ++ l) s4 ∙ sym (numbers_line_then (codes "size") (r ∷ t ∷ n ∷ m ∷ []) f) in
         (subst IsSize p.0 (is_size_to (made_size r t n m) k.0), whole ∙ ap (λ (s : Size). size_line s ++ f) p.0 ∙ ap (λ l. size_line size ++ l) p.1)
 
+-- what is read of a claim line is what it says
 pub claim_takes : (most : ℕ) (bytes : List ℕ) (claim : ℕ) (rest : List ℕ) → claim_at most bytes ≡ Some (claim, rest) → (claim ≤ most) × (bytes ≡ claim_line claim ++ rest)
 unfolding claim_at
 claim_takes most bytes claim rest e =
@@ -264,6 +295,7 @@ claim_takes most bytes claim rest e =
     let whole : bytes ≡ claim_line x.0.0 ++ l.0 = tag_takes (codes "at least") bytes a.0 a.1 ∙ ap (λ z. codes "at least" ++ z) s ∙ sym (numbers_line_then (codes "at least") (x.0.0 ∷ []) l.0) in
     (subst (λ c. c ≤ most) p.0 (ltb-false most x.0.0 k.0), whole ∙ ap (λ c. claim_line c ++ l.0) p.0 ∙ ap (λ z. claim_line claim ++ z) p.1)
 
+-- what is read of a plan line is what it says
 pub plan_takes : (bytes : List ℕ) (plan : Option (List ℕ)) (rest : List ℕ) → plan_at bytes ≡ Some (plan, rest) → IfSome plan AreRows × (bytes ≡ plan_line plan ++ rest)
 unfolding plan_at
 plan_takes bytes plan rest e =

@@ -12,6 +12,7 @@ use Rattle.crp_cert.specs.Reading.{◌>>=◌, name_at, size_at, claim_at, plan_a
 use Rattle.crp_cert.proofs.Numbers.{bind_some, if_some}
 use Rattle.crp_cert.proofs.Lines.{name_takes, name_again, size_takes, size_again, claim_takes, claim_again, plan_takes, plan_again, plan_low}
 
+-- a reader of the lines of what fits
 pub record IsReader {A : Type 0} (fits : A → Type 0) (line : A → List ℕ) (at : List ℕ → Option (A × List ℕ)) : Type 0 where
   pub takes : (bytes : List ℕ) (x : A) (rest : List ℕ) → at bytes ≡ Some (x, rest) → fits x × (bytes ≡ line x ++ rest)
   pub again : (x : A) (rest : List ℕ) → fits x → at (line x ++ rest) ≡ Some (x, rest)
@@ -33,18 +34,22 @@ pub all_to : {X : Type 0} (P : X → Type 0) (p : X → Bool) → ((x : X) → p
 all_to P p h [] e = tt
 all_to P p h (x ∷ xs) e = let a = and_parts (p x) (list_all p xs) e in (h x a.0, all_to P p h xs a.1)
 
+-- and back
 pub all_from : {X : Type 0} (P : X → Type 0) (p : X → Bool) → ((x : X) → P x → p x ≡ true) → (xs : List X) → AllByRecursion P xs → list_all p xs ≡ true
 all_from P p h [] all = refl
 all_from P p h (x ∷ xs) all = and_from (p x) (list_all p xs) (h x all.0) (all_from P p h xs all.1)
 
 -- ---- the name of a bay
 
+-- a printed character
 abbrev is_printed : ℕ → Bool
 is_printed b = nat_le 33 b && nat_le b 126
 
+-- a test of a name
 abbrev is_yard_bay : YardBay → Bool
 is_yard_bay name = nat_le 1 (length name.block) && (nat_le (length name.block) 17 && (list_all is_printed name.block && (nat_le 1 name.bay && nat_le name.bay 9999)))
 
+-- a name that passes the test is one
 named_to : (name : YardBay) → is_yard_bay name ≡ true → IsYardBay name
 named_to name e =
     let a = and_parts (nat_le 1 (length name.block)) (nat_le (length name.block) 17 && (list_all is_printed name.block && (nat_le 1 name.bay && nat_le name.bay 9999))) e in
@@ -59,21 +64,26 @@ named_to name e =
       four_digits = leb-true name.bay 9999 d.1;
     }
 
+-- and a name passes it
 named_from : (name : YardBay) → IsYardBay name → is_yard_bay name ≡ true
 named_from name is =
     and_from _ _ (le-leb 1 (length name.block) is.some_characters) (and_from _ _ (le-leb (length name.block) 17 is.few_characters)
     (and_from _ _ (all_from (λ b. (33 ≤ b) × (b ≤ 126)) is_printed (λ b h. and_from (nat_le 33 b) (nat_le b 126) (le-leb 33 b h.0) (le-leb b 126 h.1)) name.block (recursion_from_All (λ b. (33 ≤ b) × (b ≤ 126)) name.block is.printed))
     (and_from _ _ (le-leb 1 name.bay is.counts) (le-leb name.bay 9999 is.four_digits))))
 
+-- the name of a block and a number
 abbrev to_name : List ℕ × ℕ → YardBay
 to_name x = record { block = x.0; bay = x.1 }
 
+-- the name if it passes the test
 abbrev kept_name : (List ℕ × ℕ) × List ℕ → Option (YardBay × List ℕ)
 kept_name x = cond (is_yard_bay (to_name x.0)) (Some (to_name x.0, x.1)) None
 
+-- the name of a bay from the front of the bytes
 abbrev pub bay_at : List ℕ → Option (YardBay × List ℕ)
 bay_at bytes = name_at bytes >>= kept_name
 
+-- the line of a bay
 pub bay_reader : IsReader IsYardBay bay_line bay_at
 bay_reader = record { takes = takes; again = again }
   where
@@ -90,11 +100,14 @@ bay_reader = record { takes = takes; again = again }
 
 -- ---- the other lines
 
+-- the size line
 pub size_reader : IsReader IsSize size_line size_at
 size_reader = record { takes = size_takes; again = size_again }
 
+-- the claim line
 pub claim_reader : (most : ℕ) → most ≤ 9999 → IsReader (λ claim. claim ≤ most) claim_line (claim_at most)
 claim_reader most few = record { takes = claim_takes most; again = λ claim rest low. claim_again most claim rest low few }
 
+-- the plan line
 pub plan_reader : IsReader (λ plan. IfSome plan AreRows) plan_line plan_at
 plan_reader = record { takes = plan_takes; again = λ plan rest fits. plan_again plan rest (plan_low plan fits) }

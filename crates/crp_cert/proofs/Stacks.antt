@@ -17,12 +17,15 @@ use Rattle.crp_cert.specs.Faults.{AreFirstStacks, IsNextStack, most_claimed}
 use Rattle.crp_cert.specs.Reading.{IsNewRank}
 use Rattle.crp_cert.proofs.Readers.{all_to, all_from}
 
+-- places in two lists of stacks
 occurrences-append : (x : ℕ) (a b : List (List ℕ)) → occurrences x (a ++ b) ≡ occurrences x a + occurrences x b
 occurrences-append x a b = sum_by-append (times x) a b
 
+-- places with one more stack
 pub occurrences_push : (x : ℕ) (stacks : List (List ℕ)) (stack : List ℕ) → occurrences x (stacks ++ stack ∷ []) ≡ occurrences x stacks + times x stack
 occurrences_push x stacks stack = sum_by_push (times x) stacks stack
 
+-- one more stack
 pub length_push : (stacks : List (List ℕ)) (stack : List ℕ) → length (stacks ++ stack ∷ []) ≡ suc (length stacks)
 length_push stacks stack = omega (arith, length-append stacks (stack ∷ []))
 
@@ -38,6 +41,7 @@ few_told size is =
 abbrev pub AreNew : ℕ → List (List ℕ) → List ℕ → Type 0
 AreNew most stacks stack = All (IsNewRank most stack stacks) stack
 
+-- no stacks are first stacks
 pub no_stacks : (size : Size) → IsSize size → AreFirstStacks size []
 no_stacks size is =
     let some = is.some_rows in
@@ -49,6 +53,7 @@ no_stacks size is =
       none_missing = λ e. absurd (omega arith);
     }
 
+-- a stack of new ranks may follow, if it completes the ranks where it is the last
 pub goes_on : (size : Size) (stacks : List (List ℕ)) (stack : List ℕ) → AreFirstStacks size stacks → length stacks < size.rows → length stack ≤ size.tiers → AreNew size.total stacks stack →
     (suc (length stacks) ≡ size.rows → (x : ℕ) → 1 ≤ x → x ≤ size.total → 0 < occurrences x (stacks ++ stack ∷ [])) → IsNextStack size stacks stack
 goes_on size stacks stack first more low new all = record {
@@ -70,6 +75,7 @@ goes_on size stacks stack first more low new all = record {
     at : (x : ℕ) → 0 < times x stack → IsNewRank size.total stack stacks x
     at x here = from_stack (IsNewRank size.total stack stacks) stack (recursion_from_All (IsNewRank size.total stack stacks) stack new) x here
 
+-- a stack that may follow has new ranks
 pub next_new : (size : Size) (stacks : List (List ℕ)) (stack : List ℕ) → IsNextStack size stacks stack → AreNew size.total stacks stack
 next_new size stacks stack next = All-from_recursion (IsNewRank size.total stack stacks) stack (in_stack (IsNewRank size.total stack stacks) stack at)
   where
@@ -83,10 +89,12 @@ next_new size stacks stack next = All-from_recursion (IsNewRank size.total stack
           new = omega (arith, occurrences_push x stacks stack, next.apart x);
         }
 
+-- the last of some stacks that are low
 last_low : (m : ℕ) (stacks : List (List ℕ)) (stack : List ℕ) → AllByRecursion (λ s. length s ≤ m) (stacks ++ stack ∷ []) → length stack ≤ m
 last_low m [] stack low = low.0
 last_low m (s ∷ stacks) stack low = last_low m stacks stack low.1
 
+-- a stack that may follow is not higher than the tiers
 pub next_low : (size : Size) (stacks : List (List ℕ)) (stack : List ℕ) → IsNextStack size stacks stack → length stack ≤ size.tiers
 next_low size stacks stack next = last_low size.tiers stacks stack (recursion_from_All (λ s. length s ≤ size.tiers) (stacks ++ stack ∷ []) next.low)
 
@@ -118,19 +126,23 @@ counted_in : ℕ → List ℕ → ℕ
 counted_in zero stack = 0
 counted_in (suc n) stack = times (suc n) stack + counted_in n stack
 
+-- how often they stand in all stacks
 counted : ℕ → List (List ℕ) → ℕ
 counted zero stacks = 0
 counted (suc n) stacks = occurrences (suc n) stacks + counted n stacks
 
+-- how many of the ranks from 1 to n are y
 hits : ℕ → ℕ → ℕ
 hits zero y = 0
 hits (suc n) y = one_if (y == suc n) + hits n y
 
+-- none above n
 hits_none : (n y : ℕ) → n < y → hits n y ≡ 0
 unfolding hits
 hits_none zero y lt = refl
 hits_none (suc n) y lt = omega (arith, other_is_zero (suc n) y (λ e. omega arith), hits_none n y (omega arith))
 
+-- one within
 hits_one : (n y : ℕ) → 1 ≤ y → y ≤ n → hits n y ≡ 1
 unfolding hits
 hits_one zero y lo hi = absurd (omega arith)
@@ -140,45 +152,54 @@ hits_one (suc n) y lo hi =
     (λ ne. omega (arith, other_is_zero (suc n) y ne, hits_one n y lo (omega arith)))
     (cases_eq y (suc n))
 
+-- one more rank in a stack
 counted_in-cons : (n y : ℕ) (ys : List ℕ) → counted_in n (y ∷ ys) ≡ hits n y + counted_in n ys
 unfolding counted_in hits
 counted_in-cons zero y ys = refl
 counted_in-cons (suc n) y ys = omega (arith, times-cons (suc n) y ys, counted_in-cons n y ys)
 
+-- none in an empty stack
 counted_in-nil : (n : ℕ) → counted_in n [] ≡ 0
 unfolding counted_in
 counted_in-nil zero = refl
 counted_in-nil (suc n) = omega (arith, counted_in-nil n)
 
+-- each rank of a stack counts if all are within
 counted_in_all : (n : ℕ) (stack : List ℕ) → AllByRecursion (λ x. (1 ≤ x) × (x ≤ n)) stack → counted_in n stack ≡ length stack
 counted_in_all n [] within = counted_in-nil n
 counted_in_all n (y ∷ ys) within = omega (arith, counted_in-cons n y ys, hits_one n y within.0.0 within.0.1, counted_in_all n ys within.1)
 
+-- none without stacks
 counted-nil : (n : ℕ) → counted n [] ≡ 0
 unfolding counted
 counted-nil zero = refl
 counted-nil (suc n) = omega (arith, counted-nil n)
 
+-- one more stack
 counted-cons : (n : ℕ) (stack : List ℕ) (stacks : List (List ℕ)) → counted n (stack ∷ stacks) ≡ counted_in n stack + counted n stacks
 unfolding counted counted_in
 counted-cons zero stack stacks = refl
 counted-cons (suc n) stack stacks = omega (arith, occurrences-cons (suc n) stack stacks, counted-cons n stack stacks)
 
+-- each container counts if all are within
 counted_all : (n : ℕ) (stacks : List (List ℕ)) → AllByRecursion (λ stack. All (λ x. (1 ≤ x) × (x ≤ n)) stack) stacks → counted n stacks ≡ total stacks
 counted_all n [] within = counted-nil n
 counted_all n (stack ∷ stacks) within =
     omega (arith, counted-cons n stack stacks, counted_in_all n stack (recursion_from_All (λ x. (1 ≤ x) × (x ≤ n)) stack within.0), counted_all n stacks within.1, sum_by-cons length stack stacks)
 
+-- ranks that stand once each are n
 counted_once : (n : ℕ) (stacks : List (List ℕ)) → ((x : ℕ) → 1 ≤ x → x ≤ n → occurrences x stacks ≡ 1) → counted n stacks ≡ n
 unfolding counted
 counted_once zero stacks once = refl
 counted_once (suc n) stacks once = omega (arith, once (suc n) (omega arith) (omega arith), counted_once n stacks (λ x lo hi. once x lo (omega arith)))
 
+-- all stacks hold as many containers as the size says
 pub total_is : (size : Size) (stacks : List (List ℕ)) → AreFirstStacks size stacks → length stacks ≡ size.rows → total stacks ≡ size.total
 total_is size stacks first all =
     sym (counted_all size.total stacks (in_bay (λ x. (1 ≤ x) × (x ≤ size.total)) stacks first.in_range))
     ∙ counted_once size.total stacks (λ x lo hi. omega (arith, first.apart x, first.none_missing all x lo hi))
 
+-- all stacks are a problem
 pub problem_is : (size : Size) (stacks : List (List ℕ)) → IsSize size → AreFirstStacks size stacks → length stacks ≡ size.rows → IsProblem (stated size.tiers size.ordered stacks)
 problem_is size stacks is first all =
     let n : total stacks ≡ size.total = total_is size stacks first all in
@@ -190,9 +211,11 @@ problem_is size stacks is first all =
     })
     (omega arith)
 
+-- the cap of the problem is the most that may be claimed
 pub cap_is : (size : Size) (stacks : List (List ℕ)) → 1 ≤ length stacks → cap (stated size.tiers size.ordered stacks) ≡ most_claimed size
 cap_is size stacks some = ap (λ t. size.ordered * (t - 1) + 1) (tallest_same (length stacks) size.tiers some)
 
+-- it has four digits at most
 pub few_claimed : (size : Size) → IsSize size → most_claimed size ≤ 9999
 few_claimed size is =
     let a : size.ordered ≤ size.total = is.ordered_fit in let b : size.tiers ≤ 8 = is.few_tiers in
@@ -200,10 +223,12 @@ few_claimed size is =
 
 -- ---- a test
 
+-- a test that the ranks from 1 to n stand somewhere
 abbrev all_there : ℕ → List (List ℕ) → Bool
 all_there zero stacks = true
 all_there (suc n) stacks = nat_lt 0 (occurrences (suc n) stacks) && all_there n stacks
 
+-- what the test means
 all_there_to : (n : ℕ) (stacks : List (List ℕ)) → all_there n stacks ≡ true → (x : ℕ) → 1 ≤ x → x ≤ n → 0 < occurrences x stacks
 all_there_to zero stacks e x lo hi = absurd (omega arith)
 all_there_to (suc n) stacks e x lo hi =
@@ -213,37 +238,47 @@ all_there_to (suc n) stacks e x lo hi =
     (λ other. all_there_to n stacks a.1 x lo (omega arith))
     (cases_eq x (suc n))
 
+-- and back
 all_there_from : (n : ℕ) (stacks : List (List ℕ)) → ((x : ℕ) → 1 ≤ x → x ≤ n → 0 < occurrences x stacks) → all_there n stacks ≡ true
 all_there_from zero stacks all = refl
 all_there_from (suc n) stacks all = and_from _ _ (lt-ltb 0 (occurrences (suc n) stacks) (all (suc n) (omega arith) (omega arith))) (all_there_from n stacks (λ x lo hi. all x lo (omega arith)))
 
+-- a test of a rank that stands somewhere
 abbrev is_placed : Size → List (List ℕ) → ℕ → Bool
 is_placed size stacks x = nat_le 1 x && (nat_le x size.total && nat_le (occurrences x stacks) 1)
 
+-- a test of a height
 abbrev is_low : Size → List ℕ → Bool
 is_low size stack = nat_le (length stack) size.tiers
 
+-- a test that no rank is missing once all stacks are told
 abbrev is_whole : Size → List (List ℕ) → Bool
 is_whole size stacks = cond (length stacks == size.rows) (all_there size.total stacks) true
 
+-- a test of first stacks
 abbrev pub are_first : Size → List (List ℕ) → Bool
 are_first size stacks = nat_le (length stacks) size.rows && (list_all (is_low size) stacks && (list_all (list_all (is_placed size stacks)) stacks && is_whole size stacks))
 
+-- a rank in range and in one place at most
 abbrev Placed : Size → List (List ℕ) → ℕ → Type 0
 Placed size stacks x = (1 ≤ x) × (x ≤ size.total) × (occurrences x stacks ≤ 1)
 
+-- what the test of a rank means
 placed_to : (size : Size) (stacks : List (List ℕ)) (x : ℕ) → is_placed size stacks x ≡ true → Placed size stacks x
 placed_to size stacks x e =
     let a = and_parts (nat_le 1 x) (nat_le x size.total && nat_le (occurrences x stacks) 1) e in
     let b = and_parts (nat_le x size.total) (nat_le (occurrences x stacks) 1) a.1 in
     (leb-true 1 x a.0, leb-true x size.total b.0, leb-true (occurrences x stacks) 1 b.1)
 
+-- and back
 placed_from : (size : Size) (stacks : List (List ℕ)) (x : ℕ) → Placed size stacks x → is_placed size stacks x ≡ true
 placed_from size stacks x h = and_from _ _ (le-leb 1 x h.0) (and_from _ _ (le-leb x size.total h.1) (le-leb (occurrences x stacks) 1 h.2))
 
+-- what the test of all ranks means
 whole_to : (size : Size) (stacks : List (List ℕ)) → is_whole size stacks ≡ true → length stacks ≡ size.rows → (x : ℕ) → 1 ≤ x → x ≤ size.total → 0 < occurrences x stacks
 whole_to size stacks e all = all_there_to size.total stacks (sym (ap (λ b. cond b (all_there size.total stacks) true) (eq-eqb (length stacks) size.rows all)) ∙ e)
 
+-- and back
 whole_from : (size : Size) (stacks : List (List ℕ)) → (length stacks ≡ size.rows → (x : ℕ) → 1 ≤ x → x ≤ size.total → 0 < occurrences x stacks) → is_whole size stacks ≡ true
 whole_from size stacks all =
     ⊎_elim
@@ -251,6 +286,7 @@ whole_from size stacks all =
     (λ ne. ap (λ b. cond b (all_there size.total stacks) true) (ne_eqb (length stacks) size.rows ne))
     (cases_eq (length stacks) size.rows)
 
+-- what the test of first stacks means
 pub first_to : (size : Size) (stacks : List (List ℕ)) → are_first size stacks ≡ true → AreFirstStacks size stacks
 first_to size stacks e =
     let a = and_parts (nat_le (length stacks) size.rows) (list_all (is_low size) stacks && (list_all (list_all (is_placed size stacks)) stacks && is_whole size stacks)) e in
@@ -266,6 +302,7 @@ first_to size stacks e =
       none_missing = whole_to size stacks c.1;
     }
 
+-- and back
 pub first_from : (size : Size) (stacks : List (List ℕ)) → AreFirstStacks size stacks → are_first size stacks ≡ true
 first_from size stacks first =
     and_from _ _ (le-leb (length stacks) size.rows first.few)
@@ -277,9 +314,11 @@ first_from size stacks first =
 
 -- ---- the stacks of lists of bytes
 
+-- the stacks with one more
 pub stacks_push : (rows : List Row) (row : Row) → stacks_of (rows ++ row ∷ []) ≡ stacks_of rows ++ row.items ∷ []
 stacks_push rows row = map-append (λ (r : Row). r.items) rows (row ∷ [])
 
+-- no first stack is higher than eight
 pub first_low : (size : Size) (rows : List Row) → IsSize size → AreFirstStacks size (stacks_of rows) → All (λ (row : Row). length row.items ≤ 8) rows
 first_low size rows is first =
     let few = is.few_tiers in

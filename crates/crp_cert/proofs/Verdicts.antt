@@ -26,12 +26,15 @@ use Rattle.crp_cert.proofs.Stacks.{no_stacks, next_low, next_small, fewer, probl
 
 -- ---- the next row line
 
+-- the stack if it may follow
 abbrev kept_stack : Size → List (List ℕ) → List ℕ × List ℕ → Option (List ℕ × List ℕ)
 kept_stack size stacks x = cond (are_first size (stacks ++ x.0 ∷ [])) (Some x) None
 
+-- a stack that may follow, from the front of the bytes
 abbrev pub next_at : Size → List (List ℕ) → List ℕ → Option (List ℕ × List ℕ)
 next_at size stacks bytes = row_at size.tiers bytes >>= kept_stack size stacks
 
+-- the next row line
 pub next_reader : (size : Size) (stacks : List (List ℕ)) → IsSize size → IsReader (IsNextStack size stacks) row_line (next_at size stacks)
 next_reader size stacks is = record { takes = takes; again = again }
   where
@@ -61,47 +64,59 @@ no_row size stacks bytes is e = none_stands (next_reader size stacks is) bytes (
 
 -- ---- the fault that is met first, going from line to line
 
+-- the fault where nothing was read, or what follows
 abbrev or_fault : {A : Type 0} → Option A → CertFault → (A → Option CertFault) → Option CertFault
 or_fault None fault next = Some fault
 or_fault (Some x) fault next = next x
 
+-- the fault from the plan line on
 plan_fault : Size → List ℕ → Option CertFault
 plan_fault size bytes = or_fault (plan_at bytes) (faults.Plan (5 + size.rows)) (λ x. None)
 
+-- from the claim line on
 claim_fault : Size → List ℕ → Option CertFault
 claim_fault size bytes = or_fault (claim_at (most_claimed size) bytes) (faults.Claim (4 + size.rows)) (λ x. plan_fault size x.1)
 
+-- from a row line on, where so many are left
 rows_fault : Size → ℕ → List (List ℕ) → List ℕ → Option CertFault
 rows_fault size zero stacks bytes = claim_fault size bytes
 rows_fault size (suc left) stacks bytes = or_fault (next_at size stacks bytes) (faults.Row (4 + length stacks)) (λ x. rows_fault size left (stacks ++ x.0 ∷ []) x.1)
 
+-- from the size line on
 size_fault : List ℕ → Option CertFault
 size_fault bytes = or_fault (size_at bytes) (faults.Size 3) (λ x. rows_fault x.0 x.0.rows [] x.1)
 
+-- from the line of the bay on
 bay_fault : List ℕ → Option CertFault
 bay_fault bytes = or_fault (bay_at bytes) (faults.Opening 2) (λ x. size_fault x.1)
 
+-- the fault of the whole text, if there is one
 met : List ℕ → Option CertFault
 met bytes = or_fault (tag_at title_line bytes) (faults.Opening 1) bay_fault
 
+-- past the title
 past_title : (rest : List ℕ) → met (title_line ++ rest) ≡ bay_fault rest
 unfolding met
 past_title rest = ap (λ o. or_fault o (faults.Opening 1) bay_fault) (tag_again title_line rest)
 
+-- past the line of the bay
 past_bay : (name : YardBay) (rest : List ℕ) → IsYardBay name → bay_fault (bay_line name ++ rest) ≡ size_fault rest
 unfolding bay_fault
 past_bay name rest is = ap (λ o. or_fault o (faults.Opening 2) (λ x. size_fault x.1)) (bay_reader.again name rest is)
 
+-- past the size line
 past_size : (size : Size) (rest : List ℕ) → IsSize size → size_fault (size_line size ++ rest) ≡ rows_fault size size.rows [] rest
 unfolding size_fault
 past_size size rest is = ap (λ o. or_fault o (faults.Size 3) (λ x. rows_fault x.0 x.0.rows [] x.1)) (size_reader.again size rest is)
 
+-- past a row line
 past_row : (size : Size) (left : ℕ) (stacks : List (List ℕ)) (stack rest : List ℕ) → IsSize size → IsNextStack size stacks stack →
     rows_fault size (suc left) stacks (row_line stack ++ rest) ≡ rows_fault size left (stacks ++ stack ∷ []) rest
 unfolding rows_fault
 past_row size left stacks stack rest is next =
     ap (λ o. or_fault o (faults.Row (4 + length stacks)) (λ x. rows_fault size left (stacks ++ x.0 ∷ []) x.1)) ((next_reader size stacks is).again stack rest next)
 
+-- past row lines
 past_rows : (size : Size) (left k : ℕ) (before more : List (List ℕ)) (rest : List ℕ) → IsSize size → AreFirstStacks size (before ++ more) → k ≡ left + length more →
     rows_fault size k before (flat_map row_line more ++ rest) ≡ rows_fault size left (before ++ more) rest
 past_rows size left k before [] rest is first e =
@@ -120,18 +135,22 @@ past_rows size left (suc k) before (stack ∷ more) rest is first e =
     some_fewer a [] h = subst (AreFirstStacks size) (append-nil a) h
     some_fewer a (x ∷ b) h = fewer size a (x ∷ b) (omega arith) h
 
+-- past the lines down to the size
 met_size : (bytes : List ℕ) (size : Size) (rest : List ℕ) → TellsSize bytes size rest → met bytes ≡ rows_fault size size.rows [] rest
 met_size bytes size rest tells =
     ap met tells.text ∙ past_title (bay_line tells.name ++ (size_line size ++ rest)) ∙ past_bay tells.name (size_line size ++ rest) tells.named ∙ past_size size rest tells.is_size
 
+-- past the lines down to these stacks
 met_stacks : (bytes : List ℕ) (size : Size) (stacks : List (List ℕ)) (rest : List ℕ) (left : ℕ) → TellsStacks bytes size stacks rest → size.rows ≡ left + length stacks → met bytes ≡ rows_fault size left stacks rest
 met_stacks bytes size stacks rest left told e =
     met_size bytes size (flat_map row_line stacks ++ rest) told.tells ∙ past_rows size left size.rows [] stacks rest told.tells.is_size told.first e
 
+-- past all row lines
 met_all : (bytes : List ℕ) (size : Size) (stacks : List (List ℕ)) (rest : List ℕ) → TellsStacks bytes size stacks rest → length stacks ≡ size.rows → met bytes ≡ claim_fault size rest
 unfolding rows_fault
 met_all bytes size stacks rest told all = met_stacks bytes size stacks rest 0 told (omega arith)
 
+-- past the claim line
 past_claim : (size : Size) (claim : ℕ) (rest : List ℕ) → IsSize size → claim ≤ most_claimed size → claim_fault size (claim_line claim ++ rest) ≡ plan_fault size rest
 unfolding claim_fault
 past_claim size claim rest is low =
@@ -169,6 +188,7 @@ met_fault bytes faults.Memory is = absurd is
 
 -- ---- what a head tells
 
+-- the stacks of a problem are first stacks
 problem_first : (p : Problem) → IsProblem p → p.heights ≡ replicate (length p.stacks) (tallest p.heights) → AreFirstStacks (size_of p) p.stacks
 problem_first p is same = record {
   few = omega arith;
@@ -182,12 +202,14 @@ problem_first p is same = record {
   none_missing = λ all x lo hi. omega (arith, is.each_once x lo hi);
 }
 
+-- what a head tells above its claim
 head_tells : (bytes : List ℕ) (head : Head) (rest : List ℕ) → IsHead head → bytes ≡ head_text head ++ rest → TellsStacks bytes (size_of head.problem) head.problem.stacks (claim_line head.claim ++ (plan_line head.plan ++ rest))
 head_tells bytes head rest is text = record {
   tells = record { name = head.bay; named = is.name; is_size = size_is head is; text = text ∙ head_then head rest };
   first = problem_first head.problem is.problem is.same_heights;
 }
 
+-- no fault is met in a head
 met_head : (bytes : List ℕ) (head : Head) → IsHeadOf bytes head → met bytes ≡ None
 unfolding plan_fault
 met_head bytes head of =
@@ -197,14 +219,17 @@ met_head bytes head of =
     ∙ past_claim size head.claim (plan_line head.plan ++ rest) told.tells.is_size is.claim
     ∙ ap (λ o. or_fault o (faults.Plan (5 + size.rows)) (λ x. None)) (plan_reader.again head.plan rest is.plan)
 
+-- no text has both
 pub apart : (bytes : List ℕ) (head : Head) (fault : CertFault) → IsHeadOf bytes head → IsFirstFault bytes fault → ⊥
 apart bytes head fault of is = none-some fault (sym (met_head bytes head of) ∙ met_fault bytes fault is)
 
+-- no text has two first faults
 pub one_fault : (bytes : List ℕ) (fault other : CertFault) → IsFirstFault bytes fault → IsFirstFault bytes other → fault ≡ other
 one_fault bytes fault other is also = same_Some fault other (sym (met_fault bytes fault is) ∙ met_fault bytes other also)
 
 -- ---- one or the other
 
+-- a head, or a first fault
 abbrev Answer : List ℕ → Type 0
 Answer bytes = ((head : Head) × IsHeadOf bytes head) ⊎ ((fault : CertFault) × IsFirstFault bytes fault)
 
@@ -232,6 +257,7 @@ head_of bytes name size stacks claim plan rest named is first all low fits text 
     same_size r t m r' t' m' n a b c =
         ap (λ x. record { rows = x; tiers = t; ordered = n; total = m }) a ∙ ap (λ x. record { rows = r'; tiers = x; ordered = n; total = m }) b ∙ ap (λ x. record { rows = r'; tiers = t'; ordered = n; total = x }) c
 
+-- from the plan line on there is one of the two
 plan_answer : (bytes : List ℕ) (size : Size) (stacks : List (List ℕ)) (claim : ℕ) (rest : List ℕ) → TellsStacks bytes size stacks (claim_line claim ++ rest) → length stacks ≡ size.rows → claim ≤ most_claimed size → Answer bytes
 plan_answer bytes size stacks claim rest told all low = by_plan (plan_at rest) refl
   where
@@ -245,6 +271,7 @@ plan_answer bytes size stacks claim rest told all low = by_plan (plan_at rest) r
               (told.tells.text ∙ ap (λ l. title_line ++ (bay_line told.tells.name ++ (size_line size ++ (flat_map row_line stacks ++ (claim_line claim ++ l))))) t.1),
         )
 
+-- from the claim line on
 claim_answer : (bytes : List ℕ) (size : Size) (stacks : List (List ℕ)) (rest : List ℕ) → TellsStacks bytes size stacks rest → length stacks ≡ size.rows → Answer bytes
 claim_answer bytes size stacks rest told all = by_claim (claim_at (most_claimed size) rest) refl
   where
@@ -267,12 +294,14 @@ text_push bytes stacks stack rest after e f = e ∙ ap (λ l. flat_map row_line 
         append_assoc (row_line s) (flat_map row_line stacks) (row_line stack ++ after) ∙ ap (λ l. row_line s ++ l) (pushed stacks)
         ∙ sym (append_assoc (row_line s) (flat_map row_line (stacks ++ stack ∷ [])) after)
 
+-- the lines with one more row
 pub tells_next : (bytes : List ℕ) (size : Size) (stacks : List (List ℕ)) (stack rest after : List ℕ) → TellsStacks bytes size stacks rest → IsNextStack size stacks stack → rest ≡ row_line stack ++ after → TellsStacks bytes size (stacks ++ stack ∷ []) after
 tells_next bytes size stacks stack rest after told next e = record {
   tells = subst (TellsSize bytes size) (text_push (flat_map row_line stacks ++ rest) stacks stack rest after refl e) told.tells;
   first = next;
 }
 
+-- from a row line on
 rows_answer : (left : ℕ) (bytes : List ℕ) (size : Size) (stacks : List (List ℕ)) (rest : List ℕ) → TellsStacks bytes size stacks rest → size.rows ≡ left + length stacks → Answer bytes
 rows_answer zero bytes size stacks rest told e = claim_answer bytes size stacks rest told (omega arith)
 rows_answer (suc left) bytes size stacks rest told e =
@@ -287,6 +316,7 @@ rows_answer (suc left) bytes size stacks rest told e =
         let t = reader.takes rest x.0 x.1 f in
         go x.0 x.1 (tells_next bytes size stacks x.0 rest x.1 told t.0 t.1)
 
+-- from the size line on
 size_answer : (bytes : List ℕ) (name : YardBay) (rest : List ℕ) → IsYardBay name → bytes ≡ title_line ++ (bay_line name ++ rest) → Answer bytes
 size_answer bytes name rest named text = by_size (size_at rest) refl
   where
@@ -297,6 +327,7 @@ size_answer bytes name rest named text = by_size (size_at rest) refl
         rows_answer x.0.rows bytes x.0 [] x.1
         (record { tells = record { name = name; named = named; is_size = t.0; text = text ∙ ap (λ l. title_line ++ (bay_line name ++ l)) t.1 }; first = no_stacks x.0 t.0 }) (omega arith)
 
+-- from the line of the bay on
 bay_answer : (bytes rest : List ℕ) → bytes ≡ title_line ++ rest → Answer bytes
 bay_answer bytes rest text = by_bay (bay_at rest) refl
   where
@@ -306,6 +337,7 @@ bay_answer bytes rest text = by_bay (bay_at rest) refl
         let t = bay_reader.takes rest x.0 x.1 e in
         size_answer bytes x.0 x.1 t.0 (text ∙ ap (λ l. title_line ++ l) t.1)
 
+-- each text has one of the two
 pub some_answer : (bytes : List ℕ) → Answer bytes
 some_answer bytes = by_title (tag_at title_line bytes) refl
   where

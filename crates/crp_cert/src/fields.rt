@@ -26,6 +26,7 @@ pub fn after_tag<'a>(tag: &[u8], bytes: &'a [u8]) -> Option<&'a [u8]>
     Some(rest)
 }
 
+/// A number whose first digit is read, up to the limit, and what follows its digits.
 fn further_digits(limit: u32, first: u32, bytes: &[u8]) -> Option<(u32, &[u8])>
     requires limit { limit ≤ 9999 }
     requires first { first ≤ limit }
@@ -46,6 +47,7 @@ fn further_digits(limit: u32, first: u32, bytes: &[u8]) -> Option<(u32, &[u8])>
     Some((value, &bytes[bytes.len()..]))
 }
 
+/// A number up to the limit, without leading zeros, and what follows it.
 fn number(limit: u32, bytes: &[u8]) -> Option<(u32, &[u8])>
     requires most { limit ≤ 9999 }
     requires least { 9 ≤ limit }
@@ -98,6 +100,7 @@ pub fn word(bytes: &[u8]) -> Option<(&[u8], &[u8])>
     None
 }
 
+/// The size that a line says, within the limits of a bay.
 #[tactic(auto, unfolding(crate::specs::Reading::size_at))]
 pub fn size_of(bytes: &[u8]) -> Option<(Size, &[u8])>
     ensures { Reads (λ x. (x.0, x.1.now)) result (size_at bytes.now) }
@@ -120,6 +123,7 @@ pub fn size_of(bytes: &[u8]) -> Option<(Size, &[u8])>
     Some((size, rest))
 }
 
+/// Whether a size is within the limits of a bay.
 fn is_allowed(size: Size) -> bool
     requires rows { size.rows ≤ 99 }
     requires tiers { size.tiers ≤ 99 }
@@ -133,6 +137,7 @@ fn is_allowed(size: Size) -> bool
         && size.total as u32 <= size.rows as u32 * size.tiers as u32
 }
 
+/// The relocations that a line claims, up to the cap.
 #[tactic(auto, unfolding(crate::specs::Reading::claim_at))]
 pub fn claim_of(cap: u32, bytes: &[u8]) -> Option<(u32, &[u8])>
     ensures { Reads (λ x. (x.0, x.1.now)) result (claim_at cap bytes.now) }
@@ -173,6 +178,7 @@ pub fn numbers(
     }
 }
 
+/// The block and the number that the line of a bay says, whatever they are.
 #[tactic(auto, unfolding(crate::specs::Reading::name_at))]
 fn name_of(bytes: &[u8]) -> Option<((&[u8], u32), &[u8])>
     ensures value { Reads (λ x. ((x.0.0.now, x.0.1), x.1.now)) result (name_at bytes.now) }

@@ -25,8 +25,12 @@ fn next_stack<'a>(
     requires size { IsSize size }
     requires first { AreFirstStacks size (stacks_of stacks.old.items) }
     requires more { vec_len stacks.old < size.rows }
-    ensures found { IfOk result (λ told. IfSome told (λ rest. (stack : List ℕ) × IsNextStack size (stacks_of stacks.old.items) stack × (bytes.now ≡ row_line stack ++ rest.now) × (stacks_of stacks.new.items ≡ stacks_of stacks.old.items ++ stack ∷ []))) }
-    ensures none { IfOk result (λ told. IfNone told (¬ BeginsWith (IsNextStack size (stacks_of stacks.old.items)) row_line bytes.now)) }
+    ensures found { IfOk result (λ told. IfSome told (λ rest.
+        (stack : List ℕ) × IsNextStack size (stacks_of stacks.old.items) stack
+        × (bytes.now ≡ row_line stack ++ rest.now)
+        × (stacks_of stacks.new.items ≡ stacks_of stacks.old.items ++ stack ∷ []))) }
+    ensures none { IfOk result (λ told. IfNone told
+        (¬ BeginsWith (IsNextStack size (stacks_of stacks.old.items)) row_line bytes.now)) }
 {
     let Some((stack, rest)) = row_of(alloc, size.tiers as usize, bytes)? else {
         return Ok(None);
@@ -46,7 +50,8 @@ fn all_stacks(alloc: Global, size: Size, bytes: &[u8]) -> Result<(Vec<Vec<u8>>, 
     requires { IsSize size }
     ensures first { IfOk result (λ told. AreFirstStacks size (stacks_of told.0.items)) }
     ensures all { IfOk result (λ told. vec_len told.0 ≡ size.rows) }
-    ensures text { IfOk result (λ told. bytes.now ≡ flat_map row_line (stacks_of told.0.items) ++ told.1.now) }
+    ensures text { IfOk result (λ told.
+        bytes.now ≡ flat_map row_line (stacks_of told.0.items) ++ told.1.now) }
     ensures refused { IfErr result (λ fault. (fault ≡ CertFault.Memory) ⊎ IsStackFault size bytes.now fault) }
 {
     let mut stacks = Vec::new(alloc);

@@ -16,6 +16,7 @@ use Rattle.crp_cert.proofs.reading.next_stack.Goals.{else-len-size-via-then-len-
 refuted : {P : Type 0} (b : Bool) → IsTrue b ↔ P → b ≡ false → ¬ P
 refuted b tells no' p = let yes = tells.1 p in cc
 
+-- the stacks with one more are not higher than eight
 pushed_low : (size : Size) (rows : List Row) (row : Row) → IsSize size → AreFirstStacks size (stacks_of rows) → length row.items ≤ size.tiers → All (λ (r : Row). length r.items ≤ 8) (rows ++ row ∷ [])
 pushed_low size rows row is first low =
     let few = is.few_tiers in
