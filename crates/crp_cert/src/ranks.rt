@@ -4,26 +4,7 @@ ghost use Rattle.crp_plan.specs.Rows.{occurrences};
 ghost use Rattle.crp_plan.specs.Faults.{stacks_of};
 ghost use Rattle.crp_cert.specs.Reading.{IsNewRank};
 
-/// In how many places of a stack a rank stands.
-fn times(rank: u8, stack: &[u8]) -> usize
-    ensures value { result ≡ count_by (λ y. y == rank) stack.now }
-    ensures few { result ≤ length stack.now }
-{
-    stack.iter().filter(|y| **y == rank).count()
-}
-
-/// In how many places of all stacks a rank stands.
-fn places(rank: u8, stacks: &[Vec<u8>]) -> usize
-    requires rows { length stacks.now ≤ 12 }
-    requires fit { All (λ row. length row.items ≤ 8) stacks.now }
-    ensures { result ≡ occurrences rank (stacks_of stacks.now) }
-{
-    let mut places: usize = 0;
-    for stack in stacks {
-        places += times(rank, stack);
-    }
-    places
-}
+use crp_plan::{places, times};
 
 /// Whether a rank is one of so many, and stands once in a stack and in none of these stacks.
 fn is_new(containers: u8, rank: u8, stack: &[u8], stacks: &[Vec<u8>]) -> bool
