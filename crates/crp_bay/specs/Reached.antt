@@ -9,10 +9,6 @@ pub record IsReached (s : Position) : Type 0 where
   pub is_problem : IsProblem problem
   pub is_at : IsAt problem path s
 
--- the path can go on by the row
-abbrev pub IsLegalRow : Problem → List ℕ → ℕ → Type 0
-IsLegalRow p path row = (t : Position) × IsAt p (path ++ row ∷ []) t
-
 -- the row is there, and its stack is shorter than its height
 pub record HasRoom (s : Position) (row : ℕ) : Type 0 where
   pub counts : 1 ≤ row

@@ -1,13 +1,12 @@
 ghost use Rattle.std.specs.Prelude.{◌≡◌, ℕ, ◌-◌, ◌≤◌, ◌↔◌, List, [], ◌∷◌, ◌++◌, Contains, IsTrue, IsSome, IfSome, Some, length, slice_get};
 ghost use Rattle.std.specs.List.Sorted.{IsStrictlyIncreasing};
 ghost use Rattle.arrayvec.specs.ArrayVec.{array_vec_len};
-ghost use Rattle.crp_plan.specs.Rows.{holds};
-ghost use Rattle.crp_plan.specs.Bay.{Problem as Statement, IsProblem, IsAt, IsFinished, start};
+ghost use Rattle.crp_plan.specs.Bay.{Problem as Statement, IsProblem, IsAt, IsFinished, start, IsLegalRow};
 ghost use Rattle.crp_bay.specs.Positions.{settled, child, targets, can_shift};
-ghost use Rattle.crp_bay.specs.Reached.{IsReached, IsLegalRow, HasRoom};
+ghost use Rattle.crp_bay.specs.Reached.{IsReached, HasRoom};
 
 use arrayvec::ArrayVec;
-use crp_plan::{MAX_ROWS, Problem, Walk};
+use crp_plan::{MAX_ROWS, Problem, Walk, has_rank};
 use std::marker::Model;
 
 /// A position of a bay in which every retrieval that is legal has been made. No call takes memory.
@@ -27,12 +26,6 @@ impl Model for Position {
     ghost view = { λ p. p.walk };
 
     ghost invariant = { λ p. IsReached p.walk };
-}
-
-fn has_rank(rank: u8, stack: &[u8]) -> bool
-    ensures { result ≡ holds rank stack.now }
-{
-    stack.iter().any(|other| *other == rank)
 }
 
 impl Position {

@@ -9,13 +9,7 @@ ghost use Rattle.crp_bounds.specs.Bounds.{holds_lower, has_no_place, stuck_above
 use crate::blockers::{blocking, has_lower};
 use arrayvec::ArrayVec;
 use crp_bay::Position;
-use crp_plan::{MAX_ROWS, Stack};
-
-fn has_rank(rank: u8, stack: &[u8]) -> bool
-    ensures { result ≡ holds rank stack.now }
-{
-    stack.iter().any(|other| *other == rank)
-}
+use crp_plan::{MAX_ROWS, Stack, has_rank};
 
 /// Whether a stack is full, or holds `k`, or would be blocked again by `c`.
 fn is_no_place(ordered: u8, k: u8, height: u8, stack: &[u8], c: u8) -> bool
