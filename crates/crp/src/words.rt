@@ -12,20 +12,24 @@ use std::alloc::{AllocError, Global};
 static NO_WORDS: [&str; 2] = ["replay", "-"];
 
 // A command that takes a file.
-fn leaf<'a>(alloc: Global, name: &'a str) -> Result<Command<'a>, AllocError>
+fn leaf<'a>(alloc: Global, name: &'a str, about: &'a str) -> Result<Command<'a>, AllocError>
     ensures app { IfOk result (λ c. app_of c ≡ leaf_app name.entry.now) }
     ensures local { IfOk result (λ c. (fields_of c).has_globals ≡ false) }
 {
     let file = Arg::new(alloc, "file").required(true).value_name("FILE");
-    Command::new(alloc, name).arg(file)
+    Command::new(alloc, name).about(about).arg(file)
 }
 
 // The whole command line.
 fn command_line<'a>(alloc: Global) -> Result<Command<'a>, AllocError>
     ensures { IfOk result (λ c. app_of c ≡ crp) }
 {
-    let replay = leaf(alloc, "replay")?;
-    let bound = leaf(alloc, "bound")?;
+    let replay = leaf(alloc, "replay", "Print the moves of a certificate's plan")?;
+    let bound = leaf(
+        alloc,
+        "bound",
+        "Print two lower bounds on the relocations of a certificate's bay",
+    )?;
     Command::new(alloc, "crp")
         .bin_name("crp")?
         .version("0.1.0")
