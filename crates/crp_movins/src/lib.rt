@@ -1,13 +1,21 @@
-// A library with one function.
+//! Reads the load orders out of the segments of an interchange: which container is ordered into
+//! which slot of the ship (UN/EDIFACT D.95B MOVINS, in this project's profile).
+//!
+//! `load_orders` answers the orders by place exactly where no segment is faulty, and else the first
+//! fault with the number of its segment. What is ordered is said in `specs/LoadOrders.antt`, which
+//! fault is the first in `specs/Faults.antt`.
 #![tactic(auto)]
 
-ghost use Rattle.std.specs.Prelude.{◌≡◌};
-ghost use Rattle.crp_movins.specs.Echo.{echo_of};
+mod collected;
+mod digits;
+mod fault;
+mod kind;
+mod order;
+mod reading;
+mod slot;
+mod standing;
 
-// The `ensures` clause is the contract: what `echo` returns is `echo_of` of its argument, a definition
-// in `specs/Echo.antt`, which a caller's clause can cite too.
-pub fn echo(x: usize) -> usize
-    ensures { result ≡ echo_of x }
-{
-    x
-}
+pub use fault::MovinsFault;
+pub use order::{Container, Order, Orders};
+pub use reading::{MAX_ORDERS, load_orders};
+pub use slot::Slot;

@@ -1,0 +1,4 @@
+pub mod SlotSteps
+pub mod Counting
+pub mod StandingSteps
+pub mod ReadingSteps
