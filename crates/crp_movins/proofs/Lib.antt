@@ -2,3 +2,4 @@ pub mod SlotSteps
 pub mod Counting
 pub mod StandingSteps
 pub mod ReadingSteps
+pub mod Least

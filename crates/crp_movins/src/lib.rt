@@ -10,12 +10,16 @@ mod collected;
 mod digits;
 mod fault;
 mod kind;
+mod laws;
 mod order;
 mod reading;
 mod slot;
 mod standing;
+#[cfg(test)]
+mod tests;
 
 pub use fault::MovinsFault;
+pub use laws::{first_fault_is_least, last_is_last};
 pub use order::{Container, Order, Orders};
 pub use reading::{MAX_ORDERS, load_orders};
 pub use slot::Slot;

@@ -31,7 +31,8 @@ impl Container {
     pub fn into_vec(self) -> Vec<u8>
         ensures { result.items ≡ self }
     {
-        self.bytes
+        let Container { bytes } = self;
+        bytes
     }
 
     /// The name.
@@ -83,7 +84,8 @@ impl Orders {
     pub fn into_list(self) -> Vec<Order>
         ensures { result.items ≡ self.list }
     {
-        self.list
+        let Orders { list, vacant: _ } = self;
+        list
     }
 
     /// How many loading slot groups have no container.
