@@ -1,6 +1,6 @@
 -- Numbers below a bound that pass a test.
 use Prim.Native.Nat.{zero}
-use Rattle.std.proofs.Common.{◌≡◌, ◌≢◌, ℕ, suc, ◌+◌, ◌≤◌, ◌<◌, ◌⊎◌, Bool, true, false, cond, refl, sym, ap, ◌∙◌, inl, inr, arith}
+use Rattle.std.proofs.Common.{◌≡◌, ◌≢◌, ℕ, suc, ◌+◌, ◌≤◌, ◌<◌, Bool, true, false, cond, refl, sym, ap, ◌∙◌, inl, inr, arith}
 use Rattle.crp_movins.specs.LoadOrders.{count_below}
 
 cond-bound : (b : Bool) (n m : ℕ) → n ≤ m → cond b (n + 1) n ≤ m + 1

@@ -3,3 +3,4 @@ pub mod Counting
 pub mod StandingSteps
 pub mod ReadingSteps
 pub mod Least
+pub mod AcceptedSteps

@@ -1,8 +1,6 @@
 -- A slot is written in six or seven digits.
-use Rattle.std.proofs.Common.{◌≡◌, ℕ, ◌+◌, ◌-◌, ◌≤◌, Bool, true, List, [], ◌∷◌, length, take, drop, eqb, refl, sym, ap, ◌∙◌, arith, rules}
-use Rattle.std.specs.List.{list_all}
-use Rattle.crp_movins.specs.declared.slot.Slot.{Slot}
-use Rattle.crp_movins.specs.Digits.{is_digit, number_of, slot_of}
+use Rattle.std.proofs.Common.{◌≡◌, ℕ, List, [], ◌∷◌, length, take, drop, refl, arith}
+use Rattle.crp_movins.specs.Digits.{number_of, slot_of}
 
 -- six digits: two of the bay
 pub six-slot : (text : List ℕ) → length text ≡ 6 → slot_of text ≡ record { bay = number_of (take 2 text); row = number_of (take 2 (drop 2 text)); tier = number_of (drop 2 (drop 2 text)) }

@@ -1,20 +1,22 @@
 -- What a segment leaves in force, by its kind.
 use Prim.Native.Nat.{zero}
-use Rattle.std.proofs.Common.{◌≡◌, ◌≢◌, ℕ, suc, ◌+◌, ◌-◌, ◌≤◌, ◌<◌, ◌⊎◌, Bool, true, false, not, cond, eqb, ◌&&◌, ◌||◌, List, [], ◌∷◌, Option, Some, None, refl, sym, ap, subst, ◌∙◌, inl, inr, arith, rules, tests, add-one}
+use Rattle.std.proofs.Common.{◌≡◌, ◌≢◌, length, ℕ, suc, ◌+◌, ◌-◌, ◌≤◌, ◌<◌, ◌⊎◌, Bool, true, false, not, cond, eqb, ◌&&◌, List, [], ◌∷◌, Option, Some, None, refl, sym, ap, subst, ◌∙◌, inl, inr, arith, rules, tests, add-one}
 use Rattle.edi_text.specs.Parts.{SegmentParts}
 use Rattle.crp_movins.specs.declared.fault.MovinsFault.{MovinsFault}
-use Rattle.crp_movins.specs.declared.fault.MovinsFault.TheVariants.{SlotNumber}
+use Rattle.crp_movins.specs.declared.fault.MovinsFault.TheVariants.{SlotNumber, OrderedTwice, TooManyOrders}
 use Rattle.crp_movins.specs.declared.kind.Kind.{Kind}
 use Rattle.crp_movins.specs.declared.kind.Kind.TheVariants.{InterchangeHeader, MessageHeader, MessageTrailer, InterchangeTrailer, FunctionalGroup, Handling, SlotGroup, Equipment, Other}
 use Rattle.crp_movins.specs.declared.slot.Slot.{Slot}
 use Rattle.crp_movins.specs.declared.standing.Standing.{Standing}
 use Rattle.crp_movins.specs.Digits.{is_slot, slot_of}
 use Rattle.crp_movins.specs.Kinds.{kind_of, ends_group, is_message_header, is_slot_group}
+use Rattle.std.specs.Prelude.{nat_le}
 use Rattle.std.specs.Str.{bytes_eq}
 use Rattle.crp_movins.specs.Places.{kind_at, text_at, last_before, count_before, where_holds, is_loading, opens_loading_group, loading_group, ordered_group}
-use Rattle.crp_movins.specs.LoadOrders.{is_number, is_filled, is_vacant, count_below, vacant_before}
-use Rattle.crp_movins.specs.Faults.{first_of, own_faults, faults_at, fault_at}
-use Rattle.crp_movins.specs.Standings.{is_group_filled, standing_before}
+use Rattle.crp_movins.specs.Accepted.{max_orders, is_ordered}
+use Rattle.crp_movins.specs.LoadOrders.{orders_before, is_number, is_filled, is_vacant, count_below, vacant_before}
+use Rattle.crp_movins.specs.Faults.{is_in_group, first_of, own_faults, faults_at, fault_at}
+use Rattle.crp_movins.specs.Standings.{open_slot, is_group_filled, standing_before}
 use Rattle.crp_movins.proofs.Counting.{count_below-bound, count_below-same, count_below-without}
 
 -- no segment has the number 0
@@ -307,3 +309,22 @@ slot-faultless segments code i faultless h same_code =
     let slot : first_of (own_faults SlotGroup segments code i) ≡ None = rw h at own in
     let test : (is_loading segments code i && not (is_slot (text_at segments i 2 1))) ≡ false = (none-next (is_loading segments code i && not (is_slot (text_at segments i 2 1))) (SlotNumber i) None slot).0 in
     not-false (is_slot (text_at segments i 2 1)) (rw same_code at test)
+
+-- an order that is not faulty is for a new container, and there is room for it
+pub order-faultless : (segments : List SegmentParts) (code : List ℕ) (i : ℕ) (slot : Slot) → fault_at segments code i ≡ None → kind_at segments i ≡ Equipment → open_slot segments code i ≡ Some slot → (is_ordered (orders_before segments code i) (text_at segments i 2 1) ≡ false) × (length (orders_before segments code i) < max_orders)
+unfolding fault_at
+order-faultless segments code i slot faultless h known =
+    let all = faults_at segments code i in
+    let own : first_of (own_faults (kind_at segments i) segments code i) ≡ None = first_of-further (further (further (further all))) (first_of-further (further (further all)) (first_of-further (further all) (first_of-further all faultless))) in
+    let two : first_of (own_faults Equipment segments code i) ≡ None = rw h at own in
+    let grouped : is_in_group segments code i ≡ true = elim (group_cases (loading_group segments code i)) [
+      | inl e ↦ let none : open_slot segments code i ≡ None = rw e refl in absurd (cc)
+      | inr p ↦ rw p.1 refl
+    ] in
+    let twice = is_ordered (orders_before segments code i) (text_at segments i 2 1) in
+    let full = nat_le max_orders (length (orders_before segments code i)) in
+    let first = none-next (is_in_group segments code i && twice) (OrderedTwice i) (first_of ((is_in_group segments code i && full, TooManyOrders i) ∷ [])) two in
+    let second = none-next (is_in_group segments code i && full) (TooManyOrders i) None first.1 in
+    let fresh : twice ≡ false = rw grouped at first.0 in
+    let room : full ≡ false = rw grouped at second.0 in
+    (fresh, search (rules, tests))

@@ -2,22 +2,17 @@
 -- order of the table below.
 use Prim.Native.Nat.{zero}
 use Rattle.std.specs.Prelude.{ℕ, suc, ◌+◌, ◌-◌, Bool, not, ◌&&◌, ◌||◌, List, [], ◌∷◌, length, Option, Some, None, is_some, unwrap_or, ◌==◌, nat_lt, nat_le, if◌then◌else◌, codes}
-use Rattle.std.specs.List.{list_any}
 use Rattle.std.specs.Str.{bytes_eq}
 use Rattle.edi_text.specs.Parts.{SegmentParts}
 use Rattle.crp_movins.specs.declared.fault.MovinsFault.{MovinsFault}
 use Rattle.crp_movins.specs.declared.fault.MovinsFault.TheVariants.{NoInterchangeHeader, InterchangeHeader as HeaderFault, FunctionalGroup as GroupFault, OutOfPlace, MessageCount, MessageReference, InterchangeCount, InterchangeReference, AfterTrailer, MessageType, SlotNumber, OrderedTwice, TooManyOrders}
 use Rattle.crp_movins.specs.declared.kind.Kind.{Kind}
 use Rattle.crp_movins.specs.declared.kind.Kind.TheVariants.{InterchangeHeader, MessageHeader, MessageTrailer, InterchangeTrailer, FunctionalGroup, Handling, SlotGroup, Equipment, Other}
-use Rattle.crp_movins.specs.declared.order.Order.{Order}
+use Rattle.crp_movins.specs.Accepted.{max_orders, is_ordered}
 use Rattle.crp_movins.specs.Digits.{counts, is_slot}
 use Rattle.crp_movins.specs.Kinds.{is_empty, is_interchange_header, is_message_header, is_interchange_trailer, is_functional_group, belongs_outside, may_follow}
 use Rattle.crp_movins.specs.Places.{kind_at, text_at, elements_at, last_before, count_before, open_message, is_loading, loading_group}
 use Rattle.crp_movins.specs.LoadOrders.{orders_before}
-
--- so many orders are accepted
-abbrev pub max_orders : ℕ
-max_orders = 10000
 
 -- UNB has fewer than 5 elements or an empty reference
 abbrev pub lacks_control_reference : List SegmentParts → ℕ → Bool
@@ -39,10 +34,6 @@ header_of segments i = unwrap_or (open_message segments i) 0
 -- the segment would order a container
 abbrev pub is_in_group : List SegmentParts → List ℕ → ℕ → Bool
 is_in_group segments code i = is_some (loading_group segments code i)
-
--- one of the orders is for this container
-abbrev pub is_ordered : List Order → List ℕ → Bool
-is_ordered orders container = list_any (λ order. bytes_eq order.container container) orders
 
 -- the faults that only a segment of this kind may have
 abbrev pub own_faults : Kind → List SegmentParts → List ℕ → ℕ → List (Bool × MovinsFault)

@@ -1,6 +1,6 @@
 -- What a segment is to the reader of load orders, by its tag and its qualifier (ISO 9735, UN/EDIFACT
 -- D.95B MOVINS).
-use Rattle.std.specs.Prelude.{ℕ, Bool, true, false, not, ◌&&◌, ◌||◌, List, length, ◌==◌, if◌then◌else◌, codes}
+use Rattle.std.specs.Prelude.{ℕ, Bool, true, false, not, ◌&&◌, List, length, ◌==◌, if◌then◌else◌, codes}
 use Rattle.std.specs.Str.{bytes_eq}
 use Rattle.edi_text.specs.Parts.{SegmentParts, component_of}
 use Rattle.crp_movins.specs.declared.kind.Kind.{Kind}

@@ -1,6 +1,6 @@
 -- The load orders of a list of segments, by places (UN/EDIFACT D.95B MOVINS, in this project's profile).
 use Prim.Native.Nat.{zero}
-use Rattle.std.specs.Prelude.{ℕ, suc, ◌+◌, Bool, true, false, not, ◌&&◌, ◌||◌, List, [], ◌++◌, length, Option, Some, None, ◌==◌, if◌then◌else◌, option_to_list}
+use Rattle.std.specs.Prelude.{ℕ, suc, ◌+◌, Bool, false, not, ◌&&◌, ◌||◌, List, [], ◌++◌, length, Option, Some, None, ◌==◌, if◌then◌else◌, option_to_list}
 use Rattle.std.specs.Option.{option_map}
 use Rattle.edi_text.specs.Parts.{SegmentParts}
 use Rattle.crp_movins.specs.declared.order.Order.{Order}

@@ -1,7 +1,7 @@
 //! The orders that have been read.
 
-ghost use Rattle.std.specs.Prelude.{◌≡◌, [], ◌∷◌, ◌++◌, OnOk, IfErr, length};
-ghost use Rattle.crp_movins.specs.Faults.{is_ordered};
+ghost use Rattle.std.specs.Prelude.{◌≡◌, ◌<◌, false, [], ◌∷◌, ◌++◌, OnOk, IfErr, length};
+ghost use Rattle.crp_movins.specs.Accepted.{max_orders, is_ordered, AreLoadOrders};
 ghost use Rattle.crp_movins.specs.declared.fault.MovinsFault.TheVariants.{Memory};
 
 use crate::fault::MovinsFault;
@@ -21,13 +21,13 @@ pub(crate) struct Collected<'a> {
 impl<'a> Model for Collected<'a> {
     ghost use Rattle.std.specs.Prelude.{List};
     ghost use Rattle.crp_movins.specs.declared.order.Order.{Order};
-    ghost use Rattle.crp_movins.specs.Collections.{HasContainers};
+    ghost use Rattle.crp_movins.specs.Collections.{IsCollected};
 
     ghost Value = { List Order };
 
     ghost view = { λ a. a.orders.items };
 
-    ghost invariant = { λ a. HasContainers a.orders.items a.containers.keys };
+    ghost invariant = { λ a. IsCollected a.orders.items a.containers.keys };
 }
 
 impl<'a> Collected<'a> {
@@ -60,6 +60,8 @@ impl<'a> Collected<'a> {
         container: &'a [u8],
         slot: Slot,
     ) -> Result<(), MovinsFault>
+        requires fresh { is_ordered self.old container.now ≡ false }
+        requires room { length self.old < max_orders }
         ensures taken { OnOk result (self.new ≡ self.old ++ (record { container = container.now; slot = slot }) ∷ []) }
         ensures refused { IfErr result (λ fault. fault ≡ Memory) }
     {
@@ -75,7 +77,8 @@ impl<'a> Collected<'a> {
 
     /// The orders by place.
     pub fn into_list(self) -> Vec<Order>
-        ensures { result.items ≡ self.entry }
+        ensures value { result.items ≡ self.entry }
+        ensures accepted { AreLoadOrders result.items }
     {
         self.orders
     }

@@ -1,6 +1,7 @@
 //! Load orders.
 
 ghost use Rattle.std.specs.Prelude.{◌≡◌};
+ghost use Rattle.crp_movins.specs.Accepted.{AreLoadOrders};
 
 use crate::slot::Slot;
 use std::marker::Model;
@@ -50,7 +51,7 @@ pub struct Order {
     pub slot: Slot,
 }
 
-/// What an interchange orders to be loaded.
+/// What an interchange orders to be loaded: at most `MAX_ORDERS` orders, and no container twice.
 #[derive(Drop)]
 pub struct Orders {
     list: Vec<Order>,
@@ -59,15 +60,19 @@ pub struct Orders {
 
 impl Model for Orders {
     ghost use Rattle.crp_movins.specs.LoadOrders.{LoadOrders};
+    ghost use Rattle.crp_movins.specs.Accepted.{AreLoadOrders};
 
     ghost Value = { LoadOrders };
 
     ghost view = { λ a. record { list = a.list.items; vacant = a.vacant } };
+
+    ghost invariant = { λ a. AreLoadOrders a.list.items };
 }
 
 impl Orders {
     /// These orders by place, beside so many loading slot groups without a container. Takes no memory.
-    pub fn new(list: Vec<Order>, vacant: usize) -> Orders
+    pub(crate) fn new(list: Vec<Order>, vacant: usize) -> Orders
+        requires { AreLoadOrders list.items }
         ensures { result ≡ record { list = list.items; vacant = vacant } }
     {
         Orders { list, vacant }
@@ -75,14 +80,16 @@ impl Orders {
 
     /// The orders by place.
     pub fn list(&self) -> &[Order]
-        ensures { result.now ≡ self.now.list }
+        ensures value { result.now ≡ self.now.list }
+        ensures accepted { AreLoadOrders self.now.list }
     {
         &self.list
     }
 
     /// The orders by place, given out. Takes no memory.
     pub fn into_list(self) -> Vec<Order>
-        ensures { result.items ≡ self.list }
+        ensures value { result.items ≡ self.list }
+        ensures accepted { AreLoadOrders result.items }
     {
         let Orders { list, vacant: _ } = self;
         list

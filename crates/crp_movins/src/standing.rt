@@ -106,6 +106,8 @@ impl Standing {
     ) -> Result<(), MovinsFault>
         requires kind { kind ≡ kind_at at.now.segments.now at.now.number }
         requires here { self.now.group ≡ open_slot at.now.segments.now at.now.code.now at.now.number }
+        requires orders { orders.old ≡ orders_before at.now.segments.now at.now.code.now at.now.number }
+        requires faultless { fault_at at.now.segments.now at.now.code.now at.now.number ≡ None }
         ensures taken { OnOk result (orders.new ≡ orders.old ++ option_to_list (order_at at.now.segments.now at.now.code.now at.now.number)) }
         ensures refused { IfErr result (λ fault. fault ≡ Memory) }
     {

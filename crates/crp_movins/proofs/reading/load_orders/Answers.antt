@@ -1,4 +1,4 @@
-use Rattle.std.proofs.Common.{◌≡◌, ◌+◌, length, refl, sym, arith, inr}
+use Rattle.std.proofs.Common.{sym, arith, inr}
 use Rattle.crp_movins.proofs.ReadingSteps.{orders-start, faults-start, told-refused}
 use Rattle.crp_movins.proofs.reading.load_orders.Goals as goal
 

@@ -1,4 +1,4 @@
-use Rattle.std.proofs.Common.{arith, rules}
+use Rattle.std.proofs.Common.{arith}
 use Rattle.std.proofs.lemmas.Grind.{common_steps}
 use Rattle.crp_movins.proofs.SlotSteps.{six-slot, seven-slot}
 use Rattle.crp_movins.proofs.slot.slot_of.Goals as goal

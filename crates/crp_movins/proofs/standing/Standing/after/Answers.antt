@@ -1,4 +1,4 @@
-use Rattle.std.proofs.Common.{◌≡◌, ap, ◌∙◌, sym, refl, arith, true, inl, inr}
+use Rattle.std.proofs.Common.{◌≡◌, ap, ◌∙◌, sym, arith, true, inl, inr}
 use Rattle.crp_movins.specs.declared.standing.Standing.{Standing}
 use Rattle.crp_movins.proofs.StandingSteps.{messages-bound, after-closing, after-header, after-trailer, after-handling, after-passed, is_passed}
 use Rattle.crp_movins.proofs.standing.Standing.after.Goals as goal

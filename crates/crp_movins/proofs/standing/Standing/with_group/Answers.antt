@@ -1,7 +1,6 @@
-use Rattle.std.proofs.Common.{◌≡◌, Bool, true, false, ap, ◌∙◌, sym, arith}
+use Rattle.std.proofs.Common.{◌≡◌, true, false, ap, ◌∙◌, sym, arith}
 use Rattle.crp_movins.specs.declared.standing.Standing.{Standing}
 use Rattle.crp_movins.specs.Places.{is_loading}
-use Rattle.crp_movins.specs.Standings.{standing_before}
 use Rattle.crp_movins.proofs.StandingSteps.{after-other-slot, after-loading-slot, slot-faultless, vacant-bound, not-true, not-false}
 use Rattle.crp_movins.proofs.standing.Standing.with_group.Goals as goal
 

@@ -1,4 +1,3 @@
-use Rattle.std.proofs.Common.{sym}
 use Rattle.crp_movins.proofs.StandingSteps.{order-none, order-again, order-first}
 use Rattle.crp_movins.proofs.standing.Standing.with_order.Goals as goal
 
