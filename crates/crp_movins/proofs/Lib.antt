@@ -4,3 +4,4 @@ pub mod StandingSteps
 pub mod ReadingSteps
 pub mod Least
 pub mod AcceptedSteps
+pub mod Meaning

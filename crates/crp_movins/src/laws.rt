@@ -3,7 +3,10 @@
 ghost use Rattle.std.specs.Prelude.{◌≡◌, ◌<◌, ℕ, List, Bool, true, false, Some, None};
 ghost use Rattle.edi_text.specs.Parts.{SegmentParts};
 ghost use Rattle.crp_movins.specs.Places.{kind_at, last_before};
+ghost use Rattle.crp_movins.specs.LoadOrders.{order_at};
+ghost use Rattle.crp_movins.specs.ByPlaces.{IsOrdered};
 ghost use Rattle.crp_movins.specs.Faults.{fault_at, first_fault_before};
+ghost use Rattle.crp_movins.specs.declared.order.Order.{Order};
 ghost use Rattle.crp_movins.specs.declared.fault.MovinsFault.{MovinsFault};
 ghost use Rattle.crp_movins.specs.declared.kind.Kind.{Kind};
 
@@ -29,4 +32,13 @@ pub fn last_is_last()
     ensures none { (test : Kind → Bool) (segments : List SegmentParts) (n : ℕ)
         → last_before test segments n ≡ None
         → (k : ℕ) → k < n → test (kind_at segments k) ≡ false }
+{}
+
+/// The order of a segment, as it is computed, is what the relation of places says, and the other way
+/// round.
+pub fn orders_by_places()
+    ensures means { (segments : List SegmentParts) (code : List ℕ) (i : ℕ) (order : Order)
+        → order_at segments code i ≡ Some order → IsOrdered segments code i order }
+    ensures given { (segments : List SegmentParts) (code : List ℕ) (i : ℕ) (order : Order)
+        → IsOrdered segments code i order → order_at segments code i ≡ Some order }
 {}

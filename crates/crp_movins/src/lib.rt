@@ -19,7 +19,7 @@ mod standing;
 mod tests;
 
 pub use fault::MovinsFault;
-pub use laws::{first_fault_is_least, last_is_last};
+pub use laws::{first_fault_is_least, last_is_last, orders_by_places};
 pub use order::{Container, Order, Orders};
 pub use reading::{MAX_ORDERS, load_orders};
 pub use slot::Slot;
