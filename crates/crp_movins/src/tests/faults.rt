@@ -232,7 +232,7 @@ fn a_second_message_may_not_repeat_a_container(rt: HostRuntime) -> Result<(), Fa
     let alloc = rt.alloc();
     let mut text = six_load_orders(alloc)?;
     // The first message's UNZ is the last line.
-    text.truncate(text.len() - END.len());
+    text.truncate(text.len().saturating_sub(END.len()));
     text.extend_from_slice(b"UNH+2+MOVINS:D:95B:UN'HAN+LOA'LOC+147+0010194'EQD+CN+C3'")?;
     assert_eq!(rt;
         fault_of(alloc, &text)?,
