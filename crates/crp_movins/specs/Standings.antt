@@ -1,0 +1,30 @@
+-- What the reader keeps of the segments before a number. Only the clauses of private functions speak of it.
+use Rattle.std.specs.Prelude.{ℕ, Bool, false, List, Option, is_some}
+use Rattle.std.specs.Option.{option_map, option_map_or}
+use Rattle.edi_text.specs.Parts.{SegmentParts}
+use Rattle.crp_movins.specs.declared.slot.Slot.{Slot}
+use Rattle.crp_movins.specs.declared.standing.Standing.{Standing}
+use Rattle.crp_movins.specs.Digits.{slot_of}
+use Rattle.crp_movins.specs.Kinds.{is_message_header, is_interchange_trailer}
+use Rattle.crp_movins.specs.Places.{text_at, last_before, count_before, open_message, is_loading, loading_group}
+use Rattle.crp_movins.specs.LoadOrders.{is_filled, vacant_before}
+
+-- the slot of the open loading group
+abbrev pub open_slot : List SegmentParts → List ℕ → ℕ → Option Slot
+open_slot segments code i = option_map (λ j. slot_of (text_at segments j 2 1)) (loading_group segments code i)
+
+-- there is such a group, and a segment before this one orders a container to its slot
+unfoldable pub is_group_filled : List SegmentParts → List ℕ → ℕ → Option ℕ → Bool
+is_group_filled segments code i group = option_map_or (is_filled segments code i) group false
+
+-- what is kept of the segments before this one
+abbrev pub standing_before : List SegmentParts → List ℕ → ℕ → Standing
+standing_before segments code i = record {
+  is_closed = is_some (last_before is_interchange_trailer segments i);
+  message = open_message segments i;
+  messages = count_before is_message_header segments i;
+  is_loading = is_loading segments code i;
+  group = open_slot segments code i;
+  is_filled = is_group_filled segments code i (loading_group segments code i);
+  vacant = vacant_before segments code i;
+}

@@ -1,0 +1,44 @@
+//! Laws of the definitions. Each is the contract of a function that does nothing.
+
+ghost use Rattle.std.specs.Prelude.{◌≡◌, ◌<◌, ℕ, List, Bool, true, false, Some, None};
+ghost use Rattle.edi_text.specs.Parts.{SegmentParts};
+ghost use Rattle.crp_movins.specs.Places.{kind_at, last_before};
+ghost use Rattle.crp_movins.specs.LoadOrders.{order_at};
+ghost use Rattle.crp_movins.specs.ByPlaces.{IsOrdered};
+ghost use Rattle.crp_movins.specs.Faults.{fault_at, first_fault_before};
+ghost use Rattle.crp_movins.specs.declared.order.Order.{Order};
+ghost use Rattle.crp_movins.specs.declared.fault.MovinsFault.{MovinsFault};
+ghost use Rattle.crp_movins.specs.declared.kind.Kind.{Kind};
+
+/// The first fault is that of a segment before which none is faulty; and where there is no first fault,
+/// no segment is faulty.
+pub fn first_fault_is_least()
+    ensures told { (segments : List SegmentParts) (code : List ℕ) (n : ℕ) (fault : MovinsFault)
+        → first_fault_before segments code n ≡ Some fault
+        → (i : ℕ) × (i < n) × (fault_at segments code i ≡ Some fault)
+        × ((k : ℕ) → k < i → fault_at segments code k ≡ None) }
+    ensures faultless { (segments : List SegmentParts) (code : List ℕ) (n : ℕ)
+        → first_fault_before segments code n ≡ None
+        → (k : ℕ) → k < n → fault_at segments code k ≡ None }
+{}
+
+/// The last segment of some kind before a place is of that kind, and none between is; and where there
+/// is no last, none is.
+pub fn last_is_last()
+    ensures found { (test : Kind → Bool) (segments : List SegmentParts) (n j : ℕ)
+        → last_before test segments n ≡ Some j
+        → (j < n) × (test (kind_at segments j) ≡ true)
+        × ((k : ℕ) → j < k → k < n → test (kind_at segments k) ≡ false) }
+    ensures none { (test : Kind → Bool) (segments : List SegmentParts) (n : ℕ)
+        → last_before test segments n ≡ None
+        → (k : ℕ) → k < n → test (kind_at segments k) ≡ false }
+{}
+
+/// The order of a segment, as it is computed, is what the relation of places says, and the other way
+/// round.
+pub fn orders_by_places()
+    ensures means { (segments : List SegmentParts) (code : List ℕ) (i : ℕ) (order : Order)
+        → order_at segments code i ≡ Some order → IsOrdered segments code i order }
+    ensures given { (segments : List SegmentParts) (code : List ℕ) (i : ℕ) (order : Order)
+        → IsOrdered segments code i order → order_at segments code i ≡ Some order }
+{}

@@ -1,0 +1,25 @@
+//! Reads the load orders out of the segments of an interchange: which container is ordered into
+//! which slot of the ship (UN/EDIFACT D.95B MOVINS, in this project's profile).
+//!
+//! `load_orders` answers the orders by place exactly where no segment is faulty, and else the first
+//! fault with the number of its segment. What is ordered is said in `specs/LoadOrders.antt`, which
+//! fault is the first in `specs/Faults.antt`.
+#![tactic(auto)]
+
+mod collected;
+mod digits;
+mod fault;
+mod kind;
+mod laws;
+mod order;
+mod reading;
+mod slot;
+mod standing;
+#[cfg(test)]
+mod tests;
+
+pub use fault::MovinsFault;
+pub use laws::{first_fault_is_least, last_is_last, orders_by_places};
+pub use order::{Container, Order, Orders};
+pub use reading::{MAX_ORDERS, load_orders};
+pub use slot::Slot;

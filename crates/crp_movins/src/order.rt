@@ -1,0 +1,104 @@
+//! Load orders.
+
+ghost use Rattle.std.specs.Prelude.{◌≡◌};
+ghost use Rattle.crp_movins.specs.Accepted.{AreLoadOrders};
+
+use crate::slot::Slot;
+use std::marker::Model;
+
+/// The name of a container, in bytes. Names are compared byte for byte.
+#[derive(Drop)]
+pub struct Container {
+    bytes: Vec<u8>,
+}
+
+impl Model for Container {
+    ghost use Rattle.std.specs.Prelude.{ℕ, List};
+
+    ghost Value = { List ℕ };
+
+    ghost view = { λ a. a.bytes.items };
+}
+
+impl Container {
+    /// The container with this name. Takes no memory.
+    pub fn from_vec(bytes: Vec<u8>) -> Container
+        ensures { result ≡ bytes.items }
+    {
+        Container { bytes }
+    }
+
+    /// The name. Takes no memory.
+    pub fn into_vec(self) -> Vec<u8>
+        ensures { result.items ≡ self }
+    {
+        let Container { bytes } = self;
+        bytes
+    }
+
+    /// The name.
+    pub fn bytes(&self) -> &[u8]
+        ensures { result.now ≡ self.now }
+    {
+        &self.bytes
+    }
+}
+
+/// A container is to be loaded into a slot.
+#[derive(Drop)]
+pub struct Order {
+    pub container: Container,
+    pub slot: Slot,
+}
+
+/// What an interchange orders to be loaded: at most `MAX_ORDERS` orders, and no container twice.
+#[derive(Drop)]
+pub struct Orders {
+    list: Vec<Order>,
+    vacant: usize,
+}
+
+impl Model for Orders {
+    ghost use Rattle.crp_movins.specs.LoadOrders.{LoadOrders};
+    ghost use Rattle.crp_movins.specs.Accepted.{AreLoadOrders};
+
+    ghost Value = { LoadOrders };
+
+    ghost view = { λ a. record { list = a.list.items; vacant = a.vacant } };
+
+    ghost invariant = { λ a. AreLoadOrders a.list.items };
+}
+
+impl Orders {
+    /// These orders by place, beside so many loading slot groups without a container. Takes no memory.
+    pub(crate) fn new(list: Vec<Order>, vacant: usize) -> Orders
+        requires { AreLoadOrders list.items }
+        ensures { result ≡ record { list = list.items; vacant = vacant } }
+    {
+        Orders { list, vacant }
+    }
+
+    /// The orders by place.
+    pub fn list(&self) -> &[Order]
+        ensures value { result.now ≡ self.now.list }
+        ensures accepted { AreLoadOrders self.now.list }
+    {
+        &self.list
+    }
+
+    /// The orders by place, given out. Takes no memory.
+    pub fn into_list(self) -> Vec<Order>
+        ensures value { result.items ≡ self.list }
+        ensures accepted { AreLoadOrders result.items }
+    {
+        let Orders { list, vacant: _ } = self;
+        list
+    }
+
+    /// How many loading slot groups have no container.
+    pub fn vacant(&self) -> usize
+        ensures { result ≡ self.now.vacant }
+    {
+        self.vacant
+    }
+}
