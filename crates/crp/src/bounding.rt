@@ -1,5 +1,5 @@
 //! The command `bound`: from the bytes of a certificate's head to the lower bounds of its problem.
-ghost use Rattle.std.specs.Prelude.{◌≡◌, ℕ, List, ◌++◌, IfOk, OnOk, MatchResult};
+ghost use Rattle.std.specs.Prelude.{◌≡◌, ◌++◌, IfOk, OnOk, MatchResult};
 ghost use Rattle.crp.specs.Calls.{Seen, Writes, Tells};
 ghost use Rattle.crp.specs.Bound.{bound_lines, IsBoundReport, IsBound, IsNoBound};
 

@@ -1,5 +1,5 @@
 //! Heads of certificates: read from a source, and the line of their bay.
-ghost use Rattle.std.specs.Prelude.{◌≡◌, ◌≤◌, ℕ, List, ◌++◌, ◌∷◌, [], IfOk, IfErr, OnOk, length};
+ghost use Rattle.std.specs.Prelude.{◌≡◌, ◌≤◌, ℕ, List, ◌++◌, IfOk, IfErr, OnOk};
 ghost use Rattle.crp_cert.specs.Text.{bay_line, IsHeadOf};
 ghost use Rattle.crp.specs.Calls.{IsGiven, IsNoHead};
 

@@ -1,9 +1,7 @@
 //! The command `replay`: from the bytes of a certificate's head to the moves of its plan.
-ghost use Rattle.std.specs.Prelude.{◌≡◌, ℕ, List, ◌++◌, ◌∷◌, [], IfOk, IfErr, OnOk, MatchResult, codes, decimal, length};
-ghost use Rattle.crp_plan.specs.Bay.{IsPlan, path_of, relocations};
-ghost use Rattle.crp_plan.specs.Rows.{total};
+ghost use Rattle.std.specs.Prelude.{◌≡◌, ℕ, List, ◌++◌, IfOk, IfErr, OnOk, MatchResult};
+ghost use Rattle.crp_plan.specs.Bay.{relocations};
 ghost use Rattle.crp.specs.Calls.{Seen, Writes, Tells};
-ghost use Rattle.crp.specs.MoveLines.{TellsMoves};
 ghost use Rattle.crp.specs.Replay.{count_line, TellsPlan, IsHeadReport, IsReplay, IsNoReplay, IsNoReport};
 
 use crate::heads::{head_from, push_bay};

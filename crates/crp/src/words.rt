@@ -1,6 +1,6 @@
 //! What the words of the command line ask for.
-ghost use Rattle.std.specs.Prelude.{◌≡◌, ◌<◌, ◌≤◌, ◌^◌, ℕ, false, true, IfOk, IfErr, IfSome, IfNone, MatchResult, map, option_map, Some, None, codes};
-ghost use Rattle.clap.specs.Words.{app_of, found_of, kind_of, rows_of, with_rule};
+ghost use Rattle.std.specs.Prelude.{◌≡◌, ◌<◌, false, true, IfOk, IfErr, map, Some, None};
+ghost use Rattle.clap.specs.Words.{app_of, found_of, kind_of, rows_of};
 ghost use Rattle.clap.specs.declared.builder.command.Command.TheViews.{out-Command as fields_of};
 ghost use Rattle.crp.specs.Words.{Asks, HasNoJob, IsWrongOrMemory, Refuses, ShowsKind, WordsAsk, crp, leaf as leaf_app, words_or_default};
 

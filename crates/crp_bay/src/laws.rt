@@ -1,7 +1,7 @@
 //! Laws of the definitions, for the crates above.
 ghost use Rattle.std.specs.Prelude.{◌≡◌, ℕ, ◌+◌, ◌≤◌, List, [], ◌∷◌, ◌++◌, length, All, Contains, Some, IsTrue, ◌↔◌};
 ghost use Rattle.std.specs.List.Sorted.{IsStrictlyIncreasing};
-ghost use Rattle.crp_plan.specs.Bay.{Problem, IsProblem, start, Position as Place, IsSound, IsAt, IsLegalRow};
+ghost use Rattle.crp_plan.specs.Bay.{Problem, IsProblem, start, Position as Place, IsSound, IsAt};
 ghost use Rattle.crp_plan.specs.Walks.{NoneToTake};
 ghost use Rattle.crp_bay.specs.Positions.{settled, at, targets, child, can_shift};
 ghost use Rattle.crp_bay.specs.Reached.{IsReached};

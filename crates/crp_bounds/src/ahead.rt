@@ -1,9 +1,8 @@
 //! The look-ahead bound.
-ghost use Rattle.std.specs.Prelude.{◌≡◌, ℕ, ◌+◌, ◌-◌, ◌*◌, ◌<◌, ◌≤◌, suc, List, length, take, map, All, nat_le, ◌||◌, count_by};
+ghost use Rattle.std.specs.Prelude.{◌≡◌, ◌+◌, ◌-◌, ◌*◌, ◌<◌, ◌≤◌, suc, List, length, take, map, nat_le, ◌||◌, count_by};
 ghost use Rattle.crp_plan.specs.declared.moves.Move.{Move};
 ghost use Rattle.crp_plan.specs.Rows.{holds, above, below};
 ghost use Rattle.crp_plan.specs.Bay.{Completes, relocations};
-ghost use Rattle.crp_bay.specs.Reached.{IsReached};
 ghost use Rattle.crp_bounds.specs.Bounds.{holds_lower, has_no_place, stuck_above, stuck_from, look_ahead as look_ahead_bound};
 
 use crate::blockers::{blocking, has_lower};

@@ -1,5 +1,5 @@
 //! The blocking bound.
-ghost use Rattle.std.specs.Prelude.{◌≡◌, ℕ, ◌≤◌, List, [], length};
+ghost use Rattle.std.specs.Prelude.{◌≡◌, ◌≤◌, List, [], length};
 ghost use Rattle.crp_plan.specs.declared.moves.Move.{Move};
 ghost use Rattle.crp_plan.specs.Bay.{Completes, relocations};
 ghost use Rattle.crp_bounds.specs.Bounds.{holds_lower, blocked_in, blocking as blocking_bound};

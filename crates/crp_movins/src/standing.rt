@@ -1,11 +1,11 @@
 //! What is in force at a place of an interchange, and the fault of the segment there.
 
-ghost use Rattle.std.specs.Prelude.{◌≡◌, ◌≤◌, ◌<◌, ◌^◌, ℕ, ◌+◌, List, ◌++◌, None, OnOk, IfErr, option_to_list};
+ghost use Rattle.std.specs.Prelude.{◌≡◌, ◌<◌, ◌^◌, ℕ, ◌+◌, List, ◌++◌, None, OnOk, IfErr, option_to_list};
 ghost use Rattle.edi_text.specs.Parts.{SegmentParts};
 ghost use Rattle.crp_movins.specs.Kinds.{is_message_header};
-ghost use Rattle.crp_movins.specs.Places.{kind_at, text_at, is_loading, loading_group, count_before, open_message};
+ghost use Rattle.crp_movins.specs.Places.{kind_at, text_at, is_loading, count_before, open_message};
 ghost use Rattle.crp_movins.specs.LoadOrders.{orders_before, order_at};
-ghost use Rattle.crp_movins.specs.Faults.{is_out_of_place, is_movins, lacks_control_reference, own_faults, first_of, fault_at};
+ghost use Rattle.crp_movins.specs.Faults.{is_out_of_place, is_movins, own_faults, first_of, fault_at};
 ghost use Rattle.crp_movins.specs.Standings.{standing_before, open_slot};
 ghost use Rattle.crp_movins.specs.declared.fault.MovinsFault.TheVariants.{Memory};
 ghost use Rattle.crp_movins.specs.declared.kind.Kind.TheVariants.{InterchangeHeader, MessageHeader, MessageTrailer, InterchangeTrailer, SlotGroup, Equipment};
