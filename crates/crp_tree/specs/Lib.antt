@@ -1,0 +1,3 @@
+pub use Rattle.crp_plan.specs.Rows
+pub use Rattle.crp_plan.specs.Bay
+pub mod Trees
