@@ -2,7 +2,11 @@
 #![tactic(auto)]
 
 mod laws;
+mod name;
+#[cfg(test)]
+mod tests;
 mod tree;
 
-pub use laws::trees_show;
+pub use laws::{names_are_ordered, trees_show};
+pub use name::{MAX_NAME, Name};
 pub use tree::Tree;
