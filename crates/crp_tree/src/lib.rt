@@ -7,6 +7,6 @@ mod name;
 mod tests;
 mod tree;
 
-pub use laws::{names_are_ordered, trees_show};
+pub use laws::{accepted_means, names_are_ordered, names_once, parts_cover, trees_show};
 pub use name::{MAX_NAME, Name};
 pub use tree::Tree;
