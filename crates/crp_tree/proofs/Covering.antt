@@ -6,6 +6,7 @@ use Rattle.crp_tree.specs.Trees.{Begins}
 use Rattle.crp_tree.proofs.Shown.{Outcome}
 use Rattle.crp_tree.proofs.Named.{begins_short}
 
+-- parts of some kind, for one plan: a part that the plan passes has its floor or sends it on to a name that it gives, and that name has a part
 pub record Family (X : Type 0) (moves : List Move) (f : ℕ) : Type 0 where
   pub xs : List X
   pub name_of : X → List ℕ
@@ -14,6 +15,7 @@ pub record Family (X : Type 0) (moves : List Move) (f : ℕ) : Type 0 where
   pub longer : (x : X) (g : List ℕ) → Contains xs x → Contains (given_of x) g → length (name_of x) < length g
   pub has_part : (x : X) (g : List ℕ) → Contains xs x → Contains (given_of x) g → (y : X) × Contains xs y × (name_of y ≡ g)
 
+-- a plan that passes one of the parts has at least the floor
 pub covered : {X : Type 0} (moves : List Move) (f : ℕ) (parts : Family X moves f) (more : ℕ) (x : X) → Contains parts.xs x → Begins (path_of moves) (parts.name_of x) →
     length (path_of moves) < length (parts.name_of x) + more → f ≤ relocations moves
 covered moves f parts zero x c b enough = absurd (omega (arith, begins_short (path_of moves) (parts.name_of x) b))

@@ -21,6 +21,7 @@ abbrev pub Distinct : List ℕ → Type 0
 Distinct [] = Unit {0}
 Distinct (x ∷ xs) = (Contains xs x → ⊥) × Distinct xs
 
+-- none of so many numbers from the first is below it
 counted_from : (from more x : ℕ) → Contains (counted from more) x → from ≤ x
 counted_from from zero x c = absurd (not_in_nil x c)
 counted_from from (suc more) x c = ⊎_elim
@@ -28,6 +29,7 @@ counted_from from (suc more) x c = ⊎_elim
     (λ c'. let r = counted_from (suc from) more x c' in omega arith)
     (in_cons_cases from (counted (suc from) more) x c)
 
+-- of rising numbers those kept are distinct
 filtered_distinct : (p : ℕ → Bool) (from more : ℕ) → Distinct (filter p (counted from more))
 filtered_distinct p from zero = tt
 filtered_distinct p from (suc more) = ⊎_elim
@@ -38,9 +40,11 @@ filtered_distinct p from (suc more) = ⊎_elim
     not_again : (p : ℕ → Bool) (from more : ℕ) → Contains (filter p (counted (suc from) more)) from → ⊥
     not_again p from more c = let r = counted_from (suc from) more from (from_filter p (counted (suc from) more) from c).1 in omega arith
 
+-- no legal row is listed twice
 pub targets_distinct : (s : Position) → Distinct (targets s)
 targets_distinct s = filtered_distinct (can_shift s) 1 (length s.heights)
 
+-- two steps from one path that lead to one name are the same
 same_step : (path g : List ℕ) (r q : ℕ) → Begins g (path ++ r ∷ []) → Begins g (path ++ q ∷ []) → r ≡ q
 same_step path g r q a b =
     let l : length (path ++ r ∷ []) ≡ length (path ++ q ∷ []) = omega (arith, length-append path (r ∷ []), length-append path (q ∷ [])) in
@@ -48,6 +52,7 @@ same_step path g r q a b =
     (snoc_parts path path r q e).1
 
 mutual
+  -- no name that a tree gives begins with another one that it gives
   pub given_apart : (path : List ℕ) (s : Position) (g h : List ℕ) (tree : Tree) → Contains (givens path s tree) g → Contains (givens path s tree) h → Begins g h → g ≡ h
   given_apart path s g h CutB c d b = absurd (not_in_nil g c)
   given_apart path s g h CutL c d b = absurd (not_in_nil g c)
@@ -58,6 +63,7 @@ mutual
       (in_cons_cases path [] g c)
   given_apart path s g h (Branch' shape all) c d b = each_apart path s g h (targets s) (targets_distinct s) all c d b
 
+  -- nor do the names that the trees of distinct rows give
   pub each_apart : (path : List ℕ) (s : Position) (g h : List ℕ) (rows : List ℕ) → Distinct rows → {m : _} (all : Row_of-Tree m) →
       Contains (givens_of_each path s rows all) g → Contains (givens_of_each path s rows all) h → Begins g h → g ≡ h
   each_apart path s g h [] apart end_of-Tree c d b = absurd (not_in_nil g c)
@@ -78,6 +84,7 @@ mutual
       (Contains-append_cases _ _ g c)
 
 mutual
+  -- a tree gives no name twice
   pub given_once : (path : List ℕ) (s : Position) (g : List ℕ) (tree : Tree) → times g (givens path s tree) ≤ 1
   given_once path s g CutB = omega arith
   given_once path s g CutL = omega arith
@@ -87,6 +94,7 @@ mutual
       (cases_Bool (same_name g path))
   given_once path s g (Branch' shape all) = given_once_each path s g (targets s) (targets_distinct s) all
 
+  -- nor do the trees of distinct rows
   pub given_once_each : (path : List ℕ) (s : Position) (g : List ℕ) (rows : List ℕ) → Distinct rows → {m : _} (all : Row_of-Tree m) → times g (givens_of_each path s rows all) ≤ 1
   given_once_each path s g [] apart end_of-Tree = omega arith
   given_once_each path s g [] apart (more_of-Tree tree trees) = omega arith
@@ -119,24 +127,29 @@ part_gives p part ok is =
     } in
     subst P (sym e) made
 
+-- parts as givers: their names, and the names that they give
 abbrev pub givers : Problem → List Part → List Giver
 givers p parts = map (λ part. record { name = part.name; given = given_by p part }) parts
 
+-- each of them is one
 givers_each : (p : Problem) (parts : List Part) → IsProblem p → All (IsPart p) parts → (i : ℕ) (a : Giver) → slice_get (givers p parts) i ≡ Some a → IsGiver a
 givers_each p [] ok all i a e = cc
 givers_each p (part ∷ parts) ok all zero a e = subst IsGiver (same_Some _ a e) (part_gives p part ok (All-head (IsPart p) part parts all))
 givers_each p (part ∷ parts) ok all (suc i) a e = givers_each p parts ok (All-tail (IsPart p) part parts all) i a e
 
+-- their names are the names of the parts
 name_times_is : (p : Problem) (parts : List Part) (x : List ℕ) → name_times x (givers p parts) ≡ times x (names parts)
 name_times_is p [] x = refl
 name_times_is p (part ∷ parts) x =
     sum_by-cons (λ (a : Giver). one_if (same_name x a.name)) (record { name = part.name; given = given_by p part }) (givers p parts) ∙ ap (λ n. one_if (same_name x part.name) + n) (name_times_is p parts x) ∙ sym (times-cons x part.name (names parts))
 
+-- and the names that they give are those that the parts give
 given_times_is : (p : Problem) (parts : List Part) (x : List ℕ) → given_times x (givers p parts) ≡ times x (flat_map (given_by p) parts)
 given_times_is p [] x = refl
 given_times_is p (part ∷ parts) x =
     sum_by-cons (λ (a : Giver). times x a.given) (record { name = part.name; given = given_by p part }) (givers p parts) ∙ ap (λ n. times x (given_by p part) + n) (given_times_is p parts x) ∙ sym (times-append x (given_by p part) (flat_map (given_by p) parts))
 
+-- so no two parts have one name, where the names balance
 pub no_name_twice : (p : Problem) (parts : List Part) → IsProblem p → All (IsPart p) parts → ((name : List ℕ) → times name (names parts) ≡ times name ([] ∷ flat_map (given_by p) parts)) →
     (name : List ℕ) → times name (names parts) ≤ 1
 no_name_twice p parts ok all balance name =

@@ -8,16 +8,19 @@ use Rattle.crp_bay.proofs.Members.{not_in_nil, in_head, in_tail, in_cons_cases}
 use Rattle.crp_tree.specs.Trees.{Begins}
 use Rattle.crp_tree.specs.Scripts.{same_name, times}
 
+-- a name that gives names
 pub record Giver : Type 0 where
   pub name : List ℕ
   pub given : List (List ℕ)
 
+-- it gives names that go on from its own, none of them from another, and none twice
 pub record IsGiver (a : Giver) : Type 0 where
   pub begins : (g : List ℕ) → Contains a.given g → Begins g a.name
   pub longer : (g : List ℕ) → Contains a.given g → length a.name < length g
   pub apart : (g h : List ℕ) → Contains a.given g → Contains a.given h → Begins g h → g ≡ h
   pub once : (g : List ℕ) → times g a.given ≤ 1
 
+-- what passes for the same name is
 pub same_is : (x y : List ℕ) → same_name x y ≡ true → x ≡ y
 same_is [] [] h = refl
 same_is [] (y ∷ ys) h = cc
@@ -28,16 +31,20 @@ same_is (x ∷ xs) (y ∷ ys) h =
     let r : xs ≡ ys = same_is xs ys p.1 in
     cc
 
+-- and each name passes for itself
 pub same_self : (x : List ℕ) → same_name x x ≡ true
 same_self [] = refl
 same_self (x ∷ xs) = and_from (x == x) (same_name xs xs) (eq-eqb x x refl) (same_self xs)
 
+-- how often a name stands in a list with one more in front
 pub times-cons : (x y : List ℕ) (ys : List (List ℕ)) → times x (y ∷ ys) ≡ one_if (same_name x y) + times x ys
 times-cons x y ys = sum_by-cons (λ z. one_if (same_name x z)) y ys
 
+-- how often it stands in two lists
 pub times-append : (x : List ℕ) (xs ys : List (List ℕ)) → times x (xs ++ ys) ≡ times x xs + times x ys
 times-append x xs ys = sum_by-append (λ z. one_if (same_name x z)) xs ys
 
+-- what stands at least once is there
 pub times_in : (x : List ℕ) (ys : List (List ℕ)) → 1 ≤ times x ys → Contains ys x
 times_in x [] h = absurd (omega arith)
 times_in x (y ∷ ys) h = ⊎_elim
@@ -45,6 +52,7 @@ times_in x (y ∷ ys) h = ⊎_elim
     (λ f. in_tail y ys x (times_in x ys (omega (arith, times-cons x y ys, ap one_if f))))
     (cases_Bool (same_name x y))
 
+-- what is there stands at least once
 pub in_times : (x : List ℕ) (ys : List (List ℕ)) → Contains ys x → 1 ≤ times x ys
 in_times x [] c = absurd (not_in_nil x c)
 in_times x (y ∷ ys) c = ⊎_elim
@@ -59,6 +67,7 @@ pub record Term {X : Type 0} (f : X → ℕ) (xs : List X) : Type 0 where
   pub stands : slice_get xs index ≡ Some term
   pub some : 1 ≤ f term
 
+-- a sum that is not 0 has a term that is not
 pub some_term : {X : Type 0} (f : X → ℕ) (xs : List X) → 1 ≤ sum_by f xs → Term f xs
 some_term f [] h = absurd (omega arith)
 some_term f (x ∷ xs) h = ⊎_elim
@@ -66,11 +75,13 @@ some_term f (x ∷ xs) h = ⊎_elim
     (λ le. let r = some_term f xs (omega (arith, sum_by-cons f x xs)) in record { index = suc r.index; term = r.term; stands = r.stands; some = r.some })
     (cases_lt 0 (f x))
 
+-- a sum has two terms that are not 0
 pub record TwoTerms {X : Type 0} (f : X → ℕ) (xs : List X) : Type 0 where
   pub one : Term f xs
   pub two : Term f xs
   pub differ : one.index ≢ two.index
 
+-- a sum of 2, none of whose terms is above 1, has two terms
 pub two_terms : {X : Type 0} (f : X → ℕ) (xs : List X) → ((i : ℕ) (x : X) → slice_get xs i ≡ Some x → f x ≤ 1) → 2 ≤ sum_by f xs → TwoTerms f xs
 two_terms f [] small h = absurd (omega arith)
 two_terms f (x ∷ xs) small h = ⊎_elim
@@ -98,6 +109,7 @@ shorter_begins (z ∷ path) (x ∷ m) (y ∷ n) a b le =
     let tail : n ≡ m ++ r.0 = r.1 in
     (r.0, cc)
 
+-- a beginning as long as the name is the name
 pub same_length : (m n : List ℕ) → Begins n m → length m ≡ length n → m ≡ n
 same_length [] [] b e = refl
 same_length [] (y ∷ n) b e = absurd (omega arith)
@@ -108,15 +120,19 @@ same_length (x ∷ m) (y ∷ n) b e =
     let r : m ≡ n = same_length m n (b.0, tb) (omega arith) in
     cc
 
+-- a beginning of a beginning is one
 pub begins_on : (g n m : List ℕ) → Begins g n → Begins n m → Begins g m
 begins_on g n m a b = (b.0 ++ a.0, a.1 ∙ ap (λ l. l ++ a.0) b.1 ∙ Rattle.std.proofs.Common.append_assoc m b.0 a.0)
 
+-- how many givers have the name
 abbrev pub name_times : List ℕ → List Giver → ℕ
 name_times x parts = sum_by (λ a. one_if (same_name x a.name)) parts
 
+-- how many times the name is given
 abbrev pub given_times : List ℕ → List Giver → ℕ
 given_times x parts = sum_by (λ a. times x a.given) parts
 
+-- givers whose names are the root and all given names, each as often
 pub record IsFamily (parts : List Giver) : Type 0 where
   pub each : (i : ℕ) (a : Giver) → slice_get parts i ≡ Some a → IsGiver a
   pub balance : (x : List ℕ) → name_times x parts ≡ one_if (same_name x []) + given_times x parts
@@ -166,6 +182,7 @@ between parts family most once (suc fuel) i j a b g ei ej c short gb ba lo hi en
     not_root [] h = absurd (omega arith)
     not_root (x ∷ xs) h = refl
 
+-- names shorter than a bound are had once
 once_below : (parts : List Giver) → IsFamily parts → (most : ℕ) (x : List ℕ) → length x < most → name_times x parts ≤ 1
 once_below parts family zero x h = absurd (omega arith)
 once_below parts family (suc most) x h = ⊎_elim
@@ -214,5 +231,6 @@ once_below parts family (suc most) x h = ⊎_elim
         (cases_order (length a.name) (length b.name)))
         (cases_lt 0 (one_if (same_name x [])))
 
+-- each name is had once
 pub each_once : (parts : List Giver) → IsFamily parts → (x : List ℕ) → name_times x parts ≤ 1
 each_once parts family x = once_below parts family (suc (length x)) x (omega arith)

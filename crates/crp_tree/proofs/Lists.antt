@@ -6,6 +6,7 @@ use Rattle.std.proofs.lemmas.Bool.{cases_eq}
 use Rattle.crp_bay.proofs.Members.{not_in_nil, in_head, in_tail, in_cons_cases}
 use Rattle.crp_tree.specs.Trees.{Begins, least}
 
+-- the image of a member is one of the images
 pub in_map : {X Y : Type 0} (f : X → Y) (xs : List X) (x : X) → Contains xs x → Contains (map f xs) (f x)
 in_map f [] x c = absurd (not_in_nil x c)
 in_map f (y ∷ xs) x c = ⊎_elim
@@ -13,6 +14,7 @@ in_map f (y ∷ xs) x c = ⊎_elim
     (λ c'. in_tail (f y) (map f xs) (f x) (in_map f xs x c'))
     (in_cons_cases y xs x c)
 
+-- an image is that of a member
 pub from_map : {X Y : Type 0} (f : X → Y) (xs : List X) (y : Y) → Contains (map f xs) y → (x : X) × Contains xs x × (f x ≡ y)
 from_map f [] y c = absurd (not_in_nil y c)
 from_map f (x ∷ xs) y c = ⊎_elim
@@ -20,6 +22,7 @@ from_map f (x ∷ xs) y c = ⊎_elim
     (λ c'. let r = from_map f xs y c' in (r.0, in_tail x xs r.0 r.1, r.2))
     (in_cons_cases (f x) (map f xs) y c)
 
+-- a member of a member's list is in the lists joined
 pub in_flat_map : {X Y : Type 0} (f : X → List Y) (xs : List X) (x : X) (y : Y) → Contains xs x → Contains (f x) y → Contains (flat_map f xs) y
 in_flat_map f [] x y c d = absurd (not_in_nil x c)
 in_flat_map f (z ∷ xs) x y c d = ⊎_elim
@@ -39,6 +42,7 @@ begins_or_not (x ∷ path) (n ∷ name) = ⊎_elim
     (λ ne. inr (λ b. ne (let r = b.1 in cc)))
     (cases_eq x n)
 
+-- whether a path begins with one of the names is decided
 pub some_or_none : (path : List ℕ) (given : List (List ℕ)) → ((g : List ℕ) × Contains given g × Begins path g) ⊎ ((g : List ℕ) → Contains given g → Begins path g → ⊥)
 some_or_none path [] = inr (λ g c b. not_in_nil g c)
 some_or_none path (n ∷ given) = ⊎_elim
@@ -49,6 +53,7 @@ some_or_none path (n ∷ given) = ⊎_elim
     (some_or_none path given))
     (begins_or_not path n)
 
+-- the least of the values is below each of them
 pub least_under : (most : ℕ) (values : List ℕ) (v : ℕ) → Contains values v → least most values ≤ v
 least_under most [] v c = absurd (not_in_nil v c)
 least_under most (w ∷ values) v c = ⊎_elim

@@ -74,6 +74,7 @@ pub least_most : (most : ℕ) (values : List ℕ) → least most values ≤ most
 least_most most [] = omega arith
 least_most most (v ∷ values) = let r = least_most most values in omega arith
 
+-- what is at most the least of the values is at most each of them
 pub from_least : (f most : ℕ) (values : List ℕ) → f ≤ least most values → HasAtLeast f values
 from_least f most [] le = tt
 from_least f most (v ∷ values) le = (omega arith, from_least f most values (omega arith))
