@@ -22,7 +22,7 @@ Distinct [] = Unit {0}
 Distinct (x ∷ xs) = (Contains xs x → ⊥) × Distinct xs
 
 -- none of so many numbers from the first is below it
-counted_from : (from more x : ℕ) → Contains (counted from more) x → from ≤ x
+pub counted_from : (from more x : ℕ) → Contains (counted from more) x → from ≤ x
 counted_from from zero x c = absurd (not_in_nil x c)
 counted_from from (suc more) x c = ⊎_elim
     (λ e. omega arith)

@@ -7,6 +7,8 @@ mod name;
 mod tests;
 mod tree;
 
-pub use laws::{accepted_means, names_are_ordered, names_once, parts_cover, trees_show};
+pub use laws::{
+    accepted_means, names_are_ordered, names_given, names_once, parts_cover, trees_show,
+};
 pub use name::{MAX_NAME, Name};
 pub use tree::Tree;
