@@ -1,0 +1,74 @@
+-- Scripts: parts that give subtrees to each other, and the lower bound that they claim.
+use Rattle.std.specs.Prelude.{◌≡◌, ◌≢◌, ℕ, ◌≤◌, ◌⊎◌, ◌↔◌, List, [], ◌∷◌, length, map, flat_map, Contains, All, AllPairs, count_by, Bool, true, false, ◌==◌, ◌&&◌, Option, IfSome, option_map, unwrap_or}
+use Rattle.crp_plan.specs.Bay.{Problem, IsProblem, Position, IsAt, cap}
+use Rattle.crp_plan.specs.Faults.{IsPlanPath}
+use Rattle.crp_bay.specs.Positions.{at}
+use Rattle.crp_tree.specs.declared.tree.Tree.{Tree}
+use Rattle.crp_tree.specs.Trees.{HasShape, cuts, givens, HasAtLeast, Shows}
+
+-- a part of a search: a tree, and the name of the path that it stands at
+pub record Part : Type 0 where
+  pub name : List ℕ
+  pub tree : Tree
+
+-- it is a part of the problem: its name is a path of 8 rows at most, and its tree has its shape there
+pub record IsPart (p : Problem) (part : Part) : Type 0 where
+  pub short : length part.name ≤ 8
+  pub place : Position
+  pub is_at : IsAt p part.name place
+  pub shape : HasShape part.name place part.tree
+
+-- the names that a part gives to other parts
+abbrev pub given_by : Problem → Part → List (List ℕ)
+given_by p part = unwrap_or (option_map (λ s. givens part.name s part.tree) (at p part.name)) []
+
+-- the values of a part's cuts
+abbrev pub cuts_of : Problem → Part → List ℕ
+cuts_of p part = unwrap_or (option_map (λ s. cuts part.name s part.tree) (at p part.name)) []
+
+-- the names of the parts
+abbrev pub names : List Part → List (List ℕ)
+names parts = map (λ part. part.name) parts
+
+-- the two names are the same, row by row
+abbrev pub same_name : List ℕ → List ℕ → Bool
+same_name [] [] = true
+same_name [] (y ∷ ys) = false
+same_name (x ∷ xs) [] = false
+same_name (x ∷ xs) (y ∷ ys) = x == y && same_name xs ys
+
+-- how often the name stands in the list
+abbrev pub times : List ℕ → List (List ℕ) → ℕ
+times name list = count_by (same_name name) list
+
+-- a part of this name is needed: it is the root, or some part gives it
+abbrev pub IsNeeded : Problem → List Part → List ℕ → Type 0
+IsNeeded p parts name = (name ≡ []) ⊎ Contains (flat_map (given_by p) parts) name
+
+-- what a certificate claims of a problem: a lower bound, a plan or none, and the parts that show the bound
+pub record Script : Type 0 where
+  pub problem : Problem
+  pub lower : ℕ
+  pub plan : Option (List ℕ)
+  pub parts : List Part
+
+-- an accepted script: its bound is at most the cap, its plan is complete and legal, each part has its shape and no cut below the bound,
+-- no two parts have one name, and the names of the parts are the needed ones, no more and no fewer
+pub record IsAccepted (script : Script) : Type 0 where
+  pub is_problem : IsProblem script.problem
+  pub within_cap : script.lower ≤ cap script.problem
+  pub plan_is : IfSome script.plan (IsPlanPath script.problem)
+  pub each_part : All (IsPart script.problem) script.parts
+  pub each_cut : All (λ part. HasAtLeast script.lower (cuts_of script.problem part)) script.parts
+  pub each_once : AllPairs ◌≢◌ (names script.parts)
+  pub as_needed : (name : List ℕ) → Contains (names script.parts) name ↔ IsNeeded script.problem script.parts name
+
+-- a part, and the floor that it claims
+pub record Floored : Type 0 where
+  pub part : Part
+  pub floor : ℕ
+
+-- it is a part of the problem, and shows that floor at its name
+pub record KeepsFloor (p : Problem) (known : Floored) : Type 0 where
+  pub is_part : IsPart p known.part
+  pub shows : Shows p known.part.name (given_by p known.part) known.floor
