@@ -1,5 +1,5 @@
 -- From the getters of clap's matches to what the words ask for.
-use Rattle.std.proofs.Common.{◌≡◌, ◌∙◌, ◌⊎◌, List, Option, Some, None, refl, sym, subst, inl, inr, option_map, codes, true}
+use Rattle.std.proofs.Common.{◌≡◌, ◌∙◌, ◌⊎◌, List, Option, Some, None, refl, sym, subst, inl, inr, option_map, codes, true, []}
 use Rattle.clap.specs.Words.{IsAmong, Row, Text, fault_of, first_of, is_simple}
 use Rattle.clap.specs.Faults.{is_simple_and_free}
 use Rattle.clap.specs.declared.error.kind.ErrorKind.{ErrorKind}
@@ -40,10 +40,10 @@ pair_of (Some x) n r a b p q =
     rw (left, right) refl
 
 pub not_asked : (words : List Text) (name : Text) (rows : List Row) (u : Usage)
-    → ((j : Job) → WordsAsk words j → Asks name rows j) → HasNoJob name rows u → Refuses words u
-not_asked words name rows usage.Memory same none = tt
-not_asked words name rows (usage.Help text) same none = absurd none
-not_asked words name rows (usage.Wrong text) same none = λ j asks. none j (same j asks)
+    → fault_of crp (words_or_default words) ≡ [] → ((j : Job) → WordsAsk words j → Asks name rows j) → HasNoJob name rows u → Refuses words u
+not_asked words name rows usage.Memory faultless same none = tt
+not_asked words name rows (usage.Help text) faultless same none = absurd none
+not_asked words name rows (usage.Wrong text) faultless same none = (λ j asks. none j (same j asks), inl faultless)
 
 pub refused : (words : List Text) (u : Usage) (k : ErrorKind) → ShowsKind k u
     → (k ≡ kind.OutOfMemory) ⊎ IsAmong k (fault_of crp (words_or_default words)) → Refuses words u
@@ -53,4 +53,4 @@ refused words (usage.Help text) k (inr e) (inl memory) = absurd (cc)
 refused words (usage.Help text) k (inl e) (inr among) = inl (subst (λ (x : ErrorKind). IsAmong x (fault_of crp (words_or_default words))) e among)
 refused words (usage.Help text) k (inr e) (inr among) = inr (subst (λ (x : ErrorKind). IsAmong x (fault_of crp (words_or_default words))) e among)
 refused words (usage.Wrong text) k shows (inl memory) = absurd (shows.0 memory)
-refused words (usage.Wrong text) k shows (inr among) = λ j asks. subst (IsAmong k) asks.0 among
+refused words (usage.Wrong text) k shows (inr among) = (λ j asks. subst (IsAmong k) asks.0 among, inr (k, among, shows.1, shows.2))

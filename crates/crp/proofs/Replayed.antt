@@ -25,7 +25,7 @@ keeps_same None = tt
 keeps_same (Some xs) = refl
 
 -- why no head was read, as read_head tells it
-pub no_head : (limit : ℕ) (given : Option (List ℕ)) (before after : ℕ) (bytes : List ℕ) (f : CertFault) → IsGiven given bytes → (f ≡ cert.Memory) ⊎ IsFirstFault bytes f →
+pub no_head : (limit : ℕ) (given : Option (List ℕ)) (before after : ℕ) (bytes : List ℕ) (f : CertFault) → IsGiven limit given bytes → (f ≡ cert.Memory) ⊎ IsFirstFault bytes f →
     IsNoHead limit given before after (cert_told f)
 no_head limit known before after bytes cert.Memory given why = tt
 no_head limit known before after bytes (cert.Opening line) given (inl e) = absurd (cc)
@@ -50,7 +50,7 @@ no_head_told limit IsReport IsRefused seen fault.TooLarge keeps refuses none = (
 no_head_told limit IsReport IsRefused seen fault.Memory keeps refuses none = keeps
 
 -- a replay without a report tells why, where nothing was written
-pub no_report_told : (limit : ℕ) (seen : Seen) (bytes : List ℕ) (head : Head) (f : ToolFault) → Keeps seen.held seen.holds → IsGiven seen.given bytes → IsHeadOf bytes head → IsNoReport head f →
+pub no_report_told : (limit : ℕ) (seen : Seen) (bytes : List ℕ) (head : Head) (f : ToolFault) → Keeps seen.held seen.holds → IsGiven limit seen.given bytes → IsHeadOf bytes head → IsNoReport head f →
     Tells limit IsReplay IsNoReplay seen f
 no_report_told limit seen bytes head (fault.Cert f) keeps given is none = absurd none
 no_report_told limit seen bytes head (fault.Plan f) keeps given is none = (keeps, (bytes, given, (head, is, none)))

@@ -1,5 +1,5 @@
 -- A call of a command over a source and a sink: what it saw, what it wrote, and what each fault tells.
-use Rattle.std.specs.Prelude.{◌≡◌, ℕ, ◌<◌, List, length, Option, IfSome, Result, Ok, Err}
+use Rattle.std.specs.Prelude.{◌≡◌, ℕ, ◌<◌, ◌≤◌, List, length, Option, IfSome, Result, Ok, Err}
 use Rattle.std.specs.Io.KnownBytes.{Appends, Keeps}
 use Rattle.crp_plan.specs.Devices.{AppendsFront, HasFailed}
 use Rattle.crp_plan.specs.declared.transfer.ReadFault.{ReadFault}
@@ -12,9 +12,9 @@ use Rattle.crp.specs.declared.outcome.Status.TheVariants as status
 use Rattle.crp.specs.declared.outcome.ToolFault.{ToolFault}
 use Rattle.crp.specs.declared.outcome.ToolFault.TheVariants as fault
 
--- these bytes are those that a source had, where it told them
-abbrev pub IsGiven : Option (List ℕ) → List ℕ → Type 0
-IsGiven known text = IfSome known (λ xs. text ≡ xs)
+-- these bytes, no more than the limit, are those that a source had, where it told them
+abbrev pub IsGiven : ℕ → Option (List ℕ) → List ℕ → Type 0
+IsGiven limit known text = (length text ≤ limit) × IfSome known (λ xs. text ≡ xs)
 
 -- what a call saw and left: the bytes that its source had, what its sink held before and holds after, and both counts of failures
 -- before and after
@@ -27,29 +27,29 @@ pub record Seen : Type 0 where
   pub sink_before : ℕ
   pub sink_after : ℕ
 
--- the whole report of the bytes that the source had was written, and nothing else
-abbrev pub Writes : (List ℕ → List ℕ → Type 0) → Seen → Type 0
-Writes IsReport s = (text : List ℕ) × (report : List ℕ) × IsGiven s.given text × IsReport text report × Appends s.held s.holds report
+-- the whole report of the bytes that the source had, no more than `limit`, was written, and nothing else
+abbrev pub Writes : ℕ → (List ℕ → List ℕ → Type 0) → Seen → Type 0
+Writes limit IsReport s = (text : List ℕ) × (report : List ℕ) × IsGiven limit s.given text × IsReport text report × Appends s.held s.holds report
 
--- the bytes that the source had are refused in this way, and nothing was written
-abbrev pub RefusedWith : (List ℕ → ToolFault → Type 0) → Seen → ToolFault → Type 0
-RefusedWith IsRefused s f = Keeps s.held s.holds × ((text : List ℕ) × IsGiven s.given text × IsRefused text f)
+-- the bytes that the source had, no more than `limit`, are refused in this way, and nothing was written
+abbrev pub RefusedWith : ℕ → (List ℕ → ToolFault → Type 0) → Seen → ToolFault → Type 0
+RefusedWith limit IsRefused s f = Keeps s.held s.holds × ((text : List ℕ) × IsGiven limit s.given text × IsRefused text f)
 
--- what a fault tells of a call that writes a report of at most `limit` bytes: a refusal, a read or a write that has failed in this call,
+-- what a fault tells of a call that writes the report of at most `limit` bytes: a refusal, a read or a write that has failed in this call,
 -- more bytes than the limit, or want of memory; a front of the report may have been written only where a write failed
 abbrev pub Tells : ℕ → (List ℕ → List ℕ → Type 0) → (List ℕ → ToolFault → Type 0) → Seen → ToolFault → Type 0
-Tells limit IsReport IsRefused s (fault.Cert f) = RefusedWith IsRefused s (fault.Cert f)
-Tells limit IsReport IsRefused s (fault.Plan f) = RefusedWith IsRefused s (fault.Plan f)
+Tells limit IsReport IsRefused s (fault.Cert f) = RefusedWith limit IsRefused s (fault.Cert f)
+Tells limit IsReport IsRefused s (fault.Plan f) = RefusedWith limit IsRefused s (fault.Plan f)
 Tells limit IsReport IsRefused s fault.Read = Keeps s.held s.holds × HasFailed s.source_before s.source_after
 Tells limit IsReport IsRefused s fault.Write = HasFailed s.sink_before s.sink_after
-    × ((text : List ℕ) × (report : List ℕ) × IsGiven s.given text × IsReport text report × AppendsFront s.held s.holds report)
+    × ((text : List ℕ) × (report : List ℕ) × IsGiven limit s.given text × IsReport text report × AppendsFront s.held s.holds report)
 Tells limit IsReport IsRefused s fault.TooLarge = Keeps s.held s.holds × IfSome s.given (λ xs. limit < length xs)
 Tells limit IsReport IsRefused s fault.Memory = Keeps s.held s.holds
 
 -- why no head was read from a source: its bytes begin with none, it has failed in this call, it has more bytes than the limit, or memory
 -- is wanted
 abbrev pub IsNoHead : ℕ → Option (List ℕ) → ℕ → ℕ → ToolFault → Type 0
-IsNoHead limit given before after (fault.Cert f) = (text : List ℕ) × IsGiven given text × IsFirstFault text f
+IsNoHead limit given before after (fault.Cert f) = (text : List ℕ) × IsGiven limit given text × IsFirstFault text f
 IsNoHead limit given before after fault.Read = HasFailed before after
 IsNoHead limit given before after fault.TooLarge = IfSome given (λ xs. limit < length xs)
 IsNoHead limit given before after fault.Memory = Unit {0}

@@ -1,6 +1,6 @@
 -- The command line: the commands, and what words ask for.
 use Rattle.std.specs.Prelude.{◌≡◌, ◌≢◌, ◌⊎◌, ◌==◌, true, List, [], ◌∷◌, length, if◌then◌else◌, codes, Option, Some, None, ⊤}
-use Rattle.clap.specs.Words.{App, IsAmong, Row, Rule, Text, fault_of, first_of, new_rule, subcommand_of, with_subcommand}
+use Rattle.clap.specs.Words.{App, IsAmong, Kinds, Row, Rule, Text, fault_of, first_of, new_rule, subcommand_of, with_subcommand}
 use Rattle.clap.specs.Simple.{new_shape}
 use Rattle.clap.specs.declared.error.kind.ErrorKind.{ErrorKind}
 use Rattle.clap.specs.declared.error.kind.ErrorKind.TheVariants as kind
@@ -50,12 +50,16 @@ abbrev pub WordsAsk : List Text → Job → Type 0
 WordsAsk words j = (fault_of crp (words_or_default words) ≡ [])
     × AsksFor (subcommand_of crp (words_or_default words)) j
 
--- when each refusal comes: help and the version where clap shows them, and else only for words that ask for nothing
+-- the words have no fault, or one that is neither a call for help nor for the version
+abbrev pub ShowsNothing : Kinds → Type 0
+ShowsNothing kinds = (kinds ≡ []) ⊎ ((k : ErrorKind) × IsAmong k kinds × (k ≢ kind.DisplayHelp) × (k ≢ kind.DisplayVersion))
+
+-- when each refusal comes: help and the version where clap shows them, and else only for words that ask for nothing, these two among it
 abbrev pub Refuses : List Text → Usage → Type 0
 Refuses words usage.Memory = ⊤
 Refuses words (usage.Help text) = IsAmong kind.DisplayHelp (fault_of crp (words_or_default words))
     ⊎ IsAmong kind.DisplayVersion (fault_of crp (words_or_default words))
-Refuses words (usage.Wrong text) = (j : Job) → WordsAsk words j → ⊥
+Refuses words (usage.Wrong text) = ((j : Job) → WordsAsk words j → ⊥) × ShowsNothing (fault_of crp (words_or_default words))
 
 -- why no job comes of the rows of a command
 abbrev pub HasNoJob : Text → List Row → Usage → Type 0

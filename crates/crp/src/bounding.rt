@@ -48,7 +48,7 @@ pub fn bound<R: Source, W: Sink>(
       source_after = R.failures reader.new;
       sink_before = W.failures writer.old;
       sink_after = W.failures writer.new;
-    } in MatchResult result (λ status. (status ≡ Status.Decided) × Writes IsBound seen) (Tells 268435456 IsBound IsNoBound seen) }
+    } in MatchResult result (λ status. (status ≡ Status.Decided) × Writes 268435456 IsBound seen) (Tells 268435456 IsBound IsNoBound seen) }
 {
     let mut interruptions = 0;
     let head = head_from(alloc, reader, &mut interruptions)?;

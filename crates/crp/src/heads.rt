@@ -19,7 +19,7 @@ pub fn head_from<R: Source>(
     interruptions: &mut u32,
 ) -> Result<Head, ToolFault>
     requires { interruptions.old ≤ 1000 }
-    ensures found { IfOk result (λ head. (text : List ℕ) × IsGiven (R.remaining reader.old) text × IsHeadOf text head) }
+    ensures found { IfOk result (λ head. (text : List ℕ) × IsGiven 268435456 (R.remaining reader.old) text × IsHeadOf text head) }
     ensures none { IfErr result (IsNoHead 268435456 (R.remaining reader.old) (R.failures reader.old) (R.failures reader.new)) }
     ensures passed { interruptions.new ≤ 1000 }
 {

@@ -68,7 +68,7 @@ pub fn replay<R: Source, W: Sink>(
       source_after = R.failures reader.new;
       sink_before = W.failures writer.old;
       sink_after = W.failures writer.new;
-    } in MatchResult result (λ status. (status ≡ Status.Decided) × Writes IsReplay seen) (Tells 268435456 IsReplay IsNoReplay seen) }
+    } in MatchResult result (λ status. (status ≡ Status.Decided) × Writes 268435456 IsReplay seen) (Tells 268435456 IsReplay IsNoReplay seen) }
 {
     let mut interruptions = 0;
     let head = head_from(alloc, reader, &mut interruptions)?;

@@ -12,9 +12,6 @@ use std::{env, io};
 // The exit status where the words are wrong.
 const WRONG_USAGE: u8 = 2;
 
-// The exit status where help or the version could not be written.
-const FAILED_WRITE: u8 = 5;
-
 // The words after the program's name.
 fn words_of(rt: &HostRuntime) -> io::Result<Vec<String>> {
     let mut words = Vec::new(rt.alloc());
@@ -82,7 +79,7 @@ fn told_usage(rt: &HostRuntime, usage: &Usage) -> u8 {
     match usage {
         Usage::Help(text) => match print!(rt; "{text}") {
             Ok(()) => 0,
-            Err(_) => FAILED_WRITE,
+            Err(_) => told(rt, &Err(ToolFault::Write)),
         },
         Usage::Wrong(text) => {
             let _ = eprint!(rt; "{text}");

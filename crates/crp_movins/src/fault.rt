@@ -50,8 +50,8 @@ pub enum MovinsFault {
     /// There are more orders than are read.
     #[error("V13 at segment {segment}")]
     TooManyOrders { segment: usize },
-    /// Memory ran out.
-    #[error("out of memory")]
+    /// No memory is left.
+    #[error("no memory is left")]
     Memory,
 }
 

@@ -71,7 +71,7 @@ impl Model for Orders {
 
 impl Orders {
     /// These orders by place, beside so many loading slot groups without a container. Takes no memory.
-    pub(crate) fn new(list: Vec<Order>, vacant: usize) -> Orders
+    pub fn new(list: Vec<Order>, vacant: usize) -> Orders
         requires { AreLoadOrders list.items }
         ensures { result ≡ record { list = list.items; vacant = vacant } }
     {

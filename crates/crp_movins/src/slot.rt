@@ -6,7 +6,7 @@ ghost use Rattle.crp_movins.specs.Digits.{is_slot, slot_of};
 use crate::digits::{are_digits, number_of};
 
 /// A slot of the ship by its bay, row and tier, as BBBRRTT writes it. Odd bays are cells of 20 feet, and
-/// an even bay covers the odd ones beside it. In a stack of the ship a larger tier number is higher.
+/// an even bay covers the odd ones beside it (bay 0 covers bay 1 alone). In a stack of the ship a larger tier number is higher.
 #[derive(Clone, Copy, Debug, PartialEq, Eq)]
 pub struct Slot {
     /// 0 to 999.

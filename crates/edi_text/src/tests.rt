@@ -162,7 +162,7 @@ fn faults_show_their_code(rt: HostRuntime) -> Result<(), Fail> {
             EdiFault::TooLong { offset: 8388608 },
             "E7 at offset 8388608",
         ),
-        (EdiFault::Memory, "out of memory"),
+        (EdiFault::Memory, "no memory is left"),
     ];
     for (fault, want) in texts {
         assert_eq!(rt; format!(in rt.alloc(); "{fault}")?.as_str(), want);

@@ -314,7 +314,7 @@ fn faults_show_their_code(rt: HostRuntime) -> Result<(), Fail> {
             MovinsFault::TooManyOrders { segment: 10005 },
             "V13 at segment 10005",
         ),
-        (MovinsFault::Memory, "out of memory"),
+        (MovinsFault::Memory, "no memory is left"),
     ];
     for (fault, want) in texts {
         assert_eq!(rt; format!(in rt.alloc(); "{fault}")?.as_str(), want);

@@ -177,6 +177,8 @@ fn writes_to_each(rt: HostRuntime) -> Result<(), Fail> {
     write_each(&mut sink, &texts, &mut 0)?;
     assert!(rt; sink.bytes.as_slice() == b"abcdef".as_slice());
     write_all(&mut Nowhere, b"abc", &mut 0)?;
+    assert!(rt; Nowhere.write(b"abc") == Ok(3));
+    assert!(rt; sink.write(b"ghi") == Ok(3) && sink.bytes.as_slice() == b"abcdefghi".as_slice());
     let mut sink = Counted::new(Vec::new(rt.alloc()));
     write_all(&mut sink, b"abc", &mut 0)?;
     assert!(rt; sink.device.as_slice() == b"abc".as_slice());

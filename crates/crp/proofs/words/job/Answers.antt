@@ -38,7 +38,9 @@ returns-in-Some-clause-refused c =
     let sub : subcommand_rows_of m ≡ subcommand_of crp (words_or_default words) =
     matched.1 ∙ ap₂ subcommand_of c.in-Ok.ensures c.or_default-words.ensures in
     let at : subcommand_rows_of m ≡ Some (c.in-Some.name.now, rows) = entered m c.in-Some.name.now rows c.in-Some.ensures.name c.in-Some.ensures.rows in
-    IfErr-weaker c.job_of.result _ _ (λ u h. not_asked words c.in-Some.name.now rows u (λ j asks. subst (λ (o : Option (Text × List Row)). AsksFor o j) (sym sub ∙ at) asks.1) h) c.job_of.ensures.err
+    let fault : fault_of crp (words_or_default words) ≡ [] =
+    sym (ap₂ fault_of c.in-Ok.ensures c.or_default-words.ensures) ∙ c.in-Ok-try_get_matches_from.ensures.kinds (ap is_simple_and_free c.in-Ok.ensures ∙ crp_free) in
+    IfErr-weaker c.job_of.result _ _ (λ u h. not_asked words c.in-Some.name.now rows u fault (λ j asks. subst (λ (o : Option (Text × List Row)). AsksFor o j) (sym sub ∙ at) asks.1) h) c.job_of.ensures.err
 
 pub returns-clause-refused : goal.returns-clause-refused
 returns-clause-refused c =
