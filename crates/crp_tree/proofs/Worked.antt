@@ -1,0 +1,60 @@
+-- Worked trees, by the definitions.
+use Rattle.std.proofs.Common.{◌≡◌, [], ◌∷◌, refl}
+use Rattle.crp_plan.specs.Bay.{Problem, Position, start, cap}
+use Rattle.crp_bay.specs.Positions.{settled, targets}
+use Rattle.crp_tree.specs.declared.tree.Tree.{CutB, CutL, Given, end_of-Tree, more_of-Tree}
+use Rattle.crp_tree.specs.Names.{Precedes}
+use Rattle.crp_tree.specs.Trees.{FitsEach, cuts_of_each, givens_of_each, least}
+use Rattle.crp_tree.proofs.Ordered.{less_means}
+
+-- six containers in three rows of three tiers, and the position before the first relocation
+abbrev six : Problem
+six = record { heights = 3 ∷ 3 ∷ 3 ∷ []; ordered = 6; stacks = (1 ∷ 5 ∷ 4 ∷ []) ∷ (6 ∷ []) ∷ (3 ∷ 2 ∷ []) ∷ [] }
+
+abbrev before : Position
+before = settled (start six)
+
+-- one row of three tiers, where the container that is to leave is buried
+abbrev buried : Problem
+buried = record { heights = 3 ∷ []; ordered = 2; stacks = (1 ∷ 2 ∷ []) ∷ [] }
+
+-- a branch at the root has two trees, since its legal rows are 2 and 3
+two_trees_fit : FitsEach [] before (targets before) (more_of-Tree CutL (more_of-Tree CutB end_of-Tree))
+two_trees_fit = (tt, (tt, tt))
+
+-- three do not fit
+three_do_not : FitsEach [] before (targets before) (more_of-Tree CutL (more_of-Tree CutB (more_of-Tree CutB end_of-Tree))) → ⊥
+three_do_not f = (f.1).1
+
+-- nor does one
+one_does_not : FitsEach [] before (targets before) (more_of-Tree CutL end_of-Tree) → ⊥
+one_does_not f = f.1
+
+-- cut by the look-ahead bound below row 2 and by the blocking bound below row 3, it shows 3
+cuts_of_three : cuts_of_each [] before (targets before) (more_of-Tree CutL (more_of-Tree CutB end_of-Tree)) ≡ 3 ∷ 3 ∷ []
+cuts_of_three = refl
+
+-- the blocking bound below row 2 gives 2 only
+cut_of_two : least (cap six) (cuts_of_each [] before (targets before) (more_of-Tree CutB (more_of-Tree CutL end_of-Tree))) ≡ 2
+cut_of_two = refl
+
+-- with both subtrees given away, the given names are 2 and 3
+two_given : givens_of_each [] before (targets before) (more_of-Tree Given (more_of-Tree Given end_of-Tree)) ≡ (2 ∷ []) ∷ (3 ∷ []) ∷ []
+two_given = refl
+
+-- a branch at a dead end has no trees, and no cut, so it shows the cap
+dead_end_shows_cap : least (cap buried) (cuts_of_each [] (settled (start buried)) (targets (settled (start buried))) end_of-Tree) ≡ 5
+dead_end_shows_cap = refl
+
+-- the root comes first, 2 before 3, 3 before 3.2, and 3.2 before 12
+root_first : Precedes [] (2 ∷ [])
+root_first = less_means _ _ refl
+
+two_before_three : Precedes (2 ∷ []) (3 ∷ [])
+two_before_three = less_means _ _ refl
+
+front_first : Precedes (3 ∷ []) (3 ∷ 2 ∷ [])
+front_first = less_means _ _ refl
+
+row_by_row : Precedes (3 ∷ 2 ∷ []) (12 ∷ [])
+row_by_row = less_means _ _ refl
