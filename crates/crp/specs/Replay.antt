@@ -9,7 +9,7 @@ use Rattle.crp_cert.specs.Text.{bay_line, IsHeadOf}
 use Rattle.crp_cert.specs.Faults.{IsFirstFault}
 use Rattle.crp.specs.declared.outcome.ToolFault.{ToolFault}
 use Rattle.crp.specs.declared.outcome.ToolFault.TheVariants as fault
-use Rattle.crp.specs.MoveLines.{rank_names, TellsMoves}
+use Rattle.crp_report.specs.MoveLines.{rank_names, TellsMoves}
 
 -- how many moves and relocations a plan has
 abbrev pub count_line : List Move → List ℕ

@@ -1,5 +1,5 @@
 -- The command line: the commands, and what words ask for.
-use Rattle.std.specs.Prelude.{◌≡◌, ◌≢◌, ◌⊎◌, ◌==◌, true, List, [], ◌∷◌, length, if◌then◌else◌, codes, Option, Some, None, ⊤}
+use Rattle.std.specs.Prelude.{◌≡◌, ℕ, ◌≢◌, ◌⊎◌, ◌==◌, true, List, [], ◌∷◌, length, if◌then◌else◌, codes, Option, Some, None, ⊤}
 use Rattle.clap.specs.Words.{App, IsAmong, Kinds, Row, Rule, Text, fault_of, first_of, new_rule, subcommand_of, with_subcommand}
 use Rattle.clap.specs.Simple.{new_shape}
 use Rattle.clap.specs.declared.error.kind.ErrorKind.{ErrorKind}
@@ -77,3 +77,9 @@ abbrev pub ShowsKind : ErrorKind → Usage → Type 0
 ShowsKind k usage.Memory = ⊤
 ShowsKind k (usage.Help text) = (k ≡ kind.DisplayHelp) ⊎ (k ≡ kind.DisplayVersion)
 ShowsKind k (usage.Wrong text) = (k ≢ kind.OutOfMemory) × (k ≢ kind.DisplayHelp) × (k ≢ kind.DisplayVersion)
+
+-- the exit status of a run whose words ask for nothing: 0 after help, or 5 where it could not be written; 2 for wrong words; 4 for want of memory
+abbrev pub HasUsageStatus : Usage → ℕ → Type 0
+HasUsageStatus (usage.Help text) status = (status ≡ 0) ⊎ (status ≡ 5)
+HasUsageStatus (usage.Wrong text) status = status ≡ 2
+HasUsageStatus usage.Memory status = status ≡ 4

@@ -4,12 +4,12 @@ ghost use Rattle.crp.specs.Calls.{Seen, Writes, Tells};
 ghost use Rattle.crp.specs.Bound.{bound_lines, IsBoundReport, IsBound, IsNoBound};
 
 use crate::heads::{head_from, push_bay};
-use crate::move_lines::push_decimal;
 use crate::outcome::{Status, ToolFault};
 use crp_bay::Position;
 use crp_bounds::{blocking, look_ahead};
 use crp_cert::Head;
 use crp_plan::{Sink, Source, write_all};
+use crp_report::push_decimal;
 use std::alloc::{AllocError, Global};
 
 fn push_bounds(text: &mut Vec<u8>, position: &Position) -> Result<(), AllocError>

@@ -3,10 +3,10 @@ ghost use Rattle.std.specs.Prelude.{◌≡◌, ◌≤◌, ℕ, List, ◌++◌, I
 ghost use Rattle.crp_cert.specs.Text.{bay_line, IsHeadOf};
 ghost use Rattle.crp.specs.Calls.{IsGiven, IsNoHead};
 
-use crate::move_lines::push_decimal;
 use crate::outcome::ToolFault;
 use crp_cert::{Head, read_head};
 use crp_plan::{BayName, Source, read_all};
+use crp_report::push_decimal;
 use std::alloc::{AllocError, Global};
 
 /// The most bytes of a certificate file.

@@ -4,7 +4,6 @@
 mod bounding;
 mod heads;
 mod job;
-mod move_lines;
 mod outcome;
 mod replaying;
 mod running;

@@ -1,4 +1,8 @@
 //! A run of the program: its words, its files, and what it tells the user.
+ghost use Rattle.std.specs.Prelude.{◌≡◌, IfOk, map, string_bytes};
+ghost use Rattle.crp.specs.Calls.{exit_code};
+ghost use Rattle.crp.specs.Words.{HasUsageStatus};
+
 use crate::bounding::bound;
 use crate::job::{Job, Usage};
 use crate::outcome::{Status, ToolFault, exit_of};
@@ -22,7 +26,9 @@ fn words_of(rt: &HostRuntime) -> io::Result<Vec<String>> {
 }
 
 // The texts behind the words.
-fn texts_of<'a>(alloc: Global, words: &'a [String]) -> Result<Vec<&'a str>, AllocError> {
+fn texts_of<'a>(alloc: Global, words: &'a [String]) -> Result<Vec<&'a str>, AllocError>
+    ensures { IfOk result (λ texts. map (λ text. text.now) texts.items ≡ map string_bytes words.entry.now) }
+{
     let mut texts = Vec::new(alloc);
     for word in words {
         texts.push(word.as_str())?;
@@ -68,14 +74,18 @@ fn start(rt: &HostRuntime, job: Job<'_>) -> Result<Status, ToolFault> {
 }
 
 // The exit status, with the fault's line on the standard error.
-fn told(rt: &HostRuntime, answer: &Result<Status, ToolFault>) -> u8 {
+fn told(rt: &HostRuntime, answer: &Result<Status, ToolFault>) -> u8
+    ensures { result ≡ exit_code answer.now }
+{
     if let Err(fault) = answer {
         let _ = eprintln!(rt; "crp: {fault}");
     }
     exit_of(answer)
 }
 
-fn told_usage(rt: &HostRuntime, usage: &Usage) -> u8 {
+fn told_usage(rt: &HostRuntime, usage: &Usage) -> u8
+    ensures { HasUsageStatus usage.now result }
+{
     match usage {
         Usage::Help(text) => match print!(rt; "{text}") {
             Ok(()) => 0,

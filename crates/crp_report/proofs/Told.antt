@@ -6,7 +6,7 @@ use Rattle.crp_plan.specs.Bay.{Position, IsSound, IsTaken, IsShifted, Legal, Run
 use Rattle.crp_plan.specs.Walks.{NoneToTake}
 use Rattle.crp_plan.proofs.Sound.{sound_legal}
 use Rattle.crp_plan.proofs.Determined.{one_take, one_source, legal_is}
-use Rattle.crp.specs.MoveLines.{move_line, TellsMoves}
+use Rattle.crp_report.specs.MoveLines.{move_line, TellsMoves}
 
 -- the walk stands at a sound position, from which the rest of the moves runs, and the text is what the moves before it tell
 pub record IsTold (names : List (List ℕ)) (first : Position) (moves : List Move) (here : Position) (rest : List Move) (text : List ℕ) : Type 0 where

@@ -1,7 +1,7 @@
 //! The moves of a plan as lines of text.
 ghost use Rattle.std.specs.Prelude.{◌≡◌, ◌<◌, ◌+◌, ◌-◌, ◌++◌, IfOk, OnOk, map};
 ghost use Rattle.crp_plan.specs.Bay.{Position, IsSound, Legal, IsPlan, start};
-ghost use Rattle.crp.specs.MoveLines.{name_of, rank_names, place, container, move_line, TellsMoves};
+ghost use Rattle.crp_report.specs.MoveLines.{name_of, rank_names, place, container, move_line, TellsMoves};
 
 use crp_plan::{Move, Plan, Walk};
 use itoa::{Buffer, Integer};

@@ -1,7 +1,7 @@
 use Rattle.std.proofs.lemmas.List.{drop_all}
 use Rattle.crp_plan.specs.declared.moves.Move.TheVariants.{Shift}
-use Rattle.crp.proofs.Told.{told_next, told_more, told_all}
-use Rattle.crp.proofs.move_lines.lines_of.Goals as goal
+use Rattle.crp_report.proofs.Told.{told_next, told_more, told_all}
+use Rattle.crp_report.proofs.move_lines.lines_of.Goals as goal
 
 pub push_line-requires-clause-legal : goal.push_line-requires-clause-legal
 push_line-requires-clause-legal c =

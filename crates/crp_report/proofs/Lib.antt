@@ -1,0 +1,2 @@
+-- Lemmas on what is written.
+pub mod Told

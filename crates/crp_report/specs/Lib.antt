@@ -1,0 +1,2 @@
+pub use Rattle.crp_plan.specs.Bay
+pub mod MoveLines
