@@ -1,3 +1,5 @@
 -- Lemmas on what is written.
 pub mod Replayed
 pub mod Asking
+pub mod Lacking
+pub mod CommandLine

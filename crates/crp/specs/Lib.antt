@@ -2,4 +2,5 @@
 pub mod Calls
 pub mod Replay
 pub mod Bound
+pub mod Commands
 pub mod Words

@@ -1,85 +1,183 @@
--- The command line: the commands, and what words ask for.
-use Rattle.std.specs.Prelude.{◌≡◌, ℕ, ◌≢◌, ◌⊎◌, ◌==◌, true, List, [], ◌∷◌, length, if◌then◌else◌, codes, Option, Some, None, ⊤}
-use Rattle.clap.specs.Words.{App, IsAmong, Kinds, Row, Rule, Text, fault_of, first_of, new_rule, subcommand_of, with_subcommand}
-use Rattle.clap.specs.Simple.{new_shape}
+-- What the words of the command line ask for.
+use Rattle.std.specs.Prelude.{◌≡◌, ℕ, ◌≢◌, ◌⊎◌, ◌==◌, ◌<◌, ◌≤◌, ◌^◌, List, [], ◌∷◌, length, if◌then◌else◌, codes, Option, Some, None, option_map, ⊤}
+use Rattle.std.specs.Str.Parse.{IsNumeral, digits_value, without_leading_plus}
+use Rattle.clap.specs.Words.{IsAmong, Kinds, Row, Text, fault_of, first_of, one_of, subcommand_of}
 use Rattle.clap.specs.declared.error.kind.ErrorKind.{ErrorKind}
 use Rattle.clap.specs.declared.error.kind.ErrorKind.TheVariants as kind
+use Rattle.crp.specs.Commands.{crp}
 use Rattle.crp.specs.declared.job.Job.{Job}
 use Rattle.crp.specs.declared.job.Job.TheVariants as job
+use Rattle.crp.specs.declared.job.Mistake.{Mistake}
+use Rattle.crp.specs.declared.job.Mistake.TheVariants as mistake
+use Rattle.crp.specs.declared.job.Order.{Order}
+use Rattle.crp.specs.declared.job.Order.TheVariants as order
+use Rattle.crp.specs.declared.job.SettingFault.{SettingFault}
+use Rattle.crp.specs.declared.job.SettingFault.TheVariants as setting
+use Rattle.crp.specs.declared.job.SolveSettings.{SolveSettings}
 use Rattle.crp.specs.declared.job.Usage.{Usage}
 use Rattle.crp.specs.declared.job.Usage.TheVariants as usage
-
--- FILE, which is required
-abbrev pub file_rule : Rule
-file_rule = record (new_rule (codes "file")) { required = true; value_names = 1 }
-
--- a command that takes a FILE
-abbrev pub leaf : Text → App
-leaf name = record { top = record (new_shape name) { rules = file_rule ∷ [] }; subs = [] }
-
--- crp itself, with a version, and a command that is required
-abbrev pub top : App
-top = record {
-  top = record (new_shape (codes "crp")) {
-    has_version = true;
-    no_binary_name = true;
-    subcommand_required = true;
-  };
-  subs = [];
-}
-
--- the command line of crp
-abbrev pub crp : App
-crp = with_subcommand (with_subcommand top (leaf (codes "replay")).top) (leaf (codes "bound")).top
 
 -- no words ask for a replay of the standard input
 abbrev pub words_or_default : List Text → List Text
 words_or_default words = if length words == 0 then codes "replay" ∷ codes "-" ∷ [] else words
 
+-- ---- files, texts and numbers of a command, in clap's rows for it
+
+-- the rows have this text for the file or the option: as it was given, or else its default
+abbrev pub HasText : Text → List Row → Text → Type 0
+HasText id rows text = first_of id rows ≡ Some text
+
+-- the text is this whole number, below 2^64
+abbrev pub ReadsNumber : Option Text → ℕ → Type 0
+ReadsNumber found n = (text : Text) × (found ≡ Some text) × IsNumeral 10 (without_leading_plus text)
+    × (n ≡ digits_value 10 (without_leading_plus text)) × (n < 2 ^ 64)
+
+-- the rows have this whole number for the option: as it was given, or else its default
+abbrev pub HasNumber : Text → List Row → ℕ → Type 0
+HasNumber id rows n = ReadsNumber (one_of id rows) n
+
+-- the rows have this whole number for the option, and it is within the limits
+abbrev pub HasNumberWithin : Text → ℕ → ℕ → List Row → ℕ → Type 0
+HasNumberWithin id least most rows n = HasNumber id rows n × (least ≤ n) × (n ≤ most)
+
+-- the rows have a whole number for the option, and it is beyond the limits
+abbrev pub HasNumberBeyond : Text → ℕ → ℕ → List Row → Type 0
+HasNumberBeyond id least most rows = (n : ℕ) × HasNumber id rows n × ((n < least) ⊎ (most < n))
+
+-- the budget of the rows, at most 2^40
+abbrev pub HasBudget : List Row → ℕ → Type 0
+HasBudget rows n = HasNumberWithin (codes "budget") 0 1099511627776 rows n
+
+-- the budget of the rows is too large
+abbrev pub IsBudgetBeyond : List Row → Type 0
+IsBudgetBeyond rows = HasNumberBeyond (codes "budget") 0 1099511627776 rows
+
+-- the rows of a bay, 1 to 12
+abbrev pub HasRows : List Row → ℕ → Type 0
+HasRows rows n = HasNumberWithin (codes "rows") 1 12 rows n
+
+-- the rows of a bay are none, or too many
+abbrev pub AreRowsBeyond : List Row → Type 0
+AreRowsBeyond rows = HasNumberBeyond (codes "rows") 1 12 rows
+
+-- the tiers of a bay, 1 to 8
+abbrev pub HasTiers : List Row → ℕ → Type 0
+HasTiers rows n = HasNumberWithin (codes "tiers") 1 8 rows n
+
+-- the tiers of a bay are none, or too many
+abbrev pub AreTiersBeyond : List Row → Type 0
+AreTiersBeyond rows = HasNumberBeyond (codes "tiers") 1 8 rows
+
+-- the word for an order
+abbrev pub order_word : Order → Text
+order_word order.Listed = codes "listed"
+order_word order.Stowage = codes "stowage"
+
+-- the order of the rows
+abbrev pub HasOrder : List Row → Order → Type 0
+HasOrder rows o = HasText (codes "order") rows (order_word o)
+
+-- the settings of the rows of solve, within their limits
+abbrev pub HasSettings : List Row → SolveSettings → Type 0
+HasSettings rows s = HasBudget rows s.budget × HasRows rows s.rows × HasTiers rows s.tiers
+    × HasOrder rows s.order × HasText (codes "code") rows s.code.now
+
+-- ---- the job, or the first number beyond its limits
+
 -- the command and its rows ask for this
 abbrev pub Asks : Text → List Row → Job → Type 0
-Asks name rows (job.Replay file) = (name ≡ codes "replay") × (first_of (codes "file") rows ≡ Some file.now)
-Asks name rows (job.Bound file) = (name ≡ codes "bound") × (first_of (codes "file") rows ≡ Some file.now)
+Asks name rows (job.Replay file) = (name ≡ codes "replay") × HasText (codes "file") rows file.now
+Asks name rows (job.Bound file) = (name ≡ codes "bound") × HasText (codes "file") rows file.now
+Asks name rows (job.Check file) = (name ≡ codes "check") × HasText (codes "file") rows file.now
+Asks name rows (job.Prove file budget) = (name ≡ codes "prove") × HasText (codes "file") rows file.now × HasBudget rows budget
+Asks name rows (job.Solve yard movins cert after settings) = (name ≡ codes "solve")
+    × HasText (codes "yard") rows yard.now × HasText (codes "movins") rows movins.now
+    × (first_of (codes "cert") rows ≡ option_map (λ text. text.now) cert)
+    × (first_of (codes "after") rows ≡ option_map (λ text. text.now) after)
+    × HasSettings rows settings
+
+-- the budget is the first number of prove beyond its limit
+abbrev pub IsProveFault : List Row → SettingFault → Type 0
+IsProveFault rows setting.Budget = IsBudgetBeyond rows
+IsProveFault rows setting.Rows = ⊥
+IsProveFault rows setting.Tiers = ⊥
+
+-- the first number of solve beyond its limits: the budget, then the rows, then the tiers
+abbrev pub IsSolveFault : List Row → SettingFault → Type 0
+IsSolveFault rows setting.Budget = IsBudgetBeyond rows
+IsSolveFault rows setting.Rows = ((n : ℕ) × HasBudget rows n) × AreRowsBeyond rows
+IsSolveFault rows setting.Tiers = ((n : ℕ) × HasBudget rows n) × ((n : ℕ) × HasRows rows n) × AreTiersBeyond rows
+
+-- the first number of the command beyond its limits
+abbrev pub IsFault : Text → List Row → SettingFault → Type 0
+IsFault name rows f = ((name ≡ codes "prove") × IsProveFault rows f) ⊎ ((name ≡ codes "solve") × IsSolveFault rows f)
 
 abbrev pub AsksFor : Option (Text × List Row) → Job → Type 0
 AsksFor None j = ⊥
 AsksFor (Some p) j = Asks p.0 p.1 j
+
+abbrev pub IsFaultFor : Option (Text × List Row) → SettingFault → Type 0
+IsFaultFor None f = ⊥
+IsFaultFor (Some p) f = IsFault p.0 p.1 f
 
 -- what the words ask for, by clap's matches of them
 abbrev pub WordsAsk : List Text → Job → Type 0
 WordsAsk words j = (fault_of crp (words_or_default words) ≡ [])
     × AsksFor (subcommand_of crp (words_or_default words)) j
 
+-- the first number of the words beyond its limits, by clap's matches of them
+abbrev pub WordsFault : List Text → SettingFault → Type 0
+WordsFault words f = (fault_of crp (words_or_default words) ≡ [])
+    × IsFaultFor (subcommand_of crp (words_or_default words)) f
+
+-- ---- refusals
+
 -- the words have no fault, or one that is neither a call for help nor for the version
 abbrev pub ShowsNothing : Kinds → Type 0
 ShowsNothing kinds = (kinds ≡ []) ⊎ ((k : ErrorKind) × IsAmong k kinds × (k ≢ kind.DisplayHelp) × (k ≢ kind.DisplayVersion))
 
--- when each refusal comes: help and the version where clap shows them, and else only for words that ask for nothing, these two among it
+-- the mistake tells the first number beyond its limits exactly where there is one
+abbrev pub TellsFault : (SettingFault → Type 0) → Mistake → Type 0
+TellsFault IsFirst (mistake.Words text) = (f : SettingFault) → IsFirst f → ⊥
+TellsFault IsFirst (mistake.Setting f) = IsFirst f
+
+-- when each refusal comes: help and the version where clap shows them, and else only for words that ask for nothing, a number beyond its limits among it
 abbrev pub Refuses : List Text → Usage → Type 0
 Refuses words usage.Memory = ⊤
 Refuses words (usage.Help text) = IsAmong kind.DisplayHelp (fault_of crp (words_or_default words))
     ⊎ IsAmong kind.DisplayVersion (fault_of crp (words_or_default words))
-Refuses words (usage.Wrong text) = ((j : Job) → WordsAsk words j → ⊥) × ShowsNothing (fault_of crp (words_or_default words))
+Refuses words (usage.Wrong m) = ((j : Job) → WordsAsk words j → ⊥) × ShowsNothing (fault_of crp (words_or_default words))
+    × TellsFault (WordsFault words) m
 
--- why no job comes of the rows of a command
-abbrev pub HasNoJob : Text → List Row → Usage → Type 0
-HasNoJob name rows usage.Memory = ⊤
-HasNoJob name rows (usage.Help text) = ⊥
-HasNoJob name rows (usage.Wrong text) = (j : Job) → Asks name rows j → ⊥
+-- why nothing of a kind comes of the rows of a command: there is none, and its first number beyond its limits is told
+abbrev pub Lacks : {X : Type 0} → (X → Type 0) → (SettingFault → Type 0) → Usage → Type 0
+Lacks Has IsFirst usage.Memory = ⊤
+Lacks Has IsFirst (usage.Help text) = ⊥
+Lacks {X} Has IsFirst (usage.Wrong m) = ((x : X) → Has x → ⊥) × TellsFault IsFirst m
 
-abbrev pub IsWrongOrMemory : Usage → Type 0
-IsWrongOrMemory usage.Memory = ⊤
-IsWrongOrMemory (usage.Help text) = ⊥
-IsWrongOrMemory (usage.Wrong text) = ⊤
+-- no number is beyond its limits
+abbrev pub NoFault : SettingFault → Type 0
+NoFault f = ⊥
+
+-- the fault is this one, and it is there
+abbrev pub IsJust : SettingFault → Type 0 → SettingFault → Type 0
+IsJust given there f = (f ≡ given) × there
+
+abbrev pub IsWordsOrMemory : Usage → Type 0
+IsWordsOrMemory usage.Memory = ⊤
+IsWordsOrMemory (usage.Help text) = ⊥
+IsWordsOrMemory (usage.Wrong (mistake.Words text)) = ⊤
+IsWordsOrMemory (usage.Wrong (mistake.Setting f)) = ⊥
 
 -- the refusal for an error of this kind
 abbrev pub ShowsKind : ErrorKind → Usage → Type 0
 ShowsKind k usage.Memory = ⊤
 ShowsKind k (usage.Help text) = (k ≡ kind.DisplayHelp) ⊎ (k ≡ kind.DisplayVersion)
-ShowsKind k (usage.Wrong text) = (k ≢ kind.OutOfMemory) × (k ≢ kind.DisplayHelp) × (k ≢ kind.DisplayVersion)
+ShowsKind k (usage.Wrong (mistake.Words text)) = (k ≢ kind.OutOfMemory) × (k ≢ kind.DisplayHelp) × (k ≢ kind.DisplayVersion)
+ShowsKind k (usage.Wrong (mistake.Setting f)) = ⊥
 
 -- the exit status of a run whose words ask for nothing: 0 after help, or 5 where it could not be written; 2 for wrong words; 4 for want of memory
 abbrev pub HasUsageStatus : Usage → ℕ → Type 0
 HasUsageStatus (usage.Help text) status = (status ≡ 0) ⊎ (status ≡ 5)
-HasUsageStatus (usage.Wrong text) status = status ≡ 2
+HasUsageStatus (usage.Wrong m) status = status ≡ 2
 HasUsageStatus usage.Memory status = status ≡ 4

@@ -2,6 +2,7 @@
 #![tactic(auto)]
 
 mod bounding;
+mod commands;
 mod heads;
 mod job;
 mod outcome;

@@ -4,7 +4,7 @@ ghost use Rattle.crp.specs.Calls.{exit_code};
 ghost use Rattle.crp.specs.Words.{HasUsageStatus};
 
 use crate::bounding::bound;
-use crate::job::{Job, Usage};
+use crate::job::{Job, Mistake, Usage};
 use crate::outcome::{Status, ToolFault, exit_of};
 use crate::replaying::replay;
 use crate::words::job;
@@ -70,6 +70,8 @@ fn start(rt: &HostRuntime, job: Job<'_>) -> Result<Status, ToolFault> {
     match job {
         Job::Replay(file) => run_on(rt, Command::Replay, file),
         Job::Bound(file) => run_on(rt, Command::Bound, file),
+        // These have no command to run yet.
+        Job::Check(_) | Job::Prove { .. } | Job::Solve { .. } => Err(ToolFault::Read),
     }
 }
 
@@ -91,8 +93,12 @@ fn told_usage(rt: &HostRuntime, usage: &Usage) -> u8
             Ok(()) => 0,
             Err(_) => told(rt, &Err(ToolFault::Write)),
         },
-        Usage::Wrong(text) => {
+        Usage::Wrong(Mistake::Words(text)) => {
             let _ = eprint!(rt; "{text}");
+            WRONG_USAGE
+        }
+        Usage::Wrong(Mistake::Setting(fault)) => {
+            let _ = eprintln!(rt; "crp: {fault}");
             WRONG_USAGE
         }
         Usage::Memory => told(rt, &Err(ToolFault::Memory)),

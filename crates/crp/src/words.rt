@@ -1,69 +1,183 @@
 //! What the words of the command line ask for.
-ghost use Rattle.std.specs.Prelude.{◌≡◌, ◌<◌, false, true, IfOk, IfErr, map, Some, None};
-ghost use Rattle.clap.specs.Words.{app_of, found_of, kind_of, rows_of};
-ghost use Rattle.clap.specs.declared.builder.command.Command.TheViews.{out-Command as fields_of};
-ghost use Rattle.crp.specs.Words.{Asks, HasNoJob, IsWrongOrMemory, Refuses, ShowsKind, WordsAsk, crp, leaf as leaf_app, words_or_default};
+ghost use Rattle.std.specs.Prelude.{◌≡◌, ◌≢◌, ℕ, IfOk, IfErr, IfSome, IfNone, map, codes};
+ghost use Rattle.clap.specs.Words.{found_of, kind_of, rows_of};
+ghost use Rattle.crp.specs.Words.{Asks, HasNumber, HasNumberBeyond, HasNumberWithin, HasOrder, HasSettings, HasText, IsFault, IsJust, IsSolveFault, IsWordsOrMemory, Lacks, NoFault, Refuses, ShowsKind, WordsAsk, words_or_default};
 
-use crate::job::{Job, Usage};
+use crate::commands::command_line;
+use crate::job::{Job, Mistake, Order, SettingFault, SolveSettings, Usage};
 use clap::error::ErrorKind;
-use clap::{Arg, ArgMatches, Command, Error};
-use std::alloc::{AllocError, Global};
+use clap::{ArgMatches, Error};
+use std::alloc::Global;
 
 static NO_WORDS: [&str; 2] = ["replay", "-"];
 
-// A command that takes a file.
-fn leaf<'a>(alloc: Global, name: &'a str, about: &'a str) -> Result<Command<'a>, AllocError>
-    ensures app { IfOk result (λ c. app_of c ≡ leaf_app name.entry.now) }
-    ensures local { IfOk result (λ c. (fields_of c).has_globals ≡ false) }
-{
-    let file = Arg::new(alloc, "file").required(true).value_name("FILE");
-    Command::new(alloc, name).about(about).arg(file)
-}
+// The most expansions for a bay.
+const MOST_BUDGET: u64 = 1_099_511_627_776;
 
-// The whole command line.
-fn command_line<'a>(alloc: Global) -> Result<Command<'a>, AllocError>
-    ensures { IfOk result (λ c. app_of c ≡ crp) }
-{
-    let replay = leaf(alloc, "replay", "Print the moves of a certificate's plan")?;
-    let bound = leaf(
-        alloc,
-        "bound",
-        "Print two lower bounds on the relocations of a certificate's bay",
-    )?;
-    Command::new(alloc, "crp")
-        .bin_name("crp")?
-        .version("0.1.0")
-        .no_binary_name(true)
-        .subcommand_required(true)
-        .subcommand(replay)?
-        .subcommand(bound)
-}
+// The most rows of a bay.
+const MOST_ROWS: u64 = 12;
 
-// The text for words from which clap makes no job.
-fn wrong(alloc: Global) -> Usage
-    ensures { IsWrongOrMemory result }
+// The most tiers of a bay.
+const MOST_TIERS: u64 = 8;
+
+// The refusal of words that are no command with its files and options.
+fn wrong(alloc: Global, text: &str) -> Usage
+    ensures { IsWordsOrMemory result }
 {
-    match String::from_str(alloc, "error: these words ask for nothing\n") {
-        Ok(text) => Usage::Wrong(text),
+    match String::from_str(alloc, text) {
+        Ok(text) => Usage::Wrong(Mistake::Words(text)),
         Err(_) => Usage::Memory,
     }
 }
 
-// What a command and its matches ask for.
-fn job_of<'a>(alloc: Global, name: &'a str, matches: &ArgMatches<'a>) -> Result<Job<'a>, Usage>
-    ensures ok { IfOk result (Asks name.entry.now (rows_of (found_of matches.now))) }
-    ensures err { IfErr result (HasNoJob name.entry.now (rows_of (found_of matches.now))) }
+// The text of a file or an option.
+fn text_of<'a>(alloc: Global, matches: &ArgMatches<'a>, name: &str) -> Result<&'a str, Usage>
+    ensures ok { IfOk result (λ text. HasText name.now (rows_of (found_of matches.now)) text.now) }
+    ensures err { IfErr result (Lacks (HasText name.now (rows_of (found_of matches.now))) NoFault) }
 {
-    let Some(file) = matches.get_str("file") else {
-        return Err(wrong(alloc));
+    match matches.get_str(name) {
+        Some(text) => Ok(text),
+        None => Err(wrong(alloc, "error: these words ask for nothing\n")),
+    }
+}
+
+// The whole number of an option.
+fn number_of(matches: &ArgMatches<'_>, name: &str) -> Option<u64>
+    ensures some { IfSome result (HasNumber name.now (rows_of (found_of matches.now))) }
+    ensures none { IfNone result ((n : ℕ) → HasNumber name.now (rows_of (found_of matches.now)) n → ⊥) }
+{
+    matches.get_one::<u64>(name)
+}
+
+// The whole number of an option, within its limits.
+fn number_within(
+    alloc: Global,
+    matches: &ArgMatches<'_>,
+    name: &str,
+    limits: (u64, u64),
+    fault: SettingFault,
+) -> Result<u64, Usage>
+    ensures ok { IfOk result (HasNumberWithin name.now limits.0 limits.1 (rows_of (found_of matches.now))) }
+    ensures err { IfErr result (Lacks (HasNumberWithin name.now limits.0 limits.1 (rows_of (found_of matches.now))) (IsJust fault (HasNumberBeyond name.now limits.0 limits.1 (rows_of (found_of matches.now))))) }
+{
+    let Some(number) = number_of(matches, name) else {
+        return Err(wrong(alloc, "error: a number is not given\n"));
     };
+    if number < limits.0 || number > limits.1 {
+        return Err(Usage::Wrong(Mistake::Setting(fault)));
+    }
+    Ok(number)
+}
+
+fn order_of(alloc: Global, matches: &ArgMatches<'_>) -> Result<Order, Usage>
+    ensures ok { IfOk result (HasOrder (rows_of (found_of matches.now))) }
+    ensures err { IfErr result (Lacks (HasOrder (rows_of (found_of matches.now))) NoFault) }
+{
+    let word = text_of(alloc, matches, "order")?;
+    if word == "listed" {
+        return Ok(Order::Listed);
+    }
+    if word == "stowage" {
+        return Ok(Order::Stowage);
+    }
+    Err(wrong(alloc, "error: the order is 'listed' or 'stowage'\n"))
+}
+
+// The settings of `solve`.
+fn settings_of<'a>(alloc: Global, matches: &ArgMatches<'a>) -> Result<SolveSettings<'a>, Usage>
+    ensures ok { IfOk result (HasSettings (rows_of (found_of matches.now))) }
+    ensures err { IfErr result (Lacks (HasSettings (rows_of (found_of matches.now))) (IsSolveFault (rows_of (found_of matches.now)))) }
+{
+    let budget = number_within(
+        alloc,
+        matches,
+        "budget",
+        (0, MOST_BUDGET),
+        SettingFault::Budget,
+    )?;
+    let rows = number_within(alloc, matches, "rows", (1, MOST_ROWS), SettingFault::Rows)?;
+    let tiers = number_within(
+        alloc,
+        matches,
+        "tiers",
+        (1, MOST_TIERS),
+        SettingFault::Tiers,
+    )?;
+    let order = order_of(alloc, matches)?;
+    let code = text_of(alloc, matches, "code")?;
+    Ok(SolveSettings {
+        budget,
+        rows: rows as u8,
+        tiers: tiers as u8,
+        order,
+        code,
+    })
+}
+
+// What `prove` and its matches ask for.
+fn prove_of<'a>(alloc: Global, matches: &ArgMatches<'a>) -> Result<Job<'a>, Usage>
+    ensures ok { IfOk result (Asks (codes "prove") (rows_of (found_of matches.now))) }
+    ensures err { IfErr result (Lacks (Asks (codes "prove") (rows_of (found_of matches.now))) (IsFault (codes "prove") (rows_of (found_of matches.now)))) }
+{
+    let budget = number_within(
+        alloc,
+        matches,
+        "budget",
+        (0, MOST_BUDGET),
+        SettingFault::Budget,
+    )?;
+    let file = text_of(alloc, matches, "file")?;
+    Ok(Job::Prove { file, budget })
+}
+
+// What `solve` and its matches ask for.
+fn solve_of<'a>(alloc: Global, matches: &ArgMatches<'a>) -> Result<Job<'a>, Usage>
+    ensures ok { IfOk result (Asks (codes "solve") (rows_of (found_of matches.now))) }
+    ensures err { IfErr result (Lacks (Asks (codes "solve") (rows_of (found_of matches.now))) (IsFault (codes "solve") (rows_of (found_of matches.now)))) }
+{
+    let settings = settings_of(alloc, matches)?;
+    let yard = text_of(alloc, matches, "yard")?;
+    let movins = text_of(alloc, matches, "movins")?;
+    Ok(Job::Solve {
+        yard,
+        movins,
+        cert: matches.get_str("cert"),
+        after: matches.get_str("after"),
+        settings,
+    })
+}
+
+// What a command without options and its matches ask for.
+fn leaf_of<'a>(alloc: Global, name: &str, matches: &ArgMatches<'a>) -> Result<Job<'a>, Usage>
+    requires { (name.now ≢ codes "prove") × (name.now ≢ codes "solve") }
+    ensures ok { IfOk result (Asks name.now (rows_of (found_of matches.now))) }
+    ensures err { IfErr result (Lacks (Asks name.now (rows_of (found_of matches.now))) (IsFault name.now (rows_of (found_of matches.now)))) }
+{
+    let file = text_of(alloc, matches, "file")?;
     if name == "replay" {
         return Ok(Job::Replay(file));
     }
     if name == "bound" {
         return Ok(Job::Bound(file));
     }
-    Err(wrong(alloc))
+    if name == "check" {
+        return Ok(Job::Check(file));
+    }
+    Err(wrong(alloc, "error: there is no such command\n"))
+}
+
+// What a command and its matches ask for.
+fn job_of<'a>(alloc: Global, name: &str, matches: &ArgMatches<'a>) -> Result<Job<'a>, Usage>
+    ensures ok { IfOk result (Asks name.now (rows_of (found_of matches.now))) }
+    ensures err { IfErr result (Lacks (Asks name.now (rows_of (found_of matches.now))) (IsFault name.now (rows_of (found_of matches.now)))) }
+{
+    if name == "prove" {
+        return prove_of(alloc, matches);
+    }
+    if name == "solve" {
+        return solve_of(alloc, matches);
+    }
+    leaf_of(alloc, name, matches)
 }
 
 // The text of a refusal of clap's.
@@ -76,7 +190,7 @@ fn usage_of(alloc: Global, error: &Error) -> Usage
     match error.kind() {
         ErrorKind::OutOfMemory => Usage::Memory,
         ErrorKind::DisplayHelp | ErrorKind::DisplayVersion => Usage::Help(text),
-        _ => Usage::Wrong(text),
+        _ => Usage::Wrong(Mistake::Words(text)),
     }
 }
 
@@ -103,7 +217,7 @@ pub fn job<'a>(alloc: Global, words: &'a [&'a str]) -> Result<Job<'a>, Usage>
     match command.try_get_matches_from(words) {
         Ok(matches) => match matches.subcommand() {
             Some((name, inner)) => job_of(alloc, name, inner),
-            None => Err(wrong(alloc)),
+            None => Err(wrong(alloc, "error: there is no command\n")),
         },
         Err(error) => Err(usage_of(alloc, &error)),
     }

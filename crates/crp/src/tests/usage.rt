@@ -1,9 +1,10 @@
 //! The words of the command line, and exit statuses.
-use crate::job::{Job, Usage};
+use crate::job::{Job, Mistake, Order, SettingFault, Usage};
 use crate::outcome::{Status, ToolFault, exit_of};
 use crate::words::job;
 use crp_cert::CertFault;
 use crp_plan::PlanFault;
+use std::alloc::Global;
 use std::test::Fail;
 
 #[test]
@@ -12,23 +13,186 @@ fn reads_words(rt: HostRuntime) {
     assert!(rt; matches!(job(alloc, &[]), Ok(Job::Replay(file)) if file == "-"));
     assert!(rt; matches!(job(alloc, &["replay", "a"]), Ok(Job::Replay(file)) if file == "a"));
     assert!(rt; matches!(job(alloc, &["bound", "-"]), Ok(Job::Bound(file)) if file == "-"));
+    assert!(rt; matches!(job(alloc, &["check", "a"]), Ok(Job::Check(file)) if file == "a"));
+    let bare = job(alloc, &["prove", "a"]);
+    assert!(rt; matches!(bare, Ok(Job::Prove { file, budget: 1000000 }) if file == "a"));
+    let words = ["prove", "--budget=1099511627776", "-"];
+    let most = job(alloc, &words);
+    assert!(rt; matches!(most, Ok(Job::Prove { file, budget: 1099511627776 }) if file == "-"));
+}
+
+#[test]
+fn reads_a_solve_with_its_defaults(rt: HostRuntime) {
+    match job(rt.alloc(), &["solve", "yard.csv", "ship.edi"]) {
+        Ok(
+            Job::Solve {
+                yard,
+                movins,
+                cert,
+                after,
+                settings,
+            },
+        ) => {
+            assert!(rt; yard == "yard.csv" && movins == "ship.edi");
+            assert!(rt; cert.is_none() && after.is_none());
+            assert_eq!(rt; settings.budget, 1000000);
+            assert_eq!(rt; (settings.rows, settings.tiers), (6, 5));
+            assert_eq!(rt; settings.order, Order::Listed);
+            assert_eq!(rt; settings.code, "LOA");
+        }
+        _ => assert!(rt; false),
+    }
+}
+
+#[test]
+fn reads_a_solve_with_all_options(rt: HostRuntime) {
+    let words = [
+        "solve",
+        "--rows",
+        "12",
+        "y",
+        "--tiers=1",
+        "--order",
+        "stowage",
+        "--code",
+        "",
+        "-",
+        "--budget",
+        "0",
+        "--cert",
+        "c",
+        "--after",
+        "-",
+    ];
+    match job(rt.alloc(), &words) {
+        Ok(
+            Job::Solve {
+                yard,
+                movins,
+                cert,
+                after,
+                settings,
+            },
+        ) => {
+            assert!(rt; yard == "y" && movins == "-");
+            assert_eq!(rt; (cert, after), (Some("c"), Some("-")));
+            assert_eq!(rt; settings.budget, 0);
+            assert_eq!(rt; (settings.rows, settings.tiers), (12, 1));
+            assert_eq!(rt; settings.order, Order::Stowage);
+            assert_eq!(rt; settings.code, "");
+        }
+        _ => assert!(rt; false),
+    }
+}
+
+fn is_wrong(alloc: Global, words: &[&str]) -> bool {
+    matches!(job(alloc, words), Err(Usage::Wrong(Mistake::Words(_))))
+}
+
+#[test]
+fn shows_help(rt: HostRuntime) {
+    for words in [
+        ["--help", "replay"],
+        ["--version", "replay"],
+        ["bound", "--help"],
+        ["solve", "--help"],
+        ["help", "prove"],
+    ] {
+        assert!(rt; matches!(job(rt.alloc(), &words), Err(Usage::Help(_))));
+    }
 }
 
 #[test]
 fn refuses_words(rt: HostRuntime) {
     let alloc = rt.alloc();
+    assert!(rt; is_wrong(alloc, &["replay"]));
+    assert!(rt; is_wrong(alloc, &["a", "replay"]));
+    assert!(rt; is_wrong(alloc, &["bound", "a", "b"]));
+    assert!(rt; is_wrong(alloc, &["check", "a", "--rows", "1"]));
     for words in [
-        ["--help", "replay"],
-        ["--version", "replay"],
-        ["bound", "--help"],
+        ["prove", "--budget", "1"],
+        ["prove", "a", "--budget"],
+        ["prove", "a", "--split=1"],
+        ["prove", "a", "--budget=ten"],
+        ["prove", "a", "--budget=18446744073709551616"],
+        ["solve", "a", "--budget=1"],
     ] {
-        assert!(rt; matches!(job(alloc, &words), Err(Usage::Help(_))));
+        assert!(rt; is_wrong(alloc, &words));
     }
-    for words in [["replay", "--budget"], ["solve", "a"], ["a", "replay"]] {
-        assert!(rt; matches!(job(alloc, &words), Err(Usage::Wrong(_))));
+}
+
+#[test]
+fn refuses_words_of_solve(rt: HostRuntime) {
+    for words in [
+        ["solve", "a", "b", "c", "--rows=1"],
+        ["solve", "a", "b", "--rows=1", "--rows=1"],
+        ["solve", "a", "b", "--rows=-1", "--tiers=1"],
+        ["solve", "a", "b", "--rows=1", "--tiers="],
+        ["solve", "a", "b", "--order=Listed", "--rows=1"],
+        ["solve", "a", "b", "--workers=1", "--rows=1"],
+    ] {
+        assert!(rt; is_wrong(rt.alloc(), &words));
     }
-    assert!(rt; matches!(job(alloc, &["replay"]), Err(Usage::Wrong(_))));
-    assert!(rt; matches!(job(alloc, &["bound", "a", "b"]), Err(Usage::Wrong(_))));
+}
+
+fn fault_of(alloc: Global, words: &[&str]) -> Option<SettingFault> {
+    match job(alloc, words) {
+        Err(Usage::Wrong(Mistake::Setting(fault))) => Some(fault),
+        _ => None,
+    }
+}
+
+#[test]
+fn refuses_numbers_beyond_their_limits(rt: HostRuntime) -> Result<(), Fail> {
+    let alloc = rt.alloc();
+    let words = ["prove", "a", "--budget=1099511627777"];
+    assert_eq!(rt; fault_of(alloc, &words), Some(SettingFault::Budget));
+    for (first, second, fault, text) in [
+        (
+            "--budget=1099511627777",
+            "--rows=0",
+            SettingFault::Budget,
+            "S2",
+        ),
+        ("--rows=0", "--tiers=0", SettingFault::Rows, "S5"),
+        ("--rows=13", "--budget=1", SettingFault::Rows, "S5"),
+        ("--rows=262", "--order=none", SettingFault::Rows, "S5"),
+        ("--tiers=0", "--rows=12", SettingFault::Tiers, "S6"),
+        ("--tiers=9", "--rows=1", SettingFault::Tiers, "S6"),
+    ] {
+        assert_eq!(rt;
+            fault_of(alloc, &["solve", "a", "b", first, second]),
+            Some(fault)
+        );
+        assert_eq!(rt; format!(in alloc; "{fault}")?.as_str(), text);
+    }
+    Ok(())
+}
+
+#[test]
+fn help_tells_options_and_defaults(rt: HostRuntime) {
+    match job(rt.alloc(), &["solve", "--help"]) {
+        Err(Usage::Help(help)) => {
+            for piece in [
+                "Usage: crp solve [OPTIONS] <YARD> <MOVINS>",
+                "--rows <N>",
+                "1 to 12 [default: 6]",
+                "--tiers <N>",
+                "1 to 8 [default: 5]",
+                "--order <ORDER>",
+                "[default: listed]",
+                "--code <TEXT>",
+                "[default: LOA]",
+                "--budget <N>",
+                "0 to 1099511627776 [default: 1000000]",
+                "--cert <FILE>",
+                "--after <FILE>",
+            ] {
+                assert!(rt; help.as_str().contains(piece), "{piece}");
+            }
+        }
+        _ => assert!(rt; false),
+    }
 }
 
 #[test]

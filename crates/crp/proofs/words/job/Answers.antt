@@ -2,7 +2,8 @@ use Rattle.std.proofs.Common.{◌≡◌, ◌∙◌, List, [], Option, Some, ap, 
 use Rattle.std.proofs.lemmas.Result.{IfOk-weaker, IfErr-weaker}
 use Rattle.clap.specs.Words.{HasKind, Kinds, Row, Text, fault_of, found_of, is_simple, kind_of, rows_of, subcommand_of, subcommand_rows_of}
 use Rattle.clap.specs.Faults.{is_simple_and_free}
-use Rattle.crp.specs.Words.{AsksFor, crp, words_or_default}
+use Rattle.crp.specs.Commands.{crp}
+use Rattle.crp.specs.Words.{AsksFor, IsFaultFor, words_or_default}
 use Rattle.clap.specs.declared.parser.matches.ArgMatches.{ArgMatches}
 use Rattle.clap.specs.declared.parser.matches.ArgMatches.TheViews.{out-ArgMatches, out-SubCommand}
 use Rattle.clap.specs.Matches.{subcommand_name_of}
@@ -40,7 +41,9 @@ returns-in-Some-clause-refused c =
     let at : subcommand_rows_of m ≡ Some (c.in-Some.name.now, rows) = entered m c.in-Some.name.now rows c.in-Some.ensures.name c.in-Some.ensures.rows in
     let fault : fault_of crp (words_or_default words) ≡ [] =
     sym (ap₂ fault_of c.in-Ok.ensures c.or_default-words.ensures) ∙ c.in-Ok-try_get_matches_from.ensures.kinds (ap is_simple_and_free c.in-Ok.ensures ∙ crp_free) in
-    IfErr-weaker c.job_of.result _ _ (λ u h. not_asked words c.in-Some.name.now rows u fault (λ j asks. subst (λ (o : Option (Text × List Row)). AsksFor o j) (sym sub ∙ at) asks.1) h) c.job_of.ensures.err
+    IfErr-weaker c.job_of.result _ _ (λ u h. not_asked words c.in-Some.name.now rows u fault (λ j asks. subst (λ (o : Option (Text × List Row)). AsksFor o j) (sym sub ∙ at) asks.1)
+    (λ f first. subst (λ (o : Option (Text × List Row)). IsFaultFor o f) (sym sub ∙ at) first.1)
+    (λ f first. (fault, subst (λ (o : Option (Text × List Row)). IsFaultFor o f) (sym at ∙ sub) first)) h) c.job_of.ensures.err
 
 pub returns-clause-refused : goal.returns-clause-refused
 returns-clause-refused c =

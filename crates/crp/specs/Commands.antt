@@ -1,0 +1,83 @@
+-- The command line as clap reads it: the commands, with their files and options.
+use Rattle.std.specs.Prelude.{◌≡◌, true, false, List, [], ◌∷◌, codes, Some}
+use Rattle.clap.specs.Words.{App, Rule, Shape, Text, app_of, new_rule, rule_of}
+use Rattle.clap.specs.Simple.{new_shape}
+use Rattle.clap.specs.declared.builder.arg.Arg.{Arg}
+use Rattle.clap.specs.declared.builder.command.Command.{Command}
+use Rattle.clap.specs.declared.builder.command.Command.TheViews.{out-Command as fields_of}
+use Rattle.clap.specs.declared.builder.value_parser.ValueParser.TheVariants as vp
+
+-- a file that has to be named
+abbrev pub file_rule : Text → Rule
+file_rule name = record (new_rule name) { required = true; value_names = 1 }
+
+-- an option that takes a text, and the text that it has where it is not given
+abbrev pub text_rule : Text → Text → Rule
+text_rule name default = record (new_rule name) {
+  long = Some name;
+  value_names = 1;
+  defaults = default ∷ [];
+}
+
+-- an option that takes a whole number below 2^64, and the number that it has where it is not given
+abbrev pub number_rule : Text → Text → Rule
+number_rule name default = record (text_rule name default) { parser = Some (vp.Unsigned 0 18446744073709551615) }
+
+-- an option that names a file to be written
+abbrev pub output_rule : Text → Rule
+output_rule name = record (new_rule name) { long = Some name; value_names = 1 }
+
+-- a command with these files and options
+abbrev pub command : Text → List Rule → Shape
+command name rules = record (new_shape name) { rules = rules }
+
+-- a command without commands of its own
+abbrev pub alone : Shape → App
+alone shape = record { top = shape; subs = [] }
+
+-- a command that takes a FILE, and no option
+abbrev pub leaf : Text → Shape
+leaf name = command name (file_rule (codes "file") ∷ [])
+
+-- the budget: 1000000 expansions where it is not given
+abbrev pub budget_rule : Rule
+budget_rule = number_rule (codes "budget") (codes "1000000")
+
+-- prove FILE [--budget N]
+abbrev pub prove : Shape
+prove = command (codes "prove") (file_rule (codes "file") ∷ budget_rule ∷ [])
+
+-- solve YARD MOVINS, without its options
+abbrev pub solve_files : Shape
+solve_files = command (codes "solve") (file_rule (codes "yard") ∷ file_rule (codes "movins") ∷ [])
+
+-- solve YARD MOVINS [--rows N] [--tiers N] [--order listed|stowage] [--code TEXT] [--budget N] [--cert FILE] [--after FILE]
+abbrev pub solve : Shape
+solve = command (codes "solve")
+    (file_rule (codes "yard") ∷ file_rule (codes "movins")
+    ∷ number_rule (codes "rows") (codes "6") ∷ number_rule (codes "tiers") (codes "5")
+    ∷ text_rule (codes "order") (codes "listed") ∷ text_rule (codes "code") (codes "LOA")
+    ∷ budget_rule ∷ output_rule (codes "cert") ∷ output_rule (codes "after") ∷ [])
+
+-- crp itself, with a version, and a command that is required
+abbrev pub top : Shape
+top = record (new_shape (codes "crp")) {
+  has_version = true;
+  no_binary_name = true;
+  subcommand_required = true;
+}
+
+-- the command line of crp
+abbrev pub crp : App
+crp = record {
+  top = record top { is_leaf = false };
+  subs = leaf (codes "replay") ∷ leaf (codes "bound") ∷ leaf (codes "check") ∷ prove ∷ solve ∷ [];
+}
+
+-- the argument has this rule, at its own command alone
+abbrev pub IsArg : Rule → Arg → Type 0
+IsArg rule arg = (rule_of arg ≡ rule) × (arg.global ≡ false)
+
+-- the command is this one, without commands of its own, and its arguments are its own alone
+abbrev pub IsCommand : Shape → Command → Type 0
+IsCommand shape command = (app_of command ≡ alone shape) × ((fields_of command).has_globals ≡ false)

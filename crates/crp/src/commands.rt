@@ -1,0 +1,189 @@
+//! The command line: each command with its files and options.
+ghost use Rattle.std.specs.Prelude.{◌≡◌, IfOk};
+ghost use Rattle.clap.specs.Words.{app_of};
+ghost use Rattle.crp.specs.Commands.{IsArg, IsCommand, alone, budget_rule, crp, file_rule, leaf as leaf_shape, number_rule, output_rule, prove as prove_shape, solve as solve_shape, solve_files as solve_files_shape, text_rule, top as top_shape};
+
+use clap::{Arg, Command, value_parser};
+use std::alloc::{AllocError, Global};
+
+// A file that has to be named.
+fn file<'a>(alloc: Global, name: &'a str, shown: &'a str, help: &'a str) -> Arg<'a>
+    ensures { IsArg (file_rule name.entry.now) result }
+{
+    Arg::new(alloc, name)
+        .required(true)
+        .value_name(shown)
+        .help(help)
+}
+
+// An option that takes a whole number.
+fn number<'a>(alloc: Global, name: &'a str, default: &'a str, help: &'a str) -> Arg<'a>
+    ensures { IsArg (number_rule name.entry.now default.entry.now) result }
+{
+    Arg::new(alloc, name)
+        .long(name)
+        .value_name("N")
+        .value_parser(value_parser!(u64))
+        .default_value(default)
+        .help(help)
+}
+
+// An option that takes a text.
+fn text<'a>(
+    alloc: Global,
+    name: &'a str,
+    shown: &'a str,
+    default: &'a str,
+    help: &'a str,
+) -> Arg<'a>
+    ensures { IsArg (text_rule name.entry.now default.entry.now) result }
+{
+    Arg::new(alloc, name)
+        .long(name)
+        .value_name(shown)
+        .default_value(default)
+        .help(help)
+}
+
+// An option that names a file to be written, which is written only where it is named.
+fn output<'a>(alloc: Global, name: &'a str, help: &'a str) -> Arg<'a>
+    ensures { IsArg (output_rule name.entry.now) result }
+{
+    Arg::new(alloc, name)
+        .long(name)
+        .value_name("FILE")
+        .help(help)
+}
+
+// A command that takes a file, and no option.
+fn leaf<'a>(
+    alloc: Global,
+    name: &'a str,
+    about: &'a str,
+    help: &'a str,
+) -> Result<Command<'a>, AllocError>
+    ensures { IfOk result (IsCommand (leaf_shape name.entry.now)) }
+{
+    Command::new(alloc, name)
+        .about(about)
+        .arg(file(alloc, "file", "FILE", help))
+}
+
+fn budget<'a>(alloc: Global) -> Arg<'a>
+    ensures { IsArg budget_rule result }
+{
+    number(
+        alloc,
+        "budget",
+        "1000000",
+        "Most expansions for a bay, 0 to 1099511627776",
+    )
+}
+
+// The command `prove`.
+fn prove<'a>(alloc: Global) -> Result<Command<'a>, AllocError>
+    ensures { IfOk result (IsCommand prove_shape) }
+{
+    Command::new(alloc, "prove")
+        .about("Solve the problem of a certificate's head and print a certificate")
+        .arg(file(
+            alloc,
+            "file",
+            "FILE",
+            "Certificate, or - for the standard input",
+        ))?
+        .arg(budget(alloc))
+}
+
+// The command `solve`, with its files, and without the options.
+fn solve_files<'a>(alloc: Global) -> Result<Command<'a>, AllocError>
+    ensures { IfOk result (IsCommand solve_files_shape) }
+{
+    Command::new(alloc, "solve")
+        .about("Print the plans of a yard's bays for the load orders of a message")
+        .arg(file(alloc, "yard", "YARD", "Yard list (CSV)"))?
+        .arg(file(alloc, "movins", "MOVINS", "Load orders (MOVINS)"))
+}
+
+// The command `solve`.
+fn solve<'a>(alloc: Global) -> Result<Command<'a>, AllocError>
+    ensures { IfOk result (IsCommand solve_shape) }
+{
+    let rows = number(alloc, "rows", "6", "Rows of each bay, 1 to 12");
+    let tiers = number(alloc, "tiers", "5", "Tiers of each bay, 1 to 8");
+    let order = text(
+        alloc,
+        "order",
+        "ORDER",
+        "listed",
+        "Order of leaving: listed (as in the message) or stowage (lowest ship tier first)",
+    );
+    let code = text(
+        alloc,
+        "code",
+        "TEXT",
+        "LOA",
+        "Handling code of the containers to be loaded",
+    );
+    let cert = output(
+        alloc,
+        "cert",
+        "File that gets the certificates; without it they are not written",
+    );
+    let after = output(
+        alloc,
+        "after",
+        "File that gets the yard after the plans; without it that is not written",
+    );
+    solve_files(alloc)?
+        .arg(rows)?
+        .arg(tiers)?
+        .arg(order)?
+        .arg(code)?
+        .arg(budget(alloc))?
+        .arg(cert)?
+        .arg(after)
+}
+
+// crp itself, without its commands.
+fn top<'a>(alloc: Global) -> Result<Command<'a>, AllocError>
+    ensures { IfOk result (λ c. app_of c ≡ alone top_shape) }
+{
+    let top = Command::new(alloc, "crp").bin_name("crp")?;
+    Ok(
+        top.version("0.1.0")
+            .no_binary_name(true)
+            .subcommand_required(true),
+    )
+}
+
+/// The whole command line.
+pub fn command_line<'a>(alloc: Global) -> Result<Command<'a>, AllocError>
+    ensures { IfOk result (λ c. app_of c ≡ crp) }
+{
+    let head = "Certificate, or - for the standard input";
+    let replay = leaf(
+        alloc,
+        "replay",
+        "Print the moves of a certificate's plan",
+        head,
+    )?;
+    let bound = leaf(
+        alloc,
+        "bound",
+        "Print two lower bounds on the relocations of a certificate's bay",
+        head,
+    )?;
+    let check = leaf(
+        alloc,
+        "check",
+        "Check a file of certificates",
+        "Certificates, or - for the standard input",
+    )?;
+    top(alloc)?
+        .subcommand(replay)?
+        .subcommand(bound)?
+        .subcommand(check)?
+        .subcommand(prove(alloc)?)?
+        .subcommand(solve(alloc)?)
+}
