@@ -5,3 +5,5 @@ pub use Rattle.crp_plan.specs.Faults
 pub use Rattle.crp_search.specs.Greedy
 pub mod Chosen
 pub mod Refused
+pub mod Answers
+pub mod Searches

@@ -1,8 +1,10 @@
 //! The fewest relocations of a bay, with a certificate: the settings of a search, its answer, and the solver of one worker.
 #![tactic(auto)]
 
+mod answer;
 mod settings;
 #[cfg(test)]
 mod tests;
 
+pub use answer::{Answer, Cause, Solved};
 pub use settings::{MAX_BUDGET, MAX_SPLIT, MAX_WORKERS, Settings, SettingsFault};

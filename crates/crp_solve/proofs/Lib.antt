@@ -1,0 +1,4 @@
+pub mod Ahead
+pub mod Limits
+pub mod Covered
+pub mod Told
