@@ -13,7 +13,8 @@ mod tree;
 
 pub use cert::Cert;
 pub use laws::{
-    accepted_means, names_are_ordered, names_given, names_once, parts_cover, trees_show,
+    accepted_means, names_are_ordered, names_given, names_once, nodes_of_parts, parts_cover,
+    trees_show,
 };
 pub use name::{MAX_NAME, Name};
 pub use name_list::Names;
