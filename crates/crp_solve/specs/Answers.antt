@@ -110,10 +110,8 @@ pub record IsTrueAnswer (p : Problem) (budget : ℕ) (answer : Answer) (expanded
   pub says : SaysTrue p answer
   pub ended : Ended p budget answer expanded
   pub within : expanded ≤ budget
-
   -- the certificate is about this problem, and is accepted with the plan
   pub of_problem : All (λ part. part.problem ≡ p) (cert_of answer).parts
   pub accepted : IsAccepted (script_of p (cert_of answer) (plan_of answer))
-
   -- no branch stands where the look-ahead bound reaches the greedy plan
   pub needed : (limit : ℕ) → IsFirstLimit p limit → All (λ part. All (λ node. ahead_of node < limit) (branches_in part)) (cert_of answer).parts

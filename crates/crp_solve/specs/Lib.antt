@@ -7,3 +7,4 @@ pub mod Chosen
 pub mod Refused
 pub mod Answers
 pub mod Searches
+pub mod Workers
