@@ -1,0 +1,132 @@
+-- A branch is searched row by row.
+use Rattle.std.proofs.Common.{◌≡◌, ℕ, suc, ◌+◌, ◌-◌, ◌<◌, ◌≤◌, min, inl, inr, ⊎_elim, List, [], ◌∷◌, ◌++◌, length, take, get_or, All, Vec, Global, sym, ap, ◌∙◌, subst, refl, arith, append_assoc, append-nil, length-append, add-one}
+use Rattle.std.proofs.lemmas.List.Elements.{All-nil, All-cons, All-append, All-weaker, All-same}
+use Rattle.std.proofs.lemmas.List.{take_all}
+use Rattle.crp_plan.specs.Bay.{Problem, Position, cap}
+use Rattle.crp_plan.specs.declared.running.View.{View}
+use Rattle.crp_bay.specs.Positions.{targets, child}
+use Rattle.crp_tree.specs.declared.tree.Tree.{Tree, Branch}
+use Rattle.crp_tree.specs.Trees.{cuts, givens, least}
+use Rattle.crp_tree.specs.Nodes.{Cut, cut_nodes, branch_nodes}
+use Rattle.crp_tree.specs.Listed.{each, AreFit, branches_in_all}
+use Rattle.crp_tree.proofs.Listed.{branch_tells, each_push, fit_push, branches_push}
+use Rattle.crp_tree.proofs.Shown.{least_most}
+use Rattle.crp_search.specs.Limits.{GoesOn}
+use Rattle.crp_search.specs.Searched.{IsClosed, IsBelow, IsFound, IsGranted}
+
+-- what is found below a path by the first i of some rows, where one expansion was granted for the path itself
+pub record FoundBelow (p : Problem) (path : List ℕ) (s : Position) (old new : View) (old_puts new_puts : List (List ℕ)) (rows : List ℕ) (i : ℕ) (trees : List Tree) (floor : ℕ) : Type 0 where
+  pub count : length trees ≡ i
+  pub fits : AreFit path s (take i rows) trees
+  pub floor_is : floor ≡ least (cap p) (each cuts path s (take i rows) trees)
+  pub grants : new.granted ≡ old.granted + 1 + branches_in_all trees
+  pub puts : new_puts ≡ old_puts ++ each givens path s (take i rows) trees
+  pub closed : All (IsClosed new) (each cut_nodes path s (take i rows) trees)
+  pub below : All (IsBelow old.seen) (each branch_nodes path s (take i rows) trees)
+  pub goes_on : GoesOn p old new
+
+-- the least of two lists
+pub least-append : (most : ℕ) (xs ys : List ℕ) → least most (xs ++ ys) ≡ min (least most xs) (least most ys)
+least-append most [] ys = let low = least_most most ys in omega arith
+least-append most (x ∷ xs) ys = let e = least-append most xs ys in omega arith
+
+-- what goes on goes on
+pub on_and_on : (p : Problem) (old mid new : View) → GoesOn p old mid → GoesOn p mid new → GoesOn p old new
+on_and_on p old mid new a b = record {
+  seen = let x = a.seen in let y = b.seen in omega arith;
+  mine = let x = a.mine in let y = b.mine in omega arith;
+  offered = ⊎_elim
+      (λ same. ⊎_elim (λ also. inl (same ∙ also)) (λ offer. inr (offer.0, offer.1, offer.2 ∙ sym same)) a.offered)
+      (λ offer. inr offer)
+      b.offered;
+  granted = let x = a.granted in let y = b.granted in omega arith;
+  refused = let x = a.refused in let y = b.refused in omega arith;
+  share = b.share ∙ a.share;
+}
+
+-- a closed cut stays closed
+pub stays_closed : (p : Problem) (old new : View) (cut : Cut) → GoesOn p old new → IsClosed old cut → IsClosed new cut
+stays_closed p old new cut on c =
+    let s = on.seen in let r = on.refused in
+    ⊎_elim (λ seen. inl (omega arith)) (λ refused. let a = refused.0 in inr (omega arith, refused.1)) c
+
+-- before the first row nothing is found
+pub none_yet : (p : Problem) (path : List ℕ) (s : Position) (old new : View) (old_puts new_puts : List (List ℕ)) (rows : List ℕ) (trees : List Tree) (floor : ℕ) →
+    IsGranted path s old new → GoesOn p old new → new_puts ≡ old_puts → trees ≡ [] → floor ≡ cap p → FoundBelow p path s old new old_puts new_puts rows 0 trees floor
+none_yet p path s old new old_puts new_puts rows trees floor granted on puts none most =
+    subst (λ l. FoundBelow p path s old new old_puts new_puts rows 0 l floor) (sym none) (record {
+      count = refl;
+      fits = tt;
+      floor_is = most;
+      grants = let e = granted.one_more in omega arith;
+      puts = puts ∙ sym (append-nil old_puts);
+      closed = All-nil (IsClosed new);
+      below = All-nil (IsBelow old.seen);
+      goes_on = on;
+    })
+
+-- one row more
+pub one_more : (p : Problem) (path : List ℕ) (s : Position) (old mid new : View) (old_puts mid_puts new_puts : List (List ℕ)) (rows : List ℕ) (i : ℕ) (trees : List Tree) (floor lower : ℕ) (tree : Tree) →
+    i < length rows → FoundBelow p path s old mid old_puts mid_puts rows i trees floor →
+    IsFound p (path ++ get_or rows i 0 ∷ []) (child s (get_or rows i 0)) mid new mid_puts new_puts tree lower → GoesOn p mid new →
+    FoundBelow p path s old new old_puts new_puts rows (suc i) (trees ++ tree ∷ []) (min floor lower)
+one_more p path s old mid new old_puts mid_puts new_puts rows i trees floor lower tree lt f one on =
+    let before = f.goes_on in
+    let longer : List ℕ = path ++ get_or rows i 0 ∷ [] in
+    let next : Position = child s (get_or rows i 0) in
+    let told_cuts = each_push cuts path s rows trees i 0 tree lt f.count in
+    let told_nodes = each_push cut_nodes path s rows trees i 0 tree lt f.count in
+    let told_branches = each_push branch_nodes path s rows trees i 0 tree lt f.count in
+    let told_givens = each_push givens path s rows trees i 0 tree lt f.count in
+    record {
+      count = let n = f.count in omega (arith, length-append trees (tree ∷ []));
+      fits = fit_push path s rows trees i 0 tree lt f.count f.fits one.fits;
+      floor_is = ap (λ m. min m lower) f.floor_is ∙ ap (λ m. min (least (cap p) (each cuts path s (take i rows) trees)) m) one.floor_is
+          ∙ sym (least-append (cap p) (each cuts path s (take i rows) trees) (cuts longer next tree)) ∙ ap (least (cap p)) (sym told_cuts);
+      grants = let a = f.grants in let b = one.grants in omega (arith, branches_push trees tree);
+      puts = one.puts ∙ ap (λ l. l ++ givens longer next tree) f.puts ∙ append_assoc old_puts _ _ ∙ ap (λ l. old_puts ++ l) (sym told_givens);
+      closed = All-same (IsClosed new) _ _ told_nodes (All-append (IsClosed new) _ _
+          (All-weaker (IsClosed mid) (IsClosed new) (λ c k. stays_closed p mid new c on k) _ f.closed) one.closed);
+      below = All-same (IsBelow old.seen) _ _ told_branches (All-append (IsBelow old.seen) _ _ f.below
+          (All-weaker (IsBelow mid.seen) (IsBelow old.seen) (λ n k. let x = before.seen in omega arith) _ one.below));
+      goes_on = on_and_on p old mid new before on;
+    }
+
+-- the same, as the loop meets it
+pub one_more_met : (p : Problem) (path longer : List ℕ) (s next : Position) (old mid new : View) (old_puts mid_puts new_puts : List (List ℕ)) (rows : List ℕ) (i : ℕ) (trees more : List Tree) (floor lower least : ℕ) (tree : Tree) →
+    i < length rows → longer ≡ path ++ get_or rows i 0 ∷ [] → next ≡ child s (get_or rows i 0) → more ≡ trees ++ tree ∷ [] → least ≡ min floor lower →
+    FoundBelow p path s old mid old_puts mid_puts rows i trees floor → IsFound p longer next mid new mid_puts new_puts tree lower → GoesOn p mid new →
+    FoundBelow p path s old new old_puts new_puts rows (i + 1) more least
+one_more_met p path longer s next old mid new old_puts mid_puts new_puts rows i trees more floor lower least tree lt longer_is next_is more_is least_is f one on =
+    let at_path : IsFound p (path ++ get_or rows i 0 ∷ []) next mid new mid_puts new_puts tree lower = subst (λ l. IsFound p l next mid new mid_puts new_puts tree lower) longer_is one in
+    let at_place : IsFound p (path ++ get_or rows i 0 ∷ []) (child s (get_or rows i 0)) mid new mid_puts new_puts tree lower =
+    subst (λ t. IsFound p (path ++ get_or rows i 0 ∷ []) t mid new mid_puts new_puts tree lower) next_is at_path in
+    let found : FoundBelow p path s old new old_puts new_puts rows (suc i) (trees ++ tree ∷ []) (min floor lower) = one_more p path s old mid new old_puts mid_puts new_puts rows i trees floor lower tree lt f at_place on in
+    rw (more_is, least_is, add-one) found
+
+-- after the last row the branch is found
+pub all_found : (p : Problem) (path : List ℕ) (s : Position) (old granted new : View) (old_puts new_puts : List (List ℕ)) (rows : List ℕ) (i : ℕ) (trees : Vec Tree Global) (floor : ℕ) →
+    rows ≡ targets s → length rows ≤ i → IsGranted path s old granted → FoundBelow p path s old new old_puts new_puts rows i trees.items floor →
+    IsFound p path s old new old_puts new_puts (Branch trees) floor
+all_found p path s old granted new old_puts new_puts rows i trees floor same done g f =
+    let told = branch_tells path s trees in
+    let whole : take i rows ≡ targets s = take_all i rows done ∙ same in
+    record {
+      fits = told.fits g.unfinished (subst (λ l. AreFit path s l trees.items) whole f.fits);
+      floor_is = f.floor_is ∙ ap (λ l. least (cap p) (each cuts path s l trees.items)) whole ∙ ap (least (cap p)) (sym told.cuts_are);
+      grants = let a = f.grants in let b = told.branches_are in omega arith;
+      puts = f.puts ∙ ap (λ l. old_puts ++ each givens path s l trees.items) whole ∙ ap (λ l. old_puts ++ l) (sym told.givens_are);
+      closed = All-same (IsClosed new) _ _ told.cut_nodes_are (subst (λ l. All (IsClosed new) (each cut_nodes path s l trees.items)) whole f.closed);
+      below = All-same (IsBelow old.seen) _ _ told.branch_nodes_are
+          (All-cons (IsBelow old.seen) _ _ g.below (subst (λ l. All (IsBelow old.seen) (each branch_nodes path s l trees.items)) whole f.below));
+    }
+
+-- the row that was put behind a path is taken off again
+pub back_again : (popped full path : List ℕ) (n row : ℕ) → n ≡ length full → full ≡ path ++ row ∷ [] → popped ≡ take (n - 1) full → popped ≡ path
+back_again popped full path n row size e p =
+    let shorter : n - 1 ≡ length path = omega (arith, ap length e, length-append path (row ∷ [])) in
+    p ∙ ap (λ k. take k full) shorter ∙ ap (take (length path)) e ∙ take_own path (row ∷ [])
+  where
+    take_own : (xs ys : List ℕ) → take (length xs) (xs ++ ys) ≡ xs
+    take_own [] ys = refl
+    take_own (x ∷ xs) ys = ap (λ l. x ∷ l) (take_own xs ys)

@@ -1,0 +1,5 @@
+pub mod Rule
+pub mod Choice
+pub mod Greedily
+pub mod Steps
+pub mod Branching

@@ -1,0 +1,13 @@
+pub use Rattle.crp_plan.specs.Rows
+pub use Rattle.crp_plan.specs.Bay
+pub use Rattle.crp_plan.specs.Plans
+pub use Rattle.crp_plan.specs.Faults
+pub use Rattle.crp_bay.specs.Positions
+pub mod Greedy
+pub use Rattle.crp_plan.specs.Running
+pub use Rattle.crp_tree.specs.Trees
+pub use Rattle.crp_tree.specs.Nodes
+pub use Rattle.crp_tree.specs.Scripts
+pub use Rattle.crp_tree.specs.Parts
+pub mod Limits
+pub mod Searched

@@ -1,0 +1,12 @@
+//! Search for the fewest relocations of a bay.
+#![tactic(auto)]
+
+mod greedy;
+mod limit;
+mod searching;
+#[cfg(test)]
+mod tests;
+
+pub use greedy::{blocker_moves, first_plan, one_greedy_plan};
+pub use limit::Limit;
+pub use searching::search;

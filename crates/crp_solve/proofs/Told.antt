@@ -1,0 +1,174 @@
+-- The answer that a search shows is true.
+use Rattle.std.proofs.Common.{◌≡◌, ℕ, ◌+◌, ◌<◌, ◌≤◌, min, ◌⊎◌, inl, inr, ⊎_elim, List, [], ◌∷◌, length, get_or, map, Contains, All, Option, None, Some, IfSome, sym, ap, ◌∙◌, subst, refl, arith}
+use Rattle.std.proofs.lemmas.List.Elements.{All-contains, All-map, All-weaker, All-cons, All-nil, recursion_from_All}
+use Rattle.std.proofs.lemmas.Bool.{cases_lt}
+use Rattle.crp_plan.specs.declared.moves.Move.{Move}
+use Rattle.crp_plan.specs.Bay.{Problem, IsProblem, cap, Position, IsAt, IsPlan, IsBest, relocations}
+use Rattle.crp_plan.specs.Plans.{Route}
+use Rattle.crp_plan.specs.declared.running.View.{View}
+use Rattle.crp_plan.proofs.Covered.{relocations-path}
+use Rattle.crp_bounds.specs.Bounds.{look_ahead}
+use Rattle.crp_bounds.proofs.Floors.{cut_floor}
+use Rattle.crp_tree.specs.declared.tree.Tree.{Tree, CutB, CutL, Branch', Given}
+use Rattle.crp_tree.specs.Trees.{HasAtLeast, least}
+use Rattle.crp_tree.specs.Nodes.{Node, Cut, ahead_of, branches}
+use Rattle.crp_tree.specs.Scripts.{IsAccepted}
+use Rattle.crp_tree.specs.Parts.{ProblemPart, cuts_in, cut_values, branches_in, IsKeptPart, Certificate}
+use Rattle.crp_tree.proofs.Accepted.{bounded, no_plan_at_cap, best}
+use Rattle.crp_tree.proofs.Noded.{part_values, part_branches, cuts_at}
+use Rattle.crp_search.specs.Searched.{IsClosed, IsBelow}
+use Rattle.crp_solve.specs.declared.answer.Answer.{Answer}
+use Rattle.crp_solve.specs.declared.answer.Answer.TheVariants.{Optimal, NoPlan, Between}
+use Rattle.crp_solve.specs.declared.answer.Cause.TheVariants.{Budget, Memory}
+use Rattle.crp_solve.specs.Answers.{path_in, script_of, branches_of, count_of, IsFirstLimit, IsPlanOf, IsBetween, IsCut, IsOneCut, IsTrueAnswer}
+use Rattle.crp_solve.specs.Searches.{IsSearched, IsAbout, IsTold, IsWhole}
+use Rattle.crp_solve.proofs.Ahead.{ahead_of_root}
+use Rattle.crp_solve.proofs.Limits.{one_first_limit, greedy_told, count_low}
+use Rattle.crp_solve.proofs.Covered.{lowest_part, lower_low, accepted}
+
+-- a number that is below none of the values is at most their least
+least_over : (f most : ℕ) (values : List ℕ) → f ≤ most → HasAtLeast f values → f ≤ least most values
+least_over f most [] le h = le
+least_over f most (v ∷ values) le h = omega (arith, h.0, least_over f most values le h.1)
+
+-- where no cut is below a number, neither is the floor
+floor_over : (x : ProblemPart) (f : ℕ) → IsKeptPart x → f ≤ cap x.problem → All (λ cut. f ≤ cut.value) (cuts_in x) → f ≤ x.floor
+floor_over x f k le all =
+    let e = k.floor_is in
+    let values : HasAtLeast f (cut_values x) = recursion_from_All (λ v. f ≤ v) (cut_values x) (subst (All (λ v. f ≤ v)) (part_values x k) (All-map (λ v. f ≤ v) (λ (cut : Cut). cut.value) (cuts_in x) all)) in
+    omega (arith, e, least_over f (cap x.problem) (cut_values x) le values)
+
+-- and where that is so in each part, neither is the bound
+lower_over : (p : Problem) (cert : Certificate) (f : ℕ) → IsAbout p cert → f ≤ cap p → All (λ x. All (λ cut. f ≤ cut.value) (cuts_in x)) cert.parts → f ≤ cert.lower
+lower_over p cert f a le all =
+    let x = lowest_part cert a.certificate in
+    let same : (x.0).problem ≡ p = All-contains (λ (y : ProblemPart). y.problem ≡ p) cert.parts x.0 a.of_problem x.1 in
+    let kept : IsKeptPart x.0 = All-contains IsKeptPart cert.parts x.0 a.kept x.1 in
+    let cuts : All (λ cut. f ≤ cut.value) (cuts_in x.0) = All-contains (λ (y : ProblemPart). All (λ cut. f ≤ cut.value) (cuts_in y)) cert.parts x.0 all x.1 in
+    omega (arith, x.2, floor_over x.0 f kept (subst (λ q. f ≤ cap q) (sym same) le) cuts)
+
+-- where no claim was refused, the bound reaches the best plan that was met
+pub reaches : (p : Problem) (budget first : ℕ) (view : View) (cert : Certificate) (plan : Option Route) → IsWhole p budget first view cert plan → view.refused ≡ 0 → count_of p (path_in plan) ≤ cert.lower
+reaches p budget first view cert plan w none =
+    let a = w.about in let t = w.told in
+    lower_over p cert (count_of p (path_in plan)) a (count_low p plan a.is_problem t.plan_is)
+    (λ k d lt. let s = w.searched k d lt in
+    All-weaker (IsClosed view) (λ cut. count_of p (path_in plan) ≤ cut.value)
+    (λ cut worth. ⊎_elim (λ (seen : view.seen ≤ cut.value). omega (arith, w.met, seen)) (λ (r : (0 < view.refused) × (ahead_of cut.node ≤ cut.value)). absurd (omega (arith, r.0, none))) worth)
+    (cuts_in (get_or cert.parts k d)) s.closed)
+
+-- the look-ahead bound of the first position is at most a plan's relocations
+count_over : (p : Problem) (plan : Option Route) (s : Position) → IsProblem p → IfSome plan (IsPlanOf p) → IsAt p [] s → min (cap p) (look_ahead s) ≤ count_of p (path_in plan)
+count_over p None s is told a = omega arith
+count_over p (Some route) s is told a =
+    let plan = told.complete in
+    omega (arith, (cut_floor p [] route.path s plan.0 is a plan.1 plan.2).0, relocations-path plan.0, ap length plan.2)
+
+-- the bound is never below the look-ahead bound of the first position
+pub looks_ahead : (p : Problem) (budget first : ℕ) (view : View) (cert : Certificate) (plan : Option Route) (s : Position) → IsWhole p budget first view cert plan → IsAt p [] s → min (cap p) (look_ahead s) ≤ cert.lower
+looks_ahead p budget first view cert plan s w at =
+    let a = w.about in let t = w.told in
+    let f : ℕ = min (cap p) (look_ahead s) in
+    let over : f ≤ count_of p (path_in plan) = count_over p plan s a.is_problem t.plan_is at in
+    lower_over p cert f a (omega arith)
+    (λ k d lt. let sr = w.searched k d lt in
+    let x : ProblemPart = get_or cert.parts k d in
+    λ i e lti.
+    let cut : Cut = get_or (cuts_in x) i e in
+    let here : IsAt p cut.node.path cut.node.place = subst (λ q. IsAt q cut.node.path cut.node.place) sr.of_problem (cuts_at x sr.kept i e lti) in
+    ⊎_elim (λ (seen : view.seen ≤ cut.value). omega (arith, w.met, seen, over))
+    (λ (r : (0 < view.refused) × (ahead_of cut.node ≤ cut.value)). omega (arith, r.1, ahead_of_root p cut.node.path s cut.node.place a.is_problem at here))
+    (sr.closed i e lti))
+
+-- each branch stands below the first limit
+pub all_needed : (p : Problem) (first : ℕ) (view : View) (parts : List ProblemPart) → IsProblem p → IsFirstLimit p first → All (IsSearched p first view) parts →
+    (limit : ℕ) → IsFirstLimit p limit → All (λ part. All (λ node. ahead_of node < limit) (branches_in part)) parts
+all_needed p first view parts is first_is all limit other =
+    subst (λ n. All (λ part. All (λ node. ahead_of node < n) (branches_in part)) parts) (one_first_limit p first limit is first_is other)
+    (All-weaker (IsSearched p first view) (λ part. All (λ node. ahead_of node < first) (branches_in part)) (λ part s. s.below) parts all)
+
+-- the plan has no more relocations than the bound: it is a best one
+pub optimal_told : (p : Problem) (budget first : ℕ) (view : View) (cert : Certificate) (plan : Route) → IsWhole p budget first view cert (Some plan) → length plan.path ≤ cert.lower → IsTrueAnswer p budget (Optimal plan cert) view.granted
+optimal_told p budget first view cert plan w le =
+    let a = w.about in let t = w.told in
+    let is : IsPlanOf p plan = t.plan_is in let of = is.complete in
+    let acc : IsAccepted (script_of p cert (Some plan.path)) = accepted p cert (Some plan) a is in
+    let same : length plan.path ≡ cert.lower = omega (arith, bounded (script_of p cert (Some plan.path)) of.0 acc of.1, relocations-path of.0, ap length of.2, le) in
+    record {
+      says = record { plan_is = is; best = subst (IsBest p) (sym same) (best (script_of p cert (Some plan.path)) plan.path acc refl same); shown = sym same };
+      ended = w.granted;
+      within = w.within;
+      of_problem = a.of_problem;
+      accepted = acc;
+      needed = all_needed p first view cert.parts a.is_problem t.first_is w.searched;
+    }
+
+-- the bound reaches the cap: there is no plan
+pub no_plan_told : (p : Problem) (budget first : ℕ) (view : View) (cert : Certificate) → IsWhole p budget first view cert None → cap p ≤ cert.lower → IsTrueAnswer p budget (NoPlan cert) view.granted
+no_plan_told p budget first view cert w le =
+    let a = w.about in let t = w.told in
+    let acc : IsAccepted (script_of p cert None) = accepted p cert None a tt in
+    let same : cert.lower ≡ cap p = omega (arith, lower_low p cert a, le) in
+    record {
+      says = record { none = λ moves plan. no_plan_at_cap (script_of p cert None) moves acc same plan; shown = same };
+      ended = w.granted;
+      within = w.within;
+      of_problem = a.of_problem;
+      accepted = acc;
+      needed = all_needed p first view cert.parts a.is_problem t.first_is w.searched;
+    }
+
+-- the bound is below the best plan: a claim was refused, and so the budget is spent
+pub between_told : (p : Problem) (budget first : ℕ) (view : View) (cert : Certificate) (plan : Option Route) → IsWhole p budget first view cert plan → cert.lower < count_of p (path_in plan) → IsTrueAnswer p budget (Between cert.lower cert plan Budget) view.granted
+between_told p budget first view cert plan w lt =
+    let a = w.about in let t = w.told in
+    let acc : IsAccepted (script_of p cert (path_in plan)) = accepted p cert plan a t.plan_is in
+    record {
+      says = record {
+        bounds = λ moves is. bounded (script_of p cert (path_in plan)) moves acc is;
+        shown = refl;
+        ahead = λ s at. looks_ahead p budget first view cert plan s w at;
+        plan_is = t.plan_is;
+        greedy = λ path g. greedy_told p first plan path a.is_problem t g;
+      };
+      ended = (w.granted, record { all = ⊎_elim (λ (l : 0 < view.refused). w.refused_last l) (λ (le : view.refused ≤ 0). absurd (omega (arith, lt, reaches p budget first view cert plan w (omega arith)))) (cases_lt 0 view.refused); open' = lt });
+      within = w.within;
+      of_problem = a.of_problem;
+      accepted = acc;
+      needed = all_needed p first view cert.parts a.is_problem t.first_is w.searched;
+    }
+
+-- a cut has no branch
+no_branches : (tree : Tree) → IsCut tree → branches tree ≡ 0
+no_branches CutB cut = refl
+no_branches CutL cut = refl
+no_branches (Branch' shape all) cut = absurd cut
+no_branches Given cut = absurd cut
+
+-- the look-ahead bound of the first position is what is told where memory was wanting
+pub ahead_told : (p : Problem) (budget first expanded : ℕ) (cert : Certificate) (plan : Option Route) → IsAbout p cert → IsOneCut cert → IsTold p first plan → expanded ≤ budget →
+    ((s : Position) → IsAt p [] s → cert.lower ≡ min (cap p) (look_ahead s)) → IsTrueAnswer p budget (Between cert.lower cert plan Memory) expanded
+ahead_told p budget first expanded cert plan a one t within lower =
+    let acc : IsAccepted (script_of p cert (path_in plan)) = accepted p cert plan a t.plan_is in
+    record {
+      says = record {
+        bounds = λ moves is. bounded (script_of p cert (path_in plan)) moves acc is;
+        shown = refl;
+        ahead = λ s at. omega (arith, lower s at);
+        plan_is = t.plan_is;
+        greedy = λ path g. greedy_told p first plan path a.is_problem t g;
+      };
+      ended = one;
+      within = within;
+      of_problem = a.of_problem;
+      accepted = acc;
+      needed = λ limit first'. subst (All (λ part. All (λ node. ahead_of node < limit) (branches_in part))) (sym one.alone)
+          (All-cons (λ (part : ProblemPart). All (λ node. ahead_of node < limit) (branches_in part)) one.part []
+          (λ k d lt. absurd (omega (arith, lt, part_branches one.part (All-contains IsKeptPart cert.parts one.part a.kept (subst (λ l. Contains l one.part) (sym one.alone) (0, omega arith, refl))), no_branches one.part.tree one.cut)))
+          (All-nil (λ (part : ProblemPart). All (λ node. ahead_of node < limit) (branches_in part))));
+    }
+
+-- a true answer is so under other names
+pub same_answer : (p : Problem) (budget budget' : ℕ) (answer answer' : Answer) (expanded expanded' : ℕ) → budget ≡ budget' → answer ≡ answer' → expanded ≡ expanded' → IsTrueAnswer p budget answer expanded → IsTrueAnswer p budget' answer' expanded'
+same_answer p budget budget' answer answer' expanded expanded' eb ea ee t =
+    subst (λ b. IsTrueAnswer p b answer' expanded') eb (subst (λ a. IsTrueAnswer p budget a expanded') ea (subst (λ e. IsTrueAnswer p budget answer e) ee t))
