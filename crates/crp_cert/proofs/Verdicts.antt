@@ -184,7 +184,7 @@ met_fault bytes (faults.Plan line) (size, stacks, claim, rest, told, all, low, p
     met_all bytes size stacks (claim_line claim ++ rest) told all ∙ past_claim size claim rest told.tells.is_size low
     ∙ ap (λ o. or_fault o (faults.Plan (5 + size.rows)) (λ x. None)) (none_read plan_reader rest none)
     ∙ ap (λ n. Some (faults.Plan n)) (sym place)
-met_fault bytes faults.Memory is = absurd is
+met_fault bytes _ is = absurd is
 
 -- ---- what a head tells
 
