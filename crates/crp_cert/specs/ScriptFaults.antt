@@ -47,38 +47,27 @@ BeginsWithTree s symbols = (tree : Tree) × Matches s tree × ((rest : List ℕ)
 abbrev pub GoesOnBehindTree : Position → List ℕ → Type 0
 GoesOnBehindTree s symbols = (tree : Tree) × Matches s tree × ((b : ℕ) × (rest : List ℕ) × (symbols ≡ symbols_of tree ++ b ∷ rest))
 
--- a line with a name and symbols, the first that is not as said
-pub record MeetsPart (bytes : List ℕ) (line : ℕ) : Type 0 where
-  pub head : Head
-  pub parts : List RawPart
-  pub rest : List ℕ
-  pub tells : TellsParts bytes head parts line rest
-  pub part : BeginsWithPart head.problem rest
-
--- the first line that is not as said, by what it should tell and its number from 1. In a part line the faults come in this order:
--- the name, its place in the order of names, the symbols, too few of them, too many
-abbrev pub IsFirstFaultOfScript : List ℕ → CertFault → Type 0
-IsFirstFaultOfScript bytes (faults.Opening line) = IsFirstFault bytes (faults.Opening line)
-IsFirstFaultOfScript bytes (faults.Size line) = IsFirstFault bytes (faults.Size line)
-IsFirstFaultOfScript bytes (faults.Row line) = IsFirstFault bytes (faults.Row line)
-IsFirstFaultOfScript bytes (faults.Claim line) = IsFirstFault bytes (faults.Claim line)
-IsFirstFaultOfScript bytes (faults.Plan line) = IsFirstFault bytes (faults.Plan line)
-IsFirstFaultOfScript bytes (faults.Part line) =
-    (head : Head) × (parts : List RawPart) × (rest : List ℕ) × TellsParts bytes head parts line (codes "part " ++ rest)
-    × ¬ BeginsWithPart head.problem (codes "part " ++ rest)
-IsFirstFaultOfScript bytes (faults.Order line) = (met : MeetsPart bytes line) × ¬ ComesAfter met.parts met.part.name
-IsFirstFaultOfScript bytes (faults.Symbol line) =
-    (met : MeetsPart bytes line) × ComesAfter met.parts met.part.name × ¬ AreSymbols met.part.symbols
-IsFirstFaultOfScript bytes (faults.Unfinished line) =
-    (met : MeetsPart bytes line) × ComesAfter met.parts met.part.name × AreSymbols met.part.symbols
-    × ¬ BeginsWithTree met.part.place met.part.symbols
-IsFirstFaultOfScript bytes (faults.Trailing line) =
-    (met : MeetsPart bytes line) × ComesAfter met.parts met.part.name × AreSymbols met.part.symbols
-    × GoesOnBehindTree met.part.place met.part.symbols
-IsFirstFaultOfScript bytes (faults.End line) =
+-- what is wrong with the line that the bytes begin with, which has this number and stands after these parts. In a part line it is, in this
+-- order: the name, its place among the names, the symbols, too few of them, too many
+abbrev pub IsLineFault : Problem → List RawPart → ℕ → List ℕ → CertFault → Type 0
+IsLineFault p parts line bytes (faults.Part n) = (n ≡ line) × ((after : List ℕ) × (bytes ≡ codes "part " ++ after)) × ¬ BeginsWithPart p bytes
+IsLineFault p parts line bytes (faults.Order n) = (n ≡ line) × ((part : BeginsWithPart p bytes) × ¬ ComesAfter parts part.name)
+IsLineFault p parts line bytes (faults.Symbol n) =
+    (n ≡ line) × ((part : BeginsWithPart p bytes) × ComesAfter parts part.name × ¬ AreSymbols part.symbols)
+IsLineFault p parts line bytes (faults.Unfinished n) =
+    (n ≡ line) × ((part : BeginsWithPart p bytes) × ComesAfter parts part.name × AreSymbols part.symbols × ¬ BeginsWithTree part.place part.symbols)
+IsLineFault p parts line bytes (faults.Trailing n) =
+    (n ≡ line) × ((part : BeginsWithPart p bytes) × ComesAfter parts part.name × AreSymbols part.symbols × GoesOnBehindTree part.place part.symbols)
+IsLineFault p parts line bytes (faults.End n) =
     ◌⊎◌
-    ((head : Head) × (parts : List RawPart) × (rest : List ℕ) × TellsParts bytes head parts line rest
-    × ((after : List ℕ) → rest ≡ codes "part " ++ after → ⊥) × ((after : List ℕ) → rest ≡ end_line (length parts) ++ after → ⊥))
-    ((head : Head) × (parts : List RawPart) × (last : ℕ) × (b : ℕ) × (after : List ℕ)
-    × TellsParts bytes head parts last (end_line (length parts) ++ b ∷ after) × (line ≡ suc last))
-IsFirstFaultOfScript bytes faults.Memory = ⊥
+    ((n ≡ line) × ((after : List ℕ) → bytes ≡ codes "part " ++ after → ⊥) × ((after : List ℕ) → bytes ≡ end_line (length parts) ++ after → ⊥))
+    ((n ≡ suc line) × ((b : ℕ) × (after : List ℕ) × (bytes ≡ end_line (length parts) ++ b ∷ after)))
+IsLineFault p parts line bytes _ = ⊥
+
+-- the first line that is not as said, by what it should tell and its number from 1: one of the head, or the one after some parts
+abbrev pub IsFirstFaultOfScript : List ℕ → CertFault → Type 0
+IsFirstFaultOfScript bytes fault =
+    ◌⊎◌
+    (IsFirstFault bytes fault)
+    ((head : Head) × (parts : List RawPart) × (line : ℕ) × (rest : List ℕ)
+    × TellsParts bytes head parts line rest × IsLineFault head.problem parts line rest fault)
