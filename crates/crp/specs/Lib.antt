@@ -4,3 +4,4 @@ pub mod Replay
 pub mod Bound
 pub mod Commands
 pub mod Words
+pub mod Prove

@@ -6,6 +6,7 @@ mod commands;
 mod heads;
 mod job;
 mod outcome;
+mod proving;
 mod replaying;
 mod running;
 #[cfg(test)]
