@@ -6,3 +6,4 @@ pub mod Walks
 pub mod Plans
 pub mod BayNames
 pub mod Devices
+pub mod Running

@@ -1,5 +1,11 @@
 pub use Rattle.crp_plan.specs.Rows
 pub use Rattle.crp_plan.specs.Bay
+pub use Rattle.crp_plan.specs.Faults
+pub use Rattle.crp_bay.specs.Positions
+pub use Rattle.crp_bounds.specs.Bounds
 pub mod Names
 pub mod Trees
+pub mod Nodes
+pub mod Listed
 pub mod Scripts
+pub mod Parts

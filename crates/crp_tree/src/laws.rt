@@ -1,5 +1,5 @@
 //! Laws of trees, for the crates above.
-ghost use Rattle.std.specs.Prelude.{◌≡◌, ◌≢◌, ℕ, ◌≤◌, ◌⊎◌, ◌↔◌, List, [], ◌∷◌, length, map, flat_map, Contains, All, AllPairs, Some, IsTrue, nat_eq};
+ghost use Rattle.std.specs.Prelude.{◌≡◌, ◌≢◌, ℕ, ◌+◌, ◌≤◌, ◌⊎◌, ◌↔◌, List, [], ◌∷◌, length, map, flat_map, Contains, All, AllPairs, Some, IsTrue, nat_eq};
 ghost use Rattle.std.specs.declared.cmp.Ordering.{Ordering};
 ghost use Rattle.std.specs.Cmp.Lexicographic.{pointwise, slice_cmp};
 ghost use Rattle.std.specs.Ordering.{nat_cmp};
@@ -7,7 +7,10 @@ ghost use Rattle.crp_plan.specs.declared.moves.Move.{Move};
 ghost use Rattle.crp_plan.specs.Bay.{Problem, IsProblem, cap, Position, IsAt, IsPlan, IsBest, relocations};
 ghost use Rattle.crp_tree.specs.Names.{GoesOn, Precedes};
 ghost use Rattle.crp_tree.specs.Scripts.{Part, Script, IsAccepted, IsNeeded, names, times, given_by, IsPart, Floored, KeepsFloor};
+ghost use Rattle.crp_bounds.specs.Bounds.{look_ahead};
 ghost use Rattle.crp_tree.specs.declared.tree.Tree.{Tree};
+ghost use Rattle.crp_tree.specs.Nodes.{ahead_of, branches};
+ghost use Rattle.crp_tree.specs.Parts.{ProblemPart, IsKeptPart, cut_values, cuts_in, branches_in};
 ghost use Rattle.crp_tree.specs.Trees.{Begins, Shows, HasShape, cuts, givens, HasAtLeast, least};
 
 /// A tree that has its shape at a path, and no cut of a value below the floor, shows the floor there; so it shows the least of
@@ -52,4 +55,14 @@ pub fn parts_cover()
 /// Where the names of the parts are the root and all given names, each as often, no two parts have one name.
 pub fn names_once()
     ensures { (p : Problem) (parts : List Part) → IsProblem p → All (IsPart p) parts → ((name : List ℕ) → times name (names parts) ≡ times name ([] ∷ flat_map (given_by p) parts)) → (name : List ℕ) → times name (names parts) ≤ 1 }
+{}
+
+/// The cuts and branches of a part: the values of its cuts, how many branches it has, that each stands at its path, and that
+/// length plus look-ahead is nowhere less than at its name.
+pub fn nodes_of_parts()
+    ensures values { (x : ProblemPart) → IsKeptPart x → map (λ cut. cut.value) (cuts_in x) ≡ cut_values x }
+    ensures count { (x : ProblemPart) → IsKeptPart x → length (branches_in x) ≡ branches x.tree }
+    ensures cuts_at { (x : ProblemPart) → IsKeptPart x → All (λ cut. IsAt x.problem cut.node.path cut.node.place) (cuts_in x) }
+    ensures branches_at { (x : ProblemPart) → IsKeptPart x → All (λ node. IsAt x.problem node.path node.place) (branches_in x) }
+    ensures higher { (x : ProblemPart) (s : Position) → IsKeptPart x → IsAt x.problem x.name s → All (λ cut. length x.name + look_ahead s ≤ ahead_of cut.node) (cuts_in x) }
 {}

@@ -1,14 +1,23 @@
 //! Search trees over the paths of a problem, the names of their parts, and the lower bounds that they show.
 #![tactic(auto)]
 
+mod cert;
 mod laws;
 mod name;
+mod name_list;
+mod part;
+mod part_list;
 #[cfg(test)]
 mod tests;
 mod tree;
 
+pub use cert::Cert;
 pub use laws::{
-    accepted_means, names_are_ordered, names_given, names_once, parts_cover, trees_show,
+    accepted_means, names_are_ordered, names_given, names_once, nodes_of_parts, parts_cover,
+    trees_show,
 };
 pub use name::{MAX_NAME, Name};
+pub use name_list::Names;
+pub use part::Part;
+pub use part_list::Parts;
 pub use tree::Tree;

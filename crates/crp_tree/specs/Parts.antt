@@ -1,0 +1,66 @@
+-- Parts of the search of a problem with the floors that they show, and the certificates that they make.
+use Rattle.std.specs.Prelude.{◌≡◌, ℕ, ◌≤◌, List, [], map, All, AllPairs, Contains, option_map, unwrap_or}
+use Rattle.crp_plan.specs.Bay.{Problem, IsProblem, cap}
+use Rattle.crp_bay.specs.Positions.{at}
+use Rattle.crp_tree.specs.declared.tree.Tree.{Tree}
+use Rattle.crp_tree.specs.Names.{Precedes}
+use Rattle.crp_tree.specs.Trees.{least, Shows}
+use Rattle.crp_tree.specs.Nodes.{Node, Cut, cut_nodes, branch_nodes}
+use Rattle.crp_tree.specs.Scripts.{Part, IsPart, given_by, cuts_of}
+
+-- a part of the search of a problem: the path that it stands at, its tree, and the floor that it shows
+pub record ProblemPart : Type 0 where
+  pub problem : Problem
+  pub name : List ℕ
+  pub tree : Tree
+  pub floor : ℕ
+
+-- its name and its tree
+abbrev pub part_of : ProblemPart → Part
+part_of x = record { name = x.name; tree = x.tree }
+
+-- the names that it gives to other parts
+abbrev pub given_of : ProblemPart → List (List ℕ)
+given_of x = given_by x.problem (part_of x)
+
+-- the values of its cuts
+abbrev pub cut_values : ProblemPart → List ℕ
+cut_values x = cuts_of x.problem (part_of x)
+
+-- its cuts, each at its path
+abbrev pub cuts_in : ProblemPart → List Cut
+cuts_in x = unwrap_or (option_map (λ s. cut_nodes x.name s x.tree) (at x.problem x.name)) []
+
+-- its branches, each at its path
+abbrev pub branches_in : ProblemPart → List Node
+branches_in x = unwrap_or (option_map (λ s. branch_nodes x.name s x.tree) (at x.problem x.name)) []
+
+-- what a part keeps: it is a part of its problem, its floor is the least value of its cuts, or the cap where none is below that, and it shows its floor
+pub record IsKeptPart (x : ProblemPart) : Type 0 where
+  pub is_problem : IsProblem x.problem
+  pub is_part : IsPart x.problem (part_of x)
+  pub floor_is : x.floor ≡ least (cap x.problem) (cut_values x)
+  pub shows : Shows x.problem x.name (given_of x) x.floor
+
+-- the number is the least of the list: it stands there, and none is below it
+pub record IsLeast (number : ℕ) (list : List ℕ) : Type 0 where
+  pub stands : Contains list number
+  pub lowest : All (λ other. number ≤ other) list
+
+-- parts, and the lower bound that they show together
+pub record Certificate : Type 0 where
+  pub parts : List ProblemPart
+  pub lower : ℕ
+
+-- the names of the parts
+abbrev pub names_of : List ProblemPart → List (List ℕ)
+names_of parts = map (λ x. x.name) parts
+
+-- the floors of the parts
+abbrev pub floors_of : List ProblemPart → List ℕ
+floors_of parts = map (λ x. x.floor) parts
+
+-- what a certificate keeps: the parts rise by name, and the bound is the least floor
+pub record IsCertificate (c : Certificate) : Type 0 where
+  pub rising : AllPairs Precedes (names_of c.parts)
+  pub lower_is : IsLeast c.lower (floors_of c.parts)

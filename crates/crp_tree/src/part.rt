@@ -1,0 +1,153 @@
+ghost use Rattle.std.specs.Prelude.{◌≡◌, ◌++◌, AllPairs, IfOk, OnOk};
+ghost use Rattle.crp_plan.specs.Bay.{IsProblem, cap, Position as Place};
+ghost use Rattle.crp_bay.specs.Positions.{targets};
+ghost use Rattle.crp_tree.specs.Names.{Precedes};
+ghost use Rattle.crp_tree.specs.Trees.{Fits, givens, least};
+ghost use Rattle.crp_tree.specs.Listed.{AreFit, each};
+ghost use Rattle.crp_tree.specs.Scripts.{IsPart, cuts_of};
+ghost use Rattle.crp_tree.specs.Parts.{given_of, IsKeptPart};
+
+use crate::name::{MAX_NAME, Name};
+use crate::name_list::Names;
+use crate::tree::Tree;
+use crp_bay::Position;
+use crp_plan::Problem;
+use std::alloc::{AllocError, Global};
+use std::marker::Model;
+
+/// A part of the search of a problem: a tree at the path that is its name, and the floor that it shows.
+///
+/// Every legal complete plan of the problem whose path begins with the name, and with none of the
+/// names that the tree gives to other parts, has at least so many relocations as the floor says.
+#[derive(Drop)]
+pub struct Part {
+    problem: Problem,
+    name: Name,
+    tree: Tree,
+    floor: u32,
+}
+
+impl Model for Part {
+    ghost use Rattle.crp_tree.specs.Parts.{ProblemPart, IsKeptPart};
+    ghost use Rattle.crp_tree.specs.contracts.tree.Tree as trees;
+    ghost use Rattle.std.specs.Coded.{codes};
+
+    ghost Value = { ProblemPart };
+
+    ghost coded = { Prim.hlevel (codes, trees.the_row.coded) };
+
+    ghost view = { λ x. record { problem = x.problem; name = x.name; tree = x.tree; floor = x.floor } };
+
+    ghost invariant = { λ x. IsKeptPart (record { problem = x.problem; name = x.name; tree = x.tree; floor = x.floor }) };
+}
+
+impl Part {
+    /// The part of these. Its tree must have its shape at the name, and its floor must be the least
+    /// value of its cuts, or the problem's cap where none is below that. It takes no memory.
+    pub fn new(problem: &Problem, name: Name, tree: Tree, floor: u32) -> Part
+        requires part { IsPart problem.now (record { name = name; tree = tree }) }
+        requires floor { floor ≡ least (cap problem.now) (cuts_of problem.now (record { name = name; tree = tree })) }
+        ensures value { result ≡ record { problem = problem.now; name = name; tree = tree; floor = floor } }
+    {
+        Part {
+            problem: problem.copy(),
+            name,
+            tree,
+            floor,
+        }
+    }
+
+    /// The problem whose search it is a part of.
+    pub fn problem(&self) -> &Problem
+        ensures value { result.now ≡ self.now.problem }
+        ensures problem { IsProblem self.now.problem }
+    {
+        &self.problem
+    }
+
+    /// The path that it stands at.
+    pub fn name(&self) -> &Name
+        ensures value { result.now ≡ self.now.name }
+    {
+        &self.name
+    }
+
+    /// Its tree.
+    pub fn tree(&self) -> &Tree
+        ensures value { result.now ≡ self.now.tree }
+        ensures part { IsKeptPart self.now }
+    {
+        &self.tree
+    }
+
+    /// The floor that it shows, in relocations.
+    pub fn floor(&self) -> u32
+        ensures value { result ≡ self.now.floor }
+        ensures part { IsKeptPart self.now }
+    {
+        self.floor
+    }
+
+    /// The names that it gives to other parts, rising.
+    pub fn given_names(&self, alloc: Global) -> Result<Names, AllocError>
+        ensures names { IfOk result (λ names. names ≡ given_of self.now) }
+        ensures rising { IfOk result (λ names. AllPairs Precedes names) }
+    {
+        let mut names = Vec::new(alloc);
+        let Some(place) = self.name.position(&self.problem) else {
+            unreachable!()
+        };
+        collect(&self.tree, &self.name, &place, &mut names)?;
+        Ok(Names::from_vec(names))
+    }
+}
+
+/// Adds the names that a tree gives at a path. None has more than 8 rows.
+#[cycle(collecting)]
+fn collect(
+    tree: &Tree,
+    name: &Name,
+    place: &Position,
+    names: &mut Vec<Name>,
+) -> Result<(), AllocError>
+    requires { Fits name.now place.now tree.now }
+    ensures { OnOk result (names.new.items ≡ names.old.items ++ givens name.now place.now tree.now) }
+{
+    match tree {
+        Tree::CutB | Tree::CutL => Ok(()),
+        Tree::Given => {
+            names.push(name.copy())?;
+            Ok(())
+        }
+        Tree::Branch(trees) => collect_below(trees, name, place, names),
+    }
+}
+
+/// Adds the names that the trees of a branch give, one tree for each legal row.
+#[cycle(collecting)]
+fn collect_below(
+    trees: &[Tree],
+    name: &Name,
+    place: &Position,
+    names: &mut Vec<Name>,
+) -> Result<(), AllocError>
+    requires { AreFit name.now place.now (targets place.now) trees.now }
+    ensures { OnOk result (names.new.items ≡ names.old.items ++ each givens name.now place.now (targets place.now) trees.now) }
+{
+    if name.rows().len() == MAX_NAME {
+        return Ok(());
+    }
+    let targets = place.targets();
+    let rows = targets.as_slice();
+    for (i, tree) in trees.iter().enumerate() {
+        let row = rows[i];
+        let Some(longer) = name.child(row) else {
+            unreachable!()
+        };
+        let Some(next) = place.child(row) else {
+            unreachable!()
+        };
+        collect(tree, &longer, &next, names)?;
+    }
+    Ok(())
+}
