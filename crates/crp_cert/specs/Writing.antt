@@ -1,0 +1,52 @@
+-- What the text of a certificate tells: the problem, the bound that its parts show, a plan or none, and the parts.
+use Rattle.std.specs.Prelude.{◌≡◌, ℕ, List, [], length, map, replicate, All, AllPairs, Option, option_map}
+use Rattle.crp_plan.specs.BayNames.{YardBay}
+use Rattle.crp_plan.specs.Rows.{tallest}
+use Rattle.crp_plan.specs.Bay.{Problem}
+use Rattle.crp_plan.specs.Plans.{Route}
+use Rattle.crp_tree.specs.Names.{Precedes}
+use Rattle.crp_tree.specs.Scripts.{Part, Script as Claim, IsAccepted, names, given_by}
+use Rattle.crp_tree.specs.Parts.{Certificate, part_of}
+use Rattle.crp_cert.specs.declared.head.Head.{Head}
+use Rattle.crp_cert.specs.declared.parts.RawPart.{RawPart}
+use Rattle.crp_cert.specs.declared.script.Script.{Script}
+use Rattle.crp_cert.specs.Script.{script_text}
+
+-- the path of a plan, if there is one
+abbrev pub path_told : Option Route → Option (List ℕ)
+path_told plan = option_map (λ route. route.path) plan
+
+-- what a certificate of a problem claims, with a plan or none: the problem, the certificate's bound, the plan's rows, the certificate's parts
+abbrev pub claimed : Problem → Certificate → Option Route → Claim
+claimed p cert plan = record { problem = p; lower = cert.lower; plan = path_told plan; parts = map part_of cert.parts }
+
+-- a part as a text tells it: its name and its tree
+abbrev pub told_part : Part → RawPart
+told_part part = record { name = part.name; tree = part.tree }
+
+-- the head that tells a problem, a bound and a plan or none, under the name of a bay
+abbrev pub head_told : YardBay → Problem → ℕ → Option Route → Head
+head_told bay p claim plan = record { bay = bay; problem = p; claim = claim; plan = path_told plan }
+
+-- the script that tells a claim under the name of a bay
+abbrev pub told : YardBay → Claim → Script
+told bay c = record { head = record { bay = bay; problem = c.problem; claim = c.lower; plan = c.plan }; parts = map told_part c.parts }
+
+-- the text of a certificate of a problem, under the name of a bay, with a plan or none
+abbrev pub certificate_text : YardBay → Problem → Certificate → Option Route → List ℕ
+certificate_text bay p cert plan = script_text (told bay (claimed p cert plan))
+
+-- a part that a text tells
+abbrev pub part_read : RawPart → Part
+part_read raw = record { name = raw.name; tree = raw.tree }
+
+-- the claim that a script tells
+abbrev pub claim_of : Script → Claim
+claim_of script = record { problem = script.head.problem; lower = script.head.claim; plan = script.head.plan; parts = map part_read script.parts }
+
+-- a text can tell the claim: it is accepted, the rows of its problem have one height, its parts rise by name, and none of them gives a subtree to another
+pub record IsTellable (c : Claim) : Type 0 where
+  pub accepted : IsAccepted c
+  pub same_heights : c.problem.heights ≡ replicate (length c.problem.stacks) (tallest c.problem.heights)
+  pub rising : AllPairs Precedes (names c.parts)
+  pub none_given : All (λ part. given_by c.problem part ≡ []) c.parts

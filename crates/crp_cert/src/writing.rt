@@ -1,0 +1,243 @@
+//! Writing a certificate.
+ghost use Rattle.std.specs.Prelude.{◌≡◌, ◌≤◌, ◌++◌, ◌∷◌, [], IfOk, OnOk, IsErrOf};
+ghost use Rattle.std.specs.Option.{option_copied};
+ghost use Rattle.std.specs.List.{flat_map};
+ghost use Rattle.std.specs.Io.KnownBytes.{Appends};
+ghost use Rattle.crp_plan.specs.Devices.{AppendsFront, HasFailed};
+ghost use Rattle.crp_tree.specs.Parts.{part_of};
+ghost use Rattle.crp_cert.specs.Text.{numbers_line, bay_line, size_line, size_of, row_line, plan_line, head_text};
+ghost use Rattle.crp_cert.specs.Script.{name_text, symbols_of, part_line};
+ghost use Rattle.crp_cert.specs.Writing.{path_told, head_told, told_part, certificate_text};
+ghost use Rattle.crp_cert.specs.declared.writing.WriteFault.TheVariants.{Failed, Memory};
+
+use crp_plan::{BayName, Plan, Problem, Sink, WriteFailed, write_all};
+use crp_tree::{Cert, Name, Part, Tree};
+use itoa::{Buffer, Integer};
+use std::alloc::{AllocError, Global};
+use thiserror::Error;
+
+/// Why a certificate was not written.
+#[derive(Clone, Copy, Debug, Drop, PartialEq, Eq, Error)]
+pub enum WriteFault {
+    /// The sink failed, was interrupted once too often, or took nothing of a piece.
+    #[error("a write failed")]
+    Failed,
+    /// No memory is left.
+    #[error("no memory is left")]
+    Memory,
+}
+
+impl From<AllocError> for WriteFault {
+    ghost from_gives = { λ _ fault. fault ≡ Memory };
+
+    fn from(_error: AllocError) -> WriteFault {
+        WriteFault::Memory
+    }
+}
+
+impl From<WriteFailed> for WriteFault {
+    ghost from_gives = { λ _ fault. fault ≡ Failed };
+
+    fn from(_error: WriteFailed) -> WriteFault {
+        WriteFault::Failed
+    }
+}
+
+/// Adds a number in decimal.
+fn push_decimal<N: Integer>(text: &mut Vec<u8>, n: N) -> Result<(), AllocError>
+    ensures { OnOk result (text.new.items ≡ text.old.items ++ N.text n) }
+{
+    let mut digits = Buffer::new();
+    text.extend_from_slice(digits.format(n).as_bytes())
+}
+
+/// Adds a line of a word and numbers.
+fn push_numbers(text: &mut Vec<u8>, word: &[u8], numbers: &[u8]) -> Result<(), AllocError>
+    ensures { OnOk result (text.new.items ≡ text.old.items ++ numbers_line word.now numbers.now) }
+{
+    text.extend_from_slice(word)?;
+    for number in numbers {
+        text.push(b' ')?;
+        push_decimal(text, *number)?;
+    }
+    text.push(b'\n')?;
+    Ok(())
+}
+
+/// Adds a line of a word and one number.
+fn push_number(text: &mut Vec<u8>, word: &[u8], number: usize) -> Result<(), AllocError>
+    ensures { OnOk result (text.new.items ≡ text.old.items ++ numbers_line word.now (number ∷ [])) }
+{
+    text.extend_from_slice(word)?;
+    text.push(b' ')?;
+    push_decimal(text, number)?;
+    text.push(b'\n')?;
+    Ok(())
+}
+
+/// Adds the line of a bay.
+fn push_bay(text: &mut Vec<u8>, bay: &BayName) -> Result<(), AllocError>
+    ensures { OnOk result (text.new.items ≡ text.old.items ++ bay_line bay.now) }
+{
+    text.extend_from_slice(b"bay ")?;
+    text.extend_from_slice(bay.block())?;
+    text.push(b' ')?;
+    push_decimal(text, bay.bay())?;
+    text.push(b'\n')?;
+    Ok(())
+}
+
+/// Adds the line of a problem's size.
+fn push_size(text: &mut Vec<u8>, problem: &Problem) -> Result<(), AllocError>
+    ensures { OnOk result (text.new.items ≡ text.old.items ++ size_line (size_of problem.now)) }
+{
+    let rows = problem.rows();
+    let tiers = problem.tiers();
+    let ordered = problem.ordered();
+    let total = problem.total();
+    push_numbers(text, b"size", &[rows, tiers, ordered, total])
+}
+
+/// Adds the lines of a problem's rows.
+fn push_rows(text: &mut Vec<u8>, problem: &Problem) -> Result<(), AllocError>
+    ensures { OnOk result (text.new.items ≡ text.old.items ++ flat_map row_line problem.now.stacks) }
+{
+    for i in 0..problem.rows() {
+        push_numbers(text, b"row", problem.stack(i + 1))?;
+    }
+    Ok(())
+}
+
+/// Adds the line of a plan, or that there is none.
+fn push_plan(text: &mut Vec<u8>, plan: Option<&Plan>) -> Result<(), AllocError>
+    ensures { OnOk result (text.new.items ≡ text.old.items ++ plan_line (path_told (option_copied plan.entry))) }
+{
+    match plan {
+        Some(plan) => push_numbers(text, b"plan", plan.rows()),
+        None => text.extend_from_slice(b"plan -\n"),
+    }
+}
+
+/// Adds a name.
+fn push_name(text: &mut Vec<u8>, name: &Name) -> Result<(), AllocError>
+    ensures { OnOk result (text.new.items ≡ text.old.items ++ name_text name.now) }
+{
+    let [first, further @ ..] = name.rows() else {
+        text.push(b'/')?;
+        return Ok(());
+    };
+    push_decimal(text, *first)?;
+    for row in further {
+        text.push(b'.')?;
+        push_decimal(text, *row)?;
+    }
+    Ok(())
+}
+
+/// Adds the head of a certificate, down to its plan.
+fn push_head(
+    text: &mut Vec<u8>,
+    bay: &BayName,
+    problem: &Problem,
+    claim: u32,
+    plan: Option<&Plan>,
+) -> Result<(), AllocError>
+    ensures { OnOk result (text.new.items ≡ text.old.items ++ head_text (head_told bay.now problem.now claim (option_copied plan.entry))) }
+{
+    text.extend_from_slice(b"CRP-CERT 1\n")?;
+    push_bay(text, bay)?;
+    push_size(text, problem)?;
+    push_rows(text, problem)?;
+    push_number(text, b"at least", claim as usize)?;
+    push_plan(text, plan)
+}
+
+/// Adds the symbols of a tree, a branch before its trees.
+#[cycle(spelling)]
+fn push_tree(text: &mut Vec<u8>, tree: &Tree) -> Result<(), AllocError>
+    ensures { OnOk result (text.new.items ≡ text.old.items ++ symbols_of tree.now) }
+{
+    match tree {
+        Tree::CutB => text.push(b'B')?,
+        Tree::CutL => text.push(b'L')?,
+        Tree::Given => text.push(b'G')?,
+        Tree::Branch(trees) => {
+            text.push(b'X')?;
+            push_trees(text, trees)?;
+        }
+    }
+    Ok(())
+}
+
+/// Adds the symbols of trees, one tree after the other.
+#[cycle(spelling)]
+fn push_trees(text: &mut Vec<u8>, trees: &[Tree]) -> Result<(), AllocError>
+    ensures { OnOk result (text.new.items ≡ text.old.items ++ flat_map symbols_of trees.now) }
+{
+    for tree in trees {
+        push_tree(text, tree)?;
+    }
+    Ok(())
+}
+
+/// Adds the line of a part.
+fn push_part(text: &mut Vec<u8>, part: &Part) -> Result<(), AllocError>
+    ensures { OnOk result (text.new.items ≡ text.old.items ++ part_line (told_part (part_of part.now))) }
+{
+    text.extend_from_slice(b"part ")?;
+    push_name(text, part.name())?;
+    text.extend_from_slice(b": ")?;
+    push_tree(text, part.tree())?;
+    text.push(b'\n')?;
+    Ok(())
+}
+
+/// Adds the lines of parts.
+fn push_parts(text: &mut Vec<u8>, parts: &[Part]) -> Result<(), AllocError>
+    ensures { OnOk result (text.new.items ≡ text.old.items ++ flat_map (λ part. part_line (told_part (part_of part))) parts.now) }
+{
+    for part in parts {
+        push_part(text, part)?;
+    }
+    Ok(())
+}
+
+/// The text of a certificate of a problem, with a plan or none.
+pub fn cert_text(
+    alloc: Global,
+    bay: &BayName,
+    problem: &Problem,
+    cert: &Cert,
+    plan: Option<&Plan>,
+) -> Result<Vec<u8>, AllocError>
+    ensures { IfOk result (λ text. text.items ≡ certificate_text bay.now problem.now cert.now (option_copied plan.entry)) }
+{
+    let mut text = Vec::new(alloc);
+    push_head(&mut text, bay, problem, cert.lower(), plan)?;
+    push_parts(&mut text, cert.parts())?;
+    push_number(&mut text, b"end", cert.parts().len())?;
+    Ok(text)
+}
+
+/// Hands the text of a certificate to a sink. Where no memory is left, nothing is handed over.
+pub fn write_cert<W: Sink>(
+    alloc: Global,
+    writer: &mut W,
+    bay: &BayName,
+    problem: &Problem,
+    cert: &Cert,
+    plan: Option<&Plan>,
+    interruptions: &mut u32,
+) -> Result<(), WriteFault>
+    requires { interruptions.old ≤ 1000 }
+    ensures all { OnOk result (Appends (W.contents writer.old) (W.contents writer.new) (certificate_text bay.now problem.now cert.now (option_copied plan.entry))) }
+    ensures front { AppendsFront (W.contents writer.old) (W.contents writer.new) (certificate_text bay.now problem.now cert.now (option_copied plan.entry)) }
+    ensures failed { IsErrOf result WriteFault.Failed → HasFailed (W.failures writer.old) (W.failures writer.new) }
+    ensures memory { IsErrOf result WriteFault.Memory → (writer.new ≡ writer.old) × (interruptions.new ≡ interruptions.old) }
+    ensures count { W.failures writer.old ≤ W.failures writer.new }
+    ensures passed { (interruptions.old ≤ interruptions.new) × (interruptions.new ≤ 1000) }
+{
+    let text = cert_text(alloc, bay, problem, cert, plan)?;
+    write_all(writer, &text, interruptions)?;
+    Ok(())
+}
