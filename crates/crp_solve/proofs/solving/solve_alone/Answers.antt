@@ -13,10 +13,10 @@ returns c =
     elim c.match-found.branch [
       | in-Ok w ↦ record {
         true_answer = same_answer c.args.problem.now new.budget c.args.settings.budget w.told-answer.result c.match-found.answer new.view.granted c.granted-expanded.result budget (sym w.answer-is) (sym c.granted-expanded.ensures.value)
-        (w.told-answer.ensures new.budget (best_count old) new.view (subst (IsWhole c.args.problem.now new.budget (best_count old) new.view w.in-Ok.cert) (sym c.into_best-best.ensures.value) w.in-Ok.ensures.whole));
+            (w.told-answer.ensures new.budget (best_count old) new.view (subst (IsWhole c.args.problem.now new.budget (best_count old) new.view w.in-Ok.cert) (sym c.into_best-best.ensures.value) w.in-Ok.ensures.whole));
       }
       | in-Err+in_ok-answer-in-Err w ↦ record {
         true_answer = same_answer c.args.problem.now new.budget c.args.settings.budget w.in_ok-answer-in-Err.answer c.match-found.answer new.view.granted c.granted-expanded.result budget (sym w.answer-is) (sym c.granted-expanded.ensures.value)
-        (w.in_ok-answer-in-Err.ensures new.budget (best_count old) new.view.granted (subst (IsTold c.args.problem.now (best_count old)) (sym c.into_best-best.ensures.value) c.search_all-found.ensures.told) (let known = c.granted-expanded.ensures.known in known.within));
+            (w.in_ok-answer-in-Err.ensures new.budget (best_count old) new.view.granted (subst (IsTold c.args.problem.now (best_count old)) (sym c.into_best-best.ensures.value) c.search_all-found.ensures.told) (let known = c.granted-expanded.ensures.known in known.within));
       }
     ]
