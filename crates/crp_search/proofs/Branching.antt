@@ -12,15 +12,16 @@ use Rattle.crp_tree.specs.Listed.{each, AreFit, branches_in_all}
 use Rattle.crp_tree.proofs.Listed.{branch_tells, each_push, fit_push, branches_push}
 use Rattle.crp_tree.proofs.Shown.{least_most}
 use Rattle.crp_search.specs.Limits.{GoesOn}
-use Rattle.crp_search.specs.Searched.{IsClosed, IsBelow, IsFound, IsGranted}
+use Rattle.crp_search.specs.Searched.{IsClosed, IsBelow, IsShort, IsFound, IsGranted, PutsMore}
 
 -- what is found below a path by the first i of some rows, where one expansion was granted for the path itself
-pub record FoundBelow (p : Problem) (path : List ℕ) (s : Position) (old new : View) (old_puts new_puts : List (List ℕ)) (rows : List ℕ) (i : ℕ) (trees : List Tree) (floor : ℕ) : Type 0 where
+pub record FoundBelow (p : Problem) (split : ℕ) (path : List ℕ) (s : Position) (old new : View) (old_puts new_puts : List (List ℕ)) (rows : List ℕ) (i : ℕ) (trees : List Tree) (floor : ℕ) : Type 0 where
   pub count : length trees ≡ i
   pub fits : AreFit path s (take i rows) trees
   pub floor_is : floor ≡ least (cap p) (each cuts path s (take i rows) trees)
   pub grants : new.granted ≡ old.granted + 1 + branches_in_all trees
   pub puts : new_puts ≡ old_puts ++ each givens path s (take i rows) trees
+  pub short : All (IsShort split) (each givens path s (take i rows) trees)
   pub closed : All (IsClosed new) (each cut_nodes path s (take i rows) trees)
   pub below : All (IsBelow old.seen) (each branch_nodes path s (take i rows) trees)
   pub goes_on : GoesOn p old new
@@ -51,26 +52,27 @@ stays_closed p old new cut on c =
     ⊎_elim (λ seen. inl (omega arith)) (λ refused. let a = refused.0 in inr (omega arith, refused.1)) c
 
 -- before the first row nothing is found
-pub none_yet : (p : Problem) (path : List ℕ) (s : Position) (old new : View) (old_puts new_puts : List (List ℕ)) (rows : List ℕ) (trees : List Tree) (floor : ℕ) →
-    IsGranted path s old new → GoesOn p old new → new_puts ≡ old_puts → trees ≡ [] → floor ≡ cap p → FoundBelow p path s old new old_puts new_puts rows 0 trees floor
-none_yet p path s old new old_puts new_puts rows trees floor granted on puts none most =
-    subst (λ l. FoundBelow p path s old new old_puts new_puts rows 0 l floor) (sym none) (record {
+pub none_yet : (p : Problem) (split : ℕ) (path : List ℕ) (s : Position) (old new : View) (old_puts new_puts : List (List ℕ)) (rows : List ℕ) (trees : List Tree) (floor : ℕ) →
+    IsGranted path s old new → GoesOn p old new → new_puts ≡ old_puts → trees ≡ [] → floor ≡ cap p → FoundBelow p split path s old new old_puts new_puts rows 0 trees floor
+none_yet p split path s old new old_puts new_puts rows trees floor granted on puts none most =
+    subst (λ l. FoundBelow p split path s old new old_puts new_puts rows 0 l floor) (sym none) (record {
       count = refl;
       fits = tt;
       floor_is = most;
       grants = let e = granted.one_more in omega arith;
       puts = puts ∙ sym (append-nil old_puts);
+      short = All-nil (IsShort split);
       closed = All-nil (IsClosed new);
       below = All-nil (IsBelow old.seen);
       goes_on = on;
     })
 
 -- one row more
-pub one_more : (p : Problem) (path : List ℕ) (s : Position) (old mid new : View) (old_puts mid_puts new_puts : List (List ℕ)) (rows : List ℕ) (i : ℕ) (trees : List Tree) (floor lower : ℕ) (tree : Tree) →
-    i < length rows → FoundBelow p path s old mid old_puts mid_puts rows i trees floor →
-    IsFound p (path ++ get_or rows i 0 ∷ []) (child s (get_or rows i 0)) mid new mid_puts new_puts tree lower → GoesOn p mid new →
-    FoundBelow p path s old new old_puts new_puts rows (suc i) (trees ++ tree ∷ []) (min floor lower)
-one_more p path s old mid new old_puts mid_puts new_puts rows i trees floor lower tree lt f one on =
+pub one_more : (p : Problem) (split : ℕ) (path : List ℕ) (s : Position) (old mid new : View) (old_puts mid_puts new_puts : List (List ℕ)) (rows : List ℕ) (i : ℕ) (trees : List Tree) (floor lower : ℕ) (tree : Tree) →
+    i < length rows → FoundBelow p split path s old mid old_puts mid_puts rows i trees floor →
+    IsFound p split (path ++ get_or rows i 0 ∷ []) (child s (get_or rows i 0)) mid new mid_puts new_puts tree lower → GoesOn p mid new →
+    FoundBelow p split path s old new old_puts new_puts rows (suc i) (trees ++ tree ∷ []) (min floor lower)
+one_more p split path s old mid new old_puts mid_puts new_puts rows i trees floor lower tree lt f one on =
     let before = f.goes_on in
     let longer : List ℕ = path ++ get_or rows i 0 ∷ [] in
     let next : Position = child s (get_or rows i 0) in
@@ -85,6 +87,7 @@ one_more p path s old mid new old_puts mid_puts new_puts rows i trees floor lowe
           ∙ sym (least-append (cap p) (each cuts path s (take i rows) trees) (cuts longer next tree)) ∙ ap (least (cap p)) (sym told_cuts);
       grants = let a = f.grants in let b = one.grants in omega (arith, branches_push trees tree);
       puts = one.puts ∙ ap (λ l. l ++ givens longer next tree) f.puts ∙ append_assoc old_puts _ _ ∙ ap (λ l. old_puts ++ l) (sym told_givens);
+      short = All-same (IsShort split) _ _ told_givens (All-append (IsShort split) _ _ f.short one.short);
       closed = All-same (IsClosed new) _ _ told_nodes (All-append (IsClosed new) _ _
           (All-weaker (IsClosed mid) (IsClosed new) (λ c k. stays_closed p mid new c on k) _ f.closed) one.closed);
       below = All-same (IsBelow old.seen) _ _ told_branches (All-append (IsBelow old.seen) _ _ f.below
@@ -93,22 +96,22 @@ one_more p path s old mid new old_puts mid_puts new_puts rows i trees floor lowe
     }
 
 -- the same, as the loop meets it
-pub one_more_met : (p : Problem) (path longer : List ℕ) (s next : Position) (old mid new : View) (old_puts mid_puts new_puts : List (List ℕ)) (rows : List ℕ) (i : ℕ) (trees more : List Tree) (floor lower least : ℕ) (tree : Tree) →
+pub one_more_met : (p : Problem) (split : ℕ) (path longer : List ℕ) (s next : Position) (old mid new : View) (old_puts mid_puts new_puts : List (List ℕ)) (rows : List ℕ) (i : ℕ) (trees more : List Tree) (floor lower least : ℕ) (tree : Tree) →
     i < length rows → longer ≡ path ++ get_or rows i 0 ∷ [] → next ≡ child s (get_or rows i 0) → more ≡ trees ++ tree ∷ [] → least ≡ min floor lower →
-    FoundBelow p path s old mid old_puts mid_puts rows i trees floor → IsFound p longer next mid new mid_puts new_puts tree lower → GoesOn p mid new →
-    FoundBelow p path s old new old_puts new_puts rows (i + 1) more least
-one_more_met p path longer s next old mid new old_puts mid_puts new_puts rows i trees more floor lower least tree lt longer_is next_is more_is least_is f one on =
-    let at_path : IsFound p (path ++ get_or rows i 0 ∷ []) next mid new mid_puts new_puts tree lower = subst (λ l. IsFound p l next mid new mid_puts new_puts tree lower) longer_is one in
-    let at_place : IsFound p (path ++ get_or rows i 0 ∷ []) (child s (get_or rows i 0)) mid new mid_puts new_puts tree lower =
-    subst (λ t. IsFound p (path ++ get_or rows i 0 ∷ []) t mid new mid_puts new_puts tree lower) next_is at_path in
-    let found : FoundBelow p path s old new old_puts new_puts rows (suc i) (trees ++ tree ∷ []) (min floor lower) = one_more p path s old mid new old_puts mid_puts new_puts rows i trees floor lower tree lt f at_place on in
+    FoundBelow p split path s old mid old_puts mid_puts rows i trees floor → IsFound p split longer next mid new mid_puts new_puts tree lower → GoesOn p mid new →
+    FoundBelow p split path s old new old_puts new_puts rows (i + 1) more least
+one_more_met p split path longer s next old mid new old_puts mid_puts new_puts rows i trees more floor lower least tree lt longer_is next_is more_is least_is f one on =
+    let at_path : IsFound p split (path ++ get_or rows i 0 ∷ []) next mid new mid_puts new_puts tree lower = subst (λ l. IsFound p split l next mid new mid_puts new_puts tree lower) longer_is one in
+    let at_place : IsFound p split (path ++ get_or rows i 0 ∷ []) (child s (get_or rows i 0)) mid new mid_puts new_puts tree lower =
+    subst (λ t. IsFound p split (path ++ get_or rows i 0 ∷ []) t mid new mid_puts new_puts tree lower) next_is at_path in
+    let found : FoundBelow p split path s old new old_puts new_puts rows (suc i) (trees ++ tree ∷ []) (min floor lower) = one_more p split path s old mid new old_puts mid_puts new_puts rows i trees floor lower tree lt f at_place on in
     rw (more_is, least_is, add-one) found
 
 -- after the last row the branch is found
-pub all_found : (p : Problem) (path : List ℕ) (s : Position) (old granted new : View) (old_puts new_puts : List (List ℕ)) (rows : List ℕ) (i : ℕ) (trees : Vec Tree Global) (floor : ℕ) →
-    rows ≡ targets s → length rows ≤ i → IsGranted path s old granted → FoundBelow p path s old new old_puts new_puts rows i trees.items floor →
-    IsFound p path s old new old_puts new_puts (Branch trees) floor
-all_found p path s old granted new old_puts new_puts rows i trees floor same done g f =
+pub all_found : (p : Problem) (split : ℕ) (path : List ℕ) (s : Position) (old granted new : View) (old_puts new_puts : List (List ℕ)) (rows : List ℕ) (i : ℕ) (trees : Vec Tree Global) (floor : ℕ) →
+    rows ≡ targets s → length rows ≤ i → IsGranted path s old granted → FoundBelow p split path s old new old_puts new_puts rows i trees.items floor →
+    IsFound p split path s old new old_puts new_puts (Branch trees) floor
+all_found p split path s old granted new old_puts new_puts rows i trees floor same done g f =
     let told = branch_tells path s trees in
     let whole : take i rows ≡ targets s = take_all i rows done ∙ same in
     record {
@@ -116,6 +119,7 @@ all_found p path s old granted new old_puts new_puts rows i trees floor same don
       floor_is = f.floor_is ∙ ap (λ l. least (cap p) (each cuts path s l trees.items)) whole ∙ ap (least (cap p)) (sym told.cuts_are);
       grants = let a = f.grants in let b = told.branches_are in omega arith;
       puts = f.puts ∙ ap (λ l. old_puts ++ each givens path s l trees.items) whole ∙ ap (λ l. old_puts ++ l) (sym told.givens_are);
+      short = All-same (IsShort split) _ _ told.givens_are (subst (λ l. All (IsShort split) (each givens path s l trees.items)) whole f.short);
       closed = All-same (IsClosed new) _ _ told.cut_nodes_are (subst (λ l. All (IsClosed new) (each cut_nodes path s l trees.items)) whole f.closed);
       below = All-same (IsBelow old.seen) _ _ told.branch_nodes_are
           (All-cons (IsBelow old.seen) _ _ g.below (subst (λ l. All (IsBelow old.seen) (each branch_nodes path s l trees.items)) whole f.below));
@@ -130,3 +134,12 @@ back_again popped full path n row size e p =
     take_own : (xs ys : List ℕ) → take (length xs) (xs ++ ys) ≡ xs
     take_own [] ys = refl
     take_own (x ∷ xs) ys = ap (λ l. x ∷ l) (take_own xs ys)
+
+-- what is put after more was put is more
+pub more_again : (old mid new : List (List ℕ)) → PutsMore old mid → PutsMore mid new → PutsMore old new
+more_again old mid new a b = (a.0 ++ b.0, b.1 ∙ ap (λ l. l ++ b.0) a.1 ∙ append_assoc old a.0 b.0)
+
+-- what is found below a path was put
+pub below_puts : (p : Problem) (split : ℕ) (path : List ℕ) (s : Position) (old new : View) (old_puts new_puts : List (List ℕ)) (rows : List ℕ) (i : ℕ) (trees : List Tree) (floor : ℕ) →
+    FoundBelow p split path s old new old_puts new_puts rows i trees floor → PutsMore old_puts new_puts
+below_puts p split path s old new old_puts new_puts rows i trees floor f = (each givens path s (take i rows) trees, f.puts)

@@ -1,5 +1,5 @@
 -- What a search of one part finds.
-use Rattle.std.specs.Prelude.{◌≡◌, ℕ, ◌+◌, ◌<◌, ◌≤◌, ◌⊎◌, List, ◌++◌, All}
+use Rattle.std.specs.Prelude.{◌≡◌, ℕ, ◌+◌, ◌<◌, ◌≤◌, ◌⊎◌, List, ◌++◌, length, All}
 use Rattle.crp_plan.specs.Bay.{Problem, Position, cap}
 use Rattle.crp_plan.specs.declared.running.View.{View}
 use Rattle.crp_tree.specs.declared.tree.Tree.{Tree}
@@ -15,13 +15,22 @@ IsClosed view cut = (view.seen ≤ cut.value) ⊎ ((0 < view.refused) × (ahead_
 abbrev pub IsBelow : ℕ → Node → Type 0
 IsBelow limit node = ahead_of node < limit
 
+-- a name of at most so many rows
+abbrev pub IsShort : ℕ → List ℕ → Type 0
+IsShort split name = length name ≤ split
+
+-- names were put behind those that were put before
+abbrev pub PutsMore : List (List ℕ) → List (List ℕ) → Type 0
+PutsMore old new = (more : List (List ℕ)) × (new ≡ old ++ more)
+
 -- what is found at a path: a tree that fits there with its least cut; as many branches as claims were granted, the accepted puts as its given names,
--- each cut closed for the worker as it is then, each branch below what it had seen at the beginning
-pub record IsFound (p : Problem) (path : List ℕ) (s : Position) (old new : View) (old_puts new_puts : List (List ℕ)) (tree : Tree) (floor : ℕ) : Type 0 where
+-- each of at most `split` rows; each cut closed for the worker as it is then, each branch below what it had seen at the beginning
+pub record IsFound (p : Problem) (split : ℕ) (path : List ℕ) (s : Position) (old new : View) (old_puts new_puts : List (List ℕ)) (tree : Tree) (floor : ℕ) : Type 0 where
   pub fits : Fits path s tree
   pub floor_is : floor ≡ least (cap p) (cuts path s tree)
   pub grants : new.granted ≡ old.granted + branches tree
   pub puts : new_puts ≡ old_puts ++ givens path s tree
+  pub short : All (IsShort split) (givens path s tree)
   pub closed : All (IsClosed new) (cut_nodes path s tree)
   pub below : All (IsBelow old.seen) (branch_nodes path s tree)
 

@@ -7,7 +7,7 @@ ghost use Rattle.crp_tree.specs.Trees.{IsGiven, givens};
 ghost use Rattle.crp_tree.specs.Nodes.{branches};
 ghost use Rattle.crp_tree.specs.Parts.{IsKeptPart, given_of, cuts_in, branches_in};
 ghost use Rattle.crp_search.specs.Limits.{GoesOn};
-ghost use Rattle.crp_search.specs.Searched.{IsClosed, IsBelow, IsFound, IsGranted};
+ghost use Rattle.crp_search.specs.Searched.{IsClosed, IsBelow, IsShort, IsFound, IsGranted, PutsMore};
 
 use crate::limit::Limit;
 use arrayvec::ArrayVec;
@@ -62,7 +62,7 @@ fn cut(tree: Tree, value: u32, most: u32) -> Found
 fn close<L: Limit>(problem: &Problem, place: &Position, path: &[u8], limit: &mut L) -> Option<Found>
     requires problem { problem.now ≡ L.problem limit.old }
     requires path { IsAt problem.now path.now place.now }
-    ensures found { IfSome result (λ found. IsFound problem.now path.now place.now (L.view limit.old) (L.view limit.new) (L.puts limit.old) (L.puts limit.new) found.tree found.floor) }
+    ensures found { IfSome result (λ found. (split : ℕ) → IsFound problem.now split path.now place.now (L.view limit.old) (L.view limit.new) (L.puts limit.old) (L.puts limit.new) found.tree found.floor) }
     ensures own { IfSome result (λ found. IsGiven found.tree → ⊥) }
     ensures granted { IfNone result (IsGranted path.now place.now (L.view limit.old) (L.view limit.new)) }
     ensures goes_on { GoesOn problem.now (L.view limit.old) (L.view limit.new) }
@@ -118,9 +118,10 @@ fn give_or_search<L: Limit>(
     requires problem { problem.now ≡ L.problem limit.old }
     requires path { IsAt problem.now path.old.items place.now }
     requires split { split ≤ 8 }
-    ensures found { IfOk result (λ found. IsFound problem.now path.old.items place.now (L.view limit.old) (L.view limit.new) (L.puts limit.old) (L.puts limit.new) found.tree found.floor) }
+    ensures found { IfOk result (λ found. IsFound problem.now split path.old.items place.now (L.view limit.old) (L.view limit.new) (L.puts limit.old) (L.puts limit.new) found.tree found.floor) }
     ensures goes_on { GoesOn problem.now (L.view limit.old) (L.view limit.new) }
     ensures same { (L.problem limit.new ≡ L.problem limit.old) × (L.budget limit.new ≡ L.budget limit.old) }
+    ensures puts { PutsMore (L.puts limit.old) (L.puts limit.new) }
     ensures path { OnOk result (path.new.items ≡ path.old.items) }
 {
     if path.len() <= split as usize {
@@ -147,10 +148,11 @@ fn search_at<L: Limit>(
     requires problem { problem.now ≡ L.problem limit.old }
     requires path { IsAt problem.now path.old.items place.now }
     requires split { split ≤ 8 }
-    ensures found { IfOk result (λ found. IsFound problem.now path.old.items place.now (L.view limit.old) (L.view limit.new) (L.puts limit.old) (L.puts limit.new) found.tree found.floor) }
+    ensures found { IfOk result (λ found. IsFound problem.now split path.old.items place.now (L.view limit.old) (L.view limit.new) (L.puts limit.old) (L.puts limit.new) found.tree found.floor) }
     ensures own { IfOk result (λ found. IsGiven found.tree → ⊥) }
     ensures goes_on { GoesOn problem.now (L.view limit.old) (L.view limit.new) }
     ensures same { (L.problem limit.new ≡ L.problem limit.old) × (L.budget limit.new ≡ L.budget limit.old) }
+    ensures puts { PutsMore (L.puts limit.old) (L.puts limit.new) }
     ensures path { OnOk result (path.new.items ≡ path.old.items) }
 {
     if let Some(found) = close(problem, place, path.as_slice(), limit) {
@@ -202,12 +204,14 @@ pub fn search<L: Limit>(
     // What it took from the limit, and what it left there.
     ensures grants { IfOk result (λ part. (L.view limit.new).granted ≡ (L.view limit.old).granted + branches part.tree) }
     ensures puts { IfOk result (λ part. L.puts limit.new ≡ L.puts limit.old ++ given_of part) }
+    ensures short { IfOk result (λ part. All (IsShort split) (given_of part)) }
     ensures cuts { IfOk result (λ part. All (IsClosed (L.view limit.new)) (cuts_in part)) }
     ensures branches { IfOk result (λ part. All (IsBelow (L.view limit.old).seen) (branches_in part)) }
 
     // Whether memory lasted or not.
     ensures goes_on { GoesOn problem.now (L.view limit.old) (L.view limit.new) }
     ensures same { (L.problem limit.new ≡ L.problem limit.old) × (L.budget limit.new ≡ L.budget limit.old) }
+    ensures more_puts { PutsMore (L.puts limit.old) (L.puts limit.new) }
 {
     let Some(place) = name.position(problem) else {
         unreachable!()

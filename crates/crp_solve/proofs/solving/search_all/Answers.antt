@@ -1,6 +1,6 @@
-use Rattle.std.proofs.Common.{◌≡◌, [], ◌∷◌, sym, ap, ◌∙◌, subst}
+use Rattle.std.proofs.Common.{◌≡◌, [], ◌∷◌, sym, ◌∙◌, subst}
 use Rattle.std.proofs.lemmas.Result.{IfOk-weaker}
-use Rattle.crp_plan.specs.Bay.{Position, IsProblem, IsAt, start}
+use Rattle.crp_plan.specs.Bay.{IsProblem, IsAt, start}
 use Rattle.crp_bay.specs.Positions.{settled}
 use Rattle.crp_bay.proofs.Walked.{begins_at}
 use Rattle.crp_tree.specs.Parts.{ProblemPart, Certificate}
@@ -25,7 +25,7 @@ returns-clause-whole c =
     IfOk-weaker c.whole.result (λ (cert : Certificate). cert ≡ record { parts = part ∷ []; lower = part.floor })
     (λ (cert : Certificate). IsWhole c.args.problem.now new.budget (best_count c.args.worker.now) new.view cert new.plan)
     (λ cert e. whole_after c.args.problem.now c.args.worker.now new part cert c.requires.problem c.search-found.ensures.same.0 c.requires.known c.granted-granted.ensures.known c.requires.fresh c.search-found.ensures.goes_on
-      c.in_ok-found.ensures.problem (c.in_ok-found.ensures.name ∙ c.root.ensures) c.in_ok-found.ensures.part c.in_ok-found.ensures.grants (sym c.in_ok-found.ensures.puts) c.in_ok-found.ensures.cuts c.in_ok-found.ensures.branches e)
+    c.in_ok-found.ensures.problem (c.in_ok-found.ensures.name ∙ c.root.ensures) c.in_ok-found.ensures.part c.in_ok-found.ensures.grants (sym c.in_ok-found.ensures.puts) c.in_ok-found.ensures.cuts c.in_ok-found.ensures.branches e)
     c.whole.ensures.value
 
 pub returns-clause-told : goal.returns-clause-told
