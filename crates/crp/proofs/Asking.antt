@@ -6,7 +6,7 @@ use Rattle.clap.specs.declared.error.kind.ErrorKind.{ErrorKind}
 use Rattle.clap.specs.declared.error.kind.ErrorKind.TheVariants as kind
 use Rattle.clap.proofs.OnLiterals.{clap_on_literals}
 use Rattle.crp.specs.Commands.{crp}
-use Rattle.crp.specs.Words.{Asks, Lacks, Refuses, ShowsKind, WordsAsk, WordsFault, IsFault, words_or_default}
+use Rattle.crp.specs.Words.{Asks, Lacks, Refuses, ShowsKind, WordsAsk, WordsHaveFault, IsFault, words_or_default}
 use Rattle.crp.specs.declared.job.Mistake.TheVariants as mistake
 use Rattle.crp.specs.declared.job.SettingFault.{SettingFault}
 use Rattle.crp.specs.declared.job.Job.{Job}
@@ -22,6 +22,7 @@ pub crp_free : is_simple_and_free crp ≡ true
 unfolding clap_on_literals
 crp_free = refl
 
+-- a value of which two things are known has both
 pub pair_of : {X A B : Type 0} (o : Option X) (n : X → A) (r : X → B) (a : A) (b : B)
     → Some a ≡ option_map n o → Some b ≡ option_map (λ (p : A × B). p.1) (option_map {U = A × B} (λ x. (n x, r x)) o)
     → option_map {U = A × B} (λ x. (n x, r x)) o ≡ Some (a, b)
@@ -31,9 +32,10 @@ pair_of (Some x) n r a b p q =
     let right : r x ≡ b = cc in
     rw (left, right) refl
 
+-- a command whose rows give no job is refused
 pub not_asked : (words : List Text) (name : Text) (rows : List Row) (u : Usage)
     → fault_of crp (words_or_default words) ≡ [] → ((j : Job) → WordsAsk words j → Asks name rows j)
-    → ((f : SettingFault) → WordsFault words f → IsFault name rows f) → ((f : SettingFault) → IsFault name rows f → WordsFault words f)
+    → ((f : SettingFault) → WordsHaveFault words f → IsFault name rows f) → ((f : SettingFault) → IsFault name rows f → WordsHaveFault words f)
     → Lacks (Asks name rows) (IsFault name rows) u → Refuses words u
 not_asked words name rows usage.Memory faultless same there back none = tt
 not_asked words name rows (usage.Help text) faultless same there back none = absurd none
@@ -42,6 +44,7 @@ not_asked words name rows (usage.Wrong (mistake.Words text)) faultless same ther
 not_asked words name rows (usage.Wrong (mistake.Setting f)) faultless same there back none =
     (λ j asks. none.0 j (same j asks), inl faultless, back f none.1)
 
+-- what clap refuses is refused
 pub refused : (words : List Text) (u : Usage) (k : ErrorKind) → ShowsKind k u
     → (k ≡ kind.OutOfMemory) ⊎ IsAmong k (fault_of crp (words_or_default words)) → Refuses words u
 refused words usage.Memory k shows has = tt

@@ -13,6 +13,7 @@ use Rattle.crp.specs.declared.job.SettingFault.TheVariants as setting
 use Rattle.crp.specs.declared.job.Usage.{Usage}
 use Rattle.crp.specs.declared.job.Usage.TheVariants as usage
 
+-- what u64's reading of a text gives
 abbrev Gives : List ℕ → Result ℕ ParseIntError → Type 0
 Gives bs r = ParsesUnsigned 64 10 bs r × ExplainsUnsignedError 10 bs r × HasUnsignedDigitsIfOk bs r
 
@@ -73,12 +74,15 @@ lacks_more Has Needs F G (usage.Wrong (mistake.Setting f)) needs up down lacking
 
 -- ---- the settings of solve, number by number
 
+-- a budget within its limit is no fault
 no_budget_fault : (rows : List Row) (b : ℕ) → HasBudget rows b → IsBudgetBeyond rows → ⊥
 no_budget_fault rows b has beyond = not_both (codes "budget") 0 1099511627776 rows b has beyond
 
+-- rows within their limits are no fault
 no_rows_fault : (rows : List Row) (b : ℕ) → HasRows rows b → AreRowsBeyond rows → ⊥
 no_rows_fault rows b has beyond = not_both (codes "rows") 1 12 rows b has beyond
 
+-- without a budget within its limit there are no settings
 pub no_budget : (rows : List Row) (u : Usage) → Lacks (HasBudget rows) (IsJust setting.Budget (IsBudgetBeyond rows)) u
     → Lacks (HasSettings rows) (IsSolveFault rows) u
 no_budget rows u = lacks_more (HasBudget rows) (HasSettings rows) (IsJust setting.Budget (IsBudgetBeyond rows)) (IsSolveFault rows) u
@@ -89,6 +93,7 @@ no_budget rows u = lacks_more (HasBudget rows) (HasSettings rows) (IsJust settin
     down setting.Rows first = inr first.0
     down setting.Tiers first = inr first.0
 
+-- nor are there without rows within their limits
 pub no_rows : (rows : List Row) (b : ℕ) (u : Usage) → HasBudget rows b → Lacks (HasRows rows) (IsJust setting.Rows (AreRowsBeyond rows)) u
     → Lacks (HasSettings rows) (IsSolveFault rows) u
 no_rows rows b u budget = lacks_more (HasRows rows) (HasSettings rows) (IsJust setting.Rows (AreRowsBeyond rows)) (IsSolveFault rows) u
@@ -99,6 +104,7 @@ no_rows rows b u budget = lacks_more (HasRows rows) (HasSettings rows) (IsJust s
     down setting.Rows first = inl (refl, first.1)
     down setting.Tiers first = inr first.1
 
+-- nor without tiers within their limits
 pub no_tiers : (rows : List Row) (b r : ℕ) (u : Usage) → HasBudget rows b → HasRows rows r
     → Lacks (HasTiers rows) (IsJust setting.Tiers (AreTiersBeyond rows)) u → Lacks (HasSettings rows) (IsSolveFault rows) u
 no_tiers rows b r u budget has_rows = lacks_more (HasTiers rows) (HasSettings rows) (IsJust setting.Tiers (AreTiersBeyond rows)) (IsSolveFault rows) u
@@ -111,6 +117,7 @@ no_tiers rows b r u budget has_rows = lacks_more (HasTiers rows) (HasSettings ro
 
 -- ---- the budget of prove
 
+-- what prove asks for has a budget
 prove_asks : (rows : List Row) (j : Job) → Asks (codes "prove") rows j → (n : ℕ) × HasBudget rows n
 prove_asks rows (job.Replay file) asks = let e : ◌≡◌ {A = ℕ} 112 114 = ap (λ (l : Text). slice_index l 0) asks.0 in absurd (omega arith)
 prove_asks rows (job.Bound file) asks = let e : ◌≡◌ {A = ℕ} 112 98 = ap (λ (l : Text). slice_index l 0) asks.0 in absurd (omega arith)
@@ -118,12 +125,14 @@ prove_asks rows (job.Check file) asks = let e : ◌≡◌ {A = ℕ} 112 99 = ap 
 prove_asks rows (job.Prove file budget) asks = (budget, asks.2)
 prove_asks rows (job.Solve yard movins cert after settings) asks = let e : ◌≡◌ {A = ℕ} 112 115 = ap (λ (l : Text). slice_index l 0) asks.0 in absurd (omega arith)
 
+-- a fault of prove is its budget's
 prove_fault : (rows : List Row) (f : SettingFault) → IsFault (codes "prove") rows f → IsJust setting.Budget (IsBudgetBeyond rows) f
 prove_fault rows setting.Budget (inl (is, beyond)) = (refl, beyond)
 prove_fault rows setting.Rows (inl (is, none)) = absurd none
 prove_fault rows setting.Tiers (inl (is, none)) = absurd none
 prove_fault rows f (inr (is, first)) = let e : ◌≡◌ {A = ℕ} 112 115 = ap (λ (l : Text). slice_index l 0) is in absurd (omega arith)
 
+-- without a budget within its limit prove asks for nothing
 pub no_prove : (rows : List Row) (u : Usage) → Lacks (HasBudget rows) (IsJust setting.Budget (IsBudgetBeyond rows)) u
     → Lacks (Asks (codes "prove") rows) (IsFault (codes "prove") rows) u
 no_prove rows u = lacks_more (HasBudget rows) (Asks (codes "prove") rows) (IsJust setting.Budget (IsBudgetBeyond rows)) (IsFault (codes "prove") rows) u

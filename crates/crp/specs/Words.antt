@@ -112,10 +112,12 @@ IsSolveFault rows setting.Tiers = ((n : ℕ) × HasBudget rows n) × ((n : ℕ) 
 abbrev pub IsFault : Text → List Row → SettingFault → Type 0
 IsFault name rows f = ((name ≡ codes "prove") × IsProveFault rows f) ⊎ ((name ≡ codes "solve") × IsSolveFault rows f)
 
+-- the command, if there is one, and its rows ask for this
 abbrev pub AsksFor : Option (Text × List Row) → Job → Type 0
 AsksFor None j = ⊥
 AsksFor (Some p) j = Asks p.0 p.1 j
 
+-- the first number of the command, if there is one, beyond its limits
 abbrev pub IsFaultFor : Option (Text × List Row) → SettingFault → Type 0
 IsFaultFor None f = ⊥
 IsFaultFor (Some p) f = IsFault p.0 p.1 f
@@ -126,8 +128,8 @@ WordsAsk words j = (fault_of crp (words_or_default words) ≡ [])
     × AsksFor (subcommand_of crp (words_or_default words)) j
 
 -- the first number of the words beyond its limits, by clap's matches of them
-abbrev pub WordsFault : List Text → SettingFault → Type 0
-WordsFault words f = (fault_of crp (words_or_default words) ≡ [])
+abbrev pub WordsHaveFault : List Text → SettingFault → Type 0
+WordsHaveFault words f = (fault_of crp (words_or_default words) ≡ [])
     × IsFaultFor (subcommand_of crp (words_or_default words)) f
 
 -- ---- refusals
@@ -147,7 +149,7 @@ Refuses words usage.Memory = ⊤
 Refuses words (usage.Help text) = IsAmong kind.DisplayHelp (fault_of crp (words_or_default words))
     ⊎ IsAmong kind.DisplayVersion (fault_of crp (words_or_default words))
 Refuses words (usage.Wrong m) = ((j : Job) → WordsAsk words j → ⊥) × ShowsNothing (fault_of crp (words_or_default words))
-    × TellsFault (WordsFault words) m
+    × TellsFault (WordsHaveFault words) m
 
 -- why nothing of a kind comes of the rows of a command: there is none, and its first number beyond its limits is told
 abbrev pub Lacks : {X : Type 0} → (X → Type 0) → (SettingFault → Type 0) → Usage → Type 0
@@ -163,6 +165,7 @@ NoFault f = ⊥
 abbrev pub IsJust : SettingFault → Type 0 → SettingFault → Type 0
 IsJust given there f = (f ≡ given) × there
 
+-- the refusal is by words, or for want of memory
 abbrev pub IsWordsOrMemory : Usage → Type 0
 IsWordsOrMemory usage.Memory = ⊤
 IsWordsOrMemory (usage.Help text) = ⊥

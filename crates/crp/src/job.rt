@@ -33,7 +33,7 @@ pub enum Job<'a> {
 }
 
 /// How the bays of a yard are to be solved.
-#[derive(Clone, Copy, Debug)]
+#[derive(Clone, Copy)]
 pub struct SolveSettings<'a> {
     /// The most expansions for a bay, at most 1099511627776.
     pub budget: u64,
