@@ -6,6 +6,10 @@ use Rattle.crp_cert.specs.declared.fault.CertFault.TheVariants as cert
 use Rattle.crp_cert.specs.Faults.{IsFirstFault}
 use Rattle.crp_cert.specs.declared.head.Head.{Head}
 use Rattle.crp_cert.specs.Text.{IsHeadOf}
+use Rattle.crp_cert.specs.Writing.{certificate_text}
+use Rattle.crp_solve.specs.declared.answer.Answer.{Answer}
+use Rattle.crp_solve.specs.Answers.{IsTrueAnswer, cert_of}
+use Rattle.crp.specs.Prove.{IsProofOf, plan_in}
 use Rattle.crp.specs.declared.outcome.ToolFault.{ToolFault}
 use Rattle.crp.specs.declared.outcome.ToolFault.TheVariants as fault
 use Rattle.crp.specs.Calls.{Seen, IsGiven, IsNoHead, Tells, cert_told}
@@ -50,3 +54,8 @@ no_report_told limit seen bytes head fault.Read keeps given is none = absurd non
 no_report_told limit seen bytes head fault.Write keeps given is none = absurd none
 no_report_told limit seen bytes head fault.TooLarge keeps given is none = absurd none
 no_report_told limit seen bytes head fault.Memory keeps given is none = keeps
+
+-- the certificate of a true answer, as it was made and as it is written
+pub proof_of : (budget expanded : ℕ) (head : Head) (found : Answer) (made written : List ℕ) → IsTrueAnswer head.problem budget found expanded →
+    made ≡ certificate_text head.bay head.problem (cert_of found) (plan_in found) → written ≡ made → IsProofOf budget head found written
+proof_of budget expanded head found made written true' is same = ((expanded, true'), same ∙ is)

@@ -96,6 +96,15 @@ Asks name rows (job.Solve yard movins cert after settings) = (name ≡ codes "so
     × (first_of (codes "after") rows ≡ option_map (λ text. text.now) after)
     × HasSettings rows settings
 
+-- the numbers of the job are within their limits
+abbrev pub IsWithinLimits : Job → Type 0
+IsWithinLimits (job.Replay file) = ⊤
+IsWithinLimits (job.Bound file) = ⊤
+IsWithinLimits (job.Check file) = ⊤
+IsWithinLimits (job.Prove file budget) = budget ≤ 1099511627776
+IsWithinLimits (job.Solve yard movins cert after s) =
+    (s.budget ≤ 1099511627776) × (1 ≤ s.rows) × (s.rows ≤ 12) × (1 ≤ s.tiers) × (s.tiers ≤ 8)
+
 -- the budget is the first number of prove beyond its limit
 abbrev pub IsProveFault : List Row → SettingFault → Type 0
 IsProveFault rows setting.Budget = IsBudgetBeyond rows

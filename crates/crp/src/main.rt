@@ -16,5 +16,5 @@ mod words;
 use std::process::ExitCode;
 
 fn main(rt: HostRuntime) -> ExitCode {
-    ExitCode::from(running::run(&rt))
+    ExitCode::from(running::run(&rt, &rt))
 }

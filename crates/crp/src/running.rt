@@ -1,16 +1,20 @@
 //! A run of the program: its words, its files, and what it tells the user.
-ghost use Rattle.std.specs.Prelude.{◌≡◌, IfOk, map, string_bytes};
+ghost use Rattle.std.specs.Prelude.{◌≡◌, ◌≤◌, IfOk, map, string_bytes};
 ghost use Rattle.crp.specs.Calls.{exit_code};
-ghost use Rattle.crp.specs.Words.{HasUsageStatus};
+ghost use Rattle.crp.specs.Words.{HasUsageStatus, IsWithinLimits};
 
 use crate::bounding::bound;
 use crate::job::{Job, Mistake, Usage};
 use crate::outcome::{Status, ToolFault, exit_of};
+use crate::proving::prove;
 use crate::replaying::replay;
 use crate::words::job;
 use crp_plan::{Counted, Source};
+use crp_solve::Settings;
 use std::alloc::{AllocError, Global};
 use std::fs::File;
+use std::sync::Wait;
+use std::thread::Threads;
 use std::{env, io};
 
 // The exit status where the words are wrong.
@@ -41,10 +45,12 @@ fn texts_of<'a>(alloc: Global, words: &'a [String]) -> Result<Vec<&'a str>, Allo
 enum Command {
     Replay,
     Bound,
+    Prove(Settings),
 }
 
-fn run_from<R: Source>(
+fn run_from<T: Threads + Wait + Sync, R: Source>(
     rt: &HostRuntime,
+    threads: &T,
     command: Command,
     source: &mut R,
 ) -> Result<Status, ToolFault> {
@@ -52,26 +58,50 @@ fn run_from<R: Source>(
     match command {
         Command::Replay => replay(rt.alloc(), source, &mut sink),
         Command::Bound => bound(rt.alloc(), source, &mut sink),
+        Command::Prove(settings) => prove(threads, rt.alloc(), source, &mut sink, settings),
     }
 }
 
 // A file named `-` is the standard input.
-fn run_on(rt: &HostRuntime, command: Command, name: &str) -> Result<Status, ToolFault> {
+fn run_on<T: Threads + Wait + Sync>(
+    rt: &HostRuntime,
+    threads: &T,
+    command: Command,
+    name: &str,
+) -> Result<Status, ToolFault> {
     if name == "-" {
-        return run_from(rt, command, &mut Counted::new(rt.stdin()));
+        return run_from(rt, threads, command, &mut Counted::new(rt.stdin()));
     }
     match File::open(rt, name) {
-        Ok(file) => run_from(rt, command, &mut Counted::new(file)),
+        Ok(file) => run_from(rt, threads, command, &mut Counted::new(file)),
         Err(_) => Err(ToolFault::Read),
     }
 }
 
-fn start(rt: &HostRuntime, job: Job<'_>) -> Result<Status, ToolFault> {
+// The settings of one worker with this budget.
+fn alone(budget: u64) -> Settings
+    requires { budget ≤ 1099511627776 }
+    ensures { result ≡ record { workers = 1; budget = budget; split = 2 } }
+{
+    match Settings::new(1, budget, 2) {
+        Ok(settings) => settings,
+        Err(_) => unreachable!(),
+    }
+}
+
+fn start<T: Threads + Wait + Sync>(
+    rt: &HostRuntime,
+    threads: &T,
+    job: Job<'_>,
+) -> Result<Status, ToolFault>
+    requires { IsWithinLimits job }
+{
     match job {
-        Job::Replay(file) => run_on(rt, Command::Replay, file),
-        Job::Bound(file) => run_on(rt, Command::Bound, file),
+        Job::Replay(file) => run_on(rt, threads, Command::Replay, file),
+        Job::Bound(file) => run_on(rt, threads, Command::Bound, file),
+        Job::Prove { file, budget } => run_on(rt, threads, Command::Prove(alone(budget)), file),
         // These have no command to run yet.
-        Job::Check(_) | Job::Prove { .. } | Job::Solve { .. } => Err(ToolFault::Read),
+        Job::Check(_) | Job::Solve { .. } => Err(ToolFault::Read),
     }
 }
 
@@ -105,8 +135,8 @@ fn told_usage(rt: &HostRuntime, usage: &Usage) -> u8
     }
 }
 
-/// Runs the program, and says its exit status.
-pub fn run(rt: &HostRuntime) -> u8 {
+/// Runs the program, and says its exit status. Only `threads` may start threads and wait for them.
+pub fn run<T: Threads + Wait + Sync>(rt: &HostRuntime, threads: &T) -> u8 {
     let words = match words_of(rt) {
         Ok(words) => words,
         Err(error) => {
@@ -121,7 +151,7 @@ pub fn run(rt: &HostRuntime) -> u8 {
         return told(rt, &Err(ToolFault::Memory));
     };
     match job(rt.alloc(), &texts) {
-        Ok(job) => told(rt, &start(rt, job)),
+        Ok(job) => told(rt, &start(rt, threads, job)),
         Err(usage) => told_usage(rt, &usage),
     }
 }
