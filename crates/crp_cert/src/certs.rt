@@ -10,7 +10,7 @@ ghost use Rattle.crp_cert.specs.PartReading.{AreParts, IsPartsFault};
 
 use crate::fault::CertFault;
 use crate::fields::{after_newline, after_tag};
-use crate::names::{PartLine, part_line};
+use crate::part_fields::{PartLine, part_line};
 use crate::parts::{Parts, RawPart};
 use crate::reading::head_and_rest;
 use crate::rows::Rows;
