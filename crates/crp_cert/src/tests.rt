@@ -1,3 +1,5 @@
+mod writing;
+
 use crate::{CertFault, Head, Rows, read_head};
 use std::alloc::{AllocError, Global};
 use std::process::Abort;
