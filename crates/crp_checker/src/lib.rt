@@ -1,0 +1,7 @@
+//! The independent checker of certificates.
+#![tactic(auto)]
+
+mod path;
+mod walk;
+
+pub use path::Path;
