@@ -28,16 +28,8 @@ keeps_same (Some xs) = refl
 pub no_head : (limit : ℕ) (given : Option (List ℕ)) (before after : ℕ) (bytes : List ℕ) (f : CertFault) → IsGiven limit given bytes → (f ≡ cert.Memory) ⊎ IsFirstFault bytes f →
     IsNoHead limit given before after (cert_told f)
 no_head limit known before after bytes cert.Memory given why = tt
-no_head limit known before after bytes (cert.Opening line) given (inl e) = absurd (cc)
-no_head limit known before after bytes (cert.Opening line) given (inr first) = (bytes, given, first)
-no_head limit known before after bytes (cert.Size line) given (inl e) = absurd (cc)
-no_head limit known before after bytes (cert.Size line) given (inr first) = (bytes, given, first)
-no_head limit known before after bytes (cert.Row line) given (inl e) = absurd (cc)
-no_head limit known before after bytes (cert.Row line) given (inr first) = (bytes, given, first)
-no_head limit known before after bytes (cert.Claim line) given (inl e) = absurd (cc)
-no_head limit known before after bytes (cert.Claim line) given (inr first) = (bytes, given, first)
-no_head limit known before after bytes (cert.Plan line) given (inl e) = absurd (cc)
-no_head limit known before after bytes (cert.Plan line) given (inr first) = (bytes, given, first)
+no_head limit known before after bytes f given (inl e) = absurd (cc)
+no_head limit known before after bytes f given (inr first) = (bytes, given, first)
 
 -- a command without a head tells why, where nothing was written
 pub no_head_told : (limit : ℕ) (IsReport : List ℕ → List ℕ → Type 0) (IsRefused : List ℕ → ToolFault → Type 0) (seen : Seen) (f : ToolFault) → Keeps seen.held seen.holds →

@@ -63,12 +63,8 @@ read_told reading.TooLarge = fault.TooLarge
 read_told reading.Memory = fault.Memory
 
 abbrev pub cert_told : CertFault → ToolFault
-cert_told (cert.Opening line) = fault.Cert (cert.Opening line)
-cert_told (cert.Size line) = fault.Cert (cert.Size line)
-cert_told (cert.Row line) = fault.Cert (cert.Row line)
-cert_told (cert.Claim line) = fault.Cert (cert.Claim line)
-cert_told (cert.Plan line) = fault.Cert (cert.Plan line)
 cert_told cert.Memory = fault.Memory
+cert_told f = fault.Cert f
 
 -- the exit status of the program: 0 decided, 1 a budget ended, 3 input refused, 4 want of memory, 5 a read or write fault, 6 a certificate,
 -- head or plan refused

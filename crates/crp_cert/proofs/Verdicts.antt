@@ -184,7 +184,7 @@ met_fault bytes (faults.Plan line) (size, stacks, claim, rest, told, all, low, p
     met_all bytes size stacks (claim_line claim ++ rest) told all ∙ past_claim size claim rest told.tells.is_size low
     ∙ ap (λ o. or_fault o (faults.Plan (5 + size.rows)) (λ x. None)) (none_read plan_reader rest none)
     ∙ ap (λ n. Some (faults.Plan n)) (sym place)
-met_fault bytes faults.Memory is = absurd is
+met_fault bytes _ is = absurd is
 
 -- ---- what a head tells
 
@@ -237,7 +237,7 @@ Answer bytes = ((head : Head) × IsHeadOf bytes head) ⊎ ((fault : CertFault) �
 pub head_of : (bytes : List ℕ) (name : YardBay) (size : Size) (stacks : List (List ℕ)) (claim : ℕ) (plan : Option (List ℕ)) (rest : List ℕ) → IsYardBay name → IsSize size →
     AreFirstStacks size stacks → length stacks ≡ size.rows → claim ≤ most_claimed size → IfSome plan AreRows →
     bytes ≡ title_line ++ (bay_line name ++ (size_line size ++ (flat_map row_line stacks ++ (claim_line claim ++ (plan_line plan ++ rest))))) →
-    IsHeadOf bytes (record { bay = name; problem = stated size.tiers size.ordered stacks; claim = claim; plan = plan })
+    let head : Head = record { bay = name; problem = stated size.tiers size.ordered stacks; claim = claim; plan = plan } in IsHead head × (bytes ≡ head_text head ++ rest)
 head_of bytes name size stacks claim plan rest named is first all low fits text =
     let some : 1 ≤ length stacks = (let a = is.some_rows in omega arith) in
     let high : tallest (replicate (length stacks) size.tiers) ≡ size.tiers = tallest_same (length stacks) size.tiers some in
@@ -250,7 +250,7 @@ head_of bytes name size stacks claim plan rest named is first all low fits text 
         claim = subst (λ m. claim ≤ m) (sym (cap_is size stacks some)) low;
         plan = fits;
       },
-      (rest, text ∙ ap (λ (s : Size). title_line ++ (bay_line name ++ (size_line s ++ (flat_map row_line stacks ++ (claim_line claim ++ (plan_line plan ++ rest)))))) same ∙ sym (head_then head rest)),
+      text ∙ ap (λ (s : Size). title_line ++ (bay_line name ++ (size_line s ++ (flat_map row_line stacks ++ (claim_line claim ++ (plan_line plan ++ rest)))))) same ∙ sym (head_then head rest),
     )
   where
     same_size : (r t m r' t' m' n : ℕ) → r ≡ r' → t ≡ t' → m ≡ m' → ◌≡◌ {A = Size} (record { rows = r; tiers = t; ordered = n; total = m }) (record { rows = r'; tiers = t'; ordered = n; total = m' })
@@ -265,11 +265,9 @@ plan_answer bytes size stacks claim rest told all low = by_plan (plan_at rest) r
     by_plan None e = inr (faults.Plan (5 + size.rows), (size, stacks, claim, rest, told, all, low, refl, none_stands plan_reader rest e))
     by_plan (Some x) e =
         let t = plan_reader.takes rest x.0 x.1 e in
-        inl (
-          record { bay = told.tells.name; problem = stated size.tiers size.ordered stacks; claim = claim; plan = x.0 },
-          head_of bytes told.tells.name size stacks claim x.0 x.1 told.tells.named told.tells.is_size told.first all low t.0
-              (told.tells.text ∙ ap (λ l. title_line ++ (bay_line told.tells.name ++ (size_line size ++ (flat_map row_line stacks ++ (claim_line claim ++ l))))) t.1),
-        )
+        let h = head_of bytes told.tells.name size stacks claim x.0 x.1 told.tells.named told.tells.is_size told.first all low t.0
+            (told.tells.text ∙ ap (λ l. title_line ++ (bay_line told.tells.name ++ (size_line size ++ (flat_map row_line stacks ++ (claim_line claim ++ l))))) t.1) in
+        inl (record { bay = told.tells.name; problem = stated size.tiers size.ordered stacks; claim = claim; plan = x.0 }, (h.0, (x.1, h.1)))
 
 -- from the claim line on
 claim_answer : (bytes : List ℕ) (size : Size) (stacks : List (List ℕ)) (rest : List ℕ) → TellsStacks bytes size stacks rest → length stacks ≡ size.rows → Answer bytes

@@ -57,4 +57,4 @@ IsFirstFault bytes (faults.Claim line) =
 IsFirstFault bytes (faults.Plan line) =
     (size : Size) × (stacks : List (List ℕ)) × (claim : ℕ) × (rest : List ℕ) × TellsStacks bytes size stacks (claim_line claim ++ rest)
     × (length stacks ≡ size.rows) × (claim ≤ most_claimed size) × (line ≡ 5 + size.rows) × ¬ BeginsWith (λ plan. IfSome plan AreRows) plan_line rest
-IsFirstFault bytes faults.Memory = ⊥
+IsFirstFault bytes _ = ⊥

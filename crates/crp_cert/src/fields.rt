@@ -48,7 +48,7 @@ fn further_digits(limit: u32, first: u32, bytes: &[u8]) -> Option<(u32, &[u8])>
 }
 
 /// A number up to the limit, without leading zeros, and what follows it.
-fn number(limit: u32, bytes: &[u8]) -> Option<(u32, &[u8])>
+pub fn number(limit: u32, bytes: &[u8]) -> Option<(u32, &[u8])>
     requires most { limit ≤ 9999 }
     requires least { 9 ≤ limit }
     ensures value { Reads (λ x. (x.0, x.1.now)) result (number_at limit bytes.now) }

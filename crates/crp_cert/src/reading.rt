@@ -2,7 +2,7 @@
 ghost use Rattle.std.specs.Prelude.{◌≡◌, ℕ, ◌≤◌, ◌<◌, ◌+◌, ◌⊎◌, List, ◌++◌, ◌∷◌, [], IfOk, IfErr, IfSome, IfNone, length, vec_len};
 ghost use Rattle.std.specs.List.{flat_map};
 ghost use Rattle.crp_plan.specs.Faults.{stacks_of, stated};
-ghost use Rattle.crp_cert.specs.Text.{IsSize, IsHeadOf, row_line};
+ghost use Rattle.crp_cert.specs.Text.{IsSize, IsHead, IsHeadOf, row_line, head_text};
 ghost use Rattle.crp_cert.specs.Faults.{BeginsWith, AreFirstStacks, IsNextStack, IsFirstFault};
 ghost use Rattle.crp_cert.specs.Reading.{IsStackFault};
 
@@ -80,10 +80,10 @@ fn problem_of(size: Size, stacks: &[Vec<u8>]) -> Problem
     }
 }
 
-/// The head that the bytes begin with, down to its plan line. What follows is not looked at. Else
-/// the first line that is not as said, or that no memory is left.
-pub fn read_head(alloc: Global, bytes: &[u8]) -> Result<Head, CertFault>
-    ensures found { IfOk result (IsHeadOf bytes.now) }
+/// The head that the bytes begin with, and what follows its plan line.
+pub fn head_and_rest(alloc: Global, bytes: &[u8]) -> Result<(Head, &[u8]), CertFault>
+    ensures head { IfOk result (λ told. IsHead told.0) }
+    ensures text { IfOk result (λ told. bytes.now ≡ head_text told.0 ++ told.1.now) }
     ensures refused { IfErr result (λ fault. (fault ≡ CertFault.Memory) ⊎ IsFirstFault bytes.now fault) }
 {
     let Some(rest) = after_tag(b"CRP-CERT 1\n", bytes) else {
@@ -101,13 +101,24 @@ pub fn read_head(alloc: Global, bytes: &[u8]) -> Result<Head, CertFault>
     let Some((claim, rest)) = claim_of(problem.cap(), rest) else {
         return Err(CertFault::Claim { line });
     };
-    let Some((plan, _)) = plan_of(alloc, rest)? else {
+    let Some((plan, rest)) = plan_of(alloc, rest)? else {
         return Err(CertFault::Plan { line: line + 1 });
     };
-    Ok(Head {
+    let head = Head {
         bay,
         problem,
         claim,
         plan,
-    })
+    };
+    Ok((head, rest))
+}
+
+/// The head that the bytes begin with, down to its plan line. What follows is not looked at. Else
+/// the first line that is not as said, or that no memory is left.
+pub fn read_head(alloc: Global, bytes: &[u8]) -> Result<Head, CertFault>
+    ensures found { IfOk result (IsHeadOf bytes.now) }
+    ensures refused { IfErr result (λ fault. (fault ≡ CertFault.Memory) ⊎ IsFirstFault bytes.now fault) }
+{
+    let (head, _) = head_and_rest(alloc, bytes)?;
+    Ok(head)
 }

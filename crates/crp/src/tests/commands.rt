@@ -128,7 +128,7 @@ fn is_told_at(fault: CertFault, at: u32) -> bool {
         CertFault::Row { line } => line == at && line >= 4 && line <= 6,
         CertFault::Claim { line } => line == at && line == 7,
         CertFault::Plan { line } => line == at && line == 8,
-        CertFault::Memory => false,
+        _ => false,
     }
 }
 

@@ -1,0 +1,71 @@
+-- Reading the lines of parts from the front of the bytes: what was read, and what follows it. No public clause cites this module.
+use Rattle.std.specs.Prelude.{◌≡◌, ◌≢◌, ℕ, zero, suc, ◌+◌, ◌++◌, length, ◌==◌, List, [], ◌∷◌, Option, Some, None, if◌then◌else◌, codes, All, AllPairs, ⊤, ◌≤◌}
+use Rattle.std.specs.List.{flat_map}
+use Rattle.crp_plan.specs.Bay.{Problem, Position, start}
+use Rattle.crp_bay.specs.Positions.{can_shift, child, settled}
+use Rattle.crp_tree.specs.declared.tree.Tree.{Tree}
+use Rattle.crp_tree.specs.Names.{Precedes}
+use Rattle.crp_cert.specs.declared.parts.RawPart.{RawPart}
+use Rattle.crp_cert.specs.declared.fault.CertFault.{CertFault}
+use Rattle.crp_cert.specs.Script.{part_line, symbols_of, names_told, Matches, IsRawPart}
+use Rattle.crp_cert.specs.ScriptFaults.{IsLineFault}
+use Rattle.crp_cert.specs.Reading.{◌>>=◌, tag_at, number_at}
+
+-- the bytes before the end of the line, and what follows it
+abbrev pub line_at : List ℕ → Option (List ℕ × List ℕ)
+line_at [] = None
+line_at (b ∷ bytes) = if b == 10 then Some ([], bytes) else (line_at bytes >>= λ x. Some (b ∷ x.0, x.1))
+
+-- what is made of the bytes after the tag, or else another thing
+abbrev pub tagged : {A : Type 0} → Option (List ℕ) → A → (List ℕ → A) → A
+tagged None other on = other
+tagged (Some rest) other on = on rest
+
+-- a row before others
+abbrev pub in_front : ℕ → (List ℕ × Position) × List ℕ → Option ((List ℕ × Position) × List ℕ)
+in_front row x = Some ((row ∷ x.0.0, x.0.1), x.1)
+
+-- rows with points between them, one at least and no more than there is room for, each legal where those before it lead; and where all lead
+abbrev pub rows_at : ℕ → Position → List ℕ → Option ((List ℕ × Position) × List ℕ)
+rows_at zero s bytes = None
+rows_at (suc room) s bytes =
+    number_at 99 bytes >>= λ x. (if can_shift s x.0
+        then tagged (tag_at (codes ".") x.1) (Some ((x.0 ∷ [], child s x.0), x.1)) (λ rest. rows_at room (child s x.0) rest >>= in_front x.0)
+        else None)
+
+-- a name of at most 8 rows that is a path, and where it leads
+unfoldable pub name_at : Problem → List ℕ → Option ((List ℕ × Position) × List ℕ)
+name_at p bytes = tagged (tag_at (codes "/") bytes) (rows_at 8 (settled (start p)) bytes) (λ rest. Some (([], settled (start p)), rest))
+
+-- the name and the symbols of a part line, from behind its first word
+unfoldable pub part_at : Problem → List ℕ → Option ((List ℕ × List ℕ) × List ℕ)
+part_at p bytes = do
+  name ← name_at p bytes
+  rest ← tag_at (codes ": ") name.1
+  line ← line_at rest
+  Some ((name.0.0, line.0), line.1)
+
+-- the symbols of trees, one tree after the other
+abbrev pub symbols_of_all : List Tree → List ℕ
+symbols_of_all [] = []
+symbols_of_all (tree ∷ trees) = symbols_of tree ++ symbols_of_all trees
+
+-- one tree for each of the rows, in their order
+abbrev pub AllMatch : Position → List ℕ → List Tree → Type 0
+AllMatch s [] [] = ⊤
+AllMatch s [] (tree ∷ trees) = ⊥
+AllMatch s (row ∷ rows) [] = ⊥
+AllMatch s (row ∷ rows) (tree ∷ trees) = Matches (child s row) tree × AllMatch s rows trees
+
+-- the bytes begin with the lines of these parts, which may follow a head, and then this follows
+pub record AreParts (p : Problem) (bytes : List ℕ) (parts : List RawPart) (rest : List ℕ) : Type 0 where
+  pub each_part : All (IsRawPart p) parts
+  pub rising : AllPairs Precedes (names_told parts)
+  pub text : bytes ≡ flat_map part_line parts ++ rest
+
+-- the bytes begin with the lines of parts, and the line after them has this fault
+pub record IsPartsFault (p : Problem) (bytes : List ℕ) (fault : CertFault) : Type 0 where
+  pub parts : List RawPart
+  pub rest : List ℕ
+  pub are : AreParts p bytes parts rest
+  pub why : IsLineFault p parts (6 + length p.stacks + length parts) rest fault

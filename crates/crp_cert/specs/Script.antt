@@ -1,0 +1,83 @@
+-- The text of a whole certificate: its head, its parts, and its last line. Each line ends with LF.
+use Rattle.std.specs.Prelude.{◌≡◌, ℕ, ◌≤◌, ⊤, List, [], ◌∷◌, ◌++◌, length, map, All, AllPairs, codes}
+use Rattle.std.specs.List.{flat_map}
+use Rattle.std.specs.Fmt.{decimal}
+use Rattle.crp_plan.specs.Bay.{Problem, Position, IsAt}
+use Rattle.crp_bay.specs.Positions.{targets, child}
+use Rattle.crp_tree.specs.declared.tree.Tree.{Tree, CutB, CutL, Branch', Given, Row_of-Tree, end_of-Tree, more_of-Tree}
+use Rattle.crp_tree.specs.Names.{Precedes}
+use Rattle.crp_cert.specs.declared.parts.RawPart.{RawPart}
+use Rattle.crp_cert.specs.declared.script.Script.{Script}
+use Rattle.crp_cert.specs.Text.{numbers_line, head_text, IsHead}
+
+-- a name: / where it has no rows, else its rows with points between them
+abbrev pub name_text : List ℕ → List ℕ
+name_text [] = codes "/"
+name_text (row ∷ rows) = decimal row ++ flat_map (λ r. 46 ∷ decimal r) rows
+
+-- the symbols of a tree, a branch before its trees: B is a cut by the blocking bound, L a cut by the look-ahead bound, X a branch,
+-- G a subtree that is given to a part of its own
+abbrev mutual
+  pub symbols_of : Tree → List ℕ
+  symbols_of CutB = codes "B"
+  symbols_of CutL = codes "L"
+  symbols_of (Branch' shape all) = codes "X" ++ symbols_of_each all
+  symbols_of Given = codes "G"
+
+  -- the symbols of the trees of a branch, one tree after the other
+  pub symbols_of_each : {m : _} → Row_of-Tree m → List ℕ
+  symbols_of_each end_of-Tree = []
+  symbols_of_each (more_of-Tree tree trees) = symbols_of tree ++ symbols_of_each trees
+
+-- a part line with this name and these symbols
+abbrev pub symbols_line : List ℕ → List ℕ → List ℕ
+symbols_line name symbols = codes "part " ++ (name_text name ++ (codes ": " ++ (symbols ++ 10 ∷ [])))
+
+-- the line of a part
+abbrev pub part_line : RawPart → List ℕ
+part_line part = symbols_line part.name (symbols_of part.tree)
+
+-- the last line: how many parts there are
+abbrev pub end_line : ℕ → List ℕ
+end_line count = numbers_line (codes "end") (count ∷ [])
+
+-- the lines of a certificate, in order
+abbrev pub script_text : Script → List ℕ
+script_text script = head_text script.head ++ (flat_map part_line script.parts ++ end_line (length script.parts))
+
+-- the tree is one that symbols tell at s: a branch has one tree for each legal row, rising, so none where s is finished or dead;
+-- no subtree is given to another part
+abbrev mutual
+  pub Matches : Position → Tree → Type 0
+  Matches s CutB = ⊤
+  Matches s CutL = ⊤
+  Matches s (Branch' shape all) = MatchesEach s (targets s) all
+  Matches s Given = ⊥
+
+  -- one tree for each of the rows, in their order, told at the position that the row leads to
+  pub MatchesEach : Position → List ℕ → {m : _} → Row_of-Tree m → Type 0
+  MatchesEach s [] end_of-Tree = ⊤
+  MatchesEach s [] (more_of-Tree tree trees) = ⊥
+  MatchesEach s (row ∷ rows) end_of-Tree = ⊥
+  MatchesEach s (row ∷ rows) (more_of-Tree tree trees) = Matches (child s row) tree × MatchesEach s rows trees
+
+-- what a part line may say: the name has at most 8 rows and is a path of the problem, and the tree is one that symbols tell there
+pub record IsRawPart (p : Problem) (part : RawPart) : Type 0 where
+  pub short : length part.name ≤ 8
+  pub place : Position
+  pub is_at : IsAt p part.name place
+  pub matches : Matches place part.tree
+
+-- the names of parts
+abbrev pub names_told : List RawPart → List (List ℕ)
+names_told parts = map (λ part. part.name) parts
+
+-- what a whole certificate may say: a head, and parts of its problem in rising order of their names
+pub record IsScript (script : Script) : Type 0 where
+  pub is_head : IsHead script.head
+  pub each_part : All (IsRawPart script.head.problem) script.parts
+  pub rising : AllPairs Precedes (names_told script.parts)
+
+-- the bytes are the script's text, all of them
+abbrev pub IsScriptOf : List ℕ → Script → Type 0
+IsScriptOf bytes script = IsScript script × (bytes ≡ script_text script)
