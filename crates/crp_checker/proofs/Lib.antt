@@ -1,2 +1,4 @@
-pub mod Steps
+pub mod InOrder
+pub mod PartSteps
+pub mod WalkSteps
 pub mod Walked

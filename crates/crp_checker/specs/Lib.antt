@@ -1,5 +1,13 @@
 pub mod Symbols
+pub mod Claims
+pub mod Refusals
+pub mod Verdicts
+pub mod Needs
+pub mod Told
 pub mod Walks
 pub use Rattle.crp_plan.specs.Bay
 pub use Rattle.crp_tree.specs.Trees
 pub use Rattle.crp_tree.specs.Scripts
+pub use Rattle.crp_cert.specs.Text
+pub use Rattle.crp_cert.specs.Script
+pub use Rattle.crp_cert.specs.ScriptFaults

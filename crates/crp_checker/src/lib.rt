@@ -1,7 +1,13 @@
-//! The independent checker of certificates.
+//! The independent checker of certificates. It uses nothing of any search.
 #![tactic(auto)]
 
+mod needed;
+mod parts;
 mod path;
+mod refused;
+mod verdict;
 mod walk;
 
 pub use path::Path;
+pub use refused::Refused;
+pub use verdict::Verdict;

@@ -7,7 +7,7 @@ use Rattle.crp_tree.specs.Trees.{givens}
 use Rattle.crp_checker.specs.Symbols.{Node, nodes, IsAtEnd}
 use Rattle.crp_checker.specs.Walks.{below, WentOver, IsHalt}
 use Rattle.crp_checker.proofs.Walked.{Meets, below_met, below_around, below_all, branch_node, branch_nodes, branch_givens}
-use Rattle.crp_checker.proofs.Steps.{branch_right, first_in, halt_in, first_of_all, back_again, went_on, all_met, some_node, low_halt, branch_over}
+use Rattle.crp_checker.proofs.WalkSteps.{branch_right, first_in, halt_in, first_of_all, back_again, went_on, all_met, some_node, low_halt, branch_over}
 use Rattle.crp_checker.proofs.walk.+walking.Goals as goal
 use Rattle.crp_checker.proofs.walk.+walking.Goals.{walk_each-In_ok-push}
 
