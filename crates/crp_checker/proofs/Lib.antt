@@ -1,4 +1,6 @@
 pub mod InOrder
 pub mod PartSteps
+pub mod Shapes
+pub mod SymbolText
 pub mod WalkSteps
 pub mod Walked

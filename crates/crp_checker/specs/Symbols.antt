@@ -20,6 +20,17 @@ pub record Node : Type 0 where
   pub place : Position
   pub symbol : Symbol
 
+-- the letter of a symbol
+abbrev pub letter : Symbol → ℕ
+letter B = 66
+letter L = 76
+letter X = 88
+letter G = 71
+
+-- the letter that tells a node
+abbrev pub letter_at : Node → ℕ
+letter_at node = letter node.symbol
+
 -- the nodes of a tree at a path that leads to s, in the order of their symbols: a branch before those of its trees, and these by rising rows
 abbrev mutual
   pub nodes : List ℕ → Position → Tree → List Node
