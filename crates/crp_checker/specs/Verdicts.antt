@@ -10,13 +10,16 @@ use Rattle.crp_checker.specs.declared.verdict.Verdict.TheVariants.{Optimal, NoPl
 abbrev pub plan_count : Script → Option ℕ
 plan_count script = option_map length script.plan
 
--- what a script shows: its bound is the fewest where its plan has as many relocations; there is no plan where its bound is the cap;
--- else it shows its bound, and the relocations of its plan, if it has one
+-- the bound is the fewest where the plan has as many relocations; there is no plan where the bound is the cap; else these are a bound
+-- and the relocations of a plan, if there is one
+abbrev pub IsVerdictOf : ℕ → ℕ → Option ℕ → Verdict → Type 0
+IsVerdictOf bound most count (Optimal fewest) = (fewest ≡ bound) × (count ≡ Some bound)
+IsVerdictOf bound most count NoPlan = (count ≢ Some bound) × (bound ≡ most)
+IsVerdictOf bound most count (Bounds lower upper) = (count ≢ Some bound) × (bound ≢ most) × (lower ≡ bound) × (upper ≡ count)
+
+-- what a script shows, by its bound, the cap of its problem and its plan
 abbrev pub IsVerdict : Script → Verdict → Type 0
-IsVerdict script (Optimal count) = (count ≡ script.lower) × (plan_count script ≡ Some script.lower)
-IsVerdict script NoPlan = (plan_count script ≢ Some script.lower) × (script.lower ≡ cap script.problem)
-IsVerdict script (Bounds lower upper) =
-    (plan_count script ≢ Some script.lower) × (script.lower ≢ cap script.problem) × (lower ≡ script.lower) × (upper ≡ plan_count script)
+IsVerdict script verdict = IsVerdictOf script.lower (cap script.problem) (plan_count script) verdict
 
 -- what a verdict says of a problem: that the fewest relocations of a plan are so many; that there is no plan; or that no plan has fewer
 -- than the lower bound, and some plan has as many as the upper one, if there is one

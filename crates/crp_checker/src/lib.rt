@@ -1,10 +1,12 @@
 //! The independent checker of certificates. It uses nothing of any search.
 #![tactic(auto)]
 
+mod claim;
 mod needed;
 mod parts;
 mod path;
 mod refused;
+mod same;
 mod verdict;
 mod walk;
 
