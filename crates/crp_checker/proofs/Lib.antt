@@ -1,7 +1,11 @@
 pub mod Claimed
 pub mod InOrder
+pub mod Meaning
+pub mod OneRefusal
 pub mod PartSteps
 pub mod Shapes
+pub mod SameText
+pub mod Sizes
 pub mod Stacked
 pub mod SymbolText
 pub mod WalkSteps

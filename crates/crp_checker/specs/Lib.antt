@@ -2,6 +2,7 @@ pub mod Symbols
 pub mod Claims
 pub mod Refusals
 pub mod Verdicts
+pub mod Shown
 pub mod Needs
 pub mod Told
 pub mod Walks
