@@ -179,7 +179,7 @@ rows_once most (a ∷ as') (b ∷ bs) x y len low-a low-b e =
 -- ---- plans
 
 -- a number begins with a digit
-starts_high : (n : ℕ) → n < 2 ^ 64 → (d : ℕ) × (tail : List ℕ) × (decimal n ≡ d ∷ tail) × (48 ≤ d)
+pub starts_high : (n : ℕ) → n < 2 ^ 64 → (d : ℕ) × (tail : List ℕ) × (decimal n ≡ d ∷ tail) × (48 ≤ d)
 starts_high n small = decimal_by_steps P one step n small
   where
     P : ℕ → List ℕ → Type 0

@@ -266,7 +266,7 @@ plan_answer bytes size stacks claim rest told all low = by_plan (plan_at rest) r
     by_plan (Some x) e =
         let t = plan_reader.takes rest x.0 x.1 e in
         let h = head_of bytes told.tells.name size stacks claim x.0 x.1 told.tells.named told.tells.is_size told.first all low t.0
-            (told.tells.text ∙ ap (λ l. title_line ++ (bay_line told.tells.name ++ (size_line size ++ (flat_map row_line stacks ++ (claim_line claim ++ l))))) t.1) in
+        (told.tells.text ∙ ap (λ l. title_line ++ (bay_line told.tells.name ++ (size_line size ++ (flat_map row_line stacks ++ (claim_line claim ++ l))))) t.1) in
         inl (record { bay = told.tells.name; problem = stated size.tiers size.ordered stacks; claim = claim; plan = x.0 }, (h.0, (x.1, h.1)))
 
 -- from the claim line on

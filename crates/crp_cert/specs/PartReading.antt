@@ -1,5 +1,5 @@
 -- Reading the lines of parts from the front of the bytes: what was read, and what follows it. No public clause cites this module.
-use Rattle.std.specs.Prelude.{◌≡◌, ◌≢◌, ℕ, zero, suc, ◌+◌, ◌++◌, length, ◌==◌, List, [], ◌∷◌, Option, Some, None, if◌then◌else◌, codes, All, AllPairs, ⊤, ◌≤◌}
+use Rattle.std.specs.Prelude.{◌≡◌, ℕ, zero, suc, ◌+◌, ◌++◌, length, ◌==◌, List, [], ◌∷◌, Option, Some, None, if◌then◌else◌, codes, All, AllPairs, ⊤}
 use Rattle.std.specs.List.{flat_map}
 use Rattle.crp_plan.specs.Bay.{Problem, Position, start}
 use Rattle.crp_bay.specs.Positions.{can_shift, child, settled}
@@ -9,12 +9,12 @@ use Rattle.crp_cert.specs.declared.parts.RawPart.{RawPart}
 use Rattle.crp_cert.specs.declared.fault.CertFault.{CertFault}
 use Rattle.crp_cert.specs.Script.{part_line, symbols_of, names_told, Matches, IsRawPart}
 use Rattle.crp_cert.specs.ScriptFaults.{IsLineFault}
-use Rattle.crp_cert.specs.Reading.{◌>>=◌, tag_at, number_at}
+use Rattle.crp_cert.specs.Reading.{◌>>=◌, tag_at, number_at, newline_at}
 
--- the bytes before the end of the line, and what follows it
+-- the bytes before the end of the line, and the others
 abbrev pub line_at : List ℕ → Option (List ℕ × List ℕ)
 line_at [] = None
-line_at (b ∷ bytes) = if b == 10 then Some ([], bytes) else (line_at bytes >>= λ x. Some (b ∷ x.0, x.1))
+line_at (b ∷ bytes) = if b == 10 then Some ([], b ∷ bytes) else (line_at bytes >>= λ x. Some (b ∷ x.0, x.1))
 
 -- what is made of the bytes after the tag, or else another thing
 abbrev pub tagged : {A : Type 0} → Option (List ℕ) → A → (List ℕ → A) → A
@@ -30,8 +30,8 @@ abbrev pub rows_at : ℕ → Position → List ℕ → Option ((List ℕ × Posi
 rows_at zero s bytes = None
 rows_at (suc room) s bytes =
     number_at 99 bytes >>= λ x. (if can_shift s x.0
-        then tagged (tag_at (codes ".") x.1) (Some ((x.0 ∷ [], child s x.0), x.1)) (λ rest. rows_at room (child s x.0) rest >>= in_front x.0)
-        else None)
+    then tagged (tag_at (codes ".") x.1) (Some ((x.0 ∷ [], child s x.0), x.1)) (λ rest. rows_at room (child s x.0) rest >>= in_front x.0)
+    else None)
 
 -- a name of at most 8 rows that is a path, and where it leads
 unfoldable pub name_at : Problem → List ℕ → Option ((List ℕ × Position) × List ℕ)
@@ -43,7 +43,8 @@ part_at p bytes = do
   name ← name_at p bytes
   rest ← tag_at (codes ": ") name.1
   line ← line_at rest
-  Some ((name.0.0, line.0), line.1)
+  after ← newline_at line.1
+  Some ((name.0.0, line.0), after)
 
 -- the symbols of trees, one tree after the other
 abbrev pub symbols_of_all : List Tree → List ℕ

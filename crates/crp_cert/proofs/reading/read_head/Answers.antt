@@ -1,4 +1,3 @@
-use Rattle.std.proofs.Common.{◌≡◌}
 use Rattle.crp_cert.proofs.reading.read_head.Goals as goal
 
 pub returns-clause-found : goal.returns-clause-found

@@ -1,0 +1,132 @@
+//! Reading a whole certificate.
+ghost use Rattle.std.specs.Prelude.{◌≡◌, ℕ, ◌+◌, ◌≤◌, ◌⊎◌, ◌↔◌, List, ◌++◌, None, IsTrue, IfOk, IfErr, All, AllPairs, length, codes};
+ghost use Rattle.std.specs.List.{flat_map};
+ghost use Rattle.crp_plan.specs.Bay.{IsProblem};
+ghost use Rattle.crp_tree.specs.Names.{Precedes};
+ghost use Rattle.crp_cert.specs.Script.{part_line, symbols_of, end_line, names_told, IsRawPart, IsScriptOf};
+ghost use Rattle.crp_cert.specs.ScriptFaults.{ComesAfter, IsLineFault, IsFirstFaultOfScript};
+ghost use Rattle.crp_cert.specs.Reading.{Reads, tag_at};
+ghost use Rattle.crp_cert.specs.PartReading.{AreParts, IsPartsFault};
+
+use crate::fault::CertFault;
+use crate::fields::{after_newline, after_tag};
+use crate::names::{PartLine, part_line};
+use crate::parts::{Parts, RawPart};
+use crate::reading::head_and_rest;
+use crate::rows::Rows;
+use crate::script::Script;
+use crate::trees::{are_symbols, read_tree};
+use crp_plan::Problem;
+use crp_tree::Name;
+use itoa::Buffer;
+use std::alloc::Global;
+
+/// Whether a name comes after the names of parts, which rise.
+fn comes_after(parts: &[RawPart], name: &Name) -> bool
+    requires { AllPairs Precedes (names_told parts.now) }
+    ensures { IsTrue result ↔ ComesAfter parts.now name.now }
+{
+    match parts.last() {
+        Some(last) => last.name.as_slice().cmp(&name.rows()).is_lt(),
+        None => true,
+    }
+}
+
+/// The part that a line tells after these parts, and what follows the line. The line has this
+/// number, and its first word is read.
+fn next_part<'a>(
+    alloc: Global,
+    problem: &Problem,
+    parts: &[RawPart],
+    line: u32,
+    bytes: &'a [u8],
+) -> Result<(RawPart, &'a [u8]), CertFault>
+    requires { AllPairs Precedes (names_told parts.now) }
+    ensures part { IfOk result (λ told. IsRawPart problem.now told.0) }
+    ensures after { IfOk result (λ told. ComesAfter parts.now told.0.name) }
+    ensures text { IfOk result (λ told. codes "part " ++ bytes.now ≡ part_line told.0 ++ told.1.now) }
+    ensures refused { IfErr result (λ fault. (fault ≡ CertFault.Memory)
+        ⊎ IsLineFault problem.now parts.now line (codes "part " ++ bytes.now) fault) }
+{
+    let Some(told) = part_line(problem, bytes) else {
+        return Err(CertFault::Part { line });
+    };
+    if !comes_after(parts, &told.name) {
+        return Err(CertFault::Order { line });
+    }
+    if !are_symbols(told.symbols) {
+        return Err(CertFault::Symbol { line });
+    }
+    let Some((tree, left)) = read_tree(alloc, &told.place, told.symbols)? else {
+        return Err(CertFault::Unfinished { line });
+    };
+    if !left.is_empty() {
+        return Err(CertFault::Trailing { line });
+    }
+    let rows = Vec::from_slice(alloc, told.name.rows())?;
+    Ok((
+        RawPart {
+            name: Rows::of(rows),
+            tree,
+        },
+        told.rest,
+    ))
+}
+
+/// The parts that the lines after a head tell, and what follows the last of these lines.
+fn all_parts<'a>(
+    alloc: Global,
+    problem: &Problem,
+    bytes: &'a [u8],
+) -> Result<(Vec<RawPart>, &'a [u8]), CertFault>
+    ensures parts { IfOk result (λ told. AreParts problem.now bytes.now told.0.items told.1.now) }
+    ensures all { IfOk result (λ told. tag_at (codes "part ") told.1.now ≡ None) }
+    ensures refused { IfErr result (λ fault. (fault ≡ CertFault.Memory) ⊎ IsPartsFault problem.now bytes.now fault) }
+{
+    let mut parts = Vec::new(alloc);
+    let mut rest = bytes;
+    while let Some(after) = after_tag(b"part ", rest) {
+        let line = 6 + problem.rows() as u32 + parts.len() as u32;
+        let (part, after) = next_part(alloc, problem, &parts, line, after)?;
+        let Ok(()) = parts.push(part) else {
+            return Err(CertFault::Memory);
+        };
+        rest = after;
+    }
+    Ok((parts, rest))
+}
+
+/// What follows the last line, which tells how many parts there are.
+fn after_end(count: usize, bytes: &[u8]) -> Option<&[u8]>
+    ensures { Reads (λ x. x.now) result (tag_at (end_line count) bytes.now) }
+{
+    let mut digits = Buffer::new();
+    let rest = after_tag(b"end ", bytes)?;
+    let rest = after_tag(digits.format(count).as_bytes(), rest)?;
+    after_newline(rest)
+}
+
+/// The script whose text the bytes are. Else the first line that is not as said, or that no memory
+/// is left.
+///
+/// Nothing is promised of the parts but that their names are paths of the problem and rise, and
+/// that each branch has a tree for each legal row: no bound is looked at, nor whether the parts
+/// give each other all that is needed.
+pub fn read_cert(alloc: Global, bytes: &[u8]) -> Result<Script, CertFault>
+    ensures found { IfOk result (IsScriptOf bytes.now) }
+    ensures refused { IfErr result (λ fault. (fault ≡ CertFault.Memory) ⊎ IsFirstFaultOfScript bytes.now fault) }
+{
+    let (head, rest) = head_and_rest(alloc, bytes)?;
+    let (parts, rest) = all_parts(alloc, &head.problem, rest)?;
+    let line = 6 + head.problem.rows() as u32 + parts.len() as u32;
+    let Some(rest) = after_end(parts.len(), rest) else {
+        return Err(CertFault::End { line });
+    };
+    if !rest.is_empty() {
+        return Err(CertFault::End { line: line + 1 });
+    }
+    Ok(Script {
+        head,
+        parts: Parts::of(parts),
+    })
+}
