@@ -51,19 +51,20 @@ head_is bytes told head is of =
 
 -- what an accepted certificate shows of the problem that its bytes tell
 pub says_of_head : (wanted : Option Problem) (bytes : List ℕ) (told : Told) (verdict : Verdict) (head : Head) → IsYes wanted bytes told → IsVerdict (claim_of told) verdict → IsHeadOf bytes head → Says head.problem verdict
-says_of_head wanted bytes told verdict head yes v of =
-    subst (λ h. Says h.problem verdict) (sym (head_is bytes told head yes.is_text of)) (says_from (claim_of told) verdict yes.accepted v)
+says_of_head wanted bytes told verdict head known v of =
+    subst (λ h. Says h.problem verdict) (sym (head_is bytes told head known.is_text of)) (says_from (claim_of told) verdict known.accepted v)
 
 -- and of each plan of that problem
 pub bound_of_head : (wanted : Option Problem) (bytes : List ℕ) (told : Told) (head : Head) (moves : List Move) → IsYes wanted bytes told → IsHeadOf bytes head → IsPlan head.problem moves → head.claim ≤ relocations moves
-bound_of_head wanted bytes told head moves yes of plan =
-    let same = head_is bytes told head yes.is_text of in
-    subst (λ h. h.claim ≤ relocations moves) (sym same) (bounded (claim_of told) moves yes.accepted (subst (λ h. IsPlan h.problem moves) same plan))
+bound_of_head wanted bytes told head moves known of plan =
+    let same = head_is bytes told head known.is_text of in
+    subst (λ h. h.claim ≤ relocations moves) (sym same) (bounded (claim_of told) moves known.accepted (subst (λ h. IsPlan h.problem moves) same plan))
 
 -- a text that the reader refuses is refused for that
-pub text_refused : (wanted : Option Problem) (bytes : List ℕ) (fault : CertFault) → (fault ≡ cert.Memory) ⊎ IsFirstFaultOfScript bytes fault → (cert_told fault ≡ refused.Memory) ⊎ IsRefusal wanted bytes (cert_told fault)
-text_refused wanted bytes cert.Memory k = inl refl
-text_refused wanted bytes fault k = inr (⊎_elim (λ e. absurd (cc)) (λ f. f) k)
+pub text_refused : (bytes : List ℕ) (fault : CertFault) → (fault ≡ cert.Memory) ⊎ IsFirstFaultOfScript bytes fault →
+    (cert_told fault ≡ refused.Memory) ⊎ ((wanted : Option Problem) → IsRefusal wanted bytes (cert_told fault))
+text_refused bytes cert.Memory k = inl refl
+text_refused bytes fault k = inr (λ wanted. ⊎_elim (λ e. absurd (cc)) (λ f. f) k)
 
 -- a claim that is wrong is refused for that
 pub claim_refused : (wanted : Option Problem) (bytes : List ℕ) (told : Told) (r : Refused) → IsScriptOf bytes told → IsFirstWrongClaim wanted (claim_of told) r → IsRefusal wanted bytes r

@@ -1,11 +1,13 @@
 //! The check of a certificate.
-ghost use Rattle.std.specs.Prelude.{◌≡◌, ◌≢◌, ◌≤◌, ◌⊎◌, List, ℕ, None, Some, IfOk, OnOk, IfErr};
+ghost use Rattle.std.specs.Prelude.{◌≡◌, ◌≢◌, ◌^◌, ◌<◌, ◌≤◌, ◌⊎◌, Option, None, Some, All, IfOk, OnOk, IfErr, length, List};
 ghost use Rattle.crp_plan.specs.declared.moves.Move.{Move};
-ghost use Rattle.crp_plan.specs.Bay.{IsPlan, relocations};
+ghost use Rattle.crp_plan.specs.Bay.{Problem as Statement, IsPlan, relocations};
 ghost use Rattle.crp_cert.specs.declared.head.Head.{Head};
 ghost use Rattle.crp_cert.specs.declared.script.Script.{Script as Told};
 ghost use Rattle.crp_cert.specs.Text.{IsHeadOf};
-ghost use Rattle.crp_checker.specs.Claims.{IsYes};
+ghost use Rattle.crp_cert.specs.Script.{IsScriptOf};
+ghost use Rattle.crp_checker.specs.Symbols.{nodes_of};
+ghost use Rattle.crp_checker.specs.Claims.{part_of, IsYes};
 ghost use Rattle.crp_checker.specs.Verdicts.{Says};
 ghost use Rattle.crp_checker.specs.Shown.{Shows, ShowsOf};
 ghost use Rattle.crp_checker.specs.Refusals.{IsRefusal};
@@ -14,16 +16,29 @@ use crate::claim::check_claim;
 use crate::refused::Refused;
 use crate::same::same_problem;
 use crate::verdict::Verdict;
-use crp_cert::read_cert;
+use crp_cert::{Script, read_cert};
 use crp_plan::{BayName, Problem};
 use std::alloc::Global;
+
+/// The script that the bytes are the text of.
+fn script_of(alloc: Global, bytes: &[u8]) -> Result<Script, Refused>
+    ensures text { IfOk result (IsScriptOf bytes.now) }
+    ensures few { IfOk result (λ script. All (λ part. length (nodes_of script.head.problem (part_of part)) < 2 ^ 64) script.parts) }
+    ensures refused { IfErr result (λ refused. (refused ≡ Refused.Memory)
+        ⊎ ((wanted : Option Statement) → IsRefusal wanted bytes.now refused)) }
+{
+    let script = read_cert(alloc, bytes)?;
+    // No part has more symbols than the text has bytes.
+    let _most = bytes.len();
+    Ok(script)
+}
 
 /// Checks a certificate. Whose it is, and what it shows.
 pub(crate) fn check_text(alloc: Global, bytes: &[u8]) -> Result<(BayName, Verdict), Refused>
     ensures shown { IfOk result (λ told. ShowsOf bytes.now told.0 told.1) }
     ensures refused { IfErr result (λ refused. (refused ≡ Refused.Memory) ⊎ IsRefusal None bytes.now refused) }
 {
-    let script = read_cert(alloc, bytes)?;
+    let script = script_of(alloc, bytes)?;
     check_claim(alloc, script)
 }
 
@@ -52,7 +67,7 @@ pub fn check_for(alloc: Global, problem: &Problem, bytes: &[u8]) -> Result<Verdi
     ensures bound { OnOk result ((head : Head) (moves : List Move) → IsHeadOf bytes.now head → IsPlan problem.now moves → head.claim ≤ relocations moves) }
     ensures says { IfOk result (Says problem.now) }
 {
-    let script = read_cert(alloc, bytes)?;
+    let script = script_of(alloc, bytes)?;
     if !same_problem(problem, &script.head.problem) {
         return Err(Refused::OtherProblem);
     }
