@@ -1,6 +1,8 @@
 pub mod Claimed
+pub mod Cuts
 pub mod InOrder
 pub mod Meaning
+pub mod OneCut
 pub mod OneRefusal
 pub mod PartSteps
 pub mod Shapes

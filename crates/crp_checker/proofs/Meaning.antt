@@ -19,7 +19,7 @@ use Rattle.crp_checker.specs.declared.refused.Refused.TheVariants as refused
 use Rattle.crp_checker.specs.declared.verdict.Verdict.{Verdict}
 use Rattle.crp_checker.specs.declared.verdict.Verdict.TheVariants.{Optimal, NoPlan, Bounds}
 use Rattle.crp_checker.specs.Claims.{claim_of, IsWanted, IsYes}
-use Rattle.crp_checker.specs.Verdicts.{plan_count, IsVerdict, Says}
+use Rattle.crp_checker.specs.Verdicts.{IsVerdictOf, IsVerdict, Says}
 use Rattle.crp_checker.specs.Told.{cert_told}
 use Rattle.crp_checker.specs.Refusals.{IsFirstWrongClaim, IsRefusal}
 
@@ -75,3 +75,15 @@ claim_refused wanted bytes told r is w = (told, is, w)
 pub claim_refused_if : (wanted : Option Problem) (bytes : List ℕ) (told : Told) (r : Refused) → IsScriptOf bytes told → IsWanted wanted told.head.problem →
     (r ≡ refused.Memory) ⊎ ((any : Option Problem) → IsWanted any told.head.problem → IsFirstWrongClaim any (claim_of told) r) → (r ≡ refused.Memory) ⊎ IsRefusal wanted bytes r
 claim_refused_if wanted bytes told r is asked k = ⊎_elim (λ e. inl e) (λ w. inr (claim_refused wanted bytes told r is (w wanted asked))) k
+
+-- the bound, the cap and a plan give one verdict
+pub one_verdict_of : (bound most : ℕ) (count : Option ℕ) (verdict other : Verdict) → IsVerdictOf bound most count verdict → IsVerdictOf bound most count other → verdict ≡ other
+one_verdict_of bound most count (Optimal n) (Optimal m) a b = ap (λ k. Optimal k) (a.0 ∙ sym b.0)
+one_verdict_of bound most count (Optimal n) NoPlan a b = absurd (b.0 a.1)
+one_verdict_of bound most count (Optimal n) (Bounds l u) a b = absurd (b.0 a.1)
+one_verdict_of bound most count NoPlan (Optimal m) a b = absurd (a.0 b.1)
+one_verdict_of bound most count NoPlan NoPlan a b = refl
+one_verdict_of bound most count NoPlan (Bounds l u) a b = absurd (b.1 a.1)
+one_verdict_of bound most count (Bounds l u) (Optimal m) a b = absurd (a.0 b.1)
+one_verdict_of bound most count (Bounds l u) NoPlan a b = absurd (a.1 b.1)
+one_verdict_of bound most count (Bounds l u) (Bounds l' u') a b = ap (λ k. Bounds k u) (a.2 ∙ sym b.2) ∙ ap (λ k. Bounds l' k) (a.3 ∙ sym b.3)

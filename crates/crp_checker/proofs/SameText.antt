@@ -129,10 +129,6 @@ not_both wanted bytes told (refused.Missing name) known w = not_wrong wanted (cl
 not_both wanted bytes told (refused.Unneeded name) known w = not_wrong wanted (claim_of told) (refused.Unneeded name) known.accepted known.as_wanted (wrong_alike wanted bytes told w.0 (refused.Unneeded name) known.is_text w.1 w.2)
 not_both wanted bytes told refused.Memory known w = w.2
 
--- a refusal for a wrong claim
-WrongOf : Option Problem → List ℕ → Refused → Type 0
-WrongOf wanted bytes r = (told : Told) × IsScriptOf bytes told × IsFirstWrongClaim wanted (claim_of told) r
-
 -- two such refusals of a text are the same
 one_of_two : (wanted : Option Problem) (bytes : List ℕ) (r q : Refused) (a b : Told) → IsScriptOf bytes a → IsScriptOf bytes b → IsFirstWrongClaim wanted (claim_of a) r → IsFirstWrongClaim wanted (claim_of b) q → r ≡ q
 one_of_two wanted bytes r q a b x y w v =
@@ -143,3 +139,20 @@ one_of_two wanted bytes r q a b x y w v =
 -- so where a text is refused, and memory is not wanted, it is not that of an accepted script
 pub rejected : (wanted : Option Problem) (bytes : List ℕ) (r : Refused) → (r ≡ refused.Memory) ⊎ IsRefusal wanted bytes r → (told : Told) → r ≢ refused.Memory → IsYes wanted bytes told → ⊥
 rejected wanted bytes r k told other known = ⊎_elim (λ e. other e) (λ w. not_both wanted bytes told r known w) k
+
+-- refusals of one text are the same
+pub one_refusal : (wanted : Option Problem) (bytes : List ℕ) (r q : Refused) → IsRefusal wanted bytes r → IsRefusal wanted bytes q → r ≡ q
+one_refusal wanted bytes (refused.Cert f) (refused.Cert g) a b = ap (λ x. refused.Cert x) (one_text_fault bytes f g a b)
+one_refusal wanted bytes (refused.Cert f) q a b = absurd (fault_and_claim bytes f (of_script wanted bytes q b) a)
+  where
+    fault_and_claim : _
+    fault_and_claim = ?
+one_refusal wanted bytes r q a b = ?
+
+-- what one text shows is one verdict
+pub one_shown : (wanted : Option Problem) (bytes : List ℕ) (verdict other : Verdict) → Shows wanted bytes verdict → Shows wanted bytes other → verdict ≡ other
+one_shown wanted bytes verdict other a b =
+    let known = a.1 in
+    let known' = b.1 in
+    let same = say_the_same bytes a.0 b.0 known.is_text known'.is_text in
+    one_verdict_of _ _ _ verdict other a.2 (subst (λ h. IsVerdictOf h.claim (cap h.problem) (option_map length h.plan) other) (sym same.heads) b.2)

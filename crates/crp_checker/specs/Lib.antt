@@ -3,6 +3,7 @@ pub mod Claims
 pub mod Refusals
 pub mod Verdicts
 pub mod Shown
+pub mod Files
 pub mod Needs
 pub mod Told
 pub mod Walks
