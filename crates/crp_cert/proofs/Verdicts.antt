@@ -65,7 +65,7 @@ no_row size stacks bytes is e = none_stands (next_reader size stacks is) bytes (
 -- ---- the fault that is met first, going from line to line
 
 -- the fault where nothing was read, or what follows
-abbrev or_fault : {A : Type 0} → Option A → CertFault → (A → Option CertFault) → Option CertFault
+abbrev pub or_fault : {A : Type 0} → Option A → CertFault → (A → Option CertFault) → Option CertFault
 or_fault None fault next = Some fault
 or_fault (Some x) fault next = next x
 

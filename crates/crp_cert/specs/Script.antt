@@ -72,6 +72,10 @@ pub record IsRawPart (p : Problem) (part : RawPart) : Type 0 where
 abbrev pub names_told : List RawPart → List (List ℕ)
 names_told parts = map (λ part. part.name) parts
 
+-- the symbols of their trees
+abbrev pub symbols_told : List RawPart → List (List ℕ)
+symbols_told parts = map (λ part. symbols_of part.tree) parts
+
 -- what a whole certificate may say: a head, and parts of its problem in rising order of their names
 pub record IsScript (script : Script) : Type 0 where
   pub is_head : IsHead script.head

@@ -1,0 +1,289 @@
+-- Each text is a script's or has a first fault, and only one of these.
+use Rattle.std.proofs.Common.{◌≡◌, ◌≢◌, ℕ, zero, suc, ◌+◌, ◌-◌, ◌≤◌, inl, inr, true, cond, List, [], ◌∷◌, ◌++◌, length, All, Option, Some, None, refl, sym, ap, ◌∙◌, subst, arith, append_assoc, append-nil, length-append}
+use Rattle.std.specs.Prelude.{codes, AllPairs}
+use Rattle.std.specs.List.{flat_map, AllByRecursion}
+use Rattle.std.proofs.lemmas.Option.{same_Some, none-some}
+use Rattle.std.proofs.lemmas.List.Elements.{recursion_from_All, All-from_recursion}
+use Rattle.std.proofs.Math.Seq.{get_or-append_seam}
+use Rattle.crp_plan.specs.Bay.{Problem, IsProblem, Position, IsAt}
+use Rattle.crp_bay.specs.Positions.{at}
+use Rattle.crp_bay.proofs.Reaching.{reached_rows}
+use Rattle.crp_bay.proofs.Walked.{at_reads, at_means}
+use Rattle.crp_tree.specs.declared.tree.Tree.{Tree}
+use Rattle.crp_tree.specs.Names.{Precedes}
+use Rattle.crp_cert.specs.declared.head.Head.{Head}
+use Rattle.crp_cert.specs.declared.parts.RawPart.{RawPart}
+use Rattle.crp_cert.specs.declared.script.Script.{Script}
+use Rattle.crp_cert.specs.declared.fault.CertFault.{CertFault}
+use Rattle.crp_cert.specs.declared.fault.CertFault.TheVariants as faults
+use Rattle.crp_cert.specs.Text.{head_text, IsHead}
+use Rattle.crp_cert.specs.Script.{symbols_of, part_line, end_line, names_told, Matches, IsRawPart, IsScript, IsScriptOf}
+use Rattle.crp_cert.specs.ScriptFaults.{TellsParts, BeginsWithPart, BeginsWithTree, IsLineFault, IsFirstFaultOfScript}
+use Rattle.crp_cert.specs.Reading.{◌>>=◌, tag_at}
+use Rattle.crp_cert.specs.PartReading.{part_at, tagged, AreParts}
+use Rattle.crp_cert.proofs.Numbers.{tag_takes, tag_again}
+use Rattle.crp_cert.proofs.Heads.{head_once}
+use Rattle.crp_cert.proofs.Verdicts.{or_fault, apart, one_fault}
+use Rattle.crp_cert.proofs.PartLines.{behind_word, line_then, part_takes, part_again}
+use Rattle.crp_cert.proofs.PartFaults.{part_line_some, told_line}
+use Rattle.crp_cert.proofs.PartTests.{after_test, after_yes, comes_from, comes_to, fails, symbols_test, symbols_to, symbols_from, tree_tested, tree_one_line}
+use Rattle.crp_cert.proofs.TreeReading.{behind_tree, tree_again, tree_takes}
+
+-- ---- the fault that is met first, going from line to line behind a head
+
+-- the fault of the last line, by what follows it
+behind_last : Option (List ℕ) → ℕ → Option CertFault
+behind_last None line = Some (faults.End line)
+behind_last (Some []) line = None
+behind_last (Some (b ∷ rest)) line = Some (faults.End (suc line))
+
+-- the fault of symbols, by what follows their tree
+behind_symbols : Option (List ℕ) → ℕ → Option CertFault → Option CertFault
+behind_symbols None line next = Some (faults.Unfinished line)
+behind_symbols (Some []) line next = next
+behind_symbols (Some (b ∷ rest)) line next = Some (faults.Trailing line)
+
+-- what follows the tree at a name
+left_at : Problem → List ℕ → List ℕ → Option (List ℕ)
+left_at p name symbols = at p name >>= λ s. behind_tree (length symbols) s symbols
+
+-- the fault of a part line, or that of what follows it
+line_fault : Problem → List (List ℕ) → ℕ → (List ℕ × List ℕ) → Option CertFault → Option CertFault
+line_fault p names line x next =
+    cond (after_test names x.0) (cond (symbols_test x.1) (behind_symbols (left_at p x.0 x.1) line next) (Some (faults.Symbol line))) (Some (faults.Order line))
+
+-- the fault from the line behind parts of these names on, which are no more than this
+lines_fault : ℕ → Problem → List (List ℕ) → List ℕ → Option CertFault
+lines_fault zero p names bytes = None
+lines_fault (suc most) p names bytes =
+    tagged (tag_at (codes "part ") bytes) (behind_last (tag_at (end_line (length names)) bytes) (6 + length p.stacks + length names))
+    (λ rest. or_fault (part_at p rest) (faults.Part (6 + length p.stacks + length names)) (λ x. line_fault p names (6 + length p.stacks + length names) x.0 (lines_fault most p (names ++ x.0.0 ∷ []) x.1)))
+
+-- ---- one line
+
+-- behind the parts, past the first word of a part line
+past_word : (most : ℕ) (p : Problem) (names : List (List ℕ)) (rest : List ℕ) → lines_fault (suc most) p names (codes "part " ++ rest)
+    ≡ or_fault (part_at p rest) (faults.Part (6 + length p.stacks + length names)) (λ x. line_fault p names (6 + length p.stacks + length names) x.0 (lines_fault most p (names ++ x.0.0 ∷ []) x.1))
+unfolding lines_fault
+past_word most p names rest = refl
+
+-- a line that begins with no part
+no_word : (most : ℕ) (p : Problem) (names : List (List ℕ)) (bytes : List ℕ) → tag_at (codes "part ") bytes ≡ None → lines_fault (suc most) p names bytes ≡ behind_last (tag_at (end_line (length names)) bytes) (6 + length p.stacks + length names)
+unfolding lines_fault
+no_word most p names bytes e =
+    ap (λ o. tagged o (behind_last (tag_at (end_line (length names)) bytes) (6 + length p.stacks + length names))
+    (λ rest. or_fault (part_at p rest) (faults.Part (6 + length p.stacks + length names)) (λ x. line_fault p names (6 + length p.stacks + length names) x.0 (lines_fault most p (names ++ x.0.0 ∷ []) x.1)))) e
+
+-- a part line that stands there
+past_line : (most : ℕ) (p : Problem) (names : List (List ℕ)) (bytes : List ℕ) → IsProblem p → (part : BeginsWithPart p bytes) →
+    lines_fault (suc most) p names bytes ≡ line_fault p names (6 + length p.stacks + length names) (part.name, part.symbols) (lines_fault most p (names ++ part.name ∷ []) part.after)
+past_line most p names bytes is part =
+    let text : bytes ≡ codes "part " ++ behind_word part.name part.symbols part.after = part.text ∙ line_then part.name part.symbols part.after in
+    ap (lines_fault (suc most) p names) text ∙ past_word most p names (behind_word part.name part.symbols part.after)
+    ∙ ap (λ o. or_fault o (faults.Part (6 + length p.stacks + length names)) (λ x. line_fault p names (6 + length p.stacks + length names) x.0 (lines_fault most p (names ++ x.0.0 ∷ []) x.1)))
+    (part_again p part.name part.symbols part.after part.place is part.short (at_reads p part.name part.place is part.is_at) (recursion_from_All (λ b. b ≢ 10) part.symbols part.one_line))
+
+-- there are at most 12 rows where a name leads
+pub few_rows : (p : Problem) (name : List ℕ) (s : Position) → IsProblem p → IsAt p name s → length s.heights ≤ 12
+few_rows p name s is is_at = (reached_rows s (record { problem = p; path = name; is_problem = is; is_at = is_at })).1
+
+-- what follows the tree at a name, from where the name leads
+left_is : (p : Problem) (name symbols : List ℕ) (s : Position) → IsProblem p → IsAt p name s → left_at p name symbols ≡ behind_tree (length symbols) s symbols
+unfolding left_at
+left_is p name symbols s is is_at = ap (λ o. o >>= λ v. behind_tree (length symbols) v symbols) (at_reads p name s is is_at)
+
+-- no tree
+no_tree : (p : Problem) (name symbols : List ℕ) (s : Position) → IsProblem p → IsAt p name s → ¬ BeginsWithTree s symbols → left_at p name symbols ≡ None
+no_tree p name symbols s is is_at never = left_is p name symbols s is is_at ∙ by_cases (behind_tree (length symbols) s symbols) refl
+  where
+    by_cases : (o : Option (List ℕ)) → behind_tree (length symbols) s symbols ≡ o → o ≡ None
+    by_cases None e = refl
+    by_cases (Some rest) e = let t = tree_takes (length symbols) s symbols rest (few_rows p name s is is_at) e in absurd (never (t.0, t.1, (rest, t.2)))
+
+-- a tree, and what follows it
+some_tree : (p : Problem) (name symbols : List ℕ) (s : Position) (tree : Tree) (rest : List ℕ) → IsProblem p → IsAt p name s → Matches s tree → symbols ≡ symbols_of tree ++ rest → left_at p name symbols ≡ Some rest
+some_tree p name symbols s tree rest is is_at m e =
+    left_is p name symbols s is is_at ∙ ap (behind_tree (length symbols) s) e
+    ∙ tree_again (length symbols) s tree rest (omega (arith, ap length e, length-append (symbols_of tree) rest)) m
+
+-- a part line that is as said
+past_part : (most : ℕ) (p : Problem) (names : List (List ℕ)) (part : RawPart) (rest : List ℕ) → IsProblem p → IsRawPart p part → after_test names part.name ≡ true →
+    lines_fault (suc most) p names (part_line part ++ rest) ≡ lines_fault most p (names ++ part.name ∷ []) rest
+unfolding line_fault behind_symbols
+past_part most p names part rest is raw comes =
+    let symbols : List ℕ = symbols_of part.tree in
+    let line : BeginsWithPart p (part_line part ++ rest) = record {
+      name = part.name;
+      short = raw.short;
+      place = raw.place;
+      is_at = raw.is_at;
+      symbols = symbols_of part.tree;
+      one_line = All-from_recursion (λ b. b ≢ 10) (symbols_of part.tree) (tree_one_line raw.place part.tree raw.matches);
+      after = rest;
+      text = refl;
+    } in
+    past_line most p names (part_line part ++ rest) is line
+    ∙ rw (comes, tree_tested raw.place part.tree raw.matches, some_tree p part.name symbols raw.place part.tree [] is raw.is_at raw.matches (sym (append-nil symbols))) refl
+
+-- the name comes after the names before it
+last_rises : (names : List (List ℕ)) (name : List ℕ) (more : List (List ℕ)) → AllPairs Precedes (names ++ name ∷ more) → AllByRecursion (λ other. Precedes other name) names
+last_rises [] name more rising = tt
+last_rises (x ∷ names) name more rising = (
+  subst (Precedes x) (get_or-append_seam names name more name) (rising 0 (suc (length names)) name (omega arith) (omega (arith, length-append names (name ∷ more)))),
+  last_rises names name more (λ i j d lt bound. rising (suc i) (suc j) d (omega arith) (omega arith)),
+)
+
+-- past parts that are as said
+past_parts : (parts : List RawPart) (most : ℕ) (p : Problem) (names : List (List ℕ)) (rest : List ℕ) → IsProblem p → All (IsRawPart p) parts → AllPairs Precedes (names ++ names_told parts) →
+    lines_fault (length parts + most) p names (flat_map part_line parts ++ rest) ≡ lines_fault most p (names ++ names_told parts) rest
+past_parts [] most p names rest is each rising =
+    ap (λ n. lines_fault n p names rest) (let z : 0 + most ≡ most = omega arith in z) ∙ ap (λ l. lines_fault most p l rest) (sym (append-nil names))
+past_parts (part ∷ parts) most p names rest is each rising =
+    let group : (names ++ part.name ∷ []) ++ names_told parts ≡ names ++ part.name ∷ names_told parts = append_assoc names (part.name ∷ []) (names_told parts) in
+    let more : suc (length parts) + most ≡ suc (length parts + most) = omega arith in
+    ap (λ n. lines_fault n p names (flat_map part_line (part ∷ parts) ++ rest)) more
+    ∙ ap (lines_fault (suc (length parts + most)) p names) (append_assoc (part_line part) (flat_map part_line parts) rest)
+    ∙ past_part (length parts + most) p names part (flat_map part_line parts ++ rest) is (each 0 part (omega arith)) (after_yes names part.name (last_rises names part.name (names_told parts) rising))
+    ∙ past_parts parts most p (names ++ part.name ∷ []) rest is (λ k d lt. each (suc k) d (omega arith)) (subst (AllPairs Precedes) (sym group) rising)
+    ∙ ap (λ l. lines_fault most p l rest) group
+
+-- ---- the fault of a line is the one that is met there
+
+-- as many names as parts
+length_names : (parts : List RawPart) → length (names_told parts) ≡ length parts
+length_names [] = refl
+length_names (part ∷ parts) = ap suc (length_names parts)
+
+-- nothing but a part begins with the first word of one
+no_first_word : (bytes : List ℕ) → ((after : List ℕ) → bytes ≡ codes "part " ++ after → ⊥) → tag_at (codes "part ") bytes ≡ None
+no_first_word bytes never = by_cases (tag_at (codes "part ") bytes) refl
+  where
+    by_cases : (o : Option (List ℕ)) → tag_at (codes "part ") bytes ≡ o → o ≡ None
+    by_cases None e = refl
+    by_cases (Some after) e = absurd (never after (tag_takes (codes "part ") bytes after e))
+
+-- no last line
+no_last_line : (count : ℕ) (bytes : List ℕ) → ((after : List ℕ) → bytes ≡ end_line count ++ after → ⊥) → tag_at (end_line count) bytes ≡ None
+no_last_line count bytes never = by_cases (tag_at (end_line count) bytes) refl
+  where
+    by_cases : (o : Option (List ℕ)) → tag_at (end_line count) bytes ≡ o → o ≡ None
+    by_cases None e = refl
+    by_cases (Some after) e = absurd (never after (tag_takes (end_line count) bytes after e))
+
+-- a last line begins with no first word of a part
+pub end_no_part : (count : ℕ) (rest : List ℕ) → tag_at (codes "part ") (end_line count ++ rest) ≡ None
+end_no_part count rest = refl
+
+-- no part line that stands there is read
+none_at : (p : Problem) (after : List ℕ) → IsProblem p → ¬ BeginsWithPart p (codes "part " ++ after) → part_at p after ≡ None
+none_at p after is never = by_cases (part_at p after) refl
+  where
+    by_cases : (o : Option ((List ℕ × List ℕ) × List ℕ)) → part_at p after ≡ o → o ≡ None
+    by_cases None e = refl
+    by_cases (Some x) e =
+        let r = part_takes p after x.0.0 x.0.1 x.1 e in
+        absurd (never (told_line p after x.0.0 x.0.1 x.1 r.place (at_means p x.0.0 r.place is r.goes) e))
+
+-- the fault of the line behind the parts
+line_met : (most : ℕ) (p : Problem) (parts : List RawPart) (line : ℕ) (bytes : List ℕ) (fault : CertFault) → IsProblem p → line ≡ 6 + length p.stacks + length (names_told parts) → IsLineFault p parts line bytes fault →
+    lines_fault (suc most) p (names_told parts) bytes ≡ Some fault
+unfolding line_fault behind_symbols behind_last
+line_met most p parts line bytes (faults.Part n) is number (same, (after, text), never) =
+    ap (lines_fault (suc most) p (names_told parts)) text ∙ past_word most p (names_told parts) after
+    ∙ rw (none_at p after is (subst (λ l. ¬ BeginsWithPart p l) text never)) (ap (λ k. Some (faults.Part k)) (sym (same ∙ number)))
+line_met most p parts line bytes (faults.Order n) is number (same, (part, never)) =
+    past_line most p (names_told parts) bytes is part
+    ∙ rw (fails (after_test (names_told parts) part.name) (comes_to parts part.name) never) (ap (λ k. Some (faults.Order k)) (sym (same ∙ number)))
+line_met most p parts line bytes (faults.Symbol n) is number (same, (part, comes, never)) =
+    past_line most p (names_told parts) bytes is part
+    ∙ rw (comes_from parts part.name comes, fails (symbols_test part.symbols) (symbols_to part.symbols) never) (ap (λ k. Some (faults.Symbol k)) (sym (same ∙ number)))
+line_met most p parts line bytes (faults.Unfinished n) is number (same, (part, comes, are, never)) =
+    past_line most p (names_told parts) bytes is part
+    ∙ rw (comes_from parts part.name comes, symbols_from part.symbols are, no_tree p part.name part.symbols part.place is part.is_at never) (ap (λ k. Some (faults.Unfinished k)) (sym (same ∙ number)))
+line_met most p parts line bytes (faults.Trailing n) is number (same, (part, comes, are, (tree, m, (b, rest, e)))) =
+    past_line most p (names_told parts) bytes is part
+    ∙ rw (comes_from parts part.name comes, symbols_from part.symbols are, some_tree p part.name part.symbols part.place tree (b ∷ rest) is part.is_at m e) (ap (λ k. Some (faults.Trailing k)) (sym (same ∙ number)))
+line_met most p parts line bytes (faults.End n) is number (inl (same, no_part', no_end')) =
+    no_word most p (names_told parts) bytes (no_first_word bytes no_part')
+    ∙ rw (no_last_line (length (names_told parts)) bytes (λ after e. no_end' after (e ∙ ap (λ k. end_line k ++ after) (length_names parts)))) (ap (λ k. Some (faults.End k)) (sym (same ∙ number)))
+line_met most p parts line bytes (faults.End n) is number (inr (same, (b, after, text))) =
+    let text' : bytes ≡ end_line (length (names_told parts)) ++ b ∷ after = text ∙ ap (λ k. end_line k ++ b ∷ after) (sym (length_names parts)) in
+    no_word most p (names_told parts) bytes (ap (tag_at (codes "part ")) text' ∙ end_no_part (length (names_told parts)) (b ∷ after))
+    ∙ rw (ap (tag_at (end_line (length (names_told parts)))) text' ∙ tag_again (end_line (length (names_told parts))) (b ∷ after)) (ap (λ k. Some (faults.End k)) (sym (same ∙ ap suc number)))
+line_met most p parts line bytes _ is number why = absurd why
+
+-- no fault is met in the last line
+last_met : (most : ℕ) (p : Problem) (parts : List RawPart) → lines_fault (suc most) p (names_told parts) (end_line (length parts)) ≡ None
+unfolding behind_last
+last_met most p parts =
+    let count : length parts ≡ length (names_told parts) = sym (length_names parts) in
+    let text : end_line (length parts) ≡ end_line (length (names_told parts)) ++ [] = ap end_line count ∙ sym (append-nil (end_line (length (names_told parts)))) in
+    no_word most p (names_told parts) (end_line (length parts)) (ap (tag_at (codes "part ")) text ∙ end_no_part (length (names_told parts)) [])
+    ∙ rw (ap (tag_at (end_line (length (names_told parts)))) text ∙ tag_again (end_line (length (names_told parts))) []) refl
+
+-- ---- behind the head
+
+-- parts take some bytes each
+parts_some : (parts : List RawPart) (rest : List ℕ) → length parts ≤ length (flat_map part_line parts ++ rest)
+parts_some [] rest = omega arith
+parts_some (part ∷ parts) rest =
+    let h = part_line_some part (part_line part ++ (flat_map part_line parts ++ rest)) (flat_map part_line parts ++ rest) refl in
+    omega (arith, h, parts_some parts rest, ap length (append_assoc (part_line part) (flat_map part_line parts) rest))
+
+-- what is met behind a head is what is met behind the parts
+parts_met : (p : Problem) (behind : List ℕ) (parts : List RawPart) (rest : List ℕ) → IsProblem p → AreParts p behind parts rest →
+    (most : ℕ) × (lines_fault (suc (length behind)) p [] behind ≡ lines_fault (suc most) p (names_told parts) rest)
+parts_met p behind parts rest is are =
+    let most : ℕ = length behind - length parts in
+    let long : length parts ≤ length behind = omega (arith, parts_some parts rest, ap length are.text) in
+    let enough : suc (length behind) ≡ length parts + suc most = omega arith in
+    (most, ap (λ n. lines_fault n p [] behind) enough ∙ ap (lines_fault (length parts + suc most) p []) are.text ∙ past_parts parts (suc most) p [] rest is are.each_part are.rising)
+
+-- the fault of the line behind the parts
+fault_met : (p : Problem) (behind : List ℕ) (parts : List RawPart) (line : ℕ) (rest : List ℕ) (fault : CertFault) → IsProblem p → AreParts p behind parts rest → line ≡ 6 + length p.stacks + length parts →
+    IsLineFault p parts line rest fault → lines_fault (suc (length behind)) p [] behind ≡ Some fault
+fault_met p behind parts line rest fault is are number why =
+    let m = parts_met p behind parts rest is are in
+    m.1 ∙ line_met m.0 p parts line rest fault is (omega (arith, length_names parts)) why
+
+-- no fault where the last line ends the text
+none_met : (p : Problem) (behind : List ℕ) (parts : List RawPart) → IsProblem p → AreParts p behind parts (end_line (length parts)) → lines_fault (suc (length behind)) p [] behind ≡ None
+none_met p behind parts is are = let m = parts_met p behind parts (end_line (length parts)) is are in m.1 ∙ last_met m.0 p parts
+
+-- ---- the whole text
+
+-- what stands behind the head
+abbrev Behind : List ℕ → CertFault → Type 0
+Behind bytes fault = (head : Head) × (parts : List RawPart) × (line : ℕ) × (rest : List ℕ) × TellsParts bytes head parts line rest × IsLineFault head.problem parts line rest fault
+
+-- the parts that are told behind the head
+told_parts : (bytes : List ℕ) (head : Head) (parts : List RawPart) (line : ℕ) (rest : List ℕ) → TellsParts bytes head parts line rest → AreParts head.problem (flat_map part_line parts ++ rest) parts rest
+told_parts bytes head parts line rest tells = record { each_part = tells.each_part; rising = tells.rising; text = refl }
+
+-- the fault that is met behind the head that the bytes begin with
+behind_met : (bytes : List ℕ) (head : Head) (behind : List ℕ) (fault : CertFault) → IsHead head → bytes ≡ head_text head ++ behind → Behind bytes fault → lines_fault (suc (length behind)) head.problem [] behind ≡ Some fault
+behind_met bytes head behind fault is text (other, parts, line, rest, tells, why) =
+    let same = head_once head other behind (flat_map part_line parts ++ rest) is tells.is_head (sym text ∙ tells.text) in
+    let problem : IsProblem other.problem = (tells.is_head).problem in
+    ap (λ (h : Head). lines_fault (suc (length behind)) h.problem [] behind) same.0 ∙ ap (λ l. lines_fault (suc (length l)) other.problem [] l) same.1
+    ∙ fault_met other.problem (flat_map part_line parts ++ rest) parts line rest fault problem (told_parts bytes other parts line rest tells) tells.number why
+
+-- no text is a script's and has a first fault
+pub script_apart : (bytes : List ℕ) (script : Script) (fault : CertFault) → IsScriptOf bytes script → IsFirstFaultOfScript bytes fault → ⊥
+script_apart bytes script fault of (inl is) = apart bytes script.head fault ((of.0).is_head, (flat_map part_line script.parts ++ end_line (length script.parts), of.1)) is
+script_apart bytes script fault of (inr behind) =
+    let is : IsScript script = of.0 in
+    let problem : IsProblem script.head.problem = (is.is_head).problem in
+    none-some fault
+    (sym (none_met script.head.problem (flat_map part_line script.parts ++ end_line (length script.parts)) script.parts problem (record { each_part = is.each_part; rising = is.rising; text = refl }))
+    ∙ behind_met bytes script.head (flat_map part_line script.parts ++ end_line (length script.parts)) fault is.is_head of.1 behind)
+
+-- no text has two first faults
+pub one_script_fault : (bytes : List ℕ) (fault other : CertFault) → IsFirstFaultOfScript bytes fault → IsFirstFaultOfScript bytes other → fault ≡ other
+one_script_fault bytes fault other (inl is) (inl also) = one_fault bytes fault other is also
+one_script_fault bytes fault other (inl is) (inr (head, parts, line, rest, tells, why)) = absurd (apart bytes head fault (tells.is_head, (flat_map part_line parts ++ rest, tells.text)) is)
+one_script_fault bytes fault other (inr (head, parts, line, rest, tells, why)) (inl also) = absurd (apart bytes head other (tells.is_head, (flat_map part_line parts ++ rest, tells.text)) also)
+one_script_fault bytes fault other (inr (head, parts, line, rest, tells, why)) (inr also) =
+    let behind : List ℕ = flat_map part_line parts ++ rest in
+    same_Some fault other
+    (sym (behind_met bytes head behind fault tells.is_head tells.text (head, parts, line, rest, tells, why)) ∙ behind_met bytes head behind other tells.is_head tells.text also)
