@@ -1,9 +1,9 @@
 -- Two scripts of one text are wrong or accepted alike.
-use Rattle.std.proofs.Common.{◌≡◌, ◌≢◌, ℕ, ◌⊎◌, ⊎_elim, List, [], ◌∷◌, ◌++◌, map, Option, refl, sym, ap, ◌∙◌, subst}
+use Rattle.std.proofs.Common.{◌≡◌, ◌≢◌, ℕ, ◌⊎◌, ⊎_elim, List, [], ◌∷◌, ◌++◌, map, length, Option, option_map, refl, sym, ap, ◌∙◌, subst}
 use Rattle.std.specs.List.{AllByRecursion, flat_map}
 use Rattle.std.proofs.lemmas.List.{append-nil}
 use Rattle.std.proofs.lemmas.List.Elements.{recursion_from_All}
-use Rattle.crp_plan.specs.Bay.{Problem, IsProblem, Position, IsAt}
+use Rattle.crp_plan.specs.Bay.{Problem, IsProblem, Position, IsAt, cap}
 use Rattle.crp_plan.proofs.Paths.{same_at}
 use Rattle.crp_tree.specs.Trees.{givens}
 use Rattle.crp_tree.specs.Scripts.{Part, Script, given_by, names}
@@ -12,7 +12,13 @@ use Rattle.crp_cert.specs.declared.parts.RawPart.{RawPart}
 use Rattle.crp_cert.specs.declared.script.Script.{Script as Told}
 use Rattle.crp_cert.specs.declared.fault.CertFault.{CertFault}
 use Rattle.crp_cert.specs.ScriptFaults.{IsFirstFaultOfScript}
-use Rattle.crp_cert.specs.Script.{IsRawPart, IsScriptOf, names_told, symbols_of, Matches}
+use Rattle.crp_cert.specs.Script.{IsRawPart, IsScriptOf, names_told, symbols_told, symbols_of, Matches}
+use Rattle.crp_cert.proofs.Scripts.{script_once}
+use Rattle.crp_cert.proofs.ScriptVerdicts.{script_apart, one_script_fault}
+use Rattle.crp_checker.specs.declared.verdict.Verdict.{Verdict}
+use Rattle.crp_checker.specs.Verdicts.{IsVerdictOf}
+use Rattle.crp_checker.specs.Shown.{Shows}
+use Rattle.crp_checker.proofs.Meaning.{one_verdict_of}
 use Rattle.crp_checker.specs.declared.refused.Refused.{Refused}
 use Rattle.crp_checker.specs.declared.refused.Refused.TheVariants as refused
 use Rattle.crp_checker.specs.Symbols.{IsLow, IsAtEnd, nodes, nodes_of}
@@ -22,10 +28,6 @@ use Rattle.crp_checker.specs.Needs.{IsWithoutPart, IsWithoutNeed}
 use Rattle.crp_checker.proofs.Claimed.{nodes_are, givens_are, names_same}
 use Rattle.crp_checker.proofs.SymbolText.{one_tree}
 use Rattle.crp_checker.proofs.OneRefusal.{not_wrong, one_wrong}
-
--- the symbols of parts, tree by tree
-abbrev pub symbols_told : List RawPart → List (List ℕ)
-symbols_told raws = map (λ raw. symbols_of raw.tree) raws
 
 -- two parts with one name and the same symbols have the same nodes, and give the same paths
 same_part : (p : Problem) (a b : RawPart) → IsProblem p → IsRawPart p a → IsRawPart p b → a.name ≡ b.name → symbols_of a.tree ≡ symbols_of b.tree →
@@ -87,40 +89,23 @@ wrong_too wanted p lower plan parts others (refused.Unneeded name) w n g k =
     )
 wrong_too wanted p lower plan parts others refused.Memory w n g k = k
 
--- two scripts of one text say the same: their heads, their names and their symbols
-pub record SayTheSame (a b : Told) : Type 0 where
-  pub heads : a.head ≡ b.head
-  pub names : names_told a.parts ≡ names_told b.parts
-  pub symbols : symbols_told a.parts ≡ symbols_told b.parts
-
-pub say_the_same : (bytes : List ℕ) (a b : Told) → IsScriptOf bytes a → IsScriptOf bytes b → SayTheSame a b
-say_the_same bytes a b x y = ?
-
 -- so what is wrong with the claim of one is wrong with that of the other
 pub wrong_alike : (wanted : Option Problem) (bytes : List ℕ) (a b : Told) (r : Refused) → IsScriptOf bytes a → IsScriptOf bytes b → IsFirstWrongClaim wanted (claim_of b) r → IsFirstWrongClaim wanted (claim_of a) r
 wrong_alike wanted bytes a b r x y w =
-    let same = say_the_same bytes a b x y in
+    let same = script_once bytes a b x y in
     let one = x.0 in
     let other = y.0 in
     let head = one.is_head in
     let p : Problem = a.head.problem in
     let each = recursion_from_All (IsRawPart p) a.parts one.each_part in
-    let each' = subst (λ h. AllByRecursion (IsRawPart h.problem) b.parts) (sym same.heads) (recursion_from_All (IsRawPart b.head.problem) b.parts other.each_part) in
-    let parts = same_parts p b.parts a.parts head.problem each' each (sym same.names) (sym same.symbols) in
-    wrong_too wanted p a.head.claim a.head.plan (map part_of b.parts) (map part_of a.parts) r parts.0 (names_same b.parts ∙ sym same.names ∙ sym (names_same a.parts)) parts.1
-    (subst (λ h. IsFirstWrongClaim wanted (record { problem = h.problem; lower = h.claim; plan = h.plan; parts = map part_of b.parts }) r) (sym same.heads) w)
-
--- a text of a script has no fault
-pub apart_from_fault : (bytes : List ℕ) (told : Told) (fault : CertFault) → IsScriptOf bytes told → IsFirstFaultOfScript bytes fault → ⊥
-apart_from_fault bytes told fault is w = ?
-
--- and each fault of a text is the same
-pub one_text_fault : (bytes : List ℕ) (f g : CertFault) → IsFirstFaultOfScript bytes f → IsFirstFaultOfScript bytes g → f ≡ g
-one_text_fault bytes f g a b = ?
+    let each' = subst (λ h. AllByRecursion (IsRawPart h.problem) b.parts) (sym same.0) (recursion_from_All (IsRawPart b.head.problem) b.parts other.each_part) in
+    let parts = same_parts p b.parts a.parts head.problem each' each (sym same.1) (sym same.2) in
+    wrong_too wanted p a.head.claim a.head.plan (map part_of b.parts) (map part_of a.parts) r parts.0 (names_same b.parts ∙ sym same.1 ∙ sym (names_same a.parts)) parts.1
+    (subst (λ h. IsFirstWrongClaim wanted (record { problem = h.problem; lower = h.claim; plan = h.plan; parts = map part_of b.parts }) r) (sym same.0) w)
 
 -- a text that is accepted is not refused
 pub not_both : (wanted : Option Problem) (bytes : List ℕ) (told : Told) (r : Refused) → IsYes wanted bytes told → IsRefusal wanted bytes r → ⊥
-not_both wanted bytes told (refused.Cert fault) known w = apart_from_fault bytes told fault known.is_text w
+not_both wanted bytes told (refused.Cert fault) known w = script_apart bytes told fault known.is_text w
 not_both wanted bytes told refused.OtherProblem known w = not_wrong wanted (claim_of told) refused.OtherProblem known.accepted known.as_wanted (wrong_alike wanted bytes told w.0 refused.OtherProblem known.is_text w.1 w.2)
 not_both wanted bytes told (refused.Plan fault) known w = not_wrong wanted (claim_of told) (refused.Plan fault) known.accepted known.as_wanted (wrong_alike wanted bytes told w.0 (refused.Plan fault) known.is_text w.1 w.2)
 not_both wanted bytes told (refused.Low name k) known w = not_wrong wanted (claim_of told) (refused.Low name k) known.accepted known.as_wanted (wrong_alike wanted bytes told w.0 (refused.Low name k) known.is_text w.1 w.2)
@@ -142,17 +127,15 @@ rejected wanted bytes r k told other known = ⊎_elim (λ e. other e) (λ w. not
 
 -- refusals of one text are the same
 pub one_refusal : (wanted : Option Problem) (bytes : List ℕ) (r q : Refused) → IsRefusal wanted bytes r → IsRefusal wanted bytes q → r ≡ q
-one_refusal wanted bytes (refused.Cert f) (refused.Cert g) a b = ap (λ x. refused.Cert x) (one_text_fault bytes f g a b)
-one_refusal wanted bytes (refused.Cert f) q a b = absurd (fault_and_claim bytes f (of_script wanted bytes q b) a)
-  where
-    fault_and_claim : _
-    fault_and_claim = ?
-one_refusal wanted bytes r q a b = ?
+one_refusal wanted bytes (refused.Cert f) (refused.Cert g) a b = ap (λ x. refused.Cert x) (one_script_fault bytes f g a b)
+one_refusal wanted bytes (refused.Cert f) q a b = absurd (script_apart bytes b.0 f b.1 a)
+one_refusal wanted bytes r (refused.Cert g) a b = absurd (script_apart bytes a.0 g a.1 b)
+one_refusal wanted bytes r q a b = one_of_two wanted bytes r q a.0 b.0 a.1 b.1 a.2 b.2
 
 -- what one text shows is one verdict
 pub one_shown : (wanted : Option Problem) (bytes : List ℕ) (verdict other : Verdict) → Shows wanted bytes verdict → Shows wanted bytes other → verdict ≡ other
 one_shown wanted bytes verdict other a b =
     let known = a.1 in
     let known' = b.1 in
-    let same = say_the_same bytes a.0 b.0 known.is_text known'.is_text in
-    one_verdict_of _ _ _ verdict other a.2 (subst (λ h. IsVerdictOf h.claim (cap h.problem) (option_map length h.plan) other) (sym same.heads) b.2)
+    let same = script_once bytes a.0 b.0 known.is_text known'.is_text in
+    one_verdict_of _ _ _ verdict other a.2 (subst (λ h. IsVerdictOf h.claim (cap h.problem) (option_map length h.plan) other) (sym same.0) b.2)
