@@ -1,12 +1,11 @@
 -- A claim that passes all looks is accepted, and one that does not is refused as said.
-use Rattle.std.proofs.Common.{◌≡◌, ◌≢◌, ℕ, ◌<◌, ◌≤◌, ◌⊎◌, inl, inr, ⊎_elim, ◌↔◌, List, [], ◌∷◌, length, map, All, AllPairs, Contains, Option, IfSome, option_map, unwrap_or, refl, sym, ap, ◌∙◌, subst}
+use Rattle.std.proofs.Common.{◌≡◌, ◌≢◌, ℕ, ◌≤◌, ◌⊎◌, inl, inr, ◌↔◌, List, [], ◌∷◌, length, map, All, AllPairs, Contains, Option, IfSome, option_map, unwrap_or, refl, sym, ap, ◌∙◌, subst}
 use Rattle.std.specs.List.{AllByRecursion, flat_map}
 use Rattle.std.proofs.lemmas.List.Elements.{All-from_recursion, recursion_from_All, All-contains}
-use Rattle.crp_plan.specs.Bay.{Problem, IsProblem, Position, IsAt, cap}
+use Rattle.crp_plan.specs.Bay.{Problem, IsProblem, Position, IsAt}
 use Rattle.crp_plan.specs.Faults.{IsPlanPath}
-use Rattle.crp_bay.specs.Positions.{at}
 use Rattle.crp_bay.proofs.Walked.{at_reads}
-use Rattle.crp_bay.proofs.Members.{not_in_nil, in_head, in_tail, in_cons_cases}
+use Rattle.crp_bay.proofs.Members.{in_head, in_tail}
 use Rattle.crp_tree.specs.Names.{Precedes}
 use Rattle.crp_tree.specs.Trees.{cuts, givens, HasAtLeast}
 use Rattle.crp_tree.specs.Scripts.{Part, Script, IsPart, IsAccepted, IsNeeded, given_by, cuts_of, names}
@@ -19,7 +18,7 @@ use Rattle.crp_checker.specs.declared.refused.Refused.{Refused}
 use Rattle.crp_checker.specs.declared.refused.Refused.TheVariants as refused
 use Rattle.crp_checker.specs.Symbols.{nodes, nodes_of, IsRight}
 use Rattle.crp_checker.specs.Claims.{part_of, claim_of, IsWanted}
-use Rattle.crp_checker.specs.Refusals.{Walked, walked, walked_part, IsRightPart, AreRightParts, IsMissing, IsUnneeded, IsLeast, HasRightHead, IsFirstWrongClaim}
+use Rattle.crp_checker.specs.Refusals.{walked, walked_part, IsRightPart, AreRightParts, IsLeast, IsFirstWrongClaim}
 use Rattle.crp_checker.specs.Needs.{IsRootOrGiven, IsWithoutPart, IsWithoutNeed, IsNamesRefusal}
 use Rattle.crp_checker.proofs.Shapes.{fits_from, high_from, not_given}
 
@@ -87,7 +86,7 @@ accepted_from told held given readable plan right e d same =
     let is : IsProblem p = head.problem in
     let each = recursion_from_All (IsRawPart p) told.parts readable.each_part in
     let needed : (name : List ℕ) → Contains (names (map part_of told.parts)) name ↔ IsNeeded p (map part_of told.parts) name =
-        λ name. subst (λ l. Contains (names (map part_of told.parts)) name ↔ IsRootOrGiven l name) d (subst (λ l. Contains l name ↔ IsRootOrGiven given name) (e ∙ sym (names_same told.parts)) (same name)) in
+    λ name. subst (λ l. Contains (names (map part_of told.parts)) name ↔ IsRootOrGiven l name) d (subst (λ l. Contains l name ↔ IsRootOrGiven given name) (e ∙ sym (names_same told.parts)) (same name)) in
     record {
       is_problem = is;
       within_cap = head.claim;

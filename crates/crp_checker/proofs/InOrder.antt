@@ -1,5 +1,5 @@
 -- Names in order: what a search among them finds, and what is the least.
-use Rattle.std.proofs.Common.{◌≡◌, ℕ, suc, ◌+◌, ◌-◌, ◌<◌, ◌≤◌, ◌⊎◌, inl, inr, ⊎_elim, Bool, true, false, IsTrue, ◌↔◌, List, [], ◌∷◌, ◌++◌, length, take, get_or, All, AllPairs, Contains, Result, Ok, Err, is_ok, refl, sym, ap, ◌∙◌, subst, arith, add-one}
+use Rattle.std.proofs.Common.{◌≡◌, ℕ, ◌+◌, ◌<◌, ◌≤◌, ◌⊎◌, inl, inr, ⊎_elim, false, IsTrue, ◌↔◌, List, [], ◌∷◌, ◌++◌, length, take, get_or, All, AllPairs, Contains, Result, Ok, Err, is_ok, refl, sym, ap, ◌∙◌, subst, arith}
 use Rattle.std.specs.declared.cmp.Ordering.{Ordering}
 use Rattle.std.specs.declared.cmp.Ordering.TheVariants.{Less, Equal, Greater}
 use Rattle.std.specs.Ordering.{nat_cmp, is_lt, MatchOrdering}
@@ -30,8 +30,7 @@ pub found_means : (held : List (List ℕ)) (path : List ℕ) (r : Result ℕ ℕ
     IsBinarySearchResult (λ y. name_cmp y path) held r → IsTrue (is_ok r) ↔ Contains held path
 found_means held path (Ok i) sorted within found = (λ t. (i, within, equal_means (get_or held i path) path (found path)), λ c. refl)
 found_means held path (Err i) sorted within found =
-    let point = found (searchable_from_sorted nat_list_cmp_total (λ y. y) held path sorted) in
-    (
+    let point = found (searchable_from_sorted nat_list_cmp_total (λ y. y) held path sorted) in (
       λ t. absurd (cc),
       λ c.
           let k : ℕ = c.0 in

@@ -1,7 +1,7 @@
 -- What an accepted certificate shows, and how a refusal is told.
-use Rattle.std.proofs.Common.{◌≡◌, ◌≢◌, ℕ, ◌≤◌, ◌⊎◌, inl, inr, ⊎_elim, List, [], ◌++◌, length, Option, Some, None, IfSome, option_map, refl, sym, ap, ◌∙◌, subst}
+use Rattle.std.proofs.Common.{◌≡◌, ℕ, ◌≤◌, ◌⊎◌, inl, inr, ⊎_elim, List, length, Option, Some, None, IfSome, option_map, refl, sym, ap, ◌∙◌, subst}
 use Rattle.crp_plan.specs.declared.moves.Move.{Move}
-use Rattle.crp_plan.specs.Bay.{Problem, IsPlan, IsBest, relocations, path_of}
+use Rattle.crp_plan.specs.Bay.{Problem, cap, IsPlan, IsBest, relocations}
 use Rattle.crp_plan.specs.Faults.{IsPlanPath}
 use Rattle.crp_plan.proofs.Covered.{relocations-path}
 use Rattle.crp_tree.specs.Scripts.{Script, IsAccepted}
@@ -59,6 +59,12 @@ pub bound_of_head : (wanted : Option Problem) (bytes : List ℕ) (told : Told) (
 bound_of_head wanted bytes told head moves known of plan =
     let same = head_is bytes told head known.is_text of in
     subst (λ h. h.claim ≤ relocations moves) (sym same) (bounded (claim_of told) moves known.accepted (subst (λ h. IsPlan h.problem moves) same plan))
+
+-- at the cap there is no plan
+pub none_of_head : (wanted : Option Problem) (bytes : List ℕ) (told : Told) (head : Head) (moves : List Move) → IsYes wanted bytes told → IsHeadOf bytes head → head.claim ≡ cap head.problem → IsPlan head.problem moves → ⊥
+none_of_head wanted bytes told head moves known of most plan =
+    let same = head_is bytes told head known.is_text of in
+    no_plan_at_cap (claim_of told) moves known.accepted (subst (λ h. h.claim ≡ cap h.problem) same most) (subst (λ h. IsPlan h.problem moves) same plan)
 
 -- a text that the reader refuses is refused for that
 pub text_refused : (bytes : List ℕ) (fault : CertFault) → (fault ≡ cert.Memory) ⊎ IsFirstFaultOfScript bytes fault →

@@ -1,5 +1,5 @@
 -- A file is cut into texts in one way.
-use Rattle.std.proofs.Common.{◌≡◌, ◌≢◌, ℕ, ◌<◌, ◌⊎◌, ⊎_elim, List, [], ◌∷◌, ◌++◌, length, refl, sym, ap, ◌∙◌, subst, arith, append_assoc, length-append}
+use Rattle.std.proofs.Common.{◌≡◌, ◌≢◌, ℕ, ◌⊎◌, ⊎_elim, List, [], ◌∷◌, ◌++◌, length, refl, sym, ap, ◌∙◌, subst, arith, append_assoc, length-append}
 use Rattle.std.specs.List.{AllByRecursion}
 use Rattle.std.proofs.lemmas.List.{append-nil}
 use Rattle.std.proofs.lemmas.List.Elements.{recursion_from_All}
@@ -19,7 +19,7 @@ until_end (c ∷ xs) (d ∷ ys) x y a b e =
 one_line : (a b x y : List ℕ) → IsLine a → IsLine b → a ++ x ≡ b ++ y → (a ≡ b) × (x ≡ y)
 one_line a b x y k l e =
     let text : k.body ++ 10 ∷ x ≡ l.body ++ 10 ∷ y =
-        sym (append_assoc k.body (10 ∷ []) x) ∙ ap (λ t. t ++ x) (sym k.is) ∙ e ∙ ap (λ t. t ++ y) l.is ∙ append_assoc l.body (10 ∷ []) y in
+    sym (append_assoc k.body (10 ∷ []) x) ∙ ap (λ t. t ++ x) (sym k.is) ∙ e ∙ ap (λ t. t ++ y) l.is ∙ append_assoc l.body (10 ∷ []) y in
     let r = until_end k.body l.body x y (recursion_from_All (λ c. c ≢ 10) k.body k.one_line) (recursion_from_All (λ c. c ≢ 10) l.body l.one_line) text in
     (k.is ∙ ap (λ t. t ++ 10 ∷ []) r.0 ∙ sym l.is, r.1)
 
@@ -74,7 +74,7 @@ ends_not_open (first ∷ ls) (other ∷ ms) l rest x os ps k a none e =
 one_ended : (t u x y : List ℕ) → IsEnded t → IsEnded u → t ++ x ≡ u ++ y → (t ≡ u) × (x ≡ y)
 one_ended t u x y a b e =
     let text : joined a.lines ++ (a.last ++ x) ≡ joined b.lines ++ (b.last ++ y) =
-        sym (append_assoc (joined a.lines) a.last x) ∙ ap (λ l. l ++ x) (sym a.is) ∙ e ∙ ap (λ l. l ++ y) b.is ∙ append_assoc (joined b.lines) b.last y in
+    sym (append_assoc (joined a.lines) a.last x) ∙ ap (λ l. l ++ x) (sym a.is) ∙ e ∙ ap (λ l. l ++ y) b.is ∙ append_assoc (joined b.lines) b.last y in
     let r = ends_once a.lines b.lines a.last b.last x y a.others b.others a.is_line a.is_end b.is_line b.is_end text in
     (a.is ∙ r.0 ∙ sym b.is, r.1)
 

@@ -1,23 +1,21 @@
 -- A claim is accepted or wrong, not both, and is wrong in one way only.
-use Rattle.std.proofs.Common.{◌≡◌, ◌≢◌, ℕ, suc, ◌+◌, ◌⊎◌, inl, inr, ⊎_elim, ◌↔◌, List, [], ◌∷◌, ◌++◌, length, map, All, Contains, Option, Some, None, IfSome, refl, sym, ap, ◌∙◌, subst, arith}
-use Rattle.std.specs.List.{AllByRecursion, flat_map}
+use Rattle.std.proofs.Common.{◌≡◌, ℕ, ⊎_elim, List, [], ◌∷◌, ◌++◌, length, Option, Some, IfSome, refl, sym, ap, ◌∙◌, subst, arith}
+use Rattle.std.specs.List.{AllByRecursion}
 use Rattle.std.proofs.lemmas.List.Elements.{recursion_from_All}
 use Rattle.crp_plan.specs.Bay.{Problem, IsProblem, Position}
 use Rattle.crp_plan.specs.declared.plan.PlanFault.{PlanFault}
 use Rattle.crp_plan.specs.Faults.{IsPlanPath, IsPlanFault}
 use Rattle.crp_plan.proofs.Steps.{fault_refuses}
 use Rattle.crp_plan.proofs.OneFault.{one_plan_fault}
-use Rattle.crp_tree.specs.Names.{Precedes}
 use Rattle.crp_tree.specs.Trees.{HasAtLeast}
-use Rattle.crp_tree.specs.Scripts.{Part, IsPart, Script, IsAccepted, given_by, cuts_of, names}
+use Rattle.crp_tree.specs.Scripts.{Part, IsPart, Script, IsAccepted, cuts_of}
 use Rattle.crp_tree.proofs.Shown.{all_right}
 use Rattle.crp_tree.proofs.Ordered.{not_itself, goes_further}
 use Rattle.crp_checker.specs.declared.refused.Refused.{Refused}
 use Rattle.crp_checker.specs.declared.refused.Refused.TheVariants as refused
-use Rattle.crp_checker.specs.Symbols.{Symbol, B, L, X, G, Node, IsCutBelow, IsBranchAt, IsLow, IsAtEnd, IsRight, IsFirstWrong, nodes_of}
+use Rattle.crp_checker.specs.Symbols.{Symbol, B, L, X, G, Node, IsCutBelow, IsBranchAt, IsLow, IsAtEnd, IsRight, IsFirstWrong}
 use Rattle.crp_checker.specs.Claims.{IsWanted}
-use Rattle.crp_checker.specs.Refusals.{Walked, walked, walked_part, IsRightPart, AreRightParts, IsFirstMet, FirstMeets, IsLeast, IsMissing, IsUnneeded, HasRightHead, IsFirstWrongClaim}
-use Rattle.crp_checker.specs.Needs.{IsWithoutPart, IsWithoutNeed}
+use Rattle.crp_checker.specs.Refusals.{Walked, walked, IsRightPart, AreRightParts, IsFirstMet, IsLeast, IsMissing, IsUnneeded, HasRightHead, IsFirstWrongClaim}
 use Rattle.crp_checker.proofs.Claimed.{nodes_are, cuts_are}
 use Rattle.crp_checker.proofs.Shapes.{right_from}
 
@@ -32,7 +30,7 @@ right_parts p lower (part ∷ parts) is each high =
     let own = each.0 in
     let shape = own.shape in (
       subst (AllByRecursion (IsRight lower)) (sym (nodes_are p part own.place is own.is_at))
-      (right_from lower part.name own.place part.tree shape.fits (subst (HasAtLeast lower) (cuts_are p part own.place is own.is_at) high.0)),
+          (right_from lower part.name own.place part.tree shape.fits (subst (HasAtLeast lower) (cuts_are p part own.place is own.is_at) high.0)),
       right_parts p lower parts is each.1 high.1,
     )
 
@@ -107,7 +105,7 @@ one_met lower Wrong Other parts name other k l clash clash' a b =
     let part = one_front (IsRightPart lower) a.before b.before a.part b.part a.after b.after (sym a.parts_are ∙ b.parts_are) a.right b.right (part_wrong lower Wrong a.part k clash first) (part_wrong lower Other b.part l clash' second) in
     let same : a.part ≡ b.part = part.1 in
     let node = one_front (IsRight lower) first.before second.before first.node second.node first.after second.after (sym first.list_is ∙ ap (λ x. x.nodes) same ∙ second.list_is) first.right second.right
-        (λ r. clash first.node r first.wrong) (λ r. clash' second.node r second.wrong) in
+    (λ r. clash first.node r first.wrong) (λ r. clash' second.node r second.wrong) in
     let many = node.0 in
     let n = first.number in
     let m = second.number in

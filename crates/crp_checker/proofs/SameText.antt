@@ -3,15 +3,12 @@ use Rattle.std.proofs.Common.{◌≡◌, ◌≢◌, ℕ, ◌⊎◌, ⊎_elim, Li
 use Rattle.std.specs.List.{AllByRecursion, flat_map}
 use Rattle.std.proofs.lemmas.List.{append-nil}
 use Rattle.std.proofs.lemmas.List.Elements.{recursion_from_All}
-use Rattle.crp_plan.specs.Bay.{Problem, IsProblem, Position, IsAt, cap}
+use Rattle.crp_plan.specs.Bay.{Problem, IsProblem, IsAt, cap}
 use Rattle.crp_plan.proofs.Paths.{same_at}
 use Rattle.crp_tree.specs.Trees.{givens}
-use Rattle.crp_tree.specs.Scripts.{Part, Script, given_by, names}
-use Rattle.crp_cert.specs.declared.head.Head.{Head}
+use Rattle.crp_tree.specs.Scripts.{Part, given_by, names}
 use Rattle.crp_cert.specs.declared.parts.RawPart.{RawPart}
 use Rattle.crp_cert.specs.declared.script.Script.{Script as Told}
-use Rattle.crp_cert.specs.declared.fault.CertFault.{CertFault}
-use Rattle.crp_cert.specs.ScriptFaults.{IsFirstFaultOfScript}
 use Rattle.crp_cert.specs.Script.{IsRawPart, IsScriptOf, names_told, symbols_told, symbols_of, Matches}
 use Rattle.crp_cert.proofs.Scripts.{script_once}
 use Rattle.crp_cert.proofs.ScriptVerdicts.{script_apart, one_script_fault}
@@ -22,8 +19,8 @@ use Rattle.crp_checker.proofs.Meaning.{one_verdict_of}
 use Rattle.crp_checker.specs.declared.refused.Refused.{Refused}
 use Rattle.crp_checker.specs.declared.refused.Refused.TheVariants as refused
 use Rattle.crp_checker.specs.Symbols.{IsLow, IsAtEnd, nodes, nodes_of}
-use Rattle.crp_checker.specs.Claims.{part_of, claim_of, IsWanted, IsYes}
-use Rattle.crp_checker.specs.Refusals.{Walked, walked, walked_part, IsRightPart, IsFirstMet, IsLeast, IsFirstWrongClaim, IsRefusal}
+use Rattle.crp_checker.specs.Claims.{part_of, claim_of, IsYes}
+use Rattle.crp_checker.specs.Refusals.{walked, walked_part, IsRightPart, IsFirstMet, IsLeast, IsFirstWrongClaim, IsRefusal}
 use Rattle.crp_checker.specs.Needs.{IsWithoutPart, IsWithoutNeed}
 use Rattle.crp_checker.proofs.Claimed.{nodes_are, givens_are, names_same}
 use Rattle.crp_checker.proofs.SymbolText.{one_tree}

@@ -1,19 +1,19 @@
 -- A tree whose nodes are right has its shape and no cut below the claimed bound, and the other way round.
-use Rattle.std.proofs.Common.{◌≡◌, ℕ, ◌+◌, ◌<◌, ◌≤◌, ◌⊎◌, ⊎_elim, List, [], ◌∷◌, ◌++◌, length, Contains, arith}
+use Rattle.std.proofs.Common.{ℕ, ◌+◌, ◌<◌, ◌≤◌, ⊎_elim, List, [], ◌∷◌, ◌++◌, length, Contains, arith}
 use Rattle.std.specs.List.{AllByRecursion}
 use Rattle.std.proofs.lemmas.Bool.{cases_lt}
 use Rattle.std.proofs.lemmas.List.Elements.{Contains-append_left, Contains-append_right}
-use Rattle.crp_plan.specs.Bay.{Problem, IsProblem, Position, IsAt, IsFinished}
+use Rattle.crp_plan.specs.Bay.{Problem, IsProblem, Position, IsAt}
 use Rattle.crp_plan.proofs.Steps.{unfinished}
 use Rattle.crp_bay.specs.Positions.{targets, child}
 use Rattle.crp_bay.proofs.Walked.{target_goes_on}
 use Rattle.crp_bay.proofs.Members.{in_head, in_tail}
 use Rattle.crp_bounds.specs.Bounds.{blocking, look_ahead}
 use Rattle.crp_tree.specs.declared.tree.Tree.{Tree, CutB, CutL, Branch', Given, Row_of-Tree, end_of-Tree, more_of-Tree}
-use Rattle.crp_tree.specs.Trees.{Fits, FitsEach, IsGiven, HasShape, cuts, cuts_of_each, givens, givens_of_each, HasAtLeast}
+use Rattle.crp_tree.specs.Trees.{Fits, FitsEach, IsGiven, cuts, cuts_of_each, givens, givens_of_each, HasAtLeast}
 use Rattle.crp_tree.proofs.Shown.{all_left, all_right}
 use Rattle.crp_cert.specs.Script.{Matches, MatchesEach}
-use Rattle.crp_checker.specs.Symbols.{Node, nodes, nodes_of_each, IsRight}
+use Rattle.crp_checker.specs.Symbols.{nodes, nodes_of_each, IsRight}
 use Rattle.crp_checker.proofs.WalkSteps.{all_both}
 
 -- what is not below is at least as much
@@ -39,11 +39,11 @@ mutual
   fits_each p lower path s (row ∷ rows) sub end_of-Tree is a m right short = absurd m
   fits_each p lower path s (row ∷ rows) sub (more_of-Tree tree trees) is a m right short = (
     fits_from p lower (path ++ row ∷ []) (child s row) tree is (target_goes_on p path s row is a (sub row (in_head row rows))) m.0
-    (all_left (IsRight lower) (nodes (path ++ row ∷ []) (child s row) tree) (nodes_of_each path s rows trees) right)
-    (λ g c. short g (Contains-append_left (givens (path ++ row ∷ []) (child s row) tree) (givens_of_each path s rows trees) g c)),
+        (all_left (IsRight lower) (nodes (path ++ row ∷ []) (child s row) tree) (nodes_of_each path s rows trees) right)
+        (λ g c. short g (Contains-append_left (givens (path ++ row ∷ []) (child s row) tree) (givens_of_each path s rows trees) g c)),
     fits_each p lower path s rows (λ r c. sub r (in_tail row rows r c)) trees is a m.1
-    (all_right (IsRight lower) (nodes (path ++ row ∷ []) (child s row) tree) (nodes_of_each path s rows trees) right)
-    (λ g c. short g (Contains-append_right (givens (path ++ row ∷ []) (child s row) tree) (givens_of_each path s rows trees) g c)),
+        (all_right (IsRight lower) (nodes (path ++ row ∷ []) (child s row) tree) (nodes_of_each path s rows trees) right)
+        (λ g c. short g (Contains-append_right (givens (path ++ row ∷ []) (child s row) tree) (givens_of_each path s rows trees) g c)),
   )
 
 mutual

@@ -1,5 +1,5 @@
 -- A part has no more nodes than the text has bytes.
-use Rattle.std.proofs.Common.{◌≡◌, ℕ, ◌+◌, ◌^◌, ◌<◌, ◌≤◌, List, [], ◌∷◌, ◌++◌, length, map, All, sym, ap, ◌∙◌, subst, arith, length-append, codes}
+use Rattle.std.proofs.Common.{◌≡◌, ℕ, ◌+◌, ◌<◌, ◌≤◌, List, [], ◌∷◌, ◌++◌, length, All, sym, ap, ◌∙◌, subst, arith, length-append, codes}
 use Rattle.std.specs.List.{AllByRecursion, flat_map}
 use Rattle.std.proofs.lemmas.List.Elements.{All-from_recursion, recursion_from_All}
 use Rattle.crp_plan.specs.Bay.{Problem, IsProblem}
@@ -45,6 +45,6 @@ few_nodes bytes told n is lt =
     let readable = is.0 in
     let head = readable.is_head in
     let lines : length (flat_map part_line told.parts) ≤ length bytes =
-        subst (λ l. length (flat_map part_line told.parts) ≤ length l) (sym is.1) (within (head_text told.head) (flat_map part_line told.parts) (end_line (length told.parts))) in
+    subst (λ l. length (flat_map part_line told.parts) ≤ length l) (sym is.1) (within (head_text told.head) (flat_map part_line told.parts) (end_line (length told.parts))) in
     All-from_recursion (λ part. length (nodes_of told.head.problem (part_of part)) < n) told.parts
     (few_each told.head.problem told.parts n head.problem (recursion_from_All (IsRawPart told.head.problem) told.parts readable.each_part) (omega arith))

@@ -1,5 +1,5 @@
 -- The nodes of a tree are told by its symbols, in their order.
-use Rattle.std.proofs.Common.{◌≡◌, ℕ, ◌≤◌, List, [], ◌∷◌, ◌++◌, length, map, refl, sym, ap, ◌∙◌, subst, arith, append_assoc, codes}
+use Rattle.std.proofs.Common.{◌≡◌, ℕ, List, [], ◌∷◌, ◌++◌, length, map, refl, sym, ap, ◌∙◌, arith, append_assoc}
 use Rattle.std.proofs.lemmas.List.{map-append, length-map}
 use Rattle.crp_plan.specs.Bay.{Position}
 use Rattle.crp_bay.specs.Positions.{targets, child}
@@ -74,7 +74,7 @@ mutual
   one_each path s (row ∷ rows) (more_of-Tree tree trees) end_of-Tree rest rest' m n e = absurd n
   one_each path s (row ∷ rows) (more_of-Tree tree trees) (more_of-Tree tree' trees') rest rest' m n e =
       let first = one_tree (path ++ row ∷ []) (child s row) tree tree' (symbols_of_each trees ++ rest) (symbols_of_each trees' ++ rest') m.0 n.0
-          (sym (append_assoc (symbols_of tree) (symbols_of_each trees) rest) ∙ e ∙ append_assoc (symbols_of tree') (symbols_of_each trees') rest') in
+      (sym (append_assoc (symbols_of tree) (symbols_of_each trees) rest) ∙ e ∙ append_assoc (symbols_of tree') (symbols_of_each trees') rest') in
       let others = one_each path s rows trees trees' rest rest' m.1 n.1 first.2 in (
         ap (λ l. l ++ nodes_of_each path s rows trees) first.0 ∙ ap (λ l. nodes (path ++ row ∷ []) (child s row) tree' ++ l) others.0,
         ap (λ l. l ++ givens_of_each path s rows trees) first.1 ∙ ap (λ l. givens (path ++ row ∷ []) (child s row) tree' ++ l) others.1,

@@ -1,5 +1,5 @@
 -- What a walk keeps from node to node, and why it ends.
-use Rattle.std.proofs.Common.{◌≡◌, ℕ, ◌+◌, ◌-◌, ◌<◌, ◌≤◌, ◌⊎◌, List, [], ◌∷◌, ◌++◌, length, take, Vec, Global, refl, sym, ap, ◌∙◌, subst, arith, append_assoc, length-append}
+use Rattle.std.proofs.Common.{◌≡◌, ℕ, ◌+◌, ◌-◌, ◌≤◌, ◌⊎◌, List, [], ◌∷◌, ◌++◌, length, take, Vec, Global, refl, sym, ap, ◌∙◌, subst, arith, append_assoc, length-append}
 use Rattle.std.proofs.lemmas.List.{take_at}
 use Rattle.std.specs.List.{AllByRecursion}
 use Rattle.crp_plan.specs.Bay.{Position, IsFinished}
@@ -53,10 +53,10 @@ pub first_of_all : (lower : ℕ) (Wrong : Node → Type 0) (node : Node) (rest l
 first_of_all lower Wrong node rest list e w = record { before = []; node = node; after = rest; list_is = e; number = omega arith; right = tt; wrong = w }
 
 -- to a path and back
-pub back_again : (popped full path : List ℕ) (n row : ℕ) → n ≡ length full → full ≡ path ++ row ∷ [] → popped ≡ take (n - 1) full → popped ≡ path
-back_again popped full path n row size e p =
-    let shorter : length path ≡ n - 1 = omega (arith, ap length e, length-append path (row ∷ [])) in
-    p ∙ ap (take (n - 1)) e ∙ take_at path (row ∷ []) (n - 1) shorter
+pub back_again : (popped full there path : List ℕ) (n row : ℕ) → n ≡ length full → full ≡ there → there ≡ path ++ row ∷ [] → popped ≡ take (n - 1) full → popped ≡ path
+back_again popped full there path n row size d e p =
+    let shorter : length path ≡ n - 1 = omega (arith, ap length d, ap length e, length-append path (row ∷ [])) in
+    p ∙ ap (take (n - 1)) d ∙ ap (take (n - 1)) e ∙ take_at path (row ∷ []) (n - 1) shorter
 
 -- one piece after another, from a path that goes on by a row, and back
 pub went_on : (lower : ℕ) (before piece whole : List Node) (given more all : List (List ℕ)) (first walk last : Walk) (pushed popped : Vec ℕ Global) →

@@ -1,7 +1,7 @@
 //! The check of a certificate.
 ghost use Rattle.std.specs.Prelude.{◌≡◌, ◌≢◌, ◌^◌, ◌<◌, ◌≤◌, ◌⊎◌, Option, None, Some, All, IfOk, OnOk, IfErr, length, List};
 ghost use Rattle.crp_plan.specs.declared.moves.Move.{Move};
-ghost use Rattle.crp_plan.specs.Bay.{Problem as Statement, IsPlan, relocations};
+ghost use Rattle.crp_plan.specs.Bay.{Problem as Statement, cap, IsPlan, relocations};
 ghost use Rattle.crp_cert.specs.declared.head.Head.{Head};
 ghost use Rattle.crp_cert.specs.declared.script.Script.{Script as Told};
 ghost use Rattle.crp_cert.specs.Text.{IsHeadOf};
@@ -51,6 +51,7 @@ pub fn check(alloc: Global, bytes: &[u8]) -> Result<Verdict, Refused>
 
     // What this means for the problem that the bytes tell.
     ensures bound { OnOk result ((head : Head) (moves : List Move) → IsHeadOf bytes.now head → IsPlan head.problem moves → head.claim ≤ relocations moves) }
+    ensures none { OnOk result ((head : Head) (moves : List Move) → IsHeadOf bytes.now head → head.claim ≡ cap head.problem → IsPlan head.problem moves → ⊥) }
     ensures says { IfOk result (λ verdict. (head : Head) → IsHeadOf bytes.now head → Says head.problem verdict) }
 {
     let (_bay, verdict) = check_text(alloc, bytes)?;
@@ -65,6 +66,7 @@ pub fn check_for(alloc: Global, problem: &Problem, bytes: &[u8]) -> Result<Verdi
 
     // What this means for the problem.
     ensures bound { OnOk result ((head : Head) (moves : List Move) → IsHeadOf bytes.now head → IsPlan problem.now moves → head.claim ≤ relocations moves) }
+    ensures none { OnOk result ((head : Head) (moves : List Move) → IsHeadOf bytes.now head → head.claim ≡ cap problem.now → IsPlan problem.now moves → ⊥) }
     ensures says { IfOk result (Says problem.now) }
 {
     let script = script_of(alloc, bytes)?;

@@ -1,7 +1,9 @@
 use crate::refused::Refused;
 use crate::verdict::Verdict;
 use crp_plan::BayName;
+use std::fmt;
 use std::marker::Model;
+use thiserror::Error;
 
 /// Whose certificates these are, and what they show, in order. A contract sees them as a list.
 #[derive(Drop)]
@@ -44,8 +46,16 @@ impl Verdicts {
     }
 }
 
+impl fmt::Debug for Verdicts {
+    fn fmt<W: fmt::Write>(&self, f: &mut fmt::Formatter<W>) -> fmt::Result {
+        let count = self.verdicts.len();
+        write!(f, "{count} verdicts")
+    }
+}
+
 /// Why a file of certificates is refused.
-#[derive(Drop)]
+#[derive(Debug, Drop, Error)]
+#[error("certificate {number}: {refused}")]
 pub struct FileRefused {
     /// Whose the certificates before are, and what they show.
     pub before: Verdicts,

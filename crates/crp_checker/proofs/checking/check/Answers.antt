@@ -1,6 +1,6 @@
 use Rattle.std.proofs.Common.{None}
 use Rattle.std.proofs.lemmas.Result.{err_from_is_err_and}
-use Rattle.crp_checker.proofs.Meaning.{says_of_head, bound_of_head}
+use Rattle.crp_checker.proofs.Meaning.{says_of_head, bound_of_head, none_of_head}
 use Rattle.crp_checker.proofs.SameText.{rejected}
 use Rattle.crp_checker.proofs.checking.check.Goals as goal
 
@@ -13,6 +13,11 @@ pub returns-clause-bound : goal.returns-clause-bound
 returns-clause-bound c head moves of plan =
     let shown = c.in_ok-_bay.ensures.shown in
     bound_of_head None c.args.bytes.now shown.0 head moves shown.1 of plan
+
+pub returns-clause-none : goal.returns-clause-none
+returns-clause-none c head moves of most plan =
+    let shown = c.in_ok-_bay.ensures.shown in
+    none_of_head None c.args.bytes.now shown.0 head moves shown.1 of most plan
 
 pub returns-clause-says : goal.returns-clause-says
 returns-clause-says c head of =

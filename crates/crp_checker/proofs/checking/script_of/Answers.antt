@@ -1,4 +1,4 @@
-use Rattle.std.proofs.Common.{◌≡◌, ◌<◌, length, arith}
+use Rattle.std.proofs.Common.{arith}
 use Rattle.std.proofs.lemmas.Result.{err_from_is_err_and}
 use Rattle.crp_checker.proofs.Meaning.{text_refused}
 use Rattle.crp_checker.proofs.Sizes.{few_nodes}

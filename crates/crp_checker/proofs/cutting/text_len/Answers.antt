@@ -1,4 +1,4 @@
-use Rattle.std.proofs.Common.{inl, inr, refl, take, sym}
+use Rattle.std.proofs.Common.{inl, inr, refl}
 use Rattle.crp_checker.proofs.Cuts.{meets_line, tested_line, ended_at, others_on, open_at}
 use Rattle.crp_checker.proofs.cutting.text_len.Goals as goal
 

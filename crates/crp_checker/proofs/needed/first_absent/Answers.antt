@@ -1,4 +1,4 @@
-use Rattle.std.proofs.Common.{All, Contains, take, subst}
+use Rattle.std.proofs.Common.{All, Contains, subst}
 use Rattle.std.proofs.lemmas.List.{take_all}
 use Rattle.std.proofs.lemmas.List.Elements.{All-more}
 use Rattle.crp_checker.proofs.needed.first_absent.Goals as goal

@@ -23,8 +23,8 @@ returns-in-Some-first_absent-clause-refused c =
     let d = (goal.at.returns-in-Some-first_absent-clause-refused c).In_default in (
       none_missing c.args.names.items c.args.given.items c.in_ok-needed.needed.items c.in_ok-needed.ensures.all (held d),
       least_unneeded c.args.names.items c.args.given.items c.in_ok-needed.needed.items c.in-Some-first_absent.i c.swap_remove-name-in-Some-first_absent.result c.in_ok-needed.ensures.all
-      (sorted_from_rising c.args.names.items c.requires) c.swap_remove-name-in-Some-first_absent.ensures.value
-      (absent_in c.deref-3.result.now c.deref-4.result.now _ _ c.in-Some-first_absent.i c.deref-3.ensures.value c.deref-4.ensures.value c.in-Some-first_absent.ensures.found),
+          (sorted_from_rising c.args.names.items c.requires) c.swap_remove-name-in-Some-first_absent.ensures.value
+          (absent_in c.deref-3.result.now c.deref-4.result.now _ _ c.in-Some-first_absent.i c.deref-3.ensures.value c.deref-4.ensures.value c.in-Some-first_absent.ensures.found),
     )
 
 pub returns-clause-same : goal.returns-clause-same

@@ -1,5 +1,5 @@
-use Rattle.std.proofs.Common.{◌≡◌, ℕ, suc, ◌+◌, ◌-◌, ◌≤◌, length, take, arith, refl, subst}
-use Rattle.crp_checker.proofs.Stacked.{next_same, not_same, no_difference, all_same}
+use Rattle.std.proofs.Common.{◌≡◌, suc, ◌+◌, ◌-◌, ◌≤◌, length, take, arith, refl, subst}
+use Rattle.crp_checker.proofs.Stacked.{next_same, no_difference, all_same}
 use Rattle.crp_checker.proofs.same.same_stacks.Goals as goal
 
 pub loop-row-preserved : goal.loop-row-preserved

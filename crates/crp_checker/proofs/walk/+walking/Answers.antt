@@ -1,13 +1,13 @@
-use Rattle.std.proofs.Common.{◌≡◌, ℕ, suc, ◌+◌, ◌-◌, ◌<◌, ◌≤◌, inl, inr, List, [], ◌∷◌, ◌++◌, length, take, drop, get_or, refl, sym, ap, ◌∙◌, subst, arith, rules, length-append, add-one}
+use Rattle.std.proofs.Common.{◌≡◌, ℕ, suc, ◌+◌, inl, inr, [], ◌∷◌, ◌++◌, length, take, drop, get_or, refl, sym, ap, ◌∙◌, arith, length-append, add-one}
 use Rattle.std.proofs.lemmas.Result.{err_from_is_err_and, IfErr-weaker, on_ok_weaker}
 use Rattle.std.proofs.lemmas.List.{append-nil}
 use Rattle.crp_plan.specs.Bay.{IsFinished}
-use Rattle.crp_bay.specs.Positions.{targets, child}
+use Rattle.crp_bay.specs.Positions.{targets}
 use Rattle.crp_tree.specs.Trees.{givens}
 use Rattle.crp_checker.specs.Symbols.{Node, nodes, IsAtEnd}
-use Rattle.crp_checker.specs.Walks.{below, WentOver, IsHalt}
-use Rattle.crp_checker.proofs.Walked.{Meets, below_met, below_around, below_all, branch_node, branch_nodes, branch_givens}
-use Rattle.crp_checker.proofs.WalkSteps.{branch_right, first_in, halt_in, first_of_all, back_again, went_on, all_met, some_node, low_halt, branch_over}
+use Rattle.crp_checker.specs.Walks.{below}
+use Rattle.crp_checker.proofs.Walked.{Meets, below_met, below_around, branch_node, branch_nodes, branch_givens}
+use Rattle.crp_checker.proofs.WalkSteps.{branch_right, halt_in, first_of_all, back_again, went_on, all_met, some_node, low_halt, branch_over}
 use Rattle.crp_checker.proofs.walk.+walking.Goals as goal
 use Rattle.crp_checker.proofs.walk.+walking.Goals.{walk_each-In_ok-push}
 
@@ -51,7 +51,13 @@ pub walk_each-returns-in_err-walk_tree-clause-halt : goal.walk_each-returns-in_e
 walk_each-returns-in_err-walk_tree-clause-halt t c =
     let d = (goal.at.walk_each-returns-in_err-walk_tree-clause-halt t c).In_ok-push in
     let p = err_from_is_err_and c.from_residual-in_err-walk_tree.result c.from_residual-in_err-walk_tree.ensures.1 in
-    rw (p.1, p.2) (halt_in _ _ _ _ _ _ _ c.in_err-walk_tree.field-0.0 (around t d) c.loop-i.invariant.right c.loop-i.invariant.counted c.in_err-walk_tree.ensures.halt)
+    rw (p.1, p.2)
+    (halt_in c.args.lower c.args.walk.now.count c.loop-i.walk.count
+    (below nodes c.args.walk.now.path.items c.args.position.now (take c.loop-i.i c.targets-rows.result.items) (take c.loop-i.i c.args.trees.now))
+    (nodes c.push.new.self.items c.in-Some.child c.index-trees-i.result)
+    (below nodes c.args.walk.now.path.items c.args.position.now (drop (suc c.loop-i.i) c.targets-rows.result.items) (drop (suc c.loop-i.i) c.args.trees.now))
+    (below nodes c.args.walk.now.path.items c.args.position.now (targets c.args.position.now) c.args.trees.now)
+    c.in_err-walk_tree.field-0.0 (around t d) c.loop-i.invariant.right c.loop-i.invariant.counted c.in_err-walk_tree.ensures.halt)
 
 pub walk_each-loop-i-preserved : goal.walk_each-loop-i-preserved
 walk_each-loop-i-preserved t c =
@@ -62,7 +68,7 @@ walk_each-loop-i-preserved t c =
     (below_met nodes _ _ _ _ _ _ _ _ _ m)
     (below_met givens _ _ _ _ _ _ _ _ _ m)
     c.loop-i.invariant c.in_ok-walk_tree.ensures.over
-    (back_again c.pop.new.self.items c.walk_tree.new.walk.path.items c.args.walk.now.path.items _ (get_or c.deref.result.now c.loop-i.i 0) c.walk_tree.new.walk.path.ok.0 (c.in_ok-walk_tree.ensures.over.back ∙ m.is_here) c.pop.ensures.rest))
+    (back_again c.pop.new.self.items c.walk_tree.new.walk.path.items c.push.new.self.items c.args.walk.now.path.items _ (get_or c.deref.result.now c.loop-i.i 0) c.walk_tree.new.walk.path.ok.0 c.in_ok-walk_tree.ensures.over.back m.is_here c.pop.ensures.rest))
 
 pub walk_tree-overflow_add-walk : goal.walk_tree-overflow_add-walk
 walk_tree-overflow_add-walk t c =
