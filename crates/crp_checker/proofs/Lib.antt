@@ -11,4 +11,5 @@ pub mod Sizes
 pub mod Stacked
 pub mod SymbolText
 pub mod WalkSteps
+mod Worked
 pub mod Walked
