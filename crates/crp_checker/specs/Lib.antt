@@ -1,0 +1,15 @@
+pub mod Symbols
+pub mod Claims
+pub mod Refusals
+pub mod Verdicts
+pub mod Shown
+pub mod Files
+pub mod Needs
+pub mod Told
+pub mod Walks
+pub use Rattle.crp_plan.specs.Bay
+pub use Rattle.crp_tree.specs.Trees
+pub use Rattle.crp_tree.specs.Scripts
+pub use Rattle.crp_cert.specs.Text
+pub use Rattle.crp_cert.specs.Script
+pub use Rattle.crp_cert.specs.ScriptFaults

@@ -1,0 +1,110 @@
+//! The walk over all parts, and the names that they have and give.
+ghost use Rattle.std.specs.Prelude.{◌≡◌, ◌+◌, ◌^◌, ◌<◌, ◌++◌, ◌∷◌, [], All, IfOk, OnOk, IfErr, Some, length, map, flat_map};
+ghost use Rattle.std.specs.List.{AllByRecursion};
+ghost use Rattle.crp_bay.specs.Positions.{at};
+ghost use Rattle.crp_tree.specs.Scripts.{given_by};
+ghost use Rattle.crp_cert.specs.Script.{IsRawPart, names_told};
+ghost use Rattle.crp_checker.specs.Symbols.{nodes_of};
+ghost use Rattle.crp_checker.specs.Claims.{part_of};
+ghost use Rattle.crp_checker.specs.Refusals.{walked, walked_part, IsRightPart};
+ghost use Rattle.crp_checker.specs.Walks.{IsPartRefusal, IsWalkRefusal};
+
+use crate::path::Path;
+use crate::refused::Refused;
+use crate::walk::{Halt, Walk, walk_tree};
+use crp_bay::Position;
+use crp_cert::RawPart;
+use crp_plan::Problem;
+use crp_tree::Name;
+use std::alloc::{AllocError, Global};
+
+/// The position that the name of a part leads to.
+fn place_of(problem: &Problem, part: &RawPart) -> Position
+    requires { IsRawPart problem.now part.now }
+    ensures { at problem.now part.now.name ≡ Some result }
+{
+    let Some(name) = Name::from_rows(part.name.as_slice()) else {
+        unreachable!()
+    };
+    let Some(position) = name.position(problem) else {
+        unreachable!()
+    };
+    position
+}
+
+/// Goes to the top of a part.
+fn go_to(part: &RawPart, walk: &mut Walk) -> Result<(), AllocError>
+    ensures top { OnOk result (walk.new.path.items ≡ part.now.name) }
+    ensures counted { OnOk result (walk.new.count ≡ 0) }
+    ensures kept { OnOk result (walk.new.given.items ≡ walk.old.given.items) }
+{
+    walk.count = 0;
+    walk.path.clear();
+    walk.path.extend_from_slice(part.name.as_slice())?;
+    Ok(())
+}
+
+/// Goes over all nodes of a part, as long as they are right, and adds the names that it gives.
+fn walk_part(
+    alloc: Global,
+    problem: &Problem,
+    lower: u32,
+    part: &RawPart,
+    walk: &mut Walk,
+) -> Result<(), Refused>
+    requires part { IsRawPart problem.now part.now }
+    requires few { length (nodes_of problem.now (part_of part.now)) < 2 ^ 64 }
+    ensures right { OnOk result (IsRightPart lower (walked_part problem.now (part_of part.now))) }
+    ensures given { OnOk result (walk.new.given.items ≡ walk.old.given.items ++ given_by problem.now (part_of part.now)) }
+    ensures refused { IfErr result (IsPartRefusal lower (walked_part problem.now (part_of part.now))) }
+{
+    let position = place_of(problem, part);
+    go_to(part, walk)?;
+    match walk_tree(alloc, lower, &position, &part.tree, walk) {
+        Ok(()) => Ok(()),
+        Err(Halt::Low { symbol }) => {
+            let part = Path::from_rows(alloc, part.name.as_slice())?;
+            Err(Refused::Low { part, symbol })
+        }
+        Err(Halt::AtEnd { symbol }) => {
+            let part = Path::from_rows(alloc, part.name.as_slice())?;
+            Err(Refused::Finished { part, symbol })
+        }
+        Err(Halt::Memory) => Err(Refused::Memory),
+    }
+}
+
+/// Goes over all parts, as long as their nodes are right. The names that they give, as they come.
+pub fn walk_parts(
+    alloc: Global,
+    problem: &Problem,
+    lower: u32,
+    parts: &[RawPart],
+) -> Result<Vec<Path>, Refused>
+    requires parts { All (IsRawPart problem.now) parts.now }
+    requires few { All (λ part. length (nodes_of problem.now (part_of part)) < 2 ^ 64) parts.now }
+    ensures right { OnOk result (AllByRecursion (IsRightPart lower) (walked problem.now (map part_of parts.now))) }
+    ensures given { IfOk result (λ given. given.items ≡ flat_map (given_by problem.now) (map part_of parts.now)) }
+    ensures refused { IfErr result (IsWalkRefusal lower (walked problem.now (map part_of parts.now))) }
+{
+    let mut walk = Walk {
+        path: Vec::new(alloc),
+        count: 0,
+        given: Vec::new(alloc),
+    };
+    for part in parts {
+        walk_part(alloc, problem, lower, part, &mut walk)?;
+    }
+    Ok(walk.given)
+}
+
+/// The names of the parts, in their order.
+pub fn names_of(alloc: Global, parts: &[RawPart]) -> Result<Vec<Path>, AllocError>
+    ensures { IfOk result (λ names. names.items ≡ names_told parts.now) }
+{
+    let mut names = Vec::new(alloc);
+    for part in parts {
+        names.push(Path::from_rows(alloc, part.name.as_slice())?)?;
+    }
+    Ok(names)
+}

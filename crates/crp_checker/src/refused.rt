@@ -1,0 +1,70 @@
+ghost use Rattle.std.specs.Prelude.{◌≡◌};
+
+use crate::path::Path;
+use crp_cert::CertFault;
+use crp_plan::PlanFault;
+use std::alloc::AllocError;
+use thiserror::Error;
+
+/// Why a certificate is refused: the first fault, in this order. Symbols of a part count from 1.
+#[derive(Debug, Drop, PartialEq, Eq, Error)]
+pub enum Refused {
+    /// The text is not as said.
+    #[error("{0}")]
+    Cert(CertFault),
+    /// The problem is another than the one that was asked for.
+    #[error("K1")]
+    OtherProblem,
+    /// The plan is refused.
+    #[error("K2 ({0})")]
+    Plan(PlanFault),
+    /// The length of a cut's path and its bound are below the claimed bound. Of this fault and the next the first symbol decides,
+    /// part by part.
+    #[error("K3 at part {part} symbol {symbol}")]
+    Low { part: Path, symbol: u64 },
+    /// A branch stands at a finished position.
+    #[error("K4 at part {part} symbol {symbol}")]
+    Finished { part: Path, symbol: u64 },
+    /// The least name that is needed and has no part: the root is needed, and so is each name that a part gives.
+    #[error("K5 at {name}")]
+    Missing { name: Path },
+    /// The least name of a part that is not needed.
+    #[error("K6 at {name}")]
+    Unneeded { name: Path },
+    /// No memory is left.
+    #[error("no memory is left")]
+    Memory,
+}
+
+impl From<AllocError> for Refused {
+    ghost use Rattle.crp_checker.specs.declared.refused.Refused.TheVariants.{Memory};
+
+    ghost from_gives = { λ _ refused. refused ≡ Memory };
+
+    fn from(_error: AllocError) -> Refused {
+        Refused::Memory
+    }
+}
+
+impl From<CertFault> for Refused {
+    ghost use Rattle.crp_checker.specs.Told.{cert_told};
+
+    ghost from_gives = { λ fault refused. refused ≡ cert_told fault };
+
+    fn from(fault: CertFault) -> Refused {
+        match fault {
+            CertFault::Memory => Refused::Memory,
+            other => Refused::Cert(other),
+        }
+    }
+}
+
+impl From<PlanFault> for Refused {
+    ghost use Rattle.crp_checker.specs.declared.refused.Refused.TheVariants.{Plan};
+
+    ghost from_gives = { λ fault refused. refused ≡ Plan fault };
+
+    fn from(fault: PlanFault) -> Refused {
+        Refused::Plan(fault)
+    }
+}

@@ -1,0 +1,135 @@
+//! The walk over the symbols of one part.
+ghost use Rattle.std.specs.Prelude.{◌≡◌, ◌+◌, ◌^◌, ◌<◌, ◌≤◌, ◌++◌, OnOk, IfErr, length, [], ◌∷◌};
+ghost use Rattle.crp_bay.specs.Positions.{targets};
+ghost use Rattle.crp_tree.specs.Trees.{givens};
+ghost use Rattle.crp_checker.specs.Symbols.{nodes};
+ghost use Rattle.crp_checker.specs.Walks.{below, WentOver, IsHalt};
+
+use crate::path::Path;
+use crp_bay::Position;
+use crp_bounds::{blocking, look_ahead};
+use crp_tree::Tree;
+use std::alloc::{AllocError, AllocFailed, Global};
+
+/// Why a walk ends early. Symbols count from 1.
+#[derive(Drop)]
+pub enum Halt {
+    /// A cut is below the claimed bound.
+    Low { symbol: u64 },
+    /// A branch stands at a finished position.
+    AtEnd { symbol: u64 },
+    /// No memory is left.
+    Memory,
+}
+
+impl From<AllocError> for Halt {
+    ghost use Rattle.crp_checker.specs.declared.walk.Halt.TheVariants.{Memory};
+
+    ghost from_gives = { λ _ halt. halt ≡ Memory };
+
+    fn from(_error: AllocError) -> Halt {
+        Halt::Memory
+    }
+}
+
+impl From<AllocFailed<u8>> for Halt {
+    ghost use Rattle.crp_checker.specs.declared.walk.Halt.TheVariants.{Memory};
+
+    ghost from_gives = { λ _ halt. halt ≡ Memory };
+
+    fn from(_error: AllocFailed<u8>) -> Halt {
+        Halt::Memory
+    }
+}
+
+/// Where a walk is, and what it has met.
+#[derive(Drop)]
+pub struct Walk {
+    /// The path of the node that it goes to next.
+    pub path: Vec<u8>,
+    /// How many nodes of the part it has met.
+    pub count: u64,
+    /// The paths that the parts so far give.
+    pub given: Vec<Path>,
+}
+
+/// Goes over all nodes of a tree at a position, as long as they are right.
+#[cycle(walking)]
+pub fn walk_tree(
+    alloc: Global,
+    lower: u32,
+    position: &Position,
+    tree: &Tree,
+    walk: &mut Walk,
+) -> Result<(), Halt>
+    requires { walk.old.count + length (nodes walk.old.path.items position.now tree.now) < 2 ^ 64 }
+    ensures over { OnOk result (WentOver lower (nodes walk.old.path.items position.now tree.now) (givens walk.old.path.items position.now tree.now) walk.old walk.new) }
+    ensures halt { IfErr result (IsHalt lower walk.old.count (nodes walk.old.path.items position.now tree.now)) }
+{
+    walk.count += 1;
+    match tree {
+        Tree::CutB => meet_cut(lower, blocking(position), walk),
+        Tree::CutL => meet_cut(lower, look_ahead(position), walk),
+        Tree::Given => {
+            meet_given(alloc, walk)?;
+            Ok(())
+        }
+        Tree::Branch(trees) => {
+            if position.is_done() {
+                return Err(Halt::AtEnd { symbol: walk.count });
+            }
+            walk_each(alloc, lower, position, trees, walk)
+        }
+    }
+}
+
+/// Goes over all nodes of the trees below the rows of a position, as long as they are right.
+#[cycle(walking)]
+fn walk_each(
+    alloc: Global,
+    lower: u32,
+    position: &Position,
+    trees: &[Tree],
+    walk: &mut Walk,
+) -> Result<(), Halt>
+    requires { walk.old.count + length (below nodes walk.old.path.items position.now (targets position.now) trees.now) < 2 ^ 64 }
+    ensures over { OnOk result (WentOver lower (below nodes walk.old.path.items position.now (targets position.now) trees.now) (below givens walk.old.path.items position.now (targets position.now) trees.now) walk.old walk.new) }
+    ensures halt { IfErr result (IsHalt lower walk.old.count (below nodes walk.old.path.items position.now (targets position.now) trees.now)) }
+{
+    let rows = position.targets();
+    for (i, tree) in trees.iter().enumerate() {
+        if i >= rows.len() {
+            return Ok(());
+        }
+        let row = rows[i];
+        let Some(child) = position.child(row) else {
+            unreachable!()
+        };
+        walk.path.push(row)?;
+        walk_tree(alloc, lower, &child, tree, walk)?;
+        walk.path.pop();
+    }
+    Ok(())
+}
+
+/// Holds the value of a cut against the claimed bound.
+fn meet_cut(lower: u32, bound: u32, walk: &Walk) -> Result<(), Halt>
+    ensures high { OnOk result (lower ≤ length walk.now.path.items + bound) }
+    ensures low { IfErr result (λ halt. (length walk.now.path.items + bound < lower) × (halt ≡ Halt.Low walk.now.count)) }
+{
+    if (bound as usize) < (lower as usize).saturating_sub(walk.path.len()) {
+        return Err(Halt::Low { symbol: walk.count });
+    }
+    Ok(())
+}
+
+/// Notes the path as one that is given to a part of its own.
+fn meet_given(alloc: Global, walk: &mut Walk) -> Result<(), AllocError>
+    ensures back { OnOk result (walk.new.path.items ≡ walk.old.path.items) }
+    ensures counted { OnOk result (walk.new.count ≡ walk.old.count) }
+    ensures kept { OnOk result (walk.new.given.items ≡ walk.old.given.items ++ walk.old.path.items ∷ []) }
+{
+    let path = Path::from_rows(alloc, &walk.path)?;
+    walk.given.push(path)?;
+    Ok(())
+}
