@@ -44,6 +44,7 @@ no_head_told limit IsReport IsRefused seen fault.Read keeps refuses none = (keep
 no_head_told limit IsReport IsRefused seen fault.Write keeps refuses none = absurd none
 no_head_told limit IsReport IsRefused seen fault.TooLarge keeps refuses none = (keeps, none)
 no_head_told limit IsReport IsRefused seen fault.Memory keeps refuses none = keeps
+no_head_told limit IsReport IsRefused seen (fault.Checked number why) keeps refuses none = absurd none
 
 -- a replay without a report tells why, where nothing was written
 pub no_report_told : (limit : ℕ) (seen : Seen) (bytes : List ℕ) (head : Head) (f : ToolFault) → Keeps seen.held seen.holds → IsGiven limit seen.given bytes → IsHeadOf bytes head → IsNoReport head f →
@@ -54,6 +55,7 @@ no_report_told limit seen bytes head fault.Read keeps given is none = absurd non
 no_report_told limit seen bytes head fault.Write keeps given is none = absurd none
 no_report_told limit seen bytes head fault.TooLarge keeps given is none = absurd none
 no_report_told limit seen bytes head fault.Memory keeps given is none = keeps
+no_report_told limit seen bytes head (fault.Checked number why) keeps given is none = absurd none
 
 -- the certificate of a true answer, as it was made and as it is written
 pub proof_of : (budget expanded : ℕ) (head : Head) (found : Answer) (made written : List ℕ) → IsTrueAnswer head.problem budget found expanded →

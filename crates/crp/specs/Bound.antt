@@ -27,4 +27,5 @@ IsNoBound bytes (fault.Plan f) = ⊥
 IsNoBound bytes fault.Read = ⊥
 IsNoBound bytes fault.Write = ⊥
 IsNoBound bytes fault.TooLarge = ⊥
+IsNoBound bytes (fault.Checked number why) = ⊥
 IsNoBound bytes fault.Memory = ⊥

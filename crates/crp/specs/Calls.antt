@@ -45,6 +45,7 @@ Tells limit IsReport IsRefused s fault.Write = HasFailed s.sink_before s.sink_af
     × ((text : List ℕ) × (report : List ℕ) × IsGiven limit s.given text × IsReport text report × AppendsFront s.held s.holds report)
 Tells limit IsReport IsRefused s fault.TooLarge = Keeps s.held s.holds × IfSome s.given (λ xs. limit < length xs)
 Tells limit IsReport IsRefused s fault.Memory = Keeps s.held s.holds
+Tells limit IsReport IsRefused s (fault.Checked number why) = ⊥
 
 -- why no head was read from a source: its bytes begin with none, it has failed in this call, it has more bytes than the limit, or memory
 -- is wanted
@@ -55,6 +56,7 @@ IsNoHead limit given before after fault.TooLarge = IfSome given (λ xs. limit < 
 IsNoHead limit given before after fault.Memory = Unit {0}
 IsNoHead limit given before after (fault.Plan f) = ⊥
 IsNoHead limit given before after fault.Write = ⊥
+IsNoHead limit given before after (fault.Checked number why) = ⊥
 
 -- how a command tells what went wrong in a layer below
 abbrev pub read_told : ReadFault → ToolFault
@@ -78,3 +80,4 @@ exit_code (Err fault.Read) = 5
 exit_code (Err fault.Write) = 5
 exit_code (Err (fault.Cert f)) = 6
 exit_code (Err (fault.Plan f)) = 6
+exit_code (Err (fault.Checked number why)) = 6

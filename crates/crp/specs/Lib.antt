@@ -5,3 +5,4 @@ pub mod Bound
 pub mod Commands
 pub mod Words
 pub mod Prove
+pub mod Check

@@ -38,6 +38,7 @@ IsNoReport head (fault.Cert f) = ⊥
 IsNoReport head fault.Read = ⊥
 IsNoReport head fault.Write = ⊥
 IsNoReport head fault.TooLarge = ⊥
+IsNoReport head (fault.Checked number why) = ⊥
 
 -- the bytes begin with no head, or the plan of the head is none
 abbrev pub IsNoReplay : List ℕ → ToolFault → Type 0
@@ -46,4 +47,5 @@ IsNoReplay bytes (fault.Plan f) = (head : Head) × IsHeadOf bytes head × IsNoRe
 IsNoReplay bytes fault.Read = ⊥
 IsNoReplay bytes fault.Write = ⊥
 IsNoReplay bytes fault.TooLarge = ⊥
+IsNoReplay bytes (fault.Checked number why) = ⊥
 IsNoReplay bytes fault.Memory = ⊥

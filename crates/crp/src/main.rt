@@ -2,6 +2,7 @@
 #![tactic(auto)]
 
 mod bounding;
+mod checking;
 mod commands;
 mod heads;
 mod job;

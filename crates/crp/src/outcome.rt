@@ -3,6 +3,7 @@ ghost use Rattle.std.specs.Prelude.{◌≡◌};
 ghost use Rattle.crp.specs.Calls.{exit_code};
 
 use crp_cert::CertFault;
+use crp_checker::Refused;
 use crp_plan::{PlanFault, ReadFault, WriteFailed};
 use std::alloc::AllocError;
 use thiserror::Error;
@@ -19,7 +20,7 @@ pub enum Status {
 }
 
 /// Why a command did not do what it was asked for.
-#[derive(Clone, Copy, Debug, Drop, PartialEq, Eq, Error)]
+#[derive(Debug, Drop, PartialEq, Eq, Error)]
 pub enum ToolFault {
     /// The bytes begin with no certificate's head.
     #[error("{0}")]
@@ -27,6 +28,9 @@ pub enum ToolFault {
     /// The rows of a head's plan are the path of no complete plan.
     #[error("{0}")]
     Plan(PlanFault),
+    /// A certificate of a file is refused, by its number from 1.
+    #[error("certificate {number}: {refused}")]
+    Checked { number: u64, refused: Refused },
     /// A read failed, or was interrupted once too often; also a file that cannot be opened.
     #[error("a read failed")]
     Read,
@@ -108,6 +112,6 @@ pub fn exit_of(answer: &Result<Status, ToolFault>) -> u8
         Err(ToolFault::TooLarge) => 3,
         Ok(Status::Memory) | Err(ToolFault::Memory) => 4,
         Err(ToolFault::Read) | Err(ToolFault::Write) => 5,
-        Err(ToolFault::Cert(_)) | Err(ToolFault::Plan(_)) => 6,
+        Err(ToolFault::Cert(_)) | Err(ToolFault::Plan(_)) | Err(ToolFault::Checked { .. }) => 6,
     }
 }

@@ -4,6 +4,7 @@ ghost use Rattle.crp.specs.Calls.{exit_code};
 ghost use Rattle.crp.specs.Words.{HasUsageStatus, IsWithinLimits};
 
 use crate::bounding::bound;
+use crate::checking::check;
 use crate::job::{Job, Mistake, Usage};
 use crate::outcome::{Status, ToolFault, exit_of};
 use crate::proving::prove;
@@ -45,6 +46,7 @@ fn texts_of<'a>(alloc: Global, words: &'a [String]) -> Result<Vec<&'a str>, Allo
 enum Command {
     Replay,
     Bound,
+    Check,
     Prove(Settings),
 }
 
@@ -58,6 +60,7 @@ fn run_from<T: Threads + Wait + Sync, R: Source>(
     match command {
         Command::Replay => replay(rt.alloc(), source, &mut sink),
         Command::Bound => bound(rt.alloc(), source, &mut sink),
+        Command::Check => check(rt.alloc(), source, &mut sink),
         Command::Prove(settings) => prove(threads, rt.alloc(), source, &mut sink, settings),
     }
 }
@@ -100,8 +103,9 @@ fn start<T: Threads + Wait + Sync>(
         Job::Replay(file) => run_on(rt, threads, Command::Replay, file),
         Job::Bound(file) => run_on(rt, threads, Command::Bound, file),
         Job::Prove { file, budget } => run_on(rt, threads, Command::Prove(alone(budget)), file),
-        // These have no command to run yet.
-        Job::Check(_) | Job::Solve { .. } => Err(ToolFault::Read),
+        Job::Check(file) => run_on(rt, threads, Command::Check, file),
+        // This has no command to run yet.
+        Job::Solve { .. } => Err(ToolFault::Read),
     }
 }
 

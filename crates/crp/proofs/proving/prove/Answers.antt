@@ -9,10 +9,16 @@ returns-in_err-write_all g c =
     let solved = c.in_ok-solved.solved in
     let proof = proof_of c.args.settings.budget solved.expanded c.in_ok-head.head solved.answer c.in_ok-text.text.items c.deref.result.now
     c.in_ok-solved.ensures.true_answer c.in_ok-text.ensures c.deref.ensures.value in
-    rw (p.1, p.2)
-    (c.in_err-write_all.ensures.failed,
-        (found.0, c.deref.result.now, found.1, (c.status_after-status.result, (c.in_ok-head.head, found.2, (solved.answer, proof, c.status_after-status.ensures))),
-            c.in_err-write_all.ensures.front))
+    rw (p.1, p.2) (
+      c.in_err-write_all.ensures.failed,
+      (
+        found.0,
+        c.deref.result.now,
+        found.1,
+        (c.status_after-status.result, (c.in_ok-head.head, found.2, (solved.answer, proof, c.status_after-status.ensures))),
+        c.in_err-write_all.ensures.front,
+      ),
+    )
 
 pub returns : goal.returns
 returns g c =
