@@ -135,6 +135,19 @@ fn refuses_words_of_solve(rt: HostRuntime) {
     }
 }
 
+#[test]
+fn tells_the_orders(rt: HostRuntime) {
+    match job(rt.alloc(), &["solve", "a", "b", "--order=x"]) {
+        Err(Usage::Wrong(Mistake::Words(text))) => {
+            assert_eq!(rt;
+                text.as_str(),
+                "error: the order is 'listed' or 'stowage'\n"
+            );
+        }
+        _ => assert!(rt; false),
+    }
+}
+
 fn fault_of(alloc: Global, words: &[&str]) -> Option<SettingFault> {
     match job(alloc, words) {
         Err(Usage::Wrong(Mistake::Setting(fault))) => Some(fault),
