@@ -5,3 +5,4 @@ pub mod Told
 pub mod One
 pub mod Starting
 pub mod Searching
+pub mod Agreeing

@@ -1,14 +1,12 @@
 -- What a worker alone has found when it has searched the whole problem.
-use Rattle.std.proofs.Common.{◌≡◌, ℕ, ◌+◌, ◌<◌, ◌≤◌, List, [], ◌∷◌, ◌++◌, length, All, Option, IfSome, sum_by, sym, ap, ◌∙◌, subst, refl, arith}
+use Rattle.std.proofs.Common.{◌≡◌, ◌+◌, List, [], ◌∷◌, All, IfSome, sum_by, sym, ap, ◌∙◌, subst, arith}
 use Rattle.std.proofs.lemmas.List.Elements.{All-cons, All-nil}
-use Rattle.crp_plan.specs.declared.running.View.{View}
 use Rattle.crp_plan.specs.Bay.{Problem, IsProblem}
-use Rattle.crp_plan.specs.Plans.{Route}
 use Rattle.crp_tree.specs.Nodes.{branches}
 use Rattle.crp_tree.specs.Parts.{ProblemPart, given_of, cuts_in, branches_in, IsKeptPart, Certificate}
 use Rattle.crp_search.specs.Limits.{GoesOn}
 use Rattle.crp_search.specs.Searched.{IsClosed, IsBelow}
-use Rattle.crp_solve.specs.Answers.{path_in, branches_of, count_of, IsFirstLimit, IsPlanOf}
+use Rattle.crp_solve.specs.Answers.{path_in, count_of, IsFirstLimit, IsPlanOf}
 use Rattle.crp_solve.specs.Searches.{IsSearched, IsTold, IsWhole}
 use Rattle.crp_solve.specs.Workers.{Worker, best_count, IsKnown, IsFresh}
 use Rattle.crp_solve.proofs.One.{root_about, one_certificate}

@@ -1,9 +1,8 @@
 -- The answer that a search shows is true.
-use Rattle.std.proofs.Common.{◌≡◌, ℕ, ◌+◌, ◌<◌, ◌≤◌, min, ◌⊎◌, inl, inr, ⊎_elim, List, [], ◌∷◌, length, get_or, map, Contains, All, Option, None, Some, IfSome, sym, ap, ◌∙◌, subst, refl, arith}
+use Rattle.std.proofs.Common.{◌≡◌, ℕ, ◌<◌, ◌≤◌, min, ⊎_elim, List, [], ◌∷◌, length, get_or, Contains, All, Option, None, Some, IfSome, sym, ap, subst, refl, arith}
 use Rattle.std.proofs.lemmas.List.Elements.{All-contains, All-map, All-weaker, All-cons, All-nil, recursion_from_All}
 use Rattle.std.proofs.lemmas.Bool.{cases_lt}
-use Rattle.crp_plan.specs.declared.moves.Move.{Move}
-use Rattle.crp_plan.specs.Bay.{Problem, IsProblem, cap, Position, IsAt, IsPlan, IsBest, relocations}
+use Rattle.crp_plan.specs.Bay.{Problem, IsProblem, cap, Position, IsAt, IsBest}
 use Rattle.crp_plan.specs.Plans.{Route}
 use Rattle.crp_plan.specs.declared.running.View.{View}
 use Rattle.crp_plan.proofs.Covered.{relocations-path}
@@ -11,16 +10,16 @@ use Rattle.crp_bounds.specs.Bounds.{look_ahead}
 use Rattle.crp_bounds.proofs.Floors.{cut_floor}
 use Rattle.crp_tree.specs.declared.tree.Tree.{Tree, CutB, CutL, Branch', Given}
 use Rattle.crp_tree.specs.Trees.{HasAtLeast, least}
-use Rattle.crp_tree.specs.Nodes.{Node, Cut, ahead_of, branches}
+use Rattle.crp_tree.specs.Nodes.{Cut, ahead_of, branches}
 use Rattle.crp_tree.specs.Scripts.{IsAccepted}
 use Rattle.crp_tree.specs.Parts.{ProblemPart, cuts_in, cut_values, branches_in, IsKeptPart, Certificate}
 use Rattle.crp_tree.proofs.Accepted.{bounded, no_plan_at_cap, best}
 use Rattle.crp_tree.proofs.Noded.{part_values, part_branches, cuts_at}
-use Rattle.crp_search.specs.Searched.{IsClosed, IsBelow}
+use Rattle.crp_search.specs.Searched.{IsClosed}
 use Rattle.crp_solve.specs.declared.answer.Answer.{Answer}
 use Rattle.crp_solve.specs.declared.answer.Answer.TheVariants.{Optimal, NoPlan, Between}
 use Rattle.crp_solve.specs.declared.answer.Cause.TheVariants.{Budget, Memory}
-use Rattle.crp_solve.specs.Answers.{path_in, script_of, branches_of, count_of, IsFirstLimit, IsPlanOf, IsBetween, IsCut, IsOneCut, IsTrueAnswer}
+use Rattle.crp_solve.specs.Answers.{path_in, script_of, count_of, IsFirstLimit, IsPlanOf, IsCut, IsOneCut, IsTrueAnswer}
 use Rattle.crp_solve.specs.Searches.{IsSearched, IsAbout, IsTold, IsWhole}
 use Rattle.crp_solve.proofs.Ahead.{ahead_of_root}
 use Rattle.crp_solve.proofs.Limits.{one_first_limit, greedy_told, count_low}

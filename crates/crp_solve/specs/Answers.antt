@@ -1,5 +1,5 @@
 -- What an answer to a problem says, and when it is true.
-use Rattle.std.specs.Prelude.{◌≡◌, ℕ, ◌+◌, ◌<◌, ◌≤◌, min, ◌⊎◌, List, [], ◌∷◌, length, map, flat_map, sum_by, All, Option, Some, None, option_map, IfSome, IsSomeAnd}
+use Rattle.std.specs.Prelude.{◌≡◌, ℕ, ◌<◌, ◌≤◌, min, ◌⊎◌, List, [], ◌∷◌, length, map, sum_by, All, Option, Some, None, option_map, IfSome, IsSomeAnd}
 use Rattle.crp_plan.specs.declared.moves.Move.{Move}
 use Rattle.crp_plan.specs.Bay.{Problem, cap, Position, IsPlan, IsAt, IsBest, relocations}
 use Rattle.crp_plan.specs.Plans.{Route}
@@ -12,7 +12,6 @@ use Rattle.crp_tree.specs.Scripts.{Script, IsAccepted}
 use Rattle.crp_search.specs.Greedy.{IsGreedyPath}
 use Rattle.crp_solve.specs.declared.answer.Answer.{Answer}
 use Rattle.crp_solve.specs.declared.answer.Answer.TheVariants.{Optimal, NoPlan, Between}
-use Rattle.crp_solve.specs.declared.answer.Cause.{Cause}
 use Rattle.crp_solve.specs.declared.answer.Cause.TheVariants.{Budget, Memory}
 
 -- the path of a plan, if there is one

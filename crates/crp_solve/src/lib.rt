@@ -3,6 +3,7 @@
 
 mod alone;
 mod answer;
+mod laws;
 mod settings;
 mod solving;
 mod telling;
@@ -10,5 +11,6 @@ mod telling;
 mod tests;
 
 pub use answer::{Answer, Cause, Solved};
+pub use laws::{answers_agree, one_first_limit};
 pub use settings::{MAX_BUDGET, MAX_SPLIT, MAX_WORKERS, Settings, SettingsFault};
 pub use solving::solve_alone;

@@ -1,6 +1,6 @@
-use Rattle.std.proofs.Common.{◌≡◌, [], ◌∷◌, sym, ap, ◌∙◌, subst}
+use Rattle.std.proofs.Common.{◌≡◌, [], ◌∷◌, sym, ◌∙◌, subst}
 use Rattle.std.proofs.lemmas.Result.{IfOk-weaker}
-use Rattle.crp_plan.specs.Bay.{Position, IsProblem, IsAt, start}
+use Rattle.crp_plan.specs.Bay.{IsProblem, IsAt, start}
 use Rattle.crp_bay.specs.Positions.{settled}
 use Rattle.crp_bay.proofs.Walked.{begins_at}
 use Rattle.crp_tree.specs.Parts.{ProblemPart, Certificate}
