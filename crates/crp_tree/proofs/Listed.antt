@@ -203,3 +203,14 @@ none_below path s (r ∷ rows) (t ∷ trees) deep h =
 pub told_all : {X : Type 0} (f : Told X) (path : List ℕ) (s : Position) (rows : List ℕ) (trees : List Tree) (i : ℕ) → length rows ≤ i → length trees ≤ i →
     each f path s (take i rows) (take i trees) ≡ each f path s rows trees
 told_all f path s rows trees i lr lt = rw (take_all i rows lr, take_all i trees lt) refl
+
+-- what is told of one more comes behind what was told before
+pub told_after : {X : Type 0} (f : Told X) (path : List ℕ) (s : Position) (rows targets : List ℕ) (trees : List Tree) (i : ℕ) (one : Tree) (longer : List ℕ) (next : Position) (first before after : List X) →
+    rows ≡ targets → Meets path s targets trees i (get_or rows i 0) one longer next → i < length targets →
+    before ≡ first ++ each f path s (take i rows) (take i trees) → after ≡ before ++ f longer next one → after ≡ first ++ each f path s (take (i + 1) rows) (take (i + 1) trees)
+told_after {X} f path s rows targets trees i one longer next first before after same m there was now =
+    let told : each f path s (take (i + 1) rows) (take (i + 1) trees) ≡ each f path s (take i rows) (take i trees) ++ f longer next one =
+    rw same (met_told f path s targets trees i (get_or rows i 0) one longer next m there) in
+    let joined : before ++ f longer next one ≡ first ++ each f path s (take (i + 1) rows) (take (i + 1) trees) =
+    ap (λ l. l ++ f longer next one) was ∙ append_assoc first (each f path s (take i rows) (take i trees)) (f longer next one) ∙ ap (λ l. first ++ l) (sym told) in
+    now ∙ joined

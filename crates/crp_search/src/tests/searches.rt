@@ -3,7 +3,7 @@ ghost use Rattle.std.specs.Prelude.{◌≡◌, ◌^◌, ◌≤◌};
 use crate::tests::lone::Lone;
 use crate::{first_plan, search};
 use crp_plan::Problem;
-use crp_tree::{Name, Part, Tree};
+use crp_tree::{Cert, Name, Names, Part, Parts, Tree};
 use std::alloc::{AllocError, Global};
 use std::process::Abort;
 use std::test::Fail;
@@ -129,7 +129,7 @@ fn parts_are_given_away_and_searched_later(rt: HostRuntime) -> Result<(), Fail> 
         let mut limit = Lone::new(rt.alloc(), &problem, start_of(&problem), budget, true);
         let root = part_at(&rt, rt.alloc(), &problem, &[], &mut limit, 1)?;
         tree_is(&rt, rt.alloc(), &root, "XGG")?;
-        let given = root.given_names(rt.alloc())?.into_vec();
+        let given = Names::from_vec(root.given_names(rt.alloc())?.into_vec()).into_vec();
         assert_eq!(rt; given.len(), 2);
         assert_eq!(rt; given[0].rows(), [2].as_slice());
         assert_eq!(rt; given[1].rows(), [3].as_slice());
@@ -139,6 +139,20 @@ fn parts_are_given_away_and_searched_later(rt: HostRuntime) -> Result<(), Fail> 
         let part = part_at(&rt, rt.alloc(), &problem, &[2], &mut limit, 1)?;
         tree_is(&rt, rt.alloc(), &part, first)?;
         assert_eq!(rt; limit.words.view.granted, spent, "the claims of {second}");
+        certificate_is(&rt, Cert::whole(rt.alloc(), root)?, &[], problem.cap());
+        let floor = part.floor();
+        certificate_is(&rt, Cert::whole(rt.alloc(), part)?, &[2], floor);
     }
     Ok(())
+}
+
+fn certificate_is(rt: &impl Abort, cert: Cert, rows: &[u8], lower: u32) {
+    assert_eq!(rt; cert.lower(), lower);
+    assert_eq!(rt; cert.parts().len(), 1);
+    let parts = Parts::from_vec(cert.into_parts().into_vec());
+    assert_eq!(rt; parts.as_slice().len(), 1);
+    let part = &parts.as_slice()[0];
+    assert_eq!(rt; part.name().rows(), rows);
+    assert_eq!(rt; part.floor(), lower);
+    assert_eq!(rt; part.problem().ordered(), 6);
 }

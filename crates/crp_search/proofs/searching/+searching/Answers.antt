@@ -7,13 +7,13 @@ use Rattle.crp_search.proofs.searching.+searching.Goals as goal
 pub search_at-push-requires : goal.search_at-push-requires
 search_at-push-requires g t c =
     let on = c.in-Some-child.ensures.at c.args.problem.now c.args.path.now.items c.cap-floor.ensures.problem c.requires.path in
-    (lit< tt, omega (arith, short_path _ _ _ c.cap-floor.ensures.problem on, length-append c.args.path.now.items (get_or c.as_slice-rows.result.now c.loop-row.row-index 0 ∷ []), ap length c.loop-row.invariant.path))
+    (lit< tt, omega (arith, short_path c.args.problem.now (c.args.path.now.items ++ get_or c.as_slice-rows.result.now c.loop-row.row-index 0 ∷ []) c.in-Some-child.child c.cap-floor.ensures.problem on, length-append c.args.path.now.items (get_or c.as_slice-rows.result.now c.loop-row.row-index 0 ∷ []), ap length c.loop-row.invariant.path))
 
 pub search_at-returns-in_err-push-clause-goes_on :
     goal.search_at-returns-in_err-push-clause-goes_on
 search_at-returns-in_err-push-clause-goes_on g t c =
     let f = c.loop-row.invariant.found in
-    on_and_on _ _ _ _ f.goes_on c.give_or_search.ensures.goes_on
+    on_and_on c.args.problem.now (g.L.Limit.view c.args.limit.now) (g.L.Limit.view c.loop-row.limit) (g.L.Limit.view c.give_or_search.new.limit) f.goes_on c.give_or_search.ensures.goes_on
 
 pub search_at-loop-row-preserved : goal.search_at-loop-row-preserved
 search_at-loop-row-preserved g t c =
@@ -47,4 +47,4 @@ pub search_at-returns-in_err-found-clause-puts :
     goal.search_at-returns-in_err-found-clause-puts
 search_at-returns-in_err-found-clause-puts g t c =
     let f = c.loop-row.invariant.found in
-    more_again (g.L.Limit.puts c.args.limit.now) (g.L.Limit.puts c.loop-row.limit) (g.L.Limit.puts c.give_or_search.new.limit) (below_puts _ _ _ _ _ _ _ _ _ _ _ _ f) c.give_or_search.ensures.puts
+    more_again (g.L.Limit.puts c.args.limit.now) (g.L.Limit.puts c.loop-row.limit) (g.L.Limit.puts c.give_or_search.new.limit) (below_puts c.args.problem.now c.args.split c.args.path.now.items c.args.place.now (g.L.Limit.view c.args.limit.now) (g.L.Limit.view c.loop-row.limit) (g.L.Limit.puts c.args.limit.now) (g.L.Limit.puts c.loop-row.limit) c.as_slice-rows.result.now c.loop-row.row-index c.loop-row.trees.items c.loop-row.floor f) c.give_or_search.ensures.puts

@@ -1,4 +1,4 @@
-use Rattle.std.proofs.Common.{arith, ℕ, List, [], ◌∷◌, ◌+◌, ◌≢◌, take, Contains, length-append, ◌≡◌, ◌<◌, ◌≤◌, ◌++◌, length, subst, ap, sym, ◌∙◌, get_or, append-nil, append_assoc}
+use Rattle.std.proofs.Common.{arith, ℕ, List, [], ◌∷◌, ◌≢◌, take, Contains, length-append, ◌≡◌, ◌<◌, ◌≤◌, ◌++◌, length, subst, ap, sym, ◌∙◌, get_or, append-nil}
 use Rattle.std.proofs.lemmas.List.Elements.{Contains-get_or}
 use Rattle.crp_plan.specs.Bay.{Position}
 use Rattle.crp_bay.specs.Positions.{targets}
@@ -6,7 +6,7 @@ use Rattle.crp_tree.specs.declared.tree.Tree.{Tree}
 use Rattle.crp_tree.proofs.Followed.{none_is_not_some}
 use Rattle.crp_tree.specs.Trees.{givens}
 use Rattle.crp_tree.specs.Listed.{each}
-use Rattle.crp_tree.proofs.Listed.{TellsBranch, Meets, is_told, fit_lengths, met_fits, met_told, none_below, told_all}
+use Rattle.crp_tree.proofs.Listed.{TellsBranch, Meets, is_told, fit_lengths, met_fits, told_after, none_below, told_all}
 use Rattle.crp_tree.proofs.part.+collecting.Goals as goal
 
 pub collect-collect_below-requires : goal.collect-collect_below-requires
@@ -57,7 +57,7 @@ collect_below-collect-requires t c =
 pub collect_below-loop-i-preserved : goal.collect_below-loop-i-preserved
 collect_below-loop-i-preserved t c =
     let rows : c.as_slice-rows.result.now ≡ targets c.args.place.now = c.as_slice-rows.ensures.value ∙ c.targets-targets.ensures.value in
-    let there : c.loop-i.i < length c.as_slice-rows.result.now = rw rows (omega (arith, fit_lengths c.args.name.now c.args.place.now (targets c.args.place.now) c.args.trees.now c.requires)) in
+    let there : c.loop-i.i < length (targets c.args.place.now) = (omega (arith, fit_lengths c.args.name.now c.args.place.now (targets c.args.place.now) c.args.trees.now c.requires)) in
     let m : Met c.args.name.now c.args.place.now c.as_slice-rows.result.now c.args.trees.now c.loop-i.i c.index-trees-i.result c.in-Some.longer c.in-Some-child.next = record {
       within = c.loop-i-test.true;
       row_is = ap (λ l. get_or l c.loop-i.i 0) rows;
@@ -65,10 +65,8 @@ collect_below-loop-i-preserved t c =
       longer_is = c.in-Some.ensures.value;
       next_is = c.in-Some-child.ensures.value;
     } in
-    c.in_ok-collect.ensures
-    ∙ ap (λ l. l ++ givens c.in-Some.longer c.in-Some-child.next c.index-trees-i.result) c.loop-i.invariant
-    ∙ append_assoc c.args.names.now.items _ _
-    ∙ ap (λ l. c.args.names.now.items ++ l) (sym (subst (λ l. each givens c.args.name.now c.args.place.now (take (c.loop-i.i + 1) l) (take (c.loop-i.i + 1) c.args.trees.now) ≡ each givens c.args.name.now c.args.place.now (take c.loop-i.i l) (take c.loop-i.i c.args.trees.now) ++ givens c.in-Some.longer c.in-Some-child.next c.index-trees-i.result) (sym rows) (met_told givens _ _ _ _ _ _ _ _ _ m (subst (λ l. c.loop-i.i < length l) rows there))))
+    told_after givens c.args.name.now c.args.place.now c.as_slice-rows.result.now (targets c.args.place.now) c.args.trees.now c.loop-i.i c.index-trees-i.result c.in-Some.longer c.in-Some-child.next
+    c.args.names.now.items c.loop-i.names.items c.collect.new.names.items rows m there c.loop-i.invariant c.in_ok-collect.ensures
 
 pub collect_below-returns : goal.collect_below-returns
 collect_below-returns t c =
