@@ -6,7 +6,12 @@ use Rattle.std.proofs.lemmas.List.{get_or_default}
 use Rattle.crp_plan.specs.Bay.{Problem, Position}
 use Rattle.crp_bay.specs.Positions.{targets}
 use Rattle.crp_bay.proofs.Reaching.{can_from_target, shift_needs}
-use Rattle.crp_search.specs.Greedy.{blocker, least_rank, IsLower, IsHigher, IsClosest, IsLatest, IsGreedyRow, IsBetter, IsNoWorse}
+use Rattle.crp_search.specs.Greedy.{blocker, least_rank, IsLower, IsHigher, IsClosest, IsLatest, IsGreedyRow, IsBetter}
+
+-- a row is no worse than another, and stands before it where they are alike
+abbrev pub IsNoWorse : Problem → Position → ℕ → ℕ → Type 0
+IsNoWorse p s row other =
+    IsBetter (blocker s) (least_rank p s row) (least_rank p s other) ⊎ ((least_rank p s row ≡ least_rank p s other) × (row ≤ other))
 
 -- a legal row is there
 pub target_there : (s : Position) (row : ℕ) → Contains (targets s) row → (1 ≤ row) × (row ≤ length s.heights)

@@ -46,8 +46,3 @@ pub record IsGreedyPath (p : Problem) (path : List ℕ) : Type 0 where
 -- rank is larger; or it blocks in both, and in the first for longer
 abbrev pub IsBetter : ℕ → ℕ → ℕ → Type 0
 IsBetter blocker rank other = ((blocker < rank) × ((other ≤ blocker) ⊎ (rank < other))) ⊎ ((rank ≤ blocker) × (other < rank))
-
--- a row is no worse than another, and stands before it where they are alike
-abbrev pub IsNoWorse : Problem → Position → ℕ → ℕ → Type 0
-IsNoWorse p s row other =
-    IsBetter (blocker s) (least_rank p s row) (least_rank p s other) ⊎ ((least_rank p s row ≡ least_rank p s other) × (row ≤ other))

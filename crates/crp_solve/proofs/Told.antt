@@ -130,7 +130,7 @@ between_told p budget first view cert plan w lt =
         plan_is = t.plan_is;
         greedy = λ path g. greedy_told p first plan path a.is_problem t g;
       };
-      ended = (w.granted, record { all = ⊎_elim (λ (l : 0 < view.refused). w.refused_last l) (λ (le : view.refused ≤ 0). absurd (omega (arith, lt, reaches p budget first view cert plan w (omega arith)))) (cases_lt 0 view.refused); open' = lt });
+      ended = (w.granted, record { all = ⊎_elim (λ (l : 0 < view.refused). w.refused_last l) (λ (le : view.refused ≤ 0). absurd (omega (arith, lt, reaches p budget first view cert plan w (omega arith)))) (cases_lt 0 view.refused); below = lt });
       within = w.within;
       of_problem = a.of_problem;
       accepted = acc;

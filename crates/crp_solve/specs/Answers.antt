@@ -94,7 +94,7 @@ pub record IsOneCut (cert : Certificate) : Type 0 where
 -- the budget is spent, and the bound is still below the plan, or below the cap where there is none
 pub record IsSpent (p : Problem) (budget lower : ℕ) (plan : Option Route) (expanded : ℕ) : Type 0 where
   pub all : expanded ≡ budget
-  pub open' : lower < count_of p (path_in plan)
+  pub below : lower < count_of p (path_in plan)
 
 -- how the search ended: where memory was wanting, with a certificate of one cut; else each expansion is a branch of the certificate; and where the
 -- cause is the budget, it is spent
