@@ -1,0 +1,48 @@
+-- Worked lines and trees, by the definitions.
+use Rattle.std.proofs.Common.{◌≡◌, [], ◌∷◌, ◌++◌, refl, arith}
+use Rattle.std.specs.Prelude.{codes}
+use Rattle.std.proofs.lemmas.Fmt.{decimal_digit}
+use Rattle.crp_plan.specs.Bay.{Position, start}
+use Rattle.crp_bay.specs.Positions.{settled, targets}
+use Rattle.crp_tree.specs.declared.tree.Tree.{CutB, CutL, Given, end_of-Tree, more_of-Tree}
+use Rattle.crp_cert.specs.Script.{name_text, symbols_of_each, symbols_line, end_line, MatchesEach}
+
+-- six containers in three rows of three tiers, and the position before the first relocation
+abbrev before : Position
+before = settled (start (record { heights = 3 ∷ 3 ∷ 3 ∷ []; ordered = 6; stacks = (1 ∷ 5 ∷ 4 ∷ []) ∷ (6 ∷ []) ∷ (3 ∷ 2 ∷ []) ∷ [] }))
+
+-- two containers that leave without a relocation
+abbrev done : Position
+done = settled (start (record { heights = 2 ∷ 2 ∷ []; ordered = 2; stacks = (2 ∷ 1 ∷ []) ∷ [] ∷ [] }))
+
+-- names
+root_name : name_text [] ≡ codes "/"
+root_name = refl
+
+three_rows : name_text (2 ∷ 3 ∷ 1 ∷ []) ≡ codes "2.3.1"
+three_rows = rw (decimal_digit 2 (omega arith), decimal_digit 3 (omega arith), decimal_digit 1 (omega arith)) refl
+
+-- the part line and the last line of the six containers
+part_of_six : symbols_line [] (codes "XLB") ≡ codes "part /: XLB" ++ 10 ∷ []
+part_of_six = refl
+
+end_of_six : end_line 1 ≡ codes "end 1" ++ 10 ∷ []
+end_of_six = rw (decimal_digit 1 (omega arith)) refl
+
+-- below its branch stand a cut by the look-ahead bound and one by the blocking bound
+trees_of_six : symbols_of_each (more_of-Tree CutL (more_of-Tree CutB end_of-Tree)) ≡ codes "LB"
+trees_of_six = refl
+
+-- there are two trees, since the legal rows are 2 and 3
+two_match : MatchesEach before (targets before) (more_of-Tree CutL (more_of-Tree CutB end_of-Tree))
+two_match = (tt, (tt, tt))
+
+one_does_not : MatchesEach before (targets before) (more_of-Tree CutL end_of-Tree) → ⊥
+one_does_not m = m.1
+
+given_does_not : MatchesEach before (targets before) (more_of-Tree Given (more_of-Tree Given end_of-Tree)) → ⊥
+given_does_not m = m.0
+
+-- no trees stand where all have left
+none_match : MatchesEach done (targets done) end_of-Tree
+none_match = tt
