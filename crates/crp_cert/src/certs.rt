@@ -1,16 +1,14 @@
 //! Reading a whole certificate.
-ghost use Rattle.std.specs.Prelude.{◌≡◌, ℕ, ◌+◌, ◌≤◌, ◌⊎◌, ◌↔◌, List, ◌++◌, None, IsTrue, IfOk, IfErr, All, AllPairs, length, codes};
-ghost use Rattle.std.specs.List.{flat_map};
-ghost use Rattle.crp_plan.specs.Bay.{IsProblem};
+ghost use Rattle.std.specs.Prelude.{◌≡◌, ◌+◌, ◌⊎◌, ◌↔◌, ◌++◌, None, IsTrue, IfOk, IfErr, AllPairs, codes};
 ghost use Rattle.crp_tree.specs.Names.{Precedes};
-ghost use Rattle.crp_cert.specs.Script.{part_line, symbols_of, end_line, names_told, IsRawPart, IsScriptOf};
+ghost use Rattle.crp_cert.specs.Script.{part_line, end_line, names_told, IsRawPart, IsScriptOf};
 ghost use Rattle.crp_cert.specs.ScriptFaults.{ComesAfter, IsLineFault, IsFirstFaultOfScript};
 ghost use Rattle.crp_cert.specs.Reading.{Reads, tag_at};
 ghost use Rattle.crp_cert.specs.PartReading.{AreParts, IsPartsFault};
 
 use crate::fault::CertFault;
 use crate::fields::{after_newline, after_tag};
-use crate::names::{PartLine, part_line};
+use crate::part_fields::part_line;
 use crate::parts::{Parts, RawPart};
 use crate::reading::head_and_rest;
 use crate::rows::Rows;

@@ -1,5 +1,5 @@
 //! The fields of a line.
-ghost use Rattle.std.specs.Prelude.{◌≡◌, ◌≤◌, ◌<◌, ◌+◌, ◌*◌, ◌-◌, ◌^◌, ◌++◌, ℕ, List, IfOk, IfSome, IfNone, length, drop, codes};
+ghost use Rattle.std.specs.Prelude.{◌≡◌, ◌≤◌, ◌<◌, ◌+◌, ◌*◌, ◌-◌, ◌++◌, ℕ, List, IfOk, IfSome, IfNone};
 ghost use Rattle.crp_plan.specs.BayNames.{YardBay, IsYardBay};
 ghost use Rattle.crp_cert.specs.Text.{bay_line};
 ghost use Rattle.crp_cert.specs.Reading.{Reads, tag_at, digits_at, number_at, spaced_at, newline_at, numbers_at, word_at, size_at, claim_at, is_size, name_at, row_at, plan_at};

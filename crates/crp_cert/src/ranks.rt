@@ -1,5 +1,5 @@
 //! The ranks that the row lines of a certificate tell.
-ghost use Rattle.std.specs.Prelude.{◌≡◌, ℕ, ◌+◌, ◌*◌, ◌<◌, ◌≤◌, ◌↔◌, All, IsTrue, length, count_by, ◌==◌};
+ghost use Rattle.std.specs.Prelude.{ℕ, ◌+◌, ◌*◌, ◌<◌, ◌≤◌, ◌↔◌, All, IsTrue, length, ◌==◌};
 ghost use Rattle.crp_plan.specs.Rows.{occurrences};
 ghost use Rattle.crp_plan.specs.Faults.{stacks_of};
 ghost use Rattle.crp_cert.specs.Reading.{IsNewRank};

@@ -1,5 +1,5 @@
 //! Reading the head of a certificate.
-ghost use Rattle.std.specs.Prelude.{◌≡◌, ℕ, ◌≤◌, ◌<◌, ◌+◌, ◌⊎◌, List, ◌++◌, ◌∷◌, [], IfOk, IfErr, IfSome, IfNone, length, vec_len};
+ghost use Rattle.std.specs.Prelude.{◌≡◌, ℕ, ◌<◌, ◌+◌, ◌⊎◌, List, ◌++◌, ◌∷◌, [], IfOk, IfErr, IfSome, IfNone, length, vec_len};
 ghost use Rattle.std.specs.List.{flat_map};
 ghost use Rattle.crp_plan.specs.Faults.{stacks_of, stated};
 ghost use Rattle.crp_cert.specs.Text.{IsSize, IsHead, IsHeadOf, row_line, head_text};

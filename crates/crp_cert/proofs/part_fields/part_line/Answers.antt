@@ -1,6 +1,6 @@
 use Rattle.crp_bay.proofs.Walked.{at_means}
 use Rattle.crp_cert.proofs.PartNames.{name_takes}
-use Rattle.crp_cert.proofs.names.part_line.Goals as goal
+use Rattle.crp_cert.proofs.part_fields.part_line.Goals as goal
 
 pub returns-clause-at : goal.returns-clause-at
 returns-clause-at c =

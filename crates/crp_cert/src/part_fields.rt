@@ -1,5 +1,5 @@
 //! The fields of a part line.
-ghost use Rattle.std.specs.Prelude.{◌≡◌, IfSome};
+ghost use Rattle.std.specs.Prelude.{IfSome};
 ghost use Rattle.crp_plan.specs.Bay.{IsAt, IsProblem};
 ghost use Rattle.crp_cert.specs.Reading.{Reads};
 ghost use Rattle.crp_cert.specs.PartReading.{line_at, name_at, part_at};

@@ -3,7 +3,7 @@ use Rattle.std.proofs.lemmas.Bool.{cases_lt}
 use Rattle.crp_bay.specs.Positions.{can_shift}
 use Rattle.crp_bay.proofs.Reaching.{can_from_target}
 use Rattle.crp_cert.proofs.PartNames.{names_begin, rows_no_number, rows_illegal, names_fail, names_end, names_go_on, none_named, some_named, not_legal, no_room}
-use Rattle.crp_cert.proofs.names.name_of.Goals as goal
+use Rattle.crp_cert.proofs.part_fields.name_of.Goals as goal
 
 pub loop-row-init : goal.loop-row-init
 loop-row-init c = record { rows = names_begin c.root-name.result c.start-place.result _ c.args.bytes.now c.root-name.ensures c.start-place.ensures.value; no_root = c.in_default.ensures; is_problem = c.start-place.ensures.problem }

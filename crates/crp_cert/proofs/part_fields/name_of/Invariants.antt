@@ -5,7 +5,7 @@ use Rattle.crp_bay.specs.Positions.{settled}
 use Rattle.crp_cert.specs.Reading.{◌>>=◌, tag_at}
 use Rattle.crp_cert.specs.PartReading.{rows_at}
 use Rattle.crp_cert.proofs.PartNames.{rows_behind}
-use Rattle.crp_cert.proofs.names.name_of.Given as goal
+use Rattle.crp_cert.proofs.part_fields.name_of.Given as goal
 
 abbrev pub invariant-loop-row : goal.invariant-loop-row
 invariant-loop-row l = record {
