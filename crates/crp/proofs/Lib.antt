@@ -3,3 +3,4 @@ pub mod Replayed
 pub mod Asking
 pub mod Lacking
 pub mod CommandLine
+pub mod Checked
