@@ -1,4 +1,5 @@
 //! What no contract says: worked examples byte for byte, texts of faults, and devices that fail in mid-stream.
+mod certificates;
 mod commands;
 mod failing;
 mod usage;

@@ -13,11 +13,16 @@ returns-in_err-write_all-in-Err g c =
     given_as 268435456 _ c.in_ok-bytes.bytes.items c.deref.result.now c.deref.ensures.value within c.in_ok-bytes.ensures.all in
     let lines : c.deref-in-Err.result.now ≡ verdict_lines c.in-Err.refusal.before =
     c.deref-in-Err.ensures.value ∙ c.in_ok-text-in-Err.ensures ∙ ap verdict_lines c.as_slice-in-Err.ensures in
-    rw (p.1, p.2)
-    (c.in_err-write_all-in-Err.ensures.failed,
-        (c.deref.result.now, c.deref-in-Err.result.now, given,
-            inr (c.in-Err.refusal.number, c.in-Err.refusal.refused, (c.in-Err.refusal.before, c.in-Err.ensures.refused, lines)),
-            c.in_err-write_all-in-Err.ensures.front))
+    rw (p.1, p.2) (
+      c.in_err-write_all-in-Err.ensures.failed,
+      (
+        c.deref.result.now,
+        c.deref-in-Err.result.now,
+        given,
+        inr (c.in-Err.refusal.number, c.in-Err.refusal.refused, (c.in-Err.refusal.before, c.in-Err.ensures.refused, lines)),
+        c.in_err-write_all-in-Err.ensures.front,
+      ),
+    )
 
 pub returns : goal.returns
 returns g c =
