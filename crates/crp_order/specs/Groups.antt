@@ -1,5 +1,5 @@
 -- What is kept while the problems are stated. Only private clauses speak of it.
-use Rattle.std.specs.Prelude.{◌≡◌, ◌<◌, ◌≤◌, IsTrue, All, ◌==◌, ℕ, Bool, false, not, List, [], ◌++◌, length, map, filter, Option, Some, None, IfSome, slice_get, if◌then◌else◌}
+use Rattle.std.specs.Prelude.{◌≡◌, ◌<◌, ◌≤◌, ◌==◌, ℕ, Bool, true, false, not, List, [], ◌++◌, length, map, filter, Option, Some, None, IfSome, slice_get, if◌then◌else◌}
 use Rattle.std.specs.Option.{option_map_or}
 use Rattle.std.specs.Map.{lookup}
 use Rattle.std.specs.Str.{bytes_eq}
@@ -30,10 +30,11 @@ abbrev pub is_number : Option ℕ → ℕ → Bool
 is_number None j = false
 is_number (Some i) j = i == j
 
--- of each container the number is kept of the bay in which it stands, and of no other
-pub record ArePlaced (bays : List StackedBay) (entries : List (Bor (List ℕ) × ℕ)) : Type 0 where
-  pub standing_there : (container : Bor (List ℕ)) (j : ℕ) (bay : StackedBay) → slice_get bays j ≡ Some bay → is_among (standing bay.1) container.now ≡ is_number (kept_of entries container.now) j
-  pub bay_is_there : (container : Bor (List ℕ)) → IfSome (kept_of entries container.now) (λ i. i < length bays)
+-- of each container the number is kept of the bay in which it stands, and of no other, as far as the first n bays go
+pub record ArePlaced (n : ℕ) (bays : List StackedBay) (entries : List (Bor (List ℕ) × ℕ)) : Type 0 where
+  pub standing_there : (container : Bor (List ℕ)) (j : ℕ) (bay : StackedBay) → j < n → slice_get bays j ≡ Some bay
+      → is_among (standing bay.1) container.now ≡ is_number (kept_of entries container.now) j
+  pub number_is_low : (container : Bor (List ℕ)) → IfSome (kept_of entries container.now) (λ i. i < n)
 
 -- the number is kept of each of the containers, and of the others what was kept
 abbrev pub Places : List (Bor (List ℕ) × ℕ) → List (Bor (List ℕ) × ℕ) → List (List ℕ) → ℕ → Type 0
@@ -46,7 +47,7 @@ pub record AreGroups (sequence : List (List ℕ)) (bays : List StackedBay) (grou
 
 -- these containers stand in the bay, none of them twice
 pub record CanLeave (left : List (List ℕ)) (stacks : List (List (List ℕ))) : Type 0 where
-  pub there : All (λ container. IsTrue (is_among (standing stacks) container)) left
+  pub there : (container : List ℕ) → is_among left container ≡ true → is_among (standing stacks) container ≡ true
   pub once : (container : List ℕ) → times container left ≤ 1
 
 -- the problem of the bay with this number, which these containers leave in this order

@@ -11,7 +11,7 @@ use Rattle.crp_order.specs.declared.sequences.Mode.TheVariants.{Listed, Stowage}
 
 -- slots by tier, then by bay, then by row, all rising
 abbrev pub slot_cmp : Slot → Slot → Ordering
-slot_cmp a b = ordering_then (nat_cmp a.tier b.tier) (ordering_then (nat_cmp a.bay b.bay) (nat_cmp a.row b.row))
+slot_cmp a b = ordering_then (ordering_then (nat_cmp a.tier b.tier) (nat_cmp a.bay b.bay)) (nat_cmp a.row b.row)
 
 -- the orders by tier, bay and row of their slots, and those of one slot as they are listed
 pub record IsStowage (orders stowed : List Order) : Type 0 where

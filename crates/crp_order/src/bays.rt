@@ -55,7 +55,7 @@ pub(crate) fn bays_by_container<'a>(
     alloc: Global,
     yard: &'a Yard,
 ) -> Result<HashMap<&'a [u8], usize>, AllocError>
-    ensures { IfOk result (λ bays. ArePlaced yard.now.bays bays.entries) }
+    ensures { IfOk result (λ bays. ArePlaced (length yard.now.bays) yard.now.bays bays.entries) }
 {
     let mut bays = HashMap::new(alloc);
     for i in 0..yard.count() {

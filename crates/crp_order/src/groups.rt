@@ -1,6 +1,7 @@
 //! Which containers leave each bay.
 
-ghost use Rattle.std.specs.Prelude.{◌≡◌, IfOk, [], map, replicate};
+ghost use Rattle.std.specs.Prelude.{◌≡◌, IfOk, OnOk, [], map, replicate};
+ghost use Rattle.crp_order.specs.Sequenced.{AreSequenced};
 ghost use Rattle.crp_order.specs.Groups.{pointed, AreGroups};
 
 use crate::bays::bays_by_container;
@@ -24,7 +25,8 @@ pub(crate) fn leaving_by_bay<'a>(
     yard: &Yard,
     sequence: &'a Sequence,
 ) -> Result<Vec<Vec<&'a [u8]>>, AllocError>
-    ensures { IfOk result (λ groups. AreGroups sequence.now yard.now.bays (map (λ group. pointed group.items) groups.items)) }
+    ensures groups { IfOk result (λ groups. AreGroups sequence.now yard.now.bays (map (λ group. pointed group.items) groups.items)) }
+    ensures sequenced { OnOk result (AreSequenced sequence.now) }
 {
     let bays = bays_by_container(alloc, yard)?;
     let mut groups = empty_groups(alloc, yard.count())?;

@@ -12,7 +12,7 @@ use std::alloc::{AllocError, Global};
 fn is_one_of(containers: &[&[u8]], container: &[u8]) -> bool
     ensures { result ≡ is_among (pointed containers.now) container.now }
 {
-    containers.iter().any(|other| container == *other)
+    containers.contains(&container)
 }
 
 fn add_leaving(

@@ -8,11 +8,8 @@ use crp_movins::Slot;
 fn share_cell(a: u16, b: u16) -> bool
     ensures { IsTrue result ↔ ShareCell a b }
 {
-    match a.abs_diff(b) {
-        0 | 1 => true,
-        2 => a % 2 == 0,
-        _ => false,
-    }
+    let apart = a.abs_diff(b);
+    apart < 2 || (apart == 2 && a % 2 == 0)
 }
 
 /// Whether slot `a` is beneath slot `b`: in the same row, in a lower tier, and in bays that both

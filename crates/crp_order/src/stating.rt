@@ -35,10 +35,11 @@ fn problem_of(
     requires leaving { CanLeave (pointed leaving.now) (stacks_at yard.now bay) }
     ensures { IfOk result (IsStated yard.now bay (pointed leaving.now)) }
 {
+    let tiers = yard.tiers();
     let stacks = stacks_of(alloc, yard, bay)?;
     let names = names_by_rank(alloc, leaving, &stacks)?;
     let ranks = stacks_by_rank(alloc, &names, &stacks)?;
-    match Problem::new(yard.tiers(), leaving.len() as u8, &ranks) {
+    match Problem::new(tiers, leaving.len() as u8, &ranks) {
         Ok(problem) => Ok(BayProblem {
             bay: copy_of(yard.name(bay)),
             problem,
