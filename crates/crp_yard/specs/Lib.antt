@@ -1,0 +1,7 @@
+pub use Rattle.crp_plan.specs.BayNames.{YardBay, IsYardBay}
+pub mod Places
+pub mod Records
+pub mod Inventory
+pub mod Faults
+pub mod Reading
+pub mod Listings

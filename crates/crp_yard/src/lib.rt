@@ -1,0 +1,22 @@
+//! Reads and writes yard lists, and keeps what stands in the yard.
+#![tactic(auto)]
+
+mod building;
+mod container;
+mod digits;
+mod fault;
+mod fields;
+mod floating;
+mod listing;
+mod names;
+mod place;
+mod reading;
+mod records;
+mod stacks;
+mod yard;
+
+pub use container::{Container, Containers};
+pub use fault::YardFault;
+pub use reading::{MAX_BYTES, read_yard, yard_of};
+pub use records::MAX_CONTAINERS;
+pub use yard::Yard;
