@@ -11,3 +11,4 @@ pub mod Sums
 pub mod OnceSteps
 pub mod YardSteps
 pub mod ToldSteps
+pub mod TextSteps

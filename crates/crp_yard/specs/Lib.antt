@@ -4,4 +4,5 @@ pub mod Records
 pub mod Inventory
 pub mod Faults
 pub mod Reading
+pub mod Text
 pub mod Listings

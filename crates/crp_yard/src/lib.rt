@@ -13,10 +13,12 @@ mod place;
 mod reading;
 mod records;
 mod stacks;
+mod writing;
 mod yard;
 
 pub use container::{Container, Containers};
 pub use fault::YardFault;
 pub use reading::{MAX_BYTES, read_yard, yard_of};
 pub use records::MAX_CONTAINERS;
+pub use writing::{WriteFault, write_yard, yard_text};
 pub use yard::Yard;

@@ -1,9 +1,9 @@
 //! What stands in a yard.
 
-ghost use Rattle.std.specs.Prelude.{◌≡◌, ◌<◌, ◌≤◌, IfOk, Some, length};
+ghost use Rattle.std.specs.Prelude.{◌≡◌, ◌<◌, ◌≤◌, All, IfOk, Some, length, slice_get};
 ghost use Rattle.crp_yard.specs.Inventory.{name_at, stack_at, stands, IsYard};
 
-use crate::container::Container;
+use crate::container::{Container, Containers};
 use crate::names::names_of;
 use crate::place::Bay;
 use crate::records::Size;
@@ -84,6 +84,19 @@ impl Yard {
     {
         match self.bays.get_index(bay) {
             Some((key, _)) => key.name(),
+            None => unreachable!(),
+        }
+    }
+
+    /// A bay and its stacks, by the same number.
+    pub(crate) fn bay(&self, bay: usize) -> (&BayName, &[Containers])
+        requires { bay < length self.now.bays }
+        ensures value { slice_get self.now.bays bay ≡ Some (result.0.now, result.1.now) }
+        ensures rows { length result.1.now ≤ 12 }
+        ensures tiers { All (λ stack. length stack ≤ 8) result.1.now }
+    {
+        match self.bays.get_index(bay) {
+            Some((key, stacks)) => (key.name(), stacks.rows()),
             None => unreachable!(),
         }
     }
