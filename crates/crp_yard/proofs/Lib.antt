@@ -1,4 +1,5 @@
 -- Lemmas on yard lists.
+pub mod Lists
 pub mod FieldSteps
 pub mod BaySteps
 pub mod ListingSteps
@@ -12,3 +13,6 @@ pub mod OnceSteps
 pub mod YardSteps
 pub mod ToldSteps
 pub mod TextSteps
+pub mod LeavingSteps
+pub mod LeftSteps
+pub mod AfterSteps

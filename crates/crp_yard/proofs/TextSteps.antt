@@ -52,5 +52,5 @@ pub bay-more : (bays : List StackedBay) (i : ℕ) (bay : StackedBay) (text new :
 bay-more bays i bay text new at is e =
     let own = records_of_rows bay.0 1 bay.1 in
     let all : records_of_yard (take (i + 1) bays) ≡ records_of_yard (take i bays) ++ own =
-        rw (add-one i, take_next bays i bay at, flat_map-append (λ (b : StackedBay). records_of_rows b.0 1 b.1) (take i bays) (bay ∷ []), append-nil own) refl in
+    rw (add-one i, take_next bays i bay at, flat_map-append (λ (b : StackedBay). records_of_rows b.0 1 b.1) (take i bays) (bay ∷ []), append-nil own) refl in
     piece new text [] [] (text_of_records own) (records_of_yard (take i bays)) own e is refl ∙ sym (ap text_of_records all)

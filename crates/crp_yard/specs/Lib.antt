@@ -4,5 +4,7 @@ pub mod Records
 pub mod Inventory
 pub mod Faults
 pub mod Reading
+pub mod Ranks
+pub mod After
 pub mod Text
 pub mod Listings

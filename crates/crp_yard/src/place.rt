@@ -67,14 +67,21 @@ impl Hash for Bay {
 }
 
 impl Bay {
+    /// The bay with this name. Takes no memory.
+    pub fn copy_of(name: &BayName) -> Bay
+        ensures { result ≡ name.now }
+    {
+        match BayName::new(name.block(), name.bay()) {
+            Some(name) => Bay { name },
+            None => unreachable!(),
+        }
+    }
+
     /// The same bay once more. Takes no memory.
     pub fn copy(&self) -> Bay
         ensures { result ≡ self.now }
     {
-        match BayName::new(self.name.block(), self.name.bay()) {
-            Some(name) => Bay { name },
-            None => unreachable!(),
-        }
+        Bay::copy_of(&self.name)
     }
 }
 

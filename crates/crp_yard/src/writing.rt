@@ -15,11 +15,7 @@ use std::alloc::{AllocError, Global};
 use thiserror::Error;
 
 /// Adds a record as csv writes it.
-fn push_record(
-    alloc: Global,
-    text: &mut Vec<u8>,
-    fields: &[&[u8]],
-) -> Result<(), AllocError>
+fn push_record(alloc: Global, text: &mut Vec<u8>, fields: &[&[u8]]) -> Result<(), AllocError>
     ensures { OnOk result (text.new.items ≡ text.old.items ++ row_text default_writer (map (λ field. field.now) fields.now)) }
 {
     let mut writer = WriterBuilder::new().from_writer(Vec::new(alloc));
