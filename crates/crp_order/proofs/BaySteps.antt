@@ -1,10 +1,10 @@
 -- A bay by the ranks of its containers.
-use Rattle.std.proofs.Common.{◌≡◌, ◌≤◌, ◌<◌, ◌+◌, ◌-◌, ◌==◌, ℕ, suc, Bool, true, false, cond, not, List, [], ◌∷◌, ◌++◌, length, map, flat_map, get_or, All, refl, sym, ap, ◌∙◌, arith, length-append}
+use Rattle.std.proofs.Common.{◌≡◌, ◌≤◌, ◌<◌, ◌+◌, ◌-◌, ◌==◌, ℕ, suc, Bool, true, false, cond, not, List, [], ◌∷◌, ◌++◌, length, map, get_or, All, refl, ap, ◌∙◌, arith, length-append}
 use Rattle.std.specs.Prelude.{filter}
 use Rattle.std.specs.Str.{bytes_eq}
 use Rattle.crp_plan.specs.Bay.{IsProblem}
 use Rattle.crp_plan.specs.Rows.{occurrences, total}
-use Rattle.crp_plan.specs.Faults.{stated, AreRanks, HasRows, HasTiers, FitTiers}
+use Rattle.crp_plan.specs.Faults.{stated, AreRanks, HasTiers, FitTiers}
 use Rattle.crp_plan.proofs.Tallies.{made}
 use Rattle.crp_plan.proofs.Lists.{times as rank_times, times-cons as rank_times-cons, occurrences-cons}
 use Rattle.std.proofs.lemmas.List.{length-map}
@@ -12,10 +12,10 @@ use Rattle.std.proofs.lemmas.List.Sums.{sum_by-cons}
 use Rattle.std.proofs.lemmas.List.Elements.{All-map, All-weaker}
 use Rattle.std.proofs.lemmas.Bool.{eqb-true}
 use Rattle.crp_yard.specs.Inventory.{times, is_among, FitBay}
-use Rattle.crp_order.specs.BayProblems.{standing, leaving, staying, ranked, rank_in, ranks_in, named, stacks_named}
+use Rattle.crp_order.specs.BayProblems.{standing, rank_in, ranks_in}
 use Rattle.crp_order.specs.Groups.{names_behind, CanLeave}
-use Rattle.crp_order.proofs.Once.{same, itself, turned, one_if, here, times-append, some_times, no_times, among, times-filter, once, one_length, filter-same}
-use Rattle.crp_order.proofs.RankSteps.{rank_low, rank_high, named-rank, within, rank_at}
+use Rattle.crp_order.proofs.Once.{one_if, here, times-append, some_times, no_times, times-filter, once, one_length}
+use Rattle.crp_order.proofs.RankSteps.{rank_low, rank_high, within, rank_at}
 
 -- how many containers pass the test
 abbrev count : (List ℕ → Bool) → List (List ℕ) → ℕ

@@ -1,9 +1,7 @@
 -- The containers that leave each bay, one container of the sequence after the other.
 use Prim.Native.Nat.{zero}
-use Rattle.std.proofs.Common.{◌≡◌, ◌≢◌, ◌≤◌, ◌<◌, ◌+◌, ◌==◌, ℕ, suc, Bool, true, false, cond, not, List, [], ◌∷◌, ◌++◌, length, take, get_or, set, map, replicate, Option, Some, None, slice_get, Vec, Global, refl, sym, ap, ◌∙◌, subst, ⊎_elim, inl, inr, arith}
-use Rattle.std.specs.Prelude.{filter}
-use Rattle.std.specs.List.{list_any}
-use Rattle.std.proofs.lemmas.Bool.{cases_eq, eq-eqb, ne_eqb, false≢true}
+use Rattle.std.proofs.Common.{◌≡◌, ◌<◌, ◌+◌, ◌==◌, ℕ, suc, true, false, cond, List, [], ◌∷◌, ◌++◌, length, take, get_or, set, map, replicate, Some, slice_get, Vec, Global, refl, sym, ap, ◌∙◌, inl, inr, arith}
+use Rattle.std.proofs.lemmas.Bool.{cases_eq, eq-eqb, ne_eqb}
 use Rattle.std.proofs.lemmas.List.{take_more, length-replicate, length-set, map-append}
 use Rattle.std.proofs.lemmas.List.Elements.{filter-append}
 use denote.Ref.{Bor}
@@ -12,7 +10,7 @@ use Rattle.std.proofs.lemmas.Option.{slice_get_within, slice_get-map, slice_get_
 use Rattle.crp_plan.proofs.Lists.{get_put_same, get_put_other}
 use Rattle.crp_yard.specs.Inventory.{StackedBay, is_among}
 use Rattle.crp_order.specs.BayProblems.{standing, leaving}
-use Rattle.crp_order.specs.Groups.{is_number, pointed, AreGroups}
+use Rattle.crp_order.specs.Groups.{pointed, AreGroups}
 
 slice_get-replicate : {X : Type 0} (n j : ℕ) (x : X) → j < n → slice_get (replicate n x) j ≡ Some x
 slice_get-replicate zero j x h = absurd (omega arith)

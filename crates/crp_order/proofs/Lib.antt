@@ -8,3 +8,5 @@ pub mod YardSteps
 pub mod GroupSteps
 pub mod SequenceSteps
 pub mod StatingSteps
+pub mod NamedSteps
+pub mod StowageSteps

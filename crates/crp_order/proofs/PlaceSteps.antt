@@ -1,16 +1,15 @@
 -- The number of the bay in which each container stands.
-use Prim.Native.Nat.{zero}
-use Rattle.std.proofs.Common.{◌≡◌, ◌≢◌, ◌≤◌, ◌<◌, ◌+◌, ◌==◌, ℕ, suc, Bool, true, false, cond, List, [], ◌∷◌, ◌++◌, length, take, get_or, Option, Some, None, IfSome, slice_get, refl, sym, ap, ◌∙◌, subst, ⊎_elim, inl, inr, arith}
+use Rattle.std.proofs.Common.{◌≡◌, ◌<◌, ◌+◌, ◌==◌, ℕ, Bool, true, false, cond, List, [], length, take, get_or, Option, Some, None, IfSome, slice_get, refl, sym, ap, ◌∙◌, inl, inr, arith}
 use Rattle.std.specs.Prelude.{◌||◌}
 use Rattle.std.specs.Str.{bytes_eq}
 use denote.Ref.{Bor}
-use Rattle.std.proofs.lemmas.Bool.{cases_eq, cases_lt, eq-eqb, ne_eqb, false≢true}
+use Rattle.std.proofs.lemmas.Bool.{cases_eq, eq-eqb, ne_eqb}
 use Rattle.std.proofs.lemmas.List.Folds.{list_any_more}
 use Rattle.std.proofs.lemmas.Option.{same_Some}
 use Rattle.crp_yard.specs.Inventory.{Inventory, StackedBay, IsYard, is_among}
 use Rattle.crp_order.specs.BayProblems.{standing}
-use Rattle.crp_order.specs.Groups.{kept_of, is_number, ArePlaced, Places, stacks_at}
-use Rattle.crp_order.proofs.YardSteps.{apart, stacks_of_bay}
+use Rattle.crp_order.specs.Groups.{kept_of, is_number, ArePlaced, Places}
+use Rattle.crp_order.proofs.YardSteps.{apart}
 
 abbrev pub Kept : Type 0
 Kept = List (Bor (List ℕ) × ℕ)

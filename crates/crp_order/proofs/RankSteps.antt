@@ -5,7 +5,8 @@ use Rattle.std.specs.Str.{bytes_eq}
 use Rattle.std.proofs.lemmas.Bool.{ne_eqb}
 use Rattle.std.proofs.Math.Dec.{eqb-suc-suc}
 use Rattle.crp_yard.specs.Inventory.{times}
-use Rattle.crp_order.specs.BayProblems.{rank_in, named}
+use Rattle.crp_yard.specs.Ranks.{name_of}
+use Rattle.crp_order.specs.BayProblems.{rank_in}
 use Rattle.crp_order.proofs.Once.{same, itself, turned, one_if, here}
 
 pub rank_low : (names : List (List ℕ)) (c : List ℕ) → 1 ≤ rank_in names c
@@ -25,9 +26,9 @@ rank_high (n ∷ names) c some = by (bytes_eq c n) some (rank_high names c)
     by false h later = omega (arith, later (omega (arith, h)))
 
 -- the container of a container's rank is that container
-pub named-rank : (names : List (List ℕ)) (c : List ℕ) → 1 ≤ times c names → named names (rank_in names c) ≡ c
-named-rank [] c some = absurd (omega arith)
-named-rank (n ∷ names) c some = by (bytes_eq c n) refl some (named-rank names c)
+pub name_of-rank : (names : List (List ℕ)) (c : List ℕ) → 1 ≤ times c names → name_of names (rank_in names c) ≡ c
+name_of-rank [] c some = absurd (omega arith)
+name_of-rank (n ∷ names) c some = by (bytes_eq c n) refl some (name_of-rank names c)
   where
     later : (r : ℕ) → 1 ≤ r → get_or (n ∷ names) (suc r - 1) [] ≡ get_or names (r - 1) []
     later r h = let e : suc r - 1 ≡ suc (r - 1) = omega arith in ap (λ k. get_or (n ∷ names) k []) e

@@ -1,8 +1,8 @@
 -- Bays of the ship that cover one cell.
-use Rattle.std.proofs.Common.{◌≡◌, ◌≢◌, ◌<◌, ◌+◌, ◌%◌, ℕ, ◌⊎◌, refl, sym, inl, inr, ⊎_elim, arith}
+use Rattle.std.proofs.Common.{◌≡◌, ◌<◌, ◌+◌, ◌%◌, ℕ, ◌⊎◌, refl, inl, inr, arith}
 use Rattle.std.specs.Int.{abs_diff}
 use Rattle.std.proofs.lemmas.Bool.{cases_eq}
-use Rattle.crp_order.specs.Slots.{IsCell, Covers, ShareCell}
+use Rattle.crp_order.specs.Slots.{Covers, ShareCell}
 
 touch : (a b : ℕ) → abs_diff a b < 2 → (a ≡ b) ⊎ (a + 1 ≡ b) ⊎ (a ≡ b + 1)
 touch a b h =

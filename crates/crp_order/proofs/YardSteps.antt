@@ -1,22 +1,21 @@
 -- The bays of a yard by their numbers.
 use Prim.Native.Nat.{zero}
-use Rattle.std.proofs.Common.{◌≡◌, ◌≢◌, ◌≤◌, ◌<◌, ◌+◌, ◌-◌, ℕ, suc, Bool, true, false, List, [], ◌∷◌, ◌++◌, length, take, get_or, All, flat_map, map, Option, Some, None, slice_get, refl, sym, ap, ◌∙◌, subst, arith}
-use Rattle.std.specs.Prelude.{option_map, option_and_then}
+use Rattle.std.proofs.Common.{◌≡◌, ◌≤◌, ◌<◌, ◌+◌, ◌-◌, ℕ, suc, true, List, [], ◌∷◌, ◌++◌, length, take, get_or, Option, Some, None, slice_get, sym, ap, ◌∙◌, subst, arith}
+use Rattle.std.specs.Prelude.{option_and_then}
 use Rattle.std.specs.Option.{option_map_or}
 use Rattle.std.proofs.lemmas.List.{take_all}
 use Rattle.std.proofs.lemmas.List.Elements.{All-get_or}
 use Rattle.std.proofs.lemmas.Option.{slice_get_within, get_or_from_slice_get, slice_get-get_or, same_Some}
-use Rattle.crp_plan.specs.BayNames.{YardBay}
 use Rattle.crp_yard.specs.Inventory.{Inventory, StackedBay, IsYard, FitBay, times, is_among, stack_at, containers_of}
 use Rattle.crp_order.specs.BayProblems.{standing}
-use Rattle.crp_order.specs.Groups.{stacks_at}
+use Rattle.crp_order.specs.Groups.{stacks_numbered}
 use Rattle.crp_order.proofs.Once.{times-append, some_times}
 
 -- what is known of the bay with a number
 pub record AtBay (yard : Inventory) (i : ℕ) : Type 0 where
   pub bay : StackedBay
   pub here : slice_get yard.bays i ≡ Some bay
-  pub stacks : stacks_at yard i ≡ bay.1
+  pub stacks : stacks_numbered yard i ≡ bay.1
 
 no_bay : StackedBay
 no_bay = (record { block = []; bay = 0 }, [])
@@ -26,10 +25,10 @@ at_bay yard i h =
     let here : slice_get yard.bays i ≡ Some (get_or yard.bays i no_bay) = slice_get-get_or yard.bays i no_bay h in
     record { bay = get_or yard.bays i no_bay; here = here; stacks = ap (λ found. option_map_or (λ b. b.1) found []) here }
 
-pub stacks_of_bay : (yard : Inventory) (i : ℕ) (bay : StackedBay) → slice_get yard.bays i ≡ Some bay → stacks_at yard i ≡ bay.1
+pub stacks_of_bay : (yard : Inventory) (i : ℕ) (bay : StackedBay) → slice_get yard.bays i ≡ Some bay → stacks_numbered yard i ≡ bay.1
 stacks_of_bay yard i bay e = ap (λ found. option_map_or (λ b. b.1) found []) e
 
-pub stack_of_bay : (yard : Inventory) (i row : ℕ) (stack : List (List ℕ)) → stack_at yard i row ≡ Some stack → slice_get (stacks_at yard i) (row - 1) ≡ Some stack
+pub stack_of_bay : (yard : Inventory) (i row : ℕ) (stack : List (List ℕ)) → stack_at yard i row ≡ Some stack → slice_get (stacks_numbered yard i) (row - 1) ≡ Some stack
 stack_of_bay yard i row stack e = by (slice_get yard.bays i) e
   where
     by : (found : Option StackedBay) → option_and_then (λ bay. slice_get bay.1 (row - 1)) found ≡ Some stack → slice_get (option_map_or (λ bay. bay.1) found []) (row - 1) ≡ Some stack
@@ -39,11 +38,11 @@ stack_of_bay yard i row stack e = by (slice_get yard.bays i) e
 pub take_next : {X : Type 0} (xs : List X) (i : ℕ) (x : X) → slice_get xs i ≡ Some x → take (i + 1) xs ≡ take i xs ++ x ∷ []
 take_next xs i x e = Rattle.std.proofs.lemmas.List.take_more xs i x (slice_get_within xs i x e) ∙ ap (λ y. take i xs ++ y ∷ []) (get_or_from_slice_get xs i x x e)
 
-pub fits : (yard : Inventory) (i : ℕ) → IsYard yard → i < length yard.bays → FitBay yard.rows yard.tiers (stacks_at yard i)
+pub fits : (yard : Inventory) (i : ℕ) → IsYard yard → i < length yard.bays → FitBay yard.rows yard.tiers (stacks_numbered yard i)
 fits yard i is h =
     let at : AtBay yard i = at_bay yard i h in
     let fit : FitBay yard.rows yard.tiers (get_or yard.bays i at.bay).1 = All-get_or (λ bay. FitBay yard.rows yard.tiers bay.1) yard.bays i at.bay h is.bays_fit in
-    let e : (get_or yard.bays i at.bay).1 ≡ stacks_at yard i = ap (λ bay. bay.1) (get_or_from_slice_get yard.bays i at.bay at.bay at.here) ∙ sym at.stacks in
+    let e : (get_or yard.bays i at.bay).1 ≡ stacks_numbered yard i = ap (λ bay. bay.1) (get_or_from_slice_get yard.bays i at.bay at.bay at.here) ∙ sym at.stacks in
     subst (FitBay yard.rows yard.tiers) e fit
 
 -- a container stands in a bay as often as in the yard at most, and in two bays together
@@ -63,7 +62,7 @@ in_two (x ∷ bays) c zero (suc j) a b h e f =
     omega (arith, first, in_one bays c j b f, times-append c (standing x.1) (containers_of bays))
 in_two (x ∷ bays) c (suc i) (suc j) a b h e f = omega (arith, in_two bays c i j a b (omega arith) e f, times-append c (standing x.1) (containers_of bays))
 
-pub stands_once : (yard : Inventory) (i : ℕ) → IsYard yard → i < length yard.bays → (c : List ℕ) → times c (standing (stacks_at yard i)) ≤ 1
+pub stands_once : (yard : Inventory) (i : ℕ) → IsYard yard → i < length yard.bays → (c : List ℕ) → times c (standing (stacks_numbered yard i)) ≤ 1
 stands_once yard i is h c =
     let at : AtBay yard i = at_bay yard i h in
     let once = is.containers_once c in

@@ -1,10 +1,13 @@
 -- The problem of each bay: which of its containers leave, and in which order.
-use Rattle.std.specs.Prelude.{ℕ, suc, ◌-◌, Bool, not, List, [], ◌∷◌, ◌++◌, length, map, filter, flat_map, count_by, slice_index_or, if◌then◌else◌}
+use Rattle.std.specs.Prelude.{◌≡◌, ℕ, suc, Bool, not, List, [], ◌∷◌, ◌++◌, length, map, filter, flat_map, count_by, replicate, Some, if◌then◌else◌}
 use Rattle.std.specs.List.{list_any}
 use Rattle.std.specs.Str.{bytes_eq}
 use Rattle.crp_plan.specs.Bay.{Problem}
+use Rattle.crp_plan.specs.Rows.{total}
 use Rattle.crp_plan.specs.Faults.{stated}
 use Rattle.crp_yard.specs.Inventory.{Inventory, StackedBay, is_among, stands}
+use Rattle.crp_yard.specs.Ranks.{named}
+use Rattle.crp_yard.specs.After.{stacks_at}
 use Rattle.crp_order.specs.declared.bay_problem.BayProblem.{BayProblem}
 
 -- the containers of a bay by row, then tier
@@ -56,10 +59,9 @@ problems_of yard sequence = map (bay_problem_of yard.tiers sequence) (filter (is
 abbrev pub absent_of : Inventory → List (List ℕ) → ℕ
 absent_of yard sequence = count_by (λ container. not (stands yard.bays container)) sequence
 
--- the container of a rank
-abbrev pub named : List (List ℕ) → ℕ → List ℕ
-named names rank = slice_index_or names (rank - 1) []
-
--- the stacks by the containers of their ranks
-abbrev pub stacks_named : List (List ℕ) → List (List ℕ) → List (List (List ℕ))
-stacks_named names stacks = map (λ stack. map (named names) stack) stacks
+-- the problem tells the bay of its name as it stands in the yard: the ranks are the places of the containers among the names, one for
+-- each container
+pub record IsNamed (yard : Inventory) (told : BayProblem) : Type 0 where
+  pub heights : told.problem.heights ≡ replicate yard.rows yard.tiers
+  pub stands : stacks_at yard.bays told.bay ≡ Some (named told.names told.problem.stacks)
+  pub each_rank : length told.names ≡ total told.problem.stacks

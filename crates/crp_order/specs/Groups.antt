@@ -10,8 +10,8 @@ use Rattle.crp_order.specs.declared.bay_problem.BayProblem.{BayProblem}
 use Rattle.crp_order.specs.BayProblems.{standing, leaving, ranks_in}
 
 -- the stacks of the bay with this number, from 0
-abbrev pub stacks_at : Inventory → ℕ → List (List (List ℕ))
-stacks_at yard i = option_map_or (λ bay. bay.1) (slice_get yard.bays i) []
+abbrev pub stacks_numbered : Inventory → ℕ → List (List (List ℕ))
+stacks_numbered yard i = option_map_or (λ bay. bay.1) (slice_get yard.bays i) []
 
 -- what references point to
 abbrev pub pointed : {X : Type 0} → List (Bor X) → List X
@@ -53,5 +53,5 @@ pub record CanLeave (left : List (List ℕ)) (stacks : List (List (List ℕ))) :
 -- the problem of the bay with this number, which these containers leave in this order
 pub record IsStated (yard : Inventory) (i : ℕ) (left : List (List ℕ)) (told : BayProblem) : Type 0 where
   pub bay : name_at yard i ≡ Some told.bay
-  pub names : told.names ≡ names_behind left (stacks_at yard i)
-  pub problem : told.problem ≡ stated yard.tiers (length left) (ranks_in (names_behind left (stacks_at yard i)) (stacks_at yard i))
+  pub names : told.names ≡ names_behind left (stacks_numbered yard i)
+  pub problem : told.problem ≡ stated yard.tiers (length left) (ranks_in (names_behind left (stacks_numbered yard i)) (stacks_numbered yard i))

@@ -2,7 +2,7 @@
 
 ghost use Rattle.std.specs.Prelude.{◌≡◌, ◌<◌, IfOk, OnOk, length};
 ghost use Rattle.crp_order.specs.BayProblems.{standing};
-ghost use Rattle.crp_order.specs.Groups.{stacks_at, pointed, ArePlaced, Places};
+ghost use Rattle.crp_order.specs.Groups.{stacks_numbered, pointed, ArePlaced, Places};
 
 use crp_yard::{Container, Yard};
 use std::alloc::{AllocError, Global};
@@ -15,7 +15,7 @@ pub(crate) fn stacks_of<'a>(
     bay: usize,
 ) -> Result<Vec<&'a [Container]>, AllocError>
     requires { bay < length yard.now.bays }
-    ensures { IfOk result (λ stacks. pointed stacks.items ≡ stacks_at yard.now bay) }
+    ensures { IfOk result (λ stacks. pointed stacks.items ≡ stacks_numbered yard.now bay) }
 {
     let mut stacks = Vec::new(alloc);
     for i in 0..yard.rows() {

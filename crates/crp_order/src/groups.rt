@@ -1,6 +1,7 @@
 //! Which containers leave each bay.
 
 ghost use Rattle.std.specs.Prelude.{◌≡◌, IfOk, OnOk, [], map, replicate};
+ghost use Rattle.crp_yard.specs.Inventory.{IsYard};
 ghost use Rattle.crp_order.specs.Sequenced.{AreSequenced};
 ghost use Rattle.crp_order.specs.Groups.{pointed, AreGroups};
 
@@ -26,6 +27,7 @@ pub(crate) fn leaving_by_bay<'a>(
     sequence: &'a Sequence,
 ) -> Result<Vec<Vec<&'a [u8]>>, AllocError>
     ensures groups { IfOk result (λ groups. AreGroups sequence.now yard.now.bays (map (λ group. pointed group.items) groups.items)) }
+    ensures yard { OnOk result (IsYard yard.now) }
     ensures sequenced { OnOk result (AreSequenced sequence.now) }
 {
     let bays = bays_by_container(alloc, yard)?;

@@ -10,14 +10,18 @@ mod absences;
 mod bay_problem;
 mod bays;
 mod groups;
+mod laws;
 mod ranks;
 mod sequences;
 mod sequencing;
 mod slots;
 mod stating;
+#[cfg(test)]
+mod tests;
 
 pub use absences::absent;
 pub use bay_problem::BayProblem;
+pub use laws::{beneath_comes_first, one_sequence};
 pub use sequences::{Mode, Sequence};
 pub use sequencing::sequence;
 pub use slots::beneath;

@@ -1,9 +1,10 @@
 //! States the problems of the bays.
 
-ghost use Rattle.std.specs.Prelude.{◌≡◌, ◌<◌, IfOk, Some, length, slice_get};
-ghost use Rattle.crp_yard.specs.Inventory.{name_at};
-ghost use Rattle.crp_order.specs.BayProblems.{leaving, problems_of};
-ghost use Rattle.crp_order.specs.Groups.{stacks_at, pointed, IsStated, CanLeave};
+ghost use Rattle.std.specs.Prelude.{◌≡◌, ◌<◌, All, IfOk, length, map};
+ghost use Rattle.std.specs.List.{IsDistinct};
+ghost use Rattle.crp_yard.specs.Places.{same_bay};
+ghost use Rattle.crp_order.specs.BayProblems.{problems_of, IsNamed};
+ghost use Rattle.crp_order.specs.Groups.{stacks_numbered, pointed, IsStated, CanLeave};
 
 use crate::bay_problem::BayProblem;
 use crate::bays::stacks_of;
@@ -32,7 +33,7 @@ fn problem_of(
     leaving: &[&[u8]],
 ) -> Result<BayProblem, AllocError>
     requires bay { bay < length yard.now.bays }
-    requires leaving { CanLeave (pointed leaving.now) (stacks_at yard.now bay) }
+    requires leaving { CanLeave (pointed leaving.now) (stacks_numbered yard.now bay) }
     ensures { IfOk result (IsStated yard.now bay (pointed leaving.now)) }
 {
     let tiers = yard.tiers();
@@ -57,7 +58,11 @@ pub fn problems(
     yard: &Yard,
     sequence: &Sequence,
 ) -> Result<Vec<BayProblem>, AllocError>
-    ensures { IfOk result (λ problems. problems.items ≡ problems_of yard.now sequence.now) }
+    ensures exact { IfOk result (λ problems. problems.items ≡ problems_of yard.now sequence.now) }
+
+    // The ranks of each problem, read as its names, are the bay of that name as it stands in the yard.
+    ensures named { IfOk result (λ problems. All (IsNamed yard.now) problems.items) }
+    ensures once { IfOk result (λ problems. IsDistinct same_bay (map (λ told. told.bay) problems.items)) }
 {
     let groups = leaving_by_bay(alloc, yard, sequence)?;
     let mut problems = Vec::new(alloc);

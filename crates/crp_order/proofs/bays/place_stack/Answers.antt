@@ -1,4 +1,3 @@
-use Rattle.std.proofs.Common.{refl, ap, ◌∙◌}
 use Rattle.crp_order.proofs.Once.{turned}
 use Rattle.crp_order.proofs.PlaceSteps.{place-more}
 use Rattle.crp_order.proofs.bays.place_stack.Goals as goal

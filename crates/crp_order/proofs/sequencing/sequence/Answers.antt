@@ -1,6 +1,3 @@
-use Rattle.std.proofs.Common.{◌∙◌, ap, sym, subst}
-use Rattle.crp_movins.specs.Accepted.{AreLoadOrders, containers_of}
-use Rattle.crp_order.specs.Sequenced.{AreSequenced}
 use Rattle.crp_order.proofs.SequenceSteps.{sequenced-listed, sequenced-stowed}
 use Rattle.crp_order.proofs.sequencing.sequence.Goals as goal
 use Rattle.crp_order.proofs.sequencing.sequence.Goals.{in-Listed, in-Stowage+in_ok-orders-in-Stowage}
