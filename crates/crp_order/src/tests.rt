@@ -26,6 +26,19 @@ LOC+147+0010190'EQD+CN+C5'
 LOC+147+0010192'EQD+CN+C6'
 ";
 
+/// The same, and a container that is not in the yard.
+const SEVEN_ORDERS: &[u8] = b"LOC+147+0010182'EQD+CN+C1'
+LOC+147+0010184'EQD+CN+C2'
+LOC+147+0010186'EQD+CN+C3'
+LOC+147+0010188'EQD+CN+C4'
+LOC+147+0010190'EQD+CN+C5'
+LOC+147+0010192'EQD+CN+C6'
+LOC+147+0010194'EQD+CN+C9'
+";
+
+/// A yard without containers.
+const EMPTY: &[u8] = b"block,bay,row,tier,container\n";
+
 const HEADER: &[u8] = b"UNB+UNOA:1+YARD+SHIP+250101:0800+1'\nUNH+1+MOVINS:D:95B:UN'\nHAN+LOA'\n";
 
 /// An interchange of one message with these segments behind its HAN, and this UNT.
@@ -204,14 +217,20 @@ B,2,2,2,S
 #[test]
 fn none_of_them_is_in_the_yard(rt: HostRuntime) -> Result<(), Fail> {
     let alloc = rt.alloc();
-    let empty = yard_of(alloc, b"block,bay,row,tier,container\n", 3, 3)?;
+    let empty = yard_of(alloc, EMPTY, 3, 3)?;
     let six = sequence_of(alloc, SIX_ORDERS, b"UNT+15+1'", Mode::Listed)?;
     assert_eq!(rt; absent(&empty, &six), 6);
-    assert_eq!(rt; problems(alloc, &empty, &six)?.len(), 0);
+    let told = problems(alloc, &empty, &six)?;
+    assert!(rt; told.is_empty());
+    Ok(())
+}
+
+#[test]
+fn one_of_them_is_not_in_the_yard(rt: HostRuntime) -> Result<(), Fail> {
+    let alloc = rt.alloc();
     let yard = yard_of(alloc, SIX, 3, 3)?;
-    let mut orders = Vec::from_slice(alloc, SIX_ORDERS)?;
-    orders.extend_from_slice(b"LOC+147+0010194'EQD+CN+C9'\n")?;
-    let seven = sequence_of(alloc, &orders, b"UNT+17+1'", Mode::Listed)?;
-    assert_eq!(rt; (seven.list().len(), absent(&yard, &seven)), (7, 1));
+    let seven = sequence_of(alloc, SEVEN_ORDERS, b"UNT+17+1'", Mode::Listed)?;
+    assert_eq!(rt; seven.list().len(), 7);
+    assert_eq!(rt; absent(&yard, &seven), 1);
     Ok(())
 }
