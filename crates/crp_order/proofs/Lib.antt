@@ -1,0 +1,12 @@
+-- Lemmas on sequences and bays.
+pub mod Once
+pub mod RankSteps
+pub mod BaySteps
+pub mod SlotSteps
+pub mod PlaceSteps
+pub mod YardSteps
+pub mod GroupSteps
+pub mod SequenceSteps
+pub mod StatingSteps
+pub mod NamedSteps
+pub mod StowageSteps

@@ -1,0 +1,7 @@
+pub use Rattle.crp_movins.specs.Accepted.{is_ordered, containers_of}
+pub use Rattle.crp_yard.specs.Inventory.{Inventory, StackedBay, is_among, times, stands}
+pub mod Slots
+pub mod Sequenced
+pub mod Sequences
+pub mod BayProblems
+pub mod Groups

@@ -1,0 +1,24 @@
+//! Laws of the definitions. Each is the contract of a function that does nothing.
+
+ghost use Rattle.std.specs.Prelude.{◌≡◌, ◌<◌, ℕ, List, Some, slice_get};
+ghost use Rattle.crp_movins.specs.declared.order.Order.{Order};
+ghost use Rattle.crp_order.specs.declared.sequences.Mode.{Mode};
+ghost use Rattle.crp_order.specs.declared.sequences.Mode.TheVariants.{Stowage};
+ghost use Rattle.crp_order.specs.Slots.{IsBeneath};
+ghost use Rattle.crp_order.specs.Sequences.{IsSequence};
+
+/// By stowage a container comes before those above it: of two orders, where the slot of one is beneath
+/// that of the other, its container has a place in the sequence before that of the other.
+pub fn beneath_comes_first()
+    ensures { (orders : List Order) (containers : List (List ℕ)) (i j : ℕ) (a b : Order)
+        → IsSequence Stowage orders containers
+        → slice_get orders i ≡ Some a → slice_get orders j ≡ Some b → IsBeneath a.slot b.slot
+        → (k : ℕ) × (l : ℕ) × (k < l) × (slice_get containers k ≡ Some a.container)
+        × (slice_get containers l ≡ Some b.container) }
+{}
+
+/// The orders have one sequence.
+pub fn one_sequence()
+    ensures { (mode : Mode) (orders : List Order) (first second : List (List ℕ))
+        → IsSequence mode orders first → IsSequence mode orders second → first ≡ second }
+{}

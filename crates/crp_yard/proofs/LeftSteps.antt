@@ -1,0 +1,72 @@
+-- What a plan leaves fits the bay, and no container stands there more often than before.
+use Rattle.std.proofs.Common.{◌≡◌, ◌≢◌, ◌≤◌, ◌+◌, ◌-◌, ℕ, suc, List, [], ◌∷◌, ◌++◌, map, flat_map, length, All, replicate, Some, slice_get, slice_set, sum_by, refl, sym, ap, ◌∙◌, subst, arith}
+use Rattle.std.specs.List.{AllByRecursion}
+use Rattle.std.proofs.lemmas.List.{map-append, length-map, length-replicate}
+use Rattle.std.proofs.lemmas.List.Sums.{sum_by-cons}
+use Rattle.crp_plan.specs.declared.moves.Move.{Move}
+use Rattle.crp_plan.specs.declared.moves.Move.TheVariants.{Shift, Take}
+use Rattle.crp_plan.specs.Rows.{FitRows}
+use Rattle.crp_plan.specs.Bay.{Position, Problem, IsProblem, IsTaken, IsShifted, Legal, Runs, start}
+use Rattle.crp_plan.specs.Plans.{Route}
+use Rattle.crp_plan.proofs.Lists.{sum_put, get_put_other}
+use Rattle.crp_plan.proofs.Sound.{sound_start, sound_runs, apart}
+use Rattle.crp_plan.proofs.Steps.{same_rows, heights_kept}
+use Rattle.crp_plan.proofs.Tallies.{same_fit}
+use Rattle.crp_yard.specs.Inventory.{FitBay, times}
+use Rattle.crp_yard.specs.Ranks.{name_of, named, Leaves}
+use Rattle.crp_yard.proofs.ListingSteps.{times-append}
+use Rattle.crp_yard.proofs.Lists.{all_of}
+
+-- how often the name stands in stacks of ranks
+abbrev tally : List (List ℕ) → List ℕ → List (List ℕ) → ℕ
+tally names c stacks = sum_by (λ stack. times c (map (name_of names) stack)) stacks
+
+tally-is : (names : List (List ℕ)) (c : List ℕ) (stacks : List (List ℕ)) → times c (flat_map (λ (stack : List (List ℕ)). stack) (named names stacks)) ≡ tally names c stacks
+tally-is names c [] = refl
+tally-is names c (stack ∷ stacks) =
+    omega (arith, times-append c (map (name_of names) stack) (flat_map (λ (s : List (List ℕ)). s) (named names stacks)), tally-is names c stacks, sum_by-cons (λ s. times c (map (name_of names) s)) stack stacks)
+
+one_more : (names : List (List ℕ)) (c : List ℕ) (rest : List ℕ) (x : ℕ) → times c (map (name_of names) (rest ++ x ∷ [])) ≡ times c (map (name_of names) rest) + times c (name_of names x ∷ [])
+one_more names c rest x = ap (times c) (map-append (name_of names) rest (x ∷ [])) ∙ times-append c (map (name_of names) rest) (name_of names x ∷ [])
+
+fewer_taken : (names : List (List ℕ)) (c : List ℕ) (s : Position) (row : ℕ) (t : Position) → IsTaken s row t → tally names c t.stacks ≤ tally names c s.stacks
+fewer_taken names c s row t k =
+    let after : t.stacks ≡ slice_set s.stacks (row - 1) k.rest = ap (λ v. v.stacks) k.after in
+    rw after (omega (arith, sum_put (λ stack. times c (map (name_of names) stack)) s.stacks (row - 1) (k.rest ++ s.next ∷ []) k.rest k.stack, one_more names c k.rest s.next))
+
+same_shifted : (names : List (List ℕ)) (c : List ℕ) (s : Position) (from to : ℕ) (t : Position) → IsShifted s from to t → tally names c t.stacks ≤ tally names c s.stacks
+same_shifted names c s from to t k =
+    let g = λ (stack : List ℕ). times c (map (name_of names) stack) in
+    let mid = slice_set s.stacks (from - 1) k.rest in
+    let after : t.stacks ≡ slice_set mid (to - 1) (k.onto ++ k.moved ∷ []) = ap (λ v. v.stacks) k.after in
+    let target : slice_get mid (to - 1) ≡ Some k.onto = get_put_other s.stacks (from - 1) (to - 1) k.rest (apart from to k.from_counts k.to_counts k.another) ∙ k.target in
+    rw after (omega (arith, sum_put g s.stacks (from - 1) (k.rest ++ k.moved ∷ []) k.rest k.stack, one_more names c k.rest k.moved, sum_put g mid (to - 1) k.onto (k.onto ++ k.moved ∷ []) target, one_more names c k.onto k.moved))
+
+fewer_run : (names : List (List ℕ)) (c : List ℕ) (s t : Position) (moves : List Move) → Runs s moves t → tally names c t.stacks ≤ tally names c s.stacks
+fewer_run names c s t [] r = let same : t.stacks ≡ s.stacks = ap (λ v. v.stacks) (sym r) in rw same (omega arith)
+fewer_run names c s t (Shift from to ∷ moves) r = let step : tally names c r.0.stacks ≤ tally names c s.stacks = same_shifted names c s from to r.0 r.1 in omega (arith, step, fewer_run names c r.0 t moves r.2)
+fewer_run names c s t (Take row ∷ moves) r = let step : tally names c r.0.stacks ≤ tally names c s.stacks = fewer_taken names c s row r.0 r.1 in omega (arith, step, fewer_run names c r.0 t moves r.2)
+
+low_named : (names : List (List ℕ)) (tiers : ℕ) (stacks : List (List ℕ)) → AllByRecursion (λ stack. length stack ≤ tiers) stacks → AllByRecursion (λ stack. length stack ≤ tiers) (named names stacks)
+low_named names tiers [] h = tt
+low_named names tiers (stack ∷ stacks) h = (rw (length-map stack (name_of names)) h.0, low_named names tiers stacks h.1)
+
+-- what a plan leaves of a bay
+pub record IsLeft (rows tiers : ℕ) (old new : List (List (List ℕ))) : Type 0 where
+  pub fits : FitBay rows tiers new
+  pub fewer : (c : List ℕ) → times c (flat_map (λ (stack : List (List ℕ)). stack) new) ≤ times c (flat_map (λ (stack : List (List ℕ)). stack) old)
+
+pub left_fits : (plan : Route) (names : List (List ℕ)) (ranks : List (List ℕ)) (rows tiers : ℕ) → IsProblem plan.problem → plan.problem.heights ≡ replicate rows tiers → Leaves plan ranks
+    → IsLeft rows tiers (named names plan.problem.stacks) (named names ranks)
+left_fits plan names ranks rows tiers is high leaves =
+    let sound = sound_runs (start plan.problem) leaves.moves leaves.end (sound_start plan.problem is) leaves.runs in
+    let heights : leaves.end.heights ≡ replicate rows tiers = heights_kept (start plan.problem) leaves.end leaves.moves leaves.runs ∙ high in
+    let count : length leaves.end.stacks ≡ rows = same_rows leaves.end.heights leaves.end.stacks sound.stacks_fit ∙ ap length heights ∙ length-replicate rows tiers in
+    let low : FitRows (replicate (length leaves.end.stacks) tiers) leaves.end.stacks = rw count (rw heights at sound.stacks_fit) in
+    record {
+      fits = rw leaves.left (record {
+        rows_are = length-map leaves.end.stacks (map (name_of names)) ∙ count;
+        stacks_fit = all_of (λ stack. length stack ≤ tiers) (named names leaves.end.stacks) (low_named names tiers leaves.end.stacks (same_fit tiers leaves.end.stacks low));
+      });
+      fewer = λ c. rw (tally-is names c plan.problem.stacks, tally-is names c ranks, leaves.left) (fewer_run names c (start plan.problem) leaves.end leaves.moves leaves.runs);
+    }

@@ -1,0 +1,99 @@
+-- Which fault of a yard list is the first: the first faulty record decides, and within it the order of the table below; a container
+-- that floats is told only where no record has another fault.
+use Prim.Native.Nat.{zero}
+use Rattle.std.specs.Prelude.{ℕ, suc, ◌+◌, ◌-◌, max, Bool, false, not, ◌&&◌, ◌==◌, nat_le, List, [], ◌∷◌, length, take, Option, Some, None, is_some, slice_get, slice_index_or, if◌then◌else◌}
+use Rattle.std.specs.List.{list_any}
+use Rattle.std.specs.Str.{bytes_eq}
+use Rattle.crp_yard.specs.declared.fault.YardFault.{YardFault}
+use Rattle.crp_yard.specs.declared.fault.YardFault.TheVariants.{Header, Fields, Digits, Outside, PlaceTaken, Floating, StandsAlready, TooMany, TooLarge}
+use Rattle.crp_yard.specs.Places.{YardPlace}
+use Rattle.crp_yard.specs.Records.{Entry, records_of, is_header, is_well_formed, has_numbers, place_of, is_within, field_of, entries_of}
+use Rattle.crp_yard.specs.Inventory.{container_at}
+
+-- so many containers are read, and so many bytes
+abbrev pub max_containers : ℕ
+max_containers = 20000
+
+abbrev pub max_bytes : ℕ
+max_bytes = 8388608
+
+-- the place has its container already
+abbrev pub is_taken : List Entry → YardPlace → Bool
+is_taken entries place = is_some (container_at entries place)
+
+-- the container stands somewhere
+abbrev pub is_named : List Entry → List ℕ → Bool
+is_named entries container = list_any (λ entry. bytes_eq container entry.1) entries
+
+-- the faults that a record with this number may have behind these entries, in the order in which they are told, each with whether it
+-- is there
+abbrev pub faults_of : ℕ → ℕ → List Entry → ℕ → List (List ℕ) → List (Bool × YardFault)
+faults_of rows tiers entries n fields =
+    (not (is_well_formed fields), Fields n)
+    ∷ (not (has_numbers fields), Digits n)
+    ∷ (not (is_within rows tiers (place_of fields)), Outside n)
+    ∷ (is_taken entries (place_of fields), PlaceTaken n)
+    ∷ (is_named entries (field_of fields 4), StandsAlready n)
+    ∷ (nat_le max_containers (length entries), TooMany n)
+    ∷ []
+
+-- the first that is there
+abbrev pub first_of : List (Bool × YardFault) → Option YardFault
+first_of [] = None
+first_of (fault ∷ faults) = if fault.0 then Some fault.1 else first_of faults
+
+-- the fault of a record with this number behind these entries
+unfoldable pub fault_of : ℕ → ℕ → List Entry → ℕ → List (List ℕ) → Option YardFault
+fault_of rows tiers entries n fields = first_of (faults_of rows tiers entries n fields)
+
+-- the fault of a record with this number behind these entries, where the first record is the header
+unfoldable pub fault_behind : ℕ → ℕ → List Entry → ℕ → List (List ℕ) → Option YardFault
+fault_behind rows tiers entries n fields =
+    if n == 1 then (if is_header fields then None else Some (Header 1)) else fault_of rows tiers entries n fields
+
+-- the record with this number, from 1; one without fields where there is none
+abbrev pub record_numbered : List (List (List ℕ)) → ℕ → List (List ℕ)
+record_numbered records n = slice_index_or records (n - 1) []
+
+-- the fault of the record with this number, by what the records before it say
+unfoldable pub fault_at : ℕ → ℕ → List (List (List ℕ)) → ℕ → Option YardFault
+fault_at rows tiers records n = fault_behind rows tiers (entries_of (take (n - 1) records)) n (record_numbered records n)
+
+-- the first, and where there is none the second
+abbrev pub or_else : Option YardFault → Option YardFault → Option YardFault
+or_else None second = second
+or_else (Some fault) second = Some fault
+
+-- the fault of the first faulty record up to this number
+abbrev pub first_fault_up_to : ℕ → ℕ → List (List (List ℕ)) → ℕ → Option YardFault
+first_fault_up_to rows tiers records zero = None
+first_fault_up_to rows tiers records (suc n) = or_else (first_fault_up_to rows tiers records n) (fault_at rows tiers records (suc n))
+
+-- the place one tier lower
+abbrev pub below : YardPlace → YardPlace
+below place = record place { tier = place.tier - 1 }
+
+-- above the lowest tier, with nothing in the tier below
+abbrev pub is_floating : List Entry → YardPlace → Bool
+is_floating entries place = nat_le 2 place.tier && not (is_taken entries (below place))
+
+-- the entry with this number, from 0, floats
+abbrev pub floats : List Entry → Option Entry → Bool
+floats entries None = false
+floats entries (Some entry) = is_floating entries entry.0
+
+-- of the entries before this number the first that floats; the entry with the number 0 is that of record 2
+abbrev pub floating_before : List Entry → ℕ → Option YardFault
+floating_before entries zero = None
+floating_before entries (suc k) =
+    or_else (floating_before entries k) (if floats entries (slice_get entries k) then Some (Floating (k + 2)) else None)
+
+-- of all faults of the records this one is told; none where no record is faulty and nothing floats. A list without records lacks the
+-- header
+unfoldable pub first_fault : ℕ → ℕ → List (List (List ℕ)) → Option YardFault
+first_fault rows tiers records =
+    or_else (first_fault_up_to rows tiers records (max 1 (length records))) (floating_before (entries_of records) (length (entries_of records)))
+
+-- the same of a text: that it is too long comes before all
+abbrev pub fault_of_text : ℕ → ℕ → List ℕ → Option YardFault
+fault_of_text rows tiers text = if nat_le (length text) max_bytes then first_fault rows tiers (records_of text) else Some TooLarge

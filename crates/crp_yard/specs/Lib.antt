@@ -1,0 +1,10 @@
+pub use Rattle.crp_plan.specs.BayNames.{YardBay, IsYardBay}
+pub mod Places
+pub mod Records
+pub mod Inventory
+pub mod Faults
+pub mod Reading
+pub mod Ranks
+pub mod After
+pub mod Text
+pub mod Listings

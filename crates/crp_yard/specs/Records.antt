@@ -1,0 +1,75 @@
+-- What the records of a yard list say.
+use Rattle.std.specs.Prelude.{ℕ, ◌+◌, ◌-◌, ◌*◌, Bool, ◌&&◌, ◌==◌, nat_le, List, [], length, map, drop, fold, slice_index_or, codes}
+use Rattle.std.specs.List.{list_all}
+use Rattle.std.specs.Str.{bytes_eq}
+use Rattle.csv.specs.Reading.{default_config, records, strip_bom}
+use Rattle.crp_yard.specs.Places.{YardPlace}
+
+-- the records of a text, as csv reads them by its defaults, where a byte order mark at the start of the text is no part of it; each is
+-- the list of its fields
+abbrev pub records_of : List ℕ → List (List (List ℕ))
+records_of text = records default_config (strip_bom text)
+
+-- the field with this number, from 0; no bytes where there is none
+abbrev pub field_of : List (List ℕ) → ℕ → List ℕ
+field_of fields i = slice_index_or fields i []
+
+-- the fields are `block,bay,row,tier,container`
+abbrev pub is_header : List (List ℕ) → Bool
+is_header fields =
+    (length fields == 5)
+    && ((bytes_eq (field_of fields 0) (codes "block") && bytes_eq (field_of fields 1) (codes "bay"))
+    && (bytes_eq (field_of fields 2) (codes "row") && (bytes_eq (field_of fields 3) (codes "tier") && bytes_eq (field_of fields 4) (codes "container"))))
+
+-- 1 to 17 bytes from 0x21 to 0x7E
+abbrev pub is_block : List ℕ → Bool
+is_block bytes = (nat_le 1 (length bytes) && nat_le (length bytes) 17) && list_all (λ b. nat_le 33 b && nat_le b 126) bytes
+
+-- 1 to 35 bytes from 0x20 to 0xFF
+abbrev pub is_container : List ℕ → Bool
+is_container bytes = (nat_le 1 (length bytes) && nat_le (length bytes) 35) && list_all (λ b. nat_le 32 b) bytes
+
+-- an ASCII digit
+abbrev pub is_digit : ℕ → Bool
+is_digit b = nat_le 48 b && nat_le b 57
+
+-- 1 to 4 digits, leading zeros among them
+abbrev pub is_number : List ℕ → Bool
+is_number bytes = (nat_le 1 (length bytes) && nat_le (length bytes) 4) && list_all is_digit bytes
+
+-- the number that the digits write
+abbrev pub number_of : List ℕ → ℕ
+number_of digits = fold (λ n b. n * 10 + (b - 48)) 0 digits
+
+-- five fields, of which the first is a block and the last a container
+abbrev pub is_well_formed : List (List ℕ) → Bool
+is_well_formed fields = (length fields == 5) && (is_block (field_of fields 0) && is_container (field_of fields 4))
+
+-- bay, row and tier are numbers, and the bay is not 0
+abbrev pub has_numbers : List (List ℕ) → Bool
+has_numbers fields =
+    (is_number (field_of fields 1) && (is_number (field_of fields 2) && is_number (field_of fields 3))) && nat_le 1 (number_of (field_of fields 1))
+
+-- the place that a record names
+abbrev pub place_of : List (List ℕ) → YardPlace
+place_of fields = record {
+  bay = record { block = field_of fields 0; bay = number_of (field_of fields 1) };
+  row = number_of (field_of fields 2);
+  tier = number_of (field_of fields 3);
+}
+
+-- row and tier are among those that the bays have
+abbrev pub is_within : ℕ → ℕ → YardPlace → Bool
+is_within rows tiers place = (nat_le 1 place.row && nat_le place.row rows) && (nat_le 1 place.tier && nat_le place.tier tiers)
+
+-- a place, and the container that stands there
+abbrev pub Entry : Type 0
+Entry = YardPlace × List ℕ
+
+-- what a record says: its container stands at its place
+unfoldable pub entry_of : List (List ℕ) → Entry
+entry_of fields = (place_of fields, field_of fields 4)
+
+-- what the records behind the header say, in their order
+abbrev pub entries_of : List (List (List ℕ)) → List Entry
+entries_of records = map entry_of (drop 1 records)

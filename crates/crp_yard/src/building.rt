@@ -1,0 +1,60 @@
+//! The bays that the records give.
+
+ghost use Rattle.std.specs.Prelude.{◌≡◌, ◌≤◌, IfOk, map};
+ghost use Rattle.crp_yard.specs.Inventory.{stack_up_to, stacks_up_to, stacked, bays_of};
+
+use crate::container::{Container, Containers};
+use crate::listing::Listing;
+use crate::place::{Bay, Place};
+use crate::records::Size;
+use crate::stacks::Stacks;
+use indexmap::IndexMap;
+use std::alloc::{AllocError, Global};
+
+fn stack_of(
+    alloc: Global,
+    listing: &Listing,
+    bay: &Bay,
+    row: u8,
+    tiers: u8,
+) -> Result<Containers, AllocError>
+    ensures { IfOk result (λ stack. stack ≡ stack_up_to listing.now bay.now row tiers) }
+{
+    let mut stack = Vec::new(alloc);
+    for i in 0..tiers {
+        let place = Place::new(bay.copy(), row, i + 1);
+        if let Some(container) = listing.container_at(&place) {
+            stack.push(Container::named(alloc, container.bytes())?)?;
+        }
+    }
+    Ok(Containers::from_vec(stack))
+}
+
+fn stacks_of(alloc: Global, listing: &Listing, bay: &Bay, size: Size) -> Result<Stacks, AllocError>
+    ensures { IfOk result (λ stacks. stacks ≡ stacks_up_to listing.now bay.now size.tiers size.rows) }
+{
+    let mut stacks = Vec::new(alloc);
+    for i in 0..size.rows {
+        stacks.push(stack_of(alloc, listing, bay, i + 1, size.tiers)?)?;
+    }
+    Ok(Stacks::from_vec(stacks))
+}
+
+/// The bays of the entries with their stacks, in first-seen order.
+pub(crate) fn bays_of(
+    alloc: Global,
+    listing: &Listing,
+    size: Size,
+) -> Result<IndexMap<Bay, Stacks>, AllocError>
+    ensures { IfOk result (λ bays. bays.entries ≡ map (stacked size.rows size.tiers listing.now) (bays_of listing.now)) }
+{
+    let mut bays = IndexMap::new(alloc);
+    for i in 0..listing.len() {
+        let bay = listing.place(i).bay();
+        if !bays.contains_key(bay) {
+            let stacks = stacks_of(alloc, listing, bay, size)?;
+            bays.insert(bay.copy(), stacks)?;
+        }
+    }
+    Ok(bays)
+}

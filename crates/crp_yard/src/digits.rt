@@ -1,0 +1,31 @@
+//! Numbers in ASCII digits.
+
+ghost use Rattle.std.specs.Prelude.{◌≡◌, ◌<◌, ◌≤◌, ◌^◌, IsTrue, length};
+ghost use Rattle.std.specs.List.{list_all};
+ghost use Rattle.crp_yard.specs.Records.{is_digit, is_number, number_of};
+
+/// The bytes are 1 to 4 digits.
+pub(crate) fn is_number(bytes: &[u8]) -> bool
+    ensures { result ≡ is_number bytes.now }
+{
+    !bytes.is_empty() && bytes.len() <= 4 && are_digits(bytes)
+}
+
+fn are_digits(bytes: &[u8]) -> bool
+    ensures { result ≡ list_all is_digit bytes.now }
+{
+    bytes.iter().all(|b| *b >= b'0' && *b <= b'9')
+}
+
+/// The number that they write.
+pub(crate) fn number_of(bytes: &[u8]) -> u16
+    requires { IsTrue (is_number bytes.now) }
+    ensures value { result ≡ number_of bytes.now }
+    ensures small { result < 10 ^ 4 }
+{
+    let mut number = 0;
+    for byte in bytes {
+        number = number * 10 + u16::from(*byte - b'0');
+    }
+    number
+}

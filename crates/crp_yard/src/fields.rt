@@ -1,0 +1,105 @@
+//! The fields of a record.
+
+ghost use Rattle.std.specs.Prelude.{◌≡◌, ◌&&◌, nat_le, IsTrue};
+ghost use Rattle.std.specs.List.{list_all};
+ghost use Rattle.csv.specs.Records.{fields_of};
+ghost use Rattle.crp_yard.specs.Records.{field_of, is_header, is_block, is_container, is_well_formed, has_numbers, is_within, number_of, place_of};
+
+use crate::digits::{is_number, number_of};
+use crate::place::{Bay, Place};
+use crp_plan::BayName;
+use csv::ByteRecord;
+
+/// The field with this number, from 0; no bytes where there is none.
+pub(crate) fn field(fields: &ByteRecord, i: usize) -> &[u8]
+    ensures { result.now ≡ field_of (fields_of fields.now) i }
+{
+    match fields.get(i) {
+        Some(bytes) => bytes,
+        None => b"",
+    }
+}
+
+/// The fields are `block,bay,row,tier,container`.
+pub(crate) fn is_header(fields: &ByteRecord) -> bool
+    ensures { result ≡ is_header (fields_of fields.now) }
+{
+    fields.len() == 5
+        && (field(fields, 0) == b"block".as_slice() && field(fields, 1) == b"bay".as_slice())
+        && (field(fields, 2) == b"row".as_slice()
+            && (field(fields, 3) == b"tier".as_slice()
+                && field(fields, 4) == b"container".as_slice()))
+}
+
+fn is_block(bytes: &[u8]) -> bool
+    ensures { result ≡ is_block bytes.now }
+{
+    !bytes.is_empty() && bytes.len() <= 17 && are_printed(bytes)
+}
+
+fn are_printed(bytes: &[u8]) -> bool
+    ensures { result ≡ list_all (λ b. nat_le 33 b && nat_le b 126) bytes.now }
+{
+    bytes.iter().all(|b| *b >= 33 && *b <= 126)
+}
+
+fn is_container(bytes: &[u8]) -> bool
+    ensures { result ≡ is_container bytes.now }
+{
+    !bytes.is_empty() && bytes.len() <= 35 && have_no_controls(bytes)
+}
+
+fn have_no_controls(bytes: &[u8]) -> bool
+    ensures { result ≡ list_all (λ b. nat_le 32 b) bytes.now }
+{
+    bytes.iter().all(|b| *b >= 32)
+}
+
+/// There are five fields, of which the first is a block and the last a container.
+pub(crate) fn is_well_formed(fields: &ByteRecord) -> bool
+    ensures { result ≡ is_well_formed (fields_of fields.now) }
+{
+    fields.len() == 5 && is_block(field(fields, 0)) && is_container(field(fields, 4))
+}
+
+/// Bay, row and tier are numbers, and the bay is not 0.
+pub(crate) fn has_numbers(fields: &ByteRecord) -> bool
+    ensures { result ≡ has_numbers (fields_of fields.now) }
+{
+    let (bay, row, tier) = (field(fields, 1), field(fields, 2), field(fields, 3));
+    is_number(bay) && is_number(row) && is_number(tier) && number_of(bay) > 0
+}
+
+/// Row and tier are among those that the bays have.
+pub(crate) fn is_within(fields: &ByteRecord, rows: u8, tiers: u8) -> bool
+    requires { IsTrue (has_numbers (fields_of fields.now)) }
+    ensures { result ≡ is_within rows tiers (place_of (fields_of fields.now)) }
+{
+    let (row, tier) = (number_of(field(fields, 2)), number_of(field(fields, 3)));
+    row >= 1 && row <= u16::from(rows) && tier >= 1 && tier <= u16::from(tiers)
+}
+
+/// The bay that the record names.
+fn bay_of(fields: &ByteRecord) -> Bay
+    requires formed { IsTrue (is_well_formed (fields_of fields.now)) }
+    requires numbers { IsTrue (has_numbers (fields_of fields.now)) }
+    ensures { result ≡ (place_of (fields_of fields.now)).bay }
+{
+    let (block, number) = (field(fields, 0), number_of(field(fields, 1)));
+    match BayName::new(block, number) {
+        Some(name) => Bay::new(name),
+        None => unreachable!(),
+    }
+}
+
+/// The place that the record names.
+pub(crate) fn place_of(fields: &ByteRecord, rows: u8, tiers: u8) -> Place
+    requires formed { IsTrue (is_well_formed (fields_of fields.now)) }
+    requires numbers { IsTrue (has_numbers (fields_of fields.now)) }
+    requires within { IsTrue (is_within rows tiers (place_of (fields_of fields.now))) }
+    ensures { result ≡ place_of (fields_of fields.now) }
+{
+    let row = number_of(field(fields, 2)) as u8;
+    let tier = number_of(field(fields, 3)) as u8;
+    Place::new(bay_of(fields), row, tier)
+}

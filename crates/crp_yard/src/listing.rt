@@ -1,0 +1,100 @@
+//! What the records say that have been read.
+
+ghost use Rattle.std.specs.Prelude.{◌≡◌, ◌<◌, ◌≤◌, ◌++◌, ◌∷◌, [], ℕ, List, false, true, length, IsTrue, OnOk, OnErr, Some, slice_get};
+ghost use Rattle.std.specs.Option.{option_copied};
+ghost use Rattle.crp_yard.specs.Faults.{max_containers, is_taken, is_named};
+ghost use Rattle.crp_yard.specs.Inventory.{container_at, times};
+ghost use Rattle.crp_yard.specs.Listings.{names_of};
+
+use crate::container::Container;
+use crate::place::Place;
+use indexmap::{IndexMap, IndexSet};
+use std::alloc::{AllocError, Global};
+use std::marker::Model;
+
+/// The containers of the records by place, in the order of the records, and beside them the set of the
+/// containers.
+#[derive(Drop)]
+pub(crate) struct Listing {
+    places: IndexMap<Place, Container>,
+    names: IndexSet<Vec<u8>>,
+}
+
+impl Model for Listing {
+    ghost use Rattle.std.specs.Prelude.{List};
+    ghost use Rattle.crp_yard.specs.Records.{Entry};
+    ghost use Rattle.crp_yard.specs.Listings.{IsListing};
+
+    ghost Value = { List Entry };
+
+    ghost view = { λ a. a.places.entries };
+
+    ghost invariant = { λ a. IsListing a.places.entries a.names.keys };
+}
+
+impl Listing {
+    pub fn new(alloc: Global) -> Listing
+        ensures { result ≡ [] }
+    {
+        Listing {
+            places: IndexMap::new(alloc),
+            names: IndexSet::new(alloc),
+        }
+    }
+
+    /// How many containers there are.
+    pub fn len(&self) -> usize
+        ensures value { result ≡ length self.now }
+        ensures few { length self.now ≤ max_containers }
+        ensures once { (container : List ℕ) → times container (names_of self.now) ≤ 1 }
+    {
+        self.places.len()
+    }
+
+    /// The container at the place.
+    pub fn container_at(&self, place: &Place) -> Option<&Container>
+        ensures { option_copied result ≡ container_at self.now place.now }
+    {
+        self.places.get(place)
+    }
+
+    /// A record names the place.
+    pub fn is_taken(&self, place: &Place) -> bool
+        ensures { result ≡ is_taken self.now place.now }
+    {
+        self.places.contains_key(place)
+    }
+
+    /// A record names the container.
+    pub fn is_named(&self, container: &[u8]) -> bool
+        ensures { result ≡ is_named self.now container.now }
+    {
+        self.names.contains(container)
+    }
+
+    /// The place of the entry with this number, from 0.
+    pub fn place(&self, i: usize) -> &Place
+        requires { i < length self.now }
+        ensures { (container : List ℕ) × (slice_get self.now i ≡ Some (result.now, container)) }
+    {
+        match self.places.get_index(i) {
+            Some((place, _)) => place,
+            None => unreachable!(),
+        }
+    }
+
+    /// Takes an entry more.
+    pub fn push(&mut self, alloc: Global, place: Place, container: &[u8]) -> Result<(), AllocError>
+        requires free { is_taken self.old place ≡ false }
+        requires fresh { is_named self.old container.now ≡ false }
+        requires room { length self.old < max_containers }
+        ensures { OnOk result (self.new ≡ self.old ++ (place, container.now) ∷ []) }
+    {
+        let name = Vec::from_slice(alloc, container)?;
+        let container = Container::named(alloc, container)?;
+        self.places.reserve(1)?;
+        self.names.insert(name)?;
+        self.places.insert(place, container)?;
+        Ok(())
+    }
+}

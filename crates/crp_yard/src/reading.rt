@@ -1,0 +1,67 @@
+//! Reads a yard list.
+
+ghost use Rattle.std.specs.Prelude.{◌≡◌, ◌⊎◌, ◌≤◌, ℕ, List, Some, IfOk, IfErr};
+ghost use Rattle.crp_yard.specs.Faults.{fault_of_text};
+ghost use Rattle.crp_yard.specs.Reading.{IsYardList, IsGiven, Tells};
+ghost use Rattle.crp_yard.specs.declared.fault.YardFault.TheVariants.{Memory};
+
+use crate::building::bays_of;
+use crate::fault::YardFault;
+use crate::floating::floating;
+use crate::records::{Size, listing_of};
+use crate::yard::Yard;
+use crp_plan::{ReadFault, Source, read_all};
+use std::alloc::Global;
+
+/// More bytes are not read.
+pub const MAX_BYTES: usize = 8388608;
+
+/// The yard that a list of records tells, and else the first fault of the list. Each bay has so many
+/// rows, 1 to 12, and in each row so many tiers, 1 to 8.
+pub fn yard_of(alloc: Global, text: &[u8], rows: u8, tiers: u8) -> Result<Yard, YardFault>
+    requires some_rows { 1 ≤ rows }
+    requires few_rows { rows ≤ 12 }
+    requires some_tiers { 1 ≤ tiers }
+    requires few_tiers { tiers ≤ 8 }
+    ensures accepted { IfOk result (λ yard. IsYardList rows tiers text.now yard) }
+    ensures refused { IfErr result (λ fault. (fault ≡ Memory) ⊎ (fault_of_text rows tiers text.now ≡ Some fault)) }
+{
+    if text.len() > MAX_BYTES {
+        return Err(YardFault::TooLarge);
+    }
+    let size = Size { rows, tiers };
+    let listing = listing_of(alloc, text, size)?;
+    match floating(&listing) {
+        Some(fault) => return Err(fault),
+        None => {}
+    }
+    let bays = bays_of(alloc, &listing, size)?;
+    let _containers = listing.len();
+    let yard = Yard::new(alloc, size, bays)?;
+    Ok(yard)
+}
+
+/// The yard that a source tells: all its bytes are read first. An interrupted call is tried again, at
+/// most 1,000 times.
+pub fn read_yard<R: Source>(
+    alloc: Global,
+    source: &mut R,
+    rows: u8,
+    tiers: u8,
+) -> Result<Yard, YardFault>
+    requires some_rows { 1 ≤ rows }
+    requires few_rows { rows ≤ 12 }
+    requires some_tiers { 1 ≤ tiers }
+    requires few_tiers { tiers ≤ 8 }
+    ensures accepted { IfOk result (λ yard. (text : List ℕ) × IsGiven (R.remaining source.old) text × IsYardList rows tiers text yard) }
+    ensures refused { IfErr result (Tells rows tiers (R.remaining source.old) (R.failures source.old) (R.failures source.new)) }
+    ensures count { R.failures source.old ≤ R.failures source.new }
+{
+    let mut interruptions = 0;
+    match read_all(alloc, source, MAX_BYTES, &mut interruptions) {
+        Ok(text) => yard_of(alloc, &text, rows, tiers),
+        Err(ReadFault::Failed) => Err(YardFault::Read),
+        Err(ReadFault::TooLarge) => Err(YardFault::TooLarge),
+        Err(ReadFault::Memory) => Err(YardFault::Memory),
+    }
+}

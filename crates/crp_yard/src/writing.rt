@@ -1,0 +1,127 @@
+//! Writes a yard list.
+
+ghost use Rattle.std.specs.Prelude.{◌≡◌, ◌≤◌, ◌++◌, All, IfOk, OnOk, IsErrOf, length, map};
+ghost use Rattle.std.specs.Io.KnownBytes.{Appends, Keeps};
+ghost use Rattle.csv.specs.Writing.{default_writer, row_text};
+ghost use Rattle.crp_plan.specs.Devices.{AppendsFront, HasFailed};
+ghost use Rattle.crp_yard.specs.Text.{fields_at, records_of_stack, records_of_rows, text_of_records, yard_text};
+
+use crate::container::{Container, Containers};
+use crate::yard::Yard;
+use crp_plan::{BayName, Sink, write_all};
+use csv::WriterBuilder;
+use itoa::Buffer;
+use std::alloc::{AllocError, Global};
+use thiserror::Error;
+
+/// Adds a record as csv writes it.
+fn push_record(alloc: Global, text: &mut Vec<u8>, fields: &[&[u8]]) -> Result<(), AllocError>
+    ensures { OnOk result (text.new.items ≡ text.old.items ++ row_text default_writer (map (λ field. field.now) fields.now)) }
+{
+    let mut writer = WriterBuilder::new().from_writer(Vec::new(alloc));
+    match writer.write_fields(fields) {
+        Ok(()) => {}
+        Err(_) => return Err(AllocError),
+    }
+    match writer.into_inner() {
+        Ok(row) => text.extend_from_slice(&row),
+        Err(_) => Err(AllocError),
+    }
+}
+
+fn push_container(
+    alloc: Global,
+    text: &mut Vec<u8>,
+    bay: &BayName,
+    row: u8,
+    tier: u8,
+    container: &Container,
+) -> Result<(), AllocError>
+    ensures { OnOk result (text.new.items ≡ text.old.items ++ row_text default_writer (fields_at bay.now row tier container.now)) }
+{
+    let (mut bays, mut rows, mut tiers) = (Buffer::new(), Buffer::new(), Buffer::new());
+    let fields = [
+        bay.block(),
+        bays.format(bay.bay()).as_bytes(),
+        rows.format(row).as_bytes(),
+        tiers.format(tier).as_bytes(),
+        container.bytes(),
+    ];
+    push_record(alloc, text, fields.as_slice())
+}
+
+fn push_stack(
+    alloc: Global,
+    text: &mut Vec<u8>,
+    bay: &BayName,
+    row: u8,
+    stack: &[Container],
+) -> Result<(), AllocError>
+    requires { length stack.now ≤ 8 }
+    ensures { OnOk result (text.new.items ≡ text.old.items ++ text_of_records (records_of_stack bay.now row 1 stack.now)) }
+{
+    for (i, container) in stack.iter().enumerate() {
+        push_container(alloc, text, bay, row, i as u8 + 1, container)?;
+    }
+    Ok(())
+}
+
+fn push_bay(
+    alloc: Global,
+    text: &mut Vec<u8>,
+    bay: &BayName,
+    stacks: &[Containers],
+) -> Result<(), AllocError>
+    requires rows { length stacks.now ≤ 12 }
+    requires tiers { All (λ stack. length stack ≤ 8) stacks.now }
+    ensures { OnOk result (text.new.items ≡ text.old.items ++ text_of_records (records_of_rows bay.now 1 stacks.now)) }
+{
+    for (i, stack) in stacks.iter().enumerate() {
+        push_stack(alloc, text, bay, i as u8 + 1, stack.list())?;
+    }
+    Ok(())
+}
+
+/// The text of a yard: the header, and then a record for each container, by bay in first-seen order, row
+/// and tier.
+pub fn yard_text(alloc: Global, yard: &Yard) -> Result<Vec<u8>, AllocError>
+    ensures { IfOk result (λ text. text.items ≡ yard_text yard.now) }
+{
+    let mut text = Vec::new(alloc);
+    let header: [&[u8]; 5] = [b"block", b"bay", b"row", b"tier", b"container"];
+    push_record(alloc, &mut text, header.as_slice())?;
+    for i in 0..yard.count() {
+        let (bay, stacks) = yard.bay(i);
+        push_bay(alloc, &mut text, bay, stacks)?;
+    }
+    Ok(text)
+}
+
+/// Why a yard was not written.
+#[derive(Clone, Copy, Debug, Drop, PartialEq, Eq, Error)]
+pub enum WriteFault {
+    /// The sink failed, was interrupted once too often, or took nothing of a piece.
+    #[error("a write failed")]
+    Failed,
+    /// No memory is left.
+    #[error("no memory is left")]
+    Memory,
+}
+
+/// Writes the text of a yard to a sink. An interrupted call is tried again, at most 1,000 times.
+pub fn write_yard<W: Sink>(alloc: Global, sink: &mut W, yard: &Yard) -> Result<(), WriteFault>
+    ensures all { OnOk result (Appends (W.contents sink.old) (W.contents sink.new) (yard_text yard.now)) }
+    ensures front { AppendsFront (W.contents sink.old) (W.contents sink.new) (yard_text yard.now) }
+    ensures failed { IsErrOf result WriteFault.Failed → HasFailed (W.failures sink.old) (W.failures sink.new) }
+    ensures memory { IsErrOf result WriteFault.Memory → Keeps (W.contents sink.old) (W.contents sink.new) }
+    ensures count { W.failures sink.old ≤ W.failures sink.new }
+{
+    let Ok(text) = yard_text(alloc, yard) else {
+        return Err(WriteFault::Memory);
+    };
+    let mut interruptions = 0;
+    match write_all(sink, &text, &mut interruptions) {
+        Ok(()) => Ok(()),
+        Err(_) => Err(WriteFault::Failed),
+    }
+}

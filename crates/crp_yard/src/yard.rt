@@ -1,0 +1,124 @@
+//! What stands in a yard.
+
+ghost use Rattle.std.specs.Prelude.{◌≡◌, ◌<◌, ◌≤◌, All, IfOk, Some, length, slice_get};
+ghost use Rattle.crp_yard.specs.Inventory.{name_at, stack_at, stands, IsYard};
+
+use crate::container::{Container, Containers};
+use crate::names::names_of;
+use crate::place::Bay;
+use crate::records::Size;
+use crate::stacks::Stacks;
+use crp_plan::BayName;
+use indexmap::{IndexMap, IndexSet};
+use std::alloc::{AllocError, Global};
+use std::marker::Model;
+
+/// The bays of a yard in first-seen order, and what stands in them. Each bay has as many rows, and in
+/// each row at most as many tiers; no container stands in two places.
+#[derive(Drop)]
+pub struct Yard {
+    rows: u8,
+    tiers: u8,
+    bays: IndexMap<Bay, Stacks>,
+    names: IndexSet<Vec<u8>>,
+}
+
+impl Model for Yard {
+    ghost use Rattle.crp_yard.specs.Inventory.{Inventory};
+    ghost use Rattle.crp_yard.specs.Listings.{IsKept};
+
+    ghost Value = { Inventory };
+
+    ghost view = { λ a. record { rows = a.rows; tiers = a.tiers; bays = a.bays.entries } };
+
+    ghost invariant = { λ a. IsKept (record { rows = a.rows; tiers = a.tiers; bays = a.bays.entries }) a.names.keys };
+}
+
+impl Yard {
+    /// The yard of these bays.
+    pub(crate) fn new(
+        alloc: Global,
+        size: Size,
+        bays: IndexMap<Bay, Stacks>,
+    ) -> Result<Yard, AllocError>
+        requires { IsYard (record { rows = size.rows; tiers = size.tiers; bays = bays.entries }) }
+        ensures { IfOk result (λ yard. yard ≡ record { rows = size.rows; tiers = size.tiers; bays = bays.entries }) }
+    {
+        let names = names_of(alloc, &bays)?;
+        Ok(Yard {
+            rows: size.rows,
+            tiers: size.tiers,
+            bays,
+            names,
+        })
+    }
+
+    /// How many rows each bay has, 1 to 12.
+    pub fn rows(&self) -> u8
+        ensures value { result ≡ self.now.rows }
+        ensures yard { IsYard self.now }
+    {
+        self.rows
+    }
+
+    /// How many tiers each row has, 1 to 8.
+    pub fn tiers(&self) -> u8
+        ensures value { result ≡ self.now.tiers }
+        ensures yard { IsYard self.now }
+    {
+        self.tiers
+    }
+
+    /// How many bays there are.
+    pub fn count(&self) -> usize
+        ensures value { result ≡ length self.now.bays }
+        ensures yard { IsYard self.now }
+    {
+        self.bays.len()
+    }
+
+    /// The name of a bay. Bays are numbered from 0 in first-seen order.
+    pub fn name(&self, bay: usize) -> &BayName
+        requires { bay < length self.now.bays }
+        ensures { name_at self.now bay ≡ Some result.now }
+    {
+        match self.bays.get_index(bay) {
+            Some((key, _)) => key.name(),
+            None => unreachable!(),
+        }
+    }
+
+    /// A bay and its stacks, by the same number.
+    pub(crate) fn bay(&self, bay: usize) -> (&BayName, &[Containers])
+        requires { bay < length self.now.bays }
+        ensures value { slice_get self.now.bays bay ≡ Some (result.0.now, result.1.now) }
+        ensures rows { length result.1.now ≤ 12 }
+        ensures tiers { All (λ stack. length stack ≤ 8) result.1.now }
+    {
+        match self.bays.get_index(bay) {
+            Some((key, stacks)) => (key.name(), stacks.rows()),
+            None => unreachable!(),
+        }
+    }
+
+    /// The containers of a row from bottom to top. Bays are numbered from 0 in first-seen order, rows
+    /// from 1.
+    pub fn stack(&self, bay: usize, row: u8) -> &[Container]
+        requires bay { bay < length self.now.bays }
+        requires counts { 1 ≤ row }
+        requires there { row ≤ self.now.rows }
+        ensures { stack_at self.now bay row ≡ Some result.now }
+    {
+        match self.bays.get_index(bay) {
+            Some((_, stacks)) => stacks.rows()[row as usize - 1].list(),
+            None => unreachable!(),
+        }
+    }
+
+    /// Whether the container stands in the yard.
+    pub fn holds(&self, container: &[u8]) -> bool
+        ensures { result ≡ stands self.now.bays container.now }
+    {
+        self.names.contains(container)
+    }
+}
