@@ -92,23 +92,6 @@ fn alone(budget: u64) -> Settings
     }
 }
 
-fn start<T: Threads + Wait + Sync>(
-    rt: &HostRuntime,
-    threads: &T,
-    job: Job<'_>,
-) -> Result<Status, ToolFault>
-    requires { IsWithinLimits job }
-{
-    match job {
-        Job::Replay(file) => run_on(rt, threads, Command::Replay, file),
-        Job::Bound(file) => run_on(rt, threads, Command::Bound, file),
-        Job::Prove { file, budget } => run_on(rt, threads, Command::Prove(alone(budget)), file),
-        Job::Check(file) => run_on(rt, threads, Command::Check, file),
-        // This has no command to run yet.
-        Job::Solve { .. } => Err(ToolFault::Read),
-    }
-}
-
 // The exit status, with the fault's line on the standard error.
 fn told(rt: &HostRuntime, answer: &Result<Status, ToolFault>) -> u8
     ensures { result ≡ exit_code answer.now }
@@ -117,6 +100,23 @@ fn told(rt: &HostRuntime, answer: &Result<Status, ToolFault>) -> u8
         let _ = eprintln!(rt; "crp: {fault}");
     }
     exit_of(answer)
+}
+
+// Does the job, and says the exit status.
+fn start<T: Threads + Wait + Sync>(rt: &HostRuntime, threads: &T, job: Job<'_>) -> u8
+    requires { IsWithinLimits job }
+{
+    let (command, file) = match job {
+        Job::Replay(file) => (Command::Replay, file),
+        Job::Bound(file) => (Command::Bound, file),
+        Job::Check(file) => (Command::Check, file),
+        Job::Prove { file, budget } => (Command::Prove(alone(budget)), file),
+        Job::Solve { .. } => {
+            let _ = eprintln!(rt; "error: 'solve' is not built yet");
+            return WRONG_USAGE;
+        }
+    };
+    told(rt, &run_on(rt, threads, command, file))
 }
 
 fn told_usage(rt: &HostRuntime, usage: &Usage) -> u8
@@ -155,7 +155,7 @@ pub fn run<T: Threads + Wait + Sync>(rt: &HostRuntime, threads: &T) -> u8 {
         return told(rt, &Err(ToolFault::Memory));
     };
     match job(rt.alloc(), &texts) {
-        Ok(job) => told(rt, &start(rt, threads, job)),
+        Ok(job) => start(rt, threads, job),
         Err(usage) => told_usage(rt, &usage),
     }
 }

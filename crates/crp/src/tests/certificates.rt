@@ -1,6 +1,6 @@
 //! Certificates that are checked, and those that are made.
 use crate::checking::check;
-use crate::outcome::{Status, ToolFault};
+use crate::outcome::{Status, ToolFault, exit_of};
 use crate::proving::prove;
 use crp_cert::CertFault;
 use crp_checker::Refused;
@@ -127,6 +127,7 @@ fn certificates_that_are_refused(rt: HostRuntime) -> Result<(), Fail> {
     for (lines, told) in refused {
         let text = with_lines(rt.alloc(), lines)?;
         let (_written, answer) = checked(rt.alloc(), text.as_slice());
+        assert_eq!(rt; exit_of(&answer), 6);
         let text = match answer {
             Err(fault) => format!(in rt.alloc(); "{fault}")?,
             Ok(_) => String::new(rt.alloc()),

@@ -231,8 +231,8 @@ fn exit_statuses_and_fault_lines(rt: HostRuntime) -> Result<(), Fail> {
         (ToolFault::Memory, 4, "no memory is left"),
     ];
     for (fault, status, text) in faults {
-        assert_eq!(rt; exit_of(&Err(fault)), status);
         assert_eq!(rt; format!(in rt.alloc(); "{fault}")?.as_str(), text);
+        assert_eq!(rt; exit_of(&Err(fault)), status);
     }
     Ok(())
 }
