@@ -1,10 +1,10 @@
 -- The bays of a yard after one plan more, and that they are those of a yard.
-use Rattle.std.proofs.Common.{◌≡◌, ◌≤◌, ◌<◌, ◌+◌, ℕ, suc, Bool, true, false, cond, List, [], ◌∷◌, ◌++◌, map, take, drop, flat_map, length, get_or, All, Option, Some, None, MatchOption, is_some, slice_get, refl, sym, ap, ◌∙◌, subst, arith, drop-cons, add-one}
+use Rattle.std.proofs.Common.{◌≡◌, ◌≤◌, ◌<◌, ◌+◌, ℕ, suc, Bool, true, false, cond, List, [], ◌∷◌, ◌++◌, map, take, drop, flat_map, length, get_or, All, Option, Some, None, MatchOption, is_some, refl, sym, ap, ◌∙◌, subst, arith, drop-cons, add-one}
 use Rattle.std.specs.Prelude.{if◌then◌else◌, ◌||◌}
 use Rattle.std.specs.List.{AllByRecursion, IsDistinct, find, list_any}
 use Rattle.std.specs.Map.{lookup}
 use Rattle.std.proofs.lemmas.List.{take_more, take_all, take-append-drop}
-use Rattle.std.proofs.lemmas.Bool.{false≢true, true≢false}
+use Rattle.std.proofs.lemmas.Bool.{false≢true}
 use Rattle.indexmap.specs.IndexMap.{insert_entry}
 use Rattle.crp_plan.specs.BayNames.{YardBay}
 use Rattle.crp_plan.specs.Bay.{IsProblem}
@@ -13,7 +13,7 @@ use Rattle.crp_yard.specs.Places.{same_bay}
 use Rattle.crp_yard.specs.Inventory.{Inventory, StackedBay, FitBay, IsYard, times, containers_of}
 use Rattle.crp_yard.specs.Ranks.{named}
 use Rattle.crp_yard.specs.After.{IsPlanOf, plan_of, stacks_at, LeavesNamed, IsBayAfter, AreBaysAfter, IsAfter}
-use Rattle.crp_yard.proofs.Lists.{all_of, each_of, each_push, each_at, found_in, find-kept, find-push, not_before, not_yet, looked_up, looked}
+use Rattle.crp_yard.proofs.Lists.{all_of, each_of, each_push, each_at, found_in, find-kept, find-push, not_before, looked_up, looked}
 use Rattle.crp_yard.proofs.ListingSteps.{times-append}
 use Rattle.crp_yard.proofs.OnceSteps.{same_bay_is, same_bay_self}
 use Rattle.crp_yard.proofs.YardSteps.{same_bay_laws}

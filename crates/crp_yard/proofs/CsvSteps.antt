@@ -1,5 +1,5 @@
 -- The records that csv's reader gives in turn are a front of the records of the text, and at its end they are all.
-use Rattle.std.proofs.Common.{◌≡◌, ◌<◌, ◌≤◌, ℕ, zero, suc, Bool, true, false, List, [], ◌∷◌, ◌++◌, length, Option, Some, None, refl, sym, ap₂, arith, subst, cond, append-nil, ◌∙◌, Bor}
+use Rattle.std.proofs.Common.{◌≡◌, ◌<◌, ◌≤◌, ℕ, zero, suc, Bool, true, false, List, [], ◌∷◌, ◌++◌, length, Option, Some, None, refl, sym, ap₂, arith, subst, cond, append-nil, append_assoc, ◌∙◌, Bor}
 use Rattle.csv.specs.Machine.{Read, ends_at_end, field_after, fields_after, is_end, next_record, step}
 use Rattle.csv.specs.Reading.{AreRecords, Reached, ReadRecord, default_config, records, records_from, source_of}
 use Rattle.csv.specs.declared.reader.Reader.{Reader}
@@ -93,9 +93,16 @@ pub records-are : (cfg : Config) (xs : List ℕ) (rows : List (List (List ℕ)))
 records-are cfg xs rows h = let (s2, ys, reached, ends) = h in sym (given cfg _ st.StartRecord s2 xs ys rows (omega arith) reached ends)
 
 -- the records that were reached are a front of the records of the text
-pub records-front : (cfg : Config) (xs ys : List ℕ) (rows : List (List (List ℕ))) (s2 : State) → Reached cfg st.StartRecord xs rows s2 ys
+records-front : (cfg : Config) (xs ys : List ℕ) (rows : List (List (List ℕ))) (s2 : State) → Reached cfg st.StartRecord xs rows s2 ys
     → (more : List (List (List ℕ))) × (records cfg xs ≡ rows ++ more)
 records-front cfg xs ys rows s2 reached = front_given cfg _ st.StartRecord s2 xs ys rows (omega arith) reached
+
+-- the same, of which the last is told apart
+pub records-next : (cfg : Config) (xs ys : List ℕ) (rows : List (List (List ℕ))) (row : List (List ℕ)) (s2 : State) → Reached cfg st.StartRecord xs (rows ++ row ∷ []) s2 ys
+    → (more : List (List (List ℕ))) × (records cfg xs ≡ rows ++ row ∷ more)
+records-next cfg xs ys rows row s2 reached =
+    let front = records-front cfg xs ys (rows ++ row ∷ []) s2 reached in
+    (front.0, front.1 ∙ append_assoc rows (row ∷ []) front.0)
 
 -- where the reader finds no record more, those that were reached are all
 pub records-ended : (a b : Reader (Bor (List ℕ))) (xs y : List ℕ) (rows : List (List (List ℕ))) → a.config ≡ default_config

@@ -1,5 +1,5 @@
 -- The moves of a plan, made one after the other.
-use Rattle.std.proofs.Common.{◌≡◌, ℕ, ◌+◌, ◌-◌, ◌<◌, List, [], ◌∷◌, ◌++◌, map, take, drop, length, get_or, Option, Some, None, IfSome, IfNone, slice_get, drop-cons, add-one, refl, sym, ap, ◌∙◌, subst}
+use Rattle.std.proofs.Common.{◌≡◌, ℕ, ◌+◌, ◌<◌, List, [], ◌∷◌, ◌++◌, map, take, drop, length, get_or, Option, Some, None, IfSome, IfNone, slice_get, drop-cons, add-one, refl, ap, subst}
 use Rattle.std.proofs.lemmas.List.{map-append}
 use Rattle.crp_plan.specs.declared.moves.Move.{Move}
 use Rattle.crp_plan.specs.Bay.{Problem, Position, IsSound, IsProblem, IsPlan, IsFinished, IsTaken, IsShifted, Legal, Runs, start, path_of}
@@ -54,7 +54,7 @@ way_ends plan moves [] here e path way = record {
 way_ends plan moves (m ∷ rest) here e path way = cc
 
 -- the stacks so far are named
-pub named-more : (names : List (List ℕ)) (stacks : List (List ℕ)) (i : ℕ) (stack : List ℕ) (old new : List (List (List ℕ))) → slice_get stacks i ≡ Some stack
-    → old ≡ named names (take i stacks) → new ≡ old ++ map (name_of names) stack ∷ [] → new ≡ named names (take (i + 1) stacks)
-named-more names stacks i stack old new at is e =
-    rw (e, is, add-one i, take_next stacks i stack at, map-append (λ s. map (name_of names) s) (take i stacks) (stack ∷ [])) refl
+pub named-more : (names : List (List ℕ)) (stacks : List (List ℕ)) (i : ℕ) (stack : List ℕ) (copy : List (List ℕ)) (old new : List (List (List ℕ))) → slice_get stacks i ≡ Some stack
+    → old ≡ named names (take i stacks) → new ≡ old ++ copy ∷ [] → copy ≡ map (name_of names) stack → new ≡ named names (take (i + 1) stacks)
+named-more names stacks i stack copy old new at is e same =
+    rw (e, is, same, add-one i, take_next stacks i stack at, map-append (λ s. map (name_of names) s) (take i stacks) (stack ∷ [])) refl

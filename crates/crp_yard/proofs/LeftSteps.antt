@@ -1,12 +1,12 @@
 -- What a plan leaves fits the bay, and no container stands there more often than before.
-use Rattle.std.proofs.Common.{◌≡◌, ◌≢◌, ◌≤◌, ◌+◌, ◌-◌, ℕ, suc, List, [], ◌∷◌, ◌++◌, map, flat_map, length, All, replicate, Some, slice_get, slice_set, sum_by, refl, sym, ap, ◌∙◌, subst, arith}
+use Rattle.std.proofs.Common.{◌≡◌, ◌≤◌, ◌+◌, ◌-◌, ℕ, List, [], ◌∷◌, ◌++◌, map, flat_map, length, replicate, Some, slice_get, slice_set, sum_by, refl, sym, ap, ◌∙◌, arith}
 use Rattle.std.specs.List.{AllByRecursion}
 use Rattle.std.proofs.lemmas.List.{map-append, length-map, length-replicate}
 use Rattle.std.proofs.lemmas.List.Sums.{sum_by-cons}
 use Rattle.crp_plan.specs.declared.moves.Move.{Move}
 use Rattle.crp_plan.specs.declared.moves.Move.TheVariants.{Shift, Take}
 use Rattle.crp_plan.specs.Rows.{FitRows}
-use Rattle.crp_plan.specs.Bay.{Position, Problem, IsProblem, IsTaken, IsShifted, Legal, Runs, start}
+use Rattle.crp_plan.specs.Bay.{Position, IsProblem, IsTaken, IsShifted, Runs, start}
 use Rattle.crp_plan.specs.Plans.{Route}
 use Rattle.crp_plan.proofs.Lists.{sum_put, get_put_other}
 use Rattle.crp_plan.proofs.Sound.{sound_start, sound_runs, apart}

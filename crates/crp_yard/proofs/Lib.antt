@@ -16,3 +16,6 @@ pub mod TextSteps
 pub mod LeavingSteps
 pub mod LeftSteps
 pub mod AfterSteps
+pub mod Least
+pub mod ReadBack
+pub mod Standing

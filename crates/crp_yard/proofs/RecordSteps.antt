@@ -53,7 +53,7 @@ up_to-next rows tiers xs x ys n fault none count e =
 pub read-none : (rows tiers : ℕ) → IsRead rows tiers [] [] 0
 read-none rows tiers = record { faultless = refl; said = refl; counted = refl }
 
-not_one : (n : ℕ) → (suc (suc n) == 1) ≡ false
+pub not_one : (n : ℕ) → (suc (suc n) == 1) ≡ false
 not_one n = grind arith
 
 entries-more : (xs : List (List (List ℕ))) (x : List (List ℕ)) → entries_behind (entries_of xs) (suc (length xs)) x ≡ entries_of (xs ++ x ∷ [])

@@ -2,7 +2,6 @@
 
 ghost use Rattle.std.specs.Prelude.{◌≡◌, IfOk, All, map};
 ghost use Rattle.std.specs.List.{IsDistinct};
-ghost use Rattle.crp_plan.specs.Bay.{IsProblem};
 ghost use Rattle.crp_yard.specs.Places.{same_bay};
 ghost use Rattle.crp_yard.specs.After.{IsPlanOf, IsAfter};
 

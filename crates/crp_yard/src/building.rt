@@ -1,6 +1,6 @@
 //! The bays that the records give.
 
-ghost use Rattle.std.specs.Prelude.{◌≡◌, ◌≤◌, IfOk, map};
+ghost use Rattle.std.specs.Prelude.{◌≡◌, IfOk, map};
 ghost use Rattle.crp_yard.specs.Inventory.{stack_up_to, stacks_up_to, stacked, bays_of};
 
 use crate::container::{Container, Containers};

@@ -1,6 +1,6 @@
 //! Numbers in ASCII digits.
 
-ghost use Rattle.std.specs.Prelude.{◌≡◌, ◌<◌, ◌≤◌, ◌^◌, IsTrue, length};
+ghost use Rattle.std.specs.Prelude.{◌≡◌, ◌<◌, ◌^◌, IsTrue};
 ghost use Rattle.std.specs.List.{list_all};
 ghost use Rattle.crp_yard.specs.Records.{is_digit, is_number, number_of};
 

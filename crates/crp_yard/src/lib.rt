@@ -1,4 +1,9 @@
 //! Reads and writes yard lists, and keeps what stands in the yard.
+//!
+//! A yard list is CSV with a header and a record for each container. `read_yard` answers the inventory
+//! that the records give exactly where none has a fault, and else the first fault with the number of its
+//! record. What an inventory is is said in `specs/Inventory.antt`, which fault is the first in
+//! `specs/Faults.antt`, and how a yard stands after plans in `specs/After.antt`.
 #![tactic(auto)]
 
 mod bay_plan;
@@ -8,6 +13,7 @@ mod digits;
 mod fault;
 mod fields;
 mod floating;
+mod laws;
 mod leaving;
 mod listing;
 mod names;
@@ -15,12 +21,15 @@ mod place;
 mod reading;
 mod records;
 mod stacks;
+#[cfg(test)]
+mod tests;
 mod writing;
 mod yard;
 
 pub use bay_plan::{BayPlan, after};
 pub use container::{Container, Containers};
 pub use fault::YardFault;
+pub use laws::{each_stands_in_its_place, first_fault_is_least, text_reads_back};
 pub use reading::{MAX_BYTES, read_yard, yard_of};
 pub use records::MAX_CONTAINERS;
 pub use writing::{WriteFault, write_yard, yard_text};

@@ -1,6 +1,6 @@
 //! What the records say that have been read.
 
-ghost use Rattle.std.specs.Prelude.{◌≡◌, ◌<◌, ◌≤◌, ◌++◌, ◌∷◌, [], ℕ, List, false, true, length, IsTrue, OnOk, OnErr, Some, slice_get};
+ghost use Rattle.std.specs.Prelude.{◌≡◌, ◌<◌, ◌≤◌, ◌++◌, ◌∷◌, [], ℕ, List, false, length, OnOk, Some, slice_get};
 ghost use Rattle.std.specs.Option.{option_copied};
 ghost use Rattle.crp_yard.specs.Faults.{max_containers, is_taken, is_named};
 ghost use Rattle.crp_yard.specs.Inventory.{container_at, times};

@@ -1,6 +1,6 @@
 //! Reads the records of a yard list, from the first to the last.
 
-ghost use Rattle.std.specs.Prelude.{◌≡◌, ◌⊎◌, ◌<◌, ◌≤◌, ◌+◌, ◌^◌, false, Some, None, IfOk, OnOk, IfErr, length, max};
+ghost use Rattle.std.specs.Prelude.{◌≡◌, ◌⊎◌, ◌<◌, ◌≤◌, ◌+◌, false, Some, None, IfOk, OnOk, IfErr, length, max};
 ghost use Rattle.csv.specs.Records.{fields_of};
 ghost use Rattle.crp_yard.specs.Records.{records_of, place_of, field_of, entries_of};
 ghost use Rattle.crp_yard.specs.Faults.{max_containers, is_taken, is_named, fault_of, fault_behind, first_fault_up_to, first_fault};

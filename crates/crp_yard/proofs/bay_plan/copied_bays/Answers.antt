@@ -1,6 +1,6 @@
 use Rattle.std.proofs.Common.{◌≡◌, ◌+◌, ◌++◌, ◌∷◌, [], take, None, sym, ap, ◌∙◌, add-one}
 use Rattle.indexmap.proofs.CallerLemmas.{insert_entry-new}
-use Rattle.indexmap.specs.IndexMap.{get, insert_entry}
+use Rattle.indexmap.specs.IndexMap.{get}
 use Rattle.crp_yard.specs.Places.{same_bay}
 use Rattle.crp_yard.specs.Inventory.{StackedBay}
 use Rattle.crp_yard.proofs.Lists.{not_yet}

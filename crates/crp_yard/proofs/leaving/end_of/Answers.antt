@@ -1,8 +1,8 @@
-use Rattle.std.proofs.Common.{◌∙◌, ap, sym, subst}
+use Rattle.std.proofs.Common.{◌∙◌, ap}
 use Rattle.std.proofs.lemmas.List.{drop_all}
 use Rattle.crp_plan.specs.declared.moves.Move.TheVariants.{Shift}
-use Rattle.crp_plan.specs.Bay.{path_of, IsPlan, IsProblem, Position}
-use Rattle.crp_yard.proofs.LeavingSteps.{IsOnTheWay, way_begins, way_next, way_goes_on, way_ends}
+use Rattle.crp_plan.specs.Bay.{path_of, IsProblem}
+use Rattle.crp_yard.proofs.LeavingSteps.{way_begins, way_next, way_goes_on, way_ends}
 use Rattle.crp_yard.proofs.leaving.end_of.Goals as goal
 
 pub loop-step-init : goal.loop-step-init

@@ -1,4 +1,4 @@
-use Rattle.std.proofs.Common.{Bor, List, ℕ, ◌≡◌, ◌+◌, ◌∙◌, ◌++◌, ◌∷◌, [], Some, sym, refl, inl, inr, ⊎_elim, append_assoc, arith}
+use Rattle.std.proofs.Common.{Bor, List, ℕ, ◌≡◌, ◌+◌, ◌∙◌, ◌++◌, ◌∷◌, [], Some, sym, refl, inl, inr, ⊎_elim, arith}
 use Rattle.std.proofs.lemmas.Result.{err_from_is_err_and}
 use Rattle.crp_yard.specs.declared.fault.YardFault.{YardFault}
 use Rattle.crp_yard.specs.Faults.{fault_behind}
@@ -7,7 +7,7 @@ use Rattle.csv.specs.Records.{fields_of}
 use Rattle.csv.specs.declared.parser.State.TheVariants as st
 use Rattle.csv.proofs.ReadFacts.{rows-more}
 use Rattle.crp_yard.specs.Records.{records_of}
-use Rattle.crp_yard.proofs.CsvSteps.{records-front, records-ended}
+use Rattle.crp_yard.proofs.CsvSteps.{records-next, records-ended}
 use Rattle.crp_yard.proofs.RecordSteps.{read-none, read-more, told-next, told-empty, read-all}
 use Rattle.crp_yard.proofs.records.listing_of.Goals as goal
 
@@ -53,10 +53,9 @@ returns-in_err-take-clause-refused c =
     let s = step.0 inv.1 in
     let fields = fields_of c.in-Ok.fields in
     let m = rows-more (λ (s : Bor (List ℕ)). Some s.now) c.loop-row.row-iterator.rdr c.next.new.self.rdr fields default_config st.StartRecord (strip_bom c.args.text.now) inv.6 inv.8 inv.3 inv.7 inv.9 s.0 in
-    let front = records-front default_config (strip_bom c.args.text.now) m.0 (inv.8 ++ fields ∷ []) c.next.new.self.rdr.state m.2 in
-    let all : records_of c.args.text.now ≡ inv.8 ++ fields ∷ front.0 = front.1 ∙ append_assoc inv.8 (fields ∷ []) front.0 in
+    let front = records-next default_config (strip_bom c.args.text.now) m.0 inv.8 fields c.next.new.self.rdr.state m.2 in
     let told = λ (f : YardFault) (h : fault_behind c.args.size.rows c.args.size.tiers c.loop-row.listing (c.loop-row.number + 1) fields ≡ Some f).
-    told-next c.args.size.rows c.args.size.tiers inv.8 c.loop-row.listing c.loop-row.number (c.loop-row.number + 1) fields front.0 (records_of c.args.text.now) f inv.10 refl h all in
+    told-next c.args.size.rows c.args.size.tiers inv.8 c.loop-row.listing c.loop-row.number (c.loop-row.number + 1) fields front.0 (records_of c.args.text.now) f inv.10 refl h front.1 in
     rw (p.1, p.2) (⊎_elim (λ h. inl h) (λ h. inr (told _ h)) c.in_err-take.ensures.refused)
 
 pub returns-clause-said : goal.returns-clause-said

@@ -1,0 +1,17 @@
+use crate::{Container, Containers};
+use std::test::Fail;
+
+#[test]
+fn containers_are_lists(rt: HostRuntime) -> Result<(), Fail> {
+    let alloc = rt.alloc();
+    let mut list = Vec::new(alloc);
+    list.push(Container::named(alloc, b"X")?)?;
+    list.push(Container::from_vec(Vec::from_slice(alloc, b"YZ")?))?;
+    let list = Containers::from_vec(list);
+    assert_eq!(rt; list.list().len(), 2);
+    let list = list.into_vec();
+    assert_eq!(rt; list.len(), 2);
+    assert_eq!(rt; list[0].bytes(), b"X".as_slice());
+    assert_eq!(rt; list[1].bytes(), b"YZ".as_slice());
+    Ok(())
+}
