@@ -23,7 +23,8 @@ use std::alloc::Global;
 /// The script that the bytes are the text of.
 fn script_of(alloc: Global, bytes: &[u8]) -> Result<Script, Refused>
     ensures text { IfOk result (IsScriptOf bytes.now) }
-    ensures few { IfOk result (λ script. All (λ part. length (nodes_of script.head.problem (part_of part)) < 2 ^ 64) script.parts) }
+    ensures few { IfOk result (λ script.
+        All (λ part. length (nodes_of script.head.problem (part_of part)) < 2 ^ 64) script.parts) }
     ensures refused { IfErr result (λ refused. (refused ≡ Refused.Memory)
         ⊎ ((wanted : Option Statement) → IsRefusal wanted bytes.now refused)) }
 {
@@ -42,17 +43,22 @@ pub(crate) fn check_text(alloc: Global, bytes: &[u8]) -> Result<(BayName, Verdic
     check_claim(alloc, script)
 }
 
-/// What a certificate shows, where the bytes are the text of an accepted script: the fewest relocations of a plan, that there is
-/// no plan, or bounds. Else the first fault, or that no memory is left.
+/// What a certificate shows, where the bytes are the text of an accepted script: the fewest
+/// relocations of a plan, that there is no plan, or bounds. Else the first fault, or that no memory
+/// is left.
 pub fn check(alloc: Global, bytes: &[u8]) -> Result<Verdict, Refused>
     ensures accepted { IfOk result (Shows None bytes.now) }
     ensures refused { IfErr result (λ refused. (refused ≡ Refused.Memory) ⊎ IsRefusal None bytes.now refused) }
-    ensures rejected { IfErr result (λ refused. (told : Told) → refused ≢ Refused.Memory → IsYes None bytes.now told → ⊥) }
+    ensures rejected { IfErr result (λ refused. (told : Told) → refused ≢ Refused.Memory
+        → IsYes None bytes.now told → ⊥) }
 
     // What this means for the problem that the bytes tell.
-    ensures bound { OnOk result ((head : Head) (moves : List Move) → IsHeadOf bytes.now head → IsPlan head.problem moves → head.claim ≤ relocations moves) }
-    ensures none { OnOk result ((head : Head) (moves : List Move) → IsHeadOf bytes.now head → head.claim ≡ cap head.problem → IsPlan head.problem moves → ⊥) }
-    ensures says { IfOk result (λ verdict. (head : Head) → IsHeadOf bytes.now head → Says head.problem verdict) }
+    ensures bound { OnOk result ((head : Head) (moves : List Move) → IsHeadOf bytes.now head
+        → IsPlan head.problem moves → head.claim ≤ relocations moves) }
+    ensures none { OnOk result ((head : Head) (moves : List Move) → IsHeadOf bytes.now head
+        → head.claim ≡ cap head.problem → IsPlan head.problem moves → ⊥) }
+    ensures says { IfOk result (λ verdict. (head : Head) → IsHeadOf bytes.now head
+        → Says head.problem verdict) }
 {
     let (_bay, verdict) = check_text(alloc, bytes)?;
     Ok(verdict)
@@ -61,12 +67,16 @@ pub fn check(alloc: Global, bytes: &[u8]) -> Result<Verdict, Refused>
 /// The same for a certificate of this problem: a text that tells another is refused for that.
 pub fn check_for(alloc: Global, problem: &Problem, bytes: &[u8]) -> Result<Verdict, Refused>
     ensures accepted { IfOk result (Shows (Some problem.now) bytes.now) }
-    ensures refused { IfErr result (λ refused. (refused ≡ Refused.Memory) ⊎ IsRefusal (Some problem.now) bytes.now refused) }
-    ensures rejected { IfErr result (λ refused. (told : Told) → refused ≢ Refused.Memory → IsYes (Some problem.now) bytes.now told → ⊥) }
+    ensures refused { IfErr result (λ refused. (refused ≡ Refused.Memory)
+        ⊎ IsRefusal (Some problem.now) bytes.now refused) }
+    ensures rejected { IfErr result (λ refused. (told : Told) → refused ≢ Refused.Memory
+        → IsYes (Some problem.now) bytes.now told → ⊥) }
 
     // What this means for the problem.
-    ensures bound { OnOk result ((head : Head) (moves : List Move) → IsHeadOf bytes.now head → IsPlan problem.now moves → head.claim ≤ relocations moves) }
-    ensures none { OnOk result ((head : Head) (moves : List Move) → IsHeadOf bytes.now head → head.claim ≡ cap problem.now → IsPlan problem.now moves → ⊥) }
+    ensures bound { OnOk result ((head : Head) (moves : List Move) → IsHeadOf bytes.now head
+        → IsPlan problem.now moves → head.claim ≤ relocations moves) }
+    ensures none { OnOk result ((head : Head) (moves : List Move) → IsHeadOf bytes.now head
+        → head.claim ≡ cap problem.now → IsPlan problem.now moves → ⊥) }
     ensures says { IfOk result (Says problem.now) }
 {
     let script = script_of(alloc, bytes)?;

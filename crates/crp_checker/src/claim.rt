@@ -21,7 +21,8 @@ use std::alloc::Global;
 fn plan_count(problem: &Problem, plan: &Option<Rows>) -> Result<Option<u32>, PlanFault>
     ensures path { OnOk result (IfSome plan.now (IsPlanPath problem.now)) }
     ensures count { IfOk result (λ count. count ≡ option_map length plan.now) }
-    ensures fault { IfErr result (λ fault. (rows : List ℕ) × (plan.now ≡ Some rows) × IsPlanFault problem.now rows fault) }
+    ensures fault { IfErr result (λ fault. (rows : List ℕ) × (plan.now ≡ Some rows)
+        × IsPlanFault problem.now rows fault) }
 {
     let Some(rows) = plan else {
         return Ok(None);
@@ -51,7 +52,8 @@ pub fn check_claim(alloc: Global, script: Script) -> Result<(BayName, Verdict), 
     ensures bay { IfOk result (λ told. told.0 ≡ script.head.bay) }
     ensures verdict { IfOk result (λ told. IsVerdict (claim_of script) told.1) }
     ensures refused { IfErr result (λ refused. (refused ≡ Refused.Memory)
-        ⊎ ((wanted : Option Statement) → IsWanted wanted script.head.problem → IsFirstWrongClaim wanted (claim_of script) refused)) }
+        ⊎ ((wanted : Option Statement) → IsWanted wanted script.head.problem
+        → IsFirstWrongClaim wanted (claim_of script) refused)) }
 {
     let Script { head, parts } = script;
     let Head {

@@ -18,7 +18,8 @@ fn check_next(
     verdicts: &mut Vec<(BayName, Verdict)>,
 ) -> Result<(), Refused>
     ensures shown { OnOk result (AddsShown text.now verdicts.old.items verdicts.new.items) }
-    ensures refused { IfErr result (λ refused. (refused ≡ Refused.Memory) ⊎ IsRefusal None text.now refused) }
+    ensures refused { IfErr result (λ refused. (refused ≡ Refused.Memory)
+        ⊎ IsRefusal None text.now refused) }
     ensures same { OnErr result (verdicts.new.items ≡ verdicts.old.items) }
 {
     let told = check_text(alloc, text)?;
@@ -26,12 +27,13 @@ fn check_next(
     Ok(())
 }
 
-/// What each certificate of a file shows, in order. A certificate ends with its first line that begins with `end `; bytes after
-/// the last such line are one more certificate, and no bytes are none. Else the first certificate that is refused, and what those
-/// before it show.
+/// What each certificate of a file shows, in order. A certificate ends with its first line that
+/// begins with `end `; bytes after the last such line are one more certificate, and no bytes are
+/// none. Else the first certificate that is refused, and what those before it show.
 pub fn check_file(alloc: Global, bytes: &[u8]) -> Result<Verdicts, FileRefused>
     ensures shown { IfOk result (FileShows bytes.now) }
-    ensures refused { IfErr result (λ refusal. IsFileRefusal bytes.now refusal.before refusal.number refusal.refused) }
+    ensures refused { IfErr result (λ refusal.
+        IsFileRefusal bytes.now refusal.before refusal.number refusal.refused) }
 {
     let mut verdicts = Vec::new(alloc);
     let mut rest = bytes;

@@ -14,30 +14,41 @@ ghost use Rattle.crp_checker.specs.Shown.{Shows};
 ghost use Rattle.crp_checker.specs.Refusals.{IsFirstWrongClaim, IsRefusal};
 ghost use Rattle.crp_checker.specs.Files.{BeginsWithTexts};
 
-/// Bytes are not both the text of an accepted certificate and refused; they show one thing, or are refused for one reason.
+/// Bytes are not both the text of an accepted certificate and refused; they show one thing, or are
+/// refused for one reason.
 pub fn accepted_or_refused()
-    ensures apart { (wanted : Option Problem) (bytes : List ℕ) (told : Told) (refused : Refused) → IsYes wanted bytes told → IsRefusal wanted bytes refused → ⊥ }
-    ensures one_verdict { (wanted : Option Problem) (bytes : List ℕ) (verdict other : Verdict) → Shows wanted bytes verdict → Shows wanted bytes other → verdict ≡ other }
-    ensures one_refusal { (wanted : Option Problem) (bytes : List ℕ) (refused other : Refused) → IsRefusal wanted bytes refused → IsRefusal wanted bytes other → refused ≡ other }
+    ensures apart { (wanted : Option Problem) (bytes : List ℕ) (told : Told) (refused : Refused)
+        → IsYes wanted bytes told → IsRefusal wanted bytes refused → ⊥ }
+    ensures one_verdict { (wanted : Option Problem) (bytes : List ℕ) (verdict other : Verdict)
+        → Shows wanted bytes verdict → Shows wanted bytes other → verdict ≡ other }
+    ensures one_refusal { (wanted : Option Problem) (bytes : List ℕ) (refused other : Refused)
+        → IsRefusal wanted bytes refused → IsRefusal wanted bytes other → refused ≡ other }
 {}
 
 /// An accepted claim is not wrong, and another is wrong in one way at most.
 pub fn right_or_wrong()
-    ensures apart { (wanted : Option Problem) (script : Script) (refused : Refused) → IsAccepted script → IsWanted wanted script.problem → IsFirstWrongClaim wanted script refused → ⊥ }
-    ensures one { (wanted : Option Problem) (script : Script) (refused other : Refused) → IsProblem script.problem → IsFirstWrongClaim wanted script refused → IsFirstWrongClaim wanted script other → refused ≡ other }
+    ensures apart { (wanted : Option Problem) (script : Script) (refused : Refused)
+        → IsAccepted script → IsWanted wanted script.problem
+        → IsFirstWrongClaim wanted script refused → ⊥ }
+    ensures one { (wanted : Option Problem) (script : Script) (refused other : Refused)
+        → IsProblem script.problem → IsFirstWrongClaim wanted script refused
+        → IsFirstWrongClaim wanted script other → refused ≡ other }
 {}
 
 /// What a verdict says of an accepted script is so.
 pub fn verdicts_say()
-    ensures { (script : Script) (verdict : Verdict) → IsAccepted script → IsVerdict script verdict → Says script.problem verdict }
+    ensures { (script : Script) (verdict : Verdict) → IsAccepted script → IsVerdict script verdict
+        → Says script.problem verdict }
 {}
 
 /// Node number k of a tree is told by symbol number k.
 pub fn nodes_are_told()
-    ensures { (path : List ℕ) (s : Place) (tree : Tree) → Matches s tree → map letter_at (nodes path s tree) ≡ symbols_of tree }
+    ensures { (path : List ℕ) (s : Place) (tree : Tree) → Matches s tree
+        → map letter_at (nodes path s tree) ≡ symbols_of tree }
 {}
 
 /// A file is cut into the texts of certificates in one way.
 pub fn one_cut()
-    ensures { (file : List ℕ) (texts others : List (List ℕ)) → BeginsWithTexts file texts [] → BeginsWithTexts file others [] → texts ≡ others }
+    ensures { (file : List ℕ) (texts others : List (List ℕ)) → BeginsWithTexts file texts []
+        → BeginsWithTexts file others [] → texts ≡ others }
 {}

@@ -55,7 +55,8 @@ fn walk_part(
     requires part { IsRawPart problem.now part.now }
     requires few { length (nodes_of problem.now (part_of part.now)) < 2 ^ 64 }
     ensures right { OnOk result (IsRightPart lower (walked_part problem.now (part_of part.now))) }
-    ensures given { OnOk result (walk.new.given.items ≡ walk.old.given.items ++ given_by problem.now (part_of part.now)) }
+    ensures given { OnOk result (walk.new.given.items
+        ≡ walk.old.given.items ++ given_by problem.now (part_of part.now)) }
     ensures refused { IfErr result (IsPartRefusal lower (walked_part problem.now (part_of part.now))) }
 {
     let position = place_of(problem, part);
@@ -83,9 +84,12 @@ pub fn walk_parts(
 ) -> Result<Vec<Path>, Refused>
     requires parts { All (IsRawPart problem.now) parts.now }
     requires few { All (λ part. length (nodes_of problem.now (part_of part)) < 2 ^ 64) parts.now }
-    ensures right { OnOk result (AllByRecursion (IsRightPart lower) (walked problem.now (map part_of parts.now))) }
-    ensures given { IfOk result (λ given. given.items ≡ flat_map (given_by problem.now) (map part_of parts.now)) }
-    ensures refused { IfErr result (IsWalkRefusal lower (walked problem.now (map part_of parts.now))) }
+    ensures right { OnOk result (AllByRecursion (IsRightPart lower)
+        (walked problem.now (map part_of parts.now))) }
+    ensures given { IfOk result (λ given.
+        given.items ≡ flat_map (given_by problem.now) (map part_of parts.now)) }
+    ensures refused { IfErr result (IsWalkRefusal lower
+        (walked problem.now (map part_of parts.now))) }
 {
     let mut walk = Walk {
         path: Vec::new(alloc),

@@ -12,8 +12,8 @@ use std::marker::Model;
 
 /// A path of destination rows, of any length. Rows count from 1.
 ///
-/// It is shown as a certificate names a part: `/` where it has no rows, else its rows joined by points. Paths stand in order
-/// row by row, and a path stands before those that go on from it.
+/// It is shown as a certificate names a part: `/` where it has no rows, else its rows joined by
+/// points. Paths stand in order row by row, and a path stands before those that go on from it.
 #[derive(Debug, Drop)]
 pub struct Path {
     rows: Vec<u8>,

@@ -18,8 +18,8 @@ pub enum Refused {
     /// The plan is refused.
     #[error("K2 ({0})")]
     Plan(PlanFault),
-    /// The length of a cut's path and its bound are below the claimed bound. Of this fault and the next the first symbol decides,
-    /// part by part.
+    /// The length of a cut's path and its bound are below the claimed bound. Of this fault and the
+    /// next the first symbol decides, part by part.
     #[error("K3 at part {part} symbol {symbol}")]
     Low { part: Path, symbol: u64 },
     /// A branch stands at a finished position.

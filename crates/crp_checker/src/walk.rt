@@ -63,8 +63,10 @@ pub fn walk_tree(
     walk: &mut Walk,
 ) -> Result<(), Halt>
     requires { walk.old.count + length (nodes walk.old.path.items position.now tree.now) < 2 ^ 64 }
-    ensures over { OnOk result (WentOver lower (nodes walk.old.path.items position.now tree.now) (givens walk.old.path.items position.now tree.now) walk.old walk.new) }
-    ensures halt { IfErr result (IsHalt lower walk.old.count (nodes walk.old.path.items position.now tree.now)) }
+    ensures over { OnOk result (WentOver lower (nodes walk.old.path.items position.now tree.now)
+        (givens walk.old.path.items position.now tree.now) walk.old walk.new) }
+    ensures halt { IfErr result (IsHalt lower walk.old.count
+        (nodes walk.old.path.items position.now tree.now)) }
 {
     walk.count += 1;
     match tree {
@@ -92,9 +94,14 @@ fn walk_each(
     trees: &[Tree],
     walk: &mut Walk,
 ) -> Result<(), Halt>
-    requires { walk.old.count + length (below nodes walk.old.path.items position.now (targets position.now) trees.now) < 2 ^ 64 }
-    ensures over { OnOk result (WentOver lower (below nodes walk.old.path.items position.now (targets position.now) trees.now) (below givens walk.old.path.items position.now (targets position.now) trees.now) walk.old walk.new) }
-    ensures halt { IfErr result (IsHalt lower walk.old.count (below nodes walk.old.path.items position.now (targets position.now) trees.now)) }
+    requires { walk.old.count
+        + length (below nodes walk.old.path.items position.now (targets position.now) trees.now) < 2 ^ 64 }
+    ensures over { OnOk result (WentOver lower
+        (below nodes walk.old.path.items position.now (targets position.now) trees.now)
+        (below givens walk.old.path.items position.now (targets position.now) trees.now)
+        walk.old walk.new) }
+    ensures halt { IfErr result (IsHalt lower walk.old.count
+        (below nodes walk.old.path.items position.now (targets position.now) trees.now)) }
 {
     let rows = position.targets();
     for (i, tree) in trees.iter().enumerate() {
@@ -115,7 +122,8 @@ fn walk_each(
 /// Holds the value of a cut against the claimed bound.
 fn meet_cut(lower: u32, bound: u32, walk: &Walk) -> Result<(), Halt>
     ensures high { OnOk result (lower ≤ length walk.now.path.items + bound) }
-    ensures low { IfErr result (λ halt. (length walk.now.path.items + bound < lower) × (halt ≡ Halt.Low walk.now.count)) }
+    ensures low { IfErr result (λ halt. (length walk.now.path.items + bound < lower)
+        × (halt ≡ Halt.Low walk.now.count)) }
 {
     if (bound as usize) < (lower as usize).saturating_sub(walk.path.len()) {
         return Err(Halt::Low { symbol: walk.count });
