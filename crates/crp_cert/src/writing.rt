@@ -43,8 +43,8 @@ impl From<WriteFailed> for WriteFault {
     }
 }
 
-/// Adds a number in decimal.
-fn push_decimal<N: Integer>(text: &mut Vec<u8>, n: N) -> Result<(), AllocError>
+/// Adds a number in decimal to a text.
+pub fn push_decimal<N: Integer>(text: &mut Vec<u8>, n: N) -> Result<(), AllocError>
     ensures { OnOk result (text.new.items ≡ text.old.items ++ N.text n) }
 {
     let mut digits = Buffer::new();
@@ -75,8 +75,8 @@ fn push_number(text: &mut Vec<u8>, word: &[u8], number: usize) -> Result<(), All
     Ok(())
 }
 
-/// Adds the line of a bay.
-fn push_bay(text: &mut Vec<u8>, bay: &BayName) -> Result<(), AllocError>
+/// Adds the line of a bay to a text: the word, the block, the bay's number, and the line's end.
+pub fn push_bay(text: &mut Vec<u8>, bay: &BayName) -> Result<(), AllocError>
     ensures { OnOk result (text.new.items ≡ text.old.items ++ bay_line bay.now) }
 {
     text.extend_from_slice(b"bay ")?;
