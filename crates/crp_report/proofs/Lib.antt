@@ -1,2 +1,8 @@
 -- Lemmas on what is written.
 pub mod Told
+pub mod Pieces
+pub mod Refusing
+pub mod Ended
+pub mod Leaving
+pub mod Making
+pub mod Runs

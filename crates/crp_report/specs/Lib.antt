@@ -1,2 +1,12 @@
 pub use Rattle.crp_plan.specs.Bay
+pub use Rattle.crp_plan.specs.Plans
+pub use Rattle.crp_plan.specs.Devices
+pub use Rattle.crp_plan.specs.BayNames
 pub mod MoveLines
+pub mod Answered
+pub mod Report
+pub mod Chosen
+pub mod Runs
+pub mod Printing
+pub mod Telling
+pub mod Writing

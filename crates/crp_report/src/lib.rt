@@ -1,6 +1,30 @@
-//! The report of a yard: the moves of plans as lines of text.
+//! The report of a yard: what is to be done in each bay, bytes in to bytes out.
+//!
+//! `run` reads a yard list and a message, answers the problem of each bay from which a container leaves,
+//! and writes the report, the certificates and the yard as the plans leave it. What the report is is said
+//! in `specs/Report.antt`, and what a run promises in `specs/Runs.antt`. `print_moves` writes the moves of
+//! one plan.
 #![tactic(auto)]
 
+mod answers;
+mod endings;
+mod fault;
+mod input;
+mod lines;
 mod move_lines;
+mod numbers;
+mod printing;
+mod running;
+mod settings;
+mod status;
+mod telling;
+mod writing;
 
-pub use move_lines::{lines_of, names_of_ranks, push_decimal};
+pub use answers::{certificate_of, status_of};
+pub use fault::{Fault, Input, Output};
+pub use lines::push_bay_words;
+pub use move_lines::{lines_of, names_of_ranks};
+pub use printing::print_moves;
+pub use running::run;
+pub use settings::{RunFault, RunSettings};
+pub use status::Status;

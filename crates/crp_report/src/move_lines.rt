@@ -3,8 +3,8 @@ ghost use Rattle.std.specs.Prelude.{◌≡◌, ◌<◌, ◌+◌, ◌-◌, ◌++�
 ghost use Rattle.crp_plan.specs.Bay.{Position, IsSound, Legal, IsPlan, start};
 ghost use Rattle.crp_report.specs.MoveLines.{name_of, rank_names, place, container, move_line, TellsMoves};
 
+use crp_cert::push_decimal;
 use crp_plan::{Move, Plan, Walk};
-use itoa::{Buffer, Integer};
 use std::alloc::{AllocError, Global};
 
 /// The numbers of the ranks from 1 as their names.
@@ -18,14 +18,6 @@ pub fn names_of_ranks(alloc: Global, containers: u8) -> Result<Vec<Vec<u8>>, All
         names.push(name)?;
     }
     Ok(names)
-}
-
-/// Adds a number in decimal.
-pub fn push_decimal<N: Integer>(text: &mut Vec<u8>, n: N) -> Result<(), AllocError>
-    ensures { OnOk result (text.new.items ≡ text.old.items ++ N.text n) }
-{
-    let mut digits = Buffer::new();
-    text.extend_from_slice(digits.format(n).as_bytes())
 }
 
 fn push_place(text: &mut Vec<u8>, row: u8, tier: u8) -> Result<(), AllocError>

@@ -1,0 +1,97 @@
+-- The report of a yard, and the texts beside it. Each line ends with LF.
+use Rattle.std.specs.Prelude.{◌≡◌, ℕ, List, [], ◌∷◌, ◌++◌, length, flat_map, count_by, Option, Some, None, codes, decimal}
+use Rattle.crp_plan.specs.declared.moves.Move.{Move}
+use Rattle.crp_plan.specs.Bay.{start, IsPlan, path_of}
+use Rattle.crp_plan.specs.BayNames.{YardBay}
+use Rattle.crp_plan.specs.Plans.{Route}
+use Rattle.crp_solve.specs.declared.answer.Answer.{Answer}
+use Rattle.crp_solve.specs.declared.answer.Answer.TheVariants as answer
+use Rattle.crp_solve.specs.declared.answer.Cause.{Cause}
+use Rattle.crp_solve.specs.declared.answer.Cause.TheVariants as cause
+use Rattle.crp_solve.specs.Answers.{cert_of}
+use Rattle.crp_cert.specs.Writing.{certificate_text}
+use Rattle.crp_yard.specs.Inventory.{Inventory}
+use Rattle.crp_yard.specs.After.{IsAfter}
+use Rattle.crp_yard.specs.Text.{yard_text}
+use Rattle.crp_report.specs.MoveLines.{TellsMoves}
+use Rattle.crp_report.specs.Answered.{Answered, plan_in, status_of, is_decided, bay_plans}
+
+-- three numbers: the loading orders, the loading groups without a container, and the ordered containers that are not in the yard
+pub record Numbers : Type 0 where
+  pub orders : ℕ
+  pub vacant : ℕ
+  pub absent : ℕ
+
+-- the first line: the three numbers
+abbrev pub numbers_line : Numbers → List ℕ
+numbers_line n = codes "orders " ++ (decimal n.orders ++ (codes " open " ++ (decimal n.vacant ++ (codes " absent " ++ (decimal n.absent ++ 10 ∷ [])))))
+
+-- the name of a bay, and a colon
+abbrev pub bay_words : YardBay → List ℕ
+bay_words bay = codes "bay " ++ (bay.block ++ (32 ∷ (decimal bay.bay ++ codes ": ")))
+
+-- the relocations of the plan, if there is one
+abbrev pub upper_words : Option Route → List ℕ
+upper_words None = codes "none"
+upper_words (Some plan) = decimal (length plan.path)
+
+-- why the search ended
+abbrev pub cause_words : Cause → List ℕ
+cause_words cause.Budget = codes "budget"
+cause_words cause.Memory = codes "memory"
+
+-- an answer in words
+abbrev pub answer_words : Answer → List ℕ
+answer_words (answer.Optimal plan cert) = codes "optimal " ++ decimal (length plan.path)
+answer_words (answer.NoPlan cert) = codes "no plan"
+answer_words (answer.Between lower cert plan why) = codes "between " ++ (decimal lower ++ (codes " and " ++ (upper_words plan ++ (codes ", " ++ cause_words why))))
+
+-- the line of a bay
+abbrev pub answer_line : YardBay → Answer → List ℕ
+answer_line bay found = bay_words bay ++ (answer_words found ++ 10 ∷ [])
+
+-- the move lines of a plan: those of the complete plan with its path
+abbrev pub TellsPlan : List (List ℕ) → Route → List ℕ → Type 0
+TellsPlan names plan text = (moves : List Move) × IsPlan plan.problem moves × (path_of moves ≡ plan.path) × TellsMoves names (start plan.problem) moves text
+
+-- the move lines of a plan, if there is one
+abbrev pub TellsPlanIn : List (List ℕ) → Option Route → List ℕ → Type 0
+TellsPlanIn names None text = text ≡ []
+TellsPlanIn names (Some plan) text = TellsPlan names plan text
+
+-- the line of a bay, and then the move lines of its plan, if there is one
+abbrev pub TellsBay : Answered → List ℕ → Type 0
+TellsBay bay text = (lines : List ℕ) × TellsPlanIn bay.told.names (plan_in bay.answer) lines × (text ≡ answer_line bay.told.bay bay.answer ++ lines)
+
+-- the lines of bays, one bay after the other
+abbrev pub TellsBays : List Answered → List ℕ → Type 0
+TellsBays [] text = text ≡ []
+TellsBays (bay ∷ bays) text = (first : List ℕ) × (rest : List ℕ) × TellsBay bay first × TellsBays bays rest × (text ≡ first ++ rest)
+
+-- how many bays are optimal or without a plan
+abbrev pub decided : List Answered → ℕ
+decided answered = count_by (λ bay. is_decided (status_of bay.answer)) answered
+
+-- how many bays there are, and how many of them are decided
+abbrev pub bays_line : ℕ → ℕ → List ℕ
+bays_line bays decided = codes "bays " ++ (decimal bays ++ (codes " decided " ++ (decimal decided ++ 10 ∷ [])))
+
+-- the last line
+abbrev pub last_line : List Answered → List ℕ
+last_line answered = bays_line (length answered) (decided answered)
+
+-- the report: the three numbers, the bays, and how many there are
+abbrev pub IsReport : Numbers → List Answered → List ℕ → Type 0
+IsReport n answered text = (lines : List ℕ) × TellsBays answered lines × (text ≡ numbers_line n ++ (lines ++ last_line answered))
+
+-- the certificate of a bay
+abbrev pub certificate_of : Answered → List ℕ
+certificate_of bay = certificate_text bay.told.bay bay.told.problem (cert_of bay.answer) (plan_in bay.answer)
+
+-- the certificates, one for each bay, in the order of the report
+abbrev pub certificates_text : List Answered → List ℕ
+certificates_text answered = flat_map certificate_of answered
+
+-- the text of the yard as the plans leave it
+abbrev pub IsYardTextAfter : Inventory → List Answered → List ℕ → Type 0
+IsYardTextAfter yard answered text = (after : Inventory) × IsAfter yard (bay_plans answered) after × (text ≡ yard_text after)

@@ -1,0 +1,146 @@
+-- A run from the bytes of a yard list and of a message to a report, certificates and the yard after: what it saw, what it wrote, and what each
+-- fault tells.
+use Rattle.std.specs.Prelude.{◌≡◌, ◌≢◌, ℕ, List, length, Option, None, Some}
+use Rattle.std.specs.Io.KnownBytes.{Appends, Keeps}
+use Rattle.crp_plan.specs.Devices.{AppendsFront, HasFailed}
+use Rattle.edi_text.specs.Parts.{SegmentParts}
+use Rattle.edi_text.specs.Spelling.{Spells}
+use Rattle.edi_text.specs.FirstFault.{IsFirstFault}
+use Rattle.edi_text.specs.declared.fault.EdiFault.TheVariants as edi
+use Rattle.crp_movins.specs.LoadOrders.{LoadOrders, load_orders_of}
+use Rattle.crp_movins.specs.Faults.{first_fault}
+use Rattle.crp_movins.specs.declared.fault.MovinsFault.TheVariants as movins
+use Rattle.crp_yard.specs.Inventory.{Inventory}
+use Rattle.crp_yard.specs.Faults.{fault_of_text}
+use Rattle.crp_yard.specs.Reading.{IsGiven, IsYardList}
+use Rattle.crp_yard.specs.declared.fault.YardFault.TheVariants as yard_fault
+use Rattle.crp_order.specs.Sequences.{IsSequence}
+use Rattle.crp_order.specs.BayProblems.{problems_of, absent_of}
+use Rattle.crp_report.specs.declared.fault.Fault.{Fault}
+use Rattle.crp_report.specs.declared.fault.Fault.TheVariants as fault
+use Rattle.crp_report.specs.declared.fault.Input.{Input}
+use Rattle.crp_report.specs.declared.fault.Input.TheVariants as input
+use Rattle.crp_report.specs.declared.fault.Output.{Output}
+use Rattle.crp_report.specs.declared.fault.Output.TheVariants as output
+use Rattle.crp_report.specs.declared.status.Status.{Status}
+use Rattle.crp_report.specs.Answered.{Answered, AreTrueAnswers, status_of_all}
+use Rattle.crp_report.specs.Chosen.{RunChosen}
+use Rattle.crp_report.specs.Report.{Numbers, IsReport, certificates_text, IsYardTextAfter}
+
+-- what a call saw of a source: the bytes that it had, and its count of failures before and after
+pub record SourceSeen : Type 0 where
+  pub given : Option (List ℕ)
+  pub before : ℕ
+  pub after : ℕ
+
+-- what a call saw of a sink: what it held before and holds after, and its count of failures before and after
+pub record SinkSeen : Type 0 where
+  pub held : Option (List ℕ)
+  pub holds : Option (List ℕ)
+  pub before : ℕ
+  pub after : ℕ
+
+-- what a run saw of its two sources and three sinks
+pub record Seen : Type 0 where
+  pub yard : SourceSeen
+  pub movins : SourceSeen
+  pub report : SinkSeen
+  pub certificates : SinkSeen
+  pub yard_after : SinkSeen
+
+-- the text is a yard list, of bays of the chosen size
+abbrev pub IsListed : RunChosen → List ℕ → Inventory → Type 0
+IsListed chosen text yard = IsYardList chosen.rows chosen.tiers text yard
+
+-- the text is an interchange, and these are its load orders under the code
+pub record AreOrders (code text : List ℕ) (orders : LoadOrders) : Type 0 where
+  pub segments : List SegmentParts
+  pub spelled : Spells text segments
+  pub faultless : first_fault segments code ≡ None
+  pub orders_are : orders ≡ load_orders_of segments code
+
+-- the numbers of a yard, the load orders and their sequence
+abbrev pub numbers_of : Inventory → LoadOrders → List (List ℕ) → Numbers
+numbers_of yard orders sequence = record { orders = length orders.list; vacant = orders.vacant; absent = absent_of yard sequence }
+
+-- what a run makes of its input: the two texts that were read, what they say, an answer for each bay problem, and three texts
+pub record Made : Type 0 where
+  pub list : List ℕ
+  pub message : List ℕ
+  pub yard : Inventory
+  pub orders : LoadOrders
+  pub sequence : List (List ℕ)
+  pub answered : List Answered
+  pub report : List ℕ
+  pub certificates : List ℕ
+  pub yard_after : List ℕ
+
+-- the texts are those that the sources had, both are accepted, the answers are true, and one list of answers gives all three texts
+pub record IsMade (chosen : RunChosen) (s : Seen) (m : Made) : Type 0 where
+  pub given_list : IsGiven s.yard.given m.list
+  pub given_message : IsGiven s.movins.given m.message
+  pub listed : IsListed chosen m.list m.yard
+  pub ordered : AreOrders chosen.code m.message m.orders
+  pub in_sequence : IsSequence chosen.mode m.orders.list m.sequence
+  pub true_answers : AreTrueAnswers chosen.search.budget (problems_of m.yard m.sequence) m.answered
+  pub report : IsReport (numbers_of m.yard m.orders m.sequence) m.answered m.report
+  pub certificates : m.certificates ≡ certificates_text m.answered
+  pub yard_after : IsYardTextAfter m.yard m.answered m.yard_after
+
+-- the sink got this text, and nothing else
+abbrev pub Gets : SinkSeen → List ℕ → Type 0
+Gets s text = Appends s.held s.holds text
+
+-- the sink got a front of this text, and nothing else
+abbrev pub GetsFront : SinkSeen → List ℕ → Type 0
+GetsFront s text = AppendsFront s.held s.holds text
+
+-- the sink got nothing
+abbrev pub GetsNothing : SinkSeen → Type 0
+GetsNothing s = Keeps s.held s.holds
+
+-- each sink got its text, and the status says how the searches ended together
+abbrev pub Writes : RunChosen → Seen → Status → Type 0
+Writes chosen s status = (m : Made) × IsMade chosen s m × (status ≡ status_of_all m.answered)
+    × Gets s.report m.report × Gets s.certificates m.certificates × Gets s.yard_after m.yard_after
+
+-- each sink got a front of its text
+abbrev pub WritesFronts : RunChosen → Seen → Type 0
+WritesFronts chosen s = (m : Made) × IsMade chosen s m
+    × GetsFront s.report m.report × GetsFront s.certificates m.certificates × GetsFront s.yard_after m.yard_after
+
+-- no sink got anything
+abbrev pub WritesNothing : Seen → Type 0
+WritesNothing s = GetsNothing s.report × GetsNothing s.certificates × GetsNothing s.yard_after
+
+-- the yard list that the source had is accepted
+abbrev pub IsYardAccepted : RunChosen → Seen → Type 0
+IsYardAccepted chosen s = (text : List ℕ) × (yard : Inventory) × IsGiven s.yard.given text × IsListed chosen text yard
+
+-- what was seen of a source, and of a sink
+abbrev pub source_of : Seen → Input → SourceSeen
+source_of s input.Yard = s.yard
+source_of s input.Movins = s.movins
+
+abbrev pub sink_of : Seen → Output → SinkSeen
+sink_of s output.Report = s.report
+sink_of s output.Certificates = s.certificates
+sink_of s output.YardAfter = s.yard_after
+
+-- before the message is looked at the yard list is accepted
+abbrev pub IsReached : RunChosen → Seen → Input → Type 0
+IsReached chosen s input.Yard = Unit {0}
+IsReached chosen s input.Movins = IsYardAccepted chosen s
+
+-- what a fault tells: the first fault of the yard list; where that has none, the first fault of the interchange or of its message; a read or a
+-- write that has failed in this call; or want of memory. Something may have been written only where a write failed: fronts of the three texts.
+abbrev pub Tells : RunChosen → Seen → Fault → Type 0
+Tells chosen s (fault.Yard f) = WritesNothing s × (f ≢ yard_fault.Read) × (f ≢ yard_fault.Memory)
+    × ((text : List ℕ) × IsGiven s.yard.given text × (fault_of_text chosen.rows chosen.tiers text ≡ Some f))
+Tells chosen s (fault.Interchange f) = WritesNothing s × (f ≢ edi.Memory) × IsYardAccepted chosen s
+    × ((text : List ℕ) × IsGiven s.movins.given text × IsFirstFault text f)
+Tells chosen s (fault.Message f) = WritesNothing s × (f ≢ movins.Memory) × IsYardAccepted chosen s
+    × ((text : List ℕ) × (segments : List SegmentParts) × IsGiven s.movins.given text × Spells text segments × (first_fault segments chosen.code ≡ Some f))
+Tells chosen s (fault.Read source) = WritesNothing s × IsReached chosen s source × HasFailed (source_of s source).before (source_of s source).after
+Tells chosen s (fault.Write sink) = WritesFronts chosen s × HasFailed (sink_of s sink).before (sink_of s sink).after
+Tells chosen s fault.Memory = WritesNothing s

@@ -1,0 +1,97 @@
+-- How a run tells what went wrong in a layer below, and the texts that it keeps of a bay. Only private clauses speak of it.
+use Rattle.std.specs.Prelude.{◌≡◌, ◌≢◌, ℕ, List, [], ◌∷◌, Option, Some, ⊤}
+use Rattle.crp_plan.specs.Devices.{HasFailed}
+use Rattle.crp_yard.specs.declared.fault.YardFault.{YardFault}
+use Rattle.crp_yard.specs.declared.fault.YardFault.TheVariants as yard_fault
+use Rattle.crp_yard.specs.Reading.{IsGiven}
+use Rattle.crp_yard.specs.Faults.{fault_of_text}
+use Rattle.edi_text.specs.Parts.{SegmentParts}
+use Rattle.edi_text.specs.Spelling.{Spells}
+use Rattle.edi_text.specs.FirstFault.{IsFirstFault}
+use Rattle.edi_text.specs.declared.fault.EdiFault.{EdiFault}
+use Rattle.edi_text.specs.declared.fault.EdiFault.TheVariants as edi
+use Rattle.crp_movins.specs.Faults.{first_fault}
+use Rattle.crp_movins.specs.declared.fault.MovinsFault.{MovinsFault}
+use Rattle.crp_movins.specs.declared.fault.MovinsFault.TheVariants as movins
+use Rattle.crp_report.specs.declared.fault.Fault.{Fault}
+use Rattle.crp_report.specs.declared.fault.Fault.TheVariants as fault
+use Rattle.crp_report.specs.declared.fault.Input.TheVariants as input
+use Rattle.crp_report.specs.declared.telling.ToldBay.{ToldBay}
+use Rattle.crp_report.specs.declared.writing.Texts.{Texts}
+use Rattle.crp_yard.specs.Inventory.{Inventory}
+use Rattle.crp_movins.specs.LoadOrders.{LoadOrders}
+use Rattle.crp_order.specs.Sequences.{IsSequence}
+use Rattle.crp_order.specs.BayProblems.{problems_of}
+use Rattle.crp_report.specs.Chosen.{RunChosen}
+use Rattle.crp_report.specs.Runs.{numbers_of}
+use Rattle.crp_report.specs.Answered.{Answered, AreTrueAnswers, status_of, status_of_all}
+use Rattle.crp_report.specs.Report.{TellsBay, certificate_of, numbers_line, last_line, IsYardTextAfter}
+
+-- the fault of a yard list, of an interchange and of a message, as a run tells it
+abbrev pub yard_told : YardFault → Fault
+yard_told yard_fault.Read = fault.Read input.Yard
+yard_told yard_fault.Memory = fault.Memory
+yard_told f = fault.Yard f
+
+abbrev pub interchange_told : EdiFault → Fault
+interchange_told edi.Memory = fault.Memory
+interchange_told f = fault.Interchange f
+
+abbrev pub message_told : MovinsFault → Fault
+message_told movins.Memory = fault.Memory
+message_told f = fault.Message f
+
+-- why no yard was read of a source that had these bytes, with its count of failures before and after
+abbrev pub IsNoYard : ℕ → ℕ → Option (List ℕ) → ℕ → ℕ → Fault → Type 0
+IsNoYard rows tiers given before after (fault.Yard f) = (f ≢ yard_fault.Read) × (f ≢ yard_fault.Memory)
+    × ((text : List ℕ) × IsGiven given text × (fault_of_text rows tiers text ≡ Some f))
+IsNoYard rows tiers given before after (fault.Read input.Yard) = HasFailed before after
+IsNoYard rows tiers given before after (fault.Read input.Movins) = ⊥
+IsNoYard rows tiers given before after fault.Memory = Unit {0}
+IsNoYard rows tiers given before after (fault.Interchange f) = ⊥
+IsNoYard rows tiers given before after (fault.Message f) = ⊥
+IsNoYard rows tiers given before after (fault.Write sink) = ⊥
+
+-- why this text gives no load orders under this code
+abbrev pub IsNoOrders : List ℕ → List ℕ → Fault → Type 0
+IsNoOrders code text (fault.Interchange f) = (f ≢ edi.Memory) × IsFirstFault text f
+IsNoOrders code text (fault.Message f) = (f ≢ movins.Memory) × ((segments : List SegmentParts) × Spells text segments × (first_fault segments code ≡ Some f))
+IsNoOrders code text fault.Memory = Unit {0}
+IsNoOrders code text (fault.Yard f) = ⊥
+IsNoOrders code text (fault.Read source) = ⊥
+IsNoOrders code text (fault.Write sink) = ⊥
+
+-- why no load orders were read of a source that had these bytes, with its count of failures before and after
+abbrev pub IsNoMessage : List ℕ → Option (List ℕ) → ℕ → ℕ → Fault → Type 0
+IsNoMessage code given before after (fault.Interchange f) = (text : List ℕ) × IsGiven given text × IsNoOrders code text (fault.Interchange f)
+IsNoMessage code given before after (fault.Message f) = (text : List ℕ) × IsGiven given text × IsNoOrders code text (fault.Message f)
+IsNoMessage code given before after (fault.Read input.Movins) = HasFailed before after
+IsNoMessage code given before after (fault.Read input.Yard) = ⊥
+IsNoMessage code given before after fault.Memory = Unit {0}
+IsNoMessage code given before after (fault.Yard f) = ⊥
+IsNoMessage code given before after (fault.Write sink) = ⊥
+
+-- these are the texts of an answered bay, and how its search ended
+pub record IsTold (bay : Answered) (t : ToldBay) : Type 0 where
+  pub report : TellsBay bay t.report.items
+  pub certificate : t.certificate.items ≡ certificate_of bay
+  pub status : t.status ≡ status_of bay.answer
+
+-- so it is with each bay
+abbrev pub AreTold : List Answered → List ToldBay → Type 0
+AreTold [] [] = ⊤
+AreTold [] (t ∷ all) = ⊥
+AreTold (bay ∷ bays) [] = ⊥
+AreTold (bay ∷ bays) (t ∷ all) = IsTold bay t × AreTold bays all
+
+-- one list of true answers gives all texts of a yard and its load orders
+pub record AreTextsOf (chosen : RunChosen) (yard : Inventory) (orders : LoadOrders) (t : Texts) : Type 0 where
+  pub sequence : List (List ℕ)
+  pub answered : List Answered
+  pub in_sequence : IsSequence chosen.mode orders.list sequence
+  pub true_answers : AreTrueAnswers chosen.search.budget (problems_of yard sequence) answered
+  pub first : t.first.items ≡ numbers_line (numbers_of yard orders sequence)
+  pub bays : AreTold answered t.bays.items
+  pub last : t.last.items ≡ last_line answered
+  pub yard_after : IsYardTextAfter yard answered t.yard_after.items
+  pub status : t.status ≡ status_of_all answered

@@ -1,0 +1,46 @@
+//! Answers to the problems of bays.
+ghost use Rattle.std.specs.Prelude.{◌≡◌, IfOk};
+ghost use Rattle.crp_cert.specs.Writing.{certificate_text};
+ghost use Rattle.crp_solve.specs.Answers.{cert_of};
+ghost use Rattle.crp_report.specs.Answered.{plan_in, status_of};
+
+use crate::status::Status;
+use crp_cert::cert_text;
+use crp_plan::{BayName, Problem};
+use crp_solve::{Answer, Cause};
+use std::alloc::{AllocError, Global};
+
+/// How a search ended.
+pub fn status_of(answer: &Answer) -> Status
+    ensures { result ≡ status_of answer.now }
+{
+    match answer {
+        Answer::Optimal { .. } | Answer::NoPlan { .. } => Status::Decided,
+        Answer::Between {
+            cause: Cause::Budget,
+            ..
+        } => Status::Budget,
+        Answer::Between {
+            cause: Cause::Memory,
+            ..
+        } => Status::Memory,
+    }
+}
+
+/// The text of the certificate of an answer to a problem, under the name of a bay.
+pub fn certificate_of(
+    alloc: Global,
+    bay: &BayName,
+    problem: &Problem,
+    answer: &Answer,
+) -> Result<Vec<u8>, AllocError>
+    ensures { IfOk result (λ text. text.items ≡ certificate_text bay.now problem.now (cert_of answer.now) (plan_in answer.now)) }
+{
+    match answer {
+        Answer::Optimal { plan, cert } => cert_text(alloc, bay, problem, cert, Some(plan)),
+        Answer::NoPlan { cert } => cert_text(alloc, bay, problem, cert, None),
+        Answer::Between { cert, plan, .. } => {
+            cert_text(alloc, bay, problem, cert, plan.as_ref())
+        }
+    }
+}

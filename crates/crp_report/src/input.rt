@@ -1,0 +1,72 @@
+//! What a run reads.
+ghost use Rattle.std.specs.Prelude.{ℕ, ◌≤◌, List, IfOk, IfErr};
+ghost use Rattle.crp_yard.specs.Reading.{IsGiven, IsYardList};
+ghost use Rattle.crp_report.specs.Runs.{AreOrders};
+ghost use Rattle.crp_report.specs.Telling.{IsNoYard, IsNoOrders, IsNoMessage};
+
+use crate::fault::{Fault, Input};
+use crp_movins::{Orders, load_orders};
+use crp_plan::{ReadFault, Source, read_all};
+use crp_yard::{MAX_BYTES, Yard, YardFault, yard_of};
+use edi_text::{EdiFault, MAX_TEXT, read_segments};
+use std::alloc::Global;
+
+/// The yard that the bytes of a source list, of bays with so many rows and tiers.
+pub(crate) fn yard_from<Y: Source>(
+    alloc: Global,
+    source: &mut Y,
+    rows: u8,
+    tiers: u8,
+    interruptions: &mut u32,
+) -> Result<Yard, Fault>
+    requires some_rows { 1 ≤ rows }
+    requires few_rows { rows ≤ 12 }
+    requires some_tiers { 1 ≤ tiers }
+    requires few_tiers { tiers ≤ 8 }
+    requires passed { interruptions.old ≤ 1000 }
+    ensures accepted { IfOk result (λ yard. (text : List ℕ) × IsGiven (Y.remaining source.old) text × IsYardList rows tiers text yard) }
+    ensures refused { IfErr result (IsNoYard rows tiers (Y.remaining source.old) (Y.failures source.old) (Y.failures source.new)) }
+    ensures passed { interruptions.new ≤ 1000 }
+{
+    let text = match read_all(alloc, source, MAX_BYTES, interruptions) {
+        Ok(text) => text,
+        Err(ReadFault::Failed) => return Err(Fault::Read(Input::Yard)),
+        Err(ReadFault::TooLarge) => return Err(Fault::Yard(YardFault::TooLarge)),
+        Err(ReadFault::Memory) => return Err(Fault::Memory),
+    };
+    let yard = yard_of(alloc, &text, rows, tiers)?;
+    Ok(yard)
+}
+
+// The load orders of an interchange under this handling code.
+fn orders_of(alloc: Global, text: &[u8], code: &[u8]) -> Result<Orders, Fault>
+    ensures accepted { IfOk result (AreOrders code.now text.now) }
+    ensures refused { IfErr result (IsNoOrders code.now text.now) }
+{
+    let segments = read_segments(alloc, text)?;
+    let orders = load_orders(alloc, &segments, code)?;
+    Ok(orders)
+}
+
+/// The load orders that the bytes of a source tell under this handling code.
+pub(crate) fn orders_from<M: Source>(
+    alloc: Global,
+    source: &mut M,
+    code: &[u8],
+    interruptions: &mut u32,
+) -> Result<Orders, Fault>
+    requires { interruptions.old ≤ 1000 }
+    ensures accepted { IfOk result (λ orders. (text : List ℕ) × IsGiven (M.remaining source.old) text × AreOrders code.now text orders) }
+    ensures refused { IfErr result (IsNoMessage code.now (M.remaining source.old) (M.failures source.old) (M.failures source.new)) }
+    ensures passed { interruptions.new ≤ 1000 }
+{
+    let text = match read_all(alloc, source, MAX_TEXT, interruptions) {
+        Ok(text) => text,
+        Err(ReadFault::Failed) => return Err(Fault::Read(Input::Movins)),
+        Err(ReadFault::TooLarge) => {
+            return Err(Fault::Interchange(EdiFault::TooLong { offset: MAX_TEXT }));
+        }
+        Err(ReadFault::Memory) => return Err(Fault::Memory),
+    };
+    orders_of(alloc, &text, code)
+}

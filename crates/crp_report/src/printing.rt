@@ -1,0 +1,33 @@
+//! The moves of one plan.
+ghost use Rattle.std.specs.Prelude.{◌≡◌, length, map, MatchResult};
+ghost use Rattle.crp_plan.specs.Rows.{total};
+ghost use Rattle.crp_report.specs.Printing.{WritesMoves, TellsOfMoves};
+ghost use Rattle.crp_report.specs.Runs.{SinkSeen};
+
+use crate::fault::{Fault, Output};
+use crate::lines::plan_lines;
+use crp_plan::{Plan, Sink, write_all};
+use std::alloc::Global;
+
+/// Writes the move lines of a plan to a sink, with a name for each rank. An interrupted call is tried again, at most 1,000 times.
+pub fn print_moves<W: Sink>(
+    alloc: Global,
+    sink: &mut W,
+    plan: &Plan,
+    names: &[Vec<u8>],
+) -> Result<(), Fault>
+    requires { length names.now ≡ total plan.now.problem.stacks }
+    ensures { let seen : SinkSeen = record {
+      held = W.contents sink.old;
+      holds = W.contents sink.new;
+      before = W.failures sink.old;
+      after = W.failures sink.new;
+    } in MatchResult result (λ _. WritesMoves (map (λ name. name.items) names.now) plan.now seen) (TellsOfMoves (map (λ name. name.items) names.now) plan.now seen) }
+{
+    let lines = plan_lines(alloc, plan, names)?;
+    let mut interruptions = 0;
+    match write_all(sink, &lines, &mut interruptions) {
+        Ok(()) => Ok(()),
+        Err(_) => Err(Fault::Write(Output::Report)),
+    }
+}

@@ -1,0 +1,92 @@
+//! A run from a yard list and a message to the report, the certificates and the yard after.
+ghost use Rattle.std.specs.Prelude.{◌≡◌, IfOk, MatchResult};
+ghost use Rattle.crp_yard.specs.Inventory.{IsYard};
+ghost use Rattle.crp_report.specs.Runs.{Seen, Writes, Tells};
+ghost use Rattle.crp_report.specs.Telling.{AreTextsOf};
+
+use crate::endings::{decided, status_of_all};
+use crate::fault::Fault;
+use crate::input::{orders_from, yard_from};
+use crate::lines::{last_text, numbers_text};
+use crate::numbers::Counts;
+use crate::settings::RunSettings;
+use crate::status::Status;
+use crate::telling::told_bays;
+use crate::writing::{Texts, write_texts};
+use crp_movins::Orders;
+use crp_order::{absent, problems, sequence};
+use crp_plan::{Sink, Source};
+use crp_yard::{Yard, after, yard_text};
+use std::alloc::{AllocError, Global};
+use std::sync::Wait;
+use std::thread::Threads;
+
+// Answers the problems of the bays, and makes the texts of the run.
+fn texts_of<T: Threads + Wait + Sync>(
+    rt: &T,
+    alloc: Global,
+    yard: &Yard,
+    orders: Orders,
+    settings: &RunSettings,
+) -> Result<Texts, AllocError>
+    ensures { IfOk result (AreTextsOf settings.now yard.now orders) }
+{
+    let (listed, vacant) = (orders.list().len(), orders.vacant());
+    let sequence = sequence(alloc, orders, settings.mode())?;
+    let counts = Counts {
+        orders: listed,
+        vacant,
+        absent: absent(yard, &sequence),
+    };
+    let first = numbers_text(alloc, counts)?;
+    let problems = problems(alloc, yard, &sequence)?;
+    let told = told_bays(rt, alloc, problems, settings.search())?;
+    let after = after(alloc, yard, &told.plans)?;
+    let yard_after = yard_text(alloc, &after)?;
+    let status = status_of_all(&told.bays);
+    let last = last_text(alloc, told.bays.len(), decided(&told.bays))?;
+    Ok(Texts {
+        first,
+        bays: told.bays,
+        last,
+        yard_after,
+        status,
+    })
+}
+
+/// Reads a yard list and a message with load orders, answers the problem of each bay from which an ordered container leaves,
+/// and writes the report, the certificates and the yard list after the plans. A text that is not wanted goes to `Nowhere`.
+///
+/// All input is read and accepted, and all bays are answered, before a byte is written. An interrupted call is tried again, at
+/// most 1,000 times in one run.
+pub fn run<T: Threads + Wait + Sync, Y: Source, M: Source, W: Sink, C: Sink, A: Sink>(
+    rt: &T,
+    alloc: Global,
+    yard: &mut Y,
+    movins: &mut M,
+    settings: &RunSettings,
+    out: &mut W,
+    cert_out: &mut C,
+    after_out: &mut A,
+) -> Result<Status, Fault>
+    ensures { let seen : Seen = record {
+      yard = record { given = Y.remaining yard.old; before = Y.failures yard.old; after = Y.failures yard.new };
+      movins = record { given = M.remaining movins.old; before = M.failures movins.old; after = M.failures movins.new };
+      report = record { held = W.contents out.old; holds = W.contents out.new; before = W.failures out.old; after = W.failures out.new };
+      certificates = record { held = C.contents cert_out.old; holds = C.contents cert_out.new; before = C.failures cert_out.old; after = C.failures cert_out.new };
+      yard_after = record { held = A.contents after_out.old; holds = A.contents after_out.new; before = A.failures after_out.old; after = A.failures after_out.new };
+    } in MatchResult result (Writes settings.now seen) (Tells settings.now seen) }
+{
+    let mut interruptions = 0;
+    let listed = yard_from(
+        alloc,
+        yard,
+        settings.rows(),
+        settings.tiers(),
+        &mut interruptions,
+    )?;
+    let orders = orders_from(alloc, movins, settings.code(), &mut interruptions)?;
+    let texts = texts_of(rt, alloc, &listed, orders, settings)?;
+    write_texts(out, cert_out, after_out, &texts, &mut interruptions)?;
+    Ok(texts.status)
+}

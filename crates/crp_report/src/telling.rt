@@ -1,0 +1,133 @@
+//! What is told of each bay.
+ghost use Rattle.std.specs.Prelude.{◌≡◌, ℕ, List, [], ◌∷◌, ◌++◌, IfOk, OnOk, map, option_to_list};
+ghost use Rattle.crp_report.specs.Answered.{Answered, AreTrueAnswers, bay_plan_in, bay_plans};
+ghost use Rattle.crp_report.specs.Report.{TellsBay};
+ghost use Rattle.crp_report.specs.Telling.{IsTold, AreTold};
+
+use crate::answers::{certificate_of, status_of};
+use crate::lines::{answer_lines, push_answer_line};
+use crate::status::Status;
+use crp_order::BayProblem;
+use crp_solve::{Answer, Settings, solve_alone};
+use crp_yard::{BayPlan, Container};
+use std::alloc::{AllocError, Global};
+use std::sync::Wait;
+use std::thread::Threads;
+
+/// What is told of a bay.
+#[derive(Drop)]
+pub(crate) struct ToldBay {
+    /// Its lines of the report.
+    pub report: Vec<u8>,
+    /// Its certificate.
+    pub certificate: Vec<u8>,
+    /// How its search ended.
+    pub status: Status,
+}
+
+/// What is told of each bay, and the plans of the bays that have one.
+#[derive(Drop)]
+pub(crate) struct ToldBays {
+    /// What is told.
+    pub bays: Vec<ToldBay>,
+    /// The plans.
+    pub plans: Vec<BayPlan>,
+}
+
+impl ToldBays {
+    // One bay more.
+    fn push(&mut self, bay: ToldBay, plan: Option<BayPlan>) -> Result<(), AllocError>
+        ensures bays { OnOk result (self.new.bays.items ≡ self.old.bays.items ++ bay ∷ []) }
+        ensures plans { OnOk result (self.new.plans.items ≡ self.old.plans.items ++ option_to_list plan) }
+    {
+        self.bays.push(bay)?;
+        if let Some(plan) = plan {
+            self.plans.push(plan)?;
+        }
+        Ok(())
+    }
+}
+
+// The names of containers.
+fn bytes_of(alloc: Global, containers: &[Container]) -> Result<Vec<Vec<u8>>, AllocError>
+    ensures { IfOk result (λ names. map (λ name. name.items) names.items ≡ containers.now) }
+{
+    let mut names = Vec::new(alloc);
+    for container in containers {
+        names.push(Vec::from_slice(alloc, container.bytes())?)?;
+    }
+    Ok(names)
+}
+
+// The lines of a bay.
+fn bay_lines(alloc: Global, bay: &BayProblem, answer: &Answer) -> Result<Vec<u8>, AllocError>
+    ensures { IfOk result (λ text. (expanded : ℕ) → TellsBay (record { told = bay.now; answer = answer.now; expanded = expanded }) text.items) }
+{
+    let names = bytes_of(alloc, bay.names.list())?;
+    let lines = answer_lines(alloc, answer, &names)?;
+    let mut text = Vec::new(alloc);
+    push_answer_line(&mut text, &bay.bay, answer)?;
+    text.extend_from_slice(&lines)?;
+    Ok(text)
+}
+
+// The plan of a bay, if there is one.
+fn bay_plan(bay: BayProblem, answer: Answer) -> Option<BayPlan>
+    ensures { (expanded : ℕ) → result ≡ bay_plan_in (record { told = bay; answer = answer; expanded = expanded }) }
+{
+    let plan = match answer {
+        Answer::Optimal { plan, cert: _cert } => Some(plan),
+        Answer::NoPlan { cert: _cert } => None,
+        Answer::Between {
+            plan,
+            lower: _,
+            cert: _cert,
+            cause: _,
+        } => plan,
+    };
+    let BayProblem {
+        bay,
+        problem: _,
+        names,
+    } = bay;
+    match plan {
+        Some(plan) => Some(BayPlan { bay, plan, names }),
+        None => None,
+    }
+}
+
+// Tells the answer to the problem of a bay.
+fn told_bay(alloc: Global, bay: &BayProblem, answer: &Answer) -> Result<ToldBay, AllocError>
+    ensures { IfOk result (λ told. (expanded : ℕ) → IsTold (record { told = bay.now; answer = answer.now; expanded = expanded }) told) }
+{
+    let report = bay_lines(alloc, bay, answer)?;
+    let certificate = certificate_of(alloc, &bay.bay, &bay.problem, answer)?;
+    let status = status_of(answer);
+    Ok(ToldBay {
+        report,
+        certificate,
+        status,
+    })
+}
+
+/// Answers the problem of each bay, and tells the answers.
+pub(crate) fn told_bays<T: Threads + Wait + Sync>(
+    _rt: &T,
+    alloc: Global,
+    problems: Vec<BayProblem>,
+    settings: Settings,
+) -> Result<ToldBays, AllocError>
+    ensures { IfOk result (λ told. (answered : List Answered) × AreTrueAnswers settings.budget problems.items answered
+        × AreTold answered told.bays.items × (told.plans.items ≡ bay_plans answered)) }
+{
+    let mut told = ToldBays {
+        bays: Vec::new(alloc),
+        plans: Vec::new(alloc),
+    };
+    for bay in problems {
+        let solved = solve_alone(alloc, &bay.problem, settings)?;
+        let lines = told_bay(alloc, &bay, &solved.answer)?;
+        told.push(lines, bay_plan(bay, solved.answer))?;
+    }
+    Ok(told)
+}
