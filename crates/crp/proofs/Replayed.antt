@@ -9,7 +9,8 @@ use Rattle.crp_cert.specs.Text.{IsHeadOf}
 use Rattle.crp_cert.specs.Writing.{certificate_text}
 use Rattle.crp_solve.specs.declared.answer.Answer.{Answer}
 use Rattle.crp_solve.specs.Answers.{IsTrueAnswer, cert_of}
-use Rattle.crp.specs.Prove.{IsProofOf, plan_in}
+use Rattle.crp.specs.Prove.{IsProofOf}
+use Rattle.crp_report.specs.Answered.{plan_in}
 use Rattle.crp.specs.declared.outcome.ToolFault.{ToolFault}
 use Rattle.crp.specs.declared.outcome.ToolFault.TheVariants as fault
 use Rattle.crp.specs.Calls.{Seen, IsGiven, IsNoHead, Tells, cert_told}
@@ -45,6 +46,7 @@ no_head_told limit IsReport IsRefused seen fault.Write keeps refuses none = absu
 no_head_told limit IsReport IsRefused seen fault.TooLarge keeps refuses none = (keeps, none)
 no_head_told limit IsReport IsRefused seen fault.Memory keeps refuses none = keeps
 no_head_told limit IsReport IsRefused seen (fault.Checked number why) keeps refuses none = absurd none
+no_head_told limit IsReport IsRefused seen (fault.Run f) keeps refuses none = absurd none
 
 -- a replay without a report tells why, where nothing was written
 pub no_report_told : (limit : ℕ) (seen : Seen) (bytes : List ℕ) (head : Head) (f : ToolFault) → Keeps seen.held seen.holds → IsGiven limit seen.given bytes → IsHeadOf bytes head → IsNoReport head f →
@@ -56,6 +58,7 @@ no_report_told limit seen bytes head fault.Write keeps given is none = absurd no
 no_report_told limit seen bytes head fault.TooLarge keeps given is none = absurd none
 no_report_told limit seen bytes head fault.Memory keeps given is none = keeps
 no_report_told limit seen bytes head (fault.Checked number why) keeps given is none = absurd none
+no_report_told limit seen bytes head (fault.Run f) keeps given is none = absurd none
 
 -- the certificate of a true answer, as it was made and as it is written
 pub proof_of : (budget expanded : ℕ) (head : Head) (found : Answer) (made written : List ℕ) → IsTrueAnswer head.problem budget found expanded →

@@ -28,4 +28,5 @@ IsNoBound bytes fault.Read = ⊥
 IsNoBound bytes fault.Write = ⊥
 IsNoBound bytes fault.TooLarge = ⊥
 IsNoBound bytes (fault.Checked number why) = ⊥
+IsNoBound bytes (fault.Run f) = ⊥
 IsNoBound bytes fault.Memory = ⊥

@@ -7,8 +7,9 @@ use Rattle.crp_plan.specs.declared.transfer.ReadFault.TheVariants as reading
 use Rattle.crp_cert.specs.declared.fault.CertFault.{CertFault}
 use Rattle.crp_cert.specs.declared.fault.CertFault.TheVariants as cert
 use Rattle.crp_cert.specs.Faults.{IsFirstFault}
-use Rattle.crp.specs.declared.outcome.Status.{Status}
-use Rattle.crp.specs.declared.outcome.Status.TheVariants as status
+use Rattle.crp_report.specs.declared.fault.Fault.TheVariants as run
+use Rattle.crp_report.specs.declared.status.Status.{Status}
+use Rattle.crp_report.specs.declared.status.Status.TheVariants as status
 use Rattle.crp.specs.declared.outcome.ToolFault.{ToolFault}
 use Rattle.crp.specs.declared.outcome.ToolFault.TheVariants as fault
 
@@ -46,6 +47,7 @@ Tells limit IsReport IsRefused s fault.Write = HasFailed s.sink_before s.sink_af
 Tells limit IsReport IsRefused s fault.TooLarge = Keeps s.held s.holds × IfSome s.given (λ xs. limit < length xs)
 Tells limit IsReport IsRefused s fault.Memory = Keeps s.held s.holds
 Tells limit IsReport IsRefused s (fault.Checked number why) = ⊥
+Tells limit IsReport IsRefused s (fault.Run f) = ⊥
 
 -- why no head was read from a source: its bytes begin with none, it has failed in this call, it has more bytes than the limit, or memory
 -- is wanted
@@ -57,6 +59,7 @@ IsNoHead limit given before after fault.Memory = Unit {0}
 IsNoHead limit given before after (fault.Plan f) = ⊥
 IsNoHead limit given before after fault.Write = ⊥
 IsNoHead limit given before after (fault.Checked number why) = ⊥
+IsNoHead limit given before after (fault.Run f) = ⊥
 
 -- how a command tells what went wrong in a layer below
 abbrev pub read_told : ReadFault → ToolFault
@@ -78,6 +81,12 @@ exit_code (Err fault.TooLarge) = 3
 exit_code (Err fault.Memory) = 4
 exit_code (Err fault.Read) = 5
 exit_code (Err fault.Write) = 5
+exit_code (Err (fault.Run (run.Yard f))) = 3
+exit_code (Err (fault.Run (run.Interchange f))) = 3
+exit_code (Err (fault.Run (run.Message f))) = 3
+exit_code (Err (fault.Run (run.Read input))) = 5
+exit_code (Err (fault.Run (run.Write output))) = 5
+exit_code (Err (fault.Run run.Memory)) = 4
 exit_code (Err (fault.Cert f)) = 6
 exit_code (Err (fault.Plan f)) = 6
 exit_code (Err (fault.Checked number why)) = 6

@@ -11,6 +11,7 @@ use Rattle.crp_checker.specs.declared.refused.Refused.TheVariants as refused
 use Rattle.crp_checker.specs.Files.{FileShows, IsFileRefusal}
 use Rattle.crp.specs.declared.outcome.ToolFault.{ToolFault}
 use Rattle.crp.specs.declared.outcome.ToolFault.TheVariants as fault
+use Rattle.crp_report.specs.Report.{bay_words}
 use Rattle.crp.specs.Calls.{Seen, IsGiven}
 
 -- the relocations of the plan, if there is one
@@ -23,10 +24,6 @@ abbrev pub verdict_words : Verdict → List ℕ
 verdict_words (verdict.Optimal count) = codes "optimal " ++ decimal count
 verdict_words verdict.NoPlan = codes "no plan"
 verdict_words (verdict.Bounds lower upper) = codes "at least " ++ (decimal lower ++ plan_words upper)
-
--- the name of a bay, and a colon
-abbrev pub bay_words : YardBay → List ℕ
-bay_words bay = codes "bay " ++ (bay.block ++ (32 ∷ (decimal bay.bay ++ codes ": ")))
 
 -- the line of a certificate: its bay, and what it shows
 abbrev pub verdict_line : (YardBay × Verdict) → List ℕ
@@ -65,6 +62,7 @@ TellsOfCheck limit s fault.TooLarge = Keeps s.held s.holds × IfSome s.given (λ
 TellsOfCheck limit s fault.Memory = Keeps s.held s.holds ⊎ ((number : ℕ) × WritesBefore limit s number refused.Memory)
 TellsOfCheck limit s (fault.Cert f) = ⊥
 TellsOfCheck limit s (fault.Plan f) = ⊥
+TellsOfCheck limit s (fault.Run f) = ⊥
 
 -- how the refusal of a certificate is told
 abbrev pub refusal_told : ℕ → Refused → ToolFault

@@ -6,3 +6,4 @@ pub mod Commands
 pub mod Words
 pub mod Prove
 pub mod Check
+pub mod Chosen

@@ -1,36 +1,15 @@
 -- What `prove` writes: a certificate of the problem that a head tells, with a true answer to it.
-use Rattle.std.specs.Prelude.{◌≡◌, ℕ, List, Option, Some, None}
-use Rattle.crp_plan.specs.Plans.{Route}
+use Rattle.std.specs.Prelude.{◌≡◌, ℕ, List}
 use Rattle.crp_cert.specs.declared.head.Head.{Head}
 use Rattle.crp_cert.specs.Text.{IsHeadOf}
 use Rattle.crp_cert.specs.Faults.{IsFirstFault}
 use Rattle.crp_cert.specs.Writing.{certificate_text}
 use Rattle.crp_solve.specs.declared.answer.Answer.{Answer}
-use Rattle.crp_solve.specs.declared.answer.Answer.TheVariants as answer
-use Rattle.crp_solve.specs.declared.answer.Cause.{Cause}
-use Rattle.crp_solve.specs.declared.answer.Cause.TheVariants as cause
 use Rattle.crp_solve.specs.Answers.{IsTrueAnswer, cert_of}
-use Rattle.crp.specs.declared.outcome.Status.{Status}
-use Rattle.crp.specs.declared.outcome.Status.TheVariants as status
+use Rattle.crp_report.specs.declared.status.Status.{Status}
+use Rattle.crp_report.specs.Answered.{plan_in, status_of}
 use Rattle.crp.specs.declared.outcome.ToolFault.{ToolFault}
 use Rattle.crp.specs.declared.outcome.ToolFault.TheVariants as fault
-
--- the plan that the answer gives, if it gives one
-abbrev pub plan_in : Answer → Option Route
-plan_in (answer.Optimal plan cert) = Some plan
-plan_in (answer.NoPlan cert) = None
-plan_in (answer.Between lower cert plan why) = plan
-
--- how a search ended that left the problem open
-abbrev pub status_by : Cause → Status
-status_by cause.Budget = status.Budget
-status_by cause.Memory = status.Memory
-
--- how the search ended
-abbrev pub status_of : Answer → Status
-status_of (answer.Optimal plan cert) = status.Decided
-status_of (answer.NoPlan cert) = status.Decided
-status_of (answer.Between lower cert plan why) = status_by why
 
 -- the certificate of a true answer, for a budget, to the problem that the head tells, under the name of its bay
 abbrev pub IsProofOf : ℕ → Head → Answer → List ℕ → Type 0

@@ -38,6 +38,7 @@ IsNoReport head (fault.Cert f) = ⊥
 IsNoReport head fault.Read = ⊥
 IsNoReport head fault.Write = ⊥
 IsNoReport head fault.TooLarge = ⊥
+IsNoReport head (fault.Run f) = ⊥
 IsNoReport head (fault.Checked number why) = ⊥
 
 -- the bytes begin with no head, or the plan of the head is none
@@ -48,4 +49,5 @@ IsNoReplay bytes fault.Read = ⊥
 IsNoReplay bytes fault.Write = ⊥
 IsNoReplay bytes fault.TooLarge = ⊥
 IsNoReplay bytes (fault.Checked number why) = ⊥
+IsNoReplay bytes (fault.Run f) = ⊥
 IsNoReplay bytes fault.Memory = ⊥

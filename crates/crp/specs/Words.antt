@@ -9,8 +9,8 @@ use Rattle.crp.specs.declared.job.Job.{Job}
 use Rattle.crp.specs.declared.job.Job.TheVariants as job
 use Rattle.crp.specs.declared.job.Mistake.{Mistake}
 use Rattle.crp.specs.declared.job.Mistake.TheVariants as mistake
-use Rattle.crp.specs.declared.job.Order.{Order}
-use Rattle.crp.specs.declared.job.Order.TheVariants as order
+use Rattle.crp_order.specs.declared.sequences.Mode.{Mode}
+use Rattle.crp_order.specs.declared.sequences.Mode.TheVariants as mode
 use Rattle.crp.specs.declared.job.SettingFault.{SettingFault}
 use Rattle.crp.specs.declared.job.SettingFault.TheVariants as setting
 use Rattle.crp.specs.declared.job.SolveSettings.{SolveSettings}
@@ -69,12 +69,12 @@ abbrev pub AreTiersBeyond : List Row → Type 0
 AreTiersBeyond rows = HasNumberBeyond (codes "tiers") 1 8 rows
 
 -- the word for an order
-abbrev pub order_word : Order → Text
-order_word order.Listed = codes "listed"
-order_word order.Stowage = codes "stowage"
+abbrev pub order_word : Mode → Text
+order_word mode.Listed = codes "listed"
+order_word mode.Stowage = codes "stowage"
 
 -- the order of the rows
-abbrev pub HasOrder : List Row → Order → Type 0
+abbrev pub HasOrder : List Row → Mode → Type 0
 HasOrder rows o = HasText (codes "order") rows (order_word o)
 
 -- the settings of the rows of solve, within their limits

@@ -3,13 +3,13 @@ ghost use Rattle.std.specs.Prelude.{◌≡◌, ◌++◌, IfOk, OnOk, MatchResult
 ghost use Rattle.crp.specs.Calls.{Seen, Writes, Tells};
 ghost use Rattle.crp.specs.Bound.{bound_lines, IsBoundReport, IsBound, IsNoBound};
 
-use crate::heads::{head_from, push_bay};
-use crate::outcome::{Status, ToolFault};
+use crate::heads::head_from;
+use crate::outcome::ToolFault;
 use crp_bay::Position;
 use crp_bounds::{blocking, look_ahead};
-use crp_cert::Head;
+use crp_cert::{Head, push_bay, push_decimal};
 use crp_plan::{Sink, Source, write_all};
-use crp_report::push_decimal;
+use crp_report::Status;
 use std::alloc::{AllocError, Global};
 
 fn push_bounds(text: &mut Vec<u8>, position: &Position) -> Result<(), AllocError>

@@ -1,25 +1,15 @@
 //! The command `check`: from the bytes of a file of certificates to a line for each.
 ghost use Rattle.std.specs.Prelude.{◌≡◌, ◌++◌, IfOk, OnOk, MatchResult};
 ghost use Rattle.crp.specs.Calls.{Seen, Writes};
-ghost use Rattle.crp.specs.Check.{bay_words, plan_words, verdict_words, verdict_line, verdict_lines, refusal_told, IsCheck, TellsOfCheck};
+ghost use Rattle.crp.specs.Check.{plan_words, verdict_words, verdict_line, verdict_lines, refusal_told, IsCheck, TellsOfCheck};
 
 use crate::heads::MOST_BYTES;
-use crate::outcome::{Status, ToolFault};
+use crate::outcome::ToolFault;
+use crp_cert::push_decimal;
 use crp_checker::{Refused, Verdict, check_file};
 use crp_plan::{BayName, Sink, Source, read_all, write_all};
-use crp_report::push_decimal;
+use crp_report::{Status, push_bay_words};
 use std::alloc::{AllocError, Global};
-
-// Adds the name of a bay, and a colon.
-fn push_bay_words(text: &mut Vec<u8>, bay: &BayName) -> Result<(), AllocError>
-    ensures { OnOk result (text.new.items ≡ text.old.items ++ bay_words bay.now) }
-{
-    text.extend_from_slice(b"bay ")?;
-    text.extend_from_slice(bay.block())?;
-    text.push(b' ')?;
-    push_decimal(text, bay.bay())?;
-    text.extend_from_slice(b": ")
-}
 
 // Adds the relocations of a plan, if there is one.
 fn push_plan_words(text: &mut Vec<u8>, count: Option<u32>) -> Result<(), AllocError>

@@ -100,7 +100,7 @@ fn solve_files<'a>(alloc: Global) -> Result<Command<'a>, AllocError>
     ensures { IfOk result (IsCommand solve_files_shape) }
 {
     Command::new(alloc, "solve")
-        .about("Print the plans of a yard's bays for the load orders of a message (not built yet)")
+        .about("Print the plans of a yard's bays for the load orders of a message")
         .arg(file(alloc, "yard", "YARD", "Yard list (CSV)"))?
         .arg(file(alloc, "movins", "MOVINS", "Load orders (MOVINS)"))
 }

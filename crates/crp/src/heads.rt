@@ -1,13 +1,12 @@
-//! Heads of certificates: read from a source, and the line of their bay.
-ghost use Rattle.std.specs.Prelude.{◌≡◌, ◌≤◌, ℕ, List, ◌++◌, IfOk, IfErr, OnOk};
-ghost use Rattle.crp_cert.specs.Text.{bay_line, IsHeadOf};
+//! Heads of certificates, read from a source.
+ghost use Rattle.std.specs.Prelude.{◌≡◌, ◌≤◌, ℕ, List, IfOk, IfErr};
+ghost use Rattle.crp_cert.specs.Text.{IsHeadOf};
 ghost use Rattle.crp.specs.Calls.{IsGiven, IsNoHead};
 
 use crate::outcome::ToolFault;
 use crp_cert::{Head, read_head};
-use crp_plan::{BayName, Source, read_all};
-use crp_report::push_decimal;
-use std::alloc::{AllocError, Global};
+use crp_plan::{Source, read_all};
+use std::alloc::Global;
 
 /// The most bytes of a certificate file.
 pub const MOST_BYTES: usize = 268_435_456;
@@ -26,16 +25,4 @@ pub fn head_from<R: Source>(
     let bytes = read_all(alloc, reader, MOST_BYTES, interruptions)?;
     let head = read_head(alloc, &bytes)?;
     Ok(head)
-}
-
-/// Adds the line of a bay.
-pub fn push_bay(text: &mut Vec<u8>, bay: &BayName) -> Result<(), AllocError>
-    ensures { OnOk result (text.new.items ≡ text.old.items ++ bay_line bay.now) }
-{
-    text.extend_from_slice(b"bay ")?;
-    text.extend_from_slice(bay.block())?;
-    text.push(b' ')?;
-    push_decimal(text, bay.bay())?;
-    text.push(b'\n')?;
-    Ok(())
 }

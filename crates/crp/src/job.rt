@@ -1,4 +1,5 @@
 //! What the program may be asked for.
+use crp_order::Mode;
 use thiserror::Error;
 
 /// What the program is to do. Of `Replay`, `Bound`, `Check` and `Prove` a file named `-` is the standard input.
@@ -42,18 +43,9 @@ pub struct SolveSettings<'a> {
     /// The tiers of each bay, 1 to 8.
     pub tiers: u8,
     /// The order in which the containers leave.
-    pub order: Order,
+    pub order: Mode,
     /// The handling code of what is to be loaded.
     pub code: &'a str,
-}
-
-/// The order in which the ordered containers leave the yard.
-#[derive(Clone, Copy, Debug, PartialEq, Eq)]
-pub enum Order {
-    /// As the message lists them.
-    Listed,
-    /// By their places in the ship, the lowest tier first.
-    Stowage,
 }
 
 /// Which number of the command line is the first beyond its limits.

@@ -10,6 +10,7 @@ mod outcome;
 mod proving;
 mod replaying;
 mod running;
+mod solving;
 #[cfg(test)]
 mod tests;
 mod words;

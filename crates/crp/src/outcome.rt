@@ -1,23 +1,14 @@
 //! How a command ends.
-ghost use Rattle.std.specs.Prelude.{◌≡◌};
+ghost use Rattle.std.specs.Prelude.{◌≡◌, Err};
+ghost use Rattle.crp.specs.declared.outcome.ToolFault.TheVariants.{Run};
 ghost use Rattle.crp.specs.Calls.{exit_code};
 
 use crp_cert::CertFault;
 use crp_checker::Refused;
 use crp_plan::{PlanFault, ReadFault, WriteFailed};
+use crp_report::{Fault, Status};
 use std::alloc::AllocError;
 use thiserror::Error;
-
-/// What became of the bays.
-#[derive(Clone, Copy, Debug, PartialEq, Eq)]
-pub enum Status {
-    /// All are decided.
-    Decided,
-    /// A budget ended before a bay was decided.
-    Budget,
-    /// Memory ended before a bay was decided.
-    Memory,
-}
 
 /// Why a command did not do what it was asked for.
 #[derive(Debug, Drop, PartialEq, Eq, Error)]
@@ -31,6 +22,9 @@ pub enum ToolFault {
     /// A certificate of a file is refused, by its number from 1.
     #[error("certificate {number}: {refused}")]
     Checked { number: u64, refused: Refused },
+    /// A run over a yard did not do what it was asked for.
+    #[error("{0}")]
+    Run(Fault),
     /// A read failed, or was interrupted once too often; also a file that cannot be opened.
     #[error("a read failed")]
     Read,
@@ -102,6 +96,27 @@ impl From<PlanFault> for ToolFault {
     }
 }
 
+impl From<Fault> for ToolFault {
+    ghost use Rattle.crp.specs.declared.outcome.ToolFault.TheVariants.{Run};
+
+    ghost from_gives = { λ error fault. fault ≡ Run error };
+
+    fn from(error: Fault) -> ToolFault {
+        ToolFault::Run(error)
+    }
+}
+
+// The exit status where a run over a yard has not done what it was asked for.
+fn exit_of_run(fault: &Fault) -> u8
+    ensures { result ≡ exit_code (Err (Run fault.now)) }
+{
+    match fault {
+        Fault::Yard(_) | Fault::Interchange(_) | Fault::Message(_) => 3,
+        Fault::Memory => 4,
+        Fault::Read(_) | Fault::Write(_) => 5,
+    }
+}
+
 /// The exit status of the program.
 pub fn exit_of(answer: &Result<Status, ToolFault>) -> u8
     ensures { result ≡ exit_code answer.now }
@@ -112,6 +127,7 @@ pub fn exit_of(answer: &Result<Status, ToolFault>) -> u8
         Err(ToolFault::TooLarge) => 3,
         Ok(Status::Memory) | Err(ToolFault::Memory) => 4,
         Err(ToolFault::Read) | Err(ToolFault::Write) => 5,
+        Err(ToolFault::Run(fault)) => exit_of_run(fault),
         Err(ToolFault::Cert(_)) | Err(ToolFault::Plan(_)) | Err(ToolFault::Checked { .. }) => 6,
     }
 }

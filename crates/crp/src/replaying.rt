@@ -4,11 +4,11 @@ ghost use Rattle.crp_plan.specs.Bay.{relocations};
 ghost use Rattle.crp.specs.Calls.{Seen, Writes, Tells};
 ghost use Rattle.crp.specs.Replay.{count_line, TellsPlan, IsHeadReport, IsReplay, IsNoReplay, IsNoReport};
 
-use crate::heads::{head_from, push_bay};
-use crate::outcome::{Status, ToolFault};
-use crp_cert::Head;
+use crate::heads::head_from;
+use crate::outcome::ToolFault;
+use crp_cert::{Head, push_bay, push_decimal};
 use crp_plan::{Move, Plan, Sink, Source, write_all};
-use crp_report::{lines_of, names_of_ranks, push_decimal};
+use crp_report::{Status, lines_of, names_of_ranks};
 use std::alloc::{AllocError, Global};
 
 fn push_count(text: &mut Vec<u8>, moves: &[Move], count: u32) -> Result<(), AllocError>

@@ -2,15 +2,18 @@
 ghost use Rattle.std.specs.Prelude.{◌≡◌, ◌≤◌, IfOk, map, string_bytes};
 ghost use Rattle.crp.specs.Calls.{exit_code};
 ghost use Rattle.crp.specs.Words.{HasUsageStatus, IsWithinLimits};
+ghost use Rattle.crp.specs.Chosen.{AreChosen};
 
 use crate::bounding::bound;
 use crate::checking::check;
-use crate::job::{Job, Mistake, Usage};
-use crate::outcome::{Status, ToolFault, exit_of};
+use crate::job::{Job, Mistake, SolveSettings, Usage};
+use crate::outcome::{ToolFault, exit_of};
 use crate::proving::prove;
 use crate::replaying::replay;
+use crate::solving::{Files, solve};
 use crate::words::job;
 use crp_plan::{Counted, Source};
+use crp_report::{RunFault, RunSettings, Status};
 use crp_solve::Settings;
 use std::alloc::{AllocError, Global};
 use std::fs::File;
@@ -92,6 +95,37 @@ fn alone(budget: u64) -> Settings
     }
 }
 
+// The settings of a run by one worker.
+fn settings_of(alloc: Global, chosen: SolveSettings<'_>) -> Result<RunSettings, ToolFault>
+    requires budget { chosen.budget ≤ 1099511627776 }
+    requires rows { (1 ≤ chosen.rows) × (chosen.rows ≤ 12) }
+    requires tiers { (1 ≤ chosen.tiers) × (chosen.tiers ≤ 8) }
+    ensures { IfOk result (AreChosen chosen.entry) }
+{
+    let search = alone(chosen.budget);
+    let code = chosen.code.as_bytes();
+    match RunSettings::new(alloc, search, chosen.rows, chosen.tiers, chosen.order, code) {
+        Ok(settings) => Ok(settings),
+        Err(RunFault::Memory) => Err(ToolFault::Memory),
+        Err(_) => unreachable!(),
+    }
+}
+
+// Solves the bays of a yard, one after the other.
+fn solve_with<T: Threads + Wait + Sync>(
+    rt: &HostRuntime,
+    threads: &T,
+    files: Files<'_>,
+    chosen: SolveSettings<'_>,
+) -> Result<Status, ToolFault>
+    requires budget { chosen.budget ≤ 1099511627776 }
+    requires rows { (1 ≤ chosen.rows) × (chosen.rows ≤ 12) }
+    requires tiers { (1 ≤ chosen.tiers) × (chosen.tiers ≤ 8) }
+{
+    let settings = settings_of(rt.alloc(), chosen)?;
+    solve(rt, threads, &files, &settings)
+}
+
 // The exit status, with the fault's line on the standard error.
 fn told(rt: &HostRuntime, answer: &Result<Status, ToolFault>) -> u8
     ensures { result ≡ exit_code answer.now }
@@ -111,9 +145,20 @@ fn start<T: Threads + Wait + Sync>(rt: &HostRuntime, threads: &T, job: Job<'_>) 
         Job::Bound(file) => (Command::Bound, file),
         Job::Check(file) => (Command::Check, file),
         Job::Prove { file, budget } => (Command::Prove(alone(budget)), file),
-        Job::Solve { .. } => {
-            let _ = eprintln!(rt; "error: 'solve' is not built yet");
-            return WRONG_USAGE;
+        Job::Solve {
+            yard,
+            movins,
+            cert,
+            after,
+            settings,
+        } => {
+            let files = Files {
+                yard,
+                movins,
+                cert,
+                after,
+            };
+            return told(rt, &solve_with(rt, threads, files, settings));
         }
     };
     told(rt, &run_on(rt, threads, command, file))

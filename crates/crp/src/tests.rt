@@ -1,5 +1,7 @@
 //! What no contract says: worked examples byte for byte, texts of faults, and devices that fail in mid-stream.
 mod certificates;
 mod commands;
+mod devices;
 mod failing;
+mod reports;
 mod usage;

@@ -4,9 +4,10 @@ ghost use Rattle.clap.specs.Words.{found_of, kind_of, rows_of};
 ghost use Rattle.crp.specs.Words.{Asks, HasNumber, HasNumberBeyond, HasNumberWithin, HasOrder, HasSettings, HasText, IsFault, IsJust, IsSolveFault, IsWordsOrMemory, Lacks, NoFault, Refuses, ShowsKind, WordsAsk, words_or_default};
 
 use crate::commands::command_line;
-use crate::job::{Job, Mistake, Order, SettingFault, SolveSettings, Usage};
+use crate::job::{Job, Mistake, SettingFault, SolveSettings, Usage};
 use clap::error::ErrorKind;
 use clap::{ArgMatches, Error};
+use crp_order::Mode;
 use std::alloc::Global;
 
 static NO_WORDS: [&str; 2] = ["replay", "-"];
@@ -69,16 +70,16 @@ fn number_within(
     Ok(number)
 }
 
-fn order_of(alloc: Global, matches: &ArgMatches<'_>) -> Result<Order, Usage>
+fn order_of(alloc: Global, matches: &ArgMatches<'_>) -> Result<Mode, Usage>
     ensures ok { IfOk result (HasOrder (rows_of (found_of matches.now))) }
     ensures err { IfErr result (Lacks (HasOrder (rows_of (found_of matches.now))) NoFault) }
 {
     let word = text_of(alloc, matches, "order")?;
     if word == "listed" {
-        return Ok(Order::Listed);
+        return Ok(Mode::Listed);
     }
     if word == "stowage" {
-        return Ok(Order::Stowage);
+        return Ok(Mode::Stowage);
     }
     Err(wrong(alloc, "error: the order is 'listed' or 'stowage'\n"))
 }

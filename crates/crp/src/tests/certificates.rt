@@ -1,10 +1,11 @@
 //! Certificates that are checked, and those that are made.
 use crate::checking::check;
-use crate::outcome::{Status, ToolFault, exit_of};
+use crate::outcome::{ToolFault, exit_of};
 use crate::proving::prove;
 use crp_cert::CertFault;
 use crp_checker::Refused;
 use crp_plan::{PlanFault, Received};
+use crp_report::Status;
 use crp_solve::Settings;
 use std::alloc::Global;
 use std::sync::Wait;

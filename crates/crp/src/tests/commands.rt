@@ -1,9 +1,10 @@
 //! Replays and bounds of worked bays.
 use crate::bounding::bound;
-use crate::outcome::{Status, ToolFault};
+use crate::outcome::ToolFault;
 use crate::replaying::replay;
 use crp_cert::CertFault;
 use crp_plan::{PlanFault, Received};
+use crp_report::Status;
 use std::alloc::Global;
 use std::test::Fail;
 

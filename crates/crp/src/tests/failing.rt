@@ -1,9 +1,11 @@
-//! Devices that fail, are slow, or never end.
+//! Commands over devices that fail, are slow, or never end.
 ghost use Rattle.std.specs.Prelude.{Some, None};
 
-use crate::outcome::{Status, ToolFault};
+use crate::outcome::ToolFault;
 use crate::replaying::replay;
+use crate::tests::devices::{Slow, Small};
 use crp_plan::{Failure, Received, Sink, Source};
+use crp_report::Status;
 use std::test::Fail;
 
 const TWO_CONTAINERS: &[u8] =
@@ -11,70 +13,6 @@ const TWO_CONTAINERS: &[u8] =
 
 const TWO_CONTAINERS_REPLAYED: &[u8] =
     b"bay A 1\nmoves 2 relocations 1\nshift 1.2 2.1 2\ntake 1.1 1\n";
-
-// Is interrupted so often, gives its bytes one by one, and then ends or fails.
-#[derive(Drop)]
-struct Slow<'a> {
-    interrupted: u32,
-    rest: &'a [u8],
-    fails: bool,
-    failed: u64,
-}
-
-impl Source for Slow<'_> {
-    ghost remaining = { λ _. None };
-
-    ghost failures = { λ s. s.failed };
-
-    fn read(&mut self, buf: &mut [u8]) -> Result<usize, Failure> {
-        if self.interrupted > 0 {
-            self.interrupted -= 1;
-            self.failed = self.failed.saturating_add(1);
-            return Err(Failure::Interrupted);
-        }
-        if buf.is_empty() {
-            return Ok(0);
-        }
-        let rest: &[u8] = self.rest;
-        if rest.is_empty() {
-            if self.fails {
-                self.failed = self.failed.saturating_add(1);
-                return Err(Failure::Failed);
-            }
-            return Ok(0);
-        }
-        buf[0] = rest[0];
-        self.rest = &rest[1..];
-        Ok(1)
-    }
-}
-
-// Takes a byte a call, as long as it has room, and then fails.
-#[derive(Drop)]
-struct Small {
-    bytes: Vec<u8>,
-    room: usize,
-    failed: u64,
-}
-
-impl Sink for Small {
-    ghost contents = { λ s. Some s.bytes.items };
-
-    ghost failures = { λ s. s.failed };
-
-    fn write(&mut self, piece: &[u8]) -> Result<usize, Failure> {
-        if piece.is_empty() {
-            return Ok(0);
-        }
-        if self.bytes.len() < self.room {
-            if self.bytes.push(piece[0]).is_ok() {
-                return Ok(1);
-            }
-        }
-        self.failed = self.failed.saturating_add(1);
-        Err(Failure::Failed)
-    }
-}
 
 fn make_slow(interrupted: u32, fails: bool) -> Slow<'static> {
     Slow {

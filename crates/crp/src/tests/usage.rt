@@ -1,9 +1,11 @@
 //! The words of the command line, and exit statuses.
-use crate::job::{Job, Mistake, Order, SettingFault, Usage};
-use crate::outcome::{Status, ToolFault, exit_of};
+use crate::job::{Job, Mistake, SettingFault, Usage};
+use crate::outcome::{ToolFault, exit_of};
 use crate::words::job;
 use crp_cert::CertFault;
+use crp_order::Mode;
 use crp_plan::PlanFault;
+use crp_report::{Fault, Input, Output, Status};
 use std::alloc::Global;
 use std::test::Fail;
 
@@ -37,7 +39,7 @@ fn reads_a_solve_with_its_defaults(rt: HostRuntime) {
             assert!(rt; cert.is_none() && after.is_none());
             assert_eq!(rt; settings.budget, 1000000);
             assert_eq!(rt; (settings.rows, settings.tiers), (6, 5));
-            assert_eq!(rt; settings.order, Order::Listed);
+            assert_eq!(rt; settings.order, Mode::Listed);
             assert_eq!(rt; settings.code, "LOA");
         }
         _ => assert!(rt; false),
@@ -78,7 +80,7 @@ fn reads_a_solve_with_all_options(rt: HostRuntime) {
             assert_eq!(rt; (cert, after), (Some("c"), Some("-")));
             assert_eq!(rt; settings.budget, 0);
             assert_eq!(rt; (settings.rows, settings.tiers), (12, 1));
-            assert_eq!(rt; settings.order, Order::Stowage);
+            assert_eq!(rt; settings.order, Mode::Stowage);
             assert_eq!(rt; settings.code, "");
         }
         _ => assert!(rt; false),
@@ -225,6 +227,32 @@ fn exit_statuses_and_fault_lines(rt: HostRuntime) -> Result<(), Fail> {
             "Q2 at step 2",
         ),
         (ToolFault::Plan(PlanFault::Incomplete), 6, "Q4"),
+        (
+            ToolFault::Run(Fault::Read(Input::Yard)),
+            5,
+            "a read of the yard list failed",
+        ),
+        (
+            ToolFault::Run(Fault::Read(Input::Movins)),
+            5,
+            "a read of the message failed",
+        ),
+        (
+            ToolFault::Run(Fault::Write(Output::Report)),
+            5,
+            "a write of the report failed",
+        ),
+        (
+            ToolFault::Run(Fault::Write(Output::Certificates)),
+            5,
+            "a write of the certificates failed",
+        ),
+        (
+            ToolFault::Run(Fault::Write(Output::YardAfter)),
+            5,
+            "a write of the yard after the plans failed",
+        ),
+        (ToolFault::Run(Fault::Memory), 4, "no memory is left"),
         (ToolFault::Read, 5, "a read failed"),
         (ToolFault::Write, 5, "a write failed"),
         (ToolFault::TooLarge, 3, "the input is too large"),

@@ -15,7 +15,7 @@ returns-in_err-write_all g c =
         found.0,
         c.deref.result.now,
         found.1,
-        (c.status_after-status.result, (c.in_ok-head.head, found.2, (solved.answer, proof, c.status_after-status.ensures))),
+        (c.status_of-status.result, (c.in_ok-head.head, found.2, (solved.answer, proof, c.status_of-status.ensures))),
         c.in_err-write_all.ensures.front,
       ),
     )
@@ -26,4 +26,4 @@ returns g c =
     let solved = c.in_ok-solved.solved in
     let proof = proof_of c.args.settings.budget solved.expanded c.in_ok-head.head solved.answer c.in_ok-text.text.items c.deref.result.now
     c.in_ok-solved.ensures.true_answer c.in_ok-text.ensures c.deref.ensures.value in
-    (found.0, c.deref.result.now, found.1, (c.in_ok-head.head, found.2, (solved.answer, proof, c.status_after-status.ensures)), c.in_ok-write_all.ensures.all)
+    (found.0, c.deref.result.now, found.1, (c.in_ok-head.head, found.2, (solved.answer, proof, c.status_of-status.ensures)), c.in_ok-write_all.ensures.all)

@@ -1,0 +1,13 @@
+-- The settings of a run that the words of `solve` choose.
+use Rattle.std.specs.Prelude.{◌≡◌}
+use Rattle.crp_report.specs.Chosen.{RunChosen}
+use Rattle.crp.specs.declared.job.SolveSettings.{SolveSettings}
+
+-- one worker, with this budget, the rows, the tiers, the order and the code as they are chosen
+pub record AreChosen (words : SolveSettings) (chosen : RunChosen) : Type 0 where
+  pub one_worker : chosen.search.workers ≡ 1
+  pub budget : chosen.search.budget ≡ words.budget
+  pub rows : chosen.rows ≡ words.rows
+  pub tiers : chosen.tiers ≡ words.tiers
+  pub order : chosen.mode ≡ words.order
+  pub code : chosen.code ≡ words.code.now
