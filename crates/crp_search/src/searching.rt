@@ -14,7 +14,7 @@ use arrayvec::ArrayVec;
 use crp_bay::Position;
 use crp_bounds::{blocking, look_ahead};
 use crp_plan::{MAX_RELOCATIONS, Plan, Problem};
-use crp_tree::{Name, Part, Tree};
+use crp_tree::{MAX_NAME, Name, Part, Tree};
 use std::alloc::{AllocError, Global};
 
 /// Destination rows, from the first relocation on.
@@ -184,7 +184,7 @@ fn search_at<L: Limit>(
 /// a cut by the blocking bound. Else the node is a cut where length plus the blocking bound reaches what was seen,
 /// or else length plus the look-ahead bound does. Else it claims an expansion. If that is refused the node is a cut,
 /// by the blocking bound where both are equal. If it is granted the node branches, rows rising; where the path has
-/// fewer than `split` rows each child is put and given away, and one whose put is refused is searched at once.
+/// fewer than `split` rows, and fewer than 8, each child is put and given away, and one whose put is refused is searched at once.
 pub fn search<L: Limit>(
     alloc: Global,
     problem: &Problem,
@@ -194,7 +194,6 @@ pub fn search<L: Limit>(
 ) -> Result<Part, AllocError>
     requires problem { problem.now ≡ L.problem limit.old }
     requires path { (s : Place) × IsAt problem.now name s }
-    requires split { split ≤ 8 }
 
     // The part, its tree and its floor.
     ensures problem { IfOk result (λ part. part.problem ≡ problem.now) }
@@ -220,7 +219,14 @@ pub fn search<L: Limit>(
     let Ok(()) = path.try_extend_from_slice(name.rows()) else {
         unreachable!()
     };
-    let found = search_at(alloc, problem, &place, &mut path, limit, split)?;
+    let found = search_at(
+        alloc,
+        problem,
+        &place,
+        &mut path,
+        limit,
+        split.min(MAX_NAME as u8),
+    )?;
     let part = Part::new(problem, name, found.tree, found.floor);
     let _floor = part.floor();
     Ok(part)
