@@ -233,12 +233,12 @@ pub fn write_cert<W: Sink>(
     ensures all { OnOk result (Appends (W.contents writer.old) (W.contents writer.new) (certificate_text bay.now problem.now cert.now (option_copied plan.entry))) }
     ensures front { AppendsFront (W.contents writer.old) (W.contents writer.new) (certificate_text bay.now problem.now cert.now (option_copied plan.entry)) }
     ensures failed { IsErrOf result WriteFault.Failed → HasFailed (W.failures writer.old) (W.failures writer.new) }
-    ensures interrupted { OnOk result (CountsMore (interruptions.new - interruptions.old) (W.failures writer.old) (W.failures writer.new)) }
-    ensures ended { IsErrOf result WriteFault.Failed
-        → CountsMore (interruptions.new - interruptions.old + 1) (W.failures writer.old) (W.failures writer.new) }
     ensures memory { IsErrOf result WriteFault.Memory → (writer.new ≡ writer.old) × (interruptions.new ≡ interruptions.old) }
     ensures count { W.failures writer.old ≤ W.failures writer.new }
     ensures passed { (interruptions.old ≤ interruptions.new) × (interruptions.new ≤ 1000) }
+    ensures interrupted { OnOk result (CountsMore (interruptions.new - interruptions.old) (W.failures writer.old) (W.failures writer.new)) }
+    ensures ended { IsErrOf result WriteFault.Failed
+        → CountsMore (interruptions.new - interruptions.old + 1) (W.failures writer.old) (W.failures writer.new) }
 {
     let text = cert_text(alloc, bay, problem, cert, plan)?;
     write_all(writer, &text, interruptions)?;

@@ -48,12 +48,12 @@ fn read_piece<R: Source>(
         → limit + 1000 + vec_len bytes.old + interruptions.old < limit + 1000 + vec_len bytes.new + interruptions.new) }
     ensures large { IsErrOf result ReadFault.TooLarge
         → IfSome (R.remaining reader.old) (λ xs. limit < vec_len bytes.old + length xs) }
+    ensures passed { (interruptions.old ≤ interruptions.new) × (interruptions.new ≤ 1000) }
     ensures interrupted { OnOk result (CountsMore (interruptions.new - interruptions.old) (R.failures reader.old) (R.failures reader.new)) }
     ensures ended { IsErrOf result ReadFault.Failed
         → CountsMore (interruptions.new - interruptions.old + 1) (R.failures reader.old) (R.failures reader.new) }
     ensures refused { IsErrOf result ReadFault.TooLarge ⊎ IsErrOf result ReadFault.Memory
         → CountsMore (interruptions.new - interruptions.old) (R.failures reader.old) (R.failures reader.new) }
-    ensures passed { (interruptions.old ≤ interruptions.new) × (interruptions.new ≤ 1000) }
 {
     let mut piece = [0u8; PIECE];
     match reader.read(&mut piece) {
@@ -94,12 +94,12 @@ pub fn read_all<R: Source>(
     ensures failed { IsErrOf result ReadFault.Failed
         → HasFailed (R.failures reader.old) (R.failures reader.new) }
     ensures count { R.failures reader.old ≤ R.failures reader.new }
+    ensures passed { (interruptions.old ≤ interruptions.new) × (interruptions.new ≤ 1000) }
     ensures interrupted { OnOk result (CountsMore (interruptions.new - interruptions.old) (R.failures reader.old) (R.failures reader.new)) }
     ensures ended { IsErrOf result ReadFault.Failed
         → CountsMore (interruptions.new - interruptions.old + 1) (R.failures reader.old) (R.failures reader.new) }
     ensures refused { IsErrOf result ReadFault.TooLarge ⊎ IsErrOf result ReadFault.Memory
         → CountsMore (interruptions.new - interruptions.old) (R.failures reader.old) (R.failures reader.new) }
-    ensures passed { (interruptions.old ≤ interruptions.new) × (interruptions.new ≤ 1000) }
 {
     let mut bytes = Vec::new(alloc);
     while read_piece(reader, &mut bytes, limit, interruptions)? {}
@@ -118,9 +118,9 @@ fn write_piece<W: Sink>(
     ensures ok { IfOk result (λ n. Appends (W.contents writer.old) (W.contents writer.new) (take n text.now)) }
     ensures err { OnErr result (Keeps (W.contents writer.old) (W.contents writer.new)) }
     ensures nearer { IfOk result (λ n. interruptions.old < n + interruptions.new) }
+    ensures passed { (interruptions.old ≤ interruptions.new) × (interruptions.new ≤ 1000) }
     ensures interrupted { OnOk result (CountsMore (interruptions.new - interruptions.old) (W.failures writer.old) (W.failures writer.new)) }
     ensures ended { OnErr result (CountsMore (interruptions.new - interruptions.old + 1) (W.failures writer.old) (W.failures writer.new)) }
-    ensures passed { (interruptions.old ≤ interruptions.new) × (interruptions.new ≤ 1000) }
 {
     match writer.write(text) {
         Ok(0) => Err(WriteFailed),
@@ -147,9 +147,9 @@ pub fn write_all<W: Sink>(
     ensures front { AppendsFront (W.contents writer.old) (W.contents writer.new) text.now }
     ensures failed { OnErr result (HasFailed (W.failures writer.old) (W.failures writer.new)) }
     ensures count { W.failures writer.old ≤ W.failures writer.new }
+    ensures passed { (interruptions.old ≤ interruptions.new) × (interruptions.new ≤ 1000) }
     ensures interrupted { OnOk result (CountsMore (interruptions.new - interruptions.old) (W.failures writer.old) (W.failures writer.new)) }
     ensures ended { OnErr result (CountsMore (interruptions.new - interruptions.old + 1) (W.failures writer.old) (W.failures writer.new)) }
-    ensures passed { (interruptions.old ≤ interruptions.new) × (interruptions.new ≤ 1000) }
 {
     let mut rest = text;
     while !rest.is_empty() {
@@ -170,9 +170,9 @@ pub fn write_each<W: Sink>(
     ensures front { AppendsFront (W.contents writer.old) (W.contents writer.new) (flat_map (λ text. text.items) texts.now) }
     ensures failed { OnErr result (HasFailed (W.failures writer.old) (W.failures writer.new)) }
     ensures count { W.failures writer.old ≤ W.failures writer.new }
+    ensures passed { (interruptions.old ≤ interruptions.new) × (interruptions.new ≤ 1000) }
     ensures interrupted { OnOk result (CountsMore (interruptions.new - interruptions.old) (W.failures writer.old) (W.failures writer.new)) }
     ensures ended { OnErr result (CountsMore (interruptions.new - interruptions.old + 1) (W.failures writer.old) (W.failures writer.new)) }
-    ensures passed { (interruptions.old ≤ interruptions.new) × (interruptions.new ≤ 1000) }
 {
     for text in texts {
         write_all(writer, text, interruptions)?;
