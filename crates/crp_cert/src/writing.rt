@@ -1,9 +1,9 @@
 //! Writing a certificate.
-ghost use Rattle.std.specs.Prelude.{◌≡◌, ◌≤◌, ◌++◌, ◌∷◌, [], IfOk, OnOk, IsErrOf};
+ghost use Rattle.std.specs.Prelude.{◌≡◌, ◌≤◌, ◌+◌, ◌-◌, ◌++◌, ◌∷◌, [], IfOk, OnOk, IsErrOf};
 ghost use Rattle.std.specs.Option.{option_copied};
 ghost use Rattle.std.specs.List.{flat_map};
 ghost use Rattle.std.specs.Io.KnownBytes.{Appends};
-ghost use Rattle.crp_plan.specs.Devices.{AppendsFront, HasFailed};
+ghost use Rattle.crp_plan.specs.Devices.{AppendsFront, CountsMore, HasFailed};
 ghost use Rattle.crp_tree.specs.Parts.{part_of};
 ghost use Rattle.crp_cert.specs.Text.{numbers_line, bay_line, size_line, size_of, row_line, plan_line, head_text};
 ghost use Rattle.crp_cert.specs.Script.{name_text, symbols_of, part_line};
@@ -236,6 +236,9 @@ pub fn write_cert<W: Sink>(
     ensures memory { IsErrOf result WriteFault.Memory → (writer.new ≡ writer.old) × (interruptions.new ≡ interruptions.old) }
     ensures count { W.failures writer.old ≤ W.failures writer.new }
     ensures passed { (interruptions.old ≤ interruptions.new) × (interruptions.new ≤ 1000) }
+    ensures interrupted { OnOk result (CountsMore (interruptions.new - interruptions.old) (W.failures writer.old) (W.failures writer.new)) }
+    ensures ended { IsErrOf result WriteFault.Failed
+        → CountsMore (interruptions.new - interruptions.old + 1) (W.failures writer.old) (W.failures writer.new) }
 {
     let text = cert_text(alloc, bay, problem, cert, plan)?;
     write_all(writer, &text, interruptions)?;

@@ -1,10 +1,14 @@
 -- Sources and sinks of bytes: the count of their failures, and the front of a text that a sink took.
-use Rattle.std.specs.Prelude.{◌≡◌, ℕ, ◌+◌, ◌-◌, ◌^◌, ◌<◌, ◌≤◌, List, length, take, Option, Result, MatchResult}
+use Rattle.std.specs.Prelude.{◌≡◌, ℕ, ◌+◌, ◌-◌, ◌^◌, ◌<◌, min, List, length, take, Option, Result, MatchResult}
 use Rattle.std.specs.Io.KnownBytes.{Appends}
 
--- The count has grown by one. It stops at the largest u64.
+-- The count has grown by so many. It stops at the largest u64.
+abbrev pub CountsMore : ℕ → ℕ → ℕ → Type 0
+CountsMore n old new = new ≡ old + min n (2 ^ 64 - 1 - old)
+
+-- The count has grown by one.
 abbrev pub CountsOne : ℕ → ℕ → Type 0
-CountsOne old new = (old < 2 ^ 64 - 1 → new ≡ old + 1) × (2 ^ 64 - 1 ≤ old → new ≡ old)
+CountsOne = CountsMore 1
 
 -- A source counts each Err.
 abbrev pub CountsRead : {E : Type 0} → ℕ → ℕ → Result ℕ E → Type 0

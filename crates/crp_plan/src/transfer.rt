@@ -1,7 +1,7 @@
 //! A whole text, from a source or to a sink.
-ghost use Rattle.std.specs.Prelude.{◌≡◌, ℕ, List, ◌+◌, ◌-◌, ◌<◌, ◌≤◌, ◌++◌, false, true, length, take, vec_len, IfOk, IfSome, OnOk, OnErr, IsErrOf, flat_map};
+ghost use Rattle.std.specs.Prelude.{◌≡◌, ◌⊎◌, ℕ, List, ◌+◌, ◌-◌, ◌<◌, ◌≤◌, ◌++◌, false, true, length, take, vec_len, IfOk, IfSome, OnOk, OnErr, IsErrOf, flat_map};
 ghost use Rattle.std.specs.Io.KnownBytes.{Appends, Consumes, Keeps, IsAtEnd};
-ghost use Rattle.crp_plan.specs.Devices.{AppendsFront, HasFailed};
+ghost use Rattle.crp_plan.specs.Devices.{AppendsFront, CountsMore, HasFailed};
 
 use crate::device::{Failure, Sink, Source};
 use std::alloc::Global;
@@ -48,10 +48,12 @@ fn read_piece<R: Source>(
         → limit + 1000 + vec_len bytes.old + interruptions.old < limit + 1000 + vec_len bytes.new + interruptions.new) }
     ensures large { IsErrOf result ReadFault.TooLarge
         → IfSome (R.remaining reader.old) (λ xs. limit < vec_len bytes.old + length xs) }
-    ensures failed { IsErrOf result ReadFault.Failed
-        → HasFailed (R.failures reader.old) (R.failures reader.new) }
-    ensures count { R.failures reader.old ≤ R.failures reader.new }
     ensures passed { (interruptions.old ≤ interruptions.new) × (interruptions.new ≤ 1000) }
+    ensures interrupted { OnOk result (CountsMore (interruptions.new - interruptions.old) (R.failures reader.old) (R.failures reader.new)) }
+    ensures ended { IsErrOf result ReadFault.Failed
+        → CountsMore (interruptions.new - interruptions.old + 1) (R.failures reader.old) (R.failures reader.new) }
+    ensures refused { IsErrOf result ReadFault.TooLarge ⊎ IsErrOf result ReadFault.Memory
+        → CountsMore (interruptions.new - interruptions.old) (R.failures reader.old) (R.failures reader.new) }
 {
     let mut piece = [0u8; PIECE];
     match reader.read(&mut piece) {
@@ -93,6 +95,11 @@ pub fn read_all<R: Source>(
         → HasFailed (R.failures reader.old) (R.failures reader.new) }
     ensures count { R.failures reader.old ≤ R.failures reader.new }
     ensures passed { (interruptions.old ≤ interruptions.new) × (interruptions.new ≤ 1000) }
+    ensures interrupted { OnOk result (CountsMore (interruptions.new - interruptions.old) (R.failures reader.old) (R.failures reader.new)) }
+    ensures ended { IsErrOf result ReadFault.Failed
+        → CountsMore (interruptions.new - interruptions.old + 1) (R.failures reader.old) (R.failures reader.new) }
+    ensures refused { IsErrOf result ReadFault.TooLarge ⊎ IsErrOf result ReadFault.Memory
+        → CountsMore (interruptions.new - interruptions.old) (R.failures reader.old) (R.failures reader.new) }
 {
     let mut bytes = Vec::new(alloc);
     while read_piece(reader, &mut bytes, limit, interruptions)? {}
@@ -111,9 +118,9 @@ fn write_piece<W: Sink>(
     ensures ok { IfOk result (λ n. Appends (W.contents writer.old) (W.contents writer.new) (take n text.now)) }
     ensures err { OnErr result (Keeps (W.contents writer.old) (W.contents writer.new)) }
     ensures nearer { IfOk result (λ n. interruptions.old < n + interruptions.new) }
-    ensures failed { OnErr result (HasFailed (W.failures writer.old) (W.failures writer.new)) }
-    ensures count { W.failures writer.old ≤ W.failures writer.new }
     ensures passed { (interruptions.old ≤ interruptions.new) × (interruptions.new ≤ 1000) }
+    ensures interrupted { OnOk result (CountsMore (interruptions.new - interruptions.old) (W.failures writer.old) (W.failures writer.new)) }
+    ensures ended { OnErr result (CountsMore (interruptions.new - interruptions.old + 1) (W.failures writer.old) (W.failures writer.new)) }
 {
     match writer.write(text) {
         Ok(0) => Err(WriteFailed),
@@ -141,6 +148,8 @@ pub fn write_all<W: Sink>(
     ensures failed { OnErr result (HasFailed (W.failures writer.old) (W.failures writer.new)) }
     ensures count { W.failures writer.old ≤ W.failures writer.new }
     ensures passed { (interruptions.old ≤ interruptions.new) × (interruptions.new ≤ 1000) }
+    ensures interrupted { OnOk result (CountsMore (interruptions.new - interruptions.old) (W.failures writer.old) (W.failures writer.new)) }
+    ensures ended { OnErr result (CountsMore (interruptions.new - interruptions.old + 1) (W.failures writer.old) (W.failures writer.new)) }
 {
     let mut rest = text;
     while !rest.is_empty() {
@@ -162,6 +171,8 @@ pub fn write_each<W: Sink>(
     ensures failed { OnErr result (HasFailed (W.failures writer.old) (W.failures writer.new)) }
     ensures count { W.failures writer.old ≤ W.failures writer.new }
     ensures passed { (interruptions.old ≤ interruptions.new) × (interruptions.new ≤ 1000) }
+    ensures interrupted { OnOk result (CountsMore (interruptions.new - interruptions.old) (W.failures writer.old) (W.failures writer.new)) }
+    ensures ended { OnErr result (CountsMore (interruptions.new - interruptions.old + 1) (W.failures writer.old) (W.failures writer.new)) }
 {
     for text in texts {
         write_all(writer, text, interruptions)?;

@@ -21,7 +21,7 @@ loop-rest-preserved g c =
     let taken : take done text ++ take n rest ≡ take (done + n) text = ap (λ r. take done text ++ take n r) inv.0.1 ∙ take-add done n text in
     let left : take (length rest - n) (drop n rest) ≡ drop (done + n) text = take_rest rest n ∙ ap (drop n) inv.0.1 ∙ drop-drop n done text in (
       (done + n, left, subst (Appends _ _) taken (Appends-trans _ _ _ _ _ inv.0.2 step.ok)),
-      omega (arith, step.count),
+      omega (arith, step.interrupted, step.passed),
       omega (arith, step.passed),
       omega (arith, step.passed),
     )
