@@ -1,4 +1,4 @@
-use Rattle.std.proofs.Common.{subst, sym}
+use Rattle.std.proofs.Common.{refl, subst, sym}
 use Rattle.std.proofs.lemmas.Result.{err_from_is_err_and}
 use Rattle.crp.specs.Calls.{Seen}
 use Rattle.crp.specs.Replay.{IsReplay, IsNoReplay, IsHeadReport}
@@ -32,3 +32,9 @@ returns-in_err-write_all g c =
     let found = c.in_ok-head.ensures.found in
     rw (p.1, p.2)
     (c.in_err-write_all.ensures.failed, (found.0, c.deref.result.now, found.1, (c.in_ok-head.head, found.2, told), c.in_err-write_all.ensures.front))
+
+pub returns : goal.returns
+returns g c =
+    let told = subst (IsHeadReport c.in_ok-head.head) (sym c.deref.ensures.value) c.in_ok-report.ensures.told in
+    let found = c.in_ok-head.ensures.found in
+    (refl, (found.0, c.deref.result.now, found.1, (c.in_ok-head.head, found.2, told), c.in_ok-write_all.ensures.all))
