@@ -4,3 +4,4 @@ pub mod Asking
 pub mod Lacking
 pub mod CommandLine
 pub mod Checked
+pub mod Accepted
