@@ -1,6 +1,8 @@
 -- The checker accepts the certificates of true answers.
-use Rattle.std.proofs.Common.{◌≡◌, ◌≢◌, ℕ, ◌<◌, length, Option, Some, None, option_map, refl, sym, ap, subst, arith, ⊎_elim}
+use Rattle.std.proofs.Common.{◌≡◌, ◌≢◌, ℕ, ◌<◌, List, [], ◌∷◌, length, map, All, Option, Some, None, option_map, refl, sym, ap, subst, arith, inl, ⊎_elim}
+use Rattle.std.specs.List.{AllByRecursion, AllZip}
 use Rattle.std.proofs.lemmas.Bool.{cases_eq}
+use Rattle.std.proofs.lemmas.List.Elements.{recursion_from_All}
 use Rattle.crp_plan.specs.BayNames.{YardBay, IsYardBay}
 use Rattle.crp_plan.specs.Bay.{Problem, cap}
 use Rattle.crp_plan.specs.Plans.{Route}
@@ -16,8 +18,12 @@ use Rattle.crp_checker.specs.declared.verdict.Verdict.{Verdict}
 use Rattle.crp_checker.specs.declared.verdict.Verdict.TheVariants as verdict
 use Rattle.crp_checker.specs.Claims.{IsWanted, IsYes}
 use Rattle.crp_checker.specs.Verdicts.{IsVerdictOf}
-use Rattle.crp_report.specs.Answered.{plan_in}
-use Rattle.crp.specs.Accepted.{HasOneHeight, NoneGiven, IsVerdictOn, text_of, IsAcceptedAs}
+use Rattle.crp_checker.specs.Files.{BeginsWithTexts, ShowEach}
+use Rattle.crp_order.specs.declared.bay_problem.BayProblem.{BayProblem}
+use Rattle.crp_report.specs.Answered.{Answered, AreTrueAnswers, plan_in}
+use Rattle.crp_report.specs.Report.{certificate_of, certificates_text}
+use Rattle.crp.specs.Accepted.{HasOneHeight, NoneGiven, NoneGivenIn, IsVerdictOn, text_of, IsAcceptedAs, CanBeTold, IsVerdictFor, AreAccepted}
+use Rattle.crp.proofs.Ended.{script_ended}
 
 -- ---- the verdict
 
@@ -110,3 +116,48 @@ answer_accepted bay p budget found expanded named one none t =
         of_problem = (told bay (claim p found), text_accepted (Some p) bay p found named can refl, k.2);
       },
     )
+
+-- ---- files of certificates
+
+-- a bay with a true answer, whose certificate can be written
+record IsGood (budget : ℕ) (bay : Answered) : Type 0 where
+  can : CanBeTold bay.told
+  none : NoneGiven bay.told.problem (cert_of bay.answer)
+  true_answer : IsTrueAnswer bay.told.problem budget bay.answer bay.expanded
+
+-- the certificates are the texts of the file, since each ends with its first line that begins with `end `
+cut : (budget : ℕ) (answered : List Answered) → AllByRecursion (IsGood budget) answered → BeginsWithTexts (certificates_text answered) (map certificate_of answered) []
+cut budget [] good = refl
+cut budget (bay ∷ answered) good =
+    let is = good.0 in
+    let can = is.can in
+    (certificates_text answered, refl, inl (script_ended (told bay.told.bay (claim bay.told.problem bay.answer)) can.0), cut budget answered good.1)
+
+-- and each shows the verdict on its answer
+each_shown : (budget : ℕ) (answered : List Answered) → AllByRecursion (IsGood budget) answered →
+    (verdicts : List (YardBay × Verdict)) × AllZip IsVerdictFor answered verdicts × ShowEach (map certificate_of answered) verdicts
+each_shown budget [] good = ([], tt, tt)
+each_shown budget (bay ∷ answered) good =
+    let is = good.0 in
+    let can = is.can in
+    let first = answer_accepted bay.told.bay bay.told.problem budget bay.answer bay.expanded can.0 can.1 is.none is.true_answer in
+    let shown = first.1 in
+    let more = each_shown budget answered good.1 in
+    ((bay.told.bay, first.0) ∷ more.0, ((refl, shown.on), more.1), (shown.of_bay, more.2))
+
+file_shown : (budget : ℕ) (answered : List Answered) → AllByRecursion (IsGood budget) answered → AreAccepted answered
+file_shown budget answered good =
+    let each = each_shown budget answered good in
+    (each.0, each.1, (map certificate_of answered, cut budget answered good, each.2))
+
+all_good : (budget : ℕ) (answered : List Answered) → AllByRecursion CanBeTold (map (λ bay. bay.told) answered) → AllByRecursion (λ bay. NoneGiven bay.told.problem (cert_of bay.answer)) answered →
+    AllByRecursion (λ bay. IsTrueAnswer bay.told.problem budget bay.answer bay.expanded) answered → AllByRecursion (IsGood budget) answered
+all_good budget [] can none t = tt
+all_good budget (bay ∷ answered) can none t = (record { can = can.0; none = none.0; true_answer = t.0 }, all_good budget answered can.1 none.1 t.1)
+
+pub file_accepted : (budget : ℕ) (problems : List BayProblem) (answered : List Answered) → AreTrueAnswers budget problems answered → All CanBeTold problems → NoneGivenIn answered → AreAccepted answered
+file_accepted budget problems answered t can none =
+    file_shown budget answered
+    (all_good budget answered (subst (AllByRecursion CanBeTold) (sym t.one_for_each) (recursion_from_All CanBeTold problems can))
+    (recursion_from_All (λ (bay : Answered). NoneGiven bay.told.problem (cert_of bay.answer)) answered none)
+    (recursion_from_All (λ (bay : Answered). IsTrueAnswer bay.told.problem budget bay.answer bay.expanded) answered t.each_true))

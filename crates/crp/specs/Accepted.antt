@@ -28,6 +28,10 @@ HasOneHeight p = p.heights ≡ replicate (length p.stacks) (tallest p.heights)
 abbrev pub NoneGiven : Problem → Certificate → Type 0
 NoneGiven p cert = All (λ part. given_by p part ≡ []) (map part_of cert.parts)
 
+-- nor does one of the certificates of these bays
+abbrev pub NoneGivenIn : List Answered → Type 0
+NoneGivenIn answered = All (λ bay. NoneGiven bay.told.problem (cert_of bay.answer)) answered
+
 -- the verdict on an answer: on an optimal one, that the relocations of its plan are the fewest; on one without a plan, that there is none; on one whose
 -- budget ended, its bound and the relocations of its plan, if it has one; and where memory was wanting, what the bound, the cap and the plan show
 abbrev pub IsVerdictOn : Problem → Answer → Verdict → Type 0
