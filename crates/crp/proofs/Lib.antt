@@ -4,3 +4,5 @@ pub mod Asking
 pub mod Lacking
 pub mod CommandLine
 pub mod Checked
+pub mod Ended
+pub mod Accepted

@@ -7,3 +7,4 @@ pub mod Words
 pub mod Prove
 pub mod Check
 pub mod Chosen
+pub mod Accepted

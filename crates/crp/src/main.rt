@@ -6,6 +6,7 @@ mod checking;
 mod commands;
 mod heads;
 mod job;
+mod laws;
 mod outcome;
 mod proving;
 mod replaying;

@@ -1,0 +1,163 @@
+-- The checker accepts the certificates of true answers.
+use Rattle.std.proofs.Common.{◌≡◌, ◌≢◌, ℕ, ◌<◌, List, [], ◌∷◌, length, map, All, Option, Some, None, option_map, refl, sym, ap, subst, arith, inl, ⊎_elim}
+use Rattle.std.specs.List.{AllByRecursion, AllZip}
+use Rattle.std.proofs.lemmas.Bool.{cases_eq}
+use Rattle.std.proofs.lemmas.List.Elements.{recursion_from_All}
+use Rattle.crp_plan.specs.BayNames.{YardBay, IsYardBay}
+use Rattle.crp_plan.specs.Bay.{Problem, cap}
+use Rattle.crp_plan.specs.Plans.{Route}
+use Rattle.crp_tree.specs.Scripts.{IsAccepted, Script as Claim}
+use Rattle.crp_cert.specs.Writing.{told, claimed, IsTellable}
+use Rattle.crp_cert.proofs.Written.{told_is_script, told_again, claimed_rise}
+use Rattle.crp_solve.specs.declared.answer.Answer.{Answer}
+use Rattle.crp_solve.specs.declared.answer.Answer.TheVariants as answer
+use Rattle.crp_solve.specs.declared.answer.Cause.TheVariants as cause
+use Rattle.crp_solve.specs.Answers.{path_in, cert_of, count_of, IsTrueAnswer}
+use Rattle.crp_solve.proofs.Limits.{count_low}
+use Rattle.crp_checker.specs.declared.verdict.Verdict.{Verdict}
+use Rattle.crp_checker.specs.declared.verdict.Verdict.TheVariants as verdict
+use Rattle.crp_checker.specs.Claims.{IsWanted, IsYes}
+use Rattle.crp_checker.specs.Verdicts.{IsVerdictOf}
+use Rattle.crp_checker.specs.Files.{BeginsWithTexts, ShowEach}
+use Rattle.crp_order.specs.declared.bay_problem.BayProblem.{BayProblem}
+use Rattle.crp_report.specs.Answered.{Answered, AreTrueAnswers, plan_in}
+use Rattle.crp_report.specs.Report.{certificate_of, certificates_text}
+use Rattle.crp.specs.Accepted.{HasOneHeight, NoneGiven, NoneGivenIn, IsVerdictOn, text_of, IsAcceptedAs, CanBeTold, IsVerdictFor, AreAccepted}
+use Rattle.crp.proofs.Ended.{script_ended}
+
+-- ---- the verdict
+
+-- a bound, a cap and a plan or none show something
+some_verdict : (bound most : ℕ) (count : Option ℕ) → (v : Verdict) × IsVerdictOf bound most count v
+some_verdict bound most None = ⊎_elim
+    (λ (e : bound ≡ most). (verdict.NoPlan, (λ s. cc, e)))
+    (λ other. (verdict.Bounds bound None, (λ s. cc, other, refl, refl)))
+    (cases_eq bound most)
+some_verdict bound most (Some n) = ⊎_elim
+    (λ (e : n ≡ bound). (verdict.Optimal bound, (refl, ap Some e)))
+    (λ apart. ⊎_elim
+    (λ (e : bound ≡ most). (verdict.NoPlan, (λ s. apart (let k : n ≡ bound = cc in k), e)))
+    (λ other. (verdict.Bounds bound (Some n), (λ s. apart (let k : n ≡ bound = cc in k), other, refl, refl)))
+    (cases_eq bound most))
+    (cases_eq n bound)
+
+-- a bound below the plan is not the plan's count
+below_plan : (p : Problem) (lower : ℕ) (plan : Option Route) → lower < count_of p (path_in plan) → option_map length (path_in plan) ≢ Some lower
+below_plan p lower None lt e = cc
+below_plan p lower (Some route) lt e = let k : length route.path ≡ lower = cc in omega (arith, k)
+
+-- what a true answer's certificate shows with its plan is the verdict on the answer
+verdict_on : (p : Problem) (budget : ℕ) (found : Answer) (expanded : ℕ) → IsTrueAnswer p budget found expanded →
+    (v : Verdict) × IsVerdictOn p found v × IsVerdictOf (cert_of found).lower (cap p) (option_map length (path_in (plan_in found))) v
+verdict_on p budget (answer.Optimal plan cert) expanded t =
+    let o = t.says in
+    (verdict.Optimal (length plan.path), refl, (sym o.shown, ap Some (sym o.shown)))
+verdict_on p budget (answer.NoPlan cert) expanded t =
+    let o = t.says in
+    (verdict.NoPlan, refl, (λ e. cc, o.shown))
+verdict_on p budget (answer.Between lower cert plan cause.Budget) expanded t =
+    let o = t.says in
+    let ended = t.ended in
+    let spent = ended.1 in
+    let ok = t.accepted in
+    let low = spent.below in
+    let apart = below_plan p lower plan low in (
+      verdict.Bounds lower (option_map length (path_in plan)),
+      refl,
+      subst (λ n. IsVerdictOf n (cap p) (option_map length (path_in plan)) (verdict.Bounds lower (option_map length (path_in plan)))) (sym o.shown)
+          (apart, λ e. omega (arith, low, e, count_low p plan ok.is_problem o.plan_is), refl, refl),
+    )
+verdict_on p budget (answer.Between lower cert plan cause.Memory) expanded t =
+    let o = t.says in
+    let k = some_verdict lower (cap p) (option_map length (path_in plan)) in
+    (k.0, k.1, subst (λ n. IsVerdictOf n (cap p) (option_map length (path_in plan)) k.0) (sym o.shown) k.1)
+
+-- ---- the certificate
+
+-- what the certificate of an answer claims
+abbrev claim : Problem → Answer → Claim
+claim p found = claimed p (cert_of found) (plan_in found)
+
+-- it is accepted
+claim_accepted : (p : Problem) (budget : ℕ) (found : Answer) (expanded : ℕ) → IsTrueAnswer p budget found expanded → IsAccepted (claim p found)
+claim_accepted p budget (answer.Optimal plan cert) expanded t = t.accepted
+claim_accepted p budget (answer.NoPlan cert) expanded t = t.accepted
+claim_accepted p budget (answer.Between lower cert plan why) expanded t = t.accepted
+
+-- and a text can tell it
+tellable : (p : Problem) (budget : ℕ) (found : Answer) (expanded : ℕ) → HasOneHeight p → NoneGiven p (cert_of found) → IsTrueAnswer p budget found expanded → IsTellable (claim p found)
+tellable p budget found expanded one none t =
+    record {
+      accepted = claim_accepted p budget found expanded t;
+      same_heights = one;
+      rising = claimed_rise p (cert_of found) (plan_in found) t.certificate;
+      none_given = none;
+    }
+
+-- so the text is that of an accepted script, of the problem that is asked for, if one is
+text_accepted : (wanted : Option Problem) (bay : YardBay) (p : Problem) (found : Answer) → IsYardBay bay → IsTellable (claim p found) → IsWanted wanted p →
+    IsYes wanted (text_of bay p found) (told bay (claim p found))
+text_accepted wanted bay p found named t asked =
+    record {
+      is_text = (told_is_script bay (claim p found) named t, refl);
+      as_wanted = asked;
+      accepted = subst IsAccepted (sym (told_again bay (claim p found))) t.accepted;
+    }
+
+pub answer_accepted : (bay : YardBay) (p : Problem) (budget : ℕ) (found : Answer) (expanded : ℕ) → IsYardBay bay → HasOneHeight p → NoneGiven p (cert_of found) →
+    IsTrueAnswer p budget found expanded → IsAcceptedAs bay p found
+answer_accepted bay p budget found expanded named one none t =
+    let k = verdict_on p budget found expanded t in
+    let can = tellable p budget found expanded one none t in (
+      k.0,
+      record {
+        on = k.1;
+        of_bay = (told bay (claim p found), text_accepted None bay p found named can tt, refl, k.2);
+        of_problem = (told bay (claim p found), text_accepted (Some p) bay p found named can refl, k.2);
+      },
+    )
+
+-- ---- files of certificates
+
+-- a bay with a true answer, whose certificate can be written
+record IsGood (budget : ℕ) (bay : Answered) : Type 0 where
+  can : CanBeTold bay.told
+  none : NoneGiven bay.told.problem (cert_of bay.answer)
+  true_answer : IsTrueAnswer bay.told.problem budget bay.answer bay.expanded
+
+-- the certificates are the texts of the file, since each ends with its first line that begins with `end `
+cut : (budget : ℕ) (answered : List Answered) → AllByRecursion (IsGood budget) answered → BeginsWithTexts (certificates_text answered) (map certificate_of answered) []
+cut budget [] good = refl
+cut budget (bay ∷ answered) good =
+    let is = good.0 in
+    let can = is.can in
+    (certificates_text answered, refl, inl (script_ended (told bay.told.bay (claim bay.told.problem bay.answer)) can.0), cut budget answered good.1)
+
+-- and each shows the verdict on its answer
+each_shown : (budget : ℕ) (answered : List Answered) → AllByRecursion (IsGood budget) answered →
+    (verdicts : List (YardBay × Verdict)) × AllZip IsVerdictFor answered verdicts × ShowEach (map certificate_of answered) verdicts
+each_shown budget [] good = ([], tt, tt)
+each_shown budget (bay ∷ answered) good =
+    let is = good.0 in
+    let can = is.can in
+    let first = answer_accepted bay.told.bay bay.told.problem budget bay.answer bay.expanded can.0 can.1 is.none is.true_answer in
+    let shown = first.1 in
+    let more = each_shown budget answered good.1 in
+    ((bay.told.bay, first.0) ∷ more.0, ((refl, shown.on), more.1), (shown.of_bay, more.2))
+
+file_shown : (budget : ℕ) (answered : List Answered) → AllByRecursion (IsGood budget) answered → AreAccepted answered
+file_shown budget answered good =
+    let each = each_shown budget answered good in
+    (each.0, each.1, (map certificate_of answered, cut budget answered good, each.2))
+
+all_good : (budget : ℕ) (answered : List Answered) → AllByRecursion CanBeTold (map (λ bay. bay.told) answered) → AllByRecursion (λ bay. NoneGiven bay.told.problem (cert_of bay.answer)) answered →
+    AllByRecursion (λ bay. IsTrueAnswer bay.told.problem budget bay.answer bay.expanded) answered → AllByRecursion (IsGood budget) answered
+all_good budget [] can none t = tt
+all_good budget (bay ∷ answered) can none t = (record { can = can.0; none = none.0; true_answer = t.0 }, all_good budget answered can.1 none.1 t.1)
+
+pub file_accepted : (budget : ℕ) (problems : List BayProblem) (answered : List Answered) → AreTrueAnswers budget problems answered → All CanBeTold problems → NoneGivenIn answered → AreAccepted answered
+file_accepted budget problems answered t can none =
+    file_shown budget answered
+    (all_good budget answered (subst (AllByRecursion CanBeTold) (sym t.one_for_each) (recursion_from_All CanBeTold problems can))
+    (recursion_from_All (λ (bay : Answered). NoneGiven bay.told.problem (cert_of bay.answer)) answered none)
+    (recursion_from_All (λ (bay : Answered). IsTrueAnswer bay.told.problem budget bay.answer bay.expanded) answered t.each_true))

@@ -1,0 +1,67 @@
+-- What the checker says of the certificates that the solver writes.
+use Rattle.std.specs.Prelude.{◌≡◌, ℕ, List, [], length, map, replicate, All, Some, option_map}
+use Rattle.std.specs.List.{AllZip}
+use Rattle.crp_plan.specs.BayNames.{YardBay, IsYardBay}
+use Rattle.crp_plan.specs.Rows.{tallest}
+use Rattle.crp_plan.specs.Bay.{Problem, cap}
+use Rattle.crp_tree.specs.Parts.{Certificate, part_of}
+use Rattle.crp_tree.specs.Scripts.{given_by}
+use Rattle.crp_cert.specs.Writing.{certificate_text}
+use Rattle.crp_solve.specs.declared.answer.Answer.{Answer}
+use Rattle.crp_solve.specs.declared.answer.Answer.TheVariants as answer
+use Rattle.crp_solve.specs.declared.answer.Cause.TheVariants as cause
+use Rattle.crp_solve.specs.Answers.{path_in, cert_of}
+use Rattle.crp_checker.specs.declared.verdict.Verdict.{Verdict}
+use Rattle.crp_checker.specs.declared.verdict.Verdict.TheVariants as verdict
+use Rattle.crp_checker.specs.Verdicts.{IsVerdictOf}
+use Rattle.crp_checker.specs.Shown.{Shows, ShowsOf}
+use Rattle.crp_checker.specs.Files.{FileShows}
+use Rattle.crp_order.specs.declared.bay_problem.BayProblem.{BayProblem}
+use Rattle.crp_report.specs.Answered.{Answered, plan_in}
+use Rattle.crp_report.specs.Report.{certificates_text}
+
+-- the rows of the problem have one height
+abbrev pub HasOneHeight : Problem → Type 0
+HasOneHeight p = p.heights ≡ replicate (length p.stacks) (tallest p.heights)
+
+-- no part of the certificate gives a subtree to another
+abbrev pub NoneGiven : Problem → Certificate → Type 0
+NoneGiven p cert = All (λ part. given_by p part ≡ []) (map part_of cert.parts)
+
+-- nor does one of the certificates of these bays
+abbrev pub NoneGivenIn : List Answered → Type 0
+NoneGivenIn answered = All (λ bay. NoneGiven bay.told.problem (cert_of bay.answer)) answered
+
+-- the verdict on an answer: on an optimal one, that the relocations of its plan are the fewest; on one without a plan, that there is none; on one whose
+-- budget ended, its bound and the relocations of its plan, if it has one; and where memory was wanting, what the bound, the cap and the plan show
+abbrev pub IsVerdictOn : Problem → Answer → Verdict → Type 0
+IsVerdictOn p (answer.Optimal plan cert) v = v ≡ verdict.Optimal (length plan.path)
+IsVerdictOn p (answer.NoPlan cert) v = v ≡ verdict.NoPlan
+IsVerdictOn p (answer.Between lower cert plan cause.Budget) v = v ≡ verdict.Bounds lower (option_map length (path_in plan))
+IsVerdictOn p (answer.Between lower cert plan cause.Memory) v = IsVerdictOf lower (cap p) (option_map length (path_in plan)) v
+
+-- the text of an answer's certificate, under the name of a bay
+abbrev pub text_of : YardBay → Problem → Answer → List ℕ
+text_of bay p found = certificate_text bay p (cert_of found) (plan_in found)
+
+-- the certificate of the answer shows this verdict on it, for this bay, whether the problem is asked for or not
+pub record IsShown (bay : YardBay) (p : Problem) (found : Answer) (v : Verdict) : Type 0 where
+  pub on : IsVerdictOn p found v
+  pub of_bay : ShowsOf (text_of bay p found) bay v
+  pub of_problem : Shows (Some p) (text_of bay p found) v
+
+-- the certificate of the answer is accepted, with the verdict on the answer
+abbrev pub IsAcceptedAs : YardBay → Problem → Answer → Type 0
+IsAcceptedAs bay p found = (v : Verdict) × IsShown bay p found v
+
+-- a text can tell the bay and its problem: the bay has a name, and its rows have one height
+abbrev pub CanBeTold : BayProblem → Type 0
+CanBeTold told = IsYardBay told.bay × HasOneHeight told.problem
+
+-- the bay and the verdict on the answer for it
+abbrev pub IsVerdictFor : Answered → YardBay × Verdict → Type 0
+IsVerdictFor bay told = (told.0 ≡ bay.told.bay) × IsVerdictOn bay.told.problem bay.answer told.1
+
+-- the file of the certificates is accepted, and shows for each bay, in order, the verdict on its answer
+abbrev pub AreAccepted : List Answered → Type 0
+AreAccepted answered = (verdicts : List (YardBay × Verdict)) × AllZip IsVerdictFor answered verdicts × FileShows (certificates_text answered) verdicts
