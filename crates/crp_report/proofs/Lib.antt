@@ -5,4 +5,5 @@ pub mod Refusing
 pub mod Ended
 pub mod Leaving
 pub mod Making
+pub mod Stops
 pub mod Runs

@@ -8,9 +8,9 @@ use Rattle.crp_plan.specs.Devices.{AppendsFront}
 use Rattle.crp_plan.proofs.Fronts.{Appends-front, Appends-then_front}
 
 -- a piece stands behind those before it, and before those after it
-split : {X : Type 0} (f : X → List ℕ) (xs : List X) (i : ℕ) (x : X) → i < length xs → x ≡ get_or xs i x
+pub split : {X Y : Type 0} (f : X → List Y) (xs : List X) (i : ℕ) (x : X) → i < length xs → x ≡ get_or xs i x
     → flat_map f (take i xs) ++ (f x ++ flat_map f (drop (i + 1) xs)) ≡ flat_map f xs
-split {X} f xs i x h is =
+split {X} {Y} f xs i x h is =
     let tail : x ∷ drop (i + 1) xs ≡ drop i xs = ap (λ (y : X). y ∷ drop (i + 1) xs) is ∙ rw (add-one) (sym (drop-cons xs i x h)) in
     sym (flat_map-append f (take i xs) (x ∷ drop (i + 1) xs)) ∙ ap (λ (l : List X). flat_map f (take i xs ++ l)) tail ∙ ap (flat_map f) (take-append-drop i xs)
 

@@ -1,17 +1,21 @@
 -- What a run tells, from what its parts tell.
-use Rattle.std.proofs.Common.{ℕ, List, inl, inr, refl}
+use Rattle.std.proofs.Common.{◌≡◌, ◌∙◌, ℕ, List, inl, inr, refl, sym, ap, subst}
 use Rattle.crp_movins.specs.LoadOrders.{LoadOrders}
 use Rattle.crp_yard.specs.Inventory.{Inventory}
 use Rattle.crp_yard.specs.Reading.{IsGiven}
 use Rattle.crp_report.specs.declared.fault.Fault.{Fault}
 use Rattle.crp_report.specs.declared.fault.Fault.TheVariants as fault
 use Rattle.crp_report.specs.declared.fault.Input.TheVariants as input
+use Rattle.crp_report.specs.declared.fault.Output.{Output}
+use Rattle.crp_report.specs.declared.fault.Output.TheVariants as output
 use Rattle.crp_report.specs.declared.writing.Texts.{Texts}
 use Rattle.crp_report.specs.Chosen.{RunChosen}
-use Rattle.crp_report.specs.Runs.{Seen, Made, IsMade, IsListed, AreOrders, WritesNothing, WritesFronts, IsYardAccepted, Tells}
+use Rattle.crp_report.specs.Runs.{Seen, Made, IsMade, IsListed, AreOrders, numbers_of, sink_of, Gets, GetsFront, WritesNothing, StopsAt, IsYardAccepted, Tells}
+use Rattle.crp_report.specs.Pieces.{Piece, ArePieces, bytes_for, Stop, written}
 use Rattle.crp_report.specs.Telling.{AreTextsOf, IsNoMessage}
-use Rattle.crp_report.specs.Writing.{report_of, certificates_of, IsTextsFault}
+use Rattle.crp_report.specs.Writing.{report_of, certificates_of, IsTextsFault, bay_pieces, pieces_of, IsTextsStop}
 use Rattle.crp_report.proofs.Making.{bays_tell, bays_certify}
+use Rattle.crp_report.proofs.Stops.{pieces_told}
 
 -- what a run makes of accepted input
 abbrev pub made : (chosen : RunChosen) (list message : List ℕ) (yard : Inventory) (orders : LoadOrders) (t : Texts) → AreTextsOf chosen yard orders t → Made
@@ -52,9 +56,45 @@ message_refused chosen s fault.Memory nothing yard h = nothing
 message_refused chosen s (fault.Yard f) nothing yard none = absurd none
 message_refused chosen s (fault.Write sink) nothing yard none = absurd none
 
+-- the pieces that a run makes of accepted input
+pub pieces_made : (chosen : RunChosen) (yard : Inventory) (orders : LoadOrders) (t : Texts) (are : AreTextsOf chosen yard orders t)
+    → ArePieces (numbers_of yard orders are.sequence) are.answered t.yard_after.items (pieces_of t)
+pieces_made chosen yard orders t are = (bay_pieces t.bays.items, pieces_told are.answered t.bays.items are.bays, rw (are.first, are.last) refl)
+
+-- the sink that a fault of a write names
+sink_in : Fault → Output
+sink_in (fault.Write sink) = sink
+sink_in f = output.Report
+
+-- what is got of three sinks is got of each
+of_each : (s : Seen) (pieces : List Piece) → Gets s.report (bytes_for output.Report pieces) → Gets s.certificates (bytes_for output.Certificates pieces)
+    → Gets s.yard_after (bytes_for output.YardAfter pieces) → (each : Output) → Gets (sink_of s each) (bytes_for each pieces)
+of_each s pieces report certificates yard output.Report = report
+of_each s pieces report certificates yard output.Certificates = certificates
+of_each s pieces report certificates yard output.YardAfter = yard
+
+-- what the three sinks of a run got where a write failed, as its last part tells it
+abbrev pub HasStopped : Seen → List Piece → Fault → Type 0
+HasStopped s pieces f = IsTextsStop pieces s.report.held s.report.holds s.certificates.held s.certificates.holds s.yard_after.held s.yard_after.holds f
+
+stops_at : (m : Made) (s : Seen) (sink : Output) (f : Fault) (pieces : List Piece) → ArePieces (numbers_of m.yard m.orders m.sequence) m.answered m.yard_after pieces
+    → f ≡ fault.Write sink → HasStopped s pieces f → StopsAt m s sink
+unfolding sink_in
+stops_at m s sink f pieces are is (stop, wanted_is, fault_is, report, certificates, yard) = (
+  stop,
+  subst (ArePieces (numbers_of m.yard m.orders m.sequence) m.answered m.yard_after) wanted_is are,
+  ap sink_in (sym fault_is ∙ is),
+  of_each s (written stop) report certificates yard,
+)
+
 -- a text that was not written
-pub write_refused : (chosen : RunChosen) (s : Seen) (f : Fault) → WritesFronts chosen s
+pub write_refused : (chosen : RunChosen) (s : Seen) (f : Fault) (m : Made) (pieces : List Piece) → IsMade chosen s m → GetsFront s.report m.report
+    → GetsFront s.certificates m.certificates → GetsFront s.yard_after m.yard_after → ArePieces (numbers_of m.yard m.orders m.sequence) m.answered m.yard_after pieces
+    → HasStopped s pieces f
     → IsTextsFault s.report.before s.report.after s.certificates.before s.certificates.after s.yard_after.before s.yard_after.after f → Tells chosen s f
-write_refused chosen s f fronts (inl (inl (is, failed))) = rw is (fronts, failed)
-write_refused chosen s f fronts (inl (inr (is, failed))) = rw is (fronts, failed)
-write_refused chosen s f fronts (inr (is, failed)) = rw is (fronts, failed)
+write_refused chosen s f m pieces made_is report certificates yard are stopped (inl (inl (is, failed))) =
+    rw is ((m, made_is, report, certificates, yard, stops_at m s output.Report f pieces are is stopped), failed)
+write_refused chosen s f m pieces made_is report certificates yard are stopped (inl (inr (is, failed))) =
+    rw is ((m, made_is, report, certificates, yard, stops_at m s output.Certificates f pieces are is stopped), failed)
+write_refused chosen s f m pieces made_is report certificates yard are stopped (inr (is, failed)) =
+    rw is ((m, made_is, report, certificates, yard, stops_at m s output.YardAfter f pieces are is stopped), failed)

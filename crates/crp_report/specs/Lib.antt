@@ -5,8 +5,10 @@ pub use Rattle.crp_plan.specs.BayNames
 pub mod MoveLines
 pub mod Answered
 pub mod Report
+pub mod Pieces
 pub mod Chosen
 pub mod Runs
 pub mod Printing
 pub mod Telling
 pub mod Writing
+pub mod Words

@@ -26,6 +26,7 @@ use Rattle.crp_report.specs.declared.status.Status.{Status}
 use Rattle.crp_report.specs.Answered.{Answered, AreTrueAnswers, status_of_all}
 use Rattle.crp_report.specs.Chosen.{RunChosen}
 use Rattle.crp_report.specs.Report.{Numbers, IsReport, certificates_text, IsYardTextAfter}
+use Rattle.crp_report.specs.Pieces.{ArePieces, bytes_for, Stop, wanted, written}
 
 -- what a call saw of a source: the bytes that it had, and its count of failures before and after
 pub record SourceSeen : Type 0 where
@@ -104,19 +105,6 @@ abbrev pub Writes : RunChosen → Seen → Status → Type 0
 Writes chosen s status = (m : Made) × IsMade chosen s m × (status ≡ status_of_all m.answered)
     × Gets s.report m.report × Gets s.certificates m.certificates × Gets s.yard_after m.yard_after
 
--- each sink got a front of its text
-abbrev pub WritesFronts : RunChosen → Seen → Type 0
-WritesFronts chosen s = (m : Made) × IsMade chosen s m
-    × GetsFront s.report m.report × GetsFront s.certificates m.certificates × GetsFront s.yard_after m.yard_after
-
--- no sink got anything
-abbrev pub WritesNothing : Seen → Type 0
-WritesNothing s = GetsNothing s.report × GetsNothing s.certificates × GetsNothing s.yard_after
-
--- the yard list that the source had is accepted
-abbrev pub IsYardAccepted : RunChosen → Seen → Type 0
-IsYardAccepted chosen s = (text : List ℕ) × (yard : Inventory) × IsGiven s.yard.given text × IsListed chosen text yard
-
 -- what was seen of a source, and of a sink
 abbrev pub source_of : Seen → Input → SourceSeen
 source_of s input.Yard = s.yard
@@ -126,6 +114,24 @@ abbrev pub sink_of : Seen → Output → SinkSeen
 sink_of s output.Report = s.report
 sink_of s output.Certificates = s.certificates
 sink_of s output.YardAfter = s.yard_after
+
+-- a write to this sink failed in one of the pieces: each sink got what goes to it of the pieces before and of a front of this one, and nothing else
+abbrev pub StopsAt : Made → Seen → Output → Type 0
+StopsAt m s sink = (stop : Stop) × ArePieces (numbers_of m.yard m.orders m.sequence) m.answered m.yard_after (wanted stop) × (stop.failed.to ≡ sink)
+    × ((each : Output) → Gets (sink_of s each) (bytes_for each (written stop)))
+
+-- each sink got a front of its text, as far as the pieces were written when a write to this one failed
+abbrev pub WritesFronts : RunChosen → Seen → Output → Type 0
+WritesFronts chosen s sink = (m : Made) × IsMade chosen s m
+    × GetsFront s.report m.report × GetsFront s.certificates m.certificates × GetsFront s.yard_after m.yard_after × StopsAt m s sink
+
+-- no sink got anything
+abbrev pub WritesNothing : Seen → Type 0
+WritesNothing s = GetsNothing s.report × GetsNothing s.certificates × GetsNothing s.yard_after
+
+-- the yard list that the source had is accepted
+abbrev pub IsYardAccepted : RunChosen → Seen → Type 0
+IsYardAccepted chosen s = (text : List ℕ) × (yard : Inventory) × IsGiven s.yard.given text × IsListed chosen text yard
 
 -- before the message is looked at the yard list is accepted
 abbrev pub IsReached : RunChosen → Seen → Input → Type 0
@@ -142,5 +148,5 @@ Tells chosen s (fault.Interchange f) = WritesNothing s × (f ≢ edi.Memory) × 
 Tells chosen s (fault.Message f) = WritesNothing s × (f ≢ movins.Memory) × IsYardAccepted chosen s
     × ((text : List ℕ) × (segments : List SegmentParts) × IsGiven s.movins.given text × Spells text segments × (first_fault segments chosen.code ≡ Some f))
 Tells chosen s (fault.Read source) = WritesNothing s × IsReached chosen s source × HasFailed (source_of s source).before (source_of s source).after
-Tells chosen s (fault.Write sink) = WritesFronts chosen s × HasFailed (sink_of s sink).before (sink_of s sink).after
+Tells chosen s (fault.Write sink) = WritesFronts chosen s sink × HasFailed (sink_of s sink).before (sink_of s sink).after
 Tells chosen s fault.Memory = WritesNothing s

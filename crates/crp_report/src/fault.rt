@@ -1,5 +1,6 @@
 //! Why a run did not do what it was asked for.
-ghost use Rattle.std.specs.Prelude.{◌≡◌};
+ghost use Rattle.std.specs.Prelude.{◌≡◌, Some};
+ghost use Rattle.crp_report.specs.Words.{input_words, output_words};
 ghost use Rattle.crp_report.specs.Telling.{yard_told, interchange_told, message_told};
 ghost use Rattle.crp_report.specs.declared.fault.Fault.TheVariants.{Memory};
 
@@ -20,6 +21,8 @@ pub enum Input {
 }
 
 impl Display for Input {
+    ghost output = { λ source. Some (input_words source) };
+
     fn fmt<W: Write>(&self, f: &mut Formatter<W>) -> fmt::Result {
         match self {
             Input::Yard => f.write_str("the yard list"),
@@ -40,6 +43,8 @@ pub enum Output {
 }
 
 impl Display for Output {
+    ghost output = { λ sink. Some (output_words sink) };
+
     fn fmt<W: Write>(&self, f: &mut Formatter<W>) -> fmt::Result {
         match self {
             Output::Report => f.write_str("the report"),

@@ -2,7 +2,7 @@
 ghost use Rattle.std.specs.Prelude.{◌≤◌, IfErr, OnOk};
 ghost use Rattle.std.specs.Io.KnownBytes.{Appends};
 ghost use Rattle.crp_plan.specs.Devices.{AppendsFront};
-ghost use Rattle.crp_report.specs.Writing.{reports_of, certificates_of, report_of, IsWriteOf, IsBaysFault, IsTextsFault};
+ghost use Rattle.crp_report.specs.Writing.{reports_of, certificates_of, report_of, IsWriteOf, IsBaysFault, IsTextsFault, bay_pieces, pieces_of, IsBaysStop, IsTextsStop};
 
 use crate::fault::{Fault, Output};
 use crate::status::Status;
@@ -57,6 +57,7 @@ fn write_bays<W: Sink, C: Sink>(
     ensures reports_front { AppendsFront (W.contents out.old) (W.contents out.new) (reports_of bays.now) }
     ensures certificates_front { AppendsFront (C.contents cert_out.old) (C.contents cert_out.new) (certificates_of bays.now) }
     ensures refused { IfErr result (IsBaysFault (W.failures out.old) (W.failures out.new) (C.failures cert_out.old) (C.failures cert_out.new)) }
+    ensures stopped { IfErr result (IsBaysStop (bay_pieces bays.now) (W.contents out.old) (W.contents out.new) (C.contents cert_out.old) (C.contents cert_out.new)) }
     ensures counts { (W.failures out.old ≤ W.failures out.new) × (C.failures cert_out.old ≤ C.failures cert_out.new) }
     ensures passed { interruptions.new ≤ 1000 }
 {
@@ -88,6 +89,7 @@ pub(crate) fn write_texts<W: Sink, C: Sink, A: Sink>(
     ensures certificates_front { AppendsFront (C.contents cert_out.old) (C.contents cert_out.new) (certificates_of texts.now.bays.items) }
     ensures yard_after_front { AppendsFront (A.contents after_out.old) (A.contents after_out.new) texts.now.yard_after.items }
     ensures refused { IfErr result (IsTextsFault (W.failures out.old) (W.failures out.new) (C.failures cert_out.old) (C.failures cert_out.new) (A.failures after_out.old) (A.failures after_out.new)) }
+    ensures stopped { IfErr result (IsTextsStop (pieces_of texts.now) (W.contents out.old) (W.contents out.new) (C.contents cert_out.old) (C.contents cert_out.new) (A.contents after_out.old) (A.contents after_out.new)) }
 {
     write_piece(out, &texts.first, Output::Report, interruptions)?;
     write_bays(out, cert_out, &texts.bays, interruptions)?;

@@ -1,6 +1,6 @@
 use Rattle.std.proofs.Common.{rules}
 use Rattle.std.proofs.lemmas.Result.{err_from_is_err_and}
-use Rattle.crp_report.proofs.Runs.{made, is_made, message_refused, write_refused}
+use Rattle.crp_report.proofs.Runs.{made, is_made, pieces_made, message_refused, write_refused}
 use Rattle.crp_report.proofs.running.run.Goals as goal
 
 pub returns-in_err-orders : goal.returns-in_err-orders
@@ -21,15 +21,12 @@ returns-in_err-write_texts g c =
     let (list, given_list, listed) = c.in_ok-listed.ensures.accepted in
     let (message, given_message, ordered) = c.in_ok-orders.ensures.accepted in
     let told = c.in_err-write_texts.ensures in
-    rw (p.1, p.2) (write_refused c.args.settings.now _ c.in_err-write_texts.field-0.0 (
-      made c.args.settings.now list message c.in_ok-listed.listed c.in_ok-orders.orders c.in_ok-texts.texts c.in_ok-texts.ensures,
-      is_made c.args.settings.now _ list message c.in_ok-listed.listed c.in_ok-orders.orders c.in_ok-texts.texts c.in_ok-texts.ensures given_list
-          (rw (c.rows.ensures.value, c.tiers.ensures.value) at listed) given_message (rw c.code.ensures at ordered),
-      told.report_front,
-      told.certificates_front,
-      told.yard_after_front,
-    )
-    told.refused)
+    let texts = c.in_ok-texts.texts in
+    let are = c.in_ok-texts.ensures in
+    rw (p.1, p.2) (write_refused c.args.settings.now _ c.in_err-write_texts.field-0.0 (made c.args.settings.now list message c.in_ok-listed.listed c.in_ok-orders.orders texts are)
+    _ (is_made c.args.settings.now _ list message c.in_ok-listed.listed c.in_ok-orders.orders texts are given_list (rw (c.rows.ensures.value, c.tiers.ensures.value) at listed)
+    given_message (rw c.code.ensures at ordered)) told.report_front told.certificates_front told.yard_after_front
+    (pieces_made c.args.settings.now c.in_ok-listed.listed c.in_ok-orders.orders texts are) told.stopped told.refused)
 
 pub returns : goal.returns
 returns g c =
