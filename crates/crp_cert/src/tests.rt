@@ -1,6 +1,7 @@
 //! What no contract says: worked texts byte for byte, and the texts of faults.
 mod certs;
 mod heads;
+mod told;
 mod writing;
 
 use crate::{CertFault, Head};

@@ -1,9 +1,10 @@
-ghost use Rattle.std.specs.Prelude.{◌≡◌, List, ℕ, nat_eq, IfOk};
+ghost use Rattle.std.specs.Prelude.{◌≡◌, List, ℕ, nat_eq, Some, IfOk};
 ghost use Rattle.std.proofs.Common.{rules};
 ghost use Rattle.std.specs.Cmp.{partial_order_from_own_ties};
 ghost use Rattle.std.specs.Cmp.Lexicographic.{pointwise, slice_cmp};
 ghost use Rattle.std.specs.Cmp.Rules.{comparing};
 ghost use Rattle.std.specs.Ordering.{nat_cmp, as_partial_cmp};
+ghost use Rattle.crp_cert.specs.Script.{name_text};
 
 use std::alloc::{AllocError, Global};
 use std::cmp::Ordering;
@@ -52,6 +53,8 @@ impl Path {
 }
 
 impl fmt::Display for Path {
+    ghost output = { λ path. Some (name_text path) };
+
     fn fmt<W: fmt::Write>(&self, f: &mut fmt::Formatter<W>) -> fmt::Result {
         let Some((first, others)) = self.rows().split_first() else {
             return write!(f, "/");

@@ -1,4 +1,4 @@
-use Rattle.std.proofs.Common.{◌≡◌, ◌+◌, ◌⊎◌, None, length, arith, sym, ap, ◌∙◌, subst}
+use Rattle.std.proofs.Common.{◌≡◌, ◌⊎◌, None, length, arith, sym, ap, ◌∙◌, subst}
 use Rattle.crp_checker.specs.declared.refused.Refused.TheVariants.{Memory}
 use Rattle.crp_checker.specs.Refusals.{IsRefusal}
 use Rattle.crp_checker.specs.Files.{AddsShown}
@@ -8,7 +8,7 @@ use Rattle.crp_checker.proofs.file.check_file.Goals as goal
 pub returns-in-Err-clause-refused : goal.returns-in-Err-clause-refused
 returns-in-Err-clause-refused c =
     let before : c.loop-rest.verdicts.items ≡ c.of-before.result = sym (c.of-before.ensures ∙ c.in-Err.ensures.same) in
-    refused_here c.args.bytes.now c.loop-rest.rest.now c.of-before.result c.text_len.result (c.len.result + 1) c.in-Err.refused c.text_len.ensures.within c.text_len.ensures.text
+    refused_here c.args.bytes.now c.loop-rest.rest.now c.of-before.result c.text_len.result _ c.in-Err.refused c.text_len.ensures.within c.text_len.ensures.text
     (subst (IsSoFar c.args.bytes.now c.loop-rest.rest.now) before c.loop-rest.invariant)
     (omega (arith, c.len.ensures, ap length before, c.loop-rest.verdicts.ok.0))
     (subst (λ l. (c.in-Err.refused ≡ Memory) ⊎ IsRefusal None l c.in-Err.refused) c.split_at.ensures.front c.in-Err.ensures.refused)
