@@ -99,5 +99,4 @@ tellable_at_root p tree floor ok heights fits some none =
       };
       same_heights = heights;
       rising = alone Precedes [];
-      none_given = All-from_recursion (λ x. given_by p x ≡ []) (part ∷ []) (gives, tt);
     }
