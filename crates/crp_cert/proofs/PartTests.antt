@@ -1,6 +1,6 @@
 -- The tests of a part line: the place of its name, and its symbols.
-use Rattle.std.proofs.Common.{◌≡◌, ◌≢◌, ℕ, ⊎_elim, Bool, true, false, ◌==◌, List, [], ◌∷◌, ◌++◌, Contains, refl, sym, subst, arith}
-use Rattle.std.specs.Prelude.{codes, ◌||◌}
+use Rattle.std.proofs.Common.{◌≡◌, ◌≢◌, ℕ, ⊎_elim, Bool, true, false, cond, ◌==◌, List, [], ◌∷◌, ◌++◌, Contains, refl, sym, ap, subst, arith}
+use Rattle.std.specs.Prelude.{codes, ◌||◌, ◌&&◌}
 use Rattle.std.specs.List.{list_all, AllByRecursion}
 use Rattle.std.specs.Ordering.{nat_cmp, is_lt}
 use Rattle.std.specs.Cmp.Lexicographic.{slice_cmp}
@@ -11,6 +11,7 @@ use Rattle.crp_bay.specs.Positions.{targets, child}
 use Rattle.crp_bay.proofs.Members.{not_in_nil, in_cons_cases}
 use Rattle.crp_tree.specs.declared.tree.Tree.{Tree, CutB, CutL, Branch', Given, Row_of-Tree, end_of-Tree, more_of-Tree}
 use Rattle.crp_tree.specs.Names.{Precedes}
+use Rattle.crp_tree.specs.Trees.{IsGiven}
 use Rattle.crp_tree.proofs.Ordered.{before_test}
 use Rattle.crp_cert.specs.declared.parts.RawPart.{RawPart}
 use Rattle.crp_cert.specs.Script.{symbols_of, symbols_of_each, names_told, Matches, MatchesEach}
@@ -53,41 +54,81 @@ fails b tells never = ⊎_elim (λ t. absurd (never (tells t))) (λ f. f) (cases
 
 -- one of the symbols
 abbrev pub symbol_test : ℕ → Bool
-symbol_test b = b == 66 || (b == 76 || b == 88)
+symbol_test b = b == 66 || (b == 76 || (b == 88 || b == 71))
 
-symbol_to : (b : ℕ) → symbol_test b ≡ true → Contains (codes "BLX") b
+symbol_to : (b : ℕ) → symbol_test b ≡ true → Contains (codes "BLXG") b
 symbol_to b e = ⊎_elim
     (λ is. (0, omega arith, sym (eqb-true b 66 is)))
     (λ other. ⊎_elim
     (λ is. (1, omega arith, sym (eqb-true b 76 is)))
-    (λ third. (2, omega arith, sym (eqb-true b 88 (last (b == 66) (b == 76) (b == 88) other third e))))
+    (λ third. ⊎_elim
+    (λ is. (2, omega arith, sym (eqb-true b 88 is)))
+    (λ fourth. (3, omega arith, sym (eqb-true b 71 (last (b == 66) (b == 76) (b == 88) (b == 71) other third fourth e))))
+    (cases_Bool (b == 88)))
     (cases_Bool (b == 76)))
     (cases_Bool (b == 66))
   where
-    last : (x y z : Bool) → x ≡ false → y ≡ false → (x || (y || z)) ≡ true → z ≡ true
-    last x y z f g h = rw (f, g) at h
+    last : (x y z w : Bool) → x ≡ false → y ≡ false → z ≡ false → (x || (y || (z || w))) ≡ true → w ≡ true
+    last x y z w f g h e = rw (f, g, h) at e
 
-symbol_from : (b : ℕ) → Contains (codes "BLX") b → symbol_test b ≡ true
+symbol_from : (b : ℕ) → Contains (codes "BLXG") b → symbol_test b ≡ true
 symbol_from b c = ⊎_elim
     (λ is. subst (λ x. symbol_test x ≡ true) is refl)
     (λ more. ⊎_elim
     (λ is. subst (λ x. symbol_test x ≡ true) is refl)
+    (λ further. ⊎_elim
+    (λ is. subst (λ x. symbol_test x ≡ true) is refl)
     (λ last. ⊎_elim
     (λ is. subst (λ x. symbol_test x ≡ true) is refl)
     (λ none. absurd (not_in_nil b none))
-    (in_cons_cases 88 [] b last))
-    (in_cons_cases 76 (88 ∷ []) b more))
-    (in_cons_cases 66 (76 ∷ 88 ∷ []) b c)
+    (in_cons_cases 71 [] b last))
+    (in_cons_cases 88 (71 ∷ []) b further))
+    (in_cons_cases 76 (88 ∷ 71 ∷ []) b more))
+    (in_cons_cases 66 (76 ∷ 88 ∷ 71 ∷ []) b c)
 
--- each of them is a symbol
+-- the first of them is not G
+abbrev first_test : List ℕ → Bool
+first_test [] = true
+first_test (b ∷ symbols) = cond (b == 71) false true
+
+first_to : (symbols : List ℕ) → first_test symbols ≡ true → (rest : List ℕ) → symbols ≡ codes "G" ++ rest → ⊥
+first_to [] e rest f = absurd cc
+first_to (b ∷ symbols) e rest f = let g : first_test (71 ∷ rest) ≡ true = subst (λ l. first_test l ≡ true) f e in cc
+
+first_from : (symbols : List ℕ) → ((rest : List ℕ) → symbols ≡ codes "G" ++ rest → ⊥) → first_test symbols ≡ true
+first_from [] never = refl
+first_from (b ∷ symbols) never = ⊎_elim
+    (λ is. absurd (never symbols (ap (λ x. x ∷ symbols) (eqb-true b 71 is))))
+    (λ other. rw other refl)
+    (cases_Bool (b == 71))
+
+-- each of them is a symbol, and the first is not G
 abbrev pub symbols_test : List ℕ → Bool
-symbols_test symbols = list_all symbol_test symbols
+symbols_test symbols = first_test symbols && list_all symbol_test symbols
+
+-- both tests are passed
+halves : (x y : Bool) → (x && y) ≡ true → (x ≡ true) × (y ≡ true)
+halves true y e = (refl, e)
+halves false y e = absurd cc
 
 pub symbols_to : (symbols : List ℕ) → symbols_test symbols ≡ true → AreSymbols symbols
-symbols_to symbols e = All-from_recursion (λ b. Contains (codes "BLX") b) symbols (all_to (λ b. Contains (codes "BLX") b) symbol_test symbol_to symbols e)
+symbols_to symbols e =
+    let two = halves (first_test symbols) (list_all symbol_test symbols) e in
+    record {
+      each = All-from_recursion (λ b. Contains (codes "BLXG") b) symbols (all_to (λ b. Contains (codes "BLXG") b) symbol_test symbol_to symbols two.1);
+      not_first = first_to symbols two.0;
+    }
 
 pub symbols_from : (symbols : List ℕ) → AreSymbols symbols → symbols_test symbols ≡ true
-symbols_from symbols are = all_from (λ b. Contains (codes "BLX") b) symbol_test symbol_from symbols (recursion_from_All (λ b. Contains (codes "BLX") b) symbols are)
+symbols_from symbols are =
+    rw (first_from symbols are.not_first) (all_from (λ b. Contains (codes "BLXG") b) symbol_test symbol_from symbols (recursion_from_All (λ b. Contains (codes "BLXG") b) symbols are.each))
+
+-- symbols of a part begin with those of no tree that is given as a whole
+pub none_given : (symbols rest : List ℕ) (tree : Tree) → AreSymbols symbols → symbols ≡ symbols_of tree ++ rest → IsGiven tree → ⊥
+none_given symbols rest CutB are e g = g
+none_given symbols rest CutL are e g = g
+none_given symbols rest (Branch' shape all) are e g = g
+none_given symbols rest Given are e g = are.not_first rest e
 
 -- ---- the symbols of a tree
 
@@ -101,7 +142,7 @@ mutual
   tree_symbols : (s : Position) (tree : Tree) → Matches s tree → AllByRecursion (λ b. symbol_test b ≡ true) (symbols_of tree)
   tree_symbols s CutB m = (refl, tt)
   tree_symbols s CutL m = (refl, tt)
-  tree_symbols s Given m = absurd m
+  tree_symbols s Given m = (refl, tt)
   tree_symbols s (Branch' shape all) m = (refl, each_symbols s (targets s) all m)
 
   each_symbols : (s : Position) (rows : List ℕ) {m : _} (all : Row_of-Tree m) → MatchesEach s rows all → AllByRecursion (λ b. symbol_test b ≡ true) (symbols_of_each all)
@@ -112,7 +153,7 @@ mutual
       both (λ b. symbol_test b ≡ true) (symbols_of tree) (symbols_of_each trees) (tree_symbols (child s row) tree m.0) (each_symbols s rows trees m.1)
 
 -- what passes the test for each symbol passes it for all
-passed : (symbols : List ℕ) → AllByRecursion (λ b. symbol_test b ≡ true) symbols → symbols_test symbols ≡ true
+passed : (symbols : List ℕ) → AllByRecursion (λ b. symbol_test b ≡ true) symbols → list_all symbol_test symbols ≡ true
 passed symbols all = all_from (λ b. symbol_test b ≡ true) symbol_test (λ b e. e) symbols all
 
 -- no line feed passes the test
@@ -120,9 +161,16 @@ one_line : (symbols : List ℕ) → AllByRecursion (λ b. symbol_test b ≡ true
 one_line [] all = tt
 one_line (b ∷ symbols) all = (λ ten. let e : symbol_test 10 ≡ true = subst (λ x. symbol_test x ≡ true) ten all.0 in cc, one_line symbols all.1)
 
--- the symbols of a tree are symbols
-pub tree_tested : (s : Position) (tree : Tree) → Matches s tree → symbols_test (symbols_of tree) ≡ true
-tree_tested s tree m = passed (symbols_of tree) (tree_symbols s tree m)
+-- the symbols of a tree that is not given as a whole do not begin with G
+first_tested : (tree : Tree) → (IsGiven tree → ⊥) → first_test (symbols_of tree) ≡ true
+first_tested CutB some = refl
+first_tested CutL some = refl
+first_tested (Branch' shape all) some = refl
+first_tested Given some = absurd (some tt)
+
+-- so they may stand in a part line
+pub tree_tested : (s : Position) (tree : Tree) → Matches s tree → (IsGiven tree → ⊥) → symbols_test (symbols_of tree) ≡ true
+tree_tested s tree m some = rw (first_tested tree some) (passed (symbols_of tree) (tree_symbols s tree m))
 
 -- and stand in one line
 pub tree_one_line : (s : Position) (tree : Tree) → Matches s tree → AllByRecursion (λ b. b ≢ 10) (symbols_of tree)

@@ -123,7 +123,7 @@ past_part most p names part rest is raw comes =
       text = refl;
     } in
     past_line most p names (part_line part ++ rest) is line
-    ∙ rw (comes, tree_tested raw.place part.tree raw.matches, some_tree p part.name symbols raw.place part.tree [] is raw.is_at raw.matches (sym (append-nil symbols))) refl
+    ∙ rw (comes, tree_tested raw.place part.tree raw.matches raw.not_given, some_tree p part.name symbols raw.place part.tree [] is raw.is_at raw.matches (sym (append-nil symbols))) refl
 
 -- the name comes after the names before it
 last_rises : (names : List (List ℕ)) (name : List ℕ) (more : List (List ℕ)) → AllPairs Precedes (names ++ name ∷ more) → AllByRecursion (λ other. Precedes other name) names

@@ -13,7 +13,7 @@ use Rattle.crp_cert.specs.declared.fault.CertFault.{CertFault}
 use Rattle.crp_cert.specs.declared.fault.CertFault.TheVariants as faults
 use Rattle.crp_cert.specs.Text.{head_text, IsHead}
 use Rattle.crp_cert.specs.Script.{symbols_of, symbols_line, part_line, end_line, names_told, symbols_told, Matches, IsRawPart, IsScript, IsScriptOf}
-use Rattle.crp_cert.specs.ScriptFaults.{BeginsWithPart, ComesAfter, IsLineFault, IsFirstFaultOfScript}
+use Rattle.crp_cert.specs.ScriptFaults.{BeginsWithPart, ComesAfter, AreSymbols, IsLineFault, IsFirstFaultOfScript}
 use Rattle.crp_cert.specs.Reading.{tag_at}
 use Rattle.crp_cert.specs.PartReading.{part_at, AreParts}
 use Rattle.crp_cert.proofs.Numbers.{tag_takes, tag_again}
@@ -21,7 +21,7 @@ use Rattle.crp_cert.proofs.Heads.{head_once}
 use Rattle.crp_cert.proofs.Verdicts.{some_answer}
 use Rattle.crp_cert.proofs.PartLines.{behind_word, line_then, part_takes, part_again, no_part}
 use Rattle.crp_cert.proofs.PartFaults.{no_parts, parts_push, part_line_some, told_line, no_last, no_further, tells_parts}
-use Rattle.crp_cert.proofs.PartTests.{after_test, comes_from, comes_to, symbols_test, symbols_to, symbols_from, tree_one_line}
+use Rattle.crp_cert.proofs.PartTests.{after_test, comes_from, comes_to, symbols_test, symbols_to, symbols_from, none_given, tree_one_line}
 use Rattle.crp_cert.proofs.TreeReading.{behind_tree, tree_again, tree_takes}
 use Rattle.crp_cert.proofs.ScriptVerdicts.{few_rows}
 
@@ -108,13 +108,13 @@ Next bytes head behind most = (parts : List RawPart) (rest : List ℕ) → lengt
 
 -- a part of this name and these symbols, whose tree is read
 read_part : (p : Problem) (behind : List ℕ) (parts : List RawPart) (after name symbols rest : List ℕ) (place : Position) (tree : Tree) → IsProblem p → AreParts p behind parts (codes "part " ++ after) → IsAt p name place →
-    part_at p after ≡ Some ((name, symbols), rest) → ComesAfter parts name → Matches place tree → symbols ≡ symbols_of tree ++ [] →
+    part_at p after ≡ Some ((name, symbols), rest) → ComesAfter parts name → AreSymbols symbols → Matches place tree → symbols ≡ symbols_of tree ++ [] →
     AreParts p behind (parts ++ (record { name = name; tree = tree }) ∷ []) rest × (length rest < length (codes "part " ++ after))
-read_part p behind parts after name symbols rest place tree problem are is_at e comes m same =
+read_part p behind parts after name symbols rest place tree problem are is_at e comes all m same =
     let part : RawPart = record { name = name; tree = tree } in
     let told : BeginsWithPart p (codes "part " ++ after) = told_line p after name symbols rest place is_at e in
     let line : codes "part " ++ after ≡ part_line part ++ rest = told.text ∙ ap (λ l. symbols_line name l ++ rest) (same ∙ append-nil (symbols_of tree)) in (
-      parts_push p behind parts (parts ++ part ∷ []) part (codes "part " ++ after) rest refl are (record { short = told.short; place = place; is_at = is_at; matches = m }) comes line,
+      parts_push p behind parts (parts ++ part ∷ []) part (codes "part " ++ after) rest refl are (record { short = told.short; place = place; is_at = is_at; matches = m; not_given = none_given symbols [] tree all same }) comes line,
       part_line_some part (codes "part " ++ after) rest line,
     )
 
@@ -146,7 +146,7 @@ line_answer most bytes head behind parts after name symbols rest place is text a
         )
     by_test true f true g (Some []) h =
         let t = tree_takes (length symbols) place symbols [] (few_rows head.problem name place is.problem is_at) h in
-        let r = read_part head.problem behind parts after name symbols rest place t.0 is.problem are is_at e (comes_to parts name f) t.1 t.2 in
+        let r = read_part head.problem behind parts after name symbols rest place t.0 is.problem are is_at e (comes_to parts name f) (symbols_to symbols g) t.1 t.2 in
         next (parts ++ (record { name = name; tree = t.0 }) ∷ []) rest (omega (arith, r.1)) r.0
     by_test true f true g (Some (b ∷ left)) h =
         let t = tree_takes (length symbols) place symbols (b ∷ left) (few_rows head.problem name place is.problem is_at) h in

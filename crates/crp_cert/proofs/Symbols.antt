@@ -31,15 +31,18 @@ mutual
   one_tree s CutB CutB rest rest' m m' e = (refl, tails 66 66 rest rest' e)
   one_tree s CutB CutL rest rest' m m' e = absurd (unlike 66 76 rest rest' (λ h. omega arith) e)
   one_tree s CutB (Branch' shape all) rest rest' m m' e = absurd (unlike 66 88 rest (symbols_of_each all ++ rest') (λ h. omega arith) e)
-  one_tree s CutB Given rest rest' m m' e = absurd m'
+  one_tree s CutB Given rest rest' m m' e = absurd (unlike 66 71 rest rest' (λ h. omega arith) e)
   one_tree s CutL CutB rest rest' m m' e = absurd (unlike 76 66 rest rest' (λ h. omega arith) e)
   one_tree s CutL CutL rest rest' m m' e = (refl, tails 76 76 rest rest' e)
   one_tree s CutL (Branch' shape all) rest rest' m m' e = absurd (unlike 76 88 rest (symbols_of_each all ++ rest') (λ h. omega arith) e)
-  one_tree s CutL Given rest rest' m m' e = absurd m'
-  one_tree s Given other rest rest' m m' e = absurd m
+  one_tree s CutL Given rest rest' m m' e = absurd (unlike 76 71 rest rest' (λ h. omega arith) e)
+  one_tree s Given CutB rest rest' m m' e = absurd (unlike 71 66 rest rest' (λ h. omega arith) e)
+  one_tree s Given CutL rest rest' m m' e = absurd (unlike 71 76 rest rest' (λ h. omega arith) e)
+  one_tree s Given (Branch' shape all) rest rest' m m' e = absurd (unlike 71 88 rest (symbols_of_each all ++ rest') (λ h. omega arith) e)
+  one_tree s Given Given rest rest' m m' e = (refl, tails 71 71 rest rest' e)
   one_tree s (Branch' shape all) CutB rest rest' m m' e = absurd (unlike 88 66 (symbols_of_each all ++ rest) rest' (λ h. omega arith) e)
   one_tree s (Branch' shape all) CutL rest rest' m m' e = absurd (unlike 88 76 (symbols_of_each all ++ rest) rest' (λ h. omega arith) e)
-  one_tree s (Branch' shape all) Given rest rest' m m' e = absurd m'
+  one_tree s (Branch' shape all) Given rest rest' m m' e = absurd (unlike 88 71 (symbols_of_each all ++ rest) rest' (λ h. omega arith) e)
   one_tree s (Branch' shape all) (Branch' shape' all') rest rest' m m' e =
       let t : symbols_of_each all ++ rest ≡ symbols_of_each all' ++ rest' = tails 88 88 (symbols_of_each all ++ rest) (symbols_of_each all' ++ rest') e in
       let r = one_row s (targets s) all all' rest rest' m m' t in
@@ -139,14 +142,14 @@ take_over (x ∷ xs) (suc i) le = ap (λ l. x ∷ l) (take_over xs i (omega arit
 -- ---- where no tree is read
 
 -- none of the symbols stands there
-pub no_symbol : (s : Position) (bytes : List ℕ) → tag_at (codes "B") bytes ≡ None → tag_at (codes "L") bytes ≡ None → tag_at (codes "X") bytes ≡ None → ¬ BeginsWithTree s bytes
-no_symbol s bytes b l x stands = by_tree stands.0 stands.1 stands.2.0 stands.2.1
+pub no_symbol : (s : Position) (bytes : List ℕ) → tag_at (codes "B") bytes ≡ None → tag_at (codes "L") bytes ≡ None → tag_at (codes "G") bytes ≡ None → tag_at (codes "X") bytes ≡ None → ¬ BeginsWithTree s bytes
+no_symbol s bytes b l g x stands = by_tree stands.0 stands.1 stands.2.0 stands.2.1
   where
     by_tree : (tree : Tree) → Matches s tree → (rest : List ℕ) → bytes ≡ symbols_of tree ++ rest → ⊥
     by_tree CutB m rest e = none-some rest (sym b ∙ ap (tag_at (codes "B")) e ∙ tag_again (codes "B") rest)
     by_tree CutL m rest e = none-some rest (sym l ∙ ap (tag_at (codes "L")) e ∙ tag_again (codes "L") rest)
     by_tree (Branch' shape all) m rest e = none-some (symbols_of_each all ++ rest) (sym x ∙ ap (tag_at (codes "X")) e ∙ tag_again (codes "X") (symbols_of_each all ++ rest))
-    by_tree Given m rest e = absurd m
+    by_tree Given m rest e = none-some rest (sym g ∙ ap (tag_at (codes "G")) e ∙ tag_again (codes "G") rest)
 
 -- trees that were read, and trees of the whole row, go on alike
 not_further : (s : Position) (rows : List ℕ) (trees others : List Tree) (i a : ℕ) (left rest : List ℕ) → i < length rows → AllMatch s (take i rows) trees → AllMatch s rows others →
@@ -170,7 +173,7 @@ branch_stops s bytes rows trees i a left rows_are lt m e none stands = by_tree s
     by_tree : (tree : Tree) → Matches s tree → (rest : List ℕ) → bytes ≡ symbols_of tree ++ rest → ⊥
     by_tree CutB m' rest e' = unlike 88 66 (symbols_of_all trees ++ left) rest (λ h. omega arith) (sym e ∙ e')
     by_tree CutL m' rest e' = unlike 88 76 (symbols_of_all trees ++ left) rest (λ h. omega arith) (sym e ∙ e')
-    by_tree Given m' rest e' = absurd m'
+    by_tree Given m' rest e' = unlike 88 71 (symbols_of_all trees ++ left) rest (λ h. omega arith) (sym e ∙ e')
     by_tree (Branch' shape all) m' rest e' =
         let t : symbols_of_all trees ++ left ≡ symbols_of_each all ++ rest = tails 88 88 (symbols_of_all trees ++ left) (symbols_of_each all ++ rest) (sym e ∙ e') in
         not_further s rows trees (items-the_row-Tree _ all) i a left rest lt m

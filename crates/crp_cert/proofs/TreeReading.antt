@@ -26,7 +26,7 @@ abbrev pub behind_tree : ℕ → Position → List ℕ → Option (List ℕ)
 behind_tree zero s bytes = None
 behind_tree (suc levels) s [] = None
 behind_tree (suc levels) s (b ∷ bytes) =
-    cond (b == 66) (Some bytes) (cond (b == 76) (Some bytes) (cond (b == 88) (behind_each (behind_tree levels) s (targets s) bytes) None))
+    cond (b == 66) (Some bytes) (cond (b == 76) (Some bytes) (cond (b == 71) (Some bytes) (cond (b == 88) (behind_each (behind_tree levels) s (targets s) bytes) None)))
 
 -- a tree is read again
 mutual
@@ -34,10 +34,10 @@ mutual
   tree_again zero s CutB rest few m = absurd (omega arith)
   tree_again zero s CutL rest few m = absurd (omega arith)
   tree_again zero s (Branch' shape all) rest few m = absurd (omega arith)
-  tree_again zero s Given rest few m = absurd m
+  tree_again zero s Given rest few m = absurd (omega arith)
   tree_again (suc levels) s CutB rest few m = refl
   tree_again (suc levels) s CutL rest few m = refl
-  tree_again (suc levels) s Given rest few m = absurd m
+  tree_again (suc levels) s Given rest few m = refl
   tree_again (suc levels) s (Branch' shape all) rest few m = each_again levels s (targets s) all rest (omega arith) m
 
   pub each_again : (levels : ℕ) (s : Position) (rows : List ℕ) {m : _} (all : Row_of-Tree m) (rest : List ℕ) → length (symbols_of_each all) ≤ levels → MatchesEach s rows all →
@@ -111,6 +111,8 @@ tree_takes (suc levels) s (b ∷ bytes) rest few e =
     (λ cut. let is : b ≡ 66 = eqb-true b 66 cut.0 in (CutB, tt, ap (λ x. x ∷ bytes) is ∙ ap (λ l. 66 ∷ l) (same_Some bytes rest cut.1)))
     (λ more. ⊎_elim
     (λ cut. let is : b ≡ 76 = eqb-true b 76 cut.0 in (CutL, tt, ap (λ x. x ∷ bytes) is ∙ ap (λ l. 76 ∷ l) (same_Some bytes rest cut.1)))
+    (λ further. ⊎_elim
+    (λ away. let is : b ≡ 71 = eqb-true b 71 away.0 in (Given, tt, ap (λ x. x ∷ bytes) is ∙ ap (λ l. 71 ∷ l) (same_Some bytes rest away.1)))
     (λ branch. ⊎_elim
     (λ trees.
     let is : b ≡ 88 = eqb-true b 88 trees.0 in
@@ -122,5 +124,6 @@ tree_takes (suc levels) s (b ∷ bytes) rest few e =
     (Branch kids, made.0, made.1))
     (λ nothing. absurd (none-some rest nothing.1))
     (chosen (b == 88) (behind_each (behind_tree levels) s (targets s) bytes) None (Some rest) branch.1))
-    (chosen (b == 76) (Some bytes) (cond (b == 88) (behind_each (behind_tree levels) s (targets s) bytes) None) (Some rest) more.1))
-    (chosen (b == 66) (Some bytes) (cond (b == 76) (Some bytes) (cond (b == 88) (behind_each (behind_tree levels) s (targets s) bytes) None)) (Some rest) e)
+    (chosen (b == 71) (Some bytes) (cond (b == 88) (behind_each (behind_tree levels) s (targets s) bytes) None) (Some rest) further.1))
+    (chosen (b == 76) (Some bytes) (cond (b == 71) (Some bytes) (cond (b == 88) (behind_each (behind_tree levels) s (targets s) bytes) None)) (Some rest) more.1))
+    (chosen (b == 66) (Some bytes) (cond (b == 76) (Some bytes) (cond (b == 71) (Some bytes) (cond (b == 88) (behind_each (behind_tree levels) s (targets s) bytes) None))) (Some rest) e)

@@ -6,6 +6,7 @@ use Rattle.crp_plan.specs.Bay.{Position, start}
 use Rattle.crp_bay.specs.Positions.{settled, targets}
 use Rattle.crp_tree.specs.declared.tree.Tree.{CutB, CutL, Given, end_of-Tree, more_of-Tree}
 use Rattle.crp_cert.specs.Script.{name_text, symbols_of_each, symbols_line, end_line, MatchesEach}
+use Rattle.crp_cert.specs.ScriptFaults.{AreSymbols}
 
 -- six containers in three rows of three tiers, and the position before the first relocation
 abbrev before : Position
@@ -40,8 +41,13 @@ two_match = (tt, (tt, tt))
 one_does_not : MatchesEach before (targets before) (more_of-Tree CutL end_of-Tree) → ⊥
 one_does_not m = m.1
 
-given_does_not : MatchesEach before (targets before) (more_of-Tree Given (more_of-Tree Given end_of-Tree)) → ⊥
-given_does_not m = m.0
+-- both may be given to other parts
+given_match : MatchesEach before (targets before) (more_of-Tree Given (more_of-Tree Given end_of-Tree))
+given_match = (tt, (tt, tt))
+
+-- but not the branch itself
+not_as_a_whole : AreSymbols (codes "G") → ⊥
+not_as_a_whole are = are.not_first [] refl
 
 -- no trees stand where all have left
 none_match : MatchesEach done (targets done) end_of-Tree

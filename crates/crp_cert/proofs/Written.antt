@@ -16,10 +16,9 @@ use Rattle.crp_plan.proofs.Covered.{relocations-path}
 use Rattle.crp_plan.proofs.Tallies.{cap_low}
 use Rattle.crp_bay.specs.Positions.{targets, child}
 use Rattle.crp_tree.specs.declared.tree.Tree.{Tree, CutB, CutL, Branch', Given, Branch, Row_of-Tree, end_of-Tree, more_of-Tree, items-the_row-Tree, items_hidden-the_row-Tree-0}
-use Rattle.crp_tree.specs.Trees.{Fits, FitsEach, givens, givens_of_each}
-use Rattle.crp_tree.specs.Scripts.{Part, IsPart, given_by, names, Script as Claim}
+use Rattle.crp_tree.specs.Trees.{Fits, FitsEach}
+use Rattle.crp_tree.specs.Scripts.{Part, IsPart, names, Script as Claim}
 use Rattle.crp_tree.specs.Parts.{ProblemPart, Certificate, IsCertificate, part_of, names_of}
-use Rattle.crp_tree.proofs.Accepted.{given_is}
 use Rattle.crp_tree.proofs.Listed.{IsBranch, below}
 use Rattle.crp_cert.specs.Text.{AreRows, head_text}
 use Rattle.crp_cert.specs.Script.{symbols_of, symbols_of_each, Matches, MatchesEach, IsRawPart, IsScript, names_told, part_line, end_line}
@@ -73,41 +72,30 @@ branch_symbols tree trees list is same =
 
 -- ---- what is written can be read
 
--- lists that join to the empty one are empty
-nil_left : {X : Type 0} (xs ys : List X) → xs ++ ys ≡ [] → xs ≡ []
-nil_left [] ys e = refl
-nil_left (x ∷ xs) ys e = absurd (cc)
-
-nil_right : {X : Type 0} (xs ys : List X) → xs ++ ys ≡ [] → ys ≡ []
-nil_right [] ys e = e
-nil_right (x ∷ xs) ys e = absurd (cc)
-
--- a tree that fits and gives nothing is one that symbols tell
+-- a tree that fits is one that symbols tell
 mutual
-  pub fit_matches : (path : List ℕ) (s : Position) (tree : Tree) → Fits path s tree → givens path s tree ≡ [] → Matches s tree
-  fit_matches path s CutB fits none = tt
-  fit_matches path s CutL fits none = tt
-  fit_matches path s Given fits none = absurd (cc)
-  fit_matches path s (Branch' shape all) fits none = fit_matches_each path s (targets s) all fits.1 none
+  pub fit_matches : (path : List ℕ) (s : Position) (tree : Tree) → Fits path s tree → Matches s tree
+  fit_matches path s CutB fits = tt
+  fit_matches path s CutL fits = tt
+  fit_matches path s Given fits = tt
+  fit_matches path s (Branch' shape all) fits = fit_matches_each path s (targets s) all fits.1
 
-  fit_matches_each : (path : List ℕ) (s : Position) (rows : List ℕ) {m : _} (all : Row_of-Tree m) → FitsEach path s rows all → givens_of_each path s rows all ≡ [] → MatchesEach s rows all
-  fit_matches_each path s [] end_of-Tree fits none = tt
-  fit_matches_each path s [] (more_of-Tree tree trees) fits none = absurd fits
-  fit_matches_each path s (row ∷ rows) end_of-Tree fits none = absurd fits
-  fit_matches_each path s (row ∷ rows) (more_of-Tree tree trees) fits none = (
-    fit_matches (path ++ row ∷ []) (child s row) tree fits.0 (nil_left (givens (path ++ row ∷ []) (child s row) tree) (givens_of_each path s rows trees) none),
-    fit_matches_each path s rows trees fits.1 (nil_right (givens (path ++ row ∷ []) (child s row) tree) (givens_of_each path s rows trees) none),
-  )
+  fit_matches_each : (path : List ℕ) (s : Position) (rows : List ℕ) {m : _} (all : Row_of-Tree m) → FitsEach path s rows all → MatchesEach s rows all
+  fit_matches_each path s [] end_of-Tree fits = tt
+  fit_matches_each path s [] (more_of-Tree tree trees) fits = absurd fits
+  fit_matches_each path s (row ∷ rows) end_of-Tree fits = absurd fits
+  fit_matches_each path s (row ∷ rows) (more_of-Tree tree trees) fits = (fit_matches (path ++ row ∷ []) (child s row) tree fits.0, fit_matches_each path s rows trees fits.1)
 
--- a part that gives nothing is one that a part line may say
-raw_part : (p : Problem) (part : Part) → IsProblem p → IsPart p part → given_by p part ≡ [] → IsRawPart p (told_part part)
-raw_part p part ok is none =
+-- a part is one that a part line may say
+raw_part : (p : Problem) (part : Part) → IsPart p part → IsRawPart p (told_part part)
+raw_part p part is =
     let shape = is.shape in
     record {
       short = is.short;
       place = is.place;
       is_at = is.is_at;
-      matches = fit_matches part.name is.place part.tree shape.fits (sym (given_is p part ok is) ∙ none);
+      matches = fit_matches part.name is.place part.tree shape.fits;
+      not_given = shape.not_given;
     }
 
 -- relocations go to rows of the bay, which has 12 at most
@@ -143,7 +131,6 @@ told_names (part ∷ parts) = ap (λ l. part.name ∷ l) (told_names parts)
 pub told_is_script : (bay : YardBay) (c : Claim) → IsYardBay bay → IsTellable c → IsScript (told bay c)
 told_is_script bay c name t =
     let ok = t.accepted in
-    let none = t.none_given in
     let is_problem = ok.is_problem in
     let each_part = ok.each_part in
     record {
@@ -154,7 +141,7 @@ told_is_script bay c name t =
         claim = ok.within_cap;
         plan = plan_rows c.problem c.plan is_problem ok.plan_is;
       };
-      each_part = All-map (IsRawPart c.problem) told_part c.parts (λ k d lt. raw_part c.problem _ is_problem (each_part k d lt) (none k d lt));
+      each_part = All-map (IsRawPart c.problem) told_part c.parts (λ k d lt. raw_part c.problem _ (each_part k d lt));
       rising = subst (AllPairs Precedes) (sym (told_names c.parts)) t.rising;
     }
 

@@ -6,6 +6,7 @@ use Rattle.crp_plan.specs.Bay.{Problem, Position, IsAt}
 use Rattle.crp_bay.specs.Positions.{targets, child}
 use Rattle.crp_tree.specs.declared.tree.Tree.{Tree, CutB, CutL, Branch', Given, Row_of-Tree, end_of-Tree, more_of-Tree}
 use Rattle.crp_tree.specs.Names.{Precedes}
+use Rattle.crp_tree.specs.Trees.{IsGiven}
 use Rattle.crp_cert.specs.declared.parts.RawPart.{RawPart}
 use Rattle.crp_cert.specs.declared.script.Script.{Script}
 use Rattle.crp_cert.specs.Text.{numbers_line, head_text, IsHead}
@@ -45,14 +46,13 @@ end_line count = numbers_line (codes "end") (count ∷ [])
 abbrev pub script_text : Script → List ℕ
 script_text script = head_text script.head ++ (flat_map part_line script.parts ++ end_line (length script.parts))
 
--- the tree is one that symbols tell at s: a branch has one tree for each legal row, rising, so none where s is finished or dead;
--- no subtree is given to another part
+-- the tree is one that symbols tell at s: a branch has one tree for each legal row, rising, so none where s is finished or dead
 abbrev mutual
   pub Matches : Position → Tree → Type 0
   Matches s CutB = ⊤
   Matches s CutL = ⊤
   Matches s (Branch' shape all) = MatchesEach s (targets s) all
-  Matches s Given = ⊥
+  Matches s Given = ⊤
 
   -- one tree for each of the rows, in their order, told at the position that the row leads to
   pub MatchesEach : Position → List ℕ → {m : _} → Row_of-Tree m → Type 0
@@ -61,12 +61,14 @@ abbrev mutual
   MatchesEach s (row ∷ rows) end_of-Tree = ⊥
   MatchesEach s (row ∷ rows) (more_of-Tree tree trees) = Matches (child s row) tree × MatchesEach s rows trees
 
--- what a part line may say: the name has at most 8 rows and is a path of the problem, and the tree is one that symbols tell there
+-- what a part line may say: the name has at most 8 rows and is a path of the problem, and the tree is one that symbols tell there, and
+-- not given to another part as a whole
 pub record IsRawPart (p : Problem) (part : RawPart) : Type 0 where
   pub short : length part.name ≤ 8
   pub place : Position
   pub is_at : IsAt p part.name place
   pub matches : Matches place part.tree
+  pub not_given : IsGiven part.tree → ⊥
 
 -- the names of parts
 abbrev pub names_told : List RawPart → List (List ℕ)

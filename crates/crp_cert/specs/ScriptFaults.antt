@@ -35,9 +35,10 @@ pub record BeginsWithPart (p : Problem) (bytes : List ℕ) : Type 0 where
 abbrev pub ComesAfter : List RawPart → List ℕ → Type 0
 ComesAfter parts name = All (λ part. Precedes part.name name) parts
 
--- each of them is a symbol: B, L or X
-abbrev pub AreSymbols : List ℕ → Type 0
-AreSymbols symbols = All (λ b. Contains (codes "BLX") b) symbols
+-- each of them is a symbol: B, L, X or G; and the first is not G
+pub record AreSymbols (symbols : List ℕ) : Type 0 where
+  pub each : All (λ b. Contains (codes "BLXG") b) symbols
+  pub not_first : (rest : List ℕ) → symbols ≡ codes "G" ++ rest → ⊥
 
 -- the symbols begin with those of a whole tree
 abbrev pub BeginsWithTree : Position → List ℕ → Type 0

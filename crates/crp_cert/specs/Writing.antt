@@ -1,11 +1,11 @@
 -- What the text of a certificate tells: the problem, the bound that its parts show, a plan or none, and the parts.
-use Rattle.std.specs.Prelude.{◌≡◌, ℕ, List, [], length, map, replicate, All, AllPairs, Option, option_map}
+use Rattle.std.specs.Prelude.{◌≡◌, ℕ, List, length, map, replicate, AllPairs, Option, option_map}
 use Rattle.crp_plan.specs.BayNames.{YardBay}
 use Rattle.crp_plan.specs.Rows.{tallest}
 use Rattle.crp_plan.specs.Bay.{Problem}
 use Rattle.crp_plan.specs.Plans.{Route}
 use Rattle.crp_tree.specs.Names.{Precedes}
-use Rattle.crp_tree.specs.Scripts.{Part, Script as Claim, IsAccepted, names, given_by}
+use Rattle.crp_tree.specs.Scripts.{Part, Script as Claim, IsAccepted, names}
 use Rattle.crp_tree.specs.Parts.{Certificate, part_of}
 use Rattle.crp_cert.specs.declared.head.Head.{Head}
 use Rattle.crp_cert.specs.declared.parts.RawPart.{RawPart}
@@ -44,9 +44,8 @@ part_read raw = record { name = raw.name; tree = raw.tree }
 abbrev pub claim_of : Script → Claim
 claim_of script = record { problem = script.head.problem; lower = script.head.claim; plan = script.head.plan; parts = map part_read script.parts }
 
--- a text can tell the claim: it is accepted, the rows of its problem have one height, its parts rise by name, and none of them gives a subtree to another
+-- a text can tell the claim: it is accepted, the rows of its problem have one height, and its parts rise by name
 pub record IsTellable (c : Claim) : Type 0 where
   pub accepted : IsAccepted c
   pub same_heights : c.problem.heights ≡ replicate (length c.problem.stacks) (tallest c.problem.heights)
   pub rising : AllPairs Precedes (names c.parts)
-  pub none_given : All (λ part. given_by c.problem part ≡ []) c.parts

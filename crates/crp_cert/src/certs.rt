@@ -107,9 +107,9 @@ fn after_end(count: usize, bytes: &[u8]) -> Option<&[u8]>
 /// The script whose text the bytes are. Else the first line that is not as said, or that no memory
 /// is left.
 ///
-/// Nothing is promised of the parts but that their names are paths of the problem and rise, and
-/// that each branch has a tree for each legal row: no bound is looked at, nor whether the parts
-/// give each other all that is needed.
+/// Nothing is promised of the parts but that their names are paths of the problem and rise, that
+/// each branch has a tree for each legal row, and that no part is given to another as a whole: no
+/// bound is looked at, nor whether the parts give each other all that is needed.
 pub fn read_cert(alloc: Global, bytes: &[u8]) -> Result<Script, CertFault>
     ensures found { IfOk result (IsScriptOf bytes.now) }
     ensures refused { IfErr result (λ fault. (fault ≡ CertFault.Memory) ⊎ IsFirstFaultOfScript bytes.now fault) }

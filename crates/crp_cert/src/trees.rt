@@ -10,12 +10,12 @@ use std::alloc::{AllocError, Global};
 
 /// Whether a byte is a symbol.
 fn is_symbol(byte: u8) -> bool
-    ensures { IsTrue result ↔ Contains (codes "BLX") byte }
+    ensures { IsTrue result ↔ Contains (codes "BLXG") byte }
 {
-    byte == b'B' || byte == b'L' || byte == b'X'
+    matches!(byte, b'B' | b'L' | b'X' | b'G')
 }
 
-/// Whether each byte is a symbol.
+/// Whether each byte is a symbol, and the first is not `G`: a part is not given to another as a whole.
 pub fn are_symbols(bytes: &[u8]) -> bool
     ensures { IsTrue result ↔ AreSymbols bytes.now }
 {
@@ -24,7 +24,7 @@ pub fn are_symbols(bytes: &[u8]) -> bool
             return false;
         }
     }
-    true
+    after_tag(b"G", bytes).is_none()
 }
 
 /// The tree whose symbols the bytes begin with, and what follows them.
@@ -41,6 +41,9 @@ pub fn read_tree<'a>(
     }
     if let Some(rest) = after_tag(b"L", bytes) {
         return Ok(Some((Tree::CutL, rest)));
+    }
+    if let Some(rest) = after_tag(b"G", bytes) {
+        return Ok(Some((Tree::Given, rest)));
     }
     let Some(mut rest) = after_tag(b"X", bytes) else {
         return Ok(None);

@@ -20,7 +20,7 @@ use Rattle.crp_checker.specs.Symbols.{nodes, nodes_of, IsRight}
 use Rattle.crp_checker.specs.Claims.{part_of, claim_of, IsWanted}
 use Rattle.crp_checker.specs.Refusals.{walked, walked_part, IsRightPart, AreRightParts, IsLeast, IsFirstWrongClaim}
 use Rattle.crp_checker.specs.Needs.{IsRootOrGiven, IsWithoutPart, IsWithoutNeed, IsNamesRefusal}
-use Rattle.crp_checker.proofs.Shapes.{fits_from, high_from, not_given}
+use Rattle.crp_checker.proofs.Shapes.{fits_from, high_from}
 
 -- the names of the parts are the names that are told
 pub names_same : (raws : List RawPart) → names (map part_of raws) ≡ names_told raws
@@ -48,7 +48,7 @@ part_is p lower raw is told right short = record {
     fits = fits_from p lower raw.name told.place raw.tree is told.is_at told.matches
         (subst (AllByRecursion (IsRight lower)) (nodes_are p (part_of raw) told.place is told.is_at) right)
         (λ g c. short g (subst (λ l. Contains l g) (sym (givens_are p (part_of raw) told.place is told.is_at)) c));
-    not_given = not_given told.place raw.tree told.matches;
+    not_given = told.not_given;
   };
 }
 

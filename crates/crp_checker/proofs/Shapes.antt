@@ -10,7 +10,7 @@ use Rattle.crp_bay.proofs.Walked.{target_goes_on}
 use Rattle.crp_bay.proofs.Members.{in_head, in_tail}
 use Rattle.crp_bounds.specs.Bounds.{blocking, look_ahead}
 use Rattle.crp_tree.specs.declared.tree.Tree.{Tree, CutB, CutL, Branch', Given, Row_of-Tree, end_of-Tree, more_of-Tree}
-use Rattle.crp_tree.specs.Trees.{Fits, FitsEach, IsGiven, cuts, cuts_of_each, givens, givens_of_each, HasAtLeast}
+use Rattle.crp_tree.specs.Trees.{Fits, FitsEach, cuts, cuts_of_each, givens, givens_of_each, HasAtLeast}
 use Rattle.crp_tree.proofs.Shown.{all_left, all_right}
 use Rattle.crp_cert.specs.Script.{Matches, MatchesEach}
 use Rattle.crp_checker.specs.Symbols.{nodes, nodes_of_each, IsRight}
@@ -82,10 +82,3 @@ mutual
       all_both (IsRight lower) (nodes (path ++ row ∷ []) (child s row) tree) (nodes_of_each path s rows trees)
       (right_from lower (path ++ row ∷ []) (child s row) tree fits.0 (all_left (λ v. lower ≤ v) (cuts (path ++ row ∷ []) (child s row) tree) (cuts_of_each path s rows trees) high))
       (right_each lower path s rows trees fits.1 (all_right (λ v. lower ≤ v) (cuts (path ++ row ∷ []) (child s row) tree) (cuts_of_each path s rows trees) high))
-
--- a tree that symbols tell is not given away as a whole
-pub not_given : (s : Position) (tree : Tree) → Matches s tree → IsGiven tree → ⊥
-not_given s CutB m g = g
-not_given s CutL m g = g
-not_given s (Branch' shape all) m g = g
-not_given s Given m g = m

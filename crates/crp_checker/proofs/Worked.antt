@@ -1,5 +1,5 @@
 -- Worked certificates, by the definitions.
-use Rattle.std.proofs.Common.{◌≡◌, ◌≢◌, ℕ, ◌+◌, ◌<◌, inl, inr, List, [], ◌∷◌, ◌++◌, length, map, All, Some, None, codes, refl, arith, lit<}
+use Rattle.std.proofs.Common.{◌≡◌, ◌≢◌, ℕ, inl, inr, List, [], ◌∷◌, ◌++◌, map, All, Some, None, codes, refl, arith, lit<}
 use Rattle.std.proofs.lemmas.List.Elements.{All-from_recursion}
 use Rattle.crp_plan.specs.Bay.{Problem, Position, start, cap}
 use Rattle.crp_bay.specs.Positions.{settled, targets}
@@ -7,7 +7,7 @@ use Rattle.crp_tree.specs.declared.tree.Tree.{CutB, CutL, end_of-Tree, more_of-T
 use Rattle.crp_checker.specs.declared.verdict.Verdict.TheVariants.{Optimal, NoPlan, Bounds}
 use Rattle.crp_checker.specs.Symbols.{Node, nodes_of_each, letter_at, IsLow, IsFirstWrong}
 use Rattle.crp_checker.specs.Verdicts.{IsVerdictOf}
-use Rattle.crp_checker.specs.Files.{IsOtherLine, IsEnded, IsOpen, BeginsWithTexts}
+use Rattle.crp_checker.specs.Files.{BeginsWithTexts}
 
 -- six containers in three rows of three tiers, and the position before the first relocation
 abbrev six : Problem

@@ -150,6 +150,88 @@ fn refused_certificates_of_six_containers(rt: HostRuntime) -> Result<(), Fail> {
 }
 
 #[test]
+fn subtrees_given_to_parts(rt: HostRuntime) -> Result<(), Fail> {
+    let cases: [&str; 3] = [
+        "at least 3\nplan 2 2 1\npart /: XGG\npart 2: L\npart 3: B\nend 3",
+        "at least 3\nplan 2 2 1\npart /: XGB\npart 2: XXBBB\nend 2",
+        "at least 3\nplan 2 2 1\npart /: XGB\npart 2: XGB\npart 2.2: XBB\nend 3",
+    ];
+    for lines in cases {
+        let text = six(rt.alloc(), lines)?;
+        shows(&rt, &text, Verdict::Optimal(3));
+    }
+    Ok(())
+}
+
+#[test]
+fn subtrees_given_to_parts_that_are_refused(rt: HostRuntime) -> Result<(), Fail> {
+    let cases: [(&str, &str); 12] = [
+        ("3\nplan 2 2 1\npart /: XGG\npart 2: L\nend 2", "K5 at 3"),
+        ("3\nplan 2 2 1\npart /: XGG\nend 1", "K5 at 2"),
+        (
+            "3\nplan 2 2 1\npart /: XGG\npart 3: B\npart 2: L\nend 3",
+            "C7 at line 11",
+        ),
+        (
+            "3\nplan 2 2 1\npart /: XGG\npart 2: L\npart 3: B\npart 3.2: B\nend 4",
+            "K6 at 3.2",
+        ),
+        (
+            "3\nplan 2 2 1\npart /: XGG\npart 1: B\npart 3: B\nend 3",
+            "C6 at line 10",
+        ),
+        ("3\nplan 2 2 1\npart /: G\nend 1", "C8 at line 9"),
+        (
+            "3\nplan 2 2 1\npart /: XGG\npart 2: G\npart 3: B\nend 3",
+            "C8 at line 10",
+        ),
+        ("3\nplan 2 2 1\npart /: XG\nend 1", "C9 at line 9"),
+        ("3\nplan 2 2 1\npart /: XGGG\nend 1", "C10 at line 9"),
+        (
+            "3\nplan 2 2 1\npart /: XGG\npart 2: B\nend 2",
+            "K3 at part 2 symbol 1",
+        ),
+        ("4\nplan 2 2 1\npart /: XGB\nend 1", "K3 at part / symbol 3"),
+        (
+            "3\nplan 2 2 1\npart /: XGB\npart 2.2: XBB\nend 2",
+            "K5 at 2",
+        ),
+    ];
+    for (lines, fault) in cases {
+        let claim = format!(in rt.alloc(); "at least {lines}")?;
+        let text = six(rt.alloc(), &claim)?;
+        refuses(&rt, &text, fault)?;
+    }
+    Ok(())
+}
+
+/// The head of six containers that nine relocations can lead through.
+const LONG_PATHS: &str =
+    "CRP-CERT 1\nbay A 1\nsize 3 3 6 6\nrow 1 4 6\nrow 3 5\nrow 2\nat least 0\nplan -\n";
+
+#[test]
+fn subtrees_given_at_long_paths(rt: HostRuntime) -> Result<(), Fail> {
+    let eight = format!(in rt.alloc();
+        "{LONG_PATHS}part /: XBXBXXBXXXXGBBBBB\npart 3.3.1.2.1.1.2.2: B\nend 2\n"
+    )?;
+    shows(
+        &rt,
+        &eight,
+        Verdict::Bounds {
+            lower: 0,
+            upper: None,
+        },
+    );
+    let nine = format!(in rt.alloc(); "{LONG_PATHS}part /: XBXBXXBXXXXXGBBBBBB\nend 1\n")?;
+    refuses(&rt, &nine, "K5 at 3.3.1.2.1.1.2.2.1")?;
+    let behind = format!(in rt.alloc();
+        "{LONG_PATHS}part /: XBXBXXBXXXXGBBBBB\npart 3.3.1.2.1.1.2.2: XGB\nend 2\n"
+    )?;
+    refuses(&rt, &behind, "K5 at 3.3.1.2.1.1.2.2.1")?;
+    Ok(())
+}
+
+#[test]
 fn other_refused_certificates(rt: HostRuntime) -> Result<(), Fail> {
     let at_end =
         "CRP-CERT 1\nbay A 1\nsize 2 2 2 2\nrow 2 1\nrow\nat least 0\nplan\npart /: X\nend 1\n";

@@ -108,7 +108,7 @@ fn six_containers_three_relocations(rt: HostRuntime) -> Result<(), Fail> {
 
 #[test]
 fn parts_that_are_read(rt: HostRuntime) -> Result<(), Fail> {
-    let texts: [(&[u8], &[u8]); 8] = [
+    let texts: [(&[u8], &[u8]); 11] = [
         (b"end 0\n", b""),
         (b"part /: B\nend 1\n", b"b"),
         (b"part /: XLL\nend 1\n", b"(ll)"),
@@ -122,6 +122,13 @@ fn parts_that_are_read(rt: HostRuntime) -> Result<(), Fail> {
             b"part /: XLB\npart 2: L\npart 3: B\npart 3.2: B\nend 4\n",
             b"(lb)\x02l\x03b\x03\x02b",
         ),
+        // Subtrees that are given to parts of their own.
+        (
+            b"part /: XGG\npart 2: L\npart 3: B\nend 3\n",
+            b"(gg)\x02l\x03b",
+        ),
+        (b"part /: XGB\npart 2: XXBBB\nend 2\n", b"(gb)\x02((bb)b)"),
+        (b"part /: XLXG\nend 1\n", b"(l(g))"),
         // After the relocations of a plan no container is left.
         (b"part 2.2.1: X\nend 1\n", b"\x02\x02\x01()"),
     ];
@@ -136,6 +143,13 @@ fn parts_that_are_read(rt: HostRuntime) -> Result<(), Fail> {
     assert_eq!(rt;
         shown(rt.alloc(), &script.parts)?.as_slice(),
         b"l".as_slice()
+    );
+    // A subtree is given at a path of nine rows.
+    let deep = b"part 3.3.1.2.1.1.2.2: XGB\nend 1\n";
+    let script = read_cert(rt.alloc(), &text_of(rt.alloc(), &LONG_PATHS, deep)?)?;
+    assert_eq!(rt;
+        shown(rt.alloc(), &script.parts)?.as_slice(),
+        b"\x03\x03\x01\x02\x01\x01\x02\x02(gb)".as_slice()
     );
     Ok(())
 }
@@ -162,9 +176,12 @@ fn symbols_that_are_refused(rt: HostRuntime) -> Result<(), Fail> {
     let symbol = CertFault::Symbol { line: 9 };
     let unfinished = CertFault::Unfinished { line: 9 };
     let trailing = CertFault::Trailing { line: 9 };
-    let lines: [(&[u8], CertFault); 18] = [
+    let lines: [(&[u8], CertFault); 24] = [
         (b"G", symbol),
-        (b"XGG", symbol),
+        (b"GG", symbol),
+        (b"GXLB", symbol),
+        (b"XGQ", symbol),
+        (b"XGg", symbol),
         (b"XLBZ", symbol),
         (b"XBLQ", symbol),
         (b"XLB ", symbol),
@@ -177,7 +194,10 @@ fn symbols_that_are_refused(rt: HostRuntime) -> Result<(), Fail> {
         (b"X", unfinished),
         (b"XL", unfinished),
         (b"XXBB", unfinished),
+        (b"XG", unfinished),
+        (b"XXGG", unfinished),
         (b"XLBB", trailing),
+        (b"XGGG", trailing),
         (b"XBLL", trailing),
         (b"BB", trailing),
         (b"LX", trailing),

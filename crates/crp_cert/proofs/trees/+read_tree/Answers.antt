@@ -6,9 +6,9 @@ use Rattle.crp_cert.specs.PartReading.{AllMatch, symbols_of_all}
 use Rattle.crp_cert.proofs.Symbols.{no_symbol, branch_stops, branch_read, match_push, text_push, take_over}
 use Rattle.crp_cert.proofs.trees.+read_tree.Goals as goal
 
-pub returns-in_default-after_tag-2-clause-none : goal.returns-in_default-after_tag-2-clause-none
-returns-in_default-after_tag-2-clause-none t c =
-    no_symbol c.args.place.now c.args.bytes.now c.in_default.ensures c.in_default-after_tag.ensures c.in_default-after_tag-2.ensures
+pub returns-in_default-after_tag-3-clause-none : goal.returns-in_default-after_tag-3-clause-none
+returns-in_default-after_tag-3-clause-none t c =
+    no_symbol c.args.place.now c.args.bytes.now c.in_default.ensures c.in_default-after_tag.ensures c.in_default-after_tag-2.ensures c.in_default-after_tag-3.ensures
 
 pub returns-in_default-2-clause-none : goal.returns-in_default-2-clause-none
 returns-in_default-2-clause-none t c =
