@@ -28,7 +28,7 @@ use Rattle.crp_report.specs.Chosen.{RunChosen}
 use Rattle.crp_report.specs.Runs.{Seen, Made, IsMade}
 use Rattle.crp_order.specs.BayProblems.{problems_of}
 use Rattle.crp.specs.Prove.{IsProofOf}
-use Rattle.crp.specs.Accepted.{HasOneHeight, NoneGiven, NoneGivenIn, IsVerdictOn, text_of, IsAcceptedAs, CanBeTold, IsVerdictFor, IsAcceptedFile}
+use Rattle.crp.specs.Accepted.{HasOneHeight, IsVerdictOn, text_of, IsAcceptedAs, CanBeTold, IsVerdictFor, IsAcceptedFile}
 use Rattle.crp.proofs.Ended.{script_ended}
 use Rattle.crp.proofs.Named.{can_be_told}
 
@@ -92,13 +92,12 @@ claim_accepted p budget (answer.NoPlan cert) expanded t = t.accepted
 claim_accepted p budget (answer.Between lower cert plan why) expanded t = t.accepted
 
 -- and a text can tell it
-tellable : (p : Problem) (budget : ℕ) (found : Answer) (expanded : ℕ) → HasOneHeight p → NoneGiven p (cert_of found) → IsTrueAnswer p budget found expanded → IsTellable (claim p found)
-tellable p budget found expanded one none t =
+tellable : (p : Problem) (budget : ℕ) (found : Answer) (expanded : ℕ) → HasOneHeight p → IsTrueAnswer p budget found expanded → IsTellable (claim p found)
+tellable p budget found expanded one t =
     record {
       accepted = claim_accepted p budget found expanded t;
       same_heights = one;
       rising = claimed_rise p (cert_of found) (plan_in found) t.certificate;
-      none_given = none;
     }
 
 -- so the text is that of an accepted script, of the problem that is asked for, if one is
@@ -111,11 +110,11 @@ text_accepted wanted bay p found named t asked =
       accepted = subst IsAccepted (sym (told_again bay (claim p found))) t.accepted;
     }
 
-pub answer_accepted : (bay : YardBay) (p : Problem) (budget : ℕ) (found : Answer) (expanded : ℕ) → IsYardBay bay → HasOneHeight p → NoneGiven p (cert_of found) →
+pub answer_accepted : (bay : YardBay) (p : Problem) (budget : ℕ) (found : Answer) (expanded : ℕ) → IsYardBay bay → HasOneHeight p →
     IsTrueAnswer p budget found expanded → IsAcceptedAs (text_of bay p found) bay p found
-answer_accepted bay p budget found expanded named one none t =
+answer_accepted bay p budget found expanded named one t =
     let k = verdict_on p budget found expanded t in
-    let can = tellable p budget found expanded one none t in (
+    let can = tellable p budget found expanded one t in (
       k.0,
       record {
         on = k.1;
@@ -125,18 +124,17 @@ answer_accepted bay p budget found expanded named one none t =
     )
 
 -- and so is the certificate of a head
-pub proof_accepted : (budget : ℕ) (head : Head) (found : Answer) (text : List ℕ) → IsHead head → NoneGiven head.problem (cert_of found) → IsProofOf budget head found text →
+pub proof_accepted : (budget : ℕ) (head : Head) (found : Answer) (text : List ℕ) → IsHead head → IsProofOf budget head found text →
     IsAcceptedAs text head.bay head.problem found
-proof_accepted budget head found text is none proof =
+proof_accepted budget head found text is proof =
     let t = proof.0 in
-    subst (λ l. IsAcceptedAs l head.bay head.problem found) (sym proof.1) (answer_accepted head.bay head.problem budget found t.0 is.name is.same_heights none t.1)
+    subst (λ l. IsAcceptedAs l head.bay head.problem found) (sym proof.1) (answer_accepted head.bay head.problem budget found t.0 is.name is.same_heights t.1)
 
 -- ---- files of certificates
 
 -- a bay with a true answer, whose certificate can be written
 record IsGood (budget : ℕ) (bay : Answered) : Type 0 where
   can : CanBeTold bay.told
-  none : NoneGiven bay.told.problem (cert_of bay.answer)
   true_answer : IsTrueAnswer bay.told.problem budget bay.answer bay.expanded
 
 -- the certificates are the texts of the file, since each ends with its first line that begins with `end `
@@ -154,7 +152,7 @@ each_shown budget [] good = ([], tt, tt)
 each_shown budget (bay ∷ answered) good =
     let is = good.0 in
     let can = is.can in
-    let first = answer_accepted bay.told.bay bay.told.problem budget bay.answer bay.expanded can.0 can.1 is.none is.true_answer in
+    let first = answer_accepted bay.told.bay bay.told.problem budget bay.answer bay.expanded can.0 can.1 is.true_answer in
     let shown = first.1 in
     let more = each_shown budget answered good.1 in
     ((bay.told.bay, first.0) ∷ more.0, ((refl, shown.on), more.1), (shown.of_bay, more.2))
@@ -164,20 +162,19 @@ file_shown budget answered good =
     let each = each_shown budget answered good in
     (each.0, each.1, (map certificate_of answered, cut budget answered good, each.2))
 
-all_good : (budget : ℕ) (answered : List Answered) → AllByRecursion CanBeTold (map (λ bay. bay.told) answered) → AllByRecursion (λ bay. NoneGiven bay.told.problem (cert_of bay.answer)) answered →
+all_good : (budget : ℕ) (answered : List Answered) → AllByRecursion CanBeTold (map (λ bay. bay.told) answered) →
     AllByRecursion (λ bay. IsTrueAnswer bay.told.problem budget bay.answer bay.expanded) answered → AllByRecursion (IsGood budget) answered
-all_good budget [] can none t = tt
-all_good budget (bay ∷ answered) can none t = (record { can = can.0; none = none.0; true_answer = t.0 }, all_good budget answered can.1 none.1 t.1)
+all_good budget [] can t = tt
+all_good budget (bay ∷ answered) can t = (record { can = can.0; true_answer = t.0 }, all_good budget answered can.1 t.1)
 
-pub file_accepted : (budget : ℕ) (problems : List BayProblem) (answered : List Answered) → AreTrueAnswers budget problems answered → All CanBeTold problems → NoneGivenIn answered → IsAcceptedFile (certificates_text answered) answered
-file_accepted budget problems answered t can none =
+pub file_accepted : (budget : ℕ) (problems : List BayProblem) (answered : List Answered) → AreTrueAnswers budget problems answered → All CanBeTold problems → IsAcceptedFile (certificates_text answered) answered
+file_accepted budget problems answered t can =
     file_shown budget answered
     (all_good budget answered (subst (AllByRecursion CanBeTold) (sym t.one_for_each) (recursion_from_All CanBeTold problems can))
-    (recursion_from_All (λ (bay : Answered). NoneGiven bay.told.problem (cert_of bay.answer)) answered none)
     (recursion_from_All (λ (bay : Answered). IsTrueAnswer bay.told.problem budget bay.answer bay.expanded) answered t.each_true))
 
-pub run_accepted : (chosen : RunChosen) (seen : Seen) (made : Made) → IsMade chosen seen made → NoneGivenIn made.answered → IsAcceptedFile made.certificates made.answered
-run_accepted chosen seen made is none =
+pub run_accepted : (chosen : RunChosen) (seen : Seen) (made : Made) → IsMade chosen seen made → IsAcceptedFile made.certificates made.answered
+run_accepted chosen seen made is =
     let can = can_be_told chosen.rows chosen.tiers made.list made.yard made.sequence is.listed in
     subst (λ file. IsAcceptedFile file made.answered) (sym is.certificates)
-    (file_accepted chosen.search.budget (problems_of made.yard made.sequence) made.answered is.true_answers can none)
+    (file_accepted chosen.search.budget (problems_of made.yard made.sequence) made.answered is.true_answers can)
