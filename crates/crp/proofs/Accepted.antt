@@ -7,6 +7,8 @@ use Rattle.crp_plan.specs.BayNames.{YardBay, IsYardBay}
 use Rattle.crp_plan.specs.Bay.{Problem, cap}
 use Rattle.crp_plan.specs.Plans.{Route}
 use Rattle.crp_tree.specs.Scripts.{IsAccepted, Script as Claim}
+use Rattle.crp_cert.specs.declared.head.Head.{Head}
+use Rattle.crp_cert.specs.Text.{IsHead}
 use Rattle.crp_cert.specs.Writing.{told, claimed, IsTellable}
 use Rattle.crp_cert.proofs.Written.{told_is_script, told_again, claimed_rise}
 use Rattle.crp_solve.specs.declared.answer.Answer.{Answer}
@@ -22,8 +24,13 @@ use Rattle.crp_checker.specs.Files.{BeginsWithTexts, ShowEach}
 use Rattle.crp_order.specs.declared.bay_problem.BayProblem.{BayProblem}
 use Rattle.crp_report.specs.Answered.{Answered, AreTrueAnswers, plan_in}
 use Rattle.crp_report.specs.Report.{certificate_of, certificates_text}
-use Rattle.crp.specs.Accepted.{HasOneHeight, IsVerdictOn, text_of, IsAcceptedAs, CanBeTold, IsVerdictFor, AreAccepted}
+use Rattle.crp_report.specs.Chosen.{RunChosen}
+use Rattle.crp_report.specs.Runs.{Seen, Made, IsMade}
+use Rattle.crp_order.specs.BayProblems.{problems_of}
+use Rattle.crp.specs.Prove.{IsProofOf}
+use Rattle.crp.specs.Accepted.{HasOneHeight, IsVerdictOn, text_of, IsAcceptedAs, CanBeTold, IsVerdictFor, IsAcceptedFile}
 use Rattle.crp.proofs.Ended.{script_ended}
+use Rattle.crp.proofs.Named.{can_be_told}
 
 -- ---- the verdict
 
@@ -104,7 +111,7 @@ text_accepted wanted bay p found named t asked =
     }
 
 pub answer_accepted : (bay : YardBay) (p : Problem) (budget : ℕ) (found : Answer) (expanded : ℕ) → IsYardBay bay → HasOneHeight p →
-    IsTrueAnswer p budget found expanded → IsAcceptedAs bay p found
+    IsTrueAnswer p budget found expanded → IsAcceptedAs (text_of bay p found) bay p found
 answer_accepted bay p budget found expanded named one t =
     let k = verdict_on p budget found expanded t in
     let can = tellable p budget found expanded one t in (
@@ -115,6 +122,13 @@ answer_accepted bay p budget found expanded named one t =
         of_problem = (told bay (claim p found), text_accepted (Some p) bay p found named can refl, k.2);
       },
     )
+
+-- and so is the certificate of a head
+pub proof_accepted : (budget : ℕ) (head : Head) (found : Answer) (text : List ℕ) → IsHead head → IsProofOf budget head found text →
+    IsAcceptedAs text head.bay head.problem found
+proof_accepted budget head found text is proof =
+    let t = proof.0 in
+    subst (λ l. IsAcceptedAs l head.bay head.problem found) (sym proof.1) (answer_accepted head.bay head.problem budget found t.0 is.name is.same_heights t.1)
 
 -- ---- files of certificates
 
@@ -143,7 +157,7 @@ each_shown budget (bay ∷ answered) good =
     let more = each_shown budget answered good.1 in
     ((bay.told.bay, first.0) ∷ more.0, ((refl, shown.on), more.1), (shown.of_bay, more.2))
 
-file_shown : (budget : ℕ) (answered : List Answered) → AllByRecursion (IsGood budget) answered → AreAccepted answered
+file_shown : (budget : ℕ) (answered : List Answered) → AllByRecursion (IsGood budget) answered → IsAcceptedFile (certificates_text answered) answered
 file_shown budget answered good =
     let each = each_shown budget answered good in
     (each.0, each.1, (map certificate_of answered, cut budget answered good, each.2))
@@ -153,8 +167,14 @@ all_good : (budget : ℕ) (answered : List Answered) → AllByRecursion CanBeTol
 all_good budget [] can t = tt
 all_good budget (bay ∷ answered) can t = (record { can = can.0; true_answer = t.0 }, all_good budget answered can.1 t.1)
 
-pub file_accepted : (budget : ℕ) (problems : List BayProblem) (answered : List Answered) → AreTrueAnswers budget problems answered → All CanBeTold problems → AreAccepted answered
+pub file_accepted : (budget : ℕ) (problems : List BayProblem) (answered : List Answered) → AreTrueAnswers budget problems answered → All CanBeTold problems → IsAcceptedFile (certificates_text answered) answered
 file_accepted budget problems answered t can =
     file_shown budget answered
     (all_good budget answered (subst (AllByRecursion CanBeTold) (sym t.one_for_each) (recursion_from_All CanBeTold problems can))
     (recursion_from_All (λ (bay : Answered). IsTrueAnswer bay.told.problem budget bay.answer bay.expanded) answered t.each_true))
+
+pub run_accepted : (chosen : RunChosen) (seen : Seen) (made : Made) → IsMade chosen seen made → IsAcceptedFile made.certificates made.answered
+run_accepted chosen seen made is =
+    let can = can_be_told chosen.rows chosen.tiers made.list made.yard made.sequence is.listed in
+    subst (λ file. IsAcceptedFile file made.answered) (sym is.certificates)
+    (file_accepted chosen.search.budget (problems_of made.yard made.sequence) made.answered is.true_answers can)

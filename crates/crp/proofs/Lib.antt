@@ -5,4 +5,5 @@ pub mod Lacking
 pub mod CommandLine
 pub mod Checked
 pub mod Ended
+pub mod Named
 pub mod Accepted

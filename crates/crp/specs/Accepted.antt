@@ -16,7 +16,6 @@ use Rattle.crp_checker.specs.Shown.{Shows, ShowsOf}
 use Rattle.crp_checker.specs.Files.{FileShows}
 use Rattle.crp_order.specs.declared.bay_problem.BayProblem.{BayProblem}
 use Rattle.crp_report.specs.Answered.{Answered, plan_in}
-use Rattle.crp_report.specs.Report.{certificates_text}
 
 -- the rows of the problem have one height
 abbrev pub HasOneHeight : Problem → Type 0
@@ -34,15 +33,15 @@ IsVerdictOn p (answer.Between lower cert plan cause.Memory) v = IsVerdictOf lowe
 abbrev pub text_of : YardBay → Problem → Answer → List ℕ
 text_of bay p found = certificate_text bay p (cert_of found) (plan_in found)
 
--- the certificate of the answer shows this verdict on it, for this bay, whether the problem is asked for or not
-pub record IsShown (bay : YardBay) (p : Problem) (found : Answer) (v : Verdict) : Type 0 where
+-- the text shows this verdict on the answer, for this bay, whether the problem is asked for or not
+pub record IsShown (text : List ℕ) (bay : YardBay) (p : Problem) (found : Answer) (v : Verdict) : Type 0 where
   pub on : IsVerdictOn p found v
-  pub of_bay : ShowsOf (text_of bay p found) bay v
-  pub of_problem : Shows (Some p) (text_of bay p found) v
+  pub of_bay : ShowsOf text bay v
+  pub of_problem : Shows (Some p) text v
 
--- the certificate of the answer is accepted, with the verdict on the answer
-abbrev pub IsAcceptedAs : YardBay → Problem → Answer → Type 0
-IsAcceptedAs bay p found = (v : Verdict) × IsShown bay p found v
+-- the text is accepted as the certificate of a bay, with the verdict on the answer to its problem
+abbrev pub IsAcceptedAs : List ℕ → YardBay → Problem → Answer → Type 0
+IsAcceptedAs text bay p found = (v : Verdict) × IsShown text bay p found v
 
 -- a text can tell the bay and its problem: the bay has a name, and its rows have one height
 abbrev pub CanBeTold : BayProblem → Type 0
@@ -52,6 +51,6 @@ CanBeTold told = IsYardBay told.bay × HasOneHeight told.problem
 abbrev pub IsVerdictFor : Answered → YardBay × Verdict → Type 0
 IsVerdictFor bay told = (told.0 ≡ bay.told.bay) × IsVerdictOn bay.told.problem bay.answer told.1
 
--- the file of the certificates is accepted, and shows for each bay, in order, the verdict on its answer
-abbrev pub AreAccepted : List Answered → Type 0
-AreAccepted answered = (verdicts : List (YardBay × Verdict)) × AllZip IsVerdictFor answered verdicts × FileShows (certificates_text answered) verdicts
+-- the file is accepted, and shows for each of these bays, in order, the verdict on its answer
+abbrev pub IsAcceptedFile : List ℕ → List Answered → Type 0
+IsAcceptedFile file answered = (verdicts : List (YardBay × Verdict)) × AllZip IsVerdictFor answered verdicts × FileShows file verdicts

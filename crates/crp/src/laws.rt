@@ -2,21 +2,40 @@
 ghost use Rattle.std.specs.Prelude.{ℕ, List, All};
 ghost use Rattle.crp_plan.specs.Bay.{Problem};
 ghost use Rattle.crp_plan.specs.BayNames.{YardBay, IsYardBay};
+ghost use Rattle.crp_cert.specs.declared.head.Head.{Head};
+ghost use Rattle.crp_cert.specs.Text.{IsHead};
 ghost use Rattle.crp_solve.specs.declared.answer.Answer.{Answer};
 ghost use Rattle.crp_solve.specs.Answers.{IsTrueAnswer};
 ghost use Rattle.crp_order.specs.declared.bay_problem.BayProblem.{BayProblem};
 ghost use Rattle.crp_report.specs.Answered.{Answered, AreTrueAnswers};
-ghost use Rattle.crp.specs.Accepted.{HasOneHeight, IsAcceptedAs, CanBeTold, AreAccepted};
+ghost use Rattle.crp_report.specs.Report.{certificates_text};
+ghost use Rattle.crp_report.specs.Chosen.{RunChosen};
+ghost use Rattle.crp_report.specs.Runs.{Seen, Made, IsMade};
+ghost use Rattle.crp.specs.Prove.{IsProofOf};
+ghost use Rattle.crp.specs.Accepted.{HasOneHeight, text_of, IsAcceptedAs, CanBeTold, IsAcceptedFile};
 
 /// The checker accepts what the solver writes: the certificate of a true answer, under the name of a bay whose rows have one
 /// height, is accepted, with the verdict on that answer.
 pub fn answers_are_accepted()
     ensures { (bay : YardBay) (p : Problem) (budget : ℕ) (found : Answer) (expanded : ℕ) → IsYardBay bay → HasOneHeight p
-        → IsTrueAnswer p budget found expanded → IsAcceptedAs bay p found }
+        → IsTrueAnswer p budget found expanded → IsAcceptedAs (text_of bay p found) bay p found }
 {}
 
 /// The checker accepts the file of the certificates of true answers, and it shows for each bay, in order, the verdict on its answer.
 pub fn certificates_are_accepted()
     ensures { (budget : ℕ) (problems : List BayProblem) (answered : List Answered) → AreTrueAnswers budget problems answered
-        → All CanBeTold problems → AreAccepted answered }
+        → All CanBeTold problems → IsAcceptedFile (certificates_text answered) answered }
+{}
+
+/// The checker accepts the file of certificates that a run makes of a yard list and a message, and it shows for each bay of the
+/// report, in order, the verdict on its answer.
+pub fn runs_are_accepted()
+    ensures { (chosen : RunChosen) (seen : Seen) (made : Made) → IsMade chosen seen made
+        → IsAcceptedFile made.certificates made.answered }
+{}
+
+/// The checker accepts the certificate that is made of a head, with the verdict on the answer to its problem.
+pub fn proofs_are_accepted()
+    ensures { (budget : ℕ) (head : Head) (found : Answer) (text : List ℕ) → IsHead head
+        → IsProofOf budget head found text → IsAcceptedAs text head.bay head.problem found }
 {}
