@@ -1,4 +1,4 @@
-use Rattle.std.proofs.Common.{◌∙◌, sym, refl, inr}
+use Rattle.std.proofs.Common.{◌∙◌, refl}
 use Rattle.crp_yard.proofs.YardSteps.{inventory_is_yard}
 use Rattle.crp_yard.proofs.reading.yard_with.Goals as goal
 
