@@ -165,6 +165,27 @@ fn the_lower_slot_is_first_by_stowage(rt: HostRuntime) -> Result<(), Fail> {
     Ok(())
 }
 
+// The slot of the second order is beneath that of the first, and so its container comes first by stowage.
+#[test]
+fn what_is_beneath_comes_first(rt: HostRuntime) -> Result<(), Fail> {
+    let alloc = rt.alloc();
+    let orders = b"LOC+147+0020184'EQD+CN+X'\nLOC+147+0010182'EQD+CN+Y'\n";
+    let text = message(alloc, orders, b"UNT+7+1'")?;
+    let segments = read_segments(alloc, &text)?;
+    let orders = load_orders(alloc, &segments, b"LOA")?;
+    let listed = orders.list();
+    assert!(rt; listed.len() == 2);
+    assert!(rt; beneath(&listed[1].slot, &listed[0].slot));
+    assert!(rt; !beneath(&listed[0].slot, &listed[1].slot));
+    let stowed = sequence(alloc, orders, Mode::Stowage)?;
+    let want: [&[u8]; 2] = [b"Y", b"X"];
+    assert_eq!(rt; stowed.list().len(), 2);
+    for (container, name) in stowed.list().iter().zip(&want) {
+        assert!(rt; container.bytes() == *name);
+    }
+    Ok(())
+}
+
 #[test]
 fn stowage_goes_by_tier_then_bay_then_row_then_place(rt: HostRuntime) -> Result<(), Fail> {
     let alloc = rt.alloc();

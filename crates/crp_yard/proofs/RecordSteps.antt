@@ -1,7 +1,7 @@
 -- Records read so far, and one more.
 use Prim.Native.Nat.{zero}
-use Rattle.std.proofs.Common.{◌≡◌, ◌≤◌, ◌<◌, ◌+◌, ◌-◌, ℕ, suc, false, List, [], ◌∷◌, ◌++◌, length, length-append, max, Option, Some, None, refl, sym, ◌∙◌, arith}
-use Rattle.std.specs.Prelude.{◌==◌}
+use Rattle.std.proofs.Common.{◌≡◌, ◌≤◌, ◌<◌, ◌+◌, ◌-◌, ℕ, suc, false, Result, Ok, Err, List, [], ◌∷◌, ◌++◌, length, length-append, max, Option, Some, None, refl, sym, ◌∙◌, arith}
+use Rattle.std.specs.Prelude.{◌==◌, IfOk, OnOk}
 use Rattle.std.proofs.lemmas.List.{map-append, take-append-le, get_or_append_left}
 use Rattle.std.proofs.Math.Seq.{get_or-append_seam, take-append_seam}
 use Rattle.crp_yard.specs.declared.fault.YardFault.{YardFault}
@@ -105,3 +105,8 @@ pub floating-whole : (rows tiers : ℕ) (records : List (List (List ℕ))) (floa
     → floating ≡ floating_before (entries_of records) (length (entries_of records)) → first_fault rows tiers records ≡ floating
 unfolding first_fault
 floating-whole rows tiers records floating none is = rw (none, is) refl
+
+-- two facts of what a call gives, as one
+pub ok_by_both : {T E : Type 0} (r : Result T E) (A : Type 0) (P Q : T → Type 0) → OnOk r A → IfOk r P → ((x : T) → A → P x → Q x) → IfOk r Q
+ok_by_both (Ok x) A P Q a p by = by x a p
+ok_by_both (Err e) A P Q a p by = tt

@@ -1,13 +1,15 @@
 //! Reads a yard list.
 
-ghost use Rattle.std.specs.Prelude.{◌≡◌, ◌⊎◌, ◌≤◌, ℕ, List, Some, IfOk, IfErr};
-ghost use Rattle.crp_yard.specs.Faults.{fault_of_text};
+ghost use Rattle.std.specs.Prelude.{◌≡◌, ◌⊎◌, ◌≤◌, ℕ, List, Some, None, IfOk, OnOk, IfErr, length};
+ghost use Rattle.crp_yard.specs.Inventory.{inventory_of};
+ghost use Rattle.crp_yard.specs.Faults.{floating_before, fault_of_text};
 ghost use Rattle.crp_yard.specs.Reading.{IsYardList, IsGiven, Tells};
 ghost use Rattle.crp_yard.specs.declared.fault.YardFault.TheVariants.{Memory};
 
 use crate::building::bays_of;
 use crate::fault::YardFault;
 use crate::floating::floating;
+use crate::listing::Listing;
 use crate::records::{Size, listing_of};
 use crate::yard::Yard;
 use crp_plan::{ReadFault, Source, read_all};
@@ -15,6 +17,26 @@ use std::alloc::Global;
 
 /// More bytes are not read.
 pub const MAX_BYTES: usize = 8388608;
+
+/// The yard that the entries give where none floats, and else the fault of the first that does.
+fn yard_with(alloc: Global, listing: &Listing, size: Size) -> Result<Yard, YardFault>
+    requires some_rows { 1 ≤ size.rows }
+    requires few_rows { size.rows ≤ 12 }
+    requires some_tiers { 1 ≤ size.tiers }
+    requires few_tiers { size.tiers ≤ 8 }
+    ensures standing { OnOk result (floating_before listing.now (length listing.now) ≡ None) }
+    ensures given { IfOk result (λ yard. yard ≡ inventory_of size.rows size.tiers listing.now) }
+    ensures refused { IfErr result (λ fault. (fault ≡ Memory) ⊎ (floating_before listing.now (length listing.now) ≡ Some fault)) }
+{
+    match floating(listing) {
+        Some(fault) => return Err(fault),
+        None => {}
+    }
+    let bays = bays_of(alloc, listing, size)?;
+    let _containers = listing.len();
+    let yard = Yard::new(alloc, size, bays)?;
+    Ok(yard)
+}
 
 /// The yard that a list of records tells, and else the first fault of the list. Each bay has so many
 /// rows, 1 to 12, and in each row so many tiers, 1 to 8.
@@ -31,14 +53,7 @@ pub fn yard_of(alloc: Global, text: &[u8], rows: u8, tiers: u8) -> Result<Yard, 
     }
     let size = Size { rows, tiers };
     let listing = listing_of(alloc, text, size)?;
-    match floating(&listing) {
-        Some(fault) => return Err(fault),
-        None => {}
-    }
-    let bays = bays_of(alloc, &listing, size)?;
-    let _containers = listing.len();
-    let yard = Yard::new(alloc, size, bays)?;
-    Ok(yard)
+    yard_with(alloc, &listing, size)
 }
 
 /// The yard that a source tells: all its bytes are read first. An interrupted call is tried again, at

@@ -44,6 +44,21 @@ fn stands(yard: &Yard, bay: usize, row: u8, want: &[&[u8]]) -> bool {
     same
 }
 
+/// Each of these rows has its containers.
+fn all_stand(yard: &Yard, stacks: &[(usize, u8, &[&[u8]])]) -> bool {
+    let mut all = true;
+    for (bay, row, want) in stacks {
+        all = all && stands(yard, *bay, *row, want);
+    }
+    all
+}
+
+/// The text of the yard, with two rows and two tiers, that a list tells.
+fn written(alloc: Global, text: &[u8]) -> Result<Vec<u8>, Fail> {
+    let yard = yard_of(alloc, text, 2, 2)?;
+    Ok(yard_text(alloc, &yard)?)
+}
+
 #[test]
 fn six_containers_in_one_bay(rt: HostRuntime) -> Result<(), Fail> {
     let alloc = rt.alloc();
@@ -66,11 +81,24 @@ fn records_in_any_order(rt: HostRuntime) -> Result<(), Fail> {
     let text = with_header(alloc, b"B,2,1,2,Y\nA,1,2,1,Z\nB,2,1,1,X\nA,10,1,1,W\n")?;
     let yard = yard_of(alloc, &text, 2, 2)?;
     assert_eq!(rt; yard.count(), 3);
-    assert!(rt; stands(&yard, 0, 1, &[b"X", b"Y"]) && stands(&yard, 0, 2, &[]));
-    assert!(rt; stands(&yard, 1, 1, &[]) && stands(&yard, 1, 2, &[b"Z"]));
-    assert!(rt; stands(&yard, 2, 1, &[b"W"]));
+    let stacks: [(usize, u8, &[&[u8]]); 6] = [
+        (0, 1, &[b"X", b"Y"]),
+        (0, 2, &[]),
+        (1, 1, &[]),
+        (1, 2, &[b"Z"]),
+        (2, 1, &[b"W"]),
+        (2, 2, &[]),
+    ];
+    assert!(rt; all_stand(&yard, &stacks));
+    Ok(())
+}
+
+#[test]
+fn text_by_bay_row_and_tier(rt: HostRuntime) -> Result<(), Fail> {
+    let alloc = rt.alloc();
+    let text = with_header(alloc, b"B,2,1,2,Y\nA,1,2,1,Z\nB,2,1,1,X\nA,10,1,1,W\n")?;
     let want = with_header(alloc, b"B,2,1,1,X\nB,2,1,2,Y\nA,1,2,1,Z\nA,10,1,1,W\n")?;
-    assert_eq!(rt; yard_text(alloc, &yard)?.as_slice(), want.as_slice());
+    assert_eq!(rt; written(alloc, &text)?.as_slice(), want.as_slice());
     Ok(())
 }
 

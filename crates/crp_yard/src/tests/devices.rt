@@ -2,8 +2,9 @@
 ghost use Rattle.std.specs.Prelude.{Some, None};
 
 use super::SIX;
-use crate::{WriteFault, YardFault, read_yard, write_yard};
+use crate::{WriteFault, Yard, YardFault, read_yard, write_yard, yard_of};
 use crp_plan::{Failure, Received, Sink, Source};
+use std::alloc::Global;
 use std::test::Fail;
 
 // Gives so many bytes one by one, is interrupted so often before each, and then fails.
@@ -80,26 +81,43 @@ fn each_read_fails(rt: HostRuntime) -> Result<(), Fail> {
     Ok(())
 }
 
+/// What a sink with so much room receives of a yard, and whether it failed.
+fn written(alloc: Global, yard: &Yard, room: usize) -> (Vec<u8>, Result<(), WriteFault>) {
+    let mut sink = Small {
+        bytes: Vec::new(alloc),
+        room,
+        failed: 0,
+    };
+    let end = write_yard(alloc, &mut sink, yard);
+    (sink.bytes, end)
+}
+
 #[test]
 fn each_write_fails(rt: HostRuntime) -> Result<(), Fail> {
     let alloc = rt.alloc();
+    let yard = yard_of(alloc, SIX, 3, 3)?;
+    for room in 0..SIX.len() {
+        let (bytes, end) = written(alloc, &yard, room);
+        assert_eq!(rt; end, Err(WriteFault::Failed));
+        assert_eq!(rt; bytes.as_slice(), &SIX[..room]);
+    }
+    Ok(())
+}
+
+#[test]
+fn what_was_read_is_written(rt: HostRuntime) -> Result<(), Fail> {
+    let alloc = rt.alloc();
     let mut source = SIX;
     let yard = read_yard(alloc, &mut source, 3, 3)?;
-    for room in 0..SIX.len() {
-        let mut sink = Small {
-            bytes: Vec::new(alloc),
-            room,
-            failed: 0,
-        };
-        assert_eq!(rt;
-            write_yard(alloc, &mut sink, &yard),
-            Err(WriteFault::Failed)
-        );
-        assert_eq!(rt; sink.bytes.as_slice(), &SIX[..room]);
-    }
     let mut sink = Received::new(alloc);
     write_yard(alloc, &mut sink, &yard)?;
     assert_eq!(rt; sink.bytes.as_slice(), SIX);
+    Ok(())
+}
+
+#[test]
+fn texts_of_failed_writes(rt: HostRuntime) -> Result<(), Fail> {
+    let alloc = rt.alloc();
     let (failed, memory) = (WriteFault::Failed, WriteFault::Memory);
     assert_eq!(rt; failed.to_string(alloc)?.as_str(), "a write failed");
     assert_eq!(rt; memory.to_string(alloc)?.as_str(), "no memory is left");

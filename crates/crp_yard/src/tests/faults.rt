@@ -1,5 +1,6 @@
 use super::{fault_of, with_header};
 use crate::YardFault;
+use std::alloc::Global;
 use std::test::Fail;
 
 #[test]
@@ -18,6 +19,13 @@ fn lists_without_their_header(rt: HostRuntime) -> Result<(), Fail> {
         );
     }
     Ok(())
+}
+
+/// The text of the fault of a list with these records behind the header.
+fn told(alloc: Global, records: &[u8]) -> Result<String, Fail> {
+    let text = with_header(alloc, records)?;
+    let fault = fault_of(alloc, &text).ok_or("a fault")?;
+    Ok(fault.to_string(alloc)?)
 }
 
 // The records behind a header, and the fault that is told of them with its text.
@@ -49,9 +57,7 @@ fn faults_by_record(rt: HostRuntime) -> Result<(), Fail> {
         (b"A,1,1,2,Z\nA,1,1,x,Y\nA", "Y3 at record 3"),
     ];
     for (records, want) in lists {
-        let text = with_header(alloc, records)?;
-        let fault = fault_of(alloc, &text).ok_or("a fault")?;
-        assert_eq!(rt; fault.to_string(alloc)?.as_str(), want);
+        assert_eq!(rt; told(alloc, records)?.as_str(), want);
     }
     Ok(())
 }
