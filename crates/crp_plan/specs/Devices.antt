@@ -1,6 +1,8 @@
 -- Sources and sinks of bytes: the count of their failures, and the front of a text that a sink took.
 use Rattle.std.specs.Prelude.{◌≡◌, ℕ, ◌+◌, ◌-◌, ◌^◌, ◌<◌, min, List, length, take, Option, Result, MatchResult}
 use Rattle.std.specs.Io.KnownBytes.{Appends}
+use Rattle.crp_plan.specs.declared.device.Failure.{Failure}
+use Rattle.crp_plan.specs.declared.device.Failure.TheVariants.{Interrupted}
 
 -- The count has grown by so many. It stops at the largest u64.
 abbrev pub CountsMore : ℕ → ℕ → ℕ → Type 0
@@ -31,3 +33,7 @@ HasFailed old new = old < 2 ^ 64 - 1 → old < new
 -- Known bytes grow by a front of the text.
 abbrev pub AppendsFront : Option (List ℕ) → Option (List ℕ) → List ℕ → Type 0
 AppendsFront old new text = (n : ℕ) × Appends old new (take n text)
+
+-- A run passes over a failure that is an interruption, where fewer than 1000 came before it.
+abbrev pub IsPassedOver : Failure → ℕ → Type 0
+IsPassedOver failure before = (failure ≡ Interrupted) × (before < 1000)

@@ -1,5 +1,5 @@
 //! Sources and sinks: lists of bytes, the readers and writers of std, and nowhere.
-ghost use Rattle.std.specs.Prelude.{◌≡◌, [], Some};
+ghost use Rattle.std.specs.Prelude.{◌≡◌, ◌↔◌, [], Some};
 
 use crate::device::{Failure, Sink, Source};
 use std::alloc::Global;
@@ -24,7 +24,9 @@ impl<T> Counted<T> {
 }
 
 // What an error of std is to a device.
-fn failure_of(kind: ErrorKind) -> Failure {
+fn failure_of(kind: ErrorKind) -> Failure
+    ensures { (result ≡ Failure.Interrupted) ↔ (kind ≡ ErrorKind.Interrupted) }
+{
     if kind == ErrorKind::Interrupted {
         Failure::Interrupted
     } else {

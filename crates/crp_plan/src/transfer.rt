@@ -1,7 +1,8 @@
 //! A whole text, from a source or to a sink.
-ghost use Rattle.std.specs.Prelude.{◌≡◌, ◌⊎◌, ℕ, List, ◌+◌, ◌-◌, ◌<◌, ◌≤◌, ◌++◌, false, true, length, take, vec_len, IfOk, IfSome, OnOk, OnErr, IsErrOf, flat_map};
+ghost use Rattle.std.specs.Prelude.{◌≡◌, ◌↔◌, ◌⊎◌, ℕ, List, ◌+◌, ◌-◌, ◌<◌, ◌≤◌, ◌++◌, false, true, length, take, vec_len, IsTrue, IfOk, IfSome, OnOk, OnErr, IsErrOf, flat_map};
+ghost use Rattle.std.specs.Bool.{OnTrue, OnFalse};
 ghost use Rattle.std.specs.Io.KnownBytes.{Appends, Consumes, Keeps, IsAtEnd};
-ghost use Rattle.crp_plan.specs.Devices.{AppendsFront, CountsMore, HasFailed};
+ghost use Rattle.crp_plan.specs.Devices.{AppendsFront, CountsMore, HasFailed, IsPassedOver};
 
 use crate::device::{Failure, Sink, Source};
 use std::alloc::Global;
@@ -30,6 +31,19 @@ pub struct WriteFailed;
 pub const MOST_INTERRUPTIONS: u32 = 1000;
 
 const PIECE: usize = 4096;
+
+// Counts a failure that is passed over. The answer says whether it is.
+fn pass_over(failure: Failure, interruptions: &mut u32) -> bool
+    ensures answer { IsTrue result ↔ IsPassedOver failure interruptions.old }
+    ensures counted { OnTrue result (interruptions.new ≡ interruptions.old + 1) }
+    ensures kept { OnFalse result (interruptions.new ≡ interruptions.old) }
+{
+    if failure == Failure::Interrupted && *interruptions < MOST_INTERRUPTIONS {
+        *interruptions += 1;
+        return true;
+    }
+    false
+}
 
 // One read. The answer says whether more may come.
 fn read_piece<R: Source>(
@@ -67,14 +81,12 @@ fn read_piece<R: Source>(
                 Err(_) => Err(ReadFault::Memory),
             }
         }
-        Err(Failure::Interrupted) => {
-            if *interruptions >= MOST_INTERRUPTIONS {
+        Err(failure) => {
+            if !pass_over(failure, interruptions) {
                 return Err(ReadFault::Failed);
             }
-            *interruptions += 1;
             Ok(true)
         }
-        Err(Failure::Failed) => Err(ReadFault::Failed),
     }
 }
 
@@ -125,14 +137,12 @@ fn write_piece<W: Sink>(
     match writer.write(text) {
         Ok(0) => Err(WriteFailed),
         Ok(n) => Ok(n),
-        Err(Failure::Interrupted) => {
-            if *interruptions >= MOST_INTERRUPTIONS {
+        Err(failure) => {
+            if !pass_over(failure, interruptions) {
                 return Err(WriteFailed);
             }
-            *interruptions += 1;
             Ok(0)
         }
-        Err(Failure::Failed) => Err(WriteFailed),
     }
 }
 
