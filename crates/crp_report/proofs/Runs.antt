@@ -11,7 +11,7 @@ use Rattle.crp_report.specs.declared.fault.Output.TheVariants as output
 use Rattle.crp_report.specs.declared.writing.Texts.{Texts}
 use Rattle.crp_report.specs.Chosen.{RunChosen}
 use Rattle.crp_report.specs.Runs.{Seen, Made, IsMade, IsListed, AreOrders, numbers_of, sink_of, Gets, GetsFront, WritesNothing, StopsAt, IsYardAccepted, Tells}
-use Rattle.crp_report.specs.Pieces.{Piece, ArePieces, bytes_for, Stop, written}
+use Rattle.crp_report.specs.Pieces.{Piece, ArePieces, bytes_for, written}
 use Rattle.crp_report.specs.Telling.{AreTextsOf, IsNoMessage}
 use Rattle.crp_report.specs.Writing.{report_of, certificates_of, IsTextsFault, bay_pieces, pieces_of, IsTextsStop}
 use Rattle.crp_report.proofs.Making.{bays_tell, bays_certify}

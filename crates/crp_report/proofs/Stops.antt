@@ -1,7 +1,6 @@
 -- How far the pieces of a run were written where a write failed.
 use Rattle.std.proofs.Common.{◌≡◌, ◌∙◌, ◌<◌, ◌+◌, ℕ, List, [], ◌∷◌, ◌++◌, Option, length, take, drop, get_or, Result, Ok, Err, IfErr, refl, sym, ap, subst, append_assoc, append-nil}
 use Rattle.std.proofs.KnownBytes.{Appends-nil, Appends-trans}
-use Rattle.std.specs.Prelude.{flat_map}
 use Rattle.std.proofs.lemmas.Grind.{flat_map-append}
 use Rattle.std.specs.Io.KnownBytes.{Appends}
 use Rattle.crp_plan.specs.Devices.{AppendsFront}
@@ -12,9 +11,8 @@ use Rattle.crp_report.specs.declared.fault.Output.TheVariants as output
 use Rattle.crp_report.specs.declared.telling.ToldBay.{ToldBay}
 use Rattle.crp_report.specs.declared.writing.Texts.{Texts}
 use Rattle.crp_report.specs.Answered.{Answered}
-use Rattle.crp_report.specs.Report.{certificate_of}
 use Rattle.crp_report.specs.Telling.{AreTold}
-use Rattle.crp_report.specs.Pieces.{Piece, piece, bytes_for, AreBayPieces, Stop, wanted, written}
+use Rattle.crp_report.specs.Pieces.{Piece, piece, bytes_for, AreBayPieces}
 use Rattle.crp_report.specs.Writing.{reports_of, certificates_of, bay_pieces, pieces_of, IsWriteOf, IsBaysStop, IsTextsStop}
 use Rattle.crp_report.proofs.Pieces.{split}
 
