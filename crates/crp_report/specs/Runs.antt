@@ -139,7 +139,8 @@ IsReached chosen s input.Yard = Unit {0}
 IsReached chosen s input.Movins = IsYardAccepted chosen s
 
 -- what a fault tells: the first fault of the yard list; where that has none, the first fault of the interchange or of its message; a read or a
--- write that has failed in this call; or want of memory. Something may have been written only where a write failed: fronts of the three texts.
+-- write that has failed in this call; or want of memory. Something may have been written only where a write failed: fronts of the three texts, up to
+-- that write.
 abbrev pub Tells : RunChosen → Seen → Fault → Type 0
 Tells chosen s (fault.Yard f) = WritesNothing s × (f ≢ yard_fault.Read) × (f ≢ yard_fault.Memory)
     × ((text : List ℕ) × IsGiven s.yard.given text × (fault_of_text chosen.rows chosen.tiers text ≡ Some f))

@@ -57,8 +57,9 @@ fn texts_of<T: Threads + Wait + Sync>(
 /// Reads a yard list and a message with load orders, answers the problem of each bay from which an ordered container leaves,
 /// and writes the report, the certificates and the yard list after the plans. A text that is not wanted goes to `Nowhere`.
 ///
-/// All input is read and accepted, and all bays are answered, before a byte is written. An interrupted call is tried again, at
-/// most 1,000 times in one run.
+/// All input is read and accepted, and all bays are answered, before a byte is written. Then the first line is written, bay by bay
+/// the lines and the certificate, the last line, and the yard list; where a write fails, nothing behind it is written. An
+/// interrupted call is tried again, at most 1,000 times in one run.
 pub fn run<T: Threads + Wait + Sync, Y: Source, M: Source, W: Sink, C: Sink, A: Sink>(
     rt: &T,
     alloc: Global,
