@@ -13,3 +13,4 @@ pub mod SymbolText
 pub mod WalkSteps
 mod Worked
 pub mod Walked
+pub mod OneFile

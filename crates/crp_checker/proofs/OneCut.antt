@@ -84,11 +84,11 @@ ended_or_open t u x a b e =
     (sym (append_assoc (joined a.lines) a.last x) ∙ ap (λ l. l ++ x) (sym a.is) ∙ e ∙ b.is)
 
 -- what stands at the front of a file, which this follows
-abbrev Stands : List ℕ → List ℕ → Type 0
+abbrev pub Stands : List ℕ → List ℕ → Type 0
 Stands text after = IsEnded text ⊎ (IsOpen text × (after ≡ []))
 
 -- a text has a byte
-some_text : (text after : List ℕ) → Stands text after → text ++ after ≡ [] → ⊥
+pub some_text : (text after : List ℕ) → Stands text after → text ++ after ≡ [] → ⊥
 some_text text after s e = ⊎_elim
     (λ a. let line = a.is_line in omega (arith, ap length e, length-append text after, ap length a.is, length-append (joined a.lines) a.last, ap length line.is, length-append line.body (10 ∷ [])))
     (λ o. let k = o.0 in k.some_bytes (nothing text after e))
@@ -98,7 +98,7 @@ some_text text after s e = ⊎_elim
     nothing [] ys e = refl
     nothing (x ∷ xs) ys e = absurd (cc)
 
-first_text : (t u x y : List ℕ) → Stands t x → Stands u y → t ++ x ≡ u ++ y → (t ≡ u) × (x ≡ y)
+pub first_text : (t u x y : List ℕ) → Stands t x → Stands u y → t ++ x ≡ u ++ y → (t ≡ u) × (x ≡ y)
 first_text t u x y a b e = ⊎_elim
     (λ p. ⊎_elim
     (λ q. one_ended t u x y p q e)

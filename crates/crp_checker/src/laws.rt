@@ -1,6 +1,7 @@
 //! Laws of what certificates show, for the crates above.
-ghost use Rattle.std.specs.Prelude.{◌≡◌, ℕ, List, [], map, Option};
+ghost use Rattle.std.specs.Prelude.{◌≡◌, ◌≢◌, ℕ, List, [], map, Option};
 ghost use Rattle.crp_plan.specs.Bay.{Problem, IsProblem, Position as Place};
+ghost use Rattle.crp_plan.specs.BayNames.{YardBay};
 ghost use Rattle.crp_tree.specs.declared.tree.Tree.{Tree};
 ghost use Rattle.crp_tree.specs.Scripts.{Script, IsAccepted};
 ghost use Rattle.crp_cert.specs.declared.script.Script.{Script as Told};
@@ -12,7 +13,7 @@ ghost use Rattle.crp_checker.specs.Claims.{IsYes, IsWanted};
 ghost use Rattle.crp_checker.specs.Verdicts.{IsVerdict, Says};
 ghost use Rattle.crp_checker.specs.Shown.{Shows};
 ghost use Rattle.crp_checker.specs.Refusals.{IsFirstWrongClaim, IsRefusal};
-ghost use Rattle.crp_checker.specs.Files.{BeginsWithTexts};
+ghost use Rattle.crp_checker.specs.Files.{BeginsWithTexts, FileShows, IsFileRefusal};
 
 /// Bytes are not both the text of an accepted certificate and refused; they show one thing, or are
 /// refused for one reason.
@@ -51,4 +52,17 @@ pub fn nodes_are_told()
 pub fn one_cut()
     ensures { (file : List ℕ) (texts others : List (List ℕ)) → BeginsWithTexts file texts []
         → BeginsWithTexts file others [] → texts ≡ others }
+{}
+
+/// A file of certificates does not both show verdicts and have a refusal; it shows one list of verdicts, or is refused at one
+/// certificate, behind one list, for one reason. (Want of memory is no reason of the file's.)
+pub fn shown_or_refused()
+    ensures apart { (file : List ℕ) (verdicts before : List (YardBay × Verdict)) (number : ℕ) (refused : Refused)
+        → refused ≢ Refused.Memory → FileShows file verdicts → IsFileRefusal file before number refused → ⊥ }
+    ensures one_list { (file : List ℕ) (verdicts others : List (YardBay × Verdict))
+        → FileShows file verdicts → FileShows file others → verdicts ≡ others }
+    ensures one_refusal { (file : List ℕ) (before behind : List (YardBay × Verdict)) (number place : ℕ) (refused other : Refused)
+        → refused ≢ Refused.Memory → other ≢ Refused.Memory
+        → IsFileRefusal file before number refused → IsFileRefusal file behind place other
+        → (before ≡ behind) × (number ≡ place) × (refused ≡ other) }
 {}

@@ -19,7 +19,9 @@ mod walk;
 
 pub use checking::{check, check_for};
 pub use file::check_file;
-pub use laws::{accepted_or_refused, nodes_are_told, one_cut, right_or_wrong, verdicts_say};
+pub use laws::{
+    accepted_or_refused, nodes_are_told, one_cut, right_or_wrong, shown_or_refused, verdicts_say,
+};
 pub use path::Path;
 pub use refused::Refused;
 pub use verdict::Verdict;
