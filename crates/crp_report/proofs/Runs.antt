@@ -12,7 +12,7 @@ use Rattle.crp_report.specs.declared.writing.Texts.{Texts}
 use Rattle.crp_report.specs.Chosen.{RunChosen}
 use Rattle.crp_report.specs.Runs.{Seen, Made, IsMade, IsListed, AreOrders, numbers_of, sink_of, Gets, GetsFront, WritesNothing, StopsAt, IsYardAccepted, Tells}
 use Rattle.crp_report.specs.Pieces.{Piece, ArePieces, bytes_for, written}
-use Rattle.crp_report.specs.Telling.{AreTextsOf, IsNoMessage}
+use Rattle.crp_report.specs.Telling.{AreTextsOf, IsNoYard, IsNoMessage}
 use Rattle.crp_report.specs.Writing.{report_of, certificates_of, IsTextsFault, bay_pieces, pieces_of, IsTextsStop}
 use Rattle.crp_report.proofs.Making.{bays_tell, bays_certify}
 use Rattle.crp_report.proofs.Stops.{pieces_told}
@@ -45,6 +45,16 @@ is_made chosen s list message yard orders t are given_list listed given_message 
   certificates = bays_certify are.answered t.bays.items are.bays;
   yard_after = are.yard_after;
 }
+
+-- a yard list that is refused
+pub list_refused : (chosen : RunChosen) (s : Seen) (f : Fault) → WritesNothing s → IsNoYard chosen.rows chosen.tiers s.yard.given s.yard.before s.yard.after f → Tells chosen s f
+list_refused chosen s (fault.Yard f) nothing (read, memory, first) = (nothing, read, memory, first)
+list_refused chosen s (fault.Read input.Yard) nothing failed = (nothing, tt, failed)
+list_refused chosen s (fault.Read input.Movins) nothing none = absurd none
+list_refused chosen s fault.Memory nothing h = nothing
+list_refused chosen s (fault.Interchange f) nothing none = absurd none
+list_refused chosen s (fault.Message f) nothing none = absurd none
+list_refused chosen s (fault.Write sink) nothing none = absurd none
 
 -- a message that is refused
 pub message_refused : (chosen : RunChosen) (s : Seen) (f : Fault) → WritesNothing s → IsYardAccepted chosen s → IsNoMessage chosen.code s.movins.given s.movins.before s.movins.after f → Tells chosen s f

@@ -1,6 +1,6 @@
 -- A run from the bytes of a yard list and of a message to a report, certificates and the yard after: what it saw, what it wrote, and what each
 -- fault tells.
-use Rattle.std.specs.Prelude.{◌≡◌, ◌≢◌, ℕ, List, length, Option, None, Some}
+use Rattle.std.specs.Prelude.{◌≡◌, ◌≢◌, ℕ, ◌+◌, ◌-◌, List, length, Option, None, Some}
 use Rattle.std.specs.Io.KnownBytes.{Appends, Keeps}
 use Rattle.crp_plan.specs.Devices.{AppendsFront, HasFailed}
 use Rattle.edi_text.specs.Parts.{SegmentParts}
@@ -137,6 +137,11 @@ IsYardAccepted chosen s = (text : List ℕ) × (yard : Inventory) × IsGiven s.y
 abbrev pub IsReached : RunChosen → Seen → Input → Type 0
 IsReached chosen s input.Yard = Unit {0}
 IsReached chosen s input.Movins = IsYardAccepted chosen s
+
+-- so many calls of the devices have failed in the run
+abbrev pub failures_in : Seen → ℕ
+failures_in s = (s.yard.after - s.yard.before) + ((s.movins.after - s.movins.before) + ((s.report.after - s.report.before)
+    + ((s.certificates.after - s.certificates.before) + (s.yard_after.after - s.yard_after.before))))
 
 -- what a fault tells: the first fault of the yard list; where that has none, the first fault of the interchange or of its message; a read or a
 -- write that has failed in this call; or want of memory. Something may have been written only where a write failed: fronts of the three texts, up to

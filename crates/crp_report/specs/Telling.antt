@@ -1,5 +1,5 @@
 -- How a run tells what went wrong in a layer below, and the texts that it keeps of a bay. Only private clauses speak of it.
-use Rattle.std.specs.Prelude.{◌≡◌, ◌≢◌, ℕ, List, [], ◌∷◌, Option, Some, ⊤}
+use Rattle.std.specs.Prelude.{◌≡◌, ◌≢◌, ℕ, ◌+◌, ◌≤◌, List, [], ◌∷◌, Option, Some, ⊤}
 use Rattle.crp_plan.specs.Devices.{HasFailed}
 use Rattle.crp_yard.specs.declared.fault.YardFault.{YardFault}
 use Rattle.crp_yard.specs.declared.fault.YardFault.TheVariants as yard_fault
@@ -40,6 +40,10 @@ interchange_told f = fault.Interchange f
 abbrev pub message_told : MovinsFault → Fault
 message_told movins.Memory = fault.Memory
 message_told f = fault.Message f
+
+-- the calls of a device that have failed are no more than the interruptions that were counted, and so many besides
+abbrev pub IsCounted : ℕ → ℕ → ℕ → ℕ → ℕ → Type 0
+IsCounted besides failed_before failed_after counted_before counted_after = failed_after + counted_before ≤ failed_before + counted_after + besides
 
 -- why no yard was read of a source that had these bytes, with its count of failures before and after
 abbrev pub IsNoYard : ℕ → ℕ → Option (List ℕ) → ℕ → ℕ → Fault → Type 0

@@ -1,8 +1,8 @@
 //! What a run reads.
-ghost use Rattle.std.specs.Prelude.{ℕ, ◌≤◌, List, IfOk, IfErr};
+ghost use Rattle.std.specs.Prelude.{ℕ, ◌≤◌, List, IfOk, IfErr, MatchResult};
 ghost use Rattle.crp_yard.specs.Reading.{IsGiven, IsYardList};
 ghost use Rattle.crp_report.specs.Runs.{AreOrders};
-ghost use Rattle.crp_report.specs.Telling.{IsNoYard, IsNoOrders, IsNoMessage};
+ghost use Rattle.crp_report.specs.Telling.{IsCounted, IsNoYard, IsNoOrders, IsNoMessage};
 
 use crate::fault::{Fault, Input};
 use crp_movins::{Orders, load_orders};
@@ -26,6 +26,7 @@ pub(crate) fn yard_from<Y: Source>(
     requires passed { interruptions.old ≤ 1000 }
     ensures accepted { IfOk result (λ yard. (text : List ℕ) × IsGiven (Y.remaining source.old) text × IsYardList rows tiers text yard) }
     ensures refused { IfErr result (IsNoYard rows tiers (Y.remaining source.old) (Y.failures source.old) (Y.failures source.new)) }
+    ensures counted { MatchResult result (λ _. IsCounted 0 (Y.failures source.old) (Y.failures source.new) interruptions.old interruptions.new) (λ _. IsCounted 1 (Y.failures source.old) (Y.failures source.new) interruptions.old interruptions.new) }
     ensures passed { interruptions.new ≤ 1000 }
 {
     let text = match read_all(alloc, source, MAX_BYTES, interruptions) {
@@ -58,6 +59,8 @@ pub(crate) fn orders_from<M: Source>(
     requires { interruptions.old ≤ 1000 }
     ensures accepted { IfOk result (λ orders. (text : List ℕ) × IsGiven (M.remaining source.old) text × AreOrders code.now text orders) }
     ensures refused { IfErr result (IsNoMessage code.now (M.remaining source.old) (M.failures source.old) (M.failures source.new)) }
+    ensures counted { MatchResult result (λ _. IsCounted 0 (M.failures source.old) (M.failures source.new) interruptions.old interruptions.new) (λ _. IsCounted 1 (M.failures source.old) (M.failures source.new) interruptions.old interruptions.new) }
+    ensures count { M.failures source.old ≤ M.failures source.new }
     ensures passed { interruptions.new ≤ 1000 }
 {
     let text = match read_all(alloc, source, MAX_TEXT, interruptions) {
