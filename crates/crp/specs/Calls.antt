@@ -1,5 +1,5 @@
 -- A call of a command over a source and a sink: what it saw, what it wrote, and what each fault tells.
-use Rattle.std.specs.Prelude.{◌≡◌, ℕ, ◌<◌, ◌≤◌, List, length, Option, IfSome, Result, Ok, Err}
+use Rattle.std.specs.Prelude.{◌≡◌, ℕ, ◌+◌, ◌-◌, ◌<◌, ◌≤◌, List, length, Option, IfSome, Result, Ok, Err}
 use Rattle.std.specs.Io.KnownBytes.{Appends, Keeps}
 use Rattle.crp_plan.specs.Devices.{AppendsFront, HasFailed}
 use Rattle.crp_plan.specs.declared.transfer.ReadFault.{ReadFault}
@@ -27,6 +27,10 @@ pub record Seen : Type 0 where
   pub source_after : ℕ
   pub sink_before : ℕ
   pub sink_after : ℕ
+
+-- so many calls of the source and the sink have failed in the call
+abbrev pub failures_in : Seen → ℕ
+failures_in s = (s.source_after - s.source_before) + (s.sink_after - s.sink_before)
 
 -- the whole report of the bytes that the source had, no more than `limit`, was written, and nothing else
 abbrev pub Writes : ℕ → (List ℕ → List ℕ → Type 0) → Seen → Type 0

@@ -1,6 +1,6 @@
 //! The command `check`: from the bytes of a file of certificates to a line for each.
-ghost use Rattle.std.specs.Prelude.{◌≡◌, ◌++◌, IfOk, OnOk, MatchResult};
-ghost use Rattle.crp.specs.Calls.{Seen, Writes};
+ghost use Rattle.std.specs.Prelude.{◌≡◌, ◌≤◌, ◌++◌, IfOk, OnOk, MatchResult};
+ghost use Rattle.crp.specs.Calls.{Seen, failures_in, Writes};
 ghost use Rattle.crp.specs.Check.{plan_words, verdict_words, verdict_line, verdict_lines, refusal_told, IsCheck, TellsOfCheck};
 
 use crate::heads::MOST_BYTES;
@@ -86,7 +86,7 @@ pub fn check<R: Source, W: Sink>(
       source_after = R.failures reader.new;
       sink_before = W.failures writer.old;
       sink_after = W.failures writer.new;
-    } in MatchResult result (λ status. (status ≡ Status.Decided) × Writes 268435456 IsCheck seen) (TellsOfCheck 268435456 seen) }
+    } in MatchResult result (λ status. ((status ≡ Status.Decided) × Writes 268435456 IsCheck seen) × (failures_in seen ≤ 1000)) (λ fault. TellsOfCheck 268435456 seen fault × (failures_in seen ≤ 1001)) }
 {
     let mut interruptions = 0;
     let bytes = read_all(alloc, reader, MOST_BYTES, &mut interruptions)?;

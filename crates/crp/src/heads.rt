@@ -1,5 +1,5 @@
 //! Heads of certificates, read from a source.
-ghost use Rattle.std.specs.Prelude.{◌≡◌, ◌≤◌, ℕ, List, IfOk, IfErr};
+ghost use Rattle.std.specs.Prelude.{◌≡◌, ◌≤◌, ℕ, List, ◌+◌, IfOk, IfErr, MatchResult};
 ghost use Rattle.crp_cert.specs.Text.{IsHeadOf};
 ghost use Rattle.crp.specs.Calls.{IsGiven, IsNoHead};
 
@@ -20,6 +20,7 @@ pub fn head_from<R: Source>(
     requires { interruptions.old ≤ 1000 }
     ensures found { IfOk result (λ head. (text : List ℕ) × IsGiven 268435456 (R.remaining reader.old) text × IsHeadOf text head) }
     ensures none { IfErr result (IsNoHead 268435456 (R.remaining reader.old) (R.failures reader.old) (R.failures reader.new)) }
+    ensures counted { MatchResult result (λ _. R.failures reader.new + interruptions.old ≤ R.failures reader.old + interruptions.new) (λ _. R.failures reader.new + interruptions.old ≤ R.failures reader.old + interruptions.new + 1) }
     ensures passed { interruptions.new ≤ 1000 }
 {
     let bytes = read_all(alloc, reader, MOST_BYTES, interruptions)?;

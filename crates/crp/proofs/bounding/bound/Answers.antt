@@ -1,4 +1,4 @@
-use Rattle.std.proofs.Common.{subst, sym}
+use Rattle.std.proofs.Common.{rules, subst, sym}
 use Rattle.std.proofs.lemmas.Result.{err_from_is_err_and}
 use Rattle.crp.specs.Calls.{Seen}
 use Rattle.crp.specs.Bound.{IsBound, IsNoBound, IsBoundReport}
@@ -17,7 +17,7 @@ returns-in_err-head g c =
       sink_before = g.W.Sink.failures c.args.writer.now;
       sink_after = g.W.Sink.failures c.args.writer.now;
     } in
-    rw (p.1, p.2) (no_head_told 268435456 IsBound IsNoBound seen c.in_err-head.field-0.0 (keeps_same _) (λ bytes f first. first) c.in_err-head.ensures.none)
+    rw (p.1, p.2) (no_head_told 268435456 IsBound IsNoBound seen c.in_err-head.field-0.0 (keeps_same _) (λ bytes f first. first) c.in_err-head.ensures.none, search rules)
 
 pub returns-in_err-write_all : goal.returns-in_err-write_all
 returns-in_err-write_all g c =
@@ -25,4 +25,4 @@ returns-in_err-write_all g c =
     let told = subst (IsBoundReport c.in_ok-head.head) (sym c.deref.ensures.value) c.in_ok-report.ensures in
     let found = c.in_ok-head.ensures.found in
     rw (p.1, p.2)
-    (c.in_err-write_all.ensures.failed, (found.0, c.deref.result.now, found.1, (c.in_ok-head.head, found.2, told), c.in_err-write_all.ensures.front))
+    ((c.in_err-write_all.ensures.failed, (found.0, c.deref.result.now, found.1, (c.in_ok-head.head, found.2, told), c.in_err-write_all.ensures.front)), search rules)

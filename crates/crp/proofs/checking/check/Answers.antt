@@ -1,7 +1,7 @@
-use Rattle.std.proofs.Common.{◌≡◌, ◌≤◌, length, arith, ap, sym, inr, ◌∙◌}
+use Rattle.std.proofs.Common.{rules, ◌≡◌, ◌≤◌, length, arith, ap, inr, ◌∙◌}
 use Rattle.std.proofs.lemmas.Result.{err_from_is_err_and}
 use Rattle.crp.specs.Calls.{Seen, IsGiven}
-use Rattle.crp.specs.Check.{verdict_lines, IsCheckBefore}
+use Rattle.crp.specs.Check.{verdict_lines}
 use Rattle.crp.proofs.Checked.{refusal_tells, given_as}
 use Rattle.crp.proofs.checking.check.Goals as goal
 
@@ -14,14 +14,17 @@ returns-in_err-write_all-in-Err g c =
     let lines : c.deref-in-Err.result.now ≡ verdict_lines c.in-Err.refusal.before =
     c.deref-in-Err.ensures.value ∙ c.in_ok-text-in-Err.ensures ∙ ap verdict_lines c.as_slice-in-Err.ensures in
     rw (p.1, p.2) (
-      c.in_err-write_all-in-Err.ensures.failed,
       (
-        c.deref.result.now,
-        c.deref-in-Err.result.now,
-        given,
-        inr (c.in-Err.refusal.number, c.in-Err.refusal.refused, (c.in-Err.refusal.before, c.in-Err.ensures.refused, lines)),
-        c.in_err-write_all-in-Err.ensures.front,
+        c.in_err-write_all-in-Err.ensures.failed,
+        (
+          c.deref.result.now,
+          c.deref-in-Err.result.now,
+          given,
+          inr (c.in-Err.refusal.number, c.in-Err.refusal.refused, (c.in-Err.refusal.before, c.in-Err.ensures.refused, lines)),
+          c.in_err-write_all-in-Err.ensures.front,
+        ),
       ),
+      search rules,
     )
 
 pub returns : goal.returns
@@ -39,6 +42,8 @@ returns g c =
       source_after = g.R.Source.failures c.read_all.new.reader;
       sink_before = g.W.Sink.failures c.args.writer.now;
       sink_after = g.W.Sink.failures c.write_all-in-Err.new.writer;
-    } in
-    refusal_tells 268435456 seen c.in-Err.refusal.number c.in-Err.refusal.refused c.refused_at.result c.refused_at.ensures
-    (c.deref.result.now, c.deref-in-Err.result.now, given, (c.in-Err.refusal.before, c.in-Err.ensures.refused, lines), c.in_ok-write_all-in-Err.ensures.all)
+    } in (
+      refusal_tells 268435456 seen c.in-Err.refusal.number c.in-Err.refusal.refused c.refused_at.result c.refused_at.ensures
+          (c.deref.result.now, c.deref-in-Err.result.now, given, (c.in-Err.refusal.before, c.in-Err.ensures.refused, lines), c.in_ok-write_all-in-Err.ensures.all),
+      search rules,
+    )
