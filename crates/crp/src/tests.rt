@@ -3,5 +3,6 @@ mod certificates;
 mod commands;
 mod devices;
 mod failing;
+mod failing_runs;
 mod reports;
 mod usage;

@@ -1,38 +1,37 @@
-//! Reports of yards, byte for byte, and devices that fail in turn.
+//! Reports of yards, byte for byte.
 use crate::checking::check;
 use crate::outcome::{ToolFault, exit_of};
-use crate::tests::devices::{Slow, Small};
 use crp_order::Mode;
-use crp_plan::{Nowhere, Plan, Problem, Received};
-use crp_report::{Fault, Input, Output, RunSettings, Status, print_moves, run};
+use crp_plan::Received;
+use crp_report::{Fault, RunSettings, Status, run};
 use crp_solve::Settings;
 use std::alloc::Global;
 use std::sync::Wait;
 use std::test::Fail;
 use std::thread::Threads;
 
-const SIX_CONTAINERS: &[u8] =
+pub(crate) const SIX_CONTAINERS: &[u8] =
     b"block,bay,row,tier,container\nA,1,1,1,C1\nA,1,1,2,C5\nA,1,1,3,C4\nA,1,2,1,C6\nA,1,3,1,C3\nA,1,3,2,C2\n";
 
-const HEADER: &[u8] = b"block,bay,row,tier,container\n";
+pub(crate) const HEADER: &[u8] = b"block,bay,row,tier,container\n";
 
 const ONE_MESSAGE: &[u8] =
     b"UNB+UNOA:1+YARD+SHIP+250101:0800+1'\nUNH+1+MOVINS:D:95B:UN'\nBGM++8+9'\nHAN+LOA'\n";
 
-const SIX_ORDERS: &[u8] =
+pub(crate) const SIX_ORDERS: &[u8] =
     b"LOC+147+0010182'\nEQD+CN+C1'\nLOC+147+0010184'\nEQD+CN+C2'\nLOC+147+0010186'\nEQD+CN+C3'\nLOC+147+0010188'\nEQD+CN+C4'\nLOC+147+0010190'\nEQD+CN+C5'\nLOC+147+0010192'\nEQD+CN+C6'\n";
 
-const SIX_ANSWERED: &[u8] =
+pub(crate) const SIX_ANSWERED: &[u8] =
     b"orders 6 open 0 absent 0\nbay A 1: optimal 3\nshift 1.3 2.2 C4\nshift 1.2 2.3 C5\ntake 1.1 C1\ntake 3.2 C2\ntake 3.1 C3\nshift 2.3 1.1 C5\ntake 2.2 C4\ntake 1.1 C5\ntake 2.1 C6\nbays 1 decided 1\n";
 
-const SIX_CERTIFIED: &[u8] =
+pub(crate) const SIX_CERTIFIED: &[u8] =
     b"CRP-CERT 1\nbay A 1\nsize 3 3 6 6\nrow 1 5 4\nrow 6\nrow 3 2\nat least 3\nplan 2 2 1\npart /: XLB\nend 1\n";
 
 const SIX_OPEN: &[u8] =
     b"orders 6 open 0 absent 0\nbay A 1: between 2 and 3, budget\nshift 1.3 2.2 C4\nshift 1.2 2.3 C5\ntake 1.1 C1\ntake 3.2 C2\ntake 3.1 C3\nshift 2.3 1.1 C5\ntake 2.2 C4\ntake 1.1 C5\ntake 2.1 C6\nbays 1 decided 0\n";
 
 // A message of the example's head, these segments, and a trailer that counts so many.
-fn message(alloc: Global, segments: &[&[u8]], count: &[u8]) -> Result<Vec<u8>, Fail> {
+pub(crate) fn message(alloc: Global, segments: &[&[u8]], count: &[u8]) -> Result<Vec<u8>, Fail> {
     let mut text = Vec::new(alloc);
     text.extend_from_slice(ONE_MESSAGE)?;
     for segment in segments {
@@ -46,14 +45,14 @@ fn message(alloc: Global, segments: &[&[u8]], count: &[u8]) -> Result<Vec<u8>, F
 
 // What a planner chooses in a test.
 #[derive(Clone, Copy)]
-struct Choice {
-    budget: u64,
-    rows: u8,
-    tiers: u8,
-    mode: Mode,
+pub(crate) struct Choice {
+    pub budget: u64,
+    pub rows: u8,
+    pub tiers: u8,
+    pub mode: Mode,
 }
 
-fn settings_of(alloc: Global, choice: &Choice) -> Result<RunSettings, Fail> {
+pub(crate) fn settings_of(alloc: Global, choice: &Choice) -> Result<RunSettings, Fail> {
     let search = Settings::new(1, choice.budget, 0)?;
     Ok(RunSettings::new(
         alloc,
@@ -67,11 +66,11 @@ fn settings_of(alloc: Global, choice: &Choice) -> Result<RunSettings, Fail> {
 
 // The three texts of a run, and how it ended.
 #[derive(Drop)]
-struct Texts {
-    report: Vec<u8>,
-    certificates: Vec<u8>,
-    yard_after: Vec<u8>,
-    answer: Result<Status, Fault>,
+pub(crate) struct Texts {
+    pub report: Vec<u8>,
+    pub certificates: Vec<u8>,
+    pub yard_after: Vec<u8>,
+    pub answer: Result<Status, Fault>,
 }
 
 fn texts_of<T: Threads + Wait + Sync>(
@@ -292,160 +291,6 @@ fn inputs_that_are_refused(rt: HostRuntime) -> Result<(), Fail> {
             assert_eq!(rt; exit_of(&Err(ToolFault::Run(fault))), 3);
         }
     }
-    Ok(())
-}
-
-// A sink with room for so many bytes.
-fn small(alloc: Global, room: usize) -> Small {
-    Small {
-        bytes: Vec::new(alloc),
-        room,
-        failed: 0,
-    }
-}
-
-// How a run ends whose sinks have so much room, and what they hold then.
-fn with_room<T: Threads + Wait + Sync>(
-    rt: &T,
-    alloc: Global,
-    movins: &[u8],
-    rooms: [usize; 3],
-) -> Result<Texts, Fail> {
-    let choice = Choice {
-        budget: 1000000,
-        rows: 3,
-        tiers: 3,
-        mode: Mode::Listed,
-    };
-    let settings = settings_of(alloc, &choice)?;
-    let mut out = small(alloc, rooms[0]);
-    let mut cert_out = small(alloc, rooms[1]);
-    let mut after_out = small(alloc, rooms[2]);
-    let mut yard = SIX_CONTAINERS;
-    let mut message = movins;
-    let answer = run(
-        rt,
-        alloc,
-        &mut yard,
-        &mut message,
-        &settings,
-        &mut out,
-        &mut cert_out,
-        &mut after_out,
-    );
-    Ok(Texts {
-        report: out.bytes,
-        certificates: cert_out.bytes,
-        yard_after: after_out.bytes,
-        answer,
-    })
-}
-
-#[test]
-fn sinks_that_fail_in_turn(rt: HostRuntime) -> Result<(), Fail> {
-    let movins = message(rt.alloc(), &[SIX_ORDERS], b"16")?;
-    let whole = SIX_ANSWERED.len();
-    let bays = whole - b"bays 1 decided 1\n".len();
-    let certificate = SIX_CERTIFIED.len();
-    let cases: [([usize; 3], Output, [usize; 3]); 5] = [
-        ([0, 1000, 1000], Output::Report, [0, 0, 0]),
-        ([30, 1000, 1000], Output::Report, [30, 0, 0]),
-        (
-            [bays + 1, 1000, 1000],
-            Output::Report,
-            [bays + 1, certificate, 0],
-        ),
-        ([1000, 20, 1000], Output::Certificates, [bays, 20, 0]),
-        ([1000, 1000, 7], Output::YardAfter, [whole, certificate, 7]),
-    ];
-    for (rooms, output, held) in cases {
-        let told = with_room(&rt, rt.alloc(), &movins, rooms)?;
-        assert_eq!(rt; told.answer, Err(Fault::Write(output)));
-        assert_eq!(rt; told.report.as_slice(), &SIX_ANSWERED[..held[0]]);
-        assert_eq!(rt; told.certificates.as_slice(), &SIX_CERTIFIED[..held[1]]);
-        assert_eq!(rt; told.yard_after.as_slice(), &HEADER[..held[2]]);
-        assert_eq!(rt; exit_of(&Err(ToolFault::Run(Fault::Write(output)))), 5);
-    }
-    Ok(())
-}
-
-// How a run ends whose sources are interrupted so often, or fail at their end.
-fn with_slow<T: Threads + Wait + Sync>(
-    rt: &T,
-    alloc: Global,
-    movins: &[u8],
-    interrupted: (u32, u32),
-    fails: (bool, bool),
-) -> Result<Result<Status, Fault>, Fail> {
-    let choice = Choice {
-        budget: 1000000,
-        rows: 3,
-        tiers: 3,
-        mode: Mode::Listed,
-    };
-    let settings = settings_of(alloc, &choice)?;
-    let mut yard = Slow {
-        interrupted: interrupted.0,
-        rest: SIX_CONTAINERS,
-        fails: fails.0,
-        failed: 0,
-    };
-    let mut message = Slow {
-        interrupted: interrupted.1,
-        rest: movins,
-        fails: fails.1,
-        failed: 0,
-    };
-    Ok(run(
-        rt,
-        alloc,
-        &mut yard,
-        &mut message,
-        &settings,
-        &mut Nowhere,
-        &mut Nowhere,
-        &mut Nowhere,
-    ))
-}
-
-#[test]
-fn sources_that_fail_in_turn(rt: HostRuntime) -> Result<(), Fail> {
-    let movins = message(rt.alloc(), &[SIX_ORDERS], b"16")?;
-    let cases: [((u32, u32), (bool, bool), Result<Status, Fault>); 6] = [
-        ((0, 0), (true, false), Err(Fault::Read(Input::Yard))),
-        ((0, 0), (false, true), Err(Fault::Read(Input::Movins))),
-        ((600, 400), (false, false), Ok(Status::Decided)),
-        ((600, 401), (false, false), Err(Fault::Read(Input::Movins))),
-        ((1001, 0), (false, false), Err(Fault::Read(Input::Yard))),
-        ((0, 1000), (false, false), Ok(Status::Decided)),
-    ];
-    for (interrupted, fails, answer) in cases {
-        let told = with_slow(&rt, rt.alloc(), &movins, interrupted, fails)?;
-        assert_eq!(rt; told, answer);
-    }
-    Ok(())
-}
-
-#[test]
-fn moves_of_one_plan(rt: HostRuntime) -> Result<(), Fail> {
-    let stacks = vec![in rt.alloc(); vec![in rt.alloc(); 1, 2]?, Vec::new(rt.alloc())]?;
-    let problem = Problem::new(2, 1, &stacks)?;
-    let plan = Plan::from_rows(&problem, &[2])?;
-    let box_1 = Vec::from_slice(rt.alloc(), b"BOX1")?;
-    let keep = Vec::from_slice(rt.alloc(), b"KEEP")?;
-    let names = vec![in rt.alloc(); box_1, keep]?;
-    let mut sink = Received::new(rt.alloc());
-    assert_eq!(rt; print_moves(rt.alloc(), &mut sink, &plan, &names), Ok(()));
-    assert_eq!(rt;
-        sink.bytes.as_slice(),
-        b"shift 1.2 2.1 KEEP\ntake 1.1 BOX1\n".as_slice()
-    );
-    let mut sink = small(rt.alloc(), 3);
-    assert_eq!(rt;
-        print_moves(rt.alloc(), &mut sink, &plan, &names),
-        Err(Fault::Write(Output::Report))
-    );
-    assert_eq!(rt; sink.bytes.as_slice(), b"shi".as_slice());
     Ok(())
 }
 
