@@ -8,7 +8,7 @@ use Rattle.crp_plan.specs.Bay.{Problem, cap}
 use Rattle.crp_plan.specs.Plans.{Route}
 use Rattle.crp_tree.specs.Scripts.{IsAccepted, Script as Claim}
 use Rattle.crp_cert.specs.declared.head.Head.{Head}
-use Rattle.crp_cert.specs.Text.{IsHead}
+use Rattle.crp_cert.specs.Text.{HasOneHeight, IsHead}
 use Rattle.crp_cert.specs.Writing.{told, claimed, IsTellable}
 use Rattle.crp_cert.proofs.Written.{told_is_script, told_again, claimed_rise}
 use Rattle.crp_solve.specs.declared.answer.Answer.{Answer}
@@ -28,7 +28,7 @@ use Rattle.crp_report.specs.Chosen.{RunChosen}
 use Rattle.crp_report.specs.Runs.{Seen, Made, IsMade}
 use Rattle.crp_order.specs.BayProblems.{problems_of}
 use Rattle.crp.specs.Prove.{IsProofOf}
-use Rattle.crp.specs.Accepted.{HasOneHeight, IsVerdictOn, text_of, IsAcceptedAs, CanBeTold, IsVerdictFor, IsAcceptedFile}
+use Rattle.crp.specs.Accepted.{IsVerdictOn, text_of, IsAcceptedAs, CanBeTold, IsVerdictFor, IsAcceptedFile}
 use Rattle.crp.proofs.Ended.{script_ended}
 use Rattle.crp.proofs.Named.{can_be_told}
 

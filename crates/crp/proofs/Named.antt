@@ -19,7 +19,8 @@ use Rattle.crp_yard.proofs.Least.{neither, faultless-up_to}
 use Rattle.crp_yard.proofs.RecordSteps.{not_one}
 use Rattle.crp_order.specs.BayProblems.{leaving, ranked, ranks_in, problems_of, bay_problem_of, is_called}
 use Rattle.crp_checker.proofs.WalkSteps.{all_both}
-use Rattle.crp.specs.Accepted.{HasOneHeight, CanBeTold}
+use Rattle.crp_cert.specs.Text.{HasOneHeight}
+use Rattle.crp.specs.Accepted.{CanBeTold}
 
 -- ---- a record names a bay
 

@@ -1,9 +1,9 @@
 -- What the checker says of the certificates that the solver writes.
-use Rattle.std.specs.Prelude.{◌≡◌, ℕ, List, length, replicate, Some, option_map}
+use Rattle.std.specs.Prelude.{◌≡◌, ℕ, List, length, Some, option_map}
 use Rattle.std.specs.List.{AllZip}
 use Rattle.crp_plan.specs.BayNames.{YardBay, IsYardBay}
-use Rattle.crp_plan.specs.Rows.{tallest}
 use Rattle.crp_plan.specs.Bay.{Problem, cap}
+use Rattle.crp_cert.specs.Text.{HasOneHeight}
 use Rattle.crp_cert.specs.Writing.{certificate_text}
 use Rattle.crp_solve.specs.declared.answer.Answer.{Answer}
 use Rattle.crp_solve.specs.declared.answer.Answer.TheVariants as answer
@@ -16,10 +16,6 @@ use Rattle.crp_checker.specs.Shown.{Shows, ShowsOf}
 use Rattle.crp_checker.specs.Files.{FileShows}
 use Rattle.crp_order.specs.declared.bay_problem.BayProblem.{BayProblem}
 use Rattle.crp_report.specs.Answered.{Answered, plan_in}
-
--- the rows of the problem have one height
-abbrev pub HasOneHeight : Problem → Type 0
-HasOneHeight p = p.heights ≡ replicate (length p.stacks) (tallest p.heights)
 
 -- the verdict on an answer: on an optimal one, that the relocations of its plan are the fewest; on one without a plan, that there is none; on one whose
 -- budget ended, its bound and the relocations of its plan, if it has one; and where memory was wanting, what the bound, the cap and the plan show

@@ -3,7 +3,7 @@ ghost use Rattle.std.specs.Prelude.{ℕ, List, All};
 ghost use Rattle.crp_plan.specs.Bay.{Problem};
 ghost use Rattle.crp_plan.specs.BayNames.{YardBay, IsYardBay};
 ghost use Rattle.crp_cert.specs.declared.head.Head.{Head};
-ghost use Rattle.crp_cert.specs.Text.{IsHead};
+ghost use Rattle.crp_cert.specs.Text.{HasOneHeight, IsHead};
 ghost use Rattle.crp_solve.specs.declared.answer.Answer.{Answer};
 ghost use Rattle.crp_solve.specs.Answers.{IsTrueAnswer};
 ghost use Rattle.crp_order.specs.declared.bay_problem.BayProblem.{BayProblem};
@@ -12,7 +12,7 @@ ghost use Rattle.crp_report.specs.Report.{certificates_text};
 ghost use Rattle.crp_report.specs.Chosen.{RunChosen};
 ghost use Rattle.crp_report.specs.Runs.{Seen, Made, IsMade};
 ghost use Rattle.crp.specs.Prove.{IsProofOf};
-ghost use Rattle.crp.specs.Accepted.{HasOneHeight, text_of, IsAcceptedAs, CanBeTold, IsAcceptedFile};
+ghost use Rattle.crp.specs.Accepted.{text_of, IsAcceptedAs, CanBeTold, IsAcceptedFile};
 
 /// The checker accepts what the solver writes: the certificate of a true answer, under the name of a bay whose rows have one
 /// height, is accepted, with the verdict on that answer.

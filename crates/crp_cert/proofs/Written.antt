@@ -21,8 +21,8 @@ use Rattle.crp_tree.specs.Scripts.{Part, IsPart, names, Script as Claim}
 use Rattle.crp_tree.specs.Parts.{ProblemPart, Certificate, IsCertificate, part_of, names_of}
 use Rattle.crp_tree.proofs.Listed.{IsBranch, below}
 use Rattle.crp_cert.specs.Text.{AreRows, head_text}
-use Rattle.crp_cert.specs.Script.{symbols_of, symbols_of_each, Matches, MatchesEach, IsRawPart, IsScript, names_told, part_line, end_line}
-use Rattle.crp_cert.specs.Writing.{told_part, head_told, told, certificate_text, part_read, claim_of, claimed, IsTellable}
+use Rattle.crp_cert.specs.Script.{symbols_of, symbols_of_each, Matches, MatchesEach, IsRawPart, IsScript, names_told, part_line, end_line, part_read, claim_of}
+use Rattle.crp_cert.specs.Writing.{told_part, head_told, told, certificate_text, claimed, IsTellable}
 use Rattle.crp_tree.specs.Names.{Precedes}
 
 -- ---- lists of bytes

@@ -7,6 +7,7 @@ use Rattle.crp_bay.specs.Positions.{targets, child}
 use Rattle.crp_tree.specs.declared.tree.Tree.{Tree, CutB, CutL, Branch', Given, Row_of-Tree, end_of-Tree, more_of-Tree}
 use Rattle.crp_tree.specs.Names.{Precedes}
 use Rattle.crp_tree.specs.Trees.{IsGiven}
+use Rattle.crp_tree.specs.Scripts.{Part, Script as Claim}
 use Rattle.crp_cert.specs.declared.parts.RawPart.{RawPart}
 use Rattle.crp_cert.specs.declared.script.Script.{Script}
 use Rattle.crp_cert.specs.Text.{numbers_line, head_text, IsHead}
@@ -87,3 +88,11 @@ pub record IsScript (script : Script) : Type 0 where
 -- the bytes are the script's text, all of them
 abbrev pub IsScriptOf : List ℕ → Script → Type 0
 IsScriptOf bytes script = IsScript script × (bytes ≡ script_text script)
+
+-- a part that a text tells
+abbrev pub part_read : RawPart → Part
+part_read raw = record { name = raw.name; tree = raw.tree }
+
+-- the claim that a script tells: the problem, the claimed bound, the plan, and search trees by their names
+abbrev pub claim_of : Script → Claim
+claim_of script = record { problem = script.head.problem; lower = script.head.claim; plan = script.head.plan; parts = map part_read script.parts }

@@ -58,11 +58,15 @@ AreRows rows = (length rows ≤ 672) × All (λ row. row ≤ 99) rows
 abbrev pub size_of : Problem → Size
 size_of p = record { rows = length p.stacks; tiers = tallest p.heights; ordered = p.ordered; total = total p.stacks }
 
+-- the rows of the problem have one height
+abbrev pub HasOneHeight : Problem → Type 0
+HasOneHeight p = p.heights ≡ replicate (length p.stacks) (tallest p.heights)
+
 -- what a head may say
 pub record IsHead (head : Head) : Type 0 where
   pub name : IsYardBay head.bay
   pub problem : IsProblem head.problem
-  pub same_heights : head.problem.heights ≡ replicate (length head.problem.stacks) (tallest head.problem.heights)
+  pub same_heights : HasOneHeight head.problem
   pub claim : head.claim ≤ cap head.problem
   pub plan : IfSome head.plan AreRows
 

@@ -1,7 +1,6 @@
 -- What the text of a certificate tells: the problem, the bound that its parts show, a plan or none, and the parts.
-use Rattle.std.specs.Prelude.{◌≡◌, ℕ, List, length, map, replicate, AllPairs, Option, option_map}
+use Rattle.std.specs.Prelude.{ℕ, List, map, AllPairs, Option, option_map}
 use Rattle.crp_plan.specs.BayNames.{YardBay}
-use Rattle.crp_plan.specs.Rows.{tallest}
 use Rattle.crp_plan.specs.Bay.{Problem}
 use Rattle.crp_plan.specs.Plans.{Route}
 use Rattle.crp_tree.specs.Names.{Precedes}
@@ -10,6 +9,7 @@ use Rattle.crp_tree.specs.Parts.{Certificate, part_of}
 use Rattle.crp_cert.specs.declared.head.Head.{Head}
 use Rattle.crp_cert.specs.declared.parts.RawPart.{RawPart}
 use Rattle.crp_cert.specs.declared.script.Script.{Script}
+use Rattle.crp_cert.specs.Text.{HasOneHeight}
 use Rattle.crp_cert.specs.Script.{script_text}
 
 -- the path of a plan, if there is one
@@ -36,16 +36,8 @@ told bay c = record { head = record { bay = bay; problem = c.problem; claim = c.
 abbrev pub certificate_text : YardBay → Problem → Certificate → Option Route → List ℕ
 certificate_text bay p cert plan = script_text (told bay (claimed p cert plan))
 
--- a part that a text tells
-abbrev pub part_read : RawPart → Part
-part_read raw = record { name = raw.name; tree = raw.tree }
-
--- the claim that a script tells
-abbrev pub claim_of : Script → Claim
-claim_of script = record { problem = script.head.problem; lower = script.head.claim; plan = script.head.plan; parts = map part_read script.parts }
-
 -- a text can tell the claim: it is accepted, the rows of its problem have one height, and its parts rise by name
 pub record IsTellable (c : Claim) : Type 0 where
   pub accepted : IsAccepted c
-  pub same_heights : c.problem.heights ≡ replicate (length c.problem.stacks) (tallest c.problem.heights)
+  pub same_heights : HasOneHeight c.problem
   pub rising : AllPairs Precedes (names c.parts)

@@ -17,13 +17,14 @@ use Rattle.crp_cert.specs.Script.{IsScript, IsRawPart, names_told}
 use Rattle.crp_checker.specs.declared.refused.Refused.{Refused}
 use Rattle.crp_checker.specs.declared.refused.Refused.TheVariants as refused
 use Rattle.crp_checker.specs.Symbols.{nodes, nodes_of, IsRight}
-use Rattle.crp_checker.specs.Claims.{part_of, claim_of, IsWanted}
+use Rattle.crp_cert.specs.Script.{part_read, claim_of}
+use Rattle.crp_checker.specs.Claims.{IsWanted}
 use Rattle.crp_checker.specs.Refusals.{walked, walked_part, IsRightPart, AreRightParts, IsLeast, IsFirstWrongClaim}
 use Rattle.crp_checker.specs.Needs.{IsRootOrGiven, IsWithoutPart, IsWithoutNeed, IsNamesRefusal}
 use Rattle.crp_checker.proofs.Shapes.{fits_from, high_from}
 
 -- the names of the parts are the names that are told
-pub names_same : (raws : List RawPart) → names (map part_of raws) ≡ names_told raws
+pub names_same : (raws : List RawPart) → names (map part_read raws) ≡ names_told raws
 names_same [] = refl
 names_same (raw ∷ raws) = ap (λ l. raw.name ∷ l) (names_same raws)
 
@@ -38,37 +39,37 @@ pub givens_are : (p : Problem) (part : Part) (s : Position) → IsProblem p → 
 givens_are p part s is a = ap (λ o. unwrap_or (option_map (λ t. givens part.name t part.tree) o) []) (at_reads p part.name s is a)
 
 -- a part that is told and whose nodes are right has its shape, if the paths that it gives are short
-part_is : (p : Problem) (lower : ℕ) (raw : RawPart) → IsProblem p → IsRawPart p raw → IsRightPart lower (walked_part p (part_of raw)) →
-    ((g : List ℕ) → Contains (given_by p (part_of raw)) g → length g ≤ 8) → IsPart p (part_of raw)
+part_is : (p : Problem) (lower : ℕ) (raw : RawPart) → IsProblem p → IsRawPart p raw → IsRightPart lower (walked_part p (part_read raw)) →
+    ((g : List ℕ) → Contains (given_by p (part_read raw)) g → length g ≤ 8) → IsPart p (part_read raw)
 part_is p lower raw is told right short = record {
   short = told.short;
   place = told.place;
   is_at = told.is_at;
   shape = record {
     fits = fits_from p lower raw.name told.place raw.tree is told.is_at told.matches
-        (subst (AllByRecursion (IsRight lower)) (nodes_are p (part_of raw) told.place is told.is_at) right)
-        (λ g c. short g (subst (λ l. Contains l g) (sym (givens_are p (part_of raw) told.place is told.is_at)) c));
+        (subst (AllByRecursion (IsRight lower)) (nodes_are p (part_read raw) told.place is told.is_at) right)
+        (λ g c. short g (subst (λ l. Contains l g) (sym (givens_are p (part_read raw) told.place is told.is_at)) c));
     not_given = told.not_given;
   };
 }
 
 -- and no cut below the bound
-part_high : (p : Problem) (lower : ℕ) (raw : RawPart) → IsProblem p → IsRawPart p raw → IsRightPart lower (walked_part p (part_of raw)) → HasAtLeast lower (cuts_of p (part_of raw))
+part_high : (p : Problem) (lower : ℕ) (raw : RawPart) → IsProblem p → IsRawPart p raw → IsRightPart lower (walked_part p (part_read raw)) → HasAtLeast lower (cuts_of p (part_read raw))
 part_high p lower raw is told right =
-    subst (HasAtLeast lower) (sym (cuts_are p (part_of raw) told.place is told.is_at))
-    (high_from lower raw.name told.place raw.tree (subst (AllByRecursion (IsRight lower)) (nodes_are p (part_of raw) told.place is told.is_at) right))
+    subst (HasAtLeast lower) (sym (cuts_are p (part_read raw) told.place is told.is_at))
+    (high_from lower raw.name told.place raw.tree (subst (AllByRecursion (IsRight lower)) (nodes_are p (part_read raw) told.place is told.is_at) right))
 
 -- so it is with all parts
-parts_are : (p : Problem) (lower : ℕ) (raws : List RawPart) → IsProblem p → AllByRecursion (IsRawPart p) raws → AllByRecursion (IsRightPart lower) (walked p (map part_of raws)) →
-    ((raw : RawPart) (g : List ℕ) → Contains raws raw → Contains (given_by p (part_of raw)) g → length g ≤ 8) → AllByRecursion (IsPart p) (map part_of raws)
+parts_are : (p : Problem) (lower : ℕ) (raws : List RawPart) → IsProblem p → AllByRecursion (IsRawPart p) raws → AllByRecursion (IsRightPart lower) (walked p (map part_read raws)) →
+    ((raw : RawPart) (g : List ℕ) → Contains raws raw → Contains (given_by p (part_read raw)) g → length g ≤ 8) → AllByRecursion (IsPart p) (map part_read raws)
 parts_are p lower [] is told right short = tt
 parts_are p lower (raw ∷ raws) is told right short = (
   part_is p lower raw is told.0 right.0 (λ g c. short raw g (in_head raw raws) c),
   parts_are p lower raws is told.1 right.1 (λ r g c d. short r g (in_tail raw raws r c) d),
 )
 
-parts_high : (p : Problem) (lower : ℕ) (raws : List RawPart) → IsProblem p → AllByRecursion (IsRawPart p) raws → AllByRecursion (IsRightPart lower) (walked p (map part_of raws)) →
-    AllByRecursion (λ part. HasAtLeast lower (cuts_of p part)) (map part_of raws)
+parts_high : (p : Problem) (lower : ℕ) (raws : List RawPart) → IsProblem p → AllByRecursion (IsRawPart p) raws → AllByRecursion (IsRightPart lower) (walked p (map part_read raws)) →
+    AllByRecursion (λ part. HasAtLeast lower (cuts_of p part)) (map part_read raws)
 parts_high p lower [] is told right = tt
 parts_high p lower (raw ∷ raws) is told right = (part_high p lower raw is told.0 right.0, parts_high p lower raws is told.1 right.1)
 
@@ -78,29 +79,29 @@ apart_from_rising xs rising i j d low lt e = not_itself _ (subst (Precedes _) (s
 
 -- a claim that passes all looks is accepted
 pub accepted_from : (told : Told) (held given : List (List ℕ)) → IsScript told → IfSome told.head.plan (IsPlanPath told.head.problem) →
-    AllByRecursion (IsRightPart told.head.claim) (walked told.head.problem (map part_of told.parts)) → held ≡ names_told told.parts → given ≡ flat_map (given_by told.head.problem) (map part_of told.parts) →
+    AllByRecursion (IsRightPart told.head.claim) (walked told.head.problem (map part_read told.parts)) → held ≡ names_told told.parts → given ≡ flat_map (given_by told.head.problem) (map part_read told.parts) →
     ((name : List ℕ) → Contains held name ↔ IsRootOrGiven given name) → IsAccepted (claim_of told)
 accepted_from told held given readable plan right e d same =
     let p : Problem = told.head.problem in
     let head = readable.is_head in
     let is : IsProblem p = head.problem in
     let each = recursion_from_All (IsRawPart p) told.parts readable.each_part in
-    let needed : (name : List ℕ) → Contains (names (map part_of told.parts)) name ↔ IsNeeded p (map part_of told.parts) name =
-    λ name. subst (λ l. Contains (names (map part_of told.parts)) name ↔ IsRootOrGiven l name) d (subst (λ l. Contains l name ↔ IsRootOrGiven given name) (e ∙ sym (names_same told.parts)) (same name)) in
+    let needed : (name : List ℕ) → Contains (names (map part_read told.parts)) name ↔ IsNeeded p (map part_read told.parts) name =
+    λ name. subst (λ l. Contains (names (map part_read told.parts)) name ↔ IsRootOrGiven l name) d (subst (λ l. Contains l name ↔ IsRootOrGiven given name) (e ∙ sym (names_same told.parts)) (same name)) in
     record {
       is_problem = is;
       within_cap = head.claim;
       plan_is = plan;
-      each_part = All-from_recursion (IsPart p) (map part_of told.parts) (parts_are p told.head.claim told.parts is each right (short_names told p readable.each_part needed));
-      each_cut = All-from_recursion (λ part. HasAtLeast told.head.claim (cuts_of p part)) (map part_of told.parts) (parts_high p told.head.claim told.parts is each right);
+      each_part = All-from_recursion (IsPart p) (map part_read told.parts) (parts_are p told.head.claim told.parts is each right (short_names told p readable.each_part needed));
+      each_cut = All-from_recursion (λ part. HasAtLeast told.head.claim (cuts_of p part)) (map part_read told.parts) (parts_high p told.head.claim told.parts is each right);
       each_once = subst (AllPairs ◌≢◌) (sym (names_same told.parts)) (apart_from_rising (names_told told.parts) readable.rising);
       as_needed = needed;
     }
   where
-    short_names : (told : Told) (p : Problem) → All (IsRawPart p) told.parts → ((name : List ℕ) → Contains (names (map part_of told.parts)) name ↔ IsNeeded p (map part_of told.parts) name) →
-        (raw : RawPart) (g : List ℕ) → Contains told.parts raw → Contains (given_by p (part_of raw)) g → length g ≤ 8
+    short_names : (told : Told) (p : Problem) → All (IsRawPart p) told.parts → ((name : List ℕ) → Contains (names (map part_read told.parts)) name ↔ IsNeeded p (map part_read told.parts) name) →
+        (raw : RawPart) (g : List ℕ) → Contains told.parts raw → Contains (given_by p (part_read raw)) g → length g ≤ 8
     short_names told p each needed raw g c d =
-        let there : Contains (names (map part_of told.parts)) g = (needed g).1 (inr (in_flat_map (given_by p) (map part_of told.parts) (part_of raw) g (in_map part_of told.parts raw c) d)) in
+        let there : Contains (names (map part_read told.parts)) g = (needed g).1 (inr (in_flat_map (given_by p) (map part_read told.parts) (part_read raw) g (in_map part_read told.parts raw c) d)) in
         let y = from_map (λ r. r.name) told.parts g (subst (λ l. Contains l g) (names_same told.parts) there) in
         let r = All-contains (IsRawPart p) told.parts y.0 each y.1 in
         subst (λ n. length n ≤ 8) y.2 r.short

@@ -18,7 +18,8 @@ use Rattle.crp_checker.specs.declared.refused.Refused.{Refused}
 use Rattle.crp_checker.specs.declared.refused.Refused.TheVariants as refused
 use Rattle.crp_checker.specs.declared.verdict.Verdict.{Verdict}
 use Rattle.crp_checker.specs.declared.verdict.Verdict.TheVariants.{Optimal, NoPlan, Bounds}
-use Rattle.crp_checker.specs.Claims.{claim_of, IsWanted, IsYes}
+use Rattle.crp_cert.specs.Script.{claim_of}
+use Rattle.crp_checker.specs.Claims.{IsWanted, IsYes}
 use Rattle.crp_checker.specs.Verdicts.{IsVerdictOf, IsVerdict, Says}
 use Rattle.crp_checker.specs.Told.{cert_told}
 use Rattle.crp_checker.specs.Refusals.{IsFirstWrongClaim, IsRefusal}

@@ -7,7 +7,7 @@ use Rattle.crp_plan.specs.Bay.{Problem}
 use Rattle.crp_cert.specs.declared.parts.RawPart.{RawPart}
 use Rattle.crp_checker.specs.declared.refused.Refused.{Refused}
 use Rattle.crp_checker.specs.declared.refused.Refused.TheVariants as refused
-use Rattle.crp_checker.specs.Claims.{part_of}
+use Rattle.crp_cert.specs.Script.{part_read}
 use Rattle.crp_checker.specs.Refusals.{Walked, walked, walked_part, IsRightPart}
 use Rattle.crp_checker.specs.Walks.{IsPartRefusal, IsWalkRefusal}
 
@@ -17,11 +17,11 @@ around_index xs i d lt = sym (take-append-drop i xs) ∙ ap (λ l. take i xs ++ 
 
 -- the parts as they are walked, around the one at an index
 pub walked_around : (p : Problem) (parts : List RawPart) (i : ℕ) (part : RawPart) → i < length parts → part ≡ get_or parts i part →
-    walked p (map part_of parts) ≡ walked p (map part_of (take i parts)) ++ walked_part p (part_of part) ∷ walked p (map part_of (drop (suc i) parts))
+    walked p (map part_read parts) ≡ walked p (map part_read (take i parts)) ++ walked_part p (part_read part) ∷ walked p (map part_read (drop (suc i) parts))
 walked_around p parts i part lt is =
-    ap (λ l. walked p (map part_of l)) (around_index parts i part lt ∙ ap (λ x. take i parts ++ x ∷ drop (suc i) parts) (sym is))
-    ∙ ap (walked p) (map-append part_of (take i parts) (part ∷ drop (suc i) parts))
-    ∙ map-append (walked_part p) (map part_of (take i parts)) (part_of part ∷ map part_of (drop (suc i) parts))
+    ap (λ l. walked p (map part_read l)) (around_index parts i part lt ∙ ap (λ x. take i parts ++ x ∷ drop (suc i) parts) (sym is))
+    ∙ ap (walked p) (map-append part_read (take i parts) (part ∷ drop (suc i) parts))
+    ∙ map-append (walked_part p) (map part_read (take i parts)) (part_read part ∷ map part_read (drop (suc i) parts))
 
 -- why the walk over a part ends is why the walk over all parts ends, where those before are right
 pub refused_in : (lower : ℕ) (before : List Walked) (part : Walked) (after list : List Walked) (r : Refused) → list ≡ before ++ part ∷ after → AllByRecursion (IsRightPart lower) before →

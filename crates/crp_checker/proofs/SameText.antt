@@ -19,7 +19,8 @@ use Rattle.crp_checker.proofs.Meaning.{one_verdict_of}
 use Rattle.crp_checker.specs.declared.refused.Refused.{Refused}
 use Rattle.crp_checker.specs.declared.refused.Refused.TheVariants as refused
 use Rattle.crp_checker.specs.Symbols.{IsLow, IsAtEnd, nodes, nodes_of}
-use Rattle.crp_checker.specs.Claims.{part_of, claim_of, IsYes}
+use Rattle.crp_cert.specs.Script.{part_read, claim_of}
+use Rattle.crp_checker.specs.Claims.{IsYes}
 use Rattle.crp_checker.specs.Refusals.{walked, walked_part, IsRightPart, IsFirstMet, IsLeast, IsFirstWrongClaim, IsRefusal}
 use Rattle.crp_checker.specs.Needs.{IsWithoutPart, IsWithoutNeed}
 use Rattle.crp_checker.proofs.Claimed.{nodes_are, givens_are, names_same}
@@ -28,22 +29,22 @@ use Rattle.crp_checker.proofs.OneRefusal.{not_wrong, one_wrong}
 
 -- two parts with one name and the same symbols have the same nodes, and give the same paths
 same_part : (p : Problem) (a b : RawPart) → IsProblem p → IsRawPart p a → IsRawPart p b → a.name ≡ b.name → symbols_of a.tree ≡ symbols_of b.tree →
-    (walked_part p (part_of a) ≡ walked_part p (part_of b)) × (given_by p (part_of a) ≡ given_by p (part_of b))
+    (walked_part p (part_read a) ≡ walked_part p (part_read b)) × (given_by p (part_read a) ≡ given_by p (part_read b))
 same_part p a b is x y name text =
     let place : y.place ≡ x.place = same_at p a.name y.place x.place is (subst (λ n. IsAt p n y.place) (sym name) y.is_at) x.is_at in
     let there : IsAt p b.name x.place = subst (λ n. IsAt p n x.place) name x.is_at in
     let told : Matches x.place b.tree = subst (λ s. Matches s b.tree) place y.matches in
     let one = one_tree a.name x.place a.tree b.tree [] [] x.matches told (append-nil (symbols_of a.tree) ∙ text ∙ sym (append-nil (symbols_of b.tree))) in
-    let own = nodes_are p (part_of a) x.place is x.is_at in
-    let others = nodes_are p (part_of b) x.place is there in
+    let own = nodes_are p (part_read a) x.place is x.is_at in
+    let others = nodes_are p (part_read b) x.place is there in
     let nodes_same = own ∙ one.0 ∙ ap (λ n. nodes n x.place b.tree) name ∙ sym others in (
-      ap (λ n. record { name = n; nodes = nodes_of p (part_of a) }) name ∙ ap (λ l. record { name = b.name; nodes = l }) nodes_same,
-      givens_are p (part_of a) x.place is x.is_at ∙ one.1 ∙ ap (λ n. givens n x.place b.tree) name ∙ sym (givens_are p (part_of b) x.place is there),
+      ap (λ n. record { name = n; nodes = nodes_of p (part_read a) }) name ∙ ap (λ l. record { name = b.name; nodes = l }) nodes_same,
+      givens_are p (part_read a) x.place is x.is_at ∙ one.1 ∙ ap (λ n. givens n x.place b.tree) name ∙ sym (givens_are p (part_read b) x.place is there),
     )
 
 -- what is walked and what is given is the same for parts with the same names and symbols
 same_parts : (p : Problem) (raws others : List RawPart) → IsProblem p → AllByRecursion (IsRawPart p) raws → AllByRecursion (IsRawPart p) others → names_told raws ≡ names_told others → symbols_told raws ≡ symbols_told others →
-    (walked p (map part_of raws) ≡ walked p (map part_of others)) × (flat_map (given_by p) (map part_of raws) ≡ flat_map (given_by p) (map part_of others))
+    (walked p (map part_read raws) ≡ walked p (map part_read others)) × (flat_map (given_by p) (map part_read raws) ≡ flat_map (given_by p) (map part_read others))
 same_parts p [] [] is x y name text = (refl, refl)
 same_parts p [] (b ∷ others) is x y name text = absurd (cc)
 same_parts p (a ∷ raws) [] is x y name text = absurd (cc)
@@ -54,8 +55,8 @@ same_parts p (a ∷ raws) (b ∷ others) is x y name text =
     let more_text : symbols_told raws ≡ symbols_told others = cc in
     let first = same_part p a b is x.0 y.0 first_name first_text in
     let more = same_parts p raws others is x.1 y.1 more_names more_text in (
-      ap (λ w. w ∷ walked p (map part_of raws)) first.0 ∙ ap (λ l. walked_part p (part_of b) ∷ l) more.0,
-      ap (λ l. l ++ flat_map (given_by p) (map part_of raws)) first.1 ∙ ap (λ l. given_by p (part_of b) ++ l) more.1,
+      ap (λ w. w ∷ walked p (map part_read raws)) first.0 ∙ ap (λ l. walked_part p (part_read b) ∷ l) more.0,
+      ap (λ l. l ++ flat_map (given_by p) (map part_read raws)) first.1 ∙ ap (λ l. given_by p (part_read b) ++ l) more.1,
     )
 
 -- what is wrong with a claim depends on its parts by what is walked, by their names and by what they give
@@ -97,8 +98,8 @@ wrong_alike wanted bytes a b r x y w =
     let each = recursion_from_All (IsRawPart p) a.parts one.each_part in
     let each' = subst (λ h. AllByRecursion (IsRawPart h.problem) b.parts) (sym same.0) (recursion_from_All (IsRawPart b.head.problem) b.parts other.each_part) in
     let parts = same_parts p b.parts a.parts head.problem each' each (sym same.1) (sym same.2) in
-    wrong_too wanted p a.head.claim a.head.plan (map part_of b.parts) (map part_of a.parts) r parts.0 (names_same b.parts ∙ sym same.1 ∙ sym (names_same a.parts)) parts.1
-    (subst (λ h. IsFirstWrongClaim wanted (record { problem = h.problem; lower = h.claim; plan = h.plan; parts = map part_of b.parts }) r) (sym same.0) w)
+    wrong_too wanted p a.head.claim a.head.plan (map part_read b.parts) (map part_read a.parts) r parts.0 (names_same b.parts ∙ sym same.1 ∙ sym (names_same a.parts)) parts.1
+    (subst (λ h. IsFirstWrongClaim wanted (record { problem = h.problem; lower = h.claim; plan = h.plan; parts = map part_read b.parts }) r) (sym same.0) w)
 
 -- a text that is accepted is not refused
 pub not_both : (wanted : Option Problem) (bytes : List ℕ) (told : Told) (r : Refused) → IsYes wanted bytes told → IsRefusal wanted bytes r → ⊥

@@ -11,7 +11,8 @@ use Rattle.crp_cert.specs.ScriptFaults.{IsFirstFaultOfScript}
 use Rattle.crp_checker.specs.declared.refused.Refused.{Refused}
 use Rattle.crp_checker.specs.declared.refused.Refused.TheVariants as refused
 use Rattle.crp_checker.specs.Symbols.{Node, nodes_of, IsLow, IsAtEnd, IsRight, IsFirstWrong}
-use Rattle.crp_checker.specs.Claims.{claim_of, IsWanted}
+use Rattle.crp_cert.specs.Script.{claim_of}
+use Rattle.crp_checker.specs.Claims.{IsWanted}
 
 -- a part as it is walked: its name, and its nodes in the order of their symbols
 pub record Walked : Type 0 where

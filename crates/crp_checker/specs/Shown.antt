@@ -4,7 +4,8 @@ use Rattle.crp_plan.specs.BayNames.{YardBay}
 use Rattle.crp_plan.specs.Bay.{Problem}
 use Rattle.crp_cert.specs.declared.script.Script.{Script as Told}
 use Rattle.crp_checker.specs.declared.verdict.Verdict.{Verdict}
-use Rattle.crp_checker.specs.Claims.{claim_of, IsYes}
+use Rattle.crp_cert.specs.Script.{claim_of}
+use Rattle.crp_checker.specs.Claims.{IsYes}
 use Rattle.crp_checker.specs.Verdicts.{IsVerdict}
 
 -- the bytes are the text of an accepted script, of the problem that is asked for, if one is, and this is what it shows

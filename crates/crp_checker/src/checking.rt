@@ -7,7 +7,8 @@ ghost use Rattle.crp_cert.specs.declared.script.Script.{Script as Told};
 ghost use Rattle.crp_cert.specs.Text.{IsHeadOf};
 ghost use Rattle.crp_cert.specs.Script.{IsScriptOf};
 ghost use Rattle.crp_checker.specs.Symbols.{nodes_of};
-ghost use Rattle.crp_checker.specs.Claims.{part_of, IsYes};
+ghost use Rattle.crp_cert.specs.Script.{part_read};
+ghost use Rattle.crp_checker.specs.Claims.{IsYes};
 ghost use Rattle.crp_checker.specs.Verdicts.{Says};
 ghost use Rattle.crp_checker.specs.Shown.{Shows, ShowsOf};
 ghost use Rattle.crp_checker.specs.Refusals.{IsRefusal};
@@ -24,7 +25,7 @@ use std::alloc::Global;
 fn script_of(alloc: Global, bytes: &[u8]) -> Result<Script, Refused>
     ensures text { IfOk result (IsScriptOf bytes.now) }
     ensures few { IfOk result (λ script.
-        All (λ part. length (nodes_of script.head.problem (part_of part)) < 2 ^ 64) script.parts) }
+        All (λ part. length (nodes_of script.head.problem (part_read part)) < 2 ^ 64) script.parts) }
     ensures refused { IfErr result (λ refused. (refused ≡ Refused.Memory)
         ⊎ ((wanted : Option Statement) → IsRefusal wanted bytes.now refused)) }
 {

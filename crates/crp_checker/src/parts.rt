@@ -5,7 +5,7 @@ ghost use Rattle.crp_bay.specs.Positions.{at};
 ghost use Rattle.crp_tree.specs.Scripts.{given_by};
 ghost use Rattle.crp_cert.specs.Script.{IsRawPart, names_told};
 ghost use Rattle.crp_checker.specs.Symbols.{nodes_of};
-ghost use Rattle.crp_checker.specs.Claims.{part_of};
+ghost use Rattle.crp_cert.specs.Script.{part_read};
 ghost use Rattle.crp_checker.specs.Refusals.{walked, walked_part, IsRightPart};
 ghost use Rattle.crp_checker.specs.Walks.{IsPartRefusal, IsWalkRefusal};
 
@@ -53,11 +53,11 @@ fn walk_part(
     walk: &mut Walk,
 ) -> Result<(), Refused>
     requires part { IsRawPart problem.now part.now }
-    requires few { length (nodes_of problem.now (part_of part.now)) < 2 ^ 64 }
-    ensures right { OnOk result (IsRightPart lower (walked_part problem.now (part_of part.now))) }
+    requires few { length (nodes_of problem.now (part_read part.now)) < 2 ^ 64 }
+    ensures right { OnOk result (IsRightPart lower (walked_part problem.now (part_read part.now))) }
     ensures given { OnOk result (walk.new.given.items
-        ≡ walk.old.given.items ++ given_by problem.now (part_of part.now)) }
-    ensures refused { IfErr result (IsPartRefusal lower (walked_part problem.now (part_of part.now))) }
+        ≡ walk.old.given.items ++ given_by problem.now (part_read part.now)) }
+    ensures refused { IfErr result (IsPartRefusal lower (walked_part problem.now (part_read part.now))) }
 {
     let position = place_of(problem, part);
     go_to(part, walk)?;
@@ -83,13 +83,13 @@ pub fn walk_parts(
     parts: &[RawPart],
 ) -> Result<Vec<Path>, Refused>
     requires parts { All (IsRawPart problem.now) parts.now }
-    requires few { All (λ part. length (nodes_of problem.now (part_of part)) < 2 ^ 64) parts.now }
+    requires few { All (λ part. length (nodes_of problem.now (part_read part)) < 2 ^ 64) parts.now }
     ensures right { OnOk result (AllByRecursion (IsRightPart lower)
-        (walked problem.now (map part_of parts.now))) }
+        (walked problem.now (map part_read parts.now))) }
     ensures given { IfOk result (λ given.
-        given.items ≡ flat_map (given_by problem.now) (map part_of parts.now)) }
+        given.items ≡ flat_map (given_by problem.now) (map part_read parts.now)) }
     ensures refused { IfErr result (IsWalkRefusal lower
-        (walked problem.now (map part_of parts.now))) }
+        (walked problem.now (map part_read parts.now))) }
 {
     let mut walk = Walk {
         path: Vec::new(alloc),

@@ -3,7 +3,8 @@ use Rattle.std.proofs.lemmas.Result.{err_from_is_err_and}
 use Rattle.crp_plan.specs.Bay.{cap, IsPlan}
 use Rattle.crp_checker.specs.Verdicts.{Says}
 use Rattle.crp_checker.specs.declared.refused.Refused.TheVariants.{OtherProblem}
-use Rattle.crp_checker.specs.Claims.{IsYes, claim_of}
+use Rattle.crp_cert.specs.Script.{claim_of}
+use Rattle.crp_checker.specs.Claims.{IsYes}
 use Rattle.crp_checker.proofs.Meaning.{says_from, bound_of_head, none_of_head, claim_refused_if, head_is}
 use Rattle.crp_checker.proofs.SameText.{rejected}
 use Rattle.crp_checker.proofs.checking.check_for.Goals as goal
