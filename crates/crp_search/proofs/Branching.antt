@@ -11,7 +11,7 @@ use Rattle.crp_tree.specs.Nodes.{Cut, cut_nodes, branch_nodes}
 use Rattle.crp_tree.specs.Listed.{each, AreFit, branches_in_all}
 use Rattle.crp_tree.proofs.Listed.{branch_tells, each_push, fit_push, branches_push}
 use Rattle.crp_tree.proofs.Shown.{least_most}
-use Rattle.crp_search.specs.Limits.{GoesOn}
+use Rattle.crp_search.specs.Limits.{Advances}
 use Rattle.crp_search.specs.Searched.{IsClosed, IsBelow, IsShort, IsFound, IsGranted, PutsMore}
 
 -- what is found below a path by the first i of some rows, where one expansion was granted for the path itself
@@ -24,7 +24,7 @@ pub record FoundBelow (p : Problem) (split : ℕ) (path : List ℕ) (s : Positio
   pub short : All (IsShort split) (each givens path s (take i rows) trees)
   pub closed : All (IsClosed new) (each cut_nodes path s (take i rows) trees)
   pub below : All (IsBelow old.seen) (each branch_nodes path s (take i rows) trees)
-  pub goes_on : GoesOn p old new
+  pub advances : Advances p old new
 
 -- the least of two lists
 pub least-append : (most : ℕ) (xs ys : List ℕ) → least most (xs ++ ys) ≡ min (least most xs) (least most ys)
@@ -32,7 +32,7 @@ least-append most [] ys = let low = least_most most ys in omega arith
 least-append most (x ∷ xs) ys = let e = least-append most xs ys in omega arith
 
 -- what goes on goes on
-pub on_and_on : (p : Problem) (old mid new : View) → GoesOn p old mid → GoesOn p mid new → GoesOn p old new
+pub on_and_on : (p : Problem) (old mid new : View) → Advances p old mid → Advances p mid new → Advances p old new
 on_and_on p old mid new a b = record {
   seen = let x = a.seen in let y = b.seen in omega arith;
   mine = let x = a.mine in let y = b.mine in omega arith;
@@ -46,14 +46,14 @@ on_and_on p old mid new a b = record {
 }
 
 -- a closed cut stays closed
-pub stays_closed : (p : Problem) (old new : View) (cut : Cut) → GoesOn p old new → IsClosed old cut → IsClosed new cut
+pub stays_closed : (p : Problem) (old new : View) (cut : Cut) → Advances p old new → IsClosed old cut → IsClosed new cut
 stays_closed p old new cut on c =
     let s = on.seen in let r = on.refused in
     ⊎_elim (λ seen. inl (omega arith)) (λ refused. let a = refused.0 in inr (omega arith, refused.1)) c
 
 -- before the first row nothing is found
 pub none_yet : (p : Problem) (split : ℕ) (path : List ℕ) (s : Position) (old new : View) (old_puts new_puts : List (List ℕ)) (rows : List ℕ) (trees : List Tree) (floor : ℕ) →
-    IsGranted path s old new → GoesOn p old new → new_puts ≡ old_puts → trees ≡ [] → floor ≡ cap p → FoundBelow p split path s old new old_puts new_puts rows 0 trees floor
+    IsGranted path s old new → Advances p old new → new_puts ≡ old_puts → trees ≡ [] → floor ≡ cap p → FoundBelow p split path s old new old_puts new_puts rows 0 trees floor
 none_yet p split path s old new old_puts new_puts rows trees floor granted on puts none most =
     subst (λ l. FoundBelow p split path s old new old_puts new_puts rows 0 l floor) (sym none) (record {
       count = refl;
@@ -64,16 +64,16 @@ none_yet p split path s old new old_puts new_puts rows trees floor granted on pu
       short = All-nil (IsShort split);
       closed = All-nil (IsClosed new);
       below = All-nil (IsBelow old.seen);
-      goes_on = on;
+      advances = on;
     })
 
 -- one row more
 pub one_more : (p : Problem) (split : ℕ) (path : List ℕ) (s : Position) (old mid new : View) (old_puts mid_puts new_puts : List (List ℕ)) (rows : List ℕ) (i : ℕ) (trees : List Tree) (floor lower : ℕ) (tree : Tree) →
     i < length rows → FoundBelow p split path s old mid old_puts mid_puts rows i trees floor →
-    IsFound p split (path ++ get_or rows i 0 ∷ []) (child s (get_or rows i 0)) mid new mid_puts new_puts tree lower → GoesOn p mid new →
+    IsFound p split (path ++ get_or rows i 0 ∷ []) (child s (get_or rows i 0)) mid new mid_puts new_puts tree lower → Advances p mid new →
     FoundBelow p split path s old new old_puts new_puts rows (suc i) (trees ++ tree ∷ []) (min floor lower)
 one_more p split path s old mid new old_puts mid_puts new_puts rows i trees floor lower tree lt f one on =
-    let before = f.goes_on in
+    let before = f.advances in
     let longer : List ℕ = path ++ get_or rows i 0 ∷ [] in
     let next : Position = child s (get_or rows i 0) in
     let told_cuts = each_push cuts path s rows trees i 0 tree lt f.count in
@@ -92,13 +92,13 @@ one_more p split path s old mid new old_puts mid_puts new_puts rows i trees floo
           (All-weaker (IsClosed mid) (IsClosed new) (λ c k. stays_closed p mid new c on k) _ f.closed) one.closed);
       below = All-same (IsBelow old.seen) _ _ told_branches (All-append (IsBelow old.seen) _ _ f.below
           (All-weaker (IsBelow mid.seen) (IsBelow old.seen) (λ n k. let x = before.seen in omega arith) _ one.below));
-      goes_on = on_and_on p old mid new before on;
+      advances = on_and_on p old mid new before on;
     }
 
 -- the same, as the loop meets it
 pub one_more_met : (p : Problem) (split : ℕ) (path longer : List ℕ) (s next : Position) (old mid new : View) (old_puts mid_puts new_puts : List (List ℕ)) (rows : List ℕ) (i : ℕ) (trees more : List Tree) (floor lower least : ℕ) (tree : Tree) →
     i < length rows → longer ≡ path ++ get_or rows i 0 ∷ [] → next ≡ child s (get_or rows i 0) → more ≡ trees ++ tree ∷ [] → least ≡ min floor lower →
-    FoundBelow p split path s old mid old_puts mid_puts rows i trees floor → IsFound p split longer next mid new mid_puts new_puts tree lower → GoesOn p mid new →
+    FoundBelow p split path s old mid old_puts mid_puts rows i trees floor → IsFound p split longer next mid new mid_puts new_puts tree lower → Advances p mid new →
     FoundBelow p split path s old new old_puts new_puts rows (i + 1) more least
 one_more_met p split path longer s next old mid new old_puts mid_puts new_puts rows i trees more floor lower least tree lt longer_is next_is more_is least_is f one on =
     let at_path : IsFound p split (path ++ get_or rows i 0 ∷ []) next mid new mid_puts new_puts tree lower = subst (λ l. IsFound p split l next mid new mid_puts new_puts tree lower) longer_is one in

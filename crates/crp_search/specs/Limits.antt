@@ -31,7 +31,7 @@ pub record ClaimsExpansion (budget : ℕ) (old : View) (answer : Bool) (new : Vi
 
 -- what a worker's view keeps while it sees, offers plans of the problem and claims: what it saw and what it offered never rises, what it offered
 -- last is a plan's relocations, and its claims only add up
-pub record GoesOn (p : Problem) (old new : View) : Type 0 where
+pub record Advances (p : Problem) (old new : View) : Type 0 where
   pub seen : new.seen ≤ old.seen
   pub mine : new.mine ≤ old.mine
   pub offered : (new.mine ≡ old.mine) ⊎ ((path : List ℕ) × IsPlanPath p path × (length path ≡ new.mine))

@@ -6,7 +6,7 @@ ghost use Rattle.crp_bounds.specs.Bounds.{blocking as blocking_bound, look_ahead
 ghost use Rattle.crp_tree.specs.Trees.{IsGiven, givens};
 ghost use Rattle.crp_tree.specs.Nodes.{branches};
 ghost use Rattle.crp_tree.specs.Parts.{IsKeptPart, given_of, cuts_in, branches_in};
-ghost use Rattle.crp_search.specs.Limits.{GoesOn};
+ghost use Rattle.crp_search.specs.Limits.{Advances};
 ghost use Rattle.crp_search.specs.Searched.{IsClosed, IsBelow, IsShort, IsFound, IsGranted, PutsMore};
 
 use crate::limit::Limit;
@@ -33,7 +33,7 @@ fn offer_shorter<L: Limit>(problem: &Problem, path: &[u8], seen: u64, limit: &mu
     requires seen { seen ≡ (L.view limit.old).seen }
     requires plan { (s : Place) × IsAt problem.now path.now s × IsFinished s }
     ensures seen { (L.view limit.new).seen ≤ length path.now }
-    ensures goes_on { GoesOn problem.now (L.view limit.old) (L.view limit.new) }
+    ensures advances { Advances problem.now (L.view limit.old) (L.view limit.new) }
     ensures grants { ((L.view limit.new).granted ≡ (L.view limit.old).granted) × ((L.view limit.new).refused ≡ (L.view limit.old).refused) }
     ensures same { (L.problem limit.new ≡ L.problem limit.old) × (L.budget limit.new ≡ L.budget limit.old) × (L.puts limit.new ≡ L.puts limit.old) }
 {
@@ -65,7 +65,7 @@ fn close<L: Limit>(problem: &Problem, place: &Position, path: &[u8], limit: &mut
     ensures found { IfSome result (λ found. (split : ℕ) → IsFound problem.now split path.now place.now (L.view limit.old) (L.view limit.new) (L.puts limit.old) (L.puts limit.new) found.tree found.floor) }
     ensures own { IfSome result (λ found. IsGiven found.tree → ⊥) }
     ensures granted { IfNone result (IsGranted path.now place.now (L.view limit.old) (L.view limit.new)) }
-    ensures goes_on { GoesOn problem.now (L.view limit.old) (L.view limit.new) }
+    ensures advances { Advances problem.now (L.view limit.old) (L.view limit.new) }
     ensures same { (L.problem limit.new ≡ L.problem limit.old) × (L.budget limit.new ≡ L.budget limit.old) × (L.puts limit.new ≡ L.puts limit.old) }
 {
     let most = problem.cap();
@@ -119,7 +119,7 @@ fn give_or_search<L: Limit>(
     requires path { IsAt problem.now path.old.items place.now }
     requires split { split ≤ 8 }
     ensures found { IfOk result (λ found. IsFound problem.now split path.old.items place.now (L.view limit.old) (L.view limit.new) (L.puts limit.old) (L.puts limit.new) found.tree found.floor) }
-    ensures goes_on { GoesOn problem.now (L.view limit.old) (L.view limit.new) }
+    ensures advances { Advances problem.now (L.view limit.old) (L.view limit.new) }
     ensures same { (L.problem limit.new ≡ L.problem limit.old) × (L.budget limit.new ≡ L.budget limit.old) }
     ensures puts { PutsMore (L.puts limit.old) (L.puts limit.new) }
     ensures path { OnOk result (path.new.items ≡ path.old.items) }
@@ -150,7 +150,7 @@ fn search_at<L: Limit>(
     requires split { split ≤ 8 }
     ensures found { IfOk result (λ found. IsFound problem.now split path.old.items place.now (L.view limit.old) (L.view limit.new) (L.puts limit.old) (L.puts limit.new) found.tree found.floor) }
     ensures own { IfOk result (λ found. IsGiven found.tree → ⊥) }
-    ensures goes_on { GoesOn problem.now (L.view limit.old) (L.view limit.new) }
+    ensures advances { Advances problem.now (L.view limit.old) (L.view limit.new) }
     ensures same { (L.problem limit.new ≡ L.problem limit.old) × (L.budget limit.new ≡ L.budget limit.old) }
     ensures puts { PutsMore (L.puts limit.old) (L.puts limit.new) }
     ensures path { OnOk result (path.new.items ≡ path.old.items) }
@@ -208,7 +208,7 @@ pub fn search<L: Limit>(
     ensures branches { IfOk result (λ part. All (IsBelow (L.view limit.old).seen) (branches_in part)) }
 
     // Whether memory lasted or not.
-    ensures goes_on { GoesOn problem.now (L.view limit.old) (L.view limit.new) }
+    ensures advances { Advances problem.now (L.view limit.old) (L.view limit.new) }
     ensures same { (L.problem limit.new ≡ L.problem limit.old) × (L.budget limit.new ≡ L.budget limit.old) }
     ensures more_puts { PutsMore (L.puts limit.old) (L.puts limit.new) }
 {

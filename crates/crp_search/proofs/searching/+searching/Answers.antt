@@ -9,11 +9,11 @@ search_at-push-requires g t c =
     let on = c.in-Some-child.ensures.at c.args.problem.now c.args.path.now.items c.cap-floor.ensures.problem c.requires.path in
     (lit< tt, omega (arith, short_path c.args.problem.now (c.args.path.now.items ++ get_or c.as_slice-rows.result.now c.loop-row.row-index 0 ∷ []) c.in-Some-child.child c.cap-floor.ensures.problem on, length-append c.args.path.now.items (get_or c.as_slice-rows.result.now c.loop-row.row-index 0 ∷ []), ap length c.loop-row.invariant.path))
 
-pub search_at-returns-in_err-push-clause-goes_on :
-    goal.search_at-returns-in_err-push-clause-goes_on
-search_at-returns-in_err-push-clause-goes_on g t c =
+pub search_at-returns-in_err-push-clause-advances :
+    goal.search_at-returns-in_err-push-clause-advances
+search_at-returns-in_err-push-clause-advances g t c =
     let f = c.loop-row.invariant.found in
-    on_and_on c.args.problem.now (g.L.Limit.view c.args.limit.now) (g.L.Limit.view c.loop-row.limit) (g.L.Limit.view c.give_or_search.new.limit) f.goes_on c.give_or_search.ensures.goes_on
+    on_and_on c.args.problem.now (g.L.Limit.view c.args.limit.now) (g.L.Limit.view c.loop-row.limit) (g.L.Limit.view c.give_or_search.new.limit) f.advances c.give_or_search.ensures.advances
 
 pub search_at-loop-row-preserved : goal.search_at-loop-row-preserved
 search_at-loop-row-preserved g t c =
@@ -28,7 +28,7 @@ search_at-loop-row-preserved g t c =
       found = one_more_met c.args.problem.now c.args.split path c.push.new.self.items c.args.place.now c.in-Some-child.child (g.L.Limit.view c.args.limit.now) (g.L.Limit.view c.loop-row.limit) (g.L.Limit.view c.give_or_search.new.limit)
           (g.L.Limit.puts c.args.limit.now) (g.L.Limit.puts c.loop-row.limit) (g.L.Limit.puts c.give_or_search.new.limit) c.as_slice-rows.result.now c.loop-row.row-index c.loop-row.trees.items c.push-in-loop-row.new.self.items
           c.loop-row.floor c.in_ok-found.found.floor c.min-floor.result c.in_ok-found.found.tree
-          (omega arith) longer c.in-Some-child.ensures.value c.in_ok-push.ensures.items c.min-floor.ensures inv.found c.in_ok-found.ensures.found c.give_or_search.ensures.goes_on;
+          (omega arith) longer c.in-Some-child.ensures.value c.in_ok-push.ensures.items c.min-floor.ensures inv.found c.in_ok-found.ensures.found c.give_or_search.ensures.advances;
     }
 
 pub search_at-returns-clause-found : goal.search_at-returns-clause-found
