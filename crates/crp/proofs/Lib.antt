@@ -7,3 +7,4 @@ pub mod Checked
 pub mod Ended
 pub mod Named
 pub mod Accepted
+pub mod Performed

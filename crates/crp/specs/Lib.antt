@@ -7,4 +7,5 @@ pub mod Words
 pub mod Prove
 pub mod Check
 pub mod Chosen
+pub mod Performing
 pub mod Accepted

@@ -8,6 +8,7 @@ mod heads;
 mod job;
 mod laws;
 mod outcome;
+mod performing;
 mod proving;
 mod replaying;
 mod running;

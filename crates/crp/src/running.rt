@@ -1,20 +1,21 @@
 //! A run of the program: its words, its files, and what it tells the user.
-ghost use Rattle.std.specs.Prelude.{◌≡◌, ◌≤◌, IfOk, map, string_bytes};
+ghost use Rattle.std.specs.Prelude.{◌≡◌, ◌≤◌, ◌⊎◌, IfOk, IfErr, MatchResult, map, string_bytes};
 ghost use Rattle.crp.specs.Calls.{exit_code};
 ghost use Rattle.crp.specs.Words.{HasUsageStatus, IsWithinLimits};
 ghost use Rattle.crp.specs.Chosen.{AreChosen};
+ghost use Rattle.crp_report.specs.declared.fault.Fault.{Fault};
+ghost use Rattle.crp_report.specs.Chosen.{RunChosen};
+ghost use Rattle.crp_report.specs.Runs.{SinkSeen, GetsNothing};
+ghost use Rattle.crp.specs.declared.outcome.ToolFault.TheVariants.{Memory, Run};
+ghost use Rattle.crp.specs.Performing.{IsOverOneFile, file_of, ReportsFile, TellsOfFile, ReportsRun, TellsOfRun, Reports, TellsOf};
 
-use crate::bounding::bound;
-use crate::checking::check;
 use crate::job::{Job, Mistake, SolveSettings, Usage};
 use crate::outcome::{ToolFault, exit_of};
-use crate::proving::prove;
-use crate::replaying::replay;
+use crate::performing::{alone, perform};
 use crate::solving::{Files, solve};
 use crate::words::job;
-use crp_plan::{Counted, Source};
+use crp_plan::{Counted, Sink};
 use crp_report::{RunFault, RunSettings, Status};
-use crp_solve::Settings;
 use std::alloc::{AllocError, Global};
 use std::fs::File;
 use std::sync::Wait;
@@ -44,54 +45,37 @@ fn texts_of<'a>(alloc: Global, words: &'a [String]) -> Result<Vec<&'a str>, Allo
     Ok(texts)
 }
 
-// What is done with the bytes of a file.
-#[derive(Clone, Copy)]
-enum Command {
-    Replay,
-    Bound,
-    Check,
-    Prove(Settings),
-}
-
-fn run_from<T: Threads + Wait + Sync, R: Source>(
-    rt: &HostRuntime,
-    threads: &T,
-    command: Command,
-    source: &mut R,
-) -> Result<Status, ToolFault> {
-    let mut sink = Counted::new(rt.stdout());
-    match command {
-        Command::Replay => replay(rt.alloc(), source, &mut sink),
-        Command::Bound => bound(rt.alloc(), source, &mut sink),
-        Command::Check => check(rt.alloc(), source, &mut sink),
-        Command::Prove(settings) => prove(threads, rt.alloc(), source, &mut sink, settings),
+// The file of a job over one file.
+fn file_of<'a>(job: &Job<'a>) -> &'a str
+    requires { IsOverOneFile job.now }
+    ensures { result.now ≡ file_of job.now }
+{
+    match job {
+        Job::Replay(file) | Job::Bound(file) | Job::Check(file) => file,
+        Job::Prove { file, .. } => file,
+        Job::Solve { .. } => unreachable!(),
     }
 }
 
-// A file named `-` is the standard input.
-fn run_on<T: Threads + Wait + Sync>(
+// Does a job over one file. A file named `-` is the standard input.
+fn run_on<T: Threads + Wait + Sync, W: Sink>(
     rt: &HostRuntime,
     threads: &T,
-    command: Command,
-    name: &str,
-) -> Result<Status, ToolFault> {
+    job: &Job<'_>,
+    out: &mut W,
+) -> Result<Status, ToolFault>
+    requires one_file { IsOverOneFile job.now }
+    requires within { IsWithinLimits job.now }
+    ensures { let seen : SinkSeen = record { held = W.contents out.old; holds = W.contents out.new; before = W.failures out.old; after = W.failures out.new }
+        in MatchResult result (ReportsFile job.now seen) (TellsOfFile job.now seen) }
+{
+    let name = file_of(job);
     if name == "-" {
-        return run_from(rt, threads, command, &mut Counted::new(rt.stdin()));
+        return perform(threads, rt.alloc(), job, &mut Counted::new(rt.stdin()), out);
     }
     match File::open(rt, name) {
-        Ok(file) => run_from(rt, threads, command, &mut Counted::new(file)),
+        Ok(file) => perform(threads, rt.alloc(), job, &mut Counted::new(file), out),
         Err(_) => Err(ToolFault::Read),
-    }
-}
-
-// The settings of one worker with this budget.
-fn alone(budget: u64) -> Settings
-    requires { budget ≤ 1099511627776 }
-    ensures { result ≡ record { workers = 1; budget = budget; split = 2 } }
-{
-    match Settings::new(1, budget, 2) {
-        Ok(settings) => settings,
-        Err(_) => unreachable!(),
     }
 }
 
@@ -100,7 +84,8 @@ fn settings_of(alloc: Global, chosen: SolveSettings<'_>) -> Result<RunSettings, 
     requires budget { chosen.budget ≤ 1099511627776 }
     requires rows { (1 ≤ chosen.rows) × (chosen.rows ≤ 12) }
     requires tiers { (1 ≤ chosen.tiers) × (chosen.tiers ≤ 8) }
-    ensures { IfOk result (AreChosen chosen.entry) }
+    ensures chosen { IfOk result (AreChosen chosen.entry) }
+    ensures memory { IfErr result (λ fault. fault ≡ Memory) }
 {
     let search = alone(chosen.budget);
     let code = chosen.code.as_bytes();
@@ -112,39 +97,36 @@ fn settings_of(alloc: Global, chosen: SolveSettings<'_>) -> Result<RunSettings, 
 }
 
 // Solves the bays of a yard, one after the other.
-fn solve_with<T: Threads + Wait + Sync>(
+fn solve_with<T: Threads + Wait + Sync, W: Sink>(
     rt: &HostRuntime,
     threads: &T,
     files: Files<'_>,
     chosen: SolveSettings<'_>,
+    out: &mut W,
 ) -> Result<Status, ToolFault>
     requires budget { chosen.budget ≤ 1099511627776 }
     requires rows { (1 ≤ chosen.rows) × (chosen.rows ≤ 12) }
     requires tiers { (1 ≤ chosen.tiers) × (chosen.tiers ≤ 8) }
+    ensures { let seen : SinkSeen = record { held = W.contents out.old; holds = W.contents out.new; before = W.failures out.old; after = W.failures out.new }
+        in MatchResult result (λ status. (c : RunChosen) × AreChosen chosen.entry c × ReportsRun c seen status)
+        (λ fault. (fault ≡ Memory) × GetsNothing seen ⊎ ((c : RunChosen) × (f : Fault) × AreChosen chosen.entry c × (fault ≡ Run f) × TellsOfRun c seen f)) }
 {
     let settings = settings_of(rt.alloc(), chosen)?;
-    solve(rt, threads, &files, &settings)
+    solve(rt, threads, &files, &settings, out)
 }
 
-// The exit status, with the fault's line on the standard error.
-fn told(rt: &HostRuntime, answer: &Result<Status, ToolFault>) -> u8
-    ensures { result ≡ exit_code answer.now }
+// Does a job over its files, and writes its report to a sink.
+pub(crate) fn run_job<T: Threads + Wait + Sync, W: Sink>(
+    rt: &HostRuntime,
+    threads: &T,
+    job: &Job<'_>,
+    out: &mut W,
+) -> Result<Status, ToolFault>
+    requires { IsWithinLimits job.now }
+    ensures { let seen : SinkSeen = record { held = W.contents out.old; holds = W.contents out.new; before = W.failures out.old; after = W.failures out.new }
+        in MatchResult result (Reports job.now seen) (TellsOf job.now seen) }
 {
-    if let Err(fault) = answer {
-        let _ = eprintln!(rt; "crp: {fault}");
-    }
-    exit_of(answer)
-}
-
-// Does the job, and says the exit status.
-fn start<T: Threads + Wait + Sync>(rt: &HostRuntime, threads: &T, job: Job<'_>) -> u8
-    requires { IsWithinLimits job }
-{
-    let (command, file) = match job {
-        Job::Replay(file) => (Command::Replay, file),
-        Job::Bound(file) => (Command::Bound, file),
-        Job::Check(file) => (Command::Check, file),
-        Job::Prove { file, budget } => (Command::Prove(alone(budget)), file),
+    match job {
         Job::Solve {
             yard,
             movins,
@@ -155,13 +137,23 @@ fn start<T: Threads + Wait + Sync>(rt: &HostRuntime, threads: &T, job: Job<'_>) 
             let files = Files {
                 yard,
                 movins,
-                cert,
-                after,
+                cert: *cert,
+                after: *after,
             };
-            return told(rt, &solve_with(rt, threads, files, settings));
+            solve_with(rt, threads, files, *settings, out)
         }
-    };
-    told(rt, &run_on(rt, threads, command, file))
+        one_file => run_on(rt, threads, one_file, out),
+    }
+}
+
+// The exit status, with the fault's line on the standard error.
+fn told(rt: &HostRuntime, answer: &Result<Status, ToolFault>) -> u8
+    ensures { result ≡ exit_code answer.now }
+{
+    if let Err(fault) = answer {
+        let _ = eprintln!(rt; "crp: {fault}");
+    }
+    exit_of(answer)
 }
 
 fn told_usage(rt: &HostRuntime, usage: &Usage) -> u8
@@ -200,7 +192,10 @@ pub fn run<T: Threads + Wait + Sync>(rt: &HostRuntime, threads: &T) -> u8 {
         return told(rt, &Err(ToolFault::Memory));
     };
     match job(rt.alloc(), &texts) {
-        Ok(job) => start(rt, threads, job),
+        Ok(job) => told(
+            rt,
+            &run_job(rt, threads, &job, &mut Counted::new(rt.stdout())),
+        ),
         Err(usage) => told_usage(rt, &usage),
     }
 }

@@ -1,4 +1,10 @@
 //! The command `solve`: opens its files, and runs over them.
+ghost use Rattle.std.specs.Prelude.{◌≡◌, IfErr, MatchResult};
+ghost use Rattle.crp_report.specs.declared.fault.Fault.{Fault};
+ghost use Rattle.crp_report.specs.declared.fault.Fault.TheVariants as run;
+ghost use Rattle.crp_report.specs.Runs.{SinkSeen};
+ghost use Rattle.crp.specs.declared.outcome.ToolFault.TheVariants.{Run};
+ghost use Rattle.crp.specs.Performing.{ReportsRun, TellsOfRun};
 
 use crate::outcome::ToolFault;
 use crp_plan::{Counted, Nowhere, Sink, Source};
@@ -20,7 +26,9 @@ pub struct Files<'a> {
     pub after: Option<&'a str>,
 }
 
-fn opened(rt: &HostRuntime, name: &str, input: Input) -> Result<Counted<File>, ToolFault> {
+fn opened(rt: &HostRuntime, name: &str, input: Input) -> Result<Counted<File>, ToolFault>
+    ensures { IfErr result (λ fault. fault ≡ Run (run.Read input)) }
+{
     match File::open(rt, name) {
         Ok(file) => Ok(Counted::new(file)),
         Err(_) => Err(ToolFault::Run(Fault::Read(input))),
@@ -28,70 +36,116 @@ fn opened(rt: &HostRuntime, name: &str, input: Input) -> Result<Counted<File>, T
 }
 
 // A file that is there is emptied.
-fn created(rt: &HostRuntime, name: &str, output: Output) -> Result<Counted<File>, ToolFault> {
+fn created(rt: &HostRuntime, name: &str, output: Output) -> Result<Counted<File>, ToolFault>
+    ensures { IfErr result (λ fault. fault ≡ Run (run.Write output)) }
+{
     match File::create(rt, name) {
         Ok(file) => Ok(Counted::new(file)),
         Err(_) => Err(ToolFault::Run(Fault::Write(output))),
     }
 }
 
-fn run_to<T: Threads + Wait + Sync, Y: Source, M: Source, C: Sink, A: Sink>(
+// Runs over the inputs, and tells a fault of the run as one of the command.
+fn run_to<T: Threads + Wait + Sync, Y: Source, M: Source, W: Sink, C: Sink, A: Sink>(
     rt: &HostRuntime,
     threads: &T,
-    inputs: (&mut Y, &mut M),
+    yard: &mut Y,
+    movins: &mut M,
     settings: &RunSettings,
+    out: &mut W,
     cert_out: &mut C,
     after_out: &mut A,
-) -> Result<Status, ToolFault> {
-    let (yard, movins) = inputs;
-    let mut out = Counted::new(rt.stdout());
-    let status = run(
-        threads,
-        rt.alloc(),
-        yard,
-        movins,
-        settings,
-        &mut out,
-        cert_out,
-        after_out,
-    )?;
-    Ok(status)
+) -> Result<Status, ToolFault>
+    ensures { let seen : SinkSeen = record { held = W.contents out.old; holds = W.contents out.new; before = W.failures out.old; after = W.failures out.new }
+        in MatchResult result (ReportsRun settings.now seen) (λ fault. (f : Fault) × (fault ≡ Run f) × TellsOfRun settings.now seen f) }
+{
+    let alloc = rt.alloc();
+    match run(
+        threads, alloc, yard, movins, settings, out, cert_out, after_out,
+    ) {
+        Ok(status) => Ok(status),
+        Err(fault) => Err(ToolFault::Run(fault)),
+    }
 }
 
 // Opens the file of the yard after the plans, if it is wanted.
-fn run_after<T: Threads + Wait + Sync, Y: Source, M: Source, C: Sink>(
+fn run_after<T: Threads + Wait + Sync, Y: Source, M: Source, W: Sink, C: Sink>(
     rt: &HostRuntime,
     threads: &T,
-    inputs: (&mut Y, &mut M),
+    yard: &mut Y,
+    movins: &mut M,
     settings: &RunSettings,
+    out: &mut W,
     cert_out: &mut C,
     after: Option<&str>,
-) -> Result<Status, ToolFault> {
+) -> Result<Status, ToolFault>
+    ensures { let seen : SinkSeen = record { held = W.contents out.old; holds = W.contents out.new; before = W.failures out.old; after = W.failures out.new }
+        in MatchResult result (ReportsRun settings.now seen) (λ fault. (f : Fault) × (fault ≡ Run f) × TellsOfRun settings.now seen f) }
+{
     match after {
         Some(name) => {
             let mut after_out = created(rt, name, Output::YardAfter)?;
-            run_to(rt, threads, inputs, settings, cert_out, &mut after_out)
+            run_to(
+                rt,
+                threads,
+                yard,
+                movins,
+                settings,
+                out,
+                cert_out,
+                &mut after_out,
+            )
         }
-        None => run_to(rt, threads, inputs, settings, cert_out, &mut Nowhere),
+        None => run_to(
+            rt,
+            threads,
+            yard,
+            movins,
+            settings,
+            out,
+            cert_out,
+            &mut Nowhere,
+        ),
     }
 }
 
 /// Opens the files, before anything is read: the yard list, the message, the file of the certificates and that of the yard after the
-/// plans. Then runs over them, and writes the report to the standard output.
-pub fn solve<T: Threads + Wait + Sync>(
+/// plans. Then runs over them, and writes the report to `out`.
+pub fn solve<T: Threads + Wait + Sync, W: Sink>(
     rt: &HostRuntime,
     threads: &T,
     files: &Files<'_>,
     settings: &RunSettings,
-) -> Result<Status, ToolFault> {
+    out: &mut W,
+) -> Result<Status, ToolFault>
+    ensures { let seen : SinkSeen = record { held = W.contents out.old; holds = W.contents out.new; before = W.failures out.old; after = W.failures out.new }
+        in MatchResult result (ReportsRun settings.now seen) (λ fault. (f : Fault) × (fault ≡ Run f) × TellsOfRun settings.now seen f) }
+{
     let mut yard = opened(rt, files.yard, Input::Yard)?;
     let mut movins = opened(rt, files.movins, Input::Movins)?;
-    let inputs = (&mut yard, &mut movins);
     match files.cert {
         Some(name) => {
             let mut cert_out = created(rt, name, Output::Certificates)?;
-            run_after(rt, threads, inputs, settings, &mut cert_out, files.after)
+            run_after(
+                rt,
+                threads,
+                &mut yard,
+                &mut movins,
+                settings,
+                out,
+                &mut cert_out,
+                files.after,
+            )
         }
-        None => run_after(rt, threads, inputs, settings, &mut Nowhere, files.after),
+        None => run_after(
+            rt,
+            threads,
+            &mut yard,
+            &mut movins,
+            settings,
+            out,
+            &mut Nowhere,
+            files.after,
+        ),
     }
 }

@@ -1,0 +1,90 @@
+-- What a job does: one over the bytes of one file, and any, as the sink of its report sees it.
+use Rattle.std.specs.Prelude.{◌≡◌, ℕ, ◌⊎◌, List, ⊤}
+use Rattle.crp_report.specs.declared.fault.Fault.{Fault}
+use Rattle.crp_report.specs.declared.fault.Fault.TheVariants as run
+use Rattle.crp_report.specs.declared.fault.Output.TheVariants as output
+use Rattle.crp_report.specs.declared.status.Status.{Status}
+use Rattle.crp_report.specs.declared.status.Status.TheVariants as status
+use Rattle.crp.specs.declared.job.Job.{Job}
+use Rattle.crp.specs.declared.job.Job.TheVariants as job
+use Rattle.crp.specs.declared.outcome.ToolFault.{ToolFault}
+use Rattle.crp.specs.declared.outcome.ToolFault.TheVariants as fault
+use Rattle.crp_report.specs.Chosen.{RunChosen}
+use Rattle.crp_report.specs.Runs.{SinkSeen, GetsNothing, Seen as SeenByRun, Writes as RunWrites, Tells as RunTells}
+use Rattle.crp.specs.Chosen.{AreChosen}
+use Rattle.crp.specs.Calls.{Seen, Writes, Tells}
+use Rattle.crp.specs.Replay.{IsReplay, IsNoReplay}
+use Rattle.crp.specs.Bound.{IsBound, IsNoBound}
+use Rattle.crp.specs.Check.{IsCheck, TellsOfCheck}
+use Rattle.crp.specs.Prove.{IsProof, IsSomeProof, IsNoProof}
+
+-- the job reads one file
+abbrev pub IsOverOneFile : Job → Type 0
+IsOverOneFile (job.Replay file) = ⊤
+IsOverOneFile (job.Bound file) = ⊤
+IsOverOneFile (job.Check file) = ⊤
+IsOverOneFile (job.Prove file budget) = ⊤
+IsOverOneFile (job.Solve yard movins cert after settings) = ⊥
+
+-- the file that the job reads
+abbrev pub file_of : Job → List ℕ
+file_of (job.Replay file) = file.now
+file_of (job.Bound file) = file.now
+file_of (job.Check file) = file.now
+file_of (job.Prove file budget) = file.now
+file_of (job.Solve yard movins cert after settings) = yard.now
+
+-- the job was done, and ended with this status: the whole report of its command was written, and nothing else
+abbrev pub Performs : Job → Status → Seen → Type 0
+Performs (job.Replay file) ended s = (ended ≡ status.Decided) × Writes 268435456 IsReplay s
+Performs (job.Bound file) ended s = (ended ≡ status.Decided) × Writes 268435456 IsBound s
+Performs (job.Check file) ended s = (ended ≡ status.Decided) × Writes 268435456 IsCheck s
+Performs (job.Prove file budget) ended s = Writes 268435456 (IsProof budget ended) s
+Performs (job.Solve yard movins cert after settings) ended s = ⊥
+
+-- what a fault tells of the job
+abbrev pub TellsOfJob : Job → Seen → ToolFault → Type 0
+TellsOfJob (job.Replay file) s f = Tells 268435456 IsReplay IsNoReplay s f
+TellsOfJob (job.Bound file) s f = Tells 268435456 IsBound IsNoBound s f
+TellsOfJob (job.Check file) s f = TellsOfCheck 268435456 s f
+TellsOfJob (job.Prove file budget) s f = Tells 268435456 (IsSomeProof budget) IsNoProof s f
+TellsOfJob (job.Solve yard movins cert after settings) s f = ⊥
+
+-- a job over one file was done, and this is what the sink of its report saw
+abbrev pub ReportsFile : Job → SinkSeen → Status → Type 0
+ReportsFile j out ended = (s : Seen) × Performs j ended s × (s.held ≡ out.held) × (s.holds ≡ out.holds)
+
+-- what a fault tells of a job over one file, where this is what the sink of its report saw; a file that cannot be opened is a failed read of it
+abbrev pub TellsOfFile : Job → SinkSeen → ToolFault → Type 0
+TellsOfFile j out f = (s : Seen) × TellsOfJob j s f × (s.held ≡ out.held) × (s.holds ≡ out.holds)
+
+-- a run with these settings was done, and this is what the sink of its report saw
+abbrev pub ReportsRun : RunChosen → SinkSeen → Status → Type 0
+ReportsRun chosen out ended = (s : SeenByRun) × RunWrites chosen s ended × (s.report ≡ out)
+
+-- a file of a run cannot be opened, and nothing was reported
+abbrev pub IsNotOpened : SinkSeen → Fault → Type 0
+IsNotOpened out (run.Read input) = GetsNothing out
+IsNotOpened out (run.Write output.Certificates) = GetsNothing out
+IsNotOpened out (run.Write output.YardAfter) = GetsNothing out
+IsNotOpened out (run.Write output.Report) = ⊥
+IsNotOpened out (run.Yard f) = ⊥
+IsNotOpened out (run.Interchange f) = ⊥
+IsNotOpened out (run.Message f) = ⊥
+IsNotOpened out run.Memory = ⊥
+
+-- what a fault tells of a run over files, where this is what the sink of its report saw
+abbrev pub TellsOfRun : RunChosen → SinkSeen → Fault → Type 0
+TellsOfRun chosen out f = IsNotOpened out f ⊎ ((s : SeenByRun) × RunTells chosen s f × (s.report ≡ out))
+
+-- the job was done, and this is what the sink of its report saw
+abbrev pub Reports : Job → SinkSeen → Status → Type 0
+Reports (job.Solve yard movins cert after settings) out ended = (chosen : RunChosen) × AreChosen settings chosen × ReportsRun chosen out ended
+Reports j out ended = ReportsFile j out ended
+
+-- what a fault tells of the job, where this is what the sink of its report saw
+abbrev pub TellsOf : Job → SinkSeen → ToolFault → Type 0
+TellsOf (job.Solve yard movins cert after settings) out (fault.Run f) = (chosen : RunChosen) × AreChosen settings chosen × TellsOfRun chosen out f
+TellsOf (job.Solve yard movins cert after settings) out fault.Memory = GetsNothing out
+TellsOf (job.Solve yard movins cert after settings) out f = ⊥
+TellsOf j out f = TellsOfFile j out f

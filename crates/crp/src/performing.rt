@@ -1,0 +1,58 @@
+//! What a job over one file does with the bytes of that file.
+ghost use Rattle.std.specs.Prelude.{◌≡◌, ◌≤◌, MatchResult};
+ghost use Rattle.crp.specs.Calls.{Seen, failures_in};
+ghost use Rattle.crp.specs.Words.{IsWithinLimits};
+ghost use Rattle.crp.specs.Performing.{IsOverOneFile, Performs, TellsOfJob};
+
+use crate::bounding::bound;
+use crate::checking::check;
+use crate::job::Job;
+use crate::outcome::ToolFault;
+use crate::proving::prove;
+use crate::replaying::replay;
+use crp_plan::{Sink, Source};
+use crp_report::Status;
+use crp_solve::Settings;
+use std::alloc::Global;
+use std::sync::Wait;
+use std::thread::Threads;
+
+/// The settings of one worker with this budget.
+pub fn alone(budget: u64) -> Settings
+    requires { budget ≤ 1099511627776 }
+    ensures { result ≡ record { workers = 1; budget = budget; split = 2 } }
+{
+    match Settings::new(1, budget, 2) {
+        Ok(settings) => settings,
+        Err(_) => unreachable!(),
+    }
+}
+
+/// Does a job over one file, from a source of that file's bytes to the sink of its report.
+pub fn perform<T: Threads + Wait + Sync, R: Source, W: Sink>(
+    rt: &T,
+    alloc: Global,
+    job: &Job<'_>,
+    reader: &mut R,
+    writer: &mut W,
+) -> Result<Status, ToolFault>
+    requires one_file { IsOverOneFile job.now }
+    requires within { IsWithinLimits job.now }
+    ensures { let seen : Seen = record {
+      given = R.remaining reader.old;
+      held = W.contents writer.old;
+      holds = W.contents writer.new;
+      source_before = R.failures reader.old;
+      source_after = R.failures reader.new;
+      sink_before = W.failures writer.old;
+      sink_after = W.failures writer.new;
+    } in MatchResult result (λ status. Performs job.now status seen × (failures_in seen ≤ 1000)) (λ fault. TellsOfJob job.now seen fault × (failures_in seen ≤ 1001)) }
+{
+    match job {
+        Job::Replay(_) => replay(alloc, reader, writer),
+        Job::Bound(_) => bound(alloc, reader, writer),
+        Job::Check(_) => check(alloc, reader, writer),
+        Job::Prove { budget, .. } => prove(rt, alloc, reader, writer, alone(*budget)),
+        Job::Solve { .. } => unreachable!(),
+    }
+}
