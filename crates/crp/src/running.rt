@@ -84,8 +84,8 @@ fn run_on<T: Threads + Wait + Sync>(
     }
 }
 
-// The settings of one worker with this budget.
-fn alone(budget: u64) -> Settings
+/// The settings of one worker with this budget.
+pub(crate) fn alone(budget: u64) -> Settings
     requires { budget ≤ 1099511627776 }
     ensures { result ≡ record { workers = 1; budget = budget; split = 2 } }
 {
@@ -95,8 +95,11 @@ fn alone(budget: u64) -> Settings
     }
 }
 
-// The settings of a run by one worker.
-fn settings_of(alloc: Global, chosen: SolveSettings<'_>) -> Result<RunSettings, ToolFault>
+/// The settings of a run by one worker.
+pub(crate) fn settings_of(
+    alloc: Global,
+    chosen: SolveSettings<'_>,
+) -> Result<RunSettings, ToolFault>
     requires budget { chosen.budget ≤ 1099511627776 }
     requires rows { (1 ≤ chosen.rows) × (chosen.rows ≤ 12) }
     requires tiers { (1 ≤ chosen.tiers) × (chosen.tiers ≤ 8) }
