@@ -1,12 +1,16 @@
 //! Runs over two bays, byte for byte.
 use crate::checking::check;
-use crate::tests::reports::{Choice, SIX_CONTAINERS, SIX_ORDERS, Texts, message, texts_of};
+use crate::tests::reports::{Choice, HEADER, SIX_CONTAINERS, SIX_ORDERS, Texts, message, texts_of};
 use crp_order::Mode;
 use crp_plan::Received;
 use crp_report::Status;
 use std::alloc::Global;
 use std::process::Abort;
 use std::test::Fail;
+
+// Two messages, each of which orders a container of either bay: the first for tier 84 of the ship, the second for tier 82.
+const TWO_MESSAGES: &[u8] =
+    b"UNB+UNOA:1+YARD+SHIP+250101:0800+1'\nUNH+1+MOVINS:D:95B:UN'\nHAN+LOA'\nLOC+147+0010184'\nEQD+CN+X'\nLOC+147+0030184'\nEQD+CN+W'\nUNT+7+1'\nUNH+2+MOVINS:D:95B:UN'\nHAN+LOA'\nLOC+147+0010182'\nEQD+CN+Y'\nLOC+147+0030182'\nEQD+CN+V'\nUNT+7+2'\nUNZ+2+1'\n";
 
 // What a run makes, and what `check` writes of its certificates.
 #[derive(Clone, Copy)]
@@ -94,5 +98,44 @@ fn a_bay_without_a_plan_beside_another(rt: HostRuntime) -> Result<(), Fail> {
         verdicts: b"bay B 7: no plan\nbay A 1: optimal 1\n",
     };
     compare(&rt, rt.alloc(), &told, &made);
+    Ok(())
+}
+
+#[test]
+fn orders_of_two_messages(rt: HostRuntime) -> Result<(), Fail> {
+    let yard =
+        b"block,bay,row,tier,container\nA,1,1,1,X\nA,1,1,2,Y\nB,2,1,1,V\nB,2,1,2,W\n".as_slice();
+    let cases: [(Mode, Made); 2] = [
+        (
+            Mode::Listed,
+            Made {
+                status: Status::Decided,
+                report: b"orders 4 open 0 absent 0\nbay A 1: optimal 1\nshift 1.2 2.1 Y\ntake 1.1 X\ntake 2.1 Y\nbay B 2: optimal 0\ntake 1.2 W\ntake 1.1 V\nbays 2 decided 2\n",
+                certificates: b"CRP-CERT 1\nbay A 1\nsize 2 2 2 2\nrow 1 2\nrow\nat least 1\nplan 2\npart /: B\nend 1\nCRP-CERT 1\nbay B 2\nsize 2 2 2 2\nrow 2 1\nrow\nat least 0\nplan\npart /: B\nend 1\n",
+                yard_after: HEADER,
+                verdicts: b"bay A 1: optimal 1\nbay B 2: optimal 0\n",
+            },
+        ),
+        (
+            Mode::Stowage,
+            Made {
+                status: Status::Decided,
+                report: b"orders 4 open 0 absent 0\nbay A 1: optimal 0\ntake 1.2 Y\ntake 1.1 X\nbay B 2: optimal 1\nshift 1.2 2.1 W\ntake 1.1 V\ntake 2.1 W\nbays 2 decided 2\n",
+                certificates: b"CRP-CERT 1\nbay A 1\nsize 2 2 2 2\nrow 2 1\nrow\nat least 0\nplan\npart /: B\nend 1\nCRP-CERT 1\nbay B 2\nsize 2 2 2 2\nrow 1 2\nrow\nat least 1\nplan 2\npart /: B\nend 1\n",
+                yard_after: HEADER,
+                verdicts: b"bay A 1: optimal 0\nbay B 2: optimal 1\n",
+            },
+        ),
+    ];
+    for (mode, made) in cases {
+        let choice = Choice {
+            budget: 0,
+            rows: 2,
+            tiers: 2,
+            mode,
+        };
+        let told = texts_of(&rt, rt.alloc(), yard, TWO_MESSAGES, &choice)?;
+        compare(&rt, rt.alloc(), &told, &made);
+    }
     Ok(())
 }
