@@ -3,9 +3,10 @@ use Rattle.std.specs.Prelude.{◌≡◌}
 use Rattle.crp_report.specs.Chosen.{RunChosen}
 use Rattle.crp.specs.declared.job.SolveSettings.{SolveSettings}
 
--- one worker, with this budget, the rows, the tiers, the order and the code as they are chosen
+-- one worker, subtrees split off at paths of less than two rows, the budget, the rows, the tiers, the order and the code as they are chosen
 pub record AreChosen (words : SolveSettings) (chosen : RunChosen) : Type 0 where
   pub one_worker : chosen.search.workers ≡ 1
+  pub split : chosen.search.split ≡ 2
   pub budget : chosen.search.budget ≡ words.budget
   pub rows : chosen.rows ≡ words.rows
   pub tiers : chosen.tiers ≡ words.tiers

@@ -79,8 +79,11 @@ fn run_on<T: Threads + Wait + Sync, W: Sink>(
     }
 }
 
-// The settings of a run by one worker.
-fn settings_of(alloc: Global, chosen: SolveSettings<'_>) -> Result<RunSettings, ToolFault>
+/// The settings of a run by one worker.
+pub(crate) fn settings_of(
+    alloc: Global,
+    chosen: SolveSettings<'_>,
+) -> Result<RunSettings, ToolFault>
     requires budget { chosen.budget ≤ 1099511627776 }
     requires rows { (1 ≤ chosen.rows) × (chosen.rows ≤ 12) }
     requires tiers { (1 ≤ chosen.tiers) × (chosen.tiers ≤ 8) }

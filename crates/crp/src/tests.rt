@@ -5,4 +5,5 @@ mod devices;
 mod failing;
 mod failing_runs;
 mod reports;
+mod two_bays;
 mod usage;

@@ -37,7 +37,7 @@ fn proved<T: Threads + Wait + Sync>(
 
 #[test]
 fn certificates_that_are_accepted(rt: HostRuntime) {
-    let certificates: [(&[u8], &[u8]); 7] = [
+    let certificates: [(&[u8], &[u8]); 8] = [
         (SIX_CONTAINERS, b"bay A 1: optimal 3\n"),
         (
             b"CRP-CERT 1\nbay A 1\nsize 3 3 6 6\nrow 1 5 4\nrow 6\nrow 3 2\nat least 3\nplan 2 2 1\npart /: XLL\nend 1\n",
@@ -49,6 +49,10 @@ fn certificates_that_are_accepted(rt: HostRuntime) {
         ),
         (
             b"CRP-CERT 1\nbay A 1\nsize 3 3 6 6\nrow 1 5 4\nrow 6\nrow 3 2\nat least 2\nplan 2 2 1\npart /: B\nend 1\n",
+            b"bay A 1: at least 2, plan of 3\n",
+        ),
+        (
+            b"CRP-CERT 1\nbay A 1\nsize 3 3 6 6\nrow 1 5 4\nrow 6\nrow 3 2\nat least 2\nplan 2 2 1\npart /: L\nend 1\n",
             b"bay A 1: at least 2, plan of 3\n",
         ),
         (

@@ -73,7 +73,7 @@ pub(crate) struct Texts {
     pub answer: Result<Status, Fault>,
 }
 
-fn texts_of<T: Threads + Wait + Sync>(
+pub(crate) fn texts_of<T: Threads + Wait + Sync>(
     rt: &T,
     alloc: Global,
     mut yard: &[u8],

@@ -1,11 +1,14 @@
 //! The words of the command line, and exit statuses.
-use crate::job::{Job, Mistake, SettingFault, Usage};
+use crate::job::{Job, Mistake, SettingFault, SolveSettings, Usage};
 use crate::outcome::{ToolFault, exit_of};
+use crate::performing::alone;
+use crate::running::settings_of;
 use crate::words::job;
 use crp_cert::CertFault;
 use crp_order::Mode;
 use crp_plan::PlanFault;
-use crp_report::{Fault, Input, Output, Status};
+use crp_report::{Fault, Input, Output, RunSettings, Status};
+use crp_solve::Settings;
 use std::alloc::Global;
 use std::test::Fail;
 
@@ -85,6 +88,45 @@ fn reads_a_solve_with_all_options(rt: HostRuntime) {
         }
         _ => assert!(rt; false),
     }
+}
+
+// The workers, the budget and the split of a search.
+fn search_of(settings: Settings) -> (u32, u64, u8) {
+    (settings.workers(), settings.budget(), settings.split())
+}
+
+// The rows, the tiers and the order of a run.
+fn bays_of(settings: &RunSettings) -> (u8, u8, Mode) {
+    (settings.rows(), settings.tiers(), settings.mode())
+}
+
+#[test]
+fn settings_at_their_limits(rt: HostRuntime) -> Result<(), Fail> {
+    assert_eq!(rt; search_of(alone(0)), (1, 0, 2));
+    assert_eq!(rt; search_of(alone(1099511627776)), (1, 1099511627776, 2));
+    let chosen = SolveSettings {
+        budget: 1099511627776,
+        rows: 12,
+        tiers: 8,
+        order: Mode::Stowage,
+        code: "DIS",
+    };
+    let most = settings_of(rt.alloc(), chosen)?;
+    assert_eq!(rt; search_of(most.search()), (1, 1099511627776, 2));
+    assert_eq!(rt; bays_of(&most), (12, 8, Mode::Stowage));
+    assert_eq!(rt; most.code(), b"DIS".as_slice());
+    let chosen = SolveSettings {
+        budget: 0,
+        rows: 1,
+        tiers: 1,
+        order: Mode::Listed,
+        code: "",
+    };
+    let least = settings_of(rt.alloc(), chosen)?;
+    assert_eq!(rt; search_of(least.search()), (1, 0, 2));
+    assert_eq!(rt; bays_of(&least), (1, 1, Mode::Listed));
+    assert_eq!(rt; least.code(), b"".as_slice());
+    Ok(())
 }
 
 fn is_wrong(alloc: Global, words: &[&str]) -> bool {
