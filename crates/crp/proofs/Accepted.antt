@@ -155,7 +155,7 @@ each_shown budget (bay ∷ answered) good =
     let first = answer_accepted bay.told.bay bay.told.problem budget bay.answer bay.expanded can.0 can.1 is.true_answer in
     let shown = first.1 in
     let more = each_shown budget answered good.1 in
-    ((bay.told.bay, first.0) ∷ more.0, ((refl, shown.on), more.1), (shown.of_bay, more.2))
+    ((bay.told.bay, first.0) ∷ more.0, ((refl, shown), more.1), (shown.of_bay, more.2))
 
 file_shown : (budget : ℕ) (answered : List Answered) → AllByRecursion (IsGood budget) answered → IsAcceptedFile (certificates_text answered) answered
 file_shown budget answered good =

@@ -16,6 +16,7 @@ use Rattle.crp_checker.specs.Shown.{Shows, ShowsOf}
 use Rattle.crp_checker.specs.Files.{FileShows}
 use Rattle.crp_order.specs.declared.bay_problem.BayProblem.{BayProblem}
 use Rattle.crp_report.specs.Answered.{Answered, plan_in}
+use Rattle.crp_report.specs.Report.{certificate_of}
 
 -- the verdict on an answer: on an optimal one, that the relocations of its plan are the fewest; on one without a plan, that there is none; on one whose
 -- budget ended, its bound and the relocations of its plan, if it has one; and where memory was wanting, what the bound, the cap and the plan show
@@ -43,10 +44,10 @@ IsAcceptedAs text bay p found = (v : Verdict) × IsShown text bay p found v
 abbrev pub CanBeTold : BayProblem → Type 0
 CanBeTold told = IsYardBay told.bay × HasOneHeight told.problem
 
--- the bay and the verdict on the answer for it
+-- the bay, and the verdict that its certificate shows on the answer to its problem
 abbrev pub IsVerdictFor : Answered → YardBay × Verdict → Type 0
-IsVerdictFor bay told = (told.0 ≡ bay.told.bay) × IsVerdictOn bay.told.problem bay.answer told.1
+IsVerdictFor bay told = (told.0 ≡ bay.told.bay) × IsShown (certificate_of bay) bay.told.bay bay.told.problem bay.answer told.1
 
--- the file is accepted, and shows for each of these bays, in order, the verdict on its answer
+-- the file is accepted, and shows for each of these bays, in order, the verdict that the bay's certificate shows on the answer to its problem
 abbrev pub IsAcceptedFile : List ℕ → List Answered → Type 0
 IsAcceptedFile file answered = (verdicts : List (YardBay × Verdict)) × AllZip IsVerdictFor answered verdicts × FileShows file verdicts

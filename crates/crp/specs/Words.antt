@@ -25,7 +25,7 @@ words_or_default words = if length words == 0 then codes "replay" ∷ codes "-" 
 
 -- the rows have this text for the file or the option: as it was given, or else its default
 abbrev pub HasText : Text → List Row → Text → Type 0
-HasText id rows text = first_of id rows ≡ Some text
+HasText id found text = first_of id found ≡ Some text
 
 -- the text is this whole number, below 2^64
 abbrev pub ReadsNumber : Option Text → ℕ → Type 0
@@ -34,67 +34,67 @@ ReadsNumber found n = (text : Text) × (found ≡ Some text) × IsNumeral 10 (wi
 
 -- the rows have this whole number for the option: as it was given, or else its default
 abbrev pub HasNumber : Text → List Row → ℕ → Type 0
-HasNumber id rows n = ReadsNumber (one_of id rows) n
+HasNumber id found n = ReadsNumber (one_of id found) n
 
 -- the rows have this whole number for the option, and it is within the limits
 abbrev pub HasNumberWithin : Text → ℕ → ℕ → List Row → ℕ → Type 0
-HasNumberWithin id least most rows n = HasNumber id rows n × (least ≤ n) × (n ≤ most)
+HasNumberWithin id least most found n = HasNumber id found n × (least ≤ n) × (n ≤ most)
 
 -- the rows have a whole number for the option, and it is beyond the limits
 abbrev pub HasNumberBeyond : Text → ℕ → ℕ → List Row → Type 0
-HasNumberBeyond id least most rows = (n : ℕ) × HasNumber id rows n × ((n < least) ⊎ (most < n))
+HasNumberBeyond id least most found = (n : ℕ) × HasNumber id found n × ((n < least) ⊎ (most < n))
 
--- the budget of the rows, at most 2^40
+-- the budget that was found, at most 2^40
 abbrev pub HasBudget : List Row → ℕ → Type 0
-HasBudget rows n = HasNumberWithin (codes "budget") 0 1099511627776 rows n
+HasBudget found n = HasNumberWithin (codes "budget") 0 1099511627776 found n
 
--- the budget of the rows is too large
+-- the budget that was found is too large
 abbrev pub IsBudgetBeyond : List Row → Type 0
-IsBudgetBeyond rows = HasNumberBeyond (codes "budget") 0 1099511627776 rows
+IsBudgetBeyond found = HasNumberBeyond (codes "budget") 0 1099511627776 found
 
--- the rows of a bay, 1 to 12
+-- the rows of a bay that were found, 1 to 12
 abbrev pub HasRows : List Row → ℕ → Type 0
-HasRows rows n = HasNumberWithin (codes "rows") 1 12 rows n
+HasRows found n = HasNumberWithin (codes "rows") 1 12 found n
 
--- the rows of a bay are none, or too many
+-- the rows of a bay that were found are none, or too many
 abbrev pub AreRowsBeyond : List Row → Type 0
-AreRowsBeyond rows = HasNumberBeyond (codes "rows") 1 12 rows
+AreRowsBeyond found = HasNumberBeyond (codes "rows") 1 12 found
 
--- the tiers of a bay, 1 to 8
+-- the tiers of a bay that were found, 1 to 8
 abbrev pub HasTiers : List Row → ℕ → Type 0
-HasTiers rows n = HasNumberWithin (codes "tiers") 1 8 rows n
+HasTiers found n = HasNumberWithin (codes "tiers") 1 8 found n
 
--- the tiers of a bay are none, or too many
+-- the tiers of a bay that were found are none, or too many
 abbrev pub AreTiersBeyond : List Row → Type 0
-AreTiersBeyond rows = HasNumberBeyond (codes "tiers") 1 8 rows
+AreTiersBeyond found = HasNumberBeyond (codes "tiers") 1 8 found
 
 -- the word for an order
 abbrev pub order_word : Mode → Text
 order_word mode.Listed = codes "listed"
 order_word mode.Stowage = codes "stowage"
 
--- the order of the rows
+-- the order of leaving that was found
 abbrev pub HasOrder : List Row → Mode → Type 0
-HasOrder rows o = HasText (codes "order") rows (order_word o)
+HasOrder found o = HasText (codes "order") found (order_word o)
 
--- the settings of the rows of solve, within their limits
+-- the settings of solve that were found, within their limits
 abbrev pub HasSettings : List Row → SolveSettings → Type 0
-HasSettings rows s = HasBudget rows s.budget × HasRows rows s.rows × HasTiers rows s.tiers
-    × HasOrder rows s.order × HasText (codes "code") rows s.code.now
+HasSettings found s = HasBudget found s.budget × HasRows found s.rows × HasTiers found s.tiers
+    × HasOrder found s.order × HasText (codes "code") found s.code.now
 
 -- ---- the job, or the first number beyond its limits
 
 -- the command and its rows ask for this
 abbrev pub Asks : Text → List Row → Job → Type 0
-Asks name rows (job.Replay file) = (name ≡ codes "replay") × HasText (codes "file") rows file.now
-Asks name rows (job.Bound file) = (name ≡ codes "bound") × HasText (codes "file") rows file.now
-Asks name rows (job.Check file) = (name ≡ codes "check") × HasText (codes "file") rows file.now
-Asks name rows (job.Prove file budget) = (name ≡ codes "prove") × HasText (codes "file") rows file.now × HasBudget rows budget
-Asks name rows (job.Solve yard movins cert after settings) = (name ≡ codes "solve")
-    × HasText (codes "yard") rows yard.now × HasText (codes "movins") rows movins.now
-    × (first_of (codes "cert") rows ≡ option_map (λ text. text.now) cert)
-    × (first_of (codes "after") rows ≡ option_map (λ text. text.now) after)
-    × HasSettings rows settings
+Asks name found (job.Replay file) = (name ≡ codes "replay") × HasText (codes "file") found file.now
+Asks name found (job.Bound file) = (name ≡ codes "bound") × HasText (codes "file") found file.now
+Asks name found (job.Check file) = (name ≡ codes "check") × HasText (codes "file") found file.now
+Asks name found (job.Prove file budget) = (name ≡ codes "prove") × HasText (codes "file") found file.now × HasBudget found budget
+Asks name found (job.Solve yard movins cert after settings) = (name ≡ codes "solve")
+    × HasText (codes "yard") found yard.now × HasText (codes "movins") found movins.now
+    × (first_of (codes "cert") found ≡ option_map (λ text. text.now) cert)
+    × (first_of (codes "after") found ≡ option_map (λ text. text.now) after)
+    × HasSettings found settings
 
 -- the numbers of the job are within their limits
 abbrev pub IsWithinLimits : Job → Type 0
@@ -107,19 +107,19 @@ IsWithinLimits (job.Solve yard movins cert after s) =
 
 -- the budget is the first number of prove beyond its limit
 abbrev pub IsProveFault : List Row → SettingFault → Type 0
-IsProveFault rows setting.Budget = IsBudgetBeyond rows
-IsProveFault rows setting.Rows = ⊥
-IsProveFault rows setting.Tiers = ⊥
+IsProveFault found setting.Budget = IsBudgetBeyond found
+IsProveFault found setting.Rows = ⊥
+IsProveFault found setting.Tiers = ⊥
 
 -- the first number of solve beyond its limits: the budget, then the rows, then the tiers
 abbrev pub IsSolveFault : List Row → SettingFault → Type 0
-IsSolveFault rows setting.Budget = IsBudgetBeyond rows
-IsSolveFault rows setting.Rows = ((n : ℕ) × HasBudget rows n) × AreRowsBeyond rows
-IsSolveFault rows setting.Tiers = ((n : ℕ) × HasBudget rows n) × ((n : ℕ) × HasRows rows n) × AreTiersBeyond rows
+IsSolveFault found setting.Budget = IsBudgetBeyond found
+IsSolveFault found setting.Rows = ((n : ℕ) × HasBudget found n) × AreRowsBeyond found
+IsSolveFault found setting.Tiers = ((n : ℕ) × HasBudget found n) × ((n : ℕ) × HasRows found n) × AreTiersBeyond found
 
 -- the first number of the command beyond its limits
 abbrev pub IsFault : Text → List Row → SettingFault → Type 0
-IsFault name rows f = ((name ≡ codes "prove") × IsProveFault rows f) ⊎ ((name ≡ codes "solve") × IsSolveFault rows f)
+IsFault name found f = ((name ≡ codes "prove") × IsProveFault found f) ⊎ ((name ≡ codes "solve") × IsSolveFault found f)
 
 -- the command, if there is one, and its rows ask for this
 abbrev pub AsksFor : Option (Text × List Row) → Job → Type 0
@@ -188,7 +188,7 @@ ShowsKind k (usage.Help text) = (k ≡ kind.DisplayHelp) ⊎ (k ≡ kind.Display
 ShowsKind k (usage.Wrong (mistake.Words text)) = (k ≢ kind.OutOfMemory) × (k ≢ kind.DisplayHelp) × (k ≢ kind.DisplayVersion)
 ShowsKind k (usage.Wrong (mistake.Setting f)) = ⊥
 
--- the exit status of a run whose words ask for nothing: 0 after help, or 5 where it could not be written; 2 for wrong words; 4 for want of memory
+-- the exit status of a run whose words ask for nothing: 0 or 5 after help, 2 for wrong words, 4 for want of memory
 abbrev pub HasUsageStatus : Usage → ℕ → Type 0
 HasUsageStatus (usage.Help text) status = (status ≡ 0) ⊎ (status ≡ 5)
 HasUsageStatus (usage.Wrong m) status = status ≡ 2

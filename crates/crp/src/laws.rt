@@ -21,14 +21,15 @@ pub fn answers_are_accepted()
         → IsTrueAnswer p budget found expanded → IsAcceptedAs (text_of bay p found) bay p found }
 {}
 
-/// The checker accepts the file of the certificates of true answers, and it shows for each bay, in order, the verdict on its answer.
+/// The checker accepts the file of the certificates of true answers, and it shows for each bay, in order, the verdict on its answer,
+/// as the certificate of that bay's problem does by itself.
 pub fn certificates_are_accepted()
     ensures { (budget : ℕ) (problems : List BayProblem) (answered : List Answered) → AreTrueAnswers budget problems answered
         → All CanBeTold problems → IsAcceptedFile (certificates_text answered) answered }
 {}
 
 /// The checker accepts the file of certificates that a run makes of a yard list and a message, and it shows for each bay of the
-/// report, in order, the verdict on its answer.
+/// report, in order, the verdict on its answer, as the certificate of that bay's problem does by itself.
 pub fn runs_are_accepted()
     ensures { (chosen : RunChosen) (seen : Seen) (made : Made) → IsMade chosen seen made
         → IsAcceptedFile made.certificates made.answered }

@@ -4,6 +4,7 @@ mod commands;
 mod devices;
 mod failing;
 mod failing_runs;
+mod files;
 mod reports;
 mod two_bays;
 mod usage;
