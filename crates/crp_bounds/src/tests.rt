@@ -1,4 +1,8 @@
-use crate::{blocking, look_ahead};
+ghost use Rattle.std.specs.Prelude.{◌≡◌, [], ◌∷◌};
+ghost use Rattle.crp_plan.specs.Rows.{above, below};
+ghost use Rattle.crp_bounds.specs.Bounds.{HasNoPlace};
+
+use crate::{blocking, look_ahead, words_mean};
 use crp_bay::Position;
 use crp_plan::{Move, Plan, Problem};
 use std::alloc::{AllocError, Global};
@@ -30,6 +34,15 @@ fn relocations_of(moves: &[Move]) -> usize {
     shifts.count()
 }
 
+/// In three rows of three tiers 4 has to make way for 1: on 2 and on 3 it would block again, on 6 it would not.
+fn places_of_four()
+    ensures no_place { HasNoPlace 4 0 (3 ∷ 3 ∷ 3 ∷ []) ((1 ∷ 4 ∷ []) ∷ (2 ∷ []) ∷ (3 ∷ []) ∷ []) 4 }
+    ensures a_place { HasNoPlace 6 0 (3 ∷ 3 ∷ 3 ∷ []) ((1 ∷ 5 ∷ 4 ∷ []) ∷ (6 ∷ []) ∷ (3 ∷ 2 ∷ []) ∷ []) 4 → ⊥ }
+    ensures cut { (above 4 (1 ∷ 4 ∷ []) ≡ []) × (below 4 (1 ∷ 4 ∷ []) ≡ 1 ∷ []) }
+{
+    words_mean();
+}
+
 #[test]
 fn worked_bounds(rt: HostRuntime) -> Result<(), Fail> {
     let cases: [(u8, u8, &[&[u8]], u32, u32, &str); 10] = [
@@ -58,6 +71,7 @@ fn worked_bounds(rt: HostRuntime) -> Result<(), Fail> {
         (3, 6, &[&[1, 3, 6], &[5, 4], &[2]], 2, 3, "one counts again"),
         (1, 0, &[&[]], 0, 0, "an empty bay"),
     ];
+    places_of_four();
     for (tiers, ordered, rows, low, high, what) in cases {
         let position = start_of(rt.alloc(), tiers, ordered, rows)?;
         bounds_are(&rt, &position, low, high, what);
