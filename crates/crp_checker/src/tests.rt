@@ -17,6 +17,10 @@ const FOUR: &str =
 const SIX: &str =
     "CRP-CERT 1\nbay A 1\nsize 3 3 6 6\nrow 1 5 4\nrow 6\nrow 3 2\nat least 3\nplan 2 2 1\npart /: XLB\nend 1\n";
 
+/// Two containers in one row, the first under the second: no plan.
+const ONE_ROW: &str =
+    "CRP-CERT 1\nbay A 1\nsize 1 3 2 2\nrow 1 2\nat least 5\nplan -\npart /: X\nend 1\n";
+
 /// The certificate of the six containers with these lines from the claim on.
 fn six(alloc: Global, lines: &str) -> Result<String, AllocError> {
     format!(in alloc; "CRP-CERT 1\nbay A 1\nsize 3 3 6 6\nrow 1 5 4\nrow 6\nrow 3 2\n{lines}\n")
@@ -64,9 +68,7 @@ fn optimal_certificates(rt: HostRuntime) -> Result<(), Fail> {
 
 #[test]
 fn certificates_that_there_is_no_plan(rt: HostRuntime) -> Result<(), Fail> {
-    let one_row =
-        "CRP-CERT 1\nbay A 1\nsize 1 3 2 2\nrow 1 2\nat least 5\nplan -\npart /: X\nend 1\n";
-    shows(&rt, one_row, Verdict::NoPlan);
+    shows(&rt, ONE_ROW, Verdict::NoPlan);
     let full =
         "CRP-CERT 1\nbay A 1\nsize 2 2 4 4\nrow 1 2\nrow 3 4\nat least 5\nplan -\npart /: X\nend 1\n";
     shows(&rt, full, Verdict::NoPlan);
@@ -251,9 +253,34 @@ fn certificates_for_a_problem(rt: HostRuntime) -> Result<(), Fail> {
     assert_eq!(rt; shown.as_str(), "K1");
     let verdict = check_for(rt.alloc(), &six, SIX.as_bytes()).expect(&rt, "its problem");
     assert_eq!(rt; verdict, Verdict::Optimal(3));
+    let one_row = problem_of(&rt, ONE_ROW);
+    let verdict = check_for(rt.alloc(), &one_row, ONE_ROW.as_bytes()).expect(&rt, "its problem");
+    assert_eq!(rt; verdict, Verdict::NoPlan);
     let refused = check_for(rt.alloc(), &six, b"CRP-CERT 2\n").expect_err(&rt, "no head");
     let shown = told(rt.alloc(), &refused)?;
     assert_eq!(rt; shown.as_str(), "C1 at line 1");
+    Ok(())
+}
+
+#[test]
+fn certificates_for_problems_that_differ_little(rt: HostRuntime) -> Result<(), Fail> {
+    let heads = [
+        "size 3 3 6 6\nrow 5 1 4\nrow 6\nrow 3 2",
+        "size 3 3 6 6\nrow 1 5 4\nrow 6\nrow 2 3",
+        "size 3 3 6 6\nrow 1 5 4\nrow 6 2\nrow 3",
+        "size 3 3 5 6\nrow 1 5 4\nrow 6\nrow 3 2",
+        "size 3 4 6 6\nrow 1 5 4\nrow 6\nrow 3 2",
+    ];
+    for head in heads {
+        let text = format!(in rt.alloc(); "CRP-CERT 1\nbay A 1\n{head}\nat least 0\nplan -\n")?;
+        let other = problem_of(&rt, &text);
+        let refused = check_for(rt.alloc(), &other, SIX.as_bytes()).expect_err(
+            &rt,
+            "another problem",
+        );
+        let shown = told(rt.alloc(), &refused)?;
+        assert_eq!(rt; shown.as_str(), "K1", "{head}");
+    }
     Ok(())
 }
 

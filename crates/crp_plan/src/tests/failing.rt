@@ -57,9 +57,10 @@ impl Source for Endless {
     }
 }
 
-// Takes a byte a call, as long as it has room, and then fails, or takes nothing.
+// Is interrupted so often, and then takes a byte a call; where it has no more room it fails, or takes nothing.
 #[derive(Drop)]
 struct Small {
+    interrupted: u32,
     bytes: Vec<u8>,
     room: usize,
     fails: bool,
@@ -72,6 +73,11 @@ impl Sink for Small {
     ghost failures = { λ s. s.failed };
 
     fn write(&mut self, piece: &[u8]) -> Result<usize, Failure> {
+        if self.interrupted > 0 {
+            self.interrupted -= 1;
+            self.failed = self.failed.saturating_add(1);
+            return Err(Failure::Interrupted);
+        }
         if piece.is_empty() {
             return Ok(0);
         }
@@ -99,6 +105,7 @@ fn make_slow(interrupted: u32, fails: bool) -> Slow<'static> {
 
 fn make_small(alloc: Global, room: usize, fails: bool) -> Small {
     Small {
+        interrupted: 0,
         bytes: Vec::new(alloc),
         room,
         fails,
@@ -136,6 +143,9 @@ fn ends_what_never_ends(rt: HostRuntime) {
     assert!(rt; answer.err() == Some(ReadFault::TooLarge));
     let answer = read_all(rt.alloc(), &mut make_slow(0, false), 2, &mut 0);
     assert!(rt; answer.err() == Some(ReadFault::TooLarge));
+    let mut rest: &[u8] = b"abc";
+    let answer = read_all(rt.alloc(), &mut rest, 2, &mut 0);
+    assert!(rt; answer.err() == Some(ReadFault::TooLarge));
 }
 
 #[test]
@@ -161,6 +171,41 @@ fn writes_byte_by_byte(rt: HostRuntime) -> Result<(), Fail> {
     assert!(rt;
         answer == Err(WriteFailed) && sink.bytes.as_slice() == b"ab".as_slice() && sink.failed == 1
     );
+    Ok(())
+}
+
+#[test]
+fn passes_a_thousand_interrupted_writes(rt: HostRuntime) -> Result<(), Fail> {
+    let mut sink = make_small(rt.alloc(), 6, true);
+    sink.interrupted = 1000;
+    let mut interruptions = 0;
+    write_all(&mut sink, b"abc", &mut interruptions)?;
+    assert!(rt; sink.bytes.as_slice() == b"abc".as_slice());
+    assert!(rt; interruptions == 1000 && sink.failed == 1000);
+    write_all(&mut sink, b"de", &mut interruptions)?;
+    assert!(rt; sink.bytes.as_slice() == b"abcde".as_slice());
+    sink.interrupted = 1;
+    let answer = write_all(&mut sink, b"f", &mut interruptions);
+    assert!(rt; answer == Err(WriteFailed) && sink.bytes.len() == 5);
+    assert!(rt; interruptions == 1000 && sink.failed == 1001);
+    sink.interrupted = 1001;
+    let answer = write_all(&mut sink, b"f", &mut 0);
+    assert!(rt; answer == Err(WriteFailed) && sink.bytes.len() == 5 && sink.failed == 2002);
+    Ok(())
+}
+
+#[test]
+fn counts_interruptions_over_all_texts(rt: HostRuntime) -> Result<(), Fail> {
+    let texts = vec![in rt.alloc(); b"ab".to_vec(rt.alloc())?, b"c".to_vec(rt.alloc())?]?;
+    let mut sink = make_small(rt.alloc(), 6, true);
+    sink.interrupted = 999;
+    let mut interruptions = 0;
+    write_each(&mut sink, &texts, &mut interruptions)?;
+    assert!(rt; sink.bytes.as_slice() == b"abc".as_slice() && interruptions == 999);
+    sink.interrupted = 2;
+    let answer = write_each(&mut sink, &texts, &mut interruptions);
+    assert!(rt; answer == Err(WriteFailed) && sink.bytes.len() == 3);
+    assert!(rt; interruptions == 1000 && sink.failed == 1001);
     Ok(())
 }
 

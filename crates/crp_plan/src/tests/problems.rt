@@ -181,6 +181,7 @@ fn walk_of_a_buried_container(rt: HostRuntime) -> Result<(), Fail> {
     let other = walk.copy();
     assert_eq!(rt; walk.shift(2), Some(1));
     assert_eq!(rt; walk.shift(2), Some(1));
+    assert_eq!(rt; walk.take_next(), Some(1));
     walk.settle();
     assert_eq!(rt; walk.next(), 4);
     assert!(rt; !walk.is_finished());

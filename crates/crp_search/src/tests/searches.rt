@@ -3,7 +3,7 @@ ghost use Rattle.std.specs.Prelude.{◌≡◌, ◌^◌, ◌≤◌};
 use crate::tests::lone::Lone;
 use crate::{first_plan, search};
 use crp_plan::Problem;
-use crp_tree::{Cert, Name, Names, Part, Parts, Tree};
+use crp_tree::{Cert, Name, Names, Part, Parts, Tree, names_are_ordered};
 use std::alloc::{AllocError, Global};
 use std::process::Abort;
 use std::test::Fail;
@@ -142,6 +142,47 @@ fn parts_are_given_away_and_searched_later(rt: HostRuntime) -> Result<(), Fail> 
         certificate_is(&rt, Cert::whole(rt.alloc(), root)?, &[], problem.cap());
         let floor = part.floor();
         certificate_is(&rt, Cert::whole(rt.alloc(), part)?, &[2], floor);
+    }
+    Ok(())
+}
+
+/// The certificate of three parts.
+fn three_parts(
+    rt: &impl Abort,
+    alloc: Global,
+    first: Part,
+    second: Part,
+    third: Part,
+) -> Result<Cert, AllocError> {
+    assert!(rt;
+        first.name().precedes(second.name()),
+        "the second comes later"
+    );
+    assert!(rt;
+        second.name().precedes(third.name()),
+        "the third comes later"
+    );
+    names_are_ordered();
+    let parts = vec![in alloc; first, second, third]?;
+    Ok(Cert::of_parts(Parts::from_vec(parts)))
+}
+
+#[test]
+fn parts_of_one_search_make_a_certificate(rt: HostRuntime) -> Result<(), Fail> {
+    let rows: &[&[u8]] = &[&[1, 5, 4], &[6], &[3, 2]];
+    let problem = Problem::new(3, 6, &rows_of(rt.alloc(), rows)?)?;
+    let mut limit = Lone::new(rt.alloc(), &problem, 3, 1, true);
+    let root = part_at(&rt, rt.alloc(), &problem, &[], &mut limit, 1)?;
+    let by_row_three = part_at(&rt, rt.alloc(), &problem, &[3], &mut limit, 1)?;
+    let by_row_two = part_at(&rt, rt.alloc(), &problem, &[2], &mut limit, 1)?;
+    let cert = three_parts(&rt, rt.alloc(), root, by_row_two, by_row_three)?;
+    assert_eq!(rt; cert.lower(), 3);
+    let expected: [(&[u8], &str, u32); 3] = [(&[], "XGG", 13), (&[2], "L", 3), (&[3], "B", 3)];
+    assert_eq!(rt; cert.parts().len(), expected.len());
+    for (part, (rows, symbols, floor)) in cert.parts().iter().zip(expected) {
+        assert_eq!(rt; part.name().rows(), rows);
+        tree_is(&rt, rt.alloc(), part, symbols)?;
+        assert_eq!(rt; part.floor(), floor, "the floor of {symbols}");
     }
     Ok(())
 }
