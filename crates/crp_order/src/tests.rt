@@ -67,6 +67,16 @@ fn are_named(containers: &[Container], want: &[&[u8]]) -> bool {
     same
 }
 
+/// C1, C2 and so on, in this order.
+fn are_numbered(alloc: Global, containers: &[Container]) -> Result<bool, AllocError> {
+    let mut same = true;
+    for (i, container) in containers.iter().enumerate() {
+        let name = format!(in alloc; "C{}", i + 1)?;
+        same = same && container.bytes() == name.as_bytes();
+    }
+    Ok(same)
+}
+
 /// The row of the problem holds these ranks, from bottom to top.
 fn holds(problem: &Problem, row: u8, ranks: &[u8]) -> bool {
     row >= 1 && row <= problem.rows() && problem.stack(row) == ranks
@@ -78,6 +88,27 @@ fn is_of(told: &BayProblem, block: &[u8], bay: u16, ordered: u8, total: u8) -> b
         && told.bay.bay() == bay
         && told.problem.ordered() == ordered
         && told.problem.total() == total
+}
+
+/// A yard of one full bay of twelve rows and eight tiers. C96 stands at the bottom of row 1, C1 on top of row 12.
+fn full_bay(alloc: Global) -> Result<Yard, Fail> {
+    let mut text = String::new(alloc);
+    text.push_str("block,bay,row,tier,container\n")?;
+    for row in 1..13u8 {
+        for tier in 1..9u8 {
+            write!(text, "A,1,{row},{tier},C{}\n", 105 - 8 * row - tier)?;
+        }
+    }
+    Ok(yard_of(alloc, text.as_bytes(), 12, 8)?)
+}
+
+/// The sequence of load orders for C1 to C96.
+fn sequence_of_full_bay(alloc: Global) -> Result<Sequence, Fail> {
+    let mut text = String::new(alloc);
+    for number in 1..97u8 {
+        write!(text, "LOC+147+0010182'EQD+CN+C{number}'\n")?;
+    }
+    sequence_of(alloc, text.as_bytes(), b"UNT+195+1'", Mode::Listed)
 }
 
 fn slot(bay: u16, row: u8, tier: u8) -> Slot {
@@ -232,6 +263,39 @@ B,2,2,2,S
     assert!(rt; are_named(told[1].names.list(), &[b"Q", b"R"]));
     assert!(rt; holds(&told[1].problem, 1, &[1]));
     assert!(rt; holds(&told[1].problem, 2, &[2]));
+    Ok(())
+}
+
+#[test]
+fn all_containers_of_a_full_bay_leave(rt: HostRuntime) -> Result<(), Fail> {
+    let alloc = rt.alloc();
+    let yard = full_bay(alloc)?;
+    let told = problems(alloc, &yard, &sequence_of_full_bay(alloc)?)?;
+    assert!(rt; told.len() == 1);
+    assert!(rt; is_of(&told[0], b"A", 1, 96, 96));
+    let names = told[0].names.list();
+    assert_eq!(rt; names.len(), 96);
+    assert!(rt; are_numbered(alloc, names)?);
+    assert!(rt; holds(&told[0].problem, 1, &[96, 95, 94, 93, 92, 91, 90, 89]));
+    assert!(rt; holds(&told[0].problem, 12, &[8, 7, 6, 5, 4, 3, 2, 1]));
+    Ok(())
+}
+
+#[test]
+fn one_container_of_a_full_bay_leaves(rt: HostRuntime) -> Result<(), Fail> {
+    let alloc = rt.alloc();
+    let yard = full_bay(alloc)?;
+    let orders = b"LOC+147+0010182'EQD+CN+C1'\n";
+    let sequence = sequence_of(alloc, orders, b"UNT+5+1'", Mode::Listed)?;
+    let told = problems(alloc, &yard, &sequence)?;
+    assert!(rt; told.len() == 1);
+    assert!(rt; is_of(&told[0], b"A", 1, 1, 96));
+    let names = told[0].names.list();
+    assert!(rt; names.len() == 96);
+    assert!(rt; are_named(&names[..2], &[b"C1", b"C96"]));
+    assert!(rt; are_named(&names[94..], &[b"C3", b"C2"]));
+    assert!(rt; holds(&told[0].problem, 1, &[2, 3, 4, 5, 6, 7, 8, 9]));
+    assert!(rt; holds(&told[0].problem, 12, &[90, 91, 92, 93, 94, 95, 96, 1]));
     Ok(())
 }
 
