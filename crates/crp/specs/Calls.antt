@@ -1,12 +1,13 @@
 -- A call of a command over a source and a sink: what it saw, what it wrote, and what each fault tells.
 use Rattle.std.specs.Prelude.{◌≡◌, ℕ, ◌+◌, ◌-◌, ◌<◌, ◌≤◌, List, length, Option, IfSome, Result, Ok, Err}
 use Rattle.std.specs.Io.KnownBytes.{Appends, Keeps}
-use Rattle.crp_plan.specs.Devices.{AppendsFront, HasFailed}
+use Rattle.crp_plan.specs.Devices.{AppendsFront, HasFailed, most_interruptions}
 use Rattle.crp_plan.specs.declared.transfer.ReadFault.{ReadFault}
 use Rattle.crp_plan.specs.declared.transfer.ReadFault.TheVariants as reading
 use Rattle.crp_cert.specs.declared.fault.CertFault.{CertFault}
 use Rattle.crp_cert.specs.declared.fault.CertFault.TheVariants as cert
 use Rattle.crp_cert.specs.Faults.{IsFirstFault}
+use Rattle.crp_report.specs.Runs as runs
 use Rattle.crp_report.specs.declared.fault.Fault.TheVariants as run
 use Rattle.crp_report.specs.declared.status.Status.{Status}
 use Rattle.crp_report.specs.declared.status.Status.TheVariants as status
@@ -31,6 +32,17 @@ pub record Seen : Type 0 where
 -- so many calls of the source and the sink have failed in the call
 abbrev pub failures_in : Seen → ℕ
 failures_in s = (s.source_after - s.source_before) + (s.sink_after - s.sink_before)
+
+-- so many failed calls a fault tells: one where a read or a write has failed, in a run too, else none
+abbrev pub failures_told : ToolFault → ℕ
+failures_told fault.Read = 1
+failures_told fault.Write = 1
+failures_told (fault.Run f) = runs.failures_told f
+failures_told f = 0
+
+-- so many calls fail at most in a call that tells this fault: those that are passed over, and the one that is told
+abbrev pub most_failures : ToolFault → ℕ
+most_failures f = most_interruptions + failures_told f
 
 -- the whole report of the bytes that the source had, no more than `limit`, was written, and nothing else
 abbrev pub Writes : ℕ → (List ℕ → List ℕ → Type 0) → Seen → Type 0

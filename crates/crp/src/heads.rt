@@ -1,7 +1,8 @@
 //! Heads of certificates, read from a source.
 ghost use Rattle.std.specs.Prelude.{◌≡◌, ◌≤◌, ℕ, List, ◌+◌, IfOk, IfErr, MatchResult};
+ghost use Rattle.crp_plan.specs.Devices.{most_interruptions};
 ghost use Rattle.crp_cert.specs.Text.{IsHeadOf};
-ghost use Rattle.crp.specs.Calls.{IsGiven, IsNoHead};
+ghost use Rattle.crp.specs.Calls.{IsGiven, IsNoHead, failures_told};
 
 use crate::outcome::ToolFault;
 use crp_cert::{Head, read_head};
@@ -17,11 +18,11 @@ pub fn head_from<R: Source>(
     reader: &mut R,
     interruptions: &mut u32,
 ) -> Result<Head, ToolFault>
-    requires { interruptions.old ≤ 1000 }
+    requires { interruptions.old ≤ most_interruptions }
     ensures found { IfOk result (λ head. (text : List ℕ) × IsGiven 268435456 (R.remaining reader.old) text × IsHeadOf text head) }
     ensures none { IfErr result (IsNoHead 268435456 (R.remaining reader.old) (R.failures reader.old) (R.failures reader.new)) }
-    ensures counted { MatchResult result (λ _. R.failures reader.new + interruptions.old ≤ R.failures reader.old + interruptions.new) (λ _. R.failures reader.new + interruptions.old ≤ R.failures reader.old + interruptions.new + 1) }
-    ensures passed { interruptions.new ≤ 1000 }
+    ensures counted { MatchResult result (λ _. R.failures reader.new + interruptions.old ≤ R.failures reader.old + interruptions.new) (λ fault. R.failures reader.new + interruptions.old ≤ R.failures reader.old + interruptions.new + failures_told fault) }
+    ensures passed { interruptions.new ≤ most_interruptions }
 {
     let bytes = read_all(alloc, reader, MOST_BYTES, interruptions)?;
     let head = read_head(alloc, &bytes)?;

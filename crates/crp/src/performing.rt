@@ -1,6 +1,7 @@
 //! What a job over one file does with the bytes of that file.
 ghost use Rattle.std.specs.Prelude.{◌≡◌, ◌≤◌, MatchResult};
-ghost use Rattle.crp.specs.Calls.{Seen, failures_in};
+ghost use Rattle.crp_plan.specs.Devices.{most_interruptions};
+ghost use Rattle.crp.specs.Calls.{Seen, failures_in, most_failures};
 ghost use Rattle.crp.specs.Words.{IsWithinLimits};
 ghost use Rattle.crp.specs.Performing.{IsOverOneFile, Performs, TellsOfJob};
 
@@ -46,7 +47,7 @@ pub fn perform<T: Threads + Wait + Sync, R: Source, W: Sink>(
       source_after = R.failures reader.new;
       sink_before = W.failures writer.old;
       sink_after = W.failures writer.new;
-    } in MatchResult result (λ status. Performs job.now status seen × (failures_in seen ≤ 1000)) (λ fault. TellsOfJob job.now seen fault × (failures_in seen ≤ 1001)) }
+    } in MatchResult result (λ status. Performs job.now status seen × (failures_in seen ≤ most_interruptions)) (λ fault. TellsOfJob job.now seen fault × (failures_in seen ≤ most_failures fault)) }
 {
     match job {
         Job::Replay(_) => replay(alloc, reader, writer),

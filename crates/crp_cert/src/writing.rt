@@ -3,7 +3,7 @@ ghost use Rattle.std.specs.Prelude.{◌≡◌, ◌≤◌, ◌+◌, ◌-◌, ◌+
 ghost use Rattle.std.specs.Option.{option_copied};
 ghost use Rattle.std.specs.List.{flat_map};
 ghost use Rattle.std.specs.Io.KnownBytes.{Appends};
-ghost use Rattle.crp_plan.specs.Devices.{AppendsFront, CountsMore, HasFailed};
+ghost use Rattle.crp_plan.specs.Devices.{AppendsFront, CountsMore, HasFailed, most_interruptions};
 ghost use Rattle.crp_tree.specs.Parts.{part_of};
 ghost use Rattle.crp_cert.specs.Text.{numbers_line, bay_line, size_line, size_of, row_line, plan_line, head_text};
 ghost use Rattle.crp_cert.specs.Script.{name_text, symbols_of, part_line};
@@ -229,13 +229,13 @@ pub fn write_cert<W: Sink>(
     plan: Option<&Plan>,
     interruptions: &mut u32,
 ) -> Result<(), WriteFault>
-    requires { interruptions.old ≤ 1000 }
+    requires { interruptions.old ≤ most_interruptions }
     ensures all { OnOk result (Appends (W.contents writer.old) (W.contents writer.new) (certificate_text bay.now problem.now cert.now (option_copied plan.entry))) }
     ensures front { AppendsFront (W.contents writer.old) (W.contents writer.new) (certificate_text bay.now problem.now cert.now (option_copied plan.entry)) }
     ensures failed { IsErrOf result WriteFault.Failed → HasFailed (W.failures writer.old) (W.failures writer.new) }
     ensures memory { IsErrOf result WriteFault.Memory → (writer.new ≡ writer.old) × (interruptions.new ≡ interruptions.old) }
     ensures count { W.failures writer.old ≤ W.failures writer.new }
-    ensures passed { (interruptions.old ≤ interruptions.new) × (interruptions.new ≤ 1000) }
+    ensures passed { (interruptions.old ≤ interruptions.new) × (interruptions.new ≤ most_interruptions) }
     ensures interrupted { OnOk result (CountsMore (interruptions.new - interruptions.old) (W.failures writer.old) (W.failures writer.new)) }
     ensures ended { IsErrOf result WriteFault.Failed
         → CountsMore (interruptions.new - interruptions.old + 1) (W.failures writer.old) (W.failures writer.new) }

@@ -34,6 +34,10 @@ HasFailed old new = old < 2 ^ 64 - 1 → old < new
 abbrev pub AppendsFront : Option (List ℕ) → Option (List ℕ) → List ℕ → Type 0
 AppendsFront old new text = (n : ℕ) × Appends old new (take n text)
 
--- A run passes over a failure that is an interruption, where fewer than 1000 came before it.
+-- A run passes over at most so many interruptions.
+abbrev pub most_interruptions : ℕ
+most_interruptions = 1000
+
+-- It passes over a failure that is an interruption, where fewer than that came before it.
 abbrev pub IsPassedOver : Failure → ℕ → Type 0
-IsPassedOver failure before = (failure ≡ Interrupted) × (before < 1000)
+IsPassedOver failure before = (failure ≡ Interrupted) × (before < most_interruptions)

@@ -2,7 +2,7 @@
 ghost use Rattle.std.specs.Prelude.{◌≡◌, ◌↔◌, ◌⊎◌, ℕ, List, ◌+◌, ◌-◌, ◌<◌, ◌≤◌, ◌++◌, false, true, length, take, vec_len, IsTrue, IfOk, IfSome, OnOk, OnErr, IsErrOf, flat_map};
 ghost use Rattle.std.specs.Bool.{OnTrue, OnFalse};
 ghost use Rattle.std.specs.Io.KnownBytes.{Appends, Consumes, Keeps, IsAtEnd};
-ghost use Rattle.crp_plan.specs.Devices.{AppendsFront, CountsMore, HasFailed, IsPassedOver};
+ghost use Rattle.crp_plan.specs.Devices.{AppendsFront, CountsMore, HasFailed, IsPassedOver, most_interruptions};
 
 use crate::device::{Failure, Sink, Source};
 use std::alloc::Global;
@@ -53,16 +53,16 @@ fn read_piece<R: Source>(
     interruptions: &mut u32,
 ) -> Result<bool, ReadFault>
     requires within { vec_len bytes.old ≤ limit }
-    requires passed { interruptions.old ≤ 1000 }
+    requires passed { interruptions.old ≤ most_interruptions }
     ensures grows { OnOk result ((got : List ℕ) × (bytes.new.items ≡ bytes.old.items ++ got)
         × Consumes (R.remaining reader.old) (R.remaining reader.new) got) }
     ensures end { IfOk result (λ more. more ≡ false → IsAtEnd (R.remaining reader.new)) }
     ensures within { OnOk result (vec_len bytes.new ≤ limit) }
     ensures nearer { IfOk result (λ more. more ≡ true
-        → limit + 1000 + vec_len bytes.old + interruptions.old < limit + 1000 + vec_len bytes.new + interruptions.new) }
+        → limit + most_interruptions + vec_len bytes.old + interruptions.old < limit + most_interruptions + vec_len bytes.new + interruptions.new) }
     ensures large { IsErrOf result ReadFault.TooLarge
         → IfSome (R.remaining reader.old) (λ xs. limit < vec_len bytes.old + length xs) }
-    ensures passed { (interruptions.old ≤ interruptions.new) × (interruptions.new ≤ 1000) }
+    ensures passed { (interruptions.old ≤ interruptions.new) × (interruptions.new ≤ most_interruptions) }
     ensures interrupted { OnOk result (CountsMore (interruptions.new - interruptions.old) (R.failures reader.old) (R.failures reader.new)) }
     ensures ended { IsErrOf result ReadFault.Failed
         → CountsMore (interruptions.new - interruptions.old + 1) (R.failures reader.old) (R.failures reader.new) }
@@ -97,7 +97,7 @@ pub fn read_all<R: Source>(
     limit: usize,
     interruptions: &mut u32,
 ) -> Result<Vec<u8>, ReadFault>
-    requires { interruptions.old ≤ 1000 }
+    requires { interruptions.old ≤ most_interruptions }
     ensures all { IfOk result (λ bytes. IfSome (R.remaining reader.old) (λ xs. bytes.items ≡ xs)) }
     ensures end { OnOk result (IsAtEnd (R.remaining reader.new)) }
     ensures within { IfOk result (λ bytes. vec_len bytes ≤ limit) }
@@ -106,7 +106,7 @@ pub fn read_all<R: Source>(
     ensures failed { IsErrOf result ReadFault.Failed
         → HasFailed (R.failures reader.old) (R.failures reader.new) }
     ensures count { R.failures reader.old ≤ R.failures reader.new }
-    ensures passed { (interruptions.old ≤ interruptions.new) × (interruptions.new ≤ 1000) }
+    ensures passed { (interruptions.old ≤ interruptions.new) × (interruptions.new ≤ most_interruptions) }
     ensures interrupted { OnOk result (CountsMore (interruptions.new - interruptions.old) (R.failures reader.old) (R.failures reader.new)) }
     ensures ended { IsErrOf result ReadFault.Failed
         → CountsMore (interruptions.new - interruptions.old + 1) (R.failures reader.old) (R.failures reader.new) }
@@ -125,12 +125,12 @@ fn write_piece<W: Sink>(
     interruptions: &mut u32,
 ) -> Result<usize, WriteFailed>
     requires some { 0 < length text.now }
-    requires passed { interruptions.old ≤ 1000 }
+    requires passed { interruptions.old ≤ most_interruptions }
     ensures bound { IfOk result (λ n. n ≤ length text.now) }
     ensures ok { IfOk result (λ n. Appends (W.contents writer.old) (W.contents writer.new) (take n text.now)) }
     ensures err { OnErr result (Keeps (W.contents writer.old) (W.contents writer.new)) }
     ensures nearer { IfOk result (λ n. interruptions.old < n + interruptions.new) }
-    ensures passed { (interruptions.old ≤ interruptions.new) × (interruptions.new ≤ 1000) }
+    ensures passed { (interruptions.old ≤ interruptions.new) × (interruptions.new ≤ most_interruptions) }
     ensures interrupted { OnOk result (CountsMore (interruptions.new - interruptions.old) (W.failures writer.old) (W.failures writer.new)) }
     ensures ended { OnErr result (CountsMore (interruptions.new - interruptions.old + 1) (W.failures writer.old) (W.failures writer.new)) }
 {
@@ -152,12 +152,12 @@ pub fn write_all<W: Sink>(
     text: &[u8],
     interruptions: &mut u32,
 ) -> Result<(), WriteFailed>
-    requires { interruptions.old ≤ 1000 }
+    requires { interruptions.old ≤ most_interruptions }
     ensures all { OnOk result (Appends (W.contents writer.old) (W.contents writer.new) text.now) }
     ensures front { AppendsFront (W.contents writer.old) (W.contents writer.new) text.now }
     ensures failed { OnErr result (HasFailed (W.failures writer.old) (W.failures writer.new)) }
     ensures count { W.failures writer.old ≤ W.failures writer.new }
-    ensures passed { (interruptions.old ≤ interruptions.new) × (interruptions.new ≤ 1000) }
+    ensures passed { (interruptions.old ≤ interruptions.new) × (interruptions.new ≤ most_interruptions) }
     ensures interrupted { OnOk result (CountsMore (interruptions.new - interruptions.old) (W.failures writer.old) (W.failures writer.new)) }
     ensures ended { OnErr result (CountsMore (interruptions.new - interruptions.old + 1) (W.failures writer.old) (W.failures writer.new)) }
 {
@@ -175,12 +175,12 @@ pub fn write_each<W: Sink>(
     texts: &[Vec<u8>],
     interruptions: &mut u32,
 ) -> Result<(), WriteFailed>
-    requires { interruptions.old ≤ 1000 }
+    requires { interruptions.old ≤ most_interruptions }
     ensures all { OnOk result (Appends (W.contents writer.old) (W.contents writer.new) (flat_map (λ text. text.items) texts.now)) }
     ensures front { AppendsFront (W.contents writer.old) (W.contents writer.new) (flat_map (λ text. text.items) texts.now) }
     ensures failed { OnErr result (HasFailed (W.failures writer.old) (W.failures writer.new)) }
     ensures count { W.failures writer.old ≤ W.failures writer.new }
-    ensures passed { (interruptions.old ≤ interruptions.new) × (interruptions.new ≤ 1000) }
+    ensures passed { (interruptions.old ≤ interruptions.new) × (interruptions.new ≤ most_interruptions) }
     ensures interrupted { OnOk result (CountsMore (interruptions.new - interruptions.old) (W.failures writer.old) (W.failures writer.new)) }
     ensures ended { OnErr result (CountsMore (interruptions.new - interruptions.old + 1) (W.failures writer.old) (W.failures writer.new)) }
 {

@@ -13,9 +13,11 @@ pub record RunChosen : Type 0 where
   pub mode : Mode
   pub code : List ℕ
 
+-- so many rows can be chosen
 abbrev pub AreRows : ℕ → Type 0
 AreRows rows = (1 ≤ rows) × (rows ≤ 12)
 
+-- so many tiers can be chosen
 abbrev pub AreTiers : ℕ → Type 0
 AreTiers tiers = (1 ≤ tiers) × (tiers ≤ 8)
 

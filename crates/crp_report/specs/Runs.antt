@@ -2,7 +2,7 @@
 -- fault tells.
 use Rattle.std.specs.Prelude.{◌≡◌, ◌≢◌, ℕ, ◌+◌, ◌-◌, List, length, Option, None, Some}
 use Rattle.std.specs.Io.KnownBytes.{Appends, Keeps}
-use Rattle.crp_plan.specs.Devices.{AppendsFront, HasFailed}
+use Rattle.crp_plan.specs.Devices.{AppendsFront, HasFailed, most_interruptions}
 use Rattle.edi_text.specs.Parts.{SegmentParts}
 use Rattle.edi_text.specs.Spelling.{Spells}
 use Rattle.edi_text.specs.FirstFault.{IsFirstFault}
@@ -115,12 +115,12 @@ sink_of s output.Report = s.report
 sink_of s output.Certificates = s.certificates
 sink_of s output.YardAfter = s.yard_after
 
--- a write to this sink failed in one of the pieces: each sink got what goes to it of the pieces before and of a front of this one, and nothing else
+-- the writing stopped within a piece for this sink: each sink got what goes to it of the pieces before and of a front of this one, and nothing else
 abbrev pub StopsAt : Made → Seen → Output → Type 0
 StopsAt m s sink = (stop : Stop) × ArePieces (numbers_of m.yard m.orders m.sequence) m.answered m.yard_after (wanted stop) × (stop.failed.to ≡ sink)
     × ((each : Output) → Gets (sink_of s each) (bytes_for each (written stop)))
 
--- each sink got a front of its text, as far as the pieces were written when a write to this one failed
+-- each sink got a front of its text, as far as the pieces were written when the writing stopped within one for this sink
 abbrev pub WritesFronts : RunChosen → Seen → Output → Type 0
 WritesFronts chosen s sink = (m : Made) × IsMade chosen s m
     × GetsFront s.report m.report × GetsFront s.certificates m.certificates × GetsFront s.yard_after m.yard_after × StopsAt m s sink
@@ -142,6 +142,16 @@ IsReached chosen s input.Movins = IsYardAccepted chosen s
 abbrev pub failures_in : Seen → ℕ
 failures_in s = (s.yard.after - s.yard.before) + ((s.movins.after - s.movins.before) + ((s.report.after - s.report.before)
     + ((s.certificates.after - s.certificates.before) + (s.yard_after.after - s.yard_after.before))))
+
+-- so many failed calls a fault tells: one where a read or a write has failed, else none
+abbrev pub failures_told : Fault → ℕ
+failures_told (fault.Read source) = 1
+failures_told (fault.Write sink) = 1
+failures_told f = 0
+
+-- so many calls fail at most in a run that tells this fault: those that are passed over, and the one that is told
+abbrev pub most_failures : Fault → ℕ
+most_failures f = most_interruptions + failures_told f
 
 -- what a fault tells: the first fault of the yard list; where that has none, the first fault of the interchange or of its message; a read or a
 -- write that has failed in this call; or want of memory. Something may have been written only where a write failed: fronts of the three texts, up to

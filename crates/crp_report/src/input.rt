@@ -1,7 +1,8 @@
 //! What a run reads.
 ghost use Rattle.std.specs.Prelude.{ℕ, ◌≤◌, List, IfOk, IfErr, MatchResult};
+ghost use Rattle.crp_plan.specs.Devices.{most_interruptions};
 ghost use Rattle.crp_yard.specs.Reading.{IsGiven, IsYardList};
-ghost use Rattle.crp_report.specs.Runs.{AreOrders};
+ghost use Rattle.crp_report.specs.Runs.{AreOrders, failures_told};
 ghost use Rattle.crp_report.specs.Telling.{IsCounted, IsNoYard, IsNoOrders, IsNoMessage};
 
 use crate::fault::{Fault, Input};
@@ -23,11 +24,11 @@ pub(crate) fn yard_from<Y: Source>(
     requires few_rows { rows ≤ 12 }
     requires some_tiers { 1 ≤ tiers }
     requires few_tiers { tiers ≤ 8 }
-    requires passed { interruptions.old ≤ 1000 }
+    requires passed { interruptions.old ≤ most_interruptions }
     ensures accepted { IfOk result (λ yard. (text : List ℕ) × IsGiven (Y.remaining source.old) text × IsYardList rows tiers text yard) }
     ensures refused { IfErr result (IsNoYard rows tiers (Y.remaining source.old) (Y.failures source.old) (Y.failures source.new)) }
-    ensures counted { MatchResult result (λ _. IsCounted 0 (Y.failures source.old) (Y.failures source.new) interruptions.old interruptions.new) (λ _. IsCounted 1 (Y.failures source.old) (Y.failures source.new) interruptions.old interruptions.new) }
-    ensures passed { interruptions.new ≤ 1000 }
+    ensures counted { MatchResult result (λ _. IsCounted 0 (Y.failures source.old) (Y.failures source.new) interruptions.old interruptions.new) (λ fault. IsCounted (failures_told fault) (Y.failures source.old) (Y.failures source.new) interruptions.old interruptions.new) }
+    ensures passed { interruptions.new ≤ most_interruptions }
 {
     let text = match read_all(alloc, source, MAX_BYTES, interruptions) {
         Ok(text) => text,
@@ -56,12 +57,12 @@ pub(crate) fn orders_from<M: Source>(
     code: &[u8],
     interruptions: &mut u32,
 ) -> Result<Orders, Fault>
-    requires { interruptions.old ≤ 1000 }
+    requires { interruptions.old ≤ most_interruptions }
     ensures accepted { IfOk result (λ orders. (text : List ℕ) × IsGiven (M.remaining source.old) text × AreOrders code.now text orders) }
     ensures refused { IfErr result (IsNoMessage code.now (M.remaining source.old) (M.failures source.old) (M.failures source.new)) }
-    ensures counted { MatchResult result (λ _. IsCounted 0 (M.failures source.old) (M.failures source.new) interruptions.old interruptions.new) (λ _. IsCounted 1 (M.failures source.old) (M.failures source.new) interruptions.old interruptions.new) }
+    ensures counted { MatchResult result (λ _. IsCounted 0 (M.failures source.old) (M.failures source.new) interruptions.old interruptions.new) (λ fault. IsCounted (failures_told fault) (M.failures source.old) (M.failures source.new) interruptions.old interruptions.new) }
     ensures count { M.failures source.old ≤ M.failures source.new }
-    ensures passed { interruptions.new ≤ 1000 }
+    ensures passed { interruptions.new ≤ most_interruptions }
 {
     let text = match read_all(alloc, source, MAX_TEXT, interruptions) {
         Ok(text) => text,

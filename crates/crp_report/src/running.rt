@@ -1,7 +1,8 @@
 //! A run from a yard list and a message to the report, the certificates and the yard after.
 ghost use Rattle.std.specs.Prelude.{◌≤◌, IfOk, MatchResult};
+ghost use Rattle.crp_plan.specs.Devices.{most_interruptions};
 ghost use Rattle.crp_yard.specs.Inventory.{IsYard};
-ghost use Rattle.crp_report.specs.Runs.{Seen, failures_in, Writes, Tells};
+ghost use Rattle.crp_report.specs.Runs.{Seen, failures_in, most_failures, Writes, Tells};
 ghost use Rattle.crp_report.specs.Telling.{AreTextsOf};
 
 use crate::endings::{decided, status_of_all};
@@ -76,7 +77,7 @@ pub fn run<T: Threads + Wait + Sync, Y: Source, M: Source, W: Sink, C: Sink, A: 
       report = record { held = W.contents out.old; holds = W.contents out.new; before = W.failures out.old; after = W.failures out.new };
       certificates = record { held = C.contents cert_out.old; holds = C.contents cert_out.new; before = C.failures cert_out.old; after = C.failures cert_out.new };
       yard_after = record { held = A.contents after_out.old; holds = A.contents after_out.new; before = A.failures after_out.old; after = A.failures after_out.new };
-    } in MatchResult result (λ status. Writes settings.now seen status × (failures_in seen ≤ 1000)) (λ fault. Tells settings.now seen fault × (failures_in seen ≤ 1001)) }
+    } in MatchResult result (λ status. Writes settings.now seen status × (failures_in seen ≤ most_interruptions)) (λ fault. Tells settings.now seen fault × (failures_in seen ≤ most_failures fault)) }
 {
     let mut interruptions = 0;
     let listed = yard_from(

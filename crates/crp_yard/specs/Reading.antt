@@ -1,6 +1,6 @@
 -- What was read of a source, and what a fault tells of it.
-use Rattle.std.specs.Prelude.{◌≡◌, ◌<◌, ℕ, List, length, Option, Some, None, IfSome}
-use Rattle.crp_plan.specs.Devices.{HasFailed}
+use Rattle.std.specs.Prelude.{◌≡◌, ◌<◌, ℕ, ◌+◌, List, length, Option, Some, None, IfSome}
+use Rattle.crp_plan.specs.Devices.{HasFailed, most_interruptions}
 use Rattle.crp_yard.specs.declared.fault.YardFault.{YardFault}
 use Rattle.crp_yard.specs.declared.fault.YardFault.TheVariants.{Header, Fields, Digits, Outside, PlaceTaken, Floating, StandsAlready, TooMany, Read, TooLarge, Memory}
 use Rattle.crp_yard.specs.Records.{records_of, entries_of}
@@ -34,3 +34,8 @@ Tells rows tiers given before after (PlaceTaken n) = RefusedWith rows tiers give
 Tells rows tiers given before after (Floating n) = RefusedWith rows tiers given (Floating n)
 Tells rows tiers given before after (StandsAlready n) = RefusedWith rows tiers given (StandsAlready n)
 Tells rows tiers given before after (TooMany n) = RefusedWith rows tiers given (TooMany n)
+
+-- so many reads of a source fail at most where this fault is told: those that are passed over, and, where it tells a failed read, that one
+abbrev pub most_failures : YardFault → ℕ
+most_failures Read = most_interruptions + 1
+most_failures fault = most_interruptions

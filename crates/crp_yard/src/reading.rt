@@ -1,9 +1,10 @@
 //! Reads a yard list.
 
-ghost use Rattle.std.specs.Prelude.{◌≡◌, ◌⊎◌, ◌≤◌, ℕ, List, Some, None, IfOk, OnOk, IfErr, length};
+ghost use Rattle.std.specs.Prelude.{◌≡◌, ◌⊎◌, ◌≤◌, ◌-◌, ℕ, List, Some, None, IfOk, OnOk, IfErr, length};
+ghost use Rattle.crp_plan.specs.Devices.{most_interruptions};
 ghost use Rattle.crp_yard.specs.Inventory.{inventory_of};
 ghost use Rattle.crp_yard.specs.Faults.{floating_before, fault_of_text};
-ghost use Rattle.crp_yard.specs.Reading.{IsYardList, IsGiven, Tells};
+ghost use Rattle.crp_yard.specs.Reading.{IsYardList, IsGiven, Tells, most_failures};
 ghost use Rattle.crp_yard.specs.declared.fault.YardFault.TheVariants.{Memory};
 
 use crate::building::bays_of;
@@ -71,6 +72,8 @@ pub fn read_yard<R: Source>(
     ensures accepted { IfOk result (λ yard. (text : List ℕ) × IsGiven (R.remaining source.old) text × IsYardList rows tiers text yard) }
     ensures refused { IfErr result (Tells rows tiers (R.remaining source.old) (R.failures source.old) (R.failures source.new)) }
     ensures count { R.failures source.old ≤ R.failures source.new }
+    ensures passed { OnOk result (R.failures source.new - R.failures source.old ≤ most_interruptions) }
+    ensures ended { IfErr result (λ fault. R.failures source.new - R.failures source.old ≤ most_failures fault) }
 {
     let mut interruptions = 0;
     match read_all(alloc, source, MAX_BYTES, &mut interruptions) {

@@ -1,9 +1,9 @@
 //! Writes a yard list.
 
-ghost use Rattle.std.specs.Prelude.{◌≡◌, ◌≤◌, ◌++◌, All, IfOk, OnOk, IsErrOf, length, map};
-ghost use Rattle.std.specs.Io.KnownBytes.{Appends, Keeps};
+ghost use Rattle.std.specs.Prelude.{◌≡◌, ◌≤◌, ◌+◌, ◌-◌, ◌++◌, All, IfOk, OnOk, IsErrOf, length, map};
+ghost use Rattle.std.specs.Io.KnownBytes.{Appends};
 ghost use Rattle.csv.specs.Writing.{default_writer, row_text};
-ghost use Rattle.crp_plan.specs.Devices.{AppendsFront, HasFailed};
+ghost use Rattle.crp_plan.specs.Devices.{AppendsFront, HasFailed, most_interruptions};
 ghost use Rattle.crp_yard.specs.Text.{fields_at, records_of_stack, records_of_rows, text_of_records, yard_text};
 
 use crate::container::{Container, Containers};
@@ -113,8 +113,10 @@ pub fn write_yard<W: Sink>(alloc: Global, sink: &mut W, yard: &Yard) -> Result<(
     ensures all { OnOk result (Appends (W.contents sink.old) (W.contents sink.new) (yard_text yard.now)) }
     ensures front { AppendsFront (W.contents sink.old) (W.contents sink.new) (yard_text yard.now) }
     ensures failed { IsErrOf result WriteFault.Failed → HasFailed (W.failures sink.old) (W.failures sink.new) }
-    ensures memory { IsErrOf result WriteFault.Memory → Keeps (W.contents sink.old) (W.contents sink.new) }
+    ensures memory { IsErrOf result WriteFault.Memory → sink.new ≡ sink.old }
     ensures count { W.failures sink.old ≤ W.failures sink.new }
+    ensures passed { OnOk result (W.failures sink.new - W.failures sink.old ≤ most_interruptions) }
+    ensures ended { IsErrOf result WriteFault.Failed → W.failures sink.new - W.failures sink.old ≤ most_interruptions + 1 }
 {
     let Ok(text) = yard_text(alloc, yard) else {
         return Err(WriteFault::Memory);

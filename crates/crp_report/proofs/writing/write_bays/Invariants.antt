@@ -1,6 +1,7 @@
 -- The lines and the certificates of the bays so far were appended.
 use Rattle.std.proofs.Common.{◌≤◌, ◌+◌, take}
 use Rattle.std.specs.Io.KnownBytes.{Appends}
+use Rattle.crp_plan.specs.Devices.{most_interruptions}
 use Rattle.crp_report.specs.Telling.{IsCounted}
 use Rattle.crp_report.specs.Writing.{reports_of, certificates_of}
 use Rattle.crp_report.proofs.writing.write_bays.Given as goal
@@ -11,4 +12,4 @@ invariant-loop-bay g l = Appends (g.W.Sink.contents l.initial.out) (g.W.Sink.con
     × (g.W.Sink.failures l.initial.out ≤ g.W.Sink.failures l.out)
     × (g.C.Sink.failures l.initial.cert_out ≤ g.C.Sink.failures l.cert_out)
     × IsCounted 0 (g.W.Sink.failures l.initial.out + g.C.Sink.failures l.initial.cert_out) (g.W.Sink.failures l.out + g.C.Sink.failures l.cert_out) l.initial.interruptions l.interruptions
-    × (l.interruptions ≤ 1000)
+    × (l.interruptions ≤ most_interruptions)

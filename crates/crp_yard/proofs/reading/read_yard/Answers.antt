@@ -10,4 +10,4 @@ returns-in-Ok-clause-refused g c =
     let short : length c.deref.result.now ≤ max_bytes = omega (arith, c.deref.ensures.len, c.in-Ok.ensures.within) in
     let given : IsGiven (g.R.Source.remaining c.args.source.now) c.deref.result.now = rw c.deref.ensures.value c.in-Ok.ensures.all in
     MatchResult-weaker c.yard_of.result c.yard_of.ensures.refused (λ yard h. h)
-    (λ fault h. told_of c.args.rows c.args.tiers (g.R.Source.remaining c.args.source.now) (g.R.Source.failures c.args.source.now) (g.R.Source.failures c.read_all.new.reader) c.deref.result.now fault short given h)
+    (λ fault h. told_of c.args.rows c.args.tiers (g.R.Source.remaining c.args.source.now) (g.R.Source.failures c.args.source.now) _ c.deref.result.now fault short given h)
