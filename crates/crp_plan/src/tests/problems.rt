@@ -1,4 +1,5 @@
 //! Problems, their plans, and the names of bays.
+use crate::tests::laws::plans_of_six_containers;
 use crate::*;
 use std::alloc::{AllocError, Global};
 use std::process::Abort;
@@ -25,6 +26,7 @@ fn refusal(rt: &impl Abort, problem: &Problem, rows: &[u8]) -> PlanFault {
 
 #[test]
 fn six_containers_three_relocations(rt: HostRuntime) -> Result<(), Fail> {
+    plans_of_six_containers();
     let stacks = six_containers(rt.alloc())?;
     let problem = Problem::new(3, 6, &stacks)?;
     assert_eq!(rt; problem.rows(), 3);
