@@ -5,6 +5,7 @@ mod devices;
 mod failing;
 mod failing_runs;
 mod files;
+mod interrupted_runs;
 mod reports;
 mod two_bays;
 mod usage;

@@ -66,3 +66,38 @@ impl Sink for Small {
         Err(Failure::Failed)
     }
 }
+
+/// Is interrupted so often, and then takes all that it gets.
+#[derive(Drop)]
+pub(crate) struct Busy {
+    pub interrupted: u32,
+    pub failed: u64,
+}
+
+impl Sink for Busy {
+    ghost failures = { λ s. s.failed };
+
+    fn write(&mut self, piece: &[u8]) -> Result<usize, Failure> {
+        if self.interrupted > 0 {
+            self.interrupted -= 1;
+            self.failed = self.failed.saturating_add(1);
+            return Err(Failure::Interrupted);
+        }
+        Ok(piece.len())
+    }
+}
+
+/// Gives line ends, and never ends.
+#[derive(Drop)]
+pub(crate) struct Endless;
+
+impl Source for Endless {
+    ghost remaining = { λ _. None };
+
+    ghost failures = { λ _. 0 };
+
+    fn read(&mut self, buf: &mut [u8]) -> Result<usize, Failure> {
+        buf.fill(b'\n');
+        Ok(buf.len())
+    }
+}

@@ -140,3 +140,12 @@ fn files_are_opened_in_order(rt: HostRuntime) -> Result<(), Fail> {
     }
     Ok(())
 }
+
+#[test]
+fn a_dash_is_the_standard_input(rt: HostRuntime) -> Result<(), Fail> {
+    // The standard input of a test is empty, so it begins with no head; a file of that name would be a failed read.
+    let (answer, report) = run_words(&rt, &rt, &["replay", "-"])?;
+    assert!(rt; matches!(answer, Err(ToolFault::Cert(_))));
+    assert!(rt; report.is_empty());
+    Ok(())
+}
