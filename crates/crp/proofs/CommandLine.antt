@@ -3,11 +3,11 @@ use Rattle.std.proofs.Common.{◌≡◌, ◌∙◌, ◌||◌, ◌++◌, ◌∷�
 use Rattle.clap.specs.Words.{AddsArg, AddsSubcommand, App, Rule, Shape, app_of, with_rule, with_subcommand}
 use Rattle.clap.specs.declared.builder.arg.Arg.{Arg}
 use Rattle.clap.specs.declared.builder.command.Command.{Command}
-use Rattle.crp.specs.Commands.{IsArg, IsCommand}
+use Rattle.crp.specs.Commands.{IsArg, IsCommand, with_option}
 
 -- a command with one argument more has its rule last
 pub more_arg : (old : Command) (arg : Arg) (new : Command) (shape : Shape) (rule : Rule) → AddsArg old arg new → IsArg rule arg
-    → IsCommand shape old → IsCommand (record shape { rules = shape.rules ++ rule ∷ [] }) new
+    → IsCommand shape old → IsCommand (with_option rule shape) new
 more_arg old arg new shape rule adds is was =
     (adds.shape is.1 ∙ ap₂ with_rule was.0 is.0, adds.globals ∙ ap₂ (λ a b. a || b) was.1 is.1)
 

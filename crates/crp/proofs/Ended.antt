@@ -1,8 +1,7 @@
 -- The text of a certificate ends with its first line that begins with `end `.
-use Rattle.std.proofs.Common.{◌≡◌, ◌≢◌, ℕ, zero, suc, ◌+◌, ◌/◌, ◌%◌, ◌≤◌, ◌==◌, List, [], ◌∷◌, ◌++◌, length, Bool, true, false, not, cond, Option, Some, None, refl, sym, ap, ◌∙◌, subst, arith, append_assoc, codes, nat_lt}
-use Rattle.std.specs.List.{AllByRecursion, flat_map, list_all}
-use Rattle.std.specs.Fmt.{decimal, digits, digits_onto, digit_glyph}
-use Rattle.std.proofs.lemmas.Bool.{and_parts}
+use Rattle.std.proofs.Common.{◌≡◌, ◌≢◌, ℕ, ◌≤◌, List, [], ◌∷◌, ◌++◌, length, Option, Some, None, refl, sym, ap, ◌∙◌, subst, arith, append_assoc, codes}
+use Rattle.std.specs.List.{AllByRecursion, flat_map}
+use Rattle.std.specs.Fmt.{decimal}
 use Rattle.std.proofs.lemmas.List.{append-nil}
 use Rattle.std.proofs.lemmas.List.Concat.{flat_map-append}
 use Rattle.std.proofs.lemmas.List.Elements.{All-from_recursion, recursion_from_All}
@@ -13,57 +12,27 @@ use Rattle.crp_cert.specs.declared.parts.RawPart.{RawPart}
 use Rattle.crp_cert.specs.declared.script.Script.{Script}
 use Rattle.crp_cert.specs.declared.size.Size.{Size}
 use Rattle.crp_cert.specs.Text.{spaced, numbers_line, title_line, bay_line, size_line, size_of, row_line, claim_line, plan_line, head_text}
-use Rattle.crp_cert.specs.Script.{name_text, symbols_of, symbols_of_each, part_line, end_line, script_text}
+use Rattle.crp_tree.specs.Names.{name_text}
+use Rattle.crp_cert.specs.Script.{symbols_of, symbols_of_each, part_line, end_line, script_text}
+use Rattle.crp_report.proofs.Bytes.{IsPlain, plain_both, plain_words, plain_number}
 use Rattle.crp_checker.specs.Files.{IsLine, BeginsWithEnd, IsOtherLine, joined, IsEnded}
 use Rattle.crp_checker.proofs.Cuts.{AreOtherLines}
 use Rattle.crp_checker.proofs.WalkSteps.{all_both}
 
 -- ---- bytes without LF
 
-abbrev pub IsPlain : List ℕ → Type 0
-IsPlain bytes = AllByRecursion (λ b. b ≢ 10) bytes
-
-both : (xs ys : List ℕ) → IsPlain xs → IsPlain ys → IsPlain (xs ++ ys)
-both xs ys a b = all_both (λ b. b ≢ 10) xs ys a b
-
--- words pass a test
-plain_words : (bytes : List ℕ) → list_all (λ b. not (b == 10)) bytes ≡ true → IsPlain bytes
-plain_words [] e = tt
-plain_words (b ∷ bytes) e =
-    let parts = and_parts (not (b == 10)) (list_all (λ b. not (b == 10)) bytes) e in
-    (λ ten. let t : not (10 == 10) ≡ true = subst (λ x. not (x == 10) ≡ true) ten parts.0 in cc, plain_words bytes parts.1)
-
--- one of two
-either : {A : Type 0} (P : A → Type 0) (t : Bool) (x y : A) → P x → P y → P (cond t x y)
-either P true x y p q = p
-either P false x y p q = q
-
--- the digits of a number
-plain_glyph : (d : ℕ) → digit_glyph false d ≢ 10
-plain_glyph d = either (λ x. x ≢ 10) (nat_lt d 10) (48 + d) (87 + d) (λ e. omega (arith, e)) (λ e. omega (arith, e))
-
-plain_digits : (k n : ℕ) (acc : List ℕ) → IsPlain acc → IsPlain (digits_onto k 10 false n acc)
-plain_digits zero n acc h = h
-plain_digits (suc k) n acc h =
-    let more : IsPlain (digit_glyph false (n % 10) ∷ acc) = (plain_glyph (n % 10), h) in
-    either IsPlain (n / 10 == 0) (digit_glyph false (n % 10) ∷ acc) (digits_onto k 10 false (n / 10) (digit_glyph false (n % 10) ∷ acc)) more (plain_digits k (n / 10) (digit_glyph false (n % 10) ∷ acc) more)
-
-plain_number : (n : ℕ) → IsPlain (decimal n)
-unfolding digits
-plain_number n = plain_digits 64 n [] tt
-
 plain_numbers : (ns : List ℕ) → IsPlain (spaced ns)
 plain_numbers [] = tt
-plain_numbers (n ∷ ns) = (λ e. cc, both (decimal n) (spaced ns) (plain_number n) (plain_numbers ns))
+plain_numbers (n ∷ ns) = (λ e. cc, plain_both (decimal n) (spaced ns) (plain_number n) (plain_numbers ns))
 
 -- names and symbols
 plain_name : (name : List ℕ) → IsPlain (name_text name)
 plain_name [] = plain_words (codes "/") refl
-plain_name (row ∷ rows) = both (decimal row) (flat_map (λ r. 46 ∷ decimal r) rows) (plain_number row) (plain_rows rows)
+plain_name (row ∷ rows) = plain_both (decimal row) (flat_map (λ r. 46 ∷ decimal r) rows) (plain_number row) (plain_rows rows)
   where
     plain_rows : (rows : List ℕ) → IsPlain (flat_map (λ r. 46 ∷ decimal r) rows)
     plain_rows [] = tt
-    plain_rows (row ∷ rows) = (λ e. cc, both (decimal row) (flat_map (λ r. 46 ∷ decimal r) rows) (plain_number row) (plain_rows rows))
+    plain_rows (row ∷ rows) = (λ e. cc, plain_both (decimal row) (flat_map (λ r. 46 ∷ decimal r) rows) (plain_number row) (plain_rows rows))
 
 mutual
   plain_symbols : (tree : Tree) → IsPlain (symbols_of tree)
@@ -74,7 +43,7 @@ mutual
 
   plain_symbols_of_each : {m : _} (all : Row_of-Tree m) → IsPlain (symbols_of_each all)
   plain_symbols_of_each end_of-Tree = tt
-  plain_symbols_of_each (more_of-Tree tree trees) = both (symbols_of tree) (symbols_of_each trees) (plain_symbols tree) (plain_symbols_of_each trees)
+  plain_symbols_of_each (more_of-Tree tree trees) = plain_both (symbols_of tree) (symbols_of_each trees) (plain_symbols tree) (plain_symbols_of_each trees)
 
 -- ---- lines that do not begin with `end `
 
@@ -111,7 +80,7 @@ others_all f each (x ∷ xs) = others_both (f x) (flat_map f xs) (each x) (other
 -- a line of a word and numbers
 numbers_other : (b : ℕ) (word ns : List ℕ) → b ≢ 101 → IsPlain (b ∷ word) → AreOtherLines (numbers_line (b ∷ word) ns)
 numbers_other b word ns other plain =
-    one_other b (word ++ spaced ns) (numbers_line (b ∷ word) ns) (sym (append_assoc (b ∷ word) (spaced ns) (10 ∷ []))) other (both (b ∷ word) (spaced ns) plain (plain_numbers ns))
+    one_other b (word ++ spaced ns) (numbers_line (b ∷ word) ns) (sym (append_assoc (b ∷ word) (spaced ns) (10 ∷ []))) other (plain_both (b ∷ word) (spaced ns) plain (plain_numbers ns))
 
 title_other : AreOtherLines title_line
 title_other = one_other 67 (codes "RP-CERT 1") title_line refl (λ e. omega (arith, e)) (plain_words (codes "CRP-CERT 1") refl)
@@ -124,7 +93,7 @@ bay_other bay named =
     one_other 98 (codes "ay " ++ (block ++ number)) (bay_line bay)
     (ap (λ l. codes "bay " ++ l) (sym (append_assoc block number (10 ∷ []))) ∙ sym (append_assoc (codes "bay ") (block ++ number) (10 ∷ [])))
     (λ e. omega (arith, e))
-    (both (codes "bay ") (block ++ number) (plain_words (codes "bay ") refl) (both block number (plain_block block printed) (plain_numbers (bay.bay ∷ []))))
+    (plain_both (codes "bay ") (block ++ number) (plain_words (codes "bay ") refl) (plain_both block number (plain_block block printed) (plain_numbers (bay.bay ∷ []))))
   where
     plain_block : (block : List ℕ) → AllByRecursion (λ b. (33 ≤ b) × (b ≤ 126)) block → IsPlain block
     plain_block [] printed = tt
@@ -148,8 +117,8 @@ part_other part =
     (ap (λ l. codes "part " ++ (name ++ l)) (sym (append_assoc (codes ": ") symbols (10 ∷ []))) ∙ ap (λ l. codes "part " ++ l) (sym (append_assoc name (codes ": " ++ symbols) (10 ∷ [])))
     ∙ sym (append_assoc (codes "part ") (name ++ (codes ": " ++ symbols)) (10 ∷ [])))
     (λ e. omega (arith, e))
-    (both (codes "part ") (name ++ (codes ": " ++ symbols)) (plain_words (codes "part ") refl)
-    (both name (codes ": " ++ symbols) (plain_name part.name) (both (codes ": ") symbols (plain_words (codes ": ") refl) (plain_symbols part.tree))))
+    (plain_both (codes "part ") (name ++ (codes ": " ++ symbols)) (plain_words (codes "part ") refl)
+    (plain_both name (codes ": " ++ symbols) (plain_name part.name) (plain_both (codes ": ") symbols (plain_words (codes ": ") refl) (plain_symbols part.tree))))
 
 head_other : (head : Head) → IsYardBay head.bay → AreOtherLines (head_text head)
 head_other head named =
@@ -176,7 +145,7 @@ last_line count =
     let number = spaced (count ∷ []) in (
       record {
         body = codes "end" ++ number;
-        one_line = All-from_recursion (λ c. c ≢ 10) (codes "end" ++ number) (both (codes "end") number (plain_words (codes "end") refl) (plain_numbers (count ∷ [])));
+        one_line = All-from_recursion (λ c. c ≢ 10) (codes "end" ++ number) (plain_both (codes "end") number (plain_words (codes "end") refl) (plain_numbers (count ∷ [])));
         is = sym (append_assoc (codes "end") number (10 ∷ []));
       },
       ((decimal count ++ []) ++ 10 ∷ [], refl),

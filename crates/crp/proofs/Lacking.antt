@@ -4,7 +4,8 @@ use Rattle.std.specs.Str.Parse.{ParsesUnsigned, ExplainsUnsignedError, HasUnsign
 use Rattle.std.specs.declared.num.ParseIntError.{ParseIntError}
 use Rattle.clap.specs.Words.{Row, Text}
 use Rattle.clap.specs.Matches.{ReadsOne}
-use Rattle.crp.specs.Words.{Asks, HasBudget, HasNumber, HasNumberBeyond, HasNumberWithin, HasRows, HasSettings, HasTiers, IsBudgetBeyond, AreRowsBeyond, AreTiersBeyond, IsFault, IsJust, IsProveFault, IsSolveFault, IsWordsOrMemory, Lacks, ReadsNumber}
+use Rattle.crp_solve.specs.Chosen.{Chosen}
+use Rattle.crp.specs.Words.{Asks, HasBudget, HasNumber, HasNumberBeyond, HasNumberWithin, HasRows, HasSearch, HasSettings, HasSplit, HasTiers, HasWorkers, IsBudgetBeyond, IsSplitBeyond, AreRowsBeyond, AreTiersBeyond, AreWorkersBeyond, IsFault, IsJust, IsSearchFault, IsSolveFault, IsWordsOrMemory, Lacks, ReadsNumber}
 use Rattle.crp.specs.declared.job.Job.{Job}
 use Rattle.crp.specs.declared.job.Job.TheVariants as job
 use Rattle.crp.specs.declared.job.Mistake.TheVariants as mistake
@@ -72,68 +73,134 @@ lacks_more Has Needs F G (usage.Wrong (mistake.Words text)) needs up down lackin
 lacks_more Has Needs F G (usage.Wrong (mistake.Setting f)) needs up down lacking =
     (λ y have. lacking.0 (needs y have).0 (needs y have).1, up f lacking.1)
 
--- ---- the settings of solve, number by number
+-- ---- a number within its limits is no fault
 
--- a budget within its limit is no fault
-no_budget_fault : (rows : List Row) (b : ℕ) → HasBudget rows b → IsBudgetBeyond rows → ⊥
-no_budget_fault rows b has beyond = not_both (codes "budget") 0 1099511627776 rows b has beyond
+no_workers_fault : (rows : List Row) (n : ℕ) → HasWorkers rows n → AreWorkersBeyond rows → ⊥
+no_workers_fault rows n has beyond = not_both (codes "workers") 1 64 rows n has beyond
 
--- rows within their limits are no fault
-no_rows_fault : (rows : List Row) (b : ℕ) → HasRows rows b → AreRowsBeyond rows → ⊥
-no_rows_fault rows b has beyond = not_both (codes "rows") 1 12 rows b has beyond
+no_budget_fault : (rows : List Row) (n : ℕ) → HasBudget rows n → IsBudgetBeyond rows → ⊥
+no_budget_fault rows n has beyond = not_both (codes "budget") 0 1099511627776 rows n has beyond
 
--- without a budget within its limit there are no settings
-pub no_budget : (rows : List Row) (u : Usage) → Lacks (HasBudget rows) (IsJust setting.Budget (IsBudgetBeyond rows)) u
-    → Lacks (HasSettings rows) (IsSolveFault rows) u
-no_budget rows u = lacks_more (HasBudget rows) (HasSettings rows) (IsJust setting.Budget (IsBudgetBeyond rows)) (IsSolveFault rows) u
-    (λ s has. (s.budget, has.0)) (λ f just. subst (IsSolveFault rows) (sym just.0) just.1) down
+no_split_fault : (rows : List Row) (n : ℕ) → HasSplit rows n → IsSplitBeyond rows → ⊥
+no_split_fault rows n has beyond = not_both (codes "split") 0 8 rows n has beyond
+
+no_rows_fault : (rows : List Row) (n : ℕ) → HasRows rows n → AreRowsBeyond rows → ⊥
+no_rows_fault rows n has beyond = not_both (codes "rows") 1 12 rows n has beyond
+
+-- the settings of a search within their limits have no fault
+no_search_fault : (rows : List Row) (s : Chosen) → HasSearch rows s → (f : SettingFault) → IsSearchFault rows f → ⊥
+no_search_fault rows s has setting.Workers beyond = no_workers_fault rows s.workers has.0 beyond
+no_search_fault rows s has setting.Budget first = no_budget_fault rows s.budget has.1 first.1
+no_search_fault rows s has setting.Split first = no_split_fault rows s.split has.2 first.2
+no_search_fault rows s has setting.Rows none = none
+no_search_fault rows s has setting.Tiers none = none
+
+-- ---- the settings of a search, number by number
+
+-- without workers within their limits there are no settings of a search
+pub no_workers : (rows : List Row) (u : Usage) → Lacks (HasWorkers rows) (IsJust setting.Workers (AreWorkersBeyond rows)) u
+    → Lacks (HasSearch rows) (IsSearchFault rows) u
+no_workers rows u = lacks_more (HasWorkers rows) (HasSearch rows) (IsJust setting.Workers (AreWorkersBeyond rows)) (IsSearchFault rows) u
+    (λ s has. (s.workers, has.0)) (λ f just. subst (IsSearchFault rows) (sym just.0) just.1) down
   where
-    down : (f : SettingFault) → IsSolveFault rows f → IsJust setting.Budget (IsBudgetBeyond rows) f ⊎ ((n : ℕ) × HasBudget rows n)
-    down setting.Budget beyond = inl (refl, beyond)
+    down : (f : SettingFault) → IsSearchFault rows f → IsJust setting.Workers (AreWorkersBeyond rows) f ⊎ ((n : ℕ) × HasWorkers rows n)
+    down setting.Workers beyond = inl (refl, beyond)
+    down setting.Budget first = inr first.0
+    down setting.Split first = inr first.0
+    down setting.Rows none = absurd none
+    down setting.Tiers none = absurd none
+
+-- nor are there without a budget within its limit
+pub no_budget : (rows : List Row) (w : ℕ) (u : Usage) → HasWorkers rows w → Lacks (HasBudget rows) (IsJust setting.Budget (IsBudgetBeyond rows)) u
+    → Lacks (HasSearch rows) (IsSearchFault rows) u
+no_budget rows w u workers = lacks_more (HasBudget rows) (HasSearch rows) (IsJust setting.Budget (IsBudgetBeyond rows)) (IsSearchFault rows) u
+    (λ s has. (s.budget, has.1)) (λ f just. subst (IsSearchFault rows) (sym just.0) ((w, workers), just.1)) down
+  where
+    down : (f : SettingFault) → IsSearchFault rows f → IsJust setting.Budget (IsBudgetBeyond rows) f ⊎ ((n : ℕ) × HasBudget rows n)
+    down setting.Workers beyond = absurd (no_workers_fault rows w workers beyond)
+    down setting.Budget first = inl (refl, first.1)
+    down setting.Split first = inr first.1
+    down setting.Rows none = absurd none
+    down setting.Tiers none = absurd none
+
+-- nor without a split within its limit
+pub no_split : (rows : List Row) (w b : ℕ) (u : Usage) → HasWorkers rows w → HasBudget rows b
+    → Lacks (HasSplit rows) (IsJust setting.Split (IsSplitBeyond rows)) u → Lacks (HasSearch rows) (IsSearchFault rows) u
+no_split rows w b u workers budget = lacks_more (HasSplit rows) (HasSearch rows) (IsJust setting.Split (IsSplitBeyond rows)) (IsSearchFault rows) u
+    (λ s has. (s.split, has.2)) (λ f just. subst (IsSearchFault rows) (sym just.0) ((w, workers), (b, budget), just.1)) down
+  where
+    down : (f : SettingFault) → IsSearchFault rows f → IsJust setting.Split (IsSplitBeyond rows) f ⊎ ((n : ℕ) × HasSplit rows n)
+    down setting.Workers beyond = absurd (no_workers_fault rows w workers beyond)
+    down setting.Budget first = absurd (no_budget_fault rows b budget first.1)
+    down setting.Split first = inl (refl, first.2)
+    down setting.Rows none = absurd none
+    down setting.Tiers none = absurd none
+
+-- ---- the settings of solve
+
+-- a fault of the search is one of solve
+search_first : (rows : List Row) (f : SettingFault) → IsSearchFault rows f → IsSolveFault rows f
+search_first rows setting.Workers first = first
+search_first rows setting.Budget first = first
+search_first rows setting.Split first = first
+search_first rows setting.Rows none = absurd none
+search_first rows setting.Tiers none = absurd none
+
+-- without settings of a search there are none of solve
+pub no_search : (rows : List Row) (u : Usage) → Lacks (HasSearch rows) (IsSearchFault rows) u → Lacks (HasSettings rows) (IsSolveFault rows) u
+no_search rows u = lacks_more (HasSearch rows) (HasSettings rows) (IsSearchFault rows) (IsSolveFault rows) u
+    (λ s has. (s.search, has.0)) (search_first rows) down
+  where
+    down : (f : SettingFault) → IsSolveFault rows f → IsSearchFault rows f ⊎ ((s : Chosen) × HasSearch rows s)
+    down setting.Workers first = inl first
+    down setting.Budget first = inl first
+    down setting.Split first = inl first
     down setting.Rows first = inr first.0
     down setting.Tiers first = inr first.0
 
 -- nor are there without rows within their limits
-pub no_rows : (rows : List Row) (b : ℕ) (u : Usage) → HasBudget rows b → Lacks (HasRows rows) (IsJust setting.Rows (AreRowsBeyond rows)) u
+pub no_rows : (rows : List Row) (s : Chosen) (u : Usage) → HasSearch rows s → Lacks (HasRows rows) (IsJust setting.Rows (AreRowsBeyond rows)) u
     → Lacks (HasSettings rows) (IsSolveFault rows) u
-no_rows rows b u budget = lacks_more (HasRows rows) (HasSettings rows) (IsJust setting.Rows (AreRowsBeyond rows)) (IsSolveFault rows) u
-    (λ s has. (s.rows, has.1)) (λ f just. subst (IsSolveFault rows) (sym just.0) ((b, budget), just.1)) down
+no_rows rows s u search = lacks_more (HasRows rows) (HasSettings rows) (IsJust setting.Rows (AreRowsBeyond rows)) (IsSolveFault rows) u
+    (λ s has. (s.rows, has.1)) (λ f just. subst (IsSolveFault rows) (sym just.0) ((s, search), just.1)) down
   where
     down : (f : SettingFault) → IsSolveFault rows f → IsJust setting.Rows (AreRowsBeyond rows) f ⊎ ((n : ℕ) × HasRows rows n)
-    down setting.Budget beyond = absurd (no_budget_fault rows b budget beyond)
+    down setting.Workers first = absurd (no_search_fault rows s search setting.Workers first)
+    down setting.Budget first = absurd (no_search_fault rows s search setting.Budget first)
+    down setting.Split first = absurd (no_search_fault rows s search setting.Split first)
     down setting.Rows first = inl (refl, first.1)
     down setting.Tiers first = inr first.1
 
 -- nor without tiers within their limits
-pub no_tiers : (rows : List Row) (b r : ℕ) (u : Usage) → HasBudget rows b → HasRows rows r
+pub no_tiers : (rows : List Row) (s : Chosen) (r : ℕ) (u : Usage) → HasSearch rows s → HasRows rows r
     → Lacks (HasTiers rows) (IsJust setting.Tiers (AreTiersBeyond rows)) u → Lacks (HasSettings rows) (IsSolveFault rows) u
-no_tiers rows b r u budget has_rows = lacks_more (HasTiers rows) (HasSettings rows) (IsJust setting.Tiers (AreTiersBeyond rows)) (IsSolveFault rows) u
-    (λ s has. (s.tiers, has.2)) (λ f just. subst (IsSolveFault rows) (sym just.0) ((b, budget), (r, has_rows), just.1)) down
+no_tiers rows s r u search has_rows = lacks_more (HasTiers rows) (HasSettings rows) (IsJust setting.Tiers (AreTiersBeyond rows)) (IsSolveFault rows) u
+    (λ s has. (s.tiers, has.2)) (λ f just. subst (IsSolveFault rows) (sym just.0) ((s, search), (r, has_rows), just.1)) down
   where
     down : (f : SettingFault) → IsSolveFault rows f → IsJust setting.Tiers (AreTiersBeyond rows) f ⊎ ((n : ℕ) × HasTiers rows n)
-    down setting.Budget beyond = absurd (no_budget_fault rows b budget beyond)
+    down setting.Workers first = absurd (no_search_fault rows s search setting.Workers first)
+    down setting.Budget first = absurd (no_search_fault rows s search setting.Budget first)
+    down setting.Split first = absurd (no_search_fault rows s search setting.Split first)
     down setting.Rows first = absurd (no_rows_fault rows r has_rows first.1)
     down setting.Tiers first = inl (refl, first.2)
 
--- ---- the budget of prove
+-- ---- the search of prove
 
--- what prove asks for has a budget
-prove_asks : (rows : List Row) (j : Job) → Asks (codes "prove") rows j → (n : ℕ) × HasBudget rows n
+-- what prove asks for has settings of a search
+prove_asks : (rows : List Row) (j : Job) → Asks (codes "prove") rows j → (s : Chosen) × HasSearch rows s
 prove_asks rows (job.Replay file) asks = let e : ◌≡◌ {A = ℕ} 112 114 = ap (λ (l : Text). slice_index l 0) asks.0 in absurd (omega arith)
 prove_asks rows (job.Bound file) asks = let e : ◌≡◌ {A = ℕ} 112 98 = ap (λ (l : Text). slice_index l 0) asks.0 in absurd (omega arith)
 prove_asks rows (job.Check file) asks = let e : ◌≡◌ {A = ℕ} 112 99 = ap (λ (l : Text). slice_index l 0) asks.0 in absurd (omega arith)
-prove_asks rows (job.Prove file budget) asks = (budget, asks.2)
+prove_asks rows (job.Prove file search) asks = (search, asks.2)
 prove_asks rows (job.Solve yard movins cert after settings) asks = let e : ◌≡◌ {A = ℕ} 112 115 = ap (λ (l : Text). slice_index l 0) asks.0 in absurd (omega arith)
 
--- a fault of prove is its budget's
-prove_fault : (rows : List Row) (f : SettingFault) → IsFault (codes "prove") rows f → IsJust setting.Budget (IsBudgetBeyond rows) f
-prove_fault rows setting.Budget (inl (is, beyond)) = (refl, beyond)
-prove_fault rows setting.Rows (inl (is, none)) = absurd none
-prove_fault rows setting.Tiers (inl (is, none)) = absurd none
+-- a fault of prove is its search's
+prove_fault : (rows : List Row) (f : SettingFault) → IsFault (codes "prove") rows f → IsSearchFault rows f
+prove_fault rows f (inl (is, first)) = first
 prove_fault rows f (inr (is, first)) = let e : ◌≡◌ {A = ℕ} 112 115 = ap (λ (l : Text). slice_index l 0) is in absurd (omega arith)
 
--- without a budget within its limit prove asks for nothing
-pub no_prove : (rows : List Row) (u : Usage) → Lacks (HasBudget rows) (IsJust setting.Budget (IsBudgetBeyond rows)) u
+-- without settings of a search prove asks for nothing
+pub no_prove : (rows : List Row) (u : Usage) → Lacks (HasSearch rows) (IsSearchFault rows) u
     → Lacks (Asks (codes "prove") rows) (IsFault (codes "prove") rows) u
-no_prove rows u = lacks_more (HasBudget rows) (Asks (codes "prove") rows) (IsJust setting.Budget (IsBudgetBeyond rows)) (IsFault (codes "prove") rows) u
-    (prove_asks rows) (λ f just. inl (refl, subst (IsProveFault rows) (sym just.0) just.1)) (λ f first. inl (prove_fault rows f first))
+no_prove rows u = lacks_more (HasSearch rows) (Asks (codes "prove") rows) (IsSearchFault rows) (IsFault (codes "prove") rows) u
+    (prove_asks rows) (λ f first. inl (refl, first)) (λ f first. inl (prove_fault rows f first))

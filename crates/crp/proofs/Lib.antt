@@ -8,3 +8,4 @@ pub mod Ended
 pub mod Named
 pub mod Accepted
 pub mod Performed
+pub mod Headline

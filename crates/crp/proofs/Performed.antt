@@ -1,5 +1,5 @@
 -- A file that cannot be opened is a failed read of it.
-use Rattle.std.proofs.Common.{◌≡◌, refl, ℕ, List, Option, None, rules}
+use Rattle.std.proofs.Common.{refl, None, rules}
 use Rattle.crp_report.specs.Runs.{SinkSeen, GetsNothing}
 use Rattle.crp.specs.declared.job.Job.{Job}
 use Rattle.crp.specs.declared.job.Job.TheVariants as job
@@ -16,7 +16,7 @@ failed_at_once : (j : Job) (out : SinkSeen) → IsOverOneFile j → GetsNothing 
 failed_at_once (job.Replay file) out is nothing = (nothing, search rules)
 failed_at_once (job.Bound file) out is nothing = (nothing, search rules)
 failed_at_once (job.Check file) out is nothing = (nothing, search rules)
-failed_at_once (job.Prove file budget) out is nothing = (nothing, search rules)
+failed_at_once (job.Prove file chosen) out is nothing = (nothing, search rules)
 failed_at_once (job.Solve yard movins cert after settings) out is nothing = elim is [ ]
 
 pub not_opened : (j : Job) (out : SinkSeen) → IsOverOneFile j → GetsNothing out → TellsOfFile j out fault.Read

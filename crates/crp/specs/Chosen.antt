@@ -3,11 +3,9 @@ use Rattle.std.specs.Prelude.{◌≡◌}
 use Rattle.crp_report.specs.Chosen.{RunChosen}
 use Rattle.crp.specs.declared.job.SolveSettings.{SolveSettings}
 
--- one worker, subtrees split off at paths of less than two rows, the budget, the rows, the tiers, the order and the code as they are chosen
+-- the search, the rows, the tiers, the order and the code as they are chosen
 pub record AreChosen (words : SolveSettings) (chosen : RunChosen) : Type 0 where
-  pub one_worker : chosen.search.workers ≡ 1
-  pub split : chosen.search.split ≡ 2
-  pub budget : chosen.search.budget ≡ words.budget
+  pub search : chosen.search ≡ words.search
   pub rows : chosen.rows ≡ words.rows
   pub tiers : chosen.tiers ≡ words.tiers
   pub order : chosen.mode ≡ words.order

@@ -1,5 +1,5 @@
 -- The command line as clap reads it: the commands, with their files and options.
-use Rattle.std.specs.Prelude.{◌≡◌, true, false, List, [], ◌∷◌, codes, Some}
+use Rattle.std.specs.Prelude.{◌≡◌, true, false, List, [], ◌∷◌, ◌++◌, codes, Some}
 use Rattle.clap.specs.Words.{App, Rule, Shape, Text, app_of, new_rule, rule_of}
 use Rattle.clap.specs.Simple.{new_shape}
 use Rattle.clap.specs.declared.builder.arg.Arg.{Arg}
@@ -43,21 +43,45 @@ leaf name = command name (file_rule (codes "file") ∷ [])
 abbrev pub budget_rule : Rule
 budget_rule = number_rule (codes "budget") (codes "1000000")
 
--- prove FILE [--budget N]
+-- the workers: 1 where they are not given
+abbrev pub workers_rule : Rule
+workers_rule = number_rule (codes "workers") (codes "1")
+
+-- the split: subtrees are given away at paths of less than 2 rows where it is not given
+abbrev pub split_rule : Rule
+split_rule = number_rule (codes "split") (codes "2")
+
+-- a command with one option more
+abbrev pub with_option : Rule → Shape → Shape
+with_option rule shape = record shape { rules = shape.rules ++ rule ∷ [] }
+
+-- a command with [--workers N] [--budget N] [--split N]
+abbrev pub with_search : Shape → Shape
+with_search shape = with_option split_rule (with_option budget_rule (with_option workers_rule shape))
+
+-- a command with [--rows N] [--tiers N]
+abbrev pub with_size : Shape → Shape
+with_size shape = with_option (number_rule (codes "tiers") (codes "5")) (with_option (number_rule (codes "rows") (codes "6")) shape)
+
+-- a command with [--order listed|stowage] [--code TEXT]
+abbrev pub with_orders : Shape → Shape
+with_orders shape = with_option (text_rule (codes "code") (codes "LOA")) (with_option (text_rule (codes "order") (codes "listed")) shape)
+
+-- a command with [--cert FILE] [--after FILE]
+abbrev pub with_outputs : Shape → Shape
+with_outputs shape = with_option (output_rule (codes "after")) (with_option (output_rule (codes "cert")) shape)
+
+-- prove FILE, with the options of a search
 abbrev pub prove : Shape
-prove = command (codes "prove") (file_rule (codes "file") ∷ budget_rule ∷ [])
+prove = with_search (leaf (codes "prove"))
 
 -- solve YARD MOVINS, without its options
 abbrev pub solve_files : Shape
 solve_files = command (codes "solve") (file_rule (codes "yard") ∷ file_rule (codes "movins") ∷ [])
 
--- solve YARD MOVINS [--rows N] [--tiers N] [--order listed|stowage] [--code TEXT] [--budget N] [--cert FILE] [--after FILE]
+-- solve YARD MOVINS, with its options: the size of the bays, the order of leaving, the search, and the files that are written
 abbrev pub solve : Shape
-solve = command (codes "solve")
-    (file_rule (codes "yard") ∷ file_rule (codes "movins")
-    ∷ number_rule (codes "rows") (codes "6") ∷ number_rule (codes "tiers") (codes "5")
-    ∷ text_rule (codes "order") (codes "listed") ∷ text_rule (codes "code") (codes "LOA")
-    ∷ budget_rule ∷ output_rule (codes "cert") ∷ output_rule (codes "after") ∷ [])
+solve = with_outputs (with_search (with_orders (with_size solve_files)))
 
 -- crp itself, with a version, and a command that is required
 abbrev pub top : Shape
@@ -67,12 +91,16 @@ top = record (new_shape (codes "crp")) {
   subcommand_required = true;
 }
 
+-- crp with the commands that take a FILE, and no option
+abbrev pub leaves : App
+leaves = record {
+  top = record top { is_leaf = false };
+  subs = leaf (codes "replay") ∷ leaf (codes "bound") ∷ leaf (codes "check") ∷ [];
+}
+
 -- the command line of crp
 abbrev pub crp : App
-crp = record {
-  top = record top { is_leaf = false };
-  subs = leaf (codes "replay") ∷ leaf (codes "bound") ∷ leaf (codes "check") ∷ prove ∷ solve ∷ [];
-}
+crp = record leaves { subs = leaves.subs ++ prove ∷ solve ∷ [] }
 
 -- the argument has this rule, at its own command alone
 abbrev pub IsArg : Rule → Arg → Type 0

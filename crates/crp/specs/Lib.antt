@@ -9,3 +9,4 @@ pub mod Check
 pub mod Chosen
 pub mod Performing
 pub mod Accepted
+pub mod Headline

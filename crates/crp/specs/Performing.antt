@@ -23,7 +23,7 @@ abbrev pub IsOverOneFile : Job → Type 0
 IsOverOneFile (job.Replay file) = ⊤
 IsOverOneFile (job.Bound file) = ⊤
 IsOverOneFile (job.Check file) = ⊤
-IsOverOneFile (job.Prove file budget) = ⊤
+IsOverOneFile (job.Prove file search) = ⊤
 IsOverOneFile (job.Solve yard movins cert after settings) = ⊥
 
 -- the file that the job reads
@@ -31,7 +31,7 @@ abbrev pub file_of : Job → List ℕ
 file_of (job.Replay file) = file.now
 file_of (job.Bound file) = file.now
 file_of (job.Check file) = file.now
-file_of (job.Prove file budget) = file.now
+file_of (job.Prove file search) = file.now
 file_of (job.Solve yard movins cert after settings) = yard.now
 
 -- the job was done, and ended with this status: the whole report of its command was written, and nothing else
@@ -39,7 +39,7 @@ abbrev pub Performs : Job → Status → Seen → Type 0
 Performs (job.Replay file) ended s = (ended ≡ status.Decided) × Writes 268435456 IsReplay s
 Performs (job.Bound file) ended s = (ended ≡ status.Decided) × Writes 268435456 IsBound s
 Performs (job.Check file) ended s = (ended ≡ status.Decided) × Writes 268435456 IsCheck s
-Performs (job.Prove file budget) ended s = Writes 268435456 (IsProof budget ended) s
+Performs (job.Prove file search) ended s = Writes 268435456 (IsProof search.budget ended) s
 Performs (job.Solve yard movins cert after settings) ended s = ⊥
 
 -- what a fault tells of the job
@@ -47,7 +47,7 @@ abbrev pub TellsOfJob : Job → Seen → ToolFault → Type 0
 TellsOfJob (job.Replay file) s f = Tells 268435456 IsReplay IsNoReplay s f
 TellsOfJob (job.Bound file) s f = Tells 268435456 IsBound IsNoBound s f
 TellsOfJob (job.Check file) s f = TellsOfCheck 268435456 s f
-TellsOfJob (job.Prove file budget) s f = Tells 268435456 (IsSomeProof budget) IsNoProof s f
+TellsOfJob (job.Prove file search) s f = Tells 268435456 (IsSomeProof search.budget) IsNoProof s f
 TellsOfJob (job.Solve yard movins cert after settings) s f = ⊥
 
 -- a job over one file was done, and this is what the sink of its report saw

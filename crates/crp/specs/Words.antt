@@ -4,6 +4,7 @@ use Rattle.std.specs.Str.Parse.{IsNumeral, digits_value, without_leading_plus}
 use Rattle.clap.specs.Words.{IsAmong, Kinds, Row, Text, fault_of, first_of, one_of, subcommand_of}
 use Rattle.clap.specs.declared.error.kind.ErrorKind.{ErrorKind}
 use Rattle.clap.specs.declared.error.kind.ErrorKind.TheVariants as kind
+use Rattle.crp_solve.specs.Chosen.{Chosen}
 use Rattle.crp.specs.Commands.{crp}
 use Rattle.crp.specs.declared.job.Job.{Job}
 use Rattle.crp.specs.declared.job.Job.TheVariants as job
@@ -52,6 +53,26 @@ HasBudget found n = HasNumberWithin (codes "budget") 0 1099511627776 found n
 abbrev pub IsBudgetBeyond : List Row → Type 0
 IsBudgetBeyond found = HasNumberBeyond (codes "budget") 0 1099511627776 found
 
+-- the workers that were found, 1 to 64
+abbrev pub HasWorkers : List Row → ℕ → Type 0
+HasWorkers found n = HasNumberWithin (codes "workers") 1 64 found n
+
+-- the workers that were found are none, or too many
+abbrev pub AreWorkersBeyond : List Row → Type 0
+AreWorkersBeyond found = HasNumberBeyond (codes "workers") 1 64 found
+
+-- the split that was found, at most 8
+abbrev pub HasSplit : List Row → ℕ → Type 0
+HasSplit found n = HasNumberWithin (codes "split") 0 8 found n
+
+-- the split that was found is too large
+abbrev pub IsSplitBeyond : List Row → Type 0
+IsSplitBeyond found = HasNumberBeyond (codes "split") 0 8 found
+
+-- the settings of a search that were found, within their limits
+abbrev pub HasSearch : List Row → Chosen → Type 0
+HasSearch found s = HasWorkers found s.workers × HasBudget found s.budget × HasSplit found s.split
+
 -- the rows of a bay that were found, 1 to 12
 abbrev pub HasRows : List Row → ℕ → Type 0
 HasRows found n = HasNumberWithin (codes "rows") 1 12 found n
@@ -79,7 +100,7 @@ HasOrder found o = HasText (codes "order") found (order_word o)
 
 -- the settings of solve that were found, within their limits
 abbrev pub HasSettings : List Row → SolveSettings → Type 0
-HasSettings found s = HasBudget found s.budget × HasRows found s.rows × HasTiers found s.tiers
+HasSettings found s = HasSearch found s.search × HasRows found s.rows × HasTiers found s.tiers
     × HasOrder found s.order × HasText (codes "code") found s.code.now
 
 -- ---- the job, or the first number beyond its limits
@@ -89,7 +110,7 @@ abbrev pub Asks : Text → List Row → Job → Type 0
 Asks name found (job.Replay file) = (name ≡ codes "replay") × HasText (codes "file") found file.now
 Asks name found (job.Bound file) = (name ≡ codes "bound") × HasText (codes "file") found file.now
 Asks name found (job.Check file) = (name ≡ codes "check") × HasText (codes "file") found file.now
-Asks name found (job.Prove file budget) = (name ≡ codes "prove") × HasText (codes "file") found file.now × HasBudget found budget
+Asks name found (job.Prove file search) = (name ≡ codes "prove") × HasText (codes "file") found file.now × HasSearch found search
 Asks name found (job.Solve yard movins cert after settings) = (name ≡ codes "solve")
     × HasText (codes "yard") found yard.now × HasText (codes "movins") found movins.now
     × (first_of (codes "cert") found ≡ option_map (λ text. text.now) cert)
@@ -101,25 +122,27 @@ abbrev pub IsWithinLimits : Job → Type 0
 IsWithinLimits (job.Replay file) = ⊤
 IsWithinLimits (job.Bound file) = ⊤
 IsWithinLimits (job.Check file) = ⊤
-IsWithinLimits (job.Prove file budget) = budget ≤ 1099511627776
+IsWithinLimits (job.Prove file search) = ⊤
 IsWithinLimits (job.Solve yard movins cert after s) =
-    (s.budget ≤ 1099511627776) × (1 ≤ s.rows) × (s.rows ≤ 12) × (1 ≤ s.tiers) × (s.tiers ≤ 8)
+    (1 ≤ s.rows) × (s.rows ≤ 12) × (1 ≤ s.tiers) × (s.tiers ≤ 8)
 
--- the budget is the first number of prove beyond its limit
-abbrev pub IsProveFault : List Row → SettingFault → Type 0
-IsProveFault found setting.Budget = IsBudgetBeyond found
-IsProveFault found setting.Rows = ⊥
-IsProveFault found setting.Tiers = ⊥
+-- the first number of a search beyond its limits: the workers, then the budget, then the split
+abbrev pub IsSearchFault : List Row → SettingFault → Type 0
+IsSearchFault found setting.Workers = AreWorkersBeyond found
+IsSearchFault found setting.Budget = ((n : ℕ) × HasWorkers found n) × IsBudgetBeyond found
+IsSearchFault found setting.Split = ((n : ℕ) × HasWorkers found n) × ((n : ℕ) × HasBudget found n) × IsSplitBeyond found
+IsSearchFault found setting.Rows = ⊥
+IsSearchFault found setting.Tiers = ⊥
 
--- the first number of solve beyond its limits: the budget, then the rows, then the tiers
+-- the first number of solve beyond its limits: that of the search, then the rows, then the tiers
 abbrev pub IsSolveFault : List Row → SettingFault → Type 0
-IsSolveFault found setting.Budget = IsBudgetBeyond found
-IsSolveFault found setting.Rows = ((n : ℕ) × HasBudget found n) × AreRowsBeyond found
-IsSolveFault found setting.Tiers = ((n : ℕ) × HasBudget found n) × ((n : ℕ) × HasRows found n) × AreTiersBeyond found
+IsSolveFault found setting.Rows = ((s : Chosen) × HasSearch found s) × AreRowsBeyond found
+IsSolveFault found setting.Tiers = ((s : Chosen) × HasSearch found s) × ((n : ℕ) × HasRows found n) × AreTiersBeyond found
+IsSolveFault found f = IsSearchFault found f
 
 -- the first number of the command beyond its limits
 abbrev pub IsFault : Text → List Row → SettingFault → Type 0
-IsFault name found f = ((name ≡ codes "prove") × IsProveFault found f) ⊎ ((name ≡ codes "solve") × IsSolveFault found f)
+IsFault name found f = ((name ≡ codes "prove") × IsSearchFault found f) ⊎ ((name ≡ codes "solve") × IsSolveFault found f)
 
 -- the command, if there is one, and its rows ask for this
 abbrev pub AsksFor : Option (Text × List Row) → Job → Type 0

@@ -1,7 +1,7 @@
 //! The command line: each command with its files and options.
 ghost use Rattle.std.specs.Prelude.{◌≡◌, IfOk};
-ghost use Rattle.clap.specs.Words.{app_of};
-ghost use Rattle.crp.specs.Commands.{IsArg, IsCommand, alone, budget_rule, crp, file_rule, leaf as leaf_shape, number_rule, output_rule, prove as prove_shape, solve as solve_shape, solve_files as solve_files_shape, text_rule, top as top_shape};
+ghost use Rattle.clap.specs.Words.{App, Shape, app_of, with_subcommand};
+ghost use Rattle.crp.specs.Commands.{IsArg, IsCommand, alone, budget_rule, crp, file_rule, leaf as leaf_shape, leaves, number_rule, output_rule, prove as prove_shape, solve as solve_shape, solve_files as solve_files_shape, split_rule, text_rule, top as top_shape, with_orders, with_outputs, with_search, with_size, workers_rule};
 
 use clap::{Arg, Command, value_parser};
 use std::alloc::{AllocError, Global};
@@ -69,6 +69,28 @@ fn leaf<'a>(
         .arg(file(alloc, "file", "FILE", help))
 }
 
+fn workers<'a>(alloc: Global) -> Arg<'a>
+    ensures { IsArg workers_rule result }
+{
+    number(
+        alloc,
+        "workers",
+        "1",
+        "Workers that search a bay together, 1 to 64",
+    )
+}
+
+fn split<'a>(alloc: Global) -> Arg<'a>
+    ensures { IsArg split_rule result }
+{
+    number(
+        alloc,
+        "split",
+        "2",
+        "Subtrees are given away above this depth, 0 to 8",
+    )
+}
+
 fn budget<'a>(alloc: Global) -> Arg<'a>
     ensures { IsArg budget_rule result }
 {
@@ -80,19 +102,27 @@ fn budget<'a>(alloc: Global) -> Arg<'a>
     )
 }
 
+// A command with the options of a search.
+fn with_search<'a>(alloc: Global, command: Command<'a>) -> Result<Command<'a>, AllocError>
+    ensures { IfOk result (λ new. (shape : Shape) → IsCommand shape command.entry → IsCommand (with_search shape) new) }
+{
+    command
+        .arg(workers(alloc))?
+        .arg(budget(alloc))?
+        .arg(split(alloc))
+}
+
 // The command `prove`.
 fn prove<'a>(alloc: Global) -> Result<Command<'a>, AllocError>
     ensures { IfOk result (IsCommand prove_shape) }
 {
-    Command::new(alloc, "prove")
-        .about("Solve the problem of a certificate's head and print a certificate")
-        .arg(file(
-            alloc,
-            "file",
-            "FILE",
-            "Certificate, or - for the standard input",
-        ))?
-        .arg(budget(alloc))
+    let command = leaf(
+        alloc,
+        "prove",
+        "Solve the problem of a certificate's head and print a certificate",
+        "Certificate, or - for the standard input",
+    )?;
+    with_search(alloc, command)
 }
 
 // The command `solve`, with its files, and without the options.
@@ -105,12 +135,19 @@ fn solve_files<'a>(alloc: Global) -> Result<Command<'a>, AllocError>
         .arg(file(alloc, "movins", "MOVINS", "Load orders (MOVINS)"))
 }
 
-// The command `solve`.
-fn solve<'a>(alloc: Global) -> Result<Command<'a>, AllocError>
-    ensures { IfOk result (IsCommand solve_shape) }
+// A command with the size of the bays.
+fn with_size<'a>(alloc: Global, command: Command<'a>) -> Result<Command<'a>, AllocError>
+    ensures { IfOk result (λ new. (shape : Shape) → IsCommand shape command.entry → IsCommand (with_size shape) new) }
 {
     let rows = number(alloc, "rows", "6", "Rows of each bay, 1 to 12");
     let tiers = number(alloc, "tiers", "5", "Tiers of each bay, 1 to 8");
+    command.arg(rows)?.arg(tiers)
+}
+
+// A command with the order of leaving, and what is to be loaded.
+fn with_orders<'a>(alloc: Global, command: Command<'a>) -> Result<Command<'a>, AllocError>
+    ensures { IfOk result (λ new. (shape : Shape) → IsCommand shape command.entry → IsCommand (with_orders shape) new) }
+{
     let order = text(
         alloc,
         "order",
@@ -125,6 +162,13 @@ fn solve<'a>(alloc: Global) -> Result<Command<'a>, AllocError>
         "LOA",
         "Handling code of the containers to be loaded",
     );
+    command.arg(order)?.arg(code)
+}
+
+// A command with the files that are written.
+fn with_outputs<'a>(alloc: Global, command: Command<'a>) -> Result<Command<'a>, AllocError>
+    ensures { IfOk result (λ new. (shape : Shape) → IsCommand shape command.entry → IsCommand (with_outputs shape) new) }
+{
     let cert = output(
         alloc,
         "cert",
@@ -135,14 +179,17 @@ fn solve<'a>(alloc: Global) -> Result<Command<'a>, AllocError>
         "after",
         "File that gets the yard after the plans; without it that is not written",
     );
-    solve_files(alloc)?
-        .arg(rows)?
-        .arg(tiers)?
-        .arg(order)?
-        .arg(code)?
-        .arg(budget(alloc))?
-        .arg(cert)?
-        .arg(after)
+    command.arg(cert)?.arg(after)
+}
+
+// The command `solve`.
+fn solve<'a>(alloc: Global) -> Result<Command<'a>, AllocError>
+    ensures { IfOk result (IsCommand solve_shape) }
+{
+    let sized = with_size(alloc, solve_files(alloc)?)?;
+    let ordered = with_orders(alloc, sized)?;
+    let searched = with_search(alloc, ordered)?;
+    with_outputs(alloc, searched)
 }
 
 // crp itself, without its commands.
@@ -157,33 +204,52 @@ fn top<'a>(alloc: Global) -> Result<Command<'a>, AllocError>
     )
 }
 
-/// The whole command line.
-pub fn command_line<'a>(alloc: Global) -> Result<Command<'a>, AllocError>
-    ensures { IfOk result (λ c. app_of c ≡ crp) }
+// A command line with one more command that takes a file, and no option.
+fn with_leaf<'a>(
+    alloc: Global,
+    line: Command<'a>,
+    name: &'a str,
+    about: &'a str,
+    help: &'a str,
+) -> Result<Command<'a>, AllocError>
+    ensures { IfOk result (λ new. (app : App) → app_of line.entry ≡ app → app_of new ≡ with_subcommand app (leaf_shape name.entry.now)) }
+{
+    line.subcommand(leaf(alloc, name, about, help)?)
+}
+
+// crp with the commands that take a file, and no option.
+fn with_leaves<'a>(alloc: Global) -> Result<Command<'a>, AllocError>
+    ensures { IfOk result (λ line. app_of line ≡ leaves) }
 {
     let head = "Certificate, or - for the standard input";
-    let replay = leaf(
+    let line = with_leaf(
         alloc,
+        top(alloc)?,
         "replay",
         "Print the moves of a certificate's plan",
         head,
     )?;
-    let bound = leaf(
+    let line = with_leaf(
         alloc,
+        line,
         "bound",
         "Print two lower bounds on the relocations of a certificate's bay",
         head,
     )?;
-    let check = leaf(
+    with_leaf(
         alloc,
+        line,
         "check",
         "Check a file of certificates",
         "Certificates, or - for the standard input",
-    )?;
-    top(alloc)?
-        .subcommand(replay)?
-        .subcommand(bound)?
-        .subcommand(check)?
+    )
+}
+
+/// The whole command line.
+pub fn command_line<'a>(alloc: Global) -> Result<Command<'a>, AllocError>
+    ensures { IfOk result (λ c. app_of c ≡ crp) }
+{
+    with_leaves(alloc)?
         .subcommand(prove(alloc)?)?
         .subcommand(solve(alloc)?)
 }

@@ -1,5 +1,6 @@
 //! What the program may be asked for.
 use crp_order::Mode;
+use crp_solve::Settings;
 use thiserror::Error;
 
 /// What the program is to do. Of `Replay`, `Bound`, `Check` and `Prove` a file named `-` is the standard input.
@@ -11,12 +12,12 @@ pub enum Job<'a> {
     Bound(&'a str),
     /// To check a file of certificates.
     Check(&'a str),
-    /// To solve the problem of a certificate's head, with at most this many expansions.
+    /// To solve the problem of a certificate's head.
     Prove {
         /// The file of the certificate.
         file: &'a str,
-        /// The most expansions, at most 1099511627776.
-        budget: u64,
+        /// How it is to be searched.
+        search: Settings,
     },
     /// To solve the bays of a yard for the load orders of a message.
     Solve {
@@ -34,10 +35,10 @@ pub enum Job<'a> {
 }
 
 /// How the bays of a yard are to be solved.
-#[derive(Clone, Copy)]
+#[derive(Drop)]
 pub struct SolveSettings<'a> {
-    /// The most expansions for a bay, at most 1099511627776.
-    pub budget: u64,
+    /// How each bay is to be searched.
+    pub search: Settings,
     /// The rows of each bay, 1 to 12.
     pub rows: u8,
     /// The tiers of each bay, 1 to 8.
@@ -51,9 +52,15 @@ pub struct SolveSettings<'a> {
 /// Which number of the command line is the first beyond its limits.
 #[derive(Clone, Copy, Debug, Drop, PartialEq, Eq, Error)]
 pub enum SettingFault {
+    /// The workers are none or more than 64.
+    #[error("S1")]
+    Workers,
     /// The budget is above 1099511627776.
     #[error("S2")]
     Budget,
+    /// The split is above 8.
+    #[error("S3")]
+    Split,
     /// The rows are none or more than 12.
     #[error("S5")]
     Rows,

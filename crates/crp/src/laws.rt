@@ -12,6 +12,7 @@ ghost use Rattle.crp_report.specs.Report.{certificates_text};
 ghost use Rattle.crp_report.specs.Chosen.{RunChosen};
 ghost use Rattle.crp_report.specs.Runs.{Seen, Made, IsMade};
 ghost use Rattle.crp.specs.Prove.{IsProofOf};
+ghost use Rattle.crp.specs.Headline.{IsHeadline};
 ghost use Rattle.crp.specs.Accepted.{text_of, IsAcceptedAs, CanBeTold, IsAcceptedFile};
 
 /// The checker accepts what the solver writes: the certificate of a true answer, under the name of a bay whose rows have one
@@ -33,6 +34,15 @@ pub fn certificates_are_accepted()
 pub fn runs_are_accepted()
     ensures { (chosen : RunChosen) (seen : Seen) (made : Made) → IsMade chosen seen made
         → IsAcceptedFile made.certificates made.answered }
+{}
+
+/// What a run promises, in one statement. Its report is a line of three numbers, the lines of the bays from which an ordered container
+/// leaves, in the yard's order, and a line that counts them. Where a bay is said to be optimal, its lines are those of a complete plan
+/// that takes its ordered containers in their order, no complete plan has fewer relocations, and the checker accepts its certificate with
+/// that number; where it is said to have no plan, there is none, and the checker accepts that; where it is left open, both numbers hold,
+/// and the checker accepts them.
+pub fn headline()
+    ensures { (chosen : RunChosen) (seen : Seen) (made : Made) → IsMade chosen seen made → IsHeadline made }
 {}
 
 /// The checker accepts the certificate that is made of a head, with the verdict on the answer to its problem.

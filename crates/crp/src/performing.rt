@@ -2,7 +2,6 @@
 ghost use Rattle.std.specs.Prelude.{◌≡◌, ◌≤◌, MatchResult};
 ghost use Rattle.crp_plan.specs.Devices.{most_interruptions};
 ghost use Rattle.crp.specs.Calls.{Seen, failures_in, most_failures};
-ghost use Rattle.crp.specs.Words.{IsWithinLimits};
 ghost use Rattle.crp.specs.Performing.{IsOverOneFile, Performs, TellsOfJob};
 
 use crate::bounding::bound;
@@ -13,21 +12,9 @@ use crate::proving::prove;
 use crate::replaying::replay;
 use crp_plan::{Sink, Source};
 use crp_report::Status;
-use crp_solve::Settings;
 use std::alloc::Global;
 use std::sync::Wait;
 use std::thread::Threads;
-
-/// The settings of one worker with this budget.
-pub fn alone(budget: u64) -> Settings
-    requires { budget ≤ 1099511627776 }
-    ensures { result ≡ record { workers = 1; budget = budget; split = 2 } }
-{
-    match Settings::new(1, budget, 2) {
-        Ok(settings) => settings,
-        Err(_) => unreachable!(),
-    }
-}
 
 /// Does a job over one file, from a source of that file's bytes to the sink of its report.
 pub fn perform<T: Threads + Wait + Sync, R: Source, W: Sink>(
@@ -37,8 +24,7 @@ pub fn perform<T: Threads + Wait + Sync, R: Source, W: Sink>(
     reader: &mut R,
     writer: &mut W,
 ) -> Result<Status, ToolFault>
-    requires one_file { IsOverOneFile job.now }
-    requires within { IsWithinLimits job.now }
+    requires { IsOverOneFile job.now }
     ensures { let seen : Seen = record {
       given = R.remaining reader.old;
       held = W.contents writer.old;
@@ -53,7 +39,7 @@ pub fn perform<T: Threads + Wait + Sync, R: Source, W: Sink>(
         Job::Replay(_) => replay(alloc, reader, writer),
         Job::Bound(_) => bound(alloc, reader, writer),
         Job::Check(_) => check(alloc, reader, writer),
-        Job::Prove { budget, .. } => prove(rt, alloc, reader, writer, alone(*budget)),
+        Job::Prove { search, .. } => prove(rt, alloc, reader, writer, *search),
         Job::Solve { .. } => unreachable!(),
     }
 }

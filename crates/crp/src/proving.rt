@@ -6,9 +6,10 @@ ghost use Rattle.crp.specs.Prove.{IsProof, IsSomeProof, IsNoProof};
 
 use crate::heads::head_from;
 use crate::outcome::ToolFault;
+use crp_incumbent::Board;
 use crp_plan::{Sink, Source, write_all};
 use crp_report::{Status, certificate_of, status_of};
-use crp_solve::{Settings, solve_alone};
+use crp_solve::{NoGate, Settings, solve};
 use std::alloc::Global;
 use std::sync::Wait;
 use std::thread::Threads;
@@ -16,7 +17,7 @@ use std::thread::Threads;
 /// Solves the problem of the head that a source's bytes begin with, and writes a certificate of the answer. The claim and the
 /// plan of the head are read and not used.
 pub fn prove<T: Threads + Wait + Sync, R: Source, W: Sink>(
-    _rt: &T,
+    rt: &T,
     alloc: Global,
     reader: &mut R,
     writer: &mut W,
@@ -34,7 +35,8 @@ pub fn prove<T: Threads + Wait + Sync, R: Source, W: Sink>(
 {
     let mut interruptions = 0;
     let head = head_from(alloc, reader, &mut interruptions)?;
-    let solved = solve_alone(alloc, &head.problem, settings)?;
+    let board = Board::new(&head.problem);
+    let solved = solve(rt, alloc, &head.problem, settings, &board, &NoGate)?;
     let status = status_of(&solved.answer);
     let text = certificate_of(alloc, &head.bay, &head.problem, &solved.answer)?;
     write_all(writer, &text, &mut interruptions)?;

@@ -11,7 +11,7 @@ ghost use Rattle.crp.specs.Performing.{IsOverOneFile, file_of, ReportsFile, Tell
 
 use crate::job::{Job, Mistake, SolveSettings, Usage};
 use crate::outcome::{ToolFault, exit_of};
-use crate::performing::{alone, perform};
+use crate::performing::perform;
 use crate::solving::{Files, solve};
 use crate::words::job;
 use crp_plan::{Counted, Sink};
@@ -64,8 +64,7 @@ fn run_on<T: Threads + Wait + Sync, W: Sink>(
     job: &Job<'_>,
     out: &mut W,
 ) -> Result<Status, ToolFault>
-    requires one_file { IsOverOneFile job.now }
-    requires within { IsWithinLimits job.now }
+    requires { IsOverOneFile job.now }
     ensures { let seen : SinkSeen = record { held = W.contents out.old; holds = W.contents out.new; before = W.failures out.old; after = W.failures out.new }
         in MatchResult result (ReportsFile job.now seen) (TellsOfFile job.now seen) }
 {
@@ -79,20 +78,25 @@ fn run_on<T: Threads + Wait + Sync, W: Sink>(
     }
 }
 
-/// The settings of a run by one worker.
+/// The settings of a run.
 pub(crate) fn settings_of(
     alloc: Global,
-    chosen: SolveSettings<'_>,
+    chosen: &SolveSettings<'_>,
 ) -> Result<RunSettings, ToolFault>
-    requires budget { chosen.budget ≤ 1099511627776 }
-    requires rows { (1 ≤ chosen.rows) × (chosen.rows ≤ 12) }
-    requires tiers { (1 ≤ chosen.tiers) × (chosen.tiers ≤ 8) }
-    ensures chosen { IfOk result (AreChosen chosen.entry) }
+    requires rows { (1 ≤ chosen.now.rows) × (chosen.now.rows ≤ 12) }
+    requires tiers { (1 ≤ chosen.now.tiers) × (chosen.now.tiers ≤ 8) }
+    ensures chosen { IfOk result (AreChosen chosen.now) }
     ensures memory { IfErr result (λ fault. fault ≡ Memory) }
 {
-    let search = alone(chosen.budget);
     let code = chosen.code.as_bytes();
-    match RunSettings::new(alloc, search, chosen.rows, chosen.tiers, chosen.order, code) {
+    match RunSettings::new(
+        alloc,
+        chosen.search,
+        chosen.rows,
+        chosen.tiers,
+        chosen.order,
+        code,
+    ) {
         Ok(settings) => Ok(settings),
         Err(RunFault::Memory) => Err(ToolFault::Memory),
         Err(_) => unreachable!(),
@@ -104,15 +108,14 @@ fn solve_with<T: Threads + Wait + Sync, W: Sink>(
     rt: &HostRuntime,
     threads: &T,
     files: Files<'_>,
-    chosen: SolveSettings<'_>,
+    chosen: &SolveSettings<'_>,
     out: &mut W,
 ) -> Result<Status, ToolFault>
-    requires budget { chosen.budget ≤ 1099511627776 }
-    requires rows { (1 ≤ chosen.rows) × (chosen.rows ≤ 12) }
-    requires tiers { (1 ≤ chosen.tiers) × (chosen.tiers ≤ 8) }
+    requires rows { (1 ≤ chosen.now.rows) × (chosen.now.rows ≤ 12) }
+    requires tiers { (1 ≤ chosen.now.tiers) × (chosen.now.tiers ≤ 8) }
     ensures { let seen : SinkSeen = record { held = W.contents out.old; holds = W.contents out.new; before = W.failures out.old; after = W.failures out.new }
-        in MatchResult result (λ status. (c : RunChosen) × AreChosen chosen.entry c × ReportsRun c seen status)
-        (λ fault. (fault ≡ Memory) × GetsNothing seen ⊎ ((c : RunChosen) × (f : Fault) × AreChosen chosen.entry c × (fault ≡ Run f) × TellsOfRun c seen f)) }
+        in MatchResult result (λ status. (c : RunChosen) × AreChosen chosen.now c × ReportsRun c seen status)
+        (λ fault. (fault ≡ Memory) × GetsNothing seen ⊎ ((c : RunChosen) × (f : Fault) × AreChosen chosen.now c × (fault ≡ Run f) × TellsOfRun c seen f)) }
 {
     let settings = settings_of(rt.alloc(), chosen)?;
     solve(rt, threads, &files, &settings, out)
@@ -143,7 +146,7 @@ pub(crate) fn run_job<T: Threads + Wait + Sync, W: Sink>(
                 cert: *cert,
                 after: *after,
             };
-            solve_with(rt, threads, files, *settings, out)
+            solve_with(rt, threads, files, settings, out)
         }
         one_file => run_on(rt, threads, one_file, out),
     }

@@ -6,6 +6,7 @@ mod failing;
 mod failing_runs;
 mod files;
 mod interrupted_runs;
+mod many_workers;
 mod reports;
 mod two_bays;
 mod usage;

@@ -1,19 +1,23 @@
 //! What the words of the command line ask for.
 ghost use Rattle.std.specs.Prelude.{◌≡◌, ◌≢◌, ℕ, IfOk, IfErr, IfSome, IfNone, map, codes};
 ghost use Rattle.clap.specs.Words.{found_of, kind_of, rows_of};
-ghost use Rattle.crp.specs.Words.{Asks, HasNumber, HasNumberBeyond, HasNumberWithin, HasOrder, HasSettings, HasText, IsFault, IsJust, IsSolveFault, IsWordsOrMemory, Lacks, NoFault, Refuses, ShowsKind, WordsAsk, words_or_default};
+ghost use Rattle.crp.specs.Words.{Asks, HasNumber, HasNumberBeyond, HasNumberWithin, HasOrder, HasSearch, HasSettings, HasText, IsFault, IsJust, IsSearchFault, IsSolveFault, IsWordsOrMemory, Lacks, NoFault, Refuses, ShowsKind, WordsAsk, words_or_default};
 
 use crate::commands::command_line;
 use crate::job::{Job, Mistake, SettingFault, SolveSettings, Usage};
 use clap::error::ErrorKind;
 use clap::{ArgMatches, Error};
 use crp_order::Mode;
+use crp_solve::{MAX_BUDGET, MAX_SPLIT, MAX_WORKERS, Settings};
 use std::alloc::Global;
 
 static NO_WORDS: [&str; 2] = ["replay", "-"];
 
-// The most expansions for a bay.
-const MOST_BUDGET: u64 = 1_099_511_627_776;
+// The most workers of a search.
+const MOST_WORKERS: u64 = MAX_WORKERS as u64;
+
+// The most rows of a path at which subtrees are given away.
+const MOST_SPLIT: u64 = MAX_SPLIT as u64;
 
 // The most rows of a bay.
 const MOST_ROWS: u64 = 12;
@@ -84,18 +88,44 @@ fn order_of(alloc: Global, matches: &ArgMatches<'_>) -> Result<Mode, Usage>
     Err(wrong(alloc, "error: the order is 'listed' or 'stowage'\n"))
 }
 
+// The settings of a search.
+fn search_of(alloc: Global, matches: &ArgMatches<'_>) -> Result<Settings, Usage>
+    ensures ok { IfOk result (HasSearch (rows_of (found_of matches.now))) }
+    ensures err { IfErr result (Lacks (HasSearch (rows_of (found_of matches.now))) (IsSearchFault (rows_of (found_of matches.now)))) }
+{
+    let workers = number_within(
+        alloc,
+        matches,
+        "workers",
+        (1, MOST_WORKERS),
+        SettingFault::Workers,
+    )?;
+    let budget = number_within(
+        alloc,
+        matches,
+        "budget",
+        (0, MAX_BUDGET),
+        SettingFault::Budget,
+    )?;
+    let split = number_within(
+        alloc,
+        matches,
+        "split",
+        (0, MOST_SPLIT),
+        SettingFault::Split,
+    )?;
+    match Settings::new(workers as u32, budget, split as u8) {
+        Ok(search) => Ok(search),
+        Err(_) => unreachable!(),
+    }
+}
+
 // The settings of `solve`.
 fn settings_of<'a>(alloc: Global, matches: &ArgMatches<'a>) -> Result<SolveSettings<'a>, Usage>
     ensures ok { IfOk result (HasSettings (rows_of (found_of matches.now))) }
     ensures err { IfErr result (Lacks (HasSettings (rows_of (found_of matches.now))) (IsSolveFault (rows_of (found_of matches.now)))) }
 {
-    let budget = number_within(
-        alloc,
-        matches,
-        "budget",
-        (0, MOST_BUDGET),
-        SettingFault::Budget,
-    )?;
+    let search = search_of(alloc, matches)?;
     let rows = number_within(alloc, matches, "rows", (1, MOST_ROWS), SettingFault::Rows)?;
     let tiers = number_within(
         alloc,
@@ -107,7 +137,7 @@ fn settings_of<'a>(alloc: Global, matches: &ArgMatches<'a>) -> Result<SolveSetti
     let order = order_of(alloc, matches)?;
     let code = text_of(alloc, matches, "code")?;
     Ok(SolveSettings {
-        budget,
+        search,
         rows: rows as u8,
         tiers: tiers as u8,
         order,
@@ -120,15 +150,9 @@ fn prove_of<'a>(alloc: Global, matches: &ArgMatches<'a>) -> Result<Job<'a>, Usag
     ensures ok { IfOk result (Asks (codes "prove") (rows_of (found_of matches.now))) }
     ensures err { IfErr result (Lacks (Asks (codes "prove") (rows_of (found_of matches.now))) (IsFault (codes "prove") (rows_of (found_of matches.now)))) }
 {
-    let budget = number_within(
-        alloc,
-        matches,
-        "budget",
-        (0, MOST_BUDGET),
-        SettingFault::Budget,
-    )?;
+    let search = search_of(alloc, matches)?;
     let file = text_of(alloc, matches, "file")?;
-    Ok(Job::Prove { file, budget })
+    Ok(Job::Prove { file, search })
 }
 
 // What `solve` and its matches ask for.

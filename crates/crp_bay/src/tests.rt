@@ -20,13 +20,58 @@ fn start_of(alloc: Global, tiers: u8, rows: &[&[u8]]) -> Result<Position, Fail> 
             ordered += row.len() as u8;
         }
     }
-    Ok(Position::start(&Problem::new(tiers, ordered, &stacks)?))
+    let problem = Problem::new(tiers, ordered, &stacks)?;
+    Ok(Position::start(&problem))
+}
+
+// What is compared comes from functions without clauses: so the tests know nothing of it, and are soon checked.
+
+fn next_of(position: &Position) -> u8 {
+    position.next()
+}
+
+fn is_done(position: &Position) -> bool {
+    position.is_done()
+}
+
+fn fits(position: &Position, row: u8) -> bool {
+    position.fits(row)
+}
+
+fn child_of(position: &Position, row: u8) -> Option<Position> {
+    position.child(row)
+}
+
+fn rows_in(position: &Position) -> usize {
+    position.rows() as usize
+}
+
+fn ordered_of(position: &Position) -> u8 {
+    position.ordered()
+}
+
+/// The height of a row, from 0; none where there is no such row.
+fn height_of(position: &Position, row: usize) -> Option<u8> {
+    if row < position.rows() as usize {
+        Some(position.height(row as u8 + 1))
+    } else {
+        None
+    }
+}
+
+/// The stack of a row, from 0; none where there is no such row.
+fn stack_of(position: &Position, row: usize) -> &[u8] {
+    if row < position.rows() as usize {
+        position.stack(row as u8 + 1)
+    } else {
+        &[]
+    }
 }
 
 fn stacks_are(rt: &impl Abort, position: &Position, rows: &[&[u8]]) {
-    assert_eq!(rt; position.rows() as usize, rows.len());
-    for (i, row) in rows.iter().enumerate() {
-        assert_eq!(rt; position.stack(i as u8 + 1), *row);
+    assert_eq!(rt; rows_in(position), rows.len());
+    for (row, stack) in rows.iter().enumerate() {
+        assert_eq!(rt; stack_of(position, row), *stack, "row {row} from 0");
     }
 }
 
@@ -34,47 +79,116 @@ fn targets_are(rt: &impl Abort, position: &Position, rows: &[u8]) {
     assert_eq!(rt; position.targets().as_slice(), rows);
 }
 
+/// The position that a path leads to.
+fn along(rt: &impl Abort, start: Position, path: &[u8]) -> Position {
+    let mut position = start;
+    for row in path {
+        position = child_of(&position, *row).expect(rt, "a legal row");
+    }
+    position
+}
+
+/// Where a path of the six containers leads to, and a row that is not legal there.
+#[derive(Clone, Copy)]
+struct Stop<'a> {
+    path: &'a [u8],
+    stacks: &'a [&'a [u8]],
+    targets: &'a [u8],
+    next: u8,
+    is_done: bool,
+    no_target: u8,
+}
+
+const SIX_CONTAINERS: &[&[u8]] = &[&[1, 5, 4], &[6], &[3, 2]];
+
+fn assert_stop(rt: &(impl Abort + AllocGlobal), stop: &Stop) -> Result<(), Fail> {
+    let position = along(rt, start_of(rt.alloc(), 3, SIX_CONTAINERS)?, stop.path);
+    stacks_are(rt, &position, stop.stacks);
+    targets_are(rt, &position, stop.targets);
+    assert_eq!(rt; next_of(&position), stop.next, "next after {:?}", stop.path);
+    assert_eq!(rt;
+        is_done(&position),
+        stop.is_done,
+        "done after {:?}",
+        stop.path
+    );
+    assert!(rt; child_of(&position, stop.no_target).is_none());
+    Ok(())
+}
+
 #[test]
 fn six_containers_three_relocations(rt: HostRuntime) -> Result<(), Fail> {
-    let start = start_of(rt.alloc(), 3, &[&[1, 5, 4], &[6], &[3, 2]])?;
-    stacks_are(&rt, &start, &[&[1, 5, 4], &[6], &[3, 2]]);
-    targets_are(&rt, &start, &[2, 3]);
-    assert_eq!(rt; start.next(), 1);
-    assert_eq!(rt; start.ordered(), 6);
-    assert_eq!(rt; start.rows(), 3);
-    assert_eq!(rt; start.height(3), 3);
-    for (row, fits) in [(0, false), (1, false), (2, true), (3, true), (4, false)] {
-        assert_eq!(rt; start.fits(row), fits, "row {row}");
+    let stops = [
+        Stop {
+            path: &[],
+            stacks: SIX_CONTAINERS,
+            targets: &[2, 3],
+            next: 1,
+            is_done: false,
+            no_target: 1,
+        },
+        Stop {
+            path: &[2],
+            stacks: &[&[1, 5], &[6, 4], &[3, 2]],
+            targets: &[2, 3],
+            next: 1,
+            is_done: false,
+            no_target: 1,
+        },
+        Stop {
+            path: &[2, 2],
+            stacks: &[&[], &[6, 4, 5], &[]],
+            targets: &[1, 3],
+            next: 4,
+            is_done: false,
+            no_target: 2,
+        },
+        Stop {
+            path: &[2, 2, 1],
+            stacks: &[&[], &[], &[]],
+            targets: &[],
+            next: 7,
+            is_done: true,
+            no_target: 2,
+        },
+    ];
+    for stop in &stops {
+        assert_stop(&rt, stop)?;
     }
-    for row in [0, 1, 4] {
-        assert!(rt; start.child(row).is_none());
+    Ok(())
+}
+
+/// Whether the row has room, and whether it is legal to relocate to it.
+fn assert_row(rt: &impl Abort, start: &Position, row: u8, there: bool) {
+    assert_eq!(rt; fits(start, row), there, "row {row}");
+    assert_eq!(rt; child_of(start, row).is_some(), there, "by row {row}");
+}
+
+#[test]
+fn rows_of_six_containers(rt: HostRuntime) -> Result<(), Fail> {
+    let start = start_of(rt.alloc(), 3, SIX_CONTAINERS)?;
+    for (row, there) in [(0, false), (1, false), (2, true), (3, true), (4, false)] {
+        assert_row(&rt, &start, row, there);
     }
-    let first = start.child(2).expect(&rt, "a legal row");
-    stacks_are(&rt, &first, &[&[1, 5], &[6, 4], &[3, 2]]);
-    targets_are(&rt, &first, &[2, 3]);
-    assert!(rt; first.child(1).is_none());
-    let second = first.child(2).expect(&rt, "a legal row");
-    stacks_are(&rt, &second, &[&[], &[6, 4, 5], &[]]);
-    targets_are(&rt, &second, &[1, 3]);
-    assert_eq!(rt; second.next(), 4);
-    assert!(rt; !second.is_done());
-    let third = second.child(1).expect(&rt, "a legal row");
-    stacks_are(&rt, &third, &[&[], &[], &[]]);
-    targets_are(&rt, &third, &[]);
-    assert!(rt; third.is_done());
-    assert_eq!(rt; third.next(), 7);
-    assert!(rt; third.child(2).is_none());
+    Ok(())
+}
+
+#[test]
+fn height_of_six_containers(rt: HostRuntime) -> Result<(), Fail> {
+    let start = start_of(rt.alloc(), 3, SIX_CONTAINERS)?;
+    assert_eq!(rt; ordered_of(&start), 6);
+    assert_eq!(rt; height_of(&start, 2), Some(3));
     Ok(())
 }
 
 #[test]
 fn nothing_to_relocate(rt: HostRuntime) -> Result<(), Fail> {
     let in_order = start_of(rt.alloc(), 2, &[&[2, 1], &[]])?;
-    assert!(rt; in_order.is_done());
+    assert!(rt; is_done(&in_order));
     targets_are(&rt, &in_order, &[]);
     let empty = start_of(rt.alloc(), 1, &[&[]])?;
-    assert!(rt; empty.is_done());
-    assert_eq!(rt; empty.next(), 1);
+    assert!(rt; is_done(&empty));
+    assert_eq!(rt; next_of(&empty), 1);
     Ok(())
 }
 
@@ -83,7 +197,7 @@ fn dead_ends(rt: HostRuntime) -> Result<(), Fail> {
     let one_row = start_of(rt.alloc(), 3, &[&[1, 2]])?;
     let full_rows = start_of(rt.alloc(), 2, &[&[1, 2], &[3, 4]])?;
     for position in [&one_row, &full_rows] {
-        assert!(rt; !position.is_done());
+        assert!(rt; !is_done(position));
         targets_are(&rt, position, &[]);
     }
     Ok(())

@@ -19,12 +19,40 @@ fn rows_of(alloc: Global, rows: &[&[u8]]) -> Result<Vec<Vec<u8>>, AllocError> {
 
 fn start_of(alloc: Global, tiers: u8, ordered: u8, rows: &[&[u8]]) -> Result<Position, Fail> {
     let stacks = rows_of(alloc, rows)?;
-    Ok(Position::start(&Problem::new(tiers, ordered, &stacks)?))
+    let problem = Problem::new(tiers, ordered, &stacks)?;
+    Ok(Position::start(&problem))
+}
+
+// What is compared comes from functions without clauses: so the tests know nothing of it, and are soon checked.
+
+fn low_of(position: &Position) -> u32 {
+    blocking(position)
+}
+
+fn high_of(position: &Position) -> u32 {
+    look_ahead(position)
+}
+
+fn is_done(position: &Position) -> bool {
+    position.is_done()
+}
+
+fn child_of(rt: &impl Abort, position: &Position, row: u8) -> Position {
+    position.child(row).expect(rt, "a legal row")
+}
+
+/// The position that a path leads to.
+fn along(rt: &impl Abort, start: Position, path: &[u8]) -> Position {
+    let mut position = start;
+    for row in path {
+        position = child_of(rt, &position, *row);
+    }
+    position
 }
 
 fn bounds_are(rt: &impl Abort, position: &Position, low: u32, high: u32, what: &str) {
-    assert_eq!(rt; blocking(position), low, "blocking: {what}");
-    assert_eq!(rt; look_ahead(position), high, "look-ahead: {what}");
+    assert_eq!(rt; low_of(position), low, "blocking: {what}");
+    assert_eq!(rt; high_of(position), high, "look-ahead: {what}");
 }
 
 fn relocations_of(moves: &[Move]) -> usize {
@@ -44,37 +72,113 @@ fn places_of_four()
 }
 
 #[test]
-fn worked_bounds(rt: HostRuntime) -> Result<(), Fail> {
-    let cases: [(u8, u8, &[&[u8]], u32, u32, &str); 10] = [
-        (2, 2, &[&[1, 2], &[]], 1, 1, "one empty row"),
-        (2, 2, &[&[2, 1], &[]], 0, 0, "nothing to relocate"),
-        (
-            3,
-            4,
-            &[&[1, 4], &[2], &[3]],
-            1,
-            2,
-            "the blocker blocks again",
-        ),
-        (3, 6, &[&[1, 5, 4], &[6], &[3, 2]], 2, 2, "six containers"),
-        (3, 2, &[&[1, 2]], 1, 2, "no other row"),
-        (2, 1, &[&[1, 2], &[]], 1, 1, "a stay over an ordered one"),
-        (
-            3,
-            7,
-            &[&[1, 6, 5], &[7], &[4, 3], &[2]],
-            2,
-            2,
-            "seven containers",
-        ),
-        (3, 6, &[&[4, 1, 6], &[2, 5], &[3]], 2, 4, "two count again"),
-        (3, 6, &[&[1, 3, 6], &[5, 4], &[2]], 2, 3, "one counts again"),
-        (1, 0, &[&[]], 0, 0, "an empty bay"),
-    ];
+fn laws_of_places(_rt: HostRuntime) {
     places_of_four();
-    for (tiers, ordered, rows, low, high, what) in cases {
-        let position = start_of(rt.alloc(), tiers, ordered, rows)?;
-        bounds_are(&rt, &position, low, high, what);
+}
+
+/// A bay, and its two bounds.
+#[derive(Clone, Copy)]
+struct Worked<'a> {
+    tiers: u8,
+    ordered: u8,
+    rows: &'a [&'a [u8]],
+    low: u32,
+    high: u32,
+    what: &'a str,
+}
+
+fn assert_worked(rt: &(impl Abort + AllocGlobal), case: &Worked) -> Result<(), Fail> {
+    let position = start_of(rt.alloc(), case.tiers, case.ordered, case.rows)?;
+    bounds_are(rt, &position, case.low, case.high, case.what);
+    Ok(())
+}
+
+#[test]
+fn worked_bounds(rt: HostRuntime) -> Result<(), Fail> {
+    let cases = [
+        Worked {
+            tiers: 2,
+            ordered: 2,
+            rows: &[&[1, 2], &[]],
+            low: 1,
+            high: 1,
+            what: "one empty row",
+        },
+        Worked {
+            tiers: 2,
+            ordered: 2,
+            rows: &[&[2, 1], &[]],
+            low: 0,
+            high: 0,
+            what: "nothing to relocate",
+        },
+        Worked {
+            tiers: 3,
+            ordered: 4,
+            rows: &[&[1, 4], &[2], &[3]],
+            low: 1,
+            high: 2,
+            what: "the blocker blocks again",
+        },
+        Worked {
+            tiers: 3,
+            ordered: 6,
+            rows: &[&[1, 5, 4], &[6], &[3, 2]],
+            low: 2,
+            high: 2,
+            what: "six containers",
+        },
+        Worked {
+            tiers: 3,
+            ordered: 2,
+            rows: &[&[1, 2]],
+            low: 1,
+            high: 2,
+            what: "no other row",
+        },
+        Worked {
+            tiers: 2,
+            ordered: 1,
+            rows: &[&[1, 2], &[]],
+            low: 1,
+            high: 1,
+            what: "a stay over an ordered one",
+        },
+        Worked {
+            tiers: 3,
+            ordered: 7,
+            rows: &[&[1, 6, 5], &[7], &[4, 3], &[2]],
+            low: 2,
+            high: 2,
+            what: "seven containers",
+        },
+        Worked {
+            tiers: 3,
+            ordered: 6,
+            rows: &[&[4, 1, 6], &[2, 5], &[3]],
+            low: 2,
+            high: 4,
+            what: "two count again",
+        },
+        Worked {
+            tiers: 3,
+            ordered: 6,
+            rows: &[&[1, 3, 6], &[5, 4], &[2]],
+            low: 2,
+            high: 3,
+            what: "one counts again",
+        },
+        Worked {
+            tiers: 1,
+            ordered: 0,
+            rows: &[&[]],
+            low: 0,
+            high: 0,
+            what: "an empty bay",
+        },
+    ];
+    for case in &cases {
+        assert_worked(&rt, case)?;
     }
     Ok(())
 }
@@ -88,15 +192,69 @@ fn stay_over_stay_does_not_count(rt: HostRuntime) -> Result<(), Fail> {
 
 #[test]
 fn bounds_along_a_best_plan(rt: HostRuntime) -> Result<(), Fail> {
-    let start = start_of(rt.alloc(), 3, 6, &[&[1, 5, 4], &[6], &[3, 2]])?;
-    let first = start.child(2).expect(&rt, "a legal row");
-    let second = first.child(2).expect(&rt, "a legal row");
-    let third = second.child(1).expect(&rt, "a legal row");
-    let other = start.child(3).expect(&rt, "a legal row");
-    bounds_are(&rt, &first, 1, 2, "5 blocks again");
-    bounds_are(&rt, &other, 2, 2, "after the other row");
-    bounds_are(&rt, &second, 1, 1, "before the last");
-    bounds_are(&rt, &third, 0, 0, "at the end");
+    let cases: [(&[u8], u32, u32, &str); 4] = [
+        (&[2], 1, 2, "5 blocks again"),
+        (&[3], 2, 2, "after the other row"),
+        (&[2, 2], 1, 1, "before the last"),
+        (&[2, 2, 1], 0, 0, "at the end"),
+    ];
+    for (path, low, high, what) in cases {
+        let start = start_of(rt.alloc(), 3, 6, &[&[1, 5, 4], &[6], &[3, 2]])?;
+        bounds_are(&rt, &along(&rt, start, path), low, high, what);
+    }
+    Ok(())
+}
+
+/// How many relocations the moves of a path have.
+fn count_of(alloc: Global, problem: &Problem, path: &[u8]) -> Result<usize, Fail> {
+    let plan = Plan::from_rows(problem, path)?;
+    let moves = plan.moves(alloc)?;
+    Ok(relocations_of(&moves))
+}
+
+/// The length of a path so far and each bound, at a position of it.
+#[derive(Clone, Copy)]
+struct Reach {
+    low: usize,
+    high: usize,
+}
+
+fn reach_of(length: usize, position: &Position) -> Reach {
+    Reach {
+        low: length.saturating_add(low_of(position) as usize),
+        high: length.saturating_add(high_of(position) as usize),
+    }
+}
+
+/// Length and bounds rise along the path, never above the count, and to it at the end.
+fn assert_rising(rt: &impl Abort, start: Position, path: &[u8], count: usize) {
+    let mut position = start;
+    let mut reach = reach_of(0, &position);
+    for (i, row) in path.iter().enumerate() {
+        assert!(rt;
+            reach.low <= reach.high && reach.high <= count,
+            "before row {i}"
+        );
+        position = child_of(rt, &position, *row);
+        let next = reach_of(i + 1, &position);
+        assert!(rt;
+            reach.low <= next.low && reach.high <= next.high,
+            "after row {i}"
+        );
+        reach = next;
+    }
+    assert!(rt; is_done(&position) && reach.low == count && reach.high == count);
+}
+
+fn begun(problem: &Problem) -> Position {
+    Position::start(problem)
+}
+
+fn assert_rises(rt: &(impl Abort + AllocGlobal), rows: &[&[u8]], path: &[u8]) -> Result<(), Fail> {
+    let stacks = rows_of(rt.alloc(), rows)?;
+    let problem = Problem::new(3, 6, &stacks)?;
+    let count = count_of(rt.alloc(), &problem, path)?;
+    assert_rising(rt, begun(&problem), path, count);
     Ok(())
 }
 
@@ -108,23 +266,7 @@ fn length_and_bound_rise_to_the_count_of_a_plan(rt: HostRuntime) -> Result<(), F
         (&[&[1, 3, 6], &[5, 4], &[2]], &[3, 2, 1]),
     ];
     for (rows, path) in cases {
-        let stacks = rows_of(rt.alloc(), rows)?;
-        let plan = Plan::from_rows(&Problem::new(3, 6, &stacks)?, path)?;
-        let moves = plan.moves(rt.alloc())?;
-        let count = relocations_of(&moves);
-        let mut position = Position::start(plan.problem());
-        let mut low = blocking(&position) as usize;
-        let mut high = look_ahead(&position) as usize;
-        for (i, row) in path.iter().enumerate() {
-            assert!(rt; low <= high && high <= count, "before row {i}");
-            position = position.child(*row).expect(&rt, "a legal row");
-            let next_low = i + 1 + blocking(&position) as usize;
-            let next_high = i + 1 + look_ahead(&position) as usize;
-            assert!(rt; low <= next_low && high <= next_high, "after row {i}");
-            low = next_low;
-            high = next_high;
-        }
-        assert!(rt; position.is_done() && low == count && high == count);
+        assert_rises(&rt, rows, path)?;
     }
     Ok(())
 }

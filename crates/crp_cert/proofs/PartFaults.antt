@@ -8,12 +8,12 @@ use Rattle.std.proofs.lemmas.List.Quantifiers.{all_pairs_push}
 use Rattle.std.proofs.lemmas.List.{get_or-map}
 use Rattle.crp_plan.specs.Bay.{Problem, Position, IsAt}
 use Rattle.crp_tree.specs.declared.tree.Tree.{Tree}
-use Rattle.crp_tree.specs.Names.{Precedes}
+use Rattle.crp_tree.specs.Names.{Precedes, name_text}
 use Rattle.crp_cert.specs.declared.head.Head.{Head}
 use Rattle.crp_cert.specs.declared.parts.RawPart.{RawPart}
 use Rattle.crp_cert.specs.declared.fault.CertFault.{CertFault}
 use Rattle.crp_cert.specs.Text.{head_text, IsHead}
-use Rattle.crp_cert.specs.Script.{name_text, symbols_of, part_line, Matches, end_line, names_told, IsRawPart}
+use Rattle.crp_cert.specs.Script.{symbols_of, part_line, Matches, end_line, names_told, IsRawPart}
 use Rattle.crp_cert.specs.ScriptFaults.{BeginsWithPart, ComesAfter, TellsParts, IsLineFault, GoesOnBehindTree}
 use Rattle.crp_cert.specs.Reading.{◌>>=◌, tag_at, newline_at}
 use Rattle.crp_cert.specs.PartReading.{part_at, AreParts}

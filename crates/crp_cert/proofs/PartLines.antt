@@ -7,7 +7,8 @@ use Rattle.std.proofs.lemmas.List.Elements.{recursion_from_All, All-from_recursi
 use Rattle.crp_plan.specs.Bay.{Problem, IsProblem, Position}
 use Rattle.crp_bay.specs.Positions.{at}
 use Rattle.crp_bay.proofs.Walked.{at_reads}
-use Rattle.crp_cert.specs.Script.{name_text, symbols_line}
+use Rattle.crp_tree.specs.Names.{name_text}
+use Rattle.crp_cert.specs.Script.{symbols_line}
 use Rattle.crp_cert.specs.ScriptFaults.{BeginsWithPart}
 use Rattle.crp_cert.specs.Reading.{◌>>=◌, tag_at, newline_at}
 use Rattle.crp_cert.specs.PartReading.{line_at, name_at, part_at}

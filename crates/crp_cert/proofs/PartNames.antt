@@ -10,7 +10,7 @@ use Rattle.crp_plan.specs.Bay.{Problem, IsProblem, Position, start}
 use Rattle.crp_bay.specs.Positions.{can_take, taken, settle, settled, shifted, can_shift, child, targets, walk, at}
 use Rattle.crp_bay.proofs.Reaching.{shift_needs}
 use Rattle.crp_bay.proofs.Walked.{row_is_target}
-use Rattle.crp_cert.specs.Script.{name_text}
+use Rattle.crp_tree.specs.Names.{name_text}
 use Rattle.crp_cert.specs.Reading.{◌>>=◌, tag_at, number_at, is_digit}
 use Rattle.crp_cert.specs.PartReading.{line_at, tagged, in_front, rows_at, name_at}
 use Rattle.crp_cert.proofs.Numbers.{bind_some, if_some, chosen, tag_takes, number_takes, number_again}

@@ -5,7 +5,8 @@ use Rattle.std.proofs.lemmas.Fmt.{decimal_digit}
 use Rattle.crp_plan.specs.Bay.{Position, start}
 use Rattle.crp_bay.specs.Positions.{settled, targets}
 use Rattle.crp_tree.specs.declared.tree.Tree.{CutB, CutL, Given, end_of-Tree, more_of-Tree}
-use Rattle.crp_cert.specs.Script.{name_text, symbols_of_each, symbols_line, end_line, MatchesEach}
+use Rattle.crp_tree.specs.Names.{name_text}
+use Rattle.crp_cert.specs.Script.{symbols_of_each, symbols_line, end_line, MatchesEach}
 use Rattle.crp_cert.specs.ScriptFaults.{AreSymbols}
 
 -- six containers in three rows of three tiers, and the position before the first relocation

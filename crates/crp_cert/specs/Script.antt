@@ -1,21 +1,15 @@
 -- The text of a whole certificate: its head, its parts, and its last line. Each line ends with LF.
 use Rattle.std.specs.Prelude.{◌≡◌, ℕ, ◌≤◌, ⊤, List, [], ◌∷◌, ◌++◌, length, map, All, AllPairs, codes}
 use Rattle.std.specs.List.{flat_map}
-use Rattle.std.specs.Fmt.{decimal}
 use Rattle.crp_plan.specs.Bay.{Problem, Position, IsAt}
 use Rattle.crp_bay.specs.Positions.{targets, child}
 use Rattle.crp_tree.specs.declared.tree.Tree.{Tree, CutB, CutL, Branch', Given, Row_of-Tree, end_of-Tree, more_of-Tree}
-use Rattle.crp_tree.specs.Names.{Precedes}
+use Rattle.crp_tree.specs.Names.{Precedes, name_text}
 use Rattle.crp_tree.specs.Trees.{IsGiven}
 use Rattle.crp_tree.specs.Scripts.{Part, Script as Claim}
 use Rattle.crp_cert.specs.declared.parts.RawPart.{RawPart}
 use Rattle.crp_cert.specs.declared.script.Script.{Script}
 use Rattle.crp_cert.specs.Text.{numbers_line, head_text, IsHead}
-
--- a name: / where it has no rows, else its rows with points between them
-abbrev pub name_text : List ℕ → List ℕ
-name_text [] = codes "/"
-name_text (row ∷ rows) = decimal row ++ flat_map (λ r. 46 ∷ decimal r) rows
 
 -- the symbols of a tree, a branch before its trees: B is a cut by the blocking bound, L a cut by the look-ahead bound, X a branch,
 -- G a subtree that is given to a part of its own

@@ -5,7 +5,7 @@ use Rattle.crp_plan.specs.Bay.{Problem}
 use Rattle.crp_plan.specs.Plans.{Route}
 use Rattle.crp_tree.specs.Names.{Precedes}
 use Rattle.crp_tree.specs.Scripts.{Part, Script as Claim, IsAccepted, names}
-use Rattle.crp_tree.specs.Parts.{Certificate, part_of}
+use Rattle.crp_tree.specs.Parts.{Certificate, script_of}
 use Rattle.crp_cert.specs.declared.head.Head.{Head}
 use Rattle.crp_cert.specs.declared.parts.RawPart.{RawPart}
 use Rattle.crp_cert.specs.declared.script.Script.{Script}
@@ -18,7 +18,7 @@ path_told plan = option_map (λ route. route.path) plan
 
 -- what a certificate of a problem claims, with a plan or none: the problem, the certificate's bound, the plan's rows, the certificate's parts
 abbrev pub claimed : Problem → Certificate → Option Route → Claim
-claimed p cert plan = record { problem = p; lower = cert.lower; plan = path_told plan; parts = map part_of cert.parts }
+claimed p cert plan = script_of p cert (path_told plan)
 
 -- a part as a text tells it: its name and its tree
 abbrev pub told_part : Part → RawPart

@@ -4,7 +4,8 @@ mod heads;
 mod told;
 mod writing;
 
-use crate::{CertFault, Head};
+use crate::{CertFault, Head, Rows};
+use crp_plan::{BayName, Problem};
 use std::alloc::{AllocError, Global};
 use std::process::Abort;
 use std::test::Fail;
@@ -53,21 +54,100 @@ fn line_after(text: &[u8]) -> u32 {
     line
 }
 
-fn assert_six_containers(rt: &impl Abort, head: &Head) {
-    assert_eq!(rt; head.bay.block(), b"A".as_slice());
-    assert_eq!(rt; head.bay.bay(), 1);
-    assert_eq!(rt; head.problem.rows(), 3);
-    assert_eq!(rt; head.problem.tiers(), 3);
-    assert_eq!(rt; head.problem.ordered(), 6);
-    assert_eq!(rt; head.problem.total(), 6);
-    assert_eq!(rt; head.problem.stack(1), [1, 5, 4].as_slice());
-    assert_eq!(rt; head.problem.stack(2), [6].as_slice());
-    assert_eq!(rt; head.problem.stack(3), [3, 2].as_slice());
-    assert_eq!(rt; head.claim, 3);
-    match &head.plan {
-        Some(rows) => assert_eq!(rt; rows.as_slice(), [2, 2, 1].as_slice()),
-        None => panic!(rt; "there is a plan"),
+/// What a head says.
+#[derive(Drop)]
+struct Said<'a> {
+    block: &'a [u8],
+    bay: u16,
+    /// The rows, the tiers, the ordered containers and all of them.
+    size: [u8; 4],
+    stacks: &'a [&'a [u8]],
+    claim: u32,
+    plan: Option<&'a [u8]>,
+}
+
+/// What the head of the six containers says.
+const SAID_OF_SIX: Said<'static> = Said {
+    block: b"A",
+    bay: 1,
+    size: [3, 3, 6, 6],
+    stacks: &[&[1, 5, 4], &[6], &[3, 2]],
+    claim: 3,
+    plan: Some(&[2, 2, 1]),
+};
+
+// What is compared comes from functions without clauses: so the tests above know nothing of it, and are soon checked.
+
+fn block_of(bay: &BayName) -> &[u8] {
+    bay.block()
+}
+
+fn number_of(bay: &BayName) -> u16 {
+    bay.bay()
+}
+
+fn size_of(problem: &Problem) -> [u8; 4] {
+    let rows = problem.rows();
+    let tiers = problem.tiers();
+    let ordered = problem.ordered();
+    let total = problem.total();
+    [rows, tiers, ordered, total]
+}
+
+fn rows_in(problem: &Problem) -> usize {
+    problem.rows() as usize
+}
+
+/// The stack of a row, from 0; none where there is no such row.
+fn stack_of(problem: &Problem, row: usize) -> &[u8] {
+    if row < problem.rows() as usize {
+        problem.stack(row as u8 + 1)
+    } else {
+        &[]
     }
+}
+
+/// The rows of a plan that is read, if one is.
+fn plan_of(plan: &Option<Rows>) -> Option<&[u8]> {
+    match plan {
+        Some(rows) => Some(rows.as_slice()),
+        None => None,
+    }
+}
+
+fn assert_stacks(rt: &impl Abort, problem: &Problem, stacks: &[&[u8]]) {
+    assert_eq!(rt; rows_in(problem), stacks.len());
+    for (row, stack) in stacks.iter().enumerate() {
+        assert_eq!(rt; stack_of(problem, row), *stack, "row {row}");
+    }
+}
+
+fn assert_head(rt: &impl Abort, head: &Head, said: &Said) {
+    assert_eq!(rt; block_of(&head.bay), said.block);
+    assert_eq!(rt; number_of(&head.bay), said.bay);
+    assert_eq!(rt; size_of(&head.problem), said.size);
+    assert_stacks(rt, &head.problem, said.stacks);
+    assert_eq!(rt; head.claim, said.claim);
+    assert_eq!(rt; plan_of(&head.plan), said.plan);
+}
+
+fn assert_fault(
+    rt: &impl Abort,
+    fault: Option<CertFault>,
+    expected: Option<CertFault>,
+    text: &[u8],
+) {
+    assert_eq!(rt; fault, expected, "{text:?}");
+}
+
+fn assert_text(
+    rt: &(impl Abort + AllocGlobal),
+    fault: CertFault,
+    expected: &str,
+) -> Result<(), AllocError> {
+    let text = format!(in rt.alloc(); "{fault}")?;
+    assert_eq!(rt; text.as_str(), expected);
+    Ok(())
 }
 
 #[test]
@@ -92,8 +172,7 @@ fn texts_of_faults(rt: HostRuntime) -> Result<(), Fail> {
         (CertFault::Memory, "no memory is left"),
     ];
     for (fault, expected) in texts {
-        let text = format!(in rt.alloc(); "{fault}")?;
-        assert_eq!(rt; text.as_str(), expected);
+        assert_text(&rt, fault, expected)?;
     }
     Ok(())
 }

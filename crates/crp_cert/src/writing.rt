@@ -6,7 +6,8 @@ ghost use Rattle.std.specs.Io.KnownBytes.{Appends};
 ghost use Rattle.crp_plan.specs.Devices.{AppendsFront, CountsMore, HasFailed, most_interruptions};
 ghost use Rattle.crp_tree.specs.Parts.{part_of};
 ghost use Rattle.crp_cert.specs.Text.{numbers_line, bay_line, size_line, size_of, row_line, plan_line, head_text};
-ghost use Rattle.crp_cert.specs.Script.{name_text, symbols_of, part_line};
+ghost use Rattle.crp_tree.specs.Names.{name_text};
+ghost use Rattle.crp_cert.specs.Script.{symbols_of, part_line};
 ghost use Rattle.crp_cert.specs.Writing.{path_told, head_told, told_part, certificate_text};
 ghost use Rattle.crp_cert.specs.declared.writing.WriteFault.TheVariants.{Failed, Memory};
 

@@ -6,9 +6,9 @@ use Rattle.crp_plan.specs.Bay.{Problem, IsProblem, Position, IsAt}
 use Rattle.crp_plan.specs.Faults.{IsPlanPath}
 use Rattle.crp_bay.proofs.Walked.{at_reads}
 use Rattle.crp_bay.proofs.Members.{in_head, in_tail}
-use Rattle.crp_tree.specs.Names.{Precedes}
+use Rattle.crp_tree.specs.Names.{Precedes, IsFirst}
 use Rattle.crp_tree.specs.Trees.{cuts, givens, HasAtLeast}
-use Rattle.crp_tree.specs.Scripts.{Part, Script, IsPart, IsAccepted, IsNeeded, given_by, cuts_of, names}
+use Rattle.crp_tree.specs.Scripts.{Part, Script, IsPart, IsAccepted, IsRootOrGiven, IsNeeded, given_by, cuts_of, names}
 use Rattle.crp_tree.proofs.Lists.{in_map, in_flat_map, from_map}
 use Rattle.crp_tree.proofs.Ordered.{not_itself}
 use Rattle.crp_cert.specs.declared.parts.RawPart.{RawPart}
@@ -19,8 +19,8 @@ use Rattle.crp_checker.specs.declared.refused.Refused.TheVariants as refused
 use Rattle.crp_checker.specs.Symbols.{nodes, nodes_of, IsRight}
 use Rattle.crp_cert.specs.Script.{part_read, claim_of}
 use Rattle.crp_checker.specs.Claims.{IsWanted}
-use Rattle.crp_checker.specs.Refusals.{walked, walked_part, IsRightPart, AreRightParts, IsLeast, IsFirstWrongClaim}
-use Rattle.crp_checker.specs.Needs.{IsRootOrGiven, IsWithoutPart, IsWithoutNeed, IsNamesRefusal}
+use Rattle.crp_checker.specs.Refusals.{walked, walked_part, IsRightPart, AreRightParts, IsFirstWrongClaim}
+use Rattle.crp_checker.specs.Needs.{IsWithoutPart, IsWithoutNeed, IsNamesRefusal}
 use Rattle.crp_checker.proofs.Shapes.{fits_from, high_from}
 
 -- the names of the parts are the names that are told
@@ -110,13 +110,13 @@ accepted_from told held given readable plan right e d same =
 pub names_refused : (script : Script) (held given : List (List ℕ)) (r : Refused) → held ≡ names script.parts → given ≡ flat_map (given_by script.problem) script.parts → AreRightParts script →
     IfSome script.plan (IsPlanPath script.problem) → IsNamesRefusal held given r → (r ≡ refused.Memory) ⊎ ((wanted : Option Problem) → IsWanted wanted script.problem → IsFirstWrongClaim wanted script r)
 names_refused script held given (refused.Missing name) e d right plan w =
-    inr (λ wanted is. (record { as_wanted = is; plan_is = plan }, right, subst (λ l. IsLeast (IsWithoutPart (names script.parts) l) name) d (subst (λ l. IsLeast (IsWithoutPart l given) name) e w)))
+    inr (λ wanted is. (record { as_wanted = is; plan_is = plan }, right, subst (λ l. IsFirst (IsWithoutPart (names script.parts) l) name) d (subst (λ l. IsFirst (IsWithoutPart l given) name) e w)))
 names_refused script held given (refused.Unneeded name) e d right plan w =
     inr (λ wanted is. (
       record { as_wanted = is; plan_is = plan },
       right,
       subst (λ l. (other : List ℕ) → IsWithoutPart (names script.parts) l other → ⊥) d (subst (λ l. (other : List ℕ) → IsWithoutPart l given other → ⊥) e w.0),
-      subst (λ l. IsLeast (IsWithoutNeed (names script.parts) l) name) d (subst (λ l. IsLeast (IsWithoutNeed l given) name) e w.1),
+      subst (λ l. IsFirst (IsWithoutNeed (names script.parts) l) name) d (subst (λ l. IsFirst (IsWithoutNeed l given) name) e w.1),
     ))
 names_refused script held given refused.Memory e d right plan w = inl refl
 names_refused script held given (refused.Cert fault) e d right plan w = absurd w

@@ -1,98 +1,12 @@
--- Names in order: what a search among them finds, and what is the least.
-use Rattle.std.proofs.Common.{◌≡◌, ℕ, ◌+◌, ◌<◌, ◌≤◌, ◌⊎◌, inl, inr, ⊎_elim, false, IsTrue, ◌↔◌, List, [], ◌∷◌, ◌++◌, length, take, get_or, All, AllPairs, Contains, Result, Ok, Err, is_ok, refl, sym, ap, ◌∙◌, subst, arith}
-use Rattle.std.specs.declared.cmp.Ordering.{Ordering}
-use Rattle.std.specs.declared.cmp.Ordering.TheVariants.{Less, Equal, Greater}
-use Rattle.std.specs.Ordering.{nat_cmp, is_lt, MatchOrdering}
-use Rattle.std.specs.Cmp.Lexicographic.{slice_cmp}
-use Rattle.std.specs.List.Sorted.{IsSorted, IsBinarySearchResult, IsPermutation}
-use Rattle.std.specs.Result.{MatchResult}
-use Rattle.std.proofs.lemmas.Cmp.{tied_itself, nat_list_cmp_total}
-use Rattle.std.proofs.lemmas.Bool.{cases_lt}
-use Rattle.std.proofs.lemmas.List.{get_or_default, get_or-take, length-take-le}
-use Rattle.std.proofs.lemmas.List.Elements.{All-contains, Contains-get_or, Contains-append_cases, Contains-append_left, Contains-push}
-use Rattle.std.proofs.lemmas.List.Sorted.{searchable_from_sorted, sorted_far, ranks_by, Contains-permutation, IsPermutation-sym}
-use Rattle.crp_bay.proofs.Members.{not_in_nil, in_cons_cases}
-use Rattle.crp_tree.specs.Names.{Precedes}
-use Rattle.crp_tree.proofs.Ordered.{compared, less_if, less_means, not_itself, goes_further}
-use Rattle.crp_checker.specs.Refusals.{IsLeast}
-use Rattle.crp_checker.specs.Needs.{IsRootOrGiven, IsWithoutPart, IsWithoutNeed}
-
--- std's order of lists of rows
-abbrev pub name_cmp : List ℕ → List ℕ → Ordering
-name_cmp = slice_cmp nat_cmp
-
--- names that compare as equal are the same
-equal_means : (name other : List ℕ) → name_cmp name other ≡ Equal → name ≡ other
-equal_means name other e = subst (λ v. MatchOrdering v (Precedes name other) (name ≡ other) (Precedes other name)) e (compared name other (name_cmp name other) refl)
-
--- what a binary search among names in order finds
-pub found_means : (held : List (List ℕ)) (path : List ℕ) (r : Result ℕ ℕ) → IsSorted name_cmp held → MatchResult r (λ i. i < length held) (λ i. i ≤ length held) →
-    IsBinarySearchResult (λ y. name_cmp y path) held r → IsTrue (is_ok r) ↔ Contains held path
-found_means held path (Ok i) sorted within found = (λ t. (i, within, equal_means (get_or held i path) path (found path)), λ c. refl)
-found_means held path (Err i) sorted within found =
-    let point = found (searchable_from_sorted nat_list_cmp_total (λ y. y) held path sorted) in (
-      λ t. absurd (cc),
-      λ c.
-          let k : ℕ = c.0 in
-          let lt = c.1 in
-          let same : name_cmp (get_or held k path) path ≡ Equal = ap (λ y. name_cmp y path) c.2 ∙ tied_itself nat_list_cmp_total path in
-          absurd (⊎_elim
-          (λ low. let less = point.0 k path (omega arith) low in cc)
-          (λ high. let greater = point.1 k path high lt in cc)
-          (cases_lt k i)),
-    )
-
--- names of which each stands before all later ones are in order
-pub sorted_from_rising : (xs : List (List ℕ)) → AllPairs Precedes xs → IsSorted name_cmp xs
-sorted_from_rising xs rising k d from lt = not_before (get_or xs k d) (get_or xs (k + 1) d) (rising k (k + 1) d (omega arith) lt)
-  where
-    decide : (name other : List ℕ) (o : Ordering) → name_cmp other name ≡ o → Precedes name other → is_lt o ≡ false
-    decide name other Less e p = absurd (not_itself name (goes_further name other name p (less_means other name e)))
-    decide name other Equal e p = refl
-    decide name other Greater e p = refl
-
-    not_before : (name other : List ℕ) → Precedes name other → is_lt (name_cmp other name) ≡ false
-    not_before name other p = decide name other (name_cmp other name) refl p
-
--- of two names in order the first is the second, or stands before it
-pub first_of_two : (name other : List ℕ) → is_lt (name_cmp other name) ≡ false → (other ≡ name) ⊎ Precedes name other
-first_of_two name other not = decide (name_cmp name other) (compared name other (name_cmp name other) refl)
-  where
-    decide : (v : Ordering) → MatchOrdering v (Precedes name other) (name ≡ other) (Precedes other name) → (other ≡ name) ⊎ Precedes name other
-    decide Less h = inr h
-    decide Equal h = inl (sym h)
-    decide Greater h = absurd (let less = ap is_lt (less_if other name h) in cc)
-
--- the first of names in order that is not held comes before all others that are not held
-pub first_is_least : (held xs : List (List ℕ)) (i : ℕ) (first other : List ℕ) → IsSorted name_cmp xs → i < length xs → All (Contains held) (take i xs) → first ≡ get_or xs i first →
-    Contains xs other → (Contains held other → ⊥) → (other ≡ first) ⊎ Precedes first other
-first_is_least held xs i first other sorted lt before is c none =
-    let k : ℕ = c.0 in
-    let within = c.1 in
-    ⊎_elim
-    (λ low.
-    let in_front : k < length (take i xs) = rw (length-take-le i xs (omega arith)) low in
-    let there : get_or (take i xs) k other ≡ other = get_or-take i xs k other low ∙ c.2 in
-    absurd (none (subst (Contains held) there (before k other in_front))))
-    (λ high.
-    let far : is_lt (name_cmp (get_or xs k other) (get_or xs i other)) ≡ false = sorted_far (λ a b. is_lt (name_cmp a b)) (ranks_by nat_list_cmp_total (λ y. y)) xs sorted i k other high within in
-    let same : get_or xs i other ≡ first = get_or_default xs i other first lt ∙ sym is in
-    first_of_two first other (subst (λ a. is_lt (name_cmp other a) ≡ false) same (subst (λ a. is_lt (name_cmp a (get_or xs i other)) ≡ false) c.2 far)))
-    (cases_lt k i)
-
--- the needed names, sorted
-pub needed_are : (given sorted : List (List ℕ)) (root : List ℕ) → root ≡ [] → IsPermutation (given ++ root ∷ []) sorted → (name : List ℕ) → Contains sorted name ↔ IsRootOrGiven given name
-needed_are given sorted root is moved name = (
-  λ c. ⊎_elim
-      (λ g. inr g)
-      (λ r. ⊎_elim (λ e. inl (sym e ∙ is)) (λ n. absurd (not_in_nil name n)) (in_cons_cases root [] name r))
-      (Contains-append_cases given (root ∷ []) name (Contains-permutation sorted (given ++ root ∷ []) name (IsPermutation-sym (given ++ root ∷ []) sorted moved) c)),
-  λ n. Contains-permutation (given ++ root ∷ []) sorted name moved
-      (⊎_elim
-      (λ e. subst (Contains (given ++ root ∷ [])) (is ∙ sym e) (Contains-push given root))
-      (λ g. Contains-append_left given (root ∷ []) name g)
-      n),
-)
+-- Names that are needed and not held, and names that are held and not needed.
+use Rattle.std.proofs.Common.{◌≡◌, ℕ, ◌<◌, ◌↔◌, List, [], length, take, get_or, All, Contains, sym, ◌∙◌, subst}
+use Rattle.std.specs.List.Sorted.{IsSorted}
+use Rattle.std.proofs.lemmas.List.{get_or_default}
+use Rattle.std.proofs.lemmas.List.Elements.{All-contains, Contains-get_or}
+use Rattle.crp_tree.specs.Names.{IsFirst}
+use Rattle.crp_tree.specs.Scripts.{IsRootOrGiven}
+use Rattle.crp_tree.proofs.InOrder.{name_cmp, first_is_first}
+use Rattle.crp_checker.specs.Needs.{IsWithoutPart, IsWithoutNeed}
 
 -- at this index stands the first of those wanted that is not held
 abbrev pub IsAbsentAt : List (List ℕ) → List (List ℕ) → ℕ → Type 0
@@ -104,7 +18,7 @@ absent_in wanted held wanted' held' i d e a = subst (λ w. IsAbsentAt w held' i)
 
 -- the least needed name without a part
 pub least_missing : (names given needed : List (List ℕ)) (i : ℕ) (name : List ℕ) → ((x : List ℕ) → Contains needed x ↔ IsRootOrGiven given x) → IsSorted name_cmp needed →
-    name ≡ get_or needed i name → IsAbsentAt needed names i → IsLeast (IsWithoutPart names given) name
+    name ≡ get_or needed i name → IsAbsentAt needed names i → IsFirst (IsWithoutPart names given) name
 least_missing names given needed i name all sorted is absent =
     let lt = absent.0 in
     let before = absent.1 in
@@ -112,7 +26,7 @@ least_missing names given needed i name all sorted is absent =
     let same : get_or needed i [] ≡ name = get_or_default needed i [] name lt ∙ sym is in
     record {
       holds = ((all name).0 (subst (Contains needed) (sym is) (Contains-get_or needed i name lt)), λ c. none (subst (Contains names) (sym same) c));
-      least = λ other w. first_is_least names needed i name other sorted lt before is ((all other).1 w.0) w.1;
+      first = λ other w. first_is_first names needed i name other sorted lt before is ((all other).1 w.0) w.1;
     }
 
 -- no needed name is without a part, where each is among those held
@@ -121,7 +35,7 @@ none_missing names given needed all held other w = w.1 (All-contains (Contains n
 
 -- the least name of a part that is not needed
 pub least_unneeded : (names given needed : List (List ℕ)) (i : ℕ) (name : List ℕ) → ((x : List ℕ) → Contains needed x ↔ IsRootOrGiven given x) → IsSorted name_cmp names →
-    name ≡ get_or names i name → IsAbsentAt names needed i → IsLeast (IsWithoutNeed names given) name
+    name ≡ get_or names i name → IsAbsentAt names needed i → IsFirst (IsWithoutNeed names given) name
 least_unneeded names given needed i name all sorted is absent =
     let lt = absent.0 in
     let before = absent.1 in
@@ -129,7 +43,7 @@ least_unneeded names given needed i name all sorted is absent =
     let same : get_or names i [] ≡ name = get_or_default names i [] name lt ∙ sym is in
     record {
       holds = (subst (Contains names) (sym is) (Contains-get_or names i name lt), λ n. none (subst (Contains needed) (sym same) ((all name).1 n)));
-      least = λ other w. first_is_least needed names i name other sorted lt before is w.0 (λ c. w.1 ((all other).0 c));
+      first = λ other w. first_is_first needed names i name other sorted lt before is w.0 (λ c. w.1 ((all other).0 c));
     }
 
 -- the names that are held are the needed ones, where each is among the others

@@ -1,5 +1,5 @@
 -- A claim is accepted or wrong, not both, and is wrong in one way only.
-use Rattle.std.proofs.Common.{◌≡◌, ℕ, ⊎_elim, List, [], ◌∷◌, ◌++◌, length, Option, Some, IfSome, refl, sym, ap, ◌∙◌, subst, arith}
+use Rattle.std.proofs.Common.{◌≡◌, ℕ, List, [], ◌∷◌, ◌++◌, length, Option, Some, IfSome, refl, sym, ap, ◌∙◌, subst, arith}
 use Rattle.std.specs.List.{AllByRecursion}
 use Rattle.std.proofs.lemmas.List.Elements.{recursion_from_All}
 use Rattle.crp_plan.specs.Bay.{Problem, IsProblem, Position}
@@ -10,12 +10,12 @@ use Rattle.crp_plan.proofs.OneFault.{one_plan_fault}
 use Rattle.crp_tree.specs.Trees.{HasAtLeast}
 use Rattle.crp_tree.specs.Scripts.{Part, IsPart, Script, IsAccepted, cuts_of}
 use Rattle.crp_tree.proofs.Shown.{all_right}
-use Rattle.crp_tree.proofs.Ordered.{not_itself, goes_further}
+use Rattle.crp_tree.proofs.InOrder.{one_first}
 use Rattle.crp_checker.specs.declared.refused.Refused.{Refused}
 use Rattle.crp_checker.specs.declared.refused.Refused.TheVariants as refused
 use Rattle.crp_checker.specs.Symbols.{Symbol, B, L, X, G, Node, IsCutBelow, IsBranchAt, IsLow, IsAtEnd, IsRight, IsFirstWrong}
 use Rattle.crp_checker.specs.Claims.{IsWanted}
-use Rattle.crp_checker.specs.Refusals.{Walked, walked, IsRightPart, AreRightParts, IsFirstMet, IsLeast, IsMissing, IsUnneeded, HasRightHead, IsFirstWrongClaim}
+use Rattle.crp_checker.specs.Refusals.{Walked, walked, IsRightPart, AreRightParts, IsFirstMet, IsMissing, IsUnneeded, HasRightHead, IsFirstWrongClaim}
 use Rattle.crp_checker.proofs.Claimed.{nodes_are, cuts_are}
 use Rattle.crp_checker.proofs.Shapes.{right_from}
 
@@ -66,13 +66,6 @@ not_wrong wanted script (refused.Finished part symbol) ok asked w = none_met scr
 not_wrong wanted script (refused.Missing name) ok asked w = let k = w.2 in let h = k.holds in h.1 ((ok.as_needed name).1 h.0)
 not_wrong wanted script (refused.Unneeded name) ok asked w = let k = w.3 in let h = k.holds in h.1 ((ok.as_needed name).0 h.0)
 not_wrong wanted script refused.Memory ok asked w = w
-
--- of two least ones each is the other
-one_least : (Holds : List ℕ → Type 0) (a b : List ℕ) → IsLeast Holds a → IsLeast Holds b → a ≡ b
-one_least Holds a b k l =
-    ⊎_elim (λ e. sym e)
-    (λ p. ⊎_elim (λ e. e) (λ q. absurd (not_itself a (goes_further a b a p q))) (l.least a k.holds))
-    (k.least b l.holds)
 
 -- two fronts of one list, each followed by the first that does not hold, are one
 one_front : {A : Type 0} (P : A → Type 0) (xs xs' : List A) (y y' : A) (ys ys' : List A) → xs ++ y ∷ ys ≡ xs' ++ y' ∷ ys' → AllByRecursion P xs → AllByRecursion P xs' → (P y → ⊥) → (P y' → ⊥) →
@@ -197,7 +190,7 @@ one_wrong wanted script (refused.Missing name) refused.OtherProblem is a b = abs
 one_wrong wanted script (refused.Missing name) (refused.Plan g) is a b = absurd (bad_plan wanted script g is b a.0)
 one_wrong wanted script (refused.Missing name) (refused.Low other l) is a b = absurd (low_not_right script.lower (walked script.problem script.parts) other l a.1 b.1)
 one_wrong wanted script (refused.Missing name) (refused.Finished other l) is a b = absurd (end_not_right script.lower (walked script.problem script.parts) other l a.1 b.1)
-one_wrong wanted script (refused.Missing name) (refused.Missing other) is a b = ap (λ x. refused.Missing x) (one_least (IsMissing script) name other a.2 b.2)
+one_wrong wanted script (refused.Missing name) (refused.Missing other) is a b = ap (λ x. refused.Missing x) (one_first (IsMissing script) name other a.2 b.2)
 one_wrong wanted script (refused.Missing name) (refused.Unneeded other) is a b = absurd (let least = a.2 in b.2 name least.holds)
 one_wrong wanted script (refused.Unneeded name) (refused.Cert g) is a b = absurd b
 one_wrong wanted script (refused.Unneeded name) refused.Memory is a b = absurd b
@@ -206,4 +199,4 @@ one_wrong wanted script (refused.Unneeded name) (refused.Plan g) is a b = absurd
 one_wrong wanted script (refused.Unneeded name) (refused.Low other l) is a b = absurd (low_not_right script.lower (walked script.problem script.parts) other l a.1 b.1)
 one_wrong wanted script (refused.Unneeded name) (refused.Finished other l) is a b = absurd (end_not_right script.lower (walked script.problem script.parts) other l a.1 b.1)
 one_wrong wanted script (refused.Unneeded name) (refused.Missing other) is a b = absurd (let least = b.2 in a.2 other least.holds)
-one_wrong wanted script (refused.Unneeded name) (refused.Unneeded other) is a b = ap (λ x. refused.Unneeded x) (one_least (IsUnneeded script) name other a.3 b.3)
+one_wrong wanted script (refused.Unneeded name) (refused.Unneeded other) is a b = ap (λ x. refused.Unneeded x) (one_first (IsUnneeded script) name other a.3 b.3)

@@ -5,6 +5,7 @@ use Rattle.std.proofs.lemmas.List.{append-nil}
 use Rattle.std.proofs.lemmas.List.Elements.{recursion_from_All}
 use Rattle.crp_plan.specs.Bay.{Problem, IsProblem, IsAt, cap}
 use Rattle.crp_plan.proofs.Paths.{same_at}
+use Rattle.crp_tree.specs.Names.{IsFirst}
 use Rattle.crp_tree.specs.Trees.{givens}
 use Rattle.crp_tree.specs.Scripts.{Part, given_by, names}
 use Rattle.crp_cert.specs.declared.parts.RawPart.{RawPart}
@@ -21,7 +22,7 @@ use Rattle.crp_checker.specs.declared.refused.Refused.TheVariants as refused
 use Rattle.crp_checker.specs.Symbols.{IsLow, IsAtEnd, nodes, nodes_of}
 use Rattle.crp_cert.specs.Script.{part_read, claim_of}
 use Rattle.crp_checker.specs.Claims.{IsYes}
-use Rattle.crp_checker.specs.Refusals.{walked, walked_part, IsRightPart, IsFirstMet, IsLeast, IsFirstWrongClaim, IsRefusal}
+use Rattle.crp_checker.specs.Refusals.{walked, walked_part, IsRightPart, IsFirstMet, IsFirstWrongClaim, IsRefusal}
 use Rattle.crp_checker.specs.Needs.{IsWithoutPart, IsWithoutNeed}
 use Rattle.crp_checker.proofs.Claimed.{nodes_are, givens_are, names_same}
 use Rattle.crp_checker.proofs.SymbolText.{one_tree}
@@ -76,14 +77,14 @@ wrong_too wanted p lower plan parts others (refused.Missing name) w n g k =
     let head = k.0 in (
       record { as_wanted = head.as_wanted; plan_is = head.plan_is },
       subst (AllByRecursion (IsRightPart lower)) w k.1,
-      subst (λ l. IsLeast (IsWithoutPart (names others) l) name) g (subst (λ l. IsLeast (IsWithoutPart l (flat_map (given_by p) parts)) name) n k.2),
+      subst (λ l. IsFirst (IsWithoutPart (names others) l) name) g (subst (λ l. IsFirst (IsWithoutPart l (flat_map (given_by p) parts)) name) n k.2),
     )
 wrong_too wanted p lower plan parts others (refused.Unneeded name) w n g k =
     let head = k.0 in (
       record { as_wanted = head.as_wanted; plan_is = head.plan_is },
       subst (AllByRecursion (IsRightPart lower)) w k.1,
       subst (λ l. (other : List ℕ) → IsWithoutPart (names others) l other → ⊥) g (subst (λ l. (other : List ℕ) → IsWithoutPart l (flat_map (given_by p) parts) other → ⊥) n k.2),
-      subst (λ l. IsLeast (IsWithoutNeed (names others) l) name) g (subst (λ l. IsLeast (IsWithoutNeed l (flat_map (given_by p) parts)) name) n k.3),
+      subst (λ l. IsFirst (IsWithoutNeed (names others) l) name) g (subst (λ l. IsFirst (IsWithoutNeed l (flat_map (given_by p) parts)) name) n k.3),
     )
 wrong_too wanted p lower plan parts others refused.Memory w n g k = k
 

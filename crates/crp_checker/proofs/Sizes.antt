@@ -6,7 +6,8 @@ use Rattle.crp_plan.specs.Bay.{Problem, IsProblem}
 use Rattle.crp_cert.specs.declared.parts.RawPart.{RawPart}
 use Rattle.crp_cert.specs.declared.script.Script.{Script as Told}
 use Rattle.crp_cert.specs.Text.{head_text}
-use Rattle.crp_cert.specs.Script.{IsRawPart, IsScriptOf, name_text, symbols_of, part_line, end_line}
+use Rattle.crp_cert.specs.Script.{IsRawPart, IsScriptOf, symbols_of, part_line, end_line}
+use Rattle.crp_tree.specs.Names.{name_text}
 use Rattle.crp_checker.specs.Symbols.{nodes_of}
 use Rattle.crp_cert.specs.Script.{part_read}
 use Rattle.crp_checker.proofs.Claimed.{nodes_are}

@@ -8,8 +8,14 @@ pub mod Needs
 pub mod Told
 pub mod Walks
 pub use Rattle.crp_plan.specs.Bay
+pub use Rattle.crp_plan.specs.BayNames
+pub use Rattle.crp_plan.specs.Plans
+pub use Rattle.crp_plan.specs.Faults
+pub use Rattle.crp_tree.specs.Names
 pub use Rattle.crp_tree.specs.Trees
 pub use Rattle.crp_tree.specs.Scripts
+pub use Rattle.crp_tree.specs.Parts
 pub use Rattle.crp_cert.specs.Text
 pub use Rattle.crp_cert.specs.Script
 pub use Rattle.crp_cert.specs.ScriptFaults
+pub use Rattle.crp_cert.specs.Writing

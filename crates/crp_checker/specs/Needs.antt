@@ -1,12 +1,9 @@
 -- Holding the names that parts have against those that are needed. No public clause cites this module.
-use Rattle.std.specs.Prelude.{◌≡◌, ◌⊎◌, ℕ, List, [], Contains, ⊤}
+use Rattle.std.specs.Prelude.{ℕ, List, Contains, ⊤}
+use Rattle.crp_tree.specs.Names.{IsFirst}
+use Rattle.crp_tree.specs.Scripts.{IsRootOrGiven}
 use Rattle.crp_checker.specs.declared.refused.Refused.{Refused}
 use Rattle.crp_checker.specs.declared.refused.Refused.TheVariants as refused
-use Rattle.crp_checker.specs.Refusals.{IsLeast}
-
--- the name is the root's, or is given
-abbrev pub IsRootOrGiven : List (List ℕ) → List ℕ → Type 0
-IsRootOrGiven given name = (name ≡ []) ⊎ Contains given name
 
 -- the name is needed, and not held
 abbrev pub IsWithoutPart : List (List ℕ) → List (List ℕ) → List ℕ → Type 0
@@ -18,7 +15,7 @@ IsWithoutNeed names given name = Contains names name × ¬ IsRootOrGiven given n
 
 -- why names are refused
 abbrev pub IsNamesRefusal : List (List ℕ) → List (List ℕ) → Refused → Type 0
-IsNamesRefusal names given (refused.Missing name) = IsLeast (IsWithoutPart names given) name
-IsNamesRefusal names given (refused.Unneeded name) = ((other : List ℕ) → IsWithoutPart names given other → ⊥) × IsLeast (IsWithoutNeed names given) name
+IsNamesRefusal names given (refused.Missing name) = IsFirst (IsWithoutPart names given) name
+IsNamesRefusal names given (refused.Unneeded name) = ((other : List ℕ) → IsWithoutPart names given other → ⊥) × IsFirst (IsWithoutNeed names given) name
 IsNamesRefusal names given refused.Memory = ⊤
 IsNamesRefusal names given r = ⊥

@@ -1,9 +1,9 @@
 -- Why a certificate is refused: the first fault of its text, or else of what it claims.
-use Rattle.std.specs.Prelude.{◌≡◌, ◌⊎◌, ℕ, List, ◌∷◌, ◌++◌, map, Contains, Option, Some, IfSome}
+use Rattle.std.specs.Prelude.{◌≡◌, ℕ, List, ◌∷◌, ◌++◌, map, Contains, Option, Some, IfSome}
 use Rattle.std.specs.List.{AllByRecursion}
 use Rattle.crp_plan.specs.Bay.{Problem}
 use Rattle.crp_plan.specs.Faults.{IsPlanPath, IsPlanFault}
-use Rattle.crp_tree.specs.Names.{Precedes}
+use Rattle.crp_tree.specs.Names.{IsFirst}
 use Rattle.crp_tree.specs.Scripts.{Part, Script, IsNeeded, names}
 use Rattle.crp_cert.specs.declared.script.Script.{Script as Told}
 use Rattle.crp_cert.specs.Script.{IsScriptOf}
@@ -57,11 +57,6 @@ IsMissing script name = IsNeeded script.problem script.parts name × ¬ Contains
 abbrev pub IsUnneeded : Script → List ℕ → Type 0
 IsUnneeded script name = Contains (names script.parts) name × ¬ IsNeeded script.problem script.parts name
 
--- the first of the names, in their order, of which this holds
-pub record IsLeast (Holds : List ℕ → Type 0) (name : List ℕ) : Type 0 where
-  pub holds : Holds name
-  pub least : (other : List ℕ) → Holds other → (other ≡ name) ⊎ Precedes name other
-
 -- the problem is the one that is asked for, if one is, and the plan, if one is told, is complete and legal
 pub record HasRightHead (wanted : Option Problem) (script : Script) : Type 0 where
   pub as_wanted : IsWanted wanted script.problem
@@ -76,9 +71,9 @@ IsFirstWrongClaim wanted script (refused.Plan fault) =
     IsWanted wanted script.problem × ((rows : List ℕ) × (script.plan ≡ Some rows) × IsPlanFault script.problem rows fault)
 IsFirstWrongClaim wanted script (refused.Low part symbol) = HasRightHead wanted script × FirstMeets script (IsLow script.lower) part symbol
 IsFirstWrongClaim wanted script (refused.Finished part symbol) = HasRightHead wanted script × FirstMeets script IsAtEnd part symbol
-IsFirstWrongClaim wanted script (refused.Missing name) = HasRightHead wanted script × AreRightParts script × IsLeast (IsMissing script) name
+IsFirstWrongClaim wanted script (refused.Missing name) = HasRightHead wanted script × AreRightParts script × IsFirst (IsMissing script) name
 IsFirstWrongClaim wanted script (refused.Unneeded name) =
-    HasRightHead wanted script × AreRightParts script × ((other : List ℕ) → IsMissing script other → ⊥) × IsLeast (IsUnneeded script) name
+    HasRightHead wanted script × AreRightParts script × ((other : List ℕ) → IsMissing script other → ⊥) × IsFirst (IsUnneeded script) name
 IsFirstWrongClaim wanted script refused.Memory = ⊥
 
 -- why the bytes are refused: the first fault of the text, or, where they are the text of a script, what is wrong with its claim

@@ -15,7 +15,6 @@ ghost use Rattle.crp_checker.specs.Refusals.{IsRefusal};
 
 use crate::claim::check_claim;
 use crate::refused::Refused;
-use crate::same::same_problem;
 use crate::verdict::Verdict;
 use crp_cert::{Script, read_cert};
 use crp_plan::{BayName, Problem};
@@ -81,7 +80,7 @@ pub fn check_for(alloc: Global, problem: &Problem, bytes: &[u8]) -> Result<Verdi
     ensures says { IfOk result (Says problem.now) }
 {
     let script = script_of(alloc, bytes)?;
-    if !same_problem(problem, &script.head.problem) {
+    if !problem.is_same(&script.head.problem) {
         return Err(Refused::OtherProblem);
     }
     let (_bay, verdict) = check_claim(alloc, script)?;

@@ -1,9 +1,14 @@
 //! Laws of what certificates show, for the crates above.
-ghost use Rattle.std.specs.Prelude.{◌≡◌, ◌≢◌, ℕ, List, [], map, Option};
+ghost use Rattle.std.specs.Prelude.{◌≡◌, ◌≢◌, ℕ, List, [], map, Option, Some, IfSome};
 ghost use Rattle.crp_plan.specs.Bay.{Problem, IsProblem, Position as Place};
-ghost use Rattle.crp_plan.specs.BayNames.{YardBay};
+ghost use Rattle.crp_plan.specs.BayNames.{YardBay, IsYardBay};
+ghost use Rattle.crp_plan.specs.Plans.{Route};
+ghost use Rattle.crp_plan.specs.Faults.{IsPlanPath};
 ghost use Rattle.crp_tree.specs.declared.tree.Tree.{Tree};
 ghost use Rattle.crp_tree.specs.Scripts.{Script, IsAccepted};
+ghost use Rattle.crp_tree.specs.Parts.{Certificate, IsAbout};
+ghost use Rattle.crp_cert.specs.Text.{HasOneHeight};
+ghost use Rattle.crp_cert.specs.Writing.{path_told, claimed, told, certificate_text};
 ghost use Rattle.crp_cert.specs.declared.script.Script.{Script as Told};
 ghost use Rattle.crp_cert.specs.Script.{Matches, symbols_of};
 ghost use Rattle.crp_checker.specs.declared.refused.Refused.{Refused};
@@ -40,6 +45,14 @@ pub fn right_or_wrong()
 pub fn verdicts_say()
     ensures { (script : Script) (verdict : Verdict) → IsAccepted script → IsVerdict script verdict
         → Says script.problem verdict }
+{}
+
+/// What is written of a certificate about a problem, with a plan of it or none, is accepted, whatever its parts give to each other:
+/// under the name of a bay, where the problem's rows have one height.
+pub fn written_is_accepted()
+    ensures { (bay : YardBay) (p : Problem) (cert : Certificate) (plan : Option Route) → IsYardBay bay → HasOneHeight p
+        → IsAbout p cert → IfSome (path_told plan) (IsPlanPath p)
+        → IsYes (Some p) (certificate_text bay p cert plan) (told bay (claimed p cert plan)) }
 {}
 
 /// Node number k of a tree is told by symbol number k.

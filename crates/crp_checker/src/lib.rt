@@ -10,7 +10,6 @@ mod needed;
 mod parts;
 mod path;
 mod refused;
-mod same;
 #[cfg(test)]
 mod tests;
 mod verdict;
@@ -21,6 +20,7 @@ pub use checking::{check, check_for};
 pub use file::check_file;
 pub use laws::{
     accepted_or_refused, nodes_are_told, one_cut, right_or_wrong, shown_or_refused, verdicts_say,
+    written_is_accepted,
 };
 pub use path::Path;
 pub use refused::Refused;

@@ -4,7 +4,8 @@ ghost use Rattle.std.specs.List.Sorted.{IsSorted};
 ghost use Rattle.std.specs.Cmp.Lexicographic.{slice_cmp};
 ghost use Rattle.std.specs.Ordering.{nat_cmp};
 ghost use Rattle.crp_tree.specs.Names.{Precedes};
-ghost use Rattle.crp_checker.specs.Needs.{IsRootOrGiven, IsNamesRefusal};
+ghost use Rattle.crp_tree.specs.Scripts.{IsRootOrGiven};
+ghost use Rattle.crp_checker.specs.Needs.{IsNamesRefusal};
 
 use crate::path::Path;
 use crate::refused::Refused;

@@ -4,8 +4,9 @@ ghost use Rattle.std.specs.Cmp.{partial_order_from_own_ties};
 ghost use Rattle.std.specs.Cmp.Lexicographic.{pointwise, slice_cmp};
 ghost use Rattle.std.specs.Cmp.Rules.{comparing};
 ghost use Rattle.std.specs.Ordering.{nat_cmp, as_partial_cmp};
-ghost use Rattle.crp_cert.specs.Script.{name_text};
+ghost use Rattle.crp_tree.specs.Names.{name_text};
 
+use crp_tree::PathText;
 use std::alloc::{AllocError, Global};
 use std::cmp::Ordering;
 use std::fmt;
@@ -56,14 +57,7 @@ impl fmt::Display for Path {
     ghost output = { λ path. Some (name_text path) };
 
     fn fmt<W: fmt::Write>(&self, f: &mut fmt::Formatter<W>) -> fmt::Result {
-        let Some((first, others)) = self.rows().split_first() else {
-            return write!(f, "/");
-        };
-        write!(f, "{first}")?;
-        for row in others {
-            write!(f, ".{row}")?;
-        }
-        Ok(())
+        PathText(self.rows()).fmt(f)
     }
 }
 

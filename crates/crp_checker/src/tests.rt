@@ -2,6 +2,7 @@ use crate::{Path, Refused, Verdict, check, check_file, check_for};
 use crp_cert::read_head;
 use crp_plan::{BayName, Problem};
 use std::alloc::{AllocError, Global};
+use std::cmp::Ordering;
 use std::process::Abort;
 use std::test::Fail;
 
@@ -48,21 +49,44 @@ fn problem_of(rt: &(impl Abort + AllocGlobal), text: &str) -> Problem {
         .problem
 }
 
+/// The certificate of the six containers with these lines shows this.
+fn six_shows(
+    rt: &(impl Abort + AllocGlobal),
+    lines: &str,
+    verdict: Verdict,
+) -> Result<(), AllocError> {
+    shows(rt, six(rt.alloc(), lines)?.as_str(), verdict);
+    Ok(())
+}
+
+/// The certificate of the six containers with these lines is refused with this fault.
+fn six_refuses(
+    rt: &(impl Abort + AllocGlobal),
+    lines: &str,
+    fault: &str,
+) -> Result<(), AllocError> {
+    refuses(rt, six(rt.alloc(), lines)?.as_str(), fault)
+}
+
 #[test]
 fn optimal_certificates(rt: HostRuntime) -> Result<(), Fail> {
-    shows(&rt, TWO, Verdict::Optimal(1));
     let sorted =
         "CRP-CERT 1\nbay A 1\nsize 2 2 2 2\nrow 2 1\nrow\nat least 0\nplan\npart /: B\nend 1\n";
-    shows(&rt, sorted, Verdict::Optimal(0));
-    shows(&rt, FOUR, Verdict::Optimal(2));
-    shows(&rt, SIX, Verdict::Optimal(3));
-    let both_ahead = six(rt.alloc(), "at least 3\nplan 2 2 1\npart /: XLL\nend 1")?;
-    shows(&rt, &both_ahead, Verdict::Optimal(3));
-    let deeper = six(rt.alloc(), "at least 3\nplan 2 2 1\npart /: XXBBB\nend 1")?;
-    shows(&rt, &deeper, Verdict::Optimal(3));
     let ahead =
         "CRP-CERT 1\nbay A 1\nsize 3 3 6 6\nrow 4 1 6\nrow 2 5\nrow 3\nat least 4\nplan 3 1 2 2\npart /: L\nend 1\n";
-    shows(&rt, ahead, Verdict::Optimal(4));
+    let cases = [(TWO, 1), (sorted, 0), (FOUR, 2), (SIX, 3), (ahead, 4)];
+    for (text, count) in cases {
+        shows(&rt, text, Verdict::Optimal(count));
+    }
+    Ok(())
+}
+
+#[test]
+fn other_optimal_certificates_of_six_containers(rt: HostRuntime) -> Result<(), Fail> {
+    let both_ahead = "at least 3\nplan 2 2 1\npart /: XLL\nend 1";
+    six_shows(&rt, both_ahead, Verdict::Optimal(3))?;
+    let deeper = "at least 3\nplan 2 2 1\npart /: XXBBB\nend 1";
+    six_shows(&rt, deeper, Verdict::Optimal(3))?;
     Ok(())
 }
 
@@ -77,18 +101,13 @@ fn certificates_that_there_is_no_plan(rt: HostRuntime) -> Result<(), Fail> {
 
 #[test]
 fn bounds_of_six_containers(rt: HostRuntime) -> Result<(), Fail> {
-    let cut = six(rt.alloc(), "at least 2\nplan 2 2 1\npart /: B\nend 1")?;
-    let lower = 2;
-    shows(
-        &rt,
-        &cut,
-        Verdict::Bounds {
-            lower,
-            upper: Some(3),
-        },
-    );
-    let no_plan = six(rt.alloc(), "at least 2\nplan -\npart /: B\nend 1")?;
-    shows(&rt, &no_plan, Verdict::Bounds { lower, upper: None });
+    let cases: [(&str, Option<u32>); 2] = [
+        ("at least 2\nplan 2 2 1\npart /: B\nend 1", Some(3)),
+        ("at least 2\nplan -\npart /: B\nend 1", None),
+    ];
+    for (lines, upper) in cases {
+        six_shows(&rt, lines, Verdict::Bounds { lower: 2, upper })?;
+    }
     Ok(())
 }
 
@@ -145,8 +164,7 @@ fn refused_certificates_of_six_containers(rt: HostRuntime) -> Result<(), Fail> {
         ),
     ];
     for (lines, fault) in cases {
-        let text = six(rt.alloc(), lines)?;
-        refuses(&rt, &text, fault)?;
+        six_refuses(&rt, lines, fault)?;
     }
     Ok(())
 }
@@ -159,10 +177,19 @@ fn subtrees_given_to_parts(rt: HostRuntime) -> Result<(), Fail> {
         "at least 3\nplan 2 2 1\npart /: XGB\npart 2: XGB\npart 2.2: XBB\nend 3",
     ];
     for lines in cases {
-        let text = six(rt.alloc(), lines)?;
-        shows(&rt, &text, Verdict::Optimal(3));
+        six_shows(&rt, lines, Verdict::Optimal(3))?;
     }
     Ok(())
+}
+
+/// The certificate of the six containers with this claim and these lines is refused with this fault.
+fn claim_refuses(
+    rt: &(impl Abort + AllocGlobal),
+    lines: &str,
+    fault: &str,
+) -> Result<(), AllocError> {
+    let claim = format!(in rt.alloc(); "at least {lines}")?;
+    six_refuses(rt, &claim, fault)
 }
 
 #[test]
@@ -200,9 +227,7 @@ fn subtrees_given_to_parts_that_are_refused(rt: HostRuntime) -> Result<(), Fail>
         ),
     ];
     for (lines, fault) in cases {
-        let claim = format!(in rt.alloc(); "at least {lines}")?;
-        let text = six(rt.alloc(), &claim)?;
-        refuses(&rt, &text, fault)?;
+        claim_refuses(&rt, lines, fault)?;
     }
     Ok(())
 }
@@ -211,25 +236,35 @@ fn subtrees_given_to_parts_that_are_refused(rt: HostRuntime) -> Result<(), Fail>
 const LONG_PATHS: &str =
     "CRP-CERT 1\nbay A 1\nsize 3 3 6 6\nrow 1 4 6\nrow 3 5\nrow 2\nat least 0\nplan -\n";
 
+/// That head with these parts.
+fn long(alloc: Global, parts: &str) -> Result<String, AllocError> {
+    format!(in alloc; "{LONG_PATHS}{parts}")
+}
+
 #[test]
-fn subtrees_given_at_long_paths(rt: HostRuntime) -> Result<(), Fail> {
-    let eight = format!(in rt.alloc();
-        "{LONG_PATHS}part /: XBXBXXBXXXXGBBBBB\npart 3.3.1.2.1.1.2.2: B\nend 2\n"
-    )?;
-    shows(
-        &rt,
-        &eight,
-        Verdict::Bounds {
-            lower: 0,
-            upper: None,
-        },
-    );
-    let nine = format!(in rt.alloc(); "{LONG_PATHS}part /: XBXBXXBXXXXXGBBBBBB\nend 1\n")?;
-    refuses(&rt, &nine, "K5 at 3.3.1.2.1.1.2.2.1")?;
-    let behind = format!(in rt.alloc();
-        "{LONG_PATHS}part /: XBXBXXBXXXXGBBBBB\npart 3.3.1.2.1.1.2.2: XGB\nend 2\n"
-    )?;
-    refuses(&rt, &behind, "K5 at 3.3.1.2.1.1.2.2.1")?;
+fn subtree_given_at_eight_rows(rt: HostRuntime) -> Result<(), Fail> {
+    let parts = "part /: XBXBXXBXXXXGBBBBB\npart 3.3.1.2.1.1.2.2: B\nend 2\n";
+    let verdict = Verdict::Bounds {
+        lower: 0,
+        upper: None,
+    };
+    shows(&rt, long(rt.alloc(), parts)?.as_str(), verdict);
+    Ok(())
+}
+
+#[test]
+fn subtrees_given_at_nine_rows(rt: HostRuntime) -> Result<(), Fail> {
+    let cases: [&str; 2] = [
+        "part /: XBXBXXBXXXXXGBBBBBB\nend 1\n",
+        "part /: XBXBXXBXXXXGBBBBB\npart 3.3.1.2.1.1.2.2: XGB\nend 2\n",
+    ];
+    for parts in cases {
+        refuses(
+            &rt,
+            long(rt.alloc(), parts)?.as_str(),
+            "K5 at 3.3.1.2.1.1.2.2.1",
+        )?;
+    }
     Ok(())
 }
 
@@ -244,72 +279,112 @@ fn other_refused_certificates(rt: HostRuntime) -> Result<(), Fail> {
     Ok(())
 }
 
-#[test]
-fn certificates_for_a_problem(rt: HostRuntime) -> Result<(), Fail> {
-    let four = problem_of(&rt, FOUR);
-    let six = problem_of(&rt, SIX);
-    let refused = check_for(rt.alloc(), &four, SIX.as_bytes()).expect_err(&rt, "another problem");
-    let shown = told(rt.alloc(), &refused)?;
-    assert_eq!(rt; shown.as_str(), "K1");
-    let verdict = check_for(rt.alloc(), &six, SIX.as_bytes()).expect(&rt, "its problem");
-    assert_eq!(rt; verdict, Verdict::Optimal(3));
-    let one_row = problem_of(&rt, ONE_ROW);
-    let verdict = check_for(rt.alloc(), &one_row, ONE_ROW.as_bytes()).expect(&rt, "its problem");
-    assert_eq!(rt; verdict, Verdict::NoPlan);
-    let refused = check_for(rt.alloc(), &six, b"CRP-CERT 2\n").expect_err(&rt, "no head");
-    let shown = told(rt.alloc(), &refused)?;
-    assert_eq!(rt; shown.as_str(), "C1 at line 1");
+/// The certificate shows this for the problem of that text's head.
+fn shows_for(rt: &(impl Abort + AllocGlobal), head: &str, text: &str, verdict: Verdict) {
+    let problem = problem_of(rt, head);
+    let shown = check_for(rt.alloc(), &problem, text.as_bytes()).expect(rt, "its problem");
+    assert_eq!(rt; shown, verdict, "{text}");
+}
+
+/// The certificate is refused with this fault for the problem of that text's head.
+fn refuses_for(
+    rt: &(impl Abort + AllocGlobal),
+    head: &str,
+    text: &str,
+    fault: &str,
+) -> Result<(), AllocError> {
+    let problem = problem_of(rt, head);
+    let refused = check_for(rt.alloc(), &problem, text.as_bytes()).expect_err(rt, "refused");
+    assert_eq!(rt; told(rt.alloc(), &refused)?.as_str(), fault, "{head}");
     Ok(())
 }
 
 #[test]
+fn certificates_for_a_problem(rt: HostRuntime) -> Result<(), Fail> {
+    refuses_for(&rt, FOUR, SIX, "K1")?;
+    shows_for(&rt, SIX, SIX, Verdict::Optimal(3));
+    shows_for(&rt, ONE_ROW, ONE_ROW, Verdict::NoPlan);
+    refuses_for(&rt, SIX, "CRP-CERT 2\n", "C1 at line 1")?;
+    Ok(())
+}
+
+/// The problem of these lines is not that of the six containers' certificate.
+fn is_another(rt: &(impl Abort + AllocGlobal), lines: &str) -> Result<(), AllocError> {
+    let head = format!(in rt.alloc(); "CRP-CERT 1\nbay A 1\n{lines}\nat least 0\nplan -\n")?;
+    refuses_for(rt, &head, SIX, "K1")
+}
+
+#[test]
 fn certificates_for_problems_that_differ_little(rt: HostRuntime) -> Result<(), Fail> {
-    let heads = [
+    let problems = [
         "size 3 3 6 6\nrow 5 1 4\nrow 6\nrow 3 2",
         "size 3 3 6 6\nrow 1 5 4\nrow 6\nrow 2 3",
         "size 3 3 6 6\nrow 1 5 4\nrow 6 2\nrow 3",
         "size 3 3 5 6\nrow 1 5 4\nrow 6\nrow 3 2",
         "size 3 4 6 6\nrow 1 5 4\nrow 6\nrow 3 2",
     ];
-    for head in heads {
-        let text = format!(in rt.alloc(); "CRP-CERT 1\nbay A 1\n{head}\nat least 0\nplan -\n")?;
-        let other = problem_of(&rt, &text);
-        let refused = check_for(rt.alloc(), &other, SIX.as_bytes()).expect_err(
-            &rt,
-            "another problem",
-        );
-        let shown = told(rt.alloc(), &refused)?;
-        assert_eq!(rt; shown.as_str(), "K1", "{head}");
+    for lines in problems {
+        is_another(&rt, lines)?;
     }
     Ok(())
+}
+
+fn is_cut(rt: &(impl Abort + AllocGlobal), cut: &[u8]) {
+    let length = cut.len();
+    let refused = check(rt.alloc(), cut).expect_err(rt, "a cut certificate");
+    assert!(rt; matches!(&refused, Refused::Cert(_)), "{length}");
 }
 
 #[test]
 fn a_certificate_cut_anywhere_has_a_fault_of_its_text(rt: HostRuntime) -> Result<(), Fail> {
     let bytes = SIX.as_bytes();
     for length in 0..bytes.len() {
-        let refused = check(rt.alloc(), &bytes[..length]).expect_err(&rt, "a cut certificate");
-        assert!(rt; matches!(&refused, Refused::Cert(_)), "{length}");
+        is_cut(&rt, &bytes[..length]);
     }
     Ok(())
 }
 
-fn verdict_is(rt: &impl Abort, shown: &(BayName, Verdict), block: &[u8], verdict: Verdict) {
-    assert_eq!(rt; shown.0.block(), block);
+fn verdict_is(rt: &impl Abort, shown: &(BayName, Verdict), verdict: Verdict) {
+    assert_eq!(rt; shown.0.block(), b"A".as_slice());
     assert_eq!(rt; shown.0.bay(), 1);
     assert_eq!(rt; shown.1, verdict);
 }
 
+/// What is shown is of bays A 1, and this.
+fn verdicts_are(rt: &impl Abort, shown: &[(BayName, Verdict)], verdicts: &[Verdict]) {
+    assert_eq!(rt; shown.len(), verdicts.len());
+    for (one, verdict) in shown.iter().zip(verdicts) {
+        verdict_is(rt, one, *verdict);
+    }
+}
+
+fn file_shows(rt: &(impl Abort + AllocGlobal), file: &str, verdicts: &[Verdict]) {
+    let shown = check_file(rt.alloc(), file.as_bytes()).expect(rt, "certificates");
+    verdicts_are(rt, shown.as_slice(), verdicts);
+    let list = shown.into_vec();
+    verdicts_are(rt, &list, verdicts);
+}
+
 #[test]
 fn files_of_certificates(rt: HostRuntime) -> Result<(), Fail> {
-    let none = check_file(rt.alloc(), b"").expect(&rt, "no certificates");
-    assert_eq!(rt; none.as_slice().len(), 0);
+    file_shows(&rt, "", &[]);
     let two = format!(in rt.alloc(); "{FOUR}{SIX}")?;
-    let both = check_file(rt.alloc(), two.as_bytes()).expect(&rt, "two certificates");
-    let list = both.into_vec();
-    assert_eq!(rt; list.len(), 2);
-    verdict_is(&rt, &list[0], b"A", Verdict::Optimal(2));
-    verdict_is(&rt, &list[1], b"A", Verdict::Optimal(3));
+    file_shows(&rt, &two, &[Verdict::Optimal(2), Verdict::Optimal(3)]);
+    Ok(())
+}
+
+/// The six containers' certificate is followed by one that is refused with this fault.
+fn second_refused(
+    rt: &(impl Abort + AllocGlobal),
+    rest: &str,
+    fault: &str,
+) -> Result<(), AllocError> {
+    let file = format!(in rt.alloc(); "{SIX}{rest}")?;
+    let refused = check_file(rt.alloc(), file.as_bytes()).expect_err(rt, "a refused one");
+    let text = format!(in rt.alloc(); "{refused}")?;
+    assert_eq!(rt; text.as_str(), fault, "{rest}");
+    assert_eq!(rt; refused.number, 2, "{rest}");
+    verdicts_are(rt, refused.before.as_slice(), &[Verdict::Optimal(3)]);
     Ok(())
 }
 
@@ -325,17 +400,38 @@ fn files_with_a_refused_certificate(rt: HostRuntime) -> Result<(), Fail> {
         ),
     ];
     for (rest, fault) in cases {
-        let file = format!(in rt.alloc(); "{SIX}{rest}")?;
-        let refused = check_file(rt.alloc(), file.as_bytes()).expect_err(
-            &rt,
-            "a refused certificate",
-        );
-        let shown = format!(in rt.alloc(); "{refused}")?;
-        assert_eq!(rt; shown.as_str(), fault);
-        assert_eq!(rt; refused.number, 2);
-        let before = refused.before.as_slice();
-        assert_eq!(rt; before.len(), 1);
-        verdict_is(&rt, &before[0], b"A", Verdict::Optimal(3));
+        second_refused(&rt, rest, fault)?;
+    }
+    Ok(())
+}
+
+/// The path of these rows shows this text, and has these rows.
+fn path_is(rt: &(impl Abort + AllocGlobal), rows: &[u8], text: &str) -> Result<(), AllocError> {
+    let path = Path::from_rows(rt.alloc(), rows)?;
+    let shown = format!(in rt.alloc(); "{path}")?;
+    assert_eq!(rt; shown.as_str(), text);
+    assert_eq!(rt; path.rows(), rows, "{text}");
+    Ok(())
+}
+
+/// How two paths stand to each other, and whether they are equal.
+fn compared(alloc: Global, one: &[u8], other: &[u8]) -> Result<(Ordering, bool), AllocError> {
+    let one = Path::from_rows(alloc, one)?;
+    let other = Path::of(other.to_vec(alloc)?);
+    Ok((one.cmp(&other), one == other))
+}
+
+#[test]
+fn paths_are_shown(rt: HostRuntime) -> Result<(), Fail> {
+    let paths: [(&[u8], &str); 5] = [
+        (&[], "/"),
+        (&[2], "2"),
+        (&[2, 12], "2.12"),
+        (&[3], "3"),
+        (&[12], "12"),
+    ];
+    for (rows, text) in paths {
+        path_is(&rt, rows, text)?;
     }
     Ok(())
 }
@@ -343,16 +439,11 @@ fn files_with_a_refused_certificate(rt: HostRuntime) -> Result<(), Fail> {
 #[test]
 fn paths_stand_row_by_row_and_a_front_first(rt: HostRuntime) -> Result<(), Fail> {
     let rows: [&[u8]; 5] = [&[], &[2], &[2, 12], &[3], &[12]];
-    let texts = ["/", "2", "2.12", "3", "12"];
     for (i, first) in rows.iter().enumerate() {
-        let path = Path::from_rows(rt.alloc(), *first)?;
-        let shown = format!(in rt.alloc(); "{path}")?;
-        assert_eq!(rt; shown.as_str(), texts[i]);
-        assert_eq!(rt; path.rows(), *first);
         for (j, second) in rows.iter().enumerate() {
-            let other = Path::of(second.to_vec(rt.alloc())?);
-            assert_eq!(rt; path.cmp(&other), i.cmp(&j), "{i} and {j}");
-            assert_eq!(rt; path == other, i == j, "{i} and {j}");
+            let (order, equal) = compared(rt.alloc(), first, second)?;
+            assert_eq!(rt; order, i.cmp(&j), "{i} and {j}");
+            assert_eq!(rt; equal, i == j, "{i} and {j}");
         }
     }
     Ok(())

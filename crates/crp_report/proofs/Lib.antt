@@ -7,3 +7,10 @@ pub mod Leaving
 pub mod Making
 pub mod Stops
 pub mod Runs
+pub mod Bytes
+pub mod MoveBodies
+pub mod Takes
+pub mod YardNames
+pub mod Counts
+pub mod OneText
+pub mod Saying

@@ -3,11 +3,13 @@ pub use Rattle.crp_plan.specs.Plans
 pub use Rattle.crp_plan.specs.Devices
 pub use Rattle.crp_plan.specs.BayNames
 pub mod MoveLines
+pub mod TakeLines
 pub mod Answered
 pub mod Report
 pub mod Pieces
 pub mod Chosen
 pub mod Runs
+pub mod Said
 pub mod Printing
 pub mod Telling
 pub mod Writing

@@ -10,6 +10,7 @@ mod answers;
 mod endings;
 mod fault;
 mod input;
+mod laws;
 mod lines;
 mod move_lines;
 mod numbers;

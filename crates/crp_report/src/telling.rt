@@ -7,8 +7,9 @@ ghost use Rattle.crp_report.specs.Telling.{IsTold, AreTold};
 use crate::answers::{certificate_of, status_of};
 use crate::lines::{answer_lines, push_answer_line};
 use crate::status::Status;
+use crp_incumbent::Board;
 use crp_order::BayProblem;
-use crp_solve::{Answer, Settings, solve_alone};
+use crp_solve::{Answer, NoGate, Settings, solve};
 use crp_yard::{BayPlan, Container};
 use std::alloc::{AllocError, Global};
 use std::sync::Wait;
@@ -112,7 +113,7 @@ fn told_bay(alloc: Global, bay: &BayProblem, answer: &Answer) -> Result<ToldBay,
 
 /// Answers the problem of each bay, and tells the answers.
 pub(crate) fn told_bays<T: Threads + Wait + Sync>(
-    _rt: &T,
+    rt: &T,
     alloc: Global,
     problems: Vec<BayProblem>,
     settings: Settings,
@@ -125,7 +126,8 @@ pub(crate) fn told_bays<T: Threads + Wait + Sync>(
         plans: Vec::new(alloc),
     };
     for bay in problems {
-        let solved = solve_alone(alloc, &bay.problem, settings)?;
+        let board = Board::new(&bay.problem);
+        let solved = solve(rt, alloc, &bay.problem, settings, &board, &NoGate)?;
         let lines = told_bay(alloc, &bay, &solved.answer)?;
         told.push(lines, bay_plan(bay, solved.answer))?;
     }

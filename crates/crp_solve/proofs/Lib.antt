@@ -6,3 +6,10 @@ pub mod One
 pub mod Starting
 pub mod Searching
 pub mod Agreeing
+pub mod Grouped
+pub mod Tasks
+pub mod Halves
+pub mod Opened
+pub mod Rested
+pub mod Wholes
+pub mod Joining

@@ -1,2 +1,6 @@
+mod bays;
+mod in_world;
 mod settings;
 mod solving;
+mod stepping;
+mod together;

@@ -1,12 +1,12 @@
 -- Parts of the search of a problem with the floors that they show, and the certificates that they make.
-use Rattle.std.specs.Prelude.{◌≡◌, ℕ, ◌≤◌, List, [], map, All, AllPairs, Contains, option_map, unwrap_or}
+use Rattle.std.specs.Prelude.{◌≡◌, ℕ, ◌≤◌, ◌↔◌, List, [], map, All, AllPairs, Contains, Option, option_map, unwrap_or}
 use Rattle.crp_plan.specs.Bay.{Problem, IsProblem, cap}
 use Rattle.crp_bay.specs.Positions.{at}
 use Rattle.crp_tree.specs.declared.tree.Tree.{Tree}
 use Rattle.crp_tree.specs.Names.{Precedes}
 use Rattle.crp_tree.specs.Trees.{least, Shows}
 use Rattle.crp_tree.specs.Nodes.{Node, Cut, cut_nodes, branch_nodes}
-use Rattle.crp_tree.specs.Scripts.{Part, IsPart, given_by, cuts_of}
+use Rattle.crp_tree.specs.Scripts.{Part, IsPart, IsNeeded, Script, given_by, cuts_of}
 
 -- a part of the search of a problem: the path that it stands at, its tree, and the floor that it shows
 pub record ProblemPart : Type 0 where
@@ -64,3 +64,15 @@ floors_of parts = map (λ x. x.floor) parts
 pub record IsCertificate (c : Certificate) : Type 0 where
   pub rising : AllPairs Precedes (names_of c.parts)
   pub lower_is : IsLeast c.lower (floors_of c.parts)
+
+-- the certificate is about the problem, and its parts are the needed ones
+pub record IsAbout (p : Problem) (cert : Certificate) : Type 0 where
+  pub is_problem : IsProblem p
+  pub certificate : IsCertificate cert
+  pub of_problem : All (λ part. part.problem ≡ p) cert.parts
+  pub kept : All IsKeptPart cert.parts
+  pub as_needed : (name : List ℕ) → Contains (names_of cert.parts) name ↔ IsNeeded p (map part_of cert.parts) name
+
+-- what the certificate claims of the problem, with a plan or none
+abbrev pub script_of : Problem → Certificate → Option (List ℕ) → Script
+script_of p cert plan = record { problem = p; lower = cert.lower; plan = plan; parts = map part_of cert.parts }

@@ -41,9 +41,13 @@ same_name (x ∷ xs) (y ∷ ys) = x == y && same_name xs ys
 abbrev pub times : List ℕ → List (List ℕ) → ℕ
 times name list = count_by (same_name name) list
 
+-- the name is the root's, or among those that are given
+abbrev pub IsRootOrGiven : List (List ℕ) → List ℕ → Type 0
+IsRootOrGiven given name = (name ≡ []) ⊎ Contains given name
+
 -- a part of this name is needed: it is the root, or some part gives it
 abbrev pub IsNeeded : Problem → List Part → List ℕ → Type 0
-IsNeeded p parts name = (name ≡ []) ⊎ Contains (flat_map (given_by p) parts) name
+IsNeeded p parts name = IsRootOrGiven (flat_map (given_by p) parts) name
 
 -- what a certificate claims of a problem: a lower bound, a plan or none, and the parts that show the bound
 pub record Script : Type 0 where

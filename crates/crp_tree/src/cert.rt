@@ -36,6 +36,7 @@ impl Cert {
         requires rising { AllPairs Precedes (names_of parts) }
         ensures parts { result.parts ≡ parts }
         ensures lower { IsLeast result.lower (floors_of parts) }
+        ensures certificate { IsCertificate result }
     {
         let lower = least_floor(parts.as_slice());
         Cert { parts, lower }

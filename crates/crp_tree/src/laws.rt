@@ -1,16 +1,17 @@
 //! Laws of trees, for the crates above.
-ghost use Rattle.std.specs.Prelude.{◌≡◌, ◌≢◌, ℕ, ◌+◌, ◌≤◌, ◌⊎◌, ◌↔◌, List, [], ◌∷◌, length, map, flat_map, Contains, All, AllPairs, Some, IsTrue, nat_eq};
+ghost use Rattle.std.specs.Prelude.{◌≡◌, ◌≢◌, ℕ, ◌+◌, ◌≤◌, ◌⊎◌, ◌↔◌, List, [], ◌∷◌, length, map, flat_map, Contains, All, AllPairs, Option, Some, IfSome, IsTrue, nat_eq};
 ghost use Rattle.std.specs.declared.cmp.Ordering.{Ordering};
 ghost use Rattle.std.specs.Cmp.Lexicographic.{pointwise, slice_cmp};
 ghost use Rattle.std.specs.Ordering.{nat_cmp};
 ghost use Rattle.crp_plan.specs.declared.moves.Move.{Move};
 ghost use Rattle.crp_plan.specs.Bay.{Problem, IsProblem, cap, Position, IsAt, IsPlan, IsBest, relocations};
+ghost use Rattle.crp_plan.specs.Faults.{IsPlanPath};
 ghost use Rattle.crp_tree.specs.Names.{GoesOn, Precedes};
 ghost use Rattle.crp_tree.specs.Scripts.{Part, Script, IsAccepted, IsNeeded, names, times, given_by, IsPart, Floored, KeepsFloor};
 ghost use Rattle.crp_bounds.specs.Bounds.{look_ahead};
 ghost use Rattle.crp_tree.specs.declared.tree.Tree.{Tree};
 ghost use Rattle.crp_tree.specs.Nodes.{ahead_of, branches};
-ghost use Rattle.crp_tree.specs.Parts.{ProblemPart, IsKeptPart, cut_values, cuts_in, branches_in};
+ghost use Rattle.crp_tree.specs.Parts.{ProblemPart, IsKeptPart, cut_values, cuts_in, branches_in, Certificate, IsAbout, script_of};
 ghost use Rattle.crp_tree.specs.Trees.{Begins, Shows, HasShape, cuts, givens, HasAtLeast, least};
 
 /// A tree that has its shape at a path, and no cut of a value below the floor, shows the floor there; so it shows the least of
@@ -45,6 +46,11 @@ pub fn accepted_means()
     ensures bound { (script : Script) (moves : List Move) → IsAccepted script → IsPlan script.problem moves → script.lower ≤ relocations moves }
     ensures no_plan { (script : Script) (moves : List Move) → IsAccepted script → script.lower ≡ cap script.problem → IsPlan script.problem moves → ⊥ }
     ensures best { (script : Script) (rows : List ℕ) → IsAccepted script → script.plan ≡ Some rows → length rows ≡ script.lower → IsBest script.problem script.lower }
+{}
+
+/// What a certificate about a problem claims, with a plan of the problem or none, is accepted.
+pub fn claims_are_accepted()
+    ensures { (p : Problem) (cert : Certificate) (plan : Option (List ℕ)) → IsAbout p cert → IfSome plan (IsPlanPath p) → IsAccepted (script_of p cert plan) }
 {}
 
 /// Where each needed name has a part, no plan has fewer relocations than the least floor.

@@ -7,17 +7,19 @@ mod name;
 mod name_list;
 mod part;
 mod part_list;
+mod path_text;
 #[cfg(test)]
 mod tests;
 mod tree;
 
 pub use cert::Cert;
 pub use laws::{
-    accepted_means, names_are_ordered, names_given, names_once, nodes_of_parts, parts_cover,
-    trees_show,
+    accepted_means, claims_are_accepted, names_are_ordered, names_given, names_once,
+    nodes_of_parts, parts_cover, trees_show,
 };
 pub use name::{MAX_NAME, Name};
 pub use name_list::Names;
 pub use part::Part;
 pub use part_list::Parts;
+pub use path_text::PathText;
 pub use tree::Tree;

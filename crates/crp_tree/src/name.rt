@@ -6,12 +6,14 @@ ghost use Rattle.std.specs.Cmp.Rules.{comparing};
 ghost use Rattle.std.specs.Ordering.{nat_cmp, as_partial_cmp};
 ghost use Rattle.crp_plan.specs.Bay.{IsProblem, IsAt, Position as Place};
 ghost use Rattle.crp_bay.specs.Positions.{at};
-ghost use Rattle.crp_tree.specs.Names.{Precedes};
+ghost use Rattle.crp_tree.specs.Names.{Precedes, name_text};
 
+use crate::path_text::PathText;
 use arrayvec::ArrayVec;
 use crp_bay::Position;
 use crp_plan::Problem;
 use std::cmp::Ordering;
+use std::fmt::{self, Display, Formatter, Write};
 use std::marker::Model;
 
 /// The most rows of a name.
@@ -19,8 +21,9 @@ pub const MAX_NAME: usize = 8;
 
 /// The name of a part: a path of at most 8 destination rows. Rows count from 1. No call takes memory.
 ///
-/// Names stand in order row by row, and a name stands before those that go on from it.
-#[derive(Drop)]
+/// Names stand in order row by row, and a name stands before those that go on from it. A name is
+/// shown as a certificate writes it: `/` for the root, else its rows joined by points.
+#[derive(Debug, Drop)]
 pub struct Name {
     rows: ArrayVec<u8, MAX_NAME>,
 }
@@ -109,6 +112,14 @@ impl Name {
         ensures { IsTrue result ↔ Precedes self.now other.now }
     {
         self.cmp(other).is_lt()
+    }
+}
+
+impl Display for Name {
+    ghost output = { λ name. Some (name_text name) };
+
+    fn fmt<W: Write>(&self, f: &mut Formatter<W>) -> fmt::Result {
+        PathText(self.rows()).fmt(f)
     }
 }
 

@@ -68,6 +68,7 @@ impl Part {
     /// The path that it stands at.
     pub fn name(&self) -> &Name
         ensures value { result.now ≡ self.now.name }
+        ensures part { IsKeptPart self.now }
     {
         &self.name
     }

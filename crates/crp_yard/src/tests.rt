@@ -19,11 +19,19 @@ A,1,3,1,C3
 A,1,3,2,C2
 ";
 
+const HEADER: &[u8] = b"block,bay,row,tier,container\n";
+
+fn joined(alloc: Global, pieces: &[&[u8]]) -> Result<Vec<u8>, AllocError> {
+    let mut text = Vec::new(alloc);
+    for piece in pieces {
+        text.extend_from_slice(piece)?;
+    }
+    Ok(text)
+}
+
 /// A list with these records behind the header.
 fn with_header(alloc: Global, records: &[u8]) -> Result<Vec<u8>, AllocError> {
-    let mut text = Vec::from_slice(alloc, b"block,bay,row,tier,container\n")?;
-    text.extend_from_slice(records)?;
-    Ok(text)
+    joined(alloc, &[HEADER, records])
 }
 
 /// The fault of a list for three rows and three tiers.

@@ -1,4 +1,5 @@
 use crate::{EdiFault, MAX_TEXT, Segment, read_segments};
+use std::alloc::Global;
 use std::test::Fail;
 
 /// A whole interchange, with a line end after each segment.
@@ -22,55 +23,130 @@ UNT+16+1'
 UNZ+1+1'
 ";
 
-#[test]
-fn reads_a_whole_interchange(rt: HostRuntime) -> Result<(), Fail> {
-    let segments = read_segments(rt.alloc(), SIX_LOAD_ORDERS)?;
-    assert_eq!(rt; segments.count(), 18);
-    let first = segments.segment(1).ok_or("first")?;
-    assert_eq!(rt; first.tag(), b"UNB".as_slice());
-    assert_eq!(rt; first.elements(), 5);
-    assert_eq!(rt; first.component(1, 1), b"UNOA".as_slice());
-    assert_eq!(rt; first.component(4, 2), b"0800".as_slice());
-    let begin = segments.segment(3).ok_or("begin")?;
-    assert_eq!(rt; begin.elements(), 3);
-    assert_eq!(rt; begin.component(1, 1), b"".as_slice());
-    assert_eq!(rt; begin.component(3, 1), b"9".as_slice());
-    assert_eq!(rt; begin.component(3, 2), b"".as_slice());
-    assert_eq!(rt; begin.component(0, 1), b"".as_slice());
-    let trailer = segments.segment(18).ok_or("trailer")?;
-    assert_eq!(rt; trailer.tag(), b"UNZ".as_slice());
-    assert_eq!(rt; segments.segment(19).is_none(), true);
-    assert_eq!(rt; segments.segment(0).is_none(), true);
-    Ok(())
+/// A text, how many segments it spells, and one of them: its number, its tag, how many elements it has,
+/// and the bytes of some components, each behind the numbers of its element and of itself in it.
+#[derive(Drop)]
+struct Spelled {
+    text: &'static [u8],
+    count: usize,
+    number: usize,
+    tag: &'static [u8],
+    elements: usize,
+    components: &'static [(usize, usize, &'static [u8])],
 }
 
-/// The name that an equipment segment gives its container.
-fn container<'a>(segment: &Segment<'a>) -> &'a [u8] {
-    segment.component(2, 1)
+fn says(segment: &Segment<'_>, element: usize, component: usize, want: &[u8]) -> bool {
+    segment.component(element, component) == want
+}
+
+fn is_spelled(alloc: Global, want: &Spelled) -> Result<bool, Fail> {
+    let segments = read_segments(alloc, want.text)?;
+    let segment = segments.segment(want.number).ok_or("segment")?;
+    let mut same = segments.count() == want.count
+        && segment.tag() == want.tag
+        && segment.elements() == want.elements;
+    for (element, component, bytes) in want.components {
+        same = same && says(&segment, *element, *component, bytes);
+    }
+    Ok(same)
+}
+
+/// Whether the text spells a list without a segment of this number.
+fn lacks(alloc: Global, text: &[u8], number: usize) -> Result<bool, EdiFault> {
+    Ok(read_segments(alloc, text)?.segment(number).is_none())
+}
+
+#[test]
+fn reads_a_whole_interchange(rt: HostRuntime) -> Result<(), Fail> {
+    let table = [
+        Spelled {
+            text: SIX_LOAD_ORDERS,
+            count: 18,
+            number: 1,
+            tag: b"UNB",
+            elements: 5,
+            components: &[(1, 1, b"UNOA"), (4, 2, b"0800")],
+        },
+        Spelled {
+            text: SIX_LOAD_ORDERS,
+            count: 18,
+            number: 3,
+            tag: b"BGM",
+            elements: 3,
+            components: &[(1, 1, b""), (3, 1, b"9"), (3, 2, b""), (0, 1, b"")],
+        },
+        Spelled {
+            text: SIX_LOAD_ORDERS,
+            count: 18,
+            number: 18,
+            tag: b"UNZ",
+            elements: 2,
+            components: &[],
+        },
+    ];
+    for row in &table {
+        assert!(rt;
+            is_spelled(rt.alloc(), row)?,
+            "{:?} of {:?}",
+            row.tag,
+            row.text
+        );
+    }
+    assert!(rt; lacks(rt.alloc(), SIX_LOAD_ORDERS, 0)?);
+    assert!(rt; lacks(rt.alloc(), SIX_LOAD_ORDERS, 19)?);
+    Ok(())
 }
 
 #[test]
 fn release_takes_the_next_character(rt: HostRuntime) -> Result<(), Fail> {
-    let released = read_segments(rt.alloc(), b"EQD+CN+AB?+C1'")?;
-    let segment = released.segment(1).ok_or("released")?;
-    assert_eq!(rt; container(&segment), b"AB+C1".as_slice());
-    assert_eq!(rt; segment.elements(), 2);
-    let plain = read_segments(rt.alloc(), b"UNA:+.  'EQD+CN+AB?+C1'")?;
-    let segment = plain.segment(1).ok_or("plain")?;
-    assert_eq!(rt; container(&segment), b"AB?".as_slice());
-    assert_eq!(rt; segment.elements(), 3);
-    assert_eq!(rt; segment.component(3, 1), b"C1".as_slice());
-    let terminator = read_segments(rt.alloc(), b"EQD+CN+A?'B'\r\nEQD+CN+??'")?;
-    assert_eq!(rt; terminator.count(), 2);
-    assert_eq!(rt;
-        container(&terminator.segment(1).ok_or("first")?),
-        b"A'B".as_slice()
-    );
-    assert_eq!(rt;
-        container(&terminator.segment(2).ok_or("second")?),
-        b"?".as_slice()
-    );
+    let table = [
+        Spelled {
+            text: b"EQD+CN+AB?+C1'",
+            count: 1,
+            number: 1,
+            tag: b"EQD",
+            elements: 2,
+            components: &[(2, 1, b"AB+C1")],
+        },
+        // A space in the advice stands for no release character.
+        Spelled {
+            text: b"UNA:+.  'EQD+CN+AB?+C1'",
+            count: 1,
+            number: 1,
+            tag: b"EQD",
+            elements: 3,
+            components: &[(2, 1, b"AB?"), (3, 1, b"C1")],
+        },
+        Spelled {
+            text: b"EQD+CN+A?'B'\r\nEQD+CN+??'",
+            count: 2,
+            number: 1,
+            tag: b"EQD",
+            elements: 2,
+            components: &[(2, 1, b"A'B")],
+        },
+        Spelled {
+            text: b"EQD+CN+A?'B'\r\nEQD+CN+??'",
+            count: 2,
+            number: 2,
+            tag: b"EQD",
+            elements: 2,
+            components: &[(2, 1, b"?")],
+        },
+    ];
+    for row in &table {
+        assert!(rt;
+            is_spelled(rt.alloc(), row)?,
+            "{:?} of {:?}",
+            row.tag,
+            row.text
+        );
+    }
     Ok(())
+}
+
+fn first_fault(alloc: Global, text: &[u8]) -> Option<EdiFault> {
+    read_segments(alloc, text).err()
 }
 
 #[test]
@@ -105,47 +181,59 @@ fn tells_the_first_fault(rt: HostRuntime) {
         (b"UNB'UNB:1'", EdiFault::Tag { offset: 4 }),
     ];
     for (text, want) in faults {
-        assert_eq!(rt;
-            read_segments(rt.alloc(), text).err(),
-            Some(want),
-            "{text:?}"
-        );
+        assert_eq!(rt; first_fault(rt.alloc(), text), Some(want), "{text:?}");
     }
 }
 
 #[test]
 fn own_service_characters(rt: HostRuntime) -> Result<(), Fail> {
     // The decimal mark and the reserved character may be anything from 0x20 on.
-    let segments = read_segments(rt.alloc(), b"UNA*;;!;~\r\nU!NB;a*b;!;c:+'~\n\r\nUNZ~")?;
-    assert_eq!(rt; segments.count(), 2);
-    let first = segments.segment(1).ok_or("first")?;
-    assert_eq!(rt; first.tag(), b"UNB".as_slice());
-    assert_eq!(rt; first.elements(), 2);
-    assert_eq!(rt; first.component(1, 1), b"a".as_slice());
-    assert_eq!(rt; first.component(1, 2), b"b".as_slice());
-    assert_eq!(rt; first.component(2, 1), b";c:+'".as_slice());
-    let second = segments.segment(2).ok_or("second")?;
-    assert_eq!(rt; second.tag(), b"UNZ".as_slice());
-    assert_eq!(rt; second.elements(), 0);
+    let table = [
+        Spelled {
+            text: b"UNA*;;!;~\r\nU!NB;a*b;!;c:+'~\n\r\nUNZ~",
+            count: 2,
+            number: 1,
+            tag: b"UNB",
+            elements: 2,
+            components: &[(1, 1, b"a"), (1, 2, b"b"), (2, 1, b";c:+'")],
+        },
+        Spelled {
+            text: b"UNA*;;!;~\r\nU!NB;a*b;!;c:+'~\n\r\nUNZ~",
+            count: 2,
+            number: 2,
+            tag: b"UNZ",
+            elements: 0,
+            components: &[],
+        },
+    ];
+    for row in &table {
+        assert!(rt;
+            is_spelled(rt.alloc(), row)?,
+            "{:?} of {:?}",
+            row.tag,
+            row.text
+        );
+    }
     Ok(())
 }
 
 #[test]
 fn cut_text_is_unfinished(rt: HostRuntime) {
     // Without the last terminator and its line end.
-    let end = SIX_LOAD_ORDERS.len() - 2;
-    let fault = read_segments(rt.alloc(), &SIX_LOAD_ORDERS[..end]).err();
-    assert_eq!(rt; fault, Some(EdiFault::Unfinished { offset: end }));
+    let offset = SIX_LOAD_ORDERS.len() - 2;
+    let cut = &SIX_LOAD_ORDERS[..offset];
+    let fault = EdiFault::Unfinished { offset };
+    assert_eq!(rt; first_fault(rt.alloc(), cut), Some(fault));
 }
 
 #[test]
 fn reads_no_longer_text(rt: HostRuntime) -> Result<(), Fail> {
     let mut text = vec![in rt.alloc(); b'A'; MAX_TEXT]?;
-    let fault = read_segments(rt.alloc(), &text).err();
-    assert_eq!(rt; fault, Some(EdiFault::Unfinished { offset: MAX_TEXT }));
+    let fault = EdiFault::Unfinished { offset: MAX_TEXT };
+    assert_eq!(rt; first_fault(rt.alloc(), &text), Some(fault));
     text.push(b'A')?;
-    let fault = read_segments(rt.alloc(), &text).err();
-    assert_eq!(rt; fault, Some(EdiFault::TooLong { offset: MAX_TEXT }));
+    let fault = EdiFault::TooLong { offset: MAX_TEXT };
+    assert_eq!(rt; first_fault(rt.alloc(), &text), Some(fault));
     Ok(())
 }
 

@@ -1,5 +1,7 @@
 //! Jobs over real files: which file is which, and when each is opened.
-use super::reports::{HEADER, SIX_ANSWERED, SIX_CERTIFIED, SIX_CONTAINERS, SIX_ORDERS, message};
+use super::two_bays::{
+    Made, THREE_BAYS_DECIDED, THREE_BAYS_VERDICTS, message_of_three_bays, yard_of_three_bays,
+};
 use crate::outcome::ToolFault;
 use crate::running::run_job;
 use crate::words::job;
@@ -7,12 +9,13 @@ use crp_plan::Received;
 use crp_report::{Fault, Input, Output, Status};
 use crp_yard::YardFault;
 use std::fs;
+use std::process::Abort;
 use std::sync::Wait;
 use std::test::Fail;
 use std::thread::Threads;
 
 // Does what the words ask for, and gives how it ended and what was reported.
-fn run_words<T: Threads + Wait + Sync>(
+pub(crate) fn run_words<T: Threads + Wait + Sync>(
     rt: &HostRuntime,
     threads: &T,
     words: &[&str],
@@ -27,40 +30,74 @@ fn run_words<T: Threads + Wait + Sync>(
     }
 }
 
-#[test]
-fn each_text_goes_to_its_file(rt: HostRuntime) -> Result<(), Fail> {
-    let movins = message(rt.alloc(), &[SIX_ORDERS], b"16")?;
-    fs::write(&rt, "each-list.csv", SIX_CONTAINERS)?;
-    fs::write(&rt, "each-loading.edi", movins.as_slice())?;
+// The certificate of the six containers, whose subtrees are given to parts of their own.
+const SIX_IN_PARTS: &[u8] =
+    b"CRP-CERT 1\nbay A 1\nsize 3 3 6 6\nrow 1 5 4\nrow 6\nrow 3 2\nat least 3\nplan 2 2 1\npart /: XGG\npart 2: L\npart 3: B\nend 3\n";
+
+// What a job over the certificates of the first test writes.
+#[derive(Clone, Copy)]
+struct Written {
+    command: &'static str,
+    report: &'static [u8],
+}
+
+const WRITTEN: [Written; 4] = [
+    Written {
+        command: "check",
+        report: THREE_BAYS_VERDICTS,
+    },
+    Written {
+        command: "bound",
+        report: b"bay A 1\nblocking 2\nlook-ahead 2\n",
+    },
+    Written {
+        command: "prove",
+        report: SIX_IN_PARTS,
+    },
+    Written {
+        command: "replay",
+        report: b"bay A 1\nmoves 9 relocations 3\nshift 1.3 2.2 4\nshift 1.2 2.3 5\ntake 1.1 1\ntake 3.2 2\ntake 3.1 3\nshift 2.3 1.1 5\ntake 2.2 4\ntake 1.1 5\ntake 2.1 6\n",
+    },
+];
+
+// Solves the yard of three bays over files, and compares what each file holds then.
+fn solve_three_bays<T: Threads + Wait + Abort + Sync>(
+    rt: &HostRuntime,
+    threads: &T,
+    made: &Made<'_>,
+) -> Result<(), Fail> {
+    let yard = yard_of_three_bays(rt.alloc())?;
+    let movins = message_of_three_bays(rt.alloc())?;
+    fs::write(rt, "each-list.csv", yard.as_slice())?;
+    fs::write(rt, "each-loading.edi", movins.as_slice())?;
     let words = [
         "solve",
         "each-list.csv",
         "each-loading.edi",
         "--rows=3",
         "--tiers=3",
+        "--split=0",
         "--cert=each-proofs.crp",
         "--after=each-after.csv",
     ];
-    let (answer, report) = run_words(&rt, &rt, &words)?;
-    assert_eq!(rt; answer, Ok(Status::Decided));
-    assert_eq!(rt; report.as_slice(), SIX_ANSWERED);
-    assert_eq!(rt; fs::read(&rt, "each-proofs.crp")?.as_slice(), SIX_CERTIFIED);
-    assert_eq!(rt; fs::read(&rt, "each-after.csv")?.as_slice(), HEADER);
-    let (_, checked) = run_words(&rt, &rt, &["check", "each-proofs.crp"])?;
-    assert_eq!(rt; checked.as_slice(), b"bay A 1: optimal 3\n".as_slice());
-    let (_, bounds) = run_words(&rt, &rt, &["bound", "each-proofs.crp"])?;
-    assert_eq!(rt;
-        bounds.as_slice(),
-        b"bay A 1\nblocking 2\nlook-ahead 2\n".as_slice()
+    let (answer, report) = run_words(rt, threads, &words)?;
+    assert_eq!(threads; answer, Ok(made.status));
+    assert_eq!(threads; report.as_slice(), made.report);
+    assert_eq!(threads;
+        fs::read(rt, "each-proofs.crp")?.as_slice(),
+        made.certificates
     );
-    let (_, proof) = run_words(&rt, &rt, &["prove", "each-proofs.crp"])?;
-    assert_eq!(rt; proof.as_slice(), SIX_CERTIFIED);
-    let (_, moves) = run_words(&rt, &rt, &["replay", "each-proofs.crp"])?;
-    assert!(rt;
-        moves
-            .as_slice()
-            .starts_with(b"bay A 1\nmoves 9 relocations 3\n")
-    );
+    assert_eq!(threads; fs::read(rt, "each-after.csv")?.as_slice(), made.yard_after);
+    Ok(())
+}
+
+#[test]
+fn each_text_goes_to_its_file(rt: HostRuntime) -> Result<(), Fail> {
+    solve_three_bays(&rt, &rt, &THREE_BAYS_DECIDED)?;
+    for written in WRITTEN {
+        let (_, report) = run_words(&rt, &rt, &[written.command, "each-proofs.crp"])?;
+        assert_eq!(rt; report.as_slice(), written.report);
+    }
     for name in [
         "each-list.csv",
         "each-loading.edi",

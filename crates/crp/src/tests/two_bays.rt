@@ -14,12 +14,12 @@ const TWO_MESSAGES: &[u8] =
 
 // What a run makes, and what `check` writes of its certificates.
 #[derive(Clone, Copy)]
-struct Made<'a> {
-    status: Status,
-    report: &'a [u8],
-    certificates: &'a [u8],
-    yard_after: &'a [u8],
-    verdicts: &'a [u8],
+pub(crate) struct Made<'a> {
+    pub status: Status,
+    pub report: &'a [u8],
+    pub certificates: &'a [u8],
+    pub yard_after: &'a [u8],
+    pub verdicts: &'a [u8],
 }
 
 // Compares the texts of a run with those that it is to make.
@@ -34,37 +34,45 @@ fn compare(rt: &impl Abort, alloc: Global, told: &Texts, made: &Made<'_>) {
     assert_eq!(rt; lines.bytes.as_slice(), made.verdicts);
 }
 
+// The yard of six containers, with a bay without orders and then one more bay, its records out of order.
+pub(crate) fn yard_of_three_bays(alloc: Global) -> Result<Vec<u8>, Fail> {
+    let mut yard = SIX_CONTAINERS.to_vec(alloc)?;
+    yard.extend_from_slice(b"A,2,1,2,K2\nB,2,1,1,X\nB,2,1,2,Y\nA,2,1,1,K1\n")?;
+    Ok(yard)
+}
+
+// A message that orders X of the last bay first, and then the six.
+pub(crate) fn message_of_three_bays(alloc: Global) -> Result<Vec<u8>, Fail> {
+    let order: &[u8] = b"LOC+147+0010194'\nEQD+CN+X'\n";
+    message(alloc, &[order, SIX_ORDERS], b"18")
+}
+
+const THREE_BAYS_AFTER: &[u8] =
+    b"block,bay,row,tier,container\nA,2,1,1,K1\nA,2,1,2,K2\nB,2,2,1,Y\n";
+
+pub(crate) const THREE_BAYS_VERDICTS: &[u8] = b"bay A 1: optimal 3\nbay B 2: optimal 1\n";
+
+pub(crate) const THREE_BAYS_DECIDED: Made = Made {
+    status: Status::Decided,
+    report: b"orders 7 open 0 absent 0\nbay A 1: optimal 3\nshift 1.3 2.2 C4\nshift 1.2 2.3 C5\ntake 1.1 C1\ntake 3.2 C2\ntake 3.1 C3\nshift 2.3 1.1 C5\ntake 2.2 C4\ntake 1.1 C5\ntake 2.1 C6\nbay B 2: optimal 1\nshift 1.2 2.1 Y\ntake 1.1 X\nbays 2 decided 2\n",
+    certificates: b"CRP-CERT 1\nbay A 1\nsize 3 3 6 6\nrow 1 5 4\nrow 6\nrow 3 2\nat least 3\nplan 2 2 1\npart /: XLB\nend 1\nCRP-CERT 1\nbay B 2\nsize 3 3 1 2\nrow 1 2\nrow\nrow\nat least 1\nplan 2\npart /: B\nend 1\n",
+    yard_after: THREE_BAYS_AFTER,
+    verdicts: THREE_BAYS_VERDICTS,
+};
+
+const THREE_BAYS_OPEN: Made = Made {
+    status: Status::Budget,
+    report: b"orders 7 open 0 absent 0\nbay A 1: between 2 and 3, budget\nshift 1.3 2.2 C4\nshift 1.2 2.3 C5\ntake 1.1 C1\ntake 3.2 C2\ntake 3.1 C3\nshift 2.3 1.1 C5\ntake 2.2 C4\ntake 1.1 C5\ntake 2.1 C6\nbay B 2: optimal 1\nshift 1.2 2.1 Y\ntake 1.1 X\nbays 2 decided 1\n",
+    certificates: b"CRP-CERT 1\nbay A 1\nsize 3 3 6 6\nrow 1 5 4\nrow 6\nrow 3 2\nat least 2\nplan 2 2 1\npart /: B\nend 1\nCRP-CERT 1\nbay B 2\nsize 3 3 1 2\nrow 1 2\nrow\nrow\nat least 1\nplan 2\npart /: B\nend 1\n",
+    yard_after: THREE_BAYS_AFTER,
+    verdicts: b"bay A 1: at least 2, plan of 3\nbay B 2: optimal 1\n",
+};
+
 #[test]
 fn a_bay_without_orders_between_two(rt: HostRuntime) -> Result<(), Fail> {
-    let mut yard = SIX_CONTAINERS.to_vec(rt.alloc())?;
-    yard.extend_from_slice(b"A,2,1,2,K2\nB,2,1,1,X\nB,2,1,2,Y\nA,2,1,1,K1\n")?;
-    let order: &[u8] = b"LOC+147+0010194'\nEQD+CN+X'\n";
-    let movins = message(rt.alloc(), &[order, SIX_ORDERS], b"18")?;
-    let yard_after =
-        b"block,bay,row,tier,container\nA,2,1,1,K1\nA,2,1,2,K2\nB,2,2,1,Y\n".as_slice();
-    let cases: [(u64, Made); 2] = [
-        (
-            1000000,
-            Made {
-                status: Status::Decided,
-                report: b"orders 7 open 0 absent 0\nbay A 1: optimal 3\nshift 1.3 2.2 C4\nshift 1.2 2.3 C5\ntake 1.1 C1\ntake 3.2 C2\ntake 3.1 C3\nshift 2.3 1.1 C5\ntake 2.2 C4\ntake 1.1 C5\ntake 2.1 C6\nbay B 2: optimal 1\nshift 1.2 2.1 Y\ntake 1.1 X\nbays 2 decided 2\n",
-                certificates: b"CRP-CERT 1\nbay A 1\nsize 3 3 6 6\nrow 1 5 4\nrow 6\nrow 3 2\nat least 3\nplan 2 2 1\npart /: XLB\nend 1\nCRP-CERT 1\nbay B 2\nsize 3 3 1 2\nrow 1 2\nrow\nrow\nat least 1\nplan 2\npart /: B\nend 1\n",
-                yard_after,
-                verdicts: b"bay A 1: optimal 3\nbay B 2: optimal 1\n",
-            },
-        ),
-        (
-            0,
-            Made {
-                status: Status::Budget,
-                report: b"orders 7 open 0 absent 0\nbay A 1: between 2 and 3, budget\nshift 1.3 2.2 C4\nshift 1.2 2.3 C5\ntake 1.1 C1\ntake 3.2 C2\ntake 3.1 C3\nshift 2.3 1.1 C5\ntake 2.2 C4\ntake 1.1 C5\ntake 2.1 C6\nbay B 2: optimal 1\nshift 1.2 2.1 Y\ntake 1.1 X\nbays 2 decided 1\n",
-                certificates: b"CRP-CERT 1\nbay A 1\nsize 3 3 6 6\nrow 1 5 4\nrow 6\nrow 3 2\nat least 2\nplan 2 2 1\npart /: B\nend 1\nCRP-CERT 1\nbay B 2\nsize 3 3 1 2\nrow 1 2\nrow\nrow\nat least 1\nplan 2\npart /: B\nend 1\n",
-                yard_after,
-                verdicts: b"bay A 1: at least 2, plan of 3\nbay B 2: optimal 1\n",
-            },
-        ),
-    ];
-    for (budget, made) in cases {
+    let yard = yard_of_three_bays(rt.alloc())?;
+    let movins = message_of_three_bays(rt.alloc())?;
+    for (budget, made) in [(1000000, THREE_BAYS_DECIDED), (0, THREE_BAYS_OPEN)] {
         let choice = Choice {
             budget,
             rows: 3,

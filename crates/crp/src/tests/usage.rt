@@ -1,7 +1,6 @@
 //! The words of the command line, and exit statuses.
 use crate::job::{Job, Mistake, SettingFault, SolveSettings, Usage};
 use crate::outcome::{ToolFault, exit_of};
-use crate::performing::alone;
 use crate::running::settings_of;
 use crate::words::job;
 use crp_cert::CertFault;
@@ -19,11 +18,43 @@ fn reads_words(rt: HostRuntime) {
     assert!(rt; matches!(job(alloc, &["replay", "a"]), Ok(Job::Replay(file)) if file == "a"));
     assert!(rt; matches!(job(alloc, &["bound", "-"]), Ok(Job::Bound(file)) if file == "-"));
     assert!(rt; matches!(job(alloc, &["check", "a"]), Ok(Job::Check(file)) if file == "a"));
-    let bare = job(alloc, &["prove", "a"]);
-    assert!(rt; matches!(bare, Ok(Job::Prove { file, budget: 1000000 }) if file == "a"));
-    let words = ["prove", "--budget=1099511627776", "-"];
-    let most = job(alloc, &words);
-    assert!(rt; matches!(most, Ok(Job::Prove { file, budget: 1099511627776 }) if file == "-"));
+}
+
+// Words of `prove`, and the file, the workers, the budget and the split that they ask for.
+type ProveCase = (&'static [&'static str], &'static str, (u32, u64, u8));
+
+const PROVE_CASES: [ProveCase; 3] = [
+    (&["prove", "a"], "a", (1, 1000000, 2)),
+    (
+        &[
+            "prove",
+            "--budget=1099511627776",
+            "-",
+            "--split=8",
+            "--workers",
+            "64",
+        ],
+        "-",
+        (64, 1099511627776, 8),
+    ),
+    (
+        &["prove", "--workers=1", "--budget", "0", "--split", "0", "b"],
+        "b",
+        (1, 0, 0),
+    ),
+];
+
+#[test]
+fn reads_a_search(rt: HostRuntime) {
+    for (words, name, chosen) in PROVE_CASES {
+        match job(rt.alloc(), words) {
+            Ok(Job::Prove { file, search }) => {
+                assert_eq!(rt; file, name);
+                assert_eq!(rt; search_of(search), chosen);
+            }
+            _ => assert!(rt; false),
+        }
+    }
 }
 
 #[test]
@@ -40,7 +71,7 @@ fn reads_a_solve_with_its_defaults(rt: HostRuntime) {
         ) => {
             assert!(rt; yard == "yard.csv" && movins == "ship.edi");
             assert!(rt; cert.is_none() && after.is_none());
-            assert_eq!(rt; settings.budget, 1000000);
+            assert_eq!(rt; search_of(settings.search), (1, 1000000, 2));
             assert_eq!(rt; (settings.rows, settings.tiers), (6, 5));
             assert_eq!(rt; settings.order, Mode::Listed);
             assert_eq!(rt; settings.code, "LOA");
@@ -64,6 +95,8 @@ fn reads_a_solve_with_all_options(rt: HostRuntime) {
         "-",
         "--budget",
         "0",
+        "--workers=7",
+        "--split=3",
         "--cert",
         "c",
         "--after",
@@ -81,7 +114,7 @@ fn reads_a_solve_with_all_options(rt: HostRuntime) {
         ) => {
             assert!(rt; yard == "y" && movins == "-");
             assert_eq!(rt; (cert, after), (Some("c"), Some("-")));
-            assert_eq!(rt; settings.budget, 0);
+            assert_eq!(rt; search_of(settings.search), (7, 0, 3));
             assert_eq!(rt; (settings.rows, settings.tiers), (12, 1));
             assert_eq!(rt; settings.order, Mode::Stowage);
             assert_eq!(rt; settings.code, "");
@@ -102,28 +135,26 @@ fn bays_of(settings: &RunSettings) -> (u8, u8, Mode) {
 
 #[test]
 fn settings_at_their_limits(rt: HostRuntime) -> Result<(), Fail> {
-    assert_eq!(rt; search_of(alone(0)), (1, 0, 2));
-    assert_eq!(rt; search_of(alone(1099511627776)), (1, 1099511627776, 2));
     let chosen = SolveSettings {
-        budget: 1099511627776,
+        search: Settings::new(64, 1099511627776, 8)?,
         rows: 12,
         tiers: 8,
         order: Mode::Stowage,
         code: "DIS",
     };
-    let most = settings_of(rt.alloc(), chosen)?;
-    assert_eq!(rt; search_of(most.search()), (1, 1099511627776, 2));
+    let most = settings_of(rt.alloc(), &chosen)?;
+    assert_eq!(rt; search_of(most.search()), (64, 1099511627776, 8));
     assert_eq!(rt; bays_of(&most), (12, 8, Mode::Stowage));
     assert_eq!(rt; most.code(), b"DIS".as_slice());
     let chosen = SolveSettings {
-        budget: 0,
+        search: Settings::new(1, 0, 0)?,
         rows: 1,
         tiers: 1,
         order: Mode::Listed,
         code: "",
     };
-    let least = settings_of(rt.alloc(), chosen)?;
-    assert_eq!(rt; search_of(least.search()), (1, 0, 2));
+    let least = settings_of(rt.alloc(), &chosen)?;
+    assert_eq!(rt; search_of(least.search()), (1, 0, 0));
     assert_eq!(rt; bays_of(&least), (1, 1, Mode::Listed));
     assert_eq!(rt; least.code(), b"".as_slice());
     Ok(())
@@ -156,7 +187,8 @@ fn refuses_words(rt: HostRuntime) {
     for words in [
         ["prove", "--budget", "1"],
         ["prove", "a", "--budget"],
-        ["prove", "a", "--split=1"],
+        ["prove", "a", "--rows=1"],
+        ["prove", "a", "--split=-1"],
         ["prove", "a", "--budget=ten"],
         ["prove", "a", "--budget=18446744073709551616"],
         ["solve", "a", "--budget=1"],
@@ -173,7 +205,7 @@ fn refuses_words_of_solve(rt: HostRuntime) {
         ["solve", "a", "b", "--rows=-1", "--tiers=1"],
         ["solve", "a", "b", "--rows=1", "--tiers="],
         ["solve", "a", "b", "--order=Listed", "--rows=1"],
-        ["solve", "a", "b", "--workers=1", "--rows=1"],
+        ["solve", "a", "b", "--workers=1", "--workers=1"],
     ] {
         assert!(rt; is_wrong(rt.alloc(), &words));
     }
@@ -202,9 +234,29 @@ fn fault_of(alloc: Global, words: &[&str]) -> Option<SettingFault> {
 #[test]
 fn refuses_numbers_beyond_their_limits(rt: HostRuntime) -> Result<(), Fail> {
     let alloc = rt.alloc();
-    let words = ["prove", "a", "--budget=1099511627777"];
-    assert_eq!(rt; fault_of(alloc, &words), Some(SettingFault::Budget));
+    for (word, fault, text) in [
+        ("--workers=0", SettingFault::Workers, "S1"),
+        ("--workers=65", SettingFault::Workers, "S1"),
+        ("--budget=1099511627777", SettingFault::Budget, "S2"),
+        ("--split=9", SettingFault::Split, "S3"),
+    ] {
+        assert_eq!(rt; fault_of(alloc, &["prove", "a", word]), Some(fault));
+        assert_eq!(rt; format!(in alloc; "{fault}")?.as_str(), text);
+    }
     for (first, second, fault, text) in [
+        (
+            "--budget=1099511627777",
+            "--workers=65",
+            SettingFault::Workers,
+            "S1",
+        ),
+        (
+            "--split=9",
+            "--budget=1099511627777",
+            SettingFault::Budget,
+            "S2",
+        ),
+        ("--rows=0", "--split=9", SettingFault::Split, "S3"),
         (
             "--budget=1099511627777",
             "--rows=0",
@@ -240,6 +292,10 @@ fn help_tells_options_and_defaults(rt: HostRuntime) {
                 "[default: listed]",
                 "--code <TEXT>",
                 "[default: LOA]",
+                "--workers <N>",
+                "1 to 64 [default: 1]",
+                "--split <N>",
+                "0 to 8 [default: 2]",
                 "--budget <N>",
                 "0 to 1099511627776 [default: 1000000]",
                 "--cert <FILE>",

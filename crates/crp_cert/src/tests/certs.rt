@@ -1,7 +1,10 @@
-use super::{SIX_CONTAINERS, assert_six_containers, fault_at, joined, line_after};
-use crate::{CertFault, Parts, read_cert};
+use super::{
+    SAID_OF_SIX, SIX_CONTAINERS, Said, assert_fault, assert_head, fault_at, joined, line_after,
+};
+use crate::{CertFault, Parts, Script, read_cert};
 use crp_tree::Tree;
 use std::alloc::{AllocError, Global};
+use std::process::Abort;
 use std::test::Fail;
 
 /// The head of four containers in three rows, which two relocations clear.
@@ -56,13 +59,48 @@ fn text_of(alloc: Global, head: &[&[u8]], rest: &[u8]) -> Result<Vec<u8>, AllocE
     Ok(text)
 }
 
-/// The fault that a certificate is refused with, if it is.
-fn refusal(alloc: Global, head: &[&[u8]], rest: &[u8]) -> Result<Option<CertFault>, AllocError> {
-    let text = text_of(alloc, head, rest)?;
-    Ok(match read_cert(alloc, &text) {
+/// The fault that a text is refused with, if it is.
+fn refusal(alloc: Global, text: &[u8]) -> Option<CertFault> {
+    match read_cert(alloc, text) {
         Ok(_) => None,
         Err(fault) => Some(fault),
-    })
+    }
+}
+
+/// A certificate of this head is refused with this fault, or is read.
+fn assert_refused(
+    rt: &(impl Abort + AllocGlobal),
+    head: &[&[u8]],
+    rest: &[u8],
+    fault: Option<CertFault>,
+) -> Result<(), AllocError> {
+    let text = text_of(rt.alloc(), head, rest)?;
+    assert_fault(rt, refusal(rt.alloc(), &text), fault, rest);
+    Ok(())
+}
+
+/// A certificate of one part, that of these symbols, is refused with this fault.
+fn assert_symbols_refused(
+    rt: &(impl Abort + AllocGlobal),
+    symbols: &[u8],
+    fault: CertFault,
+) -> Result<(), AllocError> {
+    let mut rest = b"part /: ".to_vec(rt.alloc())?;
+    rest.extend_from_slice(symbols)?;
+    rest.extend_from_slice(b"\nend 1\n")?;
+    assert_refused(rt, &SIX_CONTAINERS, &rest, Some(fault))
+}
+
+/// A certificate of one part, that of this line, is refused for that line.
+fn assert_part_refused(rt: &(impl Abort + AllocGlobal), line: &[u8]) -> Result<(), AllocError> {
+    let mut rest = line.to_vec(rt.alloc())?;
+    rest.extend_from_slice(b"\nend 1\n")?;
+    assert_refused(
+        rt,
+        &SIX_CONTAINERS,
+        &rest,
+        Some(CertFault::Part { line: 9 }),
+    )
 }
 
 /// Adds what a tree is, branches in parentheses.
@@ -92,18 +130,59 @@ fn shown(alloc: Global, parts: &Parts) -> Result<Vec<u8>, AllocError> {
     Ok(text)
 }
 
+fn script_of(alloc: Global, text: &[u8]) -> Result<Script, CertFault> {
+    read_cert(alloc, text)
+}
+
+/// The parts that are read of a text, as they are shown.
+fn parts_of(alloc: Global, text: &[u8]) -> Result<Vec<u8>, CertFault> {
+    let script = script_of(alloc, text)?;
+    Ok(shown(alloc, &script.parts)?)
+}
+
+/// A certificate of this head has these parts.
+fn assert_parts(
+    rt: &(impl Abort + AllocGlobal),
+    head: &[&[u8]],
+    rest: &[u8],
+    parts: &[u8],
+) -> Result<(), Fail> {
+    let text = text_of(rt.alloc(), head, rest)?;
+    assert_eq!(rt; parts_of(rt.alloc(), &text)?.as_slice(), parts, "{rest:?}");
+    Ok(())
+}
+
+fn made_again(parts: Parts) -> Parts {
+    Parts::of(parts.into_vec())
+}
+
+fn assert_shown(
+    rt: &(impl Abort + AllocGlobal),
+    parts: &Parts,
+    expected: &[u8],
+) -> Result<(), AllocError> {
+    assert_eq!(rt; shown(rt.alloc(), parts)?.as_slice(), expected);
+    Ok(())
+}
+
+/// A script has this head and these parts, and so have its parts made again.
+fn assert_script(
+    rt: &(impl Abort + AllocGlobal),
+    text: &[u8],
+    said: &Said,
+    expected: &[u8],
+) -> Result<(), Fail> {
+    let script = script_of(rt.alloc(), text)?;
+    assert_head(rt, &script.head, said);
+    assert_shown(rt, &script.parts, expected)?;
+    assert_shown(rt, &made_again(script.parts), expected)?;
+    Ok(())
+}
+
 #[test]
 fn six_containers_three_relocations(rt: HostRuntime) -> Result<(), Fail> {
     let text = text_of(rt.alloc(), &SIX_CONTAINERS, b"part /: XLB\nend 1\n")?;
-    let script = read_cert(rt.alloc(), &text)?;
-    assert_six_containers(&rt, &script.head);
-    assert_eq!(rt;
-        shown(rt.alloc(), &script.parts)?.as_slice(),
-        b"(lb)".as_slice()
-    );
-    let parts = Parts::of(script.parts.into_vec());
-    assert_eq!(rt; shown(rt.alloc(), &parts)?.as_slice(), b"(lb)".as_slice());
-    Ok(())
+    assert_script(&rt, &text, &SAID_OF_SIX, b"(lb)")
 }
 
 #[test]
@@ -133,24 +212,22 @@ fn parts_that_are_read(rt: HostRuntime) -> Result<(), Fail> {
         (b"part 2.2.1: X\nend 1\n", b"\x02\x02\x01()"),
     ];
     for (rest, parts) in texts {
-        let script = read_cert(rt.alloc(), &text_of(rt.alloc(), &SIX_CONTAINERS, rest)?)?;
-        assert_eq!(rt; shown(rt.alloc(), &script.parts)?.as_slice(), parts);
+        assert_parts(&rt, &SIX_CONTAINERS, rest, parts)?;
     }
-    let script = read_cert(
-        rt.alloc(),
-        &text_of(rt.alloc(), &FOUR_CONTAINERS, b"part /: L\nend 1\n")?,
-    )?;
-    assert_eq!(rt;
-        shown(rt.alloc(), &script.parts)?.as_slice(),
-        b"l".as_slice()
-    );
+    Ok(())
+}
+
+#[test]
+fn parts_of_other_problems_that_are_read(rt: HostRuntime) -> Result<(), Fail> {
+    assert_parts(&rt, &FOUR_CONTAINERS, b"part /: L\nend 1\n", b"l")?;
     // A subtree is given at a path of nine rows.
     let deep = b"part 3.3.1.2.1.1.2.2: XGB\nend 1\n";
-    let script = read_cert(rt.alloc(), &text_of(rt.alloc(), &LONG_PATHS, deep)?)?;
-    assert_eq!(rt;
-        shown(rt.alloc(), &script.parts)?.as_slice(),
-        b"\x03\x03\x01\x02\x01\x01\x02\x02(gb)".as_slice()
-    );
+    assert_parts(
+        &rt,
+        &LONG_PATHS,
+        deep,
+        b"\x03\x03\x01\x02\x01\x01\x02\x02(gb)",
+    )?;
     Ok(())
 }
 
@@ -162,11 +239,7 @@ fn bays_without_a_way_on(rt: HostRuntime) -> Result<(), Fail> {
         b"CRP-CERT 1\nbay A 1\nsize 2 2 2 2\nrow 2 1\nrow\nat least 0\nplan\npart /: X\nend 1\n",
     ];
     for text in texts {
-        let script = read_cert(rt.alloc(), text)?;
-        assert_eq!(rt;
-            shown(rt.alloc(), &script.parts)?.as_slice(),
-            b"()".as_slice()
-        );
+        assert_parts(&rt, &[], text, b"()")?;
     }
     Ok(())
 }
@@ -203,10 +276,7 @@ fn symbols_that_are_refused(rt: HostRuntime) -> Result<(), Fail> {
         (b"LX", trailing),
     ];
     for (symbols, fault) in lines {
-        let mut rest = b"part /: ".to_vec(rt.alloc())?;
-        rest.extend_from_slice(symbols)?;
-        rest.extend_from_slice(b"\nend 1\n")?;
-        assert_eq!(rt; refusal(rt.alloc(), &SIX_CONTAINERS, &rest)?, Some(fault));
+        assert_symbols_refused(&rt, symbols, fault)?;
     }
     Ok(())
 }
@@ -237,20 +307,22 @@ fn part_lines_that_are_refused(rt: HostRuntime) -> Result<(), Fail> {
         b"part 2.2.1.3: B",
     ];
     for line in lines {
-        let mut rest = line.to_vec(rt.alloc())?;
-        rest.extend_from_slice(b"\nend 1\n")?;
-        assert_eq!(rt;
-            refusal(rt.alloc(), &SIX_CONTAINERS, &rest)?,
-            Some(CertFault::Part { line: 9 })
-        );
+        assert_part_refused(&rt, line)?;
     }
+    Ok(())
+}
+
+#[test]
+fn names_of_eight_rows_and_of_nine(rt: HostRuntime) -> Result<(), Fail> {
     let long = b"part 3.3.1.2.1.1.2.2: B\nend 1\n";
-    assert_eq!(rt; refusal(rt.alloc(), &LONG_PATHS, long)?, None);
+    assert_refused(&rt, &LONG_PATHS, long, None)?;
     let too_long = b"part 3.3.1.2.1.1.2.2.1: B\nend 1\n";
-    assert_eq!(rt;
-        refusal(rt.alloc(), &LONG_PATHS, too_long)?,
-        Some(CertFault::Part { line: 9 })
-    );
+    assert_refused(
+        &rt,
+        &LONG_PATHS,
+        too_long,
+        Some(CertFault::Part { line: 9 }),
+    )?;
     Ok(())
 }
 
@@ -283,15 +355,22 @@ fn order_of_parts(rt: HostRuntime) -> Result<(), Fail> {
         ),
     ];
     for (rest, fault) in texts {
-        assert_eq!(rt; refusal(rt.alloc(), &SIX_CONTAINERS, rest)?, Some(fault));
+        assert_refused(&rt, &SIX_CONTAINERS, rest, Some(fault))?;
     }
+    Ok(())
+}
+
+#[test]
+fn rows_of_two_digits_come_last(rt: HostRuntime) -> Result<(), Fail> {
     let rising = b"part 2: B\npart 10: L\nend 2\n";
-    assert_eq!(rt; refusal(rt.alloc(), &TWELVE_ROWS, rising)?, None);
+    assert_refused(&rt, &TWELVE_ROWS, rising, None)?;
     let falling = b"part 10: B\npart 2: L\nend 2\n";
-    assert_eq!(rt;
-        refusal(rt.alloc(), &TWELVE_ROWS, falling)?,
-        Some(CertFault::Order { line: 19 })
-    );
+    assert_refused(
+        &rt,
+        &TWELVE_ROWS,
+        falling,
+        Some(CertFault::Order { line: 19 }),
+    )?;
     Ok(())
 }
 
@@ -319,10 +398,7 @@ fn ends_that_are_refused(rt: HostRuntime) -> Result<(), Fail> {
         (b"part /: XLB\nend 1\nCRP-CERT 1\n", 11),
     ];
     for (rest, line) in texts {
-        assert_eq!(rt;
-            refusal(rt.alloc(), &SIX_CONTAINERS, rest)?,
-            Some(CertFault::End { line })
-        );
+        assert_refused(&rt, &SIX_CONTAINERS, rest, Some(CertFault::End { line }))?;
     }
     Ok(())
 }
@@ -331,14 +407,10 @@ fn ends_that_are_refused(rt: HostRuntime) -> Result<(), Fail> {
 fn faults_of_the_head_come_first(rt: HostRuntime) -> Result<(), Fail> {
     let mut lines = SIX_CONTAINERS;
     lines[6] = b"at least 14";
-    assert_eq!(rt;
-        refusal(rt.alloc(), &lines, b"part /: Q\n")?,
-        Some(CertFault::Claim { line: 7 })
-    );
-    assert_eq!(rt;
-        refusal(rt.alloc(), &[], b"part /: XLB\nend 1\n")?,
-        Some(CertFault::Opening { line: 1 })
-    );
+    let claim = CertFault::Claim { line: 7 };
+    assert_refused(&rt, &lines, b"part /: Q\n", Some(claim))?;
+    let opening = CertFault::Opening { line: 1 };
+    assert_refused(&rt, &[], b"part /: XLB\nend 1\n", Some(opening))?;
     Ok(())
 }
 
@@ -353,23 +425,30 @@ fn cut_fault(line: u32, left: &[u8]) -> CertFault {
     }
 }
 
+/// What stands behind the last line feed.
+fn last_line(text: &[u8]) -> &[u8] {
+    let mut start = 0;
+    for (i, byte) in text.iter().enumerate() {
+        if *byte == b'\n' {
+            start = i + 1;
+        }
+    }
+    text.get(start..).unwrap_or(text)
+}
+
+/// The text cut to this length is refused with the fault of the line where it ends.
+fn assert_cut(rt: &(impl Abort + AllocGlobal), cut: &[u8]) {
+    let fault = cut_fault(line_after(cut), last_line(cut));
+    let length = cut.len();
+    assert_eq!(rt; refusal(rt.alloc(), cut), Some(fault), "{length}");
+}
+
 #[test]
 fn certificate_cut_at_every_length(rt: HostRuntime) -> Result<(), Fail> {
     let text = text_of(rt.alloc(), &SIX_CONTAINERS, b"part /: XLB\nend 1\n")?;
-    let mut start = 0;
     for length in 0..text.len() {
-        let cut = &text[..length];
-        if cut.ends_with(b"\n") {
-            start = length;
-        }
-        let fault = match read_cert(rt.alloc(), cut) {
-            Ok(_) => None,
-            Err(fault) => Some(fault),
-        };
-        assert!(rt; start <= length);
-        let left = &cut[start..];
-        assert_eq!(rt; fault, Some(cut_fault(line_after(cut), left)), "{length}");
+        assert_cut(&rt, &text[..length]);
     }
-    assert!(rt; read_cert(rt.alloc(), &text).is_ok());
+    assert_eq!(rt; refusal(rt.alloc(), &text), None);
     Ok(())
 }

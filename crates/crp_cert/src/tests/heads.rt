@@ -1,6 +1,10 @@
-use super::{SIX_CONTAINERS, assert_six_containers, fault_at, joined, line_after};
-use crate::{CertFault, Rows, read_head};
+use super::{
+    SAID_OF_SIX, SIX_CONTAINERS, Said, assert_fault, assert_head, block_of, fault_at, joined,
+    line_after, plan_of,
+};
+use crate::{CertFault, Head, Rows, read_head};
 use std::alloc::{AllocError, Global};
+use std::process::Abort;
 use std::test::Fail;
 
 /// The head of the six containers with another line, counted from 1, in place of its own.
@@ -34,17 +38,49 @@ fn refusal(alloc: Global, text: &[u8]) -> Option<CertFault> {
     }
 }
 
+/// The head of a text, with no clauses: who compares it need not know what is promised of it.
+fn head_of(alloc: Global, text: &[u8]) -> Result<Head, CertFault> {
+    read_head(alloc, text)
+}
+
+/// The text begins with a head that says this.
+fn assert_read(rt: &(impl Abort + AllocGlobal), text: &[u8], said: &Said) {
+    let head = head_of(rt.alloc(), text).expect(rt, "a head");
+    assert_head(rt, &head, said);
+}
+
+/// The text is refused with this fault, or begins with a head.
+fn assert_refused(rt: &(impl Abort + AllocGlobal), text: &[u8], fault: Option<CertFault>) {
+    assert_fault(rt, refusal(rt.alloc(), text), fault, text);
+}
+
+/// The head of the six containers with this line in place of its own is refused for its line.
+fn assert_line_refused(
+    rt: &(impl Abort + AllocGlobal),
+    number: usize,
+    other: &[u8],
+    fault: CertFault,
+) -> Result<(), AllocError> {
+    let text = with_line(rt.alloc(), number, other)?;
+    assert_fault(rt, refusal(rt.alloc(), &text), Some(fault), other);
+    Ok(())
+}
+
+/// The plan of the six containers' head with this line in place of that of its own plan.
+fn plan_read(alloc: Global, line: &[u8]) -> Result<Option<Rows>, CertFault> {
+    let text = with_line(alloc, 8, line)?;
+    let head = head_of(alloc, &text)?;
+    Ok(head.plan)
+}
+
 #[test]
 fn six_containers_three_relocations(rt: HostRuntime) -> Result<(), Fail> {
     let mut text = joined(rt.alloc(), &SIX_CONTAINERS)?;
-    let head = read_head(rt.alloc(), &text)?;
-    assert_six_containers(&rt, &head);
+    assert_read(&rt, &text, &SAID_OF_SIX);
     text.extend_from_slice(b"part /: XLB\nend 1\n")?;
-    let head = read_head(rt.alloc(), &text)?;
-    assert_six_containers(&rt, &head);
+    assert_read(&rt, &text, &SAID_OF_SIX);
     text.extend_from_slice(b"\x00plan\n\xff")?;
-    let head = read_head(rt.alloc(), &text)?;
-    assert_six_containers(&rt, &head);
+    assert_read(&rt, &text, &SAID_OF_SIX);
     Ok(())
 }
 
@@ -63,15 +99,26 @@ fn four_containers_two_relocations(rt: HostRuntime) -> Result<(), Fail> {
             b"plan 3 1",
         ],
     )?;
-    let head = read_head(rt.alloc(), &text)?;
-    assert_eq!(rt; head.problem.total(), 4);
-    assert_eq!(rt; head.problem.stack(1), [1, 4].as_slice());
-    assert_eq!(rt; head.claim, 2);
-    let plan = head.plan.ok_or("plan")?;
-    assert_eq!(rt; plan.as_slice(), [3, 1].as_slice());
-    let rows = plan.into_vec();
-    assert_eq!(rt; rows.as_slice(), [3, 1].as_slice());
-    assert_eq!(rt; Rows::of(rows).as_slice(), [3, 1].as_slice());
+    let said = Said {
+        block: b"A",
+        bay: 1,
+        size: [3, 3, 4, 4],
+        stacks: &[&[1, 4], &[2], &[3]],
+        claim: 2,
+        plan: Some(&[3, 1]),
+    };
+    assert_read(&rt, &text, &said);
+    Ok(())
+}
+
+fn made_again(rows: Vec<u8>) -> Rows {
+    Rows::of(Rows::of(rows).into_vec())
+}
+
+#[test]
+fn rows_of_a_plan(rt: HostRuntime) -> Result<(), Fail> {
+    let rows = made_again(b"\x03\x01".to_vec(rt.alloc())?);
+    assert_eq!(rt; plan_of(&Some(rows)), Some(b"\x03\x01".as_slice()));
     Ok(())
 }
 
@@ -94,42 +141,58 @@ fn bay_without_containers(rt: HostRuntime) -> Result<(), Fail> {
                 b"plan",
             ],
         )?;
-        assert_eq!(rt; refusal(rt.alloc(), &text), fault);
+        assert_refused(&rt, &text, fault);
     }
+    Ok(())
+}
+
+/// A plan of this line has these rows.
+fn assert_plan(
+    rt: &(impl Abort + AllocGlobal),
+    line: &[u8],
+    rows: Option<&[u8]>,
+) -> Result<(), CertFault> {
+    let plan = plan_read(rt.alloc(), line)?;
+    assert_eq!(rt; plan_of(&plan), rows, "{line:?}");
     Ok(())
 }
 
 #[test]
 fn plan_or_none(rt: HostRuntime) -> Result<(), Fail> {
-    let none = read_head(rt.alloc(), &with_line(rt.alloc(), 8, b"plan -")?)?;
-    assert!(rt; none.plan.is_none());
-    let plans: [(&[u8], &[u8]); 4] = [
-        (b"plan", b""),
-        (b"plan 0", b"\x00"),
-        (b"plan 99 0 12", b"\x63\x00\x0c"),
-        (b"plan 7", b"\x07"),
+    let plans: [(&[u8], Option<&[u8]>); 5] = [
+        (b"plan -", None),
+        (b"plan", Some(b"")),
+        (b"plan 0", Some(b"\x00")),
+        (b"plan 99 0 12", Some(b"\x63\x00\x0c")),
+        (b"plan 7", Some(b"\x07")),
     ];
     for (line, rows) in plans {
-        let head = read_head(rt.alloc(), &with_line(rt.alloc(), 8, line)?)?;
-        let plan = head.plan.ok_or("plan")?;
-        assert_eq!(rt; plan.as_slice(), rows);
+        assert_plan(&rt, line, rows)?;
     }
     Ok(())
 }
 
-#[test]
-fn longest_plan(rt: HostRuntime) -> Result<(), Fail> {
-    let mut line = b"plan".to_vec(rt.alloc())?;
-    for _ in 0..672 {
+/// The line of a plan of so many relocations to row 12.
+fn long_line(alloc: Global, relocations: usize) -> Result<Vec<u8>, AllocError> {
+    let mut line = b"plan".to_vec(alloc)?;
+    for _ in 0..relocations {
         line.extend_from_slice(b" 12")?;
     }
-    let head = read_head(rt.alloc(), &with_line(rt.alloc(), 8, &line)?)?;
-    assert_eq!(rt; head.plan.ok_or("plan")?.as_slice().len(), 672);
+    Ok(line)
+}
+
+/// How many rows the plan of this line has.
+fn count_read(alloc: Global, line: &[u8]) -> Result<usize, CertFault> {
+    let plan = plan_read(alloc, line)?;
+    Ok(plan_of(&plan).unwrap_or(&[]).len())
+}
+
+#[test]
+fn longest_plan(rt: HostRuntime) -> Result<(), Fail> {
+    let mut line = long_line(rt.alloc(), 672)?;
+    assert_eq!(rt; count_read(rt.alloc(), &line)?, 672);
     line.extend_from_slice(b" 1")?;
-    assert_eq!(rt;
-        refusal(rt.alloc(), &with_line(rt.alloc(), 8, &line)?),
-        Some(CertFault::Plan { line: 8 })
-    );
+    assert_line_refused(&rt, 8, &line, CertFault::Plan { line: 8 })?;
     Ok(())
 }
 
@@ -154,11 +217,28 @@ fn largest_bay(rt: HostRuntime) -> Result<(), Fail> {
         b"at least 673",
         b"plan -",
     ];
-    let head = read_head(rt.alloc(), &joined(rt.alloc(), &lines)?)?;
-    assert_eq!(rt; head.bay.block(), b"ABCDEFGHIJKLMNOPQ".as_slice());
-    assert_eq!(rt; head.bay.bay(), 9999);
-    assert_eq!(rt; head.problem.total(), 96);
-    assert_eq!(rt; head.claim, 673);
+    let said = Said {
+        block: b"ABCDEFGHIJKLMNOPQ",
+        bay: 9999,
+        size: [12, 8, 96, 96],
+        stacks: &[
+            &[1, 2, 3, 4, 5, 6, 7, 8],
+            &[9, 10, 11, 12, 13, 14, 15, 16],
+            &[17, 18, 19, 20, 21, 22, 23, 24],
+            &[25, 26, 27, 28, 29, 30, 31, 32],
+            &[33, 34, 35, 36, 37, 38, 39, 40],
+            &[41, 42, 43, 44, 45, 46, 47, 48],
+            &[49, 50, 51, 52, 53, 54, 55, 56],
+            &[57, 58, 59, 60, 61, 62, 63, 64],
+            &[65, 66, 67, 68, 69, 70, 71, 72],
+            &[73, 74, 75, 76, 77, 78, 79, 80],
+            &[81, 82, 83, 84, 85, 86, 87, 88],
+            &[89, 90, 91, 92, 93, 94, 95, 96],
+        ],
+        claim: 673,
+        plan: None,
+    };
+    assert_read(&rt, &joined(rt.alloc(), &lines)?, &said);
     Ok(())
 }
 
@@ -173,11 +253,13 @@ fn openings_that_are_refused(rt: HostRuntime) -> Result<(), Fail> {
         b"CRP-CERT 1 ",
     ];
     for title in titles {
-        assert_eq!(rt;
-            refusal(rt.alloc(), &with_line(rt.alloc(), 1, title)?),
-            Some(CertFault::Opening { line: 1 })
-        );
+        assert_line_refused(&rt, 1, title, CertFault::Opening { line: 1 })?;
     }
+    Ok(())
+}
+
+#[test]
+fn names_of_bays_that_are_refused(rt: HostRuntime) -> Result<(), Fail> {
     let names: [&[u8]; 12] = [
         b"",
         b"bay A",
@@ -193,10 +275,7 @@ fn openings_that_are_refused(rt: HostRuntime) -> Result<(), Fail> {
         b"bay ABCDEFGHIJKLMNOPQR 1",
     ];
     for name in names {
-        assert_eq!(rt;
-            refusal(rt.alloc(), &with_line(rt.alloc(), 2, name)?),
-            Some(CertFault::Opening { line: 2 })
-        );
+        assert_line_refused(&rt, 2, name, CertFault::Opening { line: 2 })?;
     }
     Ok(())
 }
@@ -221,10 +300,7 @@ fn sizes_that_are_refused(rt: HostRuntime) -> Result<(), Fail> {
         b"size 3 3 6 262",
     ];
     for size in sizes {
-        assert_eq!(rt;
-            refusal(rt.alloc(), &with_line(rt.alloc(), 3, size)?),
-            Some(CertFault::Size { line: 3 })
-        );
+        assert_line_refused(&rt, 3, size, CertFault::Size { line: 3 })?;
     }
     Ok(())
 }
@@ -262,10 +338,7 @@ fn rows_that_are_refused(rt: HostRuntime) -> Result<(), Fail> {
         (6, b"row", 6),
     ];
     for (number, row, line) in rows {
-        assert_eq!(rt;
-            refusal(rt.alloc(), &with_line(rt.alloc(), number, row)?),
-            Some(CertFault::Row { line })
-        );
+        assert_line_refused(&rt, number, row, CertFault::Row { line })?;
     }
     Ok(())
 }
@@ -285,13 +358,21 @@ fn claims_that_are_refused(rt: HostRuntime) -> Result<(), Fail> {
         b"first 3",
     ];
     for claim in claims {
-        assert_eq!(rt;
-            refusal(rt.alloc(), &with_line(rt.alloc(), 7, claim)?),
-            Some(CertFault::Claim { line: 7 })
-        );
+        assert_line_refused(&rt, 7, claim, CertFault::Claim { line: 7 })?;
     }
-    let head = read_head(rt.alloc(), &with_line(rt.alloc(), 7, b"at least 13")?)?;
-    assert_eq!(rt; head.claim, 13);
+    Ok(())
+}
+
+/// What the six containers' head claims with this line in place of that of its claim.
+fn claim_read(alloc: Global, line: &[u8]) -> Result<u32, CertFault> {
+    let text = with_line(alloc, 7, line)?;
+    let head = head_of(alloc, &text)?;
+    Ok(head.claim)
+}
+
+#[test]
+fn highest_claim(rt: HostRuntime) -> Result<(), Fail> {
+    assert_eq!(rt; claim_read(rt.alloc(), b"at least 13")?, 13);
     Ok(())
 }
 
@@ -313,10 +394,7 @@ fn plans_that_are_refused(rt: HostRuntime) -> Result<(), Fail> {
         b"plans 2",
     ];
     for plan in plans {
-        assert_eq!(rt;
-            refusal(rt.alloc(), &with_line(rt.alloc(), 8, plan)?),
-            Some(CertFault::Plan { line: 8 })
-        );
+        assert_line_refused(&rt, 8, plan, CertFault::Plan { line: 8 })?;
     }
     Ok(())
 }
@@ -336,30 +414,44 @@ fn first_of_several_faults(rt: HostRuntime) -> Result<(), Fail> {
             b"plan 07",
         ],
     )?;
-    assert_eq!(rt;
-        refusal(rt.alloc(), &text),
-        Some(CertFault::Row { line: 5 })
-    );
+    assert_refused(&rt, &text, Some(CertFault::Row { line: 5 }));
     let text = joined(rt.alloc(), &[b"CRP-CERT 1", b"bay A 0", b"size 0 0 0 0"])?;
-    assert_eq!(rt;
-        refusal(rt.alloc(), &text),
-        Some(CertFault::Opening { line: 2 })
-    );
+    assert_refused(&rt, &text, Some(CertFault::Opening { line: 2 }));
     Ok(())
+}
+
+/// The text cut to this length is refused with the fault of the line where it ends.
+fn assert_cut(rt: &(impl Abort + AllocGlobal), cut: &[u8]) {
+    let length = cut.len();
+    let fault = fault_at(line_after(cut));
+    assert_eq!(rt; refusal(rt.alloc(), cut), Some(fault), "{length}");
 }
 
 #[test]
 fn head_cut_at_every_length(rt: HostRuntime) -> Result<(), Fail> {
     let text = joined(rt.alloc(), &SIX_CONTAINERS)?;
     for length in 0..text.len() {
-        let cut = &text[..length];
-        assert_eq!(rt;
-            refusal(rt.alloc(), cut),
-            Some(fault_at(line_after(cut))),
-            "{length}"
-        );
+        assert_cut(&rt, &text[..length]);
     }
-    assert_eq!(rt; refusal(rt.alloc(), &text), None);
+    assert_refused(&rt, &text, None);
+    Ok(())
+}
+
+/// The line of the byte in this place.
+fn line_at(text: &[u8], at: usize) -> u32 {
+    line_after(text.get(..at).unwrap_or(text))
+}
+
+/// With another byte in this place the head is refused with this fault, or is read.
+fn assert_changed(
+    rt: &(impl Abort + AllocGlobal),
+    text: &[u8],
+    at: usize,
+    byte: u8,
+    fault: Option<CertFault>,
+) -> Result<(), AllocError> {
+    let changed = with_byte(rt.alloc(), text, at, byte)?;
+    assert_fault(rt, refusal(rt.alloc(), &changed), fault, &changed);
     Ok(())
 }
 
@@ -368,16 +460,24 @@ fn each_byte_of_a_head_changed(rt: HostRuntime) -> Result<(), Fail> {
     let text = joined(rt.alloc(), &SIX_CONTAINERS)?;
     let block = b"CRP-CERT 1\nbay ".len();
     for at in 0..text.len() {
-        let line = line_after(&text[..at]);
         for byte in [0x00, 0x27, 0x2c, 0xff] {
-            let changed = with_byte(rt.alloc(), &text, at, byte)?;
-            if at == block && (byte == 0x27 || byte == 0x2c) {
-                let head = read_head(rt.alloc(), &changed)?;
-                assert_eq!(rt; head.bay.block(), [byte].as_slice());
+            let fault = if at == block && (byte == 0x27 || byte == 0x2c) {
+                None
             } else {
-                assert_eq!(rt; refusal(rt.alloc(), &changed), Some(fault_at(line)), "{at}");
-            }
+                Some(fault_at(line_at(&text, at)))
+            };
+            assert_changed(&rt, &text, at, byte, fault)?;
         }
+    }
+    Ok(())
+}
+
+#[test]
+fn other_bytes_name_a_block(rt: HostRuntime) -> Result<(), Fail> {
+    let names: [(&[u8], &[u8]); 2] = [(b"bay ' 1", b"'"), (b"bay , 1", b",")];
+    for (line, block) in names {
+        let text = with_line(rt.alloc(), 2, line)?;
+        assert_eq!(rt; block_of(&head_of(rt.alloc(), &text)?.bay), block);
     }
     Ok(())
 }

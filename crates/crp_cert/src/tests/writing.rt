@@ -83,6 +83,10 @@ fn nothing_buried(rt: &impl Abort, alloc: Global) -> Result<(Problem, Cert), All
     Ok((problem, cert))
 }
 
+fn bay_a(rt: &impl Abort) -> BayName {
+    BayName::new(b"A", 1).expect(rt, "a name")
+}
+
 /// The text of a certificate in bay A 1, with the plan of these rows or none.
 fn text_of(
     rt: &impl Abort,
@@ -91,7 +95,7 @@ fn text_of(
     rows: Option<&[u8]>,
 ) -> Result<Vec<u8>, AllocError> {
     let (problem, cert) = case;
-    let bay = BayName::new(b"A", 1).expect(rt, "a name");
+    let bay = bay_a(rt);
     match rows {
         Some(rows) => {
             let plan = Plan::from_rows(problem, rows).expect(rt, "a plan");
@@ -116,19 +120,51 @@ at least 5\nplan -\npart /: X\nend 1\n";
 const NOTHING_BURIED: &[u8] = b"CRP-CERT 1\nbay A 1\nsize 2 2 2 2\nrow 2 1\nrow\n\
 at least 0\nplan\npart /: B\nend 1\n";
 
+/// The text of a certificate with the plan of these rows or none is this.
+fn assert_text(
+    rt: &impl Abort,
+    alloc: Global,
+    case: &(Problem, Cert),
+    rows: Option<&[u8]>,
+    expected: &[u8],
+) -> Result<(), AllocError> {
+    let text = text_of(rt, alloc, case, rows)?;
+    assert_eq!(rt; text.as_slice(), expected);
+    Ok(())
+}
+
 #[test]
 fn worked_certificates_are_written(rt: HostRuntime) -> Result<(), Fail> {
     let alloc = rt.alloc();
-    let text = text_of(&rt, alloc, &branched(&rt, alloc)?, Some(&[2, 2, 1]))?;
-    assert_eq!(rt; text.as_slice(), BRANCHED);
-    let text = text_of(&rt, alloc, &cut_at_once(&rt, alloc)?, Some(&[2, 2, 1]))?;
-    assert_eq!(rt; text.as_slice(), CUT_AT_ONCE);
-    let text = text_of(&rt, alloc, &cut_ahead(&rt, alloc)?, Some(&[3, 1]))?;
-    assert_eq!(rt; text.as_slice(), CUT_AHEAD);
-    let text = text_of(&rt, alloc, &dead_end(&rt, alloc)?, None)?;
-    assert_eq!(rt; text.as_slice(), DEAD_END);
-    let text = text_of(&rt, alloc, &nothing_buried(&rt, alloc)?, Some(&[]))?;
-    assert_eq!(rt; text.as_slice(), NOTHING_BURIED);
+    assert_text(
+        &rt,
+        alloc,
+        &branched(&rt, alloc)?,
+        Some(&[2, 2, 1]),
+        BRANCHED,
+    )?;
+    assert_text(
+        &rt,
+        alloc,
+        &cut_at_once(&rt, alloc)?,
+        Some(&[2, 2, 1]),
+        CUT_AT_ONCE,
+    )?;
+    assert_text(
+        &rt,
+        alloc,
+        &cut_ahead(&rt, alloc)?,
+        Some(&[3, 1]),
+        CUT_AHEAD,
+    )?;
+    assert_text(&rt, alloc, &dead_end(&rt, alloc)?, None, DEAD_END)?;
+    assert_text(
+        &rt,
+        alloc,
+        &nothing_buried(&rt, alloc)?,
+        Some(&[]),
+        NOTHING_BURIED,
+    )?;
     Ok(())
 }
 
@@ -159,23 +195,42 @@ impl Sink for Small {
     }
 }
 
+/// A sink of this room.
+fn make_small(alloc: Global, room: usize) -> Small {
+    Small {
+        bytes: Vec::new(alloc),
+        room,
+        failed: 0,
+    }
+}
+
+/// Writes a certificate without a plan, in bay A 1.
+fn write<W: Sink>(
+    rt: &impl Abort,
+    alloc: Global,
+    sink: &mut W,
+    case: &(Problem, Cert),
+) -> Result<(), WriteFault> {
+    let (problem, cert) = case;
+    let bay = bay_a(rt);
+    write_cert(alloc, sink, &bay, problem, cert, None, &mut 0)
+}
+
 #[test]
 fn certificates_go_to_a_sink(rt: HostRuntime) -> Result<(), Fail> {
-    let alloc = rt.alloc();
-    let (problem, cert) = dead_end(&rt, alloc)?;
-    let bay = BayName::new(b"A", 1).expect(&rt, "a name");
-    let mut sink = Received::new(alloc);
-    write_cert(alloc, &mut sink, &bay, &problem, &cert, None, &mut 0)?;
+    let mut sink = Received::new(rt.alloc());
+    write(&rt, rt.alloc(), &mut sink, &dead_end(&rt, rt.alloc())?)?;
     assert_eq!(rt; sink.bytes.as_slice(), DEAD_END);
-    let mut small = Small {
-        bytes: Vec::new(alloc),
-        room: 20,
-        failed: 0,
-    };
-    let answer = write_cert(alloc, &mut small, &bay, &problem, &cert, None, &mut 0);
+    Ok(())
+}
+
+#[test]
+fn a_full_sink_holds_a_front(rt: HostRuntime) -> Result<(), Fail> {
+    let mut sink = make_small(rt.alloc(), 20);
+    let answer = write(&rt, rt.alloc(), &mut sink, &dead_end(&rt, rt.alloc())?);
     assert_eq!(rt; answer, Err(WriteFault::Failed));
-    assert_eq!(rt; small.bytes.as_slice(), &DEAD_END[..20]);
-    assert_eq!(rt; small.failed, 1);
+    assert_eq!(rt; sink.bytes.as_slice(), &DEAD_END[..20]);
+    assert_eq!(rt; sink.failed, 1);
     Ok(())
 }
 
@@ -190,11 +245,19 @@ fn names_of_bays_are_written(rt: HostRuntime) -> Result<(), Fail> {
     Ok(())
 }
 
+fn assert_fault_text(
+    rt: &(impl Abort + AllocGlobal),
+    fault: WriteFault,
+    expected: &str,
+) -> Result<(), AllocError> {
+    let text = fault.to_string(rt.alloc())?;
+    assert_eq!(rt; text.as_str(), expected);
+    Ok(())
+}
+
 #[test]
 fn texts_of_write_faults(rt: HostRuntime) -> Result<(), Fail> {
-    let failed = WriteFault::Failed.to_string(rt.alloc())?;
-    assert_eq!(rt; failed.as_str(), "a write failed");
-    let memory = WriteFault::Memory.to_string(rt.alloc())?;
-    assert_eq!(rt; memory.as_str(), "no memory is left");
+    assert_fault_text(&rt, WriteFault::Failed, "a write failed")?;
+    assert_fault_text(&rt, WriteFault::Memory, "no memory is left")?;
     Ok(())
 }

@@ -51,19 +51,17 @@ enum Part {
     Data,
 }
 
-fn part_at(text: &[u8], place: usize, start: usize) -> Part {
-    match text.get(place).copied() {
-        Some(b'\'') => Part::Terminator,
-        Some(b'\n') => Part::LineEnd,
-        _ => {
-            if place < start.saturating_add(3) {
-                Part::Tag { start }
-            } else if place == start.saturating_add(3) {
-                Part::TagEnd { start }
-            } else {
-                Part::Data
-            }
-        }
+fn part_at(byte: u8, place: usize, start: usize) -> Part {
+    if byte == b'\'' {
+        Part::Terminator
+    } else if byte == b'\n' {
+        Part::LineEnd
+    } else if place < start.saturating_add(3) {
+        Part::Tag { start }
+    } else if place == start.saturating_add(3) {
+        Part::TagEnd { start }
+    } else {
+        Part::Data
     }
 }
 
@@ -95,10 +93,10 @@ fn every_byte_changed(rt: HostRuntime) -> Result<(), Fail> {
     let length = text.len();
     let mut start: usize = 0;
     for place in 0..length {
-        let part = part_at(&text, place, start);
         let Some(old) = text.get(place).copied() else {
             continue;
         };
+        let part = part_at(old, place, start);
         for byte in [0x00, 0x27, 0x2C, 0xFF] {
             if byte == old {
                 continue;

@@ -4,18 +4,31 @@ use itoa::Buffer;
 use std::alloc::{AllocError, Global};
 use std::test::Fail;
 
+fn push_piece(text: &mut Vec<u8>, piece: &[u8]) -> Result<(), AllocError> {
+    text.extend_from_slice(piece)
+}
+
+fn push_number(text: &mut Vec<u8>, number: usize) -> Result<(), AllocError> {
+    let mut digits = Buffer::new();
+    push_piece(text, digits.format(number).as_bytes())
+}
+
+/// The record of the container with this number, from 0.
+fn push_record(text: &mut Vec<u8>, number: usize) -> Result<(), AllocError> {
+    push_piece(text, b"A,")?;
+    push_number(text, (number / 8).saturating_add(1))?;
+    push_piece(text, b",1,")?;
+    push_number(text, number % 8 + 1)?;
+    push_piece(text, b",C")?;
+    push_number(text, number)?;
+    push_piece(text, b"\n")
+}
+
 /// So many containers, in bays of eight.
 fn many(alloc: Global, count: usize) -> Result<Vec<u8>, AllocError> {
     let mut text = with_header(alloc, b"")?;
-    for i in 0..count {
-        let mut digits = Buffer::new();
-        text.extend_from_slice(b"A,")?;
-        text.extend_from_slice(digits.format((i / 8).saturating_add(1)).as_bytes())?;
-        text.extend_from_slice(b",1,")?;
-        text.extend_from_slice(digits.format(i % 8 + 1).as_bytes())?;
-        text.extend_from_slice(b",C")?;
-        text.extend_from_slice(digits.format(i).as_bytes())?;
-        text.push(b'\n')?;
+    for number in 0..count {
+        push_record(&mut text, number)?;
     }
     Ok(text)
 }

@@ -11,4 +11,4 @@ returns-in-Err g c =
       before = g.W.Sink.failures c.args.out.now;
       after = g.W.Sink.failures c.args.out.now;
     } in
-    not_opened c.args.job.now seen c.requires.one_file (search rules)
+    not_opened c.args.job.now seen c.requires (search rules)

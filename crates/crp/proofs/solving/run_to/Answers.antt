@@ -1,4 +1,4 @@
-use Rattle.std.proofs.Common.{rules, refl, inr}
+use Rattle.std.proofs.Common.{refl, inr}
 use Rattle.crp_report.specs.Runs.{Seen}
 use Rattle.crp.proofs.solving.run_to.Goals as goal
 

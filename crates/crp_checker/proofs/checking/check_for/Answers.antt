@@ -20,34 +20,34 @@ returns-in_err-script-clause-rejected c =
     rw (p.1, p.2)
     (rejected (Some c.args.problem.now) c.args.bytes.now _ (⊎_elim (λ e. inl e) (λ w. inr (w (Some c.args.problem.now))) c.in_err-script.ensures.refused))
 
-pub returns-then-not-same_problem-clause-rejected : goal.returns-then-not-same_problem-clause-rejected
-returns-then-not-same_problem-clause-rejected c =
+pub returns-then-not-is_same-clause-rejected : goal.returns-then-not-is_same-clause-rejected
+returns-then-not-is_same-clause-rejected c =
     rejected (Some c.args.problem.now) c.args.bytes.now OtherProblem
-    (inr (c.in_ok-script.script, c.in_ok-script.ensures.text, λ e. let same = c.same_problem.ensures.1 e in let not = c.if-not-same_problem.true in cc))
+    (inr (c.in_ok-script.script, c.in_ok-script.ensures.text, λ e. let same = c.is_same.ensures.1 e in let not = c.if-not-is_same.true in cc))
 
 pub returns-in_err-_bay-clause-refused : goal.returns-in_err-_bay-clause-refused
 returns-in_err-_bay-clause-refused c =
     let p = err_from_is_err_and c.from_residual-in_err-_bay.result c.from_residual-in_err-_bay.ensures.1 in
     rw (p.1, p.2)
-    (claim_refused_if (Some c.args.problem.now) c.args.bytes.now c.in_ok-script.script c.in_err-_bay.field-0.0 c.in_ok-script.ensures.text (c.same_problem.ensures.0 c.if-not-same_problem.false) c.in_err-_bay.ensures.refused)
+    (claim_refused_if (Some c.args.problem.now) c.args.bytes.now c.in_ok-script.script c.in_err-_bay.field-0.0 c.in_ok-script.ensures.text (c.is_same.ensures.0 c.if-not-is_same.false) c.in_err-_bay.ensures.refused)
 
 pub returns-in_err-_bay-clause-rejected : goal.returns-in_err-_bay-clause-rejected
 returns-in_err-_bay-clause-rejected c =
     let p = err_from_is_err_and c.from_residual-in_err-_bay.result c.from_residual-in_err-_bay.ensures.1 in
     rw (p.1, p.2)
     (rejected (Some c.args.problem.now) c.args.bytes.now c.in_err-_bay.field-0.0
-    (claim_refused_if (Some c.args.problem.now) c.args.bytes.now c.in_ok-script.script c.in_err-_bay.field-0.0 c.in_ok-script.ensures.text (c.same_problem.ensures.0 c.if-not-same_problem.false) c.in_err-_bay.ensures.refused))
+    (claim_refused_if (Some c.args.problem.now) c.args.bytes.now c.in_ok-script.script c.in_err-_bay.field-0.0 c.in_ok-script.ensures.text (c.is_same.ensures.0 c.if-not-is_same.false) c.in_err-_bay.ensures.refused))
 
 pub returns-clause-bound : goal.returns-clause-bound
 returns-clause-bound c head moves of plan =
-    let same = c.same_problem.ensures.0 c.if-not-same_problem.false in
+    let same = c.is_same.ensures.0 c.if-not-is_same.false in
     let known : IsYes (Some c.args.problem.now) c.args.bytes.now c.in_ok-script.script = record { is_text = c.in_ok-script.ensures.text; as_wanted = same; accepted = c.in_ok-_bay.ensures.accepted } in
     let whose = head_is c.args.bytes.now c.in_ok-script.script head c.in_ok-script.ensures.text of in
     bound_of_head (Some c.args.problem.now) c.args.bytes.now c.in_ok-script.script head moves known of (subst (λ p. IsPlan p moves) (same ∙ sym (ap (λ h. h.problem) whose)) plan)
 
 pub returns-clause-none : goal.returns-clause-none
 returns-clause-none c head moves of most plan =
-    let same = c.same_problem.ensures.0 c.if-not-same_problem.false in
+    let same = c.is_same.ensures.0 c.if-not-is_same.false in
     let known : IsYes (Some c.args.problem.now) c.args.bytes.now c.in_ok-script.script = record { is_text = c.in_ok-script.ensures.text; as_wanted = same; accepted = c.in_ok-_bay.ensures.accepted } in
     let whose = head_is c.args.bytes.now c.in_ok-script.script head c.in_ok-script.ensures.text of in
     let told = same ∙ sym (ap (λ h. h.problem) whose) in
@@ -55,5 +55,5 @@ returns-clause-none c head moves of most plan =
 
 pub returns-clause-says : goal.returns-clause-says
 returns-clause-says c =
-    let same = c.same_problem.ensures.0 c.if-not-same_problem.false in
+    let same = c.is_same.ensures.0 c.if-not-is_same.false in
     subst (λ p. Says p c.in_ok-_bay.verdict) (sym same) (says_from (claim_of c.in_ok-script.script) c.in_ok-_bay.verdict c.in_ok-_bay.ensures.accepted c.in_ok-_bay.ensures.verdict)

@@ -1,6 +1,7 @@
 use Rattle.std.proofs.Common.{sym, subst, All, Contains}
 use Rattle.std.specs.List.Sorted.{IsSorted}
-use Rattle.crp_checker.proofs.InOrder.{name_cmp, sorted_from_rising, absent_in, least_missing, none_missing, least_unneeded, same_names}
+use Rattle.crp_tree.proofs.InOrder.{name_cmp, sorted_from_rising}
+use Rattle.crp_checker.proofs.InOrder.{absent_in, least_missing, none_missing, least_unneeded, same_names}
 use Rattle.crp_checker.proofs.needed.hold_names.Goals as goal
 use Rattle.crp_checker.proofs.needed.hold_names.Goals.{In_default}
 

@@ -1,5 +1,5 @@
 use Rattle.std.proofs.Common.{Bool, IsTrue, ◌↔◌, Contains, sym, subst}
-use Rattle.crp_checker.proofs.InOrder.{found_means}
+use Rattle.crp_tree.proofs.InOrder.{found_means}
 use Rattle.crp_checker.proofs.needed.is_held.Goals as goal
 
 pub returns : goal.returns

@@ -1,6 +1,6 @@
 use Rattle.std.proofs.Common.{subst, ◌∙◌}
 use Rattle.std.specs.List.Sorted.{IsPermutation}
-use Rattle.crp_checker.proofs.InOrder.{needed_are}
+use Rattle.crp_tree.proofs.InOrder.{needed_are}
 use Rattle.crp_checker.proofs.needed.needed_names.Goals as goal
 
 pub returns-clause-all : goal.returns-clause-all

@@ -1,0 +1,5 @@
+pub mod InOrder
+pub mod Moved
+pub mod Accepted
+pub mod Wholes
+pub mod Worked

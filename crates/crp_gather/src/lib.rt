@@ -1,0 +1,13 @@
+//! Parts of one search, in any order, into one certificate.
+#![tactic(auto)]
+
+mod fault;
+mod gathering;
+mod held;
+mod laws;
+#[cfg(test)]
+mod tests;
+
+pub use fault::GatherFault;
+pub use gathering::gather;
+pub use laws::{balanced_parts_are_whole, order_changes_nothing};

@@ -1,0 +1,136 @@
+-- The rule of the shared words: what holds of the limit, of the number of claims and of the views of all seats between any two steps.
+use Rattle.std.specs.Prelude.{◌≡◌, ℕ, ◌+◌, ◌-◌, ◌^◌, ◌<◌, ◌≤◌, ◌⊎◌, List, [], ◌∷◌, length, min, slice_index}
+use Rattle.std.specs.List.{sum_by}
+use mathlib.Core.Option.{some}
+use lib.ListN.{get_elem?}
+use Rattle.atomic_table.specs.Table.{State}
+use Rattle.crp_plan.specs.Bay.{Problem}
+use Rattle.crp_plan.specs.Faults.{IsPlanPath}
+use Rattle.crp_plan.specs.declared.running.View.{View}
+use Rattle.crp_incumbent.specs.declared.rule.Key.{Key}
+use Rattle.crp_incumbent.specs.declared.rule.Standing.{Standing}
+use Rattle.crp_incumbent.specs.declared.rule.Opening.{Opening}
+
+-- all shares of the words: one for each of at most 64 workers, and one
+abbrev pub all_shares : ℕ
+all_shares = 65
+
+-- the largest budget
+abbrev pub most_budget : ℕ
+most_budget = 2 ^ 40
+
+-- how many words the table has, used or not
+abbrev pub all_words : ℕ
+all_words = 16
+
+-- the number of claims is the first word
+abbrev pub spent_at : ℕ
+spent_at = 0
+
+-- the limit is the ninth word, 64 bytes from the first
+abbrev pub limit_at : ℕ
+limit_at = 8
+
+-- the key: the problem, the limit at the start and the budget that the words were opened with
+abbrev pub key_of : Opening → Key
+key_of o = record { problem = o.problem.value; start = o.start; budget = o.budget }
+
+-- the view of the first seat: it has seen the start, did nothing, and has all shares
+abbrev pub first_view : ℕ → View
+first_view start = record { seen = start; mine = start; granted = 0; refused = 0; share = all_shares }
+
+-- the first seat
+abbrev pub first : Key → Standing
+first key = record { key = key; view = first_view key.start }
+
+-- what a seat that was given up by a join leaves: it counts for nothing in any sum, nor in the least
+abbrev pub gone : Standing
+gone = record {
+  key = record { problem = record { heights = []; ordered = 0; stacks = [] }; start = 0; budget = 0 };
+  view = record { seen = 0; mine = 2 ^ 64; granted = 0; refused = 0; share = 0 };
+}
+
+-- a view that gave one share away
+abbrev pub view_kept : View → View
+view_kept v = record v { share = v.share - 1 }
+
+-- the view that was given one share: it has seen what the giver saw, and did nothing
+abbrev pub view_given : ℕ → View → View
+view_given start v = record { seen = v.seen; mine = start; granted = 0; refused = 0; share = 1 }
+
+-- the seat that gave one share away
+abbrev pub kept : Standing → Standing
+kept s = record s { view = view_kept s.view }
+
+-- the seat that was given one share
+abbrev pub given : Standing → Standing
+given s = record s { view = view_given s.key.start s.view }
+
+-- what two views know and did together: the least they saw, the least they offered, and the sums of the rest
+abbrev pub view_joined : View → View → View
+view_joined v w = record {
+  seen = min v.seen w.seen;
+  mine = min v.mine w.mine;
+  granted = v.granted + w.granted;
+  refused = v.refused + w.refused;
+  share = v.share + w.share;
+}
+
+-- the seat that two were made
+abbrev pub joined : Standing → Standing → Standing
+joined s t = record s { view = view_joined s.view t.view }
+
+-- some complete plan of the problem has so many relocations
+abbrev pub IsPlanCount : Problem → ℕ → Type 0
+IsPlanCount p count = (path : List ℕ) × IsPlanPath p path × (length path ≡ count)
+
+-- the limit at the start, or the relocations of some complete plan
+abbrev pub IsLimit : Key → ℕ → Type 0
+IsLimit key n = (n ≡ key.start) ⊎ IsPlanCount key.problem n
+
+-- a number that a seat may have seen or offered under this limit: neither below it nor above the start, and the start or a plan's relocations
+pub record IsAbove (key : Key) (limit n : ℕ) : Type 0 where
+  pub low : limit ≤ n
+  pub high : n ≤ key.start
+  pub known : IsLimit key n
+
+-- a seat that was not given up: it has this key and a share, what it saw and offered is above the limit, and it was refused no more often than it has shares
+pub record IsLive (key : Key) (limit : ℕ) (s : Standing) : Type 0 where
+  pub same : s.key ≡ key
+  pub seen : IsAbove key limit s.view.seen
+  pub mine : IsAbove key limit s.view.mine
+  pub refused : s.view.refused ≤ s.view.share
+  pub share : 1 ≤ s.view.share
+
+-- a seat's granted claims
+abbrev pub granted_of : Standing → ℕ
+granted_of s = s.view.granted
+
+-- a seat's refused claims
+abbrev pub refused_of : Standing → ℕ
+refused_of s = s.view.refused
+
+-- a seat's shares
+abbrev pub share_of : Standing → ℕ
+share_of s = s.view.share
+
+-- the least of a number and of all that the seats offered
+abbrev pub least_mine : ℕ → List Standing → ℕ
+least_mine a [] = a
+least_mine a (s ∷ ss) = min s.view.mine (least_mine a ss)
+
+-- the rule: each seat lives or was given up; the limit is the least of the start and of all that was offered; what is spent are the claims, granted
+-- and refused; the granted ones are the lesser of those and of the budget; and the shares are all there
+pub record IsKept (key : Key) (spent limit : ℕ) (views : List Standing) : Type 0 where
+  pub budget : key.budget ≤ most_budget
+  pub start : key.start < 2 ^ 32
+  pub each : (id : ℕ) (s : Standing) → get_elem? views id ≡ some s → IsLive key limit s ⊎ (s ≡ gone)
+  pub least : limit ≡ least_mine key.start views
+  pub counted : spent ≡ sum_by granted_of views + sum_by refused_of views
+  pub granted : sum_by granted_of views ≡ min spent key.budget
+  pub whole : sum_by share_of views ≡ all_shares
+
+-- the table keeps the rule by two of its words
+pub record Keeps (key : Key) (s : State (Unit {0}) Standing) : Type 0 where
+  pub words : length s.words ≡ all_words
+  pub kept : IsKept key (slice_index s.words spent_at) (slice_index s.words limit_at) s.views

@@ -1,0 +1,16 @@
+//! What the workers of a search share: the limit and the claims, two words without a lock, and the board with the best plan.
+#![tactic(auto)]
+
+mod best;
+mod board;
+mod rule;
+mod seat;
+mod shared;
+#[cfg(test)]
+mod tests;
+
+pub use best::Best;
+pub use board::Board;
+pub use rule::{Key, Standing};
+pub use seat::{Seat, SplitRefused, Why};
+pub use shared::{Shared, Totals};

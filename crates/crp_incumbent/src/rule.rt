@@ -1,0 +1,97 @@
+// The rule of the shared words, and what each step says to the seat that makes it.
+
+use atomic_table::{Join, Play, Split, TableRule};
+use crp_plan::{Problem, View};
+use std::snapshot::Snapshot;
+
+/// What the words are about. Contracts speak of it; no value of it is made.
+pub struct Key {
+    /// The problem whose plans are offered.
+    pub problem: Problem,
+    /// The limit at the start, in relocations.
+    pub start: u64,
+    /// How many expansions may be claimed.
+    pub budget: u64,
+}
+
+/// What the table keeps of each seat: its view, beside a copy of the key. No value of it is made.
+pub struct Standing {
+    /// What the words are about.
+    pub key: Key,
+    /// What the seat knows, and what it did.
+    pub view: View,
+}
+
+/// What the table is given once, as it is made.
+#[derive(Drop)]
+pub(crate) struct Opening {
+    pub(crate) problem: Snapshot<Problem>,
+    pub(crate) start: u64,
+    pub(crate) budget: u64,
+}
+
+/// The rule that holds between any two steps.
+pub(crate) struct Keeping;
+
+impl TableRule<(), Standing, Opening> for Keeping {
+    ghost use Rattle.crp_incumbent.specs.Rule.{Keeps, key_of, first};
+
+    ghost holds = { λ o. Keeps (key_of o) };
+
+    ghost first = { λ o. first (key_of o) };
+}
+
+/// A load of the limit.
+pub(crate) struct Sees;
+
+impl Play<(), Standing> for Sees {
+    ghost use Rattle.crp_incumbent.specs.Steps.{Saw};
+
+    ghost then = { Saw };
+}
+
+/// The limit becomes the lesser of itself and a plan's relocations.
+pub(crate) struct Offers;
+
+impl Play<(), Standing> for Offers {
+    ghost use Rattle.crp_incumbent.specs.Steps.{Offered};
+
+    ghost then = { Offered };
+}
+
+/// One more is claimed.
+pub(crate) struct Claims;
+
+impl Play<(), Standing> for Claims {
+    ghost use Rattle.crp_incumbent.specs.Steps.{Claimed};
+
+    ghost then = { Claimed };
+}
+
+/// A load that changes no view, and says that no seat has more than all shares.
+pub(crate) struct Looks;
+
+impl Play<(), Standing> for Looks {
+    ghost use Rattle.crp_incumbent.specs.Steps.{Looked};
+
+    ghost then = { Looked };
+}
+
+/// One share goes to a new seat, and one seat is made of two.
+pub(crate) struct Shares;
+
+impl Split<Standing> for Shares {
+    ghost use Rattle.crp_incumbent.specs.Rule.{kept, given};
+
+    ghost left = { kept };
+
+    ghost right = { given };
+}
+
+impl Join<Standing> for Shares {
+    ghost use Rattle.crp_incumbent.specs.Rule.{joined, gone};
+
+    ghost both = { joined };
+
+    ghost spent = { gone };
+}

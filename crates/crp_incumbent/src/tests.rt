@@ -1,0 +1,5 @@
+mod bays;
+mod bests;
+mod boards;
+mod seats;
+mod threads;

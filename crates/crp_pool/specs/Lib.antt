@@ -1,0 +1,4 @@
+pub mod Deques
+pub mod Hand
+pub mod Seats
+pub mod Weigh

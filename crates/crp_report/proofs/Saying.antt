@@ -1,0 +1,154 @@
+-- What a run says, and that two runs with one report say the same.
+use Rattle.std.proofs.Common.{◌≡◌, ℕ, suc, ◌+◌, ◌<◌, ◌^◌, cond, List, [], ◌∷◌, ◌++◌, length, map, Option, Some, None, IfSome, refl, sym, ap, ◌∙◌, subst, arith}
+use Rattle.std.specs.Prelude.{flat_map, count_by, fold, option_map}
+use Rattle.std.specs.List.{AllByRecursion, AllZip}
+use Rattle.std.proofs.lemmas.List.Elements.{recursion_from_All}
+use Rattle.crp_plan.specs.Bay.{Problem, IsProblem}
+use Rattle.crp_plan.specs.BayNames.{IsYardBay}
+use Rattle.crp_plan.specs.Plans.{Route}
+use Rattle.crp_plan.proofs.Tallies.{cap_low}
+use Rattle.crp_solve.specs.declared.answer.Answer.{Answer}
+use Rattle.crp_solve.specs.declared.answer.Answer.TheVariants as answer
+use Rattle.crp_solve.specs.declared.answer.Cause.TheVariants as cause
+use Rattle.crp_solve.specs.Answers.{IsTrueAnswer, IsPlanOf}
+use Rattle.crp_solve.proofs.Limits.{count_low}
+use Rattle.crp_report.specs.Answered.{Answered, plan_in, status_of, is_decided}
+use Rattle.crp_report.specs.Chosen.{RunChosen}
+use Rattle.crp_report.specs.Report.{numbers_line, bay_words, answer_words, bays_line, decided, TellsBays}
+use Rattle.crp_report.specs.Runs.{Seen, Made, IsMade, numbers_of}
+use Rattle.crp_report.specs.Said.{said_words, is_settled, BaySaid, bay_text, said_by, IsSaidOf, Says, SayTheSame}
+use Rattle.crp_report.proofs.Bytes.{IsPlain}
+use Rattle.crp_report.proofs.Takes.{plain_names}
+use Rattle.crp_report.proofs.YardNames.{IsNamedProblem, problems_named}
+use Rattle.crp_report.proofs.Counts.{AreSmall, numbers_small}
+use Rattle.crp_report.proofs.OneText.{plan_lines, IsSmall, IsSayable, report_once}
+
+-- a bay of which something can be said
+pub record IsTellable (bay : Answered) : Type 0 where
+  pub named : IsYardBay bay.told.bay
+  pub plain : AllByRecursion IsPlain bay.told.names
+  pub small : IsSmall (said_by bay.answer)
+
+-- what is said of bays
+pub record AreSaid (answered : List Answered) (text : List ℕ) : Type 0 where
+  pub bays : List BaySaid
+  pub of_each : AllZip IsSaidOf answered bays
+  pub sayable : AllByRecursion IsSayable bays
+  pub is : text ≡ flat_map bay_text bays
+
+-- an answer is said in its words
+words_said : (found : Answer) → answer_words found ≡ said_words (said_by found)
+words_said (answer.Optimal plan cert) = refl
+words_said (answer.NoPlan cert) = refl
+words_said (answer.Between lower cert None why) = refl
+words_said (answer.Between lower cert (Some plan) why) = refl
+
+bays_said : (answered : List Answered) (text : List ℕ) → AllByRecursion IsTellable answered → TellsBays answered text → AreSaid answered text
+bays_said [] text can told = record { bays = []; of_each = tt; sayable = tt; is = told }
+bays_said (bay ∷ answered) text can (first, rest, (lines, plan, first-is), told, is) =
+    let k = can.0 in
+    let more = bays_said answered rest can.1 told in
+    let b : BaySaid = record { bay = bay.told.bay; said = said_by bay.answer; lines = lines } in
+    record {
+      bays = b ∷ more.bays;
+      of_each = (record { bay_is = refl; said_is = refl; lines_are = plan }, more.of_each);
+      sayable = (record { named = k.named; small = k.small; lines = plan_lines bay.told.names (plan_in bay.answer) lines k.plain plan }, more.sayable);
+      is = is ∙ ap (λ l. l ++ rest) (first-is ∙ ap (λ w. (bay_words bay.told.bay ++ (w ++ 10 ∷ [])) ++ lines) (words_said bay.answer)) ∙ ap (λ l. bay_text b ++ l) more.is;
+    }
+
+-- as many are settled as are decided
+settled : (found : Answer) → is_settled (said_by found) ≡ is_decided (status_of found)
+settled (answer.Optimal plan cert) = refl
+settled (answer.NoPlan cert) = refl
+settled (answer.Between lower cert plan cause.Budget) = refl
+settled (answer.Between lower cert plan cause.Memory) = refl
+
+settled_from : (answered : List Answered) (bays : List BaySaid) → AllZip IsSaidOf answered bays → (n : ℕ)
+    → fold (λ m (b : BaySaid). m + cond (is_settled b.said) 1 0) n bays ≡ fold (λ m (bay : Answered). m + cond (is_decided (status_of bay.answer)) 1 0) n answered
+settled_from [] [] said n = refl
+settled_from [] (b ∷ bays) said n = absurd said
+settled_from (bay ∷ answered) [] said n = absurd said
+settled_from (bay ∷ answered) (b ∷ bays) said n =
+    let first = said.0 in
+    let e : is_settled b.said ≡ is_decided (status_of bay.answer) = ap is_settled first.said_is ∙ settled bay.answer in
+    rw e (settled_from answered bays said.1 (n + cond (is_decided (status_of bay.answer)) 1 0))
+
+said_length : (answered : List Answered) (bays : List BaySaid) → AllZip IsSaidOf answered bays → length bays ≡ length answered
+said_length [] [] said = refl
+said_length [] (b ∷ bays) said = absurd said
+said_length (bay ∷ answered) [] said = absurd said
+said_length (bay ∷ answered) (b ∷ bays) said = ap (λ n. suc n) (said_length answered bays said.1)
+
+-- what is said of small numbers
+small_answer : (p : Problem) (budget : ℕ) (found : Answer) (expanded : ℕ) → IsTrueAnswer p budget found expanded → IsSmall (said_by found)
+small_answer p budget (answer.Optimal plan cert) expanded t =
+    let o = t.says in
+    let ok = t.accepted in
+    let low = count_low p (Some plan) ok.is_problem o.plan_is in
+    let few = cap_low p ok.is_problem in omega (arith, low, few)
+small_answer p budget (answer.NoPlan cert) expanded t = tt
+small_answer p budget (answer.Between lower cert plan why) expanded t =
+    let o = t.says in
+    let ok = t.accepted in
+    let few = cap_low p ok.is_problem in
+    let within = ok.within_cap in
+    let shown = o.shown in
+    (omega (arith, few, within, shown), upper plan o.plan_is ok.is_problem)
+  where
+    upper : (plan : Option Route) → IfSome plan (IsPlanOf p) → IsProblem p → IfSome (option_map (λ (route : Route). length route.path) plan) (λ count. count < 2 ^ 64)
+    upper None is problem = tt
+    upper (Some route) is problem =
+        let low = count_low p (Some route) problem is in
+        let few = cap_low p problem in omega (arith, low, few)
+
+tellable : (budget : ℕ) (answered : List Answered) → AllByRecursion IsNamedProblem (map (λ bay. bay.told) answered)
+    → AllByRecursion (λ bay. IsTrueAnswer bay.told.problem budget bay.answer bay.expanded) answered → AllByRecursion IsTellable answered
+tellable budget [] named t = tt
+tellable budget (bay ∷ answered) named t =
+    let name = named.0 in
+    (record { named = name.bay; plain = plain_names bay.told.names name.names; small = small_answer bay.told.problem budget bay.answer bay.expanded t.0 }, tellable budget answered named.1 t.1)
+
+-- the problems of a run have names
+pub answered_named : (chosen : RunChosen) (seen : Seen) (m : Made) → IsMade chosen seen m → AllByRecursion IsNamedProblem (map (λ bay. bay.told) m.answered)
+answered_named chosen seen m is =
+    let t = is.true_answers in
+    subst (AllByRecursion IsNamedProblem) (sym t.one_for_each) (problems_named chosen.rows chosen.tiers m.list m.yard m.sequence is.listed)
+
+-- what a run says, and that it can be said
+pub record HasSaid (m : Made) : Type 0 where
+  pub bays : List BaySaid
+  pub said : Says m bays
+  pub sayable : AllByRecursion IsSayable bays
+
+pub run_says : (chosen : RunChosen) (seen : Seen) (m : Made) → IsMade chosen seen m → HasSaid m
+run_says chosen seen m is =
+    let t = is.true_answers in
+    let each = recursion_from_All (λ (bay : Answered). IsTrueAnswer bay.told.problem chosen.search.budget bay.answer bay.expanded) m.answered t.each_true in
+    let report = is.report in
+    let are = bays_said m.answered report.0 (tellable chosen.search.budget m.answered (answered_named chosen seen m is) each) report.1 in
+    let n = numbers_of m.yard m.orders m.sequence in
+    let count : count_by (λ (b : BaySaid). is_settled b.said) are.bays ≡ decided m.answered = settled_from m.answered are.bays are.of_each 0 in
+    record {
+      bays = are.bays;
+      said = record {
+        of_each = are.of_each;
+        report = report.2 ∙ ap (λ l. numbers_line n ++ (l ++ bays_line (length m.answered) (decided m.answered))) are.is
+            ∙ ap (λ k. numbers_line n ++ (flat_map bay_text are.bays ++ bays_line k (decided m.answered))) (sym (said_length m.answered are.bays are.of_each))
+            ∙ ap (λ k. numbers_line n ++ (flat_map bay_text are.bays ++ bays_line (length are.bays) k)) (sym count);
+      };
+      sayable = are.sayable;
+    }
+
+pub small_numbers : (chosen : RunChosen) (seen : Seen) (m : Made) → IsMade chosen seen m → AreSmall (numbers_of m.yard m.orders m.sequence)
+small_numbers chosen seen m is = numbers_small chosen.mode chosen.code m.message m.yard m.orders m.sequence is.ordered is.in_sequence
+
+-- two runs whose reports are the same bytes say the same
+pub same_said : (chosen other : RunChosen) (seen again : Seen) (m n : Made) → IsMade chosen seen m → IsMade other again n → m.report ≡ n.report → SayTheSame m n
+same_said chosen other seen again m n is-m is-n e =
+    let a = run_says chosen seen m is-m in
+    let b = run_says other again n is-n in
+    let first = a.said in
+    let second = b.said in
+    let once = report_once (numbers_of m.yard m.orders m.sequence) (numbers_of n.yard n.orders n.sequence) a.bays b.bays (small_numbers chosen seen m is-m) (small_numbers other again n is-n)
+    a.sayable b.sayable (sym first.report ∙ e ∙ second.report) in
+    record { numbers = once.0; bays = a.bays; said = first; said_again = subst (Says n) (sym once.1) second }

@@ -1,0 +1,212 @@
+-- The bays and the containers of an accepted yard list have names that fit a line.
+use Rattle.std.proofs.Common.{◌≡◌, ℕ, zero, suc, ◌-◌, ◌<◌, ◌≤◌, ◌==◌, Bool, true, false, not, cond, List, [], ◌∷◌, ◌++◌, length, take, get_or, map, filter, fold, Option, Some, None, refl, sym, subst, arith, nat_le}
+use Rattle.std.specs.Prelude.{◌&&◌, ◌||◌, max, option_to_list}
+use Rattle.std.specs.List.{AllByRecursion, list_all, list_any}
+use Rattle.std.specs.Map.{lookup}
+use Rattle.std.specs.Str.{bytes_eq}
+use Rattle.std.proofs.lemmas.Bool.{and_parts, leb-true, false≢true}
+use Rattle.std.proofs.lemmas.List.{get_or_default}
+use Rattle.std.proofs.lemmas.List.Concat.{flat_map-append}
+use Rattle.std.proofs.lemmas.List.Elements.{All-from_recursion, recursion_from_All, All-map}
+use Rattle.crp_plan.specs.BayNames.{YardBay, IsYardBay}
+use Rattle.crp_yard.specs.Places.{YardPlace, same_bay, same_place}
+use Rattle.crp_yard.specs.Records.{Entry, is_block, is_container, is_digit, is_number, number_of, is_well_formed, has_numbers, field_of, entry_of, entries_of, records_of}
+use Rattle.crp_yard.specs.Faults.{fault_of, fault_behind, fault_at, first_fault, first_fault_up_to, max_bytes}
+use Rattle.crp_yard.specs.Inventory.{Inventory, StackedBay, bays_of, with_bay, stacked, stack_up_to, stacks_up_to, container_at, is_among}
+use Rattle.crp_yard.specs.Reading.{IsYardList}
+use Rattle.crp_yard.specs.declared.fault.YardFault.TheVariants.{TooLarge}
+use Rattle.crp_yard.proofs.BaySteps.{named}
+use Rattle.crp_yard.proofs.Least.{neither, faultless-up_to}
+use Rattle.crp_yard.proofs.RecordSteps.{not_one}
+use Rattle.crp_order.specs.declared.bay_problem.BayProblem.{BayProblem}
+use Rattle.crp_order.specs.BayProblems.{standing, leaving, staying, ranked, problems_of, bay_problem_of, is_called}
+use Rattle.crp_order.proofs.Once.{same}
+use Rattle.crp_report.specs.TakeLines.{FitsLine}
+use Rattle.crp_report.proofs.Bytes.{all_both}
+
+-- ---- a record names a bay and a container
+
+-- a number of at most four digits
+small_number : (bytes : List ℕ) → length bytes ≤ 4 → AllByRecursion (λ b. b ≤ 57) bytes → number_of bytes < 10000
+small_number [] few low = omega arith
+small_number (a ∷ []) few low = omega (arith, low.0)
+small_number (a ∷ b ∷ []) few low = omega (arith, low.0, low.1.0)
+small_number (a ∷ b ∷ c ∷ []) few low = omega (arith, low.0, low.1.0, low.1.1.0)
+small_number (a ∷ b ∷ c ∷ d ∷ []) few low = omega (arith, low.0, low.1.0, low.1.1.0, low.1.1.1.0)
+small_number (a ∷ b ∷ c ∷ d ∷ e ∷ bytes) few low = absurd (omega (arith, few))
+
+low_digits : (bytes : List ℕ) → list_all is_digit bytes ≡ true → AllByRecursion (λ b. b ≤ 57) bytes
+low_digits [] e = tt
+low_digits (b ∷ bytes) e =
+    let parts = and_parts (is_digit b) (list_all is_digit bytes) e in
+    let digit = and_parts (nat_le 48 b) (nat_le b 57) parts.0 in
+    (leb-true b 57 digit.1, low_digits bytes parts.1)
+
+number_small : (bytes : List ℕ) → is_number bytes ≡ true → number_of bytes < 10000
+number_small bytes e =
+    let parts = and_parts (nat_le 1 (length bytes) && nat_le (length bytes) 4) (list_all is_digit bytes) e in
+    let long = and_parts (nat_le 1 (length bytes)) (nat_le (length bytes) 4) parts.0 in
+    small_number bytes (leb-true (length bytes) 4 long.1) (low_digits bytes parts.1)
+
+high_bytes : (bytes : List ℕ) → list_all (λ b. nat_le 32 b) bytes ≡ true → AllByRecursion (λ b. 32 ≤ b) bytes
+high_bytes [] e = tt
+high_bytes (b ∷ bytes) e =
+    let parts = and_parts (nat_le 32 b) (list_all (λ b. nat_le 32 b) bytes) e in
+    (leb-true 32 b parts.0, high_bytes bytes parts.1)
+
+-- where the first fault of several is none, the test before it is passed
+passed : {X : Type 0} (t : Bool) (x : X) (rest : Option X) → cond (not t) (Some x) rest ≡ None → (t ≡ true) × (rest ≡ None)
+passed true x rest e = (refl, e)
+passed false x rest e = cc
+
+-- an entry names a bay and a container
+pub record HasGoodNames (entry : Entry) : Type 0 where
+  pub bay : IsYardBay entry.0.bay
+  pub container : FitsLine entry.1
+
+good_entry : (rows tiers : ℕ) (entries : List Entry) (n : ℕ) (fields : List (List ℕ)) → fault_of rows tiers entries n fields ≡ None → HasGoodNames (entry_of fields)
+unfolding fault_of entry_of
+good_entry rows tiers entries n fields e =
+    let formed = passed (is_well_formed fields) _ _ e in
+    let numbers = passed (has_numbers fields) _ _ formed.1 in
+    let three = and_parts (is_number (field_of fields 1) && (is_number (field_of fields 2) && is_number (field_of fields 3))) (nat_le 1 (number_of (field_of fields 1))) numbers.0 in
+    let first = and_parts (is_number (field_of fields 1)) (is_number (field_of fields 2) && is_number (field_of fields 3)) three.0 in
+    let both = and_parts (length fields == 5) (is_block (field_of fields 0) && is_container (field_of fields 4)) formed.0 in
+    let last = and_parts (is_block (field_of fields 0)) (is_container (field_of fields 4)) both.1 in
+    let name = and_parts (nat_le 1 (length (field_of fields 4)) && nat_le (length (field_of fields 4)) 35) (list_all (λ b. nat_le 32 b) (field_of fields 4)) last.1 in
+    record {
+      bay = named fields (number_of (field_of fields 1)) formed.0 numbers.0 refl (number_small (field_of fields 1) first.0);
+      container = All-from_recursion (λ b. 32 ≤ b) (field_of fields 4) (high_bytes (field_of fields 4) name.1);
+    }
+
+-- ---- so do all records of a list without a fault
+
+good_behind : (rows tiers : ℕ) (entries : List Entry) (n : ℕ) (fields : List (List ℕ)) → fault_behind rows tiers entries (suc (suc n)) fields ≡ None → HasGoodNames (entry_of fields)
+unfolding fault_behind
+good_behind rows tiers entries n fields e = let other : (suc (suc n) == 1) ≡ false = not_one n in good_entry rows tiers entries (suc (suc n)) fields (rw other at e)
+
+good_record : (rows tiers : ℕ) (first : List (List ℕ)) (records : List (List (List ℕ))) → first_fault rows tiers (first ∷ records) ≡ None → (i : ℕ) → i < length records → HasGoodNames (entry_of (get_or records i []))
+unfolding first_fault fault_at
+good_record rows tiers first records e i below =
+    let parts = neither (first_fault_up_to rows tiers (first ∷ records) (max 1 (length (first ∷ records)))) _ e in
+    let top : max 1 (length (first ∷ records)) ≡ suc (length records) = omega arith in
+    let none = faultless-up_to rows tiers (first ∷ records) (suc (length records)) (rw top at parts.0) (suc (suc i)) (omega arith) (omega arith) in
+    let number : suc (suc i) - 1 ≡ suc i = omega arith in
+    good_behind rows tiers (map entry_of (take i records)) i (get_or records i []) (rw number at none)
+
+good_entries : (rows tiers : ℕ) (records : List (List (List ℕ))) → first_fault rows tiers records ≡ None → AllByRecursion HasGoodNames (entries_of records)
+good_entries rows tiers [] e = tt
+good_entries rows tiers (first ∷ records) e =
+    recursion_from_All HasGoodNames (map entry_of records)
+    (All-map HasGoodNames entry_of records
+    (λ i d below. subst (λ fields. HasGoodNames (entry_of fields)) (get_or_default records i [] d below) (good_record rows tiers first records e i below)))
+
+-- ---- and all bays of the yard
+
+-- what holds of all bays holds of each once
+once_each : (P : YardBay → Type 0) (seen bays : List YardBay) → AllByRecursion P seen → AllByRecursion P bays → AllByRecursion P (fold with_bay seen bays)
+once_each P seen [] s h = s
+once_each P seen (bay ∷ bays) s h = once_each P (with_bay seen bay) bays (more (list_any (same_bay bay) seen)) h.1
+  where
+    more : (t : Bool) → AllByRecursion P (cond t seen (seen ++ bay ∷ []))
+    more true = s
+    more false = all_both P seen (bay ∷ []) s (h.0, tt)
+
+bays_named : (entries : List Entry) → AllByRecursion HasGoodNames entries → AllByRecursion IsYardBay (map (λ entry. entry.0.bay) entries)
+bays_named [] good = tt
+bays_named (entry ∷ entries) good = let first = good.0 in (first.bay, bays_named entries good.1)
+
+-- what is found among entries has a good name
+found_fits : (test : YardPlace → Bool) (entries : List Entry) → AllByRecursion HasGoodNames entries → AllByRecursion FitsLine (option_to_list (lookup test entries))
+found_fits test [] good = tt
+found_fits test (entry ∷ entries) good = let first = good.0 in by (test entry.0) (first.container, tt) (found_fits test entries good.1)
+  where
+    by : (t : Bool) → AllByRecursion FitsLine (entry.1 ∷ []) → AllByRecursion FitsLine (option_to_list (lookup test entries)) → AllByRecursion FitsLine (option_to_list (cond t (Some entry.1) (lookup test entries)))
+    by true here later = here
+    by false here later = later
+
+stack_fits : (entries : List Entry) (bay : YardBay) (row tier : ℕ) → AllByRecursion HasGoodNames entries → AllByRecursion FitsLine (stack_up_to entries bay row tier)
+stack_fits entries bay row zero good = tt
+stack_fits entries bay row (suc tier) good =
+    let place : YardPlace = record { bay = bay; row = row; tier = suc tier } in
+    all_both FitsLine (stack_up_to entries bay row tier) (option_to_list (container_at entries place)) (stack_fits entries bay row tier good) (found_fits (same_place place) entries good)
+
+stacks_fit : (entries : List Entry) (bay : YardBay) (tiers rows : ℕ) → AllByRecursion HasGoodNames entries → AllByRecursion FitsLine (standing (stacks_up_to entries bay tiers rows))
+stacks_fit entries bay tiers zero good = tt
+stacks_fit entries bay tiers (suc row) good =
+    let before = stacks_up_to entries bay tiers row in
+    let last = stack_up_to entries bay (suc row) tiers in
+    subst (AllByRecursion FitsLine) (sym (flat_map-append (λ stack. stack) before (last ∷ [])))
+    (all_both FitsLine (standing before) (standing (last ∷ [])) (stacks_fit entries bay tiers row good)
+    (all_both FitsLine last [] (stack_fits entries bay (suc row) tiers good) tt))
+
+-- a bay has a name, and so have its containers
+pub record IsNamedBay (bay : StackedBay) : Type 0 where
+  pub name : IsYardBay bay.0
+  pub containers : AllByRecursion FitsLine (standing bay.1)
+
+stacked_named : (rows tiers : ℕ) (entries : List Entry) (bays : List YardBay) → AllByRecursion HasGoodNames entries → AllByRecursion IsYardBay bays → AllByRecursion IsNamedBay (map (stacked rows tiers entries) bays)
+stacked_named rows tiers entries [] good names = tt
+stacked_named rows tiers entries (bay ∷ bays) good names =
+    (record { name = names.0; containers = stacks_fit entries bay tiers rows good }, stacked_named rows tiers entries bays good names.1)
+
+pub yard_named : (rows tiers : ℕ) (text : List ℕ) (yard : Inventory) → IsYardList rows tiers text yard → AllByRecursion IsNamedBay yard.bays
+yard_named rows tiers text yard is =
+    let entries = entries_of (records_of text) in
+    let good = good_entries rows tiers (records_of text) (not_long (nat_le (length text) max_bytes) is.faultless) in
+    subst (λ (y : Inventory). AllByRecursion IsNamedBay y.bays) (sym is.stands)
+    (stacked_named rows tiers entries (bays_of entries) good (once_each IsYardBay [] (map (λ entry. entry.0.bay) entries) tt (bays_named entries good)))
+  where
+    not_long : (t : Bool) → cond t (first_fault rows tiers (records_of text)) (Some TooLarge) ≡ None → first_fault rows tiers (records_of text) ≡ None
+    not_long true e = e
+    not_long false e = absurd (cc e)
+
+-- ---- and the containers of its problems
+
+-- what holds of all holds of those that pass a test
+kept : {X : Type 0} (P : X → Type 0) (test : X → Bool) (xs : List X) → AllByRecursion P xs → AllByRecursion P (filter test xs)
+kept P test [] all = tt
+kept P test (x ∷ xs) all = by (test x) (kept P test xs all.1)
+  where
+    by : (t : Bool) → AllByRecursion P (filter test xs) → AllByRecursion P (cond t (x ∷ filter test xs) (filter test xs))
+    by true more = (all.0, more)
+    by false more = more
+
+-- what holds of each that passes a test holds of all of those
+passing : {X : Type 0} (P : X → Type 0) (test : X → Bool) (xs : List X) → ((x : X) → test x ≡ true → P x) → AllByRecursion P (filter test xs)
+passing P test [] each = tt
+passing P test (x ∷ xs) each = by (test x) refl (passing P test xs each)
+  where
+    by : (t : Bool) → test x ≡ t → AllByRecursion P (filter test xs) → AllByRecursion P (cond t (x ∷ filter test xs) (filter test xs))
+    by true e more = (each x e, more)
+    by false e more = more
+
+-- a name that is among names that fit fits
+among_fits : (names : List (List ℕ)) (name : List ℕ) → AllByRecursion FitsLine names → is_among names name ≡ true → FitsLine name
+among_fits [] name fit e = absurd (false≢true e)
+among_fits (other ∷ names) name fit e = by (bytes_eq name other) refl e (λ later. among_fits names name fit.1 later)
+  where
+    by : (t : Bool) → bytes_eq name other ≡ t → (t || is_among names name) ≡ true → (is_among names name ≡ true → FitsLine name) → FitsLine name
+    by true same_as h later = subst FitsLine (sym (same name other same_as)) fit.0
+    by false apart h later = later h
+
+ranked_fit : (sequence : List (List ℕ)) (stacks : List (List (List ℕ))) → AllByRecursion FitsLine (standing stacks) → AllByRecursion FitsLine (ranked sequence stacks)
+ranked_fit sequence stacks fit =
+    all_both FitsLine (leaving sequence stacks) (staying sequence stacks)
+    (passing FitsLine (is_among (standing stacks)) sequence (λ name e. among_fits (standing stacks) name fit e))
+    (kept FitsLine (λ name. not (is_among sequence name)) (standing stacks) fit)
+
+-- a problem names its bay and its containers
+pub record IsNamedProblem (told : BayProblem) : Type 0 where
+  pub bay : IsYardBay told.bay
+  pub names : AllByRecursion FitsLine told.names
+
+all_named : (tiers : ℕ) (sequence : List (List ℕ)) (bays : List StackedBay) → AllByRecursion IsNamedBay bays → AllByRecursion IsNamedProblem (map (bay_problem_of tiers sequence) bays)
+all_named tiers sequence [] named = tt
+all_named tiers sequence (bay ∷ bays) all =
+    let first = all.0 in
+    (record { bay = first.name; names = ranked_fit sequence bay.1 first.containers }, all_named tiers sequence bays all.1)
+
+pub problems_named : (rows tiers : ℕ) (text : List ℕ) (yard : Inventory) (sequence : List (List ℕ)) → IsYardList rows tiers text yard → AllByRecursion IsNamedProblem (problems_of yard sequence)
+problems_named rows tiers text yard sequence is =
+    all_named yard.tiers sequence (filter (is_called sequence) yard.bays) (kept IsNamedBay (is_called sequence) yard.bays (yard_named rows tiers text yard is))

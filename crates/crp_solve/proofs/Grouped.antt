@@ -1,0 +1,105 @@
+-- Two groups make one.
+use Rattle.std.proofs.Common.{◌≡◌, ◌<◌, ◌≤◌, ℕ, ◌+◌, min, Bool, true, false, ◌||◌, ◌&&◌, not, if◌then◌else◌, List, [], ◌∷◌, ◌++◌, All, Option, IfSome, inl, inr, ⊎_elim, sym, refl, ap, ◌∙◌, subst, arith}
+use Rattle.std.proofs.lemmas.List.Elements.{All-append, All-weaker}
+use Rattle.std.proofs.lemmas.List.Sums.{sum_by-append}
+use Rattle.crp_plan.specs.declared.running.View.{View}
+use Rattle.crp_plan.specs.Bay.{Problem}
+use Rattle.crp_plan.specs.Plans.{Route}
+use Rattle.crp_tree.specs.Nodes.{branches}
+use Rattle.crp_tree.specs.Parts.{ProblemPart, given_of, names_of, cuts_in}
+use Rattle.crp_search.specs.Searched.{IsClosed}
+use Rattle.crp_incumbent.specs.Rule.{view_joined}
+use Rattle.crp_incumbent.specs.Seats.{Shared}
+use Rattle.crp_pool.specs.Weigh.{weigh}
+use Rattle.crp_pool.specs.Seats.{PoolSeat, all_puts, all_takes}
+use Rattle.crp_pool.proofs.Hands.{weigh-append}
+use Rattle.crp_solve.specs.Answers.{path_in, IsPlanOf}
+use Rattle.crp_solve.specs.Searches.{IsSearched}
+use Rattle.crp_solve.specs.Desks.{count_or, KeepsPlan}
+use Rattle.crp_solve.specs.Groups.{Crew, root_at, roots, given_in, IsCounted, IsGroup}
+
+pub takes-append : (h : List ℕ → ℕ) (xs ys : List PoolSeat) → weigh h (all_takes (xs ++ ys)) ≡ weigh h (all_takes xs) + weigh h (all_takes ys)
+takes-append h [] ys = omega arith
+takes-append h (x ∷ xs) ys = omega (arith, weigh-append h x.takes (all_takes (xs ++ ys)), weigh-append h x.takes (all_takes xs), takes-append h xs ys)
+
+pub puts-append : (h : List ℕ → ℕ) (xs ys : List PoolSeat) → weigh h (all_puts (xs ++ ys)) ≡ weigh h (all_puts xs) + weigh h (all_puts ys)
+puts-append h [] ys = omega arith
+puts-append h (x ∷ xs) ys = omega (arith, weigh-append h x.puts (all_puts (xs ++ ys)), weigh-append h x.puts (all_puts xs), puts-append h xs ys)
+
+pub roots-append : (h : List ℕ → ℕ) (xs ys : List PoolSeat) → weigh h (roots (xs ++ ys)) ≡ weigh h (roots xs) + weigh h (roots ys)
+roots-append h [] ys = omega arith
+roots-append h (x ∷ xs) ys = omega (arith, weigh-append h (root_at x) (roots (xs ++ ys)), weigh-append h (root_at x) (roots xs), roots-append h xs ys)
+
+pub given-append : (h : List ℕ → ℕ) (xs ys : List ProblemPart) → weigh h (given_in (xs ++ ys)) ≡ weigh h (given_in xs) + weigh h (given_in ys)
+given-append h [] ys = omega arith
+given-append h (x ∷ xs) ys = omega (arith, weigh-append h (given_of x) (given_in (xs ++ ys)), weigh-append h (given_of x) (given_in xs), given-append h xs ys)
+
+pub names-append : (h : List ℕ → ℕ) (xs ys : List ProblemPart) → weigh h (names_of (xs ++ ys)) ≡ weigh h (names_of xs) + weigh h (names_of ys)
+names-append h [] ys = omega arith
+names-append h (x ∷ xs) ys = omega (arith, names-append h xs ys)
+
+-- a part that was searched stays so while more is seen and more is refused
+pub searched_later : (p : Problem) (first : ℕ) (old new : View) (parts : List ProblemPart) → new.seen ≤ old.seen → old.refused ≤ new.refused → All (IsSearched p first old) parts → All (IsSearched p first new) parts
+searched_later p first old new parts seen refused all =
+    All-weaker (IsSearched p first old) (IsSearched p first new)
+    (λ part s. record {
+      of_problem = s.of_problem;
+      kept = s.kept;
+      closed = All-weaker (IsClosed old) (IsClosed new)
+          (λ cut c. ⊎_elim (λ (low : old.seen ≤ cut.value). inl (omega arith)) (λ (r : (0 < old.refused) × _). inr (omega arith, r.1)) c)
+          (cuts_in part) s.closed;
+      below = s.below;
+    })
+    parts all
+
+-- what is counted adds up
+pub counted_together : (v w : View) (xs ys : List ProblemPart) (ls ms : List PoolSeat) → IsCounted v xs ls → IsCounted w ys ms → IsCounted (view_joined v w) (xs ++ ys) (ls ++ ms)
+counted_together v w xs ys ls ms a b = record {
+  grants = (let g = a.grants in let g' = b.grants in omega (arith, sum_by-append (λ (x : ProblemPart). branches x.tree) xs ys));
+  takes = λ h. (let t = a.takes h in let t' = b.takes h in omega (arith, takes-append h ls ms, names-append h xs ys));
+  puts = λ h. (let q = a.puts h in let q' = b.puts h in
+      omega (arith, puts-append h ls ms, roots-append h ls ms, given-append h xs ys, weigh-append h (roots (ls ++ ms)) (given_in (xs ++ ys)), weigh-append h (roots ls) (given_in xs), weigh-append h (roots ms) (given_in ys)));
+}
+
+-- the better plan counts for both
+pub plans_together : (of : Shared) (v w : View) (plan other best : Option Route) → KeepsPlan of v plan → KeepsPlan of w other →
+    min v.mine w.mine ≡ count_or of.key.start (path_in best) → IfSome best (IsPlanOf of.key.problem) → KeepsPlan of (view_joined v w) best
+plans_together of v w plan other best a b fewest is = record {
+  is_problem = a.is_problem;
+  plan_is = is;
+  mine = fewest;
+  low = (let l = a.low in omega arith);
+  seen = (let s = a.seen in omega arith);
+}
+
+-- what the mark of two that were merged says
+pub not_short : (a b x y : Bool) → (a || b) || not (x && y) ≡ false → (a ≡ false) × (b ≡ false) × (x ≡ true) × (y ≡ true)
+not_short false false true true e = (refl, refl, refl, refl)
+not_short false false true false e = absurd (cc)
+not_short false false false y e = absurd (cc)
+not_short false true x y e = absurd (cc)
+not_short true b x y e = absurd (cc)
+
+-- the parts of both, or of the first
+pub parts_together : (p : Problem) (first : ℕ) (v w : View) (xs ys zs : List ProblemPart) (fit : Bool) → All (IsSearched p first v) xs → All (IsSearched p first w) ys →
+    zs ≡ (if fit then xs ++ ys else xs) → All (IsSearched p first (view_joined v w)) zs
+parts_together p first v w xs ys zs true a b e = subst (All (IsSearched p first (view_joined v w))) (sym e)
+    (All-append (IsSearched p first (view_joined v w)) xs ys (searched_later p first v (view_joined v w) xs (omega arith) (omega arith) a) (searched_later p first w (view_joined v w) ys (omega arith) (omega arith) b))
+parts_together p first v w xs ys zs false a b e = subst (All (IsSearched p first (view_joined v w))) (sym e) (searched_later p first v (view_joined v w) xs (omega arith) (omega arith) a)
+
+-- so two groups make one
+pub merged : (a b c : Crew) (parts_fit places_fit : Bool) → IsGroup a → IsGroup b → b.of ≡ a.of → c.of ≡ a.of → c.view ≡ view_joined a.view b.view →
+    KeepsPlan a.of (view_joined a.view b.view) c.plan → c.parts ≡ (if parts_fit then a.parts ++ b.parts else a.parts) → c.places ≡ (if places_fit then a.places ++ b.places else a.places) →
+    (c.short ≡ false → (a.short ≡ false) × (b.short ≡ false) × (parts_fit ≡ true) × (places_fit ≡ true)) → IsGroup c
+merged a b c parts_fit places_fit ka kb same of view plan parts places short = record {
+  plan_kept = subst (λ o. KeepsPlan o c.view c.plan) (sym of) (subst (λ v. KeepsPlan a.of v c.plan) (sym view) plan);
+  searched = subst (λ o. All (IsSearched o.key.problem o.key.start c.view) c.parts) (sym of) (subst (λ v. All (IsSearched a.of.key.problem a.of.key.start v) c.parts) (sym view)
+      (parts_together a.of.key.problem a.of.key.start a.view b.view a.parts b.parts c.parts parts_fit ka.searched
+      (subst (λ o. All (IsSearched o.key.problem o.key.start b.view) b.parts) same kb.searched) parts));
+  counted = λ ok. (
+      let s = short ok in
+      let xs : c.parts ≡ a.parts ++ b.parts = parts ∙ ap (λ (fit : Bool). if fit then a.parts ++ b.parts else a.parts) s.2 in
+      let ls : c.places ≡ a.places ++ b.places = places ∙ ap (λ (fit : Bool). if fit then a.places ++ b.places else a.places) s.3 in
+      subst (λ v. IsCounted v c.parts c.places) (sym view) (subst (λ l. IsCounted (view_joined a.view b.view) l c.places) (sym xs) (subst (IsCounted (view_joined a.view b.view) (a.parts ++ b.parts)) (sym ls)
+      (counted_together a.view b.view a.parts b.parts a.places b.places (ka.counted s.0) (kb.counted s.1)))));
+}

@@ -1,0 +1,29 @@
+-- The workers of a search before they begin.
+use Rattle.std.proofs.Common.{◌≡◌, ◌+◌, List, [], ◌∷◌, ◌++◌, map, All, append_assoc, sym, refl, ap, ◌∙◌, subst, arith}
+use Rattle.std.proofs.lemmas.List.{map-append}
+use Rattle.std.proofs.lemmas.List.Elements.{All-append, All-cons, All-nil}
+use Rattle.crp_incumbent.specs.Rule.{view_kept}
+use Rattle.crp_incumbent.specs.Seats.{Shared, Seat, with_view}
+use Rattle.crp_pool.specs.Seats.{PoolSeat}
+use Rattle.crp_solve.specs.Groups.{Crew, keys, all_keys, place_key, shares, IsNewSeat}
+
+-- a seat that gave a share away
+pub kept_new : (of : Shared) (left kept : Seat) → kept ≡ with_view left (view_kept left.view) → IsNewSeat of left → IsNewSeat of kept
+kept_new of left kept e n = subst (IsNewSeat of) (sym e) (record { words = n.words; is_problem = n.is_problem; none_granted = n.none_granted; none_refused = n.none_refused; mine = n.mine; seen = n.seen })
+
+keys-append : (xs ys : List Crew) → all_keys (xs ++ ys) ≡ all_keys xs ++ all_keys ys
+keys-append [] ys = refl
+keys-append (x ∷ xs) ys = ap (λ l. keys x ++ l) (keys-append xs ys) ∙ sym (append_assoc (keys x) (all_keys xs) (all_keys ys))
+
+-- the shares of one group more
+pub shares_snoc : (gs : List Crew) (g : Crew) → shares (gs ++ g ∷ []) ≡ shares gs + g.view.share
+shares_snoc [] g = omega arith
+shares_snoc (x ∷ gs) g = omega (arith, shares_snoc gs g)
+
+-- the places of one group more
+pub keys_snoc : (gs : List Crew) (g : Crew) (ys : List PoolSeat) (y : PoolSeat) → keys g ≡ place_key y ∷ [] → all_keys gs ≡ map place_key ys → all_keys (gs ++ g ∷ []) ≡ map place_key (ys ++ y ∷ [])
+keys_snoc gs g ys y one before = keys-append gs (g ∷ []) ∙ ap (λ l. l ++ (keys g ++ [])) before ∙ ap (λ l. map place_key ys ++ (l ++ [])) one ∙ sym (map-append place_key ys (y ∷ []))
+
+-- one group more is at the words
+pub words_snoc : (of : Shared) (gs : List Crew) (g : Crew) → g.of ≡ of → All (λ x. x.of ≡ of) gs → All (λ x. x.of ≡ of) (gs ++ g ∷ [])
+words_snoc of gs g e all = All-append (λ (x : Crew). x.of ≡ of) gs (g ∷ []) all (All-cons (λ (x : Crew). x.of ≡ of) g [] e (All-nil (λ (x : Crew). x.of ≡ of)))

@@ -1,0 +1,105 @@
+-- A group after it searched one part more.
+use Rattle.std.proofs.Common.{◌≡◌, ◌≤◌, ℕ, ◌+◌, List, [], ◌∷◌, ◌++◌, All, Option, Some, sym, ap, ◌∙◌, subst, arith}
+use Rattle.std.proofs.lemmas.List.Elements.{All-append, All-weaker, All-cons, All-nil}
+use Rattle.std.proofs.lemmas.List.Sums.{sum_by-append, sum_by-cons}
+use Rattle.crp_plan.specs.declared.running.View.{View}
+use Rattle.crp_tree.specs.Nodes.{branches}
+use Rattle.crp_tree.specs.Parts.{ProblemPart, given_of, branches_in}
+use Rattle.crp_search.specs.Limits.{Advances}
+use Rattle.crp_search.specs.Searched.{IsBelow}
+use Rattle.crp_incumbent.specs.Seats.{Shared}
+use Rattle.crp_pool.specs.Weigh.{weigh, SameNames}
+use Rattle.crp_pool.specs.Seats.{PoolSeat, SameSeat}
+use Rattle.crp_pool.proofs.Hands.{weigh-append}
+use Rattle.crp_solve.specs.Searches.{IsSearched}
+use Rattle.crp_solve.specs.Desks.{Fixed, fixed_at, KeepsPlan, IsFoundPart}
+use Rattle.crp_solve.specs.Groups.{Crew, root_at, roots, given_in, IsCounted, IsGroup}
+use Rattle.crp_solve.proofs.Grouped.{takes-append, puts-append, roots-append, given-append, names-append, searched_later}
+
+-- what stays of a place
+same_number : (r s : PoolSeat) → fixed_at (Some s) ≡ fixed_at (Some r) → s.number ≡ r.number
+same_number r s e = ap (λ (o : Option Fixed). number_of o) e
+  where
+    number_of : Option Fixed → ℕ
+    number_of (Some f) = f.number
+    number_of _ = 0
+
+same_takes : (r s : PoolSeat) → fixed_at (Some s) ≡ fixed_at (Some r) → s.takes ≡ r.takes
+same_takes r s e = ap (λ (o : Option Fixed). takes_of o) e
+  where
+    takes_of : Option Fixed → List (List ℕ)
+    takes_of (Some f) = f.takes
+    takes_of _ = []
+
+-- the place q took the name, and became r; while its part x was searched, r became s
+pub record Took (q r s : PoolSeat) (name : List ℕ) (x : ProblemPart) : Type 0 where
+  pub number : s.number ≡ q.number
+  pub takes : SameNames s.takes (q.takes ++ name ∷ [])
+  pub puts : s.puts ≡ q.puts ++ given_of x
+  pub name_is : x.name ≡ name
+
+-- one part more is counted
+pub counted_more : (v w : View) (xs : List ProblemPart) (x : ProblemPart) (ls : List PoolSeat) (q r s : PoolSeat) (name : List ℕ) → IsCounted v xs (ls ++ q ∷ []) → Took q r s name x →
+    w.granted ≡ v.granted + branches x.tree → IsCounted w (xs ++ x ∷ []) (ls ++ s ∷ [])
+counted_more v w xs x ls q r s name k t grants = record {
+  grants = (let g = k.grants in omega (arith, sum_by-append (λ (y : ProblemPart). branches y.tree) xs (x ∷ []), sum_by-cons (λ (y : ProblemPart). branches y.tree) x []));
+  takes = λ h. (
+      let a = k.takes h in let b = t.takes h in let e : h x.name ≡ h name = ap h t.name_is in
+      omega (arith, takes-append h ls (q ∷ []), takes-append h ls (s ∷ []), names-append h xs (x ∷ []), weigh-append h q.takes [], weigh-append h s.takes [], weigh-append h q.takes (name ∷ [])));
+  puts = λ h. (
+      let a = k.puts h in let b : weigh h s.puts ≡ weigh h (q.puts ++ given_of x) = ap (weigh h) t.puts in
+      let c : weigh h (root_at s) ≡ weigh h (root_at q) = ap (λ (n : ℕ). weigh h (root_at (record q { number = n }))) t.number in
+      omega (
+        arith,
+        puts-append h ls (q ∷ []),
+        puts-append h ls (s ∷ []),
+        roots-append h ls (q ∷ []),
+        roots-append h ls (s ∷ []),
+        given-append h xs (x ∷ []),
+        weigh-append h q.puts [],
+        weigh-append h s.puts [],
+        weigh-append h q.puts (given_of x),
+        weigh-append h (root_at q) [],
+        weigh-append h (root_at s) [],
+        weigh-append h (given_of x) [],
+        weigh-append h (roots (ls ++ q ∷ [])) (given_in xs),
+        weigh-append h (roots (ls ++ s ∷ [])) (given_in (xs ++ x ∷ [])),
+      ));
+}
+
+-- a part that was found is searched
+pub searched_now : (of : Shared) (v w : View) (before after : Option PoolSeat) (name : List ℕ) (x : ProblemPart) → v.seen ≤ of.key.start → IsFoundPart of v w before after name x → IsSearched of.key.problem of.key.start w x
+searched_now of v w before after name x seen f = record {
+  of_problem = f.of_problem;
+  kept = f.kept;
+  closed = f.closed;
+  below = All-weaker (IsBelow v.seen) (IsBelow of.key.start) (λ node b. omega (arith, seen, b)) (branches_in x) f.below;
+}
+
+-- with it all parts are searched
+pub all_searched : (of : Shared) (v w : View) (before after : Option PoolSeat) (name : List ℕ) (xs : List ProblemPart) (x : ProblemPart) → v.seen ≤ of.key.start → Advances of.key.problem v w →
+    All (IsSearched of.key.problem of.key.start v) xs → IsFoundPart of v w before after name x → All (IsSearched of.key.problem of.key.start w) (xs ++ x ∷ [])
+all_searched of v w before after name xs x seen on all f =
+    let P : ProblemPart → Type 0 = IsSearched of.key.problem of.key.start w in
+    All-append P xs (x ∷ []) (searched_later of.key.problem of.key.start v w xs on.seen on.refused all) (All-cons P x [] (searched_now of v w before after name x seen f) (All-nil P))
+
+took : (q r s : PoolSeat) (of : Shared) (v w : View) (name : List ℕ) (x : ProblemPart) → SameSeat q r → r.puts ≡ q.puts → SameNames r.takes (q.takes ++ name ∷ []) → fixed_at (Some s) ≡ fixed_at (Some r) →
+    IsFoundPart of v w (Some r) (Some s) name x → Took q r s name x
+took q r s of v w name x same puts takes fixed f = record {
+  number = same_number r s fixed ∙ same.3;
+  takes = λ h. (ap (weigh h) (same_takes r s fixed) ∙ takes h);
+  puts = f.puts ∙ ap (λ l. l ++ given_of x) puts;
+  name_is = f.name_is;
+}
+
+-- so the group keeps what it keeps
+pub task_done : (old new : Crew) (x : ProblemPart) (ls : List PoolSeat) (q r s : PoolSeat) (name : List ℕ) → IsGroup old → new.of ≡ old.of → old.places ≡ ls ++ q ∷ [] →
+    SameSeat q r → r.puts ≡ q.puts → SameNames r.takes (q.takes ++ name ∷ []) → fixed_at (Some s) ≡ fixed_at (Some r) → KeepsPlan old.of new.view new.plan → Advances old.of.key.problem old.view new.view →
+    IsFoundPart old.of old.view new.view (Some r) (Some s) name x → new.parts ≡ old.parts ++ x ∷ [] → new.places ≡ ls ++ s ∷ [] → new.short ≡ old.short → IsGroup new
+task_done old new x ls q r s name k of places same puts takes fixed plan on f parts' places' short = record {
+  plan_kept = subst (λ o. KeepsPlan o new.view new.plan) (sym of) plan;
+  searched = subst (λ o. All (IsSearched o.key.problem o.key.start new.view) new.parts) (sym of) (subst (All (IsSearched old.of.key.problem old.of.key.start new.view)) (sym parts')
+      (all_searched old.of old.view new.view (Some r) (Some s) name old.parts x (let p = k.plan_kept in p.seen) on k.searched f));
+  counted = λ ok. subst (λ l. IsCounted new.view l new.places) (sym parts') (subst (IsCounted new.view (old.parts ++ x ∷ [])) (sym places')
+      (counted_more old.view new.view old.parts x ls q r s name (subst (IsCounted old.view old.parts) places (k.counted (sym short ∙ ok))) (took q r s old.of old.view new.view name x same puts takes fixed f) f.grants));
+}

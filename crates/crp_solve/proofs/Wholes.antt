@@ -1,0 +1,87 @@
+-- What many workers found together is a search of the whole problem.
+use Rattle.std.proofs.Common.{◌≡◌, ◌<◌, ◌≤◌, ◌↔◌, ℕ, suc, ◌+◌, min, List, [], ◌∷◌, ◌++◌, length, get_or, map, flat_map, Contains, All, Option, IfSome, sum_by, inl, inr, ⊎_elim, sym, refl, ap, ◌∙◌, subst, arith}
+use Rattle.std.specs.List.Sorted.{IsPermutation}
+use Rattle.std.proofs.lemmas.List.Sorted.{sum_by-IsPermutation, All-permutation}
+use Rattle.std.proofs.lemmas.List.Sums.{sum_by-cons}
+use Rattle.std.proofs.lemmas.List.Elements.{All-map, All-weaker}
+use Rattle.crp_plan.specs.declared.running.View.{View}
+use Rattle.crp_plan.specs.Bay.{Problem, IsProblem}
+use Rattle.crp_plan.specs.Plans.{Route}
+use Rattle.crp_tree.specs.Nodes.{branches}
+use Rattle.crp_tree.specs.Parts.{ProblemPart, part_of, given_of, names_of, IsKeptPart, Certificate, IsAbout}
+use Rattle.crp_tree.specs.Scripts.{IsPart, IsNeeded, given_by, names, times, same_name}
+use Rattle.crp_plan.proofs.Lists.{one_if}
+use Rattle.crp_tree.proofs.Givers.{times-cons, times_in, in_times}
+use Rattle.crp_gather.specs.Gathers.{AreWhole}
+use Rattle.crp_gather.proofs.Wholes.{whole_balanced}
+use Rattle.crp_bay.proofs.Members.{in_head, in_tail, in_cons_cases}
+use Rattle.crp_pool.specs.Weigh.{weigh, SameNames}
+use Rattle.crp_pool.proofs.Hands.{weigh-append}
+use Rattle.crp_solve.specs.Answers.{path_in, count_of, IsFirstLimit, IsPlanOf}
+use Rattle.crp_solve.specs.Searches.{IsSearched, IsWhole}
+use Rattle.crp_solve.specs.Desks.{count_or}
+use Rattle.crp_solve.specs.Groups.{given_in}
+use Rattle.crp_solve.specs.Rests.{IsAllDone}
+use Rattle.crp_solve.proofs.Covered.{same_names}
+
+-- weights of lists over parts, as sums over the parts
+names_sum : (h : List ℕ → ℕ) (xs : List ProblemPart) → weigh h (names_of xs) ≡ sum_by (λ (x : ProblemPart). h x.name) xs
+names_sum h [] = refl
+names_sum h (x ∷ xs) = omega (arith, names_sum h xs, sum_by-cons (λ (y : ProblemPart). h y.name) x xs)
+
+given_sum : (h : List ℕ → ℕ) (xs : List ProblemPart) → weigh h (given_in xs) ≡ sum_by (λ (x : ProblemPart). weigh h (given_of x)) xs
+given_sum h [] = refl
+given_sum h (x ∷ xs) = omega (arith, given_sum h xs, weigh-append h (given_of x) (given_in xs), sum_by-cons (λ (y : ProblemPart). weigh h (given_of y)) x xs)
+
+-- in another order all is done too
+pub done_moved : (view : View) (xs ys : List ProblemPart) → IsPermutation xs ys → IsAllDone view xs → IsAllDone view ys
+done_moved view xs ys moved d = record {
+  grants = d.grants ∙ sym (sum_by-IsPermutation (λ (x : ProblemPart). branches x.tree) xs ys moved);
+  names = λ h. (
+      let e = d.names h in
+      omega (arith, names_sum h xs, names_sum h ys, given_sum h xs, given_sum h ys, sum_by-IsPermutation (λ (x : ProblemPart). h x.name) xs ys moved, sum_by-IsPermutation (λ (x : ProblemPart). weigh h (given_of x)) xs ys moved));
+}
+
+-- how often a name stands in a list, as a weight
+times_weigh : (n : List ℕ) (list : List (List ℕ)) → times n list ≡ weigh (λ x. one_if (same_name n x)) list
+times_weigh n [] = refl
+times_weigh n (x ∷ list) = omega (arith, times-cons n x list, times_weigh n list)
+
+pub same_times : (n : List ℕ) (xs ys : List (List ℕ)) → SameNames xs ys → times n xs ≡ times n ys
+same_times n xs ys same = omega (arith, times_weigh n xs, times_weigh n ys, same (λ x. one_if (same_name n x)))
+
+-- the parts are of the problem
+of_problem : (p : Problem) (first : ℕ) (view : View) (xs : List ProblemPart) → All (IsSearched p first view) xs → All (λ x. x.problem ≡ p) xs
+of_problem p first view xs all = All-weaker (IsSearched p first view) (λ x. x.problem ≡ p) (λ x s. s.of_problem) xs all
+
+-- the parts are a whole
+pub all_whole : (p : Problem) (first : ℕ) (view : View) (xs : List ProblemPart) → IsProblem p → All (IsSearched p first view) xs → IsAllDone view xs → AreWhole p xs
+all_whole p first view xs is all d = whole_balanced p xs is (of_problem p first view xs all) (All-weaker (IsSearched p first view) IsKeptPart (λ x s. s.kept) xs all)
+    (λ name. same_times name (names_of xs) ([] ∷ given_in xs) d.names)
+
+-- what is known when the shared words are closed
+pub record IsClosedAt (start budget spent limit : ℕ) (view : View) : Type 0 where
+  pub limit_is : limit ≡ min start view.mine
+  pub spent_is : spent ≡ view.granted + view.refused
+  pub granted : view.granted ≡ min spent budget
+  pub seen : limit ≤ view.seen
+  pub mine : view.mine ≤ start
+
+-- so the whole problem was searched
+pub whole_together : (p : Problem) (budget first spent limit : ℕ) (view : View) (xs : List ProblemPart) (cert : Certificate) (best plan : Option Route) → IsProblem p → IsFirstLimit p first → IsClosedAt first budget spent limit view →
+    All (IsSearched p first view) xs → IsAllDone view xs → IsPermutation xs cert.parts → IsAbout p cert → view.mine ≡ count_or first (path_in best) →
+    IfSome plan (IsPlanOf p) → count_of p (path_in plan) ≡ count_or first (path_in best) → IsWhole p budget first view cert plan
+whole_together p budget first spent limit view xs cert best plan is first_is closed all done moved about mine plan_is count =
+    let ys = cert.parts in
+    let all' : All (IsSearched p first view) ys = All-permutation (IsSearched p first view) xs ys moved all in
+    let done' : IsAllDone view ys = done_moved view xs ys moved done in
+    let low = closed.limit_is in let seen = closed.seen in let high = closed.mine in let spent_is = closed.spent_is in let granted = closed.granted in
+    record {
+      about = about;
+      searched = all';
+      told = record { plan_is = plan_is; first_is = first_is; no_more = omega arith };
+      met = omega arith;
+      granted = done'.grants;
+      within = omega arith;
+      refused_last = λ some. omega arith;
+    }

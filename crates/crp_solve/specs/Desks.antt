@@ -1,0 +1,87 @@
+-- One worker of a search at its desk: its seat at the shared words, the plan that its least offer counts, and its place in the pool.
+use Rattle.std.specs.Prelude.{◌≡◌, ℕ, ◌+◌, ◌≤◌, List, ◌++◌, [], length, Option, Some, None, IfSome, All, option_map}
+use Rattle.crp_plan.specs.declared.running.View.{View}
+use Rattle.crp_plan.specs.Bay.{Problem, IsProblem}
+use Rattle.crp_plan.specs.Plans.{Route}
+use Rattle.crp_incumbent.specs.Seats.{Shared, Seat}
+use Rattle.crp_tree.specs.Nodes.{branches}
+use Rattle.crp_tree.specs.Parts.{ProblemPart, given_of, cuts_in, branches_in, IsKeptPart}
+use Rattle.crp_search.specs.Searched.{IsClosed, IsBelow}
+use Rattle.crp_pool.specs.Deques.{DequeId}
+use Rattle.crp_pool.specs.Seats.{PoolSeat}
+use Rattle.crp_solve.specs.Answers.{path_in, IsPlanOf}
+
+-- the words that it steps on, what it knows of them, its best plan, and its place in the pool, if it has one
+pub record Post : Type 0 where
+  pub of : Shared
+  pub view : View
+  pub plan : Option Route
+  pub place : Option PoolSeat
+
+-- the relocations of the plan; where there is none, the limit that the search began with
+abbrev pub count_or : ℕ → Option (List ℕ) → ℕ
+count_or first None = first
+count_or first (Some path) = length path
+
+-- the names that were put there, in order
+abbrev pub puts_at : Option PoolSeat → List (List ℕ)
+puts_at None = []
+puts_at (Some place) = place.puts
+
+-- the plan of some workers is one of the problem, with exactly as many relocations as the least that they offered; what they saw and offered is at most
+-- the limit at the start
+pub record KeepsPlan (of : Shared) (view : View) (plan : Option Route) : Type 0 where
+  pub is_problem : IsProblem of.key.problem
+  pub plan_is : IfSome plan (IsPlanOf of.key.problem)
+  pub mine : view.mine ≡ count_or of.key.start (path_in plan)
+  pub low : view.mine ≤ of.key.start
+  pub seen : view.seen ≤ of.key.start
+
+-- a desk always has its seat between calls, which is one at its words
+abbrev pub seat_in : Shared → Option Seat → Seat
+seat_in of (Some seat) = seat
+seat_in of None = record { of = of; view = record { seen = 0; mine = 0; granted = 0; refused = 0; share = 0 } }
+
+-- what stays of a place while a part is searched: which it is, and what was taken there
+pub record Fixed : Type 0 where
+  pub number : ℕ
+  pub pool : List DequeId
+  pub deque : DequeId
+  pub takes : List (List ℕ)
+
+abbrev pub fixed_at : Option PoolSeat → Option Fixed
+fixed_at place = option_map (λ x. record { number = x.number; pool = x.pool; deque = x.deque; takes = x.takes }) place
+
+-- what a desk keeps; `named` and `begun` are the words and the place that it was opened with
+pub record IsDesk (named of : Shared) (begun place : Option PoolSeat) (seat : Option Seat) (first : ℕ) (plan : Option Route) : Type 0 where
+  pub words : of ≡ named
+  pub fixed : fixed_at place ≡ fixed_at begun
+  pub seated : seat ≡ Some (seat_in of seat)
+  pub at_words : (seat_in of seat).of ≡ of
+  pub first_is : first ≡ of.key.start
+  pub plan_kept : KeepsPlan of (seat_in of seat).view plan
+
+-- the words of no search
+abbrev pub no_words : Shared
+no_words = record { table = record { words = 0; slots = 0; views_name = 0; atom = 0; block = 0; offset = 0; slot_names = [] }; key = record { problem = record { heights = []; ordered = 0; stacks = [] }; start = 0; budget = 0 } }
+
+-- what all workers of a search have in common: the words, and how many rows a name has at most that is given away
+pub record Terms : Type 0 where
+  pub of : Shared
+  pub split : ℕ
+
+pub record IsCommon (problem : Problem) (first : ℕ) (t : Terms) : Type 0 where
+  pub problem_is : problem ≡ t.of.key.problem
+  pub first_is : first ≡ t.of.key.start
+  pub short : t.split ≤ 8
+
+-- a part was found for the name: each claim that was granted meanwhile is a branch of it, and each name that was put is one that it gives; each cut is
+-- closed for what is seen now, and each branch stands below what was seen at the beginning
+pub record IsFoundPart (of : Shared) (old new : View) (before after : Option PoolSeat) (name : List ℕ) (part : ProblemPart) : Type 0 where
+  pub of_problem : part.problem ≡ of.key.problem
+  pub name_is : part.name ≡ name
+  pub kept : IsKeptPart part
+  pub grants : new.granted ≡ old.granted + branches part.tree
+  pub puts : puts_at after ≡ puts_at before ++ given_of part
+  pub closed : All (IsClosed new) (cuts_in part)
+  pub below : All (IsBelow old.seen) (branches_in part)

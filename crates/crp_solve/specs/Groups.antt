@@ -1,0 +1,112 @@
+-- The state of one worker of a search or several, and what it keeps, so that one thread hands it to another.
+use Rattle.std.specs.Prelude.{◌≡◌, ℕ, ◌+◌, ◌<◌, ◌≤◌, length, Bool, false, ◌==◌, if◌then◌else◌, List, [], ◌∷◌, ◌++◌, map, flat_map, sum_by, All, Option}
+use Rattle.crp_plan.specs.declared.running.View.{View}
+use Rattle.crp_plan.specs.Plans.{Route}
+use Rattle.crp_tree.specs.Nodes.{branches}
+use Rattle.crp_tree.specs.Parts.{ProblemPart, given_of, names_of}
+use Rattle.crp_plan.specs.Bay.{IsProblem}
+use Rattle.crp_incumbent.specs.Seats.{Shared, Seat}
+use Rattle.crp_pool.specs.Weigh.{SameNames}
+use Rattle.crp_pool.specs.Deques.{DequeId}
+use Rattle.crp_pool.specs.Seats.{PoolSeat, all_puts, all_takes}
+use Rattle.crp_solve.specs.Searches.{IsSearched}
+use Rattle.crp_solve.specs.Desks.{KeepsPlan}
+
+-- the shared words, what the workers know of them, their best plan, the parts that they searched, their places in the pool, and whether memory was short
+pub record Crew : Type 0 where
+  pub of : Shared
+  pub view : View
+  pub plan : Option Route
+  pub parts : List ProblemPart
+  pub places : List PoolSeat
+  pub short : Bool
+
+-- the name of the whole search is put at the first place of a pool
+abbrev pub root_at : PoolSeat → List (List ℕ)
+root_at place = if place.number == 0 then [] ∷ [] else []
+
+abbrev pub roots : List PoolSeat → List (List ℕ)
+roots [] = []
+roots (place ∷ places) = root_at place ++ roots places
+
+-- the names that the parts give to others
+abbrev pub given_in : List ProblemPart → List (List ℕ)
+given_in parts = flat_map given_of parts
+
+-- how many branches the parts have
+abbrev pub branches_in_parts : List ProblemPart → ℕ
+branches_in_parts parts = sum_by (λ part. branches part.tree) parts
+
+-- each claim that was granted is a branch of a part, each name that was taken is a part's, and each that was put is one that a part gives, or the root's
+pub record IsCounted (view : View) (parts : List ProblemPart) (places : List PoolSeat) : Type 0 where
+  pub grants : view.granted ≡ branches_in_parts parts
+  pub takes : SameNames (all_takes places) (names_of parts)
+  pub puts : SameNames (all_puts places) (roots places ++ given_in parts)
+
+-- what a group keeps: its plan has exactly the relocations that its seat offered; its parts are searched, as far as its seat has seen, and below the
+-- limit at the start; and unless memory was short, nothing was lost
+pub record IsGroup (g : Crew) : Type 0 where
+  pub plan_kept : KeepsPlan g.of g.view g.plan
+  pub searched : All (IsSearched g.of.key.problem g.of.key.start g.view) g.parts
+  pub counted : g.short ≡ false → IsCounted g.view g.parts g.places
+
+-- which place of which pool
+abbrev pub place_key : PoolSeat → List DequeId × DequeId × ℕ
+place_key place = (place.pool, place.deque, place.number)
+
+abbrev pub keys : Crew → List (List DequeId × DequeId × ℕ)
+keys g = map place_key g.places
+
+abbrev pub all_keys : List Crew → List (List DequeId × DequeId × ℕ)
+all_keys [] = []
+all_keys (g ∷ gs) = keys g ++ all_keys gs
+
+abbrev pub share_of : Crew → ℕ
+share_of g = g.view.share
+
+-- the shares of the words that the groups have together
+abbrev pub shares : List Crew → ℕ
+shares [] = 0
+shares (g ∷ gs) = share_of g + shares gs
+
+-- the same workers, later: the words, their share of them and, unless memory was short, their places are the same
+pub record SameWorkers (old new : Crew) : Type 0 where
+  pub words : new.of ≡ old.of
+  pub share : new.view.share ≡ old.view.share
+  pub places : new.short ≡ false → keys new ≡ keys old
+  pub short : new.short ≡ false → old.short ≡ false
+
+-- what these groups became: one of the same words, with their shares of them and, unless memory was short, with all their places
+pub record AreTogether (groups : List Crew) (all : Crew) : Type 0 where
+  pub words : All (λ g. g.of ≡ all.of) groups
+  pub share : all.view.share ≡ shares groups
+  pub places : all.short ≡ false → keys all ≡ all_keys groups
+
+-- groups of workers that have not begun, one at least, each at the words of the search
+pub record AreReady (of : Shared) (groups : List Crew) : Type 0 where
+  pub some : 0 < length groups
+  pub few : length groups ≤ 64
+  pub words : All (λ g. g.of ≡ of) groups
+
+-- a place in the pool at which nothing was done yet, and where one put at least is sure to succeed
+pub record IsUnused (place : PoolSeat) : Type 0 where
+  pub no_takes : place.takes ≡ []
+  pub no_puts : place.puts ≡ []
+  pub room : 0 < place.capacity
+
+-- a seat at the words with which nothing was claimed or offered
+pub record IsNewSeat (of : Shared) (seat : Seat) : Type 0 where
+  pub words : seat.of ≡ of
+  pub is_problem : IsProblem of.key.problem
+  pub none_granted : seat.view.granted ≡ 0
+  pub none_refused : seat.view.refused ≡ 0
+  pub mine : seat.view.mine ≡ of.key.start
+  pub seen : seat.view.seen ≤ of.key.start
+
+-- each place has a group, with a share of the seat; the rest of the shares is left
+pub record AreSeated (of : Shared) (seat : Seat) (places : List PoolSeat) (left : Seat) (groups : List Crew) : Type 0 where
+  pub left_new : IsNewSeat of left
+  pub words : All (λ g. g.of ≡ of) groups
+  pub count : length groups ≡ length places
+  pub share : left.view.share + shares groups ≡ seat.view.share
+  pub keys_are : all_keys groups ≡ map place_key places

@@ -1,0 +1,37 @@
+-- What is left in the pool when its workers are done, and what is known when that is searched too.
+use Rattle.std.specs.Prelude.{◌≡◌, ℕ, List, [], ◌∷◌, All, Option, IfSome}
+use Rattle.crp_plan.specs.declared.running.View.{View}
+use Rattle.crp_plan.specs.Bay.{Problem}
+use Rattle.crp_plan.specs.Plans.{Route}
+use Rattle.crp_tree.specs.Parts.{ProblemPart, Certificate, names_of}
+use Rattle.crp_incumbent.specs.Seats.{Shared}
+use Rattle.crp_pool.specs.Weigh.{SameNames}
+use Rattle.crp_solve.specs.Answers.{path_in, count_of, IsPlanOf}
+use Rattle.crp_solve.specs.Searches.{IsSearched, IsWhole}
+use Rattle.crp_solve.specs.Desks.{count_or, KeepsPlan}
+use Rattle.crp_solve.specs.Groups.{branches_in_parts, given_in}
+
+-- the plan is the one that is counted, and the parts were searched
+pub record IsKeptSoFar (of : Shared) (view : View) (plan : Option Route) (parts : List ProblemPart) : Type 0 where
+  pub plan_kept : KeepsPlan of view plan
+  pub searched : All (IsSearched of.key.problem of.key.start view) parts
+
+-- the parts were searched and counted: they are those of the names that were taken, and the names that were put are the root's and those that they give
+pub record IsDoneUpTo (of : Shared) (view : View) (plan : Option Route) (parts : List ProblemPart) (puts takes : List (List ℕ)) : Type 0 where
+  pub kept : IsKeptSoFar of view plan parts
+  pub grants : view.granted ≡ branches_in_parts parts
+  pub taken : SameNames takes (names_of parts)
+  pub put : SameNames puts ([] ∷ given_in parts)
+
+-- nothing is left: the names of the parts are the root's and those that they give, each as often
+pub record IsAllDone (view : View) (parts : List ProblemPart) : Type 0 where
+  pub grants : view.granted ≡ branches_in_parts parts
+  pub names : SameNames (names_of parts) ([] ∷ given_in parts)
+
+-- what workers found together: with any plan of the problem that has as many relocations as their best one (or, where they have none, as the limit at the
+-- start) they have searched the whole problem
+pub record IsFoundTogether (p : Problem) (budget first : ℕ) (cert : Certificate) (best : Option Route) (expanded : ℕ) : Type 0 where
+  pub view : View
+  pub granted : expanded ≡ view.granted
+  pub best_is : IfSome best (IsPlanOf p)
+  pub whole : (plan : Option Route) → IfSome plan (IsPlanOf p) → count_of p (path_in plan) ≡ count_or first (path_in best) → IsWhole p budget first view cert plan

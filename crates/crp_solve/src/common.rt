@@ -1,0 +1,52 @@
+//! What all workers of a search have in common.
+use crp_incumbent::{Board, Shared};
+use crp_plan::Problem;
+use crp_tree::Name;
+use std::alloc::Global;
+use std::marker::Model;
+use std::sync::atomic::AtomicU64;
+
+/// Asked before each part is searched.
+pub trait Gate {
+    /// The worker begins the part of this name. It is called once for each, before its first node is looked at.
+    fn begun(&self, worker: u32, task: &Name);
+}
+
+/// The gate that asks for nothing.
+#[derive(Clone, Copy)]
+pub struct NoGate;
+
+impl Gate for NoGate {
+    fn begun(&self, _worker: u32, _task: &Name) {}
+}
+
+/// What a worker reaches outside the search: the leave to wait, the gate, and the board for its plans.
+#[derive(Drop)]
+pub(crate) struct Outside<'a, R, G> {
+    pub(crate) rt: &'a R,
+    pub(crate) gate: &'a G,
+    pub(crate) board: &'a Board,
+}
+
+/// What all workers of a search have in common.
+#[derive(Drop)]
+pub(crate) struct Common {
+    pub(crate) alloc: Global,
+    pub(crate) problem: Problem,
+    pub(crate) shared: Shared,
+    /// How many names were put and not searched. Nothing rests on it but that idle workers end.
+    pub(crate) open: AtomicU64,
+    /// The limit that the search began with.
+    pub(crate) first: u32,
+    pub(crate) split: u8,
+}
+
+impl Model for Common {
+    ghost use Rattle.crp_solve.specs.Desks.{Terms, IsCommon};
+
+    ghost Value = { Terms };
+
+    ghost view = { λ c. record { of = c.shared; split = c.split } };
+
+    ghost invariant = { λ c. IsCommon c.problem c.first (record { of = c.shared; split = c.split }) };
+}

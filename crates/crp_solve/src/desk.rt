@@ -1,0 +1,209 @@
+//! One worker that shares the limit, the claims and the names with others.
+ghost use Rattle.std.specs.Prelude.{◌≡◌, min, length, Some, IfSome};
+ghost use Rattle.crp_plan.specs.Bay.{Problem};
+ghost use Rattle.crp_solve.specs.Answers.{path_in, IsPlanOf};
+ghost use Rattle.crp_search.specs.Limits.{Advances};
+ghost use Rattle.crp_solve.specs.Desks.{count_or, fixed_at, KeepsPlan, IsFoundPart};
+
+use crate::common::{Common, Gate, Outside};
+use crp_incumbent::{Board, Seat, Shared};
+use crp_plan::Plan;
+use crp_pool::PoolSeat;
+use crp_search::{Limit, search};
+use crp_tree::{Name, Part};
+use std::marker::{Brand, Model, PhantomData};
+use std::sync::Wait;
+use std::sync::atomic::{AtomicU64, Ordering};
+
+/// The words that a desk was opened with, and its place.
+trait Opened {
+    ghost use Rattle.std.specs.Prelude.{Option};
+    ghost use Rattle.crp_incumbent.specs.Seats.{Shared};
+    ghost use Rattle.crp_pool.specs.Seats.{PoolSeat};
+
+    ghost words: { Shared };
+
+    ghost place: { Option PoolSeat };
+}
+
+impl Opened for Brand {
+    ghost use Rattle.std.specs.Prelude.{None};
+    ghost use Rattle.crp_solve.specs.Desks.{no_words};
+
+    ghost words = { no_words };
+
+    ghost place = { None };
+}
+
+/// A worker with its seat, the plan that its least offer counts, and its place in the pool.
+struct Desk<'a, R, K: Opened> {
+    rt: &'a R,
+    board: &'a Board,
+    shared: &'a Shared,
+    open: &'a AtomicU64,
+    first: u32,
+    seat: Option<Seat>,
+    best: Option<Plan>,
+    place: Option<PoolSeat>,
+    opened: PhantomData<K>,
+}
+
+impl<'a, R, K: Opened> Model for Desk<'a, R, K> {
+    ghost use Rattle.crp_solve.specs.Desks.{Post, seat_in, IsDesk};
+
+    ghost Value = { Post };
+
+    ghost view = { λ d. record { of = d.shared.now; view = (seat_in d.shared.now d.seat).view; plan = d.best; place = d.place } };
+
+    ghost invariant = { λ d. IsDesk K.words d.shared.now K.place d.place d.seat d.first d.best };
+}
+
+/// Keeps the plan in place of the other, where it has fewer relocations; in place of none, where it has fewer than the first limit.
+fn keep_shorter(first: u32, best: &mut Option<Plan>, plan: &Plan)
+    ensures fewest { count_or first (path_in best.new) ≡ min (count_or first (path_in best.old)) (length plan.now.path) }
+    ensures plan { (p : Problem) → plan.now.problem ≡ p → IfSome best.old (IsPlanOf p) → IfSome best.new (IsPlanOf p) }
+{
+    let mine = match &*best {
+        Some(best) => best.count(),
+        None => first,
+    };
+    if plan.count() < mine {
+        let Ok(copy) = Plan::from_rows(plan.problem(), plan.rows()) else {
+            unreachable!()
+        };
+        *best = Some(copy);
+    }
+}
+
+impl<'a, R: Wait, K: Opened> Limit for Desk<'a, R, K> {
+    ghost use Rattle.crp_solve.specs.Desks.{puts_at};
+
+    ghost view = { λ d. d.view };
+
+    ghost problem = { λ d. d.of.key.problem };
+
+    ghost budget = { λ d. d.of.key.budget };
+
+    ghost puts = { λ d. puts_at d.place };
+
+    fn see(&mut self) -> u64 {
+        let seat = self.seat.take().unwrap();
+        let (limit, seat) = self.shared.see(seat);
+        self.seat = Some(seat);
+        limit
+    }
+
+    fn offer(&mut self, plan: &Plan) {
+        keep_shorter(self.first, &mut self.best, plan);
+        let seat = self.seat.take().unwrap();
+        self.seat = Some(self.shared.offer(seat, plan));
+        self.board.post(self.rt, plan);
+    }
+
+    fn claim(&mut self) -> bool {
+        let seat = self.seat.take().unwrap();
+        let (granted, seat) = self.shared.claim(seat);
+        self.seat = Some(seat);
+        granted
+    }
+
+    fn put(&mut self, name: Name) -> Result<(), Name> {
+        let Some(place) = &mut self.place else {
+            return Err(name);
+        };
+        self.open.fetch_add(1, Ordering::SeqCst);
+        match place.put(name) {
+            Ok(()) => Ok(()),
+            Err(name) => {
+                self.open.fetch_sub(1, Ordering::SeqCst);
+                Err(name)
+            }
+        }
+    }
+}
+
+/// What a worker has after it searched a part. There is no part where memory was wanting.
+pub(crate) struct Searched {
+    pub(crate) part: Option<Part>,
+    pub(crate) seat: Seat,
+    pub(crate) best: Option<Plan>,
+    pub(crate) place: Option<PoolSeat>,
+}
+
+/// Searches the part of the name at a desk that it opens.
+fn at_desk<R: Wait, G: Gate, K: Opened>(
+    outside: &Outside<R, G>,
+    common: &Common,
+    worker: u32,
+    name: Name,
+    seat: Seat,
+    best: Option<Plan>,
+    place: Option<PoolSeat>,
+) -> Searched
+    requires opened { (K.words ≡ common.now.of) × (K.place ≡ place) }
+    requires words { seat.of ≡ common.now.of }
+    requires plan { KeepsPlan common.now.of seat.view best }
+    ensures words { result.seat.of ≡ common.now.of }
+    ensures plan { KeepsPlan common.now.of result.seat.view result.best }
+    ensures advances { Advances common.now.of.key.problem seat.view result.seat.view }
+    ensures place { fixed_at result.place ≡ fixed_at place }
+    ensures part { IfSome result.part (IsFoundPart common.now.of seat.view result.seat.view place result.place name) }
+{
+    outside.gate.begun(worker, &name);
+    let mut desk: Desk<R, K> = Desk {
+        rt: outside.rt,
+        board: outside.board,
+        shared: &common.shared,
+        open: &common.open,
+        first: common.first,
+        seat: Some(seat),
+        best,
+        place,
+        opened: PhantomData,
+    };
+    let part = if name.position(&common.problem).is_some() {
+        search(common.alloc, &common.problem, name, &mut desk, common.split).ok()
+    } else {
+        None
+    };
+    let Desk {
+        rt: _,
+        board: _,
+        shared: _,
+        open: _,
+        first: _,
+        seat,
+        best,
+        place,
+        opened: _,
+    } = desk;
+    Searched {
+        part,
+        seat: seat.unwrap(),
+        best,
+        place,
+    }
+}
+
+/// Searches the part of the name, with this seat, the plan that it counts, and a place where names may be put.
+///
+/// A name that is no path of the problem is not searched. None is ever put, but a pool cannot say so.
+pub(crate) fn search_part<R: Wait, G: Gate>(
+    outside: &Outside<R, G>,
+    common: &Common,
+    worker: u32,
+    name: Name,
+    seat: Seat,
+    best: Option<Plan>,
+    place: Option<PoolSeat>,
+) -> Searched
+    requires words { seat.of ≡ common.now.of }
+    requires plan { KeepsPlan common.now.of seat.view best }
+    ensures words { result.seat.of ≡ common.now.of }
+    ensures plan { KeepsPlan common.now.of result.seat.view result.best }
+    ensures advances { Advances common.now.of.key.problem seat.view result.seat.view }
+    ensures place { fixed_at result.place ≡ fixed_at place }
+    ensures part { IfSome result.part (IsFoundPart common.now.of seat.view result.seat.view place result.place name) }
+{
+    at_desk::<R, G, Brand>(outside, common, worker, name, seat, best, place)
+}

@@ -1,0 +1,62 @@
+//! The end of a search by many workers: the shared words are closed, and the parts become one certificate.
+ghost use Rattle.std.specs.Prelude.{◌≡◌, ℕ, ◌≤◌, false, IfOk, IfErr};
+ghost use Rattle.crp_incumbent.specs.Rule.{all_shares};
+ghost use Rattle.crp_solve.specs.Answers.{IsFirstLimit};
+ghost use Rattle.crp_solve.specs.Rests.{IsKeptSoFar, IsAllDone, IsFoundTogether};
+
+use crate::resting::Done;
+use crp_gather::{GatherFault, gather};
+use crp_incumbent::Shared;
+use crp_plan::{Plan, Problem};
+use crp_tree::Cert;
+use std::alloc::Global;
+
+/// The certificate that workers made together, the best plan that they met, and how many expansions they were granted.
+#[derive(Drop)]
+pub(crate) struct Together {
+    pub(crate) cert: Cert,
+    pub(crate) best: Option<Plan>,
+    pub(crate) expanded: u64,
+}
+
+/// Closes the words, and makes one certificate of the parts. Where memory is short the error says how many expansions were granted.
+pub(crate) fn ended(
+    alloc: Global,
+    problem: &Problem,
+    shared: Shared,
+    budget: u64,
+    done: Done,
+) -> Result<Together, u64>
+    requires problem { problem.now ≡ shared.key.problem }
+    requires words { done.seat.of ≡ shared }
+    requires budget { budget ≡ shared.key.budget }
+    requires share { done.seat.view.share ≡ all_shares }
+    requires first { IsFirstLimit shared.key.problem shared.key.start }
+    requires kept { IsKeptSoFar shared done.seat.view done.best done.parts.items }
+    requires all { done.short ≡ false → IsAllDone done.seat.view done.parts.items }
+    ensures found { IfOk result (λ r. IsFoundTogether shared.key.problem budget shared.key.start r.cert r.best r.expanded) }
+    ensures within { IfErr result (λ expanded. expanded ≤ budget) }
+{
+    let Done {
+        seat,
+        best,
+        parts,
+        short,
+    } = done;
+    let totals = shared.close(seat);
+    let expanded = totals.spent.min(budget);
+    if short {
+        return Err(expanded);
+    }
+    match gather(alloc, problem, parts) {
+        Ok(cert) => Ok(Together {
+            cert,
+            best,
+            expanded,
+        }),
+        Err(fault) => match fault {
+            GatherFault::Memory => Err(expanded),
+            _ => unreachable!(),
+        },
+    }
+}

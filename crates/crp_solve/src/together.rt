@@ -1,0 +1,106 @@
+//! The solver of many workers.
+ghost use Rattle.std.specs.Prelude.{◌≡◌, ◌+◌, ◌<◌, ◌≤◌, false, length, IfOk, IfErr};
+ghost use Rattle.crp_pool.specs.Seats.{IsEverySeat};
+ghost use Rattle.crp_solve.specs.Groups.{IsNewSeat};
+ghost use Rattle.crp_solve.specs.Answers.{IsFirstLimit};
+ghost use Rattle.crp_solve.specs.Rests.{IsKeptSoFar, IsAllDone, IsFoundTogether};
+
+use crate::common::{Common, Gate, Outside};
+use crate::ending::{Together, ended};
+use crate::group::Group;
+use crate::opening::groups_of;
+use crate::resting::{Done, search_rest};
+use crate::running::run_all;
+use crate::settings::Settings;
+use crp_incumbent::{Board, Seat, Shared};
+use crp_plan::Problem;
+use crp_pool::Pool;
+use std::alloc::Global;
+use std::sync::Wait;
+use std::sync::atomic::AtomicU64;
+use std::thread::Threads;
+
+/// How many names each worker's deque holds.
+const CAPACITY: usize = 64;
+
+/// The state of all workers, with the rest of the shares and what was left in the pool.
+fn put_together<R: Wait, G: Gate>(
+    outside: &Outside<R, G>,
+    common: &Common,
+    pool: Pool,
+    left: Seat,
+    all: Group,
+) -> Done
+    requires words { all.of ≡ common.now.of }
+    requires left { IsNewSeat common.now.of left }
+    requires places { all.short ≡ false → IsEverySeat pool all.places × (0 < length pool) }
+    ensures words { result.seat.of ≡ common.now.of }
+    ensures share { result.seat.view.share ≡ left.view.share + all.view.share }
+    ensures kept { IsKeptSoFar common.now.of result.seat.view result.best result.parts.items }
+    ensures all { result.short ≡ false → IsAllDone result.seat.view result.parts.items }
+{
+    let Group {
+        seat,
+        best,
+        parts,
+        places,
+        short,
+    } = all;
+    let done = Done {
+        seat: common.shared.join(left, seat),
+        best,
+        parts,
+        short,
+    };
+    if short {
+        return done;
+    }
+    search_rest(outside, common, done, pool.finish(places))
+}
+
+/// Searches the problem with many workers. Where memory was wanting the error tells how many expansions were granted.
+pub(crate) fn search_together<R: Threads + Wait + Sync, G: Gate + Sync>(
+    rt: &R,
+    alloc: Global,
+    problem: &Problem,
+    settings: Settings,
+    board: &Board,
+    gate: &G,
+    first: u32,
+) -> Result<Together, u64>
+    requires { IsFirstLimit problem.now first }
+    ensures found { IfOk result (λ r. IsFoundTogether problem.now settings.budget first r.cert r.best r.expanded) }
+    ensures within { IfErr result (λ expanded. expanded ≤ settings.budget) }
+{
+    let budget = settings.budget();
+    let known = problem.copy();
+    let Ok((shared, seat)) = Shared::open(alloc, problem, first, budget) else {
+        return Err(0);
+    };
+    let Ok((pool, places)) = Pool::new(alloc, settings.workers() as usize, CAPACITY) else {
+        return Err(0);
+    };
+    let Ok((left, groups)) = groups_of(alloc, &shared, seat, places) else {
+        return Err(0);
+    };
+    let common = Common {
+        alloc,
+        problem: known,
+        shared,
+        open: AtomicU64::new(1),
+        first,
+        split: settings.split(),
+    };
+    let all = run_all(rt, gate, board, &common, 0, groups);
+    let outside = Outside { rt, gate, board };
+    let done = put_together(&outside, &common, pool, left, all);
+    let Common {
+        alloc: _,
+        problem: _,
+        shared,
+        open: _,
+        first: _,
+        split: _,
+    } = common;
+    ended(alloc, problem, shared, budget, done)
+}

@@ -1,0 +1,9 @@
+pub mod Changed
+pub mod Followed
+pub mod Ends
+pub mod One
+pub mod Named
+pub mod Acts
+pub mod Held
+pub mod Asked
+pub mod Decided
