@@ -44,22 +44,48 @@ const PROVE_CASES: [ProveCase; 3] = [
     ),
 ];
 
-#[test]
-fn reads_a_search(rt: HostRuntime) {
-    for (words, name, chosen) in PROVE_CASES {
-        match job(rt.alloc(), words) {
-            Ok(Job::Prove { file, search }) => {
-                assert_eq!(rt; file, name);
-                assert_eq!(rt; search_of(search), chosen);
-            }
-            _ => assert!(rt; false),
-        }
+// The workers, the budget and the split of a search.
+fn search_of(settings: &Settings) -> (u32, u64, u8) {
+    (settings.workers(), settings.budget(), settings.split())
+}
+
+// Whether the job is to prove this file by this search.
+fn is_proof(job: &Result<Job<'_>, Usage>, name: &str, chosen: (u32, u64, u8)) -> bool {
+    match job {
+        Ok(Job::Prove { file, search }) => *file == name && search_of(search) == chosen,
+        _ => false,
     }
 }
 
 #[test]
-fn reads_a_solve_with_its_defaults(rt: HostRuntime) {
-    match job(rt.alloc(), &["solve", "yard.csv", "ship.edi"]) {
+fn reads_a_search(rt: HostRuntime) {
+    for (words, name, chosen) in PROVE_CASES {
+        let asked = job(rt.alloc(), words);
+        assert!(rt; is_proof(&asked, name, chosen), "{name}");
+    }
+}
+
+// What `solve` is asked for: its files, the search, the rows and tiers, the order and the code.
+#[derive(Clone, Copy)]
+struct Asked {
+    files: [&'static str; 2],
+    outputs: [Option<&'static str>; 2],
+    search: (u32, u64, u8),
+    size: (u8, u8),
+    order: Mode,
+    code: &'static str,
+}
+
+fn has_settings(settings: &SolveSettings<'_>, asked: &Asked) -> bool {
+    search_of(&settings.search) == asked.search
+        && (settings.rows, settings.tiers) == asked.size
+        && settings.order == asked.order
+        && settings.code == asked.code
+}
+
+// Whether the job is to solve what is asked for.
+fn is_solve(job: &Result<Job<'_>, Usage>, asked: &Asked) -> bool {
+    match job {
         Ok(
             Job::Solve {
                 yard,
@@ -69,63 +95,65 @@ fn reads_a_solve_with_its_defaults(rt: HostRuntime) {
                 settings,
             },
         ) => {
-            assert!(rt; yard == "yard.csv" && movins == "ship.edi");
-            assert!(rt; cert.is_none() && after.is_none());
-            assert_eq!(rt; search_of(settings.search), (1, 1000000, 2));
-            assert_eq!(rt; (settings.rows, settings.tiers), (6, 5));
-            assert_eq!(rt; settings.order, Mode::Listed);
-            assert_eq!(rt; settings.code, "LOA");
+            *yard == asked.files[0]
+                && *movins == asked.files[1]
+                && *cert == asked.outputs[0]
+                && *after == asked.outputs[1]
+                && has_settings(settings, asked)
         }
-        _ => assert!(rt; false),
+        _ => false,
     }
+}
+
+const BY_DEFAULT: Asked = Asked {
+    files: ["yard.csv", "ship.edi"],
+    outputs: [None, None],
+    search: (1, 1000000, 2),
+    size: (6, 5),
+    order: Mode::Listed,
+    code: "LOA",
+};
+
+const ALL_OPTIONS: Asked = Asked {
+    files: ["y", "-"],
+    outputs: [Some("c"), Some("-")],
+    search: (7, 0, 3),
+    size: (12, 1),
+    order: Mode::Stowage,
+    code: "",
+};
+
+const ALL_WORDS: [&str; 18] = [
+    "solve",
+    "--rows",
+    "12",
+    "y",
+    "--tiers=1",
+    "--order",
+    "stowage",
+    "--code",
+    "",
+    "-",
+    "--budget",
+    "0",
+    "--workers=7",
+    "--split=3",
+    "--cert",
+    "c",
+    "--after",
+    "-",
+];
+
+#[test]
+fn reads_a_solve_with_its_defaults(rt: HostRuntime) {
+    let asked = job(rt.alloc(), &["solve", "yard.csv", "ship.edi"]);
+    assert!(rt; is_solve(&asked, &BY_DEFAULT));
 }
 
 #[test]
 fn reads_a_solve_with_all_options(rt: HostRuntime) {
-    let words = [
-        "solve",
-        "--rows",
-        "12",
-        "y",
-        "--tiers=1",
-        "--order",
-        "stowage",
-        "--code",
-        "",
-        "-",
-        "--budget",
-        "0",
-        "--workers=7",
-        "--split=3",
-        "--cert",
-        "c",
-        "--after",
-        "-",
-    ];
-    match job(rt.alloc(), &words) {
-        Ok(
-            Job::Solve {
-                yard,
-                movins,
-                cert,
-                after,
-                settings,
-            },
-        ) => {
-            assert!(rt; yard == "y" && movins == "-");
-            assert_eq!(rt; (cert, after), (Some("c"), Some("-")));
-            assert_eq!(rt; search_of(settings.search), (7, 0, 3));
-            assert_eq!(rt; (settings.rows, settings.tiers), (12, 1));
-            assert_eq!(rt; settings.order, Mode::Stowage);
-            assert_eq!(rt; settings.code, "");
-        }
-        _ => assert!(rt; false),
-    }
-}
-
-// The workers, the budget and the split of a search.
-fn search_of(settings: Settings) -> (u32, u64, u8) {
-    (settings.workers(), settings.budget(), settings.split())
+    let asked = job(rt.alloc(), &ALL_WORDS);
+    assert!(rt; is_solve(&asked, &ALL_OPTIONS));
 }
 
 // The rows, the tiers and the order of a run.
@@ -143,7 +171,7 @@ fn settings_at_their_limits(rt: HostRuntime) -> Result<(), Fail> {
         code: "DIS",
     };
     let most = settings_of(rt.alloc(), &chosen)?;
-    assert_eq!(rt; search_of(most.search()), (64, 1099511627776, 8));
+    assert_eq!(rt; search_of(&most.search()), (64, 1099511627776, 8));
     assert_eq!(rt; bays_of(&most), (12, 8, Mode::Stowage));
     assert_eq!(rt; most.code(), b"DIS".as_slice());
     let chosen = SolveSettings {
@@ -154,7 +182,7 @@ fn settings_at_their_limits(rt: HostRuntime) -> Result<(), Fail> {
         code: "",
     };
     let least = settings_of(rt.alloc(), &chosen)?;
-    assert_eq!(rt; search_of(least.search()), (1, 0, 0));
+    assert_eq!(rt; search_of(&least.search()), (1, 0, 0));
     assert_eq!(rt; bays_of(&least), (1, 1, Mode::Listed));
     assert_eq!(rt; least.code(), b"".as_slice());
     Ok(())
