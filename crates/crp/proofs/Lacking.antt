@@ -13,6 +13,7 @@ use Rattle.crp.specs.declared.job.SettingFault.{SettingFault}
 use Rattle.crp.specs.declared.job.SettingFault.TheVariants as setting
 use Rattle.crp.specs.declared.job.Usage.{Usage}
 use Rattle.crp.specs.declared.job.Usage.TheVariants as usage
+use Rattle.crp_solve.specs.declared.settings.TheConstants.{MAX_BUDGET}
 
 -- what u64's reading of a text gives
 abbrev Gives : List ℕ → Result ℕ ParseIntError → Type 0
@@ -79,7 +80,7 @@ no_workers_fault : (rows : List Row) (n : ℕ) → HasWorkers rows n → AreWork
 no_workers_fault rows n has beyond = not_both (codes "workers") 1 64 rows n has beyond
 
 no_budget_fault : (rows : List Row) (n : ℕ) → HasBudget rows n → IsBudgetBeyond rows → ⊥
-no_budget_fault rows n has beyond = not_both (codes "budget") 0 1099511627776 rows n has beyond
+no_budget_fault rows n has beyond = not_both (codes "budget") 0 MAX_BUDGET rows n has beyond
 
 no_split_fault : (rows : List Row) (n : ℕ) → HasSplit rows n → IsSplitBeyond rows → ⊥
 no_split_fault rows n has beyond = not_both (codes "split") 0 8 rows n has beyond

@@ -17,6 +17,7 @@ use Rattle.crp.specs.Replay.{IsReplay, IsNoReplay}
 use Rattle.crp.specs.Bound.{IsBound, IsNoBound}
 use Rattle.crp.specs.Check.{IsCheck, TellsOfCheck}
 use Rattle.crp.specs.Prove.{IsProof, IsSomeProof, IsNoProof}
+use Rattle.crp.specs.declared.heads.TheConstants.{MOST_BYTES}
 
 -- the job reads one file
 abbrev pub IsOverOneFile : Job → Type 0
@@ -36,18 +37,18 @@ file_of (job.Solve yard movins cert after settings) = yard.now
 
 -- the job was done, and ended with this status: the whole report of its command was written, and nothing else
 abbrev pub Performs : Job → Status → Seen → Type 0
-Performs (job.Replay file) ended s = (ended ≡ status.Decided) × Writes 268435456 IsReplay s
-Performs (job.Bound file) ended s = (ended ≡ status.Decided) × Writes 268435456 IsBound s
-Performs (job.Check file) ended s = (ended ≡ status.Decided) × Writes 268435456 IsCheck s
-Performs (job.Prove file search) ended s = Writes 268435456 (IsProof search.budget ended) s
+Performs (job.Replay file) ended s = (ended ≡ status.Decided) × Writes MOST_BYTES IsReplay s
+Performs (job.Bound file) ended s = (ended ≡ status.Decided) × Writes MOST_BYTES IsBound s
+Performs (job.Check file) ended s = (ended ≡ status.Decided) × Writes MOST_BYTES IsCheck s
+Performs (job.Prove file search) ended s = Writes MOST_BYTES (IsProof search.budget ended) s
 Performs (job.Solve yard movins cert after settings) ended s = ⊥
 
 -- what a fault tells of the job
 abbrev pub TellsOfJob : Job → Seen → ToolFault → Type 0
-TellsOfJob (job.Replay file) s f = Tells 268435456 IsReplay IsNoReplay s f
-TellsOfJob (job.Bound file) s f = Tells 268435456 IsBound IsNoBound s f
-TellsOfJob (job.Check file) s f = TellsOfCheck 268435456 s f
-TellsOfJob (job.Prove file search) s f = Tells 268435456 (IsSomeProof search.budget) IsNoProof s f
+TellsOfJob (job.Replay file) s f = Tells MOST_BYTES IsReplay IsNoReplay s f
+TellsOfJob (job.Bound file) s f = Tells MOST_BYTES IsBound IsNoBound s f
+TellsOfJob (job.Check file) s f = TellsOfCheck MOST_BYTES s f
+TellsOfJob (job.Prove file search) s f = Tells MOST_BYTES (IsSomeProof search.budget) IsNoProof s f
 TellsOfJob (job.Solve yard movins cert after settings) s f = ⊥
 
 -- a job over one file was done, and this is what the sink of its report saw

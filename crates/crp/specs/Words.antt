@@ -17,6 +17,7 @@ use Rattle.crp.specs.declared.job.SettingFault.TheVariants as setting
 use Rattle.crp.specs.declared.job.SolveSettings.{SolveSettings}
 use Rattle.crp.specs.declared.job.Usage.{Usage}
 use Rattle.crp.specs.declared.job.Usage.TheVariants as usage
+use Rattle.crp_solve.specs.declared.settings.TheConstants.{MAX_BUDGET}
 
 -- no words ask for a replay of the standard input
 abbrev pub words_or_default : List Text → List Text
@@ -47,11 +48,11 @@ HasNumberBeyond id least most found = (n : ℕ) × HasNumber id found n × ((n <
 
 -- the budget that was found, at most 2^40
 abbrev pub HasBudget : List Row → ℕ → Type 0
-HasBudget found n = HasNumberWithin (codes "budget") 0 1099511627776 found n
+HasBudget found n = HasNumberWithin (codes "budget") 0 MAX_BUDGET found n
 
 -- the budget that was found is too large
 abbrev pub IsBudgetBeyond : List Row → Type 0
-IsBudgetBeyond found = HasNumberBeyond (codes "budget") 0 1099511627776 found
+IsBudgetBeyond found = HasNumberBeyond (codes "budget") 0 MAX_BUDGET found
 
 -- the workers that were found, 1 to 64
 abbrev pub HasWorkers : List Row → ℕ → Type 0

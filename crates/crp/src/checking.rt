@@ -1,5 +1,6 @@
 //! The command `check`: from the bytes of a file of certificates to a line for each.
 ghost use Rattle.std.specs.Prelude.{◌≡◌, ◌≤◌, ◌++◌, IfOk, OnOk, MatchResult};
+ghost use Rattle.crp.specs.declared.heads.TheConstants.{MOST_BYTES};
 ghost use Rattle.crp_plan.specs.Devices.{most_interruptions};
 ghost use Rattle.crp.specs.Calls.{Seen, failures_in, most_failures, Writes};
 ghost use Rattle.crp.specs.Check.{plan_words, verdict_words, verdict_line, verdict_lines, refusal_told, IsCheck, TellsOfCheck};
@@ -87,7 +88,7 @@ pub fn check<R: Source, W: Sink>(
       source_after = R.failures reader.new;
       sink_before = W.failures writer.old;
       sink_after = W.failures writer.new;
-    } in MatchResult result (λ status. ((status ≡ Status.Decided) × Writes 268435456 IsCheck seen) × (failures_in seen ≤ most_interruptions)) (λ fault. TellsOfCheck 268435456 seen fault × (failures_in seen ≤ most_failures fault)) }
+    } in MatchResult result (λ status. ((status ≡ Status.Decided) × Writes MOST_BYTES IsCheck seen) × (failures_in seen ≤ most_interruptions)) (λ fault. TellsOfCheck MOST_BYTES seen fault × (failures_in seen ≤ most_failures fault)) }
 {
     let mut interruptions = 0;
     let bytes = read_all(alloc, reader, MOST_BYTES, &mut interruptions)?;

@@ -1,5 +1,6 @@
 //! The command `prove`: from the bytes of a certificate's head to a certificate of its problem.
 ghost use Rattle.std.specs.Prelude.{◌≤◌, MatchResult};
+ghost use Rattle.crp.specs.declared.heads.TheConstants.{MOST_BYTES};
 ghost use Rattle.crp_plan.specs.Devices.{most_interruptions};
 ghost use Rattle.crp.specs.Calls.{Seen, failures_in, most_failures, Writes, Tells};
 ghost use Rattle.crp.specs.Prove.{IsProof, IsSomeProof, IsNoProof};
@@ -31,7 +32,7 @@ pub fn prove<T: Threads + Wait + Sync, R: Source, W: Sink>(
       source_after = R.failures reader.new;
       sink_before = W.failures writer.old;
       sink_after = W.failures writer.new;
-    } in MatchResult result (λ status. Writes 268435456 (IsProof settings.budget status) seen × (failures_in seen ≤ most_interruptions)) (λ fault. Tells 268435456 (IsSomeProof settings.budget) IsNoProof seen fault × (failures_in seen ≤ most_failures fault)) }
+    } in MatchResult result (λ status. Writes MOST_BYTES (IsProof settings.budget status) seen × (failures_in seen ≤ most_interruptions)) (λ fault. Tells MOST_BYTES (IsSomeProof settings.budget) IsNoProof seen fault × (failures_in seen ≤ most_failures fault)) }
 {
     let mut interruptions = 0;
     let head = head_from(alloc, reader, &mut interruptions)?;

@@ -1,5 +1,6 @@
 //! The command `replay`: from the bytes of a certificate's head to the moves of its plan.
 ghost use Rattle.std.specs.Prelude.{◌≡◌, ◌≤◌, ℕ, List, ◌++◌, IfOk, IfErr, OnOk, MatchResult};
+ghost use Rattle.crp.specs.declared.heads.TheConstants.{MOST_BYTES};
 ghost use Rattle.crp_plan.specs.Bay.{relocations};
 ghost use Rattle.crp_plan.specs.Devices.{most_interruptions};
 ghost use Rattle.crp.specs.Calls.{Seen, failures_in, most_failures, Writes, Tells};
@@ -69,7 +70,7 @@ pub fn replay<R: Source, W: Sink>(
       source_after = R.failures reader.new;
       sink_before = W.failures writer.old;
       sink_after = W.failures writer.new;
-    } in MatchResult result (λ status. ((status ≡ Status.Decided) × Writes 268435456 IsReplay seen) × (failures_in seen ≤ most_interruptions)) (λ fault. Tells 268435456 IsReplay IsNoReplay seen fault × (failures_in seen ≤ most_failures fault)) }
+    } in MatchResult result (λ status. ((status ≡ Status.Decided) × Writes MOST_BYTES IsReplay seen) × (failures_in seen ≤ most_interruptions)) (λ fault. Tells MOST_BYTES IsReplay IsNoReplay seen fault × (failures_in seen ≤ most_failures fault)) }
 {
     let mut interruptions = 0;
     let head = head_from(alloc, reader, &mut interruptions)?;

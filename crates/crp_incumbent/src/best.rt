@@ -61,7 +61,7 @@ impl Best {
             return None;
         }
         match &self.plan {
-            Some(plan) => Plan::from_rows(problem, plan.rows()).ok(),
+            Some(plan) => Some(plan.copy()),
             None => None,
         }
     }

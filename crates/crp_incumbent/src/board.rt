@@ -47,10 +47,7 @@ impl Board {
 
     /// Posts a plan. The board keeps it where it is of the board's problem and better than the one that is there. It may wait.
     pub fn post(&self, rt: &impl Wait, plan: &Plan) {
-        let Ok(copy) = Plan::from_rows(plan.problem(), plan.rows()) else {
-            unreachable!()
-        };
-        let _other = self.best.lock(rt).take_if_better(copy);
+        let _other = self.best.lock(rt).take_if_better(plan.copy());
     }
 
     /// The best plan that was posted, if one was. It may wait.

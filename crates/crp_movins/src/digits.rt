@@ -2,7 +2,8 @@
 
 ghost use Rattle.std.specs.Prelude.{◌≡◌, ◌<◌, ◌≤◌, ◌^◌, IsTrue, length};
 ghost use Rattle.std.specs.List.{list_all};
-ghost use Rattle.crp_movins.specs.Digits.{is_digit, number_of, counts};
+ghost use Rattle.std.specs.Char.{is_ascii_digit};
+ghost use Rattle.crp_movins.specs.Digits.{number_of, counts};
 
 /// The bytes are 1 to 10 digits, and write this number.
 pub(crate) fn counts(bytes: &[u8], number: usize) -> bool
@@ -15,14 +16,14 @@ pub(crate) fn counts(bytes: &[u8], number: usize) -> bool
 }
 
 pub(crate) fn are_digits(bytes: &[u8]) -> bool
-    ensures { result ≡ list_all is_digit bytes.now }
+    ensures { result ≡ list_all is_ascii_digit bytes.now }
 {
-    bytes.iter().all(|b| *b >= b'0' && *b <= b'9')
+    bytes.iter().all(|b| b.is_ascii_digit())
 }
 
 pub(crate) fn number_of(bytes: &[u8]) -> u64
     requires short { length bytes.now ≤ 10 }
-    requires digits { IsTrue (list_all is_digit bytes.now) }
+    requires digits { IsTrue (list_all is_ascii_digit bytes.now) }
     ensures value { result ≡ number_of bytes.now }
     ensures small { result < 10 ^ length bytes.now }
 {

@@ -28,7 +28,3 @@ after_claim budget w = record w {
   spent = w.spent + 1;
   view = if is_granted budget w then record w.view { granted = w.view.granted + 1 } else record w.view { refused = w.view.refused + 1 };
 }
-
--- the worker was refused a claim
-abbrev pub was_refused : View → Bool
-was_refused v = nat_lt 0 v.refused

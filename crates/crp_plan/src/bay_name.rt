@@ -57,5 +57,5 @@ impl BayName {
 fn is_printed(block: &[u8]) -> bool
     ensures { IsTrue result ↔ All (λ b. (33 ≤ b) × (b ≤ 126)) block.now }
 {
-    block.iter().all(|b| *b >= 33 && *b <= 126)
+    block.iter().all(|b| b.is_ascii_graphic())
 }

@@ -2,6 +2,7 @@
 use Rattle.std.proofs.Common.{◌≡◌, ℕ, zero, suc, ◌-◌, ◌<◌, ◌≤◌, ◌==◌, Bool, true, false, not, cond, List, [], ◌∷◌, ◌++◌, length, take, get_or, map, filter, fold, Option, Some, None, refl, sym, subst, arith, nat_le}
 use Rattle.std.specs.Prelude.{◌&&◌, ◌||◌, max, option_to_list}
 use Rattle.std.specs.List.{AllByRecursion, list_all, list_any}
+use Rattle.std.specs.Char.{is_ascii_digit}
 use Rattle.std.specs.Map.{lookup}
 use Rattle.std.specs.Str.{bytes_eq}
 use Rattle.std.proofs.lemmas.Bool.{and_parts, leb-true, false≢true}
@@ -10,7 +11,7 @@ use Rattle.std.proofs.lemmas.List.Concat.{flat_map-append}
 use Rattle.std.proofs.lemmas.List.Elements.{All-from_recursion, recursion_from_All, All-map}
 use Rattle.crp_plan.specs.BayNames.{YardBay, IsYardBay}
 use Rattle.crp_yard.specs.Places.{YardPlace, same_bay, same_place}
-use Rattle.crp_yard.specs.Records.{Entry, is_block, is_container, is_digit, is_number, number_of, is_well_formed, has_numbers, field_of, entry_of, entries_of, records_of}
+use Rattle.crp_yard.specs.Records.{Entry, is_block, is_container, is_number, number_of, is_well_formed, has_numbers, field_of, entry_of, entries_of, records_of}
 use Rattle.crp_yard.specs.Faults.{fault_of, fault_behind, fault_at, first_fault, first_fault_up_to, max_bytes}
 use Rattle.crp_yard.specs.Inventory.{Inventory, StackedBay, bays_of, with_bay, stacked, stack_up_to, stacks_up_to, container_at, is_among}
 use Rattle.crp_yard.specs.Reading.{IsYardList}
@@ -35,16 +36,16 @@ small_number (a ∷ b ∷ c ∷ []) few low = omega (arith, low.0, low.1.0, low.
 small_number (a ∷ b ∷ c ∷ d ∷ []) few low = omega (arith, low.0, low.1.0, low.1.1.0, low.1.1.1.0)
 small_number (a ∷ b ∷ c ∷ d ∷ e ∷ bytes) few low = absurd (omega (arith, few))
 
-low_digits : (bytes : List ℕ) → list_all is_digit bytes ≡ true → AllByRecursion (λ b. b ≤ 57) bytes
+low_digits : (bytes : List ℕ) → list_all is_ascii_digit bytes ≡ true → AllByRecursion (λ b. b ≤ 57) bytes
 low_digits [] e = tt
 low_digits (b ∷ bytes) e =
-    let parts = and_parts (is_digit b) (list_all is_digit bytes) e in
+    let parts = and_parts (is_ascii_digit b) (list_all is_ascii_digit bytes) e in
     let digit = and_parts (nat_le 48 b) (nat_le b 57) parts.0 in
     (leb-true b 57 digit.1, low_digits bytes parts.1)
 
 number_small : (bytes : List ℕ) → is_number bytes ≡ true → number_of bytes < 10000
 number_small bytes e =
-    let parts = and_parts (nat_le 1 (length bytes) && nat_le (length bytes) 4) (list_all is_digit bytes) e in
+    let parts = and_parts (nat_le 1 (length bytes) && nat_le (length bytes) 4) (list_all is_ascii_digit bytes) e in
     let long = and_parts (nat_le 1 (length bytes)) (nat_le (length bytes) 4) parts.0 in
     small_number bytes (leb-true (length bytes) 4 long.1) (low_digits bytes parts.1)
 

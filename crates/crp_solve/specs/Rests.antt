@@ -1,12 +1,12 @@
 -- What is left in the pool when its workers are done, and what is known when that is searched too.
 use Rattle.std.specs.Prelude.{◌≡◌, ℕ, List, [], ◌∷◌, All, Option, IfSome}
 use Rattle.crp_plan.specs.declared.running.View.{View}
-use Rattle.crp_plan.specs.Bay.{Problem}
+use Rattle.crp_plan.specs.Bay.{Problem, IsProblem}
 use Rattle.crp_plan.specs.Plans.{Route}
 use Rattle.crp_tree.specs.Parts.{ProblemPart, Certificate, names_of}
 use Rattle.crp_incumbent.specs.Seats.{Shared}
 use Rattle.crp_pool.specs.Weigh.{SameNames}
-use Rattle.crp_solve.specs.Answers.{path_in, count_of, IsPlanOf}
+use Rattle.crp_solve.specs.Answers.{path_in, count_of, IsFirstLimit, IsPlanOf}
 use Rattle.crp_solve.specs.Searches.{IsSearched, IsWhole}
 use Rattle.crp_solve.specs.Desks.{count_or, KeepsPlan}
 use Rattle.crp_solve.specs.Groups.{branches_in_parts, given_in}
@@ -27,6 +27,13 @@ pub record IsDoneUpTo (of : Shared) (view : View) (plan : Option Route) (parts :
 pub record IsAllDone (view : View) (parts : List ProblemPart) : Type 0 where
   pub grants : view.granted ≡ branches_in_parts parts
   pub names : SameNames (names_of parts) ([] ∷ given_in parts)
+
+-- a search begins with the relocations of this plan, the greedy one; where there is none, with the cap
+pub record IsBegunWith (p : Problem) (first : ℕ) (greedy : Option Route) : Type 0 where
+  pub is_problem : IsProblem p
+  pub plan_is : IfSome greedy (IsPlanOf p)
+  pub first_is : IsFirstLimit p first
+  pub count : first ≡ count_of p (path_in greedy)
 
 -- what workers found together: with any plan of the problem that has as many relocations as their best one (or, where they have none, as the limit at the
 -- start) they have searched the whole problem

@@ -68,10 +68,7 @@ fn keep_shorter(first: u32, best: &mut Option<Plan>, plan: &Plan)
         None => first,
     };
     if plan.count() < mine {
-        let Ok(copy) = Plan::from_rows(plan.problem(), plan.rows()) else {
-            unreachable!()
-        };
-        *best = Some(copy);
+        *best = Some(plan.copy());
     }
 }
 

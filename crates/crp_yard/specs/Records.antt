@@ -1,6 +1,7 @@
 -- What the records of a yard list say.
 use Rattle.std.specs.Prelude.{ℕ, ◌+◌, ◌-◌, ◌*◌, Bool, ◌&&◌, ◌==◌, nat_le, List, [], length, map, drop, fold, slice_index_or, codes}
 use Rattle.std.specs.List.{list_all}
+use Rattle.std.specs.Char.{is_ascii_digit, is_ascii_graphic}
 use Rattle.std.specs.Str.{bytes_eq}
 use Rattle.csv.specs.Reading.{default_config, records, strip_bom}
 use Rattle.crp_yard.specs.Places.{YardPlace}
@@ -23,19 +24,15 @@ is_header fields =
 
 -- 1 to 17 bytes from 0x21 to 0x7E
 abbrev pub is_block : List ℕ → Bool
-is_block bytes = (nat_le 1 (length bytes) && nat_le (length bytes) 17) && list_all (λ b. nat_le 33 b && nat_le b 126) bytes
+is_block bytes = (nat_le 1 (length bytes) && nat_le (length bytes) 17) && list_all is_ascii_graphic bytes
 
 -- 1 to 35 bytes from 0x20 to 0xFF
 abbrev pub is_container : List ℕ → Bool
 is_container bytes = (nat_le 1 (length bytes) && nat_le (length bytes) 35) && list_all (λ b. nat_le 32 b) bytes
 
--- an ASCII digit
-abbrev pub is_digit : ℕ → Bool
-is_digit b = nat_le 48 b && nat_le b 57
-
 -- 1 to 4 digits, leading zeros among them
 abbrev pub is_number : List ℕ → Bool
-is_number bytes = (nat_le 1 (length bytes) && nat_le (length bytes) 4) && list_all is_digit bytes
+is_number bytes = (nat_le 1 (length bytes) && nat_le (length bytes) 4) && list_all is_ascii_digit bytes
 
 -- the number that the digits write
 abbrev pub number_of : List ℕ → ℕ

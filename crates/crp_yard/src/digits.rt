@@ -2,7 +2,8 @@
 
 ghost use Rattle.std.specs.Prelude.{◌≡◌, ◌<◌, ◌^◌, IsTrue};
 ghost use Rattle.std.specs.List.{list_all};
-ghost use Rattle.crp_yard.specs.Records.{is_digit, is_number, number_of};
+ghost use Rattle.std.specs.Char.{is_ascii_digit};
+ghost use Rattle.crp_yard.specs.Records.{is_number, number_of};
 
 /// The bytes are 1 to 4 digits.
 pub(crate) fn is_number(bytes: &[u8]) -> bool
@@ -12,9 +13,9 @@ pub(crate) fn is_number(bytes: &[u8]) -> bool
 }
 
 fn are_digits(bytes: &[u8]) -> bool
-    ensures { result ≡ list_all is_digit bytes.now }
+    ensures { result ≡ list_all is_ascii_digit bytes.now }
 {
-    bytes.iter().all(|b| *b >= b'0' && *b <= b'9')
+    bytes.iter().all(|b| b.is_ascii_digit())
 }
 
 /// The number that they write.

@@ -2,6 +2,7 @@
 
 ghost use Rattle.std.specs.Prelude.{◌≡◌, ◌&&◌, nat_le, IsTrue};
 ghost use Rattle.std.specs.List.{list_all};
+ghost use Rattle.std.specs.Char.{is_ascii_graphic};
 ghost use Rattle.csv.specs.Records.{fields_of};
 ghost use Rattle.crp_yard.specs.Records.{field_of, is_header, is_block, is_container, is_well_formed, has_numbers, is_within, number_of, place_of};
 
@@ -38,9 +39,9 @@ fn is_block(bytes: &[u8]) -> bool
 }
 
 fn are_printed(bytes: &[u8]) -> bool
-    ensures { result ≡ list_all (λ b. nat_le 33 b && nat_le b 126) bytes.now }
+    ensures { result ≡ list_all is_ascii_graphic bytes.now }
 {
-    bytes.iter().all(|b| *b >= 33 && *b <= 126)
+    bytes.iter().all(|b| b.is_ascii_graphic())
 }
 
 fn is_container(bytes: &[u8]) -> bool

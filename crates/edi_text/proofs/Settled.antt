@@ -9,7 +9,8 @@ use Rattle.edi_text.specs.declared.fault.EdiFault.TheVariants.{NoSegment, Advice
 use Rattle.edi_text.specs.declared.mark.Mark.{Mark}
 use Rattle.edi_text.specs.declared.mark.Mark.TheVariants.{Data, ComponentEnd, ElementEnd, SegmentEnd}
 use Rattle.edi_text.specs.declared.mark.ServiceCharacters.{ServiceCharacters}
-use Rattle.edi_text.specs.Parts.{SegmentParts, IsUppercase, IsTag, HasTag, segment_of}
+use Rattle.std.specs.Char.{IsAsciiUppercase}
+use Rattle.edi_text.specs.Parts.{SegmentParts, IsTag, HasTag, segment_of}
 use Rattle.edi_text.specs.Spelling.{max_text, standard, signs_of, IsSymbol, IsPrintable, HasNoSpace, AreDistinct, IsAccepted, BeginsWithAdvice, Spells}
 use Rattle.edi_text.specs.FirstFault.{IsInside, BreaksOff, IsFirstFault}
 use Rattle.edi_text.specs.Stored.{Contents}
@@ -50,7 +51,7 @@ settles-le a b = elim (cases_lt b a) [ inl h ↦ inr (λ k. omega arith) | inr h
 settles-eq : (a b : ℕ) → Settles (a ≡ b)
 settles-eq a b = cases_eq a b
 
-settles-uppercase : (b : ℕ) → Settles (IsUppercase b)
+settles-uppercase : (b : ℕ) → Settles (IsAsciiUppercase b)
 settles-uppercase b = both (settles-le 65 b) (settles-le b 90)
 
 settles-tag : (bytes : List ℕ) → Settles (IsTag bytes)

@@ -1,6 +1,7 @@
 -- What an interchange says, apart from how it is spelled.
 use Rattle.std.specs.Prelude.{◌≢◌, ℕ, ◌-◌, ◌≤◌, List, [], ◌∷◌, Option, None, ◌||◌, if◌then◌else◌, ◌==◌, slice_get, slice_index_or}
 use Rattle.std.specs.List.{AllByRecursion}
+use Rattle.std.specs.Char.{IsAsciiUppercase}
 
 -- a segment: its tag, and its elements after the tag as lists of components
 pub record SegmentParts : Type 0 where
@@ -15,13 +16,9 @@ segment_at segments number = if number == 0 then None else slice_get segments (n
 abbrev pub component_of : SegmentParts → ℕ → ℕ → List ℕ
 component_of segment element component = if element == 0 || component == 0 then [] else slice_index_or (slice_index_or segment.elements (element - 1) []) (component - 1) []
 
--- a letter of ASCII from A to Z
-abbrev pub IsUppercase : ℕ → Type 0
-IsUppercase b = (65 ≤ b) × (b ≤ 90)
-
 -- three letters from A to Z
 abbrev pub IsTag : List ℕ → Type 0
-IsTag (a ∷ b ∷ c ∷ []) = IsUppercase a × IsUppercase b × IsUppercase c
+IsTag (a ∷ b ∷ c ∷ []) = IsAsciiUppercase a × IsAsciiUppercase b × IsAsciiUppercase c
 IsTag _ = ⊥
 
 -- there is an item

@@ -1,7 +1,7 @@
 //! Where the segments lie in memory.
 
 ghost use Rattle.std.specs.Prelude.{◌≡◌, ◌↔◌, ◌≤◌, ◌<◌, ◌^◌, ◌-◌, ◌++◌, ◌∷◌, [], IsTrue, OnOk, length, slice_index_or};
-ghost use Rattle.edi_text.specs.Parts.{HasTag, IsTag, IsUppercase};
+ghost use Rattle.edi_text.specs.Parts.{HasTag, IsTag};
 ghost use Rattle.edi_text.specs.Stored.{component_at};
 ghost use Rattle.edi_text.specs.Spans.{nth_span};
 ghost use Rattle.edi_text.specs.Reading.{after_mark};
@@ -150,15 +150,9 @@ fn is_tag(bytes: &[u8]) -> bool
     ensures { IsTrue result ↔ IsTag bytes.now }
 {
     match bytes {
-        [a, b, c] => is_uppercase(*a) && is_uppercase(*b) && is_uppercase(*c),
+        [a, b, c] => a.is_ascii_uppercase() && b.is_ascii_uppercase() && c.is_ascii_uppercase(),
         _ => false,
     }
-}
-
-fn is_uppercase(byte: u8) -> bool
-    ensures { IsTrue result ↔ IsUppercase byte }
-{
-    byte >= b'A' && byte <= b'Z'
 }
 
 /// The items from `start` on that come before `end`.

@@ -3,14 +3,15 @@ use Rattle.std.proofs.lemmas.Result.{err_from_is_err_and}
 use Rattle.crp.specs.Calls.{Seen, IsGiven}
 use Rattle.crp.specs.Check.{verdict_lines}
 use Rattle.crp.proofs.Checked.{refusal_tells, given_as}
+use Rattle.crp.specs.declared.heads.TheConstants.{MOST_BYTES}
 use Rattle.crp.proofs.checking.check.Goals as goal
 
 pub returns-in_err-write_all-in-Err : goal.returns-in_err-write_all-in-Err
 returns-in_err-write_all-in-Err g c =
     let p = err_from_is_err_and c.from_residual-in_err-write_all-in-Err.result c.from_residual-in_err-write_all-in-Err.ensures.1 in
-    let within : length c.in_ok-bytes.bytes.items ≤ 268435456 = omega (arith, c.in_ok-bytes.ensures.within) in
-    let given : IsGiven 268435456 (g.R.Source.remaining c.args.reader.now) c.deref.result.now =
-    given_as 268435456 _ c.in_ok-bytes.bytes.items c.deref.result.now c.deref.ensures.value within c.in_ok-bytes.ensures.all in
+    let within : length c.in_ok-bytes.bytes.items ≤ MOST_BYTES = omega (arith, c.in_ok-bytes.ensures.within) in
+    let given : IsGiven MOST_BYTES (g.R.Source.remaining c.args.reader.now) c.deref.result.now =
+    given_as MOST_BYTES _ c.in_ok-bytes.bytes.items c.deref.result.now c.deref.ensures.value within c.in_ok-bytes.ensures.all in
     let lines : c.deref-in-Err.result.now ≡ verdict_lines c.in-Err.refusal.before =
     c.deref-in-Err.ensures.value ∙ c.in_ok-text-in-Err.ensures ∙ ap verdict_lines c.as_slice-in-Err.ensures in
     rw (p.1, p.2) (
@@ -29,9 +30,9 @@ returns-in_err-write_all-in-Err g c =
 
 pub returns : goal.returns
 returns g c =
-    let within : length c.in_ok-bytes.bytes.items ≤ 268435456 = omega (arith, c.in_ok-bytes.ensures.within) in
-    let given : IsGiven 268435456 (g.R.Source.remaining c.args.reader.now) c.deref.result.now =
-    given_as 268435456 _ c.in_ok-bytes.bytes.items c.deref.result.now c.deref.ensures.value within c.in_ok-bytes.ensures.all in
+    let within : length c.in_ok-bytes.bytes.items ≤ MOST_BYTES = omega (arith, c.in_ok-bytes.ensures.within) in
+    let given : IsGiven MOST_BYTES (g.R.Source.remaining c.args.reader.now) c.deref.result.now =
+    given_as MOST_BYTES _ c.in_ok-bytes.bytes.items c.deref.result.now c.deref.ensures.value within c.in_ok-bytes.ensures.all in
     let lines : c.deref-in-Err.result.now ≡ verdict_lines c.in-Err.refusal.before =
     c.deref-in-Err.ensures.value ∙ c.in_ok-text-in-Err.ensures ∙ ap verdict_lines c.as_slice-in-Err.ensures in
     let seen : Seen = record {
@@ -43,7 +44,7 @@ returns g c =
       sink_before = g.W.Sink.failures c.args.writer.now;
       sink_after = g.W.Sink.failures c.write_all-in-Err.new.writer;
     } in (
-      refusal_tells 268435456 seen c.in-Err.refusal.number c.in-Err.refusal.refused c.refused_at.result c.refused_at.ensures
+      refusal_tells MOST_BYTES seen c.in-Err.refusal.number c.in-Err.refusal.refused c.refused_at.result c.refused_at.ensures
           (c.deref.result.now, c.deref-in-Err.result.now, given, (c.in-Err.refusal.before, c.in-Err.ensures.refused, lines), c.in_ok-write_all-in-Err.ensures.all),
       search rules,
     )

@@ -3,6 +3,7 @@ use Rattle.std.proofs.lemmas.Result.{err_from_is_err_and}
 use Rattle.crp.specs.Calls.{Seen}
 use Rattle.crp.specs.Replay.{IsReplay, IsNoReplay, IsHeadReport}
 use Rattle.crp.proofs.Replayed.{no_head_told, no_report_told, keeps_same}
+use Rattle.crp.specs.declared.heads.TheConstants.{MOST_BYTES}
 use Rattle.crp.proofs.replaying.replay.Goals as goal
 
 pub returns-in_err-head : goal.returns-in_err-head
@@ -17,7 +18,7 @@ returns-in_err-head g c =
       sink_before = g.W.Sink.failures c.args.writer.now;
       sink_after = g.W.Sink.failures c.args.writer.now;
     } in
-    rw (p.1, p.2) (no_head_told 268435456 IsReplay IsNoReplay seen c.in_err-head.field-0.0 (keeps_same _) (λ bytes f first. first) c.in_err-head.ensures.none, search rules)
+    rw (p.1, p.2) (no_head_told MOST_BYTES IsReplay IsNoReplay seen c.in_err-head.field-0.0 (keeps_same _) (λ bytes f first. first) c.in_err-head.ensures.none, search rules)
 
 pub returns-in_err-report : goal.returns-in_err-report
 returns-in_err-report g c =
