@@ -9,8 +9,8 @@ use Rattle.crp_plan.specs.Plans.{Route}
 use Rattle.crp_tree.specs.Scripts.{IsAccepted, Script as Claim}
 use Rattle.crp_cert.specs.declared.head.Head.{Head}
 use Rattle.crp_cert.specs.Text.{HasOneHeight, IsHead}
-use Rattle.crp_cert.specs.Writing.{told, claimed, IsTellable}
-use Rattle.crp_cert.proofs.Written.{told_is_script, told_again, claimed_rise}
+use Rattle.crp_cert.specs.Writing.{script_for, claimed, CanBeSpelled}
+use Rattle.crp_cert.proofs.Written.{spelled_is_script, spelled_again, claimed_rise}
 use Rattle.crp_solve.specs.declared.answer.Answer.{Answer}
 use Rattle.crp_solve.specs.declared.answer.Answer.TheVariants as answer
 use Rattle.crp_solve.specs.declared.answer.Cause.TheVariants as cause
@@ -18,7 +18,7 @@ use Rattle.crp_solve.specs.Answers.{path_in, cert_of, count_of, IsTrueAnswer}
 use Rattle.crp_solve.proofs.Limits.{count_low}
 use Rattle.crp_checker.specs.declared.verdict.Verdict.{Verdict}
 use Rattle.crp_checker.specs.declared.verdict.Verdict.TheVariants as verdict
-use Rattle.crp_checker.specs.Claims.{IsWanted, IsYes}
+use Rattle.crp_checker.specs.Claims.{IsWanted, IsAcceptedText}
 use Rattle.crp_checker.specs.Verdicts.{IsVerdictOf}
 use Rattle.crp_checker.specs.Files.{BeginsWithTexts, ShowEach}
 use Rattle.crp_order.specs.declared.bay_problem.BayProblem.{BayProblem}
@@ -92,7 +92,7 @@ claim_accepted p budget (answer.NoPlan cert) expanded t = t.accepted
 claim_accepted p budget (answer.Between lower cert plan why) expanded t = t.accepted
 
 -- and a text can tell it
-tellable : (p : Problem) (budget : ℕ) (found : Answer) (expanded : ℕ) → HasOneHeight p → IsTrueAnswer p budget found expanded → IsTellable (claim p found)
+tellable : (p : Problem) (budget : ℕ) (found : Answer) (expanded : ℕ) → HasOneHeight p → IsTrueAnswer p budget found expanded → CanBeSpelled (claim p found)
 tellable p budget found expanded one t =
     record {
       accepted = claim_accepted p budget found expanded t;
@@ -101,13 +101,13 @@ tellable p budget found expanded one t =
     }
 
 -- so the text is that of an accepted script, of the problem that is asked for, if one is
-text_accepted : (wanted : Option Problem) (bay : YardBay) (p : Problem) (found : Answer) → IsYardBay bay → IsTellable (claim p found) → IsWanted wanted p →
-    IsYes wanted (text_of bay p found) (told bay (claim p found))
+text_accepted : (wanted : Option Problem) (bay : YardBay) (p : Problem) (found : Answer) → IsYardBay bay → CanBeSpelled (claim p found) → IsWanted wanted p →
+    IsAcceptedText wanted (text_of bay p found) (script_for bay (claim p found))
 text_accepted wanted bay p found named t asked =
     record {
-      is_text = (told_is_script bay (claim p found) named t, refl);
+      is_text = (spelled_is_script bay (claim p found) named t, refl);
       as_wanted = asked;
-      accepted = subst IsAccepted (sym (told_again bay (claim p found))) t.accepted;
+      accepted = subst IsAccepted (sym (spelled_again bay (claim p found))) t.accepted;
     }
 
 pub answer_accepted : (bay : YardBay) (p : Problem) (budget : ℕ) (found : Answer) (expanded : ℕ) → IsYardBay bay → HasOneHeight p →
@@ -118,8 +118,8 @@ answer_accepted bay p budget found expanded named one t =
       k.0,
       record {
         on = k.1;
-        of_bay = (told bay (claim p found), text_accepted None bay p found named can tt, refl, k.2);
-        of_problem = (told bay (claim p found), text_accepted (Some p) bay p found named can refl, k.2);
+        of_bay = (script_for bay (claim p found), text_accepted None bay p found named can tt, refl, k.2);
+        of_problem = (script_for bay (claim p found), text_accepted (Some p) bay p found named can refl, k.2);
       },
     )
 
@@ -143,7 +143,7 @@ cut budget [] good = refl
 cut budget (bay ∷ answered) good =
     let is = good.0 in
     let can = is.can in
-    (certificates_text answered, refl, inl (script_ended (told bay.told.bay (claim bay.told.problem bay.answer)) can.0), cut budget answered good.1)
+    (certificates_text answered, refl, inl (script_ended (script_for bay.told.bay (claim bay.told.problem bay.answer)) can.0), cut budget answered good.1)
 
 -- and each shows the verdict on its answer
 each_shown : (budget : ℕ) (answered : List Answered) → AllByRecursion (IsGood budget) answered →

@@ -12,7 +12,7 @@ use Rattle.crp_solve.specs.Answers.{path_in, cert_of}
 use Rattle.crp_checker.specs.declared.verdict.Verdict.{Verdict}
 use Rattle.crp_checker.specs.declared.verdict.Verdict.TheVariants as verdict
 use Rattle.crp_checker.specs.Verdicts.{IsVerdictOf}
-use Rattle.crp_checker.specs.Shown.{Shows, ShowsOf}
+use Rattle.crp_checker.specs.Shown.{TextShows, TextShowsFor}
 use Rattle.crp_checker.specs.Files.{FileShows}
 use Rattle.crp_order.specs.declared.bay_problem.BayProblem.{BayProblem}
 use Rattle.crp_report.specs.Answered.{Answered, plan_in}
@@ -33,8 +33,8 @@ text_of bay p found = certificate_text bay p (cert_of found) (plan_in found)
 -- the text shows this verdict on the answer, for this bay, whether the problem is asked for or not
 pub record IsShown (text : List ℕ) (bay : YardBay) (p : Problem) (found : Answer) (v : Verdict) : Type 0 where
   pub on : IsVerdictOn p found v
-  pub of_bay : ShowsOf text bay v
-  pub of_problem : Shows (Some p) text v
+  pub of_bay : TextShowsFor text bay v
+  pub of_problem : TextShows (Some p) text v
 
 -- the text is accepted as the certificate of a bay, with the verdict on the answer to its problem
 abbrev pub IsAcceptedAs : List ℕ → YardBay → Problem → Answer → Type 0

@@ -11,7 +11,7 @@ use Rattle.crp_solve.specs.declared.answer.Cause.TheVariants as cause
 use Rattle.crp_checker.specs.declared.verdict.Verdict.{Verdict}
 use Rattle.crp_checker.specs.declared.verdict.Verdict.TheVariants as verdict
 use Rattle.crp_checker.specs.Verdicts.{IsVerdictOf}
-use Rattle.crp_checker.specs.Shown.{Shows, ShowsOf}
+use Rattle.crp_checker.specs.Shown.{TextShows, TextShowsFor}
 use Rattle.crp_checker.specs.Files.{FileShows}
 use Rattle.crp_report.specs.MoveLines.{TellsMoves}
 use Rattle.crp_report.specs.TakeLines.{taken_in}
@@ -70,8 +70,8 @@ IsSo m b (Between lower upper why) =
 -- what the report says of a bay is so, and the checker accepts its certificate with the verdict: for a bay of this name, and for its problem
 pub record IsTrueOf (m : Made) (b : Reported) : Type 0 where
   pub so : IsSo m b b.said
-  pub of_bay : ShowsOf b.certificate b.bay.0 b.verdict
-  pub of_problem : Shows (Some (problem_in m b)) b.certificate b.verdict
+  pub of_bay : TextShowsFor b.certificate b.bay.0 b.verdict
+  pub of_problem : TextShows (Some (problem_in m b)) b.certificate b.verdict
 
 -- the report is a line of three numbers, the lines of the bays from which a container of the sequence leaves, in the yard's order, and a line that
 -- counts them; the file of certificates is theirs, in that order, and the checker accepts it with their verdicts; and what is said of each is so

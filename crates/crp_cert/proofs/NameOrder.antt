@@ -12,28 +12,28 @@ use Rattle.crp_bay.proofs.Walked.{at_reads}
 use Rattle.crp_tree.specs.Names.{Precedes}
 use Rattle.crp_tree.proofs.Ordered.{goes_further, not_itself, less_if}
 use Rattle.crp_cert.specs.declared.parts.RawPart.{RawPart}
-use Rattle.crp_cert.specs.Script.{names_told, IsRawPart}
+use Rattle.crp_cert.specs.Script.{names_of_raw, IsRawPart}
 use Rattle.crp_cert.specs.ScriptFaults.{ComesAfter}
 use Rattle.crp_cert.proofs.PartNames.{first_rows, rows_low}
 
 -- ---- after the last
 
 -- the names that are told, one by one
-name_told : (parts : List RawPart) (k : ℕ) (d : RawPart) → k < length parts → get_or (names_told parts) k d.name ≡ (get_or parts k d).name
+name_told : (parts : List RawPart) (k : ℕ) (d : RawPart) → k < length parts → get_or (names_of_raw parts) k d.name ≡ (get_or parts k d).name
 name_told parts k d lt = get_or-map (λ part. part.name) parts k d d.name lt
 
 -- as many names as parts
-length_names : (parts : List RawPart) → length (names_told parts) ≡ length parts
+length_names : (parts : List RawPart) → length (names_of_raw parts) ≡ length parts
 length_names [] = refl
 length_names (part ∷ parts) = ap suc (length_names parts)
 
 -- a name that comes after the last comes after all
-pub after_last : (parts : List RawPart) (last : RawPart) (name : List ℕ) → AllPairs Precedes (names_told parts) → slice_get parts (length parts - 1) ≡ Some last → Precedes last.name name → ComesAfter parts name
+pub after_last : (parts : List RawPart) (last : RawPart) (name : List ℕ) → AllPairs Precedes (names_of_raw parts) → slice_get parts (length parts - 1) ≡ Some last → Precedes last.name name → ComesAfter parts name
 after_last parts last name rising e p k d lt = ⊎_elim
     (λ same. subst (λ (part : RawPart). Precedes part.name name) (sym (ap (λ i. get_or parts i d) same ∙ get_or_from_slice_get parts (length parts - 1) last d e)) p)
     (λ ne. goes_further (get_or parts k d).name last.name name
     (subst (λ n. Precedes n last.name) (name_told parts k d lt)
-    (subst (Precedes (get_or (names_told parts) k d.name)) (name_told parts (length parts - 1) d (omega arith) ∙ ap (λ (part : RawPart). part.name) (get_or_from_slice_get parts (length parts - 1) last d e))
+    (subst (Precedes (get_or (names_of_raw parts) k d.name)) (name_told parts (length parts - 1) d (omega arith) ∙ ap (λ (part : RawPart). part.name) (get_or_from_slice_get parts (length parts - 1) last d e))
     (rising k (length parts - 1) d.name (omega arith) (omega (arith, length_names parts)))))
     p)
     (cases_eq k (length parts - 1))
@@ -133,9 +133,9 @@ name_low p part is raw =
     (raw.short, rows_low 12 (settled (start p)) raw.place part.name (omega (arith, first_rows p)) (at_reads p part.name raw.place is raw.is_at))
 
 -- there are fewer than 2 ^ 32 parts
-pub few_parts : (p : Problem) (parts : List RawPart) → IsProblem p → All (IsRawPart p) parts → AllPairs Precedes (names_told parts) → length parts ≤ 815730721
-few_parts p parts is each rising = omega (arith, length_names parts, few_names 0 (names_told parts) (omega arith) (lows parts each) rising)
+pub few_parts : (p : Problem) (parts : List RawPart) → IsProblem p → All (IsRawPart p) parts → AllPairs Precedes (names_of_raw parts) → length parts ≤ 815730721
+few_parts p parts is each rising = omega (arith, length_names parts, few_names 0 (names_of_raw parts) (omega arith) (lows parts each) rising)
   where
-    lows : (parts : List RawPart) → All (IsRawPart p) parts → AllByRecursion (λ name. IsLowName name × (0 ≤ rank 8 name)) (names_told parts)
+    lows : (parts : List RawPart) → All (IsRawPart p) parts → AllByRecursion (λ name. IsLowName name × (0 ≤ rank 8 name)) (names_of_raw parts)
     lows [] each = tt
     lows (part ∷ parts) each = ((name_low p part is (each 0 part (omega arith)), omega arith), lows parts (λ k d lt. each (suc k) d (omega arith)))

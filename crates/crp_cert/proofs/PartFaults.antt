@@ -13,13 +13,14 @@ use Rattle.crp_cert.specs.declared.head.Head.{Head}
 use Rattle.crp_cert.specs.declared.parts.RawPart.{RawPart}
 use Rattle.crp_cert.specs.declared.fault.CertFault.{CertFault}
 use Rattle.crp_cert.specs.Text.{head_text, IsHead}
-use Rattle.crp_cert.specs.Script.{symbols_of, part_line, Matches, end_line, names_told, IsRawPart}
-use Rattle.crp_cert.specs.ScriptFaults.{BeginsWithPart, ComesAfter, TellsParts, IsLineFault, GoesOnBehindTree}
+use Rattle.crp_cert.specs.Script.{symbols_of, part_line, end_line, names_of_raw, IsRawPart}
+use Rattle.crp_cert.specs.ScriptFaults.{BeginsWithPart, ComesAfter, BeginsWithParts, IsLineFault, GoesOnBehindTree}
 use Rattle.crp_cert.specs.Reading.{◌>>=◌, tag_at, newline_at}
 use Rattle.crp_cert.specs.PartReading.{part_at, AreParts}
 use Rattle.std.proofs.lemmas.Option.{none-some}
 use Rattle.crp_cert.proofs.Numbers.{tag_takes, tag_again}
 use Rattle.crp_cert.proofs.PartLines.{begins_with}
+use Rattle.crp_tree.specs.Trees.{Fits}
 
 -- ---- one part line
 
@@ -37,7 +38,7 @@ told_line p bytes name symbols after s is_at e = record {
 }
 
 -- something is left
-pub left_over : (symbols left : List ℕ) (s : Position) (tree : Tree) → Matches s tree → symbols ≡ symbols_of tree ++ left → 0 < length left → GoesOnBehindTree s symbols
+pub left_over : (symbols left : List ℕ) (s : Position) (tree : Tree) → Fits s tree → symbols ≡ symbols_of tree ++ left → 0 < length left → GoesOnBehindTree s symbols
 left_over symbols [] s tree m e some = absurd (omega arith)
 left_over symbols (b ∷ left) s tree m e some = (tree, m, (b, left, e))
 
@@ -59,11 +60,11 @@ parts_push p bytes parts more part rest after is are raw comes e =
     subst (λ l. AreParts p bytes l after) (sym is)
     (record {
       each_part = All-push (IsRawPart p) parts part are.each_part raw;
-      rising = subst (AllPairs Precedes) (sym (names_push parts)) (all_pairs_push Precedes (names_told parts) part.name are.rising (λ k d lt. each_comes k d lt));
+      rising = subst (AllPairs Precedes) (sym (names_push parts)) (all_pairs_push Precedes (names_of_raw parts) part.name are.rising (λ k d lt. each_comes k d lt));
       text = are.text ∙ ap (λ l. flat_map part_line parts ++ l) e ∙ text_push parts;
     })
   where
-    names_push : (parts : List RawPart) → names_told (parts ++ part ∷ []) ≡ names_told parts ++ part.name ∷ []
+    names_push : (parts : List RawPart) → names_of_raw (parts ++ part ∷ []) ≡ names_of_raw parts ++ part.name ∷ []
     names_push [] = refl
     names_push (x ∷ parts) = ap (λ l. x.name ∷ l) (names_push parts)
 
@@ -73,11 +74,11 @@ parts_push p bytes parts more part rest after is are raw comes e =
         append_assoc (part_line x) (flat_map part_line parts) (part_line part ++ after) ∙ ap (λ l. part_line x ++ l) (text_push parts)
         ∙ sym (append_assoc (part_line x) (flat_map part_line (parts ++ part ∷ [])) after)
 
-    length_names : (parts : List RawPart) → length (names_told parts) ≡ length parts
+    length_names : (parts : List RawPart) → length (names_of_raw parts) ≡ length parts
     length_names [] = refl
     length_names (x ∷ parts) = ap suc (length_names parts)
 
-    each_comes : (k : ℕ) (d : List ℕ) → k < length (names_told parts) → Precedes (get_or (names_told parts) k d) part.name
+    each_comes : (k : ℕ) (d : List ℕ) → k < length (names_of_raw parts) → Precedes (get_or (names_of_raw parts) k d) part.name
     each_comes k d lt =
         let within : k < length parts = omega (arith, length_names parts) in
         subst (λ n. Precedes n part.name) (sym (get_or-map (λ x. x.name) parts k part d within)) (comes k part within)
@@ -146,7 +147,7 @@ same_line p parts parts' n n' bytes bytes' fault e f g is =
 
 -- a head and parts behind it
 pub tells_parts : (bytes : List ℕ) (head : Head) (behind : List ℕ) (parts : List RawPart) (line : ℕ) (rest : List ℕ) → IsHead head → bytes ≡ head_text head ++ behind → AreParts head.problem behind parts rest →
-    line ≡ 6 + length head.problem.stacks + length parts → TellsParts bytes head parts line rest
+    line ≡ 6 + length head.problem.stacks + length parts → BeginsWithParts bytes head parts line rest
 tells_parts bytes head behind parts line rest is text are n = record {
   is_head = is;
   each_part = are.each_part;

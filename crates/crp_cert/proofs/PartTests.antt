@@ -11,10 +11,10 @@ use Rattle.crp_bay.specs.Positions.{targets, child}
 use Rattle.crp_bay.proofs.Members.{not_in_nil, in_cons_cases}
 use Rattle.crp_tree.specs.declared.tree.Tree.{Tree, CutB, CutL, Branch', Given, Row_of-Tree, end_of-Tree, more_of-Tree}
 use Rattle.crp_tree.specs.Names.{Precedes}
-use Rattle.crp_tree.specs.Trees.{IsGiven}
+use Rattle.crp_tree.specs.Trees.{IsGiven, Fits, FitsEach}
 use Rattle.crp_tree.proofs.Ordered.{before_test}
 use Rattle.crp_cert.specs.declared.parts.RawPart.{RawPart}
-use Rattle.crp_cert.specs.Script.{symbols_of, symbols_of_each, names_told, Matches, MatchesEach}
+use Rattle.crp_cert.specs.Script.{symbols_of, symbols_of_each, names_of_raw}
 use Rattle.crp_cert.specs.ScriptFaults.{ComesAfter, AreSymbols}
 use Rattle.crp_cert.proofs.Readers.{all_to, all_from}
 
@@ -25,12 +25,12 @@ abbrev pub after_test : List (List ℕ) → List ℕ → Bool
 after_test names name = list_all (λ other. is_lt (slice_cmp nat_cmp other name)) names
 
 -- what holds of the names holds of the parts
-of_parts : (P : List ℕ → Type 0) (parts : List RawPart) → AllByRecursion P (names_told parts) → AllByRecursion (λ (part : RawPart). P part.name) parts
+of_parts : (P : List ℕ → Type 0) (parts : List RawPart) → AllByRecursion P (names_of_raw parts) → AllByRecursion (λ (part : RawPart). P part.name) parts
 of_parts P [] all = tt
 of_parts P (part ∷ parts) all = (all.0, of_parts P parts all.1)
 
 -- and back
-of_names : (P : List ℕ → Type 0) (parts : List RawPart) → AllByRecursion (λ (part : RawPart). P part.name) parts → AllByRecursion P (names_told parts)
+of_names : (P : List ℕ → Type 0) (parts : List RawPart) → AllByRecursion (λ (part : RawPart). P part.name) parts → AllByRecursion P (names_of_raw parts)
 of_names P [] all = tt
 of_names P (part ∷ parts) all = (all.0, of_names P parts all.1)
 
@@ -39,14 +39,14 @@ pub after_yes : (names : List (List ℕ)) (name : List ℕ) → AllByRecursion (
 after_yes names name all = all_from (λ other. Precedes other name) (λ other. is_lt (slice_cmp nat_cmp other name)) (λ other p. (before_test other name (slice_cmp nat_cmp other name) refl).1 p) names all
 
 -- a name that comes after the parts passes the test
-pub comes_from : (parts : List RawPart) (name : List ℕ) → ComesAfter parts name → after_test (names_told parts) name ≡ true
-comes_from parts name comes = after_yes (names_told parts) name (of_names (λ other. Precedes other name) parts (recursion_from_All (λ (part : RawPart). Precedes part.name name) parts comes))
+pub comes_from : (parts : List RawPart) (name : List ℕ) → ComesAfter parts name → after_test (names_of_raw parts) name ≡ true
+comes_from parts name comes = after_yes (names_of_raw parts) name (of_names (λ other. Precedes other name) parts (recursion_from_All (λ (part : RawPart). Precedes part.name name) parts comes))
 
 -- and one that passes comes after them
-pub comes_to : (parts : List RawPart) (name : List ℕ) → after_test (names_told parts) name ≡ true → ComesAfter parts name
+pub comes_to : (parts : List RawPart) (name : List ℕ) → after_test (names_of_raw parts) name ≡ true → ComesAfter parts name
 comes_to parts name e =
     All-from_recursion (λ (part : RawPart). Precedes part.name name) parts
-    (of_parts (λ other. Precedes other name) parts (all_to (λ other. Precedes other name) (λ other. is_lt (slice_cmp nat_cmp other name)) (λ other t. (before_test other name (slice_cmp nat_cmp other name) refl).0 t) (names_told parts) e))
+    (of_parts (λ other. Precedes other name) parts (all_to (λ other. Precedes other name) (λ other. is_lt (slice_cmp nat_cmp other name)) (λ other t. (before_test other name (slice_cmp nat_cmp other name) refl).0 t) (names_of_raw parts) e))
 
 -- a test that cannot pass fails
 pub fails : {P : Type 0} (b : Bool) → (b ≡ true → P) → ¬ P → b ≡ false
@@ -139,13 +139,13 @@ both P (x ∷ a) b all more = (all.0, both P a b all.1 more)
 
 -- the symbols of a tree pass the test
 mutual
-  tree_symbols : (s : Position) (tree : Tree) → Matches s tree → AllByRecursion (λ b. symbol_test b ≡ true) (symbols_of tree)
+  tree_symbols : (s : Position) (tree : Tree) → Fits s tree → AllByRecursion (λ b. symbol_test b ≡ true) (symbols_of tree)
   tree_symbols s CutB m = (refl, tt)
   tree_symbols s CutL m = (refl, tt)
   tree_symbols s Given m = (refl, tt)
   tree_symbols s (Branch' shape all) m = (refl, each_symbols s (targets s) all m)
 
-  each_symbols : (s : Position) (rows : List ℕ) {m : _} (all : Row_of-Tree m) → MatchesEach s rows all → AllByRecursion (λ b. symbol_test b ≡ true) (symbols_of_each all)
+  each_symbols : (s : Position) (rows : List ℕ) {m : _} (all : Row_of-Tree m) → FitsEach s rows all → AllByRecursion (λ b. symbol_test b ≡ true) (symbols_of_each all)
   each_symbols s [] end_of-Tree m = tt
   each_symbols s [] (more_of-Tree tree trees) m = absurd m
   each_symbols s (row ∷ rows) end_of-Tree m = tt
@@ -169,9 +169,9 @@ first_tested (Branch' shape all) some = refl
 first_tested Given some = absurd (some tt)
 
 -- so they may stand in a part line
-pub tree_tested : (s : Position) (tree : Tree) → Matches s tree → (IsGiven tree → ⊥) → symbols_test (symbols_of tree) ≡ true
+pub tree_tested : (s : Position) (tree : Tree) → Fits s tree → (IsGiven tree → ⊥) → symbols_test (symbols_of tree) ≡ true
 tree_tested s tree m some = rw (first_tested tree some) (passed (symbols_of tree) (tree_symbols s tree m))
 
 -- and stand in one line
-pub tree_one_line : (s : Position) (tree : Tree) → Matches s tree → AllByRecursion (λ b. b ≢ 10) (symbols_of tree)
+pub tree_one_line : (s : Position) (tree : Tree) → Fits s tree → AllByRecursion (λ b. b ≢ 10) (symbols_of tree)
 tree_one_line s tree m = one_line (symbols_of tree) (tree_symbols s tree m)

@@ -17,8 +17,8 @@ use Rattle.crp_cert.specs.declared.script.Script.{Script}
 use Rattle.crp_cert.specs.declared.fault.CertFault.{CertFault}
 use Rattle.crp_cert.specs.declared.fault.CertFault.TheVariants as faults
 use Rattle.crp_cert.specs.Text.{head_text, IsHead}
-use Rattle.crp_cert.specs.Script.{symbols_of, part_line, end_line, names_told, Matches, IsRawPart, IsScript, IsScriptOf}
-use Rattle.crp_cert.specs.ScriptFaults.{TellsParts, BeginsWithPart, BeginsWithTree, IsLineFault, IsFirstFaultOfScript}
+use Rattle.crp_cert.specs.Script.{symbols_of, part_line, end_line, names_of_raw, IsRawPart, IsScript, IsScriptOf}
+use Rattle.crp_cert.specs.ScriptFaults.{BeginsWithParts, BeginsWithPart, BeginsWithTree, IsLineFault, IsFirstFaultOfScript}
 use Rattle.crp_cert.specs.Reading.{◌>>=◌, tag_at}
 use Rattle.crp_cert.specs.PartReading.{part_at, tagged, AreParts}
 use Rattle.crp_cert.proofs.Numbers.{tag_takes, tag_again}
@@ -28,6 +28,7 @@ use Rattle.crp_cert.proofs.PartLines.{behind_word, line_then, part_takes, part_a
 use Rattle.crp_cert.proofs.PartFaults.{part_line_some, told_line}
 use Rattle.crp_cert.proofs.PartTests.{after_test, after_yes, comes_from, comes_to, fails, symbols_test, symbols_to, symbols_from, tree_tested, tree_one_line}
 use Rattle.crp_cert.proofs.TreeReading.{behind_tree, tree_again, tree_takes}
+use Rattle.crp_tree.specs.Trees.{Fits}
 
 -- ---- the fault that is met first, going from line to line behind a head
 
@@ -101,7 +102,7 @@ no_tree p name symbols s is is_at never = left_is p name symbols s is is_at ∙ 
     by_cases (Some rest) e = let t = tree_takes (length symbols) s symbols rest (few_rows p name s is is_at) e in absurd (never (t.0, t.1, (rest, t.2)))
 
 -- a tree, and what follows it
-some_tree : (p : Problem) (name symbols : List ℕ) (s : Position) (tree : Tree) (rest : List ℕ) → IsProblem p → IsAt p name s → Matches s tree → symbols ≡ symbols_of tree ++ rest → left_at p name symbols ≡ Some rest
+some_tree : (p : Problem) (name symbols : List ℕ) (s : Position) (tree : Tree) (rest : List ℕ) → IsProblem p → IsAt p name s → Fits s tree → symbols ≡ symbols_of tree ++ rest → left_at p name symbols ≡ Some rest
 some_tree p name symbols s tree rest is is_at m e =
     left_is p name symbols s is is_at ∙ ap (behind_tree (length symbols) s) e
     ∙ tree_again (length symbols) s tree rest (omega (arith, ap length e, length-append (symbols_of tree) rest)) m
@@ -118,12 +119,12 @@ past_part most p names part rest is raw comes =
       place = raw.place;
       is_at = raw.is_at;
       symbols = symbols_of part.tree;
-      one_line = All-from_recursion (λ b. b ≢ 10) (symbols_of part.tree) (tree_one_line raw.place part.tree raw.matches);
+      one_line = All-from_recursion (λ b. b ≢ 10) (symbols_of part.tree) (tree_one_line raw.place part.tree raw.fits);
       after = rest;
       text = refl;
     } in
     past_line most p names (part_line part ++ rest) is line
-    ∙ rw (comes, tree_tested raw.place part.tree raw.matches raw.not_given, some_tree p part.name symbols raw.place part.tree [] is raw.is_at raw.matches (sym (append-nil symbols))) refl
+    ∙ rw (comes, tree_tested raw.place part.tree raw.fits raw.not_given, some_tree p part.name symbols raw.place part.tree [] is raw.is_at raw.fits (sym (append-nil symbols))) refl
 
 -- the name comes after the names before it
 last_rises : (names : List (List ℕ)) (name : List ℕ) (more : List (List ℕ)) → AllPairs Precedes (names ++ name ∷ more) → AllByRecursion (λ other. Precedes other name) names
@@ -134,23 +135,23 @@ last_rises (x ∷ names) name more rising = (
 )
 
 -- past parts that are as said
-past_parts : (parts : List RawPart) (most : ℕ) (p : Problem) (names : List (List ℕ)) (rest : List ℕ) → IsProblem p → All (IsRawPart p) parts → AllPairs Precedes (names ++ names_told parts) →
-    lines_fault (length parts + most) p names (flat_map part_line parts ++ rest) ≡ lines_fault most p (names ++ names_told parts) rest
+past_parts : (parts : List RawPart) (most : ℕ) (p : Problem) (names : List (List ℕ)) (rest : List ℕ) → IsProblem p → All (IsRawPart p) parts → AllPairs Precedes (names ++ names_of_raw parts) →
+    lines_fault (length parts + most) p names (flat_map part_line parts ++ rest) ≡ lines_fault most p (names ++ names_of_raw parts) rest
 past_parts [] most p names rest is each rising =
     ap (λ n. lines_fault n p names rest) (let z : 0 + most ≡ most = omega arith in z) ∙ ap (λ l. lines_fault most p l rest) (sym (append-nil names))
 past_parts (part ∷ parts) most p names rest is each rising =
-    let group : (names ++ part.name ∷ []) ++ names_told parts ≡ names ++ part.name ∷ names_told parts = append_assoc names (part.name ∷ []) (names_told parts) in
+    let group : (names ++ part.name ∷ []) ++ names_of_raw parts ≡ names ++ part.name ∷ names_of_raw parts = append_assoc names (part.name ∷ []) (names_of_raw parts) in
     let more : suc (length parts) + most ≡ suc (length parts + most) = omega arith in
     ap (λ n. lines_fault n p names (flat_map part_line (part ∷ parts) ++ rest)) more
     ∙ ap (lines_fault (suc (length parts + most)) p names) (append_assoc (part_line part) (flat_map part_line parts) rest)
-    ∙ past_part (length parts + most) p names part (flat_map part_line parts ++ rest) is (each 0 part (omega arith)) (after_yes names part.name (last_rises names part.name (names_told parts) rising))
+    ∙ past_part (length parts + most) p names part (flat_map part_line parts ++ rest) is (each 0 part (omega arith)) (after_yes names part.name (last_rises names part.name (names_of_raw parts) rising))
     ∙ past_parts parts most p (names ++ part.name ∷ []) rest is (λ k d lt. each (suc k) d (omega arith)) (subst (AllPairs Precedes) (sym group) rising)
     ∙ ap (λ l. lines_fault most p l rest) group
 
 -- ---- the fault of a line is the one that is met there
 
 -- as many names as parts
-length_names : (parts : List RawPart) → length (names_told parts) ≡ length parts
+length_names : (parts : List RawPart) → length (names_of_raw parts) ≡ length parts
 length_names [] = refl
 length_names (part ∷ parts) = ap suc (length_names parts)
 
@@ -185,41 +186,41 @@ none_at p after is never = by_cases (part_at p after) refl
         absurd (never (told_line p after x.0.0 x.0.1 x.1 r.place (at_means p x.0.0 r.place is r.goes) e))
 
 -- the fault of the line behind the parts
-line_met : (most : ℕ) (p : Problem) (parts : List RawPart) (line : ℕ) (bytes : List ℕ) (fault : CertFault) → IsProblem p → line ≡ 6 + length p.stacks + length (names_told parts) → IsLineFault p parts line bytes fault →
-    lines_fault (suc most) p (names_told parts) bytes ≡ Some fault
+line_met : (most : ℕ) (p : Problem) (parts : List RawPart) (line : ℕ) (bytes : List ℕ) (fault : CertFault) → IsProblem p → line ≡ 6 + length p.stacks + length (names_of_raw parts) → IsLineFault p parts line bytes fault →
+    lines_fault (suc most) p (names_of_raw parts) bytes ≡ Some fault
 unfolding line_fault behind_symbols behind_last
 line_met most p parts line bytes (faults.Part n) is number (same, (after, text), never) =
-    ap (lines_fault (suc most) p (names_told parts)) text ∙ past_word most p (names_told parts) after
+    ap (lines_fault (suc most) p (names_of_raw parts)) text ∙ past_word most p (names_of_raw parts) after
     ∙ rw (none_at p after is (subst (λ l. ¬ BeginsWithPart p l) text never)) (ap (λ k. Some (faults.Part k)) (sym (same ∙ number)))
 line_met most p parts line bytes (faults.Order n) is number (same, (part, never)) =
-    past_line most p (names_told parts) bytes is part
-    ∙ rw (fails (after_test (names_told parts) part.name) (comes_to parts part.name) never) (ap (λ k. Some (faults.Order k)) (sym (same ∙ number)))
+    past_line most p (names_of_raw parts) bytes is part
+    ∙ rw (fails (after_test (names_of_raw parts) part.name) (comes_to parts part.name) never) (ap (λ k. Some (faults.Order k)) (sym (same ∙ number)))
 line_met most p parts line bytes (faults.Symbol n) is number (same, (part, comes, never)) =
-    past_line most p (names_told parts) bytes is part
+    past_line most p (names_of_raw parts) bytes is part
     ∙ rw (comes_from parts part.name comes, fails (symbols_test part.symbols) (symbols_to part.symbols) never) (ap (λ k. Some (faults.Symbol k)) (sym (same ∙ number)))
 line_met most p parts line bytes (faults.Unfinished n) is number (same, (part, comes, are, never)) =
-    past_line most p (names_told parts) bytes is part
+    past_line most p (names_of_raw parts) bytes is part
     ∙ rw (comes_from parts part.name comes, symbols_from part.symbols are, no_tree p part.name part.symbols part.place is part.is_at never) (ap (λ k. Some (faults.Unfinished k)) (sym (same ∙ number)))
 line_met most p parts line bytes (faults.Trailing n) is number (same, (part, comes, are, (tree, m, (b, rest, e)))) =
-    past_line most p (names_told parts) bytes is part
+    past_line most p (names_of_raw parts) bytes is part
     ∙ rw (comes_from parts part.name comes, symbols_from part.symbols are, some_tree p part.name part.symbols part.place tree (b ∷ rest) is part.is_at m e) (ap (λ k. Some (faults.Trailing k)) (sym (same ∙ number)))
 line_met most p parts line bytes (faults.End n) is number (inl (same, no_part', no_end')) =
-    no_word most p (names_told parts) bytes (no_first_word bytes no_part')
-    ∙ rw (no_last_line (length (names_told parts)) bytes (λ after e. no_end' after (e ∙ ap (λ k. end_line k ++ after) (length_names parts)))) (ap (λ k. Some (faults.End k)) (sym (same ∙ number)))
+    no_word most p (names_of_raw parts) bytes (no_first_word bytes no_part')
+    ∙ rw (no_last_line (length (names_of_raw parts)) bytes (λ after e. no_end' after (e ∙ ap (λ k. end_line k ++ after) (length_names parts)))) (ap (λ k. Some (faults.End k)) (sym (same ∙ number)))
 line_met most p parts line bytes (faults.End n) is number (inr (same, (b, after, text))) =
-    let text' : bytes ≡ end_line (length (names_told parts)) ++ b ∷ after = text ∙ ap (λ k. end_line k ++ b ∷ after) (sym (length_names parts)) in
-    no_word most p (names_told parts) bytes (ap (tag_at (codes "part ")) text' ∙ end_no_part (length (names_told parts)) (b ∷ after))
-    ∙ rw (ap (tag_at (end_line (length (names_told parts)))) text' ∙ tag_again (end_line (length (names_told parts))) (b ∷ after)) (ap (λ k. Some (faults.End k)) (sym (same ∙ ap suc number)))
+    let text' : bytes ≡ end_line (length (names_of_raw parts)) ++ b ∷ after = text ∙ ap (λ k. end_line k ++ b ∷ after) (sym (length_names parts)) in
+    no_word most p (names_of_raw parts) bytes (ap (tag_at (codes "part ")) text' ∙ end_no_part (length (names_of_raw parts)) (b ∷ after))
+    ∙ rw (ap (tag_at (end_line (length (names_of_raw parts)))) text' ∙ tag_again (end_line (length (names_of_raw parts))) (b ∷ after)) (ap (λ k. Some (faults.End k)) (sym (same ∙ ap suc number)))
 line_met most p parts line bytes _ is number why = absurd why
 
 -- no fault is met in the last line
-last_met : (most : ℕ) (p : Problem) (parts : List RawPart) → lines_fault (suc most) p (names_told parts) (end_line (length parts)) ≡ None
+last_met : (most : ℕ) (p : Problem) (parts : List RawPart) → lines_fault (suc most) p (names_of_raw parts) (end_line (length parts)) ≡ None
 unfolding behind_last
 last_met most p parts =
-    let count : length parts ≡ length (names_told parts) = sym (length_names parts) in
-    let text : end_line (length parts) ≡ end_line (length (names_told parts)) ++ [] = ap end_line count ∙ sym (append-nil (end_line (length (names_told parts)))) in
-    no_word most p (names_told parts) (end_line (length parts)) (ap (tag_at (codes "part ")) text ∙ end_no_part (length (names_told parts)) [])
-    ∙ rw (ap (tag_at (end_line (length (names_told parts)))) text ∙ tag_again (end_line (length (names_told parts))) []) refl
+    let count : length parts ≡ length (names_of_raw parts) = sym (length_names parts) in
+    let text : end_line (length parts) ≡ end_line (length (names_of_raw parts)) ++ [] = ap end_line count ∙ sym (append-nil (end_line (length (names_of_raw parts)))) in
+    no_word most p (names_of_raw parts) (end_line (length parts)) (ap (tag_at (codes "part ")) text ∙ end_no_part (length (names_of_raw parts)) [])
+    ∙ rw (ap (tag_at (end_line (length (names_of_raw parts)))) text ∙ tag_again (end_line (length (names_of_raw parts))) []) refl
 
 -- ---- behind the head
 
@@ -232,7 +233,7 @@ parts_some (part ∷ parts) rest =
 
 -- what is met behind a head is what is met behind the parts
 parts_met : (p : Problem) (behind : List ℕ) (parts : List RawPart) (rest : List ℕ) → IsProblem p → AreParts p behind parts rest →
-    (most : ℕ) × (lines_fault (suc (length behind)) p [] behind ≡ lines_fault (suc most) p (names_told parts) rest)
+    (most : ℕ) × (lines_fault (suc (length behind)) p [] behind ≡ lines_fault (suc most) p (names_of_raw parts) rest)
 parts_met p behind parts rest is are =
     let most : ℕ = length behind - length parts in
     let long : length parts ≤ length behind = omega (arith, parts_some parts rest, ap length are.text) in
@@ -254,10 +255,10 @@ none_met p behind parts is are = let m = parts_met p behind parts (end_line (len
 
 -- what stands behind the head
 abbrev Behind : List ℕ → CertFault → Type 0
-Behind bytes fault = (head : Head) × (parts : List RawPart) × (line : ℕ) × (rest : List ℕ) × TellsParts bytes head parts line rest × IsLineFault head.problem parts line rest fault
+Behind bytes fault = (head : Head) × (parts : List RawPart) × (line : ℕ) × (rest : List ℕ) × BeginsWithParts bytes head parts line rest × IsLineFault head.problem parts line rest fault
 
 -- the parts that are told behind the head
-told_parts : (bytes : List ℕ) (head : Head) (parts : List RawPart) (line : ℕ) (rest : List ℕ) → TellsParts bytes head parts line rest → AreParts head.problem (flat_map part_line parts ++ rest) parts rest
+told_parts : (bytes : List ℕ) (head : Head) (parts : List RawPart) (line : ℕ) (rest : List ℕ) → BeginsWithParts bytes head parts line rest → AreParts head.problem (flat_map part_line parts ++ rest) parts rest
 told_parts bytes head parts line rest tells = record { each_part = tells.each_part; rising = tells.rising; text = refl }
 
 -- the fault that is met behind the head that the bytes begin with

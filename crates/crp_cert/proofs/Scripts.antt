@@ -12,7 +12,7 @@ use Rattle.crp_cert.specs.declared.script.Script.{Script}
 use Rattle.crp_cert.specs.declared.fault.CertFault.{CertFault}
 use Rattle.crp_cert.specs.declared.fault.CertFault.TheVariants as faults
 use Rattle.crp_cert.specs.Text.{head_text, IsHead}
-use Rattle.crp_cert.specs.Script.{symbols_of, symbols_line, part_line, end_line, names_told, symbols_told, Matches, IsRawPart, IsScript, IsScriptOf}
+use Rattle.crp_cert.specs.Script.{symbols_of, symbols_line, part_line, end_line, names_of_raw, symbols_of_raw, IsRawPart, IsScript, IsScriptOf}
 use Rattle.crp_cert.specs.ScriptFaults.{BeginsWithPart, ComesAfter, AreSymbols, IsLineFault, IsFirstFaultOfScript}
 use Rattle.crp_cert.specs.Reading.{tag_at}
 use Rattle.crp_cert.specs.PartReading.{part_at, AreParts}
@@ -24,13 +24,14 @@ use Rattle.crp_cert.proofs.PartFaults.{no_parts, parts_push, part_line_some, tol
 use Rattle.crp_cert.proofs.PartTests.{after_test, comes_from, comes_to, symbols_test, symbols_to, symbols_from, none_given, tree_one_line}
 use Rattle.crp_cert.proofs.TreeReading.{behind_tree, tree_again, tree_takes}
 use Rattle.crp_cert.proofs.ScriptVerdicts.{few_rows}
+use Rattle.crp_tree.specs.Trees.{Fits}
 
 -- ---- one script
 
 -- a part line is read
 line_reads : (p : Problem) (part : RawPart) (rest : List ℕ) → IsProblem p → IsRawPart p part → part_at p (behind_word part.name (symbols_of part.tree) rest) ≡ Some ((part.name, symbols_of part.tree), rest)
 line_reads p part rest is raw =
-    part_again p part.name (symbols_of part.tree) rest raw.place is raw.short (at_reads p part.name raw.place is raw.is_at) (tree_one_line raw.place part.tree raw.matches)
+    part_again p part.name (symbols_of part.tree) rest raw.place is raw.short (at_reads p part.name raw.place is raw.is_at) (tree_one_line raw.place part.tree raw.fits)
 
 -- from behind its first word
 word_reads : (part : RawPart) (rest : List ℕ) → tag_at (codes "part ") (part_line part ++ rest) ≡ Some (behind_word part.name (symbols_of part.tree) rest)
@@ -45,7 +46,7 @@ line_once p a b x y is raw-a raw-b e =
 
 -- bytes begin with the lines of one list of parts at most, if no more follow
 parts_once : (p : Problem) (parts others : List RawPart) (x y : List ℕ) → IsProblem p → All (IsRawPart p) parts → All (IsRawPart p) others → tag_at (codes "part ") x ≡ None → tag_at (codes "part ") y ≡ None →
-    flat_map part_line parts ++ x ≡ flat_map part_line others ++ y → (names_told parts ≡ names_told others) × (symbols_told parts ≡ symbols_told others)
+    flat_map part_line parts ++ x ≡ flat_map part_line others ++ y → (names_of_raw parts ≡ names_of_raw others) × (symbols_of_raw parts ≡ symbols_of_raw others)
 parts_once p [] [] x y is each each' no-x no-y e = (refl, refl)
 parts_once p [] (b ∷ others) x y is each each' no-x no-y e =
     absurd (none-some (behind_word b.name (symbols_of b.tree) (flat_map part_line others ++ y))
@@ -57,14 +58,14 @@ parts_once p (a ∷ parts) (b ∷ others) x y is each each' no-x no-y e =
     let h = line_once p a b (flat_map part_line parts ++ x) (flat_map part_line others ++ y) is (each 0 a (omega arith)) (each' 0 b (omega arith))
     (sym (append_assoc (part_line a) (flat_map part_line parts) x) ∙ e ∙ append_assoc (part_line b) (flat_map part_line others) y) in
     let t = parts_once p parts others x y is (λ k d lt. each (suc k) d (omega arith)) (λ k d lt. each' (suc k) d (omega arith)) no-x no-y h.2 in
-    (ap (λ n. n ∷ names_told parts) h.0 ∙ ap (λ l. b.name ∷ l) t.0, ap (λ n. n ∷ symbols_told parts) h.1 ∙ ap (λ l. symbols_of b.tree ∷ l) t.1)
+    (ap (λ n. n ∷ names_of_raw parts) h.0 ∙ ap (λ l. b.name ∷ l) t.0, ap (λ n. n ∷ symbols_of_raw parts) h.1 ∙ ap (λ l. symbols_of b.tree ∷ l) t.1)
 
 -- the last line begins with no first word of a part
 end_alone : (count : ℕ) → tag_at (codes "part ") (end_line count) ≡ None
 end_alone count = refl
 
 -- a text is one script's at most
-pub script_once : (bytes : List ℕ) (a b : Script) → IsScriptOf bytes a → IsScriptOf bytes b → (a.head ≡ b.head) × (names_told a.parts ≡ names_told b.parts) × (symbols_told a.parts ≡ symbols_told b.parts)
+pub script_once : (bytes : List ℕ) (a b : Script) → IsScriptOf bytes a → IsScriptOf bytes b → (a.head ≡ b.head) × (names_of_raw a.parts ≡ names_of_raw b.parts) × (symbols_of_raw a.parts ≡ symbols_of_raw b.parts)
 script_once bytes a b of-a of-b =
     let is-a : IsScript a = of-a.0 in let is-b : IsScript b = of-b.0 in
     let heads = head_once a.head b.head (flat_map part_line a.parts ++ end_line (length a.parts)) (flat_map part_line b.parts ++ end_line (length b.parts)) is-a.is_head is-b.is_head (sym of-a.1 ∙ of-b.1) in
@@ -108,13 +109,13 @@ Next bytes head behind most = (parts : List RawPart) (rest : List ℕ) → lengt
 
 -- a part of this name and these symbols, whose tree is read
 read_part : (p : Problem) (behind : List ℕ) (parts : List RawPart) (after name symbols rest : List ℕ) (place : Position) (tree : Tree) → IsProblem p → AreParts p behind parts (codes "part " ++ after) → IsAt p name place →
-    part_at p after ≡ Some ((name, symbols), rest) → ComesAfter parts name → AreSymbols symbols → Matches place tree → symbols ≡ symbols_of tree ++ [] →
+    part_at p after ≡ Some ((name, symbols), rest) → ComesAfter parts name → AreSymbols symbols → Fits place tree → symbols ≡ symbols_of tree ++ [] →
     AreParts p behind (parts ++ (record { name = name; tree = tree }) ∷ []) rest × (length rest < length (codes "part " ++ after))
 read_part p behind parts after name symbols rest place tree problem are is_at e comes all m same =
     let part : RawPart = record { name = name; tree = tree } in
     let told : BeginsWithPart p (codes "part " ++ after) = told_line p after name symbols rest place is_at e in
     let line : codes "part " ++ after ≡ part_line part ++ rest = told.text ∙ ap (λ l. symbols_line name l ++ rest) (same ∙ append-nil (symbols_of tree)) in (
-      parts_push p behind parts (parts ++ part ∷ []) part (codes "part " ++ after) rest refl are (record { short = told.short; place = place; is_at = is_at; matches = m; not_given = none_given symbols [] tree all same }) comes line,
+      parts_push p behind parts (parts ++ part ∷ []) part (codes "part " ++ after) rest refl are (record { short = told.short; place = place; is_at = is_at; fits = m; not_given = none_given symbols [] tree all same }) comes line,
       part_line_some part (codes "part " ++ after) rest line,
     )
 
@@ -122,9 +123,9 @@ read_part p behind parts after name symbols rest place tree problem are is_at e 
 line_answer : (most : ℕ) (bytes : List ℕ) (head : Head) (behind : List ℕ) (parts : List RawPart) (after name symbols rest : List ℕ) (place : Position) → IsHead head → bytes ≡ head_text head ++ behind →
     AreParts head.problem behind parts (codes "part " ++ after) → length (codes "part " ++ after) < suc most → IsAt head.problem name place → part_at head.problem after ≡ Some ((name, symbols), rest) → Next bytes head behind most → Answer bytes
 line_answer most bytes head behind parts after name symbols rest place is text are enough is_at e next =
-    by_test (after_test (names_told parts) name) refl (symbols_test symbols) refl (behind_tree (length symbols) place symbols) refl
+    by_test (after_test (names_of_raw parts) name) refl (symbols_test symbols) refl (behind_tree (length symbols) place symbols) refl
   where
-    by_test : (a : Bool) → after_test (names_told parts) name ≡ a → (b : Bool) → symbols_test symbols ≡ b → (o : Option (List ℕ)) → behind_tree (length symbols) place symbols ≡ o → Answer bytes
+    by_test : (a : Bool) → after_test (names_of_raw parts) name ≡ a → (b : Bool) → symbols_test symbols ≡ b → (o : Option (List ℕ)) → behind_tree (length symbols) place symbols ≡ o → Answer bytes
     by_test false f b g o h =
         faulty bytes head behind parts (codes "part " ++ after) (faults.Order (6 + length head.problem.stacks + length parts)) is text are
         (refl, (told_line head.problem after name symbols rest place is_at e, λ comes. let no' : false ≡ true = sym f ∙ comes_from parts name comes in cc))

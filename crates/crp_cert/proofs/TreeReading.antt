@@ -7,12 +7,15 @@ use denote.RawPtr.{null_ptr}
 use Rattle.crp_plan.specs.Bay.{Position}
 use Rattle.crp_bay.specs.Positions.{can_shift, child, counted, targets}
 use Rattle.crp_tree.specs.declared.tree.Tree.{Tree, CutB, CutL, Branch', Given, Branch, Row_of-Tree, end_of-Tree, more_of-Tree}
-use Rattle.crp_cert.specs.Script.{symbols_of, symbols_of_each, Matches, MatchesEach}
+use Rattle.crp_cert.specs.Script.{symbols_of, symbols_of_each}
 use Rattle.crp_cert.specs.Reading.{◌>>=◌}
-use Rattle.crp_cert.specs.PartReading.{symbols_of_all, AllMatch}
 use Rattle.crp_cert.proofs.Numbers.{bind_some, chosen}
 use Rattle.crp_cert.proofs.PartNames.{child_rows}
+use Rattle.std.specs.List.{flat_map}
+use Rattle.crp_tree.proofs.Listed.{fit_lengths}
 use Rattle.crp_cert.proofs.Symbols.{branch_read}
+use Rattle.crp_tree.specs.Trees.{Fits, FitsEach}
+use Rattle.crp_tree.specs.Listed.{AreFit}
 
 -- ---- what follows a tree
 
@@ -30,7 +33,7 @@ behind_tree (suc levels) s (b ∷ bytes) =
 
 -- a tree is read again
 mutual
-  pub tree_again : (levels : ℕ) (s : Position) (tree : Tree) (rest : List ℕ) → length (symbols_of tree) ≤ levels → Matches s tree → behind_tree levels s (symbols_of tree ++ rest) ≡ Some rest
+  pub tree_again : (levels : ℕ) (s : Position) (tree : Tree) (rest : List ℕ) → length (symbols_of tree) ≤ levels → Fits s tree → behind_tree levels s (symbols_of tree ++ rest) ≡ Some rest
   tree_again zero s CutB rest few m = absurd (omega arith)
   tree_again zero s CutL rest few m = absurd (omega arith)
   tree_again zero s (Branch' shape all) rest few m = absurd (omega arith)
@@ -40,7 +43,7 @@ mutual
   tree_again (suc levels) s Given rest few m = refl
   tree_again (suc levels) s (Branch' shape all) rest few m = each_again levels s (targets s) all rest (omega arith) m
 
-  pub each_again : (levels : ℕ) (s : Position) (rows : List ℕ) {m : _} (all : Row_of-Tree m) (rest : List ℕ) → length (symbols_of_each all) ≤ levels → MatchesEach s rows all →
+  pub each_again : (levels : ℕ) (s : Position) (rows : List ℕ) {m : _} (all : Row_of-Tree m) (rest : List ℕ) → length (symbols_of_each all) ≤ levels → FitsEach s rows all →
       behind_each (behind_tree levels) s rows (symbols_of_each all ++ rest) ≡ Some rest
   each_again levels s [] end_of-Tree rest few m = refl
   each_again levels s [] (more_of-Tree tree trees) rest few m = absurd m
@@ -85,25 +88,18 @@ few_targets s = omega (arith, fewer (can_shift s) (counted 1 (length s.heights))
         (λ f. rw f (let h = fewer p xs in omega arith))
         (cases_Bool (p x))
 
--- one tree for each row
-as_many_trees : (s : Position) (rows : List ℕ) (trees : List Tree) → AllMatch s rows trees → length trees ≡ length rows
-as_many_trees s [] [] m = refl
-as_many_trees s [] (tree ∷ trees) m = absurd m
-as_many_trees s (row ∷ rows) [] m = absurd m
-as_many_trees s (row ∷ rows) (tree ∷ trees) m = ap suc (as_many_trees s rows trees m.1)
-
 -- trees before the rest
-each_takes : (behind : Position → List ℕ → Option (List ℕ)) (s : Position) → ((row : ℕ) (bytes rest : List ℕ) → behind (child s row) bytes ≡ Some rest → (tree : Tree) × Matches (child s row) tree × (bytes ≡ symbols_of tree ++ rest)) →
-    (rows bytes rest : List ℕ) → behind_each behind s rows bytes ≡ Some rest → (trees : List Tree) × AllMatch s rows trees × (bytes ≡ symbols_of_all trees ++ rest)
+each_takes : (behind : Position → List ℕ → Option (List ℕ)) (s : Position) → ((row : ℕ) (bytes rest : List ℕ) → behind (child s row) bytes ≡ Some rest → (tree : Tree) × Fits (child s row) tree × (bytes ≡ symbols_of tree ++ rest)) →
+    (rows bytes rest : List ℕ) → behind_each behind s rows bytes ≡ Some rest → (trees : List Tree) × AreFit s rows trees × (bytes ≡ flat_map symbols_of trees ++ rest)
 each_takes behind s takes [] bytes rest e = ([], tt, same_Some bytes rest e)
 each_takes behind s takes (row ∷ rows) bytes rest e =
     let x = bind_some (behind (child s row) bytes) (λ r. behind_each behind s rows r) rest e in
     let t = takes row bytes x.0 x.1 in
     let r = each_takes behind s takes rows x.0 rest x.2 in
-    (t.0 ∷ r.0, (t.1, r.1), t.2 ∙ ap (λ l. symbols_of t.0 ++ l) r.2 ∙ sym (append_assoc (symbols_of t.0) (symbols_of_all r.0) rest))
+    (t.0 ∷ r.0, (t.1, r.1), t.2 ∙ ap (λ l. symbols_of t.0 ++ l) r.2 ∙ sym (append_assoc (symbols_of t.0) (flat_map symbols_of r.0) rest))
 
 -- what is read is a tree
-pub tree_takes : (levels : ℕ) (s : Position) (bytes rest : List ℕ) → length s.heights ≤ 12 → behind_tree levels s bytes ≡ Some rest → (tree : Tree) × Matches s tree × (bytes ≡ symbols_of tree ++ rest)
+pub tree_takes : (levels : ℕ) (s : Position) (bytes rest : List ℕ) → length s.heights ≤ 12 → behind_tree levels s bytes ≡ Some rest → (tree : Tree) × Fits s tree × (bytes ≡ symbols_of tree ++ rest)
 tree_takes zero s bytes rest few e = absurd cc
 tree_takes (suc levels) s [] rest few e = absurd cc
 tree_takes (suc levels) s (b ∷ bytes) rest few e =
@@ -117,10 +113,10 @@ tree_takes (suc levels) s (b ∷ bytes) rest few e =
     (λ trees.
     let is : b ≡ 88 = eqb-true b 88 trees.0 in
     let r = each_takes (behind_tree levels) s (λ row l after f. tree_takes levels (child s row) l after (omega (arith, child_rows s row)) f) (targets s) bytes rest trees.1 in
-    let low : length r.0 ≤ 12 = omega (arith, as_many_trees s (targets s) r.0 r.1, few_targets s) in
+    let low : length r.0 ≤ 12 = omega (arith, fit_lengths s (targets s) r.0 r.1, few_targets s) in
     let kids : Vec Tree Global = kept r.0 low in
     let same : kids.items ≡ r.0 = kept_items r.0 low in
-    let made = branch_read s (b ∷ bytes) kids rest (subst (AllMatch s (targets s)) (sym same) r.1) (ap (λ x. x ∷ bytes) is ∙ ap (λ l. 88 ∷ l) r.2 ∙ ap (λ l. (codes "X" ++ symbols_of_all l) ++ rest) (sym same)) in
+    let made = branch_read s (b ∷ bytes) kids rest (subst (AreFit s (targets s)) (sym same) r.1) (ap (λ x. x ∷ bytes) is ∙ ap (λ l. 88 ∷ l) r.2 ∙ ap (λ l. (codes "X" ++ flat_map symbols_of l) ++ rest) (sym same)) in
     (Branch kids, made.0, made.1))
     (λ nothing. absurd (none-some rest nothing.1))
     (chosen (b == 88) (behind_each (behind_tree levels) s (targets s) bytes) None (Some rest) branch.1))

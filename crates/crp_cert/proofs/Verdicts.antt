@@ -16,7 +16,7 @@ use Rattle.crp_cert.specs.declared.size.Size.{Size}
 use Rattle.crp_cert.specs.declared.fault.CertFault.{CertFault}
 use Rattle.crp_cert.specs.declared.fault.CertFault.TheVariants as faults
 use Rattle.crp_cert.specs.Text.{title_line, bay_line, size_line, row_line, claim_line, plan_line, head_text, size_of, IsSize, IsHead, IsHeadOf, AreRows}
-use Rattle.crp_cert.specs.Faults.{BeginsWith, AreFirstStacks, IsNextStack, most_claimed, TellsSize, TellsStacks, IsFirstFault}
+use Rattle.crp_cert.specs.Faults.{BeginsWith, AreFirstStacks, IsNextStack, most_claimed, BeginsWithSize, BeginsWithStacks, IsFirstFault}
 use Rattle.crp_cert.specs.Reading.{◌>>=◌, tag_at, size_at, row_at, claim_at, plan_at, IsStackFault}
 use Rattle.crp_cert.proofs.Numbers.{tag_takes, tag_again, bind_some, if_some}
 use Rattle.crp_cert.proofs.Lines.{row_again, row_takes}
@@ -136,17 +136,17 @@ past_rows size left (suc k) before (stack ∷ more) rest is first e =
     some_fewer a (x ∷ b) h = fewer size a (x ∷ b) (omega arith) h
 
 -- past the lines down to the size
-met_size : (bytes : List ℕ) (size : Size) (rest : List ℕ) → TellsSize bytes size rest → met bytes ≡ rows_fault size size.rows [] rest
+met_size : (bytes : List ℕ) (size : Size) (rest : List ℕ) → BeginsWithSize bytes size rest → met bytes ≡ rows_fault size size.rows [] rest
 met_size bytes size rest tells =
     ap met tells.text ∙ past_title (bay_line tells.name ++ (size_line size ++ rest)) ∙ past_bay tells.name (size_line size ++ rest) tells.named ∙ past_size size rest tells.is_size
 
 -- past the lines down to these stacks
-met_stacks : (bytes : List ℕ) (size : Size) (stacks : List (List ℕ)) (rest : List ℕ) (left : ℕ) → TellsStacks bytes size stacks rest → size.rows ≡ left + length stacks → met bytes ≡ rows_fault size left stacks rest
+met_stacks : (bytes : List ℕ) (size : Size) (stacks : List (List ℕ)) (rest : List ℕ) (left : ℕ) → BeginsWithStacks bytes size stacks rest → size.rows ≡ left + length stacks → met bytes ≡ rows_fault size left stacks rest
 met_stacks bytes size stacks rest left told e =
     met_size bytes size (flat_map row_line stacks ++ rest) told.tells ∙ past_rows size left size.rows [] stacks rest told.tells.is_size told.first e
 
 -- past all row lines
-met_all : (bytes : List ℕ) (size : Size) (stacks : List (List ℕ)) (rest : List ℕ) → TellsStacks bytes size stacks rest → length stacks ≡ size.rows → met bytes ≡ claim_fault size rest
+met_all : (bytes : List ℕ) (size : Size) (stacks : List (List ℕ)) (rest : List ℕ) → BeginsWithStacks bytes size stacks rest → length stacks ≡ size.rows → met bytes ≡ claim_fault size rest
 unfolding rows_fault
 met_all bytes size stacks rest told all = met_stacks bytes size stacks rest 0 told (omega arith)
 
@@ -203,7 +203,7 @@ problem_first p is same = record {
 }
 
 -- what a head tells above its claim
-head_tells : (bytes : List ℕ) (head : Head) (rest : List ℕ) → IsHead head → bytes ≡ head_text head ++ rest → TellsStacks bytes (size_of head.problem) head.problem.stacks (claim_line head.claim ++ (plan_line head.plan ++ rest))
+head_tells : (bytes : List ℕ) (head : Head) (rest : List ℕ) → IsHead head → bytes ≡ head_text head ++ rest → BeginsWithStacks bytes (size_of head.problem) head.problem.stacks (claim_line head.claim ++ (plan_line head.plan ++ rest))
 head_tells bytes head rest is text = record {
   tells = record { name = head.bay; named = is.name; is_size = size_is head is; text = text ∙ head_then head rest };
   first = problem_first head.problem is.problem is.same_heights;
@@ -258,7 +258,7 @@ head_of bytes name size stacks claim plan rest named is first all low fits text 
         ap (λ x. record { rows = x; tiers = t; ordered = n; total = m }) a ∙ ap (λ x. record { rows = r'; tiers = x; ordered = n; total = m }) b ∙ ap (λ x. record { rows = r'; tiers = t'; ordered = n; total = x }) c
 
 -- from the plan line on there is one of the two
-plan_answer : (bytes : List ℕ) (size : Size) (stacks : List (List ℕ)) (claim : ℕ) (rest : List ℕ) → TellsStacks bytes size stacks (claim_line claim ++ rest) → length stacks ≡ size.rows → claim ≤ most_claimed size → Answer bytes
+plan_answer : (bytes : List ℕ) (size : Size) (stacks : List (List ℕ)) (claim : ℕ) (rest : List ℕ) → BeginsWithStacks bytes size stacks (claim_line claim ++ rest) → length stacks ≡ size.rows → claim ≤ most_claimed size → Answer bytes
 plan_answer bytes size stacks claim rest told all low = by_plan (plan_at rest) refl
   where
     by_plan : (o : Option (Option (List ℕ) × List ℕ)) → plan_at rest ≡ o → Answer bytes
@@ -270,7 +270,7 @@ plan_answer bytes size stacks claim rest told all low = by_plan (plan_at rest) r
         inl (record { bay = told.tells.name; problem = stated size.tiers size.ordered stacks; claim = claim; plan = x.0 }, (h.0, (x.1, h.1)))
 
 -- from the claim line on
-claim_answer : (bytes : List ℕ) (size : Size) (stacks : List (List ℕ)) (rest : List ℕ) → TellsStacks bytes size stacks rest → length stacks ≡ size.rows → Answer bytes
+claim_answer : (bytes : List ℕ) (size : Size) (stacks : List (List ℕ)) (rest : List ℕ) → BeginsWithStacks bytes size stacks rest → length stacks ≡ size.rows → Answer bytes
 claim_answer bytes size stacks rest told all = by_claim (claim_at (most_claimed size) rest) refl
   where
     reader : IsReader (λ claim. claim ≤ most_claimed size) claim_line (claim_at (most_claimed size))
@@ -280,7 +280,7 @@ claim_answer bytes size stacks rest told all = by_claim (claim_at (most_claimed 
     by_claim None e = inr (faults.Claim (4 + size.rows), (size, stacks, rest, told, all, refl, none_stands reader rest e))
     by_claim (Some x) e =
         let t = reader.takes rest x.0 x.1 e in
-        plan_answer bytes size stacks x.0 x.1 (subst (TellsStacks bytes size stacks) t.1 told) all t.0
+        plan_answer bytes size stacks x.0 x.1 (subst (BeginsWithStacks bytes size stacks) t.1 told) all t.0
 
 -- the text of one more stack
 pub text_push : (bytes : List ℕ) (stacks : List (List ℕ)) (stack rest after : List ℕ) → bytes ≡ flat_map row_line stacks ++ rest → rest ≡ row_line stack ++ after → bytes ≡ flat_map row_line (stacks ++ stack ∷ []) ++ after
@@ -293,14 +293,14 @@ text_push bytes stacks stack rest after e f = e ∙ ap (λ l. flat_map row_line 
         ∙ sym (append_assoc (row_line s) (flat_map row_line (stacks ++ stack ∷ [])) after)
 
 -- the lines with one more row
-pub tells_next : (bytes : List ℕ) (size : Size) (stacks : List (List ℕ)) (stack rest after : List ℕ) → TellsStacks bytes size stacks rest → IsNextStack size stacks stack → rest ≡ row_line stack ++ after → TellsStacks bytes size (stacks ++ stack ∷ []) after
+pub tells_next : (bytes : List ℕ) (size : Size) (stacks : List (List ℕ)) (stack rest after : List ℕ) → BeginsWithStacks bytes size stacks rest → IsNextStack size stacks stack → rest ≡ row_line stack ++ after → BeginsWithStacks bytes size (stacks ++ stack ∷ []) after
 tells_next bytes size stacks stack rest after told next e = record {
-  tells = subst (TellsSize bytes size) (text_push (flat_map row_line stacks ++ rest) stacks stack rest after refl e) told.tells;
+  tells = subst (BeginsWithSize bytes size) (text_push (flat_map row_line stacks ++ rest) stacks stack rest after refl e) told.tells;
   first = next;
 }
 
 -- from a row line on
-rows_answer : (left : ℕ) (bytes : List ℕ) (size : Size) (stacks : List (List ℕ)) (rest : List ℕ) → TellsStacks bytes size stacks rest → size.rows ≡ left + length stacks → Answer bytes
+rows_answer : (left : ℕ) (bytes : List ℕ) (size : Size) (stacks : List (List ℕ)) (rest : List ℕ) → BeginsWithStacks bytes size stacks rest → size.rows ≡ left + length stacks → Answer bytes
 rows_answer zero bytes size stacks rest told e = claim_answer bytes size stacks rest told (omega arith)
 rows_answer (suc left) bytes size stacks rest told e =
     by_row (λ stack after next. rows_answer left bytes size (stacks ++ stack ∷ []) after next (omega (arith, length_push stacks stack))) (next_at size stacks rest) refl
@@ -308,7 +308,7 @@ rows_answer (suc left) bytes size stacks rest told e =
     reader : IsReader (IsNextStack size stacks) row_line (next_at size stacks)
     reader = next_reader size stacks told.tells.is_size
 
-    by_row : ((stack after : List ℕ) → TellsStacks bytes size (stacks ++ stack ∷ []) after → Answer bytes) → (o : Option (List ℕ × List ℕ)) → next_at size stacks rest ≡ o → Answer bytes
+    by_row : ((stack after : List ℕ) → BeginsWithStacks bytes size (stacks ++ stack ∷ []) after → Answer bytes) → (o : Option (List ℕ × List ℕ)) → next_at size stacks rest ≡ o → Answer bytes
     by_row go None f = inr (faults.Row (4 + length stacks), (size, stacks, rest, told, omega arith, refl, none_stands reader rest f))
     by_row go (Some x) f =
         let t = reader.takes rest x.0 x.1 f in
@@ -346,7 +346,7 @@ some_answer bytes = by_title (tag_at title_line bytes) refl
 -- ---- what the reader met
 
 -- a fault among the row lines is a first fault
-pub stack_fault : (bytes : List ℕ) (size : Size) (rest : List ℕ) (fault : CertFault) → TellsSize bytes size rest → IsStackFault size rest fault → IsFirstFault bytes fault
+pub stack_fault : (bytes : List ℕ) (size : Size) (rest : List ℕ) (fault : CertFault) → BeginsWithSize bytes size rest → IsStackFault size rest fault → IsFirstFault bytes fault
 stack_fault bytes size rest fault tells is =
     subst (IsFirstFault bytes) (sym is.fault_is)
-    (size, is.stacks, is.rest, record { tells = subst (TellsSize bytes size) is.text tells; first = is.first }, is.more, refl, is.none)
+    (size, is.stacks, is.rest, record { tells = subst (BeginsWithSize bytes size) is.text tells; first = is.first }, is.more, refl, is.none)

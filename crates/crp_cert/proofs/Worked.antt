@@ -1,6 +1,6 @@
 -- Worked certificates: trees at the empty paths of three problems, and what they show.
-use Rattle.std.proofs.Common.{◌≡◌, ◌≢◌, ℕ, ◌≤◌, inl, ⊎_elim, List, [], ◌∷◌, ◌++◌, length, replicate, Contains, AllPairs, None, Vec, Global, refl, sym, ap, ◌∙◌, subst, arith}
-use Rattle.std.proofs.lemmas.List.Elements.{All-from_recursion}
+use Rattle.std.proofs.Common.{◌≡◌, ◌≢◌, ℕ, ◌≤◌, inl, ⊎_elim, List, [], ◌∷◌, ◌++◌, length, map, replicate, Contains, All, AllPairs, None, Vec, Global, refl, sym, ap, ◌∙◌, subst, arith}
+use Rattle.std.proofs.lemmas.List.Elements.{All-nil, All-cons, All-same, All-from_recursion}
 use Rattle.crp_plan.specs.Rows.{tallest}
 use Rattle.crp_plan.specs.Bay.{Problem, IsProblem, Position, start, cap}
 use Rattle.crp_plan.specs.Faults.{stated}
@@ -9,23 +9,17 @@ use Rattle.crp_bay.proofs.Walked.{begins_at}
 use Rattle.crp_tree.specs.declared.tree.Tree.{Tree, CutB, CutL, Branch}
 use Rattle.crp_bay.proofs.Members.{not_in_nil, in_head, in_cons_cases}
 use Rattle.crp_tree.specs.Names.{Precedes}
-use Rattle.crp_tree.specs.Trees.{Fits, IsGiven, cuts, givens, HasAtLeast, least}
-use Rattle.crp_tree.specs.Listed.{AreFit, each}
-use Rattle.crp_tree.specs.Scripts.{Part, IsPart, given_by, cuts_of}
+use Rattle.crp_tree.specs.Trees.{nodes, cuts, given_names, value, IsInPlace, HasShape, HasAtLeast, least_value}
+use Rattle.crp_tree.specs.Listed.{nodes_below, AreFit}
+use Rattle.crp_tree.specs.Scripts.{Part, IsPart, nodes_in, given_by}
 use Rattle.crp_tree.proofs.Shown.{least_most, from_least}
-use Rattle.crp_tree.proofs.Accepted.{given_is, cuts_are}
-use Rattle.crp_cert.specs.Writing.{IsTellable}
-use Rattle.crp_tree.proofs.Listed.{TellsBranch, branch_tells}
+use Rattle.crp_tree.proofs.Accepted.{nodes_are}
+use Rattle.crp_cert.specs.Writing.{CanBeSpelled}
+use Rattle.crp_tree.proofs.Listed.{IsBranchOf, is_branch_of, branch_node}
 
--- a tree that fits at the empty path, and is not given away, is a part there
-pub part_at_root : (p : Problem) (name : List ℕ) (tree : Tree) → name ≡ [] → IsProblem p → Fits [] (settled (start p)) tree → (IsGiven tree → ⊥) → IsPart p (record { name = name; tree = tree })
-part_at_root p name tree e ok fits some =
-    subst (λ n. IsPart p (record { name = n; tree = tree })) (sym e) (record {
-      short = omega arith;
-      place = settled (start p);
-      is_at = begins_at p ok;
-      shape = record { fits = fits; not_given = some };
-    })
+-- a tree that has its shape at the empty path is a part there
+pub part_at_root : (p : Problem) (name : List ℕ) (tree : Tree) → name ≡ [] → IsProblem p → HasShape [] (settled (start p)) tree → IsPart p (record { name = name; tree = tree })
+part_at_root p name tree e ok shape = subst (λ n. IsPart p (record { name = n; tree = tree })) (sym e) (record { short = omega arith; place = settled (start p); is_at = begins_at p ok; shape = shape })
 
 -- six containers in three rows of three tiers, all of which are to leave
 abbrev pub six : Problem
@@ -46,50 +40,63 @@ three_rows tiers ordered p a b c a' b' c' e x y z = e ∙ ap (λ l. stated tiers
 pub one_row : (tiers ordered : ℕ) (p : Problem) (a a' : List ℕ) → p ≡ stated tiers ordered (a ∷ []) → a ≡ a' → p ≡ stated tiers ordered (a' ∷ [])
 one_row tiers ordered p a a' e x = e ∙ ap (λ l. stated tiers ordered (l ∷ [])) x
 
--- a tree fits at the empty path, and shows the floor there
-abbrev pub FitsAndShows : ℕ → Tree → Problem → Type 0
-FitsAndShows floor tree p = Fits [] (settled (start p)) tree × (floor ≡ least (cap p) (cuts [] (settled (start p)) tree))
+-- a tree has its shape at the empty path, and shows the floor there
+abbrev pub ShapeAndFloor : ℕ → Tree → Problem → Type 0
+ShapeAndFloor floor tree p = HasShape [] (settled (start p)) tree × (floor ≡ least_value (cap p) (nodes [] (settled (start p)) tree))
 
 branch_shows : (p : Problem) (floor : ℕ) (trees : Vec Tree Global) (list : List Tree) → let s = settled (start p) in
-    trees.items ≡ list → s.next ≤ s.ordered → AreFit [] s (targets s) list → floor ≡ least (cap p) (each cuts [] s (targets s) list) → FitsAndShows floor (Branch trees) p
-branch_shows p floor trees list e le fit is =
+    trees.items ≡ list → s.next ≤ s.ordered → AreFit s (targets s) list → All IsInPlace (nodes_below [] s (targets s) list) → floor ≡ least_value (cap p) (nodes_below [] s (targets s) list) → ShapeAndFloor floor (Branch trees) p
+branch_shows p floor trees list e le fit in_place is =
     let s : Position = settled (start p) in
-    let told : TellsBranch [] s (Branch trees) trees.items = branch_tells [] s trees in (
-      told.fits le (subst (AreFit [] s (targets s)) (sym e) fit),
-      subst (λ l. floor ≡ least (cap p) l) (sym told.cuts_are) (subst (λ l. floor ≡ least (cap p) (each cuts [] s (targets s) l)) (sym e) is),
+    let branch : IsBranchOf (Branch trees) list = is_branch_of (Branch trees) trees list refl (sym e) in (
+      record {
+        fits = branch.fits s fit;
+        in_place = All-same IsInPlace (nodes [] s (Branch trees)) (branch_node [] s ∷ nodes_below [] s (targets s) list) (branch.nodes_are [] s) (All-cons IsInPlace (branch_node [] s) (nodes_below [] s (targets s) list) le in_place);
+        not_given = λ n. n;
+      },
+      is ∙ ap (least_value (cap p)) (sym (branch.nodes_are [] s)),
     )
 
 -- cut by the look-ahead bound below row 2 and by the blocking bound below row 3, the six show 3
-pub six_show : (p : Problem) (trees : Vec Tree Global) → p ≡ six → trees.items ≡ CutL ∷ CutB ∷ [] → FitsAndShows 3 (Branch trees) p
-six_show p trees is e = subst (FitsAndShows 3 (Branch trees)) (sym is) (branch_shows six 3 trees (CutL ∷ CutB ∷ []) e (omega arith) (tt, (tt, tt)) refl)
+pub six_show : (p : Problem) (trees : Vec Tree Global) → p ≡ six → trees.items ≡ CutL ∷ CutB ∷ [] → ShapeAndFloor 3 (Branch trees) p
+six_show p trees is e =
+    subst (ShapeAndFloor 3 (Branch trees)) (sym is) (branch_shows six 3 trees (CutL ∷ CutB ∷ []) e (omega arith) (tt, (tt, tt)) (All-from_recursion IsInPlace (nodes_below [] first (targets first) (CutL ∷ CutB ∷ [])) (tt, (tt, tt))) refl)
+  where
+    first : Position
+    first = settled (start six)
+
+-- at once by the blocking bound they show 2
+pub six_cut : (p : Problem) → p ≡ six → ShapeAndFloor 2 CutB p
+six_cut p is = subst (ShapeAndFloor 2 CutB) (sym is) (record { fits = tt; in_place = All-from_recursion IsInPlace (nodes [] (settled (start six)) CutB) (tt, tt); not_given = λ n. n }, refl)
 
 -- by the look-ahead bound the four show 2
-pub four_show : (p : Problem) → p ≡ four → FitsAndShows 2 CutL p
-four_show p is = subst (FitsAndShows 2 CutL) (sym is) (tt, refl)
+pub four_show : (p : Problem) → p ≡ four → ShapeAndFloor 2 CutL p
+four_show p is = subst (ShapeAndFloor 2 CutL) (sym is) (record { fits = tt; in_place = All-from_recursion IsInPlace (nodes [] (settled (start four)) CutL) (tt, tt); not_given = λ n. n }, refl)
 
 -- a branch without trees shows the cap, where no row is legal
-pub buried_shows : (p : Problem) (trees : Vec Tree Global) → p ≡ buried → trees.items ≡ [] → FitsAndShows 5 (Branch trees) p
-buried_shows p trees is e = subst (FitsAndShows 5 (Branch trees)) (sym is) (branch_shows buried 5 trees [] e (omega arith) tt refl)
+pub buried_shows : (p : Problem) (trees : Vec Tree Global) → p ≡ buried → trees.items ≡ [] → ShapeAndFloor 5 (Branch trees) p
+buried_shows p trees is e = subst (ShapeAndFloor 5 (Branch trees)) (sym is) (branch_shows buried 5 trees [] e (omega arith) tt (All-nil IsInPlace) refl)
 
 -- of one name there are no two
 alone : (R : List ℕ → List ℕ → Type 0) (name : List ℕ) → AllPairs R (name ∷ [])
 alone R name i j d ij lt = absurd (omega arith)
 
 -- a tree at the empty path that gives nothing, with the least of its values and no plan: a claim that a text can tell
-pub tellable_at_root : (p : Problem) (tree : Tree) (floor : ℕ) → IsProblem p → p.heights ≡ replicate (length p.stacks) (tallest p.heights) → FitsAndShows floor tree p → (IsGiven tree → ⊥)
-    → givens [] (settled (start p)) tree ≡ [] → IsTellable (record { problem = p; lower = floor; plan = None; parts = record { name = []; tree = tree } ∷ [] })
-tellable_at_root p tree floor ok heights fits some none =
+pub spelled_at_root : (p : Problem) (tree : Tree) (floor : ℕ) → IsProblem p → p.heights ≡ replicate (length p.stacks) (tallest p.heights) → ShapeAndFloor floor tree p
+    → given_names (nodes [] (settled (start p)) tree) ≡ [] → CanBeSpelled (record { problem = p; lower = floor; plan = None; parts = record { name = []; tree = tree } ∷ [] })
+spelled_at_root p tree floor ok heights shows none =
     let part : Part = record { name = []; tree = tree } in
-    let is : IsPart p part = record { short = omega arith; place = settled (start p); is_at = begins_at p ok; shape = record { fits = fits.0; not_given = some } } in
-    let gives : given_by p part ≡ [] = given_is p part ok is ∙ none in
-    let low : HasAtLeast floor (cuts_of p part) = subst (HasAtLeast floor) (sym (cuts_are p part ok is)) (from_least floor (cap p) (cuts [] (settled (start p)) tree) (omega (arith, fits.1))) in
+    let is : IsPart p part = part_at_root p [] tree refl ok shows.0 in
+    let own : nodes_in p part ≡ nodes [] (settled (start p)) tree = nodes_are p part (settled (start p)) ok (begins_at p ok) in
+    let gives : given_by p part ≡ [] = ap given_names own ∙ none in
+    let low : HasAtLeast floor (nodes_in p part) = subst (HasAtLeast floor) (sym own) (from_least floor (cap p) value (cuts (nodes [] (settled (start p)) tree)) (omega (arith, shows.1))) in
     record {
       accepted = record {
         is_problem = ok;
-        within_cap = omega (arith, fits.1, least_most (cap p) (cuts [] (settled (start p)) tree));
+        within_cap = omega (arith, shows.1, least_most (cap p) (map value (cuts (nodes [] (settled (start p)) tree))));
         plan_is = tt;
         each_part = All-from_recursion (IsPart p) (part ∷ []) (is, tt);
-        each_cut = All-from_recursion (λ x. HasAtLeast floor (cuts_of p x)) (part ∷ []) (low, tt);
+        each_cut = All-from_recursion (λ x. HasAtLeast floor (nodes_in p x)) (part ∷ []) (low, tt);
         each_once = alone ◌≢◌ [];
         as_needed = λ name. (
           λ c. ⊎_elim (λ e. inl (sym e)) (λ d. absurd (not_in_nil name d)) (in_cons_cases [] [] name c),

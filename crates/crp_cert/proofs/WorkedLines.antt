@@ -6,8 +6,9 @@ use Rattle.crp_plan.specs.Bay.{Position, start}
 use Rattle.crp_bay.specs.Positions.{settled, targets}
 use Rattle.crp_tree.specs.declared.tree.Tree.{CutB, CutL, Given, end_of-Tree, more_of-Tree}
 use Rattle.crp_tree.specs.Names.{name_text}
-use Rattle.crp_cert.specs.Script.{symbols_of_each, symbols_line, end_line, MatchesEach}
+use Rattle.crp_cert.specs.Script.{symbols_of_each, symbols_line, end_line}
 use Rattle.crp_cert.specs.ScriptFaults.{AreSymbols}
+use Rattle.crp_tree.specs.Trees.{FitsEach}
 
 -- six containers in three rows of three tiers, and the position before the first relocation
 abbrev before : Position
@@ -36,14 +37,14 @@ trees_of_six : symbols_of_each (more_of-Tree CutL (more_of-Tree CutB end_of-Tree
 trees_of_six = refl
 
 -- there are two trees, since the legal rows are 2 and 3
-two_match : MatchesEach before (targets before) (more_of-Tree CutL (more_of-Tree CutB end_of-Tree))
+two_match : FitsEach before (targets before) (more_of-Tree CutL (more_of-Tree CutB end_of-Tree))
 two_match = (tt, (tt, tt))
 
-one_does_not : MatchesEach before (targets before) (more_of-Tree CutL end_of-Tree) → ⊥
+one_does_not : FitsEach before (targets before) (more_of-Tree CutL end_of-Tree) → ⊥
 one_does_not m = m.1
 
 -- both may be given to other parts
-given_match : MatchesEach before (targets before) (more_of-Tree Given (more_of-Tree Given end_of-Tree))
+given_match : FitsEach before (targets before) (more_of-Tree Given (more_of-Tree Given end_of-Tree))
 given_match = (tt, (tt, tt))
 
 -- but not the branch itself
@@ -51,5 +52,5 @@ not_as_a_whole : AreSymbols (codes "G") → ⊥
 not_as_a_whole are = are.not_first [] refl
 
 -- no trees stand where all have left
-none_match : MatchesEach done (targets done) end_of-Tree
+none_match : FitsEach done (targets done) end_of-Tree
 none_match = tt

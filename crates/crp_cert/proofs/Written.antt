@@ -1,6 +1,5 @@
--- What is written: lists of bytes joined one after the other, the symbols of a branch, and when a written text can be read.
-use Rattle.std.proofs.Common.{◌≡◌, ℕ, zero, suc, ◌-◌, ◌≤◌, ◌∙◌, List, [], ◌∷◌, ◌++◌, length, take, slice_get, map, AllPairs, Option, Some, None, IfSome, Vec, Global, refl, sym, ap, ap₂, subst, arith, append_assoc, append-nil}
-use Rattle.std.specs.Prelude.{codes}
+-- What is written: lists of bytes joined one after the other, and when a written text can be read.
+use Rattle.std.proofs.Common.{◌≡◌, ℕ, zero, suc, ◌-◌, ◌≤◌, ◌∙◌, List, [], ◌∷◌, ◌++◌, length, take, slice_get, map, AllPairs, Option, Some, None, IfSome, refl, sym, ap, ap₂, subst, arith, append_assoc, append-nil}
 use Rattle.std.specs.List.{AllByRecursion, flat_map}
 use Rattle.std.proofs.lemmas.List.{length-map}
 use Rattle.std.proofs.lemmas.List.Elements.{All-from_recursion, All-map}
@@ -14,15 +13,11 @@ use Rattle.crp_plan.specs.Plans.{Route}
 use Rattle.crp_plan.proofs.Buried.{below_cap}
 use Rattle.crp_plan.proofs.Covered.{relocations-path}
 use Rattle.crp_plan.proofs.Tallies.{cap_low}
-use Rattle.crp_bay.specs.Positions.{targets, child}
-use Rattle.crp_tree.specs.declared.tree.Tree.{Tree, CutB, CutL, Branch', Given, Branch, Row_of-Tree, end_of-Tree, more_of-Tree, items-the_row-Tree, items_hidden-the_row-Tree-0}
-use Rattle.crp_tree.specs.Trees.{Fits, FitsEach}
 use Rattle.crp_tree.specs.Scripts.{Part, IsPart, names, Script as Claim}
 use Rattle.crp_tree.specs.Parts.{ProblemPart, Certificate, IsCertificate, part_of, names_of}
-use Rattle.crp_tree.proofs.Listed.{IsBranch, below}
 use Rattle.crp_cert.specs.Text.{AreRows, head_text}
-use Rattle.crp_cert.specs.Script.{symbols_of, symbols_of_each, Matches, MatchesEach, IsRawPart, IsScript, names_told, part_line, end_line, part_read, claim_of}
-use Rattle.crp_cert.specs.Writing.{told_part, head_told, told, certificate_text, claimed, IsTellable}
+use Rattle.crp_cert.specs.Script.{IsRawPart, IsScript, names_of_raw, part_line, end_line, part_of_raw, claim_of}
+use Rattle.crp_cert.specs.Writing.{raw_of_part, head_for, script_for, certificate_text, claimed, CanBeSpelled}
 use Rattle.crp_tree.specs.Names.{Precedes}
 
 -- ---- lists of bytes
@@ -34,67 +29,35 @@ one_more f (y ∷ ys) zero x e = append-nil (f y) ∙ ap f (same_Some y x e)
 one_more f (y ∷ ys) (suc i) x e = ap (λ l. f y ++ l) (one_more f ys i x e) ∙ sym (append_assoc (f y) (flat_map f (take i ys)) (f x))
 
 -- the lines of a certificate's parts, and how many there are
-pub lines_of_parts : (parts : List ProblemPart) → flat_map part_line (map told_part (map part_of parts)) ≡ flat_map (λ part. part_line (told_part (part_of part))) parts
+pub lines_of_parts : (parts : List ProblemPart) → flat_map part_line (map raw_of_part (map part_of parts)) ≡ flat_map (λ part. part_line (raw_of_part (part_of part))) parts
 lines_of_parts [] = refl
-lines_of_parts (part ∷ parts) = ap (λ l. part_line (told_part (part_of part)) ++ l) (lines_of_parts parts)
+lines_of_parts (part ∷ parts) = ap (λ l. part_line (raw_of_part (part_of part)) ++ l) (lines_of_parts parts)
 
-pub count_of_parts : (parts : List ProblemPart) → length (map told_part (map part_of parts)) ≡ length parts
-count_of_parts parts = length-map (map part_of parts) told_part ∙ length-map parts part_of
+pub count_of_parts : (parts : List ProblemPart) → length (map raw_of_part (map part_of parts)) ≡ length parts
+count_of_parts parts = length-map (map part_of parts) raw_of_part ∙ length-map parts part_of
 
 -- the head, the lines of the parts and the last line make the text of a certificate
 pub text_joined : (bay : YardBay) (p : Problem) (cert : Certificate) (plan : Option Route) (lower : ℕ) (parts again : List ProblemPart) (none head lines text : List ℕ) →
-    lower ≡ cert.lower → parts ≡ cert.parts → again ≡ cert.parts → none ≡ [] → head ≡ none ++ head_text (head_told bay p lower plan) →
-    lines ≡ head ++ flat_map (λ part. part_line (told_part (part_of part))) parts → text ≡ lines ++ end_line (length again) → text ≡ certificate_text bay p cert plan
+    lower ≡ cert.lower → parts ≡ cert.parts → again ≡ cert.parts → none ≡ [] → head ≡ none ++ head_text (head_for bay p lower plan) →
+    lines ≡ head ++ flat_map (λ part. part_line (raw_of_part (part_of part))) parts → text ≡ lines ++ end_line (length again) → text ≡ certificate_text bay p cert plan
 text_joined bay p cert plan lower parts again none head lines text el ep ea en eh es et =
-    let front : head ≡ head_text (head_told bay p cert.lower plan) = eh ∙ ap (λ l. l ++ head_text (head_told bay p lower plan)) en ∙ ap (λ n. head_text (head_told bay p n plan)) el in
-    let middle : flat_map (λ part. part_line (told_part (part_of part))) parts ≡ flat_map part_line (map told_part (map part_of cert.parts)) = ap (flat_map (λ part. part_line (told_part (part_of part)))) ep ∙ sym (lines_of_parts cert.parts) in
-    let end : end_line (length again) ≡ end_line (length (map told_part (map part_of cert.parts))) = ap end_line (ap length ea ∙ sym (count_of_parts cert.parts)) in
+    let front : head ≡ head_text (head_for bay p cert.lower plan) = eh ∙ ap (λ l. l ++ head_text (head_for bay p lower plan)) en ∙ ap (λ n. head_text (head_for bay p n plan)) el in
+    let middle : flat_map (λ part. part_line (raw_of_part (part_of part))) parts ≡ flat_map part_line (map raw_of_part (map part_of cert.parts)) = ap (flat_map (λ part. part_line (raw_of_part (part_of part)))) ep ∙ sym (lines_of_parts cert.parts) in
+    let end : end_line (length again) ≡ end_line (length (map raw_of_part (map part_of cert.parts))) = ap end_line (ap length ea ∙ sym (count_of_parts cert.parts)) in
     et ∙ ap₂ (λ a b. a ++ b) (es ∙ ap₂ (λ a b. a ++ b) front middle) end
-    ∙ append_assoc (head_text (head_told bay p cert.lower plan)) (flat_map part_line (map told_part (map part_of cert.parts))) (end_line (length (map told_part (map part_of cert.parts))))
-
--- ---- the symbols of a branch
-
--- those of its trees, one after the other
-each_symbols : {m : _} (all : Row_of-Tree m) → symbols_of_each all ≡ flat_map symbols_of (items-the_row-Tree m all)
-each_symbols end_of-Tree = refl
-each_symbols (more_of-Tree tree trees) = ap (λ l. symbols_of tree ++ l) (each_symbols trees)
-
-symbols_below : (tree : Tree) → IsBranch tree → symbols_of tree ≡ codes "X" ++ flat_map symbols_of (below tree)
-symbols_below CutB is = absurd is
-symbols_below CutL is = absurd is
-symbols_below Given is = absurd is
-symbols_below (Branch' shape all) is = ap (λ l. codes "X" ++ l) (each_symbols all)
-
-pub branch_symbols : (tree : Tree) (trees : Vec Tree Global) (list : List Tree) → tree ≡ Branch trees → list ≡ trees.items → symbols_of tree ≡ codes "X" ++ flat_map symbols_of list
-branch_symbols tree trees list is same =
-    let whole : symbols_of (Branch trees) ≡ codes "X" ++ flat_map symbols_of trees.items = subst (λ l. symbols_of (Branch trees) ≡ codes "X" ++ flat_map symbols_of l) (items_hidden-the_row-Tree-0 trees) (symbols_below (Branch trees) tt) in
-    ap symbols_of is ∙ whole ∙ ap (λ l. codes "X" ++ flat_map symbols_of l) (sym same)
+    ∙ append_assoc (head_text (head_for bay p cert.lower plan)) (flat_map part_line (map raw_of_part (map part_of cert.parts))) (end_line (length (map raw_of_part (map part_of cert.parts))))
 
 -- ---- what is written can be read
 
--- a tree that fits is one that symbols tell
-mutual
-  pub fit_matches : (path : List ℕ) (s : Position) (tree : Tree) → Fits path s tree → Matches s tree
-  fit_matches path s CutB fits = tt
-  fit_matches path s CutL fits = tt
-  fit_matches path s Given fits = tt
-  fit_matches path s (Branch' shape all) fits = fit_matches_each path s (targets s) all fits.1
-
-  fit_matches_each : (path : List ℕ) (s : Position) (rows : List ℕ) {m : _} (all : Row_of-Tree m) → FitsEach path s rows all → MatchesEach s rows all
-  fit_matches_each path s [] end_of-Tree fits = tt
-  fit_matches_each path s [] (more_of-Tree tree trees) fits = absurd fits
-  fit_matches_each path s (row ∷ rows) end_of-Tree fits = absurd fits
-  fit_matches_each path s (row ∷ rows) (more_of-Tree tree trees) fits = (fit_matches (path ++ row ∷ []) (child s row) tree fits.0, fit_matches_each path s rows trees fits.1)
-
 -- a part is one that a part line may say
-raw_part : (p : Problem) (part : Part) → IsPart p part → IsRawPart p (told_part part)
+raw_part : (p : Problem) (part : Part) → IsPart p part → IsRawPart p (raw_of_part part)
 raw_part p part is =
     let shape = is.shape in
     record {
       short = is.short;
       place = is.place;
       is_at = is.is_at;
-      matches = fit_matches part.name is.place part.tree shape.fits;
+      fits = shape.fits;
       not_given = shape.not_given;
     }
 
@@ -123,13 +86,13 @@ plan_rows p None ok h = tt
 plan_rows p (Some rows) ok h = path_rows p rows ok h
 
 -- the names that are told are those of the parts
-told_names : (parts : List Part) → names_told (map told_part parts) ≡ names parts
+told_names : (parts : List Part) → names_of_raw (map raw_of_part parts) ≡ names parts
 told_names [] = refl
 told_names (part ∷ parts) = ap (λ l. part.name ∷ l) (told_names parts)
 
 -- a claim that can be told is told by a script
-pub told_is_script : (bay : YardBay) (c : Claim) → IsYardBay bay → IsTellable c → IsScript (told bay c)
-told_is_script bay c name t =
+pub spelled_is_script : (bay : YardBay) (c : Claim) → IsYardBay bay → CanBeSpelled c → IsScript (script_for bay c)
+spelled_is_script bay c name t =
     let ok = t.accepted in
     let is_problem = ok.is_problem in
     let each_part = ok.each_part in
@@ -141,17 +104,17 @@ told_is_script bay c name t =
         claim = ok.within_cap;
         plan = plan_rows c.problem c.plan is_problem ok.plan_is;
       };
-      each_part = All-map (IsRawPart c.problem) told_part c.parts (λ k d lt. raw_part c.problem _ (each_part k d lt));
+      each_part = All-map (IsRawPart c.problem) raw_of_part c.parts (λ k d lt. raw_part c.problem _ (each_part k d lt));
       rising = subst (AllPairs Precedes) (sym (told_names c.parts)) t.rising;
     }
 
 -- and its parts are told again
-read_again : (parts : List Part) → map part_read (map told_part parts) ≡ parts
+read_again : (parts : List Part) → map part_of_raw (map raw_of_part parts) ≡ parts
 read_again [] = refl
 read_again (part ∷ parts) = ap (λ l. part ∷ l) (read_again parts)
 
-pub told_again : (bay : YardBay) (c : Claim) → claim_of (told bay c) ≡ c
-told_again bay c = ap (λ l. record c { parts = l }) (read_again c.parts)
+pub spelled_again : (bay : YardBay) (c : Claim) → claim_of (script_for bay c) ≡ c
+spelled_again bay c = ap (λ l. record c { parts = l }) (read_again c.parts)
 
 -- the names of a certificate's parts are those of the parts that it claims
 claimed_names : (parts : List ProblemPart) → names (map part_of parts) ≡ names_of parts

@@ -12,7 +12,7 @@ use Rattle.crp_cert.specs.Text.{title_line, bay_line, size_line, row_line, claim
 abbrev pub BeginsWith : {A : Type 0} → (A → Type 0) → (A → List ℕ) → List ℕ → Type 0
 BeginsWith {A} fits line bytes = (x : A) × fits x × ((rest : List ℕ) × (bytes ≡ line x ++ rest))
 
--- the first stacks of a bay of this size: none is higher than the tiers, the ranks are from 1 to the number of containers, each in one place at most; and once all stacks are told no rank is missing
+-- the first stacks of a bay of this size: none is higher than the tiers, the ranks are from 1 to the number of containers, each in one place at most; and once there are all stacks no rank is missing
 pub record AreFirstStacks (size : Size) (stacks : List (List ℕ)) : Type 0 where
   pub few : length stacks ≤ size.rows
   pub low : All (λ stack. length stack ≤ size.tiers) stacks
@@ -20,7 +20,7 @@ pub record AreFirstStacks (size : Size) (stacks : List (List ℕ)) : Type 0 wher
   pub apart : (x : ℕ) → occurrences x stacks ≤ 1
   pub none_missing : length stacks ≡ size.rows → (x : ℕ) → 1 ≤ x → x ≤ size.total → 0 < occurrences x stacks
 
--- the stack may be told after these
+-- the stack may follow these
 abbrev pub IsNextStack : Size → List (List ℕ) → List ℕ → Type 0
 IsNextStack size stacks stack = AreFirstStacks size (stacks ++ stack ∷ [])
 
@@ -29,18 +29,18 @@ abbrev pub most_claimed : Size → ℕ
 most_claimed size = size.ordered * (size.tiers - 1) + 1
 
 -- the bytes begin with the title, the line of a bay and that of this size, and then this follows
-pub record TellsSize (bytes : List ℕ) (size : Size) (rest : List ℕ) : Type 0 where
+pub record BeginsWithSize (bytes : List ℕ) (size : Size) (rest : List ℕ) : Type 0 where
   pub name : YardBay
   pub named : IsYardBay name
   pub is_size : IsSize size
   pub text : bytes ≡ title_line ++ (bay_line name ++ (size_line size ++ rest))
 
 -- the same, and the lines of these first stacks
-pub record TellsStacks (bytes : List ℕ) (size : Size) (stacks : List (List ℕ)) (rest : List ℕ) : Type 0 where
-  pub tells : TellsSize bytes size (flat_map row_line stacks ++ rest)
+pub record BeginsWithStacks (bytes : List ℕ) (size : Size) (stacks : List (List ℕ)) (rest : List ℕ) : Type 0 where
+  pub tells : BeginsWithSize bytes size (flat_map row_line stacks ++ rest)
   pub first : AreFirstStacks size stacks
 
--- the first line that is not as said, by what it should tell and its number from 1
+-- the first line that is not as said, by what it should spell and its number from 1
 abbrev pub IsFirstFault : List ℕ → CertFault → Type 0
 IsFirstFault bytes (faults.Opening line) =
     ◌⊎◌
@@ -49,12 +49,12 @@ IsFirstFault bytes (faults.Opening line) =
 IsFirstFault bytes (faults.Size line) =
     (line ≡ 3) × ((name : YardBay) × (rest : List ℕ) × IsYardBay name × (bytes ≡ title_line ++ (bay_line name ++ rest)) × ¬ BeginsWith IsSize size_line rest)
 IsFirstFault bytes (faults.Row line) =
-    (size : Size) × (stacks : List (List ℕ)) × (rest : List ℕ) × TellsStacks bytes size stacks rest
+    (size : Size) × (stacks : List (List ℕ)) × (rest : List ℕ) × BeginsWithStacks bytes size stacks rest
     × (length stacks < size.rows) × (line ≡ 4 + length stacks) × ¬ BeginsWith (IsNextStack size stacks) row_line rest
 IsFirstFault bytes (faults.Claim line) =
-    (size : Size) × (stacks : List (List ℕ)) × (rest : List ℕ) × TellsStacks bytes size stacks rest
+    (size : Size) × (stacks : List (List ℕ)) × (rest : List ℕ) × BeginsWithStacks bytes size stacks rest
     × (length stacks ≡ size.rows) × (line ≡ 4 + size.rows) × ¬ BeginsWith (λ claim. claim ≤ most_claimed size) claim_line rest
 IsFirstFault bytes (faults.Plan line) =
-    (size : Size) × (stacks : List (List ℕ)) × (claim : ℕ) × (rest : List ℕ) × TellsStacks bytes size stacks (claim_line claim ++ rest)
+    (size : Size) × (stacks : List (List ℕ)) × (claim : ℕ) × (rest : List ℕ) × BeginsWithStacks bytes size stacks (claim_line claim ++ rest)
     × (length stacks ≡ size.rows) × (claim ≤ most_claimed size) × (line ≡ 5 + size.rows) × ¬ BeginsWith (λ plan. IfSome plan AreRows) plan_line rest
 IsFirstFault bytes _ = ⊥

@@ -1,13 +1,12 @@
 -- Reading the lines of parts from the front of the bytes: what was read, and what follows it. No public clause cites this module.
-use Rattle.std.specs.Prelude.{◌≡◌, ℕ, zero, suc, ◌+◌, ◌++◌, length, ◌==◌, List, [], ◌∷◌, Option, Some, None, if◌then◌else◌, codes, All, AllPairs, ⊤}
+use Rattle.std.specs.Prelude.{◌≡◌, ℕ, zero, suc, ◌+◌, ◌++◌, length, ◌==◌, List, [], ◌∷◌, Option, Some, None, if◌then◌else◌, codes, All, AllPairs}
 use Rattle.std.specs.List.{flat_map}
 use Rattle.crp_plan.specs.Bay.{Problem, Position, start}
 use Rattle.crp_bay.specs.Positions.{can_shift, child, settled}
-use Rattle.crp_tree.specs.declared.tree.Tree.{Tree}
 use Rattle.crp_tree.specs.Names.{Precedes}
 use Rattle.crp_cert.specs.declared.parts.RawPart.{RawPart}
 use Rattle.crp_cert.specs.declared.fault.CertFault.{CertFault}
-use Rattle.crp_cert.specs.Script.{part_line, symbols_of, names_told, Matches, IsRawPart}
+use Rattle.crp_cert.specs.Script.{part_line, names_of_raw, IsRawPart}
 use Rattle.crp_cert.specs.ScriptFaults.{IsLineFault}
 use Rattle.crp_cert.specs.Reading.{◌>>=◌, tag_at, number_at, newline_at}
 
@@ -46,22 +45,10 @@ part_at p bytes = do
   after ← newline_at line.1
   Some ((name.0.0, line.0), after)
 
--- the symbols of trees, one tree after the other
-abbrev pub symbols_of_all : List Tree → List ℕ
-symbols_of_all [] = []
-symbols_of_all (tree ∷ trees) = symbols_of tree ++ symbols_of_all trees
-
--- one tree for each of the rows, in their order
-abbrev pub AllMatch : Position → List ℕ → List Tree → Type 0
-AllMatch s [] [] = ⊤
-AllMatch s [] (tree ∷ trees) = ⊥
-AllMatch s (row ∷ rows) [] = ⊥
-AllMatch s (row ∷ rows) (tree ∷ trees) = Matches (child s row) tree × AllMatch s rows trees
-
 -- the bytes begin with the lines of these parts, which may follow a head, and then this follows
 pub record AreParts (p : Problem) (bytes : List ℕ) (parts : List RawPart) (rest : List ℕ) : Type 0 where
   pub each_part : All (IsRawPart p) parts
-  pub rising : AllPairs Precedes (names_told parts)
+  pub rising : AllPairs Precedes (names_of_raw parts)
   pub text : bytes ≡ flat_map part_line parts ++ rest
 
 -- the bytes begin with the lines of parts, and the line after them has this fault

@@ -1,11 +1,10 @@
 -- The text of a whole certificate: its head, its parts, and its last line. Each line ends with LF.
-use Rattle.std.specs.Prelude.{◌≡◌, ℕ, ◌≤◌, ⊤, List, [], ◌∷◌, ◌++◌, length, map, All, AllPairs, codes}
+use Rattle.std.specs.Prelude.{◌≡◌, ℕ, ◌≤◌, List, [], ◌∷◌, ◌++◌, length, map, All, AllPairs, codes}
 use Rattle.std.specs.List.{flat_map}
 use Rattle.crp_plan.specs.Bay.{Problem, Position, IsAt}
-use Rattle.crp_bay.specs.Positions.{targets, child}
 use Rattle.crp_tree.specs.declared.tree.Tree.{Tree, CutB, CutL, Branch', Given, Row_of-Tree, end_of-Tree, more_of-Tree}
 use Rattle.crp_tree.specs.Names.{Precedes, name_text}
-use Rattle.crp_tree.specs.Trees.{IsGiven}
+use Rattle.crp_tree.specs.Trees.{Fits, IsGiven}
 use Rattle.crp_tree.specs.Scripts.{Part, Script as Claim}
 use Rattle.crp_cert.specs.declared.parts.RawPart.{RawPart}
 use Rattle.crp_cert.specs.declared.script.Script.{Script}
@@ -41,52 +40,37 @@ end_line count = numbers_line (codes "end") (count ∷ [])
 abbrev pub script_text : Script → List ℕ
 script_text script = head_text script.head ++ (flat_map part_line script.parts ++ end_line (length script.parts))
 
--- the tree is one that symbols tell at s: a branch has one tree for each legal row, rising, so none where s is finished or dead
-abbrev mutual
-  pub Matches : Position → Tree → Type 0
-  Matches s CutB = ⊤
-  Matches s CutL = ⊤
-  Matches s (Branch' shape all) = MatchesEach s (targets s) all
-  Matches s Given = ⊤
-
-  -- one tree for each of the rows, in their order, told at the position that the row leads to
-  pub MatchesEach : Position → List ℕ → {m : _} → Row_of-Tree m → Type 0
-  MatchesEach s [] end_of-Tree = ⊤
-  MatchesEach s [] (more_of-Tree tree trees) = ⊥
-  MatchesEach s (row ∷ rows) end_of-Tree = ⊥
-  MatchesEach s (row ∷ rows) (more_of-Tree tree trees) = Matches (child s row) tree × MatchesEach s rows trees
-
--- what a part line may say: the name has at most 8 rows and is a path of the problem, and the tree is one that symbols tell there, and
+-- what a part line may say: the name has at most 8 rows and is a path of the problem, and the tree fits there, and
 -- not given to another part as a whole
 pub record IsRawPart (p : Problem) (part : RawPart) : Type 0 where
   pub short : length part.name ≤ 8
   pub place : Position
   pub is_at : IsAt p part.name place
-  pub matches : Matches place part.tree
+  pub fits : Fits place part.tree
   pub not_given : IsGiven part.tree → ⊥
 
 -- the names of parts
-abbrev pub names_told : List RawPart → List (List ℕ)
-names_told parts = map (λ part. part.name) parts
+abbrev pub names_of_raw : List RawPart → List (List ℕ)
+names_of_raw parts = map (λ part. part.name) parts
 
 -- the symbols of their trees
-abbrev pub symbols_told : List RawPart → List (List ℕ)
-symbols_told parts = map (λ part. symbols_of part.tree) parts
+abbrev pub symbols_of_raw : List RawPart → List (List ℕ)
+symbols_of_raw parts = map (λ part. symbols_of part.tree) parts
 
 -- what a whole certificate may say: a head, and parts of its problem in rising order of their names
 pub record IsScript (script : Script) : Type 0 where
   pub is_head : IsHead script.head
   pub each_part : All (IsRawPart script.head.problem) script.parts
-  pub rising : AllPairs Precedes (names_told script.parts)
+  pub rising : AllPairs Precedes (names_of_raw script.parts)
 
 -- the bytes are the script's text, all of them
 abbrev pub IsScriptOf : List ℕ → Script → Type 0
 IsScriptOf bytes script = IsScript script × (bytes ≡ script_text script)
 
--- a part that a text tells
-abbrev pub part_read : RawPart → Part
-part_read raw = record { name = raw.name; tree = raw.tree }
+-- a part that a text spells
+abbrev pub part_of_raw : RawPart → Part
+part_of_raw raw = record { name = raw.name; tree = raw.tree }
 
--- the claim that a script tells: the problem, the claimed bound, the plan, and search trees by their names
+-- the claim of a script: the problem, the claimed bound, the plan, and search trees by their names
 abbrev pub claim_of : Script → Claim
-claim_of script = record { problem = script.head.problem; lower = script.head.claim; plan = script.head.plan; parts = map part_read script.parts }
+claim_of script = record { problem = script.head.problem; lower = script.head.claim; plan = script.head.plan; parts = map part_of_raw script.parts }

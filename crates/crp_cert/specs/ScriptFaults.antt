@@ -10,13 +10,14 @@ use Rattle.crp_cert.specs.declared.fault.CertFault.{CertFault}
 use Rattle.crp_cert.specs.declared.fault.CertFault.TheVariants as faults
 use Rattle.crp_cert.specs.Text.{head_text, IsHead}
 use Rattle.crp_cert.specs.Faults.{IsFirstFault}
-use Rattle.crp_cert.specs.Script.{symbols_of, symbols_line, part_line, end_line, names_told, Matches, IsRawPart}
+use Rattle.crp_cert.specs.Script.{symbols_of, symbols_line, part_line, end_line, names_of_raw, IsRawPart}
+use Rattle.crp_tree.specs.Trees.{Fits}
 
 -- the bytes begin with a head and these parts, which may stand there; the line after them has this number, and this follows from there on
-pub record TellsParts (bytes : List ℕ) (head : Head) (parts : List RawPart) (line : ℕ) (rest : List ℕ) : Type 0 where
+pub record BeginsWithParts (bytes : List ℕ) (head : Head) (parts : List RawPart) (line : ℕ) (rest : List ℕ) : Type 0 where
   pub is_head : IsHead head
   pub each_part : All (IsRawPart head.problem) parts
-  pub rising : AllPairs Precedes (names_told parts)
+  pub rising : AllPairs Precedes (names_of_raw parts)
   pub text : bytes ≡ head_text head ++ (flat_map part_line parts ++ rest)
   pub number : line ≡ 6 + length head.problem.stacks + length parts
 
@@ -42,11 +43,11 @@ pub record AreSymbols (symbols : List ℕ) : Type 0 where
 
 -- the symbols begin with those of a whole tree
 abbrev pub BeginsWithTree : Position → List ℕ → Type 0
-BeginsWithTree s symbols = (tree : Tree) × Matches s tree × ((rest : List ℕ) × (symbols ≡ symbols_of tree ++ rest))
+BeginsWithTree s symbols = (tree : Tree) × Fits s tree × ((rest : List ℕ) × (symbols ≡ symbols_of tree ++ rest))
 
 -- more symbols follow those of a whole tree
 abbrev pub GoesOnBehindTree : Position → List ℕ → Type 0
-GoesOnBehindTree s symbols = (tree : Tree) × Matches s tree × ((b : ℕ) × (rest : List ℕ) × (symbols ≡ symbols_of tree ++ b ∷ rest))
+GoesOnBehindTree s symbols = (tree : Tree) × Fits s tree × ((b : ℕ) × (rest : List ℕ) × (symbols ≡ symbols_of tree ++ b ∷ rest))
 
 -- what is wrong with the line that the bytes begin with, which has this number and stands after these parts. In a part line it is, in this
 -- order: the name, its place among the names, the symbols, too few of them, too many
@@ -65,10 +66,10 @@ IsLineFault p parts line bytes (faults.End n) =
     ((n ≡ suc line) × ((b : ℕ) × (after : List ℕ) × (bytes ≡ end_line (length parts) ++ b ∷ after)))
 IsLineFault p parts line bytes _ = ⊥
 
--- the first line that is not as said, by what it should tell and its number from 1: one of the head, or the one after some parts
+-- the first line that is not as said, by what it should spell and its number from 1: one of the head, or the one after some parts
 abbrev pub IsFirstFaultOfScript : List ℕ → CertFault → Type 0
 IsFirstFaultOfScript bytes fault =
     ◌⊎◌
     (IsFirstFault bytes fault)
     ((head : Head) × (parts : List RawPart) × (line : ℕ) × (rest : List ℕ)
-    × TellsParts bytes head parts line rest × IsLineFault head.problem parts line rest fault)
+    × BeginsWithParts bytes head parts line rest × IsLineFault head.problem parts line rest fault)

@@ -1,7 +1,7 @@
 //! Reading a whole certificate.
 ghost use Rattle.std.specs.Prelude.{◌≡◌, ◌+◌, ◌⊎◌, ◌↔◌, ◌++◌, None, IsTrue, IfOk, IfErr, AllPairs, codes};
 ghost use Rattle.crp_tree.specs.Names.{Precedes};
-ghost use Rattle.crp_cert.specs.Script.{part_line, end_line, names_told, IsRawPart, IsScriptOf};
+ghost use Rattle.crp_cert.specs.Script.{part_line, end_line, names_of_raw, IsRawPart, IsScriptOf};
 ghost use Rattle.crp_cert.specs.ScriptFaults.{ComesAfter, IsLineFault, IsFirstFaultOfScript};
 ghost use Rattle.crp_cert.specs.Reading.{Reads, tag_at};
 ghost use Rattle.crp_cert.specs.PartReading.{AreParts, IsPartsFault};
@@ -21,7 +21,7 @@ use std::alloc::Global;
 
 /// Whether a name comes after the names of parts, which rise.
 fn comes_after(parts: &[RawPart], name: &Name) -> bool
-    requires { AllPairs Precedes (names_told parts.now) }
+    requires { AllPairs Precedes (names_of_raw parts.now) }
     ensures { IsTrue result ↔ ComesAfter parts.now name.now }
 {
     match parts.last() {
@@ -39,7 +39,7 @@ fn next_part<'a>(
     line: u32,
     bytes: &'a [u8],
 ) -> Result<(RawPart, &'a [u8]), CertFault>
-    requires { AllPairs Precedes (names_told parts.now) }
+    requires { AllPairs Precedes (names_of_raw parts.now) }
     ensures part { IfOk result (λ told. IsRawPart problem.now told.0) }
     ensures after { IfOk result (λ told. ComesAfter parts.now told.0.name) }
     ensures text { IfOk result (λ told. codes "part " ++ bytes.now ≡ part_line told.0 ++ told.1.now) }

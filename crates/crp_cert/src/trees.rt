@@ -1,7 +1,8 @@
 //! The symbols of a tree.
 ghost use Rattle.std.specs.Prelude.{◌≡◌, ◌++◌, Contains, codes, IsTrue, ◌↔◌, IfOk, IfSome, IfNone};
-ghost use Rattle.crp_cert.specs.Script.{Matches, symbols_of};
+ghost use Rattle.crp_cert.specs.Script.{symbols_of};
 ghost use Rattle.crp_cert.specs.ScriptFaults.{AreSymbols, BeginsWithTree};
+ghost use Rattle.crp_tree.specs.Trees.{Fits};
 
 use crate::fields::after_tag;
 use crp_bay::Position;
@@ -33,7 +34,7 @@ pub fn read_tree<'a>(
     place: &Position,
     bytes: &'a [u8],
 ) -> Result<Option<(Tree, &'a [u8])>, AllocError>
-    ensures found { IfOk result (λ found. IfSome found (λ x. Matches place.now x.0 × (bytes.now ≡ symbols_of x.0 ++ x.1.now))) }
+    ensures found { IfOk result (λ found. IfSome found (λ x. Fits place.now x.0 × (bytes.now ≡ symbols_of x.0 ++ x.1.now))) }
     ensures none { IfOk result (λ found. IfNone found (¬ BeginsWithTree place.now bytes.now)) }
 {
     if let Some(rest) = after_tag(b"B", bytes) {

@@ -1,5 +1,5 @@
 //! Writing a certificate.
-ghost use Rattle.std.specs.Prelude.{◌≡◌, ◌≤◌, ◌+◌, ◌-◌, ◌++◌, ◌∷◌, [], IfOk, OnOk, IsErrOf};
+ghost use Rattle.std.specs.Prelude.{◌≡◌, ◌≤◌, ◌+◌, ℕ, ◌++◌, ◌∷◌, [], IfOk, OnOk, IsErrOf};
 ghost use Rattle.std.specs.Option.{option_copied};
 ghost use Rattle.std.specs.List.{flat_map};
 ghost use Rattle.std.specs.Io.KnownBytes.{Appends};
@@ -8,7 +8,7 @@ ghost use Rattle.crp_tree.specs.Parts.{part_of};
 ghost use Rattle.crp_cert.specs.Text.{numbers_line, bay_line, size_line, size_of, row_line, plan_line, head_text};
 ghost use Rattle.crp_tree.specs.Names.{name_text};
 ghost use Rattle.crp_cert.specs.Script.{symbols_of, part_line};
-ghost use Rattle.crp_cert.specs.Writing.{path_told, head_told, told_part, certificate_text};
+ghost use Rattle.crp_cert.specs.Writing.{rows_of_plan, head_for, raw_of_part, certificate_text};
 ghost use Rattle.crp_cert.specs.declared.writing.WriteFault.TheVariants.{Failed, Memory};
 
 use crp_plan::{BayName, Plan, Problem, Sink, WriteFailed, write_all};
@@ -111,7 +111,7 @@ fn push_rows(text: &mut Vec<u8>, problem: &Problem) -> Result<(), AllocError>
 
 /// Adds the line of a plan, or that there is none.
 fn push_plan(text: &mut Vec<u8>, plan: Option<&Plan>) -> Result<(), AllocError>
-    ensures { OnOk result (text.new.items ≡ text.old.items ++ plan_line (path_told (option_copied plan.entry))) }
+    ensures { OnOk result (text.new.items ≡ text.old.items ++ plan_line (rows_of_plan (option_copied plan.entry))) }
 {
     match plan {
         Some(plan) => push_numbers(text, b"plan", plan.rows()),
@@ -143,7 +143,7 @@ fn push_head(
     claim: u32,
     plan: Option<&Plan>,
 ) -> Result<(), AllocError>
-    ensures { OnOk result (text.new.items ≡ text.old.items ++ head_text (head_told bay.now problem.now claim (option_copied plan.entry))) }
+    ensures { OnOk result (text.new.items ≡ text.old.items ++ head_text (head_for bay.now problem.now claim (option_copied plan.entry))) }
 {
     text.extend_from_slice(b"CRP-CERT 1\n")?;
     push_bay(text, bay)?;
@@ -183,7 +183,7 @@ fn push_trees(text: &mut Vec<u8>, trees: &[Tree]) -> Result<(), AllocError>
 
 /// Adds the line of a part.
 fn push_part(text: &mut Vec<u8>, part: &Part) -> Result<(), AllocError>
-    ensures { OnOk result (text.new.items ≡ text.old.items ++ part_line (told_part (part_of part.now))) }
+    ensures { OnOk result (text.new.items ≡ text.old.items ++ part_line (raw_of_part (part_of part.now))) }
 {
     text.extend_from_slice(b"part ")?;
     push_name(text, part.name())?;
@@ -195,7 +195,7 @@ fn push_part(text: &mut Vec<u8>, part: &Part) -> Result<(), AllocError>
 
 /// Adds the lines of parts.
 fn push_parts(text: &mut Vec<u8>, parts: &[Part]) -> Result<(), AllocError>
-    ensures { OnOk result (text.new.items ≡ text.old.items ++ flat_map (λ part. part_line (told_part (part_of part))) parts.now) }
+    ensures { OnOk result (text.new.items ≡ text.old.items ++ flat_map (λ part. part_line (raw_of_part (part_of part))) parts.now) }
 {
     for part in parts {
         push_part(text, part)?;
@@ -220,7 +220,8 @@ pub fn cert_text(
     Ok(text)
 }
 
-/// Hands the text of a certificate to a sink. Where no memory is left, nothing is handed over.
+/// Hands the text of a certificate to a sink. Where no memory is left, nothing is handed over. It
+/// counts its interruptions itself; whoever counts them over a whole run takes `cert_text`.
 pub fn write_cert<W: Sink>(
     alloc: Global,
     writer: &mut W,
@@ -228,20 +229,18 @@ pub fn write_cert<W: Sink>(
     problem: &Problem,
     cert: &Cert,
     plan: Option<&Plan>,
-    interruptions: &mut u32,
 ) -> Result<(), WriteFault>
-    requires { interruptions.old ≤ most_interruptions }
     ensures all { OnOk result (Appends (W.contents writer.old) (W.contents writer.new) (certificate_text bay.now problem.now cert.now (option_copied plan.entry))) }
     ensures front { AppendsFront (W.contents writer.old) (W.contents writer.new) (certificate_text bay.now problem.now cert.now (option_copied plan.entry)) }
     ensures failed { IsErrOf result WriteFault.Failed → HasFailed (W.failures writer.old) (W.failures writer.new) }
-    ensures memory { IsErrOf result WriteFault.Memory → (writer.new ≡ writer.old) × (interruptions.new ≡ interruptions.old) }
+    ensures memory { IsErrOf result WriteFault.Memory → writer.new ≡ writer.old }
     ensures count { W.failures writer.old ≤ W.failures writer.new }
-    ensures passed { (interruptions.old ≤ interruptions.new) × (interruptions.new ≤ most_interruptions) }
-    ensures interrupted { OnOk result (CountsMore (interruptions.new - interruptions.old) (W.failures writer.old) (W.failures writer.new)) }
+    ensures interrupted { OnOk result ((passed : ℕ) × (passed ≤ most_interruptions) × CountsMore passed (W.failures writer.old) (W.failures writer.new)) }
     ensures ended { IsErrOf result WriteFault.Failed
-        → CountsMore (interruptions.new - interruptions.old + 1) (W.failures writer.old) (W.failures writer.new) }
+        → (passed : ℕ) × (passed ≤ most_interruptions) × CountsMore (passed + 1) (W.failures writer.old) (W.failures writer.new) }
 {
     let text = cert_text(alloc, bay, problem, cert, plan)?;
-    write_all(writer, &text, interruptions)?;
+    let mut interruptions = 0;
+    write_all(writer, &text, &mut interruptions)?;
     Ok(())
 }

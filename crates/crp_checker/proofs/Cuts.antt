@@ -10,7 +10,7 @@ use Rattle.crp_checker.specs.declared.verdict.Verdict.{Verdict}
 use Rattle.crp_checker.specs.declared.refused.Refused.{Refused}
 use Rattle.crp_checker.specs.declared.refused.Refused.TheVariants.{Memory}
 use Rattle.crp_checker.specs.Refusals.{IsRefusal}
-use Rattle.crp_checker.specs.Shown.{ShowsOf}
+use Rattle.crp_checker.specs.Shown.{TextShowsFor}
 use Rattle.crp_checker.specs.Files.{IsWithoutEnd, IsLine, BeginsWithEnd, IsOtherLine, joined, IsEnded, IsOpen, BeginsWithTexts, ShowEach, AddsShown, IsFileRefusal}
 use Rattle.crp_checker.proofs.WalkSteps.{all_both}
 
@@ -114,7 +114,7 @@ texts_more file [] rest text after begins e front = (after, begins ∙ e, front,
 texts_more file (first ∷ texts) rest text after begins e front = (begins.0, begins.1, begins.2, texts_more begins.0 texts rest text after begins.3 e front)
 
 -- and shows one verdict more
-pub shown_more : (texts : List (List ℕ)) (verdicts : List (YardBay × Verdict)) (text : List ℕ) (told : YardBay × Verdict) → ShowEach texts verdicts → ShowsOf text told.0 told.1 → ShowEach (texts ++ text ∷ []) (verdicts ++ told ∷ [])
+pub shown_more : (texts : List (List ℕ)) (verdicts : List (YardBay × Verdict)) (text : List ℕ) (told : YardBay × Verdict) → ShowEach texts verdicts → TextShowsFor text told.0 told.1 → ShowEach (texts ++ text ∷ []) (verdicts ++ told ∷ [])
 shown_more [] [] text told s k = (k, tt)
 shown_more [] (v ∷ verdicts) text told s k = absurd s
 shown_more (first ∷ texts) [] text told s k = absurd s

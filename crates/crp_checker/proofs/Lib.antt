@@ -8,9 +8,7 @@ pub mod PartSteps
 pub mod Shapes
 pub mod SameText
 pub mod Sizes
-pub mod SymbolText
 pub mod WalkSteps
 mod Worked
-pub mod Walked
 pub mod OneFile
 pub mod Written

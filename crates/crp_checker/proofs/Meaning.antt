@@ -4,10 +4,10 @@ use Rattle.crp_plan.specs.declared.moves.Move.{Move}
 use Rattle.crp_plan.specs.Bay.{Problem, cap, IsPlan, IsBest, relocations}
 use Rattle.crp_plan.specs.Faults.{IsPlanPath}
 use Rattle.crp_plan.proofs.Covered.{relocations-path}
-use Rattle.crp_tree.specs.Scripts.{Script, IsAccepted}
+use Rattle.crp_tree.specs.Scripts.{Script as Claim, IsAccepted}
 use Rattle.crp_tree.proofs.Accepted.{bounded, no_plan_at_cap, best}
 use Rattle.crp_cert.specs.declared.head.Head.{Head}
-use Rattle.crp_cert.specs.declared.script.Script.{Script as Told}
+use Rattle.crp_cert.specs.declared.script.Script.{Script}
 use Rattle.crp_cert.specs.declared.fault.CertFault.{CertFault}
 use Rattle.crp_cert.specs.declared.fault.CertFault.TheVariants as cert
 use Rattle.crp_cert.specs.Text.{IsHeadOf}
@@ -19,13 +19,13 @@ use Rattle.crp_checker.specs.declared.refused.Refused.TheVariants as refused
 use Rattle.crp_checker.specs.declared.verdict.Verdict.{Verdict}
 use Rattle.crp_checker.specs.declared.verdict.Verdict.TheVariants.{Optimal, NoPlan, Bounds}
 use Rattle.crp_cert.specs.Script.{claim_of}
-use Rattle.crp_checker.specs.Claims.{IsWanted, IsYes}
+use Rattle.crp_checker.specs.Claims.{IsWanted, IsAcceptedText}
 use Rattle.crp_checker.specs.Verdicts.{IsVerdictOf, IsVerdict, Says}
-use Rattle.crp_checker.specs.Told.{cert_told}
+use Rattle.crp_checker.specs.Passing.{refusal_by}
 use Rattle.crp_checker.specs.Refusals.{IsFirstWrongClaim, IsRefusal}
 
 -- a plan with as many relocations as the bound is a best one
-best_from : (script : Script) (plan : Option (List ℕ)) → script.plan ≡ plan → IsAccepted script → option_map length plan ≡ Some script.lower → IsBest script.problem script.lower
+best_from : (script : Claim) (plan : Option (List ℕ)) → script.plan ≡ plan → IsAccepted script → option_map length plan ≡ Some script.lower → IsBest script.problem script.lower
 best_from script None e ok n = absurd (cc)
 best_from script (Some rows) e ok n = best script rows ok e (let m : length rows ≡ script.lower = cc in m)
 
@@ -35,7 +35,7 @@ reached_from p None ok = tt
 reached_from p (Some rows) ok = (ok.0, ok.1, relocations-path ok.0 ∙ ap length ok.2)
 
 -- what a verdict says of an accepted script is so
-pub says_from : (script : Script) (verdict : Verdict) → IsAccepted script → IsVerdict script verdict → Says script.problem verdict
+pub says_from : (script : Claim) (verdict : Verdict) → IsAccepted script → IsVerdict script verdict → Says script.problem verdict
 says_from script (Optimal count) ok v = subst (IsBest script.problem) (sym v.0) (best_from script script.plan refl ok v.1)
 says_from script NoPlan ok v = λ moves plan. no_plan_at_cap script moves ok v.1 plan
 says_from script (Bounds lower upper) ok v = (
@@ -44,42 +44,42 @@ says_from script (Bounds lower upper) ok v = (
 )
 
 -- the bytes of a script begin with no other head
-pub head_is : (bytes : List ℕ) (told : Told) (head : Head) → IsScriptOf bytes told → IsHeadOf bytes head → head ≡ told.head
+pub head_is : (bytes : List ℕ) (told : Script) (head : Head) → IsScriptOf bytes told → IsHeadOf bytes head → head ≡ told.head
 head_is bytes told head is of =
     let readable = is.0 in
     let rest = of.1 in
     (head_once head told.head rest.0 _ of.0 readable.is_head (sym rest.1 ∙ is.1)).0
 
 -- what an accepted certificate shows of the problem that its bytes tell
-pub says_of_head : (wanted : Option Problem) (bytes : List ℕ) (told : Told) (verdict : Verdict) (head : Head) → IsYes wanted bytes told → IsVerdict (claim_of told) verdict → IsHeadOf bytes head → Says head.problem verdict
+pub says_of_head : (wanted : Option Problem) (bytes : List ℕ) (told : Script) (verdict : Verdict) (head : Head) → IsAcceptedText wanted bytes told → IsVerdict (claim_of told) verdict → IsHeadOf bytes head → Says head.problem verdict
 says_of_head wanted bytes told verdict head known v of =
     subst (λ h. Says h.problem verdict) (sym (head_is bytes told head known.is_text of)) (says_from (claim_of told) verdict known.accepted v)
 
 -- and of each plan of that problem
-pub bound_of_head : (wanted : Option Problem) (bytes : List ℕ) (told : Told) (head : Head) (moves : List Move) → IsYes wanted bytes told → IsHeadOf bytes head → IsPlan head.problem moves → head.claim ≤ relocations moves
+pub bound_of_head : (wanted : Option Problem) (bytes : List ℕ) (told : Script) (head : Head) (moves : List Move) → IsAcceptedText wanted bytes told → IsHeadOf bytes head → IsPlan head.problem moves → head.claim ≤ relocations moves
 bound_of_head wanted bytes told head moves known of plan =
     let same = head_is bytes told head known.is_text of in
     subst (λ h. h.claim ≤ relocations moves) (sym same) (bounded (claim_of told) moves known.accepted (subst (λ h. IsPlan h.problem moves) same plan))
 
 -- at the cap there is no plan
-pub none_of_head : (wanted : Option Problem) (bytes : List ℕ) (told : Told) (head : Head) (moves : List Move) → IsYes wanted bytes told → IsHeadOf bytes head → head.claim ≡ cap head.problem → IsPlan head.problem moves → ⊥
+pub none_of_head : (wanted : Option Problem) (bytes : List ℕ) (told : Script) (head : Head) (moves : List Move) → IsAcceptedText wanted bytes told → IsHeadOf bytes head → head.claim ≡ cap head.problem → IsPlan head.problem moves → ⊥
 none_of_head wanted bytes told head moves known of most plan =
     let same = head_is bytes told head known.is_text of in
     no_plan_at_cap (claim_of told) moves known.accepted (subst (λ h. h.claim ≡ cap h.problem) same most) (subst (λ h. IsPlan h.problem moves) same plan)
 
 -- a text that the reader refuses is refused for that
 pub text_refused : (bytes : List ℕ) (fault : CertFault) → (fault ≡ cert.Memory) ⊎ IsFirstFaultOfScript bytes fault →
-    (cert_told fault ≡ refused.Memory) ⊎ ((wanted : Option Problem) → IsRefusal wanted bytes (cert_told fault))
+    (refusal_by fault ≡ refused.Memory) ⊎ ((wanted : Option Problem) → IsRefusal wanted bytes (refusal_by fault))
 text_refused bytes cert.Memory k = inl refl
 text_refused bytes fault k = inr (λ wanted. ⊎_elim (λ e. absurd (cc)) (λ f. f) k)
 
 -- a claim that is wrong is refused for that
-pub claim_refused : (wanted : Option Problem) (bytes : List ℕ) (told : Told) (r : Refused) → IsScriptOf bytes told → IsFirstWrongClaim wanted (claim_of told) r → IsRefusal wanted bytes r
+pub claim_refused : (wanted : Option Problem) (bytes : List ℕ) (told : Script) (r : Refused) → IsScriptOf bytes told → IsFirstWrongClaim wanted (claim_of told) r → IsRefusal wanted bytes r
 claim_refused wanted bytes told (refused.Cert fault) is w = absurd w
 claim_refused wanted bytes told r is w = (told, is, w)
 
 -- where the problem is as wanted
-pub claim_refused_if : (wanted : Option Problem) (bytes : List ℕ) (told : Told) (r : Refused) → IsScriptOf bytes told → IsWanted wanted told.head.problem →
+pub claim_refused_if : (wanted : Option Problem) (bytes : List ℕ) (told : Script) (r : Refused) → IsScriptOf bytes told → IsWanted wanted told.head.problem →
     (r ≡ refused.Memory) ⊎ ((any : Option Problem) → IsWanted any told.head.problem → IsFirstWrongClaim any (claim_of told) r) → (r ≡ refused.Memory) ⊎ IsRefusal wanted bytes r
 claim_refused_if wanted bytes told r is asked k = ⊎_elim (λ e. inl e) (λ w. inr (claim_refused wanted bytes told r is (w wanted asked))) k
 

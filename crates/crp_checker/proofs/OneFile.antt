@@ -5,14 +5,14 @@ use Rattle.crp_cert.specs.declared.head.Head.{Head}
 use Rattle.crp_cert.proofs.Scripts.{script_once}
 use Rattle.crp_checker.specs.declared.verdict.Verdict.{Verdict}
 use Rattle.crp_checker.specs.declared.refused.Refused.{Refused}
-use Rattle.crp_checker.specs.Shown.{ShowsOf}
+use Rattle.crp_checker.specs.Shown.{TextShowsFor}
 use Rattle.crp_checker.specs.Refusals.{IsRefusal}
 use Rattle.crp_checker.specs.Files.{BeginsWithTexts, ShowEach, FileShows}
 use Rattle.crp_checker.proofs.OneCut.{first_text, some_text, one_cut_only}
 use Rattle.crp_checker.proofs.SameText.{not_both, one_shown, one_refusal}
 
 -- what one text shows is one thing, of one bay
-one_told : (text : List ℕ) (a b : YardBay × Verdict) → ShowsOf text a.0 a.1 → ShowsOf text b.0 b.1 → a ≡ b
+one_told : (text : List ℕ) (a b : YardBay × Verdict) → TextShowsFor text a.0 a.1 → TextShowsFor text b.0 b.1 → a ≡ b
 one_told text a b s t =
     let x = s.1 in let y = t.1 in
     let heads = script_once text s.0 t.0 x.is_text y.is_text in
@@ -39,7 +39,7 @@ one_list file xs ys s t =
     one_each t.0 xs ys (subst (λ l. ShowEach l xs) same s.2) t.2
 
 -- a text that shows something is not refused
-shown_not_refused : (text : List ℕ) (a : YardBay × Verdict) (r : Refused) → ShowsOf text a.0 a.1 → IsRefusal None text r → ⊥
+shown_not_refused : (text : List ℕ) (a : YardBay × Verdict) (r : Refused) → TextShowsFor text a.0 a.1 → IsRefusal None text r → ⊥
 shown_not_refused text a r s why = not_both None text s.0 r s.1 why
 
 -- the texts of a file that shows something are not those before a text that is refused, and that text
@@ -50,7 +50,7 @@ not_shown file [] (u ∷ others) text after xs ys r x y s t why = some_text u y.
 not_shown file (v ∷ texts) others text after [] ys r x y s t why = absurd s
 not_shown file (v ∷ texts) [] text after (a ∷ xs) ys r x y s t why =
     let first = first_text v text x.0 y.0 x.2 y.2 (sym x.1 ∙ y.1) in
-    shown_not_refused text a r (subst (λ l. ShowsOf l a.0 a.1) first.0 s.0) why
+    shown_not_refused text a r (subst (λ l. TextShowsFor l a.0 a.1) first.0 s.0) why
 not_shown file (v ∷ texts) (u ∷ others) text after (a ∷ xs) [] r x y s t why = absurd t
 not_shown file (v ∷ texts) (u ∷ others) text after (a ∷ xs) (b ∷ ys) r x y s t why =
     let first = first_text v u x.0 y.0 x.2 y.2 (sym x.1 ∙ y.1) in
@@ -63,11 +63,11 @@ one_place file [] [] text other after end xs ys r q x y s t why how = (refl, (fi
 one_place file [] (u ∷ others) text other after end xs [] r q x y s t why how = absurd t
 one_place file [] (u ∷ others) text other after end xs (b ∷ ys) r q x y s t why how =
     let first = first_text text u x.0 y.0 x.2 y.2 (sym x.1 ∙ y.1) in
-    absurd (shown_not_refused text b r (subst (λ l. ShowsOf l b.0 b.1) (sym first.0) t.0) why)
+    absurd (shown_not_refused text b r (subst (λ l. TextShowsFor l b.0 b.1) (sym first.0) t.0) why)
 one_place file (v ∷ texts) others text other after end [] ys r q x y s t why how = absurd s
 one_place file (v ∷ texts) [] text other after end (a ∷ xs) ys r q x y s t why how =
     let first = first_text v other x.0 y.0 x.2 y.2 (sym x.1 ∙ y.1) in
-    absurd (shown_not_refused other a q (subst (λ l. ShowsOf l a.0 a.1) first.0 s.0) how)
+    absurd (shown_not_refused other a q (subst (λ l. TextShowsFor l a.0 a.1) first.0 s.0) how)
 one_place file (v ∷ texts) (u ∷ others) text other after end (a ∷ xs) [] r q x y s t why how = absurd t
 one_place file (v ∷ texts) (u ∷ others) text other after end (a ∷ xs) (b ∷ ys) r q x y s t why how =
     let first = first_text v u x.0 y.0 x.2 y.2 (sym x.1 ∙ y.1) in

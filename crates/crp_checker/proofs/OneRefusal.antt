@@ -1,22 +1,22 @@
 -- A claim is accepted or wrong, not both, and is wrong in one way only.
-use Rattle.std.proofs.Common.{◌≡◌, ℕ, List, [], ◌∷◌, ◌++◌, length, Option, Some, IfSome, refl, sym, ap, ◌∙◌, subst, arith}
+use Rattle.std.proofs.Common.{◌≡◌, ℕ, List, [], ◌∷◌, ◌++◌, length, Option, Some, IfSome, true, refl, sym, ap, ◌∙◌, subst, arith}
 use Rattle.std.specs.List.{AllByRecursion}
 use Rattle.std.proofs.lemmas.List.Elements.{recursion_from_All}
-use Rattle.crp_plan.specs.Bay.{Problem, IsProblem, Position}
+use Rattle.crp_plan.specs.Bay.{Problem, IsProblem}
 use Rattle.crp_plan.specs.declared.plan.PlanFault.{PlanFault}
 use Rattle.crp_plan.specs.Faults.{IsPlanPath, IsPlanFault}
 use Rattle.crp_plan.proofs.Steps.{fault_refuses}
 use Rattle.crp_plan.proofs.OneFault.{one_plan_fault}
-use Rattle.crp_tree.specs.Trees.{HasAtLeast}
-use Rattle.crp_tree.specs.Scripts.{Part, IsPart, Script, IsAccepted, cuts_of}
-use Rattle.crp_tree.proofs.Shown.{all_right}
+use Rattle.crp_tree.specs.Trees.{X, Node, nodes, is_cut, HasAtLeast}
+use Rattle.crp_tree.specs.Scripts.{Part, IsPart, Script as Claim, IsAccepted, nodes_in}
+use Rattle.crp_tree.proofs.Accepted.{nodes_are}
 use Rattle.crp_tree.proofs.InOrder.{one_first}
 use Rattle.crp_checker.specs.declared.refused.Refused.{Refused}
 use Rattle.crp_checker.specs.declared.refused.Refused.TheVariants as refused
-use Rattle.crp_checker.specs.Symbols.{Symbol, B, L, X, G, Node, IsCutBelow, IsBranchAt, IsLow, IsAtEnd, IsRight, IsFirstWrong}
+use Rattle.crp_checker.specs.Nodes.{IsLow, IsAtEnd, IsRight, IsFirstWrong}
 use Rattle.crp_checker.specs.Claims.{IsWanted}
-use Rattle.crp_checker.specs.Refusals.{Walked, walked, IsRightPart, AreRightParts, IsFirstMet, IsMissing, IsUnneeded, HasRightHead, IsFirstWrongClaim}
-use Rattle.crp_checker.proofs.Claimed.{nodes_are, cuts_are}
+use Rattle.crp_checker.specs.Refusals.{NamedNodes, nodes_by_name, IsRightPart, AreRightParts, IsFirstWrongNode, IsMissing, IsUnneeded, HasRightHead, IsFirstWrongClaim}
+use Rattle.crp_checker.proofs.WalkSteps.{all_right}
 use Rattle.crp_checker.proofs.Shapes.{right_from}
 
 -- what holds of all holds of the one among them
@@ -24,26 +24,26 @@ at_middle : {A : Type 0} (P : A → Type 0) (before : List A) (x : A) (after lis
 at_middle P before x after list e all = (all_right P before (x ∷ after) (subst (AllByRecursion P) e all)).0
 
 -- the nodes of accepted parts are right
-right_parts : (p : Problem) (lower : ℕ) (parts : List Part) → IsProblem p → AllByRecursion (IsPart p) parts → AllByRecursion (λ part. HasAtLeast lower (cuts_of p part)) parts → AllByRecursion (IsRightPart lower) (walked p parts)
+right_parts : (p : Problem) (lower : ℕ) (parts : List Part) → IsProblem p → AllByRecursion (IsPart p) parts → AllByRecursion (λ part. HasAtLeast lower (nodes_in p part)) parts → AllByRecursion (IsRightPart lower) (nodes_by_name p parts)
 right_parts p lower [] is each high = tt
 right_parts p lower (part ∷ parts) is each high =
     let own = each.0 in
     let shape = own.shape in (
       subst (AllByRecursion (IsRight lower)) (sym (nodes_are p part own.place is own.is_at))
-          (right_from lower part.name own.place part.tree shape.fits (subst (HasAtLeast lower) (cuts_are p part own.place is own.is_at) high.0)),
+          (right_from lower (nodes part.name own.place part.tree) shape.in_place (subst (HasAtLeast lower) (nodes_are p part own.place is own.is_at) high.0)),
       right_parts p lower parts is each.1 high.1,
     )
 
-pub right_if_accepted : (script : Script) → IsAccepted script → AreRightParts script
+pub right_if_accepted : (script : Claim) → IsAccepted script → AreRightParts script
 right_if_accepted script ok =
     right_parts script.problem script.lower script.parts ok.is_problem (recursion_from_All (IsPart script.problem) script.parts ok.each_part)
-    (recursion_from_All (λ part. HasAtLeast script.lower (cuts_of script.problem part)) script.parts ok.each_cut)
+    (recursion_from_All (λ part. HasAtLeast script.lower (nodes_in script.problem part)) script.parts ok.each_cut)
 
 -- where all nodes are right none is wrong
-none_met : (lower : ℕ) (Wrong : Node → Type 0) (parts : List Walked) (name : List ℕ) (k : ℕ) → ((node : Node) → IsRight lower node → Wrong node → ⊥) → AllByRecursion (IsRightPart lower) parts → IsFirstMet lower Wrong parts name k → ⊥
+none_met : (lower : ℕ) (Wrong : Node → Type 0) (parts : List NamedNodes) (name : List ℕ) (k : ℕ) → ((node : Node) → IsRight lower node → Wrong node → ⊥) → AllByRecursion (IsRightPart lower) parts → IsFirstWrongNode lower Wrong parts name k → ⊥
 none_met lower Wrong parts name k clash right met =
     let first = met.first in
-    let part : Walked = met.part in
+    let part : NamedNodes = met.part in
     clash first.node (at_middle (IsRight lower) first.before first.node first.after part.nodes first.list_is (at_middle (IsRightPart lower) met.before part met.after parts met.parts_are right)) first.wrong
 
 not_low : (lower : ℕ) (node : Node) → IsRight lower node → IsLow lower node → ⊥
@@ -57,12 +57,12 @@ plan_clash : (p : Problem) (plan : Option (List ℕ)) (rows : List ℕ) → IsPr
 plan_clash p plan rows is path e fault f = fault_refuses p rows fault is f (subst (λ o. IfSome o (IsPlanPath p)) e path)
 
 -- an accepted claim is not wrong
-pub not_wrong : (wanted : Option Problem) (script : Script) (r : Refused) → IsAccepted script → IsWanted wanted script.problem → IsFirstWrongClaim wanted script r → ⊥
+pub not_wrong : (wanted : Option Problem) (script : Claim) (r : Refused) → IsAccepted script → IsWanted wanted script.problem → IsFirstWrongClaim wanted script r → ⊥
 not_wrong wanted script (refused.Cert fault) ok asked w = w
 not_wrong wanted script refused.OtherProblem ok asked w = w asked
 not_wrong wanted script (refused.Plan fault) ok asked w = let k = w.1 in plan_clash script.problem script.plan k.0 ok.is_problem ok.plan_is k.1 fault k.2
-not_wrong wanted script (refused.Low part symbol) ok asked w = none_met script.lower (IsLow script.lower) (walked script.problem script.parts) part symbol (not_low script.lower) (right_if_accepted script ok) w.1
-not_wrong wanted script (refused.Finished part symbol) ok asked w = none_met script.lower IsAtEnd (walked script.problem script.parts) part symbol (not_at_end script.lower) (right_if_accepted script ok) w.1
+not_wrong wanted script (refused.Low part symbol) ok asked w = none_met script.lower (IsLow script.lower) (nodes_by_name script.problem script.parts) part symbol (not_low script.lower) (right_if_accepted script ok) w.1
+not_wrong wanted script (refused.Finished part symbol) ok asked w = none_met script.lower IsAtEnd (nodes_by_name script.problem script.parts) part symbol (not_at_end script.lower) (right_if_accepted script ok) w.1
 not_wrong wanted script (refused.Missing name) ok asked w = let k = w.2 in let h = k.holds in h.1 ((ok.as_needed name).1 h.0)
 not_wrong wanted script (refused.Unneeded name) ok asked w = let k = w.3 in let h = k.holds in h.1 ((ok.as_needed name).0 h.0)
 not_wrong wanted script refused.Memory ok asked w = w
@@ -79,7 +79,7 @@ one_front P (x ∷ xs) (x' ∷ xs') y y' ys ys' e a b n m =
     (omega arith, r.1)
 
 -- a wrong node makes its part wrong
-part_wrong : (lower : ℕ) (Wrong : Node → Type 0) (part : Walked) (k : ℕ) → ((node : Node) → IsRight lower node → Wrong node → ⊥) → IsFirstWrong lower Wrong part.nodes k → IsRightPart lower part → ⊥
+part_wrong : (lower : ℕ) (Wrong : Node → Type 0) (part : NamedNodes) (k : ℕ) → ((node : Node) → IsRight lower node → Wrong node → ⊥) → IsFirstWrong lower Wrong part.nodes k → IsRightPart lower part → ⊥
 part_wrong lower Wrong part k clash first right = clash first.node (at_middle (IsRight lower) first.before first.node first.after part.nodes first.list_is right) first.wrong
 
 -- what the walk first meets: one name and number, and one node
@@ -90,8 +90,8 @@ record MetAt (lower : ℕ) (Wrong Other : Node → Type 0) (name other : List �
   pub wrong : Wrong node
   pub wrong_too : Other node
 
-one_met : (lower : ℕ) (Wrong Other : Node → Type 0) (parts : List Walked) (name other : List ℕ) (k l : ℕ) → ((node : Node) → IsRight lower node → Wrong node → ⊥) → ((node : Node) → IsRight lower node → Other node → ⊥) →
-    IsFirstMet lower Wrong parts name k → IsFirstMet lower Other parts other l → MetAt lower Wrong Other name other k l
+one_met : (lower : ℕ) (Wrong Other : Node → Type 0) (parts : List NamedNodes) (name other : List ℕ) (k l : ℕ) → ((node : Node) → IsRight lower node → Wrong node → ⊥) → ((node : Node) → IsRight lower node → Other node → ⊥) →
+    IsFirstWrongNode lower Wrong parts name k → IsFirstWrongNode lower Other parts other l → MetAt lower Wrong Other name other k l
 one_met lower Wrong Other parts name other k l clash clash' a b =
     let first = a.first in
     let second = b.first in
@@ -111,28 +111,24 @@ one_met lower Wrong Other parts name other k l clash clash' a b =
     }
 
 -- no node is wrong in both ways
-low_or_end : (lower : ℕ) (path : List ℕ) (s : Position) (symbol : Symbol) → IsCutBelow lower path s symbol → IsBranchAt s symbol → ⊥
-low_or_end lower path s B low end = end
-low_or_end lower path s L low end = end
-low_or_end lower path s X low end = low
-low_or_end lower path s G low end = low
+low_or_end : (lower : ℕ) (node : Node) → IsLow lower node → IsAtEnd node → ⊥
+low_or_end lower node low end = let t : is_cut X ≡ true = subst (λ m. is_cut m ≡ true) end.0 low.0 in cc
 
 -- so the walk does not meet both first
-not_both_met : (lower : ℕ) (parts : List Walked) (name other : List ℕ) (k l : ℕ) → IsFirstMet lower (IsLow lower) parts name k → IsFirstMet lower IsAtEnd parts other l → ⊥
+not_both_met : (lower : ℕ) (parts : List NamedNodes) (name other : List ℕ) (k l : ℕ) → IsFirstWrongNode lower (IsLow lower) parts name k → IsFirstWrongNode lower IsAtEnd parts other l → ⊥
 not_both_met lower parts name other k l a b =
     let m = one_met lower (IsLow lower) IsAtEnd parts name other k l (not_low lower) (not_at_end lower) a b in
-    let node : Node = m.node in
-    low_or_end lower node.path node.place node.symbol m.wrong m.wrong_too
+    low_or_end lower m.node m.wrong m.wrong_too
 
 -- where some node is wrong, not all are right
-low_not_right : (lower : ℕ) (parts : List Walked) (name : List ℕ) (k : ℕ) → AllByRecursion (IsRightPart lower) parts → IsFirstMet lower (IsLow lower) parts name k → ⊥
+low_not_right : (lower : ℕ) (parts : List NamedNodes) (name : List ℕ) (k : ℕ) → AllByRecursion (IsRightPart lower) parts → IsFirstWrongNode lower (IsLow lower) parts name k → ⊥
 low_not_right lower parts name k right met = none_met lower (IsLow lower) parts name k (not_low lower) right met
 
-end_not_right : (lower : ℕ) (parts : List Walked) (name : List ℕ) (k : ℕ) → AllByRecursion (IsRightPart lower) parts → IsFirstMet lower IsAtEnd parts name k → ⊥
+end_not_right : (lower : ℕ) (parts : List NamedNodes) (name : List ℕ) (k : ℕ) → AllByRecursion (IsRightPart lower) parts → IsFirstWrongNode lower IsAtEnd parts name k → ⊥
 end_not_right lower parts name k right met = none_met lower IsAtEnd parts name k (not_at_end lower) right met
 
 -- a plan with a fault is none
-bad_plan : (wanted : Option Problem) (script : Script) (fault : PlanFault) → IsProblem script.problem → IsFirstWrongClaim wanted script (refused.Plan fault) → HasRightHead wanted script → ⊥
+bad_plan : (wanted : Option Problem) (script : Claim) (fault : PlanFault) → IsProblem script.problem → IsFirstWrongClaim wanted script (refused.Plan fault) → HasRightHead wanted script → ⊥
 bad_plan wanted script fault is w head = let k = w.1 in plan_clash script.problem script.plan k.0 is head.plan_is k.1 fault k.2
 
 -- two faults of one plan are the same
@@ -142,7 +138,7 @@ same_plan_fault p plan rows rows' f g is e a d b =
     one_plan_fault p rows f g is a (subst (λ l. IsPlanFault p l g) same b)
 
 -- a claim is wrong in one way only
-pub one_wrong : (wanted : Option Problem) (script : Script) (r q : Refused) → IsProblem script.problem → IsFirstWrongClaim wanted script r → IsFirstWrongClaim wanted script q → r ≡ q
+pub one_wrong : (wanted : Option Problem) (script : Claim) (r q : Refused) → IsProblem script.problem → IsFirstWrongClaim wanted script r → IsFirstWrongClaim wanted script q → r ≡ q
 one_wrong wanted script (refused.Cert f) q is a b = absurd a
 one_wrong wanted script refused.Memory q is a b = absurd a
 one_wrong wanted script refused.OtherProblem (refused.Cert f) is a b = absurd b
@@ -169,34 +165,34 @@ one_wrong wanted script (refused.Low name k) refused.Memory is a b = absurd b
 one_wrong wanted script (refused.Low name k) refused.OtherProblem is a b = absurd (let h = a.0 in b h.as_wanted)
 one_wrong wanted script (refused.Low name k) (refused.Plan g) is a b = absurd (bad_plan wanted script g is b a.0)
 one_wrong wanted script (refused.Low name k) (refused.Low other l) is a b =
-    let m = one_met script.lower (IsLow script.lower) (IsLow script.lower) (walked script.problem script.parts) name other k l (not_low script.lower) (not_low script.lower) a.1 b.1 in
+    let m = one_met script.lower (IsLow script.lower) (IsLow script.lower) (nodes_by_name script.problem script.parts) name other k l (not_low script.lower) (not_low script.lower) a.1 b.1 in
     ap (λ x. refused.Low x k) m.same_name ∙ ap (refused.Low other) m.same_number
-one_wrong wanted script (refused.Low name k) (refused.Finished other l) is a b = absurd (not_both_met script.lower (walked script.problem script.parts) name other k l a.1 b.1)
-one_wrong wanted script (refused.Low name k) (refused.Missing other) is a b = absurd (low_not_right script.lower (walked script.problem script.parts) name k b.1 a.1)
-one_wrong wanted script (refused.Low name k) (refused.Unneeded other) is a b = absurd (low_not_right script.lower (walked script.problem script.parts) name k b.1 a.1)
+one_wrong wanted script (refused.Low name k) (refused.Finished other l) is a b = absurd (not_both_met script.lower (nodes_by_name script.problem script.parts) name other k l a.1 b.1)
+one_wrong wanted script (refused.Low name k) (refused.Missing other) is a b = absurd (low_not_right script.lower (nodes_by_name script.problem script.parts) name k b.1 a.1)
+one_wrong wanted script (refused.Low name k) (refused.Unneeded other) is a b = absurd (low_not_right script.lower (nodes_by_name script.problem script.parts) name k b.1 a.1)
 one_wrong wanted script (refused.Finished name k) (refused.Cert g) is a b = absurd b
 one_wrong wanted script (refused.Finished name k) refused.Memory is a b = absurd b
 one_wrong wanted script (refused.Finished name k) refused.OtherProblem is a b = absurd (let h = a.0 in b h.as_wanted)
 one_wrong wanted script (refused.Finished name k) (refused.Plan g) is a b = absurd (bad_plan wanted script g is b a.0)
-one_wrong wanted script (refused.Finished name k) (refused.Low other l) is a b = absurd (not_both_met script.lower (walked script.problem script.parts) other name l k b.1 a.1)
+one_wrong wanted script (refused.Finished name k) (refused.Low other l) is a b = absurd (not_both_met script.lower (nodes_by_name script.problem script.parts) other name l k b.1 a.1)
 one_wrong wanted script (refused.Finished name k) (refused.Finished other l) is a b =
-    let m = one_met script.lower IsAtEnd IsAtEnd (walked script.problem script.parts) name other k l (not_at_end script.lower) (not_at_end script.lower) a.1 b.1 in
+    let m = one_met script.lower IsAtEnd IsAtEnd (nodes_by_name script.problem script.parts) name other k l (not_at_end script.lower) (not_at_end script.lower) a.1 b.1 in
     ap (λ x. refused.Finished x k) m.same_name ∙ ap (refused.Finished other) m.same_number
-one_wrong wanted script (refused.Finished name k) (refused.Missing other) is a b = absurd (end_not_right script.lower (walked script.problem script.parts) name k b.1 a.1)
-one_wrong wanted script (refused.Finished name k) (refused.Unneeded other) is a b = absurd (end_not_right script.lower (walked script.problem script.parts) name k b.1 a.1)
+one_wrong wanted script (refused.Finished name k) (refused.Missing other) is a b = absurd (end_not_right script.lower (nodes_by_name script.problem script.parts) name k b.1 a.1)
+one_wrong wanted script (refused.Finished name k) (refused.Unneeded other) is a b = absurd (end_not_right script.lower (nodes_by_name script.problem script.parts) name k b.1 a.1)
 one_wrong wanted script (refused.Missing name) (refused.Cert g) is a b = absurd b
 one_wrong wanted script (refused.Missing name) refused.Memory is a b = absurd b
 one_wrong wanted script (refused.Missing name) refused.OtherProblem is a b = absurd (let h = a.0 in b h.as_wanted)
 one_wrong wanted script (refused.Missing name) (refused.Plan g) is a b = absurd (bad_plan wanted script g is b a.0)
-one_wrong wanted script (refused.Missing name) (refused.Low other l) is a b = absurd (low_not_right script.lower (walked script.problem script.parts) other l a.1 b.1)
-one_wrong wanted script (refused.Missing name) (refused.Finished other l) is a b = absurd (end_not_right script.lower (walked script.problem script.parts) other l a.1 b.1)
+one_wrong wanted script (refused.Missing name) (refused.Low other l) is a b = absurd (low_not_right script.lower (nodes_by_name script.problem script.parts) other l a.1 b.1)
+one_wrong wanted script (refused.Missing name) (refused.Finished other l) is a b = absurd (end_not_right script.lower (nodes_by_name script.problem script.parts) other l a.1 b.1)
 one_wrong wanted script (refused.Missing name) (refused.Missing other) is a b = ap (λ x. refused.Missing x) (one_first (IsMissing script) name other a.2 b.2)
 one_wrong wanted script (refused.Missing name) (refused.Unneeded other) is a b = absurd (let least = a.2 in b.2 name least.holds)
 one_wrong wanted script (refused.Unneeded name) (refused.Cert g) is a b = absurd b
 one_wrong wanted script (refused.Unneeded name) refused.Memory is a b = absurd b
 one_wrong wanted script (refused.Unneeded name) refused.OtherProblem is a b = absurd (let h = a.0 in b h.as_wanted)
 one_wrong wanted script (refused.Unneeded name) (refused.Plan g) is a b = absurd (bad_plan wanted script g is b a.0)
-one_wrong wanted script (refused.Unneeded name) (refused.Low other l) is a b = absurd (low_not_right script.lower (walked script.problem script.parts) other l a.1 b.1)
-one_wrong wanted script (refused.Unneeded name) (refused.Finished other l) is a b = absurd (end_not_right script.lower (walked script.problem script.parts) other l a.1 b.1)
+one_wrong wanted script (refused.Unneeded name) (refused.Low other l) is a b = absurd (low_not_right script.lower (nodes_by_name script.problem script.parts) other l a.1 b.1)
+one_wrong wanted script (refused.Unneeded name) (refused.Finished other l) is a b = absurd (end_not_right script.lower (nodes_by_name script.problem script.parts) other l a.1 b.1)
 one_wrong wanted script (refused.Unneeded name) (refused.Missing other) is a b = absurd (let least = b.2 in a.2 other least.holds)
 one_wrong wanted script (refused.Unneeded name) (refused.Unneeded other) is a b = ap (λ x. refused.Unneeded x) (one_first (IsUnneeded script) name other a.3 b.3)

@@ -7,24 +7,24 @@ use Rattle.crp_plan.specs.Bay.{Problem}
 use Rattle.crp_cert.specs.declared.parts.RawPart.{RawPart}
 use Rattle.crp_checker.specs.declared.refused.Refused.{Refused}
 use Rattle.crp_checker.specs.declared.refused.Refused.TheVariants as refused
-use Rattle.crp_cert.specs.Script.{part_read}
-use Rattle.crp_checker.specs.Refusals.{Walked, walked, walked_part, IsRightPart}
+use Rattle.crp_cert.specs.Script.{part_of_raw}
+use Rattle.crp_checker.specs.Refusals.{NamedNodes, nodes_by_name, named_nodes, IsRightPart}
 use Rattle.crp_checker.specs.Walks.{IsPartRefusal, IsWalkRefusal}
 
 -- a list: what stands before an index, the element there, and what comes after it
 pub around_index : {A : Type 0} (xs : List A) (i : ℕ) (d : A) → i < length xs → xs ≡ take i xs ++ get_or xs i d ∷ drop (suc i) xs
 around_index xs i d lt = sym (take-append-drop i xs) ∙ ap (λ l. take i xs ++ l) (drop-cons xs i d lt)
 
--- the parts as they are walked, around the one at an index
-pub walked_around : (p : Problem) (parts : List RawPart) (i : ℕ) (part : RawPart) → i < length parts → part ≡ get_or parts i part →
-    walked p (map part_read parts) ≡ walked p (map part_read (take i parts)) ++ walked_part p (part_read part) ∷ walked p (map part_read (drop (suc i) parts))
-walked_around p parts i part lt is =
-    ap (λ l. walked p (map part_read l)) (around_index parts i part lt ∙ ap (λ x. take i parts ++ x ∷ drop (suc i) parts) (sym is))
-    ∙ ap (walked p) (map-append part_read (take i parts) (part ∷ drop (suc i) parts))
-    ∙ map-append (walked_part p) (map part_read (take i parts)) (part_read part ∷ map part_read (drop (suc i) parts))
+-- the names and nodes of parts, around the one at an index
+pub named_nodes_around : (p : Problem) (parts : List RawPart) (i : ℕ) (part : RawPart) → i < length parts → part ≡ get_or parts i part →
+    nodes_by_name p (map part_of_raw parts) ≡ nodes_by_name p (map part_of_raw (take i parts)) ++ named_nodes p (part_of_raw part) ∷ nodes_by_name p (map part_of_raw (drop (suc i) parts))
+named_nodes_around p parts i part lt is =
+    ap (λ l. nodes_by_name p (map part_of_raw l)) (around_index parts i part lt ∙ ap (λ x. take i parts ++ x ∷ drop (suc i) parts) (sym is))
+    ∙ ap (nodes_by_name p) (map-append part_of_raw (take i parts) (part ∷ drop (suc i) parts))
+    ∙ map-append (named_nodes p) (map part_of_raw (take i parts)) (part_of_raw part ∷ map part_of_raw (drop (suc i) parts))
 
 -- why the walk over a part ends is why the walk over all parts ends, where those before are right
-pub refused_in : (lower : ℕ) (before : List Walked) (part : Walked) (after list : List Walked) (r : Refused) → list ≡ before ++ part ∷ after → AllByRecursion (IsRightPart lower) before →
+pub refused_in : (lower : ℕ) (before : List NamedNodes) (part : NamedNodes) (after list : List NamedNodes) (r : Refused) → list ≡ before ++ part ∷ after → AllByRecursion (IsRightPart lower) before →
     IsPartRefusal lower part r → IsWalkRefusal lower list r
 refused_in lower before part after list (refused.Low name symbol) e right w =
     record { before = before; part = part; after = after; parts_are = e; named = w.0; right = right; first = w.1 }

@@ -6,62 +6,57 @@ use Rattle.std.proofs.lemmas.List.Elements.{recursion_from_All}
 use Rattle.crp_plan.specs.Bay.{Problem, IsProblem, IsAt, cap}
 use Rattle.crp_plan.proofs.Paths.{same_at}
 use Rattle.crp_tree.specs.Names.{IsFirst}
-use Rattle.crp_tree.specs.Trees.{givens}
-use Rattle.crp_tree.specs.Scripts.{Part, given_by, names}
+use Rattle.crp_tree.specs.Trees.{nodes, given_names, Fits}
+use Rattle.crp_tree.proofs.Accepted.{nodes_are}
+use Rattle.crp_tree.specs.Scripts.{Part, nodes_in, given_by, names}
 use Rattle.crp_cert.specs.declared.parts.RawPart.{RawPart}
-use Rattle.crp_cert.specs.declared.script.Script.{Script as Told}
-use Rattle.crp_cert.specs.Script.{IsRawPart, IsScriptOf, names_told, symbols_told, symbols_of, Matches}
+use Rattle.crp_cert.specs.declared.script.Script.{Script}
+use Rattle.crp_cert.specs.Script.{IsRawPart, IsScriptOf, names_of_raw, symbols_of_raw, symbols_of}
 use Rattle.crp_cert.proofs.Scripts.{script_once}
 use Rattle.crp_cert.proofs.ScriptVerdicts.{script_apart, one_script_fault}
 use Rattle.crp_checker.specs.declared.verdict.Verdict.{Verdict}
 use Rattle.crp_checker.specs.Verdicts.{IsVerdictOf}
-use Rattle.crp_checker.specs.Shown.{Shows}
+use Rattle.crp_checker.specs.Shown.{TextShows}
 use Rattle.crp_checker.proofs.Meaning.{one_verdict_of}
 use Rattle.crp_checker.specs.declared.refused.Refused.{Refused}
 use Rattle.crp_checker.specs.declared.refused.Refused.TheVariants as refused
-use Rattle.crp_checker.specs.Symbols.{IsLow, IsAtEnd, nodes, nodes_of}
-use Rattle.crp_cert.specs.Script.{part_read, claim_of}
-use Rattle.crp_checker.specs.Claims.{IsYes}
-use Rattle.crp_checker.specs.Refusals.{walked, walked_part, IsRightPart, IsFirstMet, IsFirstWrongClaim, IsRefusal}
+use Rattle.crp_checker.specs.Nodes.{IsLow, IsAtEnd}
+use Rattle.crp_cert.specs.Script.{part_of_raw, claim_of}
+use Rattle.crp_checker.specs.Claims.{IsAcceptedText, IsNotAccepted}
+use Rattle.crp_checker.specs.Refusals.{nodes_by_name, named_nodes, IsRightPart, IsFirstWrongNode, IsFirstWrongClaim, IsRefusal}
 use Rattle.crp_checker.specs.Needs.{IsWithoutPart, IsWithoutNeed}
-use Rattle.crp_checker.proofs.Claimed.{nodes_are, givens_are, names_same}
-use Rattle.crp_checker.proofs.SymbolText.{one_tree}
+use Rattle.crp_checker.proofs.Claimed.{names_same}
+use Rattle.crp_cert.proofs.Symbols.{one_tree}
 use Rattle.crp_checker.proofs.OneRefusal.{not_wrong, one_wrong}
 
--- two parts with one name and the same symbols have the same nodes, and give the same paths
-same_part : (p : Problem) (a b : RawPart) → IsProblem p → IsRawPart p a → IsRawPart p b → a.name ≡ b.name → symbols_of a.tree ≡ symbols_of b.tree →
-    (walked_part p (part_read a) ≡ walked_part p (part_read b)) × (given_by p (part_read a) ≡ given_by p (part_read b))
+-- two parts with one name and the same symbols have the same nodes
+same_part : (p : Problem) (a b : RawPart) → IsProblem p → IsRawPart p a → IsRawPart p b → a.name ≡ b.name → symbols_of a.tree ≡ symbols_of b.tree → nodes_in p (part_of_raw a) ≡ nodes_in p (part_of_raw b)
 same_part p a b is x y name text =
     let place : y.place ≡ x.place = same_at p a.name y.place x.place is (subst (λ n. IsAt p n y.place) (sym name) y.is_at) x.is_at in
     let there : IsAt p b.name x.place = subst (λ n. IsAt p n x.place) name x.is_at in
-    let told : Matches x.place b.tree = subst (λ s. Matches s b.tree) place y.matches in
-    let one = one_tree a.name x.place a.tree b.tree [] [] x.matches told (append-nil (symbols_of a.tree) ∙ text ∙ sym (append-nil (symbols_of b.tree))) in
-    let own = nodes_are p (part_read a) x.place is x.is_at in
-    let others = nodes_are p (part_read b) x.place is there in
-    let nodes_same = own ∙ one.0 ∙ ap (λ n. nodes n x.place b.tree) name ∙ sym others in (
-      ap (λ n. record { name = n; nodes = nodes_of p (part_read a) }) name ∙ ap (λ l. record { name = b.name; nodes = l }) nodes_same,
-      givens_are p (part_read a) x.place is x.is_at ∙ one.1 ∙ ap (λ n. givens n x.place b.tree) name ∙ sym (givens_are p (part_read b) x.place is there),
-    )
+    let one = one_tree a.name x.place a.tree b.tree [] [] x.fits (subst (λ s. Fits s b.tree) place y.fits) (append-nil (symbols_of a.tree) ∙ text ∙ sym (append-nil (symbols_of b.tree))) in
+    nodes_are p (part_of_raw a) x.place is x.is_at ∙ one.0 ∙ ap (λ n. nodes n x.place b.tree) name ∙ sym (nodes_are p (part_of_raw b) x.place is there)
 
--- what is walked and what is given is the same for parts with the same names and symbols
-same_parts : (p : Problem) (raws others : List RawPart) → IsProblem p → AllByRecursion (IsRawPart p) raws → AllByRecursion (IsRawPart p) others → names_told raws ≡ names_told others → symbols_told raws ≡ symbols_told others →
-    (walked p (map part_read raws) ≡ walked p (map part_read others)) × (flat_map (given_by p) (map part_read raws) ≡ flat_map (given_by p) (map part_read others))
+-- names, nodes and given names are the same for parts with the same names and symbols
+same_parts : (p : Problem) (raws others : List RawPart) → IsProblem p → AllByRecursion (IsRawPart p) raws → AllByRecursion (IsRawPart p) others → names_of_raw raws ≡ names_of_raw others → symbols_of_raw raws ≡ symbols_of_raw others →
+    (nodes_by_name p (map part_of_raw raws) ≡ nodes_by_name p (map part_of_raw others)) × (flat_map (given_by p) (map part_of_raw raws) ≡ flat_map (given_by p) (map part_of_raw others))
 same_parts p [] [] is x y name text = (refl, refl)
 same_parts p [] (b ∷ others) is x y name text = absurd (cc)
 same_parts p (a ∷ raws) [] is x y name text = absurd (cc)
 same_parts p (a ∷ raws) (b ∷ others) is x y name text =
     let first_name : a.name ≡ b.name = cc in
     let first_text : symbols_of a.tree ≡ symbols_of b.tree = cc in
-    let more_names : names_told raws ≡ names_told others = cc in
-    let more_text : symbols_told raws ≡ symbols_told others = cc in
+    let more_names : names_of_raw raws ≡ names_of_raw others = cc in
+    let more_text : symbols_of_raw raws ≡ symbols_of_raw others = cc in
     let first = same_part p a b is x.0 y.0 first_name first_text in
+    let own : named_nodes p (part_of_raw a) ≡ named_nodes p (part_of_raw b) = ap (λ n. record { name = n; nodes = nodes_in p (part_of_raw a) }) first_name ∙ ap (λ l. record { name = b.name; nodes = l }) first in
     let more = same_parts p raws others is x.1 y.1 more_names more_text in (
-      ap (λ w. w ∷ walked p (map part_read raws)) first.0 ∙ ap (λ l. walked_part p (part_read b) ∷ l) more.0,
-      ap (λ l. l ++ flat_map (given_by p) (map part_read raws)) first.1 ∙ ap (λ l. given_by p (part_read b) ++ l) more.1,
+      ap (λ w. w ∷ nodes_by_name p (map part_of_raw raws)) own ∙ ap (λ l. named_nodes p (part_of_raw b) ∷ l) more.0,
+      ap (λ l. l ++ flat_map (given_by p) (map part_of_raw raws)) (ap given_names first) ∙ ap (λ l. given_by p (part_of_raw b) ++ l) more.1,
     )
 
--- what is wrong with a claim depends on its parts by what is walked, by their names and by what they give
-pub wrong_too : (wanted : Option Problem) (p : Problem) (lower : ℕ) (plan : Option (List ℕ)) (parts others : List Part) (r : Refused) → walked p parts ≡ walked p others → names parts ≡ names others →
+-- what is wrong with a claim depends on its parts by their names and nodes and by what they give
+pub wrong_too : (wanted : Option Problem) (p : Problem) (lower : ℕ) (plan : Option (List ℕ)) (parts others : List Part) (r : Refused) → nodes_by_name p parts ≡ nodes_by_name p others → names parts ≡ names others →
     flat_map (given_by p) parts ≡ flat_map (given_by p) others →
     IsFirstWrongClaim wanted (record { problem = p; lower = lower; plan = plan; parts = parts }) r → IsFirstWrongClaim wanted (record { problem = p; lower = lower; plan = plan; parts = others }) r
 wrong_too wanted p lower plan parts others (refused.Cert fault) w n g k = k
@@ -69,10 +64,10 @@ wrong_too wanted p lower plan parts others refused.OtherProblem w n g k = k
 wrong_too wanted p lower plan parts others (refused.Plan fault) w n g k = k
 wrong_too wanted p lower plan parts others (refused.Low name symbol) w n g k =
     let head = k.0 in
-    (record { as_wanted = head.as_wanted; plan_is = head.plan_is }, subst (λ l. IsFirstMet lower (IsLow lower) l name symbol) w k.1)
+    (record { as_wanted = head.as_wanted; plan_is = head.plan_is }, subst (λ l. IsFirstWrongNode lower (IsLow lower) l name symbol) w k.1)
 wrong_too wanted p lower plan parts others (refused.Finished name symbol) w n g k =
     let head = k.0 in
-    (record { as_wanted = head.as_wanted; plan_is = head.plan_is }, subst (λ l. IsFirstMet lower IsAtEnd l name symbol) w k.1)
+    (record { as_wanted = head.as_wanted; plan_is = head.plan_is }, subst (λ l. IsFirstWrongNode lower IsAtEnd l name symbol) w k.1)
 wrong_too wanted p lower plan parts others (refused.Missing name) w n g k =
     let head = k.0 in (
       record { as_wanted = head.as_wanted; plan_is = head.plan_is },
@@ -89,7 +84,7 @@ wrong_too wanted p lower plan parts others (refused.Unneeded name) w n g k =
 wrong_too wanted p lower plan parts others refused.Memory w n g k = k
 
 -- so what is wrong with the claim of one is wrong with that of the other
-pub wrong_alike : (wanted : Option Problem) (bytes : List ℕ) (a b : Told) (r : Refused) → IsScriptOf bytes a → IsScriptOf bytes b → IsFirstWrongClaim wanted (claim_of b) r → IsFirstWrongClaim wanted (claim_of a) r
+pub wrong_alike : (wanted : Option Problem) (bytes : List ℕ) (a b : Script) (r : Refused) → IsScriptOf bytes a → IsScriptOf bytes b → IsFirstWrongClaim wanted (claim_of b) r → IsFirstWrongClaim wanted (claim_of a) r
 wrong_alike wanted bytes a b r x y w =
     let same = script_once bytes a b x y in
     let one = x.0 in
@@ -99,11 +94,11 @@ wrong_alike wanted bytes a b r x y w =
     let each = recursion_from_All (IsRawPart p) a.parts one.each_part in
     let each' = subst (λ h. AllByRecursion (IsRawPart h.problem) b.parts) (sym same.0) (recursion_from_All (IsRawPart b.head.problem) b.parts other.each_part) in
     let parts = same_parts p b.parts a.parts head.problem each' each (sym same.1) (sym same.2) in
-    wrong_too wanted p a.head.claim a.head.plan (map part_read b.parts) (map part_read a.parts) r parts.0 (names_same b.parts ∙ sym same.1 ∙ sym (names_same a.parts)) parts.1
-    (subst (λ h. IsFirstWrongClaim wanted (record { problem = h.problem; lower = h.claim; plan = h.plan; parts = map part_read b.parts }) r) (sym same.0) w)
+    wrong_too wanted p a.head.claim a.head.plan (map part_of_raw b.parts) (map part_of_raw a.parts) r parts.0 (names_same b.parts ∙ sym same.1 ∙ sym (names_same a.parts)) parts.1
+    (subst (λ h. IsFirstWrongClaim wanted (record { problem = h.problem; lower = h.claim; plan = h.plan; parts = map part_of_raw b.parts }) r) (sym same.0) w)
 
 -- a text that is accepted is not refused
-pub not_both : (wanted : Option Problem) (bytes : List ℕ) (told : Told) (r : Refused) → IsYes wanted bytes told → IsRefusal wanted bytes r → ⊥
+pub not_both : (wanted : Option Problem) (bytes : List ℕ) (told : Script) (r : Refused) → IsAcceptedText wanted bytes told → IsRefusal wanted bytes r → ⊥
 not_both wanted bytes told (refused.Cert fault) known w = script_apart bytes told fault known.is_text w
 not_both wanted bytes told refused.OtherProblem known w = not_wrong wanted (claim_of told) refused.OtherProblem known.accepted known.as_wanted (wrong_alike wanted bytes told w.0 refused.OtherProblem known.is_text w.1 w.2)
 not_both wanted bytes told (refused.Plan fault) known w = not_wrong wanted (claim_of told) (refused.Plan fault) known.accepted known.as_wanted (wrong_alike wanted bytes told w.0 (refused.Plan fault) known.is_text w.1 w.2)
@@ -114,15 +109,15 @@ not_both wanted bytes told (refused.Unneeded name) known w = not_wrong wanted (c
 not_both wanted bytes told refused.Memory known w = w.2
 
 -- two such refusals of a text are the same
-one_of_two : (wanted : Option Problem) (bytes : List ℕ) (r q : Refused) (a b : Told) → IsScriptOf bytes a → IsScriptOf bytes b → IsFirstWrongClaim wanted (claim_of a) r → IsFirstWrongClaim wanted (claim_of b) q → r ≡ q
+one_of_two : (wanted : Option Problem) (bytes : List ℕ) (r q : Refused) (a b : Script) → IsScriptOf bytes a → IsScriptOf bytes b → IsFirstWrongClaim wanted (claim_of a) r → IsFirstWrongClaim wanted (claim_of b) q → r ≡ q
 one_of_two wanted bytes r q a b x y w v =
     let readable = x.0 in
     let head = readable.is_head in
     one_wrong wanted (claim_of a) r q head.problem w (wrong_alike wanted bytes a b q x y v)
 
 -- so where a text is refused, and memory is not wanted, it is not that of an accepted script
-pub rejected : (wanted : Option Problem) (bytes : List ℕ) (r : Refused) → (r ≡ refused.Memory) ⊎ IsRefusal wanted bytes r → (told : Told) → r ≢ refused.Memory → IsYes wanted bytes told → ⊥
-rejected wanted bytes r k told other known = ⊎_elim (λ e. other e) (λ w. not_both wanted bytes told r known w) k
+pub rejected : (wanted : Option Problem) (bytes : List ℕ) (r : Refused) → (r ≡ refused.Memory) ⊎ IsRefusal wanted bytes r → r ≢ refused.Memory → IsNotAccepted wanted bytes
+rejected wanted bytes r k other told known = ⊎_elim (λ e. other e) (λ w. not_both wanted bytes told r known w) k
 
 -- refusals of one text are the same
 pub one_refusal : (wanted : Option Problem) (bytes : List ℕ) (r q : Refused) → IsRefusal wanted bytes r → IsRefusal wanted bytes q → r ≡ q
@@ -132,7 +127,7 @@ one_refusal wanted bytes r (refused.Cert g) a b = absurd (script_apart bytes a.0
 one_refusal wanted bytes r q a b = one_of_two wanted bytes r q a.0 b.0 a.1 b.1 a.2 b.2
 
 -- what one text shows is one verdict
-pub one_shown : (wanted : Option Problem) (bytes : List ℕ) (verdict other : Verdict) → Shows wanted bytes verdict → Shows wanted bytes other → verdict ≡ other
+pub one_shown : (wanted : Option Problem) (bytes : List ℕ) (verdict other : Verdict) → TextShows wanted bytes verdict → TextShows wanted bytes other → verdict ≡ other
 one_shown wanted bytes verdict other a b =
     let known = a.1 in
     let known' = b.1 in

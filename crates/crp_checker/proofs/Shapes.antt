@@ -1,84 +1,50 @@
 -- A tree whose nodes are right has its shape and no cut below the claimed bound, and the other way round.
-use Rattle.std.proofs.Common.{ℕ, ◌+◌, ◌<◌, ◌≤◌, ⊎_elim, List, [], ◌∷◌, ◌++◌, length, Contains, arith}
+use Rattle.std.proofs.Common.{◌≡◌, ℕ, ◌≤◌, ⊎_elim, List, length, Contains, All, refl, subst, arith}
 use Rattle.std.specs.List.{AllByRecursion}
 use Rattle.std.proofs.lemmas.Bool.{cases_lt}
-use Rattle.std.proofs.lemmas.List.Elements.{Contains-append_left, Contains-append_right}
+use Rattle.std.proofs.lemmas.List.Elements.{All-contains, All-from_recursion, recursion_from_All}
 use Rattle.crp_plan.specs.Bay.{Problem, IsProblem, Position, IsAt}
 use Rattle.crp_plan.proofs.Steps.{unfinished}
-use Rattle.crp_bay.specs.Positions.{targets, child}
-use Rattle.crp_bay.proofs.Walked.{target_goes_on}
-use Rattle.crp_bay.proofs.Members.{in_head, in_tail}
-use Rattle.crp_bounds.specs.Bounds.{blocking, look_ahead}
-use Rattle.crp_tree.specs.declared.tree.Tree.{Tree, CutB, CutL, Branch', Given, Row_of-Tree, end_of-Tree, more_of-Tree}
-use Rattle.crp_tree.specs.Trees.{Fits, FitsEach, cuts, cuts_of_each, givens, givens_of_each, HasAtLeast}
-use Rattle.crp_tree.proofs.Shown.{all_left, all_right}
-use Rattle.crp_cert.specs.Script.{Matches, MatchesEach}
-use Rattle.crp_checker.specs.Symbols.{nodes, nodes_of_each, IsRight}
-use Rattle.crp_checker.proofs.WalkSteps.{all_both}
+use Rattle.crp_bay.proofs.Members.{in_filter, from_filter}
+use Rattle.crp_tree.specs.declared.tree.Tree.{Tree}
+use Rattle.crp_tree.specs.Trees.{Mark, B, L, X, G, Node, nodes, is_cut, cuts, given_names, value, MayStand, IsInPlace, HasAtLeast}
+use Rattle.crp_tree.proofs.InLine.{from_members}
+use Rattle.crp_tree.proofs.Nodes.{nodes_at, in_given}
+use Rattle.crp_checker.specs.Nodes.{IsRight}
 
--- what is not below is at least as much
-not_below : (lower value : ℕ) → (value < lower → ⊥) → lower ≤ value
-not_below lower value not = ⊎_elim (λ low. absurd (not low)) (λ le. le) (cases_lt value lower)
+-- a node that is right may stand at its path, if that has 8 rows at most where it is given away
+placed : (p : Problem) (lower : ℕ) (n : Node) → IsProblem p → IsAt p n.path n.place → IsRight lower n → (n.mark ≡ G → length n.path ≤ 8) → IsInPlace n
+placed p lower n is a right short = by_mark n.mark refl
+  where
+    by_mark : (m : Mark) → n.mark ≡ m → MayStand m n.path n.place
+    by_mark B e = tt
+    by_mark L e = tt
+    by_mark X e = unfinished p n.path n.place a (λ done. right.not_at_end (e, done))
+    by_mark G e = short e
 
-mutual
-  -- a tree that symbols tell fits where its nodes are right, if the paths that it gives have 8 rows at most
-  pub fits_from : (p : Problem) (lower : ℕ) (path : List ℕ) (s : Position) (tree : Tree) → IsProblem p → IsAt p path s → Matches s tree → AllByRecursion (IsRight lower) (nodes path s tree) →
-      ((g : List ℕ) → Contains (givens path s tree) g → length g ≤ 8) → Fits path s tree
-  fits_from p lower path s CutB is a m right short = tt
-  fits_from p lower path s CutL is a m right short = tt
-  fits_from p lower path s (Branch' shape all) is a m right short =
-      let own = right.0 in
-      (unfinished p path s a own.not_at_end, fits_each p lower path s (targets s) (λ r c. c) all is a m right.1 short)
-  fits_from p lower path s Given is a m right short = short path (in_head path [])
+-- so it is with all nodes of a tree, if the paths that it gives have 8 rows at most
+pub in_place_from : (p : Problem) (lower : ℕ) (path : List ℕ) (s : Position) (tree : Tree) → IsProblem p → IsAt p path s → AllByRecursion (IsRight lower) (nodes path s tree) →
+    ((g : List ℕ) → Contains (given_names (nodes path s tree)) g → length g ≤ 8) → All IsInPlace (nodes path s tree)
+in_place_from p lower path s tree is a right short =
+    from_members IsInPlace (nodes path s tree) (λ n c.
+    placed p lower n is (All-contains (λ (k : Node). IsAt p k.path k.place) (nodes path s tree) n (nodes_at p path s tree is a) c)
+    (All-contains (IsRight lower) (nodes path s tree) n (All-from_recursion (IsRight lower) (nodes path s tree) right) c) (λ e. short n.path (in_given (nodes path s tree) n c e)))
 
-  -- and so do the trees below some legal rows
-  pub fits_each : (p : Problem) (lower : ℕ) (path : List ℕ) (s : Position) (rows : List ℕ) → ((r : ℕ) → Contains rows r → Contains (targets s) r) → {m : _} (all : Row_of-Tree m) → IsProblem p → IsAt p path s →
-      MatchesEach s rows all → AllByRecursion (IsRight lower) (nodes_of_each path s rows all) → ((g : List ℕ) → Contains (givens_of_each path s rows all) g → length g ≤ 8) → FitsEach path s rows all
-  fits_each p lower path s [] sub end_of-Tree is a m right short = tt
-  fits_each p lower path s [] sub (more_of-Tree tree trees) is a m right short = absurd m
-  fits_each p lower path s (row ∷ rows) sub end_of-Tree is a m right short = absurd m
-  fits_each p lower path s (row ∷ rows) sub (more_of-Tree tree trees) is a m right short = (
-    fits_from p lower (path ++ row ∷ []) (child s row) tree is (target_goes_on p path s row is a (sub row (in_head row rows))) m.0
-        (all_left (IsRight lower) (nodes (path ++ row ∷ []) (child s row) tree) (nodes_of_each path s rows trees) right)
-        (λ g c. short g (Contains-append_left (givens (path ++ row ∷ []) (child s row) tree) (givens_of_each path s rows trees) g c)),
-    fits_each p lower path s rows (λ r c. sub r (in_tail row rows r c)) trees is a m.1
-        (all_right (IsRight lower) (nodes (path ++ row ∷ []) (child s row) tree) (nodes_of_each path s rows trees) right)
-        (λ g c. short g (Contains-append_right (givens (path ++ row ∷ []) (child s row) tree) (givens_of_each path s rows trees) g c)),
-  )
+-- where nodes are right, no cut has a value below the claimed bound
+pub high_from : (lower : ℕ) (list : List Node) → AllByRecursion (IsRight lower) list → HasAtLeast lower list
+high_from lower list right =
+    from_members (λ cut. lower ≤ value cut) (cuts list) (λ n c.
+    let f = from_filter (λ (node : Node). is_cut node.mark) list n c in
+    let own = All-contains (IsRight lower) list n (All-from_recursion (IsRight lower) list right) f.1 in
+    ⊎_elim (λ low. absurd (own.not_low (f.0, low))) (λ le. le) (cases_lt (value n) lower))
 
-mutual
-  -- where the nodes are right, no cut has a value below the claimed bound
-  pub high_from : (lower : ℕ) (path : List ℕ) (s : Position) (tree : Tree) → AllByRecursion (IsRight lower) (nodes path s tree) → HasAtLeast lower (cuts path s tree)
-  high_from lower path s CutB right = let own = right.0 in (not_below lower (length path + blocking s) own.not_low, tt)
-  high_from lower path s CutL right = let own = right.0 in (not_below lower (length path + look_ahead s) own.not_low, tt)
-  high_from lower path s (Branch' shape all) right = high_each lower path s (targets s) all right.1
-  high_from lower path s Given right = tt
-
-  pub high_each : (lower : ℕ) (path : List ℕ) (s : Position) (rows : List ℕ) {m : _} (all : Row_of-Tree m) → AllByRecursion (IsRight lower) (nodes_of_each path s rows all) → HasAtLeast lower (cuts_of_each path s rows all)
-  high_each lower path s [] end_of-Tree right = tt
-  high_each lower path s [] (more_of-Tree tree trees) right = tt
-  high_each lower path s (row ∷ rows) end_of-Tree right = tt
-  high_each lower path s (row ∷ rows) (more_of-Tree tree trees) right =
-      all_both (λ v. lower ≤ v) (cuts (path ++ row ∷ []) (child s row) tree) (cuts_of_each path s rows trees)
-      (high_from lower (path ++ row ∷ []) (child s row) tree (all_left (IsRight lower) (nodes (path ++ row ∷ []) (child s row) tree) (nodes_of_each path s rows trees) right))
-      (high_each lower path s rows trees (all_right (IsRight lower) (nodes (path ++ row ∷ []) (child s row) tree) (nodes_of_each path s rows trees) right))
-
-mutual
-  -- the nodes of a tree that fits, and has no cut below the claimed bound, are right
-  pub right_from : (lower : ℕ) (path : List ℕ) (s : Position) (tree : Tree) → Fits path s tree → HasAtLeast lower (cuts path s tree) → AllByRecursion (IsRight lower) (nodes path s tree)
-  right_from lower path s CutB fits high = let le = high.0 in (record { not_low = λ low. absurd (omega arith); not_at_end = λ e. e }, tt)
-  right_from lower path s CutL fits high = let le = high.0 in (record { not_low = λ low. absurd (omega arith); not_at_end = λ e. e }, tt)
-  right_from lower path s (Branch' shape all) fits high =
-      let open' = fits.0 in
-      (record { not_low = λ low. low; not_at_end = λ e. absurd (omega arith) }, right_each lower path s (targets s) all fits.1 high)
-  right_from lower path s Given fits high = (record { not_low = λ low. low; not_at_end = λ e. e }, tt)
-
-  pub right_each : (lower : ℕ) (path : List ℕ) (s : Position) (rows : List ℕ) {m : _} (all : Row_of-Tree m) → FitsEach path s rows all → HasAtLeast lower (cuts_of_each path s rows all) →
-      AllByRecursion (IsRight lower) (nodes_of_each path s rows all)
-  right_each lower path s [] end_of-Tree fits high = tt
-  right_each lower path s [] (more_of-Tree tree trees) fits high = tt
-  right_each lower path s (row ∷ rows) end_of-Tree fits high = tt
-  right_each lower path s (row ∷ rows) (more_of-Tree tree trees) fits high =
-      all_both (IsRight lower) (nodes (path ++ row ∷ []) (child s row) tree) (nodes_of_each path s rows trees)
-      (right_from lower (path ++ row ∷ []) (child s row) tree fits.0 (all_left (λ v. lower ≤ v) (cuts (path ++ row ∷ []) (child s row) tree) (cuts_of_each path s rows trees) high))
-      (right_each lower path s rows trees fits.1 (all_right (λ v. lower ≤ v) (cuts (path ++ row ∷ []) (child s row) tree) (cuts_of_each path s rows trees) high))
+-- nodes that may stand at their paths, no cut of which is below the claimed bound, are right
+pub right_from : (lower : ℕ) (list : List Node) → All IsInPlace list → HasAtLeast lower list → AllByRecursion (IsRight lower) list
+right_from lower list in_place high = recursion_from_All (IsRight lower) list (from_members (IsRight lower) list (λ n c. record {
+  not_low = λ low.
+      let le = All-contains (λ (cut : Node). lower ≤ value cut) (cuts list) n high (in_filter (λ (node : Node). is_cut node.mark) list n c low.0) in
+      let lt = low.1 in omega arith;
+  not_at_end = λ end.
+      let open' = subst (λ m. MayStand m n.path n.place) end.0 (All-contains IsInPlace list n in_place c) in
+      let done = end.1 in omega arith;
+}))

@@ -5,22 +5,33 @@ use Rattle.std.specs.List.{AllByRecursion}
 use Rattle.crp_plan.specs.Bay.{Position, IsFinished}
 use Rattle.crp_bay.specs.Positions.{targets}
 use Rattle.crp_tree.specs.declared.tree.Tree.{Tree, CutB, CutL, Branch', Given}
-use Rattle.crp_tree.specs.Trees.{givens}
+use Rattle.crp_tree.specs.Trees.{Node, nodes, given_names}
+use Rattle.crp_tree.specs.Listed.{nodes_below}
+use Rattle.crp_tree.proofs.Nodes.{given_names-append}
+use Rattle.crp_tree.proofs.Listed.{branch_node, nodes_all}
 use Rattle.crp_checker.specs.declared.walk.Halt.{Halt}
 use Rattle.crp_checker.specs.declared.walk.Halt.TheVariants.{Low, AtEnd, Memory}
 use Rattle.crp_checker.specs.declared.walk.Walk.{Walk}
-use Rattle.crp_checker.specs.Symbols.{Node, nodes, IsLow, IsAtEnd, IsRight, IsFirstWrong}
-use Rattle.crp_checker.specs.Walks.{below, WentOver, IsHalt}
-use Rattle.crp_checker.proofs.Walked.{branch_node, below_all}
+use Rattle.crp_checker.specs.Nodes.{IsLow, IsAtEnd, IsRight, IsFirstWrong}
+use Rattle.crp_checker.specs.Walks.{HasWalked, IsHalt}
 
 -- what holds of all of two lists holds of both together
 pub all_both : {A : Type 0} (P : A → Type 0) (xs ys : List A) → AllByRecursion P xs → AllByRecursion P ys → AllByRecursion P (xs ++ ys)
 all_both P [] ys a b = b
 all_both P (x ∷ xs) ys a b = (a.0, all_both P xs ys a.1 b)
 
+-- and the other way round
+pub all_left : {A : Type 0} (P : A → Type 0) (xs ys : List A) → AllByRecursion P (xs ++ ys) → AllByRecursion P xs
+all_left P [] ys h = tt
+all_left P (x ∷ xs) ys h = (h.0, all_left P xs ys h.1)
+
+pub all_right : {A : Type 0} (P : A → Type 0) (xs ys : List A) → AllByRecursion P (xs ++ ys) → AllByRecursion P ys
+all_right P [] ys h = h
+all_right P (x ∷ xs) ys h = all_right P xs ys h.1
+
 -- a branch at an unfinished position is right
 pub branch_right : (lower : ℕ) (path : List ℕ) (s : Position) → (IsFinished s → ⊥) → IsRight lower (branch_node path s)
-branch_right lower path s not = record { not_low = λ low. low; not_at_end = not }
+branch_right lower path s not = record { not_low = λ low. let cut = low.0 in cc; not_at_end = λ end. not end.1 }
 
 -- the first wrong node of a piece is the first of the whole, where all before the piece are right
 pub first_in : (lower : ℕ) (Wrong : Node → Type 0) (before piece after list : List Node) (k : ℕ) → list ≡ before ++ (piece ++ after) → AllByRecursion (IsRight lower) before →
@@ -59,24 +70,21 @@ back_again popped full there path n row size d e p =
     p ∙ ap (take (n - 1)) d ∙ ap (take (n - 1)) e ∙ take_at path (row ∷ []) (n - 1) shorter
 
 -- one piece after another, from a path that goes on by a row, and back
-pub went_on : (lower : ℕ) (before piece whole : List Node) (given more all : List (List ℕ)) (first walk last : Walk) (pushed popped : Vec ℕ Global) →
-    whole ≡ before ++ piece → all ≡ given ++ more → WentOver lower before given first walk →
-    WentOver lower piece more (record walk { path = pushed }) last → popped.items ≡ first.path.items → WentOver lower whole all first (record last { path = popped })
-went_on lower before piece whole given more all first walk last pushed popped e d a b back = record {
+pub went_on : (lower : ℕ) (before piece whole : List Node) (first walk last : Walk) (pushed popped : Vec ℕ Global) →
+    whole ≡ before ++ piece → HasWalked lower before first walk → HasWalked lower piece (record walk { path = pushed }) last → popped.items ≡ first.path.items → HasWalked lower whole first (record last { path = popped })
+went_on lower before piece whole first walk last pushed popped e a b back = record {
   right = subst (AllByRecursion (IsRight lower)) (sym e) (all_both (IsRight lower) before piece a.right b.right);
   back = back;
   counted = let x = a.counted in let y = b.counted in omega (arith, ap length e, length-append before piece);
-  kept = b.kept ∙ ap (λ l. l ++ more) a.kept ∙ append_assoc first.given.items given more ∙ ap (λ l. first.given.items ++ l) (sym d);
+  kept = b.kept ∙ ap (λ l. l ++ given_names piece) a.kept ∙ append_assoc first.given.items (given_names before) (given_names piece)
+      ∙ ap (λ l. first.given.items ++ l) (sym (given_names-append before piece) ∙ ap given_names (sym e));
 }
 
 -- after the last row or the last tree the walk went over all of them
 pub all_met : (lower : ℕ) (path : List ℕ) (s : Position) (rows : List ℕ) (trees : List Tree) (i : ℕ) (first last : Walk) → rows ≡ targets s → (length rows ≤ i) ⊎ (length trees ≤ i) →
-    WentOver lower (below nodes path s (take i rows) (take i trees)) (below givens path s (take i rows) (take i trees)) first last →
-    WentOver lower (below nodes path s (targets s) trees) (below givens path s (targets s) trees) first last
+    HasWalked lower (nodes_below path s (take i rows) (take i trees)) first last → HasWalked lower (nodes_below path s (targets s) trees) first last
 all_met lower path s rows trees i first last same le w =
-    subst (λ l. WentOver lower (below nodes path s l trees) (below givens path s l trees) first last) same
-    (subst (λ l. WentOver lower l (below givens path s rows trees) first last) (below_all nodes path s rows trees i le)
-    (subst (λ l. WentOver lower (below nodes path s (take i rows) (take i trees)) l first last) (below_all givens path s rows trees i le) w))
+    subst (λ l. HasWalked lower (nodes_below path s l trees) first last) same (subst (λ l. HasWalked lower l first last) (nodes_all path s rows trees i le) w)
 
 -- a tree has a node
 pub some_node : (path : List ℕ) (s : Position) (tree : Tree) → 1 ≤ length (nodes path s tree)
@@ -90,11 +98,11 @@ pub low_halt : (lower met : ℕ) (list : List Node) (node : Node) (halt : Halt) 
 low_halt lower met list node halt e low is = subst (IsHalt lower met list) (sym is) (1, refl, first_of_all lower (IsLow lower) node [] list e low)
 
 -- the walk went over a branch, where it went over its trees
-pub branch_over : (lower : ℕ) (path : List ℕ) (s : Position) (whole piece : List Node) (all given : List (List ℕ)) (walk first last : Walk) → whole ≡ branch_node path s ∷ piece → all ≡ given →
-    (IsFinished s → ⊥) → walk ≡ record first { count = first.count + 1 } → WentOver lower piece given walk last → WentOver lower whole all first last
-branch_over lower path s whole piece all given walk first last e d not is w = record {
+pub branch_over : (lower : ℕ) (path : List ℕ) (s : Position) (whole piece : List Node) (walk first last : Walk) → whole ≡ branch_node path s ∷ piece →
+    (IsFinished s → ⊥) → walk ≡ record first { count = first.count + 1 } → HasWalked lower piece walk last → HasWalked lower whole first last
+branch_over lower path s whole piece walk first last e not is w = record {
   right = subst (AllByRecursion (IsRight lower)) (sym e) (branch_right lower path s not, w.right);
   back = w.back ∙ ap (λ k. k.path.items) is;
   counted = let n = w.counted in omega (arith, ap length e, ap (λ k. k.count) is);
-  kept = w.kept ∙ ap (λ k. k.given.items ++ given) is ∙ ap (λ l. first.given.items ++ l) (sym d);
+  kept = w.kept ∙ ap (λ k. k.given.items ++ given_names piece) is ∙ ap (λ l. first.given.items ++ given_names l) (sym e);
 }

@@ -1,11 +1,12 @@
 -- Worked certificates, by the definitions.
-use Rattle.std.proofs.Common.{◌≡◌, ◌≢◌, ℕ, inl, inr, List, [], ◌∷◌, ◌++◌, map, All, Some, None, codes, refl, arith, lit<}
+use Rattle.std.proofs.Common.{◌≡◌, ◌≢◌, ℕ, inl, inr, List, [], ◌∷◌, ◌++◌, All, Some, None, codes, refl, arith, lit<}
 use Rattle.std.proofs.lemmas.List.Elements.{All-from_recursion}
 use Rattle.crp_plan.specs.Bay.{Problem, Position, start, cap}
 use Rattle.crp_bay.specs.Positions.{settled, targets}
 use Rattle.crp_tree.specs.declared.tree.Tree.{CutB, CutL, end_of-Tree, more_of-Tree}
 use Rattle.crp_checker.specs.declared.verdict.Verdict.TheVariants.{Optimal, NoPlan, Bounds}
-use Rattle.crp_checker.specs.Symbols.{Node, nodes_of_each, letter_at, IsLow, IsFirstWrong}
+use Rattle.crp_tree.specs.Trees.{Node, nodes_of_each}
+use Rattle.crp_checker.specs.Nodes.{IsLow, IsFirstWrong}
 use Rattle.crp_checker.specs.Verdicts.{IsVerdictOf}
 use Rattle.crp_checker.specs.Files.{BeginsWithTexts}
 
@@ -20,20 +21,16 @@ before = settled (start six)
 abbrev blocking_first : List Node
 blocking_first = nodes_of_each [] before (targets before) (more_of-Tree CutB (more_of-Tree CutL end_of-Tree))
 
--- their letters
-letters_of_two : map letter_at blocking_first ≡ codes "BL"
-letters_of_two = refl
-
 -- where at least 3 is claimed, the first of them is the first that is wrong; the branch above is symbol 1, so it is symbol 2 of the part
 first_is_low : IsFirstWrong 3 (IsLow 3) blocking_first 1
 first_is_low = record {
   before = [];
-  node = record { path = 2 ∷ []; place = _; symbol = _ };
+  node = record { path = 2 ∷ []; place = _; mark = _ };
   after = _;
   list_is = refl;
   number = refl;
   right = tt;
-  wrong = lit< tt;
+  wrong = (refl, lit< tt);
 }
 
 -- a plan with as many relocations as the bound; the bound at the cap; a bound below a plan

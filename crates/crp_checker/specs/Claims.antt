@@ -2,7 +2,7 @@
 use Rattle.std.specs.Prelude.{◌≡◌, ℕ, List, Option, IfSome}
 use Rattle.crp_plan.specs.Bay.{Problem}
 use Rattle.crp_tree.specs.Scripts.{IsAccepted}
-use Rattle.crp_cert.specs.declared.script.Script.{Script as Told}
+use Rattle.crp_cert.specs.declared.script.Script.{Script}
 use Rattle.crp_cert.specs.Script.{IsScriptOf, claim_of}
 
 -- the problem is the one that is asked for, if one is
@@ -10,7 +10,11 @@ abbrev pub IsWanted : Option Problem → Problem → Type 0
 IsWanted wanted p = IfSome wanted (λ q. q ≡ p)
 
 -- the bytes are the text of an accepted script, whose problem is the one that is asked for, if one is
-pub record IsYes (wanted : Option Problem) (bytes : List ℕ) (told : Told) : Type 0 where
-  pub is_text : IsScriptOf bytes told
-  pub as_wanted : IsWanted wanted told.head.problem
-  pub accepted : IsAccepted (claim_of told)
+pub record IsAcceptedText (wanted : Option Problem) (bytes : List ℕ) (script : Script) : Type 0 where
+  pub is_text : IsScriptOf bytes script
+  pub as_wanted : IsWanted wanted script.head.problem
+  pub accepted : IsAccepted (claim_of script)
+
+-- they are the text of no such script
+abbrev pub IsNotAccepted : Option Problem → List ℕ → Type 0
+IsNotAccepted wanted bytes = (script : Script) → IsAcceptedText wanted bytes script → ⊥

@@ -6,7 +6,7 @@ use Rattle.crp_checker.specs.declared.verdict.Verdict.{Verdict}
 use Rattle.crp_checker.specs.declared.refused.Refused.{Refused}
 use Rattle.crp_checker.specs.declared.refused.Refused.TheVariants.{Memory}
 use Rattle.crp_checker.specs.Refusals.{IsRefusal}
-use Rattle.crp_checker.specs.Shown.{ShowsOf}
+use Rattle.crp_checker.specs.Shown.{TextShowsFor}
 
 -- bytes without LF
 abbrev pub IsWithoutEnd : List ℕ → Type 0
@@ -58,7 +58,7 @@ BeginsWithTexts file (text ∷ texts) rest =
 
 -- each text is that of an accepted certificate for this bay, and shows this
 abbrev pub ShowEach : List (List ℕ) → List (YardBay × Verdict) → Type 0
-ShowEach texts verdicts = AllZip (λ text told. ShowsOf text told.0 told.1) texts verdicts
+ShowEach texts verdicts = AllZip (λ text shown. TextShowsFor text shown.0 shown.1) texts verdicts
 
 -- what a file shows: its certificates are all accepted, and show this, in order
 abbrev pub FileShows : List ℕ → List (YardBay × Verdict) → Type 0
@@ -76,4 +76,4 @@ pub record IsFileRefusal (file : List ℕ) (before : List (YardBay × Verdict)) 
 
 -- the list has grown by what this text shows
 abbrev pub AddsShown : List ℕ → List (YardBay × Verdict) → List (YardBay × Verdict) → Type 0
-AddsShown text old new = (told : YardBay × Verdict) × ShowsOf text told.0 told.1 × (new ≡ old ++ told ∷ [])
+AddsShown text old new = (shown : YardBay × Verdict) × TextShowsFor text shown.0 shown.1 × (new ≡ old ++ shown ∷ [])

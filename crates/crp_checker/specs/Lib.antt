@@ -1,11 +1,11 @@
-pub mod Symbols
+pub mod Nodes
 pub mod Claims
 pub mod Refusals
 pub mod Verdicts
 pub mod Shown
 pub mod Files
 pub mod Needs
-pub mod Told
+pub mod Passing
 pub mod Walks
 pub use Rattle.crp_plan.specs.Bay
 pub use Rattle.crp_plan.specs.BayNames

@@ -2,13 +2,13 @@
 use Rattle.std.specs.Prelude.{◌≡◌, ◌≢◌, ℕ, ◌≤◌, List, length, Option, Some, IfSome, option_map}
 use Rattle.crp_plan.specs.declared.moves.Move.{Move}
 use Rattle.crp_plan.specs.Bay.{Problem, cap, IsPlan, IsBest, relocations}
-use Rattle.crp_tree.specs.Scripts.{Script}
+use Rattle.crp_tree.specs.Scripts.{Script as Claim}
 use Rattle.crp_checker.specs.declared.verdict.Verdict.{Verdict}
 use Rattle.crp_checker.specs.declared.verdict.Verdict.TheVariants.{Optimal, NoPlan, Bounds}
 
--- how many relocations the plan of a script has, if it has a plan
-abbrev pub plan_count : Script → Option ℕ
-plan_count script = option_map length script.plan
+-- how many relocations the plan of a claim has, if it has a plan
+abbrev pub plan_count : Claim → Option ℕ
+plan_count claim = option_map length claim.plan
 
 -- the bound is the fewest where the plan has as many relocations; there is no plan where the bound is the cap; else these are a bound
 -- and the relocations of a plan, if there is one
@@ -17,9 +17,9 @@ IsVerdictOf bound most count (Optimal fewest) = (fewest ≡ bound) × (count ≡
 IsVerdictOf bound most count NoPlan = (count ≢ Some bound) × (bound ≡ most)
 IsVerdictOf bound most count (Bounds lower upper) = (count ≢ Some bound) × (bound ≢ most) × (lower ≡ bound) × (upper ≡ count)
 
--- what a script shows, by its bound, the cap of its problem and its plan
-abbrev pub IsVerdict : Script → Verdict → Type 0
-IsVerdict script verdict = IsVerdictOf script.lower (cap script.problem) (plan_count script) verdict
+-- what a claim shows, by its bound, the cap of its problem and its plan
+abbrev pub IsVerdict : Claim → Verdict → Type 0
+IsVerdict claim verdict = IsVerdictOf claim.lower (cap claim.problem) (plan_count claim) verdict
 
 -- what a verdict says of a problem: that the fewest relocations of a plan are so many; that there is no plan; or that no plan has fewer
 -- than the lower bound, and some plan has as many as the upper one, if there is one

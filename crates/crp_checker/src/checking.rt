@@ -3,14 +3,13 @@ ghost use Rattle.std.specs.Prelude.{◌≡◌, ◌≢◌, ◌^◌, ◌<◌, ◌�
 ghost use Rattle.crp_plan.specs.declared.moves.Move.{Move};
 ghost use Rattle.crp_plan.specs.Bay.{Problem as Statement, cap, IsPlan, relocations};
 ghost use Rattle.crp_cert.specs.declared.head.Head.{Head};
-ghost use Rattle.crp_cert.specs.declared.script.Script.{Script as Told};
 ghost use Rattle.crp_cert.specs.Text.{IsHeadOf};
 ghost use Rattle.crp_cert.specs.Script.{IsScriptOf};
-ghost use Rattle.crp_checker.specs.Symbols.{nodes_of};
-ghost use Rattle.crp_cert.specs.Script.{part_read};
-ghost use Rattle.crp_checker.specs.Claims.{IsYes};
+ghost use Rattle.crp_tree.specs.Scripts.{nodes_in};
+ghost use Rattle.crp_cert.specs.Script.{part_of_raw};
+ghost use Rattle.crp_checker.specs.Claims.{IsNotAccepted};
 ghost use Rattle.crp_checker.specs.Verdicts.{Says};
-ghost use Rattle.crp_checker.specs.Shown.{Shows, ShowsOf};
+ghost use Rattle.crp_checker.specs.Shown.{TextShows, TextShowsFor};
 ghost use Rattle.crp_checker.specs.Refusals.{IsRefusal};
 
 use crate::claim::check_claim;
@@ -24,7 +23,7 @@ use std::alloc::Global;
 fn script_of(alloc: Global, bytes: &[u8]) -> Result<Script, Refused>
     ensures text { IfOk result (IsScriptOf bytes.now) }
     ensures few { IfOk result (λ script.
-        All (λ part. length (nodes_of script.head.problem (part_read part)) < 2 ^ 64) script.parts) }
+        All (λ part. length (nodes_in script.head.problem (part_of_raw part)) < 2 ^ 64) script.parts) }
     ensures refused { IfErr result (λ refused. (refused ≡ Refused.Memory)
         ⊎ ((wanted : Option Statement) → IsRefusal wanted bytes.now refused)) }
 {
@@ -36,7 +35,7 @@ fn script_of(alloc: Global, bytes: &[u8]) -> Result<Script, Refused>
 
 /// Checks a certificate. Whose it is, and what it shows.
 pub(crate) fn check_text(alloc: Global, bytes: &[u8]) -> Result<(BayName, Verdict), Refused>
-    ensures shown { IfOk result (λ told. ShowsOf bytes.now told.0 told.1) }
+    ensures shown { IfOk result (λ told. TextShowsFor bytes.now told.0 told.1) }
     ensures refused { IfErr result (λ refused. (refused ≡ Refused.Memory) ⊎ IsRefusal None bytes.now refused) }
 {
     let script = script_of(alloc, bytes)?;
@@ -47,10 +46,9 @@ pub(crate) fn check_text(alloc: Global, bytes: &[u8]) -> Result<(BayName, Verdic
 /// relocations of a plan, that there is no plan, or bounds. Else the first fault, or that no memory
 /// is left.
 pub fn check(alloc: Global, bytes: &[u8]) -> Result<Verdict, Refused>
-    ensures accepted { IfOk result (Shows None bytes.now) }
+    ensures accepted { IfOk result (TextShows None bytes.now) }
     ensures refused { IfErr result (λ refused. (refused ≡ Refused.Memory) ⊎ IsRefusal None bytes.now refused) }
-    ensures rejected { IfErr result (λ refused. (told : Told) → refused ≢ Refused.Memory
-        → IsYes None bytes.now told → ⊥) }
+    ensures rejected { IfErr result (λ refused. refused ≢ Refused.Memory → IsNotAccepted None bytes.now) }
 
     // What this means for the problem that the bytes tell.
     ensures bound { OnOk result ((head : Head) (moves : List Move) → IsHeadOf bytes.now head
@@ -66,11 +64,10 @@ pub fn check(alloc: Global, bytes: &[u8]) -> Result<Verdict, Refused>
 
 /// The same for a certificate of this problem: a text that tells another is refused for that.
 pub fn check_for(alloc: Global, problem: &Problem, bytes: &[u8]) -> Result<Verdict, Refused>
-    ensures accepted { IfOk result (Shows (Some problem.now) bytes.now) }
+    ensures accepted { IfOk result (TextShows (Some problem.now) bytes.now) }
     ensures refused { IfErr result (λ refused. (refused ≡ Refused.Memory)
         ⊎ IsRefusal (Some problem.now) bytes.now refused) }
-    ensures rejected { IfErr result (λ refused. (told : Told) → refused ≢ Refused.Memory
-        → IsYes (Some problem.now) bytes.now told → ⊥) }
+    ensures rejected { IfErr result (λ refused. refused ≢ Refused.Memory → IsNotAccepted (Some problem.now) bytes.now) }
 
     // What this means for the problem.
     ensures bound { OnOk result ((head : Head) (moves : List Move) → IsHeadOf bytes.now head

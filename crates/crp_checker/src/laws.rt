@@ -1,49 +1,46 @@
 //! Laws of what certificates show, for the crates above.
-ghost use Rattle.std.specs.Prelude.{◌≡◌, ◌≢◌, ℕ, List, [], map, Option, Some, IfSome};
-ghost use Rattle.crp_plan.specs.Bay.{Problem, IsProblem, Position as Place};
+ghost use Rattle.std.specs.Prelude.{◌≡◌, ◌≢◌, ℕ, List, [], Option, Some, IfSome};
+ghost use Rattle.crp_plan.specs.Bay.{Problem, IsProblem};
 ghost use Rattle.crp_plan.specs.BayNames.{YardBay, IsYardBay};
 ghost use Rattle.crp_plan.specs.Plans.{Route};
 ghost use Rattle.crp_plan.specs.Faults.{IsPlanPath};
-ghost use Rattle.crp_tree.specs.declared.tree.Tree.{Tree};
-ghost use Rattle.crp_tree.specs.Scripts.{Script, IsAccepted};
+ghost use Rattle.crp_tree.specs.Scripts.{Script as Claim, IsAccepted};
 ghost use Rattle.crp_tree.specs.Parts.{Certificate, IsAbout};
 ghost use Rattle.crp_cert.specs.Text.{HasOneHeight};
-ghost use Rattle.crp_cert.specs.Writing.{path_told, claimed, told, certificate_text};
-ghost use Rattle.crp_cert.specs.declared.script.Script.{Script as Told};
-ghost use Rattle.crp_cert.specs.Script.{Matches, symbols_of};
+ghost use Rattle.crp_cert.specs.Writing.{rows_of_plan, claimed, script_for, certificate_text};
+ghost use Rattle.crp_cert.specs.declared.script.Script.{Script};
 ghost use Rattle.crp_checker.specs.declared.refused.Refused.{Refused};
 ghost use Rattle.crp_checker.specs.declared.verdict.Verdict.{Verdict};
-ghost use Rattle.crp_checker.specs.Symbols.{nodes, letter_at};
-ghost use Rattle.crp_checker.specs.Claims.{IsYes, IsWanted};
+ghost use Rattle.crp_checker.specs.Claims.{IsAcceptedText, IsWanted};
 ghost use Rattle.crp_checker.specs.Verdicts.{IsVerdict, Says};
-ghost use Rattle.crp_checker.specs.Shown.{Shows};
+ghost use Rattle.crp_checker.specs.Shown.{TextShows};
 ghost use Rattle.crp_checker.specs.Refusals.{IsFirstWrongClaim, IsRefusal};
 ghost use Rattle.crp_checker.specs.Files.{BeginsWithTexts, FileShows, IsFileRefusal};
 
 /// Bytes are not both the text of an accepted certificate and refused; they show one thing, or are
 /// refused for one reason.
 pub fn accepted_or_refused()
-    ensures apart { (wanted : Option Problem) (bytes : List ℕ) (told : Told) (refused : Refused)
-        → IsYes wanted bytes told → IsRefusal wanted bytes refused → ⊥ }
+    ensures apart { (wanted : Option Problem) (bytes : List ℕ) (told : Script) (refused : Refused)
+        → IsAcceptedText wanted bytes told → IsRefusal wanted bytes refused → ⊥ }
     ensures one_verdict { (wanted : Option Problem) (bytes : List ℕ) (verdict other : Verdict)
-        → Shows wanted bytes verdict → Shows wanted bytes other → verdict ≡ other }
+        → TextShows wanted bytes verdict → TextShows wanted bytes other → verdict ≡ other }
     ensures one_refusal { (wanted : Option Problem) (bytes : List ℕ) (refused other : Refused)
         → IsRefusal wanted bytes refused → IsRefusal wanted bytes other → refused ≡ other }
 {}
 
 /// An accepted claim is not wrong, and another is wrong in one way at most.
 pub fn right_or_wrong()
-    ensures apart { (wanted : Option Problem) (script : Script) (refused : Refused)
+    ensures apart { (wanted : Option Problem) (script : Claim) (refused : Refused)
         → IsAccepted script → IsWanted wanted script.problem
         → IsFirstWrongClaim wanted script refused → ⊥ }
-    ensures one { (wanted : Option Problem) (script : Script) (refused other : Refused)
+    ensures one { (wanted : Option Problem) (script : Claim) (refused other : Refused)
         → IsProblem script.problem → IsFirstWrongClaim wanted script refused
         → IsFirstWrongClaim wanted script other → refused ≡ other }
 {}
 
 /// What a verdict says of an accepted script is so.
 pub fn verdicts_say()
-    ensures { (script : Script) (verdict : Verdict) → IsAccepted script → IsVerdict script verdict
+    ensures { (script : Claim) (verdict : Verdict) → IsAccepted script → IsVerdict script verdict
         → Says script.problem verdict }
 {}
 
@@ -51,14 +48,8 @@ pub fn verdicts_say()
 /// under the name of a bay, where the problem's rows have one height.
 pub fn written_is_accepted()
     ensures { (bay : YardBay) (p : Problem) (cert : Certificate) (plan : Option Route) → IsYardBay bay → HasOneHeight p
-        → IsAbout p cert → IfSome (path_told plan) (IsPlanPath p)
-        → IsYes (Some p) (certificate_text bay p cert plan) (told bay (claimed p cert plan)) }
-{}
-
-/// Node number k of a tree is told by symbol number k.
-pub fn nodes_are_told()
-    ensures { (path : List ℕ) (s : Place) (tree : Tree) → Matches s tree
-        → map letter_at (nodes path s tree) ≡ symbols_of tree }
+        → IsAbout p cert → IfSome (rows_of_plan plan) (IsPlanPath p)
+        → IsAcceptedText (Some p) (certificate_text bay p cert plan) (script_for bay (claimed p cert plan)) }
 {}
 
 /// A file is cut into the texts of certificates in one way.

@@ -19,7 +19,7 @@ mod walk;
 pub use checking::{check, check_for};
 pub use file::check_file;
 pub use laws::{
-    accepted_or_refused, nodes_are_told, one_cut, right_or_wrong, shown_or_refused, verdicts_say,
+    accepted_or_refused, one_cut, right_or_wrong, shown_or_refused, verdicts_say,
     written_is_accepted,
 };
 pub use path::Path;

@@ -3,10 +3,10 @@ ghost use Rattle.std.specs.Prelude.{◌≡◌, ◌+◌, ◌^◌, ◌<◌, ◌++�
 ghost use Rattle.std.specs.List.{AllByRecursion};
 ghost use Rattle.crp_bay.specs.Positions.{at};
 ghost use Rattle.crp_tree.specs.Scripts.{given_by};
-ghost use Rattle.crp_cert.specs.Script.{IsRawPart, names_told};
-ghost use Rattle.crp_checker.specs.Symbols.{nodes_of};
-ghost use Rattle.crp_cert.specs.Script.{part_read};
-ghost use Rattle.crp_checker.specs.Refusals.{walked, walked_part, IsRightPart};
+ghost use Rattle.crp_cert.specs.Script.{IsRawPart, names_of_raw};
+ghost use Rattle.crp_tree.specs.Scripts.{nodes_in};
+ghost use Rattle.crp_cert.specs.Script.{part_of_raw};
+ghost use Rattle.crp_checker.specs.Refusals.{nodes_by_name, named_nodes, IsRightPart};
 ghost use Rattle.crp_checker.specs.Walks.{IsPartRefusal, IsWalkRefusal};
 
 use crate::path::Path;
@@ -53,11 +53,11 @@ fn walk_part(
     walk: &mut Walk,
 ) -> Result<(), Refused>
     requires part { IsRawPart problem.now part.now }
-    requires few { length (nodes_of problem.now (part_read part.now)) < 2 ^ 64 }
-    ensures right { OnOk result (IsRightPart lower (walked_part problem.now (part_read part.now))) }
+    requires few { length (nodes_in problem.now (part_of_raw part.now)) < 2 ^ 64 }
+    ensures right { OnOk result (IsRightPart lower (named_nodes problem.now (part_of_raw part.now))) }
     ensures given { OnOk result (walk.new.given.items
-        ≡ walk.old.given.items ++ given_by problem.now (part_read part.now)) }
-    ensures refused { IfErr result (IsPartRefusal lower (walked_part problem.now (part_read part.now))) }
+        ≡ walk.old.given.items ++ given_by problem.now (part_of_raw part.now)) }
+    ensures refused { IfErr result (IsPartRefusal lower (named_nodes problem.now (part_of_raw part.now))) }
 {
     let position = place_of(problem, part);
     go_to(part, walk)?;
@@ -83,13 +83,13 @@ pub fn walk_parts(
     parts: &[RawPart],
 ) -> Result<Vec<Path>, Refused>
     requires parts { All (IsRawPart problem.now) parts.now }
-    requires few { All (λ part. length (nodes_of problem.now (part_read part)) < 2 ^ 64) parts.now }
+    requires few { All (λ part. length (nodes_in problem.now (part_of_raw part)) < 2 ^ 64) parts.now }
     ensures right { OnOk result (AllByRecursion (IsRightPart lower)
-        (walked problem.now (map part_read parts.now))) }
+        (nodes_by_name problem.now (map part_of_raw parts.now))) }
     ensures given { IfOk result (λ given.
-        given.items ≡ flat_map (given_by problem.now) (map part_read parts.now)) }
+        given.items ≡ flat_map (given_by problem.now) (map part_of_raw parts.now)) }
     ensures refused { IfErr result (IsWalkRefusal lower
-        (walked problem.now (map part_read parts.now))) }
+        (nodes_by_name problem.now (map part_of_raw parts.now))) }
 {
     let mut walk = Walk {
         path: Vec::new(alloc),
@@ -104,7 +104,7 @@ pub fn walk_parts(
 
 /// The names of the parts, in their order.
 pub fn names_of(alloc: Global, parts: &[RawPart]) -> Result<Vec<Path>, AllocError>
-    ensures { IfOk result (λ names. names.items ≡ names_told parts.now) }
+    ensures { IfOk result (λ names. names.items ≡ names_of_raw parts.now) }
 {
     let mut names = Vec::new(alloc);
     for part in parts {

@@ -47,9 +47,9 @@ impl From<AllocError> for Refused {
 }
 
 impl From<CertFault> for Refused {
-    ghost use Rattle.crp_checker.specs.Told.{cert_told};
+    ghost use Rattle.crp_checker.specs.Passing.{refusal_by};
 
-    ghost from_gives = { λ fault refused. refused ≡ cert_told fault };
+    ghost from_gives = { λ fault refused. refused ≡ refusal_by fault };
 
     fn from(fault: CertFault) -> Refused {
         match fault {

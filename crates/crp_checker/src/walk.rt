@@ -1,9 +1,9 @@
 //! The walk over the symbols of one part.
 ghost use Rattle.std.specs.Prelude.{◌≡◌, ◌+◌, ◌^◌, ◌<◌, ◌≤◌, ◌++◌, OnOk, IfErr, length, [], ◌∷◌};
 ghost use Rattle.crp_bay.specs.Positions.{targets};
-ghost use Rattle.crp_tree.specs.Trees.{givens};
-ghost use Rattle.crp_checker.specs.Symbols.{nodes};
-ghost use Rattle.crp_checker.specs.Walks.{below, WentOver, IsHalt};
+ghost use Rattle.crp_tree.specs.Trees.{nodes};
+ghost use Rattle.crp_tree.specs.Listed.{nodes_below};
+ghost use Rattle.crp_checker.specs.Walks.{HasWalked, IsHalt};
 
 use crate::path::Path;
 use crp_bay::Position;
@@ -63,8 +63,8 @@ pub fn walk_tree(
     walk: &mut Walk,
 ) -> Result<(), Halt>
     requires { walk.old.count + length (nodes walk.old.path.items position.now tree.now) < 2 ^ 64 }
-    ensures over { OnOk result (WentOver lower (nodes walk.old.path.items position.now tree.now)
-        (givens walk.old.path.items position.now tree.now) walk.old walk.new) }
+    ensures over { OnOk result (HasWalked lower (nodes walk.old.path.items position.now tree.now)
+        walk.old walk.new) }
     ensures halt { IfErr result (IsHalt lower walk.old.count
         (nodes walk.old.path.items position.now tree.now)) }
 {
@@ -95,13 +95,12 @@ fn walk_each(
     walk: &mut Walk,
 ) -> Result<(), Halt>
     requires { walk.old.count
-        + length (below nodes walk.old.path.items position.now (targets position.now) trees.now) < 2 ^ 64 }
-    ensures over { OnOk result (WentOver lower
-        (below nodes walk.old.path.items position.now (targets position.now) trees.now)
-        (below givens walk.old.path.items position.now (targets position.now) trees.now)
+        + length (nodes_below walk.old.path.items position.now (targets position.now) trees.now) < 2 ^ 64 }
+    ensures over { OnOk result (HasWalked lower
+        (nodes_below walk.old.path.items position.now (targets position.now) trees.now)
         walk.old walk.new) }
     ensures halt { IfErr result (IsHalt lower walk.old.count
-        (below nodes walk.old.path.items position.now (targets position.now) trees.now)) }
+        (nodes_below walk.old.path.items position.now (targets position.now) trees.now)) }
 {
     let rows = position.targets();
     for (i, tree) in trees.iter().enumerate() {

@@ -1,15 +1,15 @@
 -- A branch is searched row by row.
-use Rattle.std.proofs.Common.{◌≡◌, ℕ, suc, ◌+◌, ◌-◌, ◌<◌, ◌≤◌, min, inl, inr, ⊎_elim, List, [], ◌∷◌, ◌++◌, length, take, get_or, All, Vec, Global, sym, ap, ◌∙◌, subst, refl, arith, append_assoc, append-nil, length-append, add-one}
-use Rattle.std.proofs.lemmas.List.Elements.{All-nil, All-cons, All-append, All-weaker, All-same}
-use Rattle.std.proofs.lemmas.List.{take_all}
+use Rattle.std.proofs.Common.{◌≡◌, ℕ, suc, ◌+◌, ◌-◌, ◌<◌, ◌≤◌, min, inl, inr, ⊎_elim, List, [], ◌∷◌, ◌++◌, length, map, take, get_or, All, Vec, Global, sym, ap, ◌∙◌, subst, refl, arith, append_assoc, append-nil, length-append, add-one}
+use Rattle.std.proofs.lemmas.List.Elements.{All-nil, All-cons, All-append, All-weaker, All-same, filter-append}
+use Rattle.std.proofs.lemmas.List.{take_all, map-append}
 use Rattle.crp_plan.specs.Bay.{Problem, Position, cap}
 use Rattle.crp_plan.specs.declared.running.View.{View}
 use Rattle.crp_bay.specs.Positions.{targets, child}
 use Rattle.crp_tree.specs.declared.tree.Tree.{Tree, Branch}
-use Rattle.crp_tree.specs.Trees.{cuts, givens, least}
-use Rattle.crp_tree.specs.Nodes.{Cut, cut_nodes, branch_nodes}
-use Rattle.crp_tree.specs.Listed.{each, AreFit, branches_in_all}
-use Rattle.crp_tree.proofs.Listed.{branch_tells, each_push, fit_push, branches_push}
+use Rattle.crp_tree.specs.Trees.{Node, nodes, is_cut, is_branch, IsInPlace, cuts, branches, given_names, value, least, least_value}
+use Rattle.crp_tree.specs.Listed.{nodes_below, AreFit}
+use Rattle.crp_tree.proofs.Listed.{IsBranchOf, branch_of, branch_node, nodes_push, fit_push}
+use Rattle.crp_tree.proofs.Nodes.{given_names-append}
 use Rattle.crp_tree.proofs.Shown.{least_most}
 use Rattle.crp_search.specs.Limits.{Advances}
 use Rattle.crp_search.specs.Searched.{IsClosed, IsBelow, IsShort, IsFound, IsGranted, PutsMore}
@@ -17,19 +17,29 @@ use Rattle.crp_search.specs.Searched.{IsClosed, IsBelow, IsShort, IsFound, IsGra
 -- what is found below a path by the first i of some rows, where one expansion was granted for the path itself
 pub record FoundBelow (p : Problem) (split : ℕ) (path : List ℕ) (s : Position) (old new : View) (old_puts new_puts : List (List ℕ)) (rows : List ℕ) (i : ℕ) (trees : List Tree) (floor : ℕ) : Type 0 where
   pub count : length trees ≡ i
-  pub fits : AreFit path s (take i rows) trees
-  pub floor_is : floor ≡ least (cap p) (each cuts path s (take i rows) trees)
-  pub grants : new.granted ≡ old.granted + 1 + branches_in_all trees
-  pub puts : new_puts ≡ old_puts ++ each givens path s (take i rows) trees
-  pub short : All (IsShort split) (each givens path s (take i rows) trees)
-  pub closed : All (IsClosed new) (each cut_nodes path s (take i rows) trees)
-  pub below : All (IsBelow old.seen) (each branch_nodes path s (take i rows) trees)
+  pub fits : AreFit s (take i rows) trees
+  pub in_place : All IsInPlace (nodes_below path s (take i rows) trees)
+  pub floor_is : floor ≡ least_value (cap p) (nodes_below path s (take i rows) trees)
+  pub grants : new.granted ≡ old.granted + 1 + length (branches (nodes_below path s (take i rows) trees))
+  pub puts : new_puts ≡ old_puts ++ given_names (nodes_below path s (take i rows) trees)
+  pub short : All (IsShort split) (given_names (nodes_below path s (take i rows) trees))
+  pub closed : All (IsClosed new) (cuts (nodes_below path s (take i rows) trees))
+  pub below : All (IsBelow old.seen) (branches (nodes_below path s (take i rows) trees))
   pub advances : Advances p old new
 
--- the least of two lists
-pub least-append : (most : ℕ) (xs ys : List ℕ) → least most (xs ++ ys) ≡ min (least most xs) (least most ys)
-least-append most [] ys = let low = least_most most ys in omega arith
-least-append most (x ∷ xs) ys = let e = least-append most xs ys in omega arith
+-- the cuts and the branches of two lists of nodes, and the least value of their cuts
+cuts-append : (xs ys : List Node) → cuts (xs ++ ys) ≡ cuts xs ++ cuts ys
+cuts-append xs ys = filter-append (λ (n : Node). is_cut n.mark) xs ys
+
+branches-append : (xs ys : List Node) → branches (xs ++ ys) ≡ branches xs ++ branches ys
+branches-append xs ys = filter-append (λ (n : Node). is_branch n.mark) xs ys
+
+least_value-append : (most : ℕ) (xs ys : List Node) → least_value most (xs ++ ys) ≡ min (least_value most xs) (least_value most ys)
+least_value-append most xs ys = ap (least most) (ap (map value) (cuts-append xs ys) ∙ map-append value (cuts xs) (cuts ys)) ∙ least-append most (map value (cuts xs)) (map value (cuts ys))
+  where
+    least-append : (most : ℕ) (xs ys : List ℕ) → least most (xs ++ ys) ≡ min (least most xs) (least most ys)
+    least-append most [] ys = let low = least_most most ys in omega arith
+    least-append most (x ∷ xs) ys = let e = least-append most xs ys in omega arith
 
 -- what goes on goes on
 pub on_and_on : (p : Problem) (old mid new : View) → Advances p old mid → Advances p mid new → Advances p old new
@@ -46,7 +56,7 @@ on_and_on p old mid new a b = record {
 }
 
 -- a closed cut stays closed
-pub stays_closed : (p : Problem) (old new : View) (cut : Cut) → Advances p old new → IsClosed old cut → IsClosed new cut
+pub stays_closed : (p : Problem) (old new : View) (cut : Node) → Advances p old new → IsClosed old cut → IsClosed new cut
 stays_closed p old new cut on c =
     let s = on.seen in let r = on.refused in
     ⊎_elim (λ seen. inl (omega arith)) (λ refused. let a = refused.0 in inr (omega arith, refused.1)) c
@@ -58,6 +68,7 @@ none_yet p split path s old new old_puts new_puts rows trees floor granted on pu
     subst (λ l. FoundBelow p split path s old new old_puts new_puts rows 0 l floor) (sym none) (record {
       count = refl;
       fits = tt;
+      in_place = All-nil IsInPlace;
       floor_is = most;
       grants = let e = granted.one_more in omega arith;
       puts = puts ∙ sym (append-nil old_puts);
@@ -76,21 +87,23 @@ one_more p split path s old mid new old_puts mid_puts new_puts rows i trees floo
     let before = f.advances in
     let longer : List ℕ = path ++ get_or rows i 0 ∷ [] in
     let next : Position = child s (get_or rows i 0) in
-    let told_cuts = each_push cuts path s rows trees i 0 tree lt f.count in
-    let told_nodes = each_push cut_nodes path s rows trees i 0 tree lt f.count in
-    let told_branches = each_push branch_nodes path s rows trees i 0 tree lt f.count in
-    let told_givens = each_push givens path s rows trees i 0 tree lt f.count in
+    let first : List Node = nodes_below path s (take i rows) trees in
+    let own : List Node = nodes longer next tree in
+    let more : nodes_below path s (take (suc i) rows) (trees ++ tree ∷ []) ≡ first ++ own = nodes_push path s rows trees i 0 tree lt f.count in
+    let more_cuts = ap cuts more ∙ cuts-append first own in
+    let more_branches = ap branches more ∙ branches-append first own in
+    let more_names = ap given_names more ∙ given_names-append first own in
     record {
       count = let n = f.count in omega (arith, length-append trees (tree ∷ []));
-      fits = fit_push path s rows trees i 0 tree lt f.count f.fits one.fits;
-      floor_is = ap (λ m. min m lower) f.floor_is ∙ ap (λ m. min (least (cap p) (each cuts path s (take i rows) trees)) m) one.floor_is
-          ∙ sym (least-append (cap p) (each cuts path s (take i rows) trees) (cuts longer next tree)) ∙ ap (least (cap p)) (sym told_cuts);
-      grants = let a = f.grants in let b = one.grants in omega (arith, branches_push trees tree);
-      puts = one.puts ∙ ap (λ l. l ++ givens longer next tree) f.puts ∙ append_assoc old_puts _ _ ∙ ap (λ l. old_puts ++ l) (sym told_givens);
-      short = All-same (IsShort split) _ _ told_givens (All-append (IsShort split) _ _ f.short one.short);
-      closed = All-same (IsClosed new) _ _ told_nodes (All-append (IsClosed new) _ _
+      fits = fit_push s rows trees i 0 tree lt f.fits one.fits;
+      in_place = All-same IsInPlace _ _ more (All-append IsInPlace first own f.in_place one.in_place);
+      floor_is = ap (λ m. min m lower) f.floor_is ∙ ap (λ m. min (least_value (cap p) first) m) one.floor_is ∙ sym (ap (least_value (cap p)) more ∙ least_value-append (cap p) first own);
+      grants = let a = f.grants in let b = one.grants in omega (arith, ap length more_branches, length-append (branches first) (branches own));
+      puts = one.puts ∙ ap (λ l. l ++ given_names own) f.puts ∙ append_assoc old_puts _ _ ∙ ap (λ l. old_puts ++ l) (sym more_names);
+      short = All-same (IsShort split) _ _ more_names (All-append (IsShort split) _ _ f.short one.short);
+      closed = All-same (IsClosed new) _ _ more_cuts (All-append (IsClosed new) _ _
           (All-weaker (IsClosed mid) (IsClosed new) (λ c k. stays_closed p mid new c on k) _ f.closed) one.closed);
-      below = All-same (IsBelow old.seen) _ _ told_branches (All-append (IsBelow old.seen) _ _ f.below
+      below = All-same (IsBelow old.seen) _ _ more_branches (All-append (IsBelow old.seen) _ _ f.below
           (All-weaker (IsBelow mid.seen) (IsBelow old.seen) (λ n k. let x = before.seen in omega arith) _ one.below));
       advances = on_and_on p old mid new before on;
     }
@@ -112,17 +125,20 @@ pub all_found : (p : Problem) (split : ℕ) (path : List ℕ) (s : Position) (ol
     rows ≡ targets s → length rows ≤ i → IsGranted path s old granted → FoundBelow p split path s old new old_puts new_puts rows i trees.items floor →
     IsFound p split path s old new old_puts new_puts (Branch trees) floor
 all_found p split path s old granted new old_puts new_puts rows i trees floor same done g f =
-    let told = branch_tells path s trees in
+    let branch : IsBranchOf (Branch trees) trees.items = branch_of trees in
+    let below : List Node = nodes_below path s (targets s) trees.items in
     let whole : take i rows ≡ targets s = take_all i rows done ∙ same in
+    let are : nodes path s (Branch trees) ≡ branch_node path s ∷ below = branch.nodes_are path s in
+    let list : nodes_below path s (take i rows) trees.items ≡ below = ap (λ l. nodes_below path s l trees.items) whole in
     record {
-      fits = told.fits g.unfinished (subst (λ l. AreFit path s l trees.items) whole f.fits);
-      floor_is = f.floor_is ∙ ap (λ l. least (cap p) (each cuts path s l trees.items)) whole ∙ ap (least (cap p)) (sym told.cuts_are);
-      grants = let a = f.grants in let b = told.branches_are in omega arith;
-      puts = f.puts ∙ ap (λ l. old_puts ++ each givens path s l trees.items) whole ∙ ap (λ l. old_puts ++ l) (sym told.givens_are);
-      short = All-same (IsShort split) _ _ told.givens_are (subst (λ l. All (IsShort split) (each givens path s l trees.items)) whole f.short);
-      closed = All-same (IsClosed new) _ _ told.cut_nodes_are (subst (λ l. All (IsClosed new) (each cut_nodes path s l trees.items)) whole f.closed);
-      below = All-same (IsBelow old.seen) _ _ told.branch_nodes_are
-          (All-cons (IsBelow old.seen) _ _ g.below (subst (λ l. All (IsBelow old.seen) (each branch_nodes path s l trees.items)) whole f.below));
+      fits = branch.fits s (subst (λ l. AreFit s l trees.items) whole f.fits);
+      in_place = All-same IsInPlace _ _ are (All-cons IsInPlace (branch_node path s) below g.unfinished (subst (All IsInPlace) list f.in_place));
+      floor_is = f.floor_is ∙ ap (least_value (cap p)) list ∙ sym (ap (least_value (cap p)) are);
+      grants = let a = f.grants in omega (arith, ap (λ l. length (branches l)) are, ap (λ l. length (branches l)) list);
+      puts = f.puts ∙ ap (λ l. old_puts ++ given_names l) list ∙ sym (ap (λ l. old_puts ++ given_names l) are);
+      short = All-same (IsShort split) _ _ (ap given_names are) (subst (λ l. All (IsShort split) (given_names l)) list f.short);
+      closed = All-same (IsClosed new) _ _ (ap cuts are) (subst (λ l. All (IsClosed new) (cuts l)) list f.closed);
+      below = All-same (IsBelow old.seen) _ _ (ap branches are) (All-cons (IsBelow old.seen) (branch_node path s) (branches below) g.below (subst (λ l. All (IsBelow old.seen) (branches l)) list f.below));
     }
 
 -- the row that was put behind a path is taken off again
@@ -142,4 +158,4 @@ more_again old mid new a b = (a.0 ++ b.0, b.1 ∙ ap (λ l. l ++ b.0) a.1 ∙ ap
 -- what is found below a path was put
 pub below_puts : (p : Problem) (split : ℕ) (path : List ℕ) (s : Position) (old new : View) (old_puts new_puts : List (List ℕ)) (rows : List ℕ) (i : ℕ) (trees : List Tree) (floor : ℕ) →
     FoundBelow p split path s old new old_puts new_puts rows i trees floor → PutsMore old_puts new_puts
-below_puts p split path s old new old_puts new_puts rows i trees floor f = (each givens path s (take i rows) trees, f.puts)
+below_puts p split path s old new old_puts new_puts rows i trees floor f = (given_names (nodes_below path s (take i rows) trees), f.puts)

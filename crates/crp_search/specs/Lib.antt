@@ -6,7 +6,6 @@ pub use Rattle.crp_bay.specs.Positions
 pub mod Greedy
 pub use Rattle.crp_plan.specs.Running
 pub use Rattle.crp_tree.specs.Trees
-pub use Rattle.crp_tree.specs.Nodes
 pub use Rattle.crp_tree.specs.Scripts
 pub use Rattle.crp_tree.specs.Parts
 pub mod Limits

@@ -3,13 +3,12 @@ use Rattle.std.specs.Prelude.{◌≡◌, ℕ, ◌+◌, ◌<◌, ◌≤◌, ◌�
 use Rattle.crp_plan.specs.Bay.{Problem, Position, cap}
 use Rattle.crp_plan.specs.declared.running.View.{View}
 use Rattle.crp_tree.specs.declared.tree.Tree.{Tree}
-use Rattle.crp_tree.specs.Trees.{Fits, cuts, givens, least}
-use Rattle.crp_tree.specs.Nodes.{Node, Cut, ahead_of, cut_nodes, branch_nodes, branches}
+use Rattle.crp_tree.specs.Trees.{X, Node, nodes, Fits, IsInPlace, cuts, branches, given_names, value, ahead_of, least_value}
 
 -- a cut is closed for a worker: its value is at least what the worker saw last; or the worker was refused a claim, and the value is at least length
 -- plus look-ahead
-abbrev pub IsClosed : View → Cut → Type 0
-IsClosed view cut = (view.seen ≤ cut.value) ⊎ ((0 < view.refused) × (ahead_of cut.node ≤ cut.value))
+abbrev pub IsClosed : View → Node → Type 0
+IsClosed view cut = (view.seen ≤ value cut) ⊎ ((0 < view.refused) × (ahead_of cut ≤ value cut))
 
 -- a branch stands below the limit: there length plus look-ahead is less
 abbrev pub IsBelow : ℕ → Node → Type 0
@@ -26,16 +25,17 @@ PutsMore old new = (more : List (List ℕ)) × (new ≡ old ++ more)
 -- what is found at a path: a tree that fits there with its least cut; as many branches as claims were granted, the accepted puts as its given names,
 -- each of at most `split` rows; each cut closed for the worker as it is then, each branch below what it had seen at the beginning
 pub record IsFound (p : Problem) (split : ℕ) (path : List ℕ) (s : Position) (old new : View) (old_puts new_puts : List (List ℕ)) (tree : Tree) (floor : ℕ) : Type 0 where
-  pub fits : Fits path s tree
-  pub floor_is : floor ≡ least (cap p) (cuts path s tree)
-  pub grants : new.granted ≡ old.granted + branches tree
-  pub puts : new_puts ≡ old_puts ++ givens path s tree
-  pub short : All (IsShort split) (givens path s tree)
-  pub closed : All (IsClosed new) (cut_nodes path s tree)
-  pub below : All (IsBelow old.seen) (branch_nodes path s tree)
+  pub fits : Fits s tree
+  pub in_place : All IsInPlace (nodes path s tree)
+  pub floor_is : floor ≡ least_value (cap p) (nodes path s tree)
+  pub grants : new.granted ≡ old.granted + length (branches (nodes path s tree))
+  pub puts : new_puts ≡ old_puts ++ given_names (nodes path s tree)
+  pub short : All (IsShort split) (given_names (nodes path s tree))
+  pub closed : All (IsClosed new) (cuts (nodes path s tree))
+  pub below : All (IsBelow old.seen) (branches (nodes path s tree))
 
 -- a claim was granted for the node at the path, which is not finished and lies below the limit
 pub record IsGranted (path : List ℕ) (s : Position) (old new : View) : Type 0 where
   pub unfinished : s.next ≤ s.ordered
-  pub below : IsBelow old.seen (record { path = path; place = s })
+  pub below : IsBelow old.seen (record { path = path; place = s; mark = X })
   pub one_more : new.granted ≡ old.granted + 1

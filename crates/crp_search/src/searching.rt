@@ -3,8 +3,7 @@ ghost use Rattle.std.specs.Prelude.{◌≡◌, ℕ, ◌+◌, ◌<◌, ◌≤◌,
 ghost use Rattle.crp_plan.specs.Bay.{IsProblem, IsAt, IsFinished, Position as Place, cap};
 ghost use Rattle.crp_bay.specs.Positions.{targets};
 ghost use Rattle.crp_bounds.specs.Bounds.{blocking as blocking_bound, look_ahead as look_ahead_bound};
-ghost use Rattle.crp_tree.specs.Trees.{IsGiven, givens};
-ghost use Rattle.crp_tree.specs.Nodes.{branches};
+ghost use Rattle.crp_tree.specs.Trees.{IsGiven};
 ghost use Rattle.crp_tree.specs.Parts.{IsKeptPart, given_of, cuts_in, branches_in};
 ghost use Rattle.crp_search.specs.Limits.{Advances};
 ghost use Rattle.crp_search.specs.Searched.{IsClosed, IsBelow, IsShort, IsFound, IsGranted, PutsMore};
@@ -201,7 +200,7 @@ pub fn search<L: Limit>(
     ensures part { IfOk result (λ part. IsKeptPart part) }
 
     // What it took from the limit, and what it left there.
-    ensures grants { IfOk result (λ part. (L.view limit.new).granted ≡ (L.view limit.old).granted + branches part.tree) }
+    ensures grants { IfOk result (λ part. (L.view limit.new).granted ≡ (L.view limit.old).granted + length (branches_in part)) }
     ensures puts { IfOk result (λ part. L.puts limit.new ≡ L.puts limit.old ++ given_of part) }
     ensures short { IfOk result (λ part. All (IsShort split) (given_of part)) }
     ensures cuts { IfOk result (λ part. All (IsClosed (L.view limit.new)) (cuts_in part)) }

@@ -1,12 +1,12 @@
 -- Two groups make one.
-use Rattle.std.proofs.Common.{◌≡◌, ◌<◌, ◌≤◌, ℕ, ◌+◌, min, Bool, true, false, ◌||◌, ◌&&◌, not, if◌then◌else◌, List, [], ◌∷◌, ◌++◌, All, Option, IfSome, inl, inr, ⊎_elim, sym, refl, ap, ◌∙◌, subst, arith}
+use Rattle.std.proofs.Common.{length, ◌≡◌, ◌<◌, ◌≤◌, ℕ, ◌+◌, min, Bool, true, false, ◌||◌, ◌&&◌, not, if◌then◌else◌, List, [], ◌∷◌, ◌++◌, All, Option, IfSome, inl, inr, ⊎_elim, sym, refl, ap, ◌∙◌, subst, arith}
 use Rattle.std.proofs.lemmas.List.Elements.{All-append, All-weaker}
 use Rattle.std.proofs.lemmas.List.Sums.{sum_by-append}
 use Rattle.crp_plan.specs.declared.running.View.{View}
 use Rattle.crp_plan.specs.Bay.{Problem}
 use Rattle.crp_plan.specs.Plans.{Route}
-use Rattle.crp_tree.specs.Nodes.{branches}
-use Rattle.crp_tree.specs.Parts.{ProblemPart, given_of, names_of, cuts_in}
+use Rattle.crp_tree.specs.Trees.{value}
+use Rattle.crp_tree.specs.Parts.{ProblemPart, given_of, names_of, cuts_in, branches_in}
 use Rattle.crp_search.specs.Searched.{IsClosed}
 use Rattle.crp_incumbent.specs.Rule.{view_joined}
 use Rattle.crp_incumbent.specs.Seats.{Shared}
@@ -46,7 +46,7 @@ searched_later p first old new parts seen refused all =
       of_problem = s.of_problem;
       kept = s.kept;
       closed = All-weaker (IsClosed old) (IsClosed new)
-          (λ cut c. ⊎_elim (λ (low : old.seen ≤ cut.value). inl (omega arith)) (λ (r : (0 < old.refused) × _). inr (omega arith, r.1)) c)
+          (λ cut c. ⊎_elim (λ (low : old.seen ≤ value cut). inl (omega arith)) (λ (r : (0 < old.refused) × _). inr (omega arith, r.1)) c)
           (cuts_in part) s.closed;
       below = s.below;
     })
@@ -55,7 +55,7 @@ searched_later p first old new parts seen refused all =
 -- what is counted adds up
 pub counted_together : (v w : View) (xs ys : List ProblemPart) (ls ms : List PoolSeat) → IsCounted v xs ls → IsCounted w ys ms → IsCounted (view_joined v w) (xs ++ ys) (ls ++ ms)
 counted_together v w xs ys ls ms a b = record {
-  grants = (let g = a.grants in let g' = b.grants in omega (arith, sum_by-append (λ (x : ProblemPart). branches x.tree) xs ys));
+  grants = (let g = a.grants in let g' = b.grants in omega (arith, sum_by-append (λ (x : ProblemPart). length (branches_in x)) xs ys));
   takes = λ h. (let t = a.takes h in let t' = b.takes h in omega (arith, takes-append h ls ms, names-append h xs ys));
   puts = λ h. (let q = a.puts h in let q' = b.puts h in
       omega (arith, puts-append h ls ms, roots-append h ls ms, given-append h xs ys, weigh-append h (roots (ls ++ ms)) (given_in (xs ++ ys)), weigh-append h (roots ls) (given_in xs), weigh-append h (roots ms) (given_in ys)));

@@ -1,10 +1,9 @@
 -- The parts of what workers left, one more, and all of them.
-use Rattle.std.proofs.Common.{◌≡◌, ℕ, List, [], ◌∷◌, ◌++◌, Option, None, Some, sym, ap, arith}
+use Rattle.std.proofs.Common.{length, ◌≡◌, ℕ, List, [], ◌∷◌, ◌++◌, Option, None, Some, sym, ap, arith}
 use Rattle.std.proofs.lemmas.List.Sums.{sum_by-append, sum_by-cons}
 use Rattle.crp_plan.specs.declared.running.View.{View}
 use Rattle.crp_plan.specs.Plans.{Route}
-use Rattle.crp_tree.specs.Nodes.{branches}
-use Rattle.crp_tree.specs.Parts.{ProblemPart, given_of}
+use Rattle.crp_tree.specs.Parts.{ProblemPart, given_of, branches_in}
 use Rattle.crp_search.specs.Limits.{Advances}
 use Rattle.crp_incumbent.specs.Seats.{Shared}
 use Rattle.crp_pool.specs.Weigh.{weigh, SameNames}
@@ -39,7 +38,7 @@ done_more of v w plan better xs x puts takes puts' takes' after name d keeps on 
     let k = d.kept in let low = k.plan_kept in
     record {
       kept = record { plan_kept = keeps; searched = all_searched of v w None after name xs x low.seen on k.searched f };
-      grants = (let g = d.grants in omega (arith, f.grants, sum_by-append (λ (y : ProblemPart). branches y.tree) xs (x ∷ []), sum_by-cons (λ (y : ProblemPart). branches y.tree) x []));
+      grants = (let g = d.grants in omega (arith, f.grants, sum_by-append (λ (y : ProblemPart). length (branches_in y)) xs (x ∷ []), sum_by-cons (λ (y : ProblemPart). length (branches_in y)) x []));
       taken = λ h. (let a = took h in let b = d.taken h in let e : h x.name ≡ h name = ap h f.name_is in omega (arith, names-append h xs (x ∷ []), weigh-append h takes (name ∷ [])));
       put = λ h. (
           let b = d.put h in let c : weigh h puts' ≡ weigh h puts = ap (weigh h) same in let e : weigh h (given_of x) ≡ 0 = ap (weigh h) (gives_none of v w after name x fixed f) in

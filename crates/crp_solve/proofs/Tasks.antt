@@ -1,9 +1,8 @@
 -- A group after it searched one part more.
-use Rattle.std.proofs.Common.{◌≡◌, ◌≤◌, ℕ, ◌+◌, List, [], ◌∷◌, ◌++◌, All, Option, Some, sym, ap, ◌∙◌, subst, arith}
+use Rattle.std.proofs.Common.{length, ◌≡◌, ◌≤◌, ℕ, ◌+◌, List, [], ◌∷◌, ◌++◌, All, Option, Some, sym, ap, ◌∙◌, subst, arith}
 use Rattle.std.proofs.lemmas.List.Elements.{All-append, All-weaker, All-cons, All-nil}
 use Rattle.std.proofs.lemmas.List.Sums.{sum_by-append, sum_by-cons}
 use Rattle.crp_plan.specs.declared.running.View.{View}
-use Rattle.crp_tree.specs.Nodes.{branches}
 use Rattle.crp_tree.specs.Parts.{ProblemPart, given_of, branches_in}
 use Rattle.crp_search.specs.Limits.{Advances}
 use Rattle.crp_search.specs.Searched.{IsBelow}
@@ -40,9 +39,9 @@ pub record Took (q r s : PoolSeat) (name : List ℕ) (x : ProblemPart) : Type 0 
 
 -- one part more is counted
 pub counted_more : (v w : View) (xs : List ProblemPart) (x : ProblemPart) (ls : List PoolSeat) (q r s : PoolSeat) (name : List ℕ) → IsCounted v xs (ls ++ q ∷ []) → Took q r s name x →
-    w.granted ≡ v.granted + branches x.tree → IsCounted w (xs ++ x ∷ []) (ls ++ s ∷ [])
+    w.granted ≡ v.granted + length (branches_in x) → IsCounted w (xs ++ x ∷ []) (ls ++ s ∷ [])
 counted_more v w xs x ls q r s name k t grants = record {
-  grants = (let g = k.grants in omega (arith, sum_by-append (λ (y : ProblemPart). branches y.tree) xs (x ∷ []), sum_by-cons (λ (y : ProblemPart). branches y.tree) x []));
+  grants = (let g = k.grants in omega (arith, sum_by-append (λ (y : ProblemPart). length (branches_in y)) xs (x ∷ []), sum_by-cons (λ (y : ProblemPart). length (branches_in y)) x []));
   takes = λ h. (
       let a = k.takes h in let b = t.takes h in let e : h x.name ≡ h name = ap h t.name_is in
       omega (arith, takes-append h ls (q ∷ []), takes-append h ls (s ∷ []), names-append h xs (x ∷ []), weigh-append h q.takes [], weigh-append h s.takes [], weigh-append h q.takes (name ∷ [])));

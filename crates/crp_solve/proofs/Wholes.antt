@@ -7,8 +7,7 @@ use Rattle.std.proofs.lemmas.List.Elements.{All-map, All-weaker}
 use Rattle.crp_plan.specs.declared.running.View.{View}
 use Rattle.crp_plan.specs.Bay.{Problem, IsProblem}
 use Rattle.crp_plan.specs.Plans.{Route}
-use Rattle.crp_tree.specs.Nodes.{branches}
-use Rattle.crp_tree.specs.Parts.{ProblemPart, part_of, given_of, names_of, IsKeptPart, Certificate, IsAbout}
+use Rattle.crp_tree.specs.Parts.{ProblemPart, part_of, given_of, names_of, IsKeptPart, Certificate, IsAbout, branches_in}
 use Rattle.crp_tree.specs.Scripts.{IsPart, IsNeeded, given_by, names, times, same_name}
 use Rattle.crp_plan.proofs.Lists.{one_if}
 use Rattle.crp_tree.proofs.Givers.{times-cons, times_in, in_times}
@@ -36,7 +35,7 @@ given_sum h (x ∷ xs) = omega (arith, given_sum h xs, weigh-append h (given_of 
 -- in another order all is done too
 pub done_moved : (view : View) (xs ys : List ProblemPart) → IsPermutation xs ys → IsAllDone view xs → IsAllDone view ys
 done_moved view xs ys moved d = record {
-  grants = d.grants ∙ sym (sum_by-IsPermutation (λ (x : ProblemPart). branches x.tree) xs ys moved);
+  grants = d.grants ∙ sym (sum_by-IsPermutation (λ (x : ProblemPart). length (branches_in x)) xs ys moved);
   names = λ h. (
       let e = d.names h in
       omega (arith, names_sum h xs, names_sum h ys, given_sum h xs, given_sum h ys, sum_by-IsPermutation (λ (x : ProblemPart). h x.name) xs ys moved, sum_by-IsPermutation (λ (x : ProblemPart). weigh h (given_of x)) xs ys moved));

@@ -4,7 +4,6 @@ use Rattle.crp_plan.specs.declared.running.View.{View}
 use Rattle.crp_plan.specs.Bay.{Problem, IsProblem}
 use Rattle.crp_plan.specs.Plans.{Route}
 use Rattle.crp_incumbent.specs.Seats.{Shared, Seat}
-use Rattle.crp_tree.specs.Nodes.{branches}
 use Rattle.crp_tree.specs.Parts.{ProblemPart, given_of, cuts_in, branches_in, IsKeptPart}
 use Rattle.crp_search.specs.Searched.{IsClosed, IsBelow}
 use Rattle.crp_pool.specs.Deques.{DequeId}
@@ -81,7 +80,7 @@ pub record IsFoundPart (of : Shared) (old new : View) (before after : Option Poo
   pub of_problem : part.problem ≡ of.key.problem
   pub name_is : part.name ≡ name
   pub kept : IsKeptPart part
-  pub grants : new.granted ≡ old.granted + branches part.tree
+  pub grants : new.granted ≡ old.granted + length (branches_in part)
   pub puts : puts_at after ≡ puts_at before ++ given_of part
   pub closed : All (IsClosed new) (cuts_in part)
   pub below : All (IsBelow old.seen) (branches_in part)

@@ -2,8 +2,7 @@
 use Rattle.std.specs.Prelude.{◌≡◌, ℕ, ◌+◌, ◌<◌, ◌≤◌, length, Bool, false, ◌==◌, if◌then◌else◌, List, [], ◌∷◌, ◌++◌, map, flat_map, sum_by, All, Option}
 use Rattle.crp_plan.specs.declared.running.View.{View}
 use Rattle.crp_plan.specs.Plans.{Route}
-use Rattle.crp_tree.specs.Nodes.{branches}
-use Rattle.crp_tree.specs.Parts.{ProblemPart, given_of, names_of}
+use Rattle.crp_tree.specs.Parts.{ProblemPart, given_of, names_of, branches_in}
 use Rattle.crp_plan.specs.Bay.{IsProblem}
 use Rattle.crp_incumbent.specs.Seats.{Shared, Seat}
 use Rattle.crp_pool.specs.Weigh.{SameNames}
@@ -35,7 +34,7 @@ given_in parts = flat_map given_of parts
 
 -- how many branches the parts have
 abbrev pub branches_in_parts : List ProblemPart → ℕ
-branches_in_parts parts = sum_by (λ part. branches part.tree) parts
+branches_in_parts parts = sum_by (λ part. length (branches_in part)) parts
 
 -- each claim that was granted is a branch of a part, each name that was taken is a part's, and each that was put is one that a part gives, or the root's
 pub record IsCounted (view : View) (parts : List ProblemPart) (places : List PoolSeat) : Type 0 where

@@ -2,39 +2,34 @@
 use Rattle.std.proofs.Common.{◌≡◌, ℕ, suc, ◌<◌, ◌≤◌, inl, inr, ⊎_elim, List, [], ◌++◌, length, map, Contains, All, Some, unwrap_or, option_map, refl, sym, ap, ◌∙◌, subst, arith}
 use Rattle.std.proofs.lemmas.List.Elements.{All-contains}
 use Rattle.crp_plan.specs.declared.moves.Move.{Move}
-use Rattle.crp_plan.specs.Bay.{Problem, IsProblem, IsPlan, IsBest, relocations, path_of, cap}
+use Rattle.crp_plan.specs.Bay.{Problem, IsProblem, Position, IsAt, IsPlan, IsBest, relocations, path_of, cap}
 use Rattle.crp_plan.specs.Faults.{IsPlanPath}
 use Rattle.crp_bay.proofs.Walked.{at_reads}
 use Rattle.crp_plan.proofs.Covered.{relocations-path}
 use Rattle.crp_plan.proofs.Buried.{below_cap}
-use Rattle.crp_tree.specs.Trees.{Begins, givens, cuts, HasAtLeast, least}
-use Rattle.crp_tree.proofs.Shown.{Outcome, shown}
-use Rattle.crp_tree.proofs.Named.{given_length}
-use Rattle.crp_tree.specs.Scripts.{Part, IsPart, given_by, cuts_of, names, IsNeeded, Script, IsAccepted, Floored, KeepsFloor}
+use Rattle.crp_tree.specs.Trees.{nodes, given_names, Begins, HasAtLeast, least}
+use Rattle.crp_tree.proofs.Shown.{Outcome, passing}
+use Rattle.crp_tree.proofs.Nodes.{given_longer}
+use Rattle.crp_tree.specs.Scripts.{Part, IsPart, nodes_in, given_by, names, IsNeeded, Script, IsAccepted, Floored, KeepsFloor}
 use Rattle.crp_tree.proofs.Lists.{in_map, from_map, in_flat_map, some_or_none, least_under}
 use Rattle.crp_tree.proofs.Covering.{Family, covered}
 
--- the names that a part gives are those of its tree at the position of its name
-pub given_is : (p : Problem) (part : Part) → IsProblem p → (is : IsPart p part) → given_by p part ≡ givens part.name is.place part.tree
-given_is p part ok is = ap (λ o. unwrap_or (option_map (λ s. givens part.name s part.tree) o) []) (at_reads p part.name is.place ok is.is_at)
-
--- and so are the values of its cuts
-pub cuts_are : (p : Problem) (part : Part) → IsProblem p → (is : IsPart p part) → cuts_of p part ≡ cuts part.name is.place part.tree
-cuts_are p part ok is = ap (λ o. unwrap_or (option_map (λ s. cuts part.name s part.tree) o) []) (at_reads p part.name is.place ok is.is_at)
+-- a part's nodes are those of its tree at the position of its name
+pub nodes_are : (p : Problem) (part : Part) (s : Position) → IsProblem p → IsAt p part.name s → nodes_in p part ≡ nodes part.name s part.tree
+nodes_are p part s ok a = ap (λ o. unwrap_or (option_map (λ t. nodes part.name t part.tree) o) []) (at_reads p part.name s ok a)
 
 -- the names that a part gives are longer than its own
 part_longer : (p : Problem) (part : Part) (g : List ℕ) → IsProblem p → IsPart p part → Contains (given_by p part) g → length part.name < length g
 part_longer p part g ok is c =
     let shape = is.shape in
-    given_length part.name is.place g part.tree shape.not_given (subst (λ l. Contains l g) (given_is p part ok is) c)
+    given_longer part.name is.place part.tree g shape.not_given (subst (λ l. Contains (given_names l) g) (nodes_are p part is.place ok is.is_at) c)
 
 -- a plan that passes a part has the floor of its cuts, or goes on to a part that it gives
-part_tells : (p : Problem) (part : Part) (f : ℕ) (moves : List Move) → IsProblem p → IsPart p part → HasAtLeast f (cuts_of p part) → IsPlan p moves → Begins (path_of moves) part.name →
+part_passed : (p : Problem) (part : Part) (f : ℕ) (moves : List Move) → IsProblem p → IsPart p part → HasAtLeast f (nodes_in p part) → IsPlan p moves → Begins (path_of moves) part.name →
     Outcome moves f (given_by p part)
-part_tells p part f moves ok is h plan b =
-    let shape = is.shape in
-    let r = shown p part.name b.0 is.place moves f ok is.is_at plan b.1 part.tree shape.fits (subst (HasAtLeast f) (cuts_are p part ok is) h) in
-    subst (Outcome moves f) (sym (given_is p part ok is)) r
+part_passed p part f moves ok is h plan b =
+    let same = nodes_are p part is.place ok is.is_at in
+    subst (λ l. Outcome moves f (given_names l)) (sym same) (passing p part.name is.place part.tree f moves ok is.is_at is.shape (subst (HasAtLeast f) same h) plan b)
 
 -- each name that a part gives has a part
 part_of : (p : Problem) (parts : List Part) → ((name : List ℕ) → IsNeeded p parts name → Contains (names parts) name) →
@@ -52,8 +47,8 @@ bounded script moves ok plan =
       xs = script.parts;
       name_of = λ x. x.name;
       given_of = given_by p;
-      tells = λ x c b. part_tells p x script.lower moves ok.is_problem (All-contains (IsPart p) script.parts x ok.each_part c)
-          (All-contains (λ part. HasAtLeast script.lower (cuts_of p part)) script.parts x ok.each_cut c) plan b;
+      tells = λ x c b. part_passed p x script.lower moves ok.is_problem (All-contains (IsPart p) script.parts x ok.each_part c)
+          (All-contains (λ part. HasAtLeast script.lower (nodes_in p part)) script.parts x ok.each_cut c) plan b;
       longer = λ x g c d. part_longer p x g ok.is_problem (All-contains (IsPart p) script.parts x ok.each_part c) d;
       has_part = part_of p script.parts need;
     } in

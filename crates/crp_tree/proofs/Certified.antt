@@ -4,17 +4,17 @@ use Rattle.std.proofs.lemmas.List.{get_or-map, length-map}
 use Rattle.std.proofs.lemmas.List.Elements.{All-contains, All-map}
 use Rattle.crp_plan.specs.Bay.{Problem, cap}
 use Rattle.crp_plan.specs.Faults.{IsPlanPath}
-use Rattle.crp_tree.specs.Trees.{HasAtLeast}
+use Rattle.crp_tree.specs.Trees.{value, HasAtLeast}
 use Rattle.crp_tree.specs.Names.{Precedes}
-use Rattle.crp_tree.specs.Scripts.{IsPart, IsAccepted, IsNeeded, names, cuts_of}
-use Rattle.crp_tree.specs.Parts.{ProblemPart, part_of, cut_values, names_of, floors_of, IsKeptPart, Certificate, IsCertificate, IsAbout, script_of}
+use Rattle.crp_tree.specs.Scripts.{IsPart, IsAccepted, IsNeeded, names, nodes_in}
+use Rattle.crp_tree.specs.Parts.{ProblemPart, part_of, cuts_in, names_of, floors_of, IsKeptPart, Certificate, IsCertificate, IsAbout, script_of}
 use Rattle.crp_tree.proofs.Lists.{from_map}
 use Rattle.crp_tree.proofs.Ordered.{not_itself}
 use Rattle.crp_tree.proofs.Shown.{least_most, from_least}
 
 -- the floor of a part is at most the cap
 pub floor_low : (p : Problem) (x : ProblemPart) → x.problem ≡ p → IsKeptPart x → x.floor ≤ cap p
-floor_low p x same k = let e = k.floor_is in omega (arith, least_most (cap x.problem) (cut_values x), ap cap same)
+floor_low p x same k = let e = k.floor_is in omega (arith, least_most (cap x.problem) (map value (cuts_in x)), ap cap same)
 
 -- some part has the bound for its floor
 pub lowest_part : (cert : Certificate) → IsCertificate cert → (x : ProblemPart) × Contains cert.parts x × (x.floor ≡ cert.lower)
@@ -28,10 +28,10 @@ lower_under cert c k d lt =
     subst (λ f. cert.lower ≤ f) (get_or-map (λ (x : ProblemPart). x.floor) cert.parts k d 0 lt) (is.lowest k 0 there)
 
 -- no cut of a part is below its floor
-pub cuts_over : (p : Problem) (x : ProblemPart) (f : ℕ) → x.problem ≡ p → IsKeptPart x → f ≤ x.floor → HasAtLeast f (cuts_of p (part_of x))
+cuts_over : (p : Problem) (x : ProblemPart) (f : ℕ) → x.problem ≡ p → IsKeptPart x → f ≤ x.floor → HasAtLeast f (nodes_in p (part_of x))
 cuts_over p x f same k le =
     let e = k.floor_is in
-    subst (λ q. HasAtLeast f (cuts_of q (part_of x))) same (from_least f (cap x.problem) (cut_values x) (omega arith))
+    subst (λ q. HasAtLeast f (nodes_in q (part_of x))) same (from_least f (cap x.problem) value (cuts_in x) (omega arith))
 
 -- the names of the parts
 pub same_names : (parts : List ProblemPart) → names_of parts ≡ names (map part_of parts)
@@ -55,7 +55,7 @@ certified p cert plan a is = record {
   within_cap = lower_low p cert a;
   plan_is = is;
   each_part = All-map (IsPart p) part_of cert.parts (λ k d lt. let kept = a.kept k d lt in subst (λ q. IsPart q (part_of (get_or cert.parts k d))) (a.of_problem k d lt) kept.is_part);
-  each_cut = All-map (λ part. HasAtLeast cert.lower (cuts_of p part)) part_of cert.parts (λ k d lt. cuts_over p (get_or cert.parts k d) cert.lower (a.of_problem k d lt) (a.kept k d lt) (lower_under cert a.certificate k d lt));
+  each_cut = All-map (λ part. HasAtLeast cert.lower (nodes_in p part)) part_of cert.parts (λ k d lt. cuts_over p (get_or cert.parts k d) cert.lower (a.of_problem k d lt) (a.kept k d lt) (lower_under cert a.certificate k d lt));
   each_once = let c = a.certificate in subst (AllPairs ◌≢◌) (same_names cert.parts) (distinct (names_of cert.parts) c.rising);
   as_needed = λ name. subst (λ l. Contains l name ↔ IsNeeded p (map part_of cert.parts) name) (same_names cert.parts) (a.as_needed name);
 }

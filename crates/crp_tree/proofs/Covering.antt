@@ -4,7 +4,7 @@ use Rattle.crp_plan.specs.declared.moves.Move.{Move}
 use Rattle.crp_plan.specs.Bay.{relocations, path_of}
 use Rattle.crp_tree.specs.Trees.{Begins}
 use Rattle.crp_tree.proofs.Shown.{Outcome}
-use Rattle.crp_tree.proofs.Named.{begins_short}
+use Rattle.crp_tree.proofs.Givers.{begins_short}
 
 -- parts of some kind, for one plan: a part that the plan passes has its floor or sends it on to a name that it gives, and that name has a part
 pub record Family (X : Type 0) (moves : List Move) (f : ℕ) : Type 0 where

@@ -124,6 +124,10 @@ same_length (x ∷ m) (y ∷ n) b e =
 pub begins_on : (g n m : List ℕ) → Begins g n → Begins n m → Begins g m
 begins_on g n m a b = (b.0 ++ a.0, a.1 ∙ ap (λ l. l ++ a.0) b.1 ∙ Rattle.std.proofs.Common.append_assoc m b.0 a.0)
 
+-- the beginning of a path is no longer than the path
+pub begins_short : (path name : List ℕ) → Begins path name → length name ≤ length path
+begins_short path name b = omega (arith, ap length b.1, length-append name b.0)
+
 -- how many givers have the name
 abbrev pub name_times : List ℕ → List Giver → ℕ
 name_times x parts = sum_by (λ a. one_if (same_name x a.name)) parts

@@ -1,57 +1,58 @@
 -- What parts and certificates keep.
-use Rattle.std.proofs.Common.{◌≡◌, ℕ, ◌+◌, ◌≤◌, ◌<◌, min, ◌⊎◌, inl, inr, ⊎_elim, List, [], length, take, get_or, Contains, All, unwrap_or, option_map, sym, ap, ◌∙◌, subst, arith}
-use Rattle.std.proofs.lemmas.List.Elements.{All-more, All-weaker, All-map}
+use Rattle.std.proofs.Common.{◌≡◌, ℕ, ◌+◌, ◌≤◌, ◌<◌, min, ◌⊎◌, inl, inr, ⊎_elim, List, length, take, get_or, Contains, All, sym, ap, ◌∙◌, subst, arith}
+use Rattle.std.proofs.lemmas.List.Elements.{All-more, All-weaker, All-map, All-same}
 use Rattle.std.proofs.lemmas.List.{take_all}
 use Rattle.std.proofs.lemmas.Bool.{cases_lt}
 use Rattle.crp_plan.specs.Bay.{Problem, IsProblem, Position, IsAt, cap}
-use Rattle.crp_bay.specs.Positions.{at}
 use Rattle.crp_plan.proofs.Paths.{same_at}
-use Rattle.crp_bay.proofs.Walked.{at_reads}
+use Rattle.crp_bounds.specs.Bounds.{look_ahead}
 use Rattle.crp_tree.specs.declared.tree.Tree.{Tree}
-use Rattle.crp_tree.specs.Trees.{Fits, givens, cuts, least, Shows}
-use Rattle.crp_tree.specs.Nodes.{cut_nodes, branch_nodes}
-use Rattle.crp_tree.specs.Scripts.{Part, IsPart, cuts_of}
-use Rattle.crp_tree.specs.Parts.{ProblemPart, given_of, cuts_in, branches_in, IsKeptPart, IsLeast, floors_of}
+use Rattle.crp_tree.specs.Trees.{nodes, given_names, ahead_of, least_value, HasShape, Shows}
+use Rattle.crp_tree.specs.Scripts.{IsPart, nodes_in}
+use Rattle.crp_tree.specs.Parts.{ProblemPart, nodes_of, part_of, IsKeptPart, IsLeast, floors_of}
 use Rattle.crp_tree.proofs.Shown.{shows_least}
+use Rattle.crp_tree.proofs.Nodes.{At, StandsAt, nodes_stand}
 use Rattle.crp_tree.proofs.Lists.{in_map}
-use Rattle.crp_tree.proofs.Accepted.{given_is, cuts_are}
+use Rattle.crp_tree.proofs.Accepted.{nodes_are}
 
 -- what is made of a part and its floor keeps what a part keeps
 pub kept : (p q : Problem) (name : List ℕ) (tree : Tree) (floor : ℕ) → q ≡ p → IsProblem p → IsPart p (record { name = name; tree = tree }) →
-    floor ≡ least (cap p) (cuts_of p (record { name = name; tree = tree })) → IsKeptPart (record { problem = q; name = name; tree = tree; floor = floor })
+    floor ≡ least_value (cap p) (nodes_in p (record { name = name; tree = tree })) → IsKeptPart (record { problem = q; name = name; tree = tree; floor = floor })
 kept p q name tree floor same ok is e =
     subst (λ r. IsKeptPart (record { problem = r; name = name; tree = tree; floor = floor })) (sym same)
-    (let part : Part = record { name = name; tree = tree } in
-    let shown : Shows p name (givens name is.place tree) (least (cap p) (cuts name is.place tree)) = shows_least p name is.place tree ok is.is_at is.shape in
-    let by_floor : Shows p name (givens name is.place tree) floor = subst (Shows p name (givens name is.place tree)) (sym (e ∙ ap (least (cap p)) (cuts_are p part ok is))) shown in
+    (let list = nodes_are p (record { name = name; tree = tree }) is.place ok is.is_at in
     record {
       is_problem = ok;
       is_part = is;
       floor_is = e;
-      shows = subst (λ l. Shows p name l floor) (sym (given_is p part ok is)) by_floor;
+      shows = subst (λ l. Shows p name (given_names l) floor) (sym list)
+          (subst (Shows p name (given_names (nodes name is.place tree))) (sym (e ∙ ap (least_value (cap p)) list)) (shows_least p name is.place tree ok is.is_at is.shape));
     })
 
--- a part's tree fits at the position of its name
-pub fits_at_name : (x : ProblemPart) (s : Position) → IsKeptPart x → IsAt x.problem x.name s → Fits x.name s x.tree
-fits_at_name x s k a =
+-- a part's tree has its shape at the position of its name
+pub shape_at_name : (x : ProblemPart) (s : Position) → IsKeptPart x → IsAt x.problem x.name s → HasShape x.name s x.tree
+shape_at_name x s k a =
     let is = k.is_part in
-    let shape = is.shape in
     let place : is.place ≡ s = same_at x.problem x.name is.place s k.is_problem is.is_at a in
-    subst (λ t. Fits x.name t x.tree) place shape.fits
+    subst (λ t. HasShape x.name t x.tree) place is.shape
 
--- the names that a part gives are those of its tree at the position of its name
-pub given_at_name : (x : ProblemPart) (s : Position) → IsKeptPart x → IsAt x.problem x.name s → given_of x ≡ givens x.name s x.tree
-given_at_name x s k a = ap (λ o. unwrap_or (option_map (λ t. givens x.name t x.tree) o) []) (at_reads x.problem x.name s k.is_problem a)
+-- a part's nodes are those of its tree at the position of its name
+pub nodes_at_name : (x : ProblemPart) (s : Position) → IsKeptPart x → IsAt x.problem x.name s → nodes_of x ≡ nodes x.name s x.tree
+nodes_at_name x s k a = nodes_are x.problem (part_of x) s k.is_problem a
 
--- and so are its cuts
-pub cuts_at_name : (p : Problem) (x : ProblemPart) (s : Position) → IsProblem p → x.problem ≡ p → IsAt p x.name s → cuts_in x ≡ cut_nodes x.name s x.tree
-cuts_at_name p x s ok same a =
-    ap (λ q. unwrap_or (option_map (λ t. cut_nodes x.name t x.tree) (at q x.name)) []) same ∙ ap (λ o. unwrap_or (option_map (λ t. cut_nodes x.name t x.tree) o) []) (at_reads p x.name s ok a)
+-- each of them stands at its path, and length and look-ahead are no less there than at the name
+part_stands : (x : ProblemPart) (s : Position) → IsKeptPart x → IsAt x.problem x.name s → All (At (StandsAt x.problem (length x.name + look_ahead s))) (nodes_of x)
+part_stands x s k a =
+    All-same (At (StandsAt x.problem (length x.name + look_ahead s))) (nodes_of x) (nodes x.name s x.tree) (nodes_at_name x s k a) (nodes_stand x.problem x.name s x.tree k.is_problem a)
 
--- and its branches
-pub branches_at_name : (p : Problem) (x : ProblemPart) (s : Position) → IsProblem p → x.problem ≡ p → IsAt p x.name s → branches_in x ≡ branch_nodes x.name s x.tree
-branches_at_name p x s ok same a =
-    ap (λ q. unwrap_or (option_map (λ t. branch_nodes x.name t x.tree) (at q x.name)) []) same ∙ ap (λ o. unwrap_or (option_map (λ t. branch_nodes x.name t x.tree) o) []) (at_reads p x.name s ok a)
+pub part_nodes : (x : ProblemPart) → IsKeptPart x → All (λ n. IsAt x.problem n.path n.place) (nodes_of x)
+part_nodes x k =
+    let is = k.is_part in
+    All-weaker (At (StandsAt x.problem (length x.name + look_ahead is.place))) (λ n. IsAt x.problem n.path n.place) (λ n q. q.is_at) (nodes_of x) (part_stands x is.place k is.is_at)
+
+pub part_higher : (x : ProblemPart) (s : Position) → IsKeptPart x → IsAt x.problem x.name s → All (λ n. length x.name + look_ahead s ≤ ahead_of n) (nodes_of x)
+part_higher x s k a =
+    All-weaker (At (StandsAt x.problem (length x.name + look_ahead s))) (λ n. length x.name + look_ahead s ≤ ahead_of n) (λ n q. q.high) (nodes_of x) (part_stands x s k a)
 
 -- the lesser of two numbers is one of them
 pub lesser_is : (m n : ℕ) → (min m n ≡ m) ⊎ (min m n ≡ n)

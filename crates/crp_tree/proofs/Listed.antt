@@ -1,12 +1,13 @@
 -- The trees of a branch as a list, one for each row.
-use Rattle.std.proofs.Common.{◌≡◌, ℕ, zero, suc, ◌+◌, ◌≤◌, ◌<◌, List, [], ◌∷◌, ◌++◌, length, take, get_or, Vec, Global, refl, sym, ap, ◌∙◌, subst, arith, append_assoc, append-nil, length-append, add-one}
-use Rattle.std.proofs.lemmas.List.{take_all}
+use Rattle.std.proofs.Common.{◌≡◌, ℕ, zero, suc, ◌≤◌, ◌<◌, ◌⊎◌, ⊎_elim, List, [], ◌∷◌, ◌++◌, length, take, drop, get_or, Vec, Global, refl, sym, ap, ◌∙◌, subst, arith, append_assoc, append-nil, Contains, All}
+use Rattle.std.proofs.lemmas.List.{drop_all}
+use Rattle.std.proofs.lemmas.List.Elements.{All-contains, Contains-append_left, Contains-append_right}
 use Rattle.crp_tree.specs.declared.tree.Tree.{Tree, CutB, CutL, Branch', Given, Branch, Row_of-Tree, end_of-Tree, more_of-Tree, items-the_row-Tree, items_hidden-the_row-Tree-0}
 use Rattle.crp_plan.specs.Bay.{Position}
 use Rattle.crp_bay.specs.Positions.{targets, child}
-use Rattle.crp_tree.specs.Trees.{Fits, FitsEach, cuts, cuts_of_each, givens, givens_of_each}
-use Rattle.crp_tree.specs.Listed.{Told, each, AreFit, branches_in_all}
-use Rattle.crp_tree.specs.Nodes.{cut_nodes, cut_nodes_of_each, branch_nodes, branch_nodes_of_each, branches, branches_of_each}
+use Rattle.crp_tree.specs.Trees.{Node, X, nodes, nodes_of_each, Fits, FitsEach}
+use Rattle.crp_tree.specs.Listed.{nodes_below, AreFit}
+use Rattle.crp_tree.proofs.InLine.{from_members}
 
 -- it is a branch
 abbrev pub IsBranch : Tree → Type 0
@@ -16,201 +17,174 @@ IsBranch (Branch' shape all) = Unit {0}
 IsBranch Given = ⊥
 
 -- the trees of a branch
-abbrev pub below : Tree → List Tree
-below CutB = []
-below CutL = []
-below (Branch' shape all) = items-the_row-Tree _ all
-below Given = []
+abbrev pub trees_of : Tree → List Tree
+trees_of CutB = []
+trees_of CutL = []
+trees_of (Branch' shape all) = items-the_row-Tree _ all
+trees_of Given = []
 
-list_fits : (path : List ℕ) (s : Position) (rows : List ℕ) {m : _} (all : Row_of-Tree m) → FitsEach path s rows all → AreFit path s rows (items-the_row-Tree m all)
-list_fits path s [] end_of-Tree h = tt
-list_fits path s [] (more_of-Tree tree trees) h = absurd h
-list_fits path s (row ∷ rows) end_of-Tree h = absurd h
-list_fits path s (row ∷ rows) (more_of-Tree tree trees) h = (h.0, list_fits path s rows trees h.1)
+pub list_fits : (s : Position) (rows : List ℕ) {m : _} (all : Row_of-Tree m) → FitsEach s rows all → AreFit s rows (items-the_row-Tree m all)
+list_fits s [] end_of-Tree h = tt
+list_fits s [] (more_of-Tree tree trees) h = absurd h
+list_fits s (row ∷ rows) end_of-Tree h = absurd h
+list_fits s (row ∷ rows) (more_of-Tree tree trees) h = (h.0, list_fits s rows trees h.1)
 
-fits_list : (path : List ℕ) (s : Position) (rows : List ℕ) {m : _} (all : Row_of-Tree m) → AreFit path s rows (items-the_row-Tree m all) → FitsEach path s rows all
-fits_list path s [] end_of-Tree h = tt
-fits_list path s [] (more_of-Tree tree trees) h = absurd h
-fits_list path s (row ∷ rows) end_of-Tree h = absurd h
-fits_list path s (row ∷ rows) (more_of-Tree tree trees) h = (h.0, fits_list path s rows trees h.1)
+fits_list : (s : Position) (rows : List ℕ) {m : _} (all : Row_of-Tree m) → AreFit s rows (items-the_row-Tree m all) → FitsEach s rows all
+fits_list s [] end_of-Tree h = tt
+fits_list s [] (more_of-Tree tree trees) h = absurd h
+fits_list s (row ∷ rows) end_of-Tree h = absurd h
+fits_list s (row ∷ rows) (more_of-Tree tree trees) h = (h.0, fits_list s rows trees h.1)
 
-list_givens : (path : List ℕ) (s : Position) (rows : List ℕ) {m : _} (all : Row_of-Tree m) → givens_of_each path s rows all ≡ each givens path s rows (items-the_row-Tree m all)
-list_givens path s [] end_of-Tree = refl
-list_givens path s [] (more_of-Tree tree trees) = refl
-list_givens path s (row ∷ rows) end_of-Tree = refl
-list_givens path s (row ∷ rows) (more_of-Tree tree trees) = ap (λ l. givens (path ++ row ∷ []) (child s row) tree ++ l) (list_givens path s rows trees)
+pub list_nodes : (path : List ℕ) (s : Position) (rows : List ℕ) {m : _} (all : Row_of-Tree m) → nodes_of_each path s rows all ≡ nodes_below path s rows (items-the_row-Tree m all)
+list_nodes path s [] end_of-Tree = refl
+list_nodes path s [] (more_of-Tree tree trees) = refl
+list_nodes path s (row ∷ rows) end_of-Tree = refl
+list_nodes path s (row ∷ rows) (more_of-Tree tree trees) = ap (λ l. nodes (path ++ row ∷ []) (child s row) tree ++ l) (list_nodes path s rows trees)
 
-list_cuts : (path : List ℕ) (s : Position) (rows : List ℕ) {m : _} (all : Row_of-Tree m) → cuts_of_each path s rows all ≡ each cuts path s rows (items-the_row-Tree m all)
-list_cuts path s [] end_of-Tree = refl
-list_cuts path s [] (more_of-Tree tree trees) = refl
-list_cuts path s (row ∷ rows) end_of-Tree = refl
-list_cuts path s (row ∷ rows) (more_of-Tree tree trees) = ap (λ l. cuts (path ++ row ∷ []) (child s row) tree ++ l) (list_cuts path s rows trees)
+-- the node of a branch
+abbrev pub branch_node : List ℕ → Position → Node
+branch_node path s = record { path = path; place = s; mark = X }
 
-list_cut_nodes : (path : List ℕ) (s : Position) (rows : List ℕ) {m : _} (all : Row_of-Tree m) → cut_nodes_of_each path s rows all ≡ each cut_nodes path s rows (items-the_row-Tree m all)
-list_cut_nodes path s [] end_of-Tree = refl
-list_cut_nodes path s [] (more_of-Tree tree trees) = refl
-list_cut_nodes path s (row ∷ rows) end_of-Tree = refl
-list_cut_nodes path s (row ∷ rows) (more_of-Tree tree trees) = ap (λ l. cut_nodes (path ++ row ∷ []) (child s row) tree ++ l) (list_cut_nodes path s rows trees)
+-- what a branch has, by the list of its trees
+pub record IsBranchOf (tree : Tree) (trees : List Tree) : Type 0 where
+  pub fits : (s : Position) → AreFit s (targets s) trees → Fits s tree
+  pub fitting : (s : Position) → Fits s tree → AreFit s (targets s) trees
+  pub nodes_are : (path : List ℕ) (s : Position) → nodes path s tree ≡ branch_node path s ∷ nodes_below path s (targets s) trees
 
-list_branch_nodes : (path : List ℕ) (s : Position) (rows : List ℕ) {m : _} (all : Row_of-Tree m) → branch_nodes_of_each path s rows all ≡ each branch_nodes path s rows (items-the_row-Tree m all)
-list_branch_nodes path s [] end_of-Tree = refl
-list_branch_nodes path s [] (more_of-Tree tree trees) = refl
-list_branch_nodes path s (row ∷ rows) end_of-Tree = refl
-list_branch_nodes path s (row ∷ rows) (more_of-Tree tree trees) = ap (λ l. branch_nodes (path ++ row ∷ []) (child s row) tree ++ l) (list_branch_nodes path s rows trees)
-
-list_branches : {m : _} (all : Row_of-Tree m) → branches_of_each all ≡ branches_in_all (items-the_row-Tree m all)
-list_branches end_of-Tree = refl
-list_branches (more_of-Tree tree trees) = ap (λ n. branches tree + n) (list_branches trees)
-
--- what is told of a branch, by the list of its trees
-pub record TellsBranch (path : List ℕ) (s : Position) (tree : Tree) (trees : List Tree) : Type 0 where
-  pub fits : s.next ≤ s.ordered → AreFit path s (targets s) trees → Fits path s tree
-  pub fitting : Fits path s tree → (s.next ≤ s.ordered) × AreFit path s (targets s) trees
-  pub givens_are : givens path s tree ≡ each givens path s (targets s) trees
-  pub cuts_are : cuts path s tree ≡ each cuts path s (targets s) trees
-  pub cut_nodes_are : cut_nodes path s tree ≡ each cut_nodes path s (targets s) trees
-  pub branch_nodes_are : branch_nodes path s tree ≡ (record { path = path; place = s }) ∷ each branch_nodes path s (targets s) trees
-  pub branches_are : branches tree ≡ suc (branches_in_all trees)
-
-tells : (path : List ℕ) (s : Position) (tree : Tree) → IsBranch tree → TellsBranch path s tree (below tree)
-tells path s CutB is = absurd is
-tells path s CutL is = absurd is
-tells path s Given is = absurd is
-tells path s (Branch' shape all) is = record {
-  fits = λ le h. (le, fits_list path s (targets s) all h);
-  fitting = λ h. (h.0, list_fits path s (targets s) all h.1);
-  givens_are = list_givens path s (targets s) all;
-  cuts_are = list_cuts path s (targets s) all;
-  cut_nodes_are = list_cut_nodes path s (targets s) all;
-  branch_nodes_are = ap (λ l. (record { path = path; place = s }) ∷ l) (list_branch_nodes path s (targets s) all);
-  branches_are = ap suc (list_branches all);
+by_trees : (tree : Tree) → IsBranch tree → IsBranchOf tree (trees_of tree)
+by_trees CutB is = absurd is
+by_trees CutL is = absurd is
+by_trees Given is = absurd is
+by_trees (Branch' shape all) is = record {
+  fits = λ s h. fits_list s (targets s) all h;
+  fitting = λ s h. list_fits s (targets s) all h;
+  nodes_are = λ path s. ap (λ l. branch_node path s ∷ l) (list_nodes path s (targets s) all);
 }
 
--- a branch is told by the list of its trees
-pub branch_tells : (path : List ℕ) (s : Position) (trees : Vec Tree Global) → TellsBranch path s (Branch trees) trees.items
-branch_tells path s trees = subst (TellsBranch path s (Branch trees)) (items_hidden-the_row-Tree-0 trees) (tells path s (Branch trees) tt)
+pub branch_of : (trees : Vec Tree Global) → IsBranchOf (Branch trees) trees.items
+branch_of trees = subst (IsBranchOf (Branch trees)) (items_hidden-the_row-Tree-0 trees) (by_trees (Branch trees) tt)
 
--- one tree more is told after those before it
-pub each_take : {X : Type 0} (f : Told X) (path : List ℕ) (s : Position) (rows : List ℕ) (trees : List Tree) (i a : ℕ) (d : Tree) → i < length rows → i < length trees →
-    each f path s (take (suc i) rows) (take (suc i) trees) ≡ each f path s (take i rows) (take i trees) ++ f (path ++ get_or rows i a ∷ []) (child s (get_or rows i a)) (get_or trees i d)
-each_take f path s [] trees i a d lr lt = absurd (omega arith)
-each_take f path s (r ∷ rows) [] i a d lr lt = absurd (omega arith)
-each_take f path s (r ∷ rows) (t ∷ trees) zero a d lr lt = append-nil (f (path ++ r ∷ []) (child s r) t)
-each_take f path s (r ∷ rows) (t ∷ trees) (suc i) a d lr lt =
-    ap (λ l. f (path ++ r ∷ []) (child s r) t ++ l) (each_take f path s rows trees i a d (omega arith) (omega arith))
-    ∙ sym (append_assoc (f (path ++ r ∷ []) (child s r) t) (each f path s (take i rows) (take i trees)) (f (path ++ get_or rows i a ∷ []) (child s (get_or rows i a)) (get_or trees i d)))
+-- the same of a tree that is a branch, and the list of its trees
+pub is_branch_of : (tree : Tree) (trees : Vec Tree Global) (list : List Tree) → tree ≡ Branch trees → list ≡ trees.items → IsBranchOf tree list
+is_branch_of tree trees list is same = subst (λ t. IsBranchOf t list) (sym is) (subst (IsBranchOf (Branch trees)) (sym same) (branch_of trees))
 
--- and so is one that is put behind them
-pub each_push : {X : Type 0} (f : Told X) (path : List ℕ) (s : Position) (rows : List ℕ) (trees : List Tree) (i a : ℕ) (tree : Tree) → i < length rows → length trees ≡ i →
-    each f path s (take (suc i) rows) (trees ++ tree ∷ []) ≡ each f path s (take i rows) trees ++ f (path ++ get_or rows i a ∷ []) (child s (get_or rows i a)) tree
-each_push f path s [] trees i a tree lr lt = absurd (omega arith)
-each_push f path s (r ∷ rows) [] zero a tree lr lt = append-nil (f (path ++ r ∷ []) (child s r) tree)
-each_push f path s (r ∷ rows) [] (suc i) a tree lr lt = absurd (omega arith)
-each_push f path s (r ∷ rows) (t ∷ trees) zero a tree lr lt = absurd (omega arith)
-each_push f path s (r ∷ rows) (t ∷ trees) (suc i) a tree lr lt =
-    ap (λ l. f (path ++ r ∷ []) (child s r) t ++ l) (each_push f path s rows trees i a tree (omega arith) (omega arith))
-    ∙ sym (append_assoc (f (path ++ r ∷ []) (child s r) t) (each f path s (take i rows) trees) (f (path ++ get_or rows i a ∷ []) (child s (get_or rows i a)) tree))
+-- its nodes
+pub branch_nodes : (path : List ℕ) (s : Position) (tree : Tree) (trees : Vec Tree Global) (list : List Tree) → tree ≡ Branch trees → list ≡ trees.items → nodes path s tree ≡ branch_node path s ∷ nodes_below path s (targets s) list
+branch_nodes path s tree trees list is same = let branch = is_branch_of tree trees list is same in branch.nodes_are path s
+
+-- ---- tree after tree
+
+-- without trees there is nothing
+nodes_none : (path : List ℕ) (s : Position) (rows : List ℕ) → nodes_below path s rows [] ≡ []
+nodes_none path s [] = refl
+nodes_none path s (row ∷ rows) = refl
+
+-- so many trees, and those after them
+pub nodes_split : (path : List ℕ) (s : Position) (rows : List ℕ) (trees : List Tree) (i : ℕ) →
+    nodes_below path s rows trees ≡ nodes_below path s (take i rows) (take i trees) ++ nodes_below path s (drop i rows) (drop i trees)
+nodes_split path s rows trees zero = refl
+nodes_split path s [] trees (suc i) = refl
+nodes_split path s (row ∷ rows) [] (suc i) = sym (nodes_none path s (drop i rows))
+nodes_split path s (row ∷ rows) (tree ∷ trees) (suc i) =
+    ap (λ l. nodes (path ++ row ∷ []) (child s row) tree ++ l) (nodes_split path s rows trees i)
+    ∙ sym (append_assoc (nodes (path ++ row ∷ []) (child s row) tree) (nodes_below path s (take i rows) (take i trees)) _)
+
+-- after the last row or the last tree that is all
+pub nodes_all : (path : List ℕ) (s : Position) (rows : List ℕ) (trees : List Tree) (i : ℕ) → (length rows ≤ i) ⊎ (length trees ≤ i) →
+    nodes_below path s (take i rows) (take i trees) ≡ nodes_below path s rows trees
+nodes_all path s rows trees i le =
+    let rest : nodes_below path s (drop i rows) (drop i trees) ≡ [] = ⊎_elim
+    (λ a. ap (λ l. nodes_below path s l (drop i trees)) (drop_all i rows a))
+    (λ a. ap (nodes_below path s (drop i rows)) (drop_all i trees a) ∙ nodes_none path s (drop i rows))
+    le in
+    sym (nodes_split path s rows trees i ∙ ap (λ l. nodes_below path s (take i rows) (take i trees) ++ l) rest ∙ append-nil _)
+
+-- one tree more comes behind those before it
+nodes_more : (path : List ℕ) (s : Position) (rows : List ℕ) (trees : List Tree) (i a : ℕ) (d : Tree) → i < length rows → i < length trees →
+    nodes_below path s (take (suc i) rows) (take (suc i) trees) ≡ nodes_below path s (take i rows) (take i trees) ++ nodes (path ++ get_or rows i a ∷ []) (child s (get_or rows i a)) (get_or trees i d)
+nodes_more path s [] trees i a d lr lt = absurd (omega arith)
+nodes_more path s (r ∷ rows) [] i a d lr lt = absurd (omega arith)
+nodes_more path s (r ∷ rows) (t ∷ trees) zero a d lr lt = append-nil (nodes (path ++ r ∷ []) (child s r) t)
+nodes_more path s (r ∷ rows) (t ∷ trees) (suc i) a d lr lt =
+    ap (λ l. nodes (path ++ r ∷ []) (child s r) t ++ l) (nodes_more path s rows trees i a d (omega arith) (omega arith))
+    ∙ sym (append_assoc (nodes (path ++ r ∷ []) (child s r) t) (nodes_below path s (take i rows) (take i trees)) _)
+
+-- and so does one that is put behind them
+pub nodes_push : (path : List ℕ) (s : Position) (rows : List ℕ) (trees : List Tree) (i a : ℕ) (tree : Tree) → i < length rows → length trees ≡ i →
+    nodes_below path s (take (suc i) rows) (trees ++ tree ∷ []) ≡ nodes_below path s (take i rows) trees ++ nodes (path ++ get_or rows i a ∷ []) (child s (get_or rows i a)) tree
+nodes_push path s [] trees i a tree lr lt = absurd (omega arith)
+nodes_push path s (r ∷ rows) [] zero a tree lr lt = append-nil (nodes (path ++ r ∷ []) (child s r) tree)
+nodes_push path s (r ∷ rows) [] (suc i) a tree lr lt = absurd (omega arith)
+nodes_push path s (r ∷ rows) (t ∷ trees) zero a tree lr lt = absurd (omega arith)
+nodes_push path s (r ∷ rows) (t ∷ trees) (suc i) a tree lr lt =
+    ap (λ l. nodes (path ++ r ∷ []) (child s r) t ++ l) (nodes_push path s rows trees i a tree (omega arith) (omega arith))
+    ∙ sym (append_assoc (nodes (path ++ r ∷ []) (child s r) t) (nodes_below path s (take i rows) trees) _)
 
 -- a tree that fits at the next row is one more that fits
-pub fit_push : (path : List ℕ) (s : Position) (rows : List ℕ) (trees : List Tree) (i a : ℕ) (tree : Tree) → i < length rows → length trees ≡ i →
-    AreFit path s (take i rows) trees → Fits (path ++ get_or rows i a ∷ []) (child s (get_or rows i a)) tree → AreFit path s (take (suc i) rows) (trees ++ tree ∷ [])
-fit_push path s [] trees i a tree lr lt h f = absurd (omega arith)
-fit_push path s (r ∷ rows) [] zero a tree lr lt h f = (f, tt)
-fit_push path s (r ∷ rows) [] (suc i) a tree lr lt h f = absurd (omega arith)
-fit_push path s (r ∷ rows) (t ∷ trees) zero a tree lr lt h f = absurd (omega arith)
-fit_push path s (r ∷ rows) (t ∷ trees) (suc i) a tree lr lt h f = (h.0, fit_push path s rows trees i a tree (omega arith) (omega arith) h.1 f)
-
--- the branches of one tree more
-pub branches_push : (trees : List Tree) (tree : Tree) → branches_in_all (trees ++ tree ∷ []) ≡ branches_in_all trees + branches tree
-branches_push [] tree = omega arith
-branches_push (t ∷ trees) tree = let e = branches_push trees tree in omega arith
+pub fit_push : (s : Position) (rows : List ℕ) (trees : List Tree) (i a : ℕ) (tree : Tree) → i < length rows → AreFit s (take i rows) trees → Fits (child s (get_or rows i a)) tree → AreFit s (take (suc i) rows) (trees ++ tree ∷ [])
+fit_push s [] trees i a tree lr h f = absurd (omega arith)
+fit_push s (r ∷ rows) [] zero a tree lr h f = (f, tt)
+fit_push s (r ∷ rows) (t ∷ trees) zero a tree lr h f = absurd h
+fit_push s (r ∷ rows) [] (suc i) a tree lr h f = absurd h
+fit_push s (r ∷ rows) (t ∷ trees) (suc i) a tree lr h f = (h.0, fit_push s rows trees i a tree (omega arith) h.1 f)
 
 -- of trees that fit, each fits at its row
-pub fit_at : (path : List ℕ) (s : Position) (rows : List ℕ) (trees : List Tree) (i a : ℕ) (d : Tree) → i < length trees → AreFit path s rows trees →
-    Fits (path ++ get_or rows i a ∷ []) (child s (get_or rows i a)) (get_or trees i d)
-fit_at path s [] [] i a d lt h = absurd (omega arith)
-fit_at path s [] (t ∷ trees) i a d lt h = absurd h
-fit_at path s (r ∷ rows) [] i a d lt h = absurd (omega arith)
-fit_at path s (r ∷ rows) (t ∷ trees) zero a d lt h = h.0
-fit_at path s (r ∷ rows) (t ∷ trees) (suc i) a d lt h = fit_at path s rows trees i a d (omega arith) h.1
+fit_at : (s : Position) (rows : List ℕ) (trees : List Tree) (i a : ℕ) (d : Tree) → i < length trees → AreFit s rows trees → Fits (child s (get_or rows i a)) (get_or trees i d)
+fit_at s [] [] i a d lt h = absurd (omega arith)
+fit_at s [] (t ∷ trees) i a d lt h = absurd h
+fit_at s (r ∷ rows) [] i a d lt h = absurd (omega arith)
+fit_at s (r ∷ rows) (t ∷ trees) zero a d lt h = h.0
+fit_at s (r ∷ rows) (t ∷ trees) (suc i) a d lt h = fit_at s rows trees i a d (omega arith) h.1
 
 -- there are as many of them as rows
-pub fit_lengths : (path : List ℕ) (s : Position) (rows : List ℕ) (trees : List Tree) → AreFit path s rows trees → length rows ≡ length trees
-fit_lengths path s [] [] h = refl
-fit_lengths path s [] (t ∷ trees) h = absurd h
-fit_lengths path s (r ∷ rows) [] h = absurd h
-fit_lengths path s (r ∷ rows) (t ∷ trees) h = ap suc (fit_lengths path s rows trees h.1)
+pub fit_lengths : (s : Position) (rows : List ℕ) (trees : List Tree) → AreFit s rows trees → length rows ≡ length trees
+fit_lengths s [] [] h = refl
+fit_lengths s [] (t ∷ trees) h = absurd h
+fit_lengths s (r ∷ rows) [] h = absurd h
+fit_lengths s (r ∷ rows) (t ∷ trees) h = ap suc (fit_lengths s rows trees h.1)
 
--- beyond 8 rows nothing is given
-mutual
-  pub none_deep : (path : List ℕ) (s : Position) (tree : Tree) → 8 < length path → Fits path s tree → givens path s tree ≡ []
-  none_deep path s CutB deep h = refl
-  none_deep path s CutL deep h = refl
-  none_deep path s Given deep h = absurd (omega arith)
-  none_deep path s (Branch' shape all) deep h = none_deep_each path s (targets s) all (omega arith) h.1
-
-  pub none_deep_each : (path : List ℕ) (s : Position) (rows : List ℕ) {m : _} (all : Row_of-Tree m) → 8 ≤ length path → FitsEach path s rows all → givens_of_each path s rows all ≡ []
-  none_deep_each path s [] end_of-Tree deep h = refl
-  none_deep_each path s [] (more_of-Tree tree trees) deep h = refl
-  none_deep_each path s (row ∷ rows) end_of-Tree deep h = refl
-  none_deep_each path s (row ∷ rows) (more_of-Tree tree trees) deep h =
-      ap (λ l. l ++ givens_of_each path s rows trees) (none_deep (path ++ row ∷ []) (child s row) tree (omega (arith, length-append path (row ∷ []))) h.0)
-      ∙ none_deep_each path s rows trees deep h.1
-
--- a branch, and the list of its trees
-pub is_told : (path : List ℕ) (s : Position) (tree : Tree) (trees : Vec Tree Global) (list : List Tree) → tree ≡ Branch trees → list ≡ trees.items → TellsBranch path s tree list
-is_told path s tree trees list is same =
-    subst (λ t. TellsBranch path s t list) (sym is) (subst (TellsBranch path s (Branch trees)) (sym same) (branch_tells path s trees))
+-- ---- the tree that a loop goes over
 
 -- one of the trees below a path, with its row and where that leads
-pub record Meets (path : List ℕ) (s : Position) (rows : List ℕ) (trees : List Tree) (i row : ℕ) (one : Tree) (longer : List ℕ) (next : Position) : Type 0 where
-  pub within : i < length trees
-  pub row_is : row ≡ get_or rows i 0
-  pub one_is : one ≡ get_or trees i one
-  pub longer_is : longer ≡ path ++ row ∷ []
-  pub next_is : next ≡ child s row
+pub record Meets (path here : List ℕ) (s next : Position) (rows : List ℕ) (trees : List Tree) (i row : ℕ) (tree : Tree) : Type 0 where
+  pub in_rows : i < length rows
+  pub in_trees : i < length trees
+  pub is_row : row ≡ get_or rows i 0
+  pub is_next : next ≡ child s row
+  pub is_here : here ≡ path ++ row ∷ []
+  pub is_tree : tree ≡ get_or trees i tree
+
+-- what holds of the tree at the index holds of it
+met : (path here : List ℕ) (s next : Position) (rows : List ℕ) (trees : List Tree) (i row : ℕ) (tree : Tree) → Meets path here s next rows trees i row tree → (P : List ℕ → Position → Tree → Type 0) →
+    P (path ++ get_or rows i 0 ∷ []) (child s (get_or rows i 0)) (get_or trees i tree) → P here next tree
+met path here s next rows trees i row tree m P h =
+    let a = subst (P (path ++ get_or rows i 0 ∷ []) (child s (get_or rows i 0))) (sym m.is_tree) h in
+    let b = subst (λ r. P (path ++ r ∷ []) (child s r) tree) (sym m.is_row) a in
+    subst (λ t. P here t tree) (sym m.is_next) (subst (λ l. P l (child s row) tree) (sym m.is_here) b)
 
 -- it fits there
-pub met_fits : (path : List ℕ) (s : Position) (rows : List ℕ) (trees : List Tree) (i row : ℕ) (one : Tree) (longer : List ℕ) (next : Position) →
-    Meets path s rows trees i row one longer next → AreFit path s rows trees → Fits longer next one
-met_fits path s rows trees i row one longer next m h =
-    let a = fit_at path s rows trees i 0 one m.within h in
-    let b = subst (λ x. Fits (path ++ x ∷ []) (child s x) (get_or trees i one)) (sym m.row_is) a in
-    let c = subst (λ x. Fits x (child s row) (get_or trees i one)) (sym m.longer_is) b in
-    let d = subst (λ x. Fits longer x (get_or trees i one)) (sym m.next_is) c in
-    subst (λ x. Fits longer next x) (sym m.one_is) d
+pub met_fits : (path here : List ℕ) (s next : Position) (rows : List ℕ) (trees : List Tree) (i row : ℕ) (tree : Tree) → Meets path here s next rows trees i row tree → AreFit s rows trees → Fits next tree
+met_fits path here s next rows trees i row tree m h = met path here s next rows trees i row tree m (λ l t one. Fits t one) (fit_at s rows trees i 0 tree m.in_trees h)
 
--- what is told of it comes next
-pub met_told : {X : Type 0} (f : Told X) (path : List ℕ) (s : Position) (rows : List ℕ) (trees : List Tree) (i row : ℕ) (one : Tree) (longer : List ℕ) (next : Position) →
-    Meets path s rows trees i row one longer next → i < length rows →
-    each f path s (take (i + 1) rows) (take (i + 1) trees) ≡ each f path s (take i rows) (take i trees) ++ f longer next one
-met_told f path s rows trees i row one longer next m lr =
-    let a = each_take f path s rows trees i 0 one lr m.within in
-    let b = subst (λ x. each f path s (take (suc i) rows) (take (suc i) trees) ≡ each f path s (take i rows) (take i trees) ++ f (path ++ x ∷ []) (child s x) (get_or trees i one)) (sym m.row_is) a in
-    let c = subst (λ x. each f path s (take (suc i) rows) (take (suc i) trees) ≡ each f path s (take i rows) (take i trees) ++ f x (child s row) (get_or trees i one)) (sym m.longer_is) b in
-    let d = subst (λ x. each f path s (take (suc i) rows) (take (suc i) trees) ≡ each f path s (take i rows) (take i trees) ++ f longer x (get_or trees i one)) (sym m.next_is) c in
-    rw add-one (subst (λ x. each f path s (take (suc i) rows) (take (suc i) trees) ≡ each f path s (take i rows) (take i trees) ++ f longer next x) (sym m.one_is) d)
+-- its nodes come next
+pub met_nodes : (path here : List ℕ) (s next : Position) (rows : List ℕ) (trees : List Tree) (i row : ℕ) (tree : Tree) → Meets path here s next rows trees i row tree →
+    nodes_below path s (take (suc i) rows) (take (suc i) trees) ≡ nodes_below path s (take i rows) (take i trees) ++ nodes here next tree
+met_nodes path here s next rows trees i row tree m =
+    met path here s next rows trees i row tree m (λ l t one. nodes_below path s (take (suc i) rows) (take (suc i) trees) ≡ nodes_below path s (take i rows) (take i trees) ++ nodes l t one)
+    (nodes_more path s rows trees i 0 tree m.in_rows m.in_trees)
 
--- nothing is given below 8 rows
-pub none_below : (path : List ℕ) (s : Position) (rows : List ℕ) (trees : List Tree) → 8 ≤ length path → AreFit path s rows trees → each givens path s rows trees ≡ []
-none_below path s [] [] deep h = refl
-none_below path s [] (t ∷ trees) deep h = absurd h
-none_below path s (r ∷ rows) [] deep h = absurd h
-none_below path s (r ∷ rows) (t ∷ trees) deep h =
-    ap (λ l. l ++ each givens path s rows trees) (none_deep (path ++ r ∷ []) (child s r) t (omega (arith, length-append path (r ∷ []))) h.0) ∙ none_below path s rows trees deep h.1
+-- what there is before that tree, what it has, and what comes after it
+pub nodes_around : (path here : List ℕ) (s next : Position) (rows : List ℕ) (trees : List Tree) (i row : ℕ) (tree : Tree) → Meets path here s next rows trees i row tree →
+    nodes_below path s rows trees ≡ nodes_below path s (take i rows) (take i trees) ++ (nodes here next tree ++ nodes_below path s (drop (suc i) rows) (drop (suc i) trees))
+nodes_around path here s next rows trees i row tree m =
+    nodes_split path s rows trees (suc i)
+    ∙ ap (λ l. l ++ nodes_below path s (drop (suc i) rows) (drop (suc i) trees)) (met_nodes path here s next rows trees i row tree m)
+    ∙ append_assoc (nodes_below path s (take i rows) (take i trees)) (nodes here next tree) _
 
--- all trees are told of
-pub told_all : {X : Type 0} (f : Told X) (path : List ℕ) (s : Position) (rows : List ℕ) (trees : List Tree) (i : ℕ) → length rows ≤ i → length trees ≤ i →
-    each f path s (take i rows) (take i trees) ≡ each f path s rows trees
-told_all f path s rows trees i lr lt = rw (take_all i rows lr, take_all i trees lt) refl
-
--- what is told of one more comes behind what was told before
-pub told_after : {X : Type 0} (f : Told X) (path : List ℕ) (s : Position) (rows targets : List ℕ) (trees : List Tree) (i : ℕ) (one : Tree) (longer : List ℕ) (next : Position) (first before after : List X) →
-    rows ≡ targets → Meets path s targets trees i (get_or rows i 0) one longer next → i < length targets →
-    before ≡ first ++ each f path s (take i rows) (take i trees) → after ≡ before ++ f longer next one → after ≡ first ++ each f path s (take (i + 1) rows) (take (i + 1) trees)
-told_after {X} f path s rows targets trees i one longer next first before after same m there was now =
-    let told : each f path s (take (i + 1) rows) (take (i + 1) trees) ≡ each f path s (take i rows) (take i trees) ++ f longer next one =
-    rw same (met_told f path s targets trees i (get_or rows i 0) one longer next m there) in
-    let joined : before ++ f longer next one ≡ first ++ each f path s (take (i + 1) rows) (take (i + 1) trees) =
-    ap (λ l. l ++ f longer next one) was ∙ append_assoc first (each f path s (take i rows) (take i trees)) (f longer next one) ∙ ap (λ l. first ++ l) (sym told) in
-    now ∙ joined
+-- what holds of all nodes holds of its own
+pub met_all : (P : Node → Type 0) (path here : List ℕ) (s next : Position) (rows : List ℕ) (trees : List Tree) (i row : ℕ) (tree : Tree) → Meets path here s next rows trees i row tree → All P (nodes_below path s rows trees) → All P (nodes here next tree)
+met_all P path here s next rows trees i row tree m h =
+    let before = nodes_below path s (take i rows) (take i trees) in
+    let after = nodes_below path s (drop (suc i) rows) (drop (suc i) trees) in
+    from_members P (nodes here next tree) (λ n c. All-contains P (nodes_below path s rows trees) n h
+    (subst (λ l. Contains l n) (sym (nodes_around path here s next rows trees i row tree m)) (Contains-append_right before (nodes here next tree ++ after) n (Contains-append_left (nodes here next tree) after n c))))

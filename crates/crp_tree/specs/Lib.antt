@@ -5,7 +5,6 @@ pub use Rattle.crp_bay.specs.Positions
 pub use Rattle.crp_bounds.specs.Bounds
 pub mod Names
 pub mod Trees
-pub mod Nodes
 pub mod Listed
 pub mod Scripts
 pub mod Parts

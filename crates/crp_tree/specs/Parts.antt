@@ -1,12 +1,10 @@
 -- Parts of the search of a problem with the floors that they show, and the certificates that they make.
-use Rattle.std.specs.Prelude.{◌≡◌, ℕ, ◌≤◌, ◌↔◌, List, [], map, All, AllPairs, Contains, Option, option_map, unwrap_or}
+use Rattle.std.specs.Prelude.{◌≡◌, ℕ, ◌≤◌, ◌↔◌, List, map, All, AllPairs, Contains, Option}
 use Rattle.crp_plan.specs.Bay.{Problem, IsProblem, cap}
-use Rattle.crp_bay.specs.Positions.{at}
 use Rattle.crp_tree.specs.declared.tree.Tree.{Tree}
 use Rattle.crp_tree.specs.Names.{Precedes}
-use Rattle.crp_tree.specs.Trees.{least, Shows}
-use Rattle.crp_tree.specs.Nodes.{Node, Cut, cut_nodes, branch_nodes}
-use Rattle.crp_tree.specs.Scripts.{Part, IsPart, IsNeeded, Script, given_by, cuts_of}
+use Rattle.crp_tree.specs.Trees.{Node, cuts, branches, least_value, Shows}
+use Rattle.crp_tree.specs.Scripts.{Part, IsPart, IsNeeded, Script, nodes_in, given_by}
 
 -- a part of the search of a problem: the path that it stands at, its tree, and the floor that it shows
 pub record ProblemPart : Type 0 where
@@ -19,27 +17,27 @@ pub record ProblemPart : Type 0 where
 abbrev pub part_of : ProblemPart → Part
 part_of x = record { name = x.name; tree = x.tree }
 
+-- its nodes
+abbrev pub nodes_of : ProblemPart → List Node
+nodes_of x = nodes_in x.problem (part_of x)
+
 -- the names that it gives to other parts
 abbrev pub given_of : ProblemPart → List (List ℕ)
 given_of x = given_by x.problem (part_of x)
 
--- the values of its cuts
-abbrev pub cut_values : ProblemPart → List ℕ
-cut_values x = cuts_of x.problem (part_of x)
+-- its cuts
+abbrev pub cuts_in : ProblemPart → List Node
+cuts_in x = cuts (nodes_of x)
 
--- its cuts, each at its path
-abbrev pub cuts_in : ProblemPart → List Cut
-cuts_in x = unwrap_or (option_map (λ s. cut_nodes x.name s x.tree) (at x.problem x.name)) []
-
--- its branches, each at its path
+-- its branches
 abbrev pub branches_in : ProblemPart → List Node
-branches_in x = unwrap_or (option_map (λ s. branch_nodes x.name s x.tree) (at x.problem x.name)) []
+branches_in x = branches (nodes_of x)
 
 -- what a part keeps: it is a part of its problem, its floor is the least value of its cuts, or the cap where none is below that, and it shows its floor
 pub record IsKeptPart (x : ProblemPart) : Type 0 where
   pub is_problem : IsProblem x.problem
   pub is_part : IsPart x.problem (part_of x)
-  pub floor_is : x.floor ≡ least (cap x.problem) (cut_values x)
+  pub floor_is : x.floor ≡ least_value (cap x.problem) (nodes_of x)
   pub shows : Shows x.problem x.name (given_of x) x.floor
 
 -- the number is the least of the list: it stands there, and none is below it

@@ -4,7 +4,7 @@ use Rattle.crp_plan.specs.Bay.{Problem, IsProblem, Position, IsAt, cap}
 use Rattle.crp_plan.specs.Faults.{IsPlanPath}
 use Rattle.crp_bay.specs.Positions.{at}
 use Rattle.crp_tree.specs.declared.tree.Tree.{Tree}
-use Rattle.crp_tree.specs.Trees.{HasShape, cuts, givens, HasAtLeast, Shows}
+use Rattle.crp_tree.specs.Trees.{Node, nodes, given_names, HasShape, HasAtLeast, Shows}
 
 -- a part of a search: a tree, and the name of the path that it stands at
 pub record Part : Type 0 where
@@ -18,13 +18,13 @@ pub record IsPart (p : Problem) (part : Part) : Type 0 where
   pub is_at : IsAt p part.name place
   pub shape : HasShape part.name place part.tree
 
+-- the nodes of a part
+abbrev pub nodes_in : Problem → Part → List Node
+nodes_in p part = unwrap_or (option_map (λ s. nodes part.name s part.tree) (at p part.name)) []
+
 -- the names that a part gives to other parts
 abbrev pub given_by : Problem → Part → List (List ℕ)
-given_by p part = unwrap_or (option_map (λ s. givens part.name s part.tree) (at p part.name)) []
-
--- the values of a part's cuts
-abbrev pub cuts_of : Problem → Part → List ℕ
-cuts_of p part = unwrap_or (option_map (λ s. cuts part.name s part.tree) (at p part.name)) []
+given_by p part = given_names (nodes_in p part)
 
 -- the names of the parts
 abbrev pub names : List Part → List (List ℕ)
@@ -63,7 +63,7 @@ pub record IsAccepted (script : Script) : Type 0 where
   pub within_cap : script.lower ≤ cap script.problem
   pub plan_is : IfSome script.plan (IsPlanPath script.problem)
   pub each_part : All (IsPart script.problem) script.parts
-  pub each_cut : All (λ part. HasAtLeast script.lower (cuts_of script.problem part)) script.parts
+  pub each_cut : All (λ part. HasAtLeast script.lower (nodes_in script.problem part)) script.parts
   pub each_once : AllPairs ◌≢◌ (names script.parts)
   pub as_needed : (name : List ℕ) → Contains (names script.parts) name ↔ IsNeeded script.problem script.parts name
 

@@ -1,31 +1,119 @@
--- Trees over the paths of a problem, and the lower bounds that their cuts show.
-use Rattle.std.specs.Prelude.{◌≡◌, ℕ, ◌+◌, ◌≤◌, min, List, [], ◌∷◌, ◌++◌, length, Contains, ⊤}
-use Rattle.std.specs.List.{AllByRecursion}
+-- Search trees over the paths of a problem: their nodes, when a tree fits, and the floors that cuts show.
+use Rattle.std.specs.Prelude.{◌≡◌, ℕ, ◌+◌, ◌≤◌, min, Bool, true, false, List, [], ◌∷◌, ◌++◌, length, map, filter, Contains, All, ⊤}
 use Rattle.crp_tree.specs.declared.tree.Tree.{Tree, CutB, CutL, Branch', Given, Row_of-Tree, end_of-Tree, more_of-Tree}
 use Rattle.crp_plan.specs.declared.moves.Move.{Move}
 use Rattle.crp_plan.specs.Bay.{Problem, Position, IsPlan, relocations, path_of}
 use Rattle.crp_bounds.specs.Bounds.{blocking, look_ahead}
 use Rattle.crp_bay.specs.Positions.{targets, child}
 
--- the path begins with the name
-abbrev pub Begins : List ℕ → List ℕ → Type 0
-Begins path name = (rest : List ℕ) × (path ≡ name ++ rest)
+-- what a node is: B a cut by the blocking bound, L a cut by the look-ahead bound, X a branch, G a subtree that is given to a part of its own
+pub data Mark : Type 0 where
+  B : Mark
+  L : Mark
+  X : Mark
+  G : Mark
 
--- the tree fits at a path that leads to s: a branch stands at an unfinished position and has one tree for each legal row, rising,
--- and a path that is given to another part has 8 rows at most
+-- a node: its path, the position there, and what it is
+pub record Node : Type 0 where
+  pub path : List ℕ
+  pub place : Position
+  pub mark : Mark
+
+-- the nodes of a tree at a path that leads to s: a branch before the nodes of its trees, and these by rising rows
 abbrev mutual
-  pub Fits : List ℕ → Position → Tree → Type 0
-  Fits path s CutB = ⊤
-  Fits path s CutL = ⊤
-  Fits path s (Branch' shape all) = (s.next ≤ s.ordered) × FitsEach path s (targets s) all
-  Fits path s Given = length path ≤ 8
+  pub nodes : List ℕ → Position → Tree → List Node
+  nodes path s CutB = record { path = path; place = s; mark = B } ∷ []
+  nodes path s CutL = record { path = path; place = s; mark = L } ∷ []
+  nodes path s (Branch' shape all) = record { path = path; place = s; mark = X } ∷ nodes_of_each path s (targets s) all
+  nodes path s Given = record { path = path; place = s; mark = G } ∷ []
 
-  -- one tree for each of the rows, in their order, which fits at the path that goes on by that row
-  pub FitsEach : List ℕ → Position → List ℕ → {m : _} → Row_of-Tree m → Type 0
-  FitsEach path s [] end_of-Tree = ⊤
-  FitsEach path s [] (more_of-Tree tree trees) = ⊥
-  FitsEach path s (row ∷ rows) end_of-Tree = ⊥
-  FitsEach path s (row ∷ rows) (more_of-Tree tree trees) = Fits (path ++ row ∷ []) (child s row) tree × FitsEach path s rows trees
+  -- the nodes of the trees below each of the rows
+  pub nodes_of_each : List ℕ → Position → List ℕ → {m : _} → Row_of-Tree m → List Node
+  nodes_of_each path s [] end_of-Tree = []
+  nodes_of_each path s [] (more_of-Tree tree trees) = []
+  nodes_of_each path s (row ∷ rows) end_of-Tree = []
+  nodes_of_each path s (row ∷ rows) (more_of-Tree tree trees) = nodes (path ++ row ∷ []) (child s row) tree ++ nodes_of_each path s rows trees
+
+-- the tree fits at s: each branch has one tree for each legal row, rising; so none where the position is finished or dead
+abbrev mutual
+  pub Fits : Position → Tree → Type 0
+  Fits s CutB = ⊤
+  Fits s CutL = ⊤
+  Fits s (Branch' shape all) = FitsEach s (targets s) all
+  Fits s Given = ⊤
+
+  -- one tree for each of the rows, in their order, which fits at the position that the row leads to
+  pub FitsEach : Position → List ℕ → {m : _} → Row_of-Tree m → Type 0
+  FitsEach s [] end_of-Tree = ⊤
+  FitsEach s [] (more_of-Tree tree trees) = ⊥
+  FitsEach s (row ∷ rows) end_of-Tree = ⊥
+  FitsEach s (row ∷ rows) (more_of-Tree tree trees) = Fits (child s row) tree × FitsEach s rows trees
+
+-- the letter of a mark
+abbrev pub letter : Mark → ℕ
+letter B = 66
+letter L = 76
+letter X = 88
+letter G = 71
+
+-- the mark of a cut
+abbrev pub is_cut : Mark → Bool
+is_cut B = true
+is_cut L = true
+is_cut X = false
+is_cut G = false
+
+-- the mark of a branch
+abbrev pub is_branch : Mark → Bool
+is_branch B = false
+is_branch L = false
+is_branch X = true
+is_branch G = false
+
+-- the mark of a subtree that is given away
+abbrev pub is_given : Mark → Bool
+is_given B = false
+is_given L = false
+is_given X = false
+is_given G = true
+
+-- the cuts among nodes
+abbrev pub cuts : List Node → List Node
+cuts list = filter (λ node. is_cut node.mark) list
+
+-- the branches among nodes
+abbrev pub branches : List Node → List Node
+branches list = filter (λ node. is_branch node.mark) list
+
+-- the given names among nodes: the paths whose subtrees are given to parts of their own
+abbrev pub given_names : List Node → List (List ℕ)
+given_names list = map (λ node. node.path) (filter (λ node. is_given node.mark) list)
+
+-- the bound that a cut of this mark rests on
+abbrev pub bound_by : Mark → Position → ℕ
+bound_by B s = blocking s
+bound_by L s = look_ahead s
+bound_by X s = 0
+bound_by G s = 0
+
+-- the value of a cut: the length of its path and its bound of the position there
+abbrev pub value : Node → ℕ
+value node = length node.path + bound_by node.mark node.place
+
+-- what any plan through the node has at least: the length of the path and the look-ahead bound of the position there
+abbrev pub ahead_of : Node → ℕ
+ahead_of node = length node.path + look_ahead node.place
+
+-- a node may stand at a path that leads to s: a branch where that is not finished, a subtree that is given away where the path has 8 rows at most
+abbrev pub MayStand : Mark → List ℕ → Position → Type 0
+MayStand B path s = ⊤
+MayStand L path s = ⊤
+MayStand X path s = s.next ≤ s.ordered
+MayStand G path s = length path ≤ 8
+
+-- the node may stand where it stands
+abbrev pub IsInPlace : Node → Type 0
+IsInPlace node = MayStand node.mark node.path node.place
 
 -- the tree is nothing but a subtree that another part has
 abbrev pub IsGiven : Tree → Type 0
@@ -34,49 +122,28 @@ IsGiven CutL = ⊥
 IsGiven (Branch' shape all) = ⊥
 IsGiven Given = ⊤
 
--- the shape of a part's tree at its name, which leads to s: it fits there, and is not given away as a whole
+-- the shape of a part's tree at its name, which leads to s: it fits there, each of its nodes may stand where it stands, and it is not given away as a whole
 pub record HasShape (name : List ℕ) (s : Position) (tree : Tree) : Type 0 where
-  pub fits : Fits name s tree
+  pub fits : Fits s tree
+  pub in_place : All IsInPlace (nodes name s tree)
   pub not_given : IsGiven tree → ⊥
 
--- the values of the cuts: for each, the length of its path and the bound of the position there
-abbrev mutual
-  pub cuts : List ℕ → Position → Tree → List ℕ
-  cuts path s CutB = (length path + blocking s) ∷ []
-  cuts path s CutL = (length path + look_ahead s) ∷ []
-  cuts path s (Branch' shape all) = cuts_of_each path s (targets s) all
-  cuts path s Given = []
-
-  -- the values of the cuts below each of the rows
-  pub cuts_of_each : List ℕ → Position → List ℕ → {m : _} → Row_of-Tree m → List ℕ
-  cuts_of_each path s [] end_of-Tree = []
-  cuts_of_each path s [] (more_of-Tree tree trees) = []
-  cuts_of_each path s (row ∷ rows) end_of-Tree = []
-  cuts_of_each path s (row ∷ rows) (more_of-Tree tree trees) = cuts (path ++ row ∷ []) (child s row) tree ++ cuts_of_each path s rows trees
-
--- the given names: the paths whose subtrees are given to parts of their own
-abbrev mutual
-  pub givens : List ℕ → Position → Tree → List (List ℕ)
-  givens path s CutB = []
-  givens path s CutL = []
-  givens path s (Branch' shape all) = givens_of_each path s (targets s) all
-  givens path s Given = path ∷ []
-
-  -- the paths that are given below each of the rows
-  pub givens_of_each : List ℕ → Position → List ℕ → {m : _} → Row_of-Tree m → List (List ℕ)
-  givens_of_each path s [] end_of-Tree = []
-  givens_of_each path s [] (more_of-Tree tree trees) = []
-  givens_of_each path s (row ∷ rows) end_of-Tree = []
-  givens_of_each path s (row ∷ rows) (more_of-Tree tree trees) = givens (path ++ row ∷ []) (child s row) tree ++ givens_of_each path s rows trees
-
--- none of the values is below f
-abbrev pub HasAtLeast : ℕ → List ℕ → Type 0
-HasAtLeast f values = AllByRecursion (λ v. f ≤ v) values
+-- no cut among the nodes has a value below f
+abbrev pub HasAtLeast : ℕ → List Node → Type 0
+HasAtLeast f list = All (λ cut. f ≤ value cut) (cuts list)
 
 -- the least of the values; `most` where there is none below it
 abbrev pub least : ℕ → List ℕ → ℕ
 least most [] = most
 least most (v ∷ values) = min v (least most values)
+
+-- the least value of the cuts among nodes; `most` where there is none below it
+abbrev pub least_value : ℕ → List Node → ℕ
+least_value most list = least most (map value (cuts list))
+
+-- the path begins with the name
+abbrev pub Begins : List ℕ → List ℕ → Type 0
+Begins path name = (rest : List ℕ) × (path ≡ name ++ rest)
 
 -- the floor f is shown at the name: every complete plan whose path begins with the name, and with none of the given names, has at least f relocations
 abbrev pub Shows : Problem → List ℕ → List (List ℕ) → ℕ → Type 0

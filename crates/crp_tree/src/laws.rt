@@ -1,34 +1,45 @@
 //! Laws of trees, for the crates above.
-ghost use Rattle.std.specs.Prelude.{◌≡◌, ◌≢◌, ℕ, ◌+◌, ◌≤◌, ◌⊎◌, ◌↔◌, List, [], ◌∷◌, length, map, flat_map, Contains, All, AllPairs, Option, Some, IfSome, IsTrue, nat_eq};
+ghost use Rattle.std.specs.Prelude.{◌≡◌, ◌≢◌, ℕ, ◌+◌, ◌≤◌, ◌⊎◌, ◌↔◌, List, [], ◌∷◌, ◌++◌, length, map, flat_map, Contains, All, AllPairs, Option, Some, IfSome, IsTrue, nat_eq};
 ghost use Rattle.std.specs.declared.cmp.Ordering.{Ordering};
 ghost use Rattle.std.specs.Cmp.Lexicographic.{pointwise, slice_cmp};
 ghost use Rattle.std.specs.Ordering.{nat_cmp};
 ghost use Rattle.crp_plan.specs.declared.moves.Move.{Move};
-ghost use Rattle.crp_plan.specs.Bay.{Problem, IsProblem, cap, Position, IsAt, IsPlan, IsBest, relocations};
+ghost use Rattle.crp_plan.specs.Bay.{Problem, IsProblem, cap, Position, IsAt, IsLegalRow, IsPlan, IsBest, relocations};
 ghost use Rattle.crp_plan.specs.Faults.{IsPlanPath};
 ghost use Rattle.crp_tree.specs.Names.{GoesOn, Precedes};
 ghost use Rattle.crp_tree.specs.Scripts.{Part, Script, IsAccepted, IsNeeded, names, times, given_by, IsPart, Floored, KeepsFloor};
 ghost use Rattle.crp_bounds.specs.Bounds.{look_ahead};
 ghost use Rattle.crp_tree.specs.declared.tree.Tree.{Tree};
-ghost use Rattle.crp_tree.specs.Nodes.{ahead_of, branches};
-ghost use Rattle.crp_tree.specs.Parts.{ProblemPart, IsKeptPart, cut_values, cuts_in, branches_in, Certificate, IsAbout, script_of};
-ghost use Rattle.crp_tree.specs.Trees.{Begins, Shows, HasShape, cuts, givens, HasAtLeast, least};
+ghost use Rattle.crp_tree.specs.Parts.{ProblemPart, nodes_of, IsKeptPart, Certificate, IsAbout, script_of};
+ghost use Rattle.crp_tree.specs.Trees.{Node, X, nodes, Fits, Begins, Shows, HasShape, HasAtLeast, given_names, ahead_of, least, least_value};
 
 /// A tree that has its shape at a path, and no cut of a value below the floor, shows the floor there; so it shows the least of
 /// its values, or the cap where none is below that.
 pub fn trees_show()
-    ensures floor { (p : Problem) (name : List ℕ) (s : Position) (tree : Tree) (floor : ℕ) → IsProblem p → IsAt p name s → HasShape name s tree → HasAtLeast floor (cuts name s tree) → floor ≤ cap p → Shows p name (givens name s tree) floor }
-    ensures least { (p : Problem) (name : List ℕ) (s : Position) (tree : Tree) → IsProblem p → IsAt p name s → HasShape name s tree → Shows p name (givens name s tree) (least (cap p) (cuts name s tree)) }
+    ensures floor { (p : Problem) (name : List ℕ) (s : Position) (tree : Tree) (floor : ℕ) → IsProblem p → IsAt p name s → HasShape name s tree → HasAtLeast floor (nodes name s tree) → floor ≤ cap p → Shows p name (given_names (nodes name s tree)) floor }
+    ensures least { (p : Problem) (name : List ℕ) (s : Position) (tree : Tree) → IsProblem p → IsAt p name s → HasShape name s tree → Shows p name (given_names (nodes name s tree)) (least_value (cap p) (nodes name s tree)) }
+{}
+
+/// The nodes of a tree that fits at a path of the problem, said without the walk that lists them: one stands at that path, and each
+/// at its own; they rise; right below a branch there is one at each legal row and at no other; and no path goes on from that of
+/// another node.
+pub fn nodes_of_trees()
+    ensures own { (name : List ℕ) (s : Position) (tree : Tree) → ((node : Node) × Contains (nodes name s tree) node × (node.path ≡ name)) }
+    ensures at { (p : Problem) (name : List ℕ) (s : Position) (tree : Tree) → IsProblem p → IsAt p name s → All (λ node. IsAt p node.path node.place) (nodes name s tree) }
+    ensures rising { (name : List ℕ) (s : Position) (tree : Tree) → AllPairs Precedes (map (λ node. node.path) (nodes name s tree)) }
+    ensures below { (p : Problem) (name : List ℕ) (s : Position) (tree : Tree) (node : Node) (row : ℕ) → IsProblem p → IsAt p name s → Fits s tree → Contains (nodes name s tree) node → node.mark ≡ X
+        → ((other : Node) × Contains (nodes name s tree) other × (other.path ≡ node.path ++ row ∷ [])) ↔ IsLegalRow p node.path row }
+    ensures apart { (name : List ℕ) (s : Position) (tree : Tree) (node other : Node) → Contains (nodes name s tree) node → Contains (nodes name s tree) other → node.mark ≢ X → Begins other.path node.path → other.path ≡ node.path }
 {}
 
 /// The names that a tree gives: each goes on from the name of the tree, has 8 rows at most and is a path of the problem; they rise,
 /// and none begins with another.
 pub fn names_given()
-    ensures goes_on { (name : List ℕ) (s : Position) (tree : Tree) (given : List ℕ) → HasShape name s tree → Contains (givens name s tree) given → GoesOn name given }
-    ensures short { (name : List ℕ) (s : Position) (tree : Tree) (given : List ℕ) → HasShape name s tree → Contains (givens name s tree) given → length given ≤ 8 }
-    ensures path { (p : Problem) (name : List ℕ) (s : Position) (tree : Tree) (given : List ℕ) → IsProblem p → IsAt p name s → Contains (givens name s tree) given → ((t : Position) × IsAt p given t) }
-    ensures rising { (name : List ℕ) (s : Position) (tree : Tree) → AllPairs Precedes (givens name s tree) }
-    ensures apart { (name : List ℕ) (s : Position) (tree : Tree) (given other : List ℕ) → Contains (givens name s tree) given → Contains (givens name s tree) other → Begins given other → given ≡ other }
+    ensures goes_on { (name : List ℕ) (s : Position) (tree : Tree) (given : List ℕ) → HasShape name s tree → Contains (given_names (nodes name s tree)) given → GoesOn name given }
+    ensures short { (name : List ℕ) (s : Position) (tree : Tree) (given : List ℕ) → HasShape name s tree → Contains (given_names (nodes name s tree)) given → length given ≤ 8 }
+    ensures path { (p : Problem) (name : List ℕ) (s : Position) (tree : Tree) (given : List ℕ) → IsProblem p → IsAt p name s → Contains (given_names (nodes name s tree)) given → ((t : Position) × IsAt p given t) }
+    ensures rising { (name : List ℕ) (s : Position) (tree : Tree) → AllPairs Precedes (given_names (nodes name s tree)) }
+    ensures apart { (name : List ℕ) (s : Position) (tree : Tree) (given other : List ℕ) → Contains (given_names (nodes name s tree)) given → Contains (given_names (nodes name s tree)) other → Begins given other → given ≡ other }
 {}
 
 /// The order of names is an order of all lists of rows, and the one that `cmp` tells; `==` tells whether two names are the same.
@@ -63,12 +74,8 @@ pub fn names_once()
     ensures { (p : Problem) (parts : List Part) → IsProblem p → All (IsPart p) parts → ((name : List ℕ) → times name (names parts) ≡ times name ([] ∷ flat_map (given_by p) parts)) → (name : List ℕ) → times name (names parts) ≤ 1 }
 {}
 
-/// The cuts and branches of a part: the values of its cuts, how many branches it has, that each stands at its path, and that
-/// length plus look-ahead is nowhere less than at its name.
+/// Each node of a part stands at its path, where length plus look-ahead is no less than at its name.
 pub fn nodes_of_parts()
-    ensures values { (x : ProblemPart) → IsKeptPart x → map (λ cut. cut.value) (cuts_in x) ≡ cut_values x }
-    ensures count { (x : ProblemPart) → IsKeptPart x → length (branches_in x) ≡ branches x.tree }
-    ensures cuts_at { (x : ProblemPart) → IsKeptPart x → All (λ cut. IsAt x.problem cut.node.path cut.node.place) (cuts_in x) }
-    ensures branches_at { (x : ProblemPart) → IsKeptPart x → All (λ node. IsAt x.problem node.path node.place) (branches_in x) }
-    ensures higher { (x : ProblemPart) (s : Position) → IsKeptPart x → IsAt x.problem x.name s → All (λ cut. length x.name + look_ahead s ≤ ahead_of cut.node) (cuts_in x) }
+    ensures at { (x : ProblemPart) → IsKeptPart x → All (λ node. IsAt x.problem node.path node.place) (nodes_of x) }
+    ensures higher { (x : ProblemPart) (s : Position) → IsKeptPart x → IsAt x.problem x.name s → All (λ node. length x.name + look_ahead s ≤ ahead_of node) (nodes_of x) }
 {}

@@ -15,7 +15,7 @@ mod tree;
 pub use cert::Cert;
 pub use laws::{
     accepted_means, claims_are_accepted, names_are_ordered, names_given, names_once,
-    nodes_of_parts, parts_cover, trees_show,
+    nodes_of_parts, nodes_of_trees, parts_cover, trees_show,
 };
 pub use name::{MAX_NAME, Name};
 pub use name_list::Names;

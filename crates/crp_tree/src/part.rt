@@ -1,10 +1,10 @@
-ghost use Rattle.std.specs.Prelude.{◌≡◌, ◌++◌, AllPairs, IfOk, OnOk};
+ghost use Rattle.std.specs.Prelude.{◌≡◌, ◌++◌, All, AllPairs, IfOk, OnOk};
 ghost use Rattle.crp_plan.specs.Bay.{IsProblem, cap, Position as Place};
 ghost use Rattle.crp_bay.specs.Positions.{targets};
 ghost use Rattle.crp_tree.specs.Names.{Precedes};
-ghost use Rattle.crp_tree.specs.Trees.{Fits, givens, least};
-ghost use Rattle.crp_tree.specs.Listed.{AreFit, each};
-ghost use Rattle.crp_tree.specs.Scripts.{IsPart, cuts_of};
+ghost use Rattle.crp_tree.specs.Trees.{nodes, Fits, IsInPlace, given_names, least_value};
+ghost use Rattle.crp_tree.specs.Listed.{AreFit, nodes_below};
+ghost use Rattle.crp_tree.specs.Scripts.{IsPart, nodes_in};
 ghost use Rattle.crp_tree.specs.Parts.{given_of, IsKeptPart};
 
 use crate::name::{MAX_NAME, Name};
@@ -46,7 +46,7 @@ impl Part {
     /// value of its cuts, or the problem's cap where none is below that. It takes no memory.
     pub fn new(problem: &Problem, name: Name, tree: Tree, floor: u32) -> Part
         requires part { IsPart problem.now (record { name = name; tree = tree }) }
-        requires floor { floor ≡ least (cap problem.now) (cuts_of problem.now (record { name = name; tree = tree })) }
+        requires floor { floor ≡ least_value (cap problem.now) (nodes_in problem.now (record { name = name; tree = tree })) }
         ensures value { result ≡ record { problem = problem.now; name = name; tree = tree; floor = floor } }
     {
         Part {
@@ -111,8 +111,9 @@ fn collect(
     place: &Position,
     names: &mut Vec<Name>,
 ) -> Result<(), AllocError>
-    requires { Fits name.now place.now tree.now }
-    ensures { OnOk result (names.new.items ≡ names.old.items ++ givens name.now place.now tree.now) }
+    requires fits { Fits place.now tree.now }
+    requires in_place { All IsInPlace (nodes name.now place.now tree.now) }
+    ensures { OnOk result (names.new.items ≡ names.old.items ++ given_names (nodes name.now place.now tree.now)) }
 {
     match tree {
         Tree::CutB | Tree::CutL => Ok(()),
@@ -132,8 +133,9 @@ fn collect_below(
     place: &Position,
     names: &mut Vec<Name>,
 ) -> Result<(), AllocError>
-    requires { AreFit name.now place.now (targets place.now) trees.now }
-    ensures { OnOk result (names.new.items ≡ names.old.items ++ each givens name.now place.now (targets place.now) trees.now) }
+    requires fit { AreFit place.now (targets place.now) trees.now }
+    requires in_place { All IsInPlace (nodes_below name.now place.now (targets place.now) trees.now) }
+    ensures { OnOk result (names.new.items ≡ names.old.items ++ given_names (nodes_below name.now place.now (targets place.now) trees.now)) }
 {
     if name.rows().len() == MAX_NAME {
         return Ok(());

@@ -2,7 +2,7 @@
 ghost use Rattle.std.specs.Prelude.{◌≡◌, None, IfOk};
 ghost use Rattle.crp_plan.specs.Bay.{IsProblem};
 ghost use Rattle.crp_plan.specs.Faults.{stacks_of, stated};
-ghost use Rattle.crp_cert.specs.Writing.{IsTellable, claimed};
+ghost use Rattle.crp_cert.specs.Writing.{CanBeSpelled, claimed};
 
 use super::stack_of;
 use crate::{RawPart, Script, cert_text, read_cert};
@@ -22,7 +22,7 @@ fn four(rt: &impl Abort, stacks: &[Vec<u8>]) -> Problem
 
 /// Four containers, cut by the look-ahead bound: a claim that a text can tell.
 fn cut_ahead(rt: &impl Abort, alloc: Global) -> Result<(Problem, Cert), AllocError>
-    ensures { IfOk result (λ case. IsTellable (claimed case.0 case.1 None)) }
+    ensures { IfOk result (λ case. CanBeSpelled (claimed case.0 case.1 None)) }
 {
     let stacks = [
         vec![in alloc; 1, 4]?,

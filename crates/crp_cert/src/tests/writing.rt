@@ -3,7 +3,7 @@ ghost use Rattle.std.specs.Prelude.{◌≡◌, [], Some};
 ghost use Rattle.crp_plan.specs.Bay.{IsProblem, start, cap};
 ghost use Rattle.crp_plan.specs.Faults.{stacks_of, stated};
 ghost use Rattle.crp_bay.specs.Positions.{settled};
-ghost use Rattle.crp_tree.specs.Trees.{Fits, IsGiven, cuts, least};
+ghost use Rattle.crp_tree.specs.Trees.{nodes, HasShape, least_value};
 
 use crate::{WriteFault, cert_text, write_cert};
 use crp_plan::{BayName, Failure, Plan, Problem, Received, Sink};
@@ -23,9 +23,8 @@ fn problem_of(rt: &impl Abort, tiers: u8, ordered: u8, stacks: &[Vec<u8>]) -> Pr
 /// The certificate of one tree at the empty path, which shows this floor.
 fn whole(alloc: Global, problem: &Problem, tree: Tree, floor: u32) -> Result<Cert, AllocError>
     requires problem { IsProblem problem.now }
-    requires fits { Fits [] (settled (start problem.now)) tree }
-    requires some { IsGiven tree → ⊥ }
-    requires floor { floor ≡ least (cap problem.now) (cuts [] (settled (start problem.now)) tree) }
+    requires shape { HasShape [] (settled (start problem.now)) tree }
+    requires floor { floor ≡ least_value (cap problem.now) (nodes [] (settled (start problem.now)) tree) }
 {
     Cert::whole(alloc, Part::new(problem, Name::root(), tree, floor))
 }
@@ -213,7 +212,7 @@ fn write<W: Sink>(
 ) -> Result<(), WriteFault> {
     let (problem, cert) = case;
     let bay = bay_a(rt);
-    write_cert(alloc, sink, &bay, problem, cert, None, &mut 0)
+    write_cert(alloc, sink, &bay, problem, cert, None)
 }
 
 #[test]

@@ -9,7 +9,7 @@ use Rattle.crp_cert.specs.declared.head.Head.{Head}
 use Rattle.crp_cert.specs.declared.size.Size.{Size}
 use Rattle.crp_cert.specs.Text.{title_line, bay_line, size_line, row_line, claim_line, IsSize, IsHead, head_text}
 use Rattle.crp_cert.specs.Reading.{tag_at, size_at, claim_at}
-use Rattle.crp_cert.specs.Faults.{TellsSize, TellsStacks, AreFirstStacks, most_claimed}
+use Rattle.crp_cert.specs.Faults.{BeginsWithSize, BeginsWithStacks, AreFirstStacks, most_claimed}
 use Rattle.crp_cert.proofs.Numbers.{tag_takes}
 use Rattle.crp_cert.proofs.Readers.{none_stands, size_reader, claim_reader, plan_reader}
 use Rattle.crp_cert.proofs.Stacks.{cap_is, few_claimed}
@@ -17,7 +17,7 @@ use Rattle.crp_cert.proofs.Verdicts.{head_of, stack_fault}
 use Rattle.crp_cert.proofs.reading.head_and_rest.Goals as goal
 
 -- what the lines down to the size tell
-told_size : (bytes after rest more : List ℕ) (name : YardBay) (size : Size) → tag_at title_line bytes ≡ Some after → IsYardBay name × (after ≡ bay_line name ++ rest) → size_at rest ≡ Some (size, more) → TellsSize bytes size more
+told_size : (bytes after rest more : List ℕ) (name : YardBay) (size : Size) → tag_at title_line bytes ≡ Some after → IsYardBay name × (after ≡ bay_line name ++ rest) → size_at rest ≡ Some (size, more) → BeginsWithSize bytes size more
 told_size bytes after rest more name size title named read =
     let s = size_reader.takes rest size more read in
     record {
@@ -28,8 +28,8 @@ told_size bytes after rest more name size title named read =
     }
 
 -- and with the lines of the stacks
-told_stacks : (bytes : List ℕ) (size : Size) (stacks : List (List ℕ)) (more rest : List ℕ) → TellsSize bytes size more → AreFirstStacks size stacks → more ≡ flat_map row_line stacks ++ rest → TellsStacks bytes size stacks rest
-told_stacks bytes size stacks more rest tells first text = record { tells = subst (TellsSize bytes size) text tells; first = first }
+told_stacks : (bytes : List ℕ) (size : Size) (stacks : List (List ℕ)) (more rest : List ℕ) → BeginsWithSize bytes size more → AreFirstStacks size stacks → more ≡ flat_map row_line stacks ++ rest → BeginsWithStacks bytes size stacks rest
+told_stacks bytes size stacks more rest tells first text = record { tells = subst (BeginsWithSize bytes size) text tells; first = first }
 
 pub returns-in_default-size_of-clause-refused : goal.returns-in_default-size_of-clause-refused
 returns-in_default-size_of-clause-refused c =

@@ -1,10 +1,14 @@
 use Rattle.std.proofs.Common.{◌∙◌, sym, subst, arith, take, suc, add-one, ap, ◌++◌}
 use Rattle.std.specs.Prelude.{codes}
-use Rattle.crp_cert.specs.Script.{Matches}
+use Rattle.crp_cert.specs.Script.{symbols_of}
 use Rattle.crp_cert.specs.ScriptFaults.{BeginsWithTree}
-use Rattle.crp_cert.specs.PartReading.{AllMatch, symbols_of_all}
-use Rattle.crp_cert.proofs.Symbols.{no_symbol, branch_stops, branch_read, match_push, text_push, take_over}
+use Rattle.std.specs.List.{flat_map}
+use Rattle.std.proofs.lemmas.List.{take_all}
+use Rattle.crp_tree.proofs.Listed.{fit_push}
+use Rattle.crp_cert.proofs.Symbols.{no_symbol, branch_stops, branch_read, text_push}
 use Rattle.crp_cert.proofs.trees.+read_tree.Goals as goal
+use Rattle.crp_tree.specs.Trees.{Fits}
+use Rattle.crp_tree.specs.Listed.{AreFit}
 
 pub returns-in_default-after_tag-3-clause-none : goal.returns-in_default-after_tag-3-clause-none
 returns-in_default-after_tag-3-clause-none t c =
@@ -22,14 +26,14 @@ loop-row-preserved t c =
     let r = (rw c.in-Some-2.is at c.in_ok-tree.ensures).found in
     record {
       rows = inv.rows;
-      match = rw add-one (subst (AllMatch c.args.place.now (take (suc c.loop-row.row-index) c.as_slice-row-items.result.now)) (sym c.in_ok-push.ensures.items)
-          (match_push c.args.place.now c.as_slice-row-items.result.now c.loop-row.trees.items c.loop-row.row-index 0 c.in-Some-2.tree c.loop-row-test.true inv.match
-          (subst (λ v. Matches v c.in-Some-2.tree) c.in-Some-child.ensures.value r.0)));
-      text = text_push c.args.bytes.now c.loop-row.trees.items c.in-Some-2.tree c.loop-row.rest.now c.in-Some-2.after.now inv.text r.1 ∙ ap (λ l. (codes "X" ++ symbols_of_all l) ++ c.in-Some-2.after.now) (sym c.in_ok-push.ensures.items);
+      match = rw add-one (subst (AreFit c.args.place.now (take (suc c.loop-row.row-index) c.as_slice-row-items.result.now)) (sym c.in_ok-push.ensures.items)
+          (fit_push c.args.place.now c.as_slice-row-items.result.now c.loop-row.trees.items c.loop-row.row-index 0 c.in-Some-2.tree c.loop-row-test.true inv.match
+          (subst (λ v. Fits v c.in-Some-2.tree) c.in-Some-child.ensures.value r.0)));
+      text = text_push c.args.bytes.now c.loop-row.trees.items c.in-Some-2.tree c.loop-row.rest.now c.in-Some-2.after.now inv.text r.1 ∙ ap (λ l. (codes "X" ++ flat_map symbols_of l) ++ c.in-Some-2.after.now) (sym c.in_ok-push.ensures.items);
     }
 
 pub returns-clause-found : goal.returns-clause-found
 returns-clause-found t c =
     let inv = c.loop-row.invariant in
     branch_read c.args.place.now c.args.bytes.now c.loop-row.trees c.loop-row.rest.now
-    (subst (λ l. AllMatch c.args.place.now l c.loop-row.trees.items) (take_over c.as_slice-row-items.result.now c.loop-row.row-index (omega arith) ∙ inv.rows) inv.match) inv.text
+    (subst (λ l. AreFit c.args.place.now l c.loop-row.trees.items) (take_all c.loop-row.row-index c.as_slice-row-items.result.now (omega arith) ∙ inv.rows) inv.match) inv.text

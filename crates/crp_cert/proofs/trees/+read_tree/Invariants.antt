@@ -1,8 +1,10 @@
 use Rattle.std.proofs.Common.{◌≡◌, length, take, ◌++◌}
 use Rattle.std.specs.Prelude.{codes}
+use Rattle.std.specs.List.{flat_map}
+use Rattle.crp_cert.specs.Script.{symbols_of}
 use Rattle.crp_bay.specs.Positions.{targets}
-use Rattle.crp_cert.specs.PartReading.{symbols_of_all, AllMatch}
 use Rattle.crp_cert.proofs.trees.+read_tree.Given as goal
+use Rattle.crp_tree.specs.Listed.{AreFit}
 
 abbrev pub decreases-read_tree : goal.decreases-read_tree
 decreases-read_tree l = length l.bytes.now
@@ -10,6 +12,6 @@ decreases-read_tree l = length l.bytes.now
 abbrev pub invariant-loop-row : goal.invariant-loop-row
 invariant-loop-row l = record {
   rows : l.row-items ≡ targets l.place;
-  match : AllMatch l.place (take l.row-index l.row-items) l.trees.items;
-  text : l.bytes ≡ (codes "X" ++ symbols_of_all l.trees.items) ++ l.rest;
+  match : AreFit l.place (take l.row-index l.row-items) l.trees.items;
+  text : l.bytes ≡ (codes "X" ++ flat_map symbols_of l.trees.items) ++ l.rest;
 }

@@ -1,7 +1,7 @@
 use Rattle.std.proofs.Common.{◌∙◌, ◌++◌, ◌∷◌, [], ap, sym, append_assoc}
 use Rattle.std.specs.List.{flat_map}
 use Rattle.crp_cert.specs.Script.{symbols_of}
-use Rattle.crp_cert.proofs.Written.{branch_symbols}
+use Rattle.crp_cert.proofs.Symbols.{branch_symbols}
 use Rattle.crp_cert.proofs.writing.+spelling.Goals as goal
 
 pub push_tree-returns-in_ok-push_trees-in-Branch :

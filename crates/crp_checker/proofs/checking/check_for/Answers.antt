@@ -4,7 +4,7 @@ use Rattle.crp_plan.specs.Bay.{cap, IsPlan}
 use Rattle.crp_checker.specs.Verdicts.{Says}
 use Rattle.crp_checker.specs.declared.refused.Refused.TheVariants.{OtherProblem}
 use Rattle.crp_cert.specs.Script.{claim_of}
-use Rattle.crp_checker.specs.Claims.{IsYes}
+use Rattle.crp_checker.specs.Claims.{IsAcceptedText}
 use Rattle.crp_checker.proofs.Meaning.{says_from, bound_of_head, none_of_head, claim_refused_if, head_is}
 use Rattle.crp_checker.proofs.SameText.{rejected}
 use Rattle.crp_checker.proofs.checking.check_for.Goals as goal
@@ -41,14 +41,14 @@ returns-in_err-_bay-clause-rejected c =
 pub returns-clause-bound : goal.returns-clause-bound
 returns-clause-bound c head moves of plan =
     let same = c.is_same.ensures.0 c.if-not-is_same.false in
-    let known : IsYes (Some c.args.problem.now) c.args.bytes.now c.in_ok-script.script = record { is_text = c.in_ok-script.ensures.text; as_wanted = same; accepted = c.in_ok-_bay.ensures.accepted } in
+    let known : IsAcceptedText (Some c.args.problem.now) c.args.bytes.now c.in_ok-script.script = record { is_text = c.in_ok-script.ensures.text; as_wanted = same; accepted = c.in_ok-_bay.ensures.accepted } in
     let whose = head_is c.args.bytes.now c.in_ok-script.script head c.in_ok-script.ensures.text of in
     bound_of_head (Some c.args.problem.now) c.args.bytes.now c.in_ok-script.script head moves known of (subst (λ p. IsPlan p moves) (same ∙ sym (ap (λ h. h.problem) whose)) plan)
 
 pub returns-clause-none : goal.returns-clause-none
 returns-clause-none c head moves of most plan =
     let same = c.is_same.ensures.0 c.if-not-is_same.false in
-    let known : IsYes (Some c.args.problem.now) c.args.bytes.now c.in_ok-script.script = record { is_text = c.in_ok-script.ensures.text; as_wanted = same; accepted = c.in_ok-_bay.ensures.accepted } in
+    let known : IsAcceptedText (Some c.args.problem.now) c.args.bytes.now c.in_ok-script.script = record { is_text = c.in_ok-script.ensures.text; as_wanted = same; accepted = c.in_ok-_bay.ensures.accepted } in
     let whose = head_is c.args.bytes.now c.in_ok-script.script head c.in_ok-script.ensures.text of in
     let told = same ∙ sym (ap (λ h. h.problem) whose) in
     none_of_head (Some c.args.problem.now) c.args.bytes.now c.in_ok-script.script head moves known of (most ∙ ap cap told) (subst (λ p. IsPlan p moves) told plan)

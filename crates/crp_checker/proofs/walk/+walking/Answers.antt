@@ -3,10 +3,10 @@ use Rattle.std.proofs.lemmas.Result.{err_from_is_err_and, IfErr-weaker, on_ok_we
 use Rattle.std.proofs.lemmas.List.{append-nil}
 use Rattle.crp_plan.specs.Bay.{IsFinished}
 use Rattle.crp_bay.specs.Positions.{targets}
-use Rattle.crp_tree.specs.Trees.{givens}
-use Rattle.crp_checker.specs.Symbols.{Node, nodes, IsAtEnd}
-use Rattle.crp_checker.specs.Walks.{below}
-use Rattle.crp_checker.proofs.Walked.{Meets, below_met, below_around, branch_node, branch_nodes, branch_givens}
+use Rattle.crp_tree.specs.Trees.{Node, nodes}
+use Rattle.crp_tree.specs.Listed.{nodes_below}
+use Rattle.crp_tree.proofs.Listed.{Meets, met_nodes, nodes_around, branch_node, branch_nodes}
+use Rattle.crp_checker.specs.Nodes.{IsAtEnd}
 use Rattle.crp_checker.proofs.WalkSteps.{branch_right, halt_in, first_of_all, back_again, went_on, all_met, some_node, low_halt, branch_over}
 use Rattle.crp_checker.proofs.walk.+walking.Goals as goal
 use Rattle.crp_checker.proofs.walk.+walking.Goals.{walk_each-In_ok-push}
@@ -25,13 +25,13 @@ met t c = let back = c.loop-i.invariant.back in let few = c.if-i-len.false in re
 
 -- the nodes of the trees before it, its own, and those after it
 around : (t : ℕ) (c : walk_each-In_ok-push t) →
-    below nodes c.args.walk.now.path.items c.args.position.now (targets c.args.position.now) c.args.trees.now
-    ≡ below nodes c.args.walk.now.path.items c.args.position.now (take c.loop-i.i c.targets-rows.result.items) (take c.loop-i.i c.args.trees.now)
+    nodes_below c.args.walk.now.path.items c.args.position.now (targets c.args.position.now) c.args.trees.now
+    ≡ nodes_below c.args.walk.now.path.items c.args.position.now (take c.loop-i.i c.targets-rows.result.items) (take c.loop-i.i c.args.trees.now)
     ++ (nodes c.push.new.self.items c.in-Some.child c.index-trees-i.result
-    ++ below nodes c.args.walk.now.path.items c.args.position.now (drop (suc c.loop-i.i) c.targets-rows.result.items) (drop (suc c.loop-i.i) c.args.trees.now))
+    ++ nodes_below c.args.walk.now.path.items c.args.position.now (drop (suc c.loop-i.i) c.targets-rows.result.items) (drop (suc c.loop-i.i) c.args.trees.now))
 around t c =
-    ap (λ l. below nodes c.args.walk.now.path.items c.args.position.now l c.args.trees.now) (sym c.targets-rows.ensures.value)
-    ∙ below_around nodes _ _ _ _ _ _ _ _ _ (met t c)
+    ap (λ l. nodes_below c.args.walk.now.path.items c.args.position.now l c.args.trees.now) (sym c.targets-rows.ensures.value)
+    ∙ nodes_around _ _ _ _ _ _ _ _ _ (met t c)
 
 pub walk_each-walk_tree-requires : goal.walk_each-walk_tree-requires
 walk_each-walk_tree-requires t c =
@@ -53,10 +53,10 @@ walk_each-returns-in_err-walk_tree-clause-halt t c =
     let p = err_from_is_err_and c.from_residual-in_err-walk_tree.result c.from_residual-in_err-walk_tree.ensures.1 in
     rw (p.1, p.2)
     (halt_in c.args.lower c.args.walk.now.count c.loop-i.walk.count
-    (below nodes c.args.walk.now.path.items c.args.position.now (take c.loop-i.i c.targets-rows.result.items) (take c.loop-i.i c.args.trees.now))
+    (nodes_below c.args.walk.now.path.items c.args.position.now (take c.loop-i.i c.targets-rows.result.items) (take c.loop-i.i c.args.trees.now))
     (nodes c.push.new.self.items c.in-Some.child c.index-trees-i.result)
-    (below nodes c.args.walk.now.path.items c.args.position.now (drop (suc c.loop-i.i) c.targets-rows.result.items) (drop (suc c.loop-i.i) c.args.trees.now))
-    (below nodes c.args.walk.now.path.items c.args.position.now (targets c.args.position.now) c.args.trees.now)
+    (nodes_below c.args.walk.now.path.items c.args.position.now (drop (suc c.loop-i.i) c.targets-rows.result.items) (drop (suc c.loop-i.i) c.args.trees.now))
+    (nodes_below c.args.walk.now.path.items c.args.position.now (targets c.args.position.now) c.args.trees.now)
     c.in_err-walk_tree.field-0.0 (around t d) c.loop-i.invariant.right c.loop-i.invariant.counted c.in_err-walk_tree.ensures.halt)
 
 pub walk_each-loop-i-preserved : goal.walk_each-loop-i-preserved
@@ -64,9 +64,8 @@ walk_each-loop-i-preserved t c =
     let d = (goal.at.walk_each-loop-i-preserved t c).In_ok-push in
     let m = met t d in
     rw add-one
-    (went_on _ _ _ _ _ _ _ _ _ c.walk_tree.new.walk c.push.new.self c.pop.new.self
-    (below_met nodes _ _ _ _ _ _ _ _ _ m)
-    (below_met givens _ _ _ _ _ _ _ _ _ m)
+    (went_on _ _ _ _ _ _ c.walk_tree.new.walk c.push.new.self c.pop.new.self
+    (met_nodes _ _ _ _ _ _ _ _ _ m)
     c.loop-i.invariant c.in_ok-walk_tree.ensures.over
     (back_again c.pop.new.self.items c.walk_tree.new.walk.path.items c.push.new.self.items c.args.walk.now.path.items _ (get_or c.deref.result.now c.loop-i.i 0) c.walk_tree.new.walk.path.ok.0 c.in_ok-walk_tree.ensures.over.back m.is_here c.pop.ensures.rest))
 
@@ -82,20 +81,20 @@ walk_tree-walk_each-requires t c =
 
 pub walk_tree-returns-then-is_done-clause-halt : goal.walk_tree-returns-then-is_done-clause-halt
 walk_tree-returns-then-is_done-clause-halt t c =
-    (1, refl, first_of_all c.args.lower IsAtEnd (branch_node c.args.walk.now.path.items c.args.position.now) _ _ (branch_nodes c.args.walk.now.path.items c.args.position.now c.args.tree.now c.in-Branch.trees c.in-Branch.trees.items c.in-Branch.is refl) (c.is_done.ensures.done.0 c.if-is_done.true))
+    (1, refl, first_of_all c.args.lower IsAtEnd (branch_node c.args.walk.now.path.items c.args.position.now) _ _ (branch_nodes c.args.walk.now.path.items c.args.position.now c.args.tree.now c.in-Branch.trees c.in-Branch.trees.items c.in-Branch.is refl) (refl, c.is_done.ensures.done.0 c.if-is_done.true))
 
 pub walk_tree-returns-in-CutB-clause-halt : goal.walk_tree-returns-in-CutB-clause-halt
 walk_tree-returns-in-CutB-clause-halt t c =
     IfErr-weaker c.meet_cut.result _ _
     (λ halt k. low_halt c.args.lower c.args.walk.now.count (nodes c.args.walk.now.path.items c.args.position.now c.args.tree.now) _ halt (ap (nodes c.args.walk.now.path.items c.args.position.now) c.in-CutB.is)
-    (let low = k.0 in let bound = c.blocking.ensures.value in omega arith) k.1)
+    (refl, let low = k.0 in let bound = c.blocking.ensures.value in omega arith) k.1)
     c.meet_cut.ensures.low
 
 pub walk_tree-returns-in-CutL-clause-halt : goal.walk_tree-returns-in-CutL-clause-halt
 walk_tree-returns-in-CutL-clause-halt t c =
     IfErr-weaker c.meet_cut-in-CutL.result _ _
     (λ halt k. low_halt c.args.lower c.args.walk.now.count (nodes c.args.walk.now.path.items c.args.position.now c.args.tree.now) _ halt (ap (nodes c.args.walk.now.path.items c.args.position.now) c.in-CutL.is)
-    (let low = k.0 in let bound = c.look_ahead.ensures.value in omega arith) k.1)
+    (refl, let low = k.0 in let bound = c.look_ahead.ensures.value in omega arith) k.1)
     c.meet_cut-in-CutL.ensures.low
 
 -- the position is not finished
@@ -105,9 +104,8 @@ unfinished t c done = let yes = c.is_done.ensures.done.1 done in let no = c.if-i
 pub walk_tree-returns-else-is_done-clause-over : goal.walk_tree-returns-else-is_done-clause-over
 walk_tree-returns-else-is_done-clause-over t c =
     on_ok_weaker c.walk_each.result
-    (λ w. branch_over c.args.lower c.args.walk.now.path.items c.args.position.now _ _ _ _ (record c.args.walk.now { count = c.args.walk.now.count + 1 }) c.args.walk.now c.walk_each.new.walk
+    (λ w. branch_over c.args.lower c.args.walk.now.path.items c.args.position.now _ _ (record c.args.walk.now { count = c.args.walk.now.count + 1 }) c.args.walk.now c.walk_each.new.walk
     (branch_nodes c.args.walk.now.path.items c.args.position.now c.args.tree.now c.in-Branch.trees c.deref.result.now c.in-Branch.is c.deref.ensures.value)
-    (branch_givens c.args.walk.now.path.items c.args.position.now c.args.tree.now c.in-Branch.trees c.deref.result.now c.in-Branch.is c.deref.ensures.value)
     (unfinished t c) refl w)
     c.walk_each.ensures.over
 
