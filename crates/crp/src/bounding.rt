@@ -15,7 +15,7 @@ use crp_report::Status;
 use std::alloc::{AllocError, Global};
 
 fn push_bounds(text: &mut Vec<u8>, position: &Position) -> Result<(), AllocError>
-    ensures { OnOk result (text.new.items ≡ text.old.items ++ bound_lines position.now) }
+    ensures { OnOk result (text.new.items ≡ text.old.items ++ bound_lines position.now.place) }
 {
     text.extend_from_slice(b"blocking ")?;
     push_decimal(text, blocking(position))?;

@@ -1,3 +1,12 @@
 pub mod Members
 pub mod Walked
 pub mod Reaching
+pub mod Tops
+pub mod Going
+pub mod Shifting
+pub mod Settling
+pub mod Testing
+pub mod Pushing
+pub mod Popping
+pub mod Begun
+pub mod Reading

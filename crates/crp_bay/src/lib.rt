@@ -2,7 +2,10 @@
 #![tactic(auto)]
 
 mod laws;
+mod moving;
 mod position;
+mod push;
+mod starting;
 #[cfg(test)]
 mod tests;
 

@@ -1,139 +1,270 @@
-ghost use Rattle.std.specs.Prelude.{◌≡◌, ℕ, ◌-◌, ◌≤◌, ◌↔◌, List, [], ◌∷◌, ◌++◌, Contains, IsTrue, IsSome, IfSome, Some, length, slice_get};
+ghost use Rattle.std.specs.Prelude.{◌≡◌, ℕ, ◌-◌, ◌+◌, ◌≤◌, ◌↔◌, List, [], ◌∷◌, ◌++◌, All, Contains, IsTrue, IsSome, IfSome, Some, length, slice_get};
+ghost use Rattle.std.specs.Bool.{OnTrue, OnFalse};
 ghost use Rattle.std.specs.List.Sorted.{IsStrictlyIncreasing};
 ghost use Rattle.crp_plan.specs.Bay.{Problem as Statement, IsProblem, IsAt, IsFinished, start, IsLegalRow};
-ghost use Rattle.crp_bay.specs.Positions.{settled, child, targets, can_shift};
+ghost use Rattle.crp_bay.specs.Positions.{place, settled, child, targets, can_shift};
 ghost use Rattle.crp_bay.specs.Reached.{IsReached, HasRoom};
 
+use crate::moving::{go_back, land, lift, settle};
+use crate::push::Push;
+use crate::starting::{heights_again, heights_of, rows_of, stacks_again, stacks_of};
 use arrayvec::ArrayVec;
-use crp_plan::{MAX_ROWS, Problem, Walk, has_rank};
+use crp_plan::{MAX_RELOCATIONS, MAX_ROWS, Problem, Stack, Walk};
 use std::marker::Model;
 
-/// A position of a bay in which every retrieval that is legal has been made. No call takes memory.
+/// A position of a bay in which every retrieval that is legal has been made. It is changed in place, and no call takes memory.
 ///
-/// Rows count from 1, and so do ranks; a stack is read from bottom to top.
+/// Contracts see where it stands, and its trail: the positions before each push that is not undone, the latest first. Rows count
+/// from 1, and so do ranks; a stack is read from bottom to top.
 #[derive(Drop)]
 pub struct Position {
-    walk: Walk,
+    heights: ArrayVec<u8, MAX_ROWS>,
+    stacks: ArrayVec<Stack, MAX_ROWS>,
+    ordered: u8,
+    next: u8,
+    // By rank: the row, from 0, in which it stands, or stood when it left.
+    row_of: [u8; 97],
+    pushes: ArrayVec<Push, MAX_RELOCATIONS>,
 }
 
 impl Model for Position {
-    ghost use Rattle.crp_plan.specs.Bay.{Position as Place};
-    ghost use Rattle.crp_bay.specs.Reached.{IsReached};
+    ghost use Rattle.std.specs.Prelude.{reverse};
+    ghost use Rattle.crp_bay.specs.Back.{Standing, trail_of, place_of};
+    ghost use Rattle.crp_bay.specs.Located.{IsKept};
 
-    ghost Value = { Place };
+    ghost Value = { Standing };
 
-    ghost view = { λ p. p.walk };
+    ghost view = { λ p. record { place = place_of p.heights.items p.ordered p.next p.stacks.items; trail = trail_of (reverse p.pushes.items) p.row_of (place_of p.heights.items p.ordered p.next p.stacks.items) } };
 
-    ghost invariant = { λ p. IsReached p.walk };
+    ghost invariant = { λ p. IsKept p.pushes.items p.row_of (place_of p.heights.items p.ordered p.next p.stacks.items) };
 }
 
 impl Position {
-    /// The position at the empty path: before the first relocation.
+    /// The position at the empty path: before the first relocation, with nothing to undo.
     pub fn start(problem: &Problem) -> Position
-        ensures at { IsAt problem.now [] result }
-        ensures value { result ≡ settled (start problem.now) }
+        ensures at { IsAt problem.now [] result.place }
+        ensures value { result ≡ record { place = settled (start problem.now); trail = [] } }
         ensures problem { IsProblem problem.now }
     {
+        let ordered = problem.ordered();
+        let walk = Walk::before(problem);
+        let heights = heights_of(&walk);
+        let mut stacks = stacks_of(&walk);
+        let row_of = rows_of(stacks.as_slice());
+        let next = settle(
+            heights.as_slice(),
+            ordered,
+            1,
+            &row_of,
+            stacks.as_mut_slice(),
+        );
         Position {
-            walk: Walk::start(problem),
+            heights,
+            stacks,
+            ordered,
+            next,
+            row_of,
+            pushes: ArrayVec::new(),
         }
     }
 
-    /// The position after one relocation to the row, and the retrievals that are legal then. `None`
+    /// The position after one relocation to the row, and the retrievals that are legal then, with nothing to undo. `None`
     /// exactly where that relocation is not legal.
     pub fn child(&self, row: u8) -> Option<Position>
-        ensures legal { (p : Statement) (path : List ℕ) → IsProblem p → IsAt p path self.now
+        ensures legal { (p : Statement) (path : List ℕ) → IsProblem p → IsAt p path self.now.place
             → (IsSome result ↔ IsLegalRow p path row) }
         ensures at { IfSome result (λ t. (p : Statement) (path : List ℕ) → IsProblem p
-            → IsAt p path self.now → IsAt p (path ++ row ∷ []) t) }
+            → IsAt p path self.now.place → IsAt p (path ++ row ∷ []) t.place) }
 
         // What the definitions compute.
-        ensures target { IsSome result ↔ Contains (targets self.now) row }
-        ensures value { IfSome result (λ t. t ≡ child self.now row) }
+        ensures target { IsSome result ↔ Contains (targets self.now.place) row }
+        ensures value { IfSome result (λ t. t ≡ record { place = child self.now.place row; trail = [] }) }
     {
-        let mut walk = self.walk.copy();
-        let _from = walk.shift(row)?;
-        walk.settle();
-        Some(Position { walk })
+        let mut copy = self.copy();
+        if !copy.push(row) {
+            return None;
+        }
+        copy.forget();
+        Some(copy)
+    }
+
+    /// The same position with nothing to undo.
+    fn copy(&self) -> Position
+        ensures { result ≡ record { place = self.now.place; trail = [] } }
+    {
+        Position {
+            heights: heights_again(self.heights.as_slice()),
+            stacks: stacks_again(self.stacks.as_slice()),
+            ordered: self.ordered,
+            next: self.next,
+            row_of: self.row_of,
+            pushes: ArrayVec::new(),
+        }
+    }
+
+    /// Leaves nothing to undo.
+    fn forget(&mut self)
+        ensures { self.new ≡ record { place = self.old.place; trail = [] } }
+    {
+        self.pushes.clear();
+    }
+
+    /// Relocates to the row and makes every retrieval that is legal then, where the relocation is legal; else it changes nothing.
+    pub fn push(&mut self, row: u8) -> bool
+        ensures target { IsTrue result ↔ Contains (targets self.old.place) row }
+        ensures pushed { OnTrue result (self.new ≡ record { place = child self.old.place row; trail = self.old.place ∷ self.old.trail }) }
+        ensures refused { OnFalse result (self.new ≡ self.old) }
+        ensures few { length self.new.trail ≤ 672 }
+    {
+        if !self.is_target(row) {
+            return false;
+        }
+        let next = self.next;
+        let from = self.row_of[next as usize];
+        let to = row - 1;
+        let stacks = self.stacks.as_mut_slice();
+        let rank = lift(from as usize, stacks);
+        land(to as usize, rank, stacks);
+        self.row_of[rank as usize] = to;
+        self.next = settle(
+            self.heights.as_slice(),
+            self.ordered,
+            next,
+            &self.row_of,
+            stacks,
+        );
+        self.pushes.push(Push { from, to, next });
+        true
+    }
+
+    /// Undoes the last push that is not undone. Where there is none it changes nothing.
+    pub fn pop(&mut self) -> bool
+        ensures popped { OnTrue result (self.old.trail ≡ self.new.place ∷ self.new.trail) }
+        ensures none { OnFalse result (self.old.trail ≡ []) }
+        ensures refused { OnFalse result (self.new ≡ self.old) }
+    {
+        let Some(push) = self.pushes.pop() else {
+            return false;
+        };
+        let stacks = self.stacks.as_mut_slice();
+        go_back(
+            self.heights.as_slice(),
+            self.ordered,
+            push.next,
+            self.next,
+            &self.row_of,
+            stacks,
+        );
+        let rank = lift(push.to as usize, stacks);
+        land(push.from as usize, rank, stacks);
+        self.row_of[rank as usize] = push.from;
+        self.next = push.next;
+        true
     }
 
     /// Whether every container that is to leave has left.
+    #[inline]
     pub fn is_done(&self) -> bool
-        ensures done { IsTrue result ↔ IsFinished self.now }
+        ensures done { IsTrue result ↔ IsFinished self.now.place }
     {
-        self.walk.is_finished()
+        self.next > self.ordered
     }
 
     /// The rank of the container whose turn it is; one more than `ordered` where none is left.
+    #[inline]
     pub fn next(&self) -> u8
-        ensures value { result ≡ self.now.next }
-        ensures reached { IsReached self.now }
+        ensures value { result ≡ self.now.place.next }
+        ensures reached { IsReached self.now.place }
     {
-        self.walk.next()
+        self.next
     }
 
     /// How many containers are to leave in all.
+    #[inline]
     pub fn ordered(&self) -> u8
-        ensures value { result ≡ self.now.ordered }
-        ensures reached { IsReached self.now }
+        ensures value { result ≡ self.now.place.ordered }
+        ensures reached { IsReached self.now.place }
     {
-        self.walk.ordered()
+        self.ordered
     }
 
     /// How many rows the bay has.
+    #[inline]
     pub fn rows(&self) -> u8
-        ensures value { result ≡ length self.now.heights }
+        ensures value { result ≡ length self.now.place.heights }
         ensures few { result ≤ 12 }
-        ensures reached { IsReached self.now }
+        ensures reached { IsReached self.now.place }
     {
-        self.walk.rows()
+        self.heights.len() as u8
     }
 
     /// How many containers the row can hold. The row must be there.
+    #[inline]
     pub fn height(&self, row: u8) -> u8
         requires counts { 1 ≤ row }
-        requires there { row ≤ length self.now.heights }
-        ensures value { slice_get self.now.heights (row - 1) ≡ Some result }
-        ensures reached { IsReached self.now }
+        requires there { row ≤ length self.now.place.heights }
+        ensures value { slice_get self.now.place.heights (row - 1) ≡ Some result }
+        ensures reached { IsReached self.now.place }
     {
-        self.walk.height(row)
+        self.heights[row as usize - 1]
     }
 
     /// The ranks of the row from bottom to top. The row must be there.
+    #[inline]
     pub fn stack(&self, row: u8) -> &[u8]
         requires counts { 1 ≤ row }
-        requires there { row ≤ length self.now.heights }
-        ensures value { slice_get self.now.stacks (row - 1) ≡ Some result.now }
+        requires there { row ≤ length self.now.place.heights }
+        ensures value { slice_get self.now.place.stacks (row - 1) ≡ Some result.now }
         ensures low { length result.now ≤ 8 }
-        ensures reached { IsReached self.now }
+        ensures ranks { All (λ rank. rank ≤ 96) result.now }
+        ensures reached { IsReached self.now.place }
     {
-        self.walk.stack(row)
+        self.stacks[row as usize - 1].ranks()
+    }
+
+    /// The row in which a container stands that has not left yet and is to leave.
+    #[inline]
+    pub fn row_of(&self, rank: u8) -> u8
+        requires waits { self.now.place.next ≤ rank }
+        requires leaves { rank ≤ self.now.place.ordered }
+        ensures value { result ≡ place rank self.now.place.stacks + 1 }
+        ensures there { result ≤ length self.now.place.heights }
+    {
+        self.row_of[rank as usize] + 1
     }
 
     /// Whether the row is there and has room.
+    #[inline]
     pub fn fits(&self, row: u8) -> bool
-        ensures room { IsTrue result ↔ HasRoom self.now row }
+        ensures room { IsTrue result ↔ HasRoom self.now.place row }
     {
-        self.walk.has_row(row) && self.stack(row).len() < self.height(row) as usize
+        row >= 1 && row <= self.rows() && self.stack(row).len() < self.height(row) as usize
     }
 
     /// Whether a relocation to the row is legal.
-    fn is_target(&self, row: u8) -> bool
-        ensures { result ≡ can_shift self.now row }
+    #[inline]
+    pub fn is_target(&self, row: u8) -> bool
+        ensures { result ≡ can_shift self.now.place row }
     {
-        let _walk = &self.walk;
-        self.next() <= self.ordered() && self.fits(row) && !has_rank(self.next(), self.stack(row))
+        if self.next > self.ordered || row == 0 || row as usize > self.heights.len() {
+            return false;
+        }
+        let index = row as usize - 1;
+        if self.row_of[self.next as usize] as usize == index {
+            return false;
+        }
+        self.stacks[index].height() < self.heights[index] as usize
     }
 
     /// The rows to which a relocation is legal, rising; none where the position is finished or dead.
     pub fn targets(&self) -> ArrayVec<u8, MAX_ROWS>
-        ensures legal { (p : Statement) (path : List ℕ) (row : ℕ) → IsProblem p → IsAt p path self.now
+        ensures legal { (p : Statement) (path : List ℕ) (row : ℕ) → IsProblem p → IsAt p path self.now.place
             → (Contains result.items row ↔ IsLegalRow p path row) }
         ensures rising { IsStrictlyIncreasing result.items }
-        ensures done { IsFinished self.now → result.items ≡ [] }
+        ensures done { IsFinished self.now.place → result.items ≡ [] }
 
         // What the definitions compute.
-        ensures value { result.items ≡ targets self.now }
+        ensures value { result.items ≡ targets self.now.place }
     {
         let mut targets = ArrayVec::new();
         for row in 1..self.rows() + 1 {

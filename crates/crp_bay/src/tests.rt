@@ -202,3 +202,93 @@ fn dead_ends(rt: HostRuntime) -> Result<(), Fail> {
     }
     Ok(())
 }
+
+// Pushes and pops in many orders, against `child`.
+
+/// The numbers of a fixed source.
+#[derive(Drop)]
+struct Numbers {
+    last: u32,
+}
+
+impl Numbers {
+    /// A number from 0 to 15.
+    fn next(&mut self) -> u8 {
+        self.last = self
+            .last
+            .wrapping_mul(1_664_525)
+            .wrapping_add(1_013_904_223);
+        ((self.last >> 16) % 16) as u8
+    }
+}
+
+fn push_to(position: &mut Position, row: u8) -> bool {
+    position.push(row)
+}
+
+fn pop_off(position: &mut Position) -> bool {
+    position.pop()
+}
+
+fn are_same(a: &Position, b: &Position) -> bool {
+    if next_of(a) != next_of(b) || rows_in(a) != rows_in(b) {
+        return false;
+    }
+    for row in 0..rows_in(a) {
+        if stack_of(a, row) != stack_of(b, row) {
+            return false;
+        }
+    }
+    a.targets().as_slice() == b.targets().as_slice()
+}
+
+/// Pushes to the row, and says whether that is legal.
+fn push_as_child(rt: &impl Abort, position: &mut Position, row: u8) -> bool {
+    match child_of(position, row) {
+        Some(child) => {
+            assert!(rt; push_to(position, row), "row {row} is legal");
+            assert!(rt; are_same(position, &child), "after row {row}");
+            true
+        }
+        None => {
+            assert!(rt; !push_to(position, row), "row {row} is not legal");
+            false
+        }
+    }
+}
+
+/// So many steps from the start: where the number is below `pops` a pop, else a push to the row of the number, legal or not.
+fn assert_steps(
+    rt: &(impl Abort + AllocGlobal),
+    rows: &[&[u8]],
+    steps: u32,
+    pops: u8,
+) -> Result<(), Fail> {
+    let mut numbers = Numbers {
+        last: u32::from(pops),
+    };
+    let mut position = start_of(rt.alloc(), 4, rows)?;
+    let mut path = Vec::new(rt.alloc());
+    for _ in 0..steps {
+        let number = numbers.next();
+        if number < pops {
+            assert_eq!(rt; pop_off(&mut position), path.pop().is_some());
+        } else if push_as_child(rt, &mut position, number - pops) {
+            path.push(number - pops)?;
+        }
+        let again = along(rt, start_of(rt.alloc(), 4, rows)?, path.as_slice());
+        assert!(rt; are_same(&position, &again), "after {:?}", path);
+    }
+    Ok(())
+}
+
+const TEN_CONTAINERS: &[&[u8]] = &[&[3, 1, 9], &[7, 2, 10], &[5, 4], &[], &[8, 6]];
+
+#[test]
+fn pushes_and_pops(rt: HostRuntime) -> Result<(), Fail> {
+    for pops in 0..10 {
+        assert_steps(&rt, SIX_CONTAINERS, 200, pops)?;
+        assert_steps(&rt, TEN_CONTAINERS, 400, pops)?;
+    }
+    Ok(())
+}

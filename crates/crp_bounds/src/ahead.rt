@@ -113,7 +113,7 @@ fn count_from(ordered: u8, next: u8, heights: &[u8], stacks: &mut [Stack]) -> u3
 }
 
 fn heights_of(position: &Position) -> ArrayVec<u8, MAX_ROWS>
-    ensures { result.items ≡ position.now.heights }
+    ensures { result.items ≡ position.now.place.heights }
 {
     let mut heights = ArrayVec::new();
     for row in 1..position.rows() + 1 {
@@ -123,7 +123,7 @@ fn heights_of(position: &Position) -> ArrayVec<u8, MAX_ROWS>
 }
 
 fn stacks_of(position: &Position) -> ArrayVec<Stack, MAX_ROWS>
-    ensures { result.items ≡ position.now.stacks }
+    ensures { result.items ≡ position.now.place.stacks }
 {
     let mut stacks = ArrayVec::new();
     for row in 1..position.rows() + 1 {
@@ -138,8 +138,8 @@ fn stacks_of(position: &Position) -> ArrayVec<Stack, MAX_ROWS>
 /// For each rank from the next to the last, in turn, a container above it counts once more where every other
 /// stack with room holds an ordered container of a lower rank; then the rank's stack is cut off from it upward.
 pub fn look_ahead(position: &Position) -> u32
-    ensures value { result ≡ look_ahead_bound position.now }
-    ensures below_every_run { (moves : List Move) → Completes position.now moves → result ≤ relocations moves }
+    ensures value { result ≡ look_ahead_bound position.now.place }
+    ensures below_every_run { (moves : List Move) → Completes position.now.place moves → result ≤ relocations moves }
     ensures few { result ≤ 96 + 96 * 96 }
 {
     let heights = heights_of(position);

@@ -32,8 +32,8 @@ fn blocked_containers(ordered: u8, stack: &[u8]) -> u32
 ///
 /// Each of these has to be relocated at least once (Kim and Hong 2006).
 pub fn blocking(position: &Position) -> u32
-    ensures value { result ≡ blocking_bound position.now }
-    ensures below_every_run { (moves : List Move) → Completes position.now moves → result ≤ relocations moves }
+    ensures value { result ≡ blocking_bound position.now.place }
+    ensures below_every_run { (moves : List Move) → Completes position.now.place moves → result ≤ relocations moves }
     ensures few { result ≤ 96 }
 {
     let mut count: u32 = 0;

@@ -24,7 +24,7 @@ fn line_of(bytes: &[u8]) -> Option<(&[u8], &[u8])>
 /// A name that is a path of the problem, where it leads, and what follows it.
 #[tactic(auto, unfolding(crate::specs::PartReading::name_at))]
 fn name_of<'a>(problem: &Problem, bytes: &'a [u8]) -> Option<((Name, Position), &'a [u8])>
-    ensures value { Reads (λ x. (x.0, x.1.now)) result (name_at problem.now bytes.now) }
+    ensures value { Reads (λ x. ((x.0.0, x.0.1.place), x.1.now)) result (name_at problem.now bytes.now) }
     ensures problem { IsProblem problem.now }
 {
     if let Some(rest) = after_tag(b"/", bytes) {
@@ -58,7 +58,7 @@ pub struct PartLine<'a> {
 #[tactic(auto, unfolding(crate::specs::PartReading::part_at))]
 pub fn part_line<'a>(problem: &Problem, bytes: &'a [u8]) -> Option<PartLine<'a>>
     ensures value { Reads (λ x. ((x.name, x.symbols.now), x.rest.now)) result (part_at problem.now bytes.now) }
-    ensures at { IfSome result (λ x. IsAt problem.now x.name x.place) }
+    ensures at { IfSome result (λ x. IsAt problem.now x.name x.place.place) }
     ensures problem { IsProblem problem.now }
 {
     let ((name, place), rest) = name_of(problem, bytes)?;

@@ -34,8 +34,8 @@ pub fn read_tree<'a>(
     place: &Position,
     bytes: &'a [u8],
 ) -> Result<Option<(Tree, &'a [u8])>, AllocError>
-    ensures found { IfOk result (λ found. IfSome found (λ x. Fits place.now x.0 × (bytes.now ≡ symbols_of x.0 ++ x.1.now))) }
-    ensures none { IfOk result (λ found. IfNone found (¬ BeginsWithTree place.now bytes.now)) }
+    ensures found { IfOk result (λ found. IfSome found (λ x. Fits place.now.place x.0 × (bytes.now ≡ symbols_of x.0 ++ x.1.now))) }
+    ensures none { IfOk result (λ found. IfNone found (¬ BeginsWithTree place.now.place bytes.now)) }
 {
     if let Some(rest) = after_tag(b"B", bytes) {
         return Ok(Some((Tree::CutB, rest)));

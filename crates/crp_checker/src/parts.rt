@@ -21,7 +21,7 @@ use std::alloc::{AllocError, Global};
 /// The position that the name of a part leads to.
 fn place_of(problem: &Problem, part: &RawPart) -> Position
     requires { IsRawPart problem.now part.now }
-    ensures { at problem.now part.now.name ≡ Some result }
+    ensures { at problem.now part.now.name ≡ Some result.place }
 {
     let Some(name) = Name::from_rows(part.name.as_slice()) else {
         unreachable!()

@@ -62,11 +62,11 @@ pub fn walk_tree(
     tree: &Tree,
     walk: &mut Walk,
 ) -> Result<(), Halt>
-    requires { walk.old.count + length (nodes walk.old.path.items position.now tree.now) < 2 ^ 64 }
-    ensures over { OnOk result (HasWalked lower (nodes walk.old.path.items position.now tree.now)
+    requires { walk.old.count + length (nodes walk.old.path.items position.now.place tree.now) < 2 ^ 64 }
+    ensures over { OnOk result (HasWalked lower (nodes walk.old.path.items position.now.place tree.now)
         walk.old walk.new) }
     ensures halt { IfErr result (IsHalt lower walk.old.count
-        (nodes walk.old.path.items position.now tree.now)) }
+        (nodes walk.old.path.items position.now.place tree.now)) }
 {
     walk.count += 1;
     match tree {
@@ -95,12 +95,12 @@ fn walk_each(
     walk: &mut Walk,
 ) -> Result<(), Halt>
     requires { walk.old.count
-        + length (nodes_below walk.old.path.items position.now (targets position.now) trees.now) < 2 ^ 64 }
+        + length (nodes_below walk.old.path.items position.now.place (targets position.now.place) trees.now) < 2 ^ 64 }
     ensures over { OnOk result (HasWalked lower
-        (nodes_below walk.old.path.items position.now (targets position.now) trees.now)
+        (nodes_below walk.old.path.items position.now.place (targets position.now.place) trees.now)
         walk.old walk.new) }
     ensures halt { IfErr result (IsHalt lower walk.old.count
-        (nodes_below walk.old.path.items position.now (targets position.now) trees.now)) }
+        (nodes_below walk.old.path.items position.now.place (targets position.now.place) trees.now)) }
 {
     let rows = position.targets();
     for (i, tree) in trees.iter().enumerate() {

@@ -21,7 +21,7 @@ fn top_rank(stack: &[u8]) -> u8
 
 /// The container that stands on top of the next one's stack.
 fn blocker(position: &Position) -> u8
-    ensures { result ≡ blocker_of position.now }
+    ensures { result ≡ blocker_of position.now.place }
 {
     for row in 1..position.rows() + 1 {
         let stack = position.stack(row);
@@ -46,8 +46,8 @@ fn least_of(empty: u16, stack: &[u8]) -> u16
 /// The least rank that stands in a row; for an empty row, one more than the bay has containers.
 fn least_rank(problem: &Problem, position: &Position, row: u8) -> u16
     requires counts { 1 ≤ row }
-    requires there { row ≤ length position.now.heights }
-    ensures { result ≡ least_rank_of problem.now position.now row }
+    requires there { row ≤ length position.now.place.heights }
+    ensures { result ≡ least_rank_of problem.now position.now.place row }
 {
     least_of(u16::from(problem.total()) + 1, position.stack(row))
 }
@@ -66,8 +66,8 @@ fn is_better(blocker: u8, rank: u16, other: u16) -> bool
 
 /// The row that the greedy rule chooses. `None` exactly where no relocation is legal.
 fn greedy_row(problem: &Problem, position: &Position) -> Option<u8>
-    ensures chosen { IfSome result (λ row. IsGreedyRow problem.now position.now row) }
-    ensures none { IfNone result (targets position.now ≡ []) }
+    ensures chosen { IfSome result (λ row. IsGreedyRow problem.now position.now.place row) }
+    ensures none { IfNone result (targets position.now.place ≡ []) }
 {
     let targets = position.targets();
     let mut best = *targets.first()?;

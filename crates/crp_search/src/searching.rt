@@ -60,10 +60,10 @@ fn cut(tree: Tree, value: u32, most: u32) -> Found
 /// reaches what was seen, or where the claim is refused.
 fn close<L: Limit>(problem: &Problem, place: &Position, path: &[u8], limit: &mut L) -> Option<Found>
     requires problem { problem.now ≡ L.problem limit.old }
-    requires path { IsAt problem.now path.now place.now }
-    ensures found { IfSome result (λ found. (split : ℕ) → IsFound problem.now split path.now place.now (L.view limit.old) (L.view limit.new) (L.puts limit.old) (L.puts limit.new) found.tree found.floor) }
+    requires path { IsAt problem.now path.now place.now.place }
+    ensures found { IfSome result (λ found. (split : ℕ) → IsFound problem.now split path.now place.now.place (L.view limit.old) (L.view limit.new) (L.puts limit.old) (L.puts limit.new) found.tree found.floor) }
     ensures own { IfSome result (λ found. IsGiven found.tree → ⊥) }
-    ensures granted { IfNone result (IsGranted path.now place.now (L.view limit.old) (L.view limit.new)) }
+    ensures granted { IfNone result (IsGranted path.now place.now.place (L.view limit.old) (L.view limit.new)) }
     ensures advances { Advances problem.now (L.view limit.old) (L.view limit.new) }
     ensures same { (L.problem limit.new ≡ L.problem limit.old) × (L.budget limit.new ≡ L.budget limit.old) × (L.puts limit.new ≡ L.puts limit.old) }
 {
@@ -115,9 +115,9 @@ fn give_or_search<L: Limit>(
     split: u8,
 ) -> Result<Found, AllocError>
     requires problem { problem.now ≡ L.problem limit.old }
-    requires path { IsAt problem.now path.old.items place.now }
+    requires path { IsAt problem.now path.old.items place.now.place }
     requires split { split ≤ 8 }
-    ensures found { IfOk result (λ found. IsFound problem.now split path.old.items place.now (L.view limit.old) (L.view limit.new) (L.puts limit.old) (L.puts limit.new) found.tree found.floor) }
+    ensures found { IfOk result (λ found. IsFound problem.now split path.old.items place.now.place (L.view limit.old) (L.view limit.new) (L.puts limit.old) (L.puts limit.new) found.tree found.floor) }
     ensures advances { Advances problem.now (L.view limit.old) (L.view limit.new) }
     ensures same { (L.problem limit.new ≡ L.problem limit.old) × (L.budget limit.new ≡ L.budget limit.old) }
     ensures puts { PutsMore (L.puts limit.old) (L.puts limit.new) }
@@ -145,9 +145,9 @@ fn search_at<L: Limit>(
     split: u8,
 ) -> Result<Found, AllocError>
     requires problem { problem.now ≡ L.problem limit.old }
-    requires path { IsAt problem.now path.old.items place.now }
+    requires path { IsAt problem.now path.old.items place.now.place }
     requires split { split ≤ 8 }
-    ensures found { IfOk result (λ found. IsFound problem.now split path.old.items place.now (L.view limit.old) (L.view limit.new) (L.puts limit.old) (L.puts limit.new) found.tree found.floor) }
+    ensures found { IfOk result (λ found. IsFound problem.now split path.old.items place.now.place (L.view limit.old) (L.view limit.new) (L.puts limit.old) (L.puts limit.new) found.tree found.floor) }
     ensures own { IfOk result (λ found. IsGiven found.tree → ⊥) }
     ensures advances { Advances problem.now (L.view limit.old) (L.view limit.new) }
     ensures same { (L.problem limit.new ≡ L.problem limit.old) × (L.budget limit.new ≡ L.budget limit.old) }

@@ -204,7 +204,7 @@ impl State {
     /// The current path of the worker. `None` exactly where its hand is empty, or the path is none of the problem.
     fn current(&self, k: usize) -> Option<Current>
         requires there { k < length self.now.workers }
-        ensures current { IfSome result (λ current. HoldsCurrent self.now k current.path current.place) }
+        ensures current { IfSome result (λ current. HoldsCurrent self.now k current.path current.place.place) }
         ensures none { IfNone result ((path : List ℕ) (place : Place) → HoldsCurrent self.now k path place → ⊥) }
         ensures problem { IsProblem self.now.rules.problem }
     {
@@ -265,8 +265,8 @@ impl State {
     /// Whether the worker may close its current path as a leaf of this value.
     fn may_close(&self, k: usize, current: &Current, value: u32) -> bool
         requires there { k < length self.now.workers }
-        ensures may { IsTrue result → (worker : WorkerValue) → IsWorker self.now k worker → MayClose self.now k worker (record { path = current.now.path; value = value }) current.now.place }
-        ensures may_not { IsFalse result → (worker : WorkerValue) → IsWorker self.now k worker → MayClose self.now k worker (record { path = current.now.path; value = value }) current.now.place → ⊥ }
+        ensures may { IsTrue result → (worker : WorkerValue) → IsWorker self.now k worker → MayClose self.now k worker (record { path = current.now.path; value = value }) current.now.place.place }
+        ensures may_not { IsFalse result → (worker : WorkerValue) → IsWorker self.now k worker → MayClose self.now k worker (record { path = current.now.path; value = value }) current.now.place.place → ⊥ }
     {
         let view = self.workers[k].view();
         view.seen <= u64::from(value)
@@ -329,9 +329,9 @@ impl State {
     /// The children of the worker's current path stand in its place; without children it is closed.
     fn branch(&mut self, k: usize, current: Current) -> Result<(), AllocError>
         requires there { k < length self.old.workers }
-        requires current { HoldsCurrent self.old k current.path current.place }
+        requires current { HoldsCurrent self.old k current.path current.place.place }
         requires problem { IsProblem self.old.rules.problem }
-        ensures done { OnOk result (BranchesAt k current.path current.place self.old self.new) }
+        ensures done { OnOk result (BranchesAt k current.path current.place.place self.old self.new) }
         ensures there { OnOk result (length self.new.workers ≡ length self.old.workers) }
         ensures same { OnErr result (self.new ≡ self.old) }
     {
@@ -406,7 +406,7 @@ impl State {
 impl Current {
     /// The value of the path as a leaf.
     fn value(&self, look: bool) -> u32
-        ensures { result ≡ value_of look self.now.path self.now.place }
+        ensures { result ≡ value_of look self.now.path self.now.place.place }
     {
         let bound = if look {
             look_ahead(&self.place)

@@ -1,10 +1,11 @@
 -- Following a path row by row.
-use Rattle.std.proofs.Common.{◌≡◌, ℕ, ◌+◌, ◌<◌, ◌≤◌, ⊎_elim, List, ◌∷◌, length, drop, get_or, Option, Some, None, IsSome, IfSome, Contains, ◌↔◌, refl, sym, ap, ◌∙◌, subst, add-one}
+use Rattle.std.proofs.Common.{◌≡◌, ℕ, ◌+◌, ◌<◌, ◌≤◌, ⊎_elim, List, [], ◌∷◌, length, drop, get_or, Option, Some, None, IsSome, IfSome, Contains, ◌↔◌, refl, sym, ap, ◌∙◌, subst, add-one}
 use Rattle.std.proofs.Math.Seq.{drop-cons}
 use Rattle.std.proofs.lemmas.Bool.{cases_Bool}
 use Rattle.std.proofs.lemmas.List.{drop_all}
 use Rattle.crp_plan.specs.Bay.{Problem, IsProblem, Position, IsAt}
 use Rattle.crp_bay.specs.Positions.{targets, child, can_shift, walk, at}
+use Rattle.crp_bay.specs.Back.{Standing}
 use Rattle.crp_bay.proofs.Walked.{row_is_target, at_reads, at_means}
 use Rattle.crp_bay.proofs.Reaching.{can_from_target}
 
@@ -21,18 +22,18 @@ pub rows_from : (rows items : List ℕ) (i : ℕ) → items ≡ rows → i < len
 rows_from rows items i same lt = subst (λ l. drop i l ≡ get_or items i 0 ∷ drop (i + 1) l) same (rw (add-one) (drop-cons items i 0 lt))
 
 -- what a call of `child` made of the position
-abbrev pub Made : Position → ℕ → Option Position → Type 0
-Made s row made = (IsSome made ↔ Contains (targets s) row) × IfSome made (λ t. t ≡ child s row)
+abbrev pub Made : Position → ℕ → Option Standing → Type 0
+Made s row made = (IsSome made ↔ Contains (targets s) row) × IfSome made (λ t. t ≡ record { place = child s row; trail = [] })
 
 -- it went on: the walk goes on from there
-pub went_on : (s t : Position) (rows items : List ℕ) (i : ℕ) (made : Option Position) → items ≡ rows → i < length items → made ≡ Some t → Made s (get_or items i 0) made → walk t (drop (i + 1) rows) ≡ walk s (drop i rows)
+pub went_on : (s : Position) (t : Standing) (rows items : List ℕ) (i : ℕ) (made : Option Standing) → items ≡ rows → i < length items → made ≡ Some t → Made s (get_or items i 0) made → walk t.place (drop (i + 1) rows) ≡ walk s (drop i rows)
 went_on s t rows items i made same lt e m =
     let row : ℕ = get_or items i 0 in
     let k : Made s row (Some t) = subst (Made s row) e m in
-    ap (λ v. walk v (drop (i + 1) rows)) k.1 ∙ sym (walk_yes s row (drop (i + 1) rows) (k.0.0 refl)) ∙ ap (walk s) (sym (rows_from rows items i same lt))
+    ap (λ (v : Standing). walk v.place (drop (i + 1) rows)) k.1 ∙ sym (walk_yes s row (drop (i + 1) rows) (k.0.0 refl)) ∙ ap (walk s) (sym (rows_from rows items i same lt))
 
 -- it did not: the walk ends without a position
-pub stopped : (s : Position) (rows items : List ℕ) (i : ℕ) (made : Option Position) → items ≡ rows → i < length items → made ≡ None → Made s (get_or items i 0) made → walk s (drop i rows) ≡ None
+pub stopped : (s : Position) (rows items : List ℕ) (i : ℕ) (made : Option Standing) → items ≡ rows → i < length items → made ≡ None → Made s (get_or items i 0) made → walk s (drop i rows) ≡ None
 stopped s rows items i made same lt e m =
     let row : ℕ = get_or items i 0 in
     let k : Made s row None = subst (Made s row) e m in

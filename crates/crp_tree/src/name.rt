@@ -1,4 +1,4 @@
-ghost use Rattle.std.specs.Prelude.{◌≡◌, ℕ, ◌+◌, ◌<◌, ◌≤◌, ◌↔◌, List, [], ◌∷◌, ◌++◌, length, IsTrue, IsSome, IfSome, nat_eq, Some};
+ghost use Rattle.std.specs.Prelude.{◌≡◌, ℕ, ◌+◌, ◌<◌, ◌≤◌, ◌↔◌, List, [], ◌∷◌, ◌++◌, length, IsTrue, IsSome, IfSome, nat_eq, Some, option_map};
 ghost use Rattle.std.proofs.Common.{rules};
 ghost use Rattle.std.specs.Cmp.{partial_order_from_own_ties};
 ghost use Rattle.std.specs.Cmp.Lexicographic.{pointwise, slice_cmp};
@@ -94,11 +94,11 @@ impl Name {
     /// The position at the path. `None` exactly where the name is no path of the problem.
     pub fn position(&self, problem: &Problem) -> Option<Position>
         ensures path { IsSome result ↔ ((s : Place) × IsAt problem.now self.now s) }
-        ensures at { IfSome result (λ s. IsAt problem.now self.now s) }
+        ensures at { IfSome result (λ s. IsAt problem.now self.now s.place) }
         ensures problem { IsProblem problem.now }
 
         // What the definitions compute.
-        ensures value { result ≡ at problem.now self.now }
+        ensures value { option_map (λ s. s.place) result ≡ at problem.now self.now }
     {
         let mut position = Position::start(problem);
         for row in self.rows() {

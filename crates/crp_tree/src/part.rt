@@ -111,9 +111,9 @@ fn collect(
     place: &Position,
     names: &mut Vec<Name>,
 ) -> Result<(), AllocError>
-    requires fits { Fits place.now tree.now }
-    requires in_place { All IsInPlace (nodes name.now place.now tree.now) }
-    ensures { OnOk result (names.new.items ≡ names.old.items ++ given_names (nodes name.now place.now tree.now)) }
+    requires fits { Fits place.now.place tree.now }
+    requires in_place { All IsInPlace (nodes name.now place.now.place tree.now) }
+    ensures { OnOk result (names.new.items ≡ names.old.items ++ given_names (nodes name.now place.now.place tree.now)) }
 {
     match tree {
         Tree::CutB | Tree::CutL => Ok(()),
@@ -133,9 +133,9 @@ fn collect_below(
     place: &Position,
     names: &mut Vec<Name>,
 ) -> Result<(), AllocError>
-    requires fit { AreFit place.now (targets place.now) trees.now }
-    requires in_place { All IsInPlace (nodes_below name.now place.now (targets place.now) trees.now) }
-    ensures { OnOk result (names.new.items ≡ names.old.items ++ given_names (nodes_below name.now place.now (targets place.now) trees.now)) }
+    requires fit { AreFit place.now.place (targets place.now.place) trees.now }
+    requires in_place { All IsInPlace (nodes_below name.now place.now.place (targets place.now.place) trees.now) }
+    ensures { OnOk result (names.new.items ≡ names.old.items ++ given_names (nodes_below name.now place.now.place (targets place.now.place) trees.now)) }
 {
     if name.rows().len() == MAX_NAME {
         return Ok(());

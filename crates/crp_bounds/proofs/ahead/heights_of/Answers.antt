@@ -5,4 +5,4 @@ use Rattle.crp_bounds.proofs.ahead.heights_of.Goals as goal
 pub loop-row-preserved : goal.loop-row-preserved
 loop-row-preserved c =
     c.push.ensures.items ∙ ap (λ l. l ++ c.height.result ∷ []) c.loop-row.invariant
-    ∙ sym (rows_more c.args.position.now.heights c.loop-row.row c.height.result (omega arith) c.height.ensures.value)
+    ∙ sym (rows_more c.args.position.now.place.heights c.loop-row.row c.height.result (omega arith) c.height.ensures.value)

@@ -19,7 +19,7 @@ returns-then-not-comes_after-clause-refused c =
     inr (
       refl,
       (
-        told_line c.args.problem.now c.args.bytes.now told.name told.symbols.now told.rest.now told.place c.in-Some.ensures.at c.in-Some.ensures.value,
+        told_line c.args.problem.now c.args.bytes.now told.name told.symbols.now told.rest.now told.place.place c.in-Some.ensures.at c.in-Some.ensures.value,
         refuted c.comes_after.result c.comes_after.ensures c.if-not-comes_after.true,
       ),
     )
@@ -30,7 +30,7 @@ returns-then-not-are_symbols-clause-refused c =
     inr (
       refl,
       (
-        told_line c.args.problem.now c.args.bytes.now told.name told.symbols.now told.rest.now told.place c.in-Some.ensures.at c.in-Some.ensures.value,
+        told_line c.args.problem.now c.args.bytes.now told.name told.symbols.now told.rest.now told.place.place c.in-Some.ensures.at c.in-Some.ensures.value,
         c.comes_after.ensures.0 c.if-not-comes_after.false,
         refuted c.are_symbols.result c.are_symbols.ensures c.if-not-are_symbols.true,
       ),
@@ -42,7 +42,7 @@ returns-in_default-2-clause-refused c =
     inr (
       refl,
       (
-        told_line c.args.problem.now c.args.bytes.now told.name told.symbols.now told.rest.now told.place c.in-Some.ensures.at c.in-Some.ensures.value,
+        told_line c.args.problem.now c.args.bytes.now told.name told.symbols.now told.rest.now told.place.place c.in-Some.ensures.at c.in-Some.ensures.value,
         c.comes_after.ensures.0 c.if-not-comes_after.false,
         c.are_symbols.ensures.0 c.if-not-are_symbols.false,
         (rw c.in_default-2.is at c.in_ok-tree.ensures).none,
@@ -57,10 +57,10 @@ returns-then-not-is_empty-clause-refused c =
     inr (
       refl,
       (
-        told_line c.args.problem.now c.args.bytes.now told.name told.symbols.now told.rest.now told.place c.in-Some.ensures.at c.in-Some.ensures.value,
+        told_line c.args.problem.now c.args.bytes.now told.name told.symbols.now told.rest.now told.place.place c.in-Some.ensures.at c.in-Some.ensures.value,
         c.comes_after.ensures.0 c.if-not-comes_after.false,
         c.are_symbols.ensures.0 c.if-not-are_symbols.false,
-        left_over told.symbols.now c.in-Some-2.left.now told.place c.in-Some-2.tree r.0 r.1 (omega arith),
+        left_over told.symbols.now c.in-Some-2.left.now told.place.place c.in-Some-2.tree r.0 r.1 (omega arith),
       ),
     )
 

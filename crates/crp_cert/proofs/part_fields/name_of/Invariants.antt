@@ -9,7 +9,7 @@ use Rattle.crp_cert.proofs.part_fields.name_of.Given as goal
 
 abbrev pub invariant-loop-row : goal.invariant-loop-row
 invariant-loop-row l = record {
-  rows : (rows_at (8 - length l.name) l.place l.rest >>= rows_behind l.name) ≡ rows_at 8 (settled (start l.problem)) l.bytes;
+  rows : (rows_at (8 - length l.name) l.place.place l.rest >>= rows_behind l.name) ≡ rows_at 8 (settled (start l.problem)) l.bytes;
   no_root : tag_at (codes "/") l.bytes ≡ None;
   is_problem : IsProblem l.problem;
 }

@@ -4,4 +4,4 @@ use Rattle.crp_cert.proofs.part_fields.part_line.Goals as goal
 
 pub returns-clause-at : goal.returns-clause-at
 returns-clause-at c =
-    at_means c.args.problem.now c.in_ok-name.name c.in_ok-name.place c.in_ok-name.ensures.problem (name_takes c.args.problem.now c.args.bytes.now c.in_ok-name.name c.in_ok-name.place c.in_ok-name.rest.now c.in_ok-name.ensures.value).1
+    at_means c.args.problem.now c.in_ok-name.name c.in_ok-name.place.place c.in_ok-name.ensures.problem (name_takes c.args.problem.now c.args.bytes.now c.in_ok-name.name c.in_ok-name.place.place c.in_ok-name.rest.now c.in_ok-name.ensures.value).1

@@ -7,11 +7,11 @@ use Rattle.crp_checker.proofs.walk.+walking.Given as goal
 
 abbrev pub invariant-walk_each-loop-i : goal.invariant-walk_each-loop-i
 invariant-walk_each-loop-i l =
-    HasWalked l.lower (nodes_below l.fn.walk.path.items l.position (take l.i l.rows.items) (take l.i l.trees)) l.fn.walk l.walk
+    HasWalked l.lower (nodes_below l.fn.walk.path.items l.position.place (take l.i l.rows.items) (take l.i l.trees)) l.fn.walk l.walk
 
 -- the nodes that are left, and each call from a branch to its trees
 abbrev pub decreases-walk_tree : goal.decreases-walk_tree
-decreases-walk_tree l = 2 * length (nodes l.walk.now.path.items l.position.now l.tree.now)
+decreases-walk_tree l = 2 * length (nodes l.walk.now.path.items l.position.now.place l.tree.now)
 
 abbrev pub decreases-walk_each : goal.decreases-walk_each
-decreases-walk_each l = 2 * length (nodes_below l.walk.now.path.items l.position.now (targets l.position.now) l.trees.now) + 1
+decreases-walk_each l = 2 * length (nodes_below l.walk.now.path.items l.position.now.place (targets l.position.now.place) l.trees.now) + 1

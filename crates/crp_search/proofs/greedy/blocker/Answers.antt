@@ -7,17 +7,17 @@ use Rattle.crp_search.proofs.greedy.blocker.Goals as goal
 
 pub returns-then-has_rank : goal.returns-then-has_rank
 returns-then-has_rank c =
-    let held : holds c.args.position.now.next c.stack-stack.result.now ≡ true = ap (λ n. holds n c.stack-stack.result.now) (sym c.next.ensures.value) ∙ sym c.has_rank.ensures ∙ c.if-has_rank.true in
-    c.top_rank.ensures ∙ found_at c.args.position.now (c.loop-row.row - 1) c.stack-stack.result.now c.stack-stack.ensures.value held c.loop-row.invariant
+    let held : holds c.args.position.now.place.next c.stack-stack.result.now ≡ true = ap (λ n. holds n c.stack-stack.result.now) (sym c.next.ensures.value) ∙ sym c.has_rank.ensures ∙ c.if-has_rank.true in
+    c.top_rank.ensures ∙ found_at c.args.position.now.place (c.loop-row.row - 1) c.stack-stack.result.now c.stack-stack.ensures.value held c.loop-row.invariant
 
 pub loop-row-preserved : goal.loop-row-preserved
 loop-row-preserved c =
     let row : ℕ = c.loop-row.row in
-    let held : holds c.args.position.now.next c.stack-stack.result.now ≡ false = ap (λ n. holds n c.stack-stack.result.now) (sym c.next.ensures.value) ∙ sym c.has_rank.ensures ∙ c.if-has_rank.false in
-    let more : (row - 1 + 1) + place c.args.position.now.next (drop (row - 1 + 1) c.args.position.now.stacks) ≡ source c.args.position.now = not_at c.args.position.now (row - 1) c.stack-stack.result.now c.stack-stack.ensures.value held c.loop-row.invariant in
+    let held : holds c.args.position.now.place.next c.stack-stack.result.now ≡ false = ap (λ n. holds n c.stack-stack.result.now) (sym c.next.ensures.value) ∙ sym c.has_rank.ensures ∙ c.if-has_rank.false in
+    let more : (row - 1 + 1) + place c.args.position.now.place.next (drop (row - 1 + 1) c.args.position.now.place.stacks) ≡ source c.args.position.now.place = not_at c.args.position.now.place (row - 1) c.stack-stack.result.now c.stack-stack.ensures.value held c.loop-row.invariant in
     let same : row + 1 - 1 ≡ row - 1 + 1 = omega arith in
     rw same more
 
 pub returns : goal.returns
 returns c =
-    nowhere c.args.position.now (c.loop-row.row - 1) (omega (arith, reached_same_rows c.args.position.now c.rows-row-end.ensures.reached, c.rows-row-end.ensures.value)) c.loop-row.invariant
+    nowhere c.args.position.now.place (c.loop-row.row - 1) (omega (arith, reached_same_rows c.args.position.now.place c.rows-row-end.ensures.reached, c.rows-row-end.ensures.value)) c.loop-row.invariant

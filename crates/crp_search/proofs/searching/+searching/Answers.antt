@@ -1,5 +1,6 @@
 use Rattle.std.proofs.Common.{◌≡◌, ℕ, [], ◌∷◌, ◌++◌, length, get_or, ap, ◌∙◌, subst, arith, refl, List, length-append, lit<}
 use Rattle.crp_plan.proofs.Steps.{short_path}
+use Rattle.crp_bay.specs.Back.{Standing}
 use Rattle.crp_search.specs.Searched.{IsFound, IsGranted}
 use Rattle.crp_search.proofs.Branching.{on_and_on, one_more_met, all_found, back_again, more_again, below_puts}
 use Rattle.crp_search.proofs.searching.+searching.Goals as goal
@@ -7,7 +8,7 @@ use Rattle.crp_search.proofs.searching.+searching.Goals as goal
 pub search_at-push-requires : goal.search_at-push-requires
 search_at-push-requires g t c =
     let on = c.in-Some-child.ensures.at c.args.problem.now c.args.path.now.items c.cap-floor.ensures.problem c.requires.path in
-    (lit< tt, omega (arith, short_path c.args.problem.now (c.args.path.now.items ++ get_or c.as_slice-rows.result.now c.loop-row.row-index 0 ∷ []) c.in-Some-child.child c.cap-floor.ensures.problem on, length-append c.args.path.now.items (get_or c.as_slice-rows.result.now c.loop-row.row-index 0 ∷ []), ap length c.loop-row.invariant.path))
+    (lit< tt, omega (arith, short_path c.args.problem.now (c.args.path.now.items ++ get_or c.as_slice-rows.result.now c.loop-row.row-index 0 ∷ []) c.in-Some-child.child.place c.cap-floor.ensures.problem on, length-append c.args.path.now.items (get_or c.as_slice-rows.result.now c.loop-row.row-index 0 ∷ []), ap length c.loop-row.invariant.path))
 
 pub search_at-returns-in_err-push-clause-advances :
     goal.search_at-returns-in_err-push-clause-advances
@@ -25,26 +26,26 @@ search_at-loop-row-preserved g t c =
     record {
       path = back_again c.pop.new.self.items c.give_or_search.new.path.items path _ row refl (c.in_ok-found.ensures.path ∙ longer) c.pop.ensures.rest;
       same = (same.0 ∙ inv.same.0, same.1 ∙ inv.same.1);
-      found = one_more_met c.args.problem.now c.args.split path c.push.new.self.items c.args.place.now c.in-Some-child.child (g.L.Limit.view c.args.limit.now) (g.L.Limit.view c.loop-row.limit) (g.L.Limit.view c.give_or_search.new.limit)
+      found = one_more_met c.args.problem.now c.args.split path c.push.new.self.items c.args.place.now.place c.in-Some-child.child.place (g.L.Limit.view c.args.limit.now) (g.L.Limit.view c.loop-row.limit) (g.L.Limit.view c.give_or_search.new.limit)
           (g.L.Limit.puts c.args.limit.now) (g.L.Limit.puts c.loop-row.limit) (g.L.Limit.puts c.give_or_search.new.limit) c.as_slice-rows.result.now c.loop-row.row-index c.loop-row.trees.items c.push-in-loop-row.new.self.items
           c.loop-row.floor c.in_ok-found.found.floor c.min-floor.result c.in_ok-found.found.tree
-          (omega arith) longer c.in-Some-child.ensures.value c.in_ok-push.ensures.items c.min-floor.ensures inv.found c.in_ok-found.ensures.found c.give_or_search.ensures.advances;
+          (omega arith) longer (ap (λ (v : Standing). v.place) c.in-Some-child.ensures.value) c.in_ok-push.ensures.items c.min-floor.ensures inv.found c.in_ok-found.ensures.found c.give_or_search.ensures.advances;
     }
 
 pub search_at-returns-clause-found : goal.search_at-returns-clause-found
 search_at-returns-clause-found g t c =
-    let granted = subst (λ l. IsGranted l c.args.place.now (g.L.Limit.view c.args.limit.now) (g.L.Limit.view c.close.new.limit)) c.as_slice.ensures.value c.in_default.ensures.granted in
-    all_found c.args.problem.now c.args.split c.args.path.now.items c.args.place.now (g.L.Limit.view c.args.limit.now) (g.L.Limit.view c.close.new.limit) (g.L.Limit.view c.loop-row.limit) (g.L.Limit.puts c.args.limit.now) (g.L.Limit.puts c.loop-row.limit) c.as_slice-rows.result.now c.loop-row.row-index c.loop-row.trees c.loop-row.floor
+    let granted = subst (λ l. IsGranted l c.args.place.now.place (g.L.Limit.view c.args.limit.now) (g.L.Limit.view c.close.new.limit)) c.as_slice.ensures.value c.in_default.ensures.granted in
+    all_found c.args.problem.now c.args.split c.args.path.now.items c.args.place.now.place (g.L.Limit.view c.args.limit.now) (g.L.Limit.view c.close.new.limit) (g.L.Limit.view c.loop-row.limit) (g.L.Limit.puts c.args.limit.now) (g.L.Limit.puts c.loop-row.limit) c.as_slice-rows.result.now c.loop-row.row-index c.loop-row.trees c.loop-row.floor
     (c.as_slice-rows.ensures.value ∙ c.targets-targets.ensures.value) (omega arith) granted c.loop-row.invariant.found
 
 pub search_at-returns-in-Some-clause-found :
     goal.search_at-returns-in-Some-clause-found
 search_at-returns-in-Some-clause-found g t c =
-    subst (λ l. IsFound c.args.problem.now c.args.split l c.args.place.now (g.L.Limit.view c.args.limit.now) (g.L.Limit.view c.close.new.limit) (g.L.Limit.puts c.args.limit.now) (g.L.Limit.puts c.close.new.limit) c.in-Some.found.tree c.in-Some.found.floor)
+    subst (λ l. IsFound c.args.problem.now c.args.split l c.args.place.now.place (g.L.Limit.view c.args.limit.now) (g.L.Limit.view c.close.new.limit) (g.L.Limit.puts c.args.limit.now) (g.L.Limit.puts c.close.new.limit) c.in-Some.found.tree c.in-Some.found.floor)
     c.as_slice.ensures.value (c.in-Some.ensures.found c.args.split)
 
 pub search_at-returns-in_err-found-clause-puts :
     goal.search_at-returns-in_err-found-clause-puts
 search_at-returns-in_err-found-clause-puts g t c =
     let f = c.loop-row.invariant.found in
-    more_again (g.L.Limit.puts c.args.limit.now) (g.L.Limit.puts c.loop-row.limit) (g.L.Limit.puts c.give_or_search.new.limit) (below_puts c.args.problem.now c.args.split c.args.path.now.items c.args.place.now (g.L.Limit.view c.args.limit.now) (g.L.Limit.view c.loop-row.limit) (g.L.Limit.puts c.args.limit.now) (g.L.Limit.puts c.loop-row.limit) c.as_slice-rows.result.now c.loop-row.row-index c.loop-row.trees.items c.loop-row.floor f) c.give_or_search.ensures.puts
+    more_again (g.L.Limit.puts c.args.limit.now) (g.L.Limit.puts c.loop-row.limit) (g.L.Limit.puts c.give_or_search.new.limit) (below_puts c.args.problem.now c.args.split c.args.path.now.items c.args.place.now.place (g.L.Limit.view c.args.limit.now) (g.L.Limit.view c.loop-row.limit) (g.L.Limit.puts c.args.limit.now) (g.L.Limit.puts c.loop-row.limit) c.as_slice-rows.result.now c.loop-row.row-index c.loop-row.trees.items c.loop-row.floor f) c.give_or_search.ensures.puts

@@ -13,5 +13,5 @@ abbrev pub invariant-search_at-loop-row : goal.invariant-search_at-loop-row
 invariant-search_at-loop-row g l = record {
   path : l.path.items ≡ l.fn.path.items;
   same : (g.L.Limit.problem l.limit ≡ g.L.Limit.problem l.fn.limit) × (g.L.Limit.budget l.limit ≡ g.L.Limit.budget l.fn.limit);
-  found : FoundBelow l.problem l.split l.fn.path.items l.place (g.L.Limit.view l.fn.limit) (g.L.Limit.view l.limit) (g.L.Limit.puts l.fn.limit) (g.L.Limit.puts l.limit) l.rows l.row-index l.trees.items l.floor;
+  found : FoundBelow l.problem l.split l.fn.path.items l.place.place (g.L.Limit.view l.fn.limit) (g.L.Limit.view l.limit) (g.L.Limit.puts l.fn.limit) (g.L.Limit.puts l.limit) l.rows l.row-index l.trees.items l.floor;
 }

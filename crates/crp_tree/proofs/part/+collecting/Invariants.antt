@@ -4,7 +4,7 @@ use Rattle.crp_tree.specs.Listed.{nodes_below}
 use Rattle.crp_tree.proofs.part.+collecting.Given as goal
 
 abbrev pub invariant-collect_below-loop-i : goal.invariant-collect_below-loop-i
-invariant-collect_below-loop-i l = l.names.items ≡ l.fn.names.items ++ given_names (nodes_below l.name l.place (take l.i l.rows) (take l.i l.trees))
+invariant-collect_below-loop-i l = l.names.items ≡ l.fn.names.items ++ given_names (nodes_below l.name l.place.place (take l.i l.rows) (take l.i l.trees))
 
 -- each name goes on by one row, and none has more than 8
 abbrev pub decreases-collect : goal.decreases-collect

@@ -1,37 +1,17 @@
-use Rattle.std.proofs.Common.{refl, sym, ◌∙◌, subst}
-use Rattle.crp_bay.specs.Reached.{IsReached}
-use Rattle.crp_bay.proofs.Reaching.{goes_at, goes_reached, goes_target, stops_at, stops_target}
+use Rattle.std.proofs.Common.{◌≡◌, ap, ◌∙◌}
+use Rattle.crp_bay.specs.Back.{Standing}
+use Rattle.crp_bay.proofs.Reading.{push_legal, push_target, push_at}
 use Rattle.crp_bay.proofs.position.Position.child.Goals as goal
 
-pub returns-in_err-_from-clause-legal : goal.returns-in_err-_from-clause-legal
-returns-in_err-_from-clause-legal c = rw c.from_residual.ensures (λ p path is a. (
-  λ e. cc,
-  λ l. absurd (stops_at c.args.self.now c.copy-walk.result c.args.row (c.copy-walk.ensures ∙ c.self.view_is) c.in_err-_from.ensures.none p path is a l),
-))
+pub returns-then-not-push-clause-legal : goal.returns-then-not-push-clause-legal
+returns-then-not-push-clause-legal c = push_legal c.args.self.now.place c.copy-copy.result c.args.row c.push.result _ c.copy-copy.ensures c.if-not-push.true c.push.ensures.target
 
-pub returns-in_err-_from-clause-target : goal.returns-in_err-_from-clause-target
-returns-in_err-_from-clause-target c = rw c.from_residual.ensures (
-  λ e. cc,
-  λ t. absurd (stops_target c.args.self.now c.copy-walk.result c.args.row (c.copy-walk.ensures ∙ c.self.view_is) (subst IsReached c.self.view_is c.self.invariant) c.in_err-_from.ensures.none t),
-)
-
-pub invariant_of-result : goal.invariant_of-result
-invariant_of-result c = goes_reached c.args.self.now c.copy-walk.result c.args.row c.in_ok-_from._from c.shift.new.self c.settle.new.self (c.copy-walk.ensures ∙ c.self.view_is) (subst IsReached c.self.view_is c.self.invariant) c.in_ok-_from.ensures.shifted c.settle.ensures
+pub returns-then-not-push-clause-target : goal.returns-then-not-push-clause-target
+returns-then-not-push-clause-target c = push_target c.args.self.now.place c.copy-copy.result c.args.row c.push.result _ c.copy-copy.ensures c.if-not-push.true c.push.ensures.target
 
 pub returns-clause-legal : goal.returns-clause-legal
-returns-clause-legal c p path is a = (
-  λ e. (c.settle.new.self, goes_at c.args.self.now c.copy-walk.result c.args.row c.in_ok-_from._from c.shift.new.self c.settle.new.self (c.copy-walk.ensures ∙ c.self.view_is) c.in_ok-_from.ensures.shifted c.settle.ensures p path is a),
-  λ l. refl,
-)
+returns-clause-legal c = push_legal c.args.self.now.place c.copy-copy.result c.args.row c.push.result _ c.copy-copy.ensures c.if-not-push.false c.push.ensures.target
 
 pub returns-clause-at : goal.returns-clause-at
-returns-clause-at c p path is a = goes_at c.args.self.now c.copy-walk.result c.args.row c.in_ok-_from._from c.shift.new.self c.settle.new.self (c.copy-walk.ensures ∙ c.self.view_is) c.in_ok-_from.ensures.shifted c.settle.ensures p path is a
-
-pub returns-clause-target : goal.returns-clause-target
-returns-clause-target c = (
-  λ e. (goes_target c.args.self.now c.copy-walk.result c.args.row c.in_ok-_from._from c.shift.new.self c.settle.new.self (c.copy-walk.ensures ∙ c.self.view_is) (subst IsReached c.self.view_is c.self.invariant) c.in_ok-_from.ensures.shifted c.settle.ensures).0,
-  λ t. refl,
-)
-
-pub returns-clause-value : goal.returns-clause-value
-returns-clause-value c = sym (goes_target c.args.self.now c.copy-walk.result c.args.row c.in_ok-_from._from c.shift.new.self c.settle.new.self (c.copy-walk.ensures ∙ c.self.view_is) (subst IsReached c.self.view_is c.self.invariant) c.in_ok-_from.ensures.shifted c.settle.ensures).1
+returns-clause-at c =
+    push_at c.args.self.now.place c.copy-copy.result c.forget.new.self c.args.row c.copy-copy.ensures (ap (λ (v : Standing). v.place) c.forget.ensures ∙ ap (λ (v : Standing). v.place) c.if-not-push.ensures.pushed) (c.push.ensures.target.0 c.if-not-push.false)

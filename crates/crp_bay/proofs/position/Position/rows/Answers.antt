@@ -3,4 +3,4 @@ use Rattle.crp_bay.proofs.Reaching.{reached_rows}
 use Rattle.crp_bay.proofs.position.Position.rows.Goals as goal
 
 pub returns-clause-few : goal.returns-clause-few
-returns-clause-few c = omega (arith, reached_rows c.self.inside.walk c.self.invariant, c.rows.ensures.value)
+returns-clause-few c = let r = reached_rows _ c.self.invariant.reached in omega (arith, r.1, c.len.ensures.value)

@@ -6,10 +6,10 @@ returns-in_default-clause-stopped c = λ next r. c.in_default.ensures.none r.pat
 
 pub returns-then-not-may_close-clause-stopped : goal.returns-then-not-may_close-clause-stopped
 returns-then-not-may_close-clause-stopped c = λ next r.
-    closes_not c.args.self.now c.args.k c.args.look (c.in-Some.current).path (c.in-Some.current).place c.value-value.result c.in-Some.ensures.problem c.in-Some.ensures.current c.value-value.ensures
+    closes_not c.args.self.now c.args.k c.args.look (c.in-Some.current).path (c.in-Some.current).place.place c.value-value.result c.in-Some.ensures.problem c.in-Some.ensures.current c.value-value.ensures
     (c.may_close.ensures.may_not c.if-not-may_close.true) next r
 
 pub returns-in_default-close-clause-stopped : goal.returns-in_default-close-clause-stopped
 returns-in_default-close-clause-stopped c =
-    can_close c.args.self.now c.args.k c.args.look (c.in-Some.current).path (c.in-Some.current).place c.value-value.result c.in-Some.ensures.current c.value-value.ensures
+    can_close c.args.self.now c.args.k c.args.look (c.in-Some.current).path (c.in-Some.current).place.place c.value-value.result c.in-Some.ensures.current c.value-value.ensures
     (c.may_close.ensures.may c.if-not-may_close.false)

@@ -4,4 +4,4 @@ use Rattle.crp_bay.specs.Positions.{walk, at}
 use Rattle.crp_tree.proofs.name.Name.position.Given as goal
 
 abbrev pub invariant-loop-row : goal.invariant-loop-row
-invariant-loop-row l = IsProblem l.problem × (walk l.position (drop l.row-index l.self) ≡ at l.problem l.self)
+invariant-loop-row l = IsProblem l.problem × (walk l.position.place (drop l.row-index l.self) ≡ at l.problem l.self)

@@ -10,16 +10,16 @@ use Rattle.crp_tree.proofs.part.Part.given_names.Goals as goal
 pub collect-requires : goal.collect-requires
 collect-requires c =
     let x : ProblemPart = record { problem = c.self.inside.problem; name = c.self.inside.name; tree = c.self.inside.tree; floor = c.self.inside.floor } in
-    let shape : HasShape x.name c.in-Some.place x.tree = shape_at_name x c.in-Some.place c.self.invariant c.in-Some.ensures.at in
+    let shape : HasShape x.name c.in-Some.place.place x.tree = shape_at_name x c.in-Some.place.place c.self.invariant c.in-Some.ensures.at in
     record { fits = shape.fits; in_place = shape.in_place }
 
 pub returns-clause-names : goal.returns-clause-names
 returns-clause-names c =
     let x : ProblemPart = record { problem = c.self.inside.problem; name = c.self.inside.name; tree = c.self.inside.tree; floor = c.self.inside.floor } in
-    c.from_vec.ensures ∙ c.in_ok-collect.ensures ∙ ap (λ l. l ++ given_names (nodes x.name c.in-Some.place x.tree)) c.new-names.ensures.items
-    ∙ ap given_names (sym (nodes_at_name x c.in-Some.place c.self.invariant c.in-Some.ensures.at)) ∙ ap given_of c.self.view_is
+    c.from_vec.ensures ∙ c.in_ok-collect.ensures ∙ ap (λ l. l ++ given_names (nodes x.name c.in-Some.place.place x.tree)) c.new-names.ensures.items
+    ∙ ap given_names (sym (nodes_at_name x c.in-Some.place.place c.self.invariant c.in-Some.ensures.at)) ∙ ap given_of c.self.view_is
 
 pub returns-clause-rising : goal.returns-clause-rising
 returns-clause-rising c =
     let x : ProblemPart = record { problem = c.self.inside.problem; name = c.self.inside.name; tree = c.self.inside.tree; floor = c.self.inside.floor } in
-    subst (AllPairs Precedes) (sym (c.from_vec.ensures ∙ c.in_ok-collect.ensures ∙ ap (λ l. l ++ given_names (nodes x.name c.in-Some.place x.tree)) c.new-names.ensures.items)) (given_rise x.name c.in-Some.place x.tree)
+    subst (AllPairs Precedes) (sym (c.from_vec.ensures ∙ c.in_ok-collect.ensures ∙ ap (λ l. l ++ given_names (nodes x.name c.in-Some.place.place x.tree)) c.new-names.ensures.items)) (given_rise x.name c.in-Some.place.place x.tree)
