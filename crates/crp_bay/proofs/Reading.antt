@@ -1,8 +1,7 @@
 -- What code reads of a position.
-use Rattle.std.proofs.Common.{◌≡◌, ℕ, ◌+◌, ◌-◌, ◌<◌, ◌≤◌, Bool, true, List, [], ◌∷◌, ◌++◌, length, reverse, get_or, slice_get, Some, All, Contains, IsTrue, sym, ap, ◌∙◌, subst, arith}
+use Rattle.std.proofs.Common.{◌≡◌, ℕ, ◌<◌, ◌≤◌, Bool, List, [], ◌∷◌, ◌++◌, length, reverse, get_or, slice_get, Some, All, Contains, IsTrue, sym, ap, ◌∙◌, subst, arith}
 use Rattle.std.proofs.lemmas.List.{length-reverse}
 use Rattle.std.proofs.lemmas.Option.{slice_get_within}
-use Rattle.std.proofs.lemmas.Bool.{ltb-true, lt-ltb}
 use Rattle.crp_plan.specs.Bay.{Problem, IsProblem, Position, IsAt, IsLegalRow, IsFinished}
 use Rattle.crp_plan.proofs.Steps.{short_path}
 use Rattle.crp_bay.specs.Positions.{place, child, targets}

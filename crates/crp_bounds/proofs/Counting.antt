@@ -9,7 +9,7 @@ use Rattle.crp_plan.specs.Bay.{Position, Completes, relocations}
 use Rattle.crp_bay.specs.Reached.{IsReached}
 use Rattle.crp_bay.proofs.Reaching.{reached_sound, reached_same_rows}
 use Rattle.crp_bounds.specs.Bounds.{blocked_in, blocking, stuck_above, stuck_from, look_ahead}
-use Rattle.crp_bounds.proofs.Bounded.{ahead_bound, blocking_bound}
+use Rattle.crp_bounds.proofs.Bounding.{ahead_bound, blocking_bound}
 
 -- one more row, counted from 1
 pub rows_more : {X : Type 0} (xs : List X) (row : ℕ) (x : X) → 1 ≤ row → slice_get xs (row - 1) ≡ Some x → take (row + 1 - 1) xs ≡ take (row - 1) xs ++ x ∷ []

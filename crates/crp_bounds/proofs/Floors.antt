@@ -4,7 +4,7 @@ use Rattle.crp_plan.specs.declared.moves.Move.{Move}
 use Rattle.crp_plan.specs.Bay.{Problem, IsProblem, IsPlan, IsAt, Position, path_of, relocations}
 use Rattle.crp_plan.proofs.Covered.{from_at, at_sound, relocations-path}
 use Rattle.crp_bounds.specs.Bounds.{look_ahead, blocking}
-use Rattle.crp_bounds.proofs.Bounded.{ahead_bound, blocking_bound}
+use Rattle.crp_bounds.proofs.Bounding.{ahead_bound, blocking_bound}
 
 -- the rest of the plan has at least the bound
 pub cut_floor : (p : Problem) (path more : List ℕ) (s : Position) (moves : List Move) → IsProblem p → IsAt p path s → IsPlan p moves → path_of moves ≡ path ++ more →

@@ -1,7 +1,13 @@
 pub mod Blocked
 pub mod Stuck
-pub mod Bounded
+pub mod Bounding
 pub mod Meaning
 pub mod Floors
 pub mod Counting
 pub mod Worked
+pub mod Leasts
+pub mod Marking
+pub mod Undone
+pub mod Cutting
+pub mod Tallying
+pub mod Scanned

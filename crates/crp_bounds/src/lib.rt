@@ -3,12 +3,17 @@
 
 mod ahead;
 mod blockers;
+mod in_place;
+mod known;
 mod laws;
+mod scanning;
 #[cfg(test)]
 mod tests;
+mod undo;
 
 pub use ahead::look_ahead;
 pub use blockers::blocking;
+pub use in_place::Bounded;
 pub use laws::{
     blocking_bounds, bounds_fall_slowly, look_ahead_bounds, look_ahead_is_higher, paths_grow,
     plans_pass, words_mean,

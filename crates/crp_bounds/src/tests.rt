@@ -2,7 +2,7 @@ ghost use Rattle.std.specs.Prelude.{◌≡◌, [], ◌∷◌};
 ghost use Rattle.crp_plan.specs.Rows.{above, below};
 ghost use Rattle.crp_bounds.specs.Bounds.{HasNoPlace};
 
-use crate::{blocking, look_ahead, words_mean};
+use crate::{Bounded, blocking, look_ahead, words_mean};
 use crp_bay::Position;
 use crp_plan::{Move, Plan, Problem};
 use std::alloc::{AllocError, Global};
@@ -267,6 +267,137 @@ fn length_and_bound_rise_to_the_count_of_a_plan(rt: HostRuntime) -> Result<(), F
     ];
     for (rows, path) in cases {
         assert_rises(&rt, rows, path)?;
+    }
+    Ok(())
+}
+
+// Bounds that are kept, against those that are counted anew, over pushes and pops in many orders.
+
+/// The numbers of a fixed source.
+#[derive(Drop)]
+struct Numbers {
+    last: u32,
+}
+
+impl Numbers {
+    /// A number from 0 to 15.
+    fn next(&mut self) -> u8 {
+        self.last = self
+            .last
+            .wrapping_mul(1_664_525)
+            .wrapping_add(1_013_904_223);
+        ((self.last >> 16) % 16) as u8
+    }
+}
+
+fn kept_low(bounded: &Bounded) -> u32 {
+    bounded.blocking()
+}
+
+fn kept_high(bounded: &Bounded) -> u32 {
+    bounded.look_ahead()
+}
+
+fn pop_off(bounded: &mut Bounded) -> bool {
+    bounded.pop()
+}
+
+/// The blocking bound after a push that is not made, where that is legal.
+fn low_after(bounded: &Bounded, row: u8) -> Option<u32> {
+    if bounded.position().is_target(row) {
+        Some(bounded.blocking_after(row))
+    } else {
+        None
+    }
+}
+
+fn push_to(bounded: &mut Bounded, row: u8) -> bool {
+    bounded.push(row)
+}
+
+fn bounds_agree(bounded: &Bounded) -> bool {
+    let position = bounded.position();
+    kept_low(bounded) == low_of(position) && kept_high(bounded) == high_of(position)
+}
+
+/// Pushes to the row, and says whether that is legal.
+fn push_as_told(rt: &impl Abort, bounded: &mut Bounded, row: u8) -> bool {
+    let after = low_after(bounded, row);
+    let is_legal = push_to(bounded, row);
+    assert_eq!(rt; after.is_some(), is_legal, "to row {row}");
+    if let Some(low) = after {
+        assert_eq!(rt; kept_low(bounded), low, "to row {row}");
+    }
+    is_legal
+}
+
+/// A bay, and of how many of its containers the bounds speak.
+#[derive(Clone, Copy)]
+struct Bay<'a> {
+    tiers: u8,
+    ordered: u8,
+    rows: &'a [&'a [u8]],
+}
+
+/// So many steps from the start: where the number is below `pops` a pop, else a push to the row of the number, legal or not.
+fn assert_steps(
+    rt: &(impl Abort + AllocGlobal),
+    bay: &Bay,
+    steps: u32,
+    pops: u8,
+) -> Result<(), Fail> {
+    let stacks = rows_of(rt.alloc(), bay.rows)?;
+    let problem = Problem::new(bay.tiers, bay.ordered, &stacks)?;
+    let mut bounded = Bounded::start(&problem);
+    let mut numbers = Numbers {
+        last: u32::from(pops),
+    };
+    let mut pushes: u32 = 0;
+    for _ in 0..steps {
+        let number = numbers.next();
+        if number < pops {
+            assert_eq!(rt; pop_off(&mut bounded), pushes > 0);
+            pushes = pushes.saturating_sub(1);
+        } else if push_as_told(rt, &mut bounded, number - pops) {
+            pushes = pushes.saturating_add(1);
+        }
+        assert!(rt; bounds_agree(&bounded), "with {pushes} pushes");
+    }
+    Ok(())
+}
+
+#[test]
+fn kept_bounds_are_the_bounds(rt: HostRuntime) -> Result<(), Fail> {
+    let bays = [
+        Bay {
+            tiers: 3,
+            ordered: 6,
+            rows: &[&[1, 5, 4], &[6], &[3, 2]],
+        },
+        Bay {
+            tiers: 4,
+            ordered: 7,
+            rows: &[&[3, 1, 9], &[7, 2, 10], &[5, 4], &[], &[8, 6]],
+        },
+        Bay {
+            tiers: 6,
+            ordered: 36,
+            rows: &[
+                &[14, 28, 5, 19, 33],
+                &[10, 24, 1, 15, 29],
+                &[6, 20, 34, 11, 25],
+                &[2, 16, 30, 7, 21],
+                &[35, 12, 26, 3, 17],
+                &[31, 8, 22, 36, 13],
+                &[27, 4, 18, 32, 9],
+                &[23],
+            ],
+        },
+    ];
+    for bay in &bays {
+        for pops in 0..8 {
+            assert_steps(&rt, bay, 300, pops)?;
+        }
     }
     Ok(())
 }

@@ -10,7 +10,7 @@ use Rattle.crp_bay.proofs.Walked.{target_goes_on}
 use Rattle.crp_bay.proofs.Reaching.{targets_legal}
 use Rattle.crp_bay.proofs.Members.{not_in_nil, in_head, in_tail, in_cons_cases, in_filter, from_filter}
 use Rattle.crp_bounds.specs.Bounds.{look_ahead}
-use Rattle.crp_bounds.proofs.Bounded.{ahead_path}
+use Rattle.crp_bounds.proofs.Bounding.{ahead_path}
 use Rattle.crp_tree.specs.declared.tree.Tree.{Tree, CutB, CutL, Branch', Given, Row_of-Tree, end_of-Tree, more_of-Tree, items-the_row-Tree}
 use Rattle.crp_tree.specs.Names.{GoesOn, Precedes}
 use Rattle.crp_tree.specs.Trees.{Mark, B, L, X, G, Node, nodes, nodes_of_each, Fits, FitsEach, is_branch, is_given, given_names, MayStand, IsInPlace, IsGiven, Begins}

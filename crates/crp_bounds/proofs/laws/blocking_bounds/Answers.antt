@@ -1,4 +1,4 @@
-use Rattle.crp_bounds.proofs.Bounded.{blocking_bound}
+use Rattle.crp_bounds.proofs.Bounding.{blocking_bound}
 use Rattle.crp_bounds.proofs.laws.blocking_bounds.Goals as goal
 
 pub returns : goal.returns

@@ -1,5 +1,5 @@
 use Rattle.crp_bounds.proofs.Blocked.{blocking_taken}
-use Rattle.crp_bounds.proofs.Bounded.{ahead_taken, ahead_shifted, blocking_falls}
+use Rattle.crp_bounds.proofs.Bounding.{ahead_taken, ahead_shifted, blocking_falls}
 use Rattle.crp_bounds.proofs.laws.bounds_fall_slowly.Goals as goal
 
 pub returns : goal.returns

@@ -1,4 +1,4 @@
-use Rattle.crp_bounds.proofs.Bounded.{ahead_bound}
+use Rattle.crp_bounds.proofs.Bounding.{ahead_bound}
 use Rattle.crp_bounds.proofs.laws.look_ahead_bounds.Goals as goal
 
 pub returns : goal.returns

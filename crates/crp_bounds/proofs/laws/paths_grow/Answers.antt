@@ -1,5 +1,5 @@
 use Rattle.std.proofs.Common.{arith, [], ◌∷◌, length-append}
-use Rattle.crp_bounds.proofs.Bounded.{ahead_path, blocking_path}
+use Rattle.crp_bounds.proofs.Bounding.{ahead_path, blocking_path}
 use Rattle.crp_bounds.proofs.laws.paths_grow.Goals as goal
 
 pub returns : goal.returns

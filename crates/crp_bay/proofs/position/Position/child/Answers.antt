@@ -1,4 +1,4 @@
-use Rattle.std.proofs.Common.{◌≡◌, ap, ◌∙◌}
+use Rattle.std.proofs.Common.{ap, ◌∙◌}
 use Rattle.crp_bay.specs.Back.{Standing}
 use Rattle.crp_bay.proofs.Reading.{push_legal, push_target, push_at}
 use Rattle.crp_bay.proofs.position.Position.child.Goals as goal

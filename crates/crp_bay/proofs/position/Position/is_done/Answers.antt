@@ -1,4 +1,4 @@
-use Rattle.std.proofs.Common.{◌≡◌, true, nat_lt, subst, ap}
+use Rattle.std.proofs.Common.{◌≡◌, true, nat_lt, subst}
 use Rattle.std.proofs.lemmas.Bool.{ltb-true, lt-ltb}
 use Rattle.crp_plan.specs.Bay.{Position, IsFinished}
 use Rattle.crp_bay.specs.Back.{Standing, place_of}

@@ -1,0 +1,125 @@
+-- What the count of the look-ahead bound reads of a position.
+use Rattle.std.proofs.Common.{◌≡◌, ◌≢◌, ℕ, zero, suc, ◌+◌, ◌-◌, ◌<◌, ◌≤◌, true, false, ◌==◌, List, [], ◌∷◌, length, take, get_or, set, Some, slice_get, refl, sym, ap, ◌∙◌, ⊎_elim, arith, All}
+use Rattle.std.proofs.lemmas.Bool.{cases_Bool, cases_lt, eqb-true, or_cases}
+use Rattle.std.proofs.lemmas.List.{take-take, get_or-take, length-take, get_or-set_same, get_or-set_other}
+use Rattle.std.proofs.lemmas.Option.{get_or_from_slice_get, same_Some}
+use Rattle.crp_plan.specs.Rows.{holds, occurrences, FitRows}
+use Rattle.crp_plan.specs.Bay.{Position}
+use Rattle.crp_plan.proofs.Lists.{times, times_not_held}
+use Rattle.crp_bay.specs.Positions.{place}
+use Rattle.crp_bay.specs.Reached.{IsReached}
+use Rattle.crp_bay.proofs.Reaching.{reached_sound, reached_rows, reached_same_rows, reached_ordered}
+use Rattle.crp_bounds.specs.Bounds.{stuck_from}
+use Rattle.crp_bounds.specs.Leasts.{least_ordered}
+use Rattle.crp_bounds.specs.Offers.{cut, offer, offers}
+use Rattle.crp_bounds.proofs.Cutting.{cut_all, least_is, least_held, held_in, cut_at}
+use Rattle.crp_bounds.proofs.Tallying.{Ahead, Bay}
+
+-- beyond the rows there is nothing
+pub beyond : {X : Type 0} (xs : List X) (r : ℕ) (d : X) → length xs ≤ r → get_or xs r d ≡ d
+beyond [] r d h = refl
+beyond (x ∷ xs) zero d h = absurd (omega arith)
+beyond (x ∷ xs) (suc r) d h = beyond xs r d (omega arith)
+
+-- each stack fits its row
+fit_rows : (heights : List ℕ) (stacks : List (List ℕ)) (r : ℕ) → FitRows heights stacks → length (get_or stacks r []) ≤ get_or heights r 0
+fit_rows [] [] r fit = omega arith
+fit_rows [] (x ∷ xs) r fit = absurd fit
+fit_rows (h ∷ hs) [] r fit = absurd fit
+fit_rows (h ∷ hs) (x ∷ xs) zero fit = fit.0
+fit_rows (h ∷ hs) (x ∷ xs) (suc r) fit = fit_rows hs xs r fit.1
+
+-- what holds of the bay of a reached position
+pub bay_of : (s : Position) → IsReached s → Bay s.ordered s.heights s.stacks
+bay_of s r =
+    let sound = reached_sound s r in
+    record {
+      same_rows = sym (reached_same_rows s r);
+      few_rows = (reached_rows s r).1;
+      once = sound.once;
+      fit = λ i. fit_rows s.heights s.stacks i sound.stacks_fit;
+      few_ordered = reached_ordered s r;
+    }
+
+-- what is so of each rank of a list is so of what stands in it
+pub few_held : (xs : List ℕ) (x : ℕ) → All (λ rank. rank ≤ 96) xs → holds x xs ≡ true → x ≤ 96
+few_held [] x all h = cc
+few_held (y ∷ ys) x all h = ⊎_elim
+    (λ t. let a = all 0 0 (omega arith) in let e : y ≡ x = eqb-true y x t in omega arith)
+    (λ t. few_held ys x (λ k d lt. all (suc k) d (omega arith)) t)
+    (or_cases (y == x) (holds x ys) h)
+
+-- how it begins
+pub ahead_begins : (s : Position) (left offering : List ℕ) (next : ℕ) → IsReached s → ((r : ℕ) → get_or left r 0 ≡ length (get_or s.stacks r [])) → ((r : ℕ) → get_or offering r 0 ≡ get_or (offers s.ordered s.heights s.stacks) r 0) →
+    length left ≡ 16 → length offering ≡ 16 → next ≡ s.next → Ahead s.ordered s.next s.heights s.stacks next left offering 0
+ahead_begins s left offering next r all offered long long' e =
+    let sound = reached_sound s r in
+    let same : cut left s.stacks ≡ s.stacks = cut_all left s.stacks all in
+    record {
+      gone = λ d lt. ap (occurrences d) same ∙ sound.gone d (omega arith);
+      within = λ i. omega (arith, all i);
+      offered = λ i. offered i ∙ ap (λ l. get_or (offers s.ordered s.heights l) i 0) (sym same);
+      tallied = ap (λ l. 0 + stuck_from s.ordered s.heights (suc s.ordered - next) l next) same ∙ (let z : 0 + stuck_from s.ordered s.heights (suc s.ordered - next) s.stacks next ≡ stuck_from s.ordered s.heights (suc s.ordered - next) s.stacks next = omega arith in z)
+          ∙ ap (λ n. stuck_from s.ordered s.heights (suc s.ordered - n) s.stacks n) e;
+      few = omega arith;
+      left_long = long;
+      offering_long = long';
+    }
+
+-- the stack of a rank that waits, as it is read
+pub record Reads (s : Position) (k row : ℕ) (stack left : List ℕ) : Type 0 where
+  pub index : row - 1 ≡ place k s.stacks
+  pub there : row - 1 < length s.heights
+  pub stack_is : get_or s.stacks (row - 1) [] ≡ stack
+  pub within : get_or left (row - 1) 0 ≤ length stack
+
+pub reads : (s : Position) (k row : ℕ) (stack left : List ℕ) → IsReached s → row ≡ place k s.stacks + 1 → row ≤ length s.heights → slice_get s.stacks (row - 1) ≡ Some stack → ((r : ℕ) → get_or left r 0 ≤ length (get_or s.stacks r [])) → Reads s k row stack left
+reads s k row stack left r is there here within =
+    let e : get_or s.stacks (row - 1) [] ≡ stack = get_or_from_slice_get s.stacks (row - 1) stack [] here in
+    record { index = omega arith; there = omega arith; stack_is = e; within = omega (arith, within (row - 1), ap length e) }
+
+-- what is known of a stack is known of its lower part
+pub part_known : (leasts : List ℕ) (ordered n : ℕ) (stack : List ℕ) → ((i : ℕ) → i < length stack → get_or leasts (get_or stack i 0) 0 ≡ least_ordered ordered (take (suc i) stack)) →
+    (i : ℕ) → i < length (take n stack) → get_or leasts (get_or (take n stack) i 0) 0 ≡ least_ordered ordered (take (suc i) (take n stack))
+part_known leasts ordered n stack known i lt =
+    let less : i < n = omega (arith, length-take n stack) in
+    ap (λ x. get_or leasts x 0) (get_or-take n stack i 0 less) ∙ known i (omega (arith, length-take n stack)) ∙ ap (least_ordered ordered) (sym (take-take (suc i) n stack (omega arith)))
+
+pub part_few : (n : ℕ) (stack : List ℕ) → All (λ rank. rank ≤ 96) stack → All (λ rank. rank ≤ 96) (take n stack)
+part_few n stack few k d lt =
+    let e : get_or (take n stack) k d ≡ get_or stack k d = get_or-take n stack k d (omega (arith, length-take n stack)) in
+    omega (arith, e, few k d (omega (arith, length-take n stack)))
+
+-- the least of what is left is the rank exactly where it is left
+pub held_test : (s : Position) (k row : ℕ) (stack left offering : List ℕ) (again : ℕ) → IsReached s → Reads s k row stack left → Ahead s.ordered s.next s.heights s.stacks k left offering again → k ≤ s.ordered →
+    (least_ordered s.ordered (take (get_or left (row - 1) 0) stack) ≡ k → holds k (take (get_or left (row - 1) 0) stack) ≡ true)
+    × (least_ordered s.ordered (take (get_or left (row - 1) 0) stack) ≢ k → holds k (take (get_or left (row - 1) 0) stack) ≡ false)
+held_test s k row stack left offering again r w a le =
+    let few = reached_ordered s r in
+    let part : List ℕ = take (get_or left (row - 1) 0) stack in
+    let here : get_or (cut left s.stacks) (row - 1) [] ≡ part = cut_at left s.stacks (row - 1) ∙ ap (take (get_or left (row - 1) 0)) w.stack_is in
+    let gone : (d : ℕ) → d < k → times d part ≡ 0 = λ d lt. ⊎_elim
+    (λ t. let q = held_in d (cut left s.stacks) (row - 1) (ap (holds d) here ∙ t) in omega (arith, q, a.gone d lt, ap (times d) here))
+    (λ f. times_not_held d part f)
+    (cases_Bool (holds d part)) in (
+      λ e. least_held s.ordered part k e (omega arith),
+      λ ne. ⊎_elim (λ t. absurd (ne (least_is s.ordered k part le few gone t))) (λ f. f) (cases_Bool (holds k part)),
+    )
+
+-- what one row offers
+pub offers_at : (ordered : ℕ) (heights : List ℕ) (stacks : List (List ℕ)) (r height : ℕ) (stack : List ℕ) → slice_get heights r ≡ Some height → slice_get stacks r ≡ Some stack → get_or (offers ordered heights stacks) r 0 ≡ offer ordered height stack
+offers_at ordered [] stacks r height stack e f = cc
+offers_at ordered (h ∷ hs) [] r height stack e f = cc
+offers_at ordered (h ∷ hs) (x ∷ xs) zero height stack e f = ap (λ n. offer ordered n x) (same_Some h height e) ∙ ap (offer ordered height) (same_Some x stack f)
+offers_at ordered (h ∷ hs) (x ∷ xs) (suc r) height stack e f = offers_at ordered hs xs r height stack e f
+
+-- one row more is written
+pub offer_more : (xs ys : List ℕ) (row x : ℕ) → 1 ≤ row → row - 1 < length xs → ((r : ℕ) → r < row - 1 → get_or xs r 0 ≡ get_or ys r 0) → ((r : ℕ) → row - 1 ≤ r → get_or xs r 0 ≡ 0) → get_or ys (row - 1) 0 ≡ x →
+    ((r : ℕ) → r < row + 1 - 1 → get_or (set xs (row - 1) x) r 0 ≡ get_or ys r 0) × ((r : ℕ) → row + 1 - 1 ≤ r → get_or (set xs (row - 1) x) r 0 ≡ 0)
+offer_more xs ys row x lo lt done rest is = (
+  λ r less. ⊎_elim
+      (λ below. let ne : r ≢ row - 1 = λ q. absurd (omega arith) in get_or-set_other xs (row - 1) r x 0 ne ∙ done r below)
+      (λ at. let q : r ≡ row - 1 = omega arith in ap (λ j. get_or (set xs (row - 1) x) j 0) q ∙ get_or-set_same xs (row - 1) x 0 lt ∙ sym is ∙ ap (λ j. get_or ys j 0) (sym q))
+      (cases_lt r (row - 1)),
+  λ r ge. let ne : r ≢ row - 1 = λ q. absurd (omega arith) in get_or-set_other xs (row - 1) r x 0 ne ∙ rest r (omega arith),
+)

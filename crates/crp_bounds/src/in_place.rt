@@ -1,0 +1,166 @@
+//! A position that is changed in place, with its bounds.
+ghost use Rattle.std.specs.Prelude.{◌≡◌, ◌+◌, ◌-◌, ◌*◌, ◌<◌, ◌≤◌, ◌↔◌, [], ◌∷◌, IsTrue, Contains};
+ghost use Rattle.std.specs.Bool.{OnTrue, OnFalse};
+ghost use Rattle.crp_plan.specs.Bay.{start, IsProblem};
+ghost use Rattle.crp_bay.specs.Positions.{settled, child, targets, can_shift, stack_at};
+ghost use Rattle.crp_bay.specs.Located.{moved};
+ghost use Rattle.crp_bounds.specs.Bounds.{blocking as blocking_bound, look_ahead as look_ahead_bound};
+ghost use Rattle.crp_bounds.specs.Leasts.{least_ordered};
+
+use crate::blockers::blocking;
+use crate::known::{least_of, leasts_of, moved_rank, with_top};
+use crate::scanning::again_from;
+use crate::undo::Undo;
+use arrayvec::ArrayVec;
+use crp_bay::Position;
+use crp_plan::{MAX_RELOCATIONS, Problem};
+use std::marker::Model;
+
+/// A position that is changed in place, with its bounds. No call takes memory.
+///
+/// Of each container that stands it keeps the least ordered rank at or below it, and it keeps the blocking bound: a push
+/// changes both by the container that it moves alone.
+#[derive(Drop)]
+pub struct Bounded {
+    position: Position,
+    // By rank, of what stands: the least ordered rank at or below it in its row.
+    leasts: [u8; 97],
+    blocking: u8,
+    undos: ArrayVec<Undo, MAX_RELOCATIONS>,
+}
+
+impl Model for Bounded {
+    ghost use Rattle.std.specs.Prelude.{reverse};
+    ghost use Rattle.crp_bay.specs.Back.{Standing};
+
+    ghost Value = { Standing };
+
+    ghost use Rattle.crp_bounds.specs.Undoing.{KnowsAll};
+
+    ghost view = { λ b. b.position };
+
+    ghost invariant = { λ b. KnowsAll (reverse b.undos.items) b.position.trail b.leasts b.blocking b.position.place };
+}
+
+/// What a relocation moves, and the least ordered rank of the stack that it goes to.
+struct Relocation {
+    rank: u8,
+    onto: u8,
+}
+
+/// The blocking bound after a container that blocks went onto a stack with this least ordered rank.
+#[inline]
+fn blocking_with(blocking: u8, rank: u8, onto: u8) -> u8
+    requires { rank ≤ onto → 1 ≤ blocking }
+    ensures freed { rank ≤ onto → result + 1 ≡ blocking }
+    ensures blocked { onto < rank → result ≡ blocking }
+{
+    if rank <= onto { blocking - 1 } else { blocking }
+}
+
+impl Bounded {
+    /// The position before the first relocation, with nothing to undo.
+    pub fn start(problem: &Problem) -> Bounded
+        ensures value { result ≡ record { place = settled (start problem.now); trail = [] } }
+        ensures problem { IsProblem problem.now }
+    {
+        let position = Position::start(problem);
+        let leasts = leasts_of(&position);
+        let blocking = blocking(&position) as u8;
+        Bounded {
+            position,
+            leasts,
+            blocking,
+            undos: ArrayVec::new(),
+        }
+    }
+
+    /// The position as it is now.
+    #[inline]
+    pub fn position(&self) -> &Position
+        ensures { result.now ≡ self.now }
+    {
+        &self.position
+    }
+
+    /// What a legal relocation to the row would change.
+    #[inline]
+    fn relocation(&self, row: u8) -> Relocation
+        requires { IsTrue (can_shift self.now.place row) }
+        ensures rank { result.rank ≡ moved self.now.place }
+        ensures few { result.rank ≤ 96 }
+        ensures onto { result.onto ≡ least_ordered self.now.place.ordered (stack_at self.now.place (row - 1)) }
+    {
+        let position = &self.position;
+        Relocation {
+            rank: moved_rank(position),
+            onto: least_of(position.ordered(), &self.leasts, position.stack(row)),
+        }
+    }
+
+    /// Relocates to the row and makes every retrieval that is legal then, where the relocation is legal; else it changes nothing.
+    pub fn push(&mut self, row: u8) -> bool
+        ensures target { IsTrue result ↔ Contains (targets self.old.place) row }
+        ensures pushed { OnTrue result (self.new ≡ record { place = child self.old.place row; trail = self.old.place ∷ self.old.trail }) }
+        ensures refused { OnFalse result (self.new ≡ self.old) }
+    {
+        if !self.position.is_target(row) {
+            return false;
+        }
+        let Relocation { rank, onto } = self.relocation(row);
+        let undo = Undo {
+            rank,
+            least: self.leasts[rank as usize],
+            blocking: self.blocking,
+        };
+        let least = with_top(self.position.ordered(), rank, onto);
+        let blocking = blocking_with(self.blocking, rank, onto);
+        let _pushed = self.position.push(row);
+        self.leasts[rank as usize] = least;
+        self.blocking = blocking;
+        self.undos.push(undo);
+        true
+    }
+
+    /// Undoes the last push that is not undone. Where there is none it changes nothing.
+    pub fn pop(&mut self) -> bool
+        ensures popped { OnTrue result (self.old.trail ≡ self.new.place ∷ self.new.trail) }
+        ensures none { OnFalse result (self.old.trail ≡ []) }
+        ensures refused { OnFalse result (self.new ≡ self.old) }
+    {
+        let Some(undo) = self.undos.pop() else {
+            return false;
+        };
+        let _popped = self.position.pop();
+        self.leasts[undo.rank as usize] = undo.least;
+        self.blocking = undo.blocking;
+        true
+    }
+
+    /// The blocking bound of the position.
+    #[inline]
+    pub fn blocking(&self) -> u32
+        ensures value { result ≡ blocking_bound self.now.place }
+        ensures few { result ≤ 96 }
+    {
+        u32::from(self.blocking)
+    }
+
+    /// The blocking bound after a push to the row, which must be legal and is not made.
+    #[inline]
+    pub fn blocking_after(&self, row: u8) -> u32
+        requires { IsTrue (can_shift self.now.place row) }
+        ensures { result ≡ blocking_bound (child self.now.place row) }
+    {
+        let Relocation { rank, onto } = self.relocation(row);
+        u32::from(blocking_with(self.blocking, rank, onto))
+    }
+
+    /// The look-ahead bound of the position. No stack is copied.
+    pub fn look_ahead(&self) -> u32
+        ensures value { result ≡ look_ahead_bound self.now.place }
+        ensures few { result ≤ 96 + 96 * 96 }
+    {
+        self.blocking() + again_from(&self.position, &self.leasts)
+    }
+}

@@ -1,0 +1,117 @@
+//! The count of the look-ahead bound with no stack copied or cut: how much is left of each, and what each row offers.
+ghost use Rattle.std.specs.Prelude.{◌≡◌, ℕ, ◌+◌, ◌-◌, ◌*◌, ◌<◌, ◌≤◌, suc, true, List, [], All, length, take, count_by, ◌==◌, nat_lt, slice_index, slice_index_or};
+ghost use Rattle.crp_plan.specs.Rows.{holds, above, below};
+ghost use Rattle.crp_bounds.specs.Bounds.{stuck_from};
+ghost use Rattle.crp_bounds.specs.Leasts.{least_ordered, KnowsLeasts};
+ghost use Rattle.crp_bounds.specs.Offers.{greatest as greatest_of, offer, offers};
+
+use crate::known::least_of;
+use crp_bay::Position;
+
+/// How many containers stand in each row, from 0.
+fn heights_now(position: &Position) -> [u8; 16]
+    ensures value { (r : ℕ) → slice_index result r ≡ length (slice_index_or position.now.place.stacks r []) }
+    ensures long { length result ≡ 16 }
+{
+    let mut left = [0u8; 16];
+    for row in 1..position.rows() + 1 {
+        left[row as usize - 1] = position.stack(row).len() as u8;
+    }
+    left
+}
+
+/// What a row of a height with this stack offers.
+#[inline]
+fn offer_of(ordered: u8, leasts: &[u8; 97], height: u8, stack: &[u8]) -> u8
+    requires ranks { All (λ rank. rank ≤ 96) stack.now }
+    requires known { (i : ℕ) → i < length stack.now → slice_index leasts.now (slice_index stack.now i) ≡ least_ordered ordered (take (suc i) stack.now) }
+    ensures { result ≡ offer ordered height stack.now }
+{
+    if height as usize <= stack.len() {
+        return 0;
+    }
+    least_of(ordered, leasts, stack)
+}
+
+/// What each row offers, from 0.
+fn offers_now(position: &Position, leasts: &[u8; 97]) -> [u8; 16]
+    requires { KnowsLeasts leasts.now position.now.place }
+    ensures value { (r : ℕ) → slice_index result r ≡ slice_index (offers position.now.place.ordered position.now.place.heights position.now.place.stacks) r }
+    ensures long { length result ≡ 16 }
+{
+    let mut offers = [0u8; 16];
+    for row in 1..position.rows() + 1 {
+        let height = position.height(row);
+        let stack = position.stack(row);
+        offers[row as usize - 1] = offer_of(position.ordered(), leasts, height, stack);
+    }
+    offers
+}
+
+/// The greatest of all offers.
+#[inline]
+fn greatest(offers: &[u8; 16]) -> u8
+    ensures { result ≡ greatest_of offers.now }
+{
+    let mut greatest: u8 = 0;
+    for offer in offers {
+        greatest = greatest.max(*offer);
+    }
+    greatest
+}
+
+/// Of the containers above a rank how many are greater than the greatest offer, and how many stand below the rank.
+struct Cut {
+    more: u32,
+    kept: usize,
+}
+
+/// What stands above and below a rank in its stack.
+#[inline]
+fn cut_at_rank(rank: u8, most: u8, stack: &[u8]) -> Cut
+    requires short { length stack.now ≤ 8 }
+    requires held { holds rank stack.now ≡ true }
+    requires once { count_by (λ y. y == rank) stack.now ≤ 1 }
+    ensures below { take result.kept stack.now ≡ below rank stack.now }
+    ensures lower { result.kept < length stack.now }
+    ensures more { result.more ≡ count_by (nat_lt most) (above rank stack.now) }
+    ensures few { result.more ≤ 8 }
+{
+    let mut kept = stack.len() - 1;
+    let mut more: u32 = 0;
+    while stack[kept] != rank {
+        if most < stack[kept] {
+            more += 1;
+        }
+        kept -= 1;
+    }
+    Cut { more, kept }
+}
+
+/// How many containers would block again, rank by rank.
+pub fn again_from(position: &Position, leasts: &[u8; 97]) -> u32
+    requires { KnowsLeasts leasts.now position.now.place }
+    ensures value { result ≡ stuck_from position.now.place.ordered position.now.place.heights (suc position.now.place.ordered - position.now.place.next) position.now.place.stacks position.now.place.next }
+    ensures few { result ≤ 96 * 96 }
+{
+    let mut left = heights_now(position);
+    let mut offers = offers_now(position, leasts);
+    let mut again: u32 = 0;
+    let ordered = position.ordered();
+    for rank in position.next()..ordered + 1 {
+        let row = position.row_of(rank);
+        let index = row as usize - 1;
+        let stack = &position.stack(row)[..left[index] as usize];
+        if least_of(ordered, leasts, stack) == rank {
+            let most = greatest(&offers);
+            if most == 255 {
+                return again;
+            }
+            let Cut { more, kept } = cut_at_rank(rank, most, stack);
+            again += more;
+            left[index] = kept as u8;
+            offers[index] = least_of(ordered, leasts, &stack[..kept]);
+        }
+    }
+    again
+}
