@@ -12,7 +12,7 @@ use Rattle.crp_tree.proofs.Listed.{IsBranchOf, branch_of, branch_node, nodes_pus
 use Rattle.crp_tree.proofs.Nodes.{given_names-append}
 use Rattle.crp_tree.proofs.Shown.{least_most}
 use Rattle.crp_search.specs.Limits.{Advances}
-use Rattle.crp_search.specs.Searched.{IsClosed, IsBelow, IsShort, IsFound, IsGranted, PutsMore}
+use Rattle.crp_search.specs.Searched.{IsClosed, NeedsLookAhead, IsBelow, IsShort, IsFound, IsGranted, PutsMore}
 
 -- what is found below a path by the first i of some rows, where one expansion was granted for the path itself
 pub record FoundBelow (p : Problem) (split : ℕ) (path : List ℕ) (s : Position) (old new : View) (old_puts new_puts : List (List ℕ)) (rows : List ℕ) (i : ℕ) (trees : List Tree) (floor : ℕ) : Type 0 where
@@ -24,6 +24,7 @@ pub record FoundBelow (p : Problem) (split : ℕ) (path : List ℕ) (s : Positio
   pub puts : new_puts ≡ old_puts ++ given_names (nodes_below path s (take i rows) trees)
   pub short : All (IsShort split) (given_names (nodes_below path s (take i rows) trees))
   pub closed : All (IsClosed new) (cuts (nodes_below path s (take i rows) trees))
+  pub needed : All NeedsLookAhead (cuts (nodes_below path s (take i rows) trees))
   pub below : All (IsBelow old.seen) (branches (nodes_below path s (take i rows) trees))
   pub advances : Advances p old new
 
@@ -74,6 +75,7 @@ none_yet p split path s old new old_puts new_puts rows trees floor granted on pu
       puts = puts ∙ sym (append-nil old_puts);
       short = All-nil (IsShort split);
       closed = All-nil (IsClosed new);
+      needed = All-nil NeedsLookAhead;
       below = All-nil (IsBelow old.seen);
       advances = on;
     })
@@ -103,6 +105,7 @@ one_more p split path s old mid new old_puts mid_puts new_puts rows i trees floo
       short = All-same (IsShort split) _ _ more_names (All-append (IsShort split) _ _ f.short one.short);
       closed = All-same (IsClosed new) _ _ more_cuts (All-append (IsClosed new) _ _
           (All-weaker (IsClosed mid) (IsClosed new) (λ c k. stays_closed p mid new c on k) _ f.closed) one.closed);
+      needed = All-same NeedsLookAhead _ _ more_cuts (All-append NeedsLookAhead _ _ f.needed one.needed);
       below = All-same (IsBelow old.seen) _ _ more_branches (All-append (IsBelow old.seen) _ _ f.below
           (All-weaker (IsBelow mid.seen) (IsBelow old.seen) (λ n k. let x = before.seen in omega arith) _ one.below));
       advances = on_and_on p old mid new before on;
@@ -138,6 +141,7 @@ all_found p split path s old granted new old_puts new_puts rows i trees floor sa
       puts = f.puts ∙ ap (λ l. old_puts ++ given_names l) list ∙ sym (ap (λ l. old_puts ++ given_names l) are);
       short = All-same (IsShort split) _ _ (ap given_names are) (subst (λ l. All (IsShort split) (given_names l)) list f.short);
       closed = All-same (IsClosed new) _ _ (ap cuts are) (subst (λ l. All (IsClosed new) (cuts l)) list f.closed);
+      needed = All-same NeedsLookAhead _ _ (ap cuts are) (subst (λ l. All NeedsLookAhead (cuts l)) list f.needed);
       below = All-same (IsBelow old.seen) _ _ (ap branches are) (All-cons (IsBelow old.seen) (branch_node path s) (branches below) g.below (subst (λ l. All (IsBelow old.seen) (branches l)) list f.below));
     }
 

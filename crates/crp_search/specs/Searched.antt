@@ -2,13 +2,18 @@
 use Rattle.std.specs.Prelude.{◌≡◌, ℕ, ◌+◌, ◌<◌, ◌≤◌, ◌⊎◌, List, ◌++◌, length, All}
 use Rattle.crp_plan.specs.Bay.{Problem, Position, cap}
 use Rattle.crp_plan.specs.declared.running.View.{View}
+use Rattle.crp_bounds.specs.Bounds.{blocking, look_ahead}
 use Rattle.crp_tree.specs.declared.tree.Tree.{Tree}
-use Rattle.crp_tree.specs.Trees.{X, Node, nodes, Fits, IsInPlace, cuts, branches, given_names, value, ahead_of, least_value}
+use Rattle.crp_tree.specs.Trees.{L, X, Node, nodes, Fits, IsInPlace, cuts, branches, given_names, value, ahead_of, least_value}
 
 -- a cut is closed for a worker: its value is at least what the worker saw last; or the worker was refused a claim, and the value is at least length
 -- plus look-ahead
 abbrev pub IsClosed : View → Node → Type 0
 IsClosed view cut = (view.seen ≤ value cut) ⊎ ((0 < view.refused) × (ahead_of cut ≤ value cut))
+
+-- a cut by the look-ahead bound stands only where the blocking bound is lower
+abbrev pub NeedsLookAhead : Node → Type 0
+NeedsLookAhead cut = cut.mark ≡ L → blocking cut.place < look_ahead cut.place
 
 -- a branch stands below the limit: there length plus look-ahead is less
 abbrev pub IsBelow : ℕ → Node → Type 0
@@ -23,7 +28,8 @@ abbrev pub PutsMore : List (List ℕ) → List (List ℕ) → Type 0
 PutsMore old new = (more : List (List ℕ)) × (new ≡ old ++ more)
 
 -- what is found at a path: a tree that fits there with its least cut; as many branches as claims were granted, the accepted puts as its given names,
--- each of at most `split` rows; each cut closed for the worker as it is then, each branch below what it had seen at the beginning
+-- each of at most `split` rows; each cut closed for the worker as it is then, and by the look-ahead bound only where that is higher; each branch below what
+-- it had seen at the beginning
 pub record IsFound (p : Problem) (split : ℕ) (path : List ℕ) (s : Position) (old new : View) (old_puts new_puts : List (List ℕ)) (tree : Tree) (floor : ℕ) : Type 0 where
   pub fits : Fits s tree
   pub in_place : All IsInPlace (nodes path s tree)
@@ -32,6 +38,7 @@ pub record IsFound (p : Problem) (split : ℕ) (path : List ℕ) (s : Position) 
   pub puts : new_puts ≡ old_puts ++ given_names (nodes path s tree)
   pub short : All (IsShort split) (given_names (nodes path s tree))
   pub closed : All (IsClosed new) (cuts (nodes path s tree))
+  pub needed : All NeedsLookAhead (cuts (nodes path s tree))
   pub below : All (IsBelow old.seen) (branches (nodes path s tree))
 
 -- a claim was granted for the node at the path, which is not finished and lies below the limit

@@ -6,7 +6,7 @@ ghost use Rattle.crp_bounds.specs.Bounds.{blocking as blocking_bound, look_ahead
 ghost use Rattle.crp_tree.specs.Trees.{IsGiven};
 ghost use Rattle.crp_tree.specs.Parts.{IsKeptPart, given_of, cuts_in, branches_in};
 ghost use Rattle.crp_search.specs.Limits.{Advances};
-ghost use Rattle.crp_search.specs.Searched.{IsClosed, IsBelow, IsShort, IsFound, IsGranted, PutsMore};
+ghost use Rattle.crp_search.specs.Searched.{IsClosed, NeedsLookAhead, IsBelow, IsShort, IsFound, IsGranted, PutsMore};
 
 use crate::limit::Limit;
 use arrayvec::ArrayVec;
@@ -204,6 +204,7 @@ pub fn search<L: Limit>(
     ensures puts { IfOk result (λ part. L.puts limit.new ≡ L.puts limit.old ++ given_of part) }
     ensures short { IfOk result (λ part. All (IsShort split) (given_of part)) }
     ensures cuts { IfOk result (λ part. All (IsClosed (L.view limit.new)) (cuts_in part)) }
+    ensures look_ahead { IfOk result (λ part. All NeedsLookAhead (cuts_in part)) }
     ensures branches { IfOk result (λ part. All (IsBelow (L.view limit.old).seen) (branches_in part)) }
 
     // Whether memory lasted or not.
