@@ -3,3 +3,4 @@ pub mod Choice
 pub mod Greedily
 pub mod Steps
 pub mod Branching
+pub mod Walking

@@ -1,8 +1,7 @@
 //! Branch and bound over the paths of a problem.
-ghost use Rattle.std.specs.Prelude.{◌≡◌, ℕ, ◌+◌, ◌<◌, ◌≤◌, List, [], ◌∷◌, ◌++◌, length, min, All, IfOk, OnOk, IfSome, IfNone, IsTrue, IsFalse};
+ghost use Rattle.std.specs.Prelude.{◌≡◌, ℕ, ◌+◌, ◌<◌, ◌≤◌, List, [], ◌∷◌, ◌++◌, length, min, All, IfOk, OnOk, IfSome, IfNone, IsTrue, IsFalse, Some};
 ghost use Rattle.crp_plan.specs.Bay.{IsProblem, IsAt, IsFinished, Position as Place, cap};
-ghost use Rattle.crp_bay.specs.Positions.{targets};
-ghost use Rattle.crp_bounds.specs.Bounds.{blocking as blocking_bound, look_ahead as look_ahead_bound};
+ghost use Rattle.crp_bay.specs.Positions.{at};
 ghost use Rattle.crp_tree.specs.Trees.{IsGiven};
 ghost use Rattle.crp_tree.specs.Parts.{IsKeptPart, given_of, cuts_in, branches_in};
 ghost use Rattle.crp_search.specs.Limits.{Advances};
@@ -10,8 +9,7 @@ ghost use Rattle.crp_search.specs.Searched.{IsClosed, NeedsLookAhead, IsBelow, I
 
 use crate::limit::Limit;
 use arrayvec::ArrayVec;
-use crp_bay::Position;
-use crp_bounds::{blocking, look_ahead};
+use crp_bounds::Bounded;
 use crp_plan::{MAX_RELOCATIONS, Plan, Problem};
 use crp_tree::{MAX_NAME, Name, Part, Tree};
 use std::alloc::{AllocError, Global};
@@ -58,7 +56,7 @@ fn cut(tree: Tree, value: u32, most: u32) -> Found
 ///
 /// A finished node is closed once its plan is offered; another where the length of the path plus a bound
 /// reaches what was seen, or where the claim is refused.
-fn close<L: Limit>(problem: &Problem, place: &Position, path: &[u8], limit: &mut L) -> Option<Found>
+fn close<L: Limit>(problem: &Problem, place: &Bounded, path: &[u8], limit: &mut L) -> Option<Found>
     requires problem { problem.now ≡ L.problem limit.old }
     requires path { IsAt problem.now path.now place.now.place }
     ensures found { IfSome result (λ found. (split : ℕ) → IsFound problem.now split path.now place.now.place (L.view limit.old) (L.view limit.new) (L.puts limit.old) (L.puts limit.new) found.tree found.floor) }
@@ -69,15 +67,15 @@ fn close<L: Limit>(problem: &Problem, place: &Position, path: &[u8], limit: &mut
 {
     let most = problem.cap();
     let seen = limit.see();
-    let low = path.len() as u32 + blocking(place);
-    if place.is_done() {
+    let low = path.len() as u32 + place.blocking();
+    if place.position().is_done() {
         offer_shorter(problem, path, seen, limit);
         return Some(cut(Tree::CutB, low, most));
     }
     if u64::from(low) >= seen {
         return Some(cut(Tree::CutB, low, most));
     }
-    let high = path.len() as u32 + look_ahead(place);
+    let high = path.len() as u32 + place.look_ahead();
     if u64::from(high) >= seen {
         return Some(cut(Tree::CutL, high, most));
     }
@@ -109,19 +107,20 @@ fn give<L: Limit>(path: &[u8], limit: &mut L) -> bool
 fn give_or_search<L: Limit>(
     alloc: Global,
     problem: &Problem,
-    place: &Position,
+    place: &mut Bounded,
     path: &mut Path,
     limit: &mut L,
     split: u8,
 ) -> Result<Found, AllocError>
     requires problem { problem.now ≡ L.problem limit.old }
-    requires path { IsAt problem.now path.old.items place.now.place }
+    requires path { IsAt problem.now path.old.items place.old.place }
     requires split { split ≤ 8 }
-    ensures found { IfOk result (λ found. IsFound problem.now split path.old.items place.now.place (L.view limit.old) (L.view limit.new) (L.puts limit.old) (L.puts limit.new) found.tree found.floor) }
+    ensures found { IfOk result (λ found. IsFound problem.now split path.old.items place.old.place (L.view limit.old) (L.view limit.new) (L.puts limit.old) (L.puts limit.new) found.tree found.floor) }
     ensures advances { Advances problem.now (L.view limit.old) (L.view limit.new) }
     ensures same { (L.problem limit.new ≡ L.problem limit.old) × (L.budget limit.new ≡ L.budget limit.old) }
     ensures puts { PutsMore (L.puts limit.old) (L.puts limit.new) }
     ensures path { OnOk result (path.new.items ≡ path.old.items) }
+    ensures back { OnOk result (place.new ≡ place.old) }
 {
     if path.len() <= split as usize {
         if give(path.as_slice(), limit) {
@@ -139,35 +138,35 @@ fn give_or_search<L: Limit>(
 fn search_at<L: Limit>(
     alloc: Global,
     problem: &Problem,
-    place: &Position,
+    place: &mut Bounded,
     path: &mut Path,
     limit: &mut L,
     split: u8,
 ) -> Result<Found, AllocError>
     requires problem { problem.now ≡ L.problem limit.old }
-    requires path { IsAt problem.now path.old.items place.now.place }
+    requires path { IsAt problem.now path.old.items place.old.place }
     requires split { split ≤ 8 }
-    ensures found { IfOk result (λ found. IsFound problem.now split path.old.items place.now.place (L.view limit.old) (L.view limit.new) (L.puts limit.old) (L.puts limit.new) found.tree found.floor) }
+    ensures found { IfOk result (λ found. IsFound problem.now split path.old.items place.old.place (L.view limit.old) (L.view limit.new) (L.puts limit.old) (L.puts limit.new) found.tree found.floor) }
     ensures own { IfOk result (λ found. IsGiven found.tree → ⊥) }
     ensures advances { Advances problem.now (L.view limit.old) (L.view limit.new) }
     ensures same { (L.problem limit.new ≡ L.problem limit.old) × (L.budget limit.new ≡ L.budget limit.old) }
     ensures puts { PutsMore (L.puts limit.old) (L.puts limit.new) }
     ensures path { OnOk result (path.new.items ≡ path.old.items) }
+    ensures back { OnOk result (place.new ≡ place.old) }
 {
     if let Some(found) = close(problem, place, path.as_slice(), limit) {
         return Ok(found);
     }
-    let targets = place.targets();
+    let targets = place.position().targets();
     let rows = targets.as_slice();
-    let mut trees = Vec::new(alloc);
+    let mut trees = Vec::with_capacity(alloc, rows.len())?;
     let mut floor = problem.cap();
     for row in rows {
-        let Some(child) = place.child(*row) else {
-            unreachable!()
-        };
+        let _pushed = place.push(*row);
         path.push(*row);
-        let found = give_or_search(alloc, problem, &child, path, limit, split)?;
+        let found = give_or_search(alloc, problem, place, path, limit, split)?;
         path.pop();
+        let _popped = place.pop();
         floor = floor.min(found.floor);
         trees.push(found.tree)?;
     }
@@ -175,6 +174,19 @@ fn search_at<L: Limit>(
         tree: Tree::Branch(trees),
         floor,
     })
+}
+
+/// The position at the path, with its bounds.
+fn place_at(problem: &Problem, path: &[u8]) -> Bounded
+    requires { (s : Place) × IsAt problem.now path.now s }
+    ensures at { IsAt problem.now path.now result.place }
+    ensures value { at problem.now path.now ≡ Some result.place }
+{
+    let mut place = Bounded::start(problem);
+    for row in path {
+        let _pushed = place.push(*row);
+    }
+    place
 }
 
 /// Searches the part of this name. The name must be a path of the problem, and the limit be of the problem.
@@ -212,9 +224,7 @@ pub fn search<L: Limit>(
     ensures same { (L.problem limit.new ≡ L.problem limit.old) × (L.budget limit.new ≡ L.budget limit.old) }
     ensures more_puts { PutsMore (L.puts limit.old) (L.puts limit.new) }
 {
-    let Some(place) = name.position(problem) else {
-        unreachable!()
-    };
+    let mut place = place_at(problem, name.rows());
     let mut path = Path::new();
     let Ok(()) = path.try_extend_from_slice(name.rows()) else {
         unreachable!()
@@ -222,7 +232,7 @@ pub fn search<L: Limit>(
     let found = search_at(
         alloc,
         problem,
-        &place,
+        &mut place,
         &mut path,
         limit,
         split.min(MAX_NAME as u8),

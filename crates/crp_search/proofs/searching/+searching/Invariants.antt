@@ -12,6 +12,7 @@ decreases-search_at g l = 2 * (673 - length l.path.now.items)
 abbrev pub invariant-search_at-loop-row : goal.invariant-search_at-loop-row
 invariant-search_at-loop-row g l = record {
   path : l.path.items ≡ l.fn.path.items;
+  place : l.place ≡ l.fn.place;
   same : (g.L.Limit.problem l.limit ≡ g.L.Limit.problem l.fn.limit) × (g.L.Limit.budget l.limit ≡ g.L.Limit.budget l.fn.limit);
-  found : FoundBelow l.problem l.split l.fn.path.items l.place.place (g.L.Limit.view l.fn.limit) (g.L.Limit.view l.limit) (g.L.Limit.puts l.fn.limit) (g.L.Limit.puts l.limit) l.rows l.row-index l.trees.items l.floor;
+  found : FoundBelow l.problem l.split l.fn.path.items l.fn.place.place (g.L.Limit.view l.fn.limit) (g.L.Limit.view l.limit) (g.L.Limit.puts l.fn.limit) (g.L.Limit.puts l.limit) l.rows l.row-index l.trees.items l.floor;
 }

@@ -1,5 +1,7 @@
-use Rattle.std.proofs.Common.{◌+◌, arith, ap, ◌∙◌}
+use Rattle.std.proofs.Common.{◌+◌, arith, ap, sym, subst, ◌∙◌}
 use Rattle.crp_plan.specs.declared.running.View.{View}
+use Rattle.crp_plan.specs.Bay.{IsFinished}
+use Rattle.crp_bay.specs.Back.{Standing}
 use Rattle.crp_plan.proofs.Steps.{short_path}
 use Rattle.crp_search.proofs.Greedily.{unfinished}
 use Rattle.crp_search.proofs.Steps.{claim_grants}
@@ -13,7 +15,7 @@ returns-then-claim-clause-granted g c =
     let see = c.see-seen.ensures.step in
     let claimed = claim_grants _ _ _ _ c.if-claim.true c.claim.ensures.step in
     record {
-      unfinished = unfinished c.args.problem.now c.args.path.now c.args.place.now.place c.cap-most.ensures.problem c.requires.path (λ end. let yes = c.is_done.ensures.done.1 end in let test = c.if-is_done.false in cc);
+      unfinished = unfinished c.args.problem.now c.args.path.now c.args.place.now.place c.cap-most.ensures.problem c.requires.path (λ end. let yes = c.is_done.ensures.done.1 (subst (λ (v : Standing). IsFinished v.place) (sym c.position.ensures) end) in let test = c.if-is_done.false in cc);
       below = let a = see.not_above_seen in let b = c.if-from-seen-2.false in let e = c.from-2.ensures in let h = c.look_ahead.ensures.value in omega arith;
       one_more = ap (λ (v : View). v.granted) claimed ∙ ap (λ (v : View). v.granted + 1) see.after;
     }
