@@ -4,3 +4,5 @@ pub mod Greedily
 pub mod Steps
 pub mod Branching
 pub mod Walking
+pub mod Halfway
+pub mod Owing

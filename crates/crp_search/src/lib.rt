@@ -1,6 +1,7 @@
 //! Search for the fewest relocations of a bay.
 #![tactic(auto)]
 
+mod frames;
 mod greedy;
 mod limit;
 mod searching;

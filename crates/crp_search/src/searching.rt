@@ -1,45 +1,38 @@
 //! Branch and bound over the paths of a problem.
-ghost use Rattle.std.specs.Prelude.{◌≡◌, ℕ, ◌+◌, ◌<◌, ◌≤◌, List, [], ◌∷◌, ◌++◌, length, min, All, IfOk, OnOk, IfSome, IfNone, IsTrue, IsFalse, Some};
+ghost use Rattle.std.specs.Prelude.{◌≡◌, ℕ, ◌+◌, ◌<◌, ◌≤◌, List, [], ◌∷◌, ◌++◌, length, min, All, IfOk, OnOk, IfSome, IfNone, IsTrue, IsFalse, Some, Contains};
 ghost use Rattle.crp_plan.specs.Bay.{IsProblem, IsAt, IsFinished, Position as Place, cap};
-ghost use Rattle.crp_bay.specs.Positions.{at};
+ghost use Rattle.crp_bay.specs.Positions.{at, child, targets};
+ghost use Rattle.crp_bounds.specs.Bounds.{blocking as blocking_bound};
 ghost use Rattle.crp_tree.specs.Trees.{IsGiven};
 ghost use Rattle.crp_tree.specs.Parts.{IsKeptPart, given_of, cuts_in, branches_in};
-ghost use Rattle.crp_search.specs.Limits.{Advances};
+ghost use Rattle.crp_search.specs.Limits.{Advances, SeesLimit};
 ghost use Rattle.crp_search.specs.Searched.{IsClosed, NeedsLookAhead, IsBelow, IsShort, IsFound, IsGranted, PutsMore};
 
+use crate::frames::{Found, Frame};
 use crate::limit::Limit;
 use arrayvec::ArrayVec;
 use crp_bounds::Bounded;
 use crp_plan::{MAX_RELOCATIONS, Plan, Problem};
 use crp_tree::{MAX_NAME, Name, Part, Tree};
 use std::alloc::{AllocError, Global};
+use std::mem;
 
 /// Destination rows, from the first relocation on.
 type Path = ArrayVec<u8, MAX_RELOCATIONS>;
 
-/// A tree, and the least value of its cuts, or the problem's cap where none is below that.
-#[derive(Drop)]
-struct Found {
-    tree: Tree,
-    floor: u32,
-}
-
-/// Offers the plan whose path this is, where it has fewer relocations than were seen.
-fn offer_shorter<L: Limit>(problem: &Problem, path: &[u8], seen: u64, limit: &mut L)
+/// Offers the plan whose path this is.
+fn offer_path<L: Limit>(problem: &Problem, path: &[u8], limit: &mut L)
     requires problem { problem.now ≡ L.problem limit.old }
-    requires seen { seen ≡ (L.view limit.old).seen }
     requires plan { (s : Place) × IsAt problem.now path.now s × IsFinished s }
     ensures seen { (L.view limit.new).seen ≤ length path.now }
     ensures advances { Advances problem.now (L.view limit.old) (L.view limit.new) }
     ensures grants { ((L.view limit.new).granted ≡ (L.view limit.old).granted) × ((L.view limit.new).refused ≡ (L.view limit.old).refused) }
     ensures same { (L.problem limit.new ≡ L.problem limit.old) × (L.budget limit.new ≡ L.budget limit.old) × (L.puts limit.new ≡ L.puts limit.old) }
 {
-    if (path.len() as u64) < seen {
-        let Ok(plan) = Plan::from_rows(problem, path) else {
-            unreachable!()
-        };
-        limit.offer(&plan);
-    }
+    let Ok(plan) = Plan::from_rows(problem, path) else {
+        unreachable!()
+    };
+    limit.offer(&plan);
 }
 
 /// What is found where a node is closed by a cut of the value. No floor is above `most`.
@@ -52,13 +45,36 @@ fn cut(tree: Tree, value: u32, most: u32) -> Found
     }
 }
 
+/// Sees the limit at a node whose path plus blocking bound is `low`. `None` exactly where that reaches what was seen.
+fn see_above<L: Limit>(low: u32, limit: &mut L) -> Option<u64>
+    ensures above { IfSome result (λ seen. (low < seen) × (seen ≡ (L.view limit.new).seen)) }
+    ensures reached { IfNone result ((L.view limit.new).seen ≤ low) }
+    ensures step { SeesLimit (L.view limit.old) (L.view limit.new).seen (L.view limit.new) }
+    ensures same { (L.problem limit.new ≡ L.problem limit.old) × (L.budget limit.new ≡ L.budget limit.old) × (L.puts limit.new ≡ L.puts limit.old) }
+{
+    let seen = limit.see();
+    if u64::from(low) >= seen {
+        return None;
+    }
+    Some(seen)
+}
+
 /// Closes the node at the path, or claims an expansion for it. `None` exactly where that was granted.
 ///
-/// A finished node is closed once its plan is offered; another where the length of the path plus a bound
-/// reaches what was seen, or where the claim is refused.
-fn close<L: Limit>(problem: &Problem, place: &Bounded, path: &[u8], limit: &mut L) -> Option<Found>
+/// Its length plus blocking bound, `low`, is below what was seen. A finished node is closed once its plan is offered;
+/// another where the length of the path plus the look-ahead bound reaches what was seen, or where the claim is refused.
+fn close_below<L: Limit>(
+    problem: &Problem,
+    place: &Bounded,
+    path: &[u8],
+    low: u32,
+    seen: u64,
+    limit: &mut L,
+) -> Option<Found>
     requires problem { problem.now ≡ L.problem limit.old }
     requires path { IsAt problem.now path.now place.now.place }
+    requires low { low ≡ length path.now + blocking_bound place.now.place }
+    requires seen { (low < seen) × (seen ≡ (L.view limit.old).seen) }
     ensures found { IfSome result (λ found. (split : ℕ) → IsFound problem.now split path.now place.now.place (L.view limit.old) (L.view limit.new) (L.puts limit.old) (L.puts limit.new) found.tree found.floor) }
     ensures own { IfSome result (λ found. IsGiven found.tree → ⊥) }
     ensures granted { IfNone result (IsGranted path.now place.now.place (L.view limit.old) (L.view limit.new)) }
@@ -66,13 +82,8 @@ fn close<L: Limit>(problem: &Problem, place: &Bounded, path: &[u8], limit: &mut 
     ensures same { (L.problem limit.new ≡ L.problem limit.old) × (L.budget limit.new ≡ L.budget limit.old) × (L.puts limit.new ≡ L.puts limit.old) }
 {
     let most = problem.cap();
-    let seen = limit.see();
-    let low = path.len() as u32 + place.blocking();
     if place.position().is_done() {
-        offer_shorter(problem, path, seen, limit);
-        return Some(cut(Tree::CutB, low, most));
-    }
-    if u64::from(low) >= seen {
+        offer_path(problem, path, limit);
         return Some(cut(Tree::CutB, low, most));
     }
     let high = path.len() as u32 + place.look_ahead();
@@ -89,53 +100,87 @@ fn close<L: Limit>(problem: &Problem, place: &Bounded, path: &[u8], limit: &mut 
     }
 }
 
-/// Puts the name of the path, and answers whether it was accepted.
-fn give<L: Limit>(path: &[u8], limit: &mut L) -> bool
-    requires { length path.now ≤ 8 }
+/// The same where nothing is known of the limit: it is seen, and the node is closed where `low` reaches it.
+fn close<L: Limit>(problem: &Problem, place: &Bounded, path: &[u8], limit: &mut L) -> Option<Found>
+    requires problem { problem.now ≡ L.problem limit.old }
+    requires path { IsAt problem.now path.now place.now.place }
+    ensures found { IfSome result (λ found. (split : ℕ) → IsFound problem.now split path.now place.now.place (L.view limit.old) (L.view limit.new) (L.puts limit.old) (L.puts limit.new) found.tree found.floor) }
+    ensures own { IfSome result (λ found. IsGiven found.tree → ⊥) }
+    ensures granted { IfNone result (IsGranted path.now place.now.place (L.view limit.old) (L.view limit.new)) }
+    ensures advances { Advances problem.now (L.view limit.old) (L.view limit.new) }
+    ensures same { (L.problem limit.new ≡ L.problem limit.old) × (L.budget limit.new ≡ L.budget limit.old) × (L.puts limit.new ≡ L.puts limit.old) }
+{
+    let most = problem.cap();
+    let low = path.len() as u32 + place.blocking();
+    let Some(seen) = see_above(low, limit) else {
+        return Some(cut(Tree::CutB, low, most));
+    };
+    close_below(problem, place, path, low, seen, limit)
+}
+
+/// Puts the name of the path where it has at most `split` rows, and answers whether it was accepted.
+fn give<L: Limit>(path: &[u8], split: u8, limit: &mut L) -> bool
+    requires { split ≤ 8 }
+    ensures short { IsTrue result → length path.now ≤ split }
     ensures given { IsTrue result → L.puts limit.new ≡ L.puts limit.old ++ path.now ∷ [] }
     ensures kept { IsFalse result → L.puts limit.new ≡ L.puts limit.old }
     ensures same { (L.problem limit.new ≡ L.problem limit.old) × (L.budget limit.new ≡ L.budget limit.old) × (L.view limit.new ≡ L.view limit.old) }
 {
+    if path.len() > split as usize {
+        return false;
+    }
     let Some(name) = Name::from_rows(path) else {
         unreachable!()
     };
     limit.put(name).is_ok()
 }
 
-/// Gives the node at the path away, where its path has at most `split` rows and its name is accepted; else searches it.
-#[cycle(searching)]
-fn give_or_search<L: Limit>(
-    alloc: Global,
+/// Gives away or closes the child at a legal row, whose path this is. `None` exactly where an expansion was granted
+/// for it: then the relocation to the row is made.
+///
+/// It is given away where its path has at most `split` rows and its name is accepted. A child that the blocking bound
+/// cuts is closed before the relocation: a finished one has no blocking, so its plan would not be offered either.
+fn search_child<L: Limit>(
     problem: &Problem,
     place: &mut Bounded,
-    path: &mut Path,
+    path: &[u8],
+    row: u8,
     limit: &mut L,
     split: u8,
-) -> Result<Found, AllocError>
+) -> Option<Found>
     requires problem { problem.now ≡ L.problem limit.old }
-    requires path { IsAt problem.now path.old.items place.old.place }
+    requires path { IsAt problem.now path.now (child place.old.place row) }
+    requires row { Contains (targets place.old.place) row }
     requires split { split ≤ 8 }
-    ensures found { IfOk result (λ found. IsFound problem.now split path.old.items place.old.place (L.view limit.old) (L.view limit.new) (L.puts limit.old) (L.puts limit.new) found.tree found.floor) }
+    ensures found { IfSome result (λ found. IsFound problem.now split path.now (child place.old.place row) (L.view limit.old) (L.view limit.new) (L.puts limit.old) (L.puts limit.new) found.tree found.floor) }
+    ensures back { IfSome result (λ found. place.new ≡ place.old) }
+    ensures granted { IfNone result (IsGranted path.now (child place.old.place row) (L.view limit.old) (L.view limit.new)) }
+    ensures down { IfNone result (place.new ≡ record { place = child place.old.place row; trail = place.old.place ∷ place.old.trail }) }
     ensures advances { Advances problem.now (L.view limit.old) (L.view limit.new) }
     ensures same { (L.problem limit.new ≡ L.problem limit.old) × (L.budget limit.new ≡ L.budget limit.old) }
+    ensures kept { IfNone result (L.puts limit.new ≡ L.puts limit.old) }
     ensures puts { PutsMore (L.puts limit.old) (L.puts limit.new) }
-    ensures path { OnOk result (path.new.items ≡ path.old.items) }
-    ensures back { OnOk result (place.new ≡ place.old) }
 {
-    if path.len() <= split as usize {
-        if give(path.as_slice(), limit) {
-            return Ok(Found {
-                tree: Tree::Given,
-                floor: problem.cap(),
-            });
-        }
+    let most = problem.cap();
+    if give(path, split, limit) {
+        return Some(Found {
+            tree: Tree::Given,
+            floor: most,
+        });
     }
-    search_at(alloc, problem, place, path, limit, split)
+    let low = path.len() as u32 + place.blocking_after(row);
+    let Some(seen) = see_above(low, limit) else {
+        return Some(cut(Tree::CutB, low, most));
+    };
+    let _pushed = place.push(row);
+    let found = close_below(problem, place, path, low, seen, limit)?;
+    let _popped = place.pop();
+    Some(found)
 }
 
-/// Searches the node at the path: closes it, or branches over its legal rows, rising.
-#[cycle(searching)]
-fn search_at<L: Limit>(
+/// Searches the node at the path: closes it, or branches over its legal rows, rising. Where it ends without memory, position
+/// and path are those of some node below.
+fn search_from<L: Limit>(
     alloc: Global,
     problem: &Problem,
     place: &mut Bounded,
@@ -151,29 +196,32 @@ fn search_at<L: Limit>(
     ensures advances { Advances problem.now (L.view limit.old) (L.view limit.new) }
     ensures same { (L.problem limit.new ≡ L.problem limit.old) × (L.budget limit.new ≡ L.budget limit.old) }
     ensures puts { PutsMore (L.puts limit.old) (L.puts limit.new) }
-    ensures path { OnOk result (path.new.items ≡ path.old.items) }
-    ensures back { OnOk result (place.new ≡ place.old) }
 {
     if let Some(found) = close(problem, place, path.as_slice(), limit) {
         return Ok(found);
     }
-    let targets = place.position().targets();
-    let rows = targets.as_slice();
-    let mut trees = Vec::with_capacity(alloc, rows.len())?;
-    let mut floor = problem.cap();
-    for row in rows {
-        let _pushed = place.push(*row);
-        path.push(*row);
-        let found = give_or_search(alloc, problem, place, path, limit, split)?;
-        path.pop();
-        let _popped = place.pop();
-        floor = floor.min(found.floor);
-        trees.push(found.tree)?;
+    let mut above = Vec::new(alloc);
+    let mut frame = Frame::at(alloc, problem, place.position())?;
+    loop {
+        let Some(row) = frame.turn() else {
+            let Some(upper) = above.pop() else {
+                return Ok(frame.close());
+            };
+            let found = mem::replace(&mut frame, upper).close();
+            let _row = path.pop();
+            let _popped = place.pop();
+            frame.add(found)?;
+            continue;
+        };
+        path.push(row);
+        let Some(found) = search_child(problem, place, path.as_slice(), row, limit, split) else {
+            let below = Frame::at(alloc, problem, place.position())?;
+            above.push(mem::replace(&mut frame, below))?;
+            continue;
+        };
+        let _row = path.pop();
+        frame.add(found)?;
     }
-    Ok(Found {
-        tree: Tree::Branch(trees),
-        floor,
-    })
 }
 
 /// The position at the path, with its bounds.
@@ -229,7 +277,7 @@ pub fn search<L: Limit>(
     let Ok(()) = path.try_extend_from_slice(name.rows()) else {
         unreachable!()
     };
-    let found = search_at(
+    let found = search_from(
         alloc,
         problem,
         &mut place,

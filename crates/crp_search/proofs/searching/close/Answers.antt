@@ -1,30 +1,18 @@
-use Rattle.std.proofs.Common.{◌+◌, arith, ap, sym, subst, ◌∙◌}
-use Rattle.crp_plan.specs.declared.running.View.{View}
-use Rattle.crp_plan.specs.Bay.{IsFinished}
-use Rattle.crp_bay.specs.Back.{Standing}
+use Rattle.std.proofs.Common.{arith}
+use Rattle.std.proofs.lemmas.Option.{IfSome_then}
 use Rattle.crp_plan.proofs.Steps.{short_path}
-use Rattle.crp_search.proofs.Greedily.{unfinished}
-use Rattle.crp_search.proofs.Steps.{claim_grants}
+use Rattle.crp_search.proofs.Steps.{seen_found}
 use Rattle.crp_search.proofs.searching.close.Goals as goal
 
 pub overflow_cast-low : goal.overflow_cast-low
 overflow_cast-low g c = let few = short_path c.args.problem.now c.args.path.now c.args.place.now.place c.cap-most.ensures.problem c.requires.path in omega arith
 
-pub returns-then-claim-clause-granted : goal.returns-then-claim-clause-granted
-returns-then-claim-clause-granted g c =
-    let see = c.see-seen.ensures.step in
-    let claimed = claim_grants _ _ _ _ c.if-claim.true c.claim.ensures.step in
-    record {
-      unfinished = unfinished c.args.problem.now c.args.path.now c.args.place.now.place c.cap-most.ensures.problem c.requires.path (λ end. let yes = c.is_done.ensures.done.1 (subst (λ (v : Standing). IsFinished v.place) (sym c.position.ensures) end) in let test = c.if-is_done.false in cc);
-      below = let a = see.not_above_seen in let b = c.if-from-seen-2.false in let e = c.from-2.ensures in let h = c.look_ahead.ensures.value in omega arith;
-      one_more = ap (λ (v : View). v.granted) claimed ∙ ap (λ (v : View). v.granted + 1) see.after;
-    }
-
 pub overflow_add-low : goal.overflow_add-low
 overflow_add-low g c = let few = short_path c.args.problem.now c.args.path.now c.args.place.now.place c.cap-most.ensures.problem c.requires.path in let b = c.blocking.ensures.few in omega arith
 
-pub overflow_cast-high : goal.overflow_cast-high
-overflow_cast-high g c = let few = short_path c.args.problem.now c.args.path.now c.args.place.now.place c.cap-most.ensures.problem c.requires.path in omega arith
-
-pub overflow_add-high : goal.overflow_add-high
-overflow_add-high g c = let few = short_path c.args.problem.now c.args.path.now c.args.place.now.place c.cap-most.ensures.problem c.requires.path in let b = c.look_ahead.ensures.few in omega arith
+pub returns-clause-found : goal.returns-clause-found
+returns-clause-found g c =
+    let see = c.see_above.ensures in
+    IfSome_then c.close_below.result c.close_below.ensures.found (λ found f. λ split.
+    seen_found c.args.problem.now split c.args.path.now c.args.place.now.place (g.L.Limit.view c.args.limit.now) (g.L.Limit.view c.see_above.new.limit) (g.L.Limit.view c.close_below.new.limit) _ (g.L.Limit.puts c.args.limit.now) (g.L.Limit.puts c.see_above.new.limit) (g.L.Limit.puts c.close_below.new.limit) found.tree found.floor
+    see.step see.same.2 (f split))
