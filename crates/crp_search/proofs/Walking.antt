@@ -1,5 +1,5 @@
 -- A position that is changed in place goes along a path.
-use Rattle.std.proofs.Common.{◌≡◌, ℕ, ◌+◌, ◌<◌, ⊎_elim, Bool, true, false, IsTrue, List, [], ◌∷◌, length, drop, get_or, Some, None, Contains, ◌↔◌, refl, sym, ap, ◌∙◌}
+use Rattle.std.proofs.Common.{◌≡◌, ℕ, ◌+◌, ◌<◌, ⊎_elim, Bool, true, false, List, [], ◌∷◌, length, drop, get_or, Some, None, Contains, refl, sym, ap, ◌∙◌}
 use Rattle.std.specs.Bool.{OnTrue, OnFalse}
 use Rattle.std.proofs.lemmas.Bool.{cases_Bool}
 use Rattle.crp_plan.specs.Bay.{Problem, IsProblem, Position, IsAt}
@@ -7,16 +7,6 @@ use Rattle.crp_bay.specs.Positions.{targets, child, can_shift, walk, at}
 use Rattle.crp_bay.specs.Back.{Standing}
 use Rattle.crp_bay.proofs.Walked.{at_reads, row_is_target}
 use Rattle.crp_tree.proofs.Followed.{walk_yes, rows_from}
-
--- what a push to a row makes of a position
-pub record Pushes (old : Standing) (row : ℕ) (new : Standing) (is_pushed : Bool) : Type 0 where
-  pub target : IsTrue is_pushed ↔ Contains (targets old.place) row
-  pub pushed : OnTrue is_pushed (new ≡ record { place = child old.place row; trail = old.place ∷ old.trail })
-
--- a push to a legal row is made
-pub legal_push : (old : Standing) (row : ℕ) (new : Standing) (is_pushed : Bool) → Pushes old row new is_pushed → Contains (targets old.place) row → new ≡ record { place = child old.place row; trail = old.place ∷ old.trail }
-legal_push old row new true k legal = k.pushed
-legal_push old row new false k legal = let no = k.target.1 legal in cc
 
 -- what a pop makes of a position
 pub record Pops (old new : Standing) (is_popped : Bool) : Type 0 where

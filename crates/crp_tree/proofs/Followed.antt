@@ -1,5 +1,6 @@
 -- Following a path row by row.
-use Rattle.std.proofs.Common.{◌≡◌, ℕ, ◌+◌, ◌<◌, ◌≤◌, ⊎_elim, List, [], ◌∷◌, length, drop, get_or, Option, Some, None, IsSome, IfSome, Contains, ◌↔◌, refl, sym, ap, ◌∙◌, subst, add-one}
+use Rattle.std.proofs.Common.{◌≡◌, ℕ, ◌+◌, ◌<◌, ◌≤◌, ⊎_elim, Bool, true, false, IsTrue, List, [], ◌∷◌, length, drop, get_or, Option, Some, None, IsSome, IfSome, Contains, ◌↔◌, refl, sym, ap, ◌∙◌, subst, add-one}
+use Rattle.std.specs.Bool.{OnTrue}
 use Rattle.std.proofs.Math.Seq.{drop-cons}
 use Rattle.std.proofs.lemmas.Bool.{cases_Bool}
 use Rattle.std.proofs.lemmas.List.{drop_all}
@@ -42,6 +43,29 @@ stopped s rows items i made same lt e m =
 -- a path to which the walk finds no position has none
 pub no_position : (p : Problem) (rows : List ℕ) (s : Position) → IsProblem p → at p rows ≡ None → IsAt p rows s → ⊥
 no_position p rows s is e a = let b = at_reads p rows s is a in cc
+
+-- what a push to a row makes of a position
+pub record Pushes (old : Standing) (row : ℕ) (new : Standing) (is_pushed : Bool) : Type 0 where
+  pub target : IsTrue is_pushed ↔ Contains (targets old.place) row
+  pub pushed : OnTrue is_pushed (new ≡ record { place = child old.place row; trail = old.place ∷ old.trail })
+
+-- a push to a legal row is made
+pub legal_push : (old : Standing) (row : ℕ) (new : Standing) (is_pushed : Bool) → Pushes old row new is_pushed → Contains (targets old.place) row → new ≡ record { place = child old.place row; trail = old.place ∷ old.trail }
+legal_push old row new true k legal = k.pushed
+legal_push old row new false k legal = let no = k.target.1 legal in cc
+
+-- it is made: the walk goes on from there
+pub pushed_on : (old new : Standing) (rows items : List ℕ) (i : ℕ) (is_pushed : Bool) → items ≡ rows → i < length items → is_pushed ≡ true → Pushes old (get_or items i 0) new is_pushed → walk new.place (drop (i + 1) rows) ≡ walk old.place (drop i rows)
+pushed_on old new rows items i is_pushed same lt is k =
+    let row : ℕ = get_or items i 0 in
+    let legal : Contains (targets old.place) row = k.target.0 is in
+    ap (λ (v : Standing). walk v.place (drop (i + 1) rows)) (legal_push old row new is_pushed k legal) ∙ sym (walk_yes old.place row (drop (i + 1) rows) legal) ∙ ap (walk old.place) (sym (rows_from rows items i same lt))
+
+-- it is refused: the walk ends without a position
+pub not_pushed : (old new : Standing) (rows items : List ℕ) (i : ℕ) (is_pushed : Bool) → items ≡ rows → i < length items → is_pushed ≡ false → Pushes old (get_or items i 0) new is_pushed → walk old.place (drop i rows) ≡ None
+not_pushed old new rows items i is_pushed same lt is k =
+    let row : ℕ = get_or items i 0 in
+    ap (walk old.place) (rows_from rows items i same lt) ∙ walk_no old.place row (drop (i + 1) rows) (λ legal. let e = k.target.1 legal in cc)
 
 -- after the last row the walk is where it is to be
 pub arrived : (p : Problem) (rows items : List ℕ) (i : ℕ) (s : Position) → IsProblem p → items ≡ rows → length items ≤ i → walk s (drop i rows) ≡ at p rows → IsAt p rows s

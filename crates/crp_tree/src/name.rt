@@ -102,7 +102,9 @@ impl Name {
     {
         let mut position = Position::start(problem);
         for row in self.rows() {
-            position = position.child(*row)?;
+            if !position.push(*row) {
+                return None;
+            }
         }
         Some(position)
     }

@@ -2,8 +2,8 @@ use Rattle.std.proofs.Common.{ℕ, ◌+◌, refl, get_or, ap, ◌∙◌, arith, 
 use Rattle.crp_bay.specs.Positions.{walk, targets}
 use Rattle.crp_bay.specs.Back.{Standing}
 use Rattle.crp_bay.proofs.Walked.{at_reads}
-use Rattle.crp_tree.proofs.Followed.{arrived}
-use Rattle.crp_search.proofs.Walking.{legal_on_path, walks_on, legal_push}
+use Rattle.crp_tree.proofs.Followed.{arrived, legal_push}
+use Rattle.crp_search.proofs.Walking.{legal_on_path, walks_on}
 use Rattle.crp_search.proofs.searching.place_at.Goals as goal
 
 pub loop-row-preserved : goal.loop-row-preserved

@@ -6,7 +6,7 @@ use Rattle.crp_bay.specs.Reached.{IsReached}
 use Rattle.crp_bounds.proofs.Leasts.{few_blocked}
 use Rattle.crp_search.specs.Limits.{SeesLimit}
 use Rattle.crp_search.specs.Searched.{IsFound}
-use Rattle.crp_search.proofs.Walking.{legal_push}
+use Rattle.crp_tree.proofs.Followed.{legal_push}
 use Rattle.crp_search.proofs.Steps.{seen_found}
 use Rattle.crp_bay.specs.Positions.{child}
 use Rattle.crp_search.proofs.searching.search_child.Goals as goal
