@@ -6,8 +6,6 @@ mod moving;
 mod position;
 mod push;
 mod starting;
-#[cfg(test)]
-mod tests;
 
 pub use laws::{reached_positions, walks};
 pub use position::Position;

@@ -7,8 +7,6 @@ mod in_place;
 mod known;
 mod laws;
 mod scanning;
-#[cfg(test)]
-mod tests;
 mod undo;
 
 pub use ahead::look_ahead;

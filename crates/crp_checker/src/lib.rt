@@ -10,8 +10,6 @@ mod needed;
 mod parts;
 mod path;
 mod refused;
-#[cfg(test)]
-mod tests;
 mod verdict;
 mod verdicts;
 mod walk;

@@ -5,8 +5,6 @@ mod fault;
 mod gathering;
 mod held;
 mod laws;
-#[cfg(test)]
-mod tests;
 
 pub use fault::GatherFault;
 pub use gathering::gather;

@@ -6,8 +6,6 @@ mod board;
 mod rule;
 mod seat;
 mod shared;
-#[cfg(test)]
-mod tests;
 
 pub use best::Best;
 pub use board::Board;

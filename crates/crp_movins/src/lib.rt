@@ -15,8 +15,6 @@ mod order;
 mod reading;
 mod slot;
 mod standing;
-#[cfg(test)]
-mod tests;
 
 pub use fault::MovinsFault;
 pub use laws::{first_fault_is_least, last_is_last, orders_by_places};

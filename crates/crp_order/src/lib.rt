@@ -16,8 +16,6 @@ mod sequences;
 mod sequencing;
 mod slots;
 mod stating;
-#[cfg(test)]
-mod tests;
 
 pub use absences::absent;
 pub use bay_problem::BayProblem;

@@ -1,9 +1,15 @@
 //! A run from a yard list and a message to the report, the certificates and the yard after.
-ghost use Rattle.std.specs.Prelude.{◌≤◌, IfOk, MatchResult};
+ghost use Rattle.std.specs.Prelude.{◌≡◌, ◌≤◌, List, All, map, IfOk, MatchResult};
+ghost use Rattle.std.specs.List.{IsDistinct};
 ghost use Rattle.crp_plan.specs.Devices.{most_interruptions};
-ghost use Rattle.crp_yard.specs.Inventory.{IsYard};
+ghost use Rattle.crp_yard.specs.Inventory.{IsYard, Inventory};
+ghost use Rattle.crp_yard.specs.Places.{same_bay};
+ghost use Rattle.crp_yard.specs.After.{IsPlanOf, IsAfter};
+ghost use Rattle.crp_yard.specs.Text.{yard_text as list_of};
+ghost use Rattle.crp_order.specs.BayProblems.{problems_of};
+ghost use Rattle.crp_report.specs.Answered.{Answered, AreTrueAnswers, bay_plans};
 ghost use Rattle.crp_report.specs.Runs.{Seen, failures_in, most_failures, Writes, Tells};
-ghost use Rattle.crp_report.specs.Telling.{AreTextsOf};
+ghost use Rattle.crp_report.specs.Telling.{AreTold, AreTextsOf};
 
 use crate::endings::{decided, status_of_all};
 use crate::fault::Fault;
@@ -12,15 +18,45 @@ use crate::lines::{last_text, numbers_text};
 use crate::numbers::Counts;
 use crate::settings::RunSettings;
 use crate::status::Status;
-use crate::telling::told_bays;
+use crate::telling::{ToldBays, told_bays};
 use crate::writing::{Texts, write_texts};
 use crp_movins::Orders;
-use crp_order::{absent, problems, sequence};
+use crp_order::{Sequence, absent, problems, sequence};
 use crp_plan::{Sink, Source};
-use crp_yard::{Yard, after, yard_text};
+use crp_solve::Settings;
+use crp_yard::{BayPlan, Yard, after, yard_text};
 use std::alloc::{AllocError, Global};
 use std::sync::Wait;
 use std::thread::Threads;
+
+// What is told of the bays of the sequence, once their problems are answered.
+fn told_of<T: Threads + Wait + Sync>(
+    rt: &T,
+    alloc: Global,
+    yard: &Yard,
+    sequence: &Sequence,
+    settings: Settings,
+) -> Result<ToldBays, AllocError>
+    ensures told { IfOk result (λ told. (answered : List Answered)
+        × AreTrueAnswers settings.budget (problems_of yard.now sequence.now) answered
+        × AreTold answered told.bays.items × (told.plans.items ≡ bay_plans answered)) }
+    ensures plans { IfOk result (λ told. All (IsPlanOf yard.now) told.plans.items) }
+    ensures once { IfOk result (λ told. IsDistinct same_bay (map (λ plan. plan.bay) told.plans.items)) }
+{
+    let problems = problems(alloc, yard, sequence)?;
+    told_bays(rt, alloc, problems, settings)
+}
+
+// The yard list after the plans.
+fn text_after(alloc: Global, yard: &Yard, plans: &[BayPlan]) -> Result<Vec<u8>, AllocError>
+    requires plans { All (IsPlanOf yard.now) plans.now }
+    requires once { IsDistinct same_bay (map (λ plan. plan.bay) plans.now) }
+    ensures { IfOk result (λ text. (left : Inventory) × IsAfter yard.now plans.now left
+        × (text.items ≡ list_of left)) }
+{
+    let left = after(alloc, yard, plans)?;
+    yard_text(alloc, &left)
+}
 
 // Answers the problems of the bays, and makes the texts of the run.
 fn texts_of<T: Threads + Wait + Sync>(
@@ -40,10 +76,8 @@ fn texts_of<T: Threads + Wait + Sync>(
         absent: absent(yard, &sequence),
     };
     let first = numbers_text(alloc, counts)?;
-    let problems = problems(alloc, yard, &sequence)?;
-    let told = told_bays(rt, alloc, problems, settings.search())?;
-    let after = after(alloc, yard, &told.plans)?;
-    let yard_after = yard_text(alloc, &after)?;
+    let told = told_of(rt, alloc, yard, &sequence, settings.search())?;
+    let yard_after = text_after(alloc, yard, &told.plans)?;
     let status = status_of_all(&told.bays);
     let last = last_text(alloc, told.bays.len(), decided(&told.bays))?;
     Ok(Texts {

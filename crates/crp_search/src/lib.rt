@@ -5,8 +5,6 @@ mod frames;
 mod greedy;
 mod limit;
 mod searching;
-#[cfg(test)]
-mod tests;
 
 pub use greedy::{blocker_moves, first_plan, one_greedy_plan};
 pub use limit::Limit;

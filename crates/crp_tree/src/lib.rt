@@ -8,8 +8,6 @@ mod name_list;
 mod part;
 mod part_list;
 mod path_text;
-#[cfg(test)]
-mod tests;
 mod tree;
 
 pub use cert::Cert;

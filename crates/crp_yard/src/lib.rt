@@ -21,8 +21,6 @@ mod place;
 mod reading;
 mod records;
 mod stacks;
-#[cfg(test)]
-mod tests;
 mod writing;
 mod yard;
 

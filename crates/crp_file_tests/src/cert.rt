@@ -1,0 +1,178 @@
+//! What no contract says: worked texts byte for byte, and the texts of faults.
+mod certs;
+mod heads;
+mod told;
+mod writing;
+
+use crp_cert::{CertFault, Head, Rows};
+use crp_plan::{BayName, Problem};
+use std::alloc::{AllocError, Global};
+use std::process::Abort;
+use std::test::Fail;
+
+/// Six containers in three rows, which three relocations clear.
+const SIX_CONTAINERS: [&[u8]; 8] = [
+    b"CRP-CERT 1",
+    b"bay A 1",
+    b"size 3 3 6 6",
+    b"row 1 5 4",
+    b"row 6",
+    b"row 3 2",
+    b"at least 3",
+    b"plan 2 2 1",
+];
+
+/// The fault of a line of that head.
+fn fault_at(line: u32) -> CertFault {
+    match line {
+        1 | 2 => CertFault::Opening { line },
+        3 => CertFault::Size { line },
+        4..=6 => CertFault::Row { line },
+        7 => CertFault::Claim { line },
+        _ => CertFault::Plan { line },
+    }
+}
+
+/// The lines, each with its line feed.
+fn joined(alloc: Global, lines: &[&[u8]]) -> Result<Vec<u8>, AllocError> {
+    let mut text = Vec::new(alloc);
+    for line in lines {
+        text.extend_from_slice(line)?;
+        text.push(b'\n')?;
+    }
+    Ok(text)
+}
+
+/// The number of the line that stands behind these bytes.
+fn line_after(text: &[u8]) -> u32 {
+    let mut line: u32 = 1;
+    for byte in text {
+        if *byte == b'\n' {
+            line = line.saturating_add(1);
+        }
+    }
+    line
+}
+
+/// What a head says.
+#[derive(Drop)]
+struct Said<'a> {
+    block: &'a [u8],
+    bay: u16,
+    /// The rows, the tiers, the ordered containers and all of them.
+    size: [u8; 4],
+    stacks: &'a [&'a [u8]],
+    claim: u32,
+    plan: Option<&'a [u8]>,
+}
+
+/// What the head of the six containers says.
+const SAID_OF_SIX: Said<'static> = Said {
+    block: b"A",
+    bay: 1,
+    size: [3, 3, 6, 6],
+    stacks: &[&[1, 5, 4], &[6], &[3, 2]],
+    claim: 3,
+    plan: Some(&[2, 2, 1]),
+};
+
+// What is compared comes from functions without clauses: so the tests above know nothing of it, and are soon checked.
+
+fn block_of(bay: &BayName) -> &[u8] {
+    bay.block()
+}
+
+fn number_of(bay: &BayName) -> u16 {
+    bay.bay()
+}
+
+fn size_of(problem: &Problem) -> [u8; 4] {
+    let rows = problem.rows();
+    let tiers = problem.tiers();
+    let ordered = problem.ordered();
+    let total = problem.total();
+    [rows, tiers, ordered, total]
+}
+
+fn rows_in(problem: &Problem) -> usize {
+    problem.rows() as usize
+}
+
+/// The stack of a row, from 0; none where there is no such row.
+fn stack_of(problem: &Problem, row: usize) -> &[u8] {
+    if row < problem.rows() as usize {
+        problem.stack(row as u8 + 1)
+    } else {
+        &[]
+    }
+}
+
+/// The rows of a plan that is read, if one is.
+fn plan_of(plan: &Option<Rows>) -> Option<&[u8]> {
+    match plan {
+        Some(rows) => Some(rows.as_slice()),
+        None => None,
+    }
+}
+
+fn assert_stacks(rt: &impl Abort, problem: &Problem, stacks: &[&[u8]]) {
+    assert_eq!(rt; rows_in(problem), stacks.len());
+    for (row, stack) in stacks.iter().enumerate() {
+        assert_eq!(rt; stack_of(problem, row), *stack, "row {row}");
+    }
+}
+
+fn assert_head(rt: &impl Abort, head: &Head, said: &Said) {
+    assert_eq!(rt; block_of(&head.bay), said.block);
+    assert_eq!(rt; number_of(&head.bay), said.bay);
+    assert_eq!(rt; size_of(&head.problem), said.size);
+    assert_stacks(rt, &head.problem, said.stacks);
+    assert_eq!(rt; head.claim, said.claim);
+    assert_eq!(rt; plan_of(&head.plan), said.plan);
+}
+
+fn assert_fault(
+    rt: &impl Abort,
+    fault: Option<CertFault>,
+    expected: Option<CertFault>,
+    text: &[u8],
+) {
+    assert_eq!(rt; fault, expected, "{text:?}");
+}
+
+fn assert_text(
+    rt: &(impl Abort + AllocGlobal),
+    fault: CertFault,
+    expected: &str,
+) -> Result<(), AllocError> {
+    let text = format!(in rt.alloc(); "{fault}")?;
+    assert_eq!(rt; text.as_str(), expected);
+    Ok(())
+}
+
+#[test]
+fn texts_of_faults(rt: HostRuntime) -> Result<(), Fail> {
+    let texts = [
+        (CertFault::Opening { line: 2 }, "C1 at line 2"),
+        (CertFault::Size { line: 3 }, "C2 at line 3"),
+        (CertFault::Row { line: 4 }, "C3 at line 4"),
+        (CertFault::Claim { line: 7 }, "C4 at line 7"),
+        (CertFault::Plan { line: 8 }, "C5 at line 8"),
+        (CertFault::Part { line: 9 }, "C6 at line 9"),
+        (CertFault::Order { line: 10 }, "C7 at line 10"),
+        (CertFault::Symbol { line: 11 }, "C8 at line 11"),
+        (CertFault::Unfinished { line: 12 }, "C9 at line 12"),
+        (CertFault::Trailing { line: 13 }, "C10 at line 13"),
+        (
+            CertFault::End {
+                line: 4_294_967_295,
+            },
+            "C11 at line 4294967295",
+        ),
+        (CertFault::Memory, "no memory is left"),
+    ];
+    for (fault, expected) in texts {
+        assert_text(&rt, fault, expected)?;
+    }
+    Ok(())
+}

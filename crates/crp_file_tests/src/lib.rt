@@ -1,0 +1,15 @@
+//! Tests of the crates that read and write files, a module for each crate: what their contracts leave open, and worked examples.
+#![tactic(auto)]
+
+#[cfg(test)]
+mod cert;
+#[cfg(test)]
+mod checker;
+#[cfg(test)]
+mod edi;
+#[cfg(test)]
+mod movins;
+#[cfg(test)]
+mod order;
+#[cfg(test)]
+mod yard;

@@ -1,0 +1,143 @@
+//! Sources and sinks that fail.
+ghost use Rattle.std.specs.Prelude.{Some, None};
+
+use super::SIX;
+use crp_plan::{Failure, Received, Sink, Source};
+use crp_yard::{WriteFault, Yard, YardFault, read_yard, write_yard, yard_of};
+use std::alloc::Global;
+use std::test::Fail;
+
+// Gives so many bytes one by one, is interrupted so often before each, and then fails.
+#[derive(Drop)]
+struct Failing<'a> {
+    rest: &'a [u8],
+    interrupted: u32,
+    failed: u64,
+}
+
+impl Source for Failing<'_> {
+    ghost remaining = { λ _. None };
+
+    ghost failures = { λ s. s.failed };
+
+    fn read(&mut self, buf: &mut [u8]) -> Result<usize, Failure> {
+        let rest: &[u8] = self.rest;
+        if buf.is_empty() {
+            return Ok(0);
+        }
+        if rest.is_empty() || self.interrupted > 0 {
+            self.failed = self.failed.saturating_add(1);
+            if self.interrupted > 0 {
+                self.interrupted -= 1;
+                return Err(Failure::Interrupted);
+            }
+            return Err(Failure::Failed);
+        }
+        buf[0] = rest[0];
+        self.rest = &rest[1..];
+        Ok(1)
+    }
+}
+
+// Takes a byte a call, as long as it has room, and then fails.
+#[derive(Drop)]
+struct Small {
+    bytes: Vec<u8>,
+    room: usize,
+    failed: u64,
+}
+
+impl Sink for Small {
+    ghost contents = { λ s. Some s.bytes.items };
+
+    ghost failures = { λ s. s.failed };
+
+    fn write(&mut self, piece: &[u8]) -> Result<usize, Failure> {
+        if piece.is_empty() {
+            return Ok(0);
+        }
+        if self.bytes.len() < self.room {
+            if self.bytes.push(piece[0]).is_ok() {
+                return Ok(1);
+            }
+        }
+        self.failed = self.failed.saturating_add(1);
+        Err(Failure::Failed)
+    }
+}
+
+#[test]
+fn each_read_fails(rt: HostRuntime) -> Result<(), Fail> {
+    for length in 0..SIX.len() {
+        let mut source = Failing {
+            rest: &SIX[..length],
+            interrupted: 1000,
+            failed: 0,
+        };
+        let fault = read_yard(rt.alloc(), &mut source, 3, 3).err();
+        assert_eq!(rt; fault, Some(YardFault::Read));
+        assert_eq!(rt; source.failed, 1001);
+    }
+    Ok(())
+}
+
+/// What a sink with so much room receives of a yard, and whether it failed.
+fn written(alloc: Global, yard: &Yard, room: usize) -> (Vec<u8>, Result<(), WriteFault>) {
+    let mut sink = Small {
+        bytes: Vec::new(alloc),
+        room,
+        failed: 0,
+    };
+    let end = write_yard(alloc, &mut sink, yard);
+    (sink.bytes, end)
+}
+
+#[test]
+fn each_write_fails(rt: HostRuntime) -> Result<(), Fail> {
+    let alloc = rt.alloc();
+    let yard = yard_of(alloc, SIX, 3, 3)?;
+    for room in 0..SIX.len() {
+        let (bytes, end) = written(alloc, &yard, room);
+        assert_eq!(rt; end, Err(WriteFault::Failed));
+        assert_eq!(rt; bytes.as_slice(), &SIX[..room]);
+    }
+    Ok(())
+}
+
+#[test]
+fn what_was_read_is_written(rt: HostRuntime) -> Result<(), Fail> {
+    let alloc = rt.alloc();
+    let mut source = SIX;
+    let yard = read_yard(alloc, &mut source, 3, 3)?;
+    let mut sink = Received::new(alloc);
+    write_yard(alloc, &mut sink, &yard)?;
+    assert_eq!(rt; sink.bytes.as_slice(), SIX);
+    Ok(())
+}
+
+#[test]
+fn texts_of_failed_writes(rt: HostRuntime) -> Result<(), Fail> {
+    let alloc = rt.alloc();
+    let (failed, memory) = (WriteFault::Failed, WriteFault::Memory);
+    assert_eq!(rt; failed.to_string(alloc)?.as_str(), "a write failed");
+    assert_eq!(rt; memory.to_string(alloc)?.as_str(), "no memory is left");
+    Ok(())
+}
+
+// Never ends.
+#[derive(Drop)]
+struct Endless;
+
+impl Source for Endless {
+    ghost failures = { λ _. 0 };
+
+    fn read(&mut self, buf: &mut [u8]) -> Result<usize, Failure> {
+        Ok(buf.len())
+    }
+}
+
+#[test]
+fn ends_what_never_ends(rt: HostRuntime) {
+    let fault = read_yard(rt.alloc(), &mut Endless, 3, 3).err();
+    assert_eq!(rt; fault, Some(YardFault::TooLarge));
+}

@@ -1,9 +1,0 @@
-use Rattle.std.proofs.Common.{◌≡◌}
-use Rattle.crp_incumbent.proofs.tests.threads.claim_often.Given as goal
-
--- the seat stays at these words, with its shares
-abbrev pub invariant-loop : goal.invariant-loop
-invariant-loop l = record {
-  of : l.claimant.seat.of ≡ l.shared;
-  share : l.claimant.seat.view.share ≡ l.fn.seat.view.share;
-}

@@ -1,0 +1,21 @@
+use Rattle.std.proofs.Common.{All, sym, subst}
+use Rattle.std.proofs.lemmas.Result.{IfOk-weaker}
+use Rattle.crp_yard.specs.After.{IsPlanOf}
+use Rattle.crp_report.proofs.Leaving.{plans_are, plans_once}
+use Rattle.crp_report.proofs.running.told_of.Goals as goal
+
+pub returns-clause-told : goal.returns-clause-told
+returns-clause-told g c =
+    IfOk-weaker c.told_bays.result _ _ (λ told h. (h.0, rw c.in_ok-problems.ensures.exact at h.1, h.2, h.3)) c.told_bays.ensures
+
+pub returns-clause-plans : goal.returns-clause-plans
+returns-clause-plans g c =
+    let named = c.in_ok-problems.ensures.named in
+    IfOk-weaker c.told_bays.result _ _
+    (λ told h. subst (All (IsPlanOf c.args.yard.now)) (sym h.3) (plans_are c.args.yard.now c.args.settings.budget c.in_ok-problems.problems.items h.0 h.1 named))
+    c.told_bays.ensures
+
+pub returns-clause-once : goal.returns-clause-once
+returns-clause-once g c =
+    let once = c.in_ok-problems.ensures.once in
+    IfOk-weaker c.told_bays.result _ _ (λ told h. rw h.3 (plans_once c.args.settings.budget c.in_ok-problems.problems.items h.0 h.1 once)) c.told_bays.ensures

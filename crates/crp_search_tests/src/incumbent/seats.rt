@@ -1,0 +1,134 @@
+//! What one seat sees of another's offers, and how claims end.
+ghost use Rattle.std.specs.Prelude.{◌≡◌, IfOk};
+ghost use Rattle.crp_incumbent.specs.Rule.{all_shares};
+
+use super::bays::{plan_of, six};
+use crp_incumbent::{Seat, Shared, Why};
+use crp_plan::{Plan, Problem};
+use std::alloc::{AllocError, Global};
+use std::process::Abort;
+use std::test::Fail;
+
+/// The words of a problem, and two seats.
+fn opened(
+    rt: &impl Abort,
+    alloc: Global,
+    problem: &Problem,
+    start: u32,
+) -> Result<(Shared, Seat, Seat), AllocError>
+    ensures problem { IfOk result (λ r. r.0.key.problem ≡ problem.now) }
+    ensures seats { IfOk result (λ r. (r.1.of ≡ r.0) × (r.2.of ≡ r.0)) }
+{
+    let (shared, seat) = Shared::open(alloc, problem, start, 2)?;
+    let (first, second) = split(rt, &shared, seat);
+    Ok((shared, first, second))
+}
+
+/// Splits a seat that can be split.
+fn split(rt: &impl Abort, shared: &Shared, seat: Seat) -> (Seat, Seat)
+    requires { seat.of ≡ shared.now }
+    ensures { (result.0.of ≡ shared.now) × (result.1.of ≡ shared.now) }
+{
+    match shared.split(seat) {
+        Ok(seats) => seats,
+        Err(_) => panic!(rt; "a share is left"),
+    }
+}
+
+/// A seat with one share is not split, and comes back.
+fn keeps_its_share(rt: &impl Abort, shared: &Shared, seat: Seat) -> Seat
+    requires { seat.of ≡ shared.now }
+    ensures { result.of ≡ shared.now }
+{
+    match shared.split(seat) {
+        Ok(_) => panic!(rt; "no share is left"),
+        Err(refused) => {
+            assert_eq!(rt; refused.why, Why::NoneLeft);
+            refused.seat
+        }
+    }
+}
+
+/// Sees this limit.
+fn sees(rt: &impl Abort, shared: &Shared, seat: Seat, limit: u64) -> Seat
+    requires { seat.of ≡ shared.now }
+    ensures { result.of ≡ shared.now }
+{
+    let (found, seat) = shared.see(seat);
+    assert_eq!(rt; found, limit);
+    seat
+}
+
+/// Offers a plan.
+fn offers(shared: &Shared, seat: Seat, plan: &Plan) -> Seat
+    requires seat { seat.of ≡ shared.now }
+    requires problem { plan.now.problem ≡ shared.now.key.problem }
+    ensures { result.of ≡ shared.now }
+{
+    shared.offer(seat, plan)
+}
+
+/// A claim has this answer.
+fn claims(rt: &impl Abort, shared: &Shared, seat: Seat, answer: bool) -> Seat
+    requires { seat.of ≡ shared.now }
+    ensures of { result.of ≡ shared.now }
+    ensures share { result.view.share ≡ seat.view.share }
+{
+    let (granted, seat) = shared.claim(seat);
+    assert_eq!(rt; granted, answer);
+    seat
+}
+
+#[test]
+fn an_offered_plan_is_seen_by_every_seat(rt: HostRuntime) -> Result<(), Fail> {
+    let problem = six(&rt, rt.alloc())?;
+    let plan = plan_of(&rt, &problem, &[2, 2, 1]);
+    let (shared, a, b) = opened(&rt, rt.alloc(), &problem, 5)?;
+    let b = sees(&rt, &shared, b, 5);
+    let a = offers(&shared, a, &plan);
+    let a = sees(&rt, &shared, a, 3);
+    let b = sees(&rt, &shared, b, 3);
+    let b = keeps_its_share(&rt, &shared, b);
+    let both = shared.join(b, a);
+    sees(&rt, &shared, both, 3);
+    Ok(())
+}
+
+#[test]
+fn a_plan_that_is_no_better_leaves_the_limit(rt: HostRuntime) -> Result<(), Fail> {
+    let problem = six(&rt, rt.alloc())?;
+    let longer = plan_of(&rt, &problem, &[2, 3, 2, 1]);
+    let plan = plan_of(&rt, &problem, &[2, 2, 1]);
+    let (shared, a, b) = opened(&rt, rt.alloc(), &problem, 5)?;
+    let a = offers(&shared, a, &longer);
+    let b = sees(&rt, &shared, b, 4);
+    let b = offers(&shared, b, &plan);
+    let a = sees(&rt, &shared, a, 3);
+    let a = offers(&shared, a, &longer);
+    let b = sees(&rt, &shared, b, 3);
+    sees(&rt, &shared, a, 3);
+    sees(&rt, &shared, b, 3);
+    Ok(())
+}
+
+/// Closes by the seat with all shares.
+fn closes(rt: &impl Abort, shared: Shared, seat: Seat, limit: u64, spent: u64)
+    requires of { seat.of ≡ shared }
+    requires whole { seat.view.share ≡ all_shares }
+{
+    let totals = shared.close(seat);
+    assert_eq!(rt; totals.limit, limit);
+    assert_eq!(rt; totals.spent, spent);
+}
+
+#[test]
+fn a_seat_that_was_refused_makes_no_step(rt: HostRuntime) -> Result<(), Fail> {
+    let problem = six(&rt, rt.alloc())?;
+    let (shared, seat) = Shared::open(rt.alloc(), &problem, 5, 2)?;
+    let seat = claims(&rt, &shared, seat, true);
+    let seat = claims(&rt, &shared, seat, true);
+    let seat = claims(&rt, &shared, seat, false);
+    let seat = claims(&rt, &shared, seat, false);
+    closes(&rt, shared, seat, 5, 3);
+    Ok(())
+}

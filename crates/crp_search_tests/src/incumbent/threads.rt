@@ -1,0 +1,90 @@
+//! Two threads that claim.
+ghost use Rattle.std.specs.Prelude.{◌≡◌};
+ghost use Rattle.crp_incumbent.specs.Rule.{all_shares};
+
+use super::bays::six;
+use crp_incumbent::{Seat, Shared};
+use std::process::Abort;
+use std::sync::Wait;
+use std::test::Fail;
+use std::thread;
+use std::thread::Threads;
+
+/// A seat, the claims that were made by it, and those of them that were granted.
+#[derive(Drop)]
+struct Claimant {
+    seat: Seat,
+    claims: u32,
+    granted: u32,
+}
+
+impl Claimant {
+    /// Claims once more.
+    fn claim(self, shared: &Shared) -> (bool, Claimant)
+        requires { self.seat.of ≡ shared.now }
+        ensures of { result.1.seat.of ≡ shared.now }
+        ensures share { result.1.seat.view.share ≡ self.seat.view.share }
+    {
+        let Claimant {
+            seat,
+            claims,
+            granted,
+        } = self;
+        let (answer, seat) = shared.claim(seat);
+        (
+            answer,
+            Claimant {
+                seat,
+                claims: claims.saturating_add(1),
+                granted: granted.saturating_add(u32::from(answer)),
+            },
+        )
+    }
+}
+
+/// Claims a thousand times, or until a claim is refused.
+fn claim_often(shared: &Shared, seat: Seat) -> Claimant
+    requires { seat.of ≡ shared.now }
+    ensures of { result.seat.of ≡ shared.now }
+    ensures share { result.seat.view.share ≡ seat.view.share }
+{
+    let mut claimant = Claimant {
+        seat,
+        claims: 0,
+        granted: 0,
+    };
+    for _ in 0..1000 {
+        let (answer, next) = claimant.claim(shared);
+        claimant = next;
+        if !answer {
+            break;
+        }
+    }
+    claimant
+}
+
+/// Two threads claim over one `Shared`: what is spent are their claims, of which so many are granted.
+fn claims_of_two<R: Threads + Wait + Abort + Sync>(rt: &R, shared: Shared, seat: Seat, granted: u64)
+    requires of { seat.of ≡ shared }
+    requires whole { seat.view.share ≡ all_shares }
+{
+    let Ok((a, b)) = shared.split(seat) else {
+        panic!(rt; "a share is left")
+    };
+    let words = &shared;
+    let (a, b) = thread::join(rt, || claim_often(words, a), || claim_often(words, b));
+    assert_eq!(rt; u64::from(a.granted) + u64::from(b.granted), granted);
+    let seat = shared.join(a.seat, b.seat);
+    let totals = shared.close(seat);
+    assert_eq!(rt; totals.spent, u64::from(a.claims) + u64::from(b.claims));
+}
+
+#[test]
+fn what_is_spent_are_the_claims_of_two_threads(rt: HostRuntime) -> Result<(), Fail> {
+    let problem = six(&rt, rt.alloc())?;
+    for (budget, granted) in [(0, 0), (1, 1), (1500, 1500), (5000, 2000)] {
+        let (shared, seat) = Shared::open(rt.alloc(), &problem, 13, budget)?;
+        claims_of_two(&rt, shared, seat, granted);
+    }
+    Ok(())
+}
