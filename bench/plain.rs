@@ -1,0 +1,225 @@
+//! Branch and bound for one bay in plain Rust, with nothing proved: it goes through the tree that `crp prove` goes through
+//! with one worker, without building it. The yardstick for speed.
+//!
+//! usage: plain BUDGET < HEAD, where HEAD is a bay as `crp prove` reads it
+//! It prints the answer, the expansions and the nodes.
+use std::io::Read;
+
+/// The least ordered rank of a stack without one.
+const NONE: u8 = u8::MAX;
+
+/// A container that stands: its rank, and the least ordered rank at or below it.
+#[derive(Clone, Copy, Default)]
+struct Standing {
+    rank: u8,
+    least: u8,
+}
+
+/// The containers of a row, from bottom to top.
+#[derive(Clone, Copy, Default)]
+struct Stack {
+    cells: [Standing; 8],
+    height: usize,
+}
+
+impl Stack {
+    fn containers(&self) -> &[Standing] {
+        &self.cells[..self.height]
+    }
+
+    fn top(&self) -> Option<&Standing> {
+        self.containers().last()
+    }
+}
+
+/// What a relocation changed, besides the stacks.
+struct Undo {
+    from: usize,
+    to: usize,
+    next: u8,
+}
+
+struct Bay {
+    stacks: [Stack; 12],
+    rows: usize,
+    tiers: usize,
+    ordered: u8,
+    next: u8,
+    /// By rank: the row where it stands, or stood when it left.
+    row_of: [usize; 97],
+    blocking: u32,
+}
+
+impl Bay {
+    fn least(&self, row: usize) -> u8 {
+        self.stacks[row].top().map_or(NONE, |top| top.least)
+    }
+
+    fn put(&mut self, row: usize, rank: u8) {
+        let below = self.least(row);
+        self.blocking += u32::from(below < rank);
+        let own = if rank <= self.ordered { rank } else { NONE };
+        let stack = &mut self.stacks[row];
+        stack.cells[stack.height] = Standing { rank, least: below.min(own) };
+        stack.height += 1;
+        self.row_of[rank as usize] = row;
+    }
+
+    fn lift(&mut self, row: usize) -> u8 {
+        let stack = &mut self.stacks[row];
+        stack.height -= 1;
+        let rank = stack.cells[stack.height].rank;
+        self.blocking -= u32::from(self.least(row) < rank);
+        rank
+    }
+
+    fn is_done(&self) -> bool {
+        self.next > self.ordered
+    }
+
+    fn source(&self) -> usize {
+        self.row_of[self.next as usize]
+    }
+
+    fn is_target(&self, row: usize) -> bool {
+        row != self.source() && self.stacks[row].height < self.tiers
+    }
+
+    /// Makes every retrieval that is legal.
+    fn settle(&mut self) {
+        while !self.is_done() && self.stacks[self.source()].top().unwrap().rank == self.next {
+            self.lift(self.source());
+            self.next += 1;
+        }
+    }
+
+    fn relocate(&mut self, to: usize) -> Undo {
+        let undo = Undo { from: self.source(), to, next: self.next };
+        let rank = self.lift(undo.from);
+        self.put(to, rank);
+        self.settle();
+        undo
+    }
+
+    fn undo(&mut self, undo: Undo) {
+        while self.next > undo.next {
+            self.next -= 1;
+            self.put(self.source(), self.next);
+        }
+        let rank = self.lift(undo.to);
+        self.put(undo.from, rank);
+    }
+
+    fn look_ahead(&self) -> u32 {
+        let mut heights = [0; 12];
+        for row in 0..self.rows {
+            heights[row] = self.stacks[row].height;
+        }
+        let mut again = 0;
+        for rank in self.next..=self.ordered {
+            let row = self.row_of[rank as usize];
+            let Some(at) = self.stacks[row].cells[..heights[row]].iter().position(|c| c.rank == rank) else {
+                continue;
+            };
+            if at + 1 < heights[row] {
+                let widest = (0..self.rows)
+                    .filter(|other| *other != row && heights[*other] < self.tiers)
+                    .map(|other| heights[other].checked_sub(1).map_or(NONE, |top| self.stacks[other].cells[top].least))
+                    .max();
+                let above = self.stacks[row].cells[at + 1..heights[row]].iter();
+                again += above.filter(|c| widest.is_none_or(|widest| widest < c.rank)).count() as u32;
+            }
+            heights[row] = at;
+        }
+        self.blocking + again
+    }
+
+    /// How many relocations the greedy plan has, if the rule leads to one.
+    fn first_plan(&mut self) -> Option<u32> {
+        let empty = 1 + self.stacks.iter().map(|stack| stack.height).sum::<usize>() as u16;
+        let mut undos = Vec::new();
+        while !self.is_done() {
+            let blocker = u16::from(self.stacks[self.source()].top().unwrap().rank);
+            let rows = (0..self.rows).filter(|row| self.is_target(*row));
+            let ranked = rows.map(|row| (self.stacks[row].containers().iter().map(|c| u16::from(c.rank)).min().unwrap_or(empty), row));
+            // the smallest least rank above the blocker, else the largest; ties go to the lowest row
+            let best = ranked.min_by_key(|(rank, row)| (*rank < blocker, if *rank < blocker { empty - rank } else { *rank }, *row));
+            let Some((_, row)) = best else {
+                break;
+            };
+            undos.push(self.relocate(row));
+        }
+        let count = self.is_done().then_some(undos.len() as u32);
+        while let Some(undo) = undos.pop() {
+            self.undo(undo);
+        }
+        count
+    }
+}
+
+struct Search {
+    bay: Bay,
+    limit: u32,
+    lower: u32,
+    left: u64,
+    expanded: u64,
+    nodes: u64,
+}
+
+impl Search {
+    fn cut(&mut self, value: u32) {
+        self.lower = self.lower.min(value);
+    }
+
+    /// Searches the node that so many relocations lead to.
+    fn search(&mut self, length: u32) {
+        self.nodes += 1;
+        if self.bay.is_done() {
+            self.limit = self.limit.min(length);
+            return self.cut(length);
+        }
+        let low = length + self.bay.blocking;
+        if low >= self.limit {
+            return self.cut(low);
+        }
+        let high = length + self.bay.look_ahead();
+        if high >= self.limit || self.left == 0 {
+            return self.cut(high);
+        }
+        self.left -= 1;
+        self.expanded += 1;
+        for row in 0..self.bay.rows {
+            if self.bay.is_target(row) {
+                let undo = self.bay.relocate(row);
+                self.search(length + 1);
+                self.bay.undo(undo);
+            }
+        }
+    }
+}
+
+fn numbers(line: &str) -> Vec<usize> {
+    line.split(' ').skip(1).map(|word| word.parse().expect("a number")).collect()
+}
+
+fn main() {
+    let budget = std::env::args().nth(1).expect("a budget").parse().expect("a number");
+    let mut text = String::new();
+    std::io::stdin().read_to_string(&mut text).expect("a text");
+    let mut lines = text.lines().skip(2);
+    let size = numbers(lines.next().expect("a size"));
+    let (rows, tiers, ordered) = (size[0], size[1], size[2]);
+    let cap = (ordered * (tiers - 1) + 1) as u32;
+    let mut bay = Bay { stacks: Default::default(), rows, tiers, ordered: ordered as u8, next: 1, row_of: [0; 97], blocking: 0 };
+    for (row, line) in lines.take(rows).enumerate() {
+        for rank in numbers(line) {
+            bay.put(row, rank as u8);
+        }
+    }
+    bay.settle();
+    let limit = bay.first_plan().unwrap_or(cap);
+    let mut search = Search { bay, limit, lower: cap, left: budget, expanded: 0, nodes: 0 };
+    search.search(0);
+    let lower = search.lower.min(search.limit);
+    println!("{lower} to {} expanded {} nodes {}", search.limit, search.expanded, search.nodes);
+}
