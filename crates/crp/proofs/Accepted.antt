@@ -6,19 +6,20 @@ use Rattle.std.proofs.lemmas.List.Elements.{recursion_from_All}
 use Rattle.crp_plan.specs.BayNames.{YardBay, IsYardBay}
 use Rattle.crp_plan.specs.Bay.{Problem, cap}
 use Rattle.crp_plan.specs.Plans.{Route}
-use Rattle.crp_tree.specs.Scripts.{IsAccepted, Script as Claim}
+use Rattle.crp_tree.specs.Claims.{IsAccepted, Claim, path_in}
+use Rattle.crp_tree.specs.Parts.{claimed}
 use Rattle.crp_cert.specs.declared.head.Head.{Head}
 use Rattle.crp_cert.specs.Text.{HasOneHeight, IsHead}
-use Rattle.crp_cert.specs.Writing.{script_for, claimed, CanBeSpelled}
-use Rattle.crp_cert.proofs.Written.{spelled_is_script, spelled_again, claimed_rise}
+use Rattle.crp_cert.specs.Writing.{script_for, CanBeSpelled}
+use Rattle.crp_cert.proofs.Written.{spelled_is_script, claimed_rise}
 use Rattle.crp_solve.specs.declared.answer.Answer.{Answer}
 use Rattle.crp_solve.specs.declared.answer.Answer.TheVariants as answer
 use Rattle.crp_solve.specs.declared.answer.Cause.TheVariants as cause
-use Rattle.crp_solve.specs.Answers.{path_in, cert_of, count_of, IsTrueAnswer}
+use Rattle.crp_solve.specs.Answers.{cert_of, count_of, IsTrueAnswer}
 use Rattle.crp_solve.proofs.Limits.{count_low}
 use Rattle.crp_checker.specs.declared.verdict.Verdict.{Verdict}
 use Rattle.crp_checker.specs.declared.verdict.Verdict.TheVariants as verdict
-use Rattle.crp_checker.specs.Claims.{IsWanted, IsAcceptedText}
+use Rattle.crp_checker.specs.AcceptedTexts.{IsWanted, IsAcceptedText}
 use Rattle.crp_checker.specs.Verdicts.{IsVerdictOf}
 use Rattle.crp_checker.specs.Files.{BeginsWithTexts, ShowEach}
 use Rattle.crp_order.specs.declared.bay_problem.BayProblem.{BayProblem}
@@ -83,7 +84,7 @@ verdict_on p budget (answer.Between lower cert plan cause.Memory) expanded t =
 
 -- what the certificate of an answer claims
 abbrev claim : Problem → Answer → Claim
-claim p found = claimed p (cert_of found) (plan_in found)
+claim p found = claimed p (cert_of found) (path_in (plan_in found))
 
 -- it is accepted
 claim_accepted : (p : Problem) (budget : ℕ) (found : Answer) (expanded : ℕ) → IsTrueAnswer p budget found expanded → IsAccepted (claim p found)
@@ -97,17 +98,17 @@ tellable p budget found expanded one t =
     record {
       accepted = claim_accepted p budget found expanded t;
       same_heights = one;
-      rising = claimed_rise p (cert_of found) (plan_in found) t.certificate;
+      rising = claimed_rise p (cert_of found) (path_in (plan_in found)) t.certificate;
     }
 
--- so the text is that of an accepted script, of the problem that is asked for, if one is
+-- so the text is accepted, for the problem that is asked for, if one is
 text_accepted : (wanted : Option Problem) (bay : YardBay) (p : Problem) (found : Answer) → IsYardBay bay → CanBeSpelled (claim p found) → IsWanted wanted p →
     IsAcceptedText wanted (text_of bay p found) (script_for bay (claim p found))
 text_accepted wanted bay p found named t asked =
     record {
       is_text = (spelled_is_script bay (claim p found) named t, refl);
       as_wanted = asked;
-      accepted = subst IsAccepted (sym (spelled_again bay (claim p found))) t.accepted;
+      accepted = t.accepted;
     }
 
 pub answer_accepted : (bay : YardBay) (p : Problem) (budget : ℕ) (found : Answer) (expanded : ℕ) → IsYardBay bay → HasOneHeight p →

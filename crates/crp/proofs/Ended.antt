@@ -7,8 +7,8 @@ use Rattle.std.proofs.lemmas.List.Concat.{flat_map-append}
 use Rattle.std.proofs.lemmas.List.Elements.{All-from_recursion, recursion_from_All}
 use Rattle.crp_plan.specs.BayNames.{YardBay, IsYardBay}
 use Rattle.crp_tree.specs.declared.tree.Tree.{Tree, CutB, CutL, Branch', Given, Row_of-Tree, end_of-Tree, more_of-Tree}
+use Rattle.crp_tree.specs.Claims.{Part}
 use Rattle.crp_cert.specs.declared.head.Head.{Head}
-use Rattle.crp_cert.specs.declared.parts.RawPart.{RawPart}
 use Rattle.crp_cert.specs.declared.script.Script.{Script}
 use Rattle.crp_cert.specs.declared.size.Size.{Size}
 use Rattle.crp_cert.specs.Text.{spaced, numbers_line, title_line, bay_line, size_line, size_of, row_line, claim_line, plan_line, head_text}
@@ -109,7 +109,7 @@ plan_other : (plan : Option (List ℕ)) → AreOtherLines (plan_line plan)
 plan_other None = one_other 112 (codes "lan -") (plan_line None) refl (λ e. omega (arith, e)) (plain_words (codes "plan -") refl)
 plan_other (Some rows) = numbers_other 112 (codes "lan") rows (λ e. omega (arith, e)) (plain_words (codes "plan") refl)
 
-part_other : (part : RawPart) → AreOtherLines (part_line part)
+part_other : (part : Part) → AreOtherLines (part_line part)
 part_other part =
     let name = name_text part.name in
     let symbols = symbols_of part.tree in

@@ -3,7 +3,7 @@ use Rattle.std.proofs.Common.{◌≡◌, ℕ, zero, suc, ◌+◌, ◌-◌, ◌*�
 use Rattle.std.specs.Prelude.{AllPairs}
 use Rattle.std.specs.List.{AllByRecursion}
 use Rattle.std.proofs.lemmas.Option.{get_or_from_slice_get, slice_get_within}
-use Rattle.std.proofs.lemmas.List.{get_or-map}
+use Rattle.std.proofs.lemmas.List.{get_or-map, length-map}
 use Rattle.std.proofs.lemmas.Bool.{cases_eq}
 use Rattle.std.proofs.lemmas.Nat.{mul-le}
 use Rattle.crp_plan.specs.Bay.{Problem, IsProblem, start}
@@ -11,37 +11,36 @@ use Rattle.crp_bay.specs.Positions.{settled}
 use Rattle.crp_bay.proofs.Walked.{at_reads}
 use Rattle.crp_tree.specs.Names.{Precedes}
 use Rattle.crp_tree.proofs.Ordered.{goes_further, not_itself, less_if}
-use Rattle.crp_cert.specs.declared.parts.RawPart.{RawPart}
-use Rattle.crp_cert.specs.Script.{names_of_raw, IsRawPart}
+use Rattle.crp_tree.specs.Claims.{Part, names}
+use Rattle.crp_cert.specs.Script.{IsPartLine}
 use Rattle.crp_cert.specs.ScriptFaults.{ComesAfter}
 use Rattle.crp_cert.proofs.PartNames.{first_rows, rows_low}
 
 -- ---- after the last
 
 -- the names that are told, one by one
-name_told : (parts : List RawPart) (k : ℕ) (d : RawPart) → k < length parts → get_or (names_of_raw parts) k d.name ≡ (get_or parts k d).name
+name_told : (parts : List Part) (k : ℕ) (d : Part) → k < length parts → get_or (names parts) k d.name ≡ (get_or parts k d).name
 name_told parts k d lt = get_or-map (λ part. part.name) parts k d d.name lt
 
 -- as many names as parts
-length_names : (parts : List RawPart) → length (names_of_raw parts) ≡ length parts
-length_names [] = refl
-length_names (part ∷ parts) = ap suc (length_names parts)
+pub length_names : (parts : List Part) → length (names parts) ≡ length parts
+length_names parts = length-map parts (λ (part : Part). part.name)
 
 -- a name that comes after the last comes after all
-pub after_last : (parts : List RawPart) (last : RawPart) (name : List ℕ) → AllPairs Precedes (names_of_raw parts) → slice_get parts (length parts - 1) ≡ Some last → Precedes last.name name → ComesAfter parts name
+pub after_last : (parts : List Part) (last : Part) (name : List ℕ) → AllPairs Precedes (names parts) → slice_get parts (length parts - 1) ≡ Some last → Precedes last.name name → ComesAfter parts name
 after_last parts last name rising e p k d lt = ⊎_elim
-    (λ same. subst (λ (part : RawPart). Precedes part.name name) (sym (ap (λ i. get_or parts i d) same ∙ get_or_from_slice_get parts (length parts - 1) last d e)) p)
+    (λ same. subst (λ (part : Part). Precedes part.name name) (sym (ap (λ i. get_or parts i d) same ∙ get_or_from_slice_get parts (length parts - 1) last d e)) p)
     (λ ne. goes_further (get_or parts k d).name last.name name
     (subst (λ n. Precedes n last.name) (name_told parts k d lt)
-    (subst (Precedes (get_or (names_of_raw parts) k d.name)) (name_told parts (length parts - 1) d (omega arith) ∙ ap (λ (part : RawPart). part.name) (get_or_from_slice_get parts (length parts - 1) last d e))
+    (subst (Precedes (get_or (names parts) k d.name)) (name_told parts (length parts - 1) d (omega arith) ∙ ap (λ (part : Part). part.name) (get_or_from_slice_get parts (length parts - 1) last d e))
     (rising k (length parts - 1) d.name (omega arith) (omega (arith, length_names parts)))))
     p)
     (cases_eq k (length parts - 1))
 
 -- and one that comes after all comes after the last
-pub before_last : (parts : List RawPart) (last : RawPart) (name : List ℕ) → slice_get parts (length parts - 1) ≡ Some last → ComesAfter parts name → Precedes last.name name
+pub before_last : (parts : List Part) (last : Part) (name : List ℕ) → slice_get parts (length parts - 1) ≡ Some last → ComesAfter parts name → Precedes last.name name
 before_last parts last name e after =
-    subst (λ (part : RawPart). Precedes part.name name) (get_or_from_slice_get parts (length parts - 1) last last e) (after (length parts - 1) last (slice_get_within parts (length parts - 1) last e))
+    subst (λ (part : Part). Precedes part.name name) (get_or_from_slice_get parts (length parts - 1) last last e) (after (length parts - 1) last (slice_get_within parts (length parts - 1) last e))
 
 -- ---- not too many
 
@@ -127,15 +126,15 @@ few_names from (name ∷ names) within lows rising =
     only (name ∷ names) lows = ((lows.0).0, only names lows.1)
 
 -- the name of a part has at most 8 rows from 1 to 12
-name_low : (p : Problem) (part : RawPart) → IsProblem p → IsRawPart p part → IsLowName part.name
-name_low p part is raw =
+name_low : (p : Problem) (part : Part) → IsProblem p → IsPartLine p part → IsLowName part.name
+name_low p part is line =
     let most = is.few_rows in
-    (raw.short, rows_low 12 (settled (start p)) raw.place part.name (omega (arith, first_rows p)) (at_reads p part.name raw.place is raw.is_at))
+    (line.short, rows_low 12 (settled (start p)) line.place part.name (omega (arith, first_rows p)) (at_reads p part.name line.place is line.is_at))
 
 -- there are fewer than 2 ^ 32 parts
-pub few_parts : (p : Problem) (parts : List RawPart) → IsProblem p → All (IsRawPart p) parts → AllPairs Precedes (names_of_raw parts) → length parts ≤ 815730721
-few_parts p parts is each rising = omega (arith, length_names parts, few_names 0 (names_of_raw parts) (omega arith) (lows parts each) rising)
+pub few_parts : (p : Problem) (parts : List Part) → IsProblem p → All (IsPartLine p) parts → AllPairs Precedes (names parts) → length parts ≤ 815730721
+few_parts p parts is each rising = omega (arith, length_names parts, few_names 0 (names parts) (omega arith) (lows parts each) rising)
   where
-    lows : (parts : List RawPart) → All (IsRawPart p) parts → AllByRecursion (λ name. IsLowName name × (0 ≤ rank 8 name)) (names_of_raw parts)
+    lows : (parts : List Part) → All (IsPartLine p) parts → AllByRecursion (λ name. IsLowName name × (0 ≤ rank 8 name)) (names parts)
     lows [] each = tt
     lows (part ∷ parts) each = ((name_low p part is (each 0 part (omega arith)), omega arith), lows parts (λ k d lt. each (suc k) d (omega arith)))

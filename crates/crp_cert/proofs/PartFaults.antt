@@ -5,15 +5,15 @@ use Rattle.std.specs.List.{flat_map}
 use Rattle.std.specs.Fmt.{decimal}
 use Rattle.std.proofs.lemmas.List.Elements.{All-push}
 use Rattle.std.proofs.lemmas.List.Quantifiers.{all_pairs_push}
-use Rattle.std.proofs.lemmas.List.{get_or-map}
+use Rattle.std.proofs.lemmas.List.{get_or-map, length-map, map-append, flat_map_more}
 use Rattle.crp_plan.specs.Bay.{Problem, Position, IsAt}
 use Rattle.crp_tree.specs.declared.tree.Tree.{Tree}
 use Rattle.crp_tree.specs.Names.{Precedes, name_text}
+use Rattle.crp_tree.specs.Claims.{Part, names}
 use Rattle.crp_cert.specs.declared.head.Head.{Head}
-use Rattle.crp_cert.specs.declared.parts.RawPart.{RawPart}
 use Rattle.crp_cert.specs.declared.fault.CertFault.{CertFault}
 use Rattle.crp_cert.specs.Text.{head_text, IsHead}
-use Rattle.crp_cert.specs.Script.{symbols_of, part_line, end_line, names_of_raw, IsRawPart}
+use Rattle.crp_cert.specs.Script.{symbols_of, part_line, end_line, IsPartLine}
 use Rattle.crp_cert.specs.ScriptFaults.{BeginsWithPart, ComesAfter, BeginsWithParts, IsLineFault, GoesOnBehindTree}
 use Rattle.crp_cert.specs.Reading.{◌>>=◌, tag_at, newline_at}
 use Rattle.crp_cert.specs.PartReading.{part_at, AreParts}
@@ -54,37 +54,23 @@ pub no_parts : (p : Problem) (bytes : List ℕ) → AreParts p bytes [] bytes
 no_parts p bytes = record { each_part = λ k d lt. absurd (omega arith); rising = λ i j d lt bound. absurd (omega arith); text = refl }
 
 -- one part more
-pub parts_push : (p : Problem) (bytes : List ℕ) (parts more : List RawPart) (part : RawPart) (rest after : List ℕ) → more ≡ parts ++ part ∷ [] → AreParts p bytes parts rest → IsRawPart p part → ComesAfter parts part.name →
+pub parts_push : (p : Problem) (bytes : List ℕ) (parts more : List Part) (part : Part) (rest after : List ℕ) → more ≡ parts ++ part ∷ [] → AreParts p bytes parts rest → IsPartLine p part → ComesAfter parts part.name →
     rest ≡ part_line part ++ after → AreParts p bytes more after
-parts_push p bytes parts more part rest after is are raw comes e =
+parts_push p bytes parts more part rest after is are line comes e =
     subst (λ l. AreParts p bytes l after) (sym is)
     (record {
-      each_part = All-push (IsRawPart p) parts part are.each_part raw;
-      rising = subst (AllPairs Precedes) (sym (names_push parts)) (all_pairs_push Precedes (names_of_raw parts) part.name are.rising (λ k d lt. each_comes k d lt));
-      text = are.text ∙ ap (λ l. flat_map part_line parts ++ l) e ∙ text_push parts;
+      each_part = All-push (IsPartLine p) parts part are.each_part line;
+      rising = subst (AllPairs Precedes) (sym (map-append (λ (x : Part). x.name) parts (part ∷ []))) (all_pairs_push Precedes (names parts) part.name are.rising (λ k d lt. each_comes k d lt));
+      text = are.text ∙ ap (λ l. flat_map part_line parts ++ l) e ∙ sym (append_assoc (flat_map part_line parts) (part_line part) after) ∙ ap (λ l. l ++ after) (flat_map_more part_line [] parts part);
     })
   where
-    names_push : (parts : List RawPart) → names_of_raw (parts ++ part ∷ []) ≡ names_of_raw parts ++ part.name ∷ []
-    names_push [] = refl
-    names_push (x ∷ parts) = ap (λ l. x.name ∷ l) (names_push parts)
-
-    text_push : (parts : List RawPart) → flat_map part_line parts ++ (part_line part ++ after) ≡ flat_map part_line (parts ++ part ∷ []) ++ after
-    text_push [] = sym (ap (λ l. l ++ after) (append-nil (part_line part)))
-    text_push (x ∷ parts) =
-        append_assoc (part_line x) (flat_map part_line parts) (part_line part ++ after) ∙ ap (λ l. part_line x ++ l) (text_push parts)
-        ∙ sym (append_assoc (part_line x) (flat_map part_line (parts ++ part ∷ [])) after)
-
-    length_names : (parts : List RawPart) → length (names_of_raw parts) ≡ length parts
-    length_names [] = refl
-    length_names (x ∷ parts) = ap suc (length_names parts)
-
-    each_comes : (k : ℕ) (d : List ℕ) → k < length (names_of_raw parts) → Precedes (get_or (names_of_raw parts) k d) part.name
+    each_comes : (k : ℕ) (d : List ℕ) → k < length (names parts) → Precedes (get_or (names parts) k d) part.name
     each_comes k d lt =
-        let within : k < length parts = omega (arith, length_names parts) in
+        let within : k < length parts = omega (arith, length-map parts (λ (x : Part). x.name)) in
         subst (λ n. Precedes n part.name) (sym (get_or-map (λ x. x.name) parts k part d within)) (comes k part within)
 
 -- a part line takes some bytes
-pub part_line_some : (part : RawPart) (rest after : List ℕ) → rest ≡ part_line part ++ after → length after < length rest
+pub part_line_some : (part : Part) (rest after : List ℕ) → rest ≡ part_line part ++ after → length after < length rest
 part_line_some part rest after e = omega (arith, ap length e, grows (codes "art " ++ (name_text part.name ++ (codes ": " ++ (symbols_of part.tree ++ 10 ∷ [])))))
   where
     grows : (line : List ℕ) → length after ≤ length (line ++ after)
@@ -139,14 +125,14 @@ pub no_end : (count : ℕ) (bytes : List ℕ) → tag_at (codes "end ") bytes �
 no_end count bytes e = end_pieces count bytes ∙ ap (λ o. o >>= λ r. (tag_at (decimal count) r >>= newline_at)) e
 
 -- the fault of a line, told of the same line
-pub same_line : (p : Problem) (parts parts' : List RawPart) (n n' : ℕ) (bytes bytes' : List ℕ) (fault : CertFault) → parts ≡ parts' → n ≡ n' → bytes ≡ bytes' → IsLineFault p parts n bytes fault → IsLineFault p parts' n' bytes' fault
+pub same_line : (p : Problem) (parts parts' : List Part) (n n' : ℕ) (bytes bytes' : List ℕ) (fault : CertFault) → parts ≡ parts' → n ≡ n' → bytes ≡ bytes' → IsLineFault p parts n bytes fault → IsLineFault p parts' n' bytes' fault
 same_line p parts parts' n n' bytes bytes' fault e f g is =
     subst (λ l. IsLineFault p l n' bytes' fault) e (subst (λ k. IsLineFault p parts k bytes' fault) f (subst (λ l. IsLineFault p parts n l fault) g is))
 
 -- ---- behind a head
 
 -- a head and parts behind it
-pub tells_parts : (bytes : List ℕ) (head : Head) (behind : List ℕ) (parts : List RawPart) (line : ℕ) (rest : List ℕ) → IsHead head → bytes ≡ head_text head ++ behind → AreParts head.problem behind parts rest →
+pub tells_parts : (bytes : List ℕ) (head : Head) (behind : List ℕ) (parts : List Part) (line : ℕ) (rest : List ℕ) → IsHead head → bytes ≡ head_text head ++ behind → AreParts head.problem behind parts rest →
     line ≡ 6 + length head.problem.stacks + length parts → BeginsWithParts bytes head parts line rest
 tells_parts bytes head behind parts line rest is text are n = record {
   is_head = is;

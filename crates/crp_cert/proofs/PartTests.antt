@@ -13,8 +13,8 @@ use Rattle.crp_tree.specs.declared.tree.Tree.{Tree, CutB, CutL, Branch', Given, 
 use Rattle.crp_tree.specs.Names.{Precedes}
 use Rattle.crp_tree.specs.Trees.{IsGiven, Fits, FitsEach}
 use Rattle.crp_tree.proofs.Ordered.{before_test}
-use Rattle.crp_cert.specs.declared.parts.RawPart.{RawPart}
-use Rattle.crp_cert.specs.Script.{symbols_of, symbols_of_each, names_of_raw}
+use Rattle.crp_tree.specs.Claims.{Part, names}
+use Rattle.crp_cert.specs.Script.{symbols_of, symbols_of_each}
 use Rattle.crp_cert.specs.ScriptFaults.{ComesAfter, AreSymbols}
 use Rattle.crp_cert.proofs.Readers.{all_to, all_from}
 
@@ -25,12 +25,12 @@ abbrev pub after_test : List (List ℕ) → List ℕ → Bool
 after_test names name = list_all (λ other. is_lt (slice_cmp nat_cmp other name)) names
 
 -- what holds of the names holds of the parts
-of_parts : (P : List ℕ → Type 0) (parts : List RawPart) → AllByRecursion P (names_of_raw parts) → AllByRecursion (λ (part : RawPart). P part.name) parts
+of_parts : (P : List ℕ → Type 0) (parts : List Part) → AllByRecursion P (names parts) → AllByRecursion (λ (part : Part). P part.name) parts
 of_parts P [] all = tt
 of_parts P (part ∷ parts) all = (all.0, of_parts P parts all.1)
 
 -- and back
-of_names : (P : List ℕ → Type 0) (parts : List RawPart) → AllByRecursion (λ (part : RawPart). P part.name) parts → AllByRecursion P (names_of_raw parts)
+of_names : (P : List ℕ → Type 0) (parts : List Part) → AllByRecursion (λ (part : Part). P part.name) parts → AllByRecursion P (names parts)
 of_names P [] all = tt
 of_names P (part ∷ parts) all = (all.0, of_names P parts all.1)
 
@@ -39,14 +39,14 @@ pub after_yes : (names : List (List ℕ)) (name : List ℕ) → AllByRecursion (
 after_yes names name all = all_from (λ other. Precedes other name) (λ other. is_lt (slice_cmp nat_cmp other name)) (λ other p. (before_test other name (slice_cmp nat_cmp other name) refl).1 p) names all
 
 -- a name that comes after the parts passes the test
-pub comes_from : (parts : List RawPart) (name : List ℕ) → ComesAfter parts name → after_test (names_of_raw parts) name ≡ true
-comes_from parts name comes = after_yes (names_of_raw parts) name (of_names (λ other. Precedes other name) parts (recursion_from_All (λ (part : RawPart). Precedes part.name name) parts comes))
+pub comes_from : (parts : List Part) (name : List ℕ) → ComesAfter parts name → after_test (names parts) name ≡ true
+comes_from parts name comes = after_yes (names parts) name (of_names (λ other. Precedes other name) parts (recursion_from_All (λ (part : Part). Precedes part.name name) parts comes))
 
 -- and one that passes comes after them
-pub comes_to : (parts : List RawPart) (name : List ℕ) → after_test (names_of_raw parts) name ≡ true → ComesAfter parts name
+pub comes_to : (parts : List Part) (name : List ℕ) → after_test (names parts) name ≡ true → ComesAfter parts name
 comes_to parts name e =
-    All-from_recursion (λ (part : RawPart). Precedes part.name name) parts
-    (of_parts (λ other. Precedes other name) parts (all_to (λ other. Precedes other name) (λ other. is_lt (slice_cmp nat_cmp other name)) (λ other t. (before_test other name (slice_cmp nat_cmp other name) refl).0 t) (names_of_raw parts) e))
+    All-from_recursion (λ (part : Part). Precedes part.name name) parts
+    (of_parts (λ other. Precedes other name) parts (all_to (λ other. Precedes other name) (λ other. is_lt (slice_cmp nat_cmp other name)) (λ other t. (before_test other name (slice_cmp nat_cmp other name) refl).0 t) (names parts) e))
 
 -- a test that cannot pass fails
 pub fails : {P : Type 0} (b : Bool) → (b ≡ true → P) → ¬ P → b ≡ false

@@ -11,13 +11,13 @@ use Rattle.crp_bay.proofs.Reaching.{reached_rows}
 use Rattle.crp_bay.proofs.Walked.{at_reads, at_means}
 use Rattle.crp_tree.specs.declared.tree.Tree.{Tree}
 use Rattle.crp_tree.specs.Names.{Precedes}
+use Rattle.crp_tree.specs.Claims.{Part, names}
 use Rattle.crp_cert.specs.declared.head.Head.{Head}
-use Rattle.crp_cert.specs.declared.parts.RawPart.{RawPart}
 use Rattle.crp_cert.specs.declared.script.Script.{Script}
 use Rattle.crp_cert.specs.declared.fault.CertFault.{CertFault}
 use Rattle.crp_cert.specs.declared.fault.CertFault.TheVariants as faults
 use Rattle.crp_cert.specs.Text.{head_text, IsHead}
-use Rattle.crp_cert.specs.Script.{symbols_of, part_line, end_line, names_of_raw, IsRawPart, IsScript, IsScriptOf}
+use Rattle.crp_cert.specs.Script.{symbols_of, part_line, end_line, IsPartLine, IsScript, IsScriptOf}
 use Rattle.crp_cert.specs.ScriptFaults.{BeginsWithParts, BeginsWithPart, BeginsWithTree, IsLineFault, IsFirstFaultOfScript}
 use Rattle.crp_cert.specs.Reading.{◌>>=◌, tag_at}
 use Rattle.crp_cert.specs.PartReading.{part_at, tagged, AreParts}
@@ -26,6 +26,7 @@ use Rattle.crp_cert.proofs.Heads.{head_once}
 use Rattle.crp_cert.proofs.Verdicts.{or_fault, apart, one_fault}
 use Rattle.crp_cert.proofs.PartLines.{behind_word, line_then, part_takes, part_again}
 use Rattle.crp_cert.proofs.PartFaults.{part_line_some, told_line}
+use Rattle.crp_cert.proofs.NameOrder.{length_names}
 use Rattle.crp_cert.proofs.PartTests.{after_test, after_yes, comes_from, comes_to, fails, symbols_test, symbols_to, symbols_from, tree_tested, tree_one_line}
 use Rattle.crp_cert.proofs.TreeReading.{behind_tree, tree_again, tree_takes}
 use Rattle.crp_tree.specs.Trees.{Fits}
@@ -50,38 +51,38 @@ left_at p name symbols = at p name >>= λ s. behind_tree (length symbols) s symb
 
 -- the fault of a part line, or that of what follows it
 line_fault : Problem → List (List ℕ) → ℕ → (List ℕ × List ℕ) → Option CertFault → Option CertFault
-line_fault p names line x next =
-    cond (after_test names x.0) (cond (symbols_test x.1) (behind_symbols (left_at p x.0 x.1) line next) (Some (faults.Symbol line))) (Some (faults.Order line))
+line_fault p earlier line x next =
+    cond (after_test earlier x.0) (cond (symbols_test x.1) (behind_symbols (left_at p x.0 x.1) line next) (Some (faults.Symbol line))) (Some (faults.Order line))
 
 -- the fault from the line behind parts of these names on, which are no more than this
 lines_fault : ℕ → Problem → List (List ℕ) → List ℕ → Option CertFault
-lines_fault zero p names bytes = None
-lines_fault (suc most) p names bytes =
-    tagged (tag_at (codes "part ") bytes) (behind_last (tag_at (end_line (length names)) bytes) (6 + length p.stacks + length names))
-    (λ rest. or_fault (part_at p rest) (faults.Part (6 + length p.stacks + length names)) (λ x. line_fault p names (6 + length p.stacks + length names) x.0 (lines_fault most p (names ++ x.0.0 ∷ []) x.1)))
+lines_fault zero p earlier bytes = None
+lines_fault (suc most) p earlier bytes =
+    tagged (tag_at (codes "part ") bytes) (behind_last (tag_at (end_line (length earlier)) bytes) (6 + length p.stacks + length earlier))
+    (λ rest. or_fault (part_at p rest) (faults.Part (6 + length p.stacks + length earlier)) (λ x. line_fault p earlier (6 + length p.stacks + length earlier) x.0 (lines_fault most p (earlier ++ x.0.0 ∷ []) x.1)))
 
 -- ---- one line
 
 -- behind the parts, past the first word of a part line
-past_word : (most : ℕ) (p : Problem) (names : List (List ℕ)) (rest : List ℕ) → lines_fault (suc most) p names (codes "part " ++ rest)
-    ≡ or_fault (part_at p rest) (faults.Part (6 + length p.stacks + length names)) (λ x. line_fault p names (6 + length p.stacks + length names) x.0 (lines_fault most p (names ++ x.0.0 ∷ []) x.1))
+past_word : (most : ℕ) (p : Problem) (earlier : List (List ℕ)) (rest : List ℕ) → lines_fault (suc most) p earlier (codes "part " ++ rest)
+    ≡ or_fault (part_at p rest) (faults.Part (6 + length p.stacks + length earlier)) (λ x. line_fault p earlier (6 + length p.stacks + length earlier) x.0 (lines_fault most p (earlier ++ x.0.0 ∷ []) x.1))
 unfolding lines_fault
-past_word most p names rest = refl
+past_word most p earlier rest = refl
 
 -- a line that begins with no part
-no_word : (most : ℕ) (p : Problem) (names : List (List ℕ)) (bytes : List ℕ) → tag_at (codes "part ") bytes ≡ None → lines_fault (suc most) p names bytes ≡ behind_last (tag_at (end_line (length names)) bytes) (6 + length p.stacks + length names)
+no_word : (most : ℕ) (p : Problem) (earlier : List (List ℕ)) (bytes : List ℕ) → tag_at (codes "part ") bytes ≡ None → lines_fault (suc most) p earlier bytes ≡ behind_last (tag_at (end_line (length earlier)) bytes) (6 + length p.stacks + length earlier)
 unfolding lines_fault
-no_word most p names bytes e =
-    ap (λ o. tagged o (behind_last (tag_at (end_line (length names)) bytes) (6 + length p.stacks + length names))
-    (λ rest. or_fault (part_at p rest) (faults.Part (6 + length p.stacks + length names)) (λ x. line_fault p names (6 + length p.stacks + length names) x.0 (lines_fault most p (names ++ x.0.0 ∷ []) x.1)))) e
+no_word most p earlier bytes e =
+    ap (λ o. tagged o (behind_last (tag_at (end_line (length earlier)) bytes) (6 + length p.stacks + length earlier))
+    (λ rest. or_fault (part_at p rest) (faults.Part (6 + length p.stacks + length earlier)) (λ x. line_fault p earlier (6 + length p.stacks + length earlier) x.0 (lines_fault most p (earlier ++ x.0.0 ∷ []) x.1)))) e
 
 -- a part line that stands there
-past_line : (most : ℕ) (p : Problem) (names : List (List ℕ)) (bytes : List ℕ) → IsProblem p → (part : BeginsWithPart p bytes) →
-    lines_fault (suc most) p names bytes ≡ line_fault p names (6 + length p.stacks + length names) (part.name, part.symbols) (lines_fault most p (names ++ part.name ∷ []) part.after)
-past_line most p names bytes is part =
+past_line : (most : ℕ) (p : Problem) (earlier : List (List ℕ)) (bytes : List ℕ) → IsProblem p → (part : BeginsWithPart p bytes) →
+    lines_fault (suc most) p earlier bytes ≡ line_fault p earlier (6 + length p.stacks + length earlier) (part.name, part.symbols) (lines_fault most p (earlier ++ part.name ∷ []) part.after)
+past_line most p earlier bytes is part =
     let text : bytes ≡ codes "part " ++ behind_word part.name part.symbols part.after = part.text ∙ line_then part.name part.symbols part.after in
-    ap (lines_fault (suc most) p names) text ∙ past_word most p names (behind_word part.name part.symbols part.after)
-    ∙ ap (λ o. or_fault o (faults.Part (6 + length p.stacks + length names)) (λ x. line_fault p names (6 + length p.stacks + length names) x.0 (lines_fault most p (names ++ x.0.0 ∷ []) x.1)))
+    ap (lines_fault (suc most) p earlier) text ∙ past_word most p earlier (behind_word part.name part.symbols part.after)
+    ∙ ap (λ o. or_fault o (faults.Part (6 + length p.stacks + length earlier)) (λ x. line_fault p earlier (6 + length p.stacks + length earlier) x.0 (lines_fault most p (earlier ++ x.0.0 ∷ []) x.1)))
     (part_again p part.name part.symbols part.after part.place is part.short (at_reads p part.name part.place is part.is_at) (recursion_from_All (λ b. b ≢ 10) part.symbols part.one_line))
 
 -- there are at most 12 rows where a name leads
@@ -108,52 +109,47 @@ some_tree p name symbols s tree rest is is_at m e =
     ∙ tree_again (length symbols) s tree rest (omega (arith, ap length e, length-append (symbols_of tree) rest)) m
 
 -- a part line that is as said
-past_part : (most : ℕ) (p : Problem) (names : List (List ℕ)) (part : RawPart) (rest : List ℕ) → IsProblem p → IsRawPart p part → after_test names part.name ≡ true →
-    lines_fault (suc most) p names (part_line part ++ rest) ≡ lines_fault most p (names ++ part.name ∷ []) rest
+past_part : (most : ℕ) (p : Problem) (earlier : List (List ℕ)) (part : Part) (rest : List ℕ) → IsProblem p → IsPartLine p part → after_test earlier part.name ≡ true →
+    lines_fault (suc most) p earlier (part_line part ++ rest) ≡ lines_fault most p (earlier ++ part.name ∷ []) rest
 unfolding line_fault behind_symbols
-past_part most p names part rest is raw comes =
+past_part most p earlier part rest is is_line comes =
     let symbols : List ℕ = symbols_of part.tree in
     let line : BeginsWithPart p (part_line part ++ rest) = record {
       name = part.name;
-      short = raw.short;
-      place = raw.place;
-      is_at = raw.is_at;
+      short = is_line.short;
+      place = is_line.place;
+      is_at = is_line.is_at;
       symbols = symbols_of part.tree;
-      one_line = All-from_recursion (λ b. b ≢ 10) (symbols_of part.tree) (tree_one_line raw.place part.tree raw.fits);
+      one_line = All-from_recursion (λ b. b ≢ 10) (symbols_of part.tree) (tree_one_line is_line.place part.tree is_line.fits);
       after = rest;
       text = refl;
     } in
-    past_line most p names (part_line part ++ rest) is line
-    ∙ rw (comes, tree_tested raw.place part.tree raw.fits raw.not_given, some_tree p part.name symbols raw.place part.tree [] is raw.is_at raw.fits (sym (append-nil symbols))) refl
+    past_line most p earlier (part_line part ++ rest) is line
+    ∙ rw (comes, tree_tested is_line.place part.tree is_line.fits is_line.not_given, some_tree p part.name symbols is_line.place part.tree [] is is_line.is_at is_line.fits (sym (append-nil symbols))) refl
 
 -- the name comes after the names before it
-last_rises : (names : List (List ℕ)) (name : List ℕ) (more : List (List ℕ)) → AllPairs Precedes (names ++ name ∷ more) → AllByRecursion (λ other. Precedes other name) names
+last_rises : (earlier : List (List ℕ)) (name : List ℕ) (more : List (List ℕ)) → AllPairs Precedes (earlier ++ name ∷ more) → AllByRecursion (λ other. Precedes other name) earlier
 last_rises [] name more rising = tt
-last_rises (x ∷ names) name more rising = (
-  subst (Precedes x) (get_or-append_seam names name more name) (rising 0 (suc (length names)) name (omega arith) (omega (arith, length-append names (name ∷ more)))),
-  last_rises names name more (λ i j d lt bound. rising (suc i) (suc j) d (omega arith) (omega arith)),
+last_rises (x ∷ earlier) name more rising = (
+  subst (Precedes x) (get_or-append_seam earlier name more name) (rising 0 (suc (length earlier)) name (omega arith) (omega (arith, length-append earlier (name ∷ more)))),
+  last_rises earlier name more (λ i j d lt bound. rising (suc i) (suc j) d (omega arith) (omega arith)),
 )
 
 -- past parts that are as said
-past_parts : (parts : List RawPart) (most : ℕ) (p : Problem) (names : List (List ℕ)) (rest : List ℕ) → IsProblem p → All (IsRawPart p) parts → AllPairs Precedes (names ++ names_of_raw parts) →
-    lines_fault (length parts + most) p names (flat_map part_line parts ++ rest) ≡ lines_fault most p (names ++ names_of_raw parts) rest
-past_parts [] most p names rest is each rising =
-    ap (λ n. lines_fault n p names rest) (let z : 0 + most ≡ most = omega arith in z) ∙ ap (λ l. lines_fault most p l rest) (sym (append-nil names))
-past_parts (part ∷ parts) most p names rest is each rising =
-    let group : (names ++ part.name ∷ []) ++ names_of_raw parts ≡ names ++ part.name ∷ names_of_raw parts = append_assoc names (part.name ∷ []) (names_of_raw parts) in
+past_parts : (parts : List Part) (most : ℕ) (p : Problem) (earlier : List (List ℕ)) (rest : List ℕ) → IsProblem p → All (IsPartLine p) parts → AllPairs Precedes (earlier ++ names parts) →
+    lines_fault (length parts + most) p earlier (flat_map part_line parts ++ rest) ≡ lines_fault most p (earlier ++ names parts) rest
+past_parts [] most p earlier rest is each rising =
+    ap (λ n. lines_fault n p earlier rest) (let z : 0 + most ≡ most = omega arith in z) ∙ ap (λ l. lines_fault most p l rest) (sym (append-nil earlier))
+past_parts (part ∷ parts) most p earlier rest is each rising =
+    let group : (earlier ++ part.name ∷ []) ++ names parts ≡ earlier ++ part.name ∷ names parts = append_assoc earlier (part.name ∷ []) (names parts) in
     let more : suc (length parts) + most ≡ suc (length parts + most) = omega arith in
-    ap (λ n. lines_fault n p names (flat_map part_line (part ∷ parts) ++ rest)) more
-    ∙ ap (lines_fault (suc (length parts + most)) p names) (append_assoc (part_line part) (flat_map part_line parts) rest)
-    ∙ past_part (length parts + most) p names part (flat_map part_line parts ++ rest) is (each 0 part (omega arith)) (after_yes names part.name (last_rises names part.name (names_of_raw parts) rising))
-    ∙ past_parts parts most p (names ++ part.name ∷ []) rest is (λ k d lt. each (suc k) d (omega arith)) (subst (AllPairs Precedes) (sym group) rising)
+    ap (λ n. lines_fault n p earlier (flat_map part_line (part ∷ parts) ++ rest)) more
+    ∙ ap (lines_fault (suc (length parts + most)) p earlier) (append_assoc (part_line part) (flat_map part_line parts) rest)
+    ∙ past_part (length parts + most) p earlier part (flat_map part_line parts ++ rest) is (each 0 part (omega arith)) (after_yes earlier part.name (last_rises earlier part.name (names parts) rising))
+    ∙ past_parts parts most p (earlier ++ part.name ∷ []) rest is (λ k d lt. each (suc k) d (omega arith)) (subst (AllPairs Precedes) (sym group) rising)
     ∙ ap (λ l. lines_fault most p l rest) group
 
 -- ---- the fault of a line is the one that is met there
-
--- as many names as parts
-length_names : (parts : List RawPart) → length (names_of_raw parts) ≡ length parts
-length_names [] = refl
-length_names (part ∷ parts) = ap suc (length_names parts)
 
 -- nothing but a part begins with the first word of one
 no_first_word : (bytes : List ℕ) → ((after : List ℕ) → bytes ≡ codes "part " ++ after → ⊥) → tag_at (codes "part ") bytes ≡ None
@@ -186,54 +182,54 @@ none_at p after is never = by_cases (part_at p after) refl
         absurd (never (told_line p after x.0.0 x.0.1 x.1 r.place (at_means p x.0.0 r.place is r.goes) e))
 
 -- the fault of the line behind the parts
-line_met : (most : ℕ) (p : Problem) (parts : List RawPart) (line : ℕ) (bytes : List ℕ) (fault : CertFault) → IsProblem p → line ≡ 6 + length p.stacks + length (names_of_raw parts) → IsLineFault p parts line bytes fault →
-    lines_fault (suc most) p (names_of_raw parts) bytes ≡ Some fault
+line_met : (most : ℕ) (p : Problem) (parts : List Part) (line : ℕ) (bytes : List ℕ) (fault : CertFault) → IsProblem p → line ≡ 6 + length p.stacks + length (names parts) → IsLineFault p parts line bytes fault →
+    lines_fault (suc most) p (names parts) bytes ≡ Some fault
 unfolding line_fault behind_symbols behind_last
 line_met most p parts line bytes (faults.Part n) is number (same, (after, text), never) =
-    ap (lines_fault (suc most) p (names_of_raw parts)) text ∙ past_word most p (names_of_raw parts) after
+    ap (lines_fault (suc most) p (names parts)) text ∙ past_word most p (names parts) after
     ∙ rw (none_at p after is (subst (λ l. ¬ BeginsWithPart p l) text never)) (ap (λ k. Some (faults.Part k)) (sym (same ∙ number)))
 line_met most p parts line bytes (faults.Order n) is number (same, (part, never)) =
-    past_line most p (names_of_raw parts) bytes is part
-    ∙ rw (fails (after_test (names_of_raw parts) part.name) (comes_to parts part.name) never) (ap (λ k. Some (faults.Order k)) (sym (same ∙ number)))
+    past_line most p (names parts) bytes is part
+    ∙ rw (fails (after_test (names parts) part.name) (comes_to parts part.name) never) (ap (λ k. Some (faults.Order k)) (sym (same ∙ number)))
 line_met most p parts line bytes (faults.Symbol n) is number (same, (part, comes, never)) =
-    past_line most p (names_of_raw parts) bytes is part
+    past_line most p (names parts) bytes is part
     ∙ rw (comes_from parts part.name comes, fails (symbols_test part.symbols) (symbols_to part.symbols) never) (ap (λ k. Some (faults.Symbol k)) (sym (same ∙ number)))
 line_met most p parts line bytes (faults.Unfinished n) is number (same, (part, comes, are, never)) =
-    past_line most p (names_of_raw parts) bytes is part
+    past_line most p (names parts) bytes is part
     ∙ rw (comes_from parts part.name comes, symbols_from part.symbols are, no_tree p part.name part.symbols part.place is part.is_at never) (ap (λ k. Some (faults.Unfinished k)) (sym (same ∙ number)))
 line_met most p parts line bytes (faults.Trailing n) is number (same, (part, comes, are, (tree, m, (b, rest, e)))) =
-    past_line most p (names_of_raw parts) bytes is part
+    past_line most p (names parts) bytes is part
     ∙ rw (comes_from parts part.name comes, symbols_from part.symbols are, some_tree p part.name part.symbols part.place tree (b ∷ rest) is part.is_at m e) (ap (λ k. Some (faults.Trailing k)) (sym (same ∙ number)))
 line_met most p parts line bytes (faults.End n) is number (inl (same, no_part', no_end')) =
-    no_word most p (names_of_raw parts) bytes (no_first_word bytes no_part')
-    ∙ rw (no_last_line (length (names_of_raw parts)) bytes (λ after e. no_end' after (e ∙ ap (λ k. end_line k ++ after) (length_names parts)))) (ap (λ k. Some (faults.End k)) (sym (same ∙ number)))
+    no_word most p (names parts) bytes (no_first_word bytes no_part')
+    ∙ rw (no_last_line (length (names parts)) bytes (λ after e. no_end' after (e ∙ ap (λ k. end_line k ++ after) (length_names parts)))) (ap (λ k. Some (faults.End k)) (sym (same ∙ number)))
 line_met most p parts line bytes (faults.End n) is number (inr (same, (b, after, text))) =
-    let text' : bytes ≡ end_line (length (names_of_raw parts)) ++ b ∷ after = text ∙ ap (λ k. end_line k ++ b ∷ after) (sym (length_names parts)) in
-    no_word most p (names_of_raw parts) bytes (ap (tag_at (codes "part ")) text' ∙ end_no_part (length (names_of_raw parts)) (b ∷ after))
-    ∙ rw (ap (tag_at (end_line (length (names_of_raw parts)))) text' ∙ tag_again (end_line (length (names_of_raw parts))) (b ∷ after)) (ap (λ k. Some (faults.End k)) (sym (same ∙ ap suc number)))
+    let text' : bytes ≡ end_line (length (names parts)) ++ b ∷ after = text ∙ ap (λ k. end_line k ++ b ∷ after) (sym (length_names parts)) in
+    no_word most p (names parts) bytes (ap (tag_at (codes "part ")) text' ∙ end_no_part (length (names parts)) (b ∷ after))
+    ∙ rw (ap (tag_at (end_line (length (names parts)))) text' ∙ tag_again (end_line (length (names parts))) (b ∷ after)) (ap (λ k. Some (faults.End k)) (sym (same ∙ ap suc number)))
 line_met most p parts line bytes _ is number why = absurd why
 
 -- no fault is met in the last line
-last_met : (most : ℕ) (p : Problem) (parts : List RawPart) → lines_fault (suc most) p (names_of_raw parts) (end_line (length parts)) ≡ None
+last_met : (most : ℕ) (p : Problem) (parts : List Part) → lines_fault (suc most) p (names parts) (end_line (length parts)) ≡ None
 unfolding behind_last
 last_met most p parts =
-    let count : length parts ≡ length (names_of_raw parts) = sym (length_names parts) in
-    let text : end_line (length parts) ≡ end_line (length (names_of_raw parts)) ++ [] = ap end_line count ∙ sym (append-nil (end_line (length (names_of_raw parts)))) in
-    no_word most p (names_of_raw parts) (end_line (length parts)) (ap (tag_at (codes "part ")) text ∙ end_no_part (length (names_of_raw parts)) [])
-    ∙ rw (ap (tag_at (end_line (length (names_of_raw parts)))) text ∙ tag_again (end_line (length (names_of_raw parts))) []) refl
+    let count : length parts ≡ length (names parts) = sym (length_names parts) in
+    let text : end_line (length parts) ≡ end_line (length (names parts)) ++ [] = ap end_line count ∙ sym (append-nil (end_line (length (names parts)))) in
+    no_word most p (names parts) (end_line (length parts)) (ap (tag_at (codes "part ")) text ∙ end_no_part (length (names parts)) [])
+    ∙ rw (ap (tag_at (end_line (length (names parts)))) text ∙ tag_again (end_line (length (names parts))) []) refl
 
 -- ---- behind the head
 
 -- parts take some bytes each
-parts_some : (parts : List RawPart) (rest : List ℕ) → length parts ≤ length (flat_map part_line parts ++ rest)
+parts_some : (parts : List Part) (rest : List ℕ) → length parts ≤ length (flat_map part_line parts ++ rest)
 parts_some [] rest = omega arith
 parts_some (part ∷ parts) rest =
     let h = part_line_some part (part_line part ++ (flat_map part_line parts ++ rest)) (flat_map part_line parts ++ rest) refl in
     omega (arith, h, parts_some parts rest, ap length (append_assoc (part_line part) (flat_map part_line parts) rest))
 
 -- what is met behind a head is what is met behind the parts
-parts_met : (p : Problem) (behind : List ℕ) (parts : List RawPart) (rest : List ℕ) → IsProblem p → AreParts p behind parts rest →
-    (most : ℕ) × (lines_fault (suc (length behind)) p [] behind ≡ lines_fault (suc most) p (names_of_raw parts) rest)
+parts_met : (p : Problem) (behind : List ℕ) (parts : List Part) (rest : List ℕ) → IsProblem p → AreParts p behind parts rest →
+    (most : ℕ) × (lines_fault (suc (length behind)) p [] behind ≡ lines_fault (suc most) p (names parts) rest)
 parts_met p behind parts rest is are =
     let most : ℕ = length behind - length parts in
     let long : length parts ≤ length behind = omega (arith, parts_some parts rest, ap length are.text) in
@@ -241,24 +237,24 @@ parts_met p behind parts rest is are =
     (most, ap (λ n. lines_fault n p [] behind) enough ∙ ap (lines_fault (length parts + suc most) p []) are.text ∙ past_parts parts (suc most) p [] rest is are.each_part are.rising)
 
 -- the fault of the line behind the parts
-fault_met : (p : Problem) (behind : List ℕ) (parts : List RawPart) (line : ℕ) (rest : List ℕ) (fault : CertFault) → IsProblem p → AreParts p behind parts rest → line ≡ 6 + length p.stacks + length parts →
+fault_met : (p : Problem) (behind : List ℕ) (parts : List Part) (line : ℕ) (rest : List ℕ) (fault : CertFault) → IsProblem p → AreParts p behind parts rest → line ≡ 6 + length p.stacks + length parts →
     IsLineFault p parts line rest fault → lines_fault (suc (length behind)) p [] behind ≡ Some fault
 fault_met p behind parts line rest fault is are number why =
     let m = parts_met p behind parts rest is are in
     m.1 ∙ line_met m.0 p parts line rest fault is (omega (arith, length_names parts)) why
 
 -- no fault where the last line ends the text
-none_met : (p : Problem) (behind : List ℕ) (parts : List RawPart) → IsProblem p → AreParts p behind parts (end_line (length parts)) → lines_fault (suc (length behind)) p [] behind ≡ None
+none_met : (p : Problem) (behind : List ℕ) (parts : List Part) → IsProblem p → AreParts p behind parts (end_line (length parts)) → lines_fault (suc (length behind)) p [] behind ≡ None
 none_met p behind parts is are = let m = parts_met p behind parts (end_line (length parts)) is are in m.1 ∙ last_met m.0 p parts
 
 -- ---- the whole text
 
 -- what stands behind the head
 abbrev Behind : List ℕ → CertFault → Type 0
-Behind bytes fault = (head : Head) × (parts : List RawPart) × (line : ℕ) × (rest : List ℕ) × BeginsWithParts bytes head parts line rest × IsLineFault head.problem parts line rest fault
+Behind bytes fault = (head : Head) × (parts : List Part) × (line : ℕ) × (rest : List ℕ) × BeginsWithParts bytes head parts line rest × IsLineFault head.problem parts line rest fault
 
 -- the parts that are told behind the head
-told_parts : (bytes : List ℕ) (head : Head) (parts : List RawPart) (line : ℕ) (rest : List ℕ) → BeginsWithParts bytes head parts line rest → AreParts head.problem (flat_map part_line parts ++ rest) parts rest
+told_parts : (bytes : List ℕ) (head : Head) (parts : List Part) (line : ℕ) (rest : List ℕ) → BeginsWithParts bytes head parts line rest → AreParts head.problem (flat_map part_line parts ++ rest) parts rest
 told_parts bytes head parts line rest tells = record { each_part = tells.each_part; rising = tells.rising; text = refl }
 
 -- the fault that is met behind the head that the bytes begin with

@@ -1,18 +1,18 @@
 -- A text is at most one script's, and one that is none has a first fault.
-use Rattle.std.proofs.Common.{◌≡◌, ℕ, zero, suc, ◌+◌, ◌<◌, ◌⊎◌, inl, inr, ⊎_elim, Bool, true, false, List, [], ◌∷◌, ◌++◌, length, All, Option, Some, None, refl, sym, ap, ◌∙◌, subst, arith, append_assoc, append-nil, length-append}
+use Rattle.std.proofs.Common.{◌≡◌, ℕ, zero, suc, ◌+◌, ◌<◌, ◌⊎◌, inl, inr, ⊎_elim, Bool, true, false, List, [], ◌∷◌, ◌++◌, length, map, All, Option, Some, None, refl, sym, ap, ◌∙◌, subst, arith, append_assoc, append-nil, length-append}
 use Rattle.std.specs.Prelude.{codes}
 use Rattle.std.specs.List.{flat_map}
 use Rattle.std.proofs.lemmas.Option.{same_Some, none-some}
 use Rattle.crp_plan.specs.Bay.{Problem, IsProblem, Position, IsAt}
 use Rattle.crp_bay.proofs.Walked.{at_reads, at_means}
 use Rattle.crp_tree.specs.declared.tree.Tree.{Tree}
+use Rattle.crp_tree.specs.Claims.{Part, names}
 use Rattle.crp_cert.specs.declared.head.Head.{Head}
-use Rattle.crp_cert.specs.declared.parts.RawPart.{RawPart}
 use Rattle.crp_cert.specs.declared.script.Script.{Script}
 use Rattle.crp_cert.specs.declared.fault.CertFault.{CertFault}
 use Rattle.crp_cert.specs.declared.fault.CertFault.TheVariants as faults
 use Rattle.crp_cert.specs.Text.{head_text, IsHead}
-use Rattle.crp_cert.specs.Script.{symbols_of, symbols_line, part_line, end_line, names_of_raw, symbols_of_raw, IsRawPart, IsScript, IsScriptOf}
+use Rattle.crp_cert.specs.Script.{symbols_of, symbols_line, part_line, end_line, IsPartLine, IsScript, IsScriptOf}
 use Rattle.crp_cert.specs.ScriptFaults.{BeginsWithPart, ComesAfter, AreSymbols, IsLineFault, IsFirstFaultOfScript}
 use Rattle.crp_cert.specs.Reading.{tag_at}
 use Rattle.crp_cert.specs.PartReading.{part_at, AreParts}
@@ -29,24 +29,24 @@ use Rattle.crp_tree.specs.Trees.{Fits}
 -- ---- one script
 
 -- a part line is read
-line_reads : (p : Problem) (part : RawPart) (rest : List ℕ) → IsProblem p → IsRawPart p part → part_at p (behind_word part.name (symbols_of part.tree) rest) ≡ Some ((part.name, symbols_of part.tree), rest)
-line_reads p part rest is raw =
-    part_again p part.name (symbols_of part.tree) rest raw.place is raw.short (at_reads p part.name raw.place is raw.is_at) (tree_one_line raw.place part.tree raw.fits)
+line_reads : (p : Problem) (part : Part) (rest : List ℕ) → IsProblem p → IsPartLine p part → part_at p (behind_word part.name (symbols_of part.tree) rest) ≡ Some ((part.name, symbols_of part.tree), rest)
+line_reads p part rest is is_line =
+    part_again p part.name (symbols_of part.tree) rest is_line.place is is_line.short (at_reads p part.name is_line.place is is_line.is_at) (tree_one_line is_line.place part.tree is_line.fits)
 
 -- from behind its first word
-word_reads : (part : RawPart) (rest : List ℕ) → tag_at (codes "part ") (part_line part ++ rest) ≡ Some (behind_word part.name (symbols_of part.tree) rest)
+word_reads : (part : Part) (rest : List ℕ) → tag_at (codes "part ") (part_line part ++ rest) ≡ Some (behind_word part.name (symbols_of part.tree) rest)
 word_reads part rest = ap (tag_at (codes "part ")) (line_then part.name (symbols_of part.tree) rest) ∙ tag_again (codes "part ") (behind_word part.name (symbols_of part.tree) rest)
 
 -- bytes begin with one part line at most
-line_once : (p : Problem) (a b : RawPart) (x y : List ℕ) → IsProblem p → IsRawPart p a → IsRawPart p b → part_line a ++ x ≡ part_line b ++ y → (a.name ≡ b.name) × (symbols_of a.tree ≡ symbols_of b.tree) × (x ≡ y)
-line_once p a b x y is raw-a raw-b e =
+line_once : (p : Problem) (a b : Part) (x y : List ℕ) → IsProblem p → IsPartLine p a → IsPartLine p b → part_line a ++ x ≡ part_line b ++ y → (a.name ≡ b.name) × (symbols_of a.tree ≡ symbols_of b.tree) × (x ≡ y)
+line_once p a b x y is line-a line-b e =
     let word = same_Some (behind_word a.name (symbols_of a.tree) x) (behind_word b.name (symbols_of b.tree) y) (sym (word_reads a x) ∙ ap (tag_at (codes "part ")) e ∙ word_reads b y) in
-    let line = same_Some ((a.name, symbols_of a.tree), x) ((b.name, symbols_of b.tree), y) (sym (line_reads p a x is raw-a) ∙ ap (part_at p) word ∙ line_reads p b y is raw-b) in
+    let line = same_Some ((a.name, symbols_of a.tree), x) ((b.name, symbols_of b.tree), y) (sym (line_reads p a x is line-a) ∙ ap (part_at p) word ∙ line_reads p b y is line-b) in
     (ap (λ (v : (List ℕ × List ℕ) × List ℕ). v.0.0) line, ap (λ (v : (List ℕ × List ℕ) × List ℕ). v.0.1) line, ap (λ (v : (List ℕ × List ℕ) × List ℕ). v.1) line)
 
 -- bytes begin with the lines of one list of parts at most, if no more follow
-parts_once : (p : Problem) (parts others : List RawPart) (x y : List ℕ) → IsProblem p → All (IsRawPart p) parts → All (IsRawPart p) others → tag_at (codes "part ") x ≡ None → tag_at (codes "part ") y ≡ None →
-    flat_map part_line parts ++ x ≡ flat_map part_line others ++ y → (names_of_raw parts ≡ names_of_raw others) × (symbols_of_raw parts ≡ symbols_of_raw others)
+parts_once : (p : Problem) (parts others : List Part) (x y : List ℕ) → IsProblem p → All (IsPartLine p) parts → All (IsPartLine p) others → tag_at (codes "part ") x ≡ None → tag_at (codes "part ") y ≡ None →
+    flat_map part_line parts ++ x ≡ flat_map part_line others ++ y → (names parts ≡ names others) × (map (λ part. symbols_of part.tree) parts ≡ map (λ part. symbols_of part.tree) others)
 parts_once p [] [] x y is each each' no-x no-y e = (refl, refl)
 parts_once p [] (b ∷ others) x y is each each' no-x no-y e =
     absurd (none-some (behind_word b.name (symbols_of b.tree) (flat_map part_line others ++ y))
@@ -58,19 +58,19 @@ parts_once p (a ∷ parts) (b ∷ others) x y is each each' no-x no-y e =
     let h = line_once p a b (flat_map part_line parts ++ x) (flat_map part_line others ++ y) is (each 0 a (omega arith)) (each' 0 b (omega arith))
     (sym (append_assoc (part_line a) (flat_map part_line parts) x) ∙ e ∙ append_assoc (part_line b) (flat_map part_line others) y) in
     let t = parts_once p parts others x y is (λ k d lt. each (suc k) d (omega arith)) (λ k d lt. each' (suc k) d (omega arith)) no-x no-y h.2 in
-    (ap (λ n. n ∷ names_of_raw parts) h.0 ∙ ap (λ l. b.name ∷ l) t.0, ap (λ n. n ∷ symbols_of_raw parts) h.1 ∙ ap (λ l. symbols_of b.tree ∷ l) t.1)
+    (ap (λ n. n ∷ names parts) h.0 ∙ ap (λ l. b.name ∷ l) t.0, ap (λ n. n ∷ map (λ part. symbols_of part.tree) parts) h.1 ∙ ap (λ l. symbols_of b.tree ∷ l) t.1)
 
 -- the last line begins with no first word of a part
 end_alone : (count : ℕ) → tag_at (codes "part ") (end_line count) ≡ None
 end_alone count = refl
 
 -- a text is one script's at most
-pub script_once : (bytes : List ℕ) (a b : Script) → IsScriptOf bytes a → IsScriptOf bytes b → (a.head ≡ b.head) × (names_of_raw a.parts ≡ names_of_raw b.parts) × (symbols_of_raw a.parts ≡ symbols_of_raw b.parts)
+pub script_once : (bytes : List ℕ) (a b : Script) → IsScriptOf bytes a → IsScriptOf bytes b → (a.head ≡ b.head) × (names a.parts ≡ names b.parts) × (map (λ part. symbols_of part.tree) a.parts ≡ map (λ part. symbols_of part.tree) b.parts)
 script_once bytes a b of-a of-b =
     let is-a : IsScript a = of-a.0 in let is-b : IsScript b = of-b.0 in
     let heads = head_once a.head b.head (flat_map part_line a.parts ++ end_line (length a.parts)) (flat_map part_line b.parts ++ end_line (length b.parts)) is-a.is_head is-b.is_head (sym of-a.1 ∙ of-b.1) in
     let problem : IsProblem a.head.problem = (is-a.is_head).problem in
-    let each : All (IsRawPart a.head.problem) b.parts = subst (λ (h : Head). All (IsRawPart h.problem) b.parts) (sym heads.0) is-b.each_part in
+    let each : All (IsPartLine a.head.problem) b.parts = subst (λ (h : Head). All (IsPartLine h.problem) b.parts) (sym heads.0) is-b.each_part in
     let parts = parts_once a.head.problem a.parts b.parts (end_line (length a.parts)) (end_line (length b.parts)) problem is-a.each_part each (end_alone (length a.parts)) (end_alone (length b.parts)) heads.1 in
     (heads.0, parts.0, parts.1)
 
@@ -81,13 +81,13 @@ abbrev Answer : List ℕ → Type 0
 Answer bytes = ((script : Script) × IsScriptOf bytes script) ⊎ ((fault : CertFault) × IsFirstFaultOfScript bytes fault)
 
 -- the answer where the line behind the parts has a fault
-faulty : (bytes : List ℕ) (head : Head) (behind : List ℕ) (parts : List RawPart) (rest : List ℕ) (fault : CertFault) → IsHead head → bytes ≡ head_text head ++ behind → AreParts head.problem behind parts rest →
+faulty : (bytes : List ℕ) (head : Head) (behind : List ℕ) (parts : List Part) (rest : List ℕ) (fault : CertFault) → IsHead head → bytes ≡ head_text head ++ behind → AreParts head.problem behind parts rest →
     IsLineFault head.problem parts (6 + length head.problem.stacks + length parts) rest fault → Answer bytes
 faulty bytes head behind parts rest fault is text are why =
     inr (fault, inr (head, parts, 6 + length head.problem.stacks + length parts, rest, tells_parts bytes head behind parts (6 + length head.problem.stacks + length parts) rest is text are refl, why))
 
 -- from the last line on
-last_answer : (bytes : List ℕ) (head : Head) (behind : List ℕ) (parts : List RawPart) (rest : List ℕ) → IsHead head → bytes ≡ head_text head ++ behind → AreParts head.problem behind parts rest → tag_at (codes "part ") rest ≡ None → Answer bytes
+last_answer : (bytes : List ℕ) (head : Head) (behind : List ℕ) (parts : List Part) (rest : List ℕ) → IsHead head → bytes ≡ head_text head ++ behind → AreParts head.problem behind parts rest → tag_at (codes "part ") rest ≡ None → Answer bytes
 last_answer bytes head behind parts rest is text are none = by_last (tag_at (end_line (length parts)) rest) refl
   where
     by_last : (o : Option (List ℕ)) → tag_at (end_line (length parts)) rest ≡ o → Answer bytes
@@ -105,14 +105,14 @@ last_answer bytes head behind parts rest is text are none = by_last (tag_at (end
 
 -- the line that the parts are followed by
 abbrev Next : List ℕ → Head → List ℕ → ℕ → Type 0
-Next bytes head behind most = (parts : List RawPart) (rest : List ℕ) → length rest < most → AreParts head.problem behind parts rest → Answer bytes
+Next bytes head behind most = (parts : List Part) (rest : List ℕ) → length rest < most → AreParts head.problem behind parts rest → Answer bytes
 
 -- a part of this name and these symbols, whose tree is read
-read_part : (p : Problem) (behind : List ℕ) (parts : List RawPart) (after name symbols rest : List ℕ) (place : Position) (tree : Tree) → IsProblem p → AreParts p behind parts (codes "part " ++ after) → IsAt p name place →
+read_part : (p : Problem) (behind : List ℕ) (parts : List Part) (after name symbols rest : List ℕ) (place : Position) (tree : Tree) → IsProblem p → AreParts p behind parts (codes "part " ++ after) → IsAt p name place →
     part_at p after ≡ Some ((name, symbols), rest) → ComesAfter parts name → AreSymbols symbols → Fits place tree → symbols ≡ symbols_of tree ++ [] →
     AreParts p behind (parts ++ (record { name = name; tree = tree }) ∷ []) rest × (length rest < length (codes "part " ++ after))
 read_part p behind parts after name symbols rest place tree problem are is_at e comes all m same =
-    let part : RawPart = record { name = name; tree = tree } in
+    let part : Part = record { name = name; tree = tree } in
     let told : BeginsWithPart p (codes "part " ++ after) = told_line p after name symbols rest place is_at e in
     let line : codes "part " ++ after ≡ part_line part ++ rest = told.text ∙ ap (λ l. symbols_line name l ++ rest) (same ∙ append-nil (symbols_of tree)) in (
       parts_push p behind parts (parts ++ part ∷ []) part (codes "part " ++ after) rest refl are (record { short = told.short; place = place; is_at = is_at; fits = m; not_given = none_given symbols [] tree all same }) comes line,
@@ -120,12 +120,12 @@ read_part p behind parts after name symbols rest place tree problem are is_at e 
     )
 
 -- from a part line on, whose name and symbols are read
-line_answer : (most : ℕ) (bytes : List ℕ) (head : Head) (behind : List ℕ) (parts : List RawPart) (after name symbols rest : List ℕ) (place : Position) → IsHead head → bytes ≡ head_text head ++ behind →
+line_answer : (most : ℕ) (bytes : List ℕ) (head : Head) (behind : List ℕ) (parts : List Part) (after name symbols rest : List ℕ) (place : Position) → IsHead head → bytes ≡ head_text head ++ behind →
     AreParts head.problem behind parts (codes "part " ++ after) → length (codes "part " ++ after) < suc most → IsAt head.problem name place → part_at head.problem after ≡ Some ((name, symbols), rest) → Next bytes head behind most → Answer bytes
 line_answer most bytes head behind parts after name symbols rest place is text are enough is_at e next =
-    by_test (after_test (names_of_raw parts) name) refl (symbols_test symbols) refl (behind_tree (length symbols) place symbols) refl
+    by_test (after_test (names parts) name) refl (symbols_test symbols) refl (behind_tree (length symbols) place symbols) refl
   where
-    by_test : (a : Bool) → after_test (names_of_raw parts) name ≡ a → (b : Bool) → symbols_test symbols ≡ b → (o : Option (List ℕ)) → behind_tree (length symbols) place symbols ≡ o → Answer bytes
+    by_test : (a : Bool) → after_test (names parts) name ≡ a → (b : Bool) → symbols_test symbols ≡ b → (o : Option (List ℕ)) → behind_tree (length symbols) place symbols ≡ o → Answer bytes
     by_test false f b g o h =
         faulty bytes head behind parts (codes "part " ++ after) (faults.Order (6 + length head.problem.stacks + length parts)) is text are
         (refl, (told_line head.problem after name symbols rest place is_at e, λ comes. let no' : false ≡ true = sym f ∙ comes_from parts name comes in cc))
@@ -155,7 +155,7 @@ line_answer most bytes head behind parts after name symbols rest place is text a
         (refl, (told_line head.problem after name symbols rest place is_at e, comes_to parts name f, symbols_to symbols g, (t.0, t.1, (b, left, t.2))))
 
 -- from the line behind the parts on
-parts_answer : (most : ℕ) (bytes : List ℕ) (head : Head) (behind : List ℕ) (parts : List RawPart) (rest : List ℕ) → IsHead head → bytes ≡ head_text head ++ behind → length rest < most → AreParts head.problem behind parts rest → Answer bytes
+parts_answer : (most : ℕ) (bytes : List ℕ) (head : Head) (behind : List ℕ) (parts : List Part) (rest : List ℕ) → IsHead head → bytes ≡ head_text head ++ behind → length rest < most → AreParts head.problem behind parts rest → Answer bytes
 parts_answer zero bytes head behind parts rest is text enough are = absurd (omega arith)
 parts_answer (suc most) bytes head behind parts rest is text enough are =
     by_word (λ more after fewer longer. parts_answer most bytes head behind more after is text fewer longer) (tag_at (codes "part ") rest) refl

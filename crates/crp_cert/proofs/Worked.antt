@@ -11,7 +11,7 @@ use Rattle.crp_bay.proofs.Members.{not_in_nil, in_head, in_cons_cases}
 use Rattle.crp_tree.specs.Names.{Precedes}
 use Rattle.crp_tree.specs.Trees.{nodes, cuts, given_names, value, IsInPlace, HasShape, HasAtLeast, least_value}
 use Rattle.crp_tree.specs.Listed.{nodes_below, AreFit}
-use Rattle.crp_tree.specs.Scripts.{Part, IsPart, nodes_in, given_by}
+use Rattle.crp_tree.specs.Claims.{Part, IsPart, nodes_in, given_by}
 use Rattle.crp_tree.proofs.Shown.{least_most, from_least}
 use Rattle.crp_tree.proofs.Accepted.{nodes_are}
 use Rattle.crp_cert.specs.Writing.{CanBeSpelled}

@@ -2,7 +2,8 @@
 use Rattle.std.proofs.Common.{◌≡◌, ℕ, zero, suc, ◌-◌, ◌≤◌, ◌∙◌, List, [], ◌∷◌, ◌++◌, length, take, slice_get, map, AllPairs, Option, Some, None, IfSome, refl, sym, ap, ap₂, subst, arith, append_assoc, append-nil}
 use Rattle.std.specs.List.{AllByRecursion, flat_map}
 use Rattle.std.proofs.lemmas.List.{length-map}
-use Rattle.std.proofs.lemmas.List.Elements.{All-from_recursion, All-map}
+use Rattle.std.proofs.lemmas.List.Folds.{flat_map-map}
+use Rattle.std.proofs.lemmas.List.Elements.{All-from_recursion}
 use Rattle.std.proofs.lemmas.Option.{none-some, same_Some, slice_get_within}
 use Rattle.crp_plan.specs.declared.moves.Move.{Move}
 use Rattle.crp_plan.specs.declared.moves.Move.TheVariants.{Shift, Take}
@@ -13,11 +14,12 @@ use Rattle.crp_plan.specs.Plans.{Route}
 use Rattle.crp_plan.proofs.Buried.{below_cap}
 use Rattle.crp_plan.proofs.Covered.{relocations-path}
 use Rattle.crp_plan.proofs.Tallies.{cap_low}
-use Rattle.crp_tree.specs.Scripts.{Part, IsPart, names, Script as Claim}
-use Rattle.crp_tree.specs.Parts.{ProblemPart, Certificate, IsCertificate, part_of, names_of}
+use Rattle.crp_tree.specs.Claims.{Part, IsPart, names, Claim}
+use Rattle.crp_tree.specs.Parts.{ProblemPart, Certificate, IsCertificate, part_of, claimed}
+use Rattle.crp_tree.proofs.Certified.{same_names}
 use Rattle.crp_cert.specs.Text.{AreRows, head_text}
-use Rattle.crp_cert.specs.Script.{IsRawPart, IsScript, names_of_raw, part_line, end_line, part_of_raw, claim_of}
-use Rattle.crp_cert.specs.Writing.{raw_of_part, head_for, script_for, certificate_text, claimed, CanBeSpelled}
+use Rattle.crp_cert.specs.Script.{IsPartLine, IsScript, part_line, end_line}
+use Rattle.crp_cert.specs.Writing.{head_for, script_for, certificate_text, CanBeSpelled}
 use Rattle.crp_tree.specs.Names.{Precedes}
 
 -- ---- lists of bytes
@@ -28,30 +30,23 @@ one_more f [] i x e = absurd (none-some x e)
 one_more f (y ∷ ys) zero x e = append-nil (f y) ∙ ap f (same_Some y x e)
 one_more f (y ∷ ys) (suc i) x e = ap (λ l. f y ++ l) (one_more f ys i x e) ∙ sym (append_assoc (f y) (flat_map f (take i ys)) (f x))
 
--- the lines of a certificate's parts, and how many there are
-pub lines_of_parts : (parts : List ProblemPart) → flat_map part_line (map raw_of_part (map part_of parts)) ≡ flat_map (λ part. part_line (raw_of_part (part_of part))) parts
-lines_of_parts [] = refl
-lines_of_parts (part ∷ parts) = ap (λ l. part_line (raw_of_part (part_of part)) ++ l) (lines_of_parts parts)
-
-pub count_of_parts : (parts : List ProblemPart) → length (map raw_of_part (map part_of parts)) ≡ length parts
-count_of_parts parts = length-map (map part_of parts) raw_of_part ∙ length-map parts part_of
-
 -- the head, the lines of the parts and the last line make the text of a certificate
 pub text_joined : (bay : YardBay) (p : Problem) (cert : Certificate) (plan : Option Route) (lower : ℕ) (parts again : List ProblemPart) (none head lines text : List ℕ) →
     lower ≡ cert.lower → parts ≡ cert.parts → again ≡ cert.parts → none ≡ [] → head ≡ none ++ head_text (head_for bay p lower plan) →
-    lines ≡ head ++ flat_map (λ part. part_line (raw_of_part (part_of part))) parts → text ≡ lines ++ end_line (length again) → text ≡ certificate_text bay p cert plan
+    lines ≡ head ++ flat_map (λ part. part_line (part_of part)) parts → text ≡ lines ++ end_line (length again) → text ≡ certificate_text bay p cert plan
 text_joined bay p cert plan lower parts again none head lines text el ep ea en eh es et =
+    let told : List Part = map part_of cert.parts in
     let front : head ≡ head_text (head_for bay p cert.lower plan) = eh ∙ ap (λ l. l ++ head_text (head_for bay p lower plan)) en ∙ ap (λ n. head_text (head_for bay p n plan)) el in
-    let middle : flat_map (λ part. part_line (raw_of_part (part_of part))) parts ≡ flat_map part_line (map raw_of_part (map part_of cert.parts)) = ap (flat_map (λ part. part_line (raw_of_part (part_of part)))) ep ∙ sym (lines_of_parts cert.parts) in
-    let end : end_line (length again) ≡ end_line (length (map raw_of_part (map part_of cert.parts))) = ap end_line (ap length ea ∙ sym (count_of_parts cert.parts)) in
+    let middle : flat_map (λ part. part_line (part_of part)) parts ≡ flat_map part_line told = ap (flat_map (λ part. part_line (part_of part))) ep ∙ sym (flat_map-map part_line part_of cert.parts) in
+    let end : end_line (length again) ≡ end_line (length told) = ap end_line (ap length ea ∙ sym (length-map cert.parts part_of)) in
     et ∙ ap₂ (λ a b. a ++ b) (es ∙ ap₂ (λ a b. a ++ b) front middle) end
-    ∙ append_assoc (head_text (head_for bay p cert.lower plan)) (flat_map part_line (map raw_of_part (map part_of cert.parts))) (end_line (length (map raw_of_part (map part_of cert.parts))))
+    ∙ append_assoc (head_text (head_for bay p cert.lower plan)) (flat_map part_line told) (end_line (length told))
 
 -- ---- what is written can be read
 
 -- a part is one that a part line may say
-raw_part : (p : Problem) (part : Part) → IsPart p part → IsRawPart p (raw_of_part part)
-raw_part p part is =
+line_of_part : (p : Problem) (part : Part) → IsPart p part → IsPartLine p part
+line_of_part p part is =
     let shape = is.shape in
     record {
       short = is.short;
@@ -85,11 +80,6 @@ plan_rows : (p : Problem) (plan : Option (List ℕ)) → IsProblem p → IfSome 
 plan_rows p None ok h = tt
 plan_rows p (Some rows) ok h = path_rows p rows ok h
 
--- the names that are told are those of the parts
-told_names : (parts : List Part) → names_of_raw (map raw_of_part parts) ≡ names parts
-told_names [] = refl
-told_names (part ∷ parts) = ap (λ l. part.name ∷ l) (told_names parts)
-
 -- a claim that can be told is told by a script
 pub spelled_is_script : (bay : YardBay) (c : Claim) → IsYardBay bay → CanBeSpelled c → IsScript (script_for bay c)
 spelled_is_script bay c name t =
@@ -104,22 +94,10 @@ spelled_is_script bay c name t =
         claim = ok.within_cap;
         plan = plan_rows c.problem c.plan is_problem ok.plan_is;
       };
-      each_part = All-map (IsRawPart c.problem) raw_of_part c.parts (λ k d lt. raw_part c.problem _ (each_part k d lt));
-      rising = subst (AllPairs Precedes) (sym (told_names c.parts)) t.rising;
+      each_part = λ k d lt. line_of_part c.problem _ (each_part k d lt);
+      rising = t.rising;
     }
 
--- and its parts are told again
-read_again : (parts : List Part) → map part_of_raw (map raw_of_part parts) ≡ parts
-read_again [] = refl
-read_again (part ∷ parts) = ap (λ l. part ∷ l) (read_again parts)
-
-pub spelled_again : (bay : YardBay) (c : Claim) → claim_of (script_for bay c) ≡ c
-spelled_again bay c = ap (λ l. record c { parts = l }) (read_again c.parts)
-
--- the names of a certificate's parts are those of the parts that it claims
-claimed_names : (parts : List ProblemPart) → names (map part_of parts) ≡ names_of parts
-claimed_names [] = refl
-claimed_names (part ∷ parts) = ap (λ l. part.name ∷ l) (claimed_names parts)
-
-pub claimed_rise : (p : Problem) (cert : Certificate) (plan : Option Route) → IsCertificate cert → AllPairs Precedes (names (claimed p cert plan).parts)
-claimed_rise p cert plan is = subst (AllPairs Precedes) (sym (claimed_names cert.parts)) is.rising
+-- the parts of a certificate rise by name in what it claims
+pub claimed_rise : (p : Problem) (cert : Certificate) (plan : Option (List ℕ)) → IsCertificate cert → AllPairs Precedes (names (claimed p cert plan).parts)
+claimed_rise p cert plan is = subst (AllPairs Precedes) (same_names cert.parts) is.rising

@@ -4,9 +4,9 @@ use Rattle.std.specs.List.{flat_map}
 use Rattle.crp_plan.specs.Bay.{Problem, Position, start}
 use Rattle.crp_bay.specs.Positions.{can_shift, child, settled}
 use Rattle.crp_tree.specs.Names.{Precedes}
-use Rattle.crp_cert.specs.declared.parts.RawPart.{RawPart}
+use Rattle.crp_tree.specs.Claims.{Part, names}
 use Rattle.crp_cert.specs.declared.fault.CertFault.{CertFault}
-use Rattle.crp_cert.specs.Script.{part_line, names_of_raw, IsRawPart}
+use Rattle.crp_cert.specs.Script.{part_line, IsPartLine}
 use Rattle.crp_cert.specs.ScriptFaults.{IsLineFault}
 use Rattle.crp_cert.specs.Reading.{◌>>=◌, tag_at, number_at, newline_at}
 
@@ -46,14 +46,14 @@ part_at p bytes = do
   Some ((name.0.0, line.0), after)
 
 -- the bytes begin with the lines of these parts, which may follow a head, and then this follows
-pub record AreParts (p : Problem) (bytes : List ℕ) (parts : List RawPart) (rest : List ℕ) : Type 0 where
-  pub each_part : All (IsRawPart p) parts
-  pub rising : AllPairs Precedes (names_of_raw parts)
+pub record AreParts (p : Problem) (bytes : List ℕ) (parts : List Part) (rest : List ℕ) : Type 0 where
+  pub each_part : All (IsPartLine p) parts
+  pub rising : AllPairs Precedes (names parts)
   pub text : bytes ≡ flat_map part_line parts ++ rest
 
 -- the bytes begin with the lines of parts, and the line after them has this fault
 pub record IsPartsFault (p : Problem) (bytes : List ℕ) (fault : CertFault) : Type 0 where
-  pub parts : List RawPart
+  pub parts : List Part
   pub rest : List ℕ
   pub are : AreParts p bytes parts rest
   pub why : IsLineFault p parts (6 + length p.stacks + length parts) rest fault

@@ -1,12 +1,11 @@
 -- The text of a whole certificate: its head, its parts, and its last line. Each line ends with LF.
-use Rattle.std.specs.Prelude.{◌≡◌, ℕ, ◌≤◌, List, [], ◌∷◌, ◌++◌, length, map, All, AllPairs, codes}
+use Rattle.std.specs.Prelude.{◌≡◌, ℕ, ◌≤◌, List, [], ◌∷◌, ◌++◌, length, All, AllPairs, codes}
 use Rattle.std.specs.List.{flat_map}
 use Rattle.crp_plan.specs.Bay.{Problem, Position, IsAt}
 use Rattle.crp_tree.specs.declared.tree.Tree.{Tree, CutB, CutL, Branch', Given, Row_of-Tree, end_of-Tree, more_of-Tree}
 use Rattle.crp_tree.specs.Names.{Precedes, name_text}
 use Rattle.crp_tree.specs.Trees.{Fits, IsGiven}
-use Rattle.crp_tree.specs.Scripts.{Part, Script as Claim}
-use Rattle.crp_cert.specs.declared.parts.RawPart.{RawPart}
+use Rattle.crp_tree.specs.Claims.{Part, Claim, names}
 use Rattle.crp_cert.specs.declared.script.Script.{Script}
 use Rattle.crp_cert.specs.Text.{numbers_line, head_text, IsHead}
 
@@ -29,7 +28,7 @@ abbrev pub symbols_line : List ℕ → List ℕ → List ℕ
 symbols_line name symbols = codes "part " ++ (name_text name ++ (codes ": " ++ (symbols ++ 10 ∷ [])))
 
 -- the line of a part
-abbrev pub part_line : RawPart → List ℕ
+abbrev pub part_line : Part → List ℕ
 part_line part = symbols_line part.name (symbols_of part.tree)
 
 -- the last line: how many parts there are
@@ -42,35 +41,23 @@ script_text script = head_text script.head ++ (flat_map part_line script.parts +
 
 -- what a part line may say: the name has at most 8 rows and is a path of the problem, and the tree fits there, and
 -- not given to another part as a whole
-pub record IsRawPart (p : Problem) (part : RawPart) : Type 0 where
+pub record IsPartLine (p : Problem) (part : Part) : Type 0 where
   pub short : length part.name ≤ 8
   pub place : Position
   pub is_at : IsAt p part.name place
   pub fits : Fits place part.tree
   pub not_given : IsGiven part.tree → ⊥
 
--- the names of parts
-abbrev pub names_of_raw : List RawPart → List (List ℕ)
-names_of_raw parts = map (λ part. part.name) parts
-
--- the symbols of their trees
-abbrev pub symbols_of_raw : List RawPart → List (List ℕ)
-symbols_of_raw parts = map (λ part. symbols_of part.tree) parts
-
 -- what a whole certificate may say: a head, and parts of its problem in rising order of their names
 pub record IsScript (script : Script) : Type 0 where
   pub is_head : IsHead script.head
-  pub each_part : All (IsRawPart script.head.problem) script.parts
-  pub rising : AllPairs Precedes (names_of_raw script.parts)
+  pub each_part : All (IsPartLine script.head.problem) script.parts
+  pub rising : AllPairs Precedes (names script.parts)
 
 -- the bytes are the script's text, all of them
 abbrev pub IsScriptOf : List ℕ → Script → Type 0
 IsScriptOf bytes script = IsScript script × (bytes ≡ script_text script)
 
--- a part that a text spells
-abbrev pub part_of_raw : RawPart → Part
-part_of_raw raw = record { name = raw.name; tree = raw.tree }
-
--- the claim of a script: the problem, the claimed bound, the plan, and search trees by their names
+-- the claim of a script: the problem, the claimed bound, the plan, and the parts
 abbrev pub claim_of : Script → Claim
-claim_of script = record { problem = script.head.problem; lower = script.head.claim; plan = script.head.plan; parts = map part_of_raw script.parts }
+claim_of script = record { problem = script.head.problem; lower = script.head.claim; plan = script.head.plan; parts = script.parts }

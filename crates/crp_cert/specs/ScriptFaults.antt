@@ -4,20 +4,20 @@ use Rattle.std.specs.List.{flat_map}
 use Rattle.crp_plan.specs.Bay.{Problem, Position, IsAt}
 use Rattle.crp_tree.specs.declared.tree.Tree.{Tree}
 use Rattle.crp_tree.specs.Names.{Precedes}
+use Rattle.crp_tree.specs.Claims.{Part, names}
 use Rattle.crp_cert.specs.declared.head.Head.{Head}
-use Rattle.crp_cert.specs.declared.parts.RawPart.{RawPart}
 use Rattle.crp_cert.specs.declared.fault.CertFault.{CertFault}
 use Rattle.crp_cert.specs.declared.fault.CertFault.TheVariants as faults
 use Rattle.crp_cert.specs.Text.{head_text, IsHead}
 use Rattle.crp_cert.specs.Faults.{IsFirstFault}
-use Rattle.crp_cert.specs.Script.{symbols_of, symbols_line, part_line, end_line, names_of_raw, IsRawPart}
+use Rattle.crp_cert.specs.Script.{symbols_of, symbols_line, part_line, end_line, IsPartLine}
 use Rattle.crp_tree.specs.Trees.{Fits}
 
 -- the bytes begin with a head and these parts, which may stand there; the line after them has this number, and this follows from there on
-pub record BeginsWithParts (bytes : List ℕ) (head : Head) (parts : List RawPart) (line : ℕ) (rest : List ℕ) : Type 0 where
+pub record BeginsWithParts (bytes : List ℕ) (head : Head) (parts : List Part) (line : ℕ) (rest : List ℕ) : Type 0 where
   pub is_head : IsHead head
-  pub each_part : All (IsRawPart head.problem) parts
-  pub rising : AllPairs Precedes (names_of_raw parts)
+  pub each_part : All (IsPartLine head.problem) parts
+  pub rising : AllPairs Precedes (names parts)
   pub text : bytes ≡ head_text head ++ (flat_map part_line parts ++ rest)
   pub number : line ≡ 6 + length head.problem.stacks + length parts
 
@@ -33,7 +33,7 @@ pub record BeginsWithPart (p : Problem) (bytes : List ℕ) : Type 0 where
   pub text : bytes ≡ symbols_line name symbols ++ after
 
 -- the name comes after the names of these parts
-abbrev pub ComesAfter : List RawPart → List ℕ → Type 0
+abbrev pub ComesAfter : List Part → List ℕ → Type 0
 ComesAfter parts name = All (λ part. Precedes part.name name) parts
 
 -- each of them is a symbol: B, L, X or G; and the first is not G
@@ -51,7 +51,7 @@ GoesOnBehindTree s symbols = (tree : Tree) × Fits s tree × ((b : ℕ) × (rest
 
 -- what is wrong with the line that the bytes begin with, which has this number and stands after these parts. In a part line it is, in this
 -- order: the name, its place among the names, the symbols, too few of them, too many
-abbrev pub IsLineFault : Problem → List RawPart → ℕ → List ℕ → CertFault → Type 0
+abbrev pub IsLineFault : Problem → List Part → ℕ → List ℕ → CertFault → Type 0
 IsLineFault p parts line bytes (faults.Part n) = (n ≡ line) × ((after : List ℕ) × (bytes ≡ codes "part " ++ after)) × ¬ BeginsWithPart p bytes
 IsLineFault p parts line bytes (faults.Order n) = (n ≡ line) × ((part : BeginsWithPart p bytes) × ¬ ComesAfter parts part.name)
 IsLineFault p parts line bytes (faults.Symbol n) =
@@ -71,5 +71,5 @@ abbrev pub IsFirstFaultOfScript : List ℕ → CertFault → Type 0
 IsFirstFaultOfScript bytes fault =
     ◌⊎◌
     (IsFirstFault bytes fault)
-    ((head : Head) × (parts : List RawPart) × (line : ℕ) × (rest : List ℕ)
+    ((head : Head) × (parts : List Part) × (line : ℕ) × (rest : List ℕ)
     × BeginsWithParts bytes head parts line rest × IsLineFault head.problem parts line rest fault)

@@ -1,7 +1,8 @@
 //! Reading a whole certificate.
 ghost use Rattle.std.specs.Prelude.{◌≡◌, ◌+◌, ◌⊎◌, ◌↔◌, ◌++◌, None, IsTrue, IfOk, IfErr, AllPairs, codes};
 ghost use Rattle.crp_tree.specs.Names.{Precedes};
-ghost use Rattle.crp_cert.specs.Script.{part_line, end_line, names_of_raw, IsRawPart, IsScriptOf};
+ghost use Rattle.crp_tree.specs.Claims.{names};
+ghost use Rattle.crp_cert.specs.Script.{part_line, end_line, IsPartLine, IsScriptOf};
 ghost use Rattle.crp_cert.specs.ScriptFaults.{ComesAfter, IsLineFault, IsFirstFaultOfScript};
 ghost use Rattle.crp_cert.specs.Reading.{Reads, tag_at};
 ghost use Rattle.crp_cert.specs.PartReading.{AreParts, IsPartsFault};
@@ -9,9 +10,8 @@ ghost use Rattle.crp_cert.specs.PartReading.{AreParts, IsPartsFault};
 use crate::fault::CertFault;
 use crate::fields::{after_newline, after_tag};
 use crate::part_fields::part_line;
-use crate::parts::{Parts, RawPart};
+use crate::parts::{PartLine, Parts};
 use crate::reading::head_and_rest;
-use crate::rows::Rows;
 use crate::script::Script;
 use crate::trees::{are_symbols, read_tree};
 use crp_plan::Problem;
@@ -20,12 +20,12 @@ use itoa::Buffer;
 use std::alloc::Global;
 
 /// Whether a name comes after the names of parts, which rise.
-fn comes_after(parts: &[RawPart], name: &Name) -> bool
-    requires { AllPairs Precedes (names_of_raw parts.now) }
+fn comes_after(parts: &[PartLine], name: &Name) -> bool
+    requires { AllPairs Precedes (names parts.now) }
     ensures { IsTrue result ↔ ComesAfter parts.now name.now }
 {
     match parts.last() {
-        Some(last) => last.name.as_slice().cmp(&name.rows()).is_lt(),
+        Some(last) => last.name().precedes(name),
         None => true,
     }
 }
@@ -35,12 +35,12 @@ fn comes_after(parts: &[RawPart], name: &Name) -> bool
 fn next_part<'a>(
     alloc: Global,
     problem: &Problem,
-    parts: &[RawPart],
+    parts: &[PartLine],
     line: u32,
     bytes: &'a [u8],
-) -> Result<(RawPart, &'a [u8]), CertFault>
-    requires { AllPairs Precedes (names_of_raw parts.now) }
-    ensures part { IfOk result (λ told. IsRawPart problem.now told.0) }
+) -> Result<(PartLine, &'a [u8]), CertFault>
+    requires { AllPairs Precedes (names parts.now) }
+    ensures part { IfOk result (λ told. IsPartLine problem.now told.0) }
     ensures after { IfOk result (λ told. ComesAfter parts.now told.0.name) }
     ensures text { IfOk result (λ told. codes "part " ++ bytes.now ≡ part_line told.0 ++ told.1.now) }
     ensures refused { IfErr result (λ fault. (fault ≡ CertFault.Memory)
@@ -61,14 +61,7 @@ fn next_part<'a>(
     if !left.is_empty() {
         return Err(CertFault::Trailing { line });
     }
-    let rows = Vec::from_slice(alloc, told.name.rows())?;
-    Ok((
-        RawPart {
-            name: Rows::of(rows),
-            tree,
-        },
-        told.rest,
-    ))
+    Ok((PartLine::new(told.name, tree), told.rest))
 }
 
 /// The parts that the lines after a head tell, and what follows the last of these lines.
@@ -76,7 +69,7 @@ fn all_parts<'a>(
     alloc: Global,
     problem: &Problem,
     bytes: &'a [u8],
-) -> Result<(Vec<RawPart>, &'a [u8]), CertFault>
+) -> Result<(Vec<PartLine>, &'a [u8]), CertFault>
     ensures parts { IfOk result (λ told. AreParts problem.now bytes.now told.0.items told.1.now) }
     ensures all { IfOk result (λ told. tag_at (codes "part ") told.1.now ≡ None) }
     ensures refused { IfErr result (λ fault. (fault ≡ CertFault.Memory) ⊎ IsPartsFault problem.now bytes.now fault) }

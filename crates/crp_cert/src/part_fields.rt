@@ -47,16 +47,16 @@ fn name_of<'a>(problem: &Problem, bytes: &'a [u8]) -> Option<((Name, Position), 
 /// What a part line tells: its name and where that leads, its symbols, whatever they are, and what
 /// follows the line.
 #[derive(Drop)]
-pub struct PartLine<'a> {
+pub struct PartFields<'a> {
     pub name: Name,
     pub place: Position,
     pub symbols: &'a [u8],
     pub rest: &'a [u8],
 }
 
-/// The part line whose first word is read.
+/// The fields of the part line whose first word is read.
 #[tactic(auto, unfolding(crate::specs::PartReading::part_at))]
-pub fn part_line<'a>(problem: &Problem, bytes: &'a [u8]) -> Option<PartLine<'a>>
+pub fn part_line<'a>(problem: &Problem, bytes: &'a [u8]) -> Option<PartFields<'a>>
     ensures value { Reads (λ x. ((x.name, x.symbols.now), x.rest.now)) result (part_at problem.now bytes.now) }
     ensures at { IfSome result (λ x. IsAt problem.now x.name x.place.place) }
     ensures problem { IsProblem problem.now }
@@ -65,7 +65,7 @@ pub fn part_line<'a>(problem: &Problem, bytes: &'a [u8]) -> Option<PartLine<'a>>
     let rest = after_tag(b": ", rest)?;
     let (symbols, rest) = line_of(rest)?;
     let rest = after_newline(rest)?;
-    Some(PartLine {
+    Some(PartFields {
         name,
         place,
         symbols,

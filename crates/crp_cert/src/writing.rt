@@ -4,11 +4,12 @@ ghost use Rattle.std.specs.Option.{option_copied};
 ghost use Rattle.std.specs.List.{flat_map};
 ghost use Rattle.std.specs.Io.KnownBytes.{Appends};
 ghost use Rattle.crp_plan.specs.Devices.{AppendsFront, CountsMore, HasFailed, most_interruptions};
+ghost use Rattle.crp_tree.specs.Claims.{path_in};
 ghost use Rattle.crp_tree.specs.Parts.{part_of};
 ghost use Rattle.crp_cert.specs.Text.{numbers_line, bay_line, size_line, size_of, row_line, plan_line, head_text};
 ghost use Rattle.crp_tree.specs.Names.{name_text};
 ghost use Rattle.crp_cert.specs.Script.{symbols_of, part_line};
-ghost use Rattle.crp_cert.specs.Writing.{rows_of_plan, head_for, raw_of_part, certificate_text};
+ghost use Rattle.crp_cert.specs.Writing.{head_for, certificate_text};
 ghost use Rattle.crp_cert.specs.declared.writing.WriteFault.TheVariants.{Failed, Memory};
 
 use crp_plan::{BayName, Plan, Problem, Sink, WriteFailed, write_all};
@@ -111,7 +112,7 @@ fn push_rows(text: &mut Vec<u8>, problem: &Problem) -> Result<(), AllocError>
 
 /// Adds the line of a plan, or that there is none.
 fn push_plan(text: &mut Vec<u8>, plan: Option<&Plan>) -> Result<(), AllocError>
-    ensures { OnOk result (text.new.items ≡ text.old.items ++ plan_line (rows_of_plan (option_copied plan.entry))) }
+    ensures { OnOk result (text.new.items ≡ text.old.items ++ plan_line (path_in (option_copied plan.entry))) }
 {
     match plan {
         Some(plan) => push_numbers(text, b"plan", plan.rows()),
@@ -183,7 +184,7 @@ fn push_trees(text: &mut Vec<u8>, trees: &[Tree]) -> Result<(), AllocError>
 
 /// Adds the line of a part.
 fn push_part(text: &mut Vec<u8>, part: &Part) -> Result<(), AllocError>
-    ensures { OnOk result (text.new.items ≡ text.old.items ++ part_line (raw_of_part (part_of part.now))) }
+    ensures { OnOk result (text.new.items ≡ text.old.items ++ part_line (part_of part.now)) }
 {
     text.extend_from_slice(b"part ")?;
     push_name(text, part.name())?;
@@ -195,7 +196,7 @@ fn push_part(text: &mut Vec<u8>, part: &Part) -> Result<(), AllocError>
 
 /// Adds the lines of parts.
 fn push_parts(text: &mut Vec<u8>, parts: &[Part]) -> Result<(), AllocError>
-    ensures { OnOk result (text.new.items ≡ text.old.items ++ flat_map (λ part. part_line (raw_of_part (part_of part))) parts.now) }
+    ensures { OnOk result (text.new.items ≡ text.old.items ++ flat_map (λ part. part_line (part_of part)) parts.now) }
 {
     for part in parts {
         push_part(text, part)?;

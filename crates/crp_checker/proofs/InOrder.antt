@@ -4,7 +4,7 @@ use Rattle.std.specs.List.Sorted.{IsSorted}
 use Rattle.std.proofs.lemmas.List.{get_or_default}
 use Rattle.std.proofs.lemmas.List.Elements.{All-contains, Contains-get_or}
 use Rattle.crp_tree.specs.Names.{IsFirst}
-use Rattle.crp_tree.specs.Scripts.{IsRootOrGiven}
+use Rattle.crp_tree.specs.Claims.{IsRootOrGiven}
 use Rattle.crp_tree.proofs.InOrder.{name_cmp, first_is_first}
 use Rattle.crp_checker.specs.Needs.{IsWithoutPart, IsWithoutNeed}
 

@@ -4,43 +4,42 @@ use Rattle.crp_plan.specs.declared.moves.Move.{Move}
 use Rattle.crp_plan.specs.Bay.{Problem, cap, IsPlan, IsBest, relocations}
 use Rattle.crp_plan.specs.Faults.{IsPlanPath}
 use Rattle.crp_plan.proofs.Covered.{relocations-path}
-use Rattle.crp_tree.specs.Scripts.{Script as Claim, IsAccepted}
+use Rattle.crp_tree.specs.Claims.{Claim, IsAccepted}
 use Rattle.crp_tree.proofs.Accepted.{bounded, no_plan_at_cap, best}
 use Rattle.crp_cert.specs.declared.head.Head.{Head}
 use Rattle.crp_cert.specs.declared.script.Script.{Script}
 use Rattle.crp_cert.specs.declared.fault.CertFault.{CertFault}
 use Rattle.crp_cert.specs.declared.fault.CertFault.TheVariants as cert
 use Rattle.crp_cert.specs.Text.{IsHeadOf}
-use Rattle.crp_cert.specs.Script.{IsScriptOf}
+use Rattle.crp_cert.specs.Script.{IsScriptOf, claim_of}
 use Rattle.crp_cert.specs.ScriptFaults.{IsFirstFaultOfScript}
 use Rattle.crp_cert.proofs.Heads.{head_once}
 use Rattle.crp_checker.specs.declared.refused.Refused.{Refused}
 use Rattle.crp_checker.specs.declared.refused.Refused.TheVariants as refused
 use Rattle.crp_checker.specs.declared.verdict.Verdict.{Verdict}
 use Rattle.crp_checker.specs.declared.verdict.Verdict.TheVariants.{Optimal, NoPlan, Bounds}
-use Rattle.crp_cert.specs.Script.{claim_of}
-use Rattle.crp_checker.specs.Claims.{IsWanted, IsAcceptedText}
+use Rattle.crp_checker.specs.AcceptedTexts.{IsWanted, IsAcceptedText}
 use Rattle.crp_checker.specs.Verdicts.{IsVerdictOf, IsVerdict, Says}
 use Rattle.crp_checker.specs.Passing.{refusal_by}
 use Rattle.crp_checker.specs.Refusals.{IsFirstWrongClaim, IsRefusal}
 
 -- a plan with as many relocations as the bound is a best one
-best_from : (script : Claim) (plan : Option (List ℕ)) → script.plan ≡ plan → IsAccepted script → option_map length plan ≡ Some script.lower → IsBest script.problem script.lower
-best_from script None e ok n = absurd (cc)
-best_from script (Some rows) e ok n = best script rows ok e (let m : length rows ≡ script.lower = cc in m)
+best_from : (claim : Claim) (plan : Option (List ℕ)) → claim.plan ≡ plan → IsAccepted claim → option_map length plan ≡ Some claim.lower → IsBest claim.problem claim.lower
+best_from claim None e ok n = absurd (cc)
+best_from claim (Some rows) e ok n = best claim rows ok e (let m : length rows ≡ claim.lower = cc in m)
 
 -- some plan has as many relocations as the one that is told
 reached_from : (p : Problem) (plan : Option (List ℕ)) → IfSome plan (IsPlanPath p) → IfSome (option_map length plan) (λ count. (moves : List Move) × IsPlan p moves × (relocations moves ≡ count))
 reached_from p None ok = tt
 reached_from p (Some rows) ok = (ok.0, ok.1, relocations-path ok.0 ∙ ap length ok.2)
 
--- what a verdict says of an accepted script is so
-pub says_from : (script : Claim) (verdict : Verdict) → IsAccepted script → IsVerdict script verdict → Says script.problem verdict
-says_from script (Optimal count) ok v = subst (IsBest script.problem) (sym v.0) (best_from script script.plan refl ok v.1)
-says_from script NoPlan ok v = λ moves plan. no_plan_at_cap script moves ok v.1 plan
-says_from script (Bounds lower upper) ok v = (
-  λ moves plan. subst (λ n. n ≤ relocations moves) (sym v.2) (bounded script moves ok plan),
-  subst (λ o. IfSome o (λ count. (moves : List Move) × IsPlan script.problem moves × (relocations moves ≡ count))) (sym v.3) (reached_from script.problem script.plan ok.plan_is),
+-- what a verdict says of an accepted claim is so
+pub says_from : (claim : Claim) (verdict : Verdict) → IsAccepted claim → IsVerdict claim verdict → Says claim.problem verdict
+says_from claim (Optimal count) ok v = subst (IsBest claim.problem) (sym v.0) (best_from claim claim.plan refl ok v.1)
+says_from claim NoPlan ok v = λ moves plan. no_plan_at_cap claim moves ok v.1 plan
+says_from claim (Bounds lower upper) ok v = (
+  λ moves plan. subst (λ n. n ≤ relocations moves) (sym v.2) (bounded claim moves ok plan),
+  subst (λ o. IfSome o (λ count. (moves : List Move) × IsPlan claim.problem moves × (relocations moves ≡ count))) (sym v.3) (reached_from claim.problem claim.plan ok.plan_is),
 )
 
 -- the bytes of a script begin with no other head

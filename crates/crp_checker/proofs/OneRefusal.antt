@@ -8,13 +8,13 @@ use Rattle.crp_plan.specs.Faults.{IsPlanPath, IsPlanFault}
 use Rattle.crp_plan.proofs.Steps.{fault_refuses}
 use Rattle.crp_plan.proofs.OneFault.{one_plan_fault}
 use Rattle.crp_tree.specs.Trees.{X, Node, nodes, is_cut, HasAtLeast}
-use Rattle.crp_tree.specs.Scripts.{Part, IsPart, Script as Claim, IsAccepted, nodes_in}
+use Rattle.crp_tree.specs.Claims.{Part, IsPart, Claim, IsAccepted, nodes_in}
 use Rattle.crp_tree.proofs.Accepted.{nodes_are}
 use Rattle.crp_tree.proofs.InOrder.{one_first}
 use Rattle.crp_checker.specs.declared.refused.Refused.{Refused}
 use Rattle.crp_checker.specs.declared.refused.Refused.TheVariants as refused
 use Rattle.crp_checker.specs.Nodes.{IsLow, IsAtEnd, IsRight, IsFirstWrong}
-use Rattle.crp_checker.specs.Claims.{IsWanted}
+use Rattle.crp_checker.specs.AcceptedTexts.{IsWanted}
 use Rattle.crp_checker.specs.Refusals.{NamedNodes, nodes_by_name, IsRightPart, AreRightParts, IsFirstWrongNode, IsMissing, IsUnneeded, HasRightHead, IsFirstWrongClaim}
 use Rattle.crp_checker.proofs.WalkSteps.{all_right}
 use Rattle.crp_checker.proofs.Shapes.{right_from}
@@ -34,10 +34,10 @@ right_parts p lower (part ∷ parts) is each high =
       right_parts p lower parts is each.1 high.1,
     )
 
-pub right_if_accepted : (script : Claim) → IsAccepted script → AreRightParts script
-right_if_accepted script ok =
-    right_parts script.problem script.lower script.parts ok.is_problem (recursion_from_All (IsPart script.problem) script.parts ok.each_part)
-    (recursion_from_All (λ part. HasAtLeast script.lower (nodes_in script.problem part)) script.parts ok.each_cut)
+pub right_if_accepted : (claim : Claim) → IsAccepted claim → AreRightParts claim
+right_if_accepted claim ok =
+    right_parts claim.problem claim.lower claim.parts ok.is_problem (recursion_from_All (IsPart claim.problem) claim.parts ok.each_part)
+    (recursion_from_All (λ part. HasAtLeast claim.lower (nodes_in claim.problem part)) claim.parts ok.each_cut)
 
 -- where all nodes are right none is wrong
 none_met : (lower : ℕ) (Wrong : Node → Type 0) (parts : List NamedNodes) (name : List ℕ) (k : ℕ) → ((node : Node) → IsRight lower node → Wrong node → ⊥) → AllByRecursion (IsRightPart lower) parts → IsFirstWrongNode lower Wrong parts name k → ⊥
@@ -57,15 +57,15 @@ plan_clash : (p : Problem) (plan : Option (List ℕ)) (rows : List ℕ) → IsPr
 plan_clash p plan rows is path e fault f = fault_refuses p rows fault is f (subst (λ o. IfSome o (IsPlanPath p)) e path)
 
 -- an accepted claim is not wrong
-pub not_wrong : (wanted : Option Problem) (script : Claim) (r : Refused) → IsAccepted script → IsWanted wanted script.problem → IsFirstWrongClaim wanted script r → ⊥
-not_wrong wanted script (refused.Cert fault) ok asked w = w
-not_wrong wanted script refused.OtherProblem ok asked w = w asked
-not_wrong wanted script (refused.Plan fault) ok asked w = let k = w.1 in plan_clash script.problem script.plan k.0 ok.is_problem ok.plan_is k.1 fault k.2
-not_wrong wanted script (refused.Low part symbol) ok asked w = none_met script.lower (IsLow script.lower) (nodes_by_name script.problem script.parts) part symbol (not_low script.lower) (right_if_accepted script ok) w.1
-not_wrong wanted script (refused.Finished part symbol) ok asked w = none_met script.lower IsAtEnd (nodes_by_name script.problem script.parts) part symbol (not_at_end script.lower) (right_if_accepted script ok) w.1
-not_wrong wanted script (refused.Missing name) ok asked w = let k = w.2 in let h = k.holds in h.1 ((ok.as_needed name).1 h.0)
-not_wrong wanted script (refused.Unneeded name) ok asked w = let k = w.3 in let h = k.holds in h.1 ((ok.as_needed name).0 h.0)
-not_wrong wanted script refused.Memory ok asked w = w
+pub not_wrong : (wanted : Option Problem) (claim : Claim) (r : Refused) → IsAccepted claim → IsWanted wanted claim.problem → IsFirstWrongClaim wanted claim r → ⊥
+not_wrong wanted claim (refused.Cert fault) ok asked w = w
+not_wrong wanted claim refused.OtherProblem ok asked w = w asked
+not_wrong wanted claim (refused.Plan fault) ok asked w = let k = w.1 in plan_clash claim.problem claim.plan k.0 ok.is_problem ok.plan_is k.1 fault k.2
+not_wrong wanted claim (refused.Low part symbol) ok asked w = none_met claim.lower (IsLow claim.lower) (nodes_by_name claim.problem claim.parts) part symbol (not_low claim.lower) (right_if_accepted claim ok) w.1
+not_wrong wanted claim (refused.Finished part symbol) ok asked w = none_met claim.lower IsAtEnd (nodes_by_name claim.problem claim.parts) part symbol (not_at_end claim.lower) (right_if_accepted claim ok) w.1
+not_wrong wanted claim (refused.Missing name) ok asked w = let k = w.2 in let h = k.holds in h.1 ((ok.as_needed name).1 h.0)
+not_wrong wanted claim (refused.Unneeded name) ok asked w = let k = w.3 in let h = k.holds in h.1 ((ok.as_needed name).0 h.0)
+not_wrong wanted claim refused.Memory ok asked w = w
 
 -- two fronts of one list, each followed by the first that does not hold, are one
 one_front : {A : Type 0} (P : A → Type 0) (xs xs' : List A) (y y' : A) (ys ys' : List A) → xs ++ y ∷ ys ≡ xs' ++ y' ∷ ys' → AllByRecursion P xs → AllByRecursion P xs' → (P y → ⊥) → (P y' → ⊥) →
@@ -128,8 +128,8 @@ end_not_right : (lower : ℕ) (parts : List NamedNodes) (name : List ℕ) (k : �
 end_not_right lower parts name k right met = none_met lower IsAtEnd parts name k (not_at_end lower) right met
 
 -- a plan with a fault is none
-bad_plan : (wanted : Option Problem) (script : Claim) (fault : PlanFault) → IsProblem script.problem → IsFirstWrongClaim wanted script (refused.Plan fault) → HasRightHead wanted script → ⊥
-bad_plan wanted script fault is w head = let k = w.1 in plan_clash script.problem script.plan k.0 is head.plan_is k.1 fault k.2
+bad_plan : (wanted : Option Problem) (claim : Claim) (fault : PlanFault) → IsProblem claim.problem → IsFirstWrongClaim wanted claim (refused.Plan fault) → HasRightHead wanted claim → ⊥
+bad_plan wanted claim fault is w head = let k = w.1 in plan_clash claim.problem claim.plan k.0 is head.plan_is k.1 fault k.2
 
 -- two faults of one plan are the same
 same_plan_fault : (p : Problem) (plan : Option (List ℕ)) (rows rows' : List ℕ) (f g : PlanFault) → IsProblem p → plan ≡ Some rows → IsPlanFault p rows f → plan ≡ Some rows' → IsPlanFault p rows' g → f ≡ g
@@ -138,61 +138,61 @@ same_plan_fault p plan rows rows' f g is e a d b =
     one_plan_fault p rows f g is a (subst (λ l. IsPlanFault p l g) same b)
 
 -- a claim is wrong in one way only
-pub one_wrong : (wanted : Option Problem) (script : Claim) (r q : Refused) → IsProblem script.problem → IsFirstWrongClaim wanted script r → IsFirstWrongClaim wanted script q → r ≡ q
-one_wrong wanted script (refused.Cert f) q is a b = absurd a
-one_wrong wanted script refused.Memory q is a b = absurd a
-one_wrong wanted script refused.OtherProblem (refused.Cert f) is a b = absurd b
-one_wrong wanted script refused.OtherProblem refused.Memory is a b = absurd b
-one_wrong wanted script refused.OtherProblem refused.OtherProblem is a b = refl
-one_wrong wanted script refused.OtherProblem (refused.Plan f) is a b = absurd (a b.0)
-one_wrong wanted script refused.OtherProblem (refused.Low name k) is a b = absurd (let h = b.0 in a h.as_wanted)
-one_wrong wanted script refused.OtherProblem (refused.Finished name k) is a b = absurd (let h = b.0 in a h.as_wanted)
-one_wrong wanted script refused.OtherProblem (refused.Missing name) is a b = absurd (let h = b.0 in a h.as_wanted)
-one_wrong wanted script refused.OtherProblem (refused.Unneeded name) is a b = absurd (let h = b.0 in a h.as_wanted)
-one_wrong wanted script (refused.Plan f) (refused.Cert g) is a b = absurd b
-one_wrong wanted script (refused.Plan f) refused.Memory is a b = absurd b
-one_wrong wanted script (refused.Plan f) refused.OtherProblem is a b = absurd (b a.0)
-one_wrong wanted script (refused.Plan f) (refused.Plan g) is a b =
+pub one_wrong : (wanted : Option Problem) (claim : Claim) (r q : Refused) → IsProblem claim.problem → IsFirstWrongClaim wanted claim r → IsFirstWrongClaim wanted claim q → r ≡ q
+one_wrong wanted claim (refused.Cert f) q is a b = absurd a
+one_wrong wanted claim refused.Memory q is a b = absurd a
+one_wrong wanted claim refused.OtherProblem (refused.Cert f) is a b = absurd b
+one_wrong wanted claim refused.OtherProblem refused.Memory is a b = absurd b
+one_wrong wanted claim refused.OtherProblem refused.OtherProblem is a b = refl
+one_wrong wanted claim refused.OtherProblem (refused.Plan f) is a b = absurd (a b.0)
+one_wrong wanted claim refused.OtherProblem (refused.Low name k) is a b = absurd (let h = b.0 in a h.as_wanted)
+one_wrong wanted claim refused.OtherProblem (refused.Finished name k) is a b = absurd (let h = b.0 in a h.as_wanted)
+one_wrong wanted claim refused.OtherProblem (refused.Missing name) is a b = absurd (let h = b.0 in a h.as_wanted)
+one_wrong wanted claim refused.OtherProblem (refused.Unneeded name) is a b = absurd (let h = b.0 in a h.as_wanted)
+one_wrong wanted claim (refused.Plan f) (refused.Cert g) is a b = absurd b
+one_wrong wanted claim (refused.Plan f) refused.Memory is a b = absurd b
+one_wrong wanted claim (refused.Plan f) refused.OtherProblem is a b = absurd (b a.0)
+one_wrong wanted claim (refused.Plan f) (refused.Plan g) is a b =
     let k = a.1 in
     let l = b.1 in
-    ap (λ x. refused.Plan x) (same_plan_fault script.problem script.plan k.0 l.0 f g is k.1 k.2 l.1 l.2)
-one_wrong wanted script (refused.Plan f) (refused.Low name k) is a b = absurd (bad_plan wanted script f is a b.0)
-one_wrong wanted script (refused.Plan f) (refused.Finished name k) is a b = absurd (bad_plan wanted script f is a b.0)
-one_wrong wanted script (refused.Plan f) (refused.Missing name) is a b = absurd (bad_plan wanted script f is a b.0)
-one_wrong wanted script (refused.Plan f) (refused.Unneeded name) is a b = absurd (bad_plan wanted script f is a b.0)
-one_wrong wanted script (refused.Low name k) (refused.Cert g) is a b = absurd b
-one_wrong wanted script (refused.Low name k) refused.Memory is a b = absurd b
-one_wrong wanted script (refused.Low name k) refused.OtherProblem is a b = absurd (let h = a.0 in b h.as_wanted)
-one_wrong wanted script (refused.Low name k) (refused.Plan g) is a b = absurd (bad_plan wanted script g is b a.0)
-one_wrong wanted script (refused.Low name k) (refused.Low other l) is a b =
-    let m = one_met script.lower (IsLow script.lower) (IsLow script.lower) (nodes_by_name script.problem script.parts) name other k l (not_low script.lower) (not_low script.lower) a.1 b.1 in
+    ap (λ x. refused.Plan x) (same_plan_fault claim.problem claim.plan k.0 l.0 f g is k.1 k.2 l.1 l.2)
+one_wrong wanted claim (refused.Plan f) (refused.Low name k) is a b = absurd (bad_plan wanted claim f is a b.0)
+one_wrong wanted claim (refused.Plan f) (refused.Finished name k) is a b = absurd (bad_plan wanted claim f is a b.0)
+one_wrong wanted claim (refused.Plan f) (refused.Missing name) is a b = absurd (bad_plan wanted claim f is a b.0)
+one_wrong wanted claim (refused.Plan f) (refused.Unneeded name) is a b = absurd (bad_plan wanted claim f is a b.0)
+one_wrong wanted claim (refused.Low name k) (refused.Cert g) is a b = absurd b
+one_wrong wanted claim (refused.Low name k) refused.Memory is a b = absurd b
+one_wrong wanted claim (refused.Low name k) refused.OtherProblem is a b = absurd (let h = a.0 in b h.as_wanted)
+one_wrong wanted claim (refused.Low name k) (refused.Plan g) is a b = absurd (bad_plan wanted claim g is b a.0)
+one_wrong wanted claim (refused.Low name k) (refused.Low other l) is a b =
+    let m = one_met claim.lower (IsLow claim.lower) (IsLow claim.lower) (nodes_by_name claim.problem claim.parts) name other k l (not_low claim.lower) (not_low claim.lower) a.1 b.1 in
     ap (λ x. refused.Low x k) m.same_name ∙ ap (refused.Low other) m.same_number
-one_wrong wanted script (refused.Low name k) (refused.Finished other l) is a b = absurd (not_both_met script.lower (nodes_by_name script.problem script.parts) name other k l a.1 b.1)
-one_wrong wanted script (refused.Low name k) (refused.Missing other) is a b = absurd (low_not_right script.lower (nodes_by_name script.problem script.parts) name k b.1 a.1)
-one_wrong wanted script (refused.Low name k) (refused.Unneeded other) is a b = absurd (low_not_right script.lower (nodes_by_name script.problem script.parts) name k b.1 a.1)
-one_wrong wanted script (refused.Finished name k) (refused.Cert g) is a b = absurd b
-one_wrong wanted script (refused.Finished name k) refused.Memory is a b = absurd b
-one_wrong wanted script (refused.Finished name k) refused.OtherProblem is a b = absurd (let h = a.0 in b h.as_wanted)
-one_wrong wanted script (refused.Finished name k) (refused.Plan g) is a b = absurd (bad_plan wanted script g is b a.0)
-one_wrong wanted script (refused.Finished name k) (refused.Low other l) is a b = absurd (not_both_met script.lower (nodes_by_name script.problem script.parts) other name l k b.1 a.1)
-one_wrong wanted script (refused.Finished name k) (refused.Finished other l) is a b =
-    let m = one_met script.lower IsAtEnd IsAtEnd (nodes_by_name script.problem script.parts) name other k l (not_at_end script.lower) (not_at_end script.lower) a.1 b.1 in
+one_wrong wanted claim (refused.Low name k) (refused.Finished other l) is a b = absurd (not_both_met claim.lower (nodes_by_name claim.problem claim.parts) name other k l a.1 b.1)
+one_wrong wanted claim (refused.Low name k) (refused.Missing other) is a b = absurd (low_not_right claim.lower (nodes_by_name claim.problem claim.parts) name k b.1 a.1)
+one_wrong wanted claim (refused.Low name k) (refused.Unneeded other) is a b = absurd (low_not_right claim.lower (nodes_by_name claim.problem claim.parts) name k b.1 a.1)
+one_wrong wanted claim (refused.Finished name k) (refused.Cert g) is a b = absurd b
+one_wrong wanted claim (refused.Finished name k) refused.Memory is a b = absurd b
+one_wrong wanted claim (refused.Finished name k) refused.OtherProblem is a b = absurd (let h = a.0 in b h.as_wanted)
+one_wrong wanted claim (refused.Finished name k) (refused.Plan g) is a b = absurd (bad_plan wanted claim g is b a.0)
+one_wrong wanted claim (refused.Finished name k) (refused.Low other l) is a b = absurd (not_both_met claim.lower (nodes_by_name claim.problem claim.parts) other name l k b.1 a.1)
+one_wrong wanted claim (refused.Finished name k) (refused.Finished other l) is a b =
+    let m = one_met claim.lower IsAtEnd IsAtEnd (nodes_by_name claim.problem claim.parts) name other k l (not_at_end claim.lower) (not_at_end claim.lower) a.1 b.1 in
     ap (λ x. refused.Finished x k) m.same_name ∙ ap (refused.Finished other) m.same_number
-one_wrong wanted script (refused.Finished name k) (refused.Missing other) is a b = absurd (end_not_right script.lower (nodes_by_name script.problem script.parts) name k b.1 a.1)
-one_wrong wanted script (refused.Finished name k) (refused.Unneeded other) is a b = absurd (end_not_right script.lower (nodes_by_name script.problem script.parts) name k b.1 a.1)
-one_wrong wanted script (refused.Missing name) (refused.Cert g) is a b = absurd b
-one_wrong wanted script (refused.Missing name) refused.Memory is a b = absurd b
-one_wrong wanted script (refused.Missing name) refused.OtherProblem is a b = absurd (let h = a.0 in b h.as_wanted)
-one_wrong wanted script (refused.Missing name) (refused.Plan g) is a b = absurd (bad_plan wanted script g is b a.0)
-one_wrong wanted script (refused.Missing name) (refused.Low other l) is a b = absurd (low_not_right script.lower (nodes_by_name script.problem script.parts) other l a.1 b.1)
-one_wrong wanted script (refused.Missing name) (refused.Finished other l) is a b = absurd (end_not_right script.lower (nodes_by_name script.problem script.parts) other l a.1 b.1)
-one_wrong wanted script (refused.Missing name) (refused.Missing other) is a b = ap (λ x. refused.Missing x) (one_first (IsMissing script) name other a.2 b.2)
-one_wrong wanted script (refused.Missing name) (refused.Unneeded other) is a b = absurd (let least = a.2 in b.2 name least.holds)
-one_wrong wanted script (refused.Unneeded name) (refused.Cert g) is a b = absurd b
-one_wrong wanted script (refused.Unneeded name) refused.Memory is a b = absurd b
-one_wrong wanted script (refused.Unneeded name) refused.OtherProblem is a b = absurd (let h = a.0 in b h.as_wanted)
-one_wrong wanted script (refused.Unneeded name) (refused.Plan g) is a b = absurd (bad_plan wanted script g is b a.0)
-one_wrong wanted script (refused.Unneeded name) (refused.Low other l) is a b = absurd (low_not_right script.lower (nodes_by_name script.problem script.parts) other l a.1 b.1)
-one_wrong wanted script (refused.Unneeded name) (refused.Finished other l) is a b = absurd (end_not_right script.lower (nodes_by_name script.problem script.parts) other l a.1 b.1)
-one_wrong wanted script (refused.Unneeded name) (refused.Missing other) is a b = absurd (let least = b.2 in a.2 other least.holds)
-one_wrong wanted script (refused.Unneeded name) (refused.Unneeded other) is a b = ap (λ x. refused.Unneeded x) (one_first (IsUnneeded script) name other a.3 b.3)
+one_wrong wanted claim (refused.Finished name k) (refused.Missing other) is a b = absurd (end_not_right claim.lower (nodes_by_name claim.problem claim.parts) name k b.1 a.1)
+one_wrong wanted claim (refused.Finished name k) (refused.Unneeded other) is a b = absurd (end_not_right claim.lower (nodes_by_name claim.problem claim.parts) name k b.1 a.1)
+one_wrong wanted claim (refused.Missing name) (refused.Cert g) is a b = absurd b
+one_wrong wanted claim (refused.Missing name) refused.Memory is a b = absurd b
+one_wrong wanted claim (refused.Missing name) refused.OtherProblem is a b = absurd (let h = a.0 in b h.as_wanted)
+one_wrong wanted claim (refused.Missing name) (refused.Plan g) is a b = absurd (bad_plan wanted claim g is b a.0)
+one_wrong wanted claim (refused.Missing name) (refused.Low other l) is a b = absurd (low_not_right claim.lower (nodes_by_name claim.problem claim.parts) other l a.1 b.1)
+one_wrong wanted claim (refused.Missing name) (refused.Finished other l) is a b = absurd (end_not_right claim.lower (nodes_by_name claim.problem claim.parts) other l a.1 b.1)
+one_wrong wanted claim (refused.Missing name) (refused.Missing other) is a b = ap (λ x. refused.Missing x) (one_first (IsMissing claim) name other a.2 b.2)
+one_wrong wanted claim (refused.Missing name) (refused.Unneeded other) is a b = absurd (let least = a.2 in b.2 name least.holds)
+one_wrong wanted claim (refused.Unneeded name) (refused.Cert g) is a b = absurd b
+one_wrong wanted claim (refused.Unneeded name) refused.Memory is a b = absurd b
+one_wrong wanted claim (refused.Unneeded name) refused.OtherProblem is a b = absurd (let h = a.0 in b h.as_wanted)
+one_wrong wanted claim (refused.Unneeded name) (refused.Plan g) is a b = absurd (bad_plan wanted claim g is b a.0)
+one_wrong wanted claim (refused.Unneeded name) (refused.Low other l) is a b = absurd (low_not_right claim.lower (nodes_by_name claim.problem claim.parts) other l a.1 b.1)
+one_wrong wanted claim (refused.Unneeded name) (refused.Finished other l) is a b = absurd (end_not_right claim.lower (nodes_by_name claim.problem claim.parts) other l a.1 b.1)
+one_wrong wanted claim (refused.Unneeded name) (refused.Missing other) is a b = absurd (let least = b.2 in a.2 other least.holds)
+one_wrong wanted claim (refused.Unneeded name) (refused.Unneeded other) is a b = ap (λ x. refused.Unneeded x) (one_first (IsUnneeded claim) name other a.3 b.3)

@@ -4,10 +4,9 @@ use Rattle.std.proofs.Math.Seq.{drop-cons}
 use Rattle.std.proofs.lemmas.List.{take-append-drop, map-append}
 use Rattle.std.specs.List.{AllByRecursion}
 use Rattle.crp_plan.specs.Bay.{Problem}
-use Rattle.crp_cert.specs.declared.parts.RawPart.{RawPart}
+use Rattle.crp_tree.specs.Claims.{Part}
 use Rattle.crp_checker.specs.declared.refused.Refused.{Refused}
 use Rattle.crp_checker.specs.declared.refused.Refused.TheVariants as refused
-use Rattle.crp_cert.specs.Script.{part_of_raw}
 use Rattle.crp_checker.specs.Refusals.{NamedNodes, nodes_by_name, named_nodes, IsRightPart}
 use Rattle.crp_checker.specs.Walks.{IsPartRefusal, IsWalkRefusal}
 
@@ -16,12 +15,11 @@ pub around_index : {A : Type 0} (xs : List A) (i : ℕ) (d : A) → i < length x
 around_index xs i d lt = sym (take-append-drop i xs) ∙ ap (λ l. take i xs ++ l) (drop-cons xs i d lt)
 
 -- the names and nodes of parts, around the one at an index
-pub named_nodes_around : (p : Problem) (parts : List RawPart) (i : ℕ) (part : RawPart) → i < length parts → part ≡ get_or parts i part →
-    nodes_by_name p (map part_of_raw parts) ≡ nodes_by_name p (map part_of_raw (take i parts)) ++ named_nodes p (part_of_raw part) ∷ nodes_by_name p (map part_of_raw (drop (suc i) parts))
+pub named_nodes_around : (p : Problem) (parts : List Part) (i : ℕ) (part : Part) → i < length parts → part ≡ get_or parts i part →
+    nodes_by_name p parts ≡ nodes_by_name p (take i parts) ++ named_nodes p part ∷ nodes_by_name p (drop (suc i) parts)
 named_nodes_around p parts i part lt is =
-    ap (λ l. nodes_by_name p (map part_of_raw l)) (around_index parts i part lt ∙ ap (λ x. take i parts ++ x ∷ drop (suc i) parts) (sym is))
-    ∙ ap (nodes_by_name p) (map-append part_of_raw (take i parts) (part ∷ drop (suc i) parts))
-    ∙ map-append (named_nodes p) (map part_of_raw (take i parts)) (part_of_raw part ∷ map part_of_raw (drop (suc i) parts))
+    ap (λ l. nodes_by_name p l) (around_index parts i part lt ∙ ap (λ x. take i parts ++ x ∷ drop (suc i) parts) (sym is))
+    ∙ map-append (named_nodes p) (take i parts) (part ∷ drop (suc i) parts)
 
 -- why the walk over a part ends is why the walk over all parts ends, where those before are right
 pub refused_in : (lower : ℕ) (before : List NamedNodes) (part : NamedNodes) (after list : List NamedNodes) (r : Refused) → list ≡ before ++ part ∷ after → AllByRecursion (IsRightPart lower) before →

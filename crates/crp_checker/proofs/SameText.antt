@@ -8,10 +8,9 @@ use Rattle.crp_plan.proofs.Paths.{same_at}
 use Rattle.crp_tree.specs.Names.{IsFirst}
 use Rattle.crp_tree.specs.Trees.{nodes, given_names, Fits}
 use Rattle.crp_tree.proofs.Accepted.{nodes_are}
-use Rattle.crp_tree.specs.Scripts.{Part, nodes_in, given_by, names}
-use Rattle.crp_cert.specs.declared.parts.RawPart.{RawPart}
+use Rattle.crp_tree.specs.Claims.{Part, nodes_in, given_by, names}
 use Rattle.crp_cert.specs.declared.script.Script.{Script}
-use Rattle.crp_cert.specs.Script.{IsRawPart, IsScriptOf, names_of_raw, symbols_of_raw, symbols_of}
+use Rattle.crp_cert.specs.Script.{IsPartLine, IsScriptOf, symbols_of, claim_of}
 use Rattle.crp_cert.proofs.Scripts.{script_once}
 use Rattle.crp_cert.proofs.ScriptVerdicts.{script_apart, one_script_fault}
 use Rattle.crp_checker.specs.declared.verdict.Verdict.{Verdict}
@@ -21,38 +20,36 @@ use Rattle.crp_checker.proofs.Meaning.{one_verdict_of}
 use Rattle.crp_checker.specs.declared.refused.Refused.{Refused}
 use Rattle.crp_checker.specs.declared.refused.Refused.TheVariants as refused
 use Rattle.crp_checker.specs.Nodes.{IsLow, IsAtEnd}
-use Rattle.crp_cert.specs.Script.{part_of_raw, claim_of}
-use Rattle.crp_checker.specs.Claims.{IsAcceptedText, IsNotAccepted}
+use Rattle.crp_checker.specs.AcceptedTexts.{IsAcceptedText, IsNotAccepted}
 use Rattle.crp_checker.specs.Refusals.{nodes_by_name, named_nodes, IsRightPart, IsFirstWrongNode, IsFirstWrongClaim, IsRefusal}
 use Rattle.crp_checker.specs.Needs.{IsWithoutPart, IsWithoutNeed}
-use Rattle.crp_checker.proofs.Claimed.{names_same}
 use Rattle.crp_cert.proofs.Symbols.{one_tree}
 use Rattle.crp_checker.proofs.OneRefusal.{not_wrong, one_wrong}
 
 -- two parts with one name and the same symbols have the same nodes
-same_part : (p : Problem) (a b : RawPart) → IsProblem p → IsRawPart p a → IsRawPart p b → a.name ≡ b.name → symbols_of a.tree ≡ symbols_of b.tree → nodes_in p (part_of_raw a) ≡ nodes_in p (part_of_raw b)
+same_part : (p : Problem) (a b : Part) → IsProblem p → IsPartLine p a → IsPartLine p b → a.name ≡ b.name → symbols_of a.tree ≡ symbols_of b.tree → nodes_in p a ≡ nodes_in p b
 same_part p a b is x y name text =
     let place : y.place ≡ x.place = same_at p a.name y.place x.place is (subst (λ n. IsAt p n y.place) (sym name) y.is_at) x.is_at in
     let there : IsAt p b.name x.place = subst (λ n. IsAt p n x.place) name x.is_at in
     let one = one_tree a.name x.place a.tree b.tree [] [] x.fits (subst (λ s. Fits s b.tree) place y.fits) (append-nil (symbols_of a.tree) ∙ text ∙ sym (append-nil (symbols_of b.tree))) in
-    nodes_are p (part_of_raw a) x.place is x.is_at ∙ one.0 ∙ ap (λ n. nodes n x.place b.tree) name ∙ sym (nodes_are p (part_of_raw b) x.place is there)
+    nodes_are p a x.place is x.is_at ∙ one.0 ∙ ap (λ n. nodes n x.place b.tree) name ∙ sym (nodes_are p b x.place is there)
 
 -- names, nodes and given names are the same for parts with the same names and symbols
-same_parts : (p : Problem) (raws others : List RawPart) → IsProblem p → AllByRecursion (IsRawPart p) raws → AllByRecursion (IsRawPart p) others → names_of_raw raws ≡ names_of_raw others → symbols_of_raw raws ≡ symbols_of_raw others →
-    (nodes_by_name p (map part_of_raw raws) ≡ nodes_by_name p (map part_of_raw others)) × (flat_map (given_by p) (map part_of_raw raws) ≡ flat_map (given_by p) (map part_of_raw others))
+same_parts : (p : Problem) (parts others : List Part) → IsProblem p → AllByRecursion (IsPartLine p) parts → AllByRecursion (IsPartLine p) others → names parts ≡ names others → map (λ part. symbols_of part.tree) parts ≡ map (λ part. symbols_of part.tree) others →
+    (nodes_by_name p parts ≡ nodes_by_name p others) × (flat_map (given_by p) parts ≡ flat_map (given_by p) others)
 same_parts p [] [] is x y name text = (refl, refl)
 same_parts p [] (b ∷ others) is x y name text = absurd (cc)
-same_parts p (a ∷ raws) [] is x y name text = absurd (cc)
-same_parts p (a ∷ raws) (b ∷ others) is x y name text =
+same_parts p (a ∷ parts) [] is x y name text = absurd (cc)
+same_parts p (a ∷ parts) (b ∷ others) is x y name text =
     let first_name : a.name ≡ b.name = cc in
     let first_text : symbols_of a.tree ≡ symbols_of b.tree = cc in
-    let more_names : names_of_raw raws ≡ names_of_raw others = cc in
-    let more_text : symbols_of_raw raws ≡ symbols_of_raw others = cc in
+    let more_names : names parts ≡ names others = cc in
+    let more_text : map (λ part. symbols_of part.tree) parts ≡ map (λ part. symbols_of part.tree) others = cc in
     let first = same_part p a b is x.0 y.0 first_name first_text in
-    let own : named_nodes p (part_of_raw a) ≡ named_nodes p (part_of_raw b) = ap (λ n. record { name = n; nodes = nodes_in p (part_of_raw a) }) first_name ∙ ap (λ l. record { name = b.name; nodes = l }) first in
-    let more = same_parts p raws others is x.1 y.1 more_names more_text in (
-      ap (λ w. w ∷ nodes_by_name p (map part_of_raw raws)) own ∙ ap (λ l. named_nodes p (part_of_raw b) ∷ l) more.0,
-      ap (λ l. l ++ flat_map (given_by p) (map part_of_raw raws)) (ap given_names first) ∙ ap (λ l. given_by p (part_of_raw b) ++ l) more.1,
+    let own : named_nodes p a ≡ named_nodes p b = ap (λ n. record { name = n; nodes = nodes_in p a }) first_name ∙ ap (λ l. record { name = b.name; nodes = l }) first in
+    let more = same_parts p parts others is x.1 y.1 more_names more_text in (
+      ap (λ w. w ∷ nodes_by_name p parts) own ∙ ap (λ l. named_nodes p b ∷ l) more.0,
+      ap (λ l. l ++ flat_map (given_by p) parts) (ap given_names first) ∙ ap (λ l. given_by p b ++ l) more.1,
     )
 
 -- what is wrong with a claim depends on its parts by their names and nodes and by what they give
@@ -91,11 +88,11 @@ wrong_alike wanted bytes a b r x y w =
     let other = y.0 in
     let head = one.is_head in
     let p : Problem = a.head.problem in
-    let each = recursion_from_All (IsRawPart p) a.parts one.each_part in
-    let each' = subst (λ h. AllByRecursion (IsRawPart h.problem) b.parts) (sym same.0) (recursion_from_All (IsRawPart b.head.problem) b.parts other.each_part) in
+    let each = recursion_from_All (IsPartLine p) a.parts one.each_part in
+    let each' = subst (λ h. AllByRecursion (IsPartLine h.problem) b.parts) (sym same.0) (recursion_from_All (IsPartLine b.head.problem) b.parts other.each_part) in
     let parts = same_parts p b.parts a.parts head.problem each' each (sym same.1) (sym same.2) in
-    wrong_too wanted p a.head.claim a.head.plan (map part_of_raw b.parts) (map part_of_raw a.parts) r parts.0 (names_same b.parts ∙ sym same.1 ∙ sym (names_same a.parts)) parts.1
-    (subst (λ h. IsFirstWrongClaim wanted (record { problem = h.problem; lower = h.claim; plan = h.plan; parts = map part_of_raw b.parts }) r) (sym same.0) w)
+    wrong_too wanted p a.head.claim a.head.plan b.parts a.parts r parts.0 (sym same.1) parts.1
+    (subst (λ h. IsFirstWrongClaim wanted (record { problem = h.problem; lower = h.claim; plan = h.plan; parts = b.parts }) r) (sym same.0) w)
 
 -- a text that is accepted is not refused
 pub not_both : (wanted : Option Problem) (bytes : List ℕ) (told : Script) (r : Refused) → IsAcceptedText wanted bytes told → IsRefusal wanted bytes r → ⊥
@@ -115,7 +112,7 @@ one_of_two wanted bytes r q a b x y w v =
     let head = readable.is_head in
     one_wrong wanted (claim_of a) r q head.problem w (wrong_alike wanted bytes a b q x y v)
 
--- so where a text is refused, and memory is not wanted, it is not that of an accepted script
+-- so where a text is refused, and memory is not wanted, it is not accepted
 pub rejected : (wanted : Option Problem) (bytes : List ℕ) (r : Refused) → (r ≡ refused.Memory) ⊎ IsRefusal wanted bytes r → r ≢ refused.Memory → IsNotAccepted wanted bytes
 rejected wanted bytes r k other told known = ⊎_elim (λ e. other e) (λ w. not_both wanted bytes told r known w) k
 

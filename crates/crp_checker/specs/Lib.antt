@@ -1,5 +1,5 @@
 pub mod Nodes
-pub mod Claims
+pub mod AcceptedTexts
 pub mod Refusals
 pub mod Verdicts
 pub mod Shown
@@ -13,7 +13,7 @@ pub use Rattle.crp_plan.specs.Plans
 pub use Rattle.crp_plan.specs.Faults
 pub use Rattle.crp_tree.specs.Names
 pub use Rattle.crp_tree.specs.Trees
-pub use Rattle.crp_tree.specs.Scripts
+pub use Rattle.crp_tree.specs.Claims
 pub use Rattle.crp_tree.specs.Parts
 pub use Rattle.crp_cert.specs.Text
 pub use Rattle.crp_cert.specs.Script

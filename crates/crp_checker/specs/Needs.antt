@@ -1,7 +1,7 @@
 -- Holding the names that parts have against those that are needed. No public clause cites this module.
 use Rattle.std.specs.Prelude.{ℕ, List, Contains, ⊤}
 use Rattle.crp_tree.specs.Names.{IsFirst}
-use Rattle.crp_tree.specs.Scripts.{IsRootOrGiven}
+use Rattle.crp_tree.specs.Claims.{IsRootOrGiven}
 use Rattle.crp_checker.specs.declared.refused.Refused.{Refused}
 use Rattle.crp_checker.specs.declared.refused.Refused.TheVariants as refused
 

@@ -5,15 +5,14 @@ use Rattle.crp_plan.specs.Bay.{Problem}
 use Rattle.crp_plan.specs.Faults.{IsPlanPath, IsPlanFault}
 use Rattle.crp_tree.specs.Names.{IsFirst}
 use Rattle.crp_tree.specs.Trees.{Node}
-use Rattle.crp_tree.specs.Scripts.{Part, nodes_in, Script as Claim, IsNeeded, names}
+use Rattle.crp_tree.specs.Claims.{Part, nodes_in, Claim, IsNeeded, names}
 use Rattle.crp_cert.specs.declared.script.Script.{Script}
-use Rattle.crp_cert.specs.Script.{IsScriptOf}
+use Rattle.crp_cert.specs.Script.{IsScriptOf, claim_of}
 use Rattle.crp_cert.specs.ScriptFaults.{IsFirstFaultOfScript}
 use Rattle.crp_checker.specs.declared.refused.Refused.{Refused}
 use Rattle.crp_checker.specs.declared.refused.Refused.TheVariants as refused
 use Rattle.crp_checker.specs.Nodes.{IsLow, IsAtEnd, IsRight, IsFirstWrong}
-use Rattle.crp_cert.specs.Script.{claim_of}
-use Rattle.crp_checker.specs.Claims.{IsWanted}
+use Rattle.crp_checker.specs.AcceptedTexts.{IsWanted}
 
 -- the name of a part, and its nodes in the order of their symbols
 pub record NamedNodes : Type 0 where

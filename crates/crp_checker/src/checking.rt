@@ -5,9 +5,8 @@ ghost use Rattle.crp_plan.specs.Bay.{Problem as Statement, cap, IsPlan, relocati
 ghost use Rattle.crp_cert.specs.declared.head.Head.{Head};
 ghost use Rattle.crp_cert.specs.Text.{IsHeadOf};
 ghost use Rattle.crp_cert.specs.Script.{IsScriptOf};
-ghost use Rattle.crp_tree.specs.Scripts.{nodes_in};
-ghost use Rattle.crp_cert.specs.Script.{part_of_raw};
-ghost use Rattle.crp_checker.specs.Claims.{IsNotAccepted};
+ghost use Rattle.crp_tree.specs.Claims.{nodes_in};
+ghost use Rattle.crp_checker.specs.AcceptedTexts.{IsNotAccepted};
 ghost use Rattle.crp_checker.specs.Verdicts.{Says};
 ghost use Rattle.crp_checker.specs.Shown.{TextShows, TextShowsFor};
 ghost use Rattle.crp_checker.specs.Refusals.{IsRefusal};
@@ -23,7 +22,7 @@ use std::alloc::Global;
 fn script_of(alloc: Global, bytes: &[u8]) -> Result<Script, Refused>
     ensures text { IfOk result (IsScriptOf bytes.now) }
     ensures few { IfOk result (λ script.
-        All (λ part. length (nodes_in script.head.problem (part_of_raw part)) < 2 ^ 64) script.parts) }
+        All (λ part. length (nodes_in script.head.problem part) < 2 ^ 64) script.parts) }
     ensures refused { IfErr result (λ refused. (refused ≡ Refused.Memory)
         ⊎ ((wanted : Option Statement) → IsRefusal wanted bytes.now refused)) }
 {
@@ -42,7 +41,7 @@ pub(crate) fn check_text(alloc: Global, bytes: &[u8]) -> Result<(BayName, Verdic
     check_claim(alloc, script)
 }
 
-/// What a certificate shows, where the bytes are the text of an accepted script: the fewest
+/// What a certificate shows, where the bytes are the text of one that is accepted: the fewest
 /// relocations of a plan, that there is no plan, or bounds. Else the first fault, or that no memory
 /// is left.
 pub fn check(alloc: Global, bytes: &[u8]) -> Result<Verdict, Refused>

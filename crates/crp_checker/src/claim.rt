@@ -2,11 +2,9 @@
 ghost use Rattle.std.specs.Prelude.{◌≡◌, ◌⊎◌, ◌^◌, ◌<◌, ℕ, List, Option, Some, All, IfSome, IfOk, OnOk, IfErr, length, option_map};
 ghost use Rattle.crp_plan.specs.Bay.{Problem as Statement};
 ghost use Rattle.crp_plan.specs.Faults.{IsPlanPath, IsPlanFault};
-ghost use Rattle.crp_tree.specs.Scripts.{IsAccepted};
-ghost use Rattle.crp_cert.specs.Script.{IsScript};
-ghost use Rattle.crp_tree.specs.Scripts.{nodes_in};
-ghost use Rattle.crp_cert.specs.Script.{part_of_raw, claim_of};
-ghost use Rattle.crp_checker.specs.Claims.{IsWanted};
+ghost use Rattle.crp_tree.specs.Claims.{IsAccepted, nodes_in};
+ghost use Rattle.crp_cert.specs.Script.{IsScript, claim_of};
+ghost use Rattle.crp_checker.specs.AcceptedTexts.{IsWanted};
 ghost use Rattle.crp_checker.specs.Verdicts.{IsVerdictOf, IsVerdict};
 ghost use Rattle.crp_checker.specs.Refusals.{IsFirstWrongClaim};
 
@@ -48,7 +46,7 @@ fn verdict_of(lower: u32, cap: u32, upper: Option<u32>) -> Verdict
 /// Checks what a certificate claims. Whose certificate it is, and what it shows.
 pub fn check_claim(alloc: Global, script: Script) -> Result<(BayName, Verdict), Refused>
     requires readable { IsScript script }
-    requires few { All (λ part. length (nodes_in script.head.problem (part_of_raw part)) < 2 ^ 64) script.parts }
+    requires few { All (λ part. length (nodes_in script.head.problem part) < 2 ^ 64) script.parts }
     ensures accepted { OnOk result (IsAccepted (claim_of script)) }
     ensures bay { IfOk result (λ told. told.0 ≡ script.head.bay) }
     ensures verdict { IfOk result (λ told. IsVerdict (claim_of script) told.1) }

@@ -4,14 +4,14 @@ ghost use Rattle.crp_plan.specs.Bay.{Problem, IsProblem};
 ghost use Rattle.crp_plan.specs.BayNames.{YardBay, IsYardBay};
 ghost use Rattle.crp_plan.specs.Plans.{Route};
 ghost use Rattle.crp_plan.specs.Faults.{IsPlanPath};
-ghost use Rattle.crp_tree.specs.Scripts.{Script as Claim, IsAccepted};
-ghost use Rattle.crp_tree.specs.Parts.{Certificate, IsAbout};
+ghost use Rattle.crp_tree.specs.Claims.{Claim, IsAccepted, path_in};
+ghost use Rattle.crp_tree.specs.Parts.{Certificate, IsAbout, claimed};
 ghost use Rattle.crp_cert.specs.Text.{HasOneHeight};
-ghost use Rattle.crp_cert.specs.Writing.{rows_of_plan, claimed, script_for, certificate_text};
+ghost use Rattle.crp_cert.specs.Writing.{script_for, certificate_text};
 ghost use Rattle.crp_cert.specs.declared.script.Script.{Script};
 ghost use Rattle.crp_checker.specs.declared.refused.Refused.{Refused};
 ghost use Rattle.crp_checker.specs.declared.verdict.Verdict.{Verdict};
-ghost use Rattle.crp_checker.specs.Claims.{IsAcceptedText, IsWanted};
+ghost use Rattle.crp_checker.specs.AcceptedTexts.{IsAcceptedText, IsWanted};
 ghost use Rattle.crp_checker.specs.Verdicts.{IsVerdict, Says};
 ghost use Rattle.crp_checker.specs.Shown.{TextShows};
 ghost use Rattle.crp_checker.specs.Refusals.{IsFirstWrongClaim, IsRefusal};
@@ -30,26 +30,26 @@ pub fn accepted_or_refused()
 
 /// An accepted claim is not wrong, and another is wrong in one way at most.
 pub fn right_or_wrong()
-    ensures apart { (wanted : Option Problem) (script : Claim) (refused : Refused)
-        → IsAccepted script → IsWanted wanted script.problem
-        → IsFirstWrongClaim wanted script refused → ⊥ }
-    ensures one { (wanted : Option Problem) (script : Claim) (refused other : Refused)
-        → IsProblem script.problem → IsFirstWrongClaim wanted script refused
-        → IsFirstWrongClaim wanted script other → refused ≡ other }
+    ensures apart { (wanted : Option Problem) (claim : Claim) (refused : Refused)
+        → IsAccepted claim → IsWanted wanted claim.problem
+        → IsFirstWrongClaim wanted claim refused → ⊥ }
+    ensures one { (wanted : Option Problem) (claim : Claim) (refused other : Refused)
+        → IsProblem claim.problem → IsFirstWrongClaim wanted claim refused
+        → IsFirstWrongClaim wanted claim other → refused ≡ other }
 {}
 
-/// What a verdict says of an accepted script is so.
+/// What a verdict says of an accepted claim is so.
 pub fn verdicts_say()
-    ensures { (script : Claim) (verdict : Verdict) → IsAccepted script → IsVerdict script verdict
-        → Says script.problem verdict }
+    ensures { (claim : Claim) (verdict : Verdict) → IsAccepted claim → IsVerdict claim verdict
+        → Says claim.problem verdict }
 {}
 
 /// What is written of a certificate about a problem, with a plan of it or none, is accepted, whatever its parts give to each other:
 /// under the name of a bay, where the problem's rows have one height.
 pub fn written_is_accepted()
     ensures { (bay : YardBay) (p : Problem) (cert : Certificate) (plan : Option Route) → IsYardBay bay → HasOneHeight p
-        → IsAbout p cert → IfSome (rows_of_plan plan) (IsPlanPath p)
-        → IsAcceptedText (Some p) (certificate_text bay p cert plan) (script_for bay (claimed p cert plan)) }
+        → IsAbout p cert → IfSome (path_in plan) (IsPlanPath p)
+        → IsAcceptedText (Some p) (certificate_text bay p cert plan) (script_for bay (claimed p cert (path_in plan))) }
 {}
 
 /// A file is cut into the texts of certificates in one way.

@@ -4,7 +4,7 @@ ghost use Rattle.std.specs.List.Sorted.{IsSorted};
 ghost use Rattle.std.specs.Cmp.Lexicographic.{slice_cmp};
 ghost use Rattle.std.specs.Ordering.{nat_cmp};
 ghost use Rattle.crp_tree.specs.Names.{Precedes};
-ghost use Rattle.crp_tree.specs.Scripts.{IsRootOrGiven};
+ghost use Rattle.crp_tree.specs.Claims.{IsRootOrGiven};
 ghost use Rattle.crp_checker.specs.Needs.{IsNamesRefusal};
 
 use crate::path::Path;

@@ -7,7 +7,7 @@ use Rattle.std.proofs.lemmas.List.Elements.{All-contains, Contains-get_or}
 use Rattle.crp_bay.proofs.Members.{not_in_nil}
 use Rattle.crp_plan.specs.Bay.{Problem}
 use Rattle.crp_tree.specs.Names.{Precedes, IsFirst}
-use Rattle.crp_tree.specs.Scripts.{times}
+use Rattle.crp_tree.specs.Claims.{times}
 use Rattle.crp_tree.specs.Parts.{ProblemPart, names_of}
 use Rattle.crp_tree.proofs.Lists.{from_map}
 use Rattle.crp_tree.proofs.Givers.{times_in, in_times}

@@ -8,7 +8,7 @@ use Rattle.std.proofs.lemmas.List.Elements.{Contains-get_or}
 use Rattle.std.proofs.lemmas.Option.{slice_get-get_or}
 use Rattle.crp_plan.proofs.Lists.{one_if, two_le_sum}
 use Rattle.crp_tree.specs.Names.{Precedes, IsFirst}
-use Rattle.crp_tree.specs.Scripts.{same_name, times}
+use Rattle.crp_tree.specs.Claims.{same_name, times}
 use Rattle.crp_tree.specs.Parts.{ProblemPart, names_of}
 use Rattle.crp_tree.proofs.Ordered.{not_itself, goes_further}
 use Rattle.crp_tree.proofs.Givers.{times-cons, times_in, same_is, same_self}

@@ -5,7 +5,7 @@ use Rattle.std.proofs.lemmas.List.Sums.{sum_by-cons}
 use Rattle.std.proofs.lemmas.List.Sorted.{sum_by-IsPermutation, Contains-permutation, All-permutation, IsPermutation-map, IsPermutation-sym}
 use Rattle.std.proofs.lemmas.List.Elements.{All-weaker}
 use Rattle.crp_plan.specs.Bay.{Problem}
-use Rattle.crp_tree.specs.Scripts.{times}
+use Rattle.crp_tree.specs.Claims.{times}
 use Rattle.crp_tree.specs.Parts.{ProblemPart, given_of, names_of}
 use Rattle.crp_tree.proofs.Givers.{times-cons, times-append, times_in, in_times}
 use Rattle.crp_gather.specs.declared.fault.GatherFault.{GatherFault}

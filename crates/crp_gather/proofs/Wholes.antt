@@ -7,7 +7,7 @@ use Rattle.std.proofs.lemmas.List.Sorted.{Contains-permutation, IsPermutation-sy
 use Rattle.crp_bay.proofs.Members.{not_in_nil, in_head, in_tail, in_cons_cases}
 use Rattle.crp_plan.specs.Bay.{Problem, IsProblem}
 use Rattle.crp_tree.specs.Names.{Precedes}
-use Rattle.crp_tree.specs.Scripts.{IsPart, IsNeeded, given_by, names, times}
+use Rattle.crp_tree.specs.Claims.{IsPart, IsNeeded, given_by, names, times}
 use Rattle.crp_tree.specs.Parts.{ProblemPart, part_of, given_of, names_of, floors_of, IsKeptPart, IsLeast, Certificate, IsCertificate, IsAbout}
 use Rattle.crp_tree.proofs.Given.{no_name_twice}
 use Rattle.crp_tree.proofs.Givers.{times_in, in_times}

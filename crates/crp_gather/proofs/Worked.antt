@@ -7,7 +7,7 @@ use Rattle.crp_bay.proofs.Walked.{begins_at}
 use Rattle.crp_tree.specs.declared.tree.Tree.{Tree, Branch, Given}
 use Rattle.crp_tree.specs.Trees.{G, Node, nodes, cuts, value, IsInPlace, least, least_value}
 use Rattle.crp_tree.specs.Listed.{nodes_below, AreFit}
-use Rattle.crp_tree.specs.Scripts.{IsPart, nodes_in}
+use Rattle.crp_tree.specs.Claims.{IsPart, nodes_in}
 use Rattle.crp_tree.proofs.Accepted.{nodes_are}
 use Rattle.crp_tree.proofs.Listed.{IsBranchOf, is_branch_of, branch_node}
 

@@ -2,7 +2,7 @@
 use Rattle.std.specs.Prelude.{◌≡◌, ◌≤◌, ℕ, List, [], ◌∷◌, flat_map, All, Contains, ⊤}
 use Rattle.crp_plan.specs.Bay.{Problem}
 use Rattle.crp_tree.specs.Names.{IsFirst}
-use Rattle.crp_tree.specs.Scripts.{IsRootOrGiven, times}
+use Rattle.crp_tree.specs.Claims.{IsRootOrGiven, times}
 use Rattle.crp_tree.specs.Parts.{ProblemPart, given_of, names_of}
 use Rattle.crp_gather.specs.declared.fault.GatherFault.{GatherFault}
 use Rattle.crp_gather.specs.declared.fault.GatherFault.TheVariants as fault

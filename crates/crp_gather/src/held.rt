@@ -3,7 +3,7 @@ ghost use Rattle.std.specs.Prelude.{◌≡◌, ◌≤◌, ◌↔◌, ℕ, List, 
 ghost use Rattle.std.specs.List.Sorted.{IsSorted};
 ghost use Rattle.std.specs.Cmp.Lexicographic.{slice_cmp};
 ghost use Rattle.std.specs.Ordering.{nat_cmp};
-ghost use Rattle.crp_tree.specs.Scripts.{times};
+ghost use Rattle.crp_tree.specs.Claims.{times};
 ghost use Rattle.crp_tree.specs.Names.{IsFirst};
 
 use crp_tree::Name;

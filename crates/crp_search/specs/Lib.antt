@@ -6,7 +6,7 @@ pub use Rattle.crp_bay.specs.Positions
 pub mod Greedy
 pub use Rattle.crp_plan.specs.Running
 pub use Rattle.crp_tree.specs.Trees
-pub use Rattle.crp_tree.specs.Scripts
+pub use Rattle.crp_tree.specs.Claims
 pub use Rattle.crp_tree.specs.Parts
 pub mod Limits
 pub mod Searched

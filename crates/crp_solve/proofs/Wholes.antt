@@ -8,7 +8,7 @@ use Rattle.crp_plan.specs.declared.running.View.{View}
 use Rattle.crp_plan.specs.Bay.{Problem, IsProblem}
 use Rattle.crp_plan.specs.Plans.{Route}
 use Rattle.crp_tree.specs.Parts.{ProblemPart, part_of, given_of, names_of, IsKeptPart, Certificate, IsAbout, branches_in}
-use Rattle.crp_tree.specs.Scripts.{IsPart, IsNeeded, given_by, names, times, same_name}
+use Rattle.crp_tree.specs.Claims.{IsPart, IsNeeded, given_by, names, times, same_name}
 use Rattle.crp_plan.proofs.Lists.{one_if}
 use Rattle.crp_tree.proofs.Givers.{times-cons, times_in, in_times}
 use Rattle.crp_gather.specs.Gathers.{AreWhole}

@@ -6,8 +6,8 @@ use Rattle.crp_plan.specs.Bay.{Problem, cap}
 use Rattle.crp_plan.specs.Faults.{IsPlanPath}
 use Rattle.crp_tree.specs.Trees.{value, HasAtLeast}
 use Rattle.crp_tree.specs.Names.{Precedes}
-use Rattle.crp_tree.specs.Scripts.{IsPart, IsAccepted, IsNeeded, names, nodes_in}
-use Rattle.crp_tree.specs.Parts.{ProblemPart, part_of, cuts_in, names_of, floors_of, IsKeptPart, Certificate, IsCertificate, IsAbout, script_of}
+use Rattle.crp_tree.specs.Claims.{IsPart, IsAccepted, IsNeeded, names, nodes_in}
+use Rattle.crp_tree.specs.Parts.{ProblemPart, part_of, cuts_in, names_of, floors_of, IsKeptPart, Certificate, IsCertificate, IsAbout, claimed}
 use Rattle.crp_tree.proofs.Lists.{from_map}
 use Rattle.crp_tree.proofs.Ordered.{not_itself}
 use Rattle.crp_tree.proofs.Shown.{least_most, from_least}
@@ -49,7 +49,7 @@ lower_low p cert a =
     omega (arith, x.2, floor_low p x.0 (All-contains (λ (y : ProblemPart). y.problem ≡ p) cert.parts x.0 a.of_problem x.1) (All-contains IsKeptPart cert.parts x.0 a.kept x.1))
 
 -- and it is accepted, with a plan of the problem or none
-pub certified : (p : Problem) (cert : Certificate) (plan : Option (List ℕ)) → IsAbout p cert → IfSome plan (IsPlanPath p) → IsAccepted (script_of p cert plan)
+pub certified : (p : Problem) (cert : Certificate) (plan : Option (List ℕ)) → IsAbout p cert → IfSome plan (IsPlanPath p) → IsAccepted (claimed p cert plan)
 certified p cert plan a is = record {
   is_problem = a.is_problem;
   within_cap = lower_low p cert a;

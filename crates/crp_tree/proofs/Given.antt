@@ -9,7 +9,7 @@ use Rattle.crp_plan.specs.Bay.{Problem, IsProblem}
 use Rattle.crp_plan.proofs.Lists.{one_if}
 use Rattle.crp_tree.specs.Names.{Precedes}
 use Rattle.crp_tree.specs.Trees.{nodes, given_names}
-use Rattle.crp_tree.specs.Scripts.{Part, IsPart, same_name, times, names, given_by}
+use Rattle.crp_tree.specs.Claims.{Part, IsPart, same_name, times, names, given_by}
 use Rattle.crp_tree.proofs.Accepted.{nodes_are}
 use Rattle.crp_tree.proofs.Nodes.{given_begins, given_longer, given_apart, given_rise}
 use Rattle.crp_tree.proofs.InLine.{InOrder, in_order}

@@ -6,7 +6,7 @@ use Rattle.std.proofs.lemmas.Bool.{cases_eq, cases_lt, cases_order, cases_Bool, 
 use Rattle.crp_plan.proofs.Lists.{one_if, two_le_sum, at_le_sum}
 use Rattle.crp_bay.proofs.Members.{not_in_nil, in_head, in_tail, in_cons_cases}
 use Rattle.crp_tree.specs.Trees.{Begins}
-use Rattle.crp_tree.specs.Scripts.{same_name, times}
+use Rattle.crp_tree.specs.Claims.{same_name, times}
 
 -- a name that gives names
 pub record Giver : Type 0 where

@@ -13,7 +13,7 @@ use Rattle.std.proofs.lemmas.List.Elements.{Contains-append_cases, Contains-appe
 use Rattle.std.proofs.lemmas.List.Sorted.{searchable_from_sorted, sorted_far, ranks_by, Contains-permutation, IsPermutation-sym}
 use Rattle.crp_bay.proofs.Members.{not_in_nil, in_cons_cases}
 use Rattle.crp_tree.specs.Names.{Precedes, IsFirst}
-use Rattle.crp_tree.specs.Scripts.{IsRootOrGiven}
+use Rattle.crp_tree.specs.Claims.{IsRootOrGiven}
 use Rattle.crp_tree.proofs.Ordered.{compared, less_if, less_means, not_itself, goes_further}
 
 -- std's order of lists of rows

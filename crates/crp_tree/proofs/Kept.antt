@@ -8,7 +8,7 @@ use Rattle.crp_plan.proofs.Paths.{same_at}
 use Rattle.crp_bounds.specs.Bounds.{look_ahead}
 use Rattle.crp_tree.specs.declared.tree.Tree.{Tree}
 use Rattle.crp_tree.specs.Trees.{nodes, given_names, ahead_of, least_value, HasShape, Shows}
-use Rattle.crp_tree.specs.Scripts.{IsPart, nodes_in}
+use Rattle.crp_tree.specs.Claims.{IsPart, nodes_in}
 use Rattle.crp_tree.specs.Parts.{ProblemPart, nodes_of, part_of, IsKeptPart, IsLeast, floors_of}
 use Rattle.crp_tree.proofs.Shown.{shows_least}
 use Rattle.crp_tree.proofs.Nodes.{At, StandsAt, nodes_stand}

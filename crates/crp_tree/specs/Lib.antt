@@ -6,5 +6,5 @@ pub use Rattle.crp_bounds.specs.Bounds
 pub mod Names
 pub mod Trees
 pub mod Listed
-pub mod Scripts
+pub mod Claims
 pub mod Parts

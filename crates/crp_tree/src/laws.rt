@@ -7,11 +7,11 @@ ghost use Rattle.crp_plan.specs.declared.moves.Move.{Move};
 ghost use Rattle.crp_plan.specs.Bay.{Problem, IsProblem, cap, Position, IsAt, IsLegalRow, IsPlan, IsBest, relocations};
 ghost use Rattle.crp_plan.specs.Faults.{IsPlanPath};
 ghost use Rattle.crp_tree.specs.Names.{GoesOn, Precedes};
-ghost use Rattle.crp_tree.specs.Scripts.{Part, Script, IsAccepted, IsNeeded, names, times, given_by, IsPart, Floored, KeepsFloor};
+ghost use Rattle.crp_tree.specs.Claims.{Part, Claim, IsAccepted, IsNeeded, names, times, given_by, IsPart};
 ghost use Rattle.crp_bounds.specs.Bounds.{look_ahead};
 ghost use Rattle.crp_tree.specs.declared.tree.Tree.{Tree};
-ghost use Rattle.crp_tree.specs.Parts.{ProblemPart, nodes_of, IsKeptPart, Certificate, IsAbout, script_of};
-ghost use Rattle.crp_tree.specs.Trees.{Node, X, nodes, Fits, Begins, Shows, HasShape, HasAtLeast, given_names, ahead_of, least, least_value};
+ghost use Rattle.crp_tree.specs.Parts.{ProblemPart, nodes_of, IsKeptPart, Certificate, IsAbout, claimed};
+ghost use Rattle.crp_tree.specs.Trees.{Node, X, nodes, Fits, Begins, Shows, HasShape, HasAtLeast, given_names, ahead_of, least_value};
 
 /// A tree that has its shape at a path, and no cut of a value below the floor, shows the floor there; so it shows the least of
 /// its values, or the cap where none is below that.
@@ -51,22 +51,23 @@ pub fn names_are_ordered()
     ensures same { (name other : List ℕ) → (IsTrue (pointwise nat_eq name other) ↔ (name ≡ other)) }
 {}
 
-/// What an accepted script claims is so: no plan has fewer relocations than its bound; at the cap there is no plan; and its plan,
-/// where it meets the bound, is a best one.
+/// An accepted claim is so: no plan has fewer relocations than its bound; at the cap there is no plan; and its plan, where it meets
+/// the bound, is a best one.
 pub fn accepted_means()
-    ensures bound { (script : Script) (moves : List Move) → IsAccepted script → IsPlan script.problem moves → script.lower ≤ relocations moves }
-    ensures no_plan { (script : Script) (moves : List Move) → IsAccepted script → script.lower ≡ cap script.problem → IsPlan script.problem moves → ⊥ }
-    ensures best { (script : Script) (rows : List ℕ) → IsAccepted script → script.plan ≡ Some rows → length rows ≡ script.lower → IsBest script.problem script.lower }
+    ensures bound { (claim : Claim) (moves : List Move) → IsAccepted claim → IsPlan claim.problem moves → claim.lower ≤ relocations moves }
+    ensures no_plan { (claim : Claim) (moves : List Move) → IsAccepted claim → claim.lower ≡ cap claim.problem → IsPlan claim.problem moves → ⊥ }
+    ensures best { (claim : Claim) (rows : List ℕ) → IsAccepted claim → claim.plan ≡ Some rows → length rows ≡ claim.lower → IsBest claim.problem claim.lower }
 {}
 
 /// What a certificate about a problem claims, with a plan of the problem or none, is accepted.
 pub fn claims_are_accepted()
-    ensures { (p : Problem) (cert : Certificate) (plan : Option (List ℕ)) → IsAbout p cert → IfSome plan (IsPlanPath p) → IsAccepted (script_of p cert plan) }
+    ensures { (p : Problem) (cert : Certificate) (plan : Option (List ℕ)) → IsAbout p cert → IfSome plan (IsPlanPath p) → IsAccepted (claimed p cert plan) }
 {}
 
-/// Where each needed name has a part, no plan has fewer relocations than the least floor.
+/// Where each needed name has a part, and each part shows the floor at its name, no plan has fewer relocations than the floor.
 pub fn parts_cover()
-    ensures { (p : Problem) (parts : List Floored) (moves : List Move) → IsProblem p → All (KeepsFloor p) parts → ((name : List ℕ) → IsNeeded p (map (λ known. known.part) parts) name → Contains (names (map (λ known. known.part) parts)) name) → IsPlan p moves → least (cap p) (map (λ known. known.floor) parts) ≤ relocations moves }
+    ensures { (p : Problem) (parts : List Part) (floor : ℕ) (moves : List Move) → IsProblem p → All (IsPart p) parts → All (λ part. Shows p part.name (given_by p part) floor) parts
+        → ((name : List ℕ) → IsNeeded p parts name → Contains (names parts) name) → IsPlan p moves → floor ≤ relocations moves }
 {}
 
 /// Where the names of the parts are the root and all given names, each as often, no two parts have one name.

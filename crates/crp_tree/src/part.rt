@@ -4,7 +4,7 @@ ghost use Rattle.crp_bay.specs.Positions.{targets};
 ghost use Rattle.crp_tree.specs.Names.{Precedes};
 ghost use Rattle.crp_tree.specs.Trees.{nodes, Fits, IsInPlace, given_names, least_value};
 ghost use Rattle.crp_tree.specs.Listed.{AreFit, nodes_below};
-ghost use Rattle.crp_tree.specs.Scripts.{IsPart, nodes_in};
+ghost use Rattle.crp_tree.specs.Claims.{IsPart, nodes_in};
 ghost use Rattle.crp_tree.specs.Parts.{given_of, IsKeptPart};
 
 use crate::name::{MAX_NAME, Name};

@@ -124,8 +124,8 @@ fn push_tree(text: &mut Vec<u8>, tree: &Tree) -> Result<(), AllocError> {
 fn shown(alloc: Global, parts: &Parts) -> Result<Vec<u8>, AllocError> {
     let mut text = Vec::new(alloc);
     for part in parts.as_slice() {
-        text.extend_from_slice(part.name.as_slice())?;
-        push_tree(&mut text, &part.tree)?;
+        text.extend_from_slice(part.name().rows())?;
+        push_tree(&mut text, part.tree())?;
     }
     Ok(text)
 }

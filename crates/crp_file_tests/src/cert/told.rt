@@ -2,10 +2,11 @@
 ghost use Rattle.std.specs.Prelude.{◌≡◌, None, IfOk};
 ghost use Rattle.crp_plan.specs.Bay.{IsProblem};
 ghost use Rattle.crp_plan.specs.Faults.{stacks_of, stated};
-ghost use Rattle.crp_cert.specs.Writing.{CanBeSpelled, claimed};
+ghost use Rattle.crp_tree.specs.Parts.{claimed};
+ghost use Rattle.crp_cert.specs.Writing.{CanBeSpelled};
 
 use super::stack_of;
-use crp_cert::{RawPart, Script, cert_text, read_cert};
+use crp_cert::{PartLine, Script, cert_text, read_cert};
 use crp_plan::{BayName, Problem};
 use crp_tree::{Cert, Name, Part, Tree};
 use std::alloc::{AllocError, Global};
@@ -45,12 +46,12 @@ fn text_of(rt: &impl Abort, alloc: Global, told: &(Problem, Cert)) -> Result<Vec
 }
 
 /// Whether a part is at the root, cut by the look-ahead bound.
-fn is_cut_ahead(part: &RawPart) -> bool {
-    part.name.as_slice().is_empty() && matches!(&part.tree, Tree::CutL)
+fn is_cut_ahead(part: &PartLine) -> bool {
+    part.name().rows().is_empty() && matches!(part.tree(), Tree::CutL)
 }
 
 /// There is one such part.
-fn assert_cut_ahead(rt: &impl Abort, parts: &[RawPart]) {
+fn assert_cut_ahead(rt: &impl Abort, parts: &[PartLine]) {
     match parts {
         [part] => assert!(rt; is_cut_ahead(part)),
         _ => panic!(rt; "there is one part"),

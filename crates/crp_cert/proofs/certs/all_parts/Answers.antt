@@ -3,7 +3,7 @@ use Rattle.std.specs.Prelude.{codes}
 use Rattle.std.proofs.lemmas.Result.{err_from_is_err_and}
 use Rattle.crp_plan.specs.Bay.{Problem}
 use Rattle.crp_plan.proofs.Steps.{same_rows}
-use Rattle.crp_cert.specs.declared.parts.RawPart.{RawPart}
+use Rattle.crp_tree.specs.Claims.{Part}
 use Rattle.crp_cert.specs.ScriptFaults.{ComesAfter}
 use Rattle.crp_cert.proofs.Numbers.{tag_takes}
 use Rattle.crp_cert.proofs.NameOrder.{few_parts}
@@ -25,7 +25,7 @@ pub returns-in_err-part-clause-refused : goal.returns-in_err-part-clause-refused
 returns-in_err-part-clause-refused c =
     let p = err_from_is_err_and c.from_residual.result c.from_residual.ensures.1 in
     let problem : Problem = c.args.problem.now in
-    let parts : List RawPart = c.loop-after.parts.items in
+    let parts : List Part = c.loop-after.parts.items in
     let rows = same_rows problem.heights problem.stacks c.rows.ensures.problem.stacks_fit in
     rw (p.1, p.2)
     (⊎_elim

@@ -1,6 +1,7 @@
 use Rattle.std.proofs.Common.{◌≡◌, ℕ, List, ◌++◌, length, IsTrue, ◌↔◌, Bool, false, inr, refl, sym, ap, ◌∙◌, arith}
 use Rattle.std.proofs.lemmas.Bool.{eqb-false, eqb-true}
-use Rattle.crp_cert.specs.Script.{symbols_of, symbols_line}
+use Rattle.crp_tree.specs.Claims.{Part}
+use Rattle.crp_cert.specs.Script.{symbols_line, part_line}
 use Rattle.crp_cert.proofs.PartLines.{no_part, begins_with}
 use Rattle.crp_cert.proofs.PartFaults.{told_line, left_over, all_used}
 use Rattle.crp_cert.proofs.certs.next_part.Goals as goal
@@ -70,4 +71,4 @@ returns-clause-text c =
     let r = (rw c.in-Some-2.is at c.in_ok-tree.ensures).found in
     (begins_with c.args.problem.now c.args.bytes.now told.name told.symbols.now told.rest.now c.in-Some.ensures.value).2
     ∙ ap (λ (l : List ℕ). symbols_line told.name l ++ told.rest.now) (all_used told.symbols.now c.in-Some-2.left.now c.in-Some-2.tree r.1 (eqb-true (length c.in-Some-2.left.now) 0 (sym c.is_empty.ensures ∙ c.if-not-is_empty.false)))
-    ∙ ap (λ (l : List ℕ). symbols_line l (symbols_of c.in-Some-2.tree) ++ told.rest.now) (sym (c.of.ensures ∙ c.in_ok-rows.ensures.items ∙ c.rows.ensures.value))
+    ∙ ap (λ (part : Part). part_line part ++ told.rest.now) (sym c.new.ensures)

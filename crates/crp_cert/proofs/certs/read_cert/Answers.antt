@@ -2,8 +2,8 @@ use Rattle.std.proofs.Common.{◌≡◌, ℕ, ◌+◌, List, ◌∷◌, ◌++◌
 use Rattle.std.specs.List.{flat_map}
 use Rattle.std.proofs.lemmas.Bool.{eqb-false, eqb-true}
 use Rattle.crp_plan.proofs.Steps.{same_rows}
+use Rattle.crp_tree.specs.Claims.{Part}
 use Rattle.crp_cert.specs.declared.head.Head.{Head}
-use Rattle.crp_cert.specs.declared.parts.RawPart.{RawPart}
 use Rattle.crp_cert.specs.Text.{head_text}
 use Rattle.crp_cert.specs.Script.{part_line, end_line, IsScriptOf}
 use Rattle.crp_cert.proofs.NameOrder.{few_parts}
@@ -30,7 +30,7 @@ overflow_add-result c =
 pub returns-in_default-clause-refused : goal.returns-in_default-clause-refused
 returns-in_default-clause-refused c =
     let head : Head = c.in_ok-head.head in
-    let parts : List RawPart = c.in_ok-parts.parts.items in
+    let parts : List Part = c.in_ok-parts.parts.items in
     let rest : List ℕ = c.in_ok-parts.rest.now in
     let rows = same_rows head.problem.heights head.problem.stacks c.rows.ensures.problem.stacks_fit in
     let count : c.len-2.result ≡ length parts = omega arith in
@@ -46,7 +46,7 @@ returns-in_default-clause-refused c =
 pub returns-then-not-is_empty-clause-refused : goal.returns-then-not-is_empty-clause-refused
 returns-then-not-is_empty-clause-refused c =
     let head : Head = c.in_ok-head.head in
-    let parts : List RawPart = c.in_ok-parts.parts.items in
+    let parts : List Part = c.in_ok-parts.parts.items in
     let rest : List ℕ = c.in_ok-parts.rest.now in
     let rows = same_rows head.problem.heights head.problem.stacks c.rows.ensures.problem.stacks_fit in
     let count : c.len-2.result ≡ length parts = omega arith in
@@ -64,12 +64,12 @@ returns-then-not-is_empty-clause-refused c =
 pub returns-clause-found : goal.returns-clause-found
 returns-clause-found c =
     let head : Head = c.in_ok-head.head in
-    let parts : List RawPart = c.in_ok-parts.parts.items in
+    let parts : List Part = c.in_ok-parts.parts.items in
     let rest : List ℕ = c.in_ok-parts.rest.now in
     let are = c.in_ok-parts.ensures.parts in
     let count : c.len-2.result ≡ length parts = omega arith in
     let last = none_behind c.len-2.result rest c.in-Some.rest.now c.in-Some.ensures (eqb-true (length c.in-Some.rest.now) 0 (sym c.is_empty.ensures ∙ c.if-not-is_empty.false)) in
-    subst (λ (l : List RawPart). IsScriptOf c.args.bytes.now (record { head = head; parts = l })) (sym c.of.ensures) (
+    subst (λ (l : List Part). IsScriptOf c.args.bytes.now (record { head = head; parts = l })) (sym c.of.ensures) (
       record { is_head = c.in_ok-head.ensures.head; each_part = are.each_part; rising = are.rising },
       c.in_ok-head.ensures.text ∙ ap (λ l. head_text head ++ l) (are.text ∙ ap (λ l. flat_map part_line parts ++ l) (last ∙ ap end_line count)),
     )

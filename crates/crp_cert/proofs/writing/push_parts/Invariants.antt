@@ -3,8 +3,7 @@ use Rattle.std.proofs.Common.{◌≡◌, ◌++◌, take}
 use Rattle.std.specs.List.{flat_map}
 use Rattle.crp_tree.specs.Parts.{part_of}
 use Rattle.crp_cert.specs.Script.{part_line}
-use Rattle.crp_cert.specs.Writing.{raw_of_part}
 use Rattle.crp_cert.proofs.writing.push_parts.Given as goal
 
 abbrev pub invariant-loop-part : goal.invariant-loop-part
-invariant-loop-part l = l.text.items ≡ l.initial.text.items ++ flat_map (λ part. part_line (raw_of_part (part_of part))) (take l.part-index l.parts)
+invariant-loop-part l = l.text.items ≡ l.initial.text.items ++ flat_map (λ part. part_line (part_of part)) (take l.part-index l.parts)

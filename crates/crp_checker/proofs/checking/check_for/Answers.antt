@@ -4,7 +4,7 @@ use Rattle.crp_plan.specs.Bay.{cap, IsPlan}
 use Rattle.crp_checker.specs.Verdicts.{Says}
 use Rattle.crp_checker.specs.declared.refused.Refused.TheVariants.{OtherProblem}
 use Rattle.crp_cert.specs.Script.{claim_of}
-use Rattle.crp_checker.specs.Claims.{IsAcceptedText}
+use Rattle.crp_checker.specs.AcceptedTexts.{IsAcceptedText}
 use Rattle.crp_checker.proofs.Meaning.{says_from, bound_of_head, none_of_head, claim_refused_if, head_is}
 use Rattle.crp_checker.proofs.SameText.{rejected}
 use Rattle.crp_checker.proofs.checking.check_for.Goals as goal

@@ -1,13 +1,12 @@
 use Rattle.std.proofs.Common.{◌^◌, ◌<◌, length, sym, subst}
 use Rattle.std.proofs.lemmas.Result.{err_from_is_err_and}
-use Rattle.crp_tree.specs.Scripts.{nodes_in}
-use Rattle.crp_cert.specs.Script.{part_of_raw}
+use Rattle.crp_tree.specs.Claims.{nodes_in}
 use Rattle.crp_checker.proofs.PartSteps.{named_nodes_around, refused_in}
 use Rattle.crp_checker.proofs.parts.walk_parts.Goals as goal
 
 pub walk_part-requires-clause-few : goal.walk_part-requires-clause-few
 walk_part-requires-clause-few c =
-    subst (λ x. length (nodes_in c.args.problem.now (part_of_raw x)) < 2 ^ 64) (sym c.part-item.is) (c.requires.few c.loop-part.part-index c.part-item.result c.loop-part-test.true)
+    subst (λ x. length (nodes_in c.args.problem.now x) < 2 ^ 64) (sym c.part-item.is) (c.requires.few c.loop-part.part-index c.part-item.result c.loop-part-test.true)
 
 pub returns-in_err-walk_part-clause-refused : goal.returns-in_err-walk_part-clause-refused
 returns-in_err-walk_part-clause-refused c =

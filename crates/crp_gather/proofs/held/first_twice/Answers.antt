@@ -1,7 +1,7 @@
 use Rattle.std.proofs.Common.{◌≡◌, ℕ, ◌+◌, ◌-◌, ◌≤◌, [], get_or, sym, ◌∙◌, subst, arith}
 use Rattle.std.proofs.lemmas.List.{get_or_default}
 use Rattle.crp_tree.proofs.Ordered.{same_rows}
-use Rattle.crp_tree.specs.Scripts.{times}
+use Rattle.crp_tree.specs.Claims.{times}
 use Rattle.crp_tree.specs.Names.{IsFirst}
 use Rattle.crp_gather.proofs.InOrder.{AreApart, twice_first, none_twice}
 use Rattle.crp_gather.proofs.held.first_twice.Goals as goal

@@ -3,9 +3,9 @@ use Rattle.crp_plan.specs.Rows.{tallest}
 use Rattle.crp_plan.specs.Bay.{cap}
 use Rattle.crp_tree.specs.declared.tree.Tree.{CutL}
 use Rattle.crp_tree.specs.Trees.{least_value}
-use Rattle.crp_tree.specs.Scripts.{nodes_in}
-use Rattle.crp_tree.specs.Parts.{ProblemPart}
-use Rattle.crp_cert.specs.Writing.{CanBeSpelled, claimed}
+use Rattle.crp_tree.specs.Claims.{nodes_in}
+use Rattle.crp_tree.specs.Parts.{ProblemPart, claimed}
+use Rattle.crp_cert.specs.Writing.{CanBeSpelled}
 use Rattle.crp_cert.proofs.Worked.{four, four_show, three_rows, part_at_root, spelled_at_root}
 use Rattle.crp_file_tests.proofs.cert.told.cut_ahead.Goals as goal
 

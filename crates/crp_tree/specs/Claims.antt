@@ -1,10 +1,11 @@
--- Scripts: parts that give subtrees to each other, and the lower bound that they claim.
+-- Claims: parts that give subtrees to each other, and the lower bound that they show.
 use Rattle.std.specs.Prelude.{◌≡◌, ◌≢◌, ℕ, ◌≤◌, ◌⊎◌, ◌↔◌, List, [], ◌∷◌, length, map, flat_map, Contains, All, AllPairs, count_by, Bool, true, false, ◌==◌, ◌&&◌, Option, IfSome, option_map, unwrap_or}
 use Rattle.crp_plan.specs.Bay.{Problem, IsProblem, Position, IsAt, cap}
+use Rattle.crp_plan.specs.Plans.{Route}
 use Rattle.crp_plan.specs.Faults.{IsPlanPath}
 use Rattle.crp_bay.specs.Positions.{at}
 use Rattle.crp_tree.specs.declared.tree.Tree.{Tree}
-use Rattle.crp_tree.specs.Trees.{Node, nodes, given_names, HasShape, HasAtLeast, Shows}
+use Rattle.crp_tree.specs.Trees.{Node, nodes, given_names, HasShape, HasAtLeast}
 
 -- a part of a search: a tree, and the name of the path that it stands at
 pub record Part : Type 0 where
@@ -49,30 +50,24 @@ IsRootOrGiven given name = (name ≡ []) ⊎ Contains given name
 abbrev pub IsNeeded : Problem → List Part → List ℕ → Type 0
 IsNeeded p parts name = IsRootOrGiven (flat_map (given_by p) parts) name
 
--- what a certificate claims of a problem: a lower bound, a plan or none, and the parts that show the bound
-pub record Script : Type 0 where
+-- the path of a plan, if there is one
+abbrev pub path_in : Option Route → Option (List ℕ)
+path_in plan = option_map (λ route. route.path) plan
+
+-- what is claimed of a problem: a lower bound, a plan or none, and the parts that show the bound
+pub record Claim : Type 0 where
   pub problem : Problem
   pub lower : ℕ
   pub plan : Option (List ℕ)
   pub parts : List Part
 
--- an accepted script: its bound is at most the cap, its plan is complete and legal, each part has its shape and no cut below the bound,
+-- an accepted claim: its bound is at most the cap, its plan is complete and legal, each part has its shape and no cut below the bound,
 -- no two parts have one name, and the names of the parts are the needed ones, no more and no fewer
-pub record IsAccepted (script : Script) : Type 0 where
-  pub is_problem : IsProblem script.problem
-  pub within_cap : script.lower ≤ cap script.problem
-  pub plan_is : IfSome script.plan (IsPlanPath script.problem)
-  pub each_part : All (IsPart script.problem) script.parts
-  pub each_cut : All (λ part. HasAtLeast script.lower (nodes_in script.problem part)) script.parts
-  pub each_once : AllPairs ◌≢◌ (names script.parts)
-  pub as_needed : (name : List ℕ) → Contains (names script.parts) name ↔ IsNeeded script.problem script.parts name
-
--- a part, and the floor that it claims
-pub record Floored : Type 0 where
-  pub part : Part
-  pub floor : ℕ
-
--- it is a part of the problem, and shows that floor at its name
-pub record KeepsFloor (p : Problem) (known : Floored) : Type 0 where
-  pub is_part : IsPart p known.part
-  pub shows : Shows p known.part.name (given_by p known.part) known.floor
+pub record IsAccepted (claim : Claim) : Type 0 where
+  pub is_problem : IsProblem claim.problem
+  pub within_cap : claim.lower ≤ cap claim.problem
+  pub plan_is : IfSome claim.plan (IsPlanPath claim.problem)
+  pub each_part : All (IsPart claim.problem) claim.parts
+  pub each_cut : All (λ part. HasAtLeast claim.lower (nodes_in claim.problem part)) claim.parts
+  pub each_once : AllPairs ◌≢◌ (names claim.parts)
+  pub as_needed : (name : List ℕ) → Contains (names claim.parts) name ↔ IsNeeded claim.problem claim.parts name

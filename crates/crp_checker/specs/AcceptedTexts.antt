@@ -1,7 +1,7 @@
 -- When a certificate is accepted.
 use Rattle.std.specs.Prelude.{◌≡◌, ℕ, List, Option, IfSome}
 use Rattle.crp_plan.specs.Bay.{Problem}
-use Rattle.crp_tree.specs.Scripts.{IsAccepted}
+use Rattle.crp_tree.specs.Claims.{IsAccepted}
 use Rattle.crp_cert.specs.declared.script.Script.{Script}
 use Rattle.crp_cert.specs.Script.{IsScriptOf, claim_of}
 
@@ -9,7 +9,7 @@ use Rattle.crp_cert.specs.Script.{IsScriptOf, claim_of}
 abbrev pub IsWanted : Option Problem → Problem → Type 0
 IsWanted wanted p = IfSome wanted (λ q. q ≡ p)
 
--- the bytes are the text of an accepted script, whose problem is the one that is asked for, if one is
+-- the bytes are the text of a script whose claim is accepted, and whose problem is the one that is asked for, if one is
 pub record IsAcceptedText (wanted : Option Problem) (bytes : List ℕ) (script : Script) : Type 0 where
   pub is_text : IsScriptOf bytes script
   pub as_wanted : IsWanted wanted script.head.problem
