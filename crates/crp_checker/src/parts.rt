@@ -10,20 +10,20 @@ ghost use Rattle.crp_checker.specs.Walks.{IsPartRefusal, IsWalkRefusal};
 use crate::path::Path;
 use crate::refused::Refused;
 use crate::walk::{Halt, Walk, walk_tree};
-use crp_bay::Position;
+use crp_bounds::Bounded;
 use crp_cert::PartLine;
 use crp_plan::Problem;
 use std::alloc::{AllocError, Global};
 
-/// The position that the name of a part leads to.
-fn place_of(problem: &Problem, part: &PartLine) -> Position
+/// The position that the name of a part leads to, with its bounds.
+fn place_of(problem: &Problem, part: &PartLine) -> Bounded
     requires { IsPartLine problem.now part.now }
     ensures { at problem.now part.now.name ≡ Some result.place }
 {
-    let Some(position) = part.name().position(problem) else {
+    let Some(place) = part.name().bounded(problem) else {
         unreachable!()
     };
-    position
+    place
 }
 
 /// Goes to the top of a part.
@@ -53,9 +53,9 @@ fn walk_part(
         ≡ walk.old.given.items ++ given_by problem.now part.now) }
     ensures refused { IfErr result (IsPartRefusal lower (named_nodes problem.now part.now)) }
 {
-    let position = place_of(problem, part);
+    let mut place = place_of(problem, part);
     go_to(part, walk)?;
-    match walk_tree(alloc, lower, &position, part.tree(), walk) {
+    match walk_tree(alloc, lower, &mut place, part.tree(), walk) {
         Ok(()) => Ok(()),
         Err(Halt::Low { symbol }) => {
             let part = Path::from_rows(alloc, part.name().rows())?;

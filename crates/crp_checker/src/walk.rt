@@ -6,8 +6,7 @@ ghost use Rattle.crp_tree.specs.Listed.{nodes_below};
 ghost use Rattle.crp_checker.specs.Walks.{HasWalked, IsHalt};
 
 use crate::path::Path;
-use crp_bay::Position;
-use crp_bounds::{blocking, look_ahead};
+use crp_bounds::Bounded;
 use crp_tree::Tree;
 use std::alloc::{AllocError, AllocFailed, Global};
 
@@ -53,34 +52,35 @@ pub struct Walk {
     pub given: Vec<Path>,
 }
 
-/// Goes over all nodes of a tree at a position, as long as they are right.
+/// Goes over all nodes of a tree at a position, as long as they are right. Where they are, the position is as it was.
 #[cycle(walking)]
 pub fn walk_tree(
     alloc: Global,
     lower: u32,
-    position: &Position,
+    place: &mut Bounded,
     tree: &Tree,
     walk: &mut Walk,
 ) -> Result<(), Halt>
-    requires { walk.old.count + length (nodes walk.old.path.items position.now.place tree.now) < 2 ^ 64 }
-    ensures over { OnOk result (HasWalked lower (nodes walk.old.path.items position.now.place tree.now)
+    requires { walk.old.count + length (nodes walk.old.path.items place.old.place tree.now) < 2 ^ 64 }
+    ensures over { OnOk result (HasWalked lower (nodes walk.old.path.items place.old.place tree.now)
         walk.old walk.new) }
     ensures halt { IfErr result (IsHalt lower walk.old.count
-        (nodes walk.old.path.items position.now.place tree.now)) }
+        (nodes walk.old.path.items place.old.place tree.now)) }
+    ensures same { OnOk result (place.new ≡ place.old) }
 {
     walk.count += 1;
     match tree {
-        Tree::CutB => meet_cut(lower, blocking(position), walk),
-        Tree::CutL => meet_cut(lower, look_ahead(position), walk),
+        Tree::CutB => meet_cut(lower, place.blocking(), walk),
+        Tree::CutL => meet_cut(lower, place.look_ahead(), walk),
         Tree::Given => {
             meet_given(alloc, walk)?;
             Ok(())
         }
         Tree::Branch(trees) => {
-            if position.is_done() {
+            if place.position().is_done() {
                 return Err(Halt::AtEnd { symbol: walk.count });
             }
-            walk_each(alloc, lower, position, trees, walk)
+            walk_each(alloc, lower, place, trees, walk)
         }
     }
 }
@@ -90,30 +90,30 @@ pub fn walk_tree(
 fn walk_each(
     alloc: Global,
     lower: u32,
-    position: &Position,
+    place: &mut Bounded,
     trees: &[Tree],
     walk: &mut Walk,
 ) -> Result<(), Halt>
     requires { walk.old.count
-        + length (nodes_below walk.old.path.items position.now.place (targets position.now.place) trees.now) < 2 ^ 64 }
+        + length (nodes_below walk.old.path.items place.old.place (targets place.old.place) trees.now) < 2 ^ 64 }
     ensures over { OnOk result (HasWalked lower
-        (nodes_below walk.old.path.items position.now.place (targets position.now.place) trees.now)
+        (nodes_below walk.old.path.items place.old.place (targets place.old.place) trees.now)
         walk.old walk.new) }
     ensures halt { IfErr result (IsHalt lower walk.old.count
-        (nodes_below walk.old.path.items position.now.place (targets position.now.place) trees.now)) }
+        (nodes_below walk.old.path.items place.old.place (targets place.old.place) trees.now)) }
+    ensures same { OnOk result (place.new ≡ place.old) }
 {
-    let rows = position.targets();
+    let rows = place.position().targets();
     for (i, tree) in trees.iter().enumerate() {
         if i >= rows.len() {
             return Ok(());
         }
         let row = rows[i];
-        let Some(child) = position.child(row) else {
-            unreachable!()
-        };
+        let _pushed = place.push(row);
         walk.path.push(row)?;
-        walk_tree(alloc, lower, &child, tree, walk)?;
+        walk_tree(alloc, lower, place, tree, walk)?;
         walk.path.pop();
+        let _popped = place.pop();
     }
     Ok(())
 }

@@ -3,6 +3,5 @@ pub mod Choice
 pub mod Greedily
 pub mod Steps
 pub mod Branching
-pub mod Walking
 pub mod Halfway
 pub mod Owing

@@ -1,7 +1,7 @@
 //! Branch and bound over the paths of a problem.
-ghost use Rattle.std.specs.Prelude.{◌≡◌, ℕ, ◌+◌, ◌<◌, ◌≤◌, List, [], ◌∷◌, ◌++◌, length, min, All, IfOk, OnOk, IfSome, IfNone, IsTrue, IsFalse, Some, Contains};
+ghost use Rattle.std.specs.Prelude.{◌≡◌, ℕ, ◌+◌, ◌<◌, ◌≤◌, List, [], ◌∷◌, ◌++◌, length, min, All, IfOk, OnOk, IfSome, IfNone, IsTrue, IsFalse, Contains};
 ghost use Rattle.crp_plan.specs.Bay.{IsProblem, IsAt, IsFinished, Position as Place, cap};
-ghost use Rattle.crp_bay.specs.Positions.{at, child, targets};
+ghost use Rattle.crp_bay.specs.Positions.{child, targets};
 ghost use Rattle.crp_bounds.specs.Bounds.{blocking as blocking_bound};
 ghost use Rattle.crp_tree.specs.Trees.{IsGiven};
 ghost use Rattle.crp_tree.specs.Parts.{IsKeptPart, given_of, cuts_in, branches_in};
@@ -224,19 +224,6 @@ fn search_from<L: Limit>(
     }
 }
 
-/// The position at the path, with its bounds.
-fn place_at(problem: &Problem, path: &[u8]) -> Bounded
-    requires { (s : Place) × IsAt problem.now path.now s }
-    ensures at { IsAt problem.now path.now result.place }
-    ensures value { at problem.now path.now ≡ Some result.place }
-{
-    let mut place = Bounded::start(problem);
-    for row in path {
-        let _pushed = place.push(*row);
-    }
-    place
-}
-
 /// Searches the part of this name. The name must be a path of the problem, and the limit be of the problem.
 ///
 /// At a path the limit is seen. A finished path's plan is offered where it has fewer relocations, and the node is
@@ -272,7 +259,9 @@ pub fn search<L: Limit>(
     ensures same { (L.problem limit.new ≡ L.problem limit.old) × (L.budget limit.new ≡ L.budget limit.old) }
     ensures more_puts { PutsMore (L.puts limit.old) (L.puts limit.new) }
 {
-    let mut place = place_at(problem, name.rows());
+    let Some(mut place) = name.bounded(problem) else {
+        unreachable!()
+    };
     let mut path = Path::new();
     let Ok(()) = path.try_extend_from_slice(name.rows()) else {
         unreachable!()

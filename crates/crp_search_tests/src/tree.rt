@@ -1,4 +1,5 @@
 use crp_bay::Position;
+use crp_bounds::Bounded;
 use crp_plan::Problem;
 use crp_tree::{MAX_NAME, Name};
 use std::alloc::{AllocError, Global};
@@ -141,6 +142,32 @@ fn positions_of_names_of_six_containers(rt: HostRuntime) -> Result<(), Fail> {
     Ok(())
 }
 
+fn bounded_of(name: &Name, problem: &Problem) -> Option<Bounded> {
+    name.bounded(problem)
+}
+
+/// The blocking bound and the look-ahead bound at a path.
+fn bounds_are(rt: &impl Abort, problem: &Problem, rows: &[u8], low: u32, high: u32) {
+    let bounded = bounded_of(&named(rt, rows), problem).expect(rt, "a path");
+    assert_eq!(rt; bounded.blocking(), low, "after {rows:?}");
+    assert_eq!(rt; bounded.look_ahead(), high, "after {rows:?}");
+}
+
+#[test]
+fn bounds_of_names_of_six_containers(rt: HostRuntime) -> Result<(), Fail> {
+    let problem = six_containers(rt.alloc())?;
+    let cases: [(&[u8], u32, u32); 4] = [
+        (&[2], 1, 2),
+        (&[3], 2, 2),
+        (&[2, 2], 1, 1),
+        (&[2, 2, 1], 0, 0),
+    ];
+    for (rows, low, high) in cases {
+        bounds_are(&rt, &problem, rows, low, high);
+    }
+    Ok(())
+}
+
 #[test]
 fn names_without_a_position(rt: HostRuntime) -> Result<(), Fail> {
     let problem = six_containers(rt.alloc())?;
@@ -148,6 +175,10 @@ fn names_without_a_position(rt: HostRuntime) -> Result<(), Fail> {
     for rows in no_paths {
         assert!(rt;
             position_of(&named(&rt, rows), &problem).is_none(),
+            "{rows:?}"
+        );
+        assert!(rt;
+            bounded_of(&named(&rt, rows), &problem).is_none(),
             "{rows:?}"
         );
     }

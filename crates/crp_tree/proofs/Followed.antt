@@ -1,6 +1,6 @@
 -- Following a path row by row.
 use Rattle.std.proofs.Common.{◌≡◌, ℕ, ◌+◌, ◌<◌, ◌≤◌, ⊎_elim, Bool, true, false, IsTrue, List, [], ◌∷◌, length, drop, get_or, Option, Some, None, IsSome, IfSome, Contains, ◌↔◌, refl, sym, ap, ◌∙◌, subst, add-one}
-use Rattle.std.specs.Bool.{OnTrue}
+use Rattle.std.specs.Bool.{OnTrue, OnFalse}
 use Rattle.std.proofs.Math.Seq.{drop-cons}
 use Rattle.std.proofs.lemmas.Bool.{cases_Bool}
 use Rattle.std.proofs.lemmas.List.{drop_all}
@@ -53,6 +53,22 @@ pub record Pushes (old : Standing) (row : ℕ) (new : Standing) (is_pushed : Boo
 pub legal_push : (old : Standing) (row : ℕ) (new : Standing) (is_pushed : Bool) → Pushes old row new is_pushed → Contains (targets old.place) row → new ≡ record { place = child old.place row; trail = old.place ∷ old.trail }
 legal_push old row new true k legal = k.pushed
 legal_push old row new false k legal = let no = k.target.1 legal in cc
+
+-- what a pop makes of a position
+pub record Pops (old new : Standing) (is_popped : Bool) : Type 0 where
+  pub popped : OnTrue is_popped (old.trail ≡ new.place ∷ new.trail)
+  pub none : OnFalse is_popped (old.trail ≡ [])
+
+-- what was pushed is popped
+pub pop_back : (before old new : Standing) (row : ℕ) (is_popped : Bool) → old ≡ record { place = child before.place row; trail = before.place ∷ before.trail } → Pops old new is_popped → new ≡ before
+pop_back before old new row true e k =
+    let same : before.place ∷ before.trail ≡ new.place ∷ new.trail = sym (ap (λ (v : Standing). v.trail) e) ∙ k.popped in
+    let a : before.place ≡ new.place = cc in
+    let b : before.trail ≡ new.trail = cc in
+    sym (ap (λ (s : Position). record { place = s; trail = before.trail }) a ∙ ap (λ (t : List Position). record { place = new.place; trail = t }) b)
+pop_back before old new row false e k =
+    let no : before.place ∷ before.trail ≡ [] = sym (ap (λ (v : Standing). v.trail) e) ∙ k.none in
+    absurd (cc)
 
 -- it is made: the walk goes on from there
 pub pushed_on : (old new : Standing) (rows items : List ℕ) (i : ℕ) (is_pushed : Bool) → items ≡ rows → i < length items → is_pushed ≡ true → Pushes old (get_or items i 0) new is_pushed → walk new.place (drop (i + 1) rows) ≡ walk old.place (drop i rows)

@@ -11,6 +11,7 @@ ghost use Rattle.crp_tree.specs.Names.{Precedes, name_text};
 use crate::path_text::PathText;
 use arrayvec::ArrayVec;
 use crp_bay::Position;
+use crp_bounds::Bounded;
 use crp_plan::Problem;
 use std::cmp::Ordering;
 use std::fmt::{self, Display, Formatter, Write};
@@ -107,6 +108,24 @@ impl Name {
             }
         }
         Some(position)
+    }
+
+    /// The position at the path with its bounds. `None` exactly where the name is no path of the problem.
+    pub fn bounded(&self, problem: &Problem) -> Option<Bounded>
+        ensures path { IsSome result ↔ ((s : Place) × IsAt problem.now self.now s) }
+        ensures at { IfSome result (λ s. IsAt problem.now self.now s.place) }
+        ensures problem { IsProblem problem.now }
+
+        // What the definitions compute.
+        ensures value { option_map (λ s. s.place) result ≡ at problem.now self.now }
+    {
+        let mut bounded = Bounded::start(problem);
+        for row in self.rows() {
+            if !bounded.push(*row) {
+                return None;
+            }
+        }
+        Some(bounded)
     }
 
     /// Whether this name stands before the other.
