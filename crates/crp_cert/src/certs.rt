@@ -46,16 +46,17 @@ fn next_part<'a>(
     ensures refused { IfErr result (λ fault. (fault ≡ CertFault.Memory)
         ⊎ IsLineFault problem.now parts.now line (codes "part " ++ bytes.now) fault) }
 {
-    let Some(told) = part_line(problem, bytes) else {
+    let Some(mut told) = part_line(problem, bytes) else {
         return Err(CertFault::Part { line });
     };
     if !comes_after(parts, &told.name) {
         return Err(CertFault::Order { line });
     }
-    if !are_symbols(told.symbols) {
+    let symbols = told.symbols;
+    if !are_symbols(symbols) {
         return Err(CertFault::Symbol { line });
     }
-    let Some((tree, left)) = read_tree(alloc, &told.place, told.symbols)? else {
+    let Some((tree, left)) = read_tree(alloc, &mut told.place, symbols)? else {
         return Err(CertFault::Unfinished { line });
     };
     if !left.is_empty() {

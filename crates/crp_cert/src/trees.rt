@@ -28,14 +28,15 @@ pub fn are_symbols(bytes: &[u8]) -> bool
     after_tag(b"G", bytes).is_none()
 }
 
-/// The tree whose symbols the bytes begin with, and what follows them.
+/// The tree whose symbols the bytes begin with, and what follows them. Where there is one the position is what it was.
 pub fn read_tree<'a>(
     alloc: Global,
-    place: &Position,
+    place: &mut Position,
     bytes: &'a [u8],
 ) -> Result<Option<(Tree, &'a [u8])>, AllocError>
-    ensures found { IfOk result (λ found. IfSome found (λ x. Fits place.now.place x.0 × (bytes.now ≡ symbols_of x.0 ++ x.1.now))) }
-    ensures none { IfOk result (λ found. IfNone found (¬ BeginsWithTree place.now.place bytes.now)) }
+    ensures found { IfOk result (λ found. IfSome found (λ x. Fits place.old.place x.0 × (bytes.now ≡ symbols_of x.0 ++ x.1.now))) }
+    ensures back { IfOk result (λ found. IfSome found (λ x. place.new ≡ place.old)) }
+    ensures none { IfOk result (λ found. IfNone found (¬ BeginsWithTree place.old.place bytes.now)) }
 {
     if let Some(rest) = after_tag(b"B", bytes) {
         return Ok(Some((Tree::CutB, rest)));
@@ -49,14 +50,16 @@ pub fn read_tree<'a>(
     let Some(mut rest) = after_tag(b"X", bytes) else {
         return Ok(None);
     };
+    let targets = place.targets();
     let mut trees = Vec::new(alloc);
-    for row in place.targets().as_slice() {
-        let Some(next) = place.child(*row) else {
+    for row in targets.as_slice() {
+        if !place.push(*row) {
+            return Ok(None);
+        }
+        let Some((tree, after)) = read_tree(alloc, place, rest)? else {
             return Ok(None);
         };
-        let Some((tree, after)) = read_tree(alloc, &next, rest)? else {
-            return Ok(None);
-        };
+        let _popped = place.pop();
         trees.push(tree)?;
         rest = after;
     }

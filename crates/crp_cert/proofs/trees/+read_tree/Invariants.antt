@@ -11,7 +11,8 @@ decreases-read_tree l = length l.bytes.now
 
 abbrev pub invariant-loop-row : goal.invariant-loop-row
 invariant-loop-row l = record {
-  rows : l.row-items ≡ targets l.place.place;
-  match : AreFit l.place.place (take l.row-index l.row-items) l.trees.items;
+  same : l.place ≡ l.fn.place;
+  rows : l.row-items ≡ targets l.fn.place.place;
+  match : AreFit l.fn.place.place (take l.row-index l.row-items) l.trees.items;
   text : l.bytes ≡ (codes "X" ++ flat_map symbols_of l.trees.items) ++ l.rest;
 }
