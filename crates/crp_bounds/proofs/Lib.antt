@@ -2,6 +2,7 @@ pub mod Blocked
 pub mod Stuck
 pub mod Bounding
 pub mod Meaning
+pub mod BlockingPlaces
 pub mod Floors
 pub mod Counting
 pub mod Worked
