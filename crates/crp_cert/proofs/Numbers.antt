@@ -1,5 +1,6 @@
 -- What is read from the front of bytes is what its text says, and a text is read again: fixed words and numbers.
 use Rattle.std.proofs.Common.{◌≡◌, ℕ, zero, suc, ◌+◌, ◌-◌, ◌*◌, ◌/◌, ◌%◌, ◌<◌, ◌≤◌, ◌⊎◌, inl, inr, ⊎_elim, Bool, true, false, cond, ◌==◌, List, [], ◌∷◌, ◌++◌, length, drop, Option, Some, None, refl, sym, ap, ◌∙◌, subst, arith, append_assoc, nat_le, nat_lt}
+use Rattle.std.specs.Char.{is_ascii_digit}
 use Rattle.std.specs.List.{AllByRecursion}
 use Rattle.std.specs.Fmt.{decimal}
 use Rattle.std.proofs.lemmas.Bool.{and_parts, and_from, leb-true, le-leb, eqb-true, eqb-false, eq-eqb, ne_eqb, ltb-false, le-ltb, cases_lt}
@@ -7,7 +8,7 @@ use Rattle.std.proofs.lemmas.Option.{some_pair_parts, same_Some}
 use Rattle.std.proofs.lemmas.List.{append-nil}
 use Rattle.std.proofs.lemmas.Fmt.{decimal_digit, decimal_step, decimal_by_steps}
 use Rattle.crp_cert.specs.Text.{spaced}
-use Rattle.crp_cert.specs.Reading.{◌>>=◌, tag_at, is_digit, digits_at, number_at, spaced_at, newline_at, numbers_at}
+use Rattle.crp_cert.specs.Reading.{◌>>=◌, tag_at, digits_at, number_at, spaced_at, newline_at, numbers_at}
 
 -- ---- steps
 
@@ -57,11 +58,11 @@ newline_takes (b ∷ bytes) rest e =
 -- ---- numbers
 
 -- a digit is a byte from 48 to 57
-digit_parts : (b : ℕ) → is_digit b ≡ true → (48 ≤ b) × (b ≤ 57)
+digit_parts : (b : ℕ) → is_ascii_digit b ≡ true → (48 ≤ b) × (b ≤ 57)
 digit_parts b e = let p = and_parts (nat_le 48 b) (nat_le b 57) e in (leb-true 48 b p.0, leb-true b 57 p.1)
 
 -- and such a byte is a digit
-digit_from : (b : ℕ) → 48 ≤ b → b ≤ 57 → is_digit b ≡ true
+digit_from : (b : ℕ) → 48 ≤ b → b ≤ 57 → is_ascii_digit b ≡ true
 digit_from b lo hi = and_from (nat_le 48 b) (nat_le b 57) (le-leb 48 b lo) (le-leb b 57 hi)
 
 -- one more digit behind a number
@@ -91,7 +92,7 @@ digits_take limit value (b ∷ bytes) n rest most some low e =
     (λ no.
     let p = some_pair_parts value n (b ∷ bytes) rest no.1 in
     (ap (λ x. decimal x ++ b ∷ bytes) p.0 ∙ ap (λ x. decimal n ++ x) p.1, subst (λ x. x ≤ limit) p.0 low))
-    (chosen (is_digit b) (cond (nat_lt limit more) None (digits_at limit more bytes)) (Some (value, b ∷ bytes)) (Some (n, rest)) e)
+    (chosen (is_ascii_digit b) (cond (nat_lt limit more) None (digits_at limit more bytes)) (Some (value, b ∷ bytes)) (Some (n, rest)) e)
 
 -- a number that was read is what the bytes begin with
 pub number_takes : (limit : ℕ) (bytes : List ℕ) (n : ℕ) (rest : List ℕ) → 9 ≤ limit → limit ≤ 9999 → number_at limit bytes ≡ Some (n, rest) → (bytes ≡ decimal n ++ rest) × (n ≤ limit)
@@ -105,12 +106,12 @@ number_takes limit (b ∷ bytes) n rest least most e =
     (ap (λ x. x ∷ bytes) same ∙ ap (λ x. x ++ bytes) (sym text) ∙ ap (λ x. decimal x ++ bytes) p.0 ∙ ap (λ x. decimal n ++ x) p.1, omega (arith, p.0)))
     (λ other.
     let ne = eqb-false b 48 other.0 in
-    let c = if_some (is_digit b) (digits_at limit (b - 48) bytes) (n, rest) other.1 in
+    let c = if_some (is_ascii_digit b) (digits_at limit (b - 48) bytes) (n, rest) other.1 in
     let d = digit_parts b c.0 in let lo = d.0 in let hi = d.1 in
     let r = digits_take limit (b - 48) bytes n rest most (omega arith) (omega arith) c.1 in
     let text : decimal (b - 48) ≡ b ∷ [] = decimal_digit (b - 48) (omega arith) ∙ (let k : 48 + (b - 48) ≡ b = omega arith in ap (λ x. x ∷ []) k) in
     (ap (λ x. x ++ bytes) (sym text) ∙ r.0, r.1))
-    (chosen (b == 48) (Some (0, bytes)) (cond (is_digit b) (digits_at limit (b - 48) bytes) None) (Some (n, rest)) e)
+    (chosen (b == 48) (Some (0, bytes)) (cond (is_ascii_digit b) (digits_at limit (b - 48) bytes) None) (Some (n, rest)) e)
 
 -- a number's digits are read as far as they go
 started : (limit n : ℕ) (more : List ℕ) → limit ≤ 9999 → 1 ≤ n → n ≤ limit → number_at limit (decimal n ++ more) ≡ digits_at limit n more
@@ -133,7 +134,7 @@ started limit n more most some low = decimal_by_steps P one step n (omega arith)
         ap (number_at limit) (append_assoc ds (b ∷ []) more) ∙ h (b ∷ more) (omega arith) (omega arith) ∙ next
 
 -- a number is read again where no digit follows
-pub number_again : (limit n stop : ℕ) (rest : List ℕ) → 9 ≤ limit → limit ≤ 9999 → n ≤ limit → is_digit stop ≡ false → number_at limit (decimal n ++ stop ∷ rest) ≡ Some (n, stop ∷ rest)
+pub number_again : (limit n stop : ℕ) (rest : List ℕ) → 9 ≤ limit → limit ≤ 9999 → n ≤ limit → is_ascii_digit stop ≡ false → number_at limit (decimal n ++ stop ∷ rest) ≡ Some (n, stop ∷ rest)
 number_again limit n stop rest least most low not =
     ⊎_elim
     (λ none. let z : 0 ≡ n = omega arith in
@@ -151,7 +152,7 @@ spaced_takes limit (b ∷ bytes) n rest least most e =
     (ap (λ x. x ∷ bytes) same ∙ ap (λ x. 32 ∷ x) r.0, r.1)
 
 -- and again behind a space
-pub spaced_again : (limit n stop : ℕ) (rest : List ℕ) → 9 ≤ limit → limit ≤ 9999 → n ≤ limit → is_digit stop ≡ false → spaced_at limit (32 ∷ (decimal n ++ stop ∷ rest)) ≡ Some (n, stop ∷ rest)
+pub spaced_again : (limit n stop : ℕ) (rest : List ℕ) → 9 ≤ limit → limit ≤ 9999 → n ≤ limit → is_ascii_digit stop ≡ false → spaced_at limit (32 ∷ (decimal n ++ stop ∷ rest)) ≡ Some (n, stop ∷ rest)
 spaced_again limit n stop rest least most low not = number_again limit n stop rest least most low not
 
 -- ---- numbers to the end of a line
@@ -211,7 +212,7 @@ pub record Stops (bytes : List ℕ) : Type 0 where
   pub stop : ℕ
   pub rest : List ℕ
   pub is : bytes ≡ stop ∷ rest
-  pub not_digit : is_digit stop ≡ false
+  pub not_digit : is_ascii_digit stop ≡ false
 
 -- what stands behind a number of a line
 pub stops : (ns rest : List ℕ) → Stops (spaced ns ++ 10 ∷ rest)

@@ -1,5 +1,6 @@
 -- Names of parts: what is read is what the name says and leads where it leads, and a name is read again.
 use Rattle.std.proofs.Common.{◌≡◌, ◌≢◌, ℕ, zero, suc, ◌+◌, ◌-◌, ◌<◌, ◌≤◌, ⊎_elim, Bool, true, false, cond, ◌==◌, List, [], ◌∷◌, ◌++◌, length, Contains, Option, Some, None, refl, sym, ap, ◌∙◌, subst, arith, append_assoc}
+use Rattle.std.specs.Char.{is_ascii_digit}
 use Rattle.std.specs.Prelude.{codes}
 use Rattle.std.specs.List.{flat_map, AllByRecursion}
 use Rattle.std.specs.Fmt.{decimal}
@@ -11,7 +12,7 @@ use Rattle.crp_bay.specs.Positions.{can_take, taken, settle, settled, shifted, c
 use Rattle.crp_bay.proofs.Reaching.{shift_needs}
 use Rattle.crp_bay.proofs.Walked.{row_is_target}
 use Rattle.crp_tree.specs.Names.{name_text}
-use Rattle.crp_cert.specs.Reading.{◌>>=◌, tag_at, number_at, is_digit}
+use Rattle.crp_cert.specs.Reading.{◌>>=◌, tag_at, number_at}
 use Rattle.crp_cert.specs.PartReading.{line_at, tagged, in_front, rows_at, name_at}
 use Rattle.crp_cert.proofs.Numbers.{bind_some, if_some, chosen, tag_takes, number_takes, number_again}
 use Rattle.crp_cert.proofs.Lines.{starts_high}
@@ -204,7 +205,7 @@ rows_take (suc room) s bytes name t rest e =
         })
 
 -- rows are read again where neither a digit nor a point follows
-rows_again : (room : ℕ) (s t : Position) (row : ℕ) (rows : List ℕ) (stop : ℕ) (rest : List ℕ) → length s.heights ≤ 12 → length rows < room → walk s (row ∷ rows) ≡ Some t → is_digit stop ≡ false → stop ≢ 46 →
+rows_again : (room : ℕ) (s t : Position) (row : ℕ) (rows : List ℕ) (stop : ℕ) (rest : List ℕ) → length s.heights ≤ 12 → length rows < room → walk s (row ∷ rows) ≡ Some t → is_ascii_digit stop ≡ false → stop ≢ 46 →
     rows_at room s (name_text (row ∷ rows) ++ stop ∷ rest) ≡ Some ((row ∷ rows, t), stop ∷ rest)
 rows_again zero s t row rows stop rest few lt goes not ne = absurd (omega arith)
 rows_again (suc room) s t row [] stop rest few lt goes not ne =
@@ -239,7 +240,7 @@ name_takes p bytes name t rest e = by_tag (tag_at (codes "/") bytes) refl e
         (omega arith, refl, tag_takes (codes "/") bytes after d)
 
 -- a name is read again where neither a digit nor a point follows
-pub name_again : (p : Problem) (name : List ℕ) (t : Position) (stop : ℕ) (rest : List ℕ) → IsProblem p → length name ≤ 8 → at p name ≡ Some t → is_digit stop ≡ false → stop ≢ 46 →
+pub name_again : (p : Problem) (name : List ℕ) (t : Position) (stop : ℕ) (rest : List ℕ) → IsProblem p → length name ≤ 8 → at p name ≡ Some t → is_ascii_digit stop ≡ false → stop ≢ 46 →
     name_at p (name_text name ++ stop ∷ rest) ≡ Some ((name, t), stop ∷ rest)
 unfolding name_at
 name_again p [] t stop rest is few goes not ne = ap (λ (v : Position). Some (([], v), stop ∷ rest)) (same_Some (settled (start p)) t goes)

@@ -35,7 +35,7 @@ fn further_digits(limit: u32, first: u32, bytes: &[u8]) -> Option<(u32, &[u8])>
 {
     let mut value = first;
     for (i, b) in bytes.iter().enumerate() {
-        if *b < b'0' || *b > b'9' {
+        if !b.is_ascii_digit() {
             return Some((value, &bytes[i..]));
         }
         let more = 10 * value + (*b - b'0') as u32;
@@ -56,11 +56,7 @@ pub fn number(limit: u32, bytes: &[u8]) -> Option<(u32, &[u8])>
 {
     match bytes {
         [b'0', rest @ ..] => Some((0, rest)),
-        [b, rest @ ..] if *b >= b'0' && *b <= b'9' => further_digits(
-            limit,
-            (*b - b'0') as u32,
-            rest,
-        ),
+        [b, rest @ ..] if b.is_ascii_digit() => further_digits(limit, (*b - b'0') as u32, rest),
         _ => None,
     }
 }

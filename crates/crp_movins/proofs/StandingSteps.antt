@@ -1,6 +1,7 @@
 -- What a segment leaves in force, by its kind.
 use Prim.Native.Nat.{zero}
 use Rattle.std.proofs.Common.{◌≡◌, ◌≢◌, length, ℕ, suc, ◌+◌, ◌-◌, ◌≤◌, ◌<◌, ◌⊎◌, Bool, true, false, not, cond, eqb, ◌&&◌, List, [], ◌∷◌, Option, Some, None, refl, sym, ap, subst, ◌∙◌, inl, inr, arith, rules, tests, add-one}
+use Rattle.std.proofs.lemmas.Bool.{not-false}
 use Rattle.edi_text.specs.Parts.{SegmentParts}
 use Rattle.crp_movins.specs.declared.fault.MovinsFault.{MovinsFault}
 use Rattle.crp_movins.specs.declared.fault.MovinsFault.TheVariants.{SlotNumber, OrderedTwice, TooManyOrders}
@@ -291,14 +292,6 @@ none-next false fault rest h = (refl, h)
 first_of-further : (faults : List (Bool × MovinsFault)) → first_of faults ≡ None → first_of (further faults) ≡ None
 first_of-further [] h = refl
 first_of-further (fault ∷ faults) h = (none-next fault.0 fault.1 (first_of faults) h).1
-
-pub not-true : (b : Bool) → not b ≡ true → b ≡ false
-not-true true h = absurd (cc)
-not-true false h = refl
-
-pub not-false : (b : Bool) → not b ≡ false → b ≡ true
-not-false true h = refl
-not-false false h = absurd (cc)
 
 -- a loading group that is not faulty has a slot
 pub slot-faultless : (segments : List SegmentParts) (code : List ℕ) (i : ℕ) → fault_at segments code i ≡ None → kind_at segments i ≡ SlotGroup → is_loading segments code i ≡ true → is_slot (text_at segments i 2 1) ≡ true

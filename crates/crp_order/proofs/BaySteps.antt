@@ -14,7 +14,8 @@ use Rattle.std.proofs.lemmas.Bool.{eqb-true}
 use Rattle.crp_yard.specs.Inventory.{times, is_among, FitBay}
 use Rattle.crp_order.specs.BayProblems.{standing, rank_in, ranks_in}
 use Rattle.crp_order.specs.Groups.{names_behind, CanLeave}
-use Rattle.crp_order.proofs.Once.{one_if, here, times-append, some_times, no_times, times-filter, once, one_length}
+use Rattle.crp_yard.proofs.ListingSteps.{times-append, times_absent}
+use Rattle.crp_order.proofs.Once.{one_if, here, some_times, times-filter, once, one_length}
 use Rattle.crp_order.proofs.RankSteps.{rank_low, rank_high, within, rank_at}
 
 -- how many containers pass the test
@@ -48,7 +49,7 @@ names-times left stacks can once c =
         let stands : 1 ≤ times c (standing stacks) = some_times c (standing stacks) (can.there c e) in
         let low = once c in let left_low = can.once c in
         omega (arith, stands, low, left_low, some_times c left e)
-    by false e = omega (arith, no_times c left e)
+    by false e = omega (arith, times_absent c left e)
 
 pub names-length : (left : List (List ℕ)) (stacks : List (List (List ℕ))) → CanLeave left stacks → ((c : List ℕ) → times c (standing stacks) ≤ 1)
     → length (names_behind left stacks) ≡ length (standing stacks)

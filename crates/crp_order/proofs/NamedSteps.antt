@@ -17,7 +17,8 @@ use Rattle.crp_order.specs.declared.bay_problem.BayProblem.{BayProblem}
 use Rattle.crp_order.specs.Sequenced.{AreSequenced}
 use Rattle.crp_order.specs.BayProblems.{standing, leaving, ranked, rank_in, ranks_in, is_called, bay_problem_of, IsNamed}
 use Rattle.crp_order.specs.Groups.{stacks_numbered, names_behind, CanLeave}
-use Rattle.crp_order.proofs.Once.{here, times-append}
+use Rattle.crp_yard.proofs.ListingSteps.{times-append}
+use Rattle.crp_order.proofs.Once.{here}
 use Rattle.crp_order.proofs.RankSteps.{name_of-rank}
 use Rattle.crp_order.proofs.BaySteps.{names-times, names-length, ranks_total}
 use Rattle.crp_order.proofs.YardSteps.{stacks_of_bay, fits, stands_once}

@@ -8,6 +8,7 @@ use Rattle.std.proofs.lemmas.Bool.{false≢true}
 use Rattle.std.proofs.lemmas.Slice.Eq.{bytes_eq-Decides}
 use Rattle.std.proofs.lemmas.Cmp.{nat_list_eq_equiv}
 use Rattle.crp_yard.specs.Inventory.{times, is_among}
+use Rattle.crp_yard.proofs.ListingSteps.{times_absent}
 
 pub same : (a b : List ℕ) → bytes_eq a b ≡ true → a ≡ b
 same a b e = (bytes_eq-Decides a b).0 e
@@ -18,20 +19,12 @@ itself a = (bytes_eq-Decides a a).1 refl
 pub turned : (a b : List ℕ) → bytes_eq a b ≡ bytes_eq b a
 turned a b = nat_list_eq_equiv.symm a b
 
-pub any-map : {X Y : Type 0} (p : Y → Bool) (f : X → Y) (xs : List X) → list_any p (map f xs) ≡ list_any (λ x. p (f x)) xs
-any-map p f [] = refl
-any-map p f (x ∷ xs) = ap (λ b. p (f x) || b) (any-map p f xs)
-
 pub any-turned : (c : List ℕ) (xs : List (Bor (List ℕ))) → list_any (λ x. bytes_eq x.now c) xs ≡ list_any (λ x. bytes_eq c x.now) xs
 any-turned c [] = refl
 any-turned c (x ∷ xs) = rw (turned x.now c, any-turned c xs) refl
 
 abbrev pub one_if : Bool → ℕ
 one_if b = cond b 1 0
-
-pub times-append : (c : List ℕ) (xs ys : List (List ℕ)) → times c (xs ++ ys) ≡ times c xs + times c ys
-times-append c [] ys = omega arith
-times-append c (x ∷ xs) ys = omega (arith, times-append c xs ys)
 
 pub some_times : (c : List ℕ) (xs : List (List ℕ)) → is_among xs c ≡ true → 1 ≤ times c xs
 some_times c [] e = absurd (false≢true e)
@@ -41,20 +34,12 @@ some_times c (x ∷ xs) e = by (bytes_eq c x) e (some_times c xs)
     by true h later = omega arith
     by false h later = omega (arith, later h)
 
-pub no_times : (c : List ℕ) (xs : List (List ℕ)) → is_among xs c ≡ false → times c xs ≡ 0
-no_times c [] e = refl
-no_times c (x ∷ xs) e = by (bytes_eq c x) e (no_times c xs)
-  where
-    by : (b : Bool) → (b || is_among xs c) ≡ false → (is_among xs c ≡ false → times c xs ≡ 0) → one_if b + times c xs ≡ 0
-    by true h later = absurd (false≢true (sym h))
-    by false h later = omega (arith, later h)
-
 pub among : (c : List ℕ) (xs : List (List ℕ)) → 1 ≤ times c xs → is_among xs c ≡ true
 among c xs h = by (is_among xs c) refl
   where
     by : (b : Bool) → is_among xs c ≡ b → b ≡ true
     by true _ = refl
-    by false e = absurd (omega (arith, no_times c xs e))
+    by false e = absurd (omega (arith, times_absent c xs e))
 
 pub here : (x : List ℕ) (xs : List (List ℕ)) → 1 ≤ times x (x ∷ xs)
 here x xs = rw (itself x) (omega arith)

@@ -17,7 +17,8 @@ use Rattle.crp_order.specs.declared.bay_problem.BayProblem.{BayProblem}
 use Rattle.crp_order.specs.Sequenced.{AreSequenced}
 use Rattle.crp_order.specs.BayProblems.{standing, leaving, ranked, ranks_in, is_called, bay_problem_of}
 use Rattle.crp_order.specs.Groups.{stacks_numbered, pointed, names_behind, CanLeave, IsStated, AreGroups}
-use Rattle.crp_order.proofs.Once.{some_times, no_times, among, times-filter, once, filter-same}
+use Rattle.crp_yard.proofs.ListingSteps.{times_absent}
+use Rattle.crp_order.proofs.Once.{some_times, among, times-filter, once, filter-same}
 use Rattle.crp_order.proofs.BaySteps.{names-length, ranks_total, problem_stated}
 use Rattle.crp_order.proofs.YardSteps.{AtBay, at_bay, stacks_of_bay, take_next, fits, stands_once}
 
@@ -40,7 +41,7 @@ among-by_times : (c : List ℕ) (xs ys : List (List ℕ)) → times c xs ≡ tim
 among-by_times c xs ys e = by (is_among xs c) refl
   where
     other : (b : Bool) → is_among ys c ≡ b → is_among xs c ≡ false → false ≡ b
-    other true there none = absurd (omega (arith, e, some_times c ys there, no_times c xs none))
+    other true there none = absurd (omega (arith, e, some_times c ys there, times_absent c xs none))
     other false there none = refl
 
     by : (b : Bool) → is_among xs c ≡ b → b ≡ is_among ys c

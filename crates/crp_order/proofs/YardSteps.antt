@@ -9,7 +9,8 @@ use Rattle.std.proofs.lemmas.Option.{slice_get_within, get_or_from_slice_get, sl
 use Rattle.crp_yard.specs.Inventory.{Inventory, StackedBay, IsYard, FitBay, times, is_among, stack_at, containers_of}
 use Rattle.crp_order.specs.BayProblems.{standing}
 use Rattle.crp_order.specs.Groups.{stacks_numbered}
-use Rattle.crp_order.proofs.Once.{times-append, some_times}
+use Rattle.crp_yard.proofs.ListingSteps.{times-append}
+use Rattle.crp_order.proofs.Once.{some_times}
 
 -- what is known of the bay with a number
 pub record AtBay (yard : Inventory) (i : ℕ) : Type 0 where

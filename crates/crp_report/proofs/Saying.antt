@@ -3,6 +3,7 @@ use Rattle.std.proofs.Common.{◌≡◌, ℕ, suc, ◌+◌, ◌<◌, ◌^◌, co
 use Rattle.std.specs.Prelude.{flat_map, count_by, fold, option_map}
 use Rattle.std.specs.List.{AllByRecursion, AllZip}
 use Rattle.std.proofs.lemmas.List.Elements.{recursion_from_All}
+use Rattle.std.proofs.lemmas.Slice.Zip.{AllZip-long}
 use Rattle.crp_plan.specs.Bay.{Problem, IsProblem}
 use Rattle.crp_plan.specs.BayNames.{IsYardBay}
 use Rattle.crp_plan.specs.Plans.{Route}
@@ -73,12 +74,6 @@ settled_from (bay ∷ answered) (b ∷ bays) said n =
     let e : is_settled b.said ≡ is_decided (status_of bay.answer) = ap is_settled first.said_is ∙ settled bay.answer in
     rw e (settled_from answered bays said.1 (n + cond (is_decided (status_of bay.answer)) 1 0))
 
-said_length : (answered : List Answered) (bays : List BaySaid) → AllZip IsSaidOf answered bays → length bays ≡ length answered
-said_length [] [] said = refl
-said_length [] (b ∷ bays) said = absurd said
-said_length (bay ∷ answered) [] said = absurd said
-said_length (bay ∷ answered) (b ∷ bays) said = ap (λ n. suc n) (said_length answered bays said.1)
-
 -- what is said of small numbers
 small_answer : (p : Problem) (budget : ℕ) (found : Answer) (expanded : ℕ) → IsTrueAnswer p budget found expanded → IsSmall (said_by found)
 small_answer p budget (answer.Optimal plan cert) expanded t =
@@ -133,7 +128,7 @@ run_says chosen seen m is =
       said = record {
         of_each = are.of_each;
         report = report.2 ∙ ap (λ l. numbers_line n ++ (l ++ bays_line (length m.answered) (decided m.answered))) are.is
-            ∙ ap (λ k. numbers_line n ++ (flat_map bay_text are.bays ++ bays_line k (decided m.answered))) (sym (said_length m.answered are.bays are.of_each))
+            ∙ ap (λ k. numbers_line n ++ (flat_map bay_text are.bays ++ bays_line k (decided m.answered))) (sym (AllZip-long IsSaidOf m.answered are.bays are.of_each))
             ∙ ap (λ k. numbers_line n ++ (flat_map bay_text are.bays ++ bays_line (length are.bays) k)) (sym count);
       };
       sayable = are.sayable;

@@ -1,6 +1,7 @@
 use Rattle.std.proofs.Common.{◌∙◌, sym}
 use Rattle.std.specs.Str.{bytes_eq}
-use Rattle.crp_order.proofs.Once.{any-map, any-turned}
+use Rattle.crp_yard.proofs.ListingSteps.{any-map}
+use Rattle.crp_order.proofs.Once.{any-turned}
 use Rattle.crp_order.proofs.ranks.is_one_of.Goals as goal
 
 pub returns : goal.returns

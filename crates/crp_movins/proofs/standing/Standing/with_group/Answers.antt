@@ -1,7 +1,8 @@
 use Rattle.std.proofs.Common.{◌≡◌, true, false, ap, ◌∙◌, sym, arith}
+use Rattle.std.proofs.lemmas.Bool.{not-true, not-false}
 use Rattle.crp_movins.specs.declared.standing.Standing.{Standing}
 use Rattle.crp_movins.specs.Places.{is_loading}
-use Rattle.crp_movins.proofs.StandingSteps.{after-other-slot, after-loading-slot, slot-faultless, vacant-bound, not-true, not-false}
+use Rattle.crp_movins.proofs.StandingSteps.{after-other-slot, after-loading-slot, slot-faultless, vacant-bound}
 use Rattle.crp_movins.proofs.standing.Standing.with_group.Goals as goal
 
 pub overflow_add-result : goal.overflow_add-result
