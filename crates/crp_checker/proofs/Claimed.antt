@@ -1,5 +1,5 @@
 -- A claim that passes all looks is accepted, and one that does not is refused as said.
-use Rattle.std.proofs.Common.{◌≡◌, ◌≢◌, ℕ, ◌≤◌, ◌⊎◌, inl, inr, ◌↔◌, List, [], ◌∷◌, length, map, All, AllPairs, Contains, Option, IfSome, refl, sym, ap, ◌∙◌, subst}
+use Rattle.std.proofs.Common.{◌≡◌, ℕ, ◌≤◌, ◌⊎◌, inl, inr, ◌↔◌, List, [], ◌∷◌, length, All, Contains, Option, IfSome, refl, sym, subst}
 use Rattle.std.specs.List.{AllByRecursion, flat_map}
 use Rattle.std.proofs.lemmas.List.Elements.{All-from_recursion, recursion_from_All, All-contains}
 use Rattle.crp_plan.specs.Bay.{Problem, IsProblem}

@@ -1,19 +1,18 @@
 -- What many workers found together is a search of the whole problem.
-use Rattle.std.proofs.Common.{◌≡◌, ◌<◌, ◌≤◌, ◌↔◌, ℕ, suc, ◌+◌, min, List, [], ◌∷◌, ◌++◌, length, get_or, map, flat_map, Contains, All, Option, IfSome, sum_by, inl, inr, ⊎_elim, sym, refl, ap, ◌∙◌, subst, arith}
+use Rattle.std.proofs.Common.{◌≡◌, ◌≤◌, ℕ, ◌+◌, min, List, [], ◌∷◌, length, All, Option, IfSome, sum_by, sym, refl, ◌∙◌, arith}
 use Rattle.std.specs.List.Sorted.{IsPermutation}
 use Rattle.std.proofs.lemmas.List.Sorted.{sum_by-IsPermutation, All-permutation}
 use Rattle.std.proofs.lemmas.List.Sums.{sum_by-cons}
-use Rattle.std.proofs.lemmas.List.Elements.{All-map, All-weaker}
+use Rattle.std.proofs.lemmas.List.Elements.{All-weaker}
 use Rattle.crp_plan.specs.declared.running.View.{View}
 use Rattle.crp_plan.specs.Bay.{Problem, IsProblem}
 use Rattle.crp_plan.specs.Plans.{Route}
-use Rattle.crp_tree.specs.Parts.{ProblemPart, part_of, given_of, names_of, IsKeptPart, Certificate, IsAbout, branches_in}
-use Rattle.crp_tree.specs.Claims.{IsPart, IsNeeded, given_by, names, times, same_name}
+use Rattle.crp_tree.specs.Parts.{ProblemPart, given_of, names_of, IsKeptPart, Certificate, IsAbout, branches_in}
+use Rattle.crp_tree.specs.Claims.{times, same_name}
 use Rattle.crp_plan.proofs.Lists.{one_if}
-use Rattle.crp_tree.proofs.Givers.{times-cons, times_in, in_times}
+use Rattle.crp_tree.proofs.Givers.{times-cons}
 use Rattle.crp_gather.specs.Gathers.{AreWhole}
 use Rattle.crp_gather.proofs.Wholes.{whole_balanced}
-use Rattle.crp_bay.proofs.Members.{in_head, in_tail, in_cons_cases}
 use Rattle.crp_pool.specs.Weigh.{weigh, SameNames}
 use Rattle.crp_pool.proofs.Hands.{weigh-append}
 use Rattle.crp_solve.specs.Answers.{path_in, count_of, IsFirstLimit, IsPlanOf}
@@ -21,7 +20,6 @@ use Rattle.crp_solve.specs.Searches.{IsSearched, IsWhole}
 use Rattle.crp_solve.specs.Desks.{count_or}
 use Rattle.crp_solve.specs.Groups.{given_in}
 use Rattle.crp_solve.specs.Rests.{IsAllDone}
-use Rattle.crp_solve.proofs.Covered.{same_names}
 
 -- weights of lists over parts, as sums over the parts
 names_sum : (h : List ℕ → ℕ) (xs : List ProblemPart) → weigh h (names_of xs) ≡ sum_by (λ (x : ProblemPart). h x.name) xs

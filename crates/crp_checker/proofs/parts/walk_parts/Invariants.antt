@@ -1,4 +1,4 @@
-use Rattle.std.proofs.Common.{◌≡◌, take, map, flat_map}
+use Rattle.std.proofs.Common.{◌≡◌, take, flat_map}
 use Rattle.std.specs.List.{AllByRecursion}
 use Rattle.crp_tree.specs.Claims.{given_by}
 use Rattle.crp_checker.specs.Refusals.{nodes_by_name, IsRightPart}
