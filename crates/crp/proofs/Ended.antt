@@ -15,7 +15,7 @@ use Rattle.crp_cert.specs.Text.{spaced, numbers_line, title_line, bay_line, size
 use Rattle.crp_tree.specs.Names.{name_text}
 use Rattle.crp_cert.specs.Script.{symbols_of, symbols_of_each, part_line, end_line, script_text}
 use Rattle.crp_report.proofs.Bytes.{IsPlain, plain_both, plain_words, plain_number}
-use Rattle.crp_checker.specs.Files.{IsLine, BeginsWithEnd, IsOtherLine, joined, IsEnded}
+use Rattle.crp_checker.specs.Files.{IsLine, BeginsWithEnd, IsOtherLine, joined_lines, IsEnded}
 use Rattle.crp_checker.proofs.Cuts.{AreOtherLines}
 use Rattle.crp_checker.proofs.WalkSteps.{all_both}
 
@@ -70,7 +70,7 @@ others_both : (front rest : List ℕ) → AreOtherLines front → AreOtherLines 
 others_both front rest a b = record {
   lines = a.lines ++ b.lines;
   others = all_both IsOtherLine a.lines b.lines a.others b.others;
-  are = ap (λ l. l ++ rest) a.are ∙ ap (λ l. joined a.lines ++ l) b.are ∙ sym (flat_map-append (λ line. line) a.lines b.lines);
+  are = ap (λ l. l ++ rest) a.are ∙ ap (λ l. joined_lines a.lines ++ l) b.are ∙ sym (flat_map-append (λ line. line) a.lines b.lines);
 }
 
 others_all : {X : Type 0} (f : X → List ℕ) → ((x : X) → AreOtherLines (f x)) → (xs : List X) → AreOtherLines (flat_map f xs)

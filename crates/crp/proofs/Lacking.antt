@@ -5,7 +5,7 @@ use Rattle.std.specs.declared.num.ParseIntError.{ParseIntError}
 use Rattle.clap.specs.Words.{Row, Text}
 use Rattle.clap.specs.Matches.{ReadsOne}
 use Rattle.crp_solve.specs.Chosen.{Chosen}
-use Rattle.crp.specs.Words.{Asks, HasBudget, HasNumber, HasNumberBeyond, HasNumberWithin, HasRows, HasSearch, HasSettings, HasSplit, HasTiers, HasWorkers, IsBudgetBeyond, IsSplitBeyond, AreRowsBeyond, AreTiersBeyond, AreWorkersBeyond, IsFault, IsJust, IsSearchFault, IsSolveFault, IsWordsOrMemory, Lacks, ReadsNumber}
+use Rattle.crp.specs.Words.{Asks, HasBudget, HasNumber, HasNumberBeyond, HasNumberWithin, FindsRows, HasSearch, HasSettings, HasSplit, FindsTiers, HasWorkers, IsBudgetBeyond, IsSplitBeyond, AreRowsBeyond, AreTiersBeyond, AreWorkersBeyond, IsFault, IsJust, IsSearchFault, IsSolveFault, IsWordsOrMemory, Lacks, ReadsNumber}
 use Rattle.crp.specs.declared.job.Job.{Job}
 use Rattle.crp.specs.declared.job.Job.TheVariants as job
 use Rattle.crp.specs.declared.job.Mistake.TheVariants as mistake
@@ -85,7 +85,7 @@ no_budget_fault rows n has beyond = not_both (codes "budget") 0 MAX_BUDGET rows 
 no_split_fault : (rows : List Row) (n : ℕ) → HasSplit rows n → IsSplitBeyond rows → ⊥
 no_split_fault rows n has beyond = not_both (codes "split") 0 8 rows n has beyond
 
-no_rows_fault : (rows : List Row) (n : ℕ) → HasRows rows n → AreRowsBeyond rows → ⊥
+no_rows_fault : (rows : List Row) (n : ℕ) → FindsRows rows n → AreRowsBeyond rows → ⊥
 no_rows_fault rows n has beyond = not_both (codes "rows") 1 12 rows n has beyond
 
 -- the settings of a search within their limits have no fault
@@ -160,12 +160,12 @@ no_search rows u = lacks_more (HasSearch rows) (HasSettings rows) (IsSearchFault
     down setting.Tiers first = inr first.0
 
 -- nor are there without rows within their limits
-pub no_rows : (rows : List Row) (s : Chosen) (u : Usage) → HasSearch rows s → Lacks (HasRows rows) (IsJust setting.Rows (AreRowsBeyond rows)) u
+pub no_rows : (rows : List Row) (s : Chosen) (u : Usage) → HasSearch rows s → Lacks (FindsRows rows) (IsJust setting.Rows (AreRowsBeyond rows)) u
     → Lacks (HasSettings rows) (IsSolveFault rows) u
-no_rows rows s u search = lacks_more (HasRows rows) (HasSettings rows) (IsJust setting.Rows (AreRowsBeyond rows)) (IsSolveFault rows) u
+no_rows rows s u search = lacks_more (FindsRows rows) (HasSettings rows) (IsJust setting.Rows (AreRowsBeyond rows)) (IsSolveFault rows) u
     (λ s has. (s.rows, has.1)) (λ f just. subst (IsSolveFault rows) (sym just.0) ((s, search), just.1)) down
   where
-    down : (f : SettingFault) → IsSolveFault rows f → IsJust setting.Rows (AreRowsBeyond rows) f ⊎ ((n : ℕ) × HasRows rows n)
+    down : (f : SettingFault) → IsSolveFault rows f → IsJust setting.Rows (AreRowsBeyond rows) f ⊎ ((n : ℕ) × FindsRows rows n)
     down setting.Workers first = absurd (no_search_fault rows s search setting.Workers first)
     down setting.Budget first = absurd (no_search_fault rows s search setting.Budget first)
     down setting.Split first = absurd (no_search_fault rows s search setting.Split first)
@@ -173,12 +173,12 @@ no_rows rows s u search = lacks_more (HasRows rows) (HasSettings rows) (IsJust s
     down setting.Tiers first = inr first.1
 
 -- nor without tiers within their limits
-pub no_tiers : (rows : List Row) (s : Chosen) (r : ℕ) (u : Usage) → HasSearch rows s → HasRows rows r
-    → Lacks (HasTiers rows) (IsJust setting.Tiers (AreTiersBeyond rows)) u → Lacks (HasSettings rows) (IsSolveFault rows) u
-no_tiers rows s r u search has_rows = lacks_more (HasTiers rows) (HasSettings rows) (IsJust setting.Tiers (AreTiersBeyond rows)) (IsSolveFault rows) u
+pub no_tiers : (rows : List Row) (s : Chosen) (r : ℕ) (u : Usage) → HasSearch rows s → FindsRows rows r
+    → Lacks (FindsTiers rows) (IsJust setting.Tiers (AreTiersBeyond rows)) u → Lacks (HasSettings rows) (IsSolveFault rows) u
+no_tiers rows s r u search has_rows = lacks_more (FindsTiers rows) (HasSettings rows) (IsJust setting.Tiers (AreTiersBeyond rows)) (IsSolveFault rows) u
     (λ s has. (s.tiers, has.2)) (λ f just. subst (IsSolveFault rows) (sym just.0) ((s, search), (r, has_rows), just.1)) down
   where
-    down : (f : SettingFault) → IsSolveFault rows f → IsJust setting.Tiers (AreTiersBeyond rows) f ⊎ ((n : ℕ) × HasTiers rows n)
+    down : (f : SettingFault) → IsSolveFault rows f → IsJust setting.Tiers (AreTiersBeyond rows) f ⊎ ((n : ℕ) × FindsTiers rows n)
     down setting.Workers first = absurd (no_search_fault rows s search setting.Workers first)
     down setting.Budget first = absurd (no_search_fault rows s search setting.Budget first)
     down setting.Split first = absurd (no_search_fault rows s search setting.Split first)

@@ -4,11 +4,11 @@ use Rattle.crp_report.specs.Runs.{SinkSeen, GetsNothing}
 use Rattle.crp.specs.declared.job.Job.{Job}
 use Rattle.crp.specs.declared.job.Job.TheVariants as job
 use Rattle.crp.specs.declared.outcome.ToolFault.TheVariants as fault
-use Rattle.crp.specs.Calls.{Seen}
+use Rattle.crp.specs.Calls.{CallSeen}
 use Rattle.crp.specs.Performing.{IsOverOneFile, TellsOfJob, TellsOfFile}
 
 -- what a call saw of a source that failed at once, and of this sink
-abbrev seen_at_once : SinkSeen → Seen
+abbrev seen_at_once : SinkSeen → CallSeen
 seen_at_once out =
     record { given = None; held = out.held; holds = out.holds; source_before = 0; source_after = 1; sink_before = out.before; sink_after = out.after }
 

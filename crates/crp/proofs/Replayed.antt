@@ -13,7 +13,7 @@ use Rattle.crp.specs.Prove.{IsProofOf}
 use Rattle.crp_report.specs.Answered.{plan_in}
 use Rattle.crp.specs.declared.outcome.ToolFault.{ToolFault}
 use Rattle.crp.specs.declared.outcome.ToolFault.TheVariants as fault
-use Rattle.crp.specs.Calls.{Seen, IsGiven, IsNoHead, Tells, cert_told}
+use Rattle.crp.specs.Calls.{CallSeen, IsTextWithin, IsNoHead, Tells, cert_told}
 use Rattle.crp.specs.Replay.{IsReplay, IsNoReplay, IsNoReport}
 
 -- five pieces, one after the other
@@ -30,14 +30,14 @@ keeps_same None = tt
 keeps_same (Some xs) = refl
 
 -- why no head was read, as read_head tells it
-pub no_head : (limit : ℕ) (given : Option (List ℕ)) (before after : ℕ) (bytes : List ℕ) (f : CertFault) → IsGiven limit given bytes → (f ≡ cert.Memory) ⊎ IsFirstFault bytes f →
+pub no_head : (limit : ℕ) (given : Option (List ℕ)) (before after : ℕ) (bytes : List ℕ) (f : CertFault) → IsTextWithin limit given bytes → (f ≡ cert.Memory) ⊎ IsFirstFault bytes f →
     IsNoHead limit given before after (cert_told f)
 no_head limit known before after bytes cert.Memory given why = tt
 no_head limit known before after bytes f given (inl e) = absurd (cc)
 no_head limit known before after bytes f given (inr first) = (bytes, given, first)
 
 -- a command without a head tells why, where nothing was written
-pub no_head_told : (limit : ℕ) (IsReport : List ℕ → List ℕ → Type 0) (IsRefused : List ℕ → ToolFault → Type 0) (seen : Seen) (f : ToolFault) → Keeps seen.held seen.holds →
+pub no_head_told : (limit : ℕ) (IsReport : List ℕ → List ℕ → Type 0) (IsRefused : List ℕ → ToolFault → Type 0) (seen : CallSeen) (f : ToolFault) → Keeps seen.held seen.holds →
     ((bytes : List ℕ) (g : CertFault) → IsFirstFault bytes g → IsRefused bytes (fault.Cert g)) → IsNoHead limit seen.given seen.source_before seen.source_after f → Tells limit IsReport IsRefused seen f
 no_head_told limit IsReport IsRefused seen (fault.Cert f) keeps refuses none = (keeps, (none.0, none.1, refuses none.0 f none.2))
 no_head_told limit IsReport IsRefused seen (fault.Plan f) keeps refuses none = absurd none
@@ -49,7 +49,7 @@ no_head_told limit IsReport IsRefused seen (fault.Checked number why) keeps refu
 no_head_told limit IsReport IsRefused seen (fault.Run f) keeps refuses none = absurd none
 
 -- a replay without a report tells why, where nothing was written
-pub no_report_told : (limit : ℕ) (seen : Seen) (bytes : List ℕ) (head : Head) (f : ToolFault) → Keeps seen.held seen.holds → IsGiven limit seen.given bytes → IsHeadOf bytes head → IsNoReport head f →
+pub no_report_told : (limit : ℕ) (seen : CallSeen) (bytes : List ℕ) (head : Head) (f : ToolFault) → Keeps seen.held seen.holds → IsTextWithin limit seen.given bytes → IsHeadOf bytes head → IsNoReport head f →
     Tells limit IsReplay IsNoReplay seen f
 no_report_told limit seen bytes head (fault.Cert f) keeps given is none = absurd none
 no_report_told limit seen bytes head (fault.Plan f) keeps given is none = (keeps, (bytes, given, (head, is, none)))

@@ -15,12 +15,12 @@ use Rattle.crp.specs.declared.outcome.ToolFault.{ToolFault}
 use Rattle.crp.specs.declared.outcome.ToolFault.TheVariants as fault
 
 -- these bytes, no more than the limit, are those that a source had, where it told them
-abbrev pub IsGiven : ℕ → Option (List ℕ) → List ℕ → Type 0
-IsGiven limit known text = (length text ≤ limit) × IfSome known (λ xs. text ≡ xs)
+abbrev pub IsTextWithin : ℕ → Option (List ℕ) → List ℕ → Type 0
+IsTextWithin limit known text = (length text ≤ limit) × IfSome known (λ xs. text ≡ xs)
 
 -- what a call saw and left: the bytes that its source had, what its sink held before and holds after, and both counts of failures
 -- before and after
-pub record Seen : Type 0 where
+pub record CallSeen : Type 0 where
   pub given : Option (List ℕ)
   pub held : Option (List ℕ)
   pub holds : Option (List ℕ)
@@ -30,7 +30,7 @@ pub record Seen : Type 0 where
   pub sink_after : ℕ
 
 -- so many calls of the source and the sink have failed in the call
-abbrev pub failures_in : Seen → ℕ
+abbrev pub failures_in : CallSeen → ℕ
 failures_in s = (s.source_after - s.source_before) + (s.sink_after - s.sink_before)
 
 -- so many failed calls a fault tells: one where a read or a write has failed, in a run too, else none
@@ -45,21 +45,21 @@ abbrev pub most_failures : ToolFault → ℕ
 most_failures f = most_interruptions + failures_told f
 
 -- the whole report of the bytes that the source had, no more than `limit`, was written, and nothing else
-abbrev pub Writes : ℕ → (List ℕ → List ℕ → Type 0) → Seen → Type 0
-Writes limit IsReport s = (text : List ℕ) × (report : List ℕ) × IsGiven limit s.given text × IsReport text report × Appends s.held s.holds report
+abbrev pub Writes : ℕ → (List ℕ → List ℕ → Type 0) → CallSeen → Type 0
+Writes limit IsReport s = (text : List ℕ) × (report : List ℕ) × IsTextWithin limit s.given text × IsReport text report × Appends s.held s.holds report
 
 -- the bytes that the source had, no more than `limit`, are refused in this way, and nothing was written
-abbrev pub RefusedWith : ℕ → (List ℕ → ToolFault → Type 0) → Seen → ToolFault → Type 0
-RefusedWith limit IsRefused s f = Keeps s.held s.holds × ((text : List ℕ) × IsGiven limit s.given text × IsRefused text f)
+abbrev pub RefusedWith : ℕ → (List ℕ → ToolFault → Type 0) → CallSeen → ToolFault → Type 0
+RefusedWith limit IsRefused s f = Keeps s.held s.holds × ((text : List ℕ) × IsTextWithin limit s.given text × IsRefused text f)
 
 -- what a fault tells of a call that writes the report of at most `limit` bytes: a refusal, a read or a write that has failed in this call,
 -- more bytes than the limit, or want of memory; a front of the report may have been written only where a write failed
-abbrev pub Tells : ℕ → (List ℕ → List ℕ → Type 0) → (List ℕ → ToolFault → Type 0) → Seen → ToolFault → Type 0
+abbrev pub Tells : ℕ → (List ℕ → List ℕ → Type 0) → (List ℕ → ToolFault → Type 0) → CallSeen → ToolFault → Type 0
 Tells limit IsReport IsRefused s (fault.Cert f) = RefusedWith limit IsRefused s (fault.Cert f)
 Tells limit IsReport IsRefused s (fault.Plan f) = RefusedWith limit IsRefused s (fault.Plan f)
 Tells limit IsReport IsRefused s fault.Read = Keeps s.held s.holds × HasFailed s.source_before s.source_after
 Tells limit IsReport IsRefused s fault.Write = HasFailed s.sink_before s.sink_after
-    × ((text : List ℕ) × (report : List ℕ) × IsGiven limit s.given text × IsReport text report × AppendsFront s.held s.holds report)
+    × ((text : List ℕ) × (report : List ℕ) × IsTextWithin limit s.given text × IsReport text report × AppendsFront s.held s.holds report)
 Tells limit IsReport IsRefused s fault.TooLarge = Keeps s.held s.holds × IfSome s.given (λ xs. limit < length xs)
 Tells limit IsReport IsRefused s fault.Memory = Keeps s.held s.holds
 Tells limit IsReport IsRefused s (fault.Checked number why) = ⊥
@@ -68,7 +68,7 @@ Tells limit IsReport IsRefused s (fault.Run f) = ⊥
 -- why no head was read from a source: its bytes begin with none, it has failed in this call, it has more bytes than the limit, or memory
 -- is wanted
 abbrev pub IsNoHead : ℕ → Option (List ℕ) → ℕ → ℕ → ToolFault → Type 0
-IsNoHead limit given before after (fault.Cert f) = (text : List ℕ) × IsGiven limit given text × IsFirstFault text f
+IsNoHead limit given before after (fault.Cert f) = (text : List ℕ) × IsTextWithin limit given text × IsFirstFault text f
 IsNoHead limit given before after fault.Read = HasFailed before after
 IsNoHead limit given before after fault.TooLarge = IfSome given (λ xs. limit < length xs)
 IsNoHead limit given before after fault.Memory = Unit {0}

@@ -12,7 +12,7 @@ use Rattle.crp_checker.specs.Files.{FileShows, IsFileRefusal}
 use Rattle.crp.specs.declared.outcome.ToolFault.{ToolFault}
 use Rattle.crp.specs.declared.outcome.ToolFault.TheVariants as fault
 use Rattle.crp_report.specs.Report.{bay_words}
-use Rattle.crp.specs.Calls.{Seen, IsGiven}
+use Rattle.crp.specs.Calls.{CallSeen, IsTextWithin}
 
 -- the relocations of the plan, if there is one
 abbrev pub plan_words : Option ℕ → List ℕ
@@ -46,18 +46,18 @@ abbrev pub IsSomeCheck : List ℕ → List ℕ → Type 0
 IsSomeCheck bytes report = IsCheck bytes report ⊎ ((number : ℕ) × (why : Refused) × IsCheckBefore bytes number why report)
 
 -- the lines before the certificate with this number were written, and nothing else
-abbrev pub WritesBefore : ℕ → Seen → ℕ → Refused → Type 0
+abbrev pub WritesBefore : ℕ → CallSeen → ℕ → Refused → Type 0
 WritesBefore limit s number why =
-    (text : List ℕ) × (report : List ℕ) × IsGiven limit s.given text × IsCheckBefore text number why report × Appends s.held s.holds report
+    (text : List ℕ) × (report : List ℕ) × IsTextWithin limit s.given text × IsCheckBefore text number why report × Appends s.held s.holds report
 
 -- what a fault tells of a check of at most `limit` bytes: a certificate that is refused, after the lines of those before it; a read or a
 -- write that has failed in this call; more bytes than the limit; or want of memory, before anything was written or at a certificate, after the
 -- lines of those before it
-abbrev pub TellsOfCheck : ℕ → Seen → ToolFault → Type 0
+abbrev pub TellsOfCheck : ℕ → CallSeen → ToolFault → Type 0
 TellsOfCheck limit s (fault.Checked number why) = (why ≢ refused.Memory) × WritesBefore limit s number why
 TellsOfCheck limit s fault.Read = Keeps s.held s.holds × HasFailed s.source_before s.source_after
 TellsOfCheck limit s fault.Write = HasFailed s.sink_before s.sink_after
-    × ((text : List ℕ) × (report : List ℕ) × IsGiven limit s.given text × IsSomeCheck text report × AppendsFront s.held s.holds report)
+    × ((text : List ℕ) × (report : List ℕ) × IsTextWithin limit s.given text × IsSomeCheck text report × AppendsFront s.held s.holds report)
 TellsOfCheck limit s fault.TooLarge = Keeps s.held s.holds × IfSome s.given (λ xs. limit < length xs)
 TellsOfCheck limit s fault.Memory = Keeps s.held s.holds ⊎ ((number : ℕ) × WritesBefore limit s number refused.Memory)
 TellsOfCheck limit s (fault.Cert f) = ⊥

@@ -84,8 +84,8 @@ abbrev pub solve : Shape
 solve = with_outputs (with_search (with_orders (with_size solve_files)))
 
 -- crp itself, with a version, and a command that is required
-abbrev pub top : Shape
-top = record (new_shape (codes "crp")) {
+abbrev pub top_command : Shape
+top_command = record (new_shape (codes "crp")) {
   has_version = true;
   no_binary_name = true;
   subcommand_required = true;
@@ -94,7 +94,7 @@ top = record (new_shape (codes "crp")) {
 -- crp with the commands that take a FILE, and no option
 abbrev pub leaves : App
 leaves = record {
-  top = record top { is_leaf = false };
+  top = record top_command { is_leaf = false };
   subs = leaf (codes "replay") ∷ leaf (codes "bound") ∷ leaf (codes "check") ∷ [];
 }
 

@@ -12,7 +12,7 @@ use Rattle.crp.specs.declared.outcome.ToolFault.TheVariants as fault
 use Rattle.crp_report.specs.Chosen.{RunChosen}
 use Rattle.crp_report.specs.Runs.{SinkSeen, GetsNothing, Seen as SeenByRun, Writes as RunWrites, Tells as RunTells}
 use Rattle.crp.specs.Chosen.{AreChosen}
-use Rattle.crp.specs.Calls.{Seen, Writes, Tells}
+use Rattle.crp.specs.Calls.{CallSeen, Writes, Tells}
 use Rattle.crp.specs.Replay.{IsReplay, IsNoReplay}
 use Rattle.crp.specs.Bound.{IsBound, IsNoBound}
 use Rattle.crp.specs.Check.{IsCheck, TellsOfCheck}
@@ -36,7 +36,7 @@ file_of (job.Prove file search) = file.now
 file_of (job.Solve yard movins cert after settings) = yard.now
 
 -- the job was done, and ended with this status: the whole report of its command was written, and nothing else
-abbrev pub Performs : Job → Status → Seen → Type 0
+abbrev pub Performs : Job → Status → CallSeen → Type 0
 Performs (job.Replay file) ended s = (ended ≡ status.Decided) × Writes MOST_BYTES IsReplay s
 Performs (job.Bound file) ended s = (ended ≡ status.Decided) × Writes MOST_BYTES IsBound s
 Performs (job.Check file) ended s = (ended ≡ status.Decided) × Writes MOST_BYTES IsCheck s
@@ -44,7 +44,7 @@ Performs (job.Prove file search) ended s = Writes MOST_BYTES (IsProof search.bud
 Performs (job.Solve yard movins cert after settings) ended s = ⊥
 
 -- what a fault tells of the job
-abbrev pub TellsOfJob : Job → Seen → ToolFault → Type 0
+abbrev pub TellsOfJob : Job → CallSeen → ToolFault → Type 0
 TellsOfJob (job.Replay file) s f = Tells MOST_BYTES IsReplay IsNoReplay s f
 TellsOfJob (job.Bound file) s f = Tells MOST_BYTES IsBound IsNoBound s f
 TellsOfJob (job.Check file) s f = TellsOfCheck MOST_BYTES s f
@@ -53,11 +53,11 @@ TellsOfJob (job.Solve yard movins cert after settings) s f = ⊥
 
 -- a job over one file was done, and this is what the sink of its report saw
 abbrev pub ReportsFile : Job → SinkSeen → Status → Type 0
-ReportsFile j out ended = (s : Seen) × Performs j ended s × (s.held ≡ out.held) × (s.holds ≡ out.holds)
+ReportsFile j out ended = (s : CallSeen) × Performs j ended s × (s.held ≡ out.held) × (s.holds ≡ out.holds)
 
 -- what a fault tells of a job over one file, where this is what the sink of its report saw; a file that cannot be opened is a failed read of it
 abbrev pub TellsOfFile : Job → SinkSeen → ToolFault → Type 0
-TellsOfFile j out f = (s : Seen) × TellsOfJob j s f × (s.held ≡ out.held) × (s.holds ≡ out.holds)
+TellsOfFile j out f = (s : CallSeen) × TellsOfJob j s f × (s.held ≡ out.held) × (s.holds ≡ out.holds)
 
 -- a run with these settings was done, and this is what the sink of its report saw
 abbrev pub ReportsRun : RunChosen → SinkSeen → Status → Type 0

@@ -16,15 +16,15 @@ abbrev pub count_line : List Move → List ℕ
 count_line moves = codes "moves " ++ (decimal (length moves) ++ (codes " relocations " ++ (decimal (relocations moves) ++ 10 ∷ [])))
 
 -- the complete plan with these rows as its path is counted, and then its moves are told, with ranks as names
-abbrev pub TellsPlan : Problem → List ℕ → List ℕ → Type 0
-TellsPlan problem rows text =
+abbrev pub TellsReplay : Problem → List ℕ → List ℕ → Type 0
+TellsReplay problem rows text =
     (moves : List Move) × (lines : List ℕ) × IsPlan problem moves × (path_of moves ≡ rows)
     × TellsMoves (rank_names (total problem.stacks)) (start problem) moves lines × (text ≡ count_line moves ++ lines)
 
 -- what is told of a head: its bay, and its plan or that there is none
 abbrev pub IsHeadReport : Head → List ℕ → Type 0
 IsHeadReport head report =
-    (text : List ℕ) × (report ≡ bay_line head.bay ++ text) × MatchOption head.plan (text ≡ codes "no plan" ++ 10 ∷ []) (λ rows. TellsPlan head.problem rows text)
+    (text : List ℕ) × (report ≡ bay_line head.bay ++ text) × MatchOption head.plan (text ≡ codes "no plan" ++ 10 ∷ []) (λ rows. TellsReplay head.problem rows text)
 
 -- the report of the head that the bytes begin with
 abbrev pub IsReplay : List ℕ → List ℕ → Type 0

@@ -75,16 +75,16 @@ abbrev pub HasSearch : List Row → Chosen → Type 0
 HasSearch found s = HasWorkers found s.workers × HasBudget found s.budget × HasSplit found s.split
 
 -- the rows of a bay that were found, 1 to 12
-abbrev pub HasRows : List Row → ℕ → Type 0
-HasRows found n = HasNumberWithin (codes "rows") 1 12 found n
+abbrev pub FindsRows : List Row → ℕ → Type 0
+FindsRows found n = HasNumberWithin (codes "rows") 1 12 found n
 
 -- the rows of a bay that were found are none, or too many
 abbrev pub AreRowsBeyond : List Row → Type 0
 AreRowsBeyond found = HasNumberBeyond (codes "rows") 1 12 found
 
 -- the tiers of a bay that were found, 1 to 8
-abbrev pub HasTiers : List Row → ℕ → Type 0
-HasTiers found n = HasNumberWithin (codes "tiers") 1 8 found n
+abbrev pub FindsTiers : List Row → ℕ → Type 0
+FindsTiers found n = HasNumberWithin (codes "tiers") 1 8 found n
 
 -- the tiers of a bay that were found are none, or too many
 abbrev pub AreTiersBeyond : List Row → Type 0
@@ -101,7 +101,7 @@ HasOrder found o = HasText (codes "order") found (order_word o)
 
 -- the settings of solve that were found, within their limits
 abbrev pub HasSettings : List Row → SolveSettings → Type 0
-HasSettings found s = HasSearch found s.search × HasRows found s.rows × HasTiers found s.tiers
+HasSettings found s = HasSearch found s.search × FindsRows found s.rows × FindsTiers found s.tiers
     × HasOrder found s.order × HasText (codes "code") found s.code.now
 
 -- ---- the job, or the first number beyond its limits
@@ -138,7 +138,7 @@ IsSearchFault found setting.Tiers = ⊥
 -- the first number of solve beyond its limits: that of the search, then the rows, then the tiers
 abbrev pub IsSolveFault : List Row → SettingFault → Type 0
 IsSolveFault found setting.Rows = ((s : Chosen) × HasSearch found s) × AreRowsBeyond found
-IsSolveFault found setting.Tiers = ((s : Chosen) × HasSearch found s) × ((n : ℕ) × HasRows found n) × AreTiersBeyond found
+IsSolveFault found setting.Tiers = ((s : Chosen) × HasSearch found s) × ((n : ℕ) × FindsRows found n) × AreTiersBeyond found
 IsSolveFault found f = IsSearchFault found f
 
 -- the first number of the command beyond its limits

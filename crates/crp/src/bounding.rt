@@ -2,7 +2,7 @@
 ghost use Rattle.std.specs.Prelude.{◌≡◌, ◌≤◌, ◌++◌, IfOk, OnOk, MatchResult};
 ghost use Rattle.crp.specs.declared.heads.TheConstants.{MOST_BYTES};
 ghost use Rattle.crp_plan.specs.Devices.{most_interruptions};
-ghost use Rattle.crp.specs.Calls.{Seen, failures_in, most_failures, Writes, Tells};
+ghost use Rattle.crp.specs.Calls.{CallSeen, failures_in, most_failures, Writes, Tells};
 ghost use Rattle.crp.specs.Bound.{bound_lines, IsBoundReport, IsBound, IsNoBound};
 
 use crate::heads::head_from;
@@ -42,7 +42,7 @@ pub fn bound<R: Source, W: Sink>(
     reader: &mut R,
     writer: &mut W,
 ) -> Result<Status, ToolFault>
-    ensures { let seen : Seen = record {
+    ensures { let seen : CallSeen = record {
       given = R.remaining reader.old;
       held = W.contents writer.old;
       holds = W.contents writer.new;

@@ -2,7 +2,7 @@
 ghost use Rattle.std.specs.Prelude.{◌≡◌, ◌≤◌, ◌++◌, IfOk, OnOk, MatchResult};
 ghost use Rattle.crp.specs.declared.heads.TheConstants.{MOST_BYTES};
 ghost use Rattle.crp_plan.specs.Devices.{most_interruptions};
-ghost use Rattle.crp.specs.Calls.{Seen, failures_in, most_failures, Writes};
+ghost use Rattle.crp.specs.Calls.{CallSeen, failures_in, most_failures, Writes};
 ghost use Rattle.crp.specs.Check.{plan_words, verdict_words, verdict_line, verdict_lines, refusal_told, IsCheck, TellsOfCheck};
 
 use crate::heads::MOST_BYTES;
@@ -80,7 +80,7 @@ pub fn check<R: Source, W: Sink>(
     reader: &mut R,
     writer: &mut W,
 ) -> Result<Status, ToolFault>
-    ensures { let seen : Seen = record {
+    ensures { let seen : CallSeen = record {
       given = R.remaining reader.old;
       held = W.contents writer.old;
       holds = W.contents writer.new;

@@ -1,7 +1,7 @@
 //! The command line: each command with its files and options.
 ghost use Rattle.std.specs.Prelude.{◌≡◌, IfOk};
 ghost use Rattle.clap.specs.Words.{App, Shape, app_of, with_subcommand};
-ghost use Rattle.crp.specs.Commands.{IsArg, IsCommand, alone, budget_rule, crp, file_rule, leaf as leaf_shape, leaves, number_rule, output_rule, prove as prove_shape, solve as solve_shape, solve_files as solve_files_shape, split_rule, text_rule, top as top_shape, with_orders, with_outputs, with_search, with_size, workers_rule};
+ghost use Rattle.crp.specs.Commands.{IsArg, IsCommand, alone, budget_rule, crp, file_rule, leaf as leaf_shape, leaves, number_rule, output_rule, prove as prove_shape, solve as solve_shape, solve_files as solve_files_shape, split_rule, text_rule, top_command as top_shape, with_orders, with_outputs, with_search, with_size, workers_rule};
 
 use clap::{Arg, Command, value_parser};
 use std::alloc::{AllocError, Global};

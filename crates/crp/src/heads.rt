@@ -3,7 +3,7 @@ ghost use Rattle.std.specs.Prelude.{◌≡◌, ◌≤◌, ℕ, List, ◌+◌, If
 ghost use Rattle.crp.specs.declared.heads.TheConstants.{MOST_BYTES};
 ghost use Rattle.crp_plan.specs.Devices.{most_interruptions};
 ghost use Rattle.crp_cert.specs.Text.{IsHeadOf};
-ghost use Rattle.crp.specs.Calls.{IsGiven, IsNoHead, failures_told};
+ghost use Rattle.crp.specs.Calls.{IsTextWithin, IsNoHead, failures_told};
 
 use crate::outcome::ToolFault;
 use crp_cert::{Head, read_head};
@@ -20,7 +20,7 @@ pub fn head_from<R: Source>(
     interruptions: &mut u32,
 ) -> Result<Head, ToolFault>
     requires { interruptions.old ≤ most_interruptions }
-    ensures found { IfOk result (λ head. (text : List ℕ) × IsGiven MOST_BYTES (R.remaining reader.old) text × IsHeadOf text head) }
+    ensures found { IfOk result (λ head. (text : List ℕ) × IsTextWithin MOST_BYTES (R.remaining reader.old) text × IsHeadOf text head) }
     ensures none { IfErr result (IsNoHead MOST_BYTES (R.remaining reader.old) (R.failures reader.old) (R.failures reader.new)) }
     ensures counted { MatchResult result (λ _. R.failures reader.new + interruptions.old ≤ R.failures reader.old + interruptions.new) (λ fault. R.failures reader.new + interruptions.old ≤ R.failures reader.old + interruptions.new + failures_told fault) }
     ensures passed { interruptions.new ≤ most_interruptions }

@@ -1,7 +1,7 @@
 //! What a job over one file does with the bytes of that file.
 ghost use Rattle.std.specs.Prelude.{◌≡◌, ◌≤◌, MatchResult};
 ghost use Rattle.crp_plan.specs.Devices.{most_interruptions};
-ghost use Rattle.crp.specs.Calls.{Seen, failures_in, most_failures};
+ghost use Rattle.crp.specs.Calls.{CallSeen, failures_in, most_failures};
 ghost use Rattle.crp.specs.Performing.{IsOverOneFile, Performs, TellsOfJob};
 
 use crate::bounding::bound;
@@ -25,7 +25,7 @@ pub fn perform<T: Threads + Wait + Sync, R: Source, W: Sink>(
     writer: &mut W,
 ) -> Result<Status, ToolFault>
     requires { IsOverOneFile job.now }
-    ensures { let seen : Seen = record {
+    ensures { let seen : CallSeen = record {
       given = R.remaining reader.old;
       held = W.contents writer.old;
       holds = W.contents writer.new;

@@ -3,8 +3,8 @@ ghost use Rattle.std.specs.Prelude.{◌≡◌, ◌≤◌, ℕ, List, ◌++◌, I
 ghost use Rattle.crp.specs.declared.heads.TheConstants.{MOST_BYTES};
 ghost use Rattle.crp_plan.specs.Bay.{relocations};
 ghost use Rattle.crp_plan.specs.Devices.{most_interruptions};
-ghost use Rattle.crp.specs.Calls.{Seen, failures_in, most_failures, Writes, Tells};
-ghost use Rattle.crp.specs.Replay.{count_line, TellsPlan, IsHeadReport, IsReplay, IsNoReplay, IsNoReport};
+ghost use Rattle.crp.specs.Calls.{CallSeen, failures_in, most_failures, Writes, Tells};
+ghost use Rattle.crp.specs.Replay.{count_line, TellsReplay, IsHeadReport, IsReplay, IsNoReplay, IsNoReport};
 
 use crate::heads::head_from;
 use crate::outcome::ToolFault;
@@ -27,7 +27,7 @@ fn push_count(text: &mut Vec<u8>, moves: &[Move], count: u32) -> Result<(), Allo
 
 // The count of a plan's moves, and its moves, with ranks as names.
 fn push_plan(alloc: Global, text: &mut Vec<u8>, plan: &Plan) -> Result<(), AllocError>
-    ensures { OnOk result ((more : List ℕ) × TellsPlan plan.now.problem plan.now.path more × (text.new.items ≡ text.old.items ++ more)) }
+    ensures { OnOk result ((more : List ℕ) × TellsReplay plan.now.problem plan.now.path more × (text.new.items ≡ text.old.items ++ more)) }
 {
     let moves = plan.moves(alloc)?;
     let names = names_of_ranks(alloc, plan.problem().total())?;
@@ -62,7 +62,7 @@ pub fn replay<R: Source, W: Sink>(
     reader: &mut R,
     writer: &mut W,
 ) -> Result<Status, ToolFault>
-    ensures { let seen : Seen = record {
+    ensures { let seen : CallSeen = record {
       given = R.remaining reader.old;
       held = W.contents writer.old;
       holds = W.contents writer.new;

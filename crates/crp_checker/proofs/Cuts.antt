@@ -11,14 +11,14 @@ use Rattle.crp_checker.specs.declared.refused.Refused.{Refused}
 use Rattle.crp_checker.specs.declared.refused.Refused.TheVariants.{Memory}
 use Rattle.crp_checker.specs.Refusals.{IsRefusal}
 use Rattle.crp_checker.specs.Shown.{TextShowsFor}
-use Rattle.crp_checker.specs.Files.{IsWithoutEnd, IsLine, BeginsWithEnd, IsOtherLine, joined, IsEnded, IsOpen, BeginsWithTexts, ShowEach, AddsShown, IsFileRefusal}
+use Rattle.crp_checker.specs.Files.{IsWithoutEnd, IsLine, BeginsWithEnd, IsOtherLine, joined_lines, IsEnded, IsOpen, BeginsWithTexts, ShowEach, AddsShown, IsFileRefusal}
 use Rattle.crp_checker.proofs.WalkSteps.{all_both}
 
 -- the bytes are lines that do not begin with `end `
 pub record AreOtherLines (bytes : List ℕ) : Type 0 where
   pub lines : List (List ℕ)
   pub others : AllByRecursion IsOtherLine lines
-  pub are : bytes ≡ joined lines
+  pub are : bytes ≡ joined_lines lines
 
 -- lines that do not begin with `end `, and one more
 others_more : (bytes line : List ℕ) → AreOtherLines bytes → IsLine line → (BeginsWithEnd line → ⊥) → AreOtherLines (bytes ++ line)
@@ -28,9 +28,9 @@ others_more bytes line o is other = record {
   are = ap (λ l. l ++ line) o.are ∙ sym (joined-snoc o.lines line);
 }
   where
-    joined-snoc : (lines : List (List ℕ)) (line : List ℕ) → joined (lines ++ line ∷ []) ≡ joined lines ++ line
+    joined-snoc : (lines : List (List ℕ)) (line : List ℕ) → joined_lines (lines ++ line ∷ []) ≡ joined_lines lines ++ line
     joined-snoc [] line = append-nil line
-    joined-snoc (first ∷ lines) line = ap (λ l. first ++ l) (joined-snoc lines line) ∙ sym (append_assoc first (joined lines) line)
+    joined-snoc (first ∷ lines) line = ap (λ l. first ++ l) (joined-snoc lines line) ∙ sym (append_assoc first (joined_lines lines) line)
 
 -- the line that a loop meets: so many bytes after the first ones
 pub record MeetsLine (bytes : List ℕ) (from n : ℕ) : Type 0 where
@@ -92,7 +92,7 @@ pub front_some : (rest : List ℕ) (n : ℕ) → n ≤ length rest → rest ≢ 
 front_some rest n le some front = ⊎_elim
     (λ e.
     let line = e.is_line in
-    omega (arith, ap length e.is, length-append (joined e.lines) e.last, ap length line.is, length-append line.body (10 ∷ []), length-take n rest))
+    omega (arith, ap length e.is, length-append (joined_lines e.lines) e.last, ap length line.is, length-append line.body (10 ∷ []), length-take n rest))
     (λ o. let all = o.1 in let more = has_some rest some in omega arith)
     front
   where

@@ -3,7 +3,7 @@ use Rattle.std.proofs.Common.{◌≡◌, ◌≢◌, ℕ, ◌⊎◌, ⊎_elim, Li
 use Rattle.std.specs.List.{AllByRecursion}
 use Rattle.std.proofs.lemmas.List.{append-nil}
 use Rattle.std.proofs.lemmas.List.Elements.{recursion_from_All}
-use Rattle.crp_checker.specs.Files.{IsWithoutEnd, IsLine, BeginsWithEnd, IsOtherLine, joined, IsEnded, IsOpen, BeginsWithTexts}
+use Rattle.crp_checker.specs.Files.{IsWithoutEnd, IsLine, BeginsWithEnd, IsOtherLine, joined_lines, IsEnded, IsOpen, BeginsWithTexts}
 
 -- two fronts without LF, each followed by LF, are one
 until_end : (xs ys x y : List ℕ) → AllByRecursion (λ b. b ≢ 10) xs → AllByRecursion (λ b. b ≢ 10) ys → xs ++ 10 ∷ x ≡ ys ++ 10 ∷ y → (xs ≡ ys) × (x ≡ y)
@@ -36,52 +36,52 @@ no_line_in rest line x none k e =
 
 -- the same text down to the first line that begins with `end `
 ends_once : (ls ms : List (List ℕ)) (l m x y : List ℕ) → AllByRecursion IsOtherLine ls → AllByRecursion IsOtherLine ms → IsLine l → BeginsWithEnd l → IsLine m → BeginsWithEnd m →
-    joined ls ++ (l ++ x) ≡ joined ms ++ (m ++ y) → (joined ls ++ l ≡ joined ms ++ m) × (x ≡ y)
+    joined_lines ls ++ (l ++ x) ≡ joined_lines ms ++ (m ++ y) → (joined_lines ls ++ l ≡ joined_lines ms ++ m) × (x ≡ y)
 ends_once [] [] l m x y os ps k a n b e = one_line l m x y k n e
 ends_once [] (other ∷ ms) l m x y os ps k a n b e =
     let o = ps.0 in
-    let same = one_line l other x (joined ms ++ (m ++ y)) k o.is_line (e ∙ append_assoc other (joined ms) (m ++ y)) in
+    let same = one_line l other x (joined_lines ms ++ (m ++ y)) k o.is_line (e ∙ append_assoc other (joined_lines ms) (m ++ y)) in
     absurd (o.other (subst BeginsWithEnd same.0 a))
 ends_once (other ∷ ls) [] l m x y os ps k a n b e =
     let o = os.0 in
-    let same = one_line other m (joined ls ++ (l ++ x)) y o.is_line n (sym (append_assoc other (joined ls) (l ++ x)) ∙ e) in
+    let same = one_line other m (joined_lines ls ++ (l ++ x)) y o.is_line n (sym (append_assoc other (joined_lines ls) (l ++ x)) ∙ e) in
     absurd (o.other (subst BeginsWithEnd (sym same.0) b))
 ends_once (first ∷ ls) (other ∷ ms) l m x y os ps k a n b e =
     let o = os.0 in
     let p = ps.0 in
-    let same = one_line first other (joined ls ++ (l ++ x)) (joined ms ++ (m ++ y)) o.is_line p.is_line (sym (append_assoc first (joined ls) (l ++ x)) ∙ e ∙ append_assoc other (joined ms) (m ++ y)) in
+    let same = one_line first other (joined_lines ls ++ (l ++ x)) (joined_lines ms ++ (m ++ y)) o.is_line p.is_line (sym (append_assoc first (joined_lines ls) (l ++ x)) ∙ e ∙ append_assoc other (joined_lines ms) (m ++ y)) in
     let r = ends_once ls ms l m x y os.1 ps.1 k a n b same.1 in (
-      append_assoc first (joined ls) l ∙ ap (λ t. t ++ (joined ls ++ l)) same.0 ∙ ap (λ t. other ++ t) r.0 ∙ sym (append_assoc other (joined ms) m),
+      append_assoc first (joined_lines ls) l ∙ ap (λ t. t ++ (joined_lines ls ++ l)) same.0 ∙ ap (λ t. other ++ t) r.0 ∙ sym (append_assoc other (joined_lines ms) m),
       r.1,
     )
 
 -- a text that ends does not begin one that is open
-ends_not_open : (ls ms : List (List ℕ)) (l rest x : List ℕ) → AllByRecursion IsOtherLine ls → AllByRecursion IsOtherLine ms → IsLine l → BeginsWithEnd l → IsWithoutEnd rest → joined ls ++ (l ++ x) ≡ joined ms ++ rest → ⊥
+ends_not_open : (ls ms : List (List ℕ)) (l rest x : List ℕ) → AllByRecursion IsOtherLine ls → AllByRecursion IsOtherLine ms → IsLine l → BeginsWithEnd l → IsWithoutEnd rest → joined_lines ls ++ (l ++ x) ≡ joined_lines ms ++ rest → ⊥
 ends_not_open [] [] l rest x os ps k a none e = no_line_in rest l x none k e
 ends_not_open [] (other ∷ ms) l rest x os ps k a none e =
     let o = ps.0 in
-    let same = one_line l other x (joined ms ++ rest) k o.is_line (e ∙ append_assoc other (joined ms) rest) in
+    let same = one_line l other x (joined_lines ms ++ rest) k o.is_line (e ∙ append_assoc other (joined_lines ms) rest) in
     o.other (subst BeginsWithEnd same.0 a)
 ends_not_open (first ∷ ls) [] l rest x os ps k a none e =
     let o = os.0 in
-    no_line_in rest first (joined ls ++ (l ++ x)) none o.is_line (sym (append_assoc first (joined ls) (l ++ x)) ∙ e)
+    no_line_in rest first (joined_lines ls ++ (l ++ x)) none o.is_line (sym (append_assoc first (joined_lines ls) (l ++ x)) ∙ e)
 ends_not_open (first ∷ ls) (other ∷ ms) l rest x os ps k a none e =
     let o = os.0 in
     let p = ps.0 in
-    let same = one_line first other (joined ls ++ (l ++ x)) (joined ms ++ rest) o.is_line p.is_line (sym (append_assoc first (joined ls) (l ++ x)) ∙ e ∙ append_assoc other (joined ms) rest) in
+    let same = one_line first other (joined_lines ls ++ (l ++ x)) (joined_lines ms ++ rest) o.is_line p.is_line (sym (append_assoc first (joined_lines ls) (l ++ x)) ∙ e ∙ append_assoc other (joined_lines ms) rest) in
     ends_not_open ls ms l rest x os.1 ps.1 k a none same.1
 
 one_ended : (t u x y : List ℕ) → IsEnded t → IsEnded u → t ++ x ≡ u ++ y → (t ≡ u) × (x ≡ y)
 one_ended t u x y a b e =
-    let text : joined a.lines ++ (a.last ++ x) ≡ joined b.lines ++ (b.last ++ y) =
-    sym (append_assoc (joined a.lines) a.last x) ∙ ap (λ l. l ++ x) (sym a.is) ∙ e ∙ ap (λ l. l ++ y) b.is ∙ append_assoc (joined b.lines) b.last y in
+    let text : joined_lines a.lines ++ (a.last ++ x) ≡ joined_lines b.lines ++ (b.last ++ y) =
+    sym (append_assoc (joined_lines a.lines) a.last x) ∙ ap (λ l. l ++ x) (sym a.is) ∙ e ∙ ap (λ l. l ++ y) b.is ∙ append_assoc (joined_lines b.lines) b.last y in
     let r = ends_once a.lines b.lines a.last b.last x y a.others b.others a.is_line a.is_end b.is_line b.is_end text in
     (a.is ∙ r.0 ∙ sym b.is, r.1)
 
 ended_or_open : (t u x : List ℕ) → IsEnded t → IsOpen u → t ++ x ≡ u → ⊥
 ended_or_open t u x a b e =
     ends_not_open a.lines b.lines a.last b.rest x a.others b.others a.is_line a.is_end b.part_line
-    (sym (append_assoc (joined a.lines) a.last x) ∙ ap (λ l. l ++ x) (sym a.is) ∙ e ∙ b.is)
+    (sym (append_assoc (joined_lines a.lines) a.last x) ∙ ap (λ l. l ++ x) (sym a.is) ∙ e ∙ b.is)
 
 -- what stands at the front of a file, which this follows
 abbrev pub Stands : List ℕ → List ℕ → Type 0
@@ -90,7 +90,7 @@ Stands text after = IsEnded text ⊎ (IsOpen text × (after ≡ []))
 -- a text has a byte
 pub some_text : (text after : List ℕ) → Stands text after → text ++ after ≡ [] → ⊥
 some_text text after s e = ⊎_elim
-    (λ a. let line = a.is_line in omega (arith, ap length e, length-append text after, ap length a.is, length-append (joined a.lines) a.last, ap length line.is, length-append line.body (10 ∷ [])))
+    (λ a. let line = a.is_line in omega (arith, ap length e, length-append text after, ap length a.is, length-append (joined_lines a.lines) a.last, ap length line.is, length-append line.body (10 ∷ [])))
     (λ o. let k = o.0 in k.some_bytes (nothing text after e))
     s
   where

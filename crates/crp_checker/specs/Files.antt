@@ -28,8 +28,8 @@ pub record IsOtherLine (line : List ℕ) : Type 0 where
   pub other : BeginsWithEnd line → ⊥
 
 -- the lines, one after the other
-abbrev pub joined : List (List ℕ) → List ℕ
-joined lines = flat_map (λ line. line) lines
+abbrev pub joined_lines : List (List ℕ) → List ℕ
+joined_lines lines = flat_map (λ line. line) lines
 
 -- the text ends with its first line that begins with `end `
 pub record IsEnded (text : List ℕ) : Type 0 where
@@ -38,7 +38,7 @@ pub record IsEnded (text : List ℕ) : Type 0 where
   pub others : AllByRecursion IsOtherLine lines
   pub is_line : IsLine last
   pub is_end : BeginsWithEnd last
-  pub is : text ≡ joined lines ++ last
+  pub is : text ≡ joined_lines lines ++ last
 
 -- some bytes, of which no whole line begins with `end `
 pub record IsOpen (text : List ℕ) : Type 0 where
@@ -46,7 +46,7 @@ pub record IsOpen (text : List ℕ) : Type 0 where
   pub rest : List ℕ
   pub others : AllByRecursion IsOtherLine lines
   pub part_line : IsWithoutEnd rest
-  pub is : text ≡ joined lines ++ rest
+  pub is : text ≡ joined_lines lines ++ rest
   pub some_bytes : text ≢ []
 
 -- the file begins with the texts of so many certificates, and this follows. A certificate ends with its first line that begins with `end `,

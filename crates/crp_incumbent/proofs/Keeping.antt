@@ -10,8 +10,8 @@ use Rattle.crp_plan.specs.declared.running.View.{View}
 use Rattle.crp_plan.specs.Running.{words, after_see, after_offer, after_claim}
 use Rattle.crp_incumbent.specs.declared.rule.Key.{Key}
 use Rattle.crp_incumbent.specs.declared.rule.Standing.{Standing}
-use Rattle.crp_incumbent.specs.Rule.{all_shares, gone, kept, given, joined, IsPlanCount, IsLimit, IsAbove, IsLive, granted_of, refused_of, share_of, least_mine, IsKept, Keeps}
-use Rattle.crp_incumbent.specs.Steps.{IsBelow, Saw, Offered, Claimed, Looked}
+use Rattle.crp_incumbent.specs.Rule.{all_shares, gone, kept, given, joined_standing, IsPlanCount, IsLimit, IsAbove, IsLive, granted_of, refused_of, share_of, least_mine, IsKept, Keeps}
+use Rattle.crp_incumbent.specs.Steps.{IsLimitBeside, Saw, WasOffered, Claimed, Looked}
 use Rattle.crp_incumbent.proofs.Lists.{index_is, at_below, sum-le, sum-set, sum-snoc, least-set, least-at, least-top, least-snoc, min_cases, least_known, sum_of_gone, least_of_gone}
 
 abbrev Mine : Type 0
@@ -75,7 +75,7 @@ put_spent key s n views k h = let long = k.words in record {
 }
 
 -- what the rule tells a live seat of the limit
-below : (key : Key) (spent limit : ℕ) (views : List Standing) (v : Standing) → IsKept key spent limit views → IsLive key limit v → IsBelow v limit
+below : (key : Key) (spent limit : ℕ) (views : List Standing) (v : Standing) → IsKept key spent limit views → IsLive key limit v → IsLimitBeside v limit
 below key spent limit views v k live = record {
   seen = live.seen.low;
   mine = live.mine.low;
@@ -95,7 +95,7 @@ sees key slots id m empty share s k _ at _ = let spent : ℕ = slice_index s.wor
     )
 
 pub offers : (key : Key) (slots id count : ℕ) (m : Mine) → m.1 ≡ [] → 1 ≤ m.0.view.share → IsPlanCount key.problem count
-    → Allows (Keeps key) slots id m 8 (λ n. min n count) (Offered (step slots 8 count 0 none) m)
+    → Allows (Keeps key) slots id m 8 (λ n. min n count) (WasOffered (step slots 8 count 0 none) m)
 offers key slots id count m empty share plan s k _ at _ = let spent : ℕ = slice_index s.words 0 in let limit : ℕ = slice_index s.words 8 in
     let live = living key limit m.0 share (k.kept.each id m.0 at) in let above = limit_above key spent limit s.views k.kept in
     let w : Standing = record m.0 { view = (after_offer count (words limit 0 m.0.view)).view } in
@@ -195,8 +195,8 @@ splits key id v more left s k at = let spent : ℕ = slice_index s.words 0 in le
 above_both : (key : Key) (limit a b : ℕ) → IsAbove key limit a → IsAbove key limit b → IsAbove key limit (min a b)
 above_both key limit a b p q = let low = p.low in let low' = q.low in let high = p.high in record { low = omega arith; high = omega arith; known = min_cases a b (IsLimit key) p.known q.known }
 
-pub joins : (key : Key) (id other : ℕ) (v w : Standing) → 1 ≤ v.view.share → 1 ≤ w.view.share → Joins (Keeps key) id v other w (joined v w) gone
-joins key id other v w share_v share_w s k at differ at' = let spent : ℕ = slice_index s.words 0 in let limit : ℕ = slice_index s.words 8 in let views = s.views in let b : Standing = joined v w in
+pub joins : (key : Key) (id other : ℕ) (v w : Standing) → 1 ≤ v.view.share → 1 ≤ w.view.share → Joins (Keeps key) id v other w (joined_standing v w) gone
+joins key id other v w share_v share_w s k at differ at' = let spent : ℕ = slice_index s.words 0 in let limit : ℕ = slice_index s.words 8 in let views = s.views in let b : Standing = joined_standing v w in
     let one : List Standing = set views id b in let two : List Standing = set one other gone in
     let at_w : get_elem? views other ≡ some w = sym (set_else views id other b differ) ∙ at' in
     let here : get_elem? one id ≡ some b = set_here views id b (at_below views id v at) in

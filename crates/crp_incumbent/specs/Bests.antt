@@ -14,6 +14,6 @@ pub record IsOwn (k : Best) : Type 0 where
   pub of_problem : IfSome k.plan (λ plan. plan.problem ≡ k.problem)
 
 -- a plan is of the problem, and has fewer relocations than the one that is kept, if one is
-pub record IsBetter (k : Best) (plan : Route) : Type 0 where
+pub record IsBetterPlan (k : Best) (plan : Route) : Type 0 where
   pub of_problem : plan.problem ≡ k.problem
   pub fewer : IfSome k.plan (λ old. length plan.path < length old.path)

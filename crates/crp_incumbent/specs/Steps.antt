@@ -11,7 +11,7 @@ abbrev pub Mine : Type 0
 Mine = Me (Unit {0}) Standing
 
 -- a limit that the rule allows beside this seat
-pub record IsBelow (s : Standing) (limit : ℕ) : Type 0 where
+pub record IsLimitBeside (s : Standing) (limit : ℕ) : Type 0 where
   pub seen : limit ≤ s.view.seen
   pub mine : limit ≤ s.view.mine
   pub start : IsAbove s.key limit limit
@@ -23,12 +23,12 @@ pub record Becomes (s : Standing) (view : View) (m : Mine) : Type 0 where
 
 -- the limit that was found was seen
 pub record Saw (st : Step (Unit {0})) (m : Mine) (found : ℕ) (m' : Mine) : Type 0 where
-  pub below : IsBelow m.0 found
+  pub below : IsLimitBeside m.0 found
   pub after : Becomes m.0 (after_see (words found 0 m.0.view)).view m'
 
 -- a plan was offered under the limit that was found
-pub record Offered (st : Step (Unit {0})) (m : Mine) (found : ℕ) (m' : Mine) : Type 0 where
-  pub below : IsBelow m.0 found
+pub record WasOffered (st : Step (Unit {0})) (m : Mine) (found : ℕ) (m' : Mine) : Type 0 where
+  pub below : IsLimitBeside m.0 found
   pub after : Becomes m.0 (after_offer st.first (words found 0 m.0.view)).view m'
 
 -- one expansion was claimed while so many as were found were spent

@@ -1,6 +1,6 @@
 //! The best plan of a problem so far.
 ghost use Rattle.std.specs.Prelude.{◌≡◌, IfSome, Some, None};
-ghost use Rattle.crp_incumbent.specs.Bests.{IsBetter};
+ghost use Rattle.crp_incumbent.specs.Bests.{IsBetterPlan};
 
 use crp_plan::{Plan, Problem};
 use std::marker::Model;
@@ -37,8 +37,8 @@ impl Best {
     /// the old one, or there is no old one. Any other plan is handed back.
     pub fn take_if_better(&mut self, plan: Plan) -> Option<Plan>
         ensures problem { self.new.problem ≡ self.old.problem }
-        ensures better { IsBetter self.old plan → (self.new.plan ≡ Some plan) × (result ≡ self.old.plan) }
-        ensures other { (IsBetter self.old plan → ⊥) → (self.new.plan ≡ self.old.plan) × (result ≡ Some plan) }
+        ensures better { IsBetterPlan self.old plan → (self.new.plan ≡ Some plan) × (result ≡ self.old.plan) }
+        ensures other { (IsBetterPlan self.old plan → ⊥) → (self.new.plan ≡ self.old.plan) × (result ≡ Some plan) }
     {
         let shorter = match &self.plan {
             Some(old) => plan.count() < old.count(),

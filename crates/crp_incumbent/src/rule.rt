@@ -54,9 +54,9 @@ impl Play<(), Standing> for Sees {
 pub(crate) struct Offers;
 
 impl Play<(), Standing> for Offers {
-    ghost use Rattle.crp_incumbent.specs.Steps.{Offered};
+    ghost use Rattle.crp_incumbent.specs.Steps.{WasOffered};
 
-    ghost then = { Offered };
+    ghost then = { WasOffered };
 }
 
 /// One more is claimed.
@@ -89,9 +89,9 @@ impl Split<Standing> for Shares {
 }
 
 impl Join<Standing> for Shares {
-    ghost use Rattle.crp_incumbent.specs.Rule.{joined, gone};
+    ghost use Rattle.crp_incumbent.specs.Rule.{joined_standing, gone};
 
-    ghost both = { joined };
+    ghost both = { joined_standing };
 
     ghost spent = { gone };
 }

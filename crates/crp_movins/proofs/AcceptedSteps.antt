@@ -7,10 +7,10 @@ use Rattle.std.proofs.lemmas.Cmp.{nat_list_eq_equiv}
 use Rattle.std.proofs.lemmas.List.{map_push}
 use Rattle.std.proofs.lemmas.Map.Keys.{IsDistinct-push}
 use Rattle.crp_movins.specs.declared.order.Order.{Order}
-use Rattle.crp_movins.specs.Accepted.{max_orders, is_ordered, containers_of, AreLoadOrders}
+use Rattle.crp_movins.specs.Accepted.{max_orders, is_ordered, ordered_containers, AreLoadOrders}
 
 -- a container that is not ordered is none of the orders' containers
-names-ordered : (orders : List Order) (name : List ℕ) → list_any (bytes_eq name) (containers_of orders) ≡ is_ordered orders name
+names-ordered : (orders : List Order) (name : List ℕ) → list_any (bytes_eq name) (ordered_containers orders) ≡ is_ordered orders name
 names-ordered [] name = refl
 names-ordered (order ∷ orders) name =
     let here : bytes_eq name order.container ≡ bytes_eq order.container name = nat_list_eq_equiv.symm name order.container in
@@ -23,7 +23,7 @@ AreLoadOrders-none = record { once = tt; few = omega arith }
 
 pub AreLoadOrders-push : (orders : List Order) (order : Order) → AreLoadOrders orders → is_ordered orders order.container ≡ false → length orders < max_orders → AreLoadOrders (orders ++ order ∷ [])
 AreLoadOrders-push orders order accepted fresh room = record {
-  once = rw map_push (IsDistinct-push nat_list_eq_equiv (containers_of orders) order.container accepted.once (names-ordered orders order.container ∙ fresh));
+  once = rw map_push (IsDistinct-push nat_list_eq_equiv (ordered_containers orders) order.container accepted.once (names-ordered orders order.container ∙ fresh));
   few = omega (arith, length-append orders (order ∷ []));
 }
 

@@ -15,7 +15,7 @@ use Rattle.std.specs.Prelude.{nat_le}
 use Rattle.std.specs.Str.{bytes_eq}
 use Rattle.crp_movins.specs.Places.{kind_at, text_at, last_before, count_before, where_holds, is_loading, opens_loading_group, loading_group, ordered_group}
 use Rattle.crp_movins.specs.Accepted.{max_orders, is_ordered}
-use Rattle.crp_movins.specs.LoadOrders.{orders_before, is_number, is_filled, is_vacant, count_below, vacant_before}
+use Rattle.crp_movins.specs.LoadOrders.{orders_before, is_place_number, is_filled, is_vacant, count_below, vacant_before}
 use Rattle.crp_movins.specs.Faults.{is_in_group, first_of, own_faults, faults_at, fault_at}
 use Rattle.crp_movins.specs.Standings.{open_slot, is_group_filled, standing_before}
 use Rattle.crp_movins.proofs.Counting.{count_below-bound, count_below-same, count_below-without}
@@ -61,7 +61,7 @@ loading_group-below segments code i j h =
     let found = where_holds-some (opens_loading_group segments code) (last_before ends_group segments i) j h in
     (last_before-below ends_group segments i j found.0, found.1)
 
-number-apart : (group : Option ℕ) (i j : ℕ) → ((g : ℕ) → group ≡ Some g → g < i) → i ≤ j → is_number group j ≡ false
+number-apart : (group : Option ℕ) (i j : ℕ) → ((g : ℕ) → group ≡ Some g → g < i) → i ≤ j → is_place_number group j ≡ false
 number-apart None i j below h = refl
 number-apart (Some g) i j below h = let lt : g < j = omega (arith, below g refl) in search (rules, tests)
 
@@ -73,7 +73,7 @@ ordered_group-below segments code i g false h = absurd (cc)
 pub is_filled-early : (segments : List SegmentParts) (code : List ℕ) (i j : ℕ) → i ≤ j → is_filled segments code i j ≡ false
 is_filled-early segments code zero j h = refl
 is_filled-early segments code (suc i) j h =
-    let here : is_number (ordered_group segments code i) j ≡ false = number-apart (ordered_group segments code i) i j (λ g e. ordered_group-below segments code i g (Rattle.crp_movins.specs.Kinds.is_equipment (kind_at segments i)) e) (omega arith) in
+    let here : is_place_number (ordered_group segments code i) j ≡ false = number-apart (ordered_group segments code i) i j (λ g e. ordered_group-below segments code i g (Rattle.crp_movins.specs.Kinds.is_equipment (kind_at segments i)) e) (omega arith) in
     let before : is_filled segments code i j ≡ false = is_filled-early segments code i j (omega arith) in
     rw (here, before) refl
 

@@ -13,10 +13,10 @@ abbrev pub is_ordered : List Order → List ℕ → Bool
 is_ordered orders container = list_any (λ order. bytes_eq order.container container) orders
 
 -- the containers of the orders, in their order
-abbrev pub containers_of : List Order → List (List ℕ)
-containers_of orders = map (λ order. order.container) orders
+abbrev pub ordered_containers : List Order → List (List ℕ)
+ordered_containers orders = map (λ order. order.container) orders
 
 -- no container is ordered twice, and there are no more orders than are accepted
 pub record AreLoadOrders (orders : List Order) : Type 0 where
-  pub once : IsDistinct bytes_eq (containers_of orders)
+  pub once : IsDistinct bytes_eq (ordered_containers orders)
   pub few : length orders ≤ max_orders

@@ -17,14 +17,14 @@ orders_before segments code zero = []
 orders_before segments code (suc i) = orders_before segments code i ++ option_to_list (order_at segments code i)
 
 -- the number is that of the LOC 147
-abbrev pub is_number : Option ℕ → ℕ → Bool
-is_number None j = false
-is_number (Some k) j = k == j
+abbrev pub is_place_number : Option ℕ → ℕ → Bool
+is_place_number None j = false
+is_place_number (Some k) j = k == j
 
 -- a segment before this one orders a container to the slot of the LOC 147 with the number j
 abbrev pub is_filled : List SegmentParts → List ℕ → ℕ → ℕ → Bool
 is_filled segments code zero j = false
-is_filled segments code (suc i) j = is_number (ordered_group segments code i) j || is_filled segments code i j
+is_filled segments code (suc i) j = is_place_number (ordered_group segments code i) j || is_filled segments code i j
 
 -- a loading slot group to whose slot no segment before this one orders a container
 abbrev pub is_vacant : List SegmentParts → List ℕ → ℕ → ℕ → Bool

@@ -8,7 +8,7 @@ use Rattle.std.proofs.lemmas.List.Folds.{list_any_more}
 use Rattle.std.proofs.lemmas.Option.{same_Some}
 use Rattle.crp_yard.specs.Inventory.{Inventory, StackedBay, IsYard, is_among}
 use Rattle.crp_order.specs.BayProblems.{standing}
-use Rattle.crp_order.specs.Groups.{kept_of, is_number, ArePlaced, Places}
+use Rattle.crp_order.specs.Groups.{kept_of, is_index, ArePlaced, Places}
 use Rattle.crp_order.proofs.YardSteps.{apart}
 
 abbrev pub Kept : Type 0
@@ -37,7 +37,7 @@ low_step n true old h = omega arith
 low_step n false None h = tt
 low_step n false (Some i) h = omega arith
 
-not_yet : (n : ℕ) (old : Option ℕ) → IfSome old (λ i. i < n) → false ≡ is_number old n
+not_yet : (n : ℕ) (old : Option ℕ) → IfSome old (λ i. i < n) → false ≡ is_index old n
 not_yet n None h = refl
 not_yet n (Some i) h = sym (ne_eqb i n (λ e. absurd (omega arith)))
 
@@ -54,8 +54,8 @@ placed-more yard n bay old new is here before put = record {
     earlier c j b lt e there false this = sym (ne_eqb n j (λ eq. absurd (omega arith)))
 
     by : (c : List ℕ) (there : Bool) → is_among (standing bay.1) c ≡ there → (j : ℕ) (b : StackedBay) → j < n + 1 → slice_get yard.bays j ≡ Some b
-        → ((k : ℕ) (d : StackedBay) → k < n → slice_get yard.bays k ≡ Some d → is_among (standing d.1) c ≡ is_number (kept_of old c) k) → IfSome (kept_of old c) (λ i. i < n)
-        → is_among (standing b.1) c ≡ is_number (cond there (Some n) (kept_of old c)) j
+        → ((k : ℕ) (d : StackedBay) → k < n → slice_get yard.bays k ≡ Some d → is_among (standing d.1) c ≡ is_index (kept_of old c) k) → IfSome (kept_of old c) (λ i. i < n)
+        → is_among (standing b.1) c ≡ is_index (cond there (Some n) (kept_of old c)) j
     by c true there j b h e known low =
         elim (cases_eq j n) [
           | inl eq ↦
@@ -67,6 +67,6 @@ placed-more yard n bay old new is here before put = record {
         elim (cases_eq j n) [
           | inl eq ↦
               let same : b ≡ bay = same_Some b bay (sym e ∙ ap (slice_get yard.bays) eq ∙ here) in
-              ap (λ x. is_among (standing x.1) c) same ∙ there ∙ not_yet n (kept_of old c) low ∙ ap (is_number (kept_of old c)) (sym eq)
+              ap (λ x. is_among (standing x.1) c) same ∙ there ∙ not_yet n (kept_of old c) low ∙ ap (is_index (kept_of old c)) (sym eq)
           | inr ne ↦ known j b (omega arith) e
         ]

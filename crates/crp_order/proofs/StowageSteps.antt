@@ -12,7 +12,7 @@ use Rattle.std.proofs.lemmas.Option.{slice_get_within, slice_get_read, slice_get
 use Rattle.crp_movins.specs.declared.order.Order.{Order}
 use Rattle.crp_movins.specs.declared.slot.Slot.{Slot}
 use Rattle.crp_order.specs.Slots.{IsBeneath}
-use Rattle.crp_movins.specs.Accepted.{containers_of}
+use Rattle.crp_movins.specs.Accepted.{ordered_containers}
 use Rattle.crp_order.specs.declared.sequences.Mode.{Mode}
 use Rattle.crp_order.specs.declared.sequences.Mode.TheVariants.{Listed, Stowage}
 use Rattle.crp_order.specs.Sequences.{slot_cmp, IsSequence}
@@ -37,7 +37,7 @@ at_place : (orders : List Order) (i : ℕ) (a : Order) → slice_get orders i �
 at_place orders i a e = (i, slice_get_within orders i a e, get_or_from_slice_get orders i a a e)
 
 -- the container of an order stands where the order does
-container_at : (orders : List Order) (k : ℕ) (a : Order) → k < length orders → get_or orders k a ≡ a → slice_get (containers_of orders) k ≡ Some a.container
+container_at : (orders : List Order) (k : ℕ) (a : Order) → k < length orders → get_or orders k a ≡ a → slice_get (ordered_containers orders) k ≡ Some a.container
 container_at orders k a h e =
     slice_get-map (λ (order : Order). order.container) orders k ∙ ap (option_map (λ (order : Order). order.container)) (slice_get_read orders (length orders) k a refl h (sym e))
 
@@ -119,4 +119,4 @@ one_list (x ∷ xs) (y ∷ ys) up down same =
 pub one_sequence : (mode : Mode) (orders : List Order) (first second : List (List ℕ)) → IsSequence mode orders first → IsSequence mode orders second → first ≡ second
 one_sequence Listed orders first second a b = a ∙ sym b
 one_sequence Stowage orders first second a b =
-    a.2 ∙ ap containers_of (one_list a.0 b.0 a.1.slots_rise b.1.slots_rise (λ z. a.1.one_slot_as_listed z ∙ sym (b.1.one_slot_as_listed z))) ∙ sym b.2
+    a.2 ∙ ap ordered_containers (one_list a.0 b.0 a.1.slots_rise b.1.slots_rise (λ z. a.1.one_slot_as_listed z ∙ sym (b.1.one_slot_as_listed z))) ∙ sym b.2

@@ -6,7 +6,7 @@ use Rattle.std.specs.Option.{option_map_or}
 use Rattle.std.proofs.lemmas.List.{take_all}
 use Rattle.std.proofs.lemmas.List.Elements.{All-get_or}
 use Rattle.std.proofs.lemmas.Option.{slice_get_within, get_or_from_slice_get, slice_get-get_or, same_Some}
-use Rattle.crp_yard.specs.Inventory.{Inventory, StackedBay, IsYard, FitBay, times, is_among, stack_at, containers_of}
+use Rattle.crp_yard.specs.Inventory.{Inventory, StackedBay, IsYard, FitBay, times, is_among, stack_in_bay, containers_of}
 use Rattle.crp_order.specs.BayProblems.{standing}
 use Rattle.crp_order.specs.Groups.{stacks_numbered}
 use Rattle.crp_yard.proofs.ListingSteps.{times-append}
@@ -29,7 +29,7 @@ at_bay yard i h =
 pub stacks_of_bay : (yard : Inventory) (i : ℕ) (bay : StackedBay) → slice_get yard.bays i ≡ Some bay → stacks_numbered yard i ≡ bay.1
 stacks_of_bay yard i bay e = ap (λ found. option_map_or (λ b. b.1) found []) e
 
-pub stack_of_bay : (yard : Inventory) (i row : ℕ) (stack : List (List ℕ)) → stack_at yard i row ≡ Some stack → slice_get (stacks_numbered yard i) (row - 1) ≡ Some stack
+pub stack_of_bay : (yard : Inventory) (i row : ℕ) (stack : List (List ℕ)) → stack_in_bay yard i row ≡ Some stack → slice_get (stacks_numbered yard i) (row - 1) ≡ Some stack
 stack_of_bay yard i row stack e = by (slice_get yard.bays i) e
   where
     by : (found : Option StackedBay) → option_and_then (λ bay. slice_get bay.1 (row - 1)) found ≡ Some stack → slice_get (option_map_or (λ bay. bay.1) found []) (row - 1) ≡ Some stack

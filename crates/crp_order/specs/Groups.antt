@@ -26,14 +26,14 @@ abbrev pub kept_of : List (Bor (List ℕ) × ℕ) → List ℕ → Option ℕ
 kept_of entries container = lookup (λ key. bytes_eq container key.now) entries
 
 -- the number is this one
-abbrev pub is_number : Option ℕ → ℕ → Bool
-is_number None j = false
-is_number (Some i) j = i == j
+abbrev pub is_index : Option ℕ → ℕ → Bool
+is_index None j = false
+is_index (Some i) j = i == j
 
 -- of each container the number is kept of the bay in which it stands, and of no other, as far as the first n bays go
 pub record ArePlaced (n : ℕ) (bays : List StackedBay) (entries : List (Bor (List ℕ) × ℕ)) : Type 0 where
   pub standing_there : (container : Bor (List ℕ)) (j : ℕ) (bay : StackedBay) → j < n → slice_get bays j ≡ Some bay
-      → is_among (standing bay.1) container.now ≡ is_number (kept_of entries container.now) j
+      → is_among (standing bay.1) container.now ≡ is_index (kept_of entries container.now) j
   pub number_is_low : (container : Bor (List ℕ)) → IfSome (kept_of entries container.now) (λ i. i < n)
 
 -- the number is kept of each of the containers, and of the others what was kept

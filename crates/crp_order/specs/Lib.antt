@@ -1,4 +1,4 @@
-pub use Rattle.crp_movins.specs.Accepted.{is_ordered, containers_of}
+pub use Rattle.crp_movins.specs.Accepted.{is_ordered, ordered_containers}
 pub use Rattle.crp_yard.specs.Inventory.{Inventory, StackedBay, is_among, times, stands}
 pub mod Slots
 pub mod Sequenced

@@ -5,7 +5,7 @@ use Rattle.std.specs.declared.cmp.Ordering.{Ordering}
 use Rattle.std.specs.Ordering.{nat_cmp, ordering_then}
 use Rattle.crp_movins.specs.declared.order.Order.{Order}
 use Rattle.crp_movins.specs.declared.slot.Slot.{Slot}
-use Rattle.crp_movins.specs.Accepted.{containers_of}
+use Rattle.crp_movins.specs.Accepted.{ordered_containers}
 use Rattle.crp_order.specs.declared.sequences.Mode.{Mode}
 use Rattle.crp_order.specs.declared.sequences.Mode.TheVariants.{Listed, Stowage}
 
@@ -21,5 +21,5 @@ pub record IsStowage (orders stowed : List Order) : Type 0 where
 
 -- the sequence of the orders: their containers as they are listed, or by tier, bay, row and listed place
 abbrev pub IsSequence : Mode → List Order → List (List ℕ) → Type 0
-IsSequence Listed orders containers = containers ≡ containers_of orders
-IsSequence Stowage orders containers = (stowed : List Order) × IsStowage orders stowed × (containers ≡ containers_of stowed)
+IsSequence Listed orders containers = containers ≡ ordered_containers orders
+IsSequence Stowage orders containers = (stowed : List Order) × IsStowage orders stowed × (containers ≡ ordered_containers stowed)

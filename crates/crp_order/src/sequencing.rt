@@ -1,7 +1,7 @@
 //! Puts load orders in sequence.
 
 ghost use Rattle.std.specs.Prelude.{◌≡◌, IfOk};
-ghost use Rattle.crp_movins.specs.Accepted.{containers_of};
+ghost use Rattle.crp_movins.specs.Accepted.{ordered_containers};
 ghost use Rattle.crp_order.specs.Sequences.{IsStowage, IsSequence};
 
 use crate::sequences::{Mode, Sequence};
@@ -19,7 +19,7 @@ fn stowed(orders: Vec<Order>) -> Result<Vec<Order>, AllocError>
 
 /// The containers of the orders.
 fn containers(alloc: Global, orders: Vec<Order>) -> Result<Vec<Container>, AllocError>
-    ensures { IfOk result (λ containers. containers.items ≡ containers_of orders.items) }
+    ensures { IfOk result (λ containers. containers.items ≡ ordered_containers orders.items) }
 {
     orders
         .into_iter()

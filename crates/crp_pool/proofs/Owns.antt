@@ -3,7 +3,7 @@ use Rattle.std.proofs.Common.{◌≡◌, ◌<◌, ◌≤◌, ℕ, zero, suc, ◌
 use Rattle.std.proofs.lemmas.List.{length-map}
 use Rattle.crp_pool.specs.declared.hand.Hand.{Hand}
 use Rattle.crp_pool.specs.Weigh.{weigh, SameNames}
-use Rattle.crp_pool.specs.Hand.{all_shares, both, put_by, taken_by}
+use Rattle.crp_pool.specs.Hand.{all_deque_shares, both, put_by, taken_by}
 use Rattle.crp_pool.specs.Hand.{FoundEmpty}
 use Rattle.crp_pool.specs.Deques.{DequeId, Own, Way, own_hand, own_deque, own_kept, way_hand, shape, guest, Whole, AddsUp}
 use Rattle.crp_pool.proofs.Hands.{weigh-append}
@@ -42,12 +42,12 @@ kept_all (x ∷ xs) (y ∷ ys) e all (suc k) d lt = let rest : map own_kept xs �
 pub whole_after : (new old : List Own) → map own_kept new ≡ map own_kept old → Whole old → Whole new
 whole_after new old e w = let s = kept_shares new old e in ((let p = w.0 in let n = s.1 in let q = s.0 in omega arith), kept_all new old e w.1)
 
-shares_le : (vs : List Hand) → All FoundEmpty vs → weigh (λ v. v.shares) vs ≤ length vs * all_shares
+shares_le : (vs : List Hand) → All FoundEmpty vs → weigh (λ v. v.shares) vs ≤ length vs * all_deque_shares
 shares_le [] all = omega arith
 shares_le (v ∷ vs) all = let h = (all 0 v (omega arith)).0 in omega (arith, shares_le vs (λ k d lt. all (suc k) d (omega arith)))
 
 -- where all shares are there and each deque was found empty, what was put was taken
-pub all_settled : (vs : List Hand) → weigh (λ v. v.shares) vs ≡ length vs * all_shares → All FoundEmpty vs → SameNames (put_by vs) (taken_by vs)
+pub all_settled : (vs : List Hand) → weigh (λ v. v.shares) vs ≡ length vs * all_deque_shares → All FoundEmpty vs → SameNames (put_by vs) (taken_by vs)
 all_settled [] whole all h = refl
 all_settled (v ∷ vs) whole all h =
     let found = all 0 v (omega arith) in

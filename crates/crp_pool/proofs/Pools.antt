@@ -2,7 +2,7 @@
 use Rattle.std.proofs.Common.{◌≡◌, ◌<◌, ◌≤◌, ◌≢◌, ℕ, zero, suc, ◌+◌, ◌-◌, List, [], ◌∷◌, ◌++◌, length, map, All, take, get_or, set, sym, refl, ap, ◌∙◌, arith, add-one, subst, below_more, get_or-set_other, get_or-set_same}
 use Rattle.std.proofs.lemmas.List.{length-map}
 use Rattle.crp_pool.specs.declared.hand.Hand.{Hand}
-use Rattle.crp_pool.specs.Hand.{hand, all_shares, cut, taken_by}
+use Rattle.crp_pool.specs.Hand.{hand, all_deque_shares, share_cut, taken_by}
 use Rattle.crp_pool.specs.Deques.{DequeId, Own, Way, own_deque, way_hand, way_deque, shape, guest, fresh_way, IsFresh, GivesShare, EachGivesShare}
 use Rattle.crp_pool.specs.Seats.{SeatKeeps, IsNewSeat, seat_of}
 
@@ -44,7 +44,7 @@ given_step owns first i o o' lt is gives given others d =
 pub same_count : (owns first : List Own) → map own_deque owns ≡ map own_deque first → length owns ≡ length first
 same_count owns first e = sym (length-map owns own_deque) ∙ ap length e ∙ length-map first own_deque
 
-pub shares_step : (old new : List Own) (n : ℕ) → EachGivesShare old new → All (λ o. 1 < o.hand.shares) old → All (λ o. o.hand.shares + n ≡ all_shares) old → All (λ o. o.hand.shares + (n + 1) ≡ all_shares) new
+pub shares_step : (old new : List Own) (n : ℕ) → EachGivesShare old new → All (λ o. 1 < o.hand.shares) old → All (λ o. o.hand.shares + n ≡ all_deque_shares) old → All (λ o. o.hand.shares + (n + 1) ≡ all_deque_shares) new
 shares_step old new n each more all k d lt =
     let less : k < length old = let e = each.0 in omega arith in
     let step = each.1 k d less in
@@ -53,23 +53,23 @@ shares_step old new n each more all k d lt =
     let q = more k d less in
     omega arith
 
-pub fresh_step : (old new : List Own) (n capacity : ℕ) → EachGivesShare old new → All (IsFresh (all_shares - n) capacity) old → All (IsFresh (all_shares - (n + 1)) capacity) new
+pub fresh_step : (old new : List Own) (n capacity : ℕ) → EachGivesShare old new → All (IsFresh (all_deque_shares - n) capacity) old → All (IsFresh (all_deque_shares - (n + 1)) capacity) new
 fresh_step old new n capacity each all k d lt =
     let less : k < length old = let e = each.0 in omega arith in
     let step = each.1 k d less in
     let was = all k d less in
-    let m : all_shares - n - 1 ≡ all_shares - (n + 1) = omega arith in
-    (step.1 ∙ ap cut was.0 ∙ ap (λ s. hand s [] []) m, step.2 ∙ was.1, (let a = was.2 in let b = step.3 in omega arith))
+    let m : all_deque_shares - n - 1 ≡ all_deque_shares - (n + 1) = omega arith in
+    (step.1 ∙ ap share_cut was.0 ∙ ap (λ s. hand s [] []) m, step.2 ∙ was.1, (let a = was.2 in let b = step.3 in omega arith))
 
 guests_of_fresh : (pool : List DequeId) → (map shape (map fresh_way pool) ≡ map guest pool) × (map way_deque (map fresh_way pool) ≡ pool) × (taken_by (map way_hand (map fresh_way pool)) ≡ [])
 guests_of_fresh [] = (refl, refl, refl)
 guests_of_fresh (d ∷ ds) = let below = guests_of_fresh ds in (ap (λ l. guest d ∷ l) below.0, ap (λ l. d ∷ l) below.1, below.2)
 
 -- a new worker and its new ways make a new seat
-pub new_seat : (number : ℕ) (own : Own) (ways : List Way) (pool : List DequeId) (n capacity : ℕ) → IsFresh (all_shares - n) capacity own → n ≤ 64 → length pool ≡ n → ways ≡ map fresh_way pool → SeatKeeps own ways capacity × IsNewSeat pool capacity (seat_of number own ways capacity)
+pub new_seat : (number : ℕ) (own : Own) (ways : List Way) (pool : List DequeId) (n capacity : ℕ) → IsFresh (all_deque_shares - n) capacity own → n ≤ 64 → length pool ≡ n → ways ≡ map fresh_way pool → SeatKeeps own ways capacity × IsNewSeat pool capacity (seat_of number own ways capacity)
 new_seat number own ways pool n capacity fresh few count new =
     let g = guests_of_fresh pool in
-    let s : own.hand.shares ≡ all_shares - n = ap (λ (v : Hand). v.shares) fresh.0 in
+    let s : own.hand.shares ≡ all_deque_shares - n = ap (λ (v : Hand). v.shares) fresh.0 in
     let p : own.hand.put ≡ [] = ap (λ (v : Hand). v.put) fresh.0 in
     let t : own.hand.taken ≡ [] = ap (λ (v : Hand). v.taken) fresh.0 in
     let m : length ways ≡ n = ap length new ∙ length-map pool fresh_way ∙ count in
@@ -85,11 +85,11 @@ new_seat number own ways pool n capacity fresh few count new =
     )
 
 -- the workers whose links were all made
-pub all_fresh : (owns : List Own) (n m capacity : ℕ) → n ≡ m → All (IsFresh (all_shares - n) capacity) owns → All (IsFresh (all_shares - m) capacity) owns
-all_fresh owns n m capacity e all = subst (λ (k : ℕ). All (IsFresh (all_shares - k) capacity) owns) e all
+pub all_fresh : (owns : List Own) (n m capacity : ℕ) → n ≡ m → All (IsFresh (all_deque_shares - n) capacity) owns → All (IsFresh (all_deque_shares - m) capacity) owns
+all_fresh owns n m capacity e all = subst (λ (k : ℕ). All (IsFresh (all_deque_shares - k) capacity) owns) e all
 
 pub fresh_shares : (owns : List Own) (n capacity : ℕ) → All (IsFresh n capacity) owns → All (λ o. o.hand.shares ≡ n) owns
 fresh_shares owns n capacity all k d lt = ap (λ (v : Hand). v.shares) (all k d lt).0
 
-pub two_shares : (owns : List Own) (n : ℕ) → n < 64 → All (λ o. o.hand.shares + n ≡ all_shares) owns → All (λ o. 1 < o.hand.shares) owns
+pub two_shares : (owns : List Own) (n : ℕ) → n < 64 → All (λ o. o.hand.shares + n ≡ all_deque_shares) owns → All (λ o. 1 < o.hand.shares) owns
 two_shares owns n few all k d lt = let p = all k d lt in omega arith

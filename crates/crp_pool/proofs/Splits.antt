@@ -6,7 +6,7 @@ use Rattle.std.proofs.lemmas.List.{length-map}
 use Rattle.std.proofs.lemmas.List.Elements.{All-append, All-pop}
 use Rattle.crp_pool.specs.declared.hand.Hand.{Hand}
 use Rattle.crp_pool.specs.Weigh.{weigh, SameNames}
-use Rattle.crp_pool.specs.Hand.{all_shares, put_by, taken_by}
+use Rattle.crp_pool.specs.Hand.{all_deque_shares, put_by, taken_by}
 use Rattle.crp_pool.specs.Deques.{DequeId, Own, Way, own_hand, own_deque, way_hand, way_deque, shape, guest, tally, AddsUp}
 use Rattle.crp_pool.specs.Seats.{PoolSeat, seat_of, SeatKeeps, IsSplit, all_puts, all_takes}
 use Rattle.crp_pool.proofs.Hands.{weigh-append}
@@ -90,7 +90,7 @@ ways_step number seats rows s own links capacity is keeps before pool all =
 -- all is with the workers: the rest has all shares, what the seats put and what they took
 pub finished : (seats : List PoolSeat) (owns final : List Own) (rows : List (List Way)) → IsSplit seats owns rows → map own_deque final ≡ map own_deque owns
     → ((f : Hand → ℕ) → AddsUp f → weigh f (map own_hand final) ≡ tally f owns rows)
-    → (weigh (λ o. o.hand.shares) final ≡ length final * all_shares) × SameNames (put_by (map own_hand final)) (all_puts seats) × SameNames (taken_by (map own_hand final)) (all_takes seats)
+    → (weigh (λ o. o.hand.shares) final ≡ length final * all_deque_shares) × SameNames (put_by (map own_hand final)) (all_puts seats) × SameNames (taken_by (map own_hand final)) (all_takes seats)
 finished seats owns final rows split same sums =
     let n : length final ≡ length owns = sym (length-map final own_deque) ∙ ap length same ∙ length-map owns own_deque in (
       (let a = sums (λ v. v.shares) (λ v w. refl) in let b = weigh-map (λ (v : Hand). v.shares) own_hand final in let p = split.0 in let q = split.1 in omega arith),

@@ -4,7 +4,7 @@ use Rattle.std.specs.declared.alloc.Global.{Global}
 use Rattle.atomic_blocks.specs.Lent.{RowsId}
 use Rattle.crp_pool.specs.declared.hand.Hand.{Hand}
 use Rattle.crp_pool.specs.Weigh.{weigh}
-use Rattle.crp_pool.specs.Hand.{hand, all_shares, cut, both}
+use Rattle.crp_pool.specs.Hand.{hand, all_deque_shares, share_cut, both}
 
 -- which deque it is
 abbrev pub DequeId : Type 0
@@ -52,7 +52,7 @@ own_kept o = (o.hand.shares, o.hand.put)
 
 -- all shares of these deques are with their workers, and each worker has some
 abbrev pub Whole : List Own → Type 0
-Whole owns = (weigh (λ o. o.hand.shares) owns ≡ length owns * all_shares) × All (λ o. 0 < o.hand.shares) owns
+Whole owns = (weigh (λ o. o.hand.shares) owns ≡ length owns * all_deque_shares) × All (λ o. 0 < o.hand.shares) owns
 
 -- a new worker with so many shares, whose deque has at least so many slots
 abbrev pub IsFresh : ℕ → ℕ → Own → Type 0
@@ -64,7 +64,7 @@ fresh_way d = record { deque = d; hand = hand 1 [] [] }
 
 -- one share went from a worker to a new way
 abbrev pub GivesShare : Own → Own → Type 0
-GivesShare old new = (new.deque ≡ old.deque) × (new.hand ≡ cut old.hand) × (new.index ≡ old.index) × (old.slots ≤ new.slots)
+GivesShare old new = (new.deque ≡ old.deque) × (new.hand ≡ share_cut old.hand) × (new.index ≡ old.index) × (old.slots ≤ new.slots)
 
 -- one share went from each of these workers to a new way
 abbrev pub EachGivesShare : List Own → List Own → Type 0

@@ -10,8 +10,8 @@ abbrev pub hand : ℕ → List (List ℕ) → List (List ℕ) → Hand
 hand shares put taken = record { shares = shares; put = put; taken = taken }
 
 -- all shares of a deque: one for its worker, and one for each of at most 64 passes
-abbrev pub all_shares : ℕ
-all_shares = 65
+abbrev pub all_deque_shares : ℕ
+all_deque_shares = 65
 
 -- a pass without a share has put and taken nothing
 abbrev pub IdleIsEmpty : List Hand → Type 0
@@ -20,7 +20,7 @@ IdleIsEmpty views = (port : ℕ) (v : Hand) → get_elem? views port ≡ some v 
 -- the rule: the shares are all there, what was put is what was taken and what the deque holds, and who has no share did nothing
 abbrev pub Balanced : List (List ℕ) → List Hand → Type 0
 Balanced items views =
-    (weigh (λ v. v.shares) views ≡ all_shares)
+    (weigh (λ v. v.shares) views ≡ all_deque_shares)
     × ((h : List ℕ → ℕ) → weigh (λ v. weigh h v.put) views ≡ weigh (λ v. weigh h v.taken) views + weigh h items)
     × IdleIsEmpty views
 
@@ -30,7 +30,7 @@ Settled v = (h : List ℕ → ℕ) → weigh h v.put ≡ weigh h v.taken
 
 -- what a pass learns of a deque that it finds empty: it has no more than all shares, and where it has them all, what was put was taken
 abbrev pub FoundEmpty : Hand → Type 0
-FoundEmpty v = (v.shares ≤ all_shares) × (v.shares ≡ all_shares → Settled v)
+FoundEmpty v = (v.shares ≤ all_deque_shares) × (v.shares ≡ all_deque_shares → Settled v)
 
 -- the pass has also put these names
 abbrev pub puts : Hand → List (List ℕ) → Hand
@@ -41,8 +41,8 @@ abbrev pub takes : Hand → List (List ℕ) → Hand
 takes v xs = hand v.shares v.put (v.taken ++ xs)
 
 -- one share is cut off, for a pass that has done nothing
-abbrev pub cut : Hand → Hand
-cut v = hand (v.shares - 1) v.put v.taken
+abbrev pub share_cut : Hand → Hand
+share_cut v = hand (v.shares - 1) v.put v.taken
 
 -- the shares of two passes, and what both have done
 abbrev pub both : Hand → Hand → Hand

@@ -1,7 +1,7 @@
 -- What contracts see of a seat, of every seat of a pool, and of what is left.
 use Rattle.std.specs.Prelude.{◌≡◌, ℕ, zero, suc, Some, slice_get, ◌+◌, ◌*◌, ◌<◌, ◌≤◌, List, [], ◌∷◌, ◌++◌, length, map, All}
 use Rattle.crp_pool.specs.Weigh.{weigh}
-use Rattle.crp_pool.specs.Hand.{all_shares, taken_by}
+use Rattle.crp_pool.specs.Hand.{all_deque_shares, taken_by}
 use Rattle.crp_pool.specs.Deques.{DequeId, Own, Way, way_hand, way_deque, shape, guest, tally}
 
 -- a seat: its number, the deques of its pool, its own among them, how many puts are sure to succeed, and what it put and took
@@ -27,7 +27,7 @@ seat_of number own ways capacity = record {
 -- what holds of a seat's parts: its worker and its ways have all shares of one deque in number, the ways put nothing, and no put is refused
 -- while the seat has put fewer names than its capacity
 pub record SeatKeeps (own : Own) (ways : List Way) (capacity : ℕ) : Type 0 where
-  pub shares : own.hand.shares + length ways ≡ all_shares
+  pub shares : own.hand.shares + length ways ≡ all_deque_shares
   pub share : 0 < own.hand.shares
   pub guests : map shape ways ≡ map guest (map way_deque ways)
   pub slots : capacity ≤ own.slots
@@ -82,7 +82,7 @@ pub record PoolKeeps (deques owners ways room_of_owners room_of_ways : ℕ) : Ty
 -- what the seats had is what their workers and ways have: all shares, the names put and the names taken
 abbrev pub IsSplit : List PoolSeat → List Own → List (List Way) → Type 0
 IsSplit seats owns rows =
-    (tally (λ v. v.shares) owns rows ≡ length seats * all_shares)
+    (tally (λ v. v.shares) owns rows ≡ length seats * all_deque_shares)
     × (length owns ≡ length seats)
     × ((h : List ℕ → ℕ) → tally (λ v. weigh h v.put) owns rows ≡ weigh h (all_puts seats))
     × ((h : List ℕ → ℕ) → tally (λ v. weigh h v.taken) owns rows ≡ weigh h (all_takes seats))

@@ -1,7 +1,7 @@
 // A deque's worker, the ways by which others steal from it, and the rule that all keep.
 ghost use Rattle.std.specs.Prelude.{◌≡◌, ◌+◌, ◌<◌, ◌≤◌, [], ◌∷◌, ℕ, IfOk, MatchResult, MatchOption};
 ghost use Rattle.crossbeam_deque.specs.Handles.{view as known, IsPassOf, stealer_deque, worker_deque, worker_view, worker_capacity, worker_index};
-ghost use Rattle.crp_pool.specs.Hand.{hand, all_shares, FoundEmpty, puts, takes, cut, both};
+ghost use Rattle.crp_pool.specs.Hand.{hand, all_deque_shares, FoundEmpty, puts, takes, share_cut, both};
 ghost use Rattle.crp_pool.specs.Deques.{Own, Way};
 
 use crate::hand::Hand;
@@ -16,11 +16,11 @@ pub struct Counted;
 
 impl Protocol<Name, Hand> for Counted {
     ghost use Rattle.std.specs.Prelude.{[]};
-    ghost use Rattle.crp_pool.specs.Hand.{hand, all_shares, Balanced};
+    ghost use Rattle.crp_pool.specs.Hand.{hand, all_deque_shares, Balanced};
 
     ghost holds = { Balanced };
 
-    ghost first = { hand all_shares [] [] };
+    ghost first = { hand all_deque_shares [] [] };
 
     ghost guest = { hand 0 [] [] };
 }
@@ -53,9 +53,9 @@ struct Cut;
 
 impl Split<Hand> for Cut {
     ghost use Rattle.std.specs.Prelude.{[]};
-    ghost use Rattle.crp_pool.specs.Hand.{hand, cut};
+    ghost use Rattle.crp_pool.specs.Hand.{hand, share_cut};
 
-    ghost left = { cut };
+    ghost left = { share_cut };
 
     ghost right = { λ v. hand 1 [] [] };
 }
@@ -99,7 +99,7 @@ impl Model for Link {
 impl Owner {
     /// An empty deque whose worker has all shares, with at least so many slots.
     pub fn new(alloc: Global, capacity: usize) -> Result<Owner, AllocError>
-        ensures { IfOk result (λ o. (o.hand ≡ hand all_shares [] []) × (o.index ≡ 0) × (capacity ≤ o.slots)) }
+        ensures { IfOk result (λ o. (o.hand ≡ hand all_deque_shares [] []) × (o.index ≡ 0) × (capacity ≤ o.slots)) }
     {
         let worker = Worker::lifo_as(alloc, capacity)?;
         Ok(Owner { worker })
@@ -110,7 +110,7 @@ impl Owner {
         requires { 1 < self.old.hand.shares }
         ensures same { (self.new.deque ≡ self.old.deque) × (self.new.index ≡ self.old.index) × (self.old.slots ≤ self.new.slots) }
         ensures rule { MatchResult result
-            (λ l. (self.new.hand ≡ cut self.old.hand) × (l.deque ≡ self.old.deque) × (l.hand ≡ hand 1 [] []))
+            (λ l. (self.new.hand ≡ share_cut self.old.hand) × (l.deque ≡ self.old.deque) × (l.hand ≡ hand 1 [] []))
             (λ _. self.new.hand ≡ self.old.hand) }
     {
         let stealer = self.worker.stealer()?;

@@ -1,7 +1,7 @@
 // The pool as a whole: made before its workers start, taken apart after they end.
 ghost use Rattle.std.specs.Prelude.{◌≡◌, ◌+◌, ◌*◌, ◌-◌, ◌<◌, ◌≤◌, [], ◌∷◌, ◌++◌, ℕ, List, All, map, IfOk, length, vec_len, vec_capacity};
 ghost use Rattle.std.specs.List.Sorted.{IsPermutation, IsNonDecreasingBy};
-ghost use Rattle.crp_pool.specs.Hand.{all_shares};
+ghost use Rattle.crp_pool.specs.Hand.{all_deque_shares};
 ghost use Rattle.crp_pool.specs.Weigh.{weigh, SameNames};
 ghost use Rattle.crp_pool.specs.Deques.{row_ways, shape, guest, DequeId, own_deque, own_hand, way_hand, fresh_way, IsFresh, EachGivesShare};
 ghost use Rattle.crp_pool.specs.Seats.{IsSplit, IsEverySeat, IsNewSeat, seat_deque, seat_number, numbers, all_puts, all_takes, PoolKeeps};
@@ -31,7 +31,7 @@ impl Model for Pool {
 
 /// The deques, whose workers have all shares.
 fn open(alloc: Global, workers: usize, capacity: usize) -> Result<Vec<Owner>, AllocError>
-    ensures { IfOk result (λ v. (length v.items ≡ workers) × All (IsFresh all_shares capacity) v.items) }
+    ensures { IfOk result (λ v. (length v.items ≡ workers) × All (IsFresh all_deque_shares capacity) v.items) }
 {
     let mut owners = Vec::new(alloc);
     for _number in 0..workers {
@@ -56,10 +56,10 @@ fn link_row(alloc: Global, owners: &mut Vec<Owner>) -> Result<Vec<Link>, AllocEr
 
 /// For each worker a way to each deque.
 fn link_rows(alloc: Global, owners: &mut Vec<Owner>) -> Result<Vec<Vec<Link>>, AllocError>
-    requires shares { All (λ o. o.hand.shares ≡ all_shares) owners.old.items }
+    requires shares { All (λ o. o.hand.shares ≡ all_deque_shares) owners.old.items }
     requires few { length owners.old.items ≤ 64 }
     ensures deques { IfOk result (λ _. map own_deque owners.new.items ≡ map own_deque owners.old.items) }
-    ensures fresh { IfOk result (λ _. (capacity : ℕ) → All (IsFresh all_shares capacity) owners.old.items → All (IsFresh (all_shares - length owners.old.items) capacity) owners.new.items) }
+    ensures fresh { IfOk result (λ _. (capacity : ℕ) → All (IsFresh all_deque_shares capacity) owners.old.items → All (IsFresh (all_deque_shares - length owners.old.items) capacity) owners.new.items) }
     ensures rows { IfOk result (λ v. (length v.items ≡ length owners.old.items) × All (λ r. r.items ≡ map fresh_way (map own_deque owners.old.items)) v.items) }
 {
     let mut rows = Vec::new(alloc);
@@ -77,7 +77,7 @@ fn seat_all(
     capacity: usize,
 ) -> Result<Vec<PoolSeat>, AllocError>
     requires count { (length rows.items ≡ length owners.items) × (length owners.items ≤ 64) }
-    requires fresh { All (IsFresh (all_shares - length owners.items) capacity) owners.items }
+    requires fresh { All (IsFresh (all_deque_shares - length owners.items) capacity) owners.items }
     requires rows { All (λ r. r.items ≡ map fresh_way (map own_deque owners.items)) rows.items }
     ensures deques { IfOk result (λ v. map seat_deque v.items ≡ map own_deque owners.items) }
     ensures new { IfOk result (λ v. All (IsNewSeat (map own_deque owners.items) capacity) v.items) }

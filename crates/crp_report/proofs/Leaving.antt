@@ -8,7 +8,7 @@ use Rattle.crp_plan.specs.BayNames.{YardBay}
 use Rattle.crp_plan.specs.Plans.{Route}
 use Rattle.crp_yard.specs.Places.{same_bay}
 use Rattle.crp_yard.specs.Inventory.{Inventory}
-use Rattle.crp_yard.specs.After.{IsPlanOf}
+use Rattle.crp_yard.specs.After.{IsPlanForBay}
 use Rattle.crp_yard.specs.declared.bay_plan.BayPlan.{BayPlan}
 use Rattle.crp_order.specs.BayProblems.{IsNamed}
 use Rattle.crp_order.specs.declared.bay_problem.BayProblem.{BayProblem}
@@ -26,18 +26,18 @@ plan_of_problem p budget (answer.Between lower cert (Some plan) why) expanded is
 
 -- so it tells the bay
 plan_of_bay : (yard : Inventory) (told : BayProblem) (plan : Route) → plan.problem ≡ told.problem → IsNamed yard told
-    → IsPlanOf yard (record { bay = told.bay; plan = plan; names = told.names })
+    → IsPlanForBay yard (record { bay = told.bay; plan = plan; names = told.names })
 plan_of_bay yard told plan is named = record { heights = rw is named.heights; stands = rw is named.stands }
 
 -- with the plan of one more bay, if it has one
 plan_more : (yard : Inventory) (told : BayProblem) (plan : Option Route) (rest : List BayPlan) → IfSome plan (λ route. route.problem ≡ told.problem) → IsNamed yard told
-    → AllByRecursion (IsPlanOf yard) rest
-    → AllByRecursion (IsPlanOf yard) (cons_option (option_map (λ route. record { bay = told.bay; plan = route; names = told.names }) plan) rest)
+    → AllByRecursion (IsPlanForBay yard) rest
+    → AllByRecursion (IsPlanForBay yard) (cons_option (option_map (λ route. record { bay = told.bay; plan = route; names = told.names }) plan) rest)
 plan_more yard told None rest is named all = all
 plan_more yard told (Some plan) rest is named all = (plan_of_bay yard told plan is named, all)
 
 plans_each : (yard : Inventory) (budget : ℕ) (answered : List Answered) → AllByRecursion (λ bay. IsTrueAnswer bay.told.problem budget bay.answer bay.expanded) answered
-    → AllByRecursion (IsNamed yard) (map (λ bay. bay.told) answered) → AllByRecursion (IsPlanOf yard) (bay_plans answered)
+    → AllByRecursion (IsNamed yard) (map (λ bay. bay.told) answered) → AllByRecursion (IsPlanForBay yard) (bay_plans answered)
 plans_each yard budget [] true_answers named = tt
 plans_each yard budget (bay ∷ answered) true_answers named =
     plan_more yard bay.told (plan_in bay.answer) (bay_plans answered) (plan_of_problem bay.told.problem budget bay.answer bay.expanded true_answers.0) named.0
@@ -45,11 +45,11 @@ plans_each yard budget (bay ∷ answered) true_answers named =
 
 -- the plans of true answers to named problems are plans for the bays of the yard
 pub plans_are : (yard : Inventory) (budget : ℕ) (problems : List BayProblem) (answered : List Answered) → AreTrueAnswers budget problems answered → All (IsNamed yard) problems
-    → All (IsPlanOf yard) (bay_plans answered)
+    → All (IsPlanForBay yard) (bay_plans answered)
 plans_are yard budget problems answered are named =
     let each = each_of (IsNamed yard) problems named in
     let on : AllByRecursion (IsNamed yard) (map (λ bay. bay.told) answered) = subst (AllByRecursion (IsNamed yard)) (sym are.one_for_each) each in
-    all_of (IsPlanOf yard) (bay_plans answered) (plans_each yard budget answered (each_of _ answered are.each_true) on)
+    all_of (IsPlanForBay yard) (bay_plans answered) (plans_each yard budget answered (each_of _ answered are.each_true) on)
 
 -- a bay that is none of the answered ones is none of those with plans
 apart_more : (bay own : YardBay) (plan : Option Route) (names : List (List ℕ)) (rest : List BayPlan) → same_bay bay own ≡ false

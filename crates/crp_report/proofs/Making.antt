@@ -10,7 +10,7 @@ use Rattle.crp_solve.specs.Answers.{IsTrueAnswer}
 use Rattle.crp_report.specs.declared.telling.ToldBay.{ToldBay}
 use Rattle.crp_report.specs.Answered.{Answered, AreTrueAnswers, bay_plan_in, bay_plans}
 use Rattle.crp_report.specs.Report.{TellsBays, certificates_text}
-use Rattle.crp_report.specs.Telling.{IsTold, AreTold}
+use Rattle.crp_report.specs.Telling.{AreTextsOfBay, AreTold}
 use Rattle.crp_report.specs.Writing.{reports_of, certificates_of}
 
 -- true answers to these problems, what is told of them, and their plans
@@ -20,7 +20,7 @@ pub record AreSoFar (budget : ℕ) (problems : List BayProblem) (bays : List Tol
   pub told : AreTold answered bays
   pub plans_are : plans ≡ bay_plans answered
 
-told_more : (answered : List Answered) (bays : List ToldBay) (a : Answered) (t : ToldBay) → AreTold answered bays → IsTold a t → AreTold (answered ++ a ∷ []) (bays ++ t ∷ [])
+told_more : (answered : List Answered) (bays : List ToldBay) (a : Answered) (t : ToldBay) → AreTold answered bays → AreTextsOfBay a t → AreTold (answered ++ a ∷ []) (bays ++ t ∷ [])
 told_more [] [] a t told is = (is, tt)
 told_more [] (b ∷ bays) a t told is = absurd told
 told_more (x ∷ answered) [] a t told is = absurd told
@@ -53,7 +53,7 @@ so_far_none budget = record { answered = []; true_answers = record { one_for_eac
 
 -- one more bay is answered and told
 pub so_far_more : (budget : ℕ) (before : List BayProblem) (bays more : List ToldBay) (plans with : List BayPlan) (a : Answered) (t : ToldBay) (plan : Option BayPlan) → AreSoFar budget before bays plans
-    → IsTrueAnswer a.told.problem budget a.answer a.expanded → IsTold a t → plan ≡ bay_plan_in a → more ≡ bays ++ t ∷ [] → with ≡ plans ++ option_to_list plan
+    → IsTrueAnswer a.told.problem budget a.answer a.expanded → AreTextsOfBay a t → plan ≡ bay_plan_in a → more ≡ bays ++ t ∷ [] → with ≡ plans ++ option_to_list plan
     → AreSoFar budget (before ++ a.told ∷ []) more with
 so_far_more budget before bays more plans with a t plan so_far true_answer told plan_is more_is with_is = record {
   answered = so_far.answered ++ a ∷ [];

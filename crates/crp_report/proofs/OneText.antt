@@ -13,7 +13,7 @@ use Rattle.crp_plan.specs.Plans.{Route}
 use Rattle.crp_solve.specs.declared.answer.Cause.{Cause}
 use Rattle.crp_solve.specs.declared.answer.Cause.TheVariants as cause
 use Rattle.crp_report.specs.MoveLines.{TellsMoves}
-use Rattle.crp_report.specs.Report.{Numbers, numbers_line, cause_words, TellsPlanIn}
+use Rattle.crp_report.specs.Report.{Numbers, counts_line, cause_words, TellsPlanIn}
 use Rattle.crp_report.specs.Said.{Said, Optimal, NoPlan, Between, upper_said, said_words, is_settled, BaySaid, bay_text, report_text}
 use Rattle.crp_report.proofs.Bytes.{first_same, rest_same, cut_once, all_weaker, IsPlain, IsDigit, are_digits, number_once}
 use Rattle.crp_report.proofs.MoveBodies.{body, body_then, plain_body}
@@ -239,14 +239,14 @@ bays_once (c ∷ xs) (d ∷ ys) x y a b e =
 
 -- ---- the whole report
 
-numbers_then : (n : Numbers) (rest : List ℕ) → numbers_line n ++ rest ≡ codes "orders " ++ (decimal n.orders ++ (codes " open " ++ (decimal n.vacant ++ (codes " absent " ++ (decimal n.absent ++ 10 ∷ rest)))))
+numbers_then : (n : Numbers) (rest : List ℕ) → counts_line n ++ rest ≡ codes "orders " ++ (decimal n.orders ++ (codes " open " ++ (decimal n.vacant ++ (codes " absent " ++ (decimal n.absent ++ 10 ∷ rest)))))
 numbers_then n rest =
     ap (λ l. codes "orders " ++ l)
     (append_assoc (decimal n.orders) (codes " open " ++ (decimal n.vacant ++ (codes " absent " ++ (decimal n.absent ++ 10 ∷ [])))) rest
     ∙ ap (λ l. decimal n.orders ++ (codes " open " ++ l)) (append_assoc (decimal n.vacant) (codes " absent " ++ (decimal n.absent ++ 10 ∷ [])) rest
     ∙ ap (λ l. decimal n.vacant ++ (codes " absent " ++ l)) (append_assoc (decimal n.absent) (10 ∷ []) rest)))
 
-numbers_once : (m n : Numbers) (x y : List ℕ) → AreSmall m → AreSmall n → numbers_line m ++ x ≡ numbers_line n ++ y → (m ≡ n) × (x ≡ y)
+numbers_once : (m n : Numbers) (x y : List ℕ) → AreSmall m → AreSmall n → counts_line m ++ x ≡ counts_line n ++ y → (m ≡ n) × (x ≡ y)
 numbers_once m n x y low high e =
     let space = no_digit_low 32 (omega arith) in
     let third : Numbers → List ℕ → List ℕ = λ k z. decimal k.absent ++ 10 ∷ z in

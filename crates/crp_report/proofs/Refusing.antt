@@ -6,25 +6,25 @@ use Rattle.std.specs.Prelude.{nat_le}
 use Rattle.crp_yard.specs.declared.fault.YardFault.{YardFault}
 use Rattle.crp_yard.specs.declared.fault.YardFault.TheVariants as yard_fault
 use Rattle.crp_yard.specs.Faults.{fault_of_text, max_bytes}
-use Rattle.crp_yard.specs.Reading.{IsGiven}
+use Rattle.crp_yard.specs.Reading.{IsTextOf}
 use Rattle.crp_yard.proofs.ToldSteps.{of_record}
 use Rattle.crp_report.specs.Telling.{yard_told, IsNoYard}
 
 -- where a source had more bytes than this, so had the text that it gave
-pub longer : (n : ℕ) (given : Option (List ℕ)) → IfSome given (λ xs. n < length xs) → (text : List ℕ) × IsGiven given text × (n < length text)
+pub longer : (n : ℕ) (given : Option (List ℕ)) → IfSome given (λ xs. n < length xs) → (text : List ℕ) × IsTextOf given text × (n < length text)
 longer n None h = (replicate (n + 1) 0, tt, rw (length-replicate {A = ℕ} (n + 1) 0) (omega arith))
 longer n (Some xs) h = (xs, refl, h)
 
 -- so many bytes are too many for a yard list
 pub list_too_large : (rows tiers : ℕ) (given : Option (List ℕ)) → IfSome given (λ xs. 8388608 < length xs)
-    → (text : List ℕ) × IsGiven given text × (fault_of_text rows tiers text ≡ Some yard_fault.TooLarge)
+    → (text : List ℕ) × IsTextOf given text × (fault_of_text rows tiers text ≡ Some yard_fault.TooLarge)
 list_too_large rows tiers given h =
     let (text, is, long) = longer 8388608 given h in
     let beyond : nat_le (length text) max_bytes ≡ false = lt-leb (length text) max_bytes long in
     (text, is, rw beyond refl)
 
 -- what is told of the fault of a yard list that is short enough
-pub yard_refused : (rows tiers : ℕ) (given : Option (List ℕ)) (before after : ℕ) (text : List ℕ) (f : YardFault) → length text ≤ max_bytes → IsGiven given text
+pub yard_refused : (rows tiers : ℕ) (given : Option (List ℕ)) (before after : ℕ) (text : List ℕ) (f : YardFault) → length text ≤ max_bytes → IsTextOf given text
     → (f ≡ yard_fault.Memory) ⊎ (fault_of_text rows tiers text ≡ Some f) → IsNoYard rows tiers given before after (yard_told f)
 yard_refused rows tiers given before after text yard_fault.Memory short is h = tt
 yard_refused rows tiers given before after text yard_fault.Read short is h = absurd (⊎_elim (λ e. cc e) (λ e. of_record rows tiers text yard_fault.Read short e) h)

@@ -2,7 +2,7 @@
 use Rattle.std.proofs.Common.{◌≡◌, ◌∙◌, ℕ, List, inl, inr, refl, sym, ap, subst}
 use Rattle.crp_movins.specs.LoadOrders.{LoadOrders}
 use Rattle.crp_yard.specs.Inventory.{Inventory}
-use Rattle.crp_yard.specs.Reading.{IsGiven}
+use Rattle.crp_yard.specs.Reading.{IsTextOf}
 use Rattle.crp_report.specs.declared.fault.Fault.{Fault}
 use Rattle.crp_report.specs.declared.fault.Fault.TheVariants as fault
 use Rattle.crp_report.specs.declared.fault.Input.TheVariants as input
@@ -32,7 +32,7 @@ made chosen list message yard orders t are = record {
 }
 
 pub is_made : (chosen : RunChosen) (s : Seen) (list message : List ℕ) (yard : Inventory) (orders : LoadOrders) (t : Texts) (are : AreTextsOf chosen yard orders t)
-    → IsGiven s.yard.given list → IsListed chosen list yard → IsGiven s.movins.given message → AreOrders chosen.code message orders
+    → IsTextOf s.yard.given list → IsListed chosen list yard → IsTextOf s.movins.given message → AreOrders chosen.code message orders
     → IsMade chosen s (made chosen list message yard orders t are)
 is_made chosen s list message yard orders t are given_list listed given_message ordered = record {
   given_list = given_list;

@@ -15,9 +15,9 @@ use Rattle.crp_solve.specs.Answers.{IsTrueAnswer, IsPlanOf}
 use Rattle.crp_solve.proofs.Limits.{count_low}
 use Rattle.crp_report.specs.Answered.{Answered, plan_in, status_of, is_decided}
 use Rattle.crp_report.specs.Chosen.{RunChosen}
-use Rattle.crp_report.specs.Report.{numbers_line, bay_words, answer_words, bays_line, decided, TellsBays}
+use Rattle.crp_report.specs.Report.{counts_line, bay_words, answer_words, bays_line, decided, TellsBays}
 use Rattle.crp_report.specs.Runs.{Seen, Made, IsMade, numbers_of}
-use Rattle.crp_report.specs.Said.{said_words, is_settled, BaySaid, bay_text, said_by, IsSaidOf, Says, SayTheSame}
+use Rattle.crp_report.specs.Said.{said_words, is_settled, BaySaid, bay_text, said_by, IsSaidOf, SaysOfBays, SayTheSame}
 use Rattle.crp_report.proofs.Bytes.{IsPlain}
 use Rattle.crp_report.proofs.Takes.{plain_names}
 use Rattle.crp_report.proofs.YardNames.{IsNamedProblem, problems_named}
@@ -112,7 +112,7 @@ answered_named chosen seen m is =
 -- what a run says, and that it can be said
 pub record HasSaid (m : Made) : Type 0 where
   pub bays : List BaySaid
-  pub said : Says m bays
+  pub said : SaysOfBays m bays
   pub sayable : AllByRecursion IsSayable bays
 
 pub run_says : (chosen : RunChosen) (seen : Seen) (m : Made) → IsMade chosen seen m → HasSaid m
@@ -127,9 +127,9 @@ run_says chosen seen m is =
       bays = are.bays;
       said = record {
         of_each = are.of_each;
-        report = report.2 ∙ ap (λ l. numbers_line n ++ (l ++ bays_line (length m.answered) (decided m.answered))) are.is
-            ∙ ap (λ k. numbers_line n ++ (flat_map bay_text are.bays ++ bays_line k (decided m.answered))) (sym (AllZip-long IsSaidOf m.answered are.bays are.of_each))
-            ∙ ap (λ k. numbers_line n ++ (flat_map bay_text are.bays ++ bays_line (length are.bays) k)) (sym count);
+        report = report.2 ∙ ap (λ l. counts_line n ++ (l ++ bays_line (length m.answered) (decided m.answered))) are.is
+            ∙ ap (λ k. counts_line n ++ (flat_map bay_text are.bays ++ bays_line k (decided m.answered))) (sym (AllZip-long IsSaidOf m.answered are.bays are.of_each))
+            ∙ ap (λ k. counts_line n ++ (flat_map bay_text are.bays ++ bays_line (length are.bays) k)) (sym count);
       };
       sayable = are.sayable;
     }
@@ -146,4 +146,4 @@ same_said chosen other seen again m n is-m is-n e =
     let second = b.said in
     let once = report_once (numbers_of m.yard m.orders m.sequence) (numbers_of n.yard n.orders n.sequence) a.bays b.bays (small_numbers chosen seen m is-m) (small_numbers other again n is-n)
     a.sayable b.sayable (sym first.report ∙ e ∙ second.report) in
-    record { numbers = once.0; bays = a.bays; said = first; said_again = subst (Says n) (sym once.1) second }
+    record { numbers = once.0; bays = a.bays; said = first; said_again = subst (SaysOfBays n) (sym once.1) second }

@@ -8,7 +8,7 @@ use Rattle.std.proofs.lemmas.List.Elements.{recursion_from_All}
 use Rattle.crp_plan.specs.declared.moves.Move.{Move}
 use Rattle.crp_plan.specs.declared.moves.Move.TheVariants.{Shift, Take}
 use Rattle.crp_plan.specs.Bay.{Problem, start, Position, Runs, IsPlan}
-use Rattle.crp_report.specs.MoveLines.{stack_at, name_of, move_line, TellsMoves}
+use Rattle.crp_report.specs.MoveLines.{row_stack, name_of, move_line, TellsMoves}
 use Rattle.crp_report.specs.TakeLines.{FitsLine, lines_in, behind_space, container_taken, taken_in}
 use Rattle.crp_report.proofs.Bytes.{IsPlain, IsDigit, all_both, all_weaker, are_digits}
 use Rattle.crp_report.proofs.MoveBodies.{spot, body, body_then, plain_body}
@@ -32,7 +32,7 @@ spot_whole row tier = all_both (λ b. b ≢ 32) (decimal row) (46 ∷ decimal ti
     whole n = all_weaker IsDigit (λ b. b ≢ 32) (decimal n) (λ b is e. let low = is.0 in omega (arith, e, low)) (are_digits n)
 
 take_names : (names : List (List ℕ)) (s : Position) (row : ℕ) → container_taken (body names s (Take row)) ≡ Some (name_of names s.next)
-take_names names s row = ap Some (behind_first (spot row (length (stack_at s row))) (name_of names s.next) (spot_whole row (length (stack_at s row))))
+take_names names s row = ap Some (behind_first (spot row (length (row_stack s row))) (name_of names s.next) (spot_whole row (length (row_stack s row))))
 
 taken_next : (names : List (List ℕ)) (s : Position) (row : ℕ) (rest : List ℕ) → AllByRecursion IsPlain names
     → taken_in (move_line names s (Take row) ++ rest) ≡ name_of names s.next ∷ taken_in rest

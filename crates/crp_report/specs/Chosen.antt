@@ -14,8 +14,8 @@ pub record RunChosen : Type 0 where
   pub code : List ℕ
 
 -- so many rows can be chosen
-abbrev pub AreRows : ℕ → Type 0
-AreRows rows = (1 ≤ rows) × (rows ≤ 12)
+abbrev pub IsRowCount : ℕ → Type 0
+IsRowCount rows = (1 ≤ rows) × (rows ≤ 12)
 
 -- so many tiers can be chosen
 abbrev pub AreTiers : ℕ → Type 0
@@ -23,6 +23,6 @@ AreTiers tiers = (1 ≤ tiers) × (tiers ≤ 8)
 
 -- why settings with so many rows and tiers are refused: for the rows, or for the tiers where the rows are right; memory is wanting only where both are
 abbrev pub IsRunFault : ℕ → ℕ → RunFault → Type 0
-IsRunFault rows tiers Rows = ¬ AreRows rows
-IsRunFault rows tiers Tiers = AreRows rows × ¬ AreTiers tiers
-IsRunFault rows tiers Memory = AreRows rows × AreTiers tiers
+IsRunFault rows tiers Rows = ¬ IsRowCount rows
+IsRunFault rows tiers Tiers = IsRowCount rows × ¬ AreTiers tiers
+IsRunFault rows tiers Memory = IsRowCount rows × AreTiers tiers

@@ -3,7 +3,7 @@ use Rattle.std.specs.Prelude.{◌≡◌, ℕ, Bool, true, false, List, [], ◌�
 use Rattle.crp_report.specs.declared.fault.Output.{Output}
 use Rattle.crp_report.specs.declared.fault.Output.TheVariants as output
 use Rattle.crp_report.specs.Answered.{Answered}
-use Rattle.crp_report.specs.Report.{Numbers, numbers_line, TellsBay, certificate_of, last_line}
+use Rattle.crp_report.specs.Report.{Numbers, counts_line, TellsBay, certificate_of, last_line}
 
 -- a piece: the sink that it goes to, and its bytes
 pub record Piece : Type 0 where
@@ -34,7 +34,7 @@ AreBayPieces (bay ∷ bays) pieces = (lines : List ℕ) × (rest : List Piece) �
 -- all pieces: the first line, those of the bays, the last line, and the yard after
 abbrev pub ArePieces : Numbers → List Answered → List ℕ → List Piece → Type 0
 ArePieces n answered yard_after pieces = (bays : List Piece) × AreBayPieces answered bays
-    × (pieces ≡ piece output.Report (numbers_line n) ∷ (bays ++ piece output.Report (last_line answered) ∷ piece output.YardAfter yard_after ∷ []))
+    × (pieces ≡ piece output.Report (counts_line n) ∷ (bays ++ piece output.Report (last_line answered) ∷ piece output.YardAfter yard_after ∷ []))
 
 -- where a write failed: the pieces before, the piece of which only so many bytes were taken, and the pieces behind
 pub record Stop : Type 0 where

@@ -23,8 +23,8 @@ pub record Numbers : Type 0 where
   pub absent : ℕ
 
 -- the first line: the three numbers
-abbrev pub numbers_line : Numbers → List ℕ
-numbers_line n = codes "orders " ++ (decimal n.orders ++ (codes " open " ++ (decimal n.vacant ++ (codes " absent " ++ (decimal n.absent ++ 10 ∷ [])))))
+abbrev pub counts_line : Numbers → List ℕ
+counts_line n = codes "orders " ++ (decimal n.orders ++ (codes " open " ++ (decimal n.vacant ++ (codes " absent " ++ (decimal n.absent ++ 10 ∷ [])))))
 
 -- the name of a bay, and a colon
 abbrev pub bay_words : YardBay → List ℕ
@@ -82,7 +82,7 @@ last_line answered = bays_line (length answered) (decided answered)
 
 -- the report: the three numbers, the bays, and how many there are
 abbrev pub IsReport : Numbers → List Answered → List ℕ → Type 0
-IsReport n answered text = (lines : List ℕ) × TellsBays answered lines × (text ≡ numbers_line n ++ (lines ++ last_line answered))
+IsReport n answered text = (lines : List ℕ) × TellsBays answered lines × (text ≡ counts_line n ++ (lines ++ last_line answered))
 
 -- the certificate of a bay
 abbrev pub certificate_of : Answered → List ℕ

@@ -12,7 +12,7 @@ use Rattle.crp_movins.specs.Faults.{first_fault}
 use Rattle.crp_movins.specs.declared.fault.MovinsFault.TheVariants as movins
 use Rattle.crp_yard.specs.Inventory.{Inventory}
 use Rattle.crp_yard.specs.Faults.{fault_of_text}
-use Rattle.crp_yard.specs.Reading.{IsGiven, IsYardList}
+use Rattle.crp_yard.specs.Reading.{IsTextOf, IsYardList}
 use Rattle.crp_yard.specs.declared.fault.YardFault.TheVariants as yard_fault
 use Rattle.crp_order.specs.Sequences.{IsSequence}
 use Rattle.crp_order.specs.BayProblems.{problems_of, absent_of}
@@ -78,8 +78,8 @@ pub record Made : Type 0 where
 
 -- the texts are those that the sources had, both are accepted, the answers are true, and one list of answers gives all three texts
 pub record IsMade (chosen : RunChosen) (s : Seen) (m : Made) : Type 0 where
-  pub given_list : IsGiven s.yard.given m.list
-  pub given_message : IsGiven s.movins.given m.message
+  pub given_list : IsTextOf s.yard.given m.list
+  pub given_message : IsTextOf s.movins.given m.message
   pub listed : IsListed chosen m.list m.yard
   pub ordered : AreOrders chosen.code m.message m.orders
   pub in_sequence : IsSequence chosen.mode m.orders.list m.sequence
@@ -131,12 +131,12 @@ WritesNothing s = GetsNothing s.report × GetsNothing s.certificates × GetsNoth
 
 -- the yard list that the source had is accepted
 abbrev pub IsYardAccepted : RunChosen → Seen → Type 0
-IsYardAccepted chosen s = (text : List ℕ) × (yard : Inventory) × IsGiven s.yard.given text × IsListed chosen text yard
+IsYardAccepted chosen s = (text : List ℕ) × (yard : Inventory) × IsTextOf s.yard.given text × IsListed chosen text yard
 
 -- before the message is looked at the yard list is accepted
-abbrev pub IsReached : RunChosen → Seen → Input → Type 0
-IsReached chosen s input.Yard = Unit {0}
-IsReached chosen s input.Movins = IsYardAccepted chosen s
+abbrev pub IsInputBeforeAccepted : RunChosen → Seen → Input → Type 0
+IsInputBeforeAccepted chosen s input.Yard = Unit {0}
+IsInputBeforeAccepted chosen s input.Movins = IsYardAccepted chosen s
 
 -- so many calls of the devices have failed in the run
 abbrev pub failures_in : Seen → ℕ
@@ -158,11 +158,11 @@ most_failures f = most_interruptions + failures_told f
 -- that write.
 abbrev pub Tells : RunChosen → Seen → Fault → Type 0
 Tells chosen s (fault.Yard f) = WritesNothing s × (f ≢ yard_fault.Read) × (f ≢ yard_fault.Memory)
-    × ((text : List ℕ) × IsGiven s.yard.given text × (fault_of_text chosen.rows chosen.tiers text ≡ Some f))
+    × ((text : List ℕ) × IsTextOf s.yard.given text × (fault_of_text chosen.rows chosen.tiers text ≡ Some f))
 Tells chosen s (fault.Interchange f) = WritesNothing s × (f ≢ edi.Memory) × IsYardAccepted chosen s
-    × ((text : List ℕ) × IsGiven s.movins.given text × IsFirstFault text f)
+    × ((text : List ℕ) × IsTextOf s.movins.given text × IsFirstFault text f)
 Tells chosen s (fault.Message f) = WritesNothing s × (f ≢ movins.Memory) × IsYardAccepted chosen s
-    × ((text : List ℕ) × (segments : List SegmentParts) × IsGiven s.movins.given text × Spells text segments × (first_fault segments chosen.code ≡ Some f))
-Tells chosen s (fault.Read source) = WritesNothing s × IsReached chosen s source × HasFailed (source_of s source).before (source_of s source).after
+    × ((text : List ℕ) × (segments : List SegmentParts) × IsTextOf s.movins.given text × Spells text segments × (first_fault segments chosen.code ≡ Some f))
+Tells chosen s (fault.Read source) = WritesNothing s × IsInputBeforeAccepted chosen s source × HasFailed (source_of s source).before (source_of s source).after
 Tells chosen s (fault.Write sink) = WritesFronts chosen s sink × HasFailed (sink_of s sink).before (sink_of s sink).after
 Tells chosen s fault.Memory = WritesNothing s

@@ -7,7 +7,7 @@ use Rattle.crp_solve.specs.declared.answer.Answer.{Answer}
 use Rattle.crp_solve.specs.declared.answer.Answer.TheVariants as answer
 use Rattle.crp_solve.specs.declared.answer.Cause.{Cause}
 use Rattle.crp_report.specs.Answered.{Answered, plan_in}
-use Rattle.crp_report.specs.Report.{Numbers, numbers_line, bay_words, cause_words, bays_line, TellsPlanIn}
+use Rattle.crp_report.specs.Report.{Numbers, counts_line, bay_words, cause_words, bays_line, TellsPlanIn}
 use Rattle.crp_report.specs.Runs.{Made, numbers_of}
 
 -- what is said of the fewest relocations: so many; that there is no plan; or at least so many, and no more than the printed plan has, if there is
@@ -46,7 +46,7 @@ bay_text b = (bay_words b.bay ++ (said_words b.said ++ 10 ∷ [])) ++ b.lines
 
 -- the report: the line of the three numbers, the lines of the bays, and the line that counts them
 abbrev pub report_text : Numbers → List BaySaid → List ℕ
-report_text n bays = numbers_line n ++ (flat_map bay_text bays ++ bays_line (length bays) (count_by (λ b. is_settled b.said) bays))
+report_text n bays = counts_line n ++ (flat_map bay_text bays ++ bays_line (length bays) (count_by (λ b. is_settled b.said) bays))
 
 -- what an answer says
 abbrev pub said_by : Answer → Said
@@ -61,7 +61,7 @@ pub record IsSaidOf (bay : Answered) (b : BaySaid) : Type 0 where
   pub lines_are : TellsPlanIn bay.told.names (plan_in bay.answer) b.lines
 
 -- this is what a run says of its bays, in order: it is said of each as it was answered, and the report is the text of it
-pub record Says (m : Made) (bays : List BaySaid) : Type 0 where
+pub record SaysOfBays (m : Made) (bays : List BaySaid) : Type 0 where
   pub of_each : AllZip IsSaidOf m.answered bays
   pub report : m.report ≡ report_text (numbers_of m.yard m.orders m.sequence) bays
 
@@ -70,5 +70,5 @@ pub record Says (m : Made) (bays : List BaySaid) : Type 0 where
 pub record SayTheSame (m other : Made) : Type 0 where
   pub numbers : numbers_of m.yard m.orders m.sequence ≡ numbers_of other.yard other.orders other.sequence
   pub bays : List BaySaid
-  pub said : Says m bays
-  pub said_again : Says other bays
+  pub said : SaysOfBays m bays
+  pub said_again : SaysOfBays other bays

@@ -3,7 +3,7 @@ use Rattle.std.specs.Prelude.{◌≡◌, ◌≢◌, ℕ, ◌+◌, ◌≤◌, Lis
 use Rattle.crp_plan.specs.Devices.{HasFailed}
 use Rattle.crp_yard.specs.declared.fault.YardFault.{YardFault}
 use Rattle.crp_yard.specs.declared.fault.YardFault.TheVariants as yard_fault
-use Rattle.crp_yard.specs.Reading.{IsGiven}
+use Rattle.crp_yard.specs.Reading.{IsTextOf}
 use Rattle.crp_yard.specs.Faults.{fault_of_text}
 use Rattle.edi_text.specs.Parts.{SegmentParts}
 use Rattle.edi_text.specs.Spelling.{Spells}
@@ -25,7 +25,7 @@ use Rattle.crp_order.specs.BayProblems.{problems_of}
 use Rattle.crp_report.specs.Chosen.{RunChosen}
 use Rattle.crp_report.specs.Runs.{numbers_of}
 use Rattle.crp_report.specs.Answered.{Answered, AreTrueAnswers, status_of, status_of_all}
-use Rattle.crp_report.specs.Report.{TellsBay, certificate_of, numbers_line, last_line, IsYardTextAfter}
+use Rattle.crp_report.specs.Report.{TellsBay, certificate_of, counts_line, last_line, IsYardTextAfter}
 
 -- the fault of a yard list, of an interchange and of a message, as a run tells it
 abbrev pub yard_told : YardFault → Fault
@@ -42,13 +42,13 @@ message_told movins.Memory = fault.Memory
 message_told f = fault.Message f
 
 -- the calls of a device that have failed are no more than the interruptions that were counted, and so many besides
-abbrev pub IsCounted : ℕ → ℕ → ℕ → ℕ → ℕ → Type 0
-IsCounted besides failed_before failed_after counted_before counted_after = failed_after + counted_before ≤ failed_before + counted_after + besides
+abbrev pub AreFailuresCounted : ℕ → ℕ → ℕ → ℕ → ℕ → Type 0
+AreFailuresCounted besides failed_before failed_after counted_before counted_after = failed_after + counted_before ≤ failed_before + counted_after + besides
 
 -- why no yard was read of a source that had these bytes, with its count of failures before and after
 abbrev pub IsNoYard : ℕ → ℕ → Option (List ℕ) → ℕ → ℕ → Fault → Type 0
 IsNoYard rows tiers given before after (fault.Yard f) = (f ≢ yard_fault.Read) × (f ≢ yard_fault.Memory)
-    × ((text : List ℕ) × IsGiven given text × (fault_of_text rows tiers text ≡ Some f))
+    × ((text : List ℕ) × IsTextOf given text × (fault_of_text rows tiers text ≡ Some f))
 IsNoYard rows tiers given before after (fault.Read input.Yard) = HasFailed before after
 IsNoYard rows tiers given before after (fault.Read input.Movins) = ⊥
 IsNoYard rows tiers given before after fault.Memory = Unit {0}
@@ -67,8 +67,8 @@ IsNoOrders code text (fault.Write sink) = ⊥
 
 -- why no load orders were read of a source that had these bytes, with its count of failures before and after
 abbrev pub IsNoMessage : List ℕ → Option (List ℕ) → ℕ → ℕ → Fault → Type 0
-IsNoMessage code given before after (fault.Interchange f) = (text : List ℕ) × IsGiven given text × IsNoOrders code text (fault.Interchange f)
-IsNoMessage code given before after (fault.Message f) = (text : List ℕ) × IsGiven given text × IsNoOrders code text (fault.Message f)
+IsNoMessage code given before after (fault.Interchange f) = (text : List ℕ) × IsTextOf given text × IsNoOrders code text (fault.Interchange f)
+IsNoMessage code given before after (fault.Message f) = (text : List ℕ) × IsTextOf given text × IsNoOrders code text (fault.Message f)
 IsNoMessage code given before after (fault.Read input.Movins) = HasFailed before after
 IsNoMessage code given before after (fault.Read input.Yard) = ⊥
 IsNoMessage code given before after fault.Memory = Unit {0}
@@ -76,7 +76,7 @@ IsNoMessage code given before after (fault.Yard f) = ⊥
 IsNoMessage code given before after (fault.Write sink) = ⊥
 
 -- these are the texts of an answered bay, and how its search ended
-pub record IsTold (bay : Answered) (t : ToldBay) : Type 0 where
+pub record AreTextsOfBay (bay : Answered) (t : ToldBay) : Type 0 where
   pub report : TellsBay bay t.report.items
   pub certificate : t.certificate.items ≡ certificate_of bay
   pub status : t.status ≡ status_of bay.answer
@@ -86,7 +86,7 @@ abbrev pub AreTold : List Answered → List ToldBay → Type 0
 AreTold [] [] = ⊤
 AreTold [] (t ∷ all) = ⊥
 AreTold (bay ∷ bays) [] = ⊥
-AreTold (bay ∷ bays) (t ∷ all) = IsTold bay t × AreTold bays all
+AreTold (bay ∷ bays) (t ∷ all) = AreTextsOfBay bay t × AreTold bays all
 
 -- one list of true answers gives all texts of a yard and its load orders
 pub record AreTextsOf (chosen : RunChosen) (yard : Inventory) (orders : LoadOrders) (t : Texts) : Type 0 where
@@ -94,7 +94,7 @@ pub record AreTextsOf (chosen : RunChosen) (yard : Inventory) (orders : LoadOrde
   pub answered : List Answered
   pub in_sequence : IsSequence chosen.mode orders.list sequence
   pub true_answers : AreTrueAnswers chosen.search.budget (problems_of yard sequence) answered
-  pub first : t.first.items ≡ numbers_line (numbers_of yard orders sequence)
+  pub first : t.first.items ≡ counts_line (numbers_of yard orders sequence)
   pub bays : AreTold answered t.bays.items
   pub last : t.last.items ≡ last_line answered
   pub yard_after : IsYardTextAfter yard answered t.yard_after.items

@@ -1,9 +1,9 @@
 //! What a run reads.
 ghost use Rattle.std.specs.Prelude.{ℕ, ◌≤◌, List, IfOk, IfErr, MatchResult};
 ghost use Rattle.crp_plan.specs.Devices.{most_interruptions};
-ghost use Rattle.crp_yard.specs.Reading.{IsGiven, IsYardList};
+ghost use Rattle.crp_yard.specs.Reading.{IsTextOf, IsYardList};
 ghost use Rattle.crp_report.specs.Runs.{AreOrders, failures_told};
-ghost use Rattle.crp_report.specs.Telling.{IsCounted, IsNoYard, IsNoOrders, IsNoMessage};
+ghost use Rattle.crp_report.specs.Telling.{AreFailuresCounted, IsNoYard, IsNoOrders, IsNoMessage};
 
 use crate::fault::{Fault, Input};
 use crp_movins::{Orders, load_orders};
@@ -25,9 +25,9 @@ pub(crate) fn yard_from<Y: Source>(
     requires some_tiers { 1 ≤ tiers }
     requires few_tiers { tiers ≤ 8 }
     requires passed { interruptions.old ≤ most_interruptions }
-    ensures accepted { IfOk result (λ yard. (text : List ℕ) × IsGiven (Y.remaining source.old) text × IsYardList rows tiers text yard) }
+    ensures accepted { IfOk result (λ yard. (text : List ℕ) × IsTextOf (Y.remaining source.old) text × IsYardList rows tiers text yard) }
     ensures refused { IfErr result (IsNoYard rows tiers (Y.remaining source.old) (Y.failures source.old) (Y.failures source.new)) }
-    ensures counted { MatchResult result (λ _. IsCounted 0 (Y.failures source.old) (Y.failures source.new) interruptions.old interruptions.new) (λ fault. IsCounted (failures_told fault) (Y.failures source.old) (Y.failures source.new) interruptions.old interruptions.new) }
+    ensures counted { MatchResult result (λ _. AreFailuresCounted 0 (Y.failures source.old) (Y.failures source.new) interruptions.old interruptions.new) (λ fault. AreFailuresCounted (failures_told fault) (Y.failures source.old) (Y.failures source.new) interruptions.old interruptions.new) }
     ensures passed { interruptions.new ≤ most_interruptions }
 {
     let text = match read_all(alloc, source, MAX_BYTES, interruptions) {
@@ -58,9 +58,9 @@ pub(crate) fn orders_from<M: Source>(
     interruptions: &mut u32,
 ) -> Result<Orders, Fault>
     requires { interruptions.old ≤ most_interruptions }
-    ensures accepted { IfOk result (λ orders. (text : List ℕ) × IsGiven (M.remaining source.old) text × AreOrders code.now text orders) }
+    ensures accepted { IfOk result (λ orders. (text : List ℕ) × IsTextOf (M.remaining source.old) text × AreOrders code.now text orders) }
     ensures refused { IfErr result (IsNoMessage code.now (M.remaining source.old) (M.failures source.old) (M.failures source.new)) }
-    ensures counted { MatchResult result (λ _. IsCounted 0 (M.failures source.old) (M.failures source.new) interruptions.old interruptions.new) (λ fault. IsCounted (failures_told fault) (M.failures source.old) (M.failures source.new) interruptions.old interruptions.new) }
+    ensures counted { MatchResult result (λ _. AreFailuresCounted 0 (M.failures source.old) (M.failures source.new) interruptions.old interruptions.new) (λ fault. AreFailuresCounted (failures_told fault) (M.failures source.old) (M.failures source.new) interruptions.old interruptions.new) }
     ensures count { M.failures source.old ≤ M.failures source.new }
     ensures passed { interruptions.new ≤ most_interruptions }
 {

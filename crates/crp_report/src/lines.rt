@@ -2,7 +2,7 @@
 ghost use Rattle.std.specs.Prelude.{◌≡◌, ◌++◌, ◌∷◌, [], IfOk, OnOk, map};
 ghost use Rattle.std.specs.Option.{option_copied};
 ghost use Rattle.crp_report.specs.Answered.{plan_in};
-ghost use Rattle.crp_report.specs.Report.{numbers_line, bay_words, upper_words, cause_words, answer_words, answer_line, bays_line, TellsPlan, TellsPlanIn};
+ghost use Rattle.crp_report.specs.Report.{counts_line, bay_words, upper_words, cause_words, answer_words, answer_line, bays_line, TellsPlan, TellsPlanIn};
 
 use crate::move_lines::lines_of;
 use crate::numbers::Counts;
@@ -114,7 +114,7 @@ pub(crate) fn answer_lines(
 
 /// The first line of the report.
 pub(crate) fn numbers_text(alloc: Global, counts: Counts) -> Result<Vec<u8>, AllocError>
-    ensures { IfOk result (λ text. text.items ≡ numbers_line (record { orders = counts.orders; vacant = counts.vacant; absent = counts.absent })) }
+    ensures { IfOk result (λ text. text.items ≡ counts_line (record { orders = counts.orders; vacant = counts.vacant; absent = counts.absent })) }
 {
     let mut text = Vec::new(alloc);
     text.extend_from_slice(b"orders ")?;

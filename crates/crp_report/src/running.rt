@@ -4,7 +4,7 @@ ghost use Rattle.std.specs.List.{IsDistinct};
 ghost use Rattle.crp_plan.specs.Devices.{most_interruptions};
 ghost use Rattle.crp_yard.specs.Inventory.{IsYard, Inventory};
 ghost use Rattle.crp_yard.specs.Places.{same_bay};
-ghost use Rattle.crp_yard.specs.After.{IsPlanOf, IsAfter};
+ghost use Rattle.crp_yard.specs.After.{IsPlanForBay, IsAfter};
 ghost use Rattle.crp_yard.specs.Text.{yard_text as list_of};
 ghost use Rattle.crp_order.specs.BayProblems.{problems_of};
 ghost use Rattle.crp_report.specs.Answered.{Answered, AreTrueAnswers, bay_plans};
@@ -40,7 +40,7 @@ fn told_of<T: Threads + Wait + Sync>(
     ensures told { IfOk result (λ told. (answered : List Answered)
         × AreTrueAnswers settings.budget (problems_of yard.now sequence.now) answered
         × AreTold answered told.bays.items × (told.plans.items ≡ bay_plans answered)) }
-    ensures plans { IfOk result (λ told. All (IsPlanOf yard.now) told.plans.items) }
+    ensures plans { IfOk result (λ told. All (IsPlanForBay yard.now) told.plans.items) }
     ensures once { IfOk result (λ told. IsDistinct same_bay (map (λ plan. plan.bay) told.plans.items)) }
 {
     let problems = problems(alloc, yard, sequence)?;
@@ -49,7 +49,7 @@ fn told_of<T: Threads + Wait + Sync>(
 
 // The yard list after the plans.
 fn text_after(alloc: Global, yard: &Yard, plans: &[BayPlan]) -> Result<Vec<u8>, AllocError>
-    requires plans { All (IsPlanOf yard.now) plans.now }
+    requires plans { All (IsPlanForBay yard.now) plans.now }
     requires once { IsDistinct same_bay (map (λ plan. plan.bay) plans.now) }
     ensures { IfOk result (λ text. (left : Inventory) × IsAfter yard.now plans.now left
         × (text.items ≡ list_of left)) }

@@ -1,6 +1,6 @@
 //! What a planner chooses for a run.
 ghost use Rattle.std.specs.Prelude.{◌≡◌, IfOk, IfErr};
-ghost use Rattle.crp_report.specs.Chosen.{AreRows, AreTiers, IsRunFault};
+ghost use Rattle.crp_report.specs.Chosen.{IsRowCount, AreTiers, IsRunFault};
 ghost use Rattle.crp_report.specs.declared.settings.RunFault.TheVariants.{Memory};
 
 use crp_order::Mode;
@@ -48,13 +48,13 @@ pub struct RunSettings {
 }
 
 impl Model for RunSettings {
-    ghost use Rattle.crp_report.specs.Chosen.{RunChosen, AreRows, AreTiers};
+    ghost use Rattle.crp_report.specs.Chosen.{RunChosen, IsRowCount, AreTiers};
 
     ghost Value = { RunChosen };
 
     ghost view = { λ s. record { search = s.search; rows = s.rows; tiers = s.tiers; mode = s.mode; code = s.code.items } };
 
-    ghost invariant = { λ s. AreRows s.rows × AreTiers s.tiers };
+    ghost invariant = { λ s. IsRowCount s.rows × AreTiers s.tiers };
 }
 
 impl RunSettings {
@@ -68,7 +68,7 @@ impl RunSettings {
         mode: Mode,
         code: &[u8],
     ) -> Result<RunSettings, RunFault>
-        ensures accepted { IfOk result (λ settings. AreRows rows × AreTiers tiers) }
+        ensures accepted { IfOk result (λ settings. IsRowCount rows × AreTiers tiers) }
         ensures value { IfOk result (λ settings. settings ≡ record { search = search; rows = rows; tiers = tiers; mode = mode; code = code.now }) }
         ensures refused { IfErr result (IsRunFault rows tiers) }
     {
@@ -98,7 +98,7 @@ impl RunSettings {
     /// How many rows each bay has, 1 to 12.
     pub fn rows(&self) -> u8
         ensures value { result ≡ self.now.rows }
-        ensures chosen { AreRows self.now.rows }
+        ensures chosen { IsRowCount self.now.rows }
     {
         self.rows
     }

@@ -2,7 +2,7 @@
 ghost use Rattle.std.specs.Prelude.{◌≡◌, ℕ, List, [], ◌∷◌, ◌++◌, IfOk, OnOk, map, option_to_list};
 ghost use Rattle.crp_report.specs.Answered.{Answered, AreTrueAnswers, bay_plan_in, bay_plans};
 ghost use Rattle.crp_report.specs.Report.{TellsBay};
-ghost use Rattle.crp_report.specs.Telling.{IsTold, AreTold};
+ghost use Rattle.crp_report.specs.Telling.{AreTextsOfBay, AreTold};
 
 use crate::answers::{certificate_of, status_of};
 use crate::lines::{answer_lines, push_answer_line};
@@ -99,7 +99,7 @@ fn bay_plan(bay: BayProblem, answer: Answer) -> Option<BayPlan>
 
 // Tells the answer to the problem of a bay.
 fn told_bay(alloc: Global, bay: &BayProblem, answer: &Answer) -> Result<ToldBay, AllocError>
-    ensures { IfOk result (λ told. (expanded : ℕ) → IsTold (record { told = bay.now; answer = answer.now; expanded = expanded }) told) }
+    ensures { IfOk result (λ told. (expanded : ℕ) → AreTextsOfBay (record { told = bay.now; answer = answer.now; expanded = expanded }) told) }
 {
     let report = bay_lines(alloc, bay, answer)?;
     let certificate = certificate_of(alloc, &bay.bay, &bay.problem, answer)?;

@@ -3,7 +3,7 @@ ghost use Rattle.std.specs.Prelude.{◌≤◌, ◌+◌, IfErr, OnOk, MatchResult
 ghost use Rattle.std.specs.Io.KnownBytes.{Appends};
 ghost use Rattle.crp_plan.specs.Devices.{AppendsFront, most_interruptions};
 ghost use Rattle.crp_report.specs.Runs.{failures_told};
-ghost use Rattle.crp_report.specs.Telling.{IsCounted};
+ghost use Rattle.crp_report.specs.Telling.{AreFailuresCounted};
 ghost use Rattle.crp_report.specs.Writing.{reports_of, certificates_of, report_of, IsWriteOf, IsBaysFault, IsTextsFault, bay_pieces, pieces_of, IsBaysStop, IsTextsStop};
 
 use crate::fault::{Fault, Output};
@@ -37,7 +37,7 @@ fn write_piece<W: Sink>(
     ensures all { OnOk result (Appends (W.contents sink.old) (W.contents sink.new) piece.now) }
     ensures front { AppendsFront (W.contents sink.old) (W.contents sink.new) piece.now }
     ensures refused { IfErr result (IsWriteOf output (W.failures sink.old) (W.failures sink.new)) }
-    ensures counted { MatchResult result (λ _. IsCounted 0 (W.failures sink.old) (W.failures sink.new) interruptions.old interruptions.new) (λ fault. IsCounted (failures_told fault) (W.failures sink.old) (W.failures sink.new) interruptions.old interruptions.new) }
+    ensures counted { MatchResult result (λ _. AreFailuresCounted 0 (W.failures sink.old) (W.failures sink.new) interruptions.old interruptions.new) (λ fault. AreFailuresCounted (failures_told fault) (W.failures sink.old) (W.failures sink.new) interruptions.old interruptions.new) }
     ensures count { W.failures sink.old ≤ W.failures sink.new }
     ensures passed { interruptions.new ≤ most_interruptions }
 {
@@ -61,7 +61,7 @@ fn write_bays<W: Sink, C: Sink>(
     ensures certificates_front { AppendsFront (C.contents cert_out.old) (C.contents cert_out.new) (certificates_of bays.now) }
     ensures refused { IfErr result (IsBaysFault (W.failures out.old) (W.failures out.new) (C.failures cert_out.old) (C.failures cert_out.new)) }
     ensures stopped { IfErr result (IsBaysStop (bay_pieces bays.now) (W.contents out.old) (W.contents out.new) (C.contents cert_out.old) (C.contents cert_out.new)) }
-    ensures counted { MatchResult result (λ _. IsCounted 0 (W.failures out.old + C.failures cert_out.old) (W.failures out.new + C.failures cert_out.new) interruptions.old interruptions.new) (λ fault. IsCounted (failures_told fault) (W.failures out.old + C.failures cert_out.old) (W.failures out.new + C.failures cert_out.new) interruptions.old interruptions.new) }
+    ensures counted { MatchResult result (λ _. AreFailuresCounted 0 (W.failures out.old + C.failures cert_out.old) (W.failures out.new + C.failures cert_out.new) interruptions.old interruptions.new) (λ fault. AreFailuresCounted (failures_told fault) (W.failures out.old + C.failures cert_out.old) (W.failures out.new + C.failures cert_out.new) interruptions.old interruptions.new) }
     ensures counts { (W.failures out.old ≤ W.failures out.new) × (C.failures cert_out.old ≤ C.failures cert_out.new) }
     ensures passed { interruptions.new ≤ most_interruptions }
 {
@@ -94,7 +94,7 @@ pub(crate) fn write_texts<W: Sink, C: Sink, A: Sink>(
     ensures yard_after_front { AppendsFront (A.contents after_out.old) (A.contents after_out.new) texts.now.yard_after.items }
     ensures refused { IfErr result (IsTextsFault (W.failures out.old) (W.failures out.new) (C.failures cert_out.old) (C.failures cert_out.new) (A.failures after_out.old) (A.failures after_out.new)) }
     ensures stopped { IfErr result (IsTextsStop (pieces_of texts.now) (W.contents out.old) (W.contents out.new) (C.contents cert_out.old) (C.contents cert_out.new) (A.contents after_out.old) (A.contents after_out.new)) }
-    ensures counted { MatchResult result (λ _. IsCounted 0 (W.failures out.old + (C.failures cert_out.old + A.failures after_out.old)) (W.failures out.new + (C.failures cert_out.new + A.failures after_out.new)) interruptions.old interruptions.new) (λ fault. IsCounted (failures_told fault) (W.failures out.old + (C.failures cert_out.old + A.failures after_out.old)) (W.failures out.new + (C.failures cert_out.new + A.failures after_out.new)) interruptions.old interruptions.new) }
+    ensures counted { MatchResult result (λ _. AreFailuresCounted 0 (W.failures out.old + (C.failures cert_out.old + A.failures after_out.old)) (W.failures out.new + (C.failures cert_out.new + A.failures after_out.new)) interruptions.old interruptions.new) (λ fault. AreFailuresCounted (failures_told fault) (W.failures out.old + (C.failures cert_out.old + A.failures after_out.old)) (W.failures out.new + (C.failures cert_out.new + A.failures after_out.new)) interruptions.old interruptions.new) }
     ensures counts { (W.failures out.old ≤ W.failures out.new) × (C.failures cert_out.old ≤ C.failures cert_out.new) × (A.failures after_out.old ≤ A.failures after_out.new) }
     ensures passed { interruptions.new ≤ most_interruptions }
 {

@@ -10,7 +10,7 @@ use Rattle.crp_pool.specs.Seats.{PoolSeat, seat_number, numbers, IsSeatOf, IsEve
 use Rattle.crp_pool.proofs.Hands.{weigh-append}
 use Rattle.crp_solve.specs.Searches.{IsSearched}
 use Rattle.crp_solve.specs.Desks.{KeepsPlan}
-use Rattle.crp_solve.specs.Groups.{Crew, root_at, roots, given_in, place_key, IsGroup, IsNewSeat}
+use Rattle.crp_solve.specs.Groups.{Crew, root_at, roots, given_in, place_key, IsGroup, IsUnusedSeat}
 use Rattle.crp_solve.specs.Rests.{IsKeptSoFar, IsDoneUpTo}
 use Rattle.crp_solve.proofs.Grouped.{searched_later}
 
@@ -45,7 +45,7 @@ pub one_root : (pool : List DequeId) (places : List PoolSeat) → 0 < length poo
 one_root pool places some every h = let e = every.1 (root_weight h) in omega (arith, roots_by_number h places, one_from h (length pool) some)
 
 -- with a seat that offered nothing the plan and the parts are kept
-pub kept_with_left : (of : Shared) (left : Seat) (g : Crew) → g.of ≡ of → IsNewSeat of left → IsGroup g → IsKeptSoFar of (view_joined left.view g.view) g.plan g.parts
+pub kept_with_left : (of : Shared) (left : Seat) (g : Crew) → g.of ≡ of → IsUnusedSeat of left → IsGroup g → IsKeptSoFar of (view_joined left.view g.view) g.plan g.parts
 kept_with_left of left g at new k =
     let p : KeepsPlan of g.view g.plan = subst (λ o. KeepsPlan o g.view g.plan) at k.plan_kept in
     let m = new.mine in let low = p.low in let seen = p.seen in
@@ -56,7 +56,7 @@ kept_with_left of left g at new k =
     }
 
 -- and what the pool gives back is counted
-pub done_with_left : (of : Shared) (left : Seat) (g : Crew) (pool : List DequeId) (puts takes : List (List ℕ)) → g.of ≡ of → IsNewSeat of left → IsGroup g → g.short ≡ false → 0 < length pool → IsEverySeat pool g.places →
+pub done_with_left : (of : Shared) (left : Seat) (g : Crew) (pool : List DequeId) (puts takes : List (List ℕ)) → g.of ≡ of → IsUnusedSeat of left → IsGroup g → g.short ≡ false → 0 < length pool → IsEverySeat pool g.places →
     SameNames puts (all_puts g.places) → SameNames takes (all_takes g.places) → IsDoneUpTo of (view_joined left.view g.view) g.plan g.parts puts takes
 done_with_left of left g pool puts takes at new k ok some every put took =
     let c = k.counted ok in

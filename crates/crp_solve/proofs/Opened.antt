@@ -5,11 +5,11 @@ use Rattle.std.proofs.lemmas.List.Elements.{All-append, All-cons, All-nil}
 use Rattle.crp_incumbent.specs.Rule.{view_kept}
 use Rattle.crp_incumbent.specs.Seats.{Shared, Seat, with_view}
 use Rattle.crp_pool.specs.Seats.{PoolSeat}
-use Rattle.crp_solve.specs.Groups.{Crew, keys, all_keys, place_key, shares, IsNewSeat}
+use Rattle.crp_solve.specs.Groups.{Crew, keys, all_keys, place_key, shares, IsUnusedSeat}
 
 -- a seat that gave a share away
-pub kept_new : (of : Shared) (left kept : Seat) → kept ≡ with_view left (view_kept left.view) → IsNewSeat of left → IsNewSeat of kept
-kept_new of left kept e n = subst (IsNewSeat of) (sym e) (record { words = n.words; is_problem = n.is_problem; none_granted = n.none_granted; none_refused = n.none_refused; mine = n.mine; seen = n.seen })
+pub kept_new : (of : Shared) (left kept : Seat) → kept ≡ with_view left (view_kept left.view) → IsUnusedSeat of left → IsUnusedSeat of kept
+kept_new of left kept e n = subst (IsUnusedSeat of) (sym e) (record { words = n.words; is_problem = n.is_problem; none_granted = n.none_granted; none_refused = n.none_refused; mine = n.mine; seen = n.seen })
 
 keys-append : (xs ys : List Crew) → all_keys (xs ++ ys) ≡ all_keys xs ++ all_keys ys
 keys-append [] ys = refl

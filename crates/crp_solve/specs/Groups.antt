@@ -60,13 +60,13 @@ abbrev pub all_keys : List Crew → List (List DequeId × DequeId × ℕ)
 all_keys [] = []
 all_keys (g ∷ gs) = keys g ++ all_keys gs
 
-abbrev pub share_of : Crew → ℕ
-share_of g = g.view.share
+abbrev pub crew_share : Crew → ℕ
+crew_share g = g.view.share
 
 -- the shares of the words that the groups have together
 abbrev pub shares : List Crew → ℕ
 shares [] = 0
-shares (g ∷ gs) = share_of g + shares gs
+shares (g ∷ gs) = crew_share g + shares gs
 
 -- the same workers, later: the words, their share of them and, unless memory was short, their places are the same
 pub record SameWorkers (old new : Crew) : Type 0 where
@@ -94,7 +94,7 @@ pub record IsUnused (place : PoolSeat) : Type 0 where
   pub room : 0 < place.capacity
 
 -- a seat at the words with which nothing was claimed or offered
-pub record IsNewSeat (of : Shared) (seat : Seat) : Type 0 where
+pub record IsUnusedSeat (of : Shared) (seat : Seat) : Type 0 where
   pub words : seat.of ≡ of
   pub is_problem : IsProblem of.key.problem
   pub none_granted : seat.view.granted ≡ 0
@@ -104,7 +104,7 @@ pub record IsNewSeat (of : Shared) (seat : Seat) : Type 0 where
 
 -- each place has a group, with a share of the seat; the rest of the shares is left
 pub record AreSeated (of : Shared) (seat : Seat) (places : List PoolSeat) (left : Seat) (groups : List Crew) : Type 0 where
-  pub left_new : IsNewSeat of left
+  pub left_new : IsUnusedSeat of left
   pub words : All (λ g. g.of ≡ of) groups
   pub count : length groups ≡ length places
   pub share : left.view.share + shares groups ≡ seat.view.share

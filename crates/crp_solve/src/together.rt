@@ -1,7 +1,7 @@
 //! The solver of many workers.
 ghost use Rattle.std.specs.Prelude.{◌≡◌, ◌+◌, ◌<◌, ◌≤◌, false, length, IfOk, IfErr};
 ghost use Rattle.crp_pool.specs.Seats.{IsEverySeat};
-ghost use Rattle.crp_solve.specs.Groups.{IsNewSeat};
+ghost use Rattle.crp_solve.specs.Groups.{IsUnusedSeat};
 ghost use Rattle.crp_solve.specs.Answers.{IsFirstLimit};
 ghost use Rattle.crp_solve.specs.Rests.{IsKeptSoFar, IsAllDone, IsFoundTogether};
 
@@ -32,7 +32,7 @@ fn put_together<R: Wait, G: Gate>(
     all: Group,
 ) -> Done
     requires words { all.of ≡ common.now.of }
-    requires left { IsNewSeat common.now.of left }
+    requires left { IsUnusedSeat common.now.of left }
     requires places { all.short ≡ false → IsEverySeat pool all.places × (0 < length pool) }
     ensures words { result.seat.of ≡ common.now.of }
     ensures share { result.seat.view.share ≡ left.view.share + all.view.share }

@@ -12,7 +12,7 @@ use Rattle.crp_yard.specs.declared.bay_plan.BayPlan.{BayPlan}
 use Rattle.crp_yard.specs.Places.{same_bay}
 use Rattle.crp_yard.specs.Inventory.{Inventory, StackedBay, FitBay, IsYard, times, containers_of}
 use Rattle.crp_yard.specs.Ranks.{named}
-use Rattle.crp_yard.specs.After.{IsPlanOf, plan_of, stacks_at, LeavesNamed, IsBayAfter, AreBaysAfter, IsAfter}
+use Rattle.crp_yard.specs.After.{IsPlanForBay, plan_for, stacks_at, LeavesNamed, IsBayAfter, AreBaysAfter, IsAfter}
 use Rattle.crp_yard.proofs.Lists.{all_of, each_of, each_push, each_at, found_in, find-kept, find-push, not_before, looked_up, looked}
 use Rattle.crp_yard.proofs.ListingSteps.{times-append}
 use Rattle.crp_yard.proofs.OnceSteps.{same_bay_is, same_bay_self}
@@ -31,14 +31,14 @@ done_none (bay ∷ bays) = ((refl, refl), done_none bays)
 module _ (plans : List BayPlan) (plan : BayPlan) where
   -- a bay for which the new plan is not
   unmoved : (old new : StackedBay) → same_bay old.0 plan.bay ≡ false → IsBayAfter plans old new → IsBayAfter (plans ++ plan ∷ []) old new
-  unmoved old new other h = (h.0, by (plan_of plans old.0) refl h.1)
+  unmoved old new other h = (h.0, by (plan_for plans old.0) refl h.1)
     where
       test : BayPlan → Bool
       test p = same_bay old.0 p.bay
 
-      by : (o : Option BayPlan) → plan_of plans old.0 ≡ o → MatchOption (plan_of plans old.0) (new.1 ≡ old.1) (λ p. LeavesNamed p new.1)
-          → MatchOption (plan_of (plans ++ plan ∷ []) old.0) (new.1 ≡ old.1) (λ p. LeavesNamed p new.1)
-      by None e k = let none : plan_of (plans ++ plan ∷ []) old.0 ≡ None = find-push (λ p. same_bay old.0 p.bay) plans plan e ∙ ap (λ b. cond b (Some plan) None) other in rw none (rw e at k)
+      by : (o : Option BayPlan) → plan_for plans old.0 ≡ o → MatchOption (plan_for plans old.0) (new.1 ≡ old.1) (λ p. LeavesNamed p new.1)
+          → MatchOption (plan_for (plans ++ plan ∷ []) old.0) (new.1 ≡ old.1) (λ p. LeavesNamed p new.1)
+      by None e k = let none : plan_for (plans ++ plan ∷ []) old.0 ≡ None = find-push (λ p. same_bay old.0 p.bay) plans plan e ∙ ap (λ b. cond b (Some plan) None) other in rw none (rw e at k)
       by (Some p) e k = rw (find-kept (λ p. same_bay old.0 p.bay) plans plan p e) (rw e at k)
 
   all_unmoved : (olds news : List StackedBay) → AllByRecursion (λ k. same_bay plan.bay k ≡ false) (map (λ (b : StackedBay). b.0) olds) → AreBaysAfter plans olds news
@@ -49,7 +49,7 @@ module _ (plans : List BayPlan) (plan : BayPlan) where
   all_unmoved (old ∷ olds) (new ∷ news) apart h = (unmoved old new (same_bay_laws.symm old.0 plan.bay ∙ apart.0) h.0, all_unmoved olds news apart.1 h.1)
 
   -- the bay for which it is
-  pub moved : (stacks : List (List (List ℕ))) (olds news : List StackedBay) → plan_of plans plan.bay ≡ None → LeavesNamed plan stacks → IsDistinct same_bay (map (λ (b : StackedBay). b.0) olds)
+  pub moved : (stacks : List (List (List ℕ))) (olds news : List StackedBay) → plan_for plans plan.bay ≡ None → LeavesNamed plan stacks → IsDistinct same_bay (map (λ (b : StackedBay). b.0) olds)
       → list_any (same_bay plan.bay) (map (λ (b : StackedBay). b.0) olds) ≡ true → AreBaysAfter plans olds news
       → AreBaysAfter (plans ++ plan ∷ []) olds (insert_entry same_bay news plan.bay stacks)
   unfolding Rattle.std.specs.List.IsDistinct
@@ -63,10 +63,10 @@ module _ (plans : List BayPlan) (plan : BayPlan) where
           → AreBaysAfter (plans ++ plan ∷ []) (old ∷ olds) (if b then (new.0, stacks) ∷ news else new ∷ insert_entry same_bay news plan.bay stacks)
       by true e rest =
           let same : plan.bay ≡ old.0 = same_bay_is plan.bay new.0 e ∙ h.0.0 in
-          let P : YardBay → Type 0 = λ k. plan_of plans k ≡ None in
+          let P : YardBay → Type 0 = λ k. plan_for plans k ≡ None in
           let Q : YardBay → Type 0 = λ k. AllByRecursion (λ j. same_bay k j ≡ false) (map (λ (b : StackedBay). b.0) olds) in
           let here : same_bay old.0 plan.bay ≡ true = rw same (same_bay_self old.0) in
-          let found : plan_of (plans ++ plan ∷ []) old.0 ≡ Some plan = find-push (λ p. same_bay old.0 p.bay) plans plan (subst P same fresh) ∙ ap (λ b. cond b (Some plan) None) here in
+          let found : plan_for (plans ++ plan ∷ []) old.0 ≡ Some plan = find-push (λ p. same_bay old.0 p.bay) plans plan (subst P same fresh) ∙ ap (λ b. cond b (Some plan) None) here in
           ((h.0.0, rw found leaves), all_unmoved olds news (subst Q (sym same) once.0) h.1)
       by false e rest =
           let other : same_bay plan.bay old.0 ≡ false = ap (same_bay plan.bay) (sym h.0.0) ∙ e in
@@ -79,24 +79,24 @@ pub record AreKept (rows tiers : ℕ) (old new : List StackedBay) : Type 0 where
   pub fits : AllByRecursion (λ (b : StackedBay). FitBay rows tiers b.1) new
   pub fewer : (c : List ℕ) → times c (containers_of new) ≤ times c (containers_of old)
 
-one_kept : (yard : Inventory) (plans : List BayPlan) (old new : StackedBay) → AllByRecursion (IsPlanOf yard) plans → AllByRecursion (λ plan. IsProblem plan.plan.problem) plans
+one_kept : (yard : Inventory) (plans : List BayPlan) (old new : StackedBay) → AllByRecursion (IsPlanForBay yard) plans → AllByRecursion (λ plan. IsProblem plan.plan.problem) plans
     → FitBay yard.rows yard.tiers old.1 → stacks_at yard.bays old.0 ≡ Some old.1 → IsBayAfter plans old new → IsLeft yard.rows yard.tiers old.1 new.1
-one_kept yard plans old new of is fit at h = by (plan_of plans old.0) refl h.1
+one_kept yard plans old new of is fit at h = by (plan_for plans old.0) refl h.1
   where
-    by : (o : Option BayPlan) → plan_of plans old.0 ≡ o → MatchOption (plan_of plans old.0) (new.1 ≡ old.1) (λ p. LeavesNamed p new.1) → IsLeft yard.rows yard.tiers old.1 new.1
+    by : (o : Option BayPlan) → plan_for plans old.0 ≡ o → MatchOption (plan_for plans old.0) (new.1 ≡ old.1) (λ p. LeavesNamed p new.1) → IsLeft yard.rows yard.tiers old.1 new.1
     by None e k =
         let same : new.1 ≡ old.1 = rw e at k in
         rw same (record { fits = fit; fewer = λ c. omega arith })
     by (Some p) e k =
         let leaves : LeavesNamed p new.1 = rw e at k in
-        let own = found_in (IsPlanOf yard) (λ p. same_bay old.0 p.bay) plans p of e in
+        let own = found_in (IsPlanForBay yard) (λ p. same_bay old.0 p.bay) plans p of e in
         let problem = found_in (λ plan. IsProblem plan.plan.problem) (λ p. same_bay old.0 p.bay) plans p is e in
         let bay : old.0 ≡ p.bay = same_bay_is old.0 p.bay own.1 in
         let both : Some old.1 ≡ Some (named p.names p.plan.problem.stacks) = sym at ∙ ap (stacks_at yard.bays) bay ∙ own.0.stands in
         let before : old.1 ≡ named p.names p.plan.problem.stacks = cc both in
         rw (before, leaves.2) (left_fits p.plan p.names leaves.0 yard.rows yard.tiers problem.0 own.0.heights leaves.1)
 
-pub all_kept : (yard : Inventory) (plans : List BayPlan) (olds news : List StackedBay) → AllByRecursion (IsPlanOf yard) plans → AllByRecursion (λ plan. IsProblem plan.plan.problem) plans
+pub all_kept : (yard : Inventory) (plans : List BayPlan) (olds news : List StackedBay) → AllByRecursion (IsPlanForBay yard) plans → AllByRecursion (λ plan. IsProblem plan.plan.problem) plans
     → AllByRecursion (λ (b : StackedBay). FitBay yard.rows yard.tiers b.1) olds → AllByRecursion (λ (b : StackedBay). stacks_at yard.bays b.0 ≡ Some b.1) olds
     → AreBaysAfter plans olds news → AreKept yard.rows yard.tiers olds news
 all_kept yard plans [] [] of is fits at h = record { names = refl; fits = tt; fewer = λ c. omega arith }
@@ -111,11 +111,11 @@ all_kept yard plans (old ∷ olds) (new ∷ news) of is fits at h =
       fewer = λ c. omega (arith, times-append c (flat_map (λ (s : List (List ℕ)). s) new.1) (containers_of news), times-append c (flat_map (λ (s : List (List ℕ)). s) old.1) (containers_of olds), own.fewer c, rest.fewer c);
     }
 
-pub after_is_yard : (yard : Inventory) (plans : List BayPlan) (news : List StackedBay) → IsYard yard → All (IsPlanOf yard) plans → AreDone plans yard.bays news
+pub after_is_yard : (yard : Inventory) (plans : List BayPlan) (news : List StackedBay) → IsYard yard → All (IsPlanForBay yard) plans → AreDone plans yard.bays news
     → IsYard (record { rows = yard.rows; tiers = yard.tiers; bays = news })
 after_is_yard yard plans news sound of done =
     let at = each_at (λ (b : StackedBay). stacks_at yard.bays b.0 ≡ Some b.1) yard.bays (λ i b e. looked_up same_bay same_bay_laws yard.bays i b same_bay_self sound.bays_once e) in
-    let kept = all_kept yard plans yard.bays news (each_of (IsPlanOf yard) plans of) done.problems (each_of (λ (b : StackedBay). FitBay yard.rows yard.tiers b.1) yard.bays sound.bays_fit) at done.after in
+    let kept = all_kept yard plans yard.bays news (each_of (IsPlanForBay yard) plans of) done.problems (each_of (λ (b : StackedBay). FitBay yard.rows yard.tiers b.1) yard.bays sound.bays_fit) at done.after in
     record {
       some_rows = sound.some_rows;
       few_rows = sound.few_rows;
@@ -127,7 +127,7 @@ after_is_yard yard plans news sound of done =
     }
 
 -- one plan more is done
-pub done_more : (yard : Inventory) (plans : List BayPlan) (i : ℕ) (plan : BayPlan) (stacks : List (List (List ℕ))) (old new : List StackedBay) → IsYard yard → All (IsPlanOf yard) plans
+pub done_more : (yard : Inventory) (plans : List BayPlan) (i : ℕ) (plan : BayPlan) (stacks : List (List (List ℕ))) (old new : List StackedBay) → IsYard yard → All (IsPlanForBay yard) plans
     → IsDistinct same_bay (map (λ plan. plan.bay) plans) → i < length plans → plan ≡ get_or plans i plan → IsProblem plan.plan.problem → LeavesNamed plan stacks
     → AreDone (take i plans) yard.bays old → new ≡ insert_entry same_bay old plan.bay stacks → AreDone (take (i + 1) plans) yard.bays new
 done_more yard plans i plan stacks old new sound of once within at problem leaves done e =
@@ -137,7 +137,7 @@ done_more yard plans i plan stacks old new sound of once within at problem leave
     sym (take-append-drop i plans) ∙ ap (λ l. take i plans ++ l) cut in
     let apart : IsDistinct same_bay (map (λ plan. plan.bay) (take i plans ++ plan ∷ drop (i + 1) plans)) = subst (λ l. IsDistinct same_bay (map (λ plan. plan.bay) l)) split once in
     let fresh = not_before same_bay same_bay_laws (λ plan. plan.bay) (take i plans) plan (drop (i + 1) plans) apart in
-    let own : IsPlanOf yard plan = subst (IsPlanOf yard) (sym at) (of i plan within) in
+    let own : IsPlanForBay yard plan = subst (IsPlanForBay yard) (sym at) (of i plan within) in
     let there : list_any (same_bay plan.bay) (map (λ (b : StackedBay). b.0) yard.bays) ≡ true = sym (looked (same_bay plan.bay) yard.bays) ∙ ap is_some own.stands in
     record {
       after = rw (next, e) (moved (take i plans) plan stacks yard.bays old fresh leaves sound.bays_once there done.after);

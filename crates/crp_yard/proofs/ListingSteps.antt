@@ -9,7 +9,7 @@ use Rattle.std.proofs.lemmas.Slice.Eq.{bytes_eq-Decides}
 use Rattle.crp_yard.specs.Records.{Entry}
 use Rattle.crp_yard.specs.Inventory.{times, is_among}
 use Rattle.crp_yard.specs.Faults.{is_named, max_containers}
-use Rattle.crp_yard.specs.Listings.{IsListing, names_of}
+use Rattle.crp_yard.specs.Listings.{IsListing, entry_names}
 
 pub any-map : {X Y : Type 0} (p : Y → Bool) (f : X → Y) (xs : List X) → list_any p (map f xs) ≡ list_any (λ x. p (f x)) xs
 any-map p f [] = refl
@@ -34,10 +34,10 @@ times_absent c (x ∷ xs) e = by (bytes_eq c x) refl (times_absent c xs)
     by true h rest = absurd (false≢true (sym e ∙ ap (λ b. b || is_among xs c) h))
     by false h rest = let none : times c xs ≡ 0 = rest (sym (ap (λ b. b || is_among xs c) h) ∙ e) in rw h (omega (arith, none))
 
-pub named_is : (entries : List Entry) (c : List ℕ) → is_named entries c ≡ is_among (names_of entries) c
+pub named_is : (entries : List Entry) (c : List ℕ) → is_named entries c ≡ is_among (entry_names entries) c
 named_is entries c = sym (any-map (λ other. bytes_eq c other) (λ entry. entry.1) entries)
 
-pub named_by : (names : List (Vec ℕ Global)) (entries : List Entry) (c : List ℕ) → map (λ name. name.items) names ≡ names_of entries
+pub named_by : (names : List (Vec ℕ Global)) (entries : List Entry) (c : List ℕ) → map (λ name. name.items) names ≡ entry_names entries
     → list_any (λ name. bytes_eq c name.items) names ≡ is_named entries c
 named_by names entries c e =
     sym (any-map (λ other. bytes_eq c other) (λ name. name.items) names) ∙ ap (λ l. is_among l c) e ∙ sym (named_is entries c)
@@ -69,6 +69,6 @@ listing-push entries names entry name new kept is fresh room e =
     let added : new ≡ names ++ name ∷ [] = rw absent at e in
     record {
       named = rw (added, map-append (λ k. k.items) names (name ∷ []), map-append (λ k. k.1) entries (entry ∷ []), kept.named, is) refl;
-      once = λ c. rw (map-append (λ k. k.1) entries (entry ∷ [])) (once-push (names_of entries) entry.1 kept.once (sym (named_is entries entry.1) ∙ fresh) c);
+      once = λ c. rw (map-append (λ k. k.1) entries (entry ∷ [])) (once-push (entry_names entries) entry.1 kept.once (sym (named_is entries entry.1) ∙ fresh) c);
       few = omega (arith, length-append entries (entry ∷ []));
     }

@@ -12,7 +12,7 @@ use Rattle.crp_plan.specs.BayNames.{YardBay}
 use Rattle.crp_yard.specs.Places.{same_bay, same_place}
 use Rattle.crp_yard.specs.Records.{Entry}
 use Rattle.crp_yard.specs.Inventory.{container_at, stack_up_to, stacks_up_to, stacked, times, containers_of}
-use Rattle.crp_yard.specs.Listings.{names_of}
+use Rattle.crp_yard.specs.Listings.{entry_names}
 use Rattle.crp_yard.proofs.BaySteps.{both}
 use Rattle.crp_yard.proofs.ListingSteps.{times-append}
 use Rattle.crp_yard.proofs.Sums.{up_sum, list_sum, when, up_split, up_below, up_none, list_split, list_below, at_one_place, below_then}
@@ -112,7 +112,7 @@ none_stand rows tiers c [] = refl
 none_stand rows tiers c (bay ∷ bays) = omega (arith, none_stand rows tiers c bays, up_below (λ row. up_sum (hit [] c bay row) tiers) (λ _. 0) (λ row. omega (arith, up_none tiers)) rows, up_none rows)
 
 -- in an inventory a container stands as often as its entries name it, at most
-pub few_times : (rows tiers : ℕ) (entries : List Entry) (c : List ℕ) (bays : List YardBay) → IsDistinct same_bay bays → total rows tiers entries c bays ≤ times c (names_of entries)
+pub few_times : (rows tiers : ℕ) (entries : List Entry) (c : List ℕ) (bays : List YardBay) → IsDistinct same_bay bays → total rows tiers entries c bays ≤ times c (entry_names entries)
 few_times rows tiers [] c bays once = omega (arith, none_stand rows tiers c bays)
 few_times rows tiers (entry ∷ entries) c bays once =
     let parted : total rows tiers (entry ∷ entries) c bays ≤ list_sum (λ bay. up_sum (λ row. up_sum (put entry c bay row) tiers) rows) bays + total rows tiers entries c bays =

@@ -9,9 +9,9 @@ use Rattle.std.proofs.lemmas.Bool.{cases_eq, false≢true, true≢false, leb-tru
 use Rattle.crp_plan.specs.BayNames.{YardBay}
 use Rattle.crp_yard.specs.declared.fault.YardFault.{YardFault}
 use Rattle.crp_yard.specs.Places.{YardPlace, same_bay, same_place}
-use Rattle.crp_yard.specs.Records.{Entry, entry_of, entries_of, place_of, is_within}
+use Rattle.crp_yard.specs.Records.{Entry, entry_of, entries_of, place_named, is_within}
 use Rattle.crp_yard.specs.Inventory.{container_at, stack_up_to}
-use Rattle.crp_yard.specs.Faults.{faults_of, fault_of, fault_behind, fault_at, first_of, first_fault, first_fault_up_to, floating_before, floats, is_floating, is_taken, below}
+use Rattle.crp_yard.specs.Faults.{faults_of, fault_of, fault_behind, fault_at, first_of, first_fault, first_fault_up_to, floating_before, floats, is_floating, is_taken}
 use Rattle.crp_yard.proofs.BaySteps.{both}
 use Rattle.crp_yard.proofs.OnceSteps.{same_bay_is, same_bay_self}
 use Rattle.crp_yard.specs.declared.fault.YardFault.TheVariants.{Floating}
@@ -133,14 +133,14 @@ not_false true e = refl
 not_false false e = absurd (true≢false e)
 
 record Passes (rows tiers : ℕ) (entries : List Entry) (fields : List (List ℕ)) : Type 0 where
-  pub within : is_within rows tiers (place_of fields) ≡ true
-  pub free : is_taken entries (place_of fields) ≡ false
+  pub within : is_within rows tiers (place_named fields) ≡ true
+  pub free : is_taken entries (place_named fields) ≡ false
 
 passes : (rows tiers : ℕ) (entries : List Entry) (n : ℕ) (fields : List (List ℕ)) → fault_of rows tiers entries n fields ≡ None → Passes rows tiers entries fields
 unfolding fault_of
 passes rows tiers entries n fields e =
     let all = none_told (faults_of rows tiers entries n fields) e in
-    record { within = not_false (is_within rows tiers (place_of fields)) all.1.1.0; free = all.1.1.1.0 }
+    record { within = not_false (is_within rows tiers (place_named fields)) all.1.1.0; free = all.1.1.1.0 }
 
 behind : (rows tiers : ℕ) (entries : List Entry) (n : ℕ) (fields : List (List ℕ)) → fault_behind rows tiers entries (suc (suc n)) fields ≡ None → fault_of rows tiers entries (suc (suc n)) fields ≡ None
 unfolding fault_behind
@@ -195,7 +195,7 @@ module _ (rows tiers : ℕ) (first : List (List ℕ)) (records : List (List (Lis
       let below = within_list (map entry_of records) i entry at in
       passes rows tiers (take i (map entry_of records)) (suc (suc i)) (get_or records i []) (faultless i (omega arith))
 
-  place_is : (i : ℕ) (entry : Entry) → slice_get (map entry_of records) i ≡ Some entry → place_of (get_or records i []) ≡ entry.0
+  place_is : (i : ℕ) (entry : Entry) → slice_get (map entry_of records) i ≡ Some entry → place_named (get_or records i []) ≡ entry.0
   unfolding entry_of
   place_is i entry at = ap (λ (f : Entry). f.0) (told_by entry_of records i entry [] at)
 

@@ -9,7 +9,7 @@ use Rattle.crp_yard.specs.declared.fault.YardFault.TheVariants.{Header, Fields, 
 use Rattle.crp_yard.specs.Records.{Entry, records_of, entries_of, is_header}
 use Rattle.crp_yard.specs.Faults.{faults_of, first_of, fault_of, fault_behind, fault_at, or_else, first_fault_up_to, floating_before, first_fault, fault_of_text, floats, max_bytes}
 use Rattle.std.specs.Prelude.{slice_get, ◌+◌, ◌⊎◌}
-use Rattle.crp_yard.specs.Reading.{IsGiven, Tells}
+use Rattle.crp_yard.specs.Reading.{IsTextOf, Tells}
 
 -- told of a record
 abbrev pub IsOfRecord : YardFault → Type 0
@@ -77,7 +77,7 @@ of_record rows tiers text fault short e =
     subst Tell is (tell_whole rows tiers (records_of text))
 
 -- what the fault of the bytes tells of their source
-pub told_of : (rows tiers : ℕ) (given : Option (List ℕ)) (before after : ℕ) (text : List ℕ) (fault : YardFault) → length text ≤ max_bytes → IsGiven given text
+pub told_of : (rows tiers : ℕ) (given : Option (List ℕ)) (before after : ℕ) (text : List ℕ) (fault : YardFault) → length text ≤ max_bytes → IsTextOf given text
     → (fault ≡ Memory) ⊎ (fault_of_text rows tiers text ≡ Some fault) → Tells rows tiers given before after fault
 told_of rows tiers given before after text Memory short is h = tt
 told_of rows tiers given before after text Read short is h = absurd (⊎_elim (λ e. cc e) (λ e. of_record rows tiers text Read short e) h)

@@ -11,7 +11,7 @@ use Rattle.crp_plan.specs.BayNames.{YardBay}
 use Rattle.crp_yard.specs.Places.{same_bay}
 use Rattle.crp_yard.specs.Records.{Entry}
 use Rattle.crp_yard.specs.Inventory.{StackedBay, FitBay, IsYard, inventory_of, bays_of, first_seen, with_bay, stack_up_to, stacks_up_to, stacked, container_at, times}
-use Rattle.crp_yard.specs.Listings.{names_of}
+use Rattle.crp_yard.specs.Listings.{entry_names}
 use Rattle.crp_yard.proofs.OnceSteps.{few_times, bays_times}
 use Rattle.crp_yard.proofs.Sums.{below_then}
 
@@ -61,7 +61,7 @@ all_fit rows tiers entries bays =
     All-map (λ (b : StackedBay). FitBay rows tiers b.1) (stacked rows tiers entries) bays
     (λ k d h. record { rows_are = rows_are entries (get_or bays k d) tiers rows; stacks_fit = stacks_low entries (get_or bays k d) tiers rows })
 
-pub inventory_is_yard : (rows tiers : ℕ) (entries : List Entry) → 1 ≤ rows → rows ≤ 12 → 1 ≤ tiers → tiers ≤ 8 → ((c : List ℕ) → times c (names_of entries) ≤ 1)
+pub inventory_is_yard : (rows tiers : ℕ) (entries : List Entry) → 1 ≤ rows → rows ≤ 12 → 1 ≤ tiers → tiers ≤ 8 → ((c : List ℕ) → times c (entry_names entries) ≤ 1)
     → IsYard (inventory_of rows tiers entries)
 inventory_is_yard rows tiers entries some_rows few_rows some_tiers few_tiers once = record {
   some_rows = some_rows;

@@ -13,13 +13,13 @@ abbrev pub stacks_at : List StackedBay → YardBay → Option (List (List (List 
 stacks_at bays bay = lookup (same_bay bay) bays
 
 -- the plan's problem, its ranks read as names, is its bay as it stands in the yard
-pub record IsPlanOf (yard : Inventory) (plan : BayPlan) : Type 0 where
+pub record IsPlanForBay (yard : Inventory) (plan : BayPlan) : Type 0 where
   pub heights : plan.plan.problem.heights ≡ replicate yard.rows yard.tiers
   pub stands : stacks_at yard.bays plan.bay ≡ Some (named plan.names plan.plan.problem.stacks)
 
 -- the plan of a bay, if there is one
-abbrev pub plan_of : List BayPlan → YardBay → Option BayPlan
-plan_of plans bay = find (λ plan. same_bay bay plan.bay) plans
+abbrev pub plan_for : List BayPlan → YardBay → Option BayPlan
+plan_for plans bay = find (λ plan. same_bay bay plan.bay) plans
 
 -- these stacks are what the plan leaves
 abbrev pub LeavesNamed : BayPlan → List (List (List ℕ)) → Type 0
@@ -27,7 +27,7 @@ LeavesNamed plan stacks = (ranks : List (List ℕ)) × Leaves plan.plan ranks ×
 
 -- the bay with a plan is as the plan leaves it, and one without is the same
 abbrev pub IsBayAfter : List BayPlan → StackedBay → StackedBay → Type 0
-IsBayAfter plans old new = (new.0 ≡ old.0) × MatchOption (plan_of plans old.0) (new.1 ≡ old.1) (λ plan. LeavesNamed plan new.1)
+IsBayAfter plans old new = (new.0 ≡ old.0) × MatchOption (plan_for plans old.0) (new.1 ≡ old.1) (λ plan. LeavesNamed plan new.1)
 
 -- so it is with each bay
 abbrev pub AreBaysAfter : List BayPlan → List StackedBay → List StackedBay → Type 0

@@ -7,7 +7,7 @@ use Rattle.std.specs.Str.{bytes_eq}
 use Rattle.crp_yard.specs.declared.fault.YardFault.{YardFault}
 use Rattle.crp_yard.specs.declared.fault.YardFault.TheVariants.{Header, Fields, Digits, Outside, PlaceTaken, Floating, StandsAlready, TooMany, TooLarge}
 use Rattle.crp_yard.specs.Places.{YardPlace}
-use Rattle.crp_yard.specs.Records.{Entry, records_of, is_header, is_well_formed, has_numbers, place_of, is_within, field_of, entries_of}
+use Rattle.crp_yard.specs.Records.{Entry, records_of, is_header, is_well_formed, has_numbers, place_named, is_within, field_of, entries_of}
 use Rattle.crp_yard.specs.Inventory.{container_at}
 
 -- so many containers are read, and so many bytes
@@ -31,8 +31,8 @@ abbrev pub faults_of : ℕ → ℕ → List Entry → ℕ → List (List ℕ) �
 faults_of rows tiers entries n fields =
     (not (is_well_formed fields), Fields n)
     ∷ (not (has_numbers fields), Digits n)
-    ∷ (not (is_within rows tiers (place_of fields)), Outside n)
-    ∷ (is_taken entries (place_of fields), PlaceTaken n)
+    ∷ (not (is_within rows tiers (place_named fields)), Outside n)
+    ∷ (is_taken entries (place_named fields), PlaceTaken n)
     ∷ (is_named entries (field_of fields 4), StandsAlready n)
     ∷ (nat_le max_containers (length entries), TooMany n)
     ∷ []
@@ -70,12 +70,12 @@ first_fault_up_to rows tiers records zero = None
 first_fault_up_to rows tiers records (suc n) = or_else (first_fault_up_to rows tiers records n) (fault_at rows tiers records (suc n))
 
 -- the place one tier lower
-abbrev pub below : YardPlace → YardPlace
-below place = record place { tier = place.tier - 1 }
+abbrev pub one_tier_lower : YardPlace → YardPlace
+one_tier_lower place = record place { tier = place.tier - 1 }
 
 -- above the lowest tier, with nothing in the tier below
 abbrev pub is_floating : List Entry → YardPlace → Bool
-is_floating entries place = nat_le 2 place.tier && not (is_taken entries (below place))
+is_floating entries place = nat_le 2 place.tier && not (is_taken entries (one_tier_lower place))
 
 -- the entry with this number, from 0, floats
 abbrev pub floats : List Entry → Option Entry → Bool

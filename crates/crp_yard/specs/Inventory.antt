@@ -75,8 +75,8 @@ abbrev pub name_at : Inventory → ℕ → Option YardBay
 name_at yard i = option_map (λ bay. bay.0) (slice_get yard.bays i)
 
 -- the stack of a row, from 1, of the bay with this number
-abbrev pub stack_at : Inventory → ℕ → ℕ → Option (List (List ℕ))
-stack_at yard i row = option_and_then (λ bay. slice_get bay.1 (row - 1)) (slice_get yard.bays i)
+abbrev pub stack_in_bay : Inventory → ℕ → ℕ → Option (List (List ℕ))
+stack_in_bay yard i row = option_and_then (λ bay. slice_get bay.1 (row - 1)) (slice_get yard.bays i)
 
 -- so many stacks, of at most so many containers each
 pub record FitBay (rows tiers : ℕ) (stacks : List (List (List ℕ))) : Type 0 where

@@ -8,13 +8,13 @@ use Rattle.crp_yard.specs.Inventory.{Inventory, StackedBay, times, stands, is_am
 use Rattle.crp_yard.specs.Faults.{max_containers, first_fault_up_to}
 
 -- the containers of the entries
-abbrev pub names_of : List Entry → List (List ℕ)
-names_of entries = map (λ entry. entry.1) entries
+abbrev pub entry_names : List Entry → List (List ℕ)
+entry_names entries = map (λ entry. entry.1) entries
 
 -- the set has the containers of the entries, none of which stands in two places, and there are no more than are read
 pub record IsListing (entries : List Entry) (names : List (Vec ℕ Global)) : Type 0 where
-  pub named : map (λ name. name.items) names ≡ names_of entries
-  pub once : (container : List ℕ) → times container (names_of entries) ≤ 1
+  pub named : map (λ name. name.items) names ≡ entry_names entries
+  pub once : (container : List ℕ) → times container (entry_names entries) ≤ 1
   pub few : length entries ≤ max_containers
 
 -- the entries behind a record with this number: the first is the header, which gives none

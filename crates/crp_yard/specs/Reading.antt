@@ -13,12 +13,12 @@ pub record IsYardList (rows tiers : ℕ) (text : List ℕ) (yard : Inventory) : 
   pub stands : yard ≡ inventory_of rows tiers (entries_of (records_of text))
 
 -- these bytes are those that a source had, where it told them
-abbrev pub IsGiven : Option (List ℕ) → List ℕ → Type 0
-IsGiven given text = IfSome given (λ bytes. text ≡ bytes)
+abbrev pub IsTextOf : Option (List ℕ) → List ℕ → Type 0
+IsTextOf given text = IfSome given (λ bytes. text ≡ bytes)
 
 -- the bytes that the source had are refused with this fault
 abbrev pub RefusedWith : ℕ → ℕ → Option (List ℕ) → YardFault → Type 0
-RefusedWith rows tiers given fault = (text : List ℕ) × IsGiven given text × (fault_of_text rows tiers text ≡ Some fault)
+RefusedWith rows tiers given fault = (text : List ℕ) × IsTextOf given text × (fault_of_text rows tiers text ≡ Some fault)
 
 -- what a fault tells of a source that had these bytes, with its count of failures before and after: that it has failed, that it had too many
 -- bytes, want of memory, or the fault of its bytes

@@ -48,8 +48,8 @@ has_numbers fields =
     (is_number (field_of fields 1) && (is_number (field_of fields 2) && is_number (field_of fields 3))) && nat_le 1 (number_of (field_of fields 1))
 
 -- the place that a record names
-abbrev pub place_of : List (List ℕ) → YardPlace
-place_of fields = record {
+abbrev pub place_named : List (List ℕ) → YardPlace
+place_named fields = record {
   bay = record { block = field_of fields 0; bay = number_of (field_of fields 1) };
   row = number_of (field_of fields 2);
   tier = number_of (field_of fields 3);
@@ -65,7 +65,7 @@ Entry = YardPlace × List ℕ
 
 -- what a record says: its container stands at its place
 unfoldable pub entry_of : List (List ℕ) → Entry
-entry_of fields = (place_of fields, field_of fields 4)
+entry_of fields = (place_named fields, field_of fields 4)
 
 -- what the records behind the header say, in their order
 abbrev pub entries_of : List (List (List ℕ)) → List Entry

@@ -3,7 +3,7 @@
 ghost use Rattle.std.specs.Prelude.{◌≡◌, IfOk, All, map};
 ghost use Rattle.std.specs.List.{IsDistinct};
 ghost use Rattle.crp_yard.specs.Places.{same_bay};
-ghost use Rattle.crp_yard.specs.After.{IsPlanOf, IsAfter};
+ghost use Rattle.crp_yard.specs.After.{IsPlanForBay, IsAfter};
 
 use crate::container::{Container, Containers};
 use crate::leaving::stacks_left;
@@ -61,7 +61,7 @@ fn copied_bays(alloc: Global, yard: &Yard) -> Result<IndexMap<Bay, Stacks>, Allo
 
 /// The yard as the plans leave it: each bay with a plan as that leaves it, the others as they are.
 pub fn after(alloc: Global, yard: &Yard, plans: &[BayPlan]) -> Result<Yard, AllocError>
-    requires plans { All (IsPlanOf yard.now) plans.now }
+    requires plans { All (IsPlanForBay yard.now) plans.now }
     requires once { IsDistinct same_bay (map (λ plan. plan.bay) plans.now) }
     ensures { IfOk result (λ after. IsAfter yard.now plans.now after) }
 {

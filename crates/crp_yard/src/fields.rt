@@ -4,7 +4,7 @@ ghost use Rattle.std.specs.Prelude.{◌≡◌, ◌&&◌, nat_le, IsTrue};
 ghost use Rattle.std.specs.List.{list_all};
 ghost use Rattle.std.specs.Char.{is_ascii_graphic};
 ghost use Rattle.csv.specs.Records.{fields_of};
-ghost use Rattle.crp_yard.specs.Records.{field_of, is_header, is_block, is_container, is_well_formed, has_numbers, is_within, number_of, place_of};
+ghost use Rattle.crp_yard.specs.Records.{field_of, is_header, is_block, is_container, is_well_formed, has_numbers, is_within, number_of, place_named};
 
 use crate::digits::{is_number, number_of};
 use crate::place::{Bay, Place};
@@ -74,7 +74,7 @@ pub(crate) fn has_numbers(fields: &ByteRecord) -> bool
 /// Row and tier are among those that the bays have.
 pub(crate) fn is_within(fields: &ByteRecord, rows: u8, tiers: u8) -> bool
     requires { IsTrue (has_numbers (fields_of fields.now)) }
-    ensures { result ≡ is_within rows tiers (place_of (fields_of fields.now)) }
+    ensures { result ≡ is_within rows tiers (place_named (fields_of fields.now)) }
 {
     let (row, tier) = (number_of(field(fields, 2)), number_of(field(fields, 3)));
     row >= 1 && row <= u16::from(rows) && tier >= 1 && tier <= u16::from(tiers)
@@ -84,7 +84,7 @@ pub(crate) fn is_within(fields: &ByteRecord, rows: u8, tiers: u8) -> bool
 fn bay_of(fields: &ByteRecord) -> Bay
     requires formed { IsTrue (is_well_formed (fields_of fields.now)) }
     requires numbers { IsTrue (has_numbers (fields_of fields.now)) }
-    ensures { result ≡ (place_of (fields_of fields.now)).bay }
+    ensures { result ≡ (place_named (fields_of fields.now)).bay }
 {
     let (block, number) = (field(fields, 0), number_of(field(fields, 1)));
     match BayName::new(block, number) {
@@ -97,8 +97,8 @@ fn bay_of(fields: &ByteRecord) -> Bay
 pub(crate) fn place_of(fields: &ByteRecord, rows: u8, tiers: u8) -> Place
     requires formed { IsTrue (is_well_formed (fields_of fields.now)) }
     requires numbers { IsTrue (has_numbers (fields_of fields.now)) }
-    requires within { IsTrue (is_within rows tiers (place_of (fields_of fields.now))) }
-    ensures { result ≡ place_of (fields_of fields.now) }
+    requires within { IsTrue (is_within rows tiers (place_named (fields_of fields.now))) }
+    ensures { result ≡ place_named (fields_of fields.now) }
 {
     let row = number_of(field(fields, 2)) as u8;
     let tier = number_of(field(fields, 3)) as u8;

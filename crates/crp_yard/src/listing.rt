@@ -4,7 +4,7 @@ ghost use Rattle.std.specs.Prelude.{◌≡◌, ◌<◌, ◌≤◌, ◌++◌, ◌
 ghost use Rattle.std.specs.Option.{option_copied};
 ghost use Rattle.crp_yard.specs.Faults.{max_containers, is_taken, is_named};
 ghost use Rattle.crp_yard.specs.Inventory.{container_at, times};
-ghost use Rattle.crp_yard.specs.Listings.{names_of};
+ghost use Rattle.crp_yard.specs.Listings.{entry_names};
 
 use crate::container::Container;
 use crate::place::Place;
@@ -46,7 +46,7 @@ impl Listing {
     pub fn len(&self) -> usize
         ensures value { result ≡ length self.now }
         ensures few { length self.now ≤ max_containers }
-        ensures once { (container : List ℕ) → times container (names_of self.now) ≤ 1 }
+        ensures once { (container : List ℕ) → times container (entry_names self.now) ≤ 1 }
     {
         self.places.len()
     }

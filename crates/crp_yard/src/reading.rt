@@ -4,7 +4,7 @@ ghost use Rattle.std.specs.Prelude.{◌≡◌, ◌⊎◌, ◌≤◌, ◌-◌, �
 ghost use Rattle.crp_plan.specs.Devices.{most_interruptions};
 ghost use Rattle.crp_yard.specs.Inventory.{inventory_of};
 ghost use Rattle.crp_yard.specs.Faults.{floating_before, fault_of_text};
-ghost use Rattle.crp_yard.specs.Reading.{IsYardList, IsGiven, Tells, most_failures};
+ghost use Rattle.crp_yard.specs.Reading.{IsYardList, IsTextOf, Tells, most_failures};
 ghost use Rattle.crp_yard.specs.declared.fault.YardFault.TheVariants.{Memory};
 
 use crate::building::bays_of;
@@ -69,7 +69,7 @@ pub fn read_yard<R: Source>(
     requires few_rows { rows ≤ 12 }
     requires some_tiers { 1 ≤ tiers }
     requires few_tiers { tiers ≤ 8 }
-    ensures accepted { IfOk result (λ yard. (text : List ℕ) × IsGiven (R.remaining source.old) text × IsYardList rows tiers text yard) }
+    ensures accepted { IfOk result (λ yard. (text : List ℕ) × IsTextOf (R.remaining source.old) text × IsYardList rows tiers text yard) }
     ensures refused { IfErr result (Tells rows tiers (R.remaining source.old) (R.failures source.old) (R.failures source.new)) }
     ensures count { R.failures source.old ≤ R.failures source.new }
     ensures passed { OnOk result (R.failures source.new - R.failures source.old ≤ most_interruptions) }

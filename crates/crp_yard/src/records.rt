@@ -2,7 +2,7 @@
 
 ghost use Rattle.std.specs.Prelude.{◌≡◌, ◌⊎◌, ◌<◌, ◌≤◌, ◌+◌, false, Some, None, IfOk, OnOk, IfErr, length, max};
 ghost use Rattle.csv.specs.Records.{fields_of};
-ghost use Rattle.crp_yard.specs.Records.{records_of, place_of, field_of, entries_of};
+ghost use Rattle.crp_yard.specs.Records.{records_of, place_named, field_of, entries_of};
 ghost use Rattle.crp_yard.specs.Faults.{max_containers, is_taken, is_named, fault_of, fault_behind, first_fault_up_to, first_fault};
 ghost use Rattle.crp_yard.specs.Listings.{entries_behind};
 ghost use Rattle.crp_yard.specs.declared.fault.YardFault.TheVariants.{Memory};
@@ -33,7 +33,7 @@ fn accepted_place(
     number: usize,
 ) -> Result<Place, YardFault>
     ensures faultless { OnOk result (fault_of size.rows size.tiers listing.now number (fields_of fields.now) ≡ None) }
-    ensures place { IfOk result (λ place. place ≡ place_of (fields_of fields.now)) }
+    ensures place { IfOk result (λ place. place ≡ place_named (fields_of fields.now)) }
     ensures free { IfOk result (λ place. is_taken listing.now place ≡ false) }
     ensures fresh { OnOk result (is_named listing.now (field_of (fields_of fields.now) 4) ≡ false) }
     ensures room { OnOk result (length listing.now < max_containers) }

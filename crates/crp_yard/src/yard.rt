@@ -1,7 +1,7 @@
 //! What stands in a yard.
 
 ghost use Rattle.std.specs.Prelude.{◌≡◌, ◌<◌, ◌≤◌, All, IfOk, Some, length, slice_get};
-ghost use Rattle.crp_yard.specs.Inventory.{name_at, stack_at, stands, IsYard};
+ghost use Rattle.crp_yard.specs.Inventory.{name_at, stack_in_bay, stands, IsYard};
 
 use crate::container::{Container, Containers};
 use crate::names::names_of;
@@ -107,7 +107,7 @@ impl Yard {
         requires bay { bay < length self.now.bays }
         requires counts { 1 ≤ row }
         requires there { row ≤ self.now.rows }
-        ensures { stack_at self.now bay row ≡ Some result.now }
+        ensures { stack_in_bay self.now bay row ≡ Some result.now }
     {
         match self.bays.get_index(bay) {
             Some((_, stacks)) => stacks.rows()[row as usize - 1].list(),

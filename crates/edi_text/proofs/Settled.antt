@@ -11,7 +11,7 @@ use Rattle.edi_text.specs.declared.mark.Mark.TheVariants.{Data, ComponentEnd, El
 use Rattle.edi_text.specs.declared.mark.ServiceCharacters.{ServiceCharacters}
 use Rattle.std.specs.Char.{IsAsciiUppercase}
 use Rattle.edi_text.specs.Parts.{SegmentParts, IsTag, HasTag, segment_of}
-use Rattle.edi_text.specs.Spelling.{max_text, standard, signs_of, IsSymbol, IsPrintable, HasNoSpace, AreDistinct, IsAccepted, BeginsWithAdvice, Spells}
+use Rattle.edi_text.specs.Spelling.{max_text, standard, signs_of, IsSymbol, IsPrintable, HasNoSpace, AreDistinct, IsAcceptedAdvice, BeginsWithAdvice, Spells}
 use Rattle.edi_text.specs.FirstFault.{IsInside, BreaksOff, IsFirstFault}
 use Rattle.edi_text.specs.Stored.{Contents}
 use Rattle.edi_text.specs.Reading.{first_mark, InSegment, ReadsSegment, after_mark, after_line_ends, InBody, BreaksBody, HasOpening}
@@ -108,7 +108,7 @@ settles-distinct a =
       | inr h ↦ inr (λ k. h ((k.component_element, (k.component_terminator, k.component_release)), (k.element_terminator, (k.element_release, k.terminator_release))))
     ]
 
-settles-accepted : (advice : Advice) → Settles (IsAccepted advice)
+settles-accepted : (advice : Advice) → Settles (IsAcceptedAdvice advice)
 settles-accepted a =
     elim (both (both (settles-printable a) (settles-no_space a)) (both (settles-distinct a) (settles-symbols (a.component_separator ∷ a.element_separator ∷ a.release ∷ a.terminator ∷ [])))) [
       | inl h ↦ inl (record { printable = h.0.0; no_space = h.0.1; distinct = h.1.0; symbols = h.1.1 })

@@ -10,7 +10,7 @@ use Rattle.edi_text.specs.declared.mark.Mark.TheVariants.{SegmentEnd}
 use Rattle.edi_text.specs.declared.mark.ServiceCharacters.{ServiceCharacters}
 use Rattle.edi_text.specs.Marks.{segment_marks, SpellsMarks}
 use Rattle.edi_text.specs.Parts.{SegmentParts, AreElements, HasTag}
-use Rattle.edi_text.specs.Spelling.{max_text, IsAccepted, advice_text, BeginsWithAdvice, IsLineEnd, Reads}
+use Rattle.edi_text.specs.Spelling.{max_text, IsAcceptedAdvice, advice_text, BeginsWithAdvice, IsLineEnd, SpellsUpTo}
 
 -- the mark does not end its segment
 abbrev pub IsInside : Mark → Type 0
@@ -60,10 +60,10 @@ pub record LacksTag (signs : ServiceCharacters) (rest : List ℕ) : Type 0 where
   pub no_tag : HasTag elements → ⊥
 
 -- the rest of a text, where the next segment is to start, shows this fault after these segments
-abbrev pub Shows : ServiceCharacters → List SegmentParts → ℕ → List ℕ → EdiFault → Type 0
-Shows signs segments at rest (NoSegment offset) = (segments ≡ []) × (rest ≡ []) × (offset ≡ at)
-Shows signs segments at rest (Tag offset) = LacksTag signs rest × (offset ≡ at)
-Shows signs segments at rest fault = (rest ≢ []) × BreaksOff signs at rest fault
+abbrev pub ShowsFault : ServiceCharacters → List SegmentParts → ℕ → List ℕ → EdiFault → Type 0
+ShowsFault signs segments at rest (NoSegment offset) = (segments ≡ []) × (rest ≡ []) × (offset ≡ at)
+ShowsFault signs segments at rest (Tag offset) = LacksTag signs rest × (offset ≡ at)
+ShowsFault signs segments at rest fault = (rest ≢ []) × BreaksOff signs at rest fault
 
 -- the text begins with CR or LF
 abbrev pub BeginsWithLineEnd : List ℕ → Type 0
@@ -81,16 +81,16 @@ pub record IsSegmentFault (text : List ℕ) (fault : EdiFault) : Type 0 where
   pub opening : List ℕ
   pub body : List ℕ
   pub rest : List ℕ
-  pub reads : Reads text signs segments opening body rest
+  pub reads : SpellsUpTo text signs segments opening body rest
   pub passed : IsPassed (opening ++ body) rest
-  pub shows : Shows signs segments (length (opening ++ body)) rest fault
+  pub shows : ShowsFault signs segments (length (opening ++ body)) rest fault
 
 -- the text begins with service string advice that names characters which cannot be used
 pub record BeginsWithRefused (text : List ℕ) : Type 0 where
   pub advice : Advice
   pub rest : List ℕ
   pub whole : text ≡ advice_text advice ++ rest
-  pub refused : IsAccepted advice → ⊥
+  pub refused : IsAcceptedAdvice advice → ⊥
 
 -- the service string advice is refused, or cut off
 abbrev pub IsAdviceFault : List ℕ → EdiFault → Type 0

@@ -43,16 +43,16 @@ pub record AreDistinct (advice : Advice) : Type 0 where
   pub terminator_release : advice.terminator ≢ advice.release
 
 -- no service character is a letter or a digit
-abbrev pub AreSymbols : Advice → Type 0
-AreSymbols advice = AllByRecursion IsSymbol (advice.component_separator ∷ advice.element_separator ∷ advice.release ∷ advice.terminator ∷ [])
+abbrev pub AreNotAlphanumeric : Advice → Type 0
+AreNotAlphanumeric advice = AllByRecursion IsSymbol (advice.component_separator ∷ advice.element_separator ∷ advice.release ∷ advice.terminator ∷ [])
 
 -- The service string advice names characters that can be used. A space in the release character's
 -- place says that none is used. It is no letter and no digit, and by no_space it differs from the others.
-pub record IsAccepted (advice : Advice) : Type 0 where
+pub record IsAcceptedAdvice (advice : Advice) : Type 0 where
   pub printable : IsPrintable advice
   pub no_space : HasNoSpace advice
   pub distinct : AreDistinct advice
-  pub symbols : AreSymbols advice
+  pub symbols : AreNotAlphanumeric advice
 
 -- the service characters that the advice names; a space stands for no release character
 abbrev pub signs_of : Advice → ServiceCharacters
@@ -83,7 +83,7 @@ AreLineEnds = AllByRecursion IsLineEnd
 pub record OpensWithAdvice (signs : ServiceCharacters) (opening : List ℕ) : Type 0 where
   pub advice : Advice
   pub gap : List ℕ
-  pub accepted : IsAccepted advice
+  pub accepted : IsAcceptedAdvice advice
   pub line_ends : AreLineEnds gap
   pub named : signs ≡ signs_of advice
   pub whole : opening ≡ advice_text advice ++ gap
@@ -110,7 +110,7 @@ SpellsSegments signs [] text = text ≡ []
 SpellsSegments signs (segment ∷ segments) text = SplitsInto (SpellsSegment signs segment) (SplitsInto AreLineEnds (SpellsSegments signs segments)) text
 
 -- the text is an opening and these segments, and then the rest
-pub record Reads (text : List ℕ) (signs : ServiceCharacters) (segments : List SegmentParts) (opening body rest : List ℕ) : Type 0 where
+pub record SpellsUpTo (text : List ℕ) (signs : ServiceCharacters) (segments : List SegmentParts) (opening body rest : List ℕ) : Type 0 where
   pub whole : text ≡ opening ++ (body ++ rest)
   pub opens : Opens text signs opening
   pub spelled : SpellsSegments signs segments body
@@ -122,4 +122,4 @@ pub record Spells (text : List ℕ) (segments : List SegmentParts) : Type 0 wher
   pub signs : ServiceCharacters
   pub opening : List ℕ
   pub body : List ℕ
-  pub reads : Reads text signs segments opening body []
+  pub reads : SpellsUpTo text signs segments opening body []

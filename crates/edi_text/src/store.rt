@@ -22,13 +22,13 @@ pub(crate) struct Store {
 }
 
 impl Model for Store {
-    ghost use Rattle.edi_text.specs.Stored.{contents_of, Contents, IsCut};
+    ghost use Rattle.edi_text.specs.Stored.{contents_of, Contents, IsCutUp};
 
     ghost Value = { Contents };
 
     ghost view = { λ s. contents_of s.bytes.items s.component_ends.items s.element_ends.items s.segment_ends.items };
 
-    ghost invariant = { λ s. IsCut s.bytes.items s.component_ends.items s.element_ends.items s.segment_ends.items };
+    ghost invariant = { λ s. IsCutUp s.bytes.items s.component_ends.items s.element_ends.items s.segment_ends.items };
 }
 
 impl Store {

@@ -1,6 +1,6 @@
 use Rattle.std.proofs.Common.{rules, subst, sym}
 use Rattle.std.proofs.lemmas.Result.{err_from_is_err_and}
-use Rattle.crp.specs.Calls.{Seen}
+use Rattle.crp.specs.Calls.{CallSeen}
 use Rattle.crp.specs.Bound.{IsBound, IsNoBound, IsBoundReport}
 use Rattle.crp.proofs.Replayed.{no_head_told, keeps_same}
 use Rattle.crp.specs.declared.heads.TheConstants.{MOST_BYTES}
@@ -9,7 +9,7 @@ use Rattle.crp.proofs.bounding.bound.Goals as goal
 pub returns-in_err-head : goal.returns-in_err-head
 returns-in_err-head g c =
     let p = err_from_is_err_and c.from_residual.result c.from_residual.ensures.1 in
-    let seen : Seen = record {
+    let seen : CallSeen = record {
       given = g.R.Source.remaining c.args.reader.now;
       held = g.W.Sink.contents c.args.writer.now;
       holds = g.W.Sink.contents c.args.writer.now;

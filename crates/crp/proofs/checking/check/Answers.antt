@@ -1,6 +1,6 @@
 use Rattle.std.proofs.Common.{rules, ◌≡◌, ◌≤◌, length, arith, ap, inr, ◌∙◌}
 use Rattle.std.proofs.lemmas.Result.{err_from_is_err_and}
-use Rattle.crp.specs.Calls.{Seen, IsGiven}
+use Rattle.crp.specs.Calls.{CallSeen, IsTextWithin}
 use Rattle.crp.specs.Check.{verdict_lines}
 use Rattle.crp.proofs.Checked.{refusal_tells, given_as}
 use Rattle.crp.specs.declared.heads.TheConstants.{MOST_BYTES}
@@ -10,7 +10,7 @@ pub returns-in_err-write_all-in-Err : goal.returns-in_err-write_all-in-Err
 returns-in_err-write_all-in-Err g c =
     let p = err_from_is_err_and c.from_residual-in_err-write_all-in-Err.result c.from_residual-in_err-write_all-in-Err.ensures.1 in
     let within : length c.in_ok-bytes.bytes.items ≤ MOST_BYTES = omega (arith, c.in_ok-bytes.ensures.within) in
-    let given : IsGiven MOST_BYTES (g.R.Source.remaining c.args.reader.now) c.deref.result.now =
+    let given : IsTextWithin MOST_BYTES (g.R.Source.remaining c.args.reader.now) c.deref.result.now =
     given_as MOST_BYTES _ c.in_ok-bytes.bytes.items c.deref.result.now c.deref.ensures.value within c.in_ok-bytes.ensures.all in
     let lines : c.deref-in-Err.result.now ≡ verdict_lines c.in-Err.refusal.before =
     c.deref-in-Err.ensures.value ∙ c.in_ok-text-in-Err.ensures ∙ ap verdict_lines c.as_slice-in-Err.ensures in
@@ -31,11 +31,11 @@ returns-in_err-write_all-in-Err g c =
 pub returns : goal.returns
 returns g c =
     let within : length c.in_ok-bytes.bytes.items ≤ MOST_BYTES = omega (arith, c.in_ok-bytes.ensures.within) in
-    let given : IsGiven MOST_BYTES (g.R.Source.remaining c.args.reader.now) c.deref.result.now =
+    let given : IsTextWithin MOST_BYTES (g.R.Source.remaining c.args.reader.now) c.deref.result.now =
     given_as MOST_BYTES _ c.in_ok-bytes.bytes.items c.deref.result.now c.deref.ensures.value within c.in_ok-bytes.ensures.all in
     let lines : c.deref-in-Err.result.now ≡ verdict_lines c.in-Err.refusal.before =
     c.deref-in-Err.ensures.value ∙ c.in_ok-text-in-Err.ensures ∙ ap verdict_lines c.as_slice-in-Err.ensures in
-    let seen : Seen = record {
+    let seen : CallSeen = record {
       given = g.R.Source.remaining c.args.reader.now;
       held = g.W.Sink.contents c.args.writer.now;
       holds = g.W.Sink.contents c.write_all-in-Err.new.writer;

@@ -4,7 +4,7 @@ use Rattle.crp_yard.specs.Inventory.{StackedBay, is_among}
 use Rattle.crp_order.specs.BayProblems.{standing}
 use Rattle.std.proofs.lemmas.List.{length-map}
 use Rattle.std.proofs.lemmas.Option.{MatchOption-at_some, slice_get_within}
-use Rattle.crp_order.specs.Groups.{pointed, kept_of, is_number}
+use Rattle.crp_order.specs.Groups.{pointed, kept_of, is_index}
 use Rattle.crp_order.proofs.GroupSteps.{groups-none, groups-pass, groups-join, group_found, group_pushed, groups_set}
 use Rattle.crp_order.proofs.groups.leaving_by_bay.Goals as goal
 use Rattle.crp_order.proofs.groups.leaving_by_bay.Goals.{in-Some+in_ok-push, in_default}
@@ -23,10 +23,10 @@ loop-container-preserved c =
     let x = c.container-item.result in
     let groups = map (λ (group : Vec (Bor (List ℕ)) Global). pointed group.items) c.loop-container.groups.items in
     let which : (found : Option ℕ) → kept_of c.in_ok-bays.bays.entries c.bytes.result.now ≡ found → (j : ℕ) (bay : StackedBay) → slice_get c.args.yard.now.bays j ≡ Some bay
-    → is_among (standing bay.1) x ≡ is_number found j =
+    → is_among (standing bay.1) x ≡ is_index found j =
     λ found e j bay at.
     ap (is_among (standing bay.1)) (sym c.bytes.ensures) ∙ c.in_ok-bays.ensures.standing_there c.bytes.result j bay (slice_get_within c.args.yard.now.bays j bay at) at
-    ∙ ap (λ f. is_number f j) e in
+    ∙ ap (λ f. is_index f j) e in
     elim c.match-get.branch [
       | in-Some+in_ok-push w ↦
           let k = w.in-Some.bay.now in

@@ -5,7 +5,7 @@ use Rattle.std.proofs.lemmas.List.{map-append, length-map}
 use Rattle.std.proofs.lemmas.List.Elements.{All-append, All-pop}
 use Rattle.std.proofs.lemmas.Iterator.Adapters.{YieldsList-from_vec}
 use Rattle.std.proofs.lemmas.Iterator.Consumers.{YieldsList-turn}
-use Rattle.crp_pool.specs.Hand.{all_shares}
+use Rattle.crp_pool.specs.Hand.{all_deque_shares}
 use Rattle.crp_pool.specs.Deques.{Own, Way, own_deque, fresh_way, IsFresh}
 use Rattle.crp_pool.specs.Seats.{PoolSeat, seat_deque, seat_of, IsNewSeat}
 use Rattle.crp_pool.proofs.Pools.{new_seat}
@@ -20,7 +20,7 @@ invariant_of-push c =
     let links = c.in-Some-pop.links in
     let gives = c.into_iter-owner-iterator.ensures.into_iter_gives in
     let turn = YieldsList-turn (YieldsList-from_vec {s = c.into_iter-owner-iterator.result} owns gives.0 (gives.1 ∙ c.args.owners.ok.0)) c.loop-owner.yielded c.loop-owner.owner-iterator c.loop-owner.yielded_by c.next.result c.next.new.self c.in-Some.owner c.in-Some.is c.next.ensures.steps in
-    let fresh = subst (λ (o : Own). IsFresh (all_shares - length owns) c.args.capacity o) (sym turn.1) (c.requires.fresh (length c.loop-owner.yielded) c.in-Some.owner turn.0) in
+    let fresh = subst (λ (o : Own). IsFresh (all_deque_shares - length owns) c.args.capacity o) (sym turn.1) (c.requires.fresh (length c.loop-owner.yielded) c.in-Some.owner turn.0) in
     let popped = All-pop (λ (r : Vec Way Global). r.items ≡ map fresh_way (map own_deque owns)) rows c.pop.new.self.items (Some links) c.in-Some-pop.ensures.items c.loop-owner.invariant.rows in
     let made = new_seat c.loop-owner.number c.in-Some.owner links.items (map own_deque owns) (length owns) c.args.capacity fresh c.requires.count.1 (length-map owns own_deque) popped.1 in
     made.0
@@ -32,7 +32,7 @@ loop-owner-preserved c =
     let links = c.in-Some-pop.links in
     let gives = c.into_iter-owner-iterator.ensures.into_iter_gives in
     let turn = YieldsList-turn (YieldsList-from_vec {s = c.into_iter-owner-iterator.result} owns gives.0 (gives.1 ∙ c.args.owners.ok.0)) c.loop-owner.yielded c.loop-owner.owner-iterator c.loop-owner.yielded_by c.next.result c.next.new.self c.in-Some.owner c.in-Some.is c.next.ensures.steps in
-    let fresh = subst (λ (o : Own). IsFresh (all_shares - length owns) c.args.capacity o) (sym turn.1) (c.requires.fresh (length c.loop-owner.yielded) c.in-Some.owner turn.0) in
+    let fresh = subst (λ (o : Own). IsFresh (all_deque_shares - length owns) c.args.capacity o) (sym turn.1) (c.requires.fresh (length c.loop-owner.yielded) c.in-Some.owner turn.0) in
     let popped = All-pop (λ (r : Vec Way Global). r.items ≡ map fresh_way (map own_deque owns)) rows c.pop.new.self.items (Some links) c.in-Some-pop.ensures.items c.loop-owner.invariant.rows in
     let made = new_seat c.loop-owner.number c.in-Some.owner links.items (map own_deque owns) (length owns) c.args.capacity fresh c.requires.count.1 (length-map owns own_deque) popped.1 in
     let seat : PoolSeat = seat_of c.loop-owner.number c.in-Some.owner links.items c.args.capacity in

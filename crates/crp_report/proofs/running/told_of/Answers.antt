@@ -1,6 +1,6 @@
 use Rattle.std.proofs.Common.{All, sym, subst}
 use Rattle.std.proofs.lemmas.Result.{IfOk-weaker}
-use Rattle.crp_yard.specs.After.{IsPlanOf}
+use Rattle.crp_yard.specs.After.{IsPlanForBay}
 use Rattle.crp_report.proofs.Leaving.{plans_are, plans_once}
 use Rattle.crp_report.proofs.running.told_of.Goals as goal
 
@@ -12,7 +12,7 @@ pub returns-clause-plans : goal.returns-clause-plans
 returns-clause-plans g c =
     let named = c.in_ok-problems.ensures.named in
     IfOk-weaker c.told_bays.result _ _
-    (λ told h. subst (All (IsPlanOf c.args.yard.now)) (sym h.3) (plans_are c.args.yard.now c.args.settings.budget c.in_ok-problems.problems.items h.0 h.1 named))
+    (λ told h. subst (All (IsPlanForBay c.args.yard.now)) (sym h.3) (plans_are c.args.yard.now c.args.settings.budget c.in_ok-problems.problems.items h.0 h.1 named))
     c.told_bays.ensures
 
 pub returns-clause-once : goal.returns-clause-once
