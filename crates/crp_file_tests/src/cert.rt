@@ -1,5 +1,6 @@
 //! What no contract says: worked texts byte for byte, and the texts of faults.
 mod certs;
+mod damaged;
 mod heads;
 mod told;
 mod writing;

@@ -1,6 +1,6 @@
 use super::{
     SAID_OF_SIX, SIX_CONTAINERS, Said, assert_fault, assert_head, block_of, fault_at, joined,
-    line_after, plan_of,
+    plan_of,
 };
 use crp_cert::{CertFault, Head, Rows, read_head};
 use std::alloc::{AllocError, Global};
@@ -21,17 +21,8 @@ fn with_line(alloc: Global, number: usize, other: &[u8]) -> Result<Vec<u8>, Allo
     Ok(text)
 }
 
-/// The text with another byte in one place.
-fn with_byte(alloc: Global, text: &[u8], at: usize, other: u8) -> Result<Vec<u8>, AllocError> {
-    let mut changed = Vec::new(alloc);
-    for (i, byte) in text.iter().enumerate() {
-        changed.push(if i == at { other } else { *byte })?;
-    }
-    Ok(changed)
-}
-
 /// The fault that a text is refused with, if it is.
-fn refusal(alloc: Global, text: &[u8]) -> Option<CertFault> {
+pub(super) fn refusal(alloc: Global, text: &[u8]) -> Option<CertFault> {
     match read_head(alloc, text) {
         Ok(_) => None,
         Err(fault) => Some(fault),
@@ -50,7 +41,11 @@ fn assert_read(rt: &(impl Abort + AllocGlobal), text: &[u8], said: &Said) {
 }
 
 /// The text is refused with this fault, or begins with a head.
-fn assert_refused(rt: &(impl Abort + AllocGlobal), text: &[u8], fault: Option<CertFault>) {
+pub(super) fn assert_refused(
+    rt: &(impl Abort + AllocGlobal),
+    text: &[u8],
+    fault: Option<CertFault>,
+) {
     assert_fault(rt, refusal(rt.alloc(), text), fault, text);
 }
 
@@ -417,58 +412,6 @@ fn first_of_several_faults(rt: HostRuntime) -> Result<(), Fail> {
     assert_refused(&rt, &text, Some(CertFault::Row { line: 5 }));
     let text = joined(rt.alloc(), &[b"CRP-CERT 1", b"bay A 0", b"size 0 0 0 0"])?;
     assert_refused(&rt, &text, Some(CertFault::Opening { line: 2 }));
-    Ok(())
-}
-
-/// The text cut to this length is refused with the fault of the line where it ends.
-fn assert_cut(rt: &(impl Abort + AllocGlobal), cut: &[u8]) {
-    let length = cut.len();
-    let fault = fault_at(line_after(cut));
-    assert_eq!(rt; refusal(rt.alloc(), cut), Some(fault), "{length}");
-}
-
-#[test]
-fn head_cut_at_every_length(rt: HostRuntime) -> Result<(), Fail> {
-    let text = joined(rt.alloc(), &SIX_CONTAINERS)?;
-    for length in 0..text.len() {
-        assert_cut(&rt, &text[..length]);
-    }
-    assert_refused(&rt, &text, None);
-    Ok(())
-}
-
-/// The line of the byte in this place.
-fn line_at(text: &[u8], at: usize) -> u32 {
-    line_after(text.get(..at).unwrap_or(text))
-}
-
-/// With another byte in this place the head is refused with this fault, or is read.
-fn assert_changed(
-    rt: &(impl Abort + AllocGlobal),
-    text: &[u8],
-    at: usize,
-    byte: u8,
-    fault: Option<CertFault>,
-) -> Result<(), AllocError> {
-    let changed = with_byte(rt.alloc(), text, at, byte)?;
-    assert_fault(rt, refusal(rt.alloc(), &changed), fault, &changed);
-    Ok(())
-}
-
-#[test]
-fn each_byte_of_a_head_changed(rt: HostRuntime) -> Result<(), Fail> {
-    let text = joined(rt.alloc(), &SIX_CONTAINERS)?;
-    let block = b"CRP-CERT 1\nbay ".len();
-    for at in 0..text.len() {
-        for byte in [0x00, 0x27, 0x2c, 0xff] {
-            let fault = if at == block && (byte == 0x27 || byte == 0x2c) {
-                None
-            } else {
-                Some(fault_at(line_at(&text, at)))
-            };
-            assert_changed(&rt, &text, at, byte, fault)?;
-        }
-    }
     Ok(())
 }
 
