@@ -11,7 +11,7 @@ use Rattle.crp_plan.specs.Running.{words, after_see, after_offer, after_claim}
 use Rattle.crp_incumbent.specs.declared.rule.Key.{Key}
 use Rattle.crp_incumbent.specs.declared.rule.Standing.{Standing}
 use Rattle.crp_incumbent.specs.Rule.{all_shares, gone, kept, given, joined_standing, IsPlanCount, IsLimit, IsAbove, IsLive, granted_of, refused_of, share_of, least_mine, IsKept, Keeps}
-use Rattle.crp_incumbent.specs.Steps.{IsLimitBeside, Saw, WasOffered, Claimed, Looked}
+use Rattle.crp_incumbent.specs.Steps.{IsLimitBeside, Saw, OfferedUnder, Claimed, Looked}
 use Rattle.crp_incumbent.proofs.Lists.{index_is, at_below, sum-le, sum-set, sum-snoc, least-set, least-at, least-top, least-snoc, min_cases, least_known, sum_of_gone, least_of_gone}
 
 abbrev Mine : Type 0
@@ -95,7 +95,7 @@ sees key slots id m empty share s k _ at _ = let spent : ℕ = slice_index s.wor
     )
 
 pub offers : (key : Key) (slots id count : ℕ) (m : Mine) → m.1 ≡ [] → 1 ≤ m.0.view.share → IsPlanCount key.problem count
-    → Allows (Keeps key) slots id m 8 (λ n. min n count) (WasOffered (step slots 8 count 0 none) m)
+    → Allows (Keeps key) slots id m 8 (λ n. min n count) (OfferedUnder (step slots 8 count 0 none) m)
 offers key slots id count m empty share plan s k _ at _ = let spent : ℕ = slice_index s.words 0 in let limit : ℕ = slice_index s.words 8 in
     let live = living key limit m.0 share (k.kept.each id m.0 at) in let above = limit_above key spent limit s.views k.kept in
     let w : Standing = record m.0 { view = (after_offer count (words limit 0 m.0.view)).view } in

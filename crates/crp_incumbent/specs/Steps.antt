@@ -27,7 +27,7 @@ pub record Saw (st : Step (Unit {0})) (m : Mine) (found : ℕ) (m' : Mine) : Typ
   pub after : Becomes m.0 (after_see (words found 0 m.0.view)).view m'
 
 -- a plan was offered under the limit that was found
-pub record WasOffered (st : Step (Unit {0})) (m : Mine) (found : ℕ) (m' : Mine) : Type 0 where
+pub record OfferedUnder (st : Step (Unit {0})) (m : Mine) (found : ℕ) (m' : Mine) : Type 0 where
   pub below : IsLimitBeside m.0 found
   pub after : Becomes m.0 (after_offer st.first (words found 0 m.0.view)).view m'
 

@@ -54,9 +54,9 @@ impl Play<(), Standing> for Sees {
 pub(crate) struct Offers;
 
 impl Play<(), Standing> for Offers {
-    ghost use Rattle.crp_incumbent.specs.Steps.{WasOffered};
+    ghost use Rattle.crp_incumbent.specs.Steps.{OfferedUnder};
 
-    ghost then = { WasOffered };
+    ghost then = { OfferedUnder };
 }
 
 /// One more is claimed.
