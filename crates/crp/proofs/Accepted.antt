@@ -28,7 +28,7 @@ use Rattle.crp_report.specs.Report.{certificate_of, certificates_text}
 use Rattle.crp_report.specs.Chosen.{RunChosen}
 use Rattle.crp_report.specs.Runs.{Seen, Made, IsMade}
 use Rattle.crp_order.specs.BayProblems.{problems_of}
-use Rattle.crp.specs.Prove.{IsProofOf}
+use Rattle.crp_commands.specs.Prove.{IsProofOf}
 use Rattle.crp.specs.Accepted.{IsVerdictOn, text_of, IsAcceptedAs, CanBeTold, IsVerdictFor, IsAcceptedFile}
 use Rattle.crp.proofs.Ended.{script_ended}
 use Rattle.crp.proofs.Named.{can_be_told}

@@ -11,7 +11,7 @@ ghost use Rattle.crp_report.specs.Answered.{Answered, AreTrueAnswers};
 ghost use Rattle.crp_report.specs.Report.{certificates_text};
 ghost use Rattle.crp_report.specs.Chosen.{RunChosen};
 ghost use Rattle.crp_report.specs.Runs.{Seen, Made, IsMade};
-ghost use Rattle.crp.specs.Prove.{IsProofOf};
+ghost use Rattle.crp_commands.specs.Prove.{IsProofOf};
 ghost use Rattle.crp.specs.Headline.{IsHeadline};
 ghost use Rattle.crp.specs.Accepted.{text_of, IsAcceptedAs, CanBeTold, IsAcceptedFile};
 

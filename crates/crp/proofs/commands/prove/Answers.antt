@@ -1,8 +1,0 @@
-use Rattle.std.proofs.Common.{codes}
-use Rattle.std.proofs.lemmas.Result.{IfOk-weaker}
-use Rattle.crp.specs.Commands.{leaf}
-use Rattle.crp.proofs.CommandLine.{more_arg}
-use Rattle.crp.proofs.commands.prove.Goals as goal
-
-pub returns : goal.returns
-returns c = IfOk-weaker c.with_search.result _ _ (λ new more. more (leaf (codes "prove")) c.in_ok-command.ensures) c.with_search.ensures

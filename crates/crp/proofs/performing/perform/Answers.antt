@@ -1,4 +1,0 @@
-use Rattle.crp.proofs.performing.perform.Goals as goal
-
-pub returns-in-Prove : goal.returns-in-Prove
-returns-in-Prove g c = rw c.in-Prove.is c.prove.ensures

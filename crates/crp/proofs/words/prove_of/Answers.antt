@@ -1,9 +1,0 @@
-use Rattle.std.proofs.lemmas.Result.{err_from_is_err_and}
-use Rattle.clap.specs.Words.{found_of, rows_of}
-use Rattle.crp.proofs.Lacking.{no_prove}
-use Rattle.crp.proofs.words.prove_of.Goals as goal
-
-pub returns-in_err-search-clause-err : goal.returns-in_err-search-clause-err
-returns-in_err-search-clause-err c =
-    let p = err_from_is_err_and c.from_residual.result c.from_residual.ensures.1 in
-    rw (p.1, p.2) (no_prove (rows_of (found_of c.args.matches.now)) c.in_err-search.field-0.0 c.in_err-search.ensures.err)

@@ -1,0 +1,4 @@
+-- Lemmas on what is written.
+pub mod Replayed
+pub mod Checked
+pub mod Performed

@@ -1,0 +1,33 @@
+use Rattle.std.proofs.Common.{rules}
+use Rattle.std.proofs.lemmas.Result.{err_from_is_err_and}
+use Rattle.crp_commands.proofs.Replayed.{proof_of}
+use Rattle.crp_commands.proofs.proving.prove.Goals as goal
+
+pub returns-in_err-write_all : goal.returns-in_err-write_all
+returns-in_err-write_all g c =
+    let p = err_from_is_err_and c.from_residual-in_err-write_all.result c.from_residual-in_err-write_all.ensures.1 in
+    let found = c.in_ok-head.ensures.found in
+    let solved = c.in_ok-solved.solved in
+    let proof = proof_of c.args.settings.budget solved.expanded c.in_ok-head.head solved.answer c.in_ok-text.text.items c.deref.result.now
+    c.in_ok-solved.ensures.true_answer c.in_ok-text.ensures c.deref.ensures.value in
+    rw (p.1, p.2) (
+      (
+        c.in_err-write_all.ensures.failed,
+        (
+          found.0,
+          c.deref.result.now,
+          found.1,
+          (c.status_of-status.result, (c.in_ok-head.head, found.2, (solved.answer, proof, c.status_of-status.ensures))),
+          c.in_err-write_all.ensures.front,
+        ),
+      ),
+      search rules,
+    )
+
+pub returns : goal.returns
+returns g c =
+    let found = c.in_ok-head.ensures.found in
+    let solved = c.in_ok-solved.solved in
+    let proof = proof_of c.args.settings.budget solved.expanded c.in_ok-head.head solved.answer c.in_ok-text.text.items c.deref.result.now
+    c.in_ok-solved.ensures.true_answer c.in_ok-text.ensures c.deref.ensures.value in
+    ((found.0, c.deref.result.now, found.1, (c.in_ok-head.head, found.2, (solved.answer, proof, c.status_of-status.ensures)), c.in_ok-write_all.ensures.all), search rules)

@@ -1,0 +1,108 @@
+-- A call of a command over a source and a sink: what it saw, what it wrote, and what each fault tells.
+use Rattle.std.specs.Prelude.{◌≡◌, ℕ, ◌+◌, ◌-◌, ◌<◌, ◌≤◌, List, length, Option, IfSome, Result, Ok, Err}
+use Rattle.std.specs.Io.KnownBytes.{Appends, Keeps}
+use Rattle.crp_plan.specs.Devices.{AppendsFront, HasFailed, most_interruptions}
+use Rattle.crp_plan.specs.declared.transfer.ReadFault.{ReadFault}
+use Rattle.crp_plan.specs.declared.transfer.ReadFault.TheVariants as reading
+use Rattle.crp_cert.specs.declared.fault.CertFault.{CertFault}
+use Rattle.crp_cert.specs.declared.fault.CertFault.TheVariants as cert
+use Rattle.crp_cert.specs.Faults.{IsFirstFault}
+use Rattle.crp_report.specs.Runs as runs
+use Rattle.crp_report.specs.declared.fault.Fault.TheVariants as run
+use Rattle.crp_report.specs.declared.status.Status.{Status}
+use Rattle.crp_report.specs.declared.status.Status.TheVariants as status
+use Rattle.crp_commands.specs.declared.outcome.ToolFault.{ToolFault}
+use Rattle.crp_commands.specs.declared.outcome.ToolFault.TheVariants as fault
+
+-- these bytes, no more than the limit, are those that a source had, where it told them
+abbrev pub IsTextWithin : ℕ → Option (List ℕ) → List ℕ → Type 0
+IsTextWithin limit known text = (length text ≤ limit) × IfSome known (λ xs. text ≡ xs)
+
+-- what a call saw and left: the bytes that its source had, what its sink held before and holds after, and both counts of failures
+-- before and after
+pub record CallSeen : Type 0 where
+  pub given : Option (List ℕ)
+  pub held : Option (List ℕ)
+  pub holds : Option (List ℕ)
+  pub source_before : ℕ
+  pub source_after : ℕ
+  pub sink_before : ℕ
+  pub sink_after : ℕ
+
+-- so many calls of the source and the sink have failed in the call
+abbrev pub failures_in : CallSeen → ℕ
+failures_in s = (s.source_after - s.source_before) + (s.sink_after - s.sink_before)
+
+-- so many failed calls a fault tells: one where a read or a write has failed, in a run too, else none
+abbrev pub failures_told : ToolFault → ℕ
+failures_told fault.Read = 1
+failures_told fault.Write = 1
+failures_told (fault.Run f) = runs.failures_told f
+failures_told f = 0
+
+-- so many calls fail at most in a call that tells this fault: those that are passed over, and the one that is told
+abbrev pub most_failures : ToolFault → ℕ
+most_failures f = most_interruptions + failures_told f
+
+-- the whole report of the bytes that the source had, no more than `limit`, was written, and nothing else
+abbrev pub Writes : ℕ → (List ℕ → List ℕ → Type 0) → CallSeen → Type 0
+Writes limit IsReport s = (text : List ℕ) × (report : List ℕ) × IsTextWithin limit s.given text × IsReport text report × Appends s.held s.holds report
+
+-- the bytes that the source had, no more than `limit`, are refused in this way, and nothing was written
+abbrev pub RefusedWith : ℕ → (List ℕ → ToolFault → Type 0) → CallSeen → ToolFault → Type 0
+RefusedWith limit IsRefused s f = Keeps s.held s.holds × ((text : List ℕ) × IsTextWithin limit s.given text × IsRefused text f)
+
+-- what a fault tells of a call that writes the report of at most `limit` bytes: a refusal, a read or a write that has failed in this call,
+-- more bytes than the limit, or want of memory; a front of the report may have been written only where a write failed
+abbrev pub Tells : ℕ → (List ℕ → List ℕ → Type 0) → (List ℕ → ToolFault → Type 0) → CallSeen → ToolFault → Type 0
+Tells limit IsReport IsRefused s (fault.Cert f) = RefusedWith limit IsRefused s (fault.Cert f)
+Tells limit IsReport IsRefused s (fault.Plan f) = RefusedWith limit IsRefused s (fault.Plan f)
+Tells limit IsReport IsRefused s fault.Read = Keeps s.held s.holds × HasFailed s.source_before s.source_after
+Tells limit IsReport IsRefused s fault.Write = HasFailed s.sink_before s.sink_after
+    × ((text : List ℕ) × (report : List ℕ) × IsTextWithin limit s.given text × IsReport text report × AppendsFront s.held s.holds report)
+Tells limit IsReport IsRefused s fault.TooLarge = Keeps s.held s.holds × IfSome s.given (λ xs. limit < length xs)
+Tells limit IsReport IsRefused s fault.Memory = Keeps s.held s.holds
+Tells limit IsReport IsRefused s (fault.Checked number why) = ⊥
+Tells limit IsReport IsRefused s (fault.Run f) = ⊥
+
+-- why no head was read from a source: its bytes begin with none, it has failed in this call, it has more bytes than the limit, or memory
+-- is wanted
+abbrev pub IsNoHead : ℕ → Option (List ℕ) → ℕ → ℕ → ToolFault → Type 0
+IsNoHead limit given before after (fault.Cert f) = (text : List ℕ) × IsTextWithin limit given text × IsFirstFault text f
+IsNoHead limit given before after fault.Read = HasFailed before after
+IsNoHead limit given before after fault.TooLarge = IfSome given (λ xs. limit < length xs)
+IsNoHead limit given before after fault.Memory = Unit {0}
+IsNoHead limit given before after (fault.Plan f) = ⊥
+IsNoHead limit given before after fault.Write = ⊥
+IsNoHead limit given before after (fault.Checked number why) = ⊥
+IsNoHead limit given before after (fault.Run f) = ⊥
+
+-- how a command tells what went wrong in a layer below
+abbrev pub read_told : ReadFault → ToolFault
+read_told reading.Failed = fault.Read
+read_told reading.TooLarge = fault.TooLarge
+read_told reading.Memory = fault.Memory
+
+abbrev pub cert_told : CertFault → ToolFault
+cert_told cert.Memory = fault.Memory
+cert_told f = fault.Cert f
+
+-- the exit status of the program: 0 decided, 1 a budget ended, 3 input refused, 4 want of memory, 5 a read or write fault, 6 a certificate,
+-- head or plan refused
+abbrev pub exit_code : Result Status ToolFault → ℕ
+exit_code (Ok status.Decided) = 0
+exit_code (Ok status.Budget) = 1
+exit_code (Ok status.Memory) = 4
+exit_code (Err fault.TooLarge) = 3
+exit_code (Err fault.Memory) = 4
+exit_code (Err fault.Read) = 5
+exit_code (Err fault.Write) = 5
+exit_code (Err (fault.Run (run.Yard f))) = 3
+exit_code (Err (fault.Run (run.Interchange f))) = 3
+exit_code (Err (fault.Run (run.Message f))) = 3
+exit_code (Err (fault.Run (run.Read input))) = 5
+exit_code (Err (fault.Run (run.Write output))) = 5
+exit_code (Err (fault.Run run.Memory)) = 4
+exit_code (Err (fault.Cert f)) = 6
+exit_code (Err (fault.Plan f)) = 6
+exit_code (Err (fault.Checked number why)) = 6

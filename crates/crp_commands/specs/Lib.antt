@@ -1,0 +1,8 @@
+-- What the commands write, and what a job does.
+pub mod Calls
+pub mod Replay
+pub mod Bound
+pub mod Prove
+pub mod Check
+pub mod Chosen
+pub mod Performing

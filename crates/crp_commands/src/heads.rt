@@ -1,0 +1,31 @@
+//! Heads of certificates, read from a source.
+ghost use Rattle.std.specs.Prelude.{◌≡◌, ◌≤◌, ℕ, List, ◌+◌, IfOk, IfErr, MatchResult};
+ghost use Rattle.crp_commands.specs.declared.heads.TheConstants.{MOST_BYTES};
+ghost use Rattle.crp_plan.specs.Devices.{most_interruptions};
+ghost use Rattle.crp_cert.specs.Text.{IsHeadOf};
+ghost use Rattle.crp_commands.specs.Calls.{IsTextWithin, IsNoHead, failures_told};
+
+use crate::outcome::ToolFault;
+use crp_cert::{Head, read_head};
+use crp_plan::{Source, read_all};
+use std::alloc::Global;
+
+/// The most bytes of a certificate file.
+pub const MOST_BYTES: usize = 268_435_456;
+
+/// The head that a source's bytes begin with. All bytes are read.
+pub fn head_from<R: Source>(
+    alloc: Global,
+    reader: &mut R,
+    interruptions: &mut u32,
+) -> Result<Head, ToolFault>
+    requires { interruptions.old ≤ most_interruptions }
+    ensures found { IfOk result (λ head. (text : List ℕ) × IsTextWithin MOST_BYTES (R.remaining reader.old) text × IsHeadOf text head) }
+    ensures none { IfErr result (IsNoHead MOST_BYTES (R.remaining reader.old) (R.failures reader.old) (R.failures reader.new)) }
+    ensures counted { MatchResult result (λ _. R.failures reader.new + interruptions.old ≤ R.failures reader.old + interruptions.new) (λ fault. R.failures reader.new + interruptions.old ≤ R.failures reader.old + interruptions.new + failures_told fault) }
+    ensures passed { interruptions.new ≤ most_interruptions }
+{
+    let bytes = read_all(alloc, reader, MOST_BYTES, interruptions)?;
+    let head = read_head(alloc, &bytes)?;
+    Ok(head)
+}

@@ -1,0 +1,133 @@
+//! How a command ends.
+ghost use Rattle.std.specs.Prelude.{◌≡◌, Err};
+ghost use Rattle.crp_commands.specs.declared.outcome.ToolFault.TheVariants.{Run};
+ghost use Rattle.crp_commands.specs.Calls.{exit_code};
+
+use crp_cert::CertFault;
+use crp_checker::Refused;
+use crp_plan::{PlanFault, ReadFault, WriteFailed};
+use crp_report::{Fault, Status};
+use std::alloc::AllocError;
+use thiserror::Error;
+
+/// Why a command did not do what it was asked for.
+#[derive(Debug, Drop, PartialEq, Eq, Error)]
+pub enum ToolFault {
+    /// The bytes begin with no certificate's head.
+    #[error("{0}")]
+    Cert(CertFault),
+    /// The rows of a head's plan are the path of no complete plan.
+    #[error("{0}")]
+    Plan(PlanFault),
+    /// A certificate of a file is refused, by its number from 1.
+    #[error("certificate {number}: {refused}")]
+    Checked { number: u64, refused: Refused },
+    /// A run over a yard did not do what it was asked for.
+    #[error("{0}")]
+    Run(Fault),
+    /// A read failed, or was interrupted once too often; also a file that cannot be opened.
+    #[error("a read failed")]
+    Read,
+    /// A write failed, took nothing, or was interrupted once too often.
+    #[error("a write failed")]
+    Write,
+    /// The input has more bytes than are allowed.
+    #[error("the input is too large")]
+    TooLarge,
+    /// No memory is left.
+    #[error("no memory is left")]
+    Memory,
+}
+
+impl From<AllocError> for ToolFault {
+    ghost use Rattle.crp_commands.specs.declared.outcome.ToolFault.TheVariants.{Memory};
+
+    ghost from_gives = { λ _ fault. fault ≡ Memory };
+
+    fn from(_error: AllocError) -> ToolFault {
+        ToolFault::Memory
+    }
+}
+
+impl From<ReadFault> for ToolFault {
+    ghost use Rattle.crp_commands.specs.Calls.{read_told};
+
+    ghost from_gives = { λ error fault. fault ≡ read_told error };
+
+    fn from(error: ReadFault) -> ToolFault {
+        match error {
+            ReadFault::Failed => ToolFault::Read,
+            ReadFault::TooLarge => ToolFault::TooLarge,
+            ReadFault::Memory => ToolFault::Memory,
+        }
+    }
+}
+
+impl From<WriteFailed> for ToolFault {
+    ghost use Rattle.crp_commands.specs.declared.outcome.ToolFault.TheVariants.{Write};
+
+    ghost from_gives = { λ _ fault. fault ≡ Write };
+
+    fn from(_error: WriteFailed) -> ToolFault {
+        ToolFault::Write
+    }
+}
+
+impl From<CertFault> for ToolFault {
+    ghost use Rattle.crp_commands.specs.Calls.{cert_told};
+
+    ghost from_gives = { λ error fault. fault ≡ cert_told error };
+
+    fn from(error: CertFault) -> ToolFault {
+        match error {
+            CertFault::Memory => ToolFault::Memory,
+            other => ToolFault::Cert(other),
+        }
+    }
+}
+
+impl From<PlanFault> for ToolFault {
+    ghost use Rattle.crp_commands.specs.declared.outcome.ToolFault.TheVariants.{Plan};
+
+    ghost from_gives = { λ error fault. fault ≡ Plan error };
+
+    fn from(error: PlanFault) -> ToolFault {
+        ToolFault::Plan(error)
+    }
+}
+
+impl From<Fault> for ToolFault {
+    ghost use Rattle.crp_commands.specs.declared.outcome.ToolFault.TheVariants.{Run};
+
+    ghost from_gives = { λ error fault. fault ≡ Run error };
+
+    fn from(error: Fault) -> ToolFault {
+        ToolFault::Run(error)
+    }
+}
+
+// The exit status where a run over a yard has not done what it was asked for.
+fn exit_of_run(fault: &Fault) -> u8
+    ensures { result ≡ exit_code (Err (Run fault.now)) }
+{
+    match fault {
+        Fault::Yard(_) | Fault::Interchange(_) | Fault::Message(_) => 3,
+        Fault::Memory => 4,
+        Fault::Read(_) | Fault::Write(_) => 5,
+    }
+}
+
+/// The exit status of the program.
+pub fn exit_of(answer: &Result<Status, ToolFault>) -> u8
+    ensures { result ≡ exit_code answer.now }
+{
+    match answer {
+        Ok(Status::Decided) => 0,
+        Ok(Status::Budget) => 1,
+        Err(ToolFault::TooLarge) => 3,
+        Ok(Status::Memory) | Err(ToolFault::Memory) => 4,
+        Err(ToolFault::Read) | Err(ToolFault::Write) => 5,
+        Err(ToolFault::Run(fault)) => exit_of_run(fault),
+        Err(ToolFault::Cert(_)) | Err(ToolFault::Plan(_)) | Err(ToolFault::Checked { .. }) => 6,
+    }
+}

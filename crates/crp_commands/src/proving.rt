@@ -1,0 +1,45 @@
+//! The command `prove`: from the bytes of a certificate's head to a certificate of its problem.
+ghost use Rattle.std.specs.Prelude.{◌≤◌, MatchResult};
+ghost use Rattle.crp_commands.specs.declared.heads.TheConstants.{MOST_BYTES};
+ghost use Rattle.crp_plan.specs.Devices.{most_interruptions};
+ghost use Rattle.crp_commands.specs.Calls.{CallSeen, failures_in, most_failures, Writes, Tells};
+ghost use Rattle.crp_commands.specs.Prove.{IsProof, IsSomeProof, IsNoProof};
+
+use crate::heads::head_from;
+use crate::outcome::ToolFault;
+use crp_incumbent::Board;
+use crp_plan::{Sink, Source, write_all};
+use crp_report::{Status, certificate_of, status_of};
+use crp_solve::{NoGate, Settings, solve};
+use std::alloc::Global;
+use std::sync::Wait;
+use std::thread::Threads;
+
+/// Solves the problem of the head that a source's bytes begin with, and writes a certificate of the answer. The claim and the
+/// plan of the head are read and not used.
+pub fn prove<T: Threads + Wait + Sync, R: Source, W: Sink>(
+    rt: &T,
+    alloc: Global,
+    reader: &mut R,
+    writer: &mut W,
+    settings: Settings,
+) -> Result<Status, ToolFault>
+    ensures { let seen : CallSeen = record {
+      given = R.remaining reader.old;
+      held = W.contents writer.old;
+      holds = W.contents writer.new;
+      source_before = R.failures reader.old;
+      source_after = R.failures reader.new;
+      sink_before = W.failures writer.old;
+      sink_after = W.failures writer.new;
+    } in MatchResult result (λ status. Writes MOST_BYTES (IsProof settings.budget status) seen × (failures_in seen ≤ most_interruptions)) (λ fault. Tells MOST_BYTES (IsSomeProof settings.budget) IsNoProof seen fault × (failures_in seen ≤ most_failures fault)) }
+{
+    let mut interruptions = 0;
+    let head = head_from(alloc, reader, &mut interruptions)?;
+    let board = Board::new(&head.problem);
+    let solved = solve(rt, alloc, &head.problem, settings, &board, &NoGate)?;
+    let status = status_of(&solved.answer);
+    let text = certificate_of(alloc, &head.bay, &head.problem, &solved.answer)?;
+    write_all(writer, &text, &mut interruptions)?;
+    Ok(status)
+}

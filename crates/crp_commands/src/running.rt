@@ -1,0 +1,123 @@
+//! A job over its files.
+ghost use Rattle.std.specs.Prelude.{◌≡◌, ◌≤◌, ◌⊎◌, IfOk, IfErr, MatchResult};
+ghost use Rattle.crp_commands.specs.Chosen.{AreChosen};
+ghost use Rattle.crp_report.specs.declared.fault.Fault.{Fault};
+ghost use Rattle.crp_report.specs.Chosen.{RunChosen};
+ghost use Rattle.crp_report.specs.Runs.{SinkSeen, GetsNothing};
+ghost use Rattle.crp_commands.specs.declared.outcome.ToolFault.TheVariants.{Memory, Run};
+ghost use Rattle.crp_commands.specs.Performing.{IsOverOneFile, IsWithinLimits, file_of, ReportsFile, TellsOfFile, ReportsRun, TellsOfRun, Reports, TellsOf};
+
+use crate::job::{Job, SolveSettings};
+use crate::outcome::ToolFault;
+use crate::performing::perform;
+use crate::solving::{Files, solve};
+use crp_plan::{Counted, Sink};
+use crp_report::{RunFault, RunSettings, Status};
+use std::alloc::Global;
+use std::fs::File;
+use std::sync::Wait;
+use std::thread::Threads;
+
+// The file of a job over one file.
+fn file_of<'a>(job: &Job<'a>) -> &'a str
+    requires { IsOverOneFile job.now }
+    ensures { result.now ≡ file_of job.now }
+{
+    match job {
+        Job::Replay(file) | Job::Bound(file) | Job::Check(file) => file,
+        Job::Prove { file, .. } => file,
+        Job::Solve { .. } => unreachable!(),
+    }
+}
+
+// Does a job over one file. A file named `-` is the standard input.
+fn run_on<T: Threads + Wait + Sync, W: Sink>(
+    rt: &HostRuntime,
+    threads: &T,
+    job: &Job<'_>,
+    out: &mut W,
+) -> Result<Status, ToolFault>
+    requires { IsOverOneFile job.now }
+    ensures { let seen : SinkSeen = record { held = W.contents out.old; holds = W.contents out.new; before = W.failures out.old; after = W.failures out.new }
+        in MatchResult result (ReportsFile job.now seen) (TellsOfFile job.now seen) }
+{
+    let name = file_of(job);
+    if name == "-" {
+        return perform(threads, rt.alloc(), job, &mut Counted::new(rt.stdin()), out);
+    }
+    match File::open(rt, name) {
+        Ok(file) => perform(threads, rt.alloc(), job, &mut Counted::new(file), out),
+        Err(_) => Err(ToolFault::Read),
+    }
+}
+
+/// The settings of a run.
+pub fn settings_of(alloc: Global, chosen: &SolveSettings<'_>) -> Result<RunSettings, ToolFault>
+    requires rows { (1 ≤ chosen.now.rows) × (chosen.now.rows ≤ 12) }
+    requires tiers { (1 ≤ chosen.now.tiers) × (chosen.now.tiers ≤ 8) }
+    ensures chosen { IfOk result (AreChosen chosen.now) }
+    ensures memory { IfErr result (λ fault. fault ≡ Memory) }
+{
+    let code = chosen.code.as_bytes();
+    match RunSettings::new(
+        alloc,
+        chosen.search,
+        chosen.rows,
+        chosen.tiers,
+        chosen.order,
+        code,
+    ) {
+        Ok(settings) => Ok(settings),
+        Err(RunFault::Memory) => Err(ToolFault::Memory),
+        Err(_) => unreachable!(),
+    }
+}
+
+// Solves the bays of a yard, one after the other.
+fn solve_with<T: Threads + Wait + Sync, W: Sink>(
+    rt: &HostRuntime,
+    threads: &T,
+    files: Files<'_>,
+    chosen: &SolveSettings<'_>,
+    out: &mut W,
+) -> Result<Status, ToolFault>
+    requires rows { (1 ≤ chosen.now.rows) × (chosen.now.rows ≤ 12) }
+    requires tiers { (1 ≤ chosen.now.tiers) × (chosen.now.tiers ≤ 8) }
+    ensures { let seen : SinkSeen = record { held = W.contents out.old; holds = W.contents out.new; before = W.failures out.old; after = W.failures out.new }
+        in MatchResult result (λ status. (c : RunChosen) × AreChosen chosen.now c × ReportsRun c seen status)
+        (λ fault. (fault ≡ Memory) × GetsNothing seen ⊎ ((c : RunChosen) × (f : Fault) × AreChosen chosen.now c × (fault ≡ Run f) × TellsOfRun c seen f)) }
+{
+    let settings = settings_of(rt.alloc(), chosen)?;
+    solve(rt, threads, &files, &settings, out)
+}
+
+/// Does a job over its files, and writes its report to a sink.
+pub fn run_job<T: Threads + Wait + Sync, W: Sink>(
+    rt: &HostRuntime,
+    threads: &T,
+    job: &Job<'_>,
+    out: &mut W,
+) -> Result<Status, ToolFault>
+    requires { IsWithinLimits job.now }
+    ensures { let seen : SinkSeen = record { held = W.contents out.old; holds = W.contents out.new; before = W.failures out.old; after = W.failures out.new }
+        in MatchResult result (Reports job.now seen) (TellsOf job.now seen) }
+{
+    match job {
+        Job::Solve {
+            yard,
+            movins,
+            cert,
+            after,
+            settings,
+        } => {
+            let files = Files {
+                yard,
+                movins,
+                cert: *cert,
+                after: *after,
+            };
+            solve_with(rt, threads, files, settings, out)
+        }
+        one_file => run_on(rt, threads, one_file, out),
+    }
+}

@@ -1,0 +1,62 @@
+//! Commands over devices that fail, are slow, or never end.
+ghost use Rattle.std.specs.Prelude.{Some, None};
+
+use crate::compare::assert_same;
+use crate::devices::{Slow, Small};
+use crp_commands::{ToolFault, replay};
+use crp_plan::{Failure, Received, Sink, Source};
+use crp_report::Status;
+use std::test::Fail;
+
+const TWO_CONTAINERS: &[u8] =
+    b"CRP-CERT 1\nbay A 1\nsize 2 2 1 2\nrow 1 2\nrow\nat least 1\nplan 2\n";
+
+const TWO_CONTAINERS_REPLAYED: &[u8] =
+    b"bay A 1\nmoves 2 relocations 1\nshift 1.2 2.1 2\ntake 1.1 1\n";
+
+fn make_slow(interrupted: u32, fails: bool) -> Slow<'static> {
+    Slow {
+        interrupted,
+        rest: TWO_CONTAINERS,
+        fails,
+        failed: 0,
+    }
+}
+
+#[test]
+fn slow_sources(rt: HostRuntime) -> Result<(), Fail> {
+    let mut sink = Received::new(rt.alloc());
+    let answer = replay(rt.alloc(), &mut make_slow(1000, false), &mut sink)?;
+    assert_same(&rt, &answer, &Status::Decided);
+    assert_same(&rt, &sink.bytes.as_slice(), &TWO_CONTAINERS_REPLAYED);
+    let mut sink = Received::new(rt.alloc());
+    for mut source in [make_slow(1001, false), make_slow(0, true)] {
+        let answer = replay(rt.alloc(), &mut source, &mut sink);
+        assert!(rt; answer == Err(ToolFault::Read) && sink.bytes.is_empty());
+    }
+    Ok(())
+}
+
+#[test]
+fn sinks_that_take_a_byte_a_call(rt: HostRuntime) {
+    for room in 0..TWO_CONTAINERS_REPLAYED.len() + 1 {
+        let mut sink = Small {
+            bytes: Vec::new(rt.alloc()),
+            room,
+            failed: 0,
+        };
+        let mut text: &[u8] = TWO_CONTAINERS;
+        let answer = replay(rt.alloc(), &mut text, &mut sink);
+        if room < TWO_CONTAINERS_REPLAYED.len() {
+            assert_same(&rt, &answer, &Err(ToolFault::Write));
+            assert_same(
+                &rt,
+                &sink.bytes.as_slice(),
+                &&TWO_CONTAINERS_REPLAYED[..room],
+            );
+        } else {
+            assert_same(&rt, &answer, &Ok(Status::Decided));
+            assert_same(&rt, &sink.bytes.as_slice(), &TWO_CONTAINERS_REPLAYED);
+        }
+    }
+}

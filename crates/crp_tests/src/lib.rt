@@ -1,0 +1,28 @@
+//! Tests of a run, of the commands and of the words of the command line: what no contract says. Worked examples byte for byte, texts of
+//! faults, and devices that fail in mid-stream.
+#![tactic(auto)]
+
+#[cfg(test)]
+mod certificates;
+#[cfg(test)]
+mod commands;
+#[cfg(test)]
+mod compare;
+#[cfg(test)]
+mod devices;
+#[cfg(test)]
+mod failing;
+#[cfg(test)]
+mod failing_runs;
+#[cfg(test)]
+mod files;
+#[cfg(test)]
+mod interrupted_runs;
+#[cfg(test)]
+mod many_workers;
+#[cfg(test)]
+mod reports;
+#[cfg(test)]
+mod two_bays;
+#[cfg(test)]
+mod usage;

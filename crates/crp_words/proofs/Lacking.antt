@@ -1,0 +1,207 @@
+-- From what a command's rows lack to why no job comes of them.
+use Rattle.std.proofs.Common.{◌≡◌, ◌∙◌, ◌⊎◌, ◌<◌, ◌^◌, ℕ, List, Option, Some, None, IfSome, IfNone, Result, refl, sym, subst, inl, inr, ap, arith, codes, slice_index}
+use Rattle.std.specs.Str.Parse.{ParsesUnsigned, ExplainsUnsignedError, HasUnsignedDigitsIfOk, digits_value, without_leading_plus}
+use Rattle.std.specs.declared.num.ParseIntError.{ParseIntError}
+use Rattle.clap.specs.Words.{Row, Text}
+use Rattle.clap.specs.Matches.{ReadsOne}
+use Rattle.crp_solve.specs.Chosen.{Chosen}
+use Rattle.crp_words.specs.Words.{Asks, HasBudget, HasNumber, HasNumberBeyond, HasNumberWithin, FindsRows, HasSearch, HasSettings, HasSplit, FindsTiers, HasWorkers, IsBudgetBeyond, IsSplitBeyond, AreRowsBeyond, AreTiersBeyond, AreWorkersBeyond, IsFault, IsJust, IsSearchFault, IsSolveFault, IsWordsOrMemory, Lacks, ReadsNumber}
+use Rattle.crp_commands.specs.declared.job.Job.{Job}
+use Rattle.crp_commands.specs.declared.job.Job.TheVariants as job
+use Rattle.crp_words.specs.declared.usage.Mistake.TheVariants as mistake
+use Rattle.crp_words.specs.declared.usage.SettingFault.{SettingFault}
+use Rattle.crp_words.specs.declared.usage.SettingFault.TheVariants as setting
+use Rattle.crp_words.specs.declared.usage.Usage.{Usage}
+use Rattle.crp_words.specs.declared.usage.Usage.TheVariants as usage
+use Rattle.crp_solve.specs.declared.settings.TheConstants.{MAX_BUDGET}
+
+-- what u64's reading of a text gives
+abbrev Gives : List ℕ → Result ℕ ParseIntError → Type 0
+Gives bs r = ParsesUnsigned 64 10 bs r × ExplainsUnsignedError 10 bs r × HasUnsignedDigitsIfOk bs r
+
+-- a number that is read is the number of the text
+pub number_some : (o : Option Text) (r : Option ℕ) → (o ≡ None → r ≡ None)
+    → ((t : Text) → o ≡ Some t → ReadsOne {E = ParseIntError} Gives t r) → IfSome r (ReadsNumber o)
+number_some None r none value = rw (none refl) tt
+number_some (Some t) None none value = tt
+number_some (Some t) (Some n) none value = let (reads, why, digits) = value t refl in (t, refl, reads.0.0, reads.1, subst (λ (m : ℕ). m < 2 ^ 64) (sym reads.1) reads.0.1)
+
+-- where none is read, there is none
+pub number_none : (o : Option Text) (r : Option ℕ)
+    → ((t : Text) → o ≡ Some t → ReadsOne {E = ParseIntError} Gives t r)
+    → IfNone r ((n : ℕ) → ReadsNumber o n → ⊥)
+number_none o (Some n) value = tt
+number_none o None value = λ n reads.
+    let (t, found, numeral, is, small) = reads in
+    let (e, why) = value t found in
+    why.0 (numeral, subst (λ (m : ℕ). m < 2 ^ 64) is small)
+
+-- the rows have one number for an option at most
+pub one_number : (id : Text) (rows : List Row) (m n : ℕ) → HasNumber id rows m → HasNumber id rows n → m ≡ n
+one_number id rows m n (t, found, a, is, b) (u, same, d, equals, e) =
+    let some : Some t ≡ Some u = sym found ∙ same in
+    let texts : t ≡ u = cc in
+    is ∙ ap (λ (x : Text). digits_value 10 (without_leading_plus x)) texts ∙ sym equals
+
+-- a number is within its limits or beyond them, and not both
+pub not_both : (id : Text) (least most : ℕ) (rows : List Row) (n : ℕ) → HasNumberWithin id least most rows n → HasNumberBeyond id least most rows → ⊥
+not_both id least most rows n within (m, has, inl below) =
+    let same = one_number id rows n m within.0 has in omega (arith, same, within.1, below)
+not_both id least most rows n within (m, has, inr above) =
+    let same = one_number id rows n m within.0 has in omega (arith, same, within.2, above)
+
+-- the refusal by words where there is nothing, and no number beyond its limits
+pub lacks : {X : Type 0} (Has : X → Type 0) (IsFirst : SettingFault → Type 0) (u : Usage) → IsWordsOrMemory u
+    → ((x : X) → Has x → ⊥) → ((f : SettingFault) → IsFirst f → ⊥) → Lacks Has IsFirst u
+lacks Has IsFirst usage.Memory words none faultless = tt
+lacks Has IsFirst (usage.Help text) words none faultless = absurd words
+lacks Has IsFirst (usage.Wrong (mistake.Words text)) words none faultless = (none, faultless)
+lacks Has IsFirst (usage.Wrong (mistake.Setting f)) words none faultless = absurd words
+
+-- what needs a thing that lacks, lacks too
+pub lacks_more : {X Y : Type 0} (Has : X → Type 0) (Needs : Y → Type 0) (F G : SettingFault → Type 0) (u : Usage)
+    → ((y : Y) → Needs y → (x : X) × Has x) → ((f : SettingFault) → F f → G f)
+    → ((f : SettingFault) → G f → F f ⊎ ((x : X) × Has x)) → Lacks Has F u → Lacks Needs G u
+lacks_more Has Needs F G usage.Memory needs up down lacking = tt
+lacks_more Has Needs F G (usage.Help text) needs up down lacking = absurd lacking
+lacks_more Has Needs F G (usage.Wrong (mistake.Words text)) needs up down lacking = (
+  λ y have. lacking.0 (needs y have).0 (needs y have).1,
+  λ f first. elim (down f first) [
+    | inl h ↦ lacking.1 f h
+    | inr h ↦ lacking.0 h.0 h.1
+  ],
+)
+lacks_more Has Needs F G (usage.Wrong (mistake.Setting f)) needs up down lacking =
+    (λ y have. lacking.0 (needs y have).0 (needs y have).1, up f lacking.1)
+
+-- ---- a number within its limits is no fault
+
+no_workers_fault : (rows : List Row) (n : ℕ) → HasWorkers rows n → AreWorkersBeyond rows → ⊥
+no_workers_fault rows n has beyond = not_both (codes "workers") 1 64 rows n has beyond
+
+no_budget_fault : (rows : List Row) (n : ℕ) → HasBudget rows n → IsBudgetBeyond rows → ⊥
+no_budget_fault rows n has beyond = not_both (codes "budget") 0 MAX_BUDGET rows n has beyond
+
+no_split_fault : (rows : List Row) (n : ℕ) → HasSplit rows n → IsSplitBeyond rows → ⊥
+no_split_fault rows n has beyond = not_both (codes "split") 0 8 rows n has beyond
+
+no_rows_fault : (rows : List Row) (n : ℕ) → FindsRows rows n → AreRowsBeyond rows → ⊥
+no_rows_fault rows n has beyond = not_both (codes "rows") 1 12 rows n has beyond
+
+-- the settings of a search within their limits have no fault
+no_search_fault : (rows : List Row) (s : Chosen) → HasSearch rows s → (f : SettingFault) → IsSearchFault rows f → ⊥
+no_search_fault rows s has setting.Workers beyond = no_workers_fault rows s.workers has.0 beyond
+no_search_fault rows s has setting.Budget first = no_budget_fault rows s.budget has.1 first.1
+no_search_fault rows s has setting.Split first = no_split_fault rows s.split has.2 first.2
+no_search_fault rows s has setting.Rows none = none
+no_search_fault rows s has setting.Tiers none = none
+
+-- ---- the settings of a search, number by number
+
+-- without workers within their limits there are no settings of a search
+pub no_workers : (rows : List Row) (u : Usage) → Lacks (HasWorkers rows) (IsJust setting.Workers (AreWorkersBeyond rows)) u
+    → Lacks (HasSearch rows) (IsSearchFault rows) u
+no_workers rows u = lacks_more (HasWorkers rows) (HasSearch rows) (IsJust setting.Workers (AreWorkersBeyond rows)) (IsSearchFault rows) u
+    (λ s has. (s.workers, has.0)) (λ f just. subst (IsSearchFault rows) (sym just.0) just.1) down
+  where
+    down : (f : SettingFault) → IsSearchFault rows f → IsJust setting.Workers (AreWorkersBeyond rows) f ⊎ ((n : ℕ) × HasWorkers rows n)
+    down setting.Workers beyond = inl (refl, beyond)
+    down setting.Budget first = inr first.0
+    down setting.Split first = inr first.0
+    down setting.Rows none = absurd none
+    down setting.Tiers none = absurd none
+
+-- nor are there without a budget within its limit
+pub no_budget : (rows : List Row) (w : ℕ) (u : Usage) → HasWorkers rows w → Lacks (HasBudget rows) (IsJust setting.Budget (IsBudgetBeyond rows)) u
+    → Lacks (HasSearch rows) (IsSearchFault rows) u
+no_budget rows w u workers = lacks_more (HasBudget rows) (HasSearch rows) (IsJust setting.Budget (IsBudgetBeyond rows)) (IsSearchFault rows) u
+    (λ s has. (s.budget, has.1)) (λ f just. subst (IsSearchFault rows) (sym just.0) ((w, workers), just.1)) down
+  where
+    down : (f : SettingFault) → IsSearchFault rows f → IsJust setting.Budget (IsBudgetBeyond rows) f ⊎ ((n : ℕ) × HasBudget rows n)
+    down setting.Workers beyond = absurd (no_workers_fault rows w workers beyond)
+    down setting.Budget first = inl (refl, first.1)
+    down setting.Split first = inr first.1
+    down setting.Rows none = absurd none
+    down setting.Tiers none = absurd none
+
+-- nor without a split within its limit
+pub no_split : (rows : List Row) (w b : ℕ) (u : Usage) → HasWorkers rows w → HasBudget rows b
+    → Lacks (HasSplit rows) (IsJust setting.Split (IsSplitBeyond rows)) u → Lacks (HasSearch rows) (IsSearchFault rows) u
+no_split rows w b u workers budget = lacks_more (HasSplit rows) (HasSearch rows) (IsJust setting.Split (IsSplitBeyond rows)) (IsSearchFault rows) u
+    (λ s has. (s.split, has.2)) (λ f just. subst (IsSearchFault rows) (sym just.0) ((w, workers), (b, budget), just.1)) down
+  where
+    down : (f : SettingFault) → IsSearchFault rows f → IsJust setting.Split (IsSplitBeyond rows) f ⊎ ((n : ℕ) × HasSplit rows n)
+    down setting.Workers beyond = absurd (no_workers_fault rows w workers beyond)
+    down setting.Budget first = absurd (no_budget_fault rows b budget first.1)
+    down setting.Split first = inl (refl, first.2)
+    down setting.Rows none = absurd none
+    down setting.Tiers none = absurd none
+
+-- ---- the settings of solve
+
+-- a fault of the search is one of solve
+search_first : (rows : List Row) (f : SettingFault) → IsSearchFault rows f → IsSolveFault rows f
+search_first rows setting.Workers first = first
+search_first rows setting.Budget first = first
+search_first rows setting.Split first = first
+search_first rows setting.Rows none = absurd none
+search_first rows setting.Tiers none = absurd none
+
+-- without settings of a search there are none of solve
+pub no_search : (rows : List Row) (u : Usage) → Lacks (HasSearch rows) (IsSearchFault rows) u → Lacks (HasSettings rows) (IsSolveFault rows) u
+no_search rows u = lacks_more (HasSearch rows) (HasSettings rows) (IsSearchFault rows) (IsSolveFault rows) u
+    (λ s has. (s.search, has.0)) (search_first rows) down
+  where
+    down : (f : SettingFault) → IsSolveFault rows f → IsSearchFault rows f ⊎ ((s : Chosen) × HasSearch rows s)
+    down setting.Workers first = inl first
+    down setting.Budget first = inl first
+    down setting.Split first = inl first
+    down setting.Rows first = inr first.0
+    down setting.Tiers first = inr first.0
+
+-- nor are there without rows within their limits
+pub no_rows : (rows : List Row) (s : Chosen) (u : Usage) → HasSearch rows s → Lacks (FindsRows rows) (IsJust setting.Rows (AreRowsBeyond rows)) u
+    → Lacks (HasSettings rows) (IsSolveFault rows) u
+no_rows rows s u search = lacks_more (FindsRows rows) (HasSettings rows) (IsJust setting.Rows (AreRowsBeyond rows)) (IsSolveFault rows) u
+    (λ s has. (s.rows, has.1)) (λ f just. subst (IsSolveFault rows) (sym just.0) ((s, search), just.1)) down
+  where
+    down : (f : SettingFault) → IsSolveFault rows f → IsJust setting.Rows (AreRowsBeyond rows) f ⊎ ((n : ℕ) × FindsRows rows n)
+    down setting.Workers first = absurd (no_search_fault rows s search setting.Workers first)
+    down setting.Budget first = absurd (no_search_fault rows s search setting.Budget first)
+    down setting.Split first = absurd (no_search_fault rows s search setting.Split first)
+    down setting.Rows first = inl (refl, first.1)
+    down setting.Tiers first = inr first.1
+
+-- nor without tiers within their limits
+pub no_tiers : (rows : List Row) (s : Chosen) (r : ℕ) (u : Usage) → HasSearch rows s → FindsRows rows r
+    → Lacks (FindsTiers rows) (IsJust setting.Tiers (AreTiersBeyond rows)) u → Lacks (HasSettings rows) (IsSolveFault rows) u
+no_tiers rows s r u search has_rows = lacks_more (FindsTiers rows) (HasSettings rows) (IsJust setting.Tiers (AreTiersBeyond rows)) (IsSolveFault rows) u
+    (λ s has. (s.tiers, has.2)) (λ f just. subst (IsSolveFault rows) (sym just.0) ((s, search), (r, has_rows), just.1)) down
+  where
+    down : (f : SettingFault) → IsSolveFault rows f → IsJust setting.Tiers (AreTiersBeyond rows) f ⊎ ((n : ℕ) × FindsTiers rows n)
+    down setting.Workers first = absurd (no_search_fault rows s search setting.Workers first)
+    down setting.Budget first = absurd (no_search_fault rows s search setting.Budget first)
+    down setting.Split first = absurd (no_search_fault rows s search setting.Split first)
+    down setting.Rows first = absurd (no_rows_fault rows r has_rows first.1)
+    down setting.Tiers first = inl (refl, first.2)
+
+-- ---- the search of prove
+
+-- what prove asks for has settings of a search
+prove_asks : (rows : List Row) (j : Job) → Asks (codes "prove") rows j → (s : Chosen) × HasSearch rows s
+prove_asks rows (job.Replay file) asks = let e : ◌≡◌ {A = ℕ} 112 114 = ap (λ (l : Text). slice_index l 0) asks.0 in absurd (omega arith)
+prove_asks rows (job.Bound file) asks = let e : ◌≡◌ {A = ℕ} 112 98 = ap (λ (l : Text). slice_index l 0) asks.0 in absurd (omega arith)
+prove_asks rows (job.Check file) asks = let e : ◌≡◌ {A = ℕ} 112 99 = ap (λ (l : Text). slice_index l 0) asks.0 in absurd (omega arith)
+prove_asks rows (job.Prove file search) asks = (search, asks.2)
+prove_asks rows (job.Solve yard movins cert after settings) asks = let e : ◌≡◌ {A = ℕ} 112 115 = ap (λ (l : Text). slice_index l 0) asks.0 in absurd (omega arith)
+
+-- a fault of prove is its search's
+prove_fault : (rows : List Row) (f : SettingFault) → IsFault (codes "prove") rows f → IsSearchFault rows f
+prove_fault rows f (inl (is, first)) = first
+prove_fault rows f (inr (is, first)) = let e : ◌≡◌ {A = ℕ} 112 115 = ap (λ (l : Text). slice_index l 0) is in absurd (omega arith)
+
+-- without settings of a search prove asks for nothing
+pub no_prove : (rows : List Row) (u : Usage) → Lacks (HasSearch rows) (IsSearchFault rows) u
+    → Lacks (Asks (codes "prove") rows) (IsFault (codes "prove") rows) u
+no_prove rows u = lacks_more (HasSearch rows) (Asks (codes "prove") rows) (IsSearchFault rows) (IsFault (codes "prove") rows) u
+    (prove_asks rows) (λ f first. inl (refl, first)) (λ f first. inl (prove_fault rows f first))

@@ -1,0 +1,9 @@
+use Rattle.std.proofs.lemmas.Result.{IfOk-weaker}
+use Rattle.crp_words.specs.Commands.{leaves, prove, solve}
+use Rattle.crp_words.proofs.CommandLine.{more_command}
+use Rattle.crp_words.proofs.commands.command_line.Goals as goal
+
+pub returns : goal.returns
+returns c =
+    let with_prove = more_command _ _ _ leaves prove c.in_ok-subcommand.ensures c.in_ok-prove.ensures c.in_ok-with_leaves.ensures in
+    IfOk-weaker c.subcommand-2.result _ _ (λ new adds. more_command _ _ new _ solve adds c.in_ok-solve.ensures with_prove) c.subcommand-2.ensures

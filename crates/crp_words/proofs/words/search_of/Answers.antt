@@ -1,0 +1,19 @@
+use Rattle.std.proofs.lemmas.Result.{err_from_is_err_and}
+use Rattle.clap.specs.Words.{found_of, rows_of}
+use Rattle.crp_words.proofs.Lacking.{no_workers, no_budget, no_split}
+use Rattle.crp_words.proofs.words.search_of.Goals as goal
+
+pub returns-in_err-workers-clause-err : goal.returns-in_err-workers-clause-err
+returns-in_err-workers-clause-err c =
+    let p = err_from_is_err_and c.from_residual.result c.from_residual.ensures.1 in
+    rw (p.1, p.2) (no_workers (rows_of (found_of c.args.matches.now)) c.in_err-workers.field-0.0 c.in_err-workers.ensures.err)
+
+pub returns-in_err-budget-clause-err : goal.returns-in_err-budget-clause-err
+returns-in_err-budget-clause-err c =
+    let p = err_from_is_err_and c.from_residual-in_err-budget.result c.from_residual-in_err-budget.ensures.1 in
+    rw (p.1, p.2) (no_budget (rows_of (found_of c.args.matches.now)) c.in_ok-workers.workers c.in_err-budget.field-0.0 c.in_ok-workers.ensures.ok c.in_err-budget.ensures.err)
+
+pub returns-in_err-split-clause-err : goal.returns-in_err-split-clause-err
+returns-in_err-split-clause-err c =
+    let p = err_from_is_err_and c.from_residual-in_err-split.result c.from_residual-in_err-split.ensures.1 in
+    rw (p.1, p.2) (no_split (rows_of (found_of c.args.matches.now)) c.in_ok-workers.workers c.in_ok-budget.budget c.in_err-split.field-0.0 c.in_ok-workers.ensures.ok c.in_ok-budget.ensures.ok c.in_err-split.ensures.err)

@@ -1,0 +1,3 @@
+-- The command line, and what its words ask for.
+pub mod Commands
+pub mod Words

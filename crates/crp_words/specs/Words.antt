@@ -1,0 +1,210 @@
+-- What the words of the command line ask for.
+use Rattle.std.specs.Prelude.{◌≡◌, ℕ, ◌≢◌, ◌⊎◌, ◌==◌, ◌<◌, ◌≤◌, ◌^◌, List, [], ◌∷◌, length, if◌then◌else◌, codes, Option, Some, None, option_map, ⊤}
+use Rattle.std.specs.Str.Parse.{IsNumeral, digits_value, without_leading_plus}
+use Rattle.clap.specs.Words.{IsAmong, Kinds, Row, Text, fault_of, first_of, one_of, subcommand_of}
+use Rattle.clap.specs.declared.error.kind.ErrorKind.{ErrorKind}
+use Rattle.clap.specs.declared.error.kind.ErrorKind.TheVariants as kind
+use Rattle.crp_solve.specs.Chosen.{Chosen}
+use Rattle.crp_words.specs.Commands.{crp}
+use Rattle.crp_commands.specs.declared.job.Job.{Job}
+use Rattle.crp_commands.specs.declared.job.Job.TheVariants as job
+use Rattle.crp_words.specs.declared.usage.Mistake.{Mistake}
+use Rattle.crp_words.specs.declared.usage.Mistake.TheVariants as mistake
+use Rattle.crp_order.specs.declared.sequences.Mode.{Mode}
+use Rattle.crp_order.specs.declared.sequences.Mode.TheVariants as mode
+use Rattle.crp_words.specs.declared.usage.SettingFault.{SettingFault}
+use Rattle.crp_words.specs.declared.usage.SettingFault.TheVariants as setting
+use Rattle.crp_commands.specs.declared.job.SolveSettings.{SolveSettings}
+use Rattle.crp_words.specs.declared.usage.Usage.{Usage}
+use Rattle.crp_words.specs.declared.usage.Usage.TheVariants as usage
+use Rattle.crp_solve.specs.declared.settings.TheConstants.{MAX_BUDGET}
+
+-- no words ask for a replay of the standard input
+abbrev pub words_or_default : List Text → List Text
+words_or_default words = if length words == 0 then codes "replay" ∷ codes "-" ∷ [] else words
+
+-- ---- files, texts and numbers of a command, in clap's rows for it
+
+-- the rows have this text for the file or the option: as it was given, or else its default
+abbrev pub HasText : Text → List Row → Text → Type 0
+HasText id found text = first_of id found ≡ Some text
+
+-- the text is this whole number, below 2^64
+abbrev pub ReadsNumber : Option Text → ℕ → Type 0
+ReadsNumber found n = (text : Text) × (found ≡ Some text) × IsNumeral 10 (without_leading_plus text)
+    × (n ≡ digits_value 10 (without_leading_plus text)) × (n < 2 ^ 64)
+
+-- the rows have this whole number for the option: as it was given, or else its default
+abbrev pub HasNumber : Text → List Row → ℕ → Type 0
+HasNumber id found n = ReadsNumber (one_of id found) n
+
+-- the rows have this whole number for the option, and it is within the limits
+abbrev pub HasNumberWithin : Text → ℕ → ℕ → List Row → ℕ → Type 0
+HasNumberWithin id least most found n = HasNumber id found n × (least ≤ n) × (n ≤ most)
+
+-- the rows have a whole number for the option, and it is beyond the limits
+abbrev pub HasNumberBeyond : Text → ℕ → ℕ → List Row → Type 0
+HasNumberBeyond id least most found = (n : ℕ) × HasNumber id found n × ((n < least) ⊎ (most < n))
+
+-- the budget that was found, at most 2^40
+abbrev pub HasBudget : List Row → ℕ → Type 0
+HasBudget found n = HasNumberWithin (codes "budget") 0 MAX_BUDGET found n
+
+-- the budget that was found is too large
+abbrev pub IsBudgetBeyond : List Row → Type 0
+IsBudgetBeyond found = HasNumberBeyond (codes "budget") 0 MAX_BUDGET found
+
+-- the workers that were found, 1 to 64
+abbrev pub HasWorkers : List Row → ℕ → Type 0
+HasWorkers found n = HasNumberWithin (codes "workers") 1 64 found n
+
+-- the workers that were found are none, or too many
+abbrev pub AreWorkersBeyond : List Row → Type 0
+AreWorkersBeyond found = HasNumberBeyond (codes "workers") 1 64 found
+
+-- the split that was found, at most 8
+abbrev pub HasSplit : List Row → ℕ → Type 0
+HasSplit found n = HasNumberWithin (codes "split") 0 8 found n
+
+-- the split that was found is too large
+abbrev pub IsSplitBeyond : List Row → Type 0
+IsSplitBeyond found = HasNumberBeyond (codes "split") 0 8 found
+
+-- the settings of a search that were found, within their limits
+abbrev pub HasSearch : List Row → Chosen → Type 0
+HasSearch found s = HasWorkers found s.workers × HasBudget found s.budget × HasSplit found s.split
+
+-- the rows of a bay that were found, 1 to 12
+abbrev pub FindsRows : List Row → ℕ → Type 0
+FindsRows found n = HasNumberWithin (codes "rows") 1 12 found n
+
+-- the rows of a bay that were found are none, or too many
+abbrev pub AreRowsBeyond : List Row → Type 0
+AreRowsBeyond found = HasNumberBeyond (codes "rows") 1 12 found
+
+-- the tiers of a bay that were found, 1 to 8
+abbrev pub FindsTiers : List Row → ℕ → Type 0
+FindsTiers found n = HasNumberWithin (codes "tiers") 1 8 found n
+
+-- the tiers of a bay that were found are none, or too many
+abbrev pub AreTiersBeyond : List Row → Type 0
+AreTiersBeyond found = HasNumberBeyond (codes "tiers") 1 8 found
+
+-- the word for an order
+abbrev pub order_word : Mode → Text
+order_word mode.Listed = codes "listed"
+order_word mode.Stowage = codes "stowage"
+
+-- the order of leaving that was found
+abbrev pub HasOrder : List Row → Mode → Type 0
+HasOrder found o = HasText (codes "order") found (order_word o)
+
+-- the settings of solve that were found, within their limits
+abbrev pub HasSettings : List Row → SolveSettings → Type 0
+HasSettings found s = HasSearch found s.search × FindsRows found s.rows × FindsTiers found s.tiers
+    × HasOrder found s.order × HasText (codes "code") found s.code.now
+
+-- ---- the job, or the first number beyond its limits
+
+-- the command and its rows ask for this
+abbrev pub Asks : Text → List Row → Job → Type 0
+Asks name found (job.Replay file) = (name ≡ codes "replay") × HasText (codes "file") found file.now
+Asks name found (job.Bound file) = (name ≡ codes "bound") × HasText (codes "file") found file.now
+Asks name found (job.Check file) = (name ≡ codes "check") × HasText (codes "file") found file.now
+Asks name found (job.Prove file search) = (name ≡ codes "prove") × HasText (codes "file") found file.now × HasSearch found search
+Asks name found (job.Solve yard movins cert after settings) = (name ≡ codes "solve")
+    × HasText (codes "yard") found yard.now × HasText (codes "movins") found movins.now
+    × (first_of (codes "cert") found ≡ option_map (λ text. text.now) cert)
+    × (first_of (codes "after") found ≡ option_map (λ text. text.now) after)
+    × HasSettings found settings
+
+-- the first number of a search beyond its limits: the workers, then the budget, then the split
+abbrev pub IsSearchFault : List Row → SettingFault → Type 0
+IsSearchFault found setting.Workers = AreWorkersBeyond found
+IsSearchFault found setting.Budget = ((n : ℕ) × HasWorkers found n) × IsBudgetBeyond found
+IsSearchFault found setting.Split = ((n : ℕ) × HasWorkers found n) × ((n : ℕ) × HasBudget found n) × IsSplitBeyond found
+IsSearchFault found setting.Rows = ⊥
+IsSearchFault found setting.Tiers = ⊥
+
+-- the first number of solve beyond its limits: that of the search, then the rows, then the tiers
+abbrev pub IsSolveFault : List Row → SettingFault → Type 0
+IsSolveFault found setting.Rows = ((s : Chosen) × HasSearch found s) × AreRowsBeyond found
+IsSolveFault found setting.Tiers = ((s : Chosen) × HasSearch found s) × ((n : ℕ) × FindsRows found n) × AreTiersBeyond found
+IsSolveFault found f = IsSearchFault found f
+
+-- the first number of the command beyond its limits
+abbrev pub IsFault : Text → List Row → SettingFault → Type 0
+IsFault name found f = ((name ≡ codes "prove") × IsSearchFault found f) ⊎ ((name ≡ codes "solve") × IsSolveFault found f)
+
+-- the command, if there is one, and its rows ask for this
+abbrev pub AsksFor : Option (Text × List Row) → Job → Type 0
+AsksFor None j = ⊥
+AsksFor (Some p) j = Asks p.0 p.1 j
+
+-- the first number of the command, if there is one, beyond its limits
+abbrev pub IsFaultFor : Option (Text × List Row) → SettingFault → Type 0
+IsFaultFor None f = ⊥
+IsFaultFor (Some p) f = IsFault p.0 p.1 f
+
+-- what the words ask for, by clap's matches of them
+abbrev pub WordsAsk : List Text → Job → Type 0
+WordsAsk words j = (fault_of crp (words_or_default words) ≡ [])
+    × AsksFor (subcommand_of crp (words_or_default words)) j
+
+-- the first number of the words beyond its limits, by clap's matches of them
+abbrev pub WordsHaveFault : List Text → SettingFault → Type 0
+WordsHaveFault words f = (fault_of crp (words_or_default words) ≡ [])
+    × IsFaultFor (subcommand_of crp (words_or_default words)) f
+
+-- ---- refusals
+
+-- the words have no fault, or one that is neither a call for help nor for the version
+abbrev pub ShowsNothing : Kinds → Type 0
+ShowsNothing kinds = (kinds ≡ []) ⊎ ((k : ErrorKind) × IsAmong k kinds × (k ≢ kind.DisplayHelp) × (k ≢ kind.DisplayVersion))
+
+-- the mistake tells the first number beyond its limits exactly where there is one
+abbrev pub TellsFault : (SettingFault → Type 0) → Mistake → Type 0
+TellsFault IsFirst (mistake.Words text) = (f : SettingFault) → IsFirst f → ⊥
+TellsFault IsFirst (mistake.Setting f) = IsFirst f
+
+-- when each refusal comes: help and the version where clap shows them, and else only for words that ask for nothing, a number beyond its limits among it
+abbrev pub Refuses : List Text → Usage → Type 0
+Refuses words usage.Memory = ⊤
+Refuses words (usage.Help text) = IsAmong kind.DisplayHelp (fault_of crp (words_or_default words))
+    ⊎ IsAmong kind.DisplayVersion (fault_of crp (words_or_default words))
+Refuses words (usage.Wrong m) = ((j : Job) → WordsAsk words j → ⊥) × ShowsNothing (fault_of crp (words_or_default words))
+    × TellsFault (WordsHaveFault words) m
+
+-- why nothing of a kind comes of the rows of a command: there is none, and its first number beyond its limits is told
+abbrev pub Lacks : {X : Type 0} → (X → Type 0) → (SettingFault → Type 0) → Usage → Type 0
+Lacks Has IsFirst usage.Memory = ⊤
+Lacks Has IsFirst (usage.Help text) = ⊥
+Lacks {X} Has IsFirst (usage.Wrong m) = ((x : X) → Has x → ⊥) × TellsFault IsFirst m
+
+-- no number is beyond its limits
+abbrev pub NoFault : SettingFault → Type 0
+NoFault f = ⊥
+
+-- the fault is this one, and it is there
+abbrev pub IsJust : SettingFault → Type 0 → SettingFault → Type 0
+IsJust given there f = (f ≡ given) × there
+
+-- the refusal is by words, or for want of memory
+abbrev pub IsWordsOrMemory : Usage → Type 0
+IsWordsOrMemory usage.Memory = ⊤
+IsWordsOrMemory (usage.Help text) = ⊥
+IsWordsOrMemory (usage.Wrong (mistake.Words text)) = ⊤
+IsWordsOrMemory (usage.Wrong (mistake.Setting f)) = ⊥
+
+-- the refusal for an error of this kind
+abbrev pub ShowsKind : ErrorKind → Usage → Type 0
+ShowsKind k usage.Memory = ⊤
+ShowsKind k (usage.Help text) = (k ≡ kind.DisplayHelp) ⊎ (k ≡ kind.DisplayVersion)
+ShowsKind k (usage.Wrong (mistake.Words text)) = (k ≢ kind.OutOfMemory) × (k ≢ kind.DisplayHelp) × (k ≢ kind.DisplayVersion)
+ShowsKind k (usage.Wrong (mistake.Setting f)) = ⊥
+
+-- the exit status of a run whose words ask for nothing: 0 or 5 after help, 2 for wrong words, 4 for want of memory
+abbrev pub HasUsageStatus : Usage → ℕ → Type 0
+HasUsageStatus (usage.Help text) status = (status ≡ 0) ⊎ (status ≡ 5)
+HasUsageStatus (usage.Wrong m) status = status ≡ 2
+HasUsageStatus usage.Memory status = status ≡ 4

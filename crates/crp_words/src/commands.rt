@@ -1,0 +1,255 @@
+//! The command line: each command with its files and options.
+ghost use Rattle.std.specs.Prelude.{◌≡◌, IfOk};
+ghost use Rattle.clap.specs.Words.{App, Shape, app_of, with_subcommand};
+ghost use Rattle.crp_words.specs.Commands.{IsArg, IsCommand, alone, budget_rule, crp, file_rule, leaf as leaf_shape, leaves, number_rule, output_rule, prove as prove_shape, solve as solve_shape, solve_files as solve_files_shape, split_rule, text_rule, top_command as top_shape, with_orders, with_outputs, with_search, with_size, workers_rule};
+
+use clap::{Arg, Command, value_parser};
+use std::alloc::{AllocError, Global};
+
+// A file that has to be named.
+fn file<'a>(alloc: Global, name: &'a str, shown: &'a str, help: &'a str) -> Arg<'a>
+    ensures { IsArg (file_rule name.entry.now) result }
+{
+    Arg::new(alloc, name)
+        .required(true)
+        .value_name(shown)
+        .help(help)
+}
+
+// An option that takes a whole number.
+fn number<'a>(alloc: Global, name: &'a str, default: &'a str, help: &'a str) -> Arg<'a>
+    ensures { IsArg (number_rule name.entry.now default.entry.now) result }
+{
+    Arg::new(alloc, name)
+        .long(name)
+        .value_name("N")
+        .value_parser(value_parser!(u64))
+        .default_value(default)
+        .help(help)
+}
+
+// An option that takes a text.
+fn text<'a>(
+    alloc: Global,
+    name: &'a str,
+    shown: &'a str,
+    default: &'a str,
+    help: &'a str,
+) -> Arg<'a>
+    ensures { IsArg (text_rule name.entry.now default.entry.now) result }
+{
+    Arg::new(alloc, name)
+        .long(name)
+        .value_name(shown)
+        .default_value(default)
+        .help(help)
+}
+
+// An option that names a file to be written, which is written only where it is named.
+fn output<'a>(alloc: Global, name: &'a str, help: &'a str) -> Arg<'a>
+    ensures { IsArg (output_rule name.entry.now) result }
+{
+    Arg::new(alloc, name)
+        .long(name)
+        .value_name("FILE")
+        .help(help)
+}
+
+// A command that takes a file, and no option.
+fn leaf<'a>(
+    alloc: Global,
+    name: &'a str,
+    about: &'a str,
+    help: &'a str,
+) -> Result<Command<'a>, AllocError>
+    ensures { IfOk result (IsCommand (leaf_shape name.entry.now)) }
+{
+    Command::new(alloc, name)
+        .about(about)
+        .arg(file(alloc, "file", "FILE", help))
+}
+
+fn workers<'a>(alloc: Global) -> Arg<'a>
+    ensures { IsArg workers_rule result }
+{
+    number(
+        alloc,
+        "workers",
+        "1",
+        "Workers that search a bay together, 1 to 64",
+    )
+}
+
+fn split<'a>(alloc: Global) -> Arg<'a>
+    ensures { IsArg split_rule result }
+{
+    number(
+        alloc,
+        "split",
+        "2",
+        "Subtrees are given away above this depth, 0 to 8",
+    )
+}
+
+fn budget<'a>(alloc: Global) -> Arg<'a>
+    ensures { IsArg budget_rule result }
+{
+    number(
+        alloc,
+        "budget",
+        "1000000",
+        "Most expansions for a bay, 0 to 1099511627776",
+    )
+}
+
+// A command with the options of a search.
+fn with_search<'a>(alloc: Global, command: Command<'a>) -> Result<Command<'a>, AllocError>
+    ensures { IfOk result (λ new. (shape : Shape) → IsCommand shape command.entry → IsCommand (with_search shape) new) }
+{
+    command
+        .arg(workers(alloc))?
+        .arg(budget(alloc))?
+        .arg(split(alloc))
+}
+
+// The command `prove`.
+fn prove<'a>(alloc: Global) -> Result<Command<'a>, AllocError>
+    ensures { IfOk result (IsCommand prove_shape) }
+{
+    let command = leaf(
+        alloc,
+        "prove",
+        "Solve the problem of a certificate's head and print a certificate",
+        "Certificate, or - for the standard input",
+    )?;
+    with_search(alloc, command)
+}
+
+// The command `solve`, with its files, and without the options.
+fn solve_files<'a>(alloc: Global) -> Result<Command<'a>, AllocError>
+    ensures { IfOk result (IsCommand solve_files_shape) }
+{
+    Command::new(alloc, "solve")
+        .about("Print the plans of a yard's bays for the load orders of a message")
+        .arg(file(alloc, "yard", "YARD", "Yard list (CSV)"))?
+        .arg(file(alloc, "movins", "MOVINS", "Load orders (MOVINS)"))
+}
+
+// A command with the size of the bays.
+fn with_size<'a>(alloc: Global, command: Command<'a>) -> Result<Command<'a>, AllocError>
+    ensures { IfOk result (λ new. (shape : Shape) → IsCommand shape command.entry → IsCommand (with_size shape) new) }
+{
+    let rows = number(alloc, "rows", "6", "Rows of each bay, 1 to 12");
+    let tiers = number(alloc, "tiers", "5", "Tiers of each bay, 1 to 8");
+    command.arg(rows)?.arg(tiers)
+}
+
+// A command with the order of leaving, and what is to be loaded.
+fn with_orders<'a>(alloc: Global, command: Command<'a>) -> Result<Command<'a>, AllocError>
+    ensures { IfOk result (λ new. (shape : Shape) → IsCommand shape command.entry → IsCommand (with_orders shape) new) }
+{
+    let order = text(
+        alloc,
+        "order",
+        "ORDER",
+        "listed",
+        "Order of leaving: listed (as in the message) or stowage (lowest ship tier first)",
+    );
+    let code = text(
+        alloc,
+        "code",
+        "TEXT",
+        "LOA",
+        "Handling code of the containers to be loaded",
+    );
+    command.arg(order)?.arg(code)
+}
+
+// A command with the files that are written.
+fn with_outputs<'a>(alloc: Global, command: Command<'a>) -> Result<Command<'a>, AllocError>
+    ensures { IfOk result (λ new. (shape : Shape) → IsCommand shape command.entry → IsCommand (with_outputs shape) new) }
+{
+    let cert = output(
+        alloc,
+        "cert",
+        "File that gets the certificates; without it they are not written",
+    );
+    let after = output(
+        alloc,
+        "after",
+        "File that gets the yard after the plans; without it that is not written",
+    );
+    command.arg(cert)?.arg(after)
+}
+
+// The command `solve`.
+fn solve<'a>(alloc: Global) -> Result<Command<'a>, AllocError>
+    ensures { IfOk result (IsCommand solve_shape) }
+{
+    let sized = with_size(alloc, solve_files(alloc)?)?;
+    let ordered = with_orders(alloc, sized)?;
+    let searched = with_search(alloc, ordered)?;
+    with_outputs(alloc, searched)
+}
+
+// crp itself, without its commands.
+fn top<'a>(alloc: Global) -> Result<Command<'a>, AllocError>
+    ensures { IfOk result (λ c. app_of c ≡ alone top_shape) }
+{
+    let top = Command::new(alloc, "crp").bin_name("crp")?;
+    Ok(
+        top.version("0.1.0")
+            .no_binary_name(true)
+            .subcommand_required(true),
+    )
+}
+
+// A command line with one more command that takes a file, and no option.
+fn with_leaf<'a>(
+    alloc: Global,
+    line: Command<'a>,
+    name: &'a str,
+    about: &'a str,
+    help: &'a str,
+) -> Result<Command<'a>, AllocError>
+    ensures { IfOk result (λ new. (app : App) → app_of line.entry ≡ app → app_of new ≡ with_subcommand app (leaf_shape name.entry.now)) }
+{
+    line.subcommand(leaf(alloc, name, about, help)?)
+}
+
+// crp with the commands that take a file, and no option.
+fn with_leaves<'a>(alloc: Global) -> Result<Command<'a>, AllocError>
+    ensures { IfOk result (λ line. app_of line ≡ leaves) }
+{
+    let head = "Certificate, or - for the standard input";
+    let line = with_leaf(
+        alloc,
+        top(alloc)?,
+        "replay",
+        "Print the moves of a certificate's plan",
+        head,
+    )?;
+    let line = with_leaf(
+        alloc,
+        line,
+        "bound",
+        "Print two lower bounds on the relocations of a certificate's bay",
+        head,
+    )?;
+    with_leaf(
+        alloc,
+        line,
+        "check",
+        "Check a file of certificates",
+        "Certificates, or - for the standard input",
+    )
+}
+
+/// The whole command line.
+pub fn command_line<'a>(alloc: Global) -> Result<Command<'a>, AllocError>
+    ensures { IfOk result (λ c. app_of c ≡ crp) }
+{
+    with_leaves(alloc)?
+        .subcommand(prove(alloc)?)?
+        .subcommand(solve(alloc)?)
+}

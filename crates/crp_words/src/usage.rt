@@ -1,0 +1,42 @@
+//! Why the words of the command line ask for nothing.
+use thiserror::Error;
+
+/// Which number of the command line is the first beyond its limits.
+#[derive(Clone, Copy, Debug, Drop, PartialEq, Eq, Error)]
+pub enum SettingFault {
+    /// The workers are none or more than 64.
+    #[error("S1")]
+    Workers,
+    /// The budget is above 1099511627776.
+    #[error("S2")]
+    Budget,
+    /// The split is above 8.
+    #[error("S3")]
+    Split,
+    /// The rows are none or more than 12.
+    #[error("S5")]
+    Rows,
+    /// The tiers are none or more than 8.
+    #[error("S6")]
+    Tiers,
+}
+
+/// What is wrong with the words.
+#[derive(Drop)]
+pub enum Mistake {
+    /// They are no command with its files and options, with the text for the user.
+    Words(String),
+    /// A number is beyond its limits.
+    Setting(SettingFault),
+}
+
+/// Why the words ask for nothing that can be done.
+#[derive(Drop)]
+pub enum Usage {
+    /// Help or the version was asked for, with the text for the user.
+    Help(String),
+    /// The words are wrong.
+    Wrong(Mistake),
+    /// No memory is left.
+    Memory,
+}

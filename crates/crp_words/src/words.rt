@@ -1,0 +1,250 @@
+//! What the words of the command line ask for.
+ghost use Rattle.std.specs.Prelude.{◌≡◌, ◌≢◌, ℕ, IfOk, IfErr, IfSome, IfNone, map, codes};
+ghost use Rattle.clap.specs.Words.{found_of, kind_of, rows_of};
+ghost use Rattle.crp_words.specs.Words.{Asks, HasNumber, HasNumberBeyond, HasNumberWithin, HasOrder, HasSearch, HasSettings, HasText, IsFault, IsJust, IsSearchFault, IsSolveFault, IsWordsOrMemory, Lacks, NoFault, Refuses, ShowsKind, WordsAsk, words_or_default};
+
+use crate::commands::command_line;
+use crate::usage::{Mistake, SettingFault, Usage};
+use clap::error::ErrorKind;
+use clap::{ArgMatches, Error};
+use crp_commands::{Job, SolveSettings};
+use crp_order::Mode;
+use crp_solve::{MAX_BUDGET, MAX_SPLIT, MAX_WORKERS, Settings};
+use std::alloc::Global;
+
+static NO_WORDS: [&str; 2] = ["replay", "-"];
+
+// The most workers of a search.
+const MOST_WORKERS: u64 = MAX_WORKERS as u64;
+
+// The most rows of a path at which subtrees are given away.
+const MOST_SPLIT: u64 = MAX_SPLIT as u64;
+
+// The most rows of a bay.
+const MOST_ROWS: u64 = 12;
+
+// The most tiers of a bay.
+const MOST_TIERS: u64 = 8;
+
+// The refusal of words that are no command with its files and options.
+fn wrong(alloc: Global, text: &str) -> Usage
+    ensures { IsWordsOrMemory result }
+{
+    match String::from_str(alloc, text) {
+        Ok(text) => Usage::Wrong(Mistake::Words(text)),
+        Err(_) => Usage::Memory,
+    }
+}
+
+// The text of a file or an option.
+fn text_of<'a>(alloc: Global, matches: &ArgMatches<'a>, name: &str) -> Result<&'a str, Usage>
+    ensures ok { IfOk result (λ text. HasText name.now (rows_of (found_of matches.now)) text.now) }
+    ensures err { IfErr result (Lacks (HasText name.now (rows_of (found_of matches.now))) NoFault) }
+{
+    match matches.get_str(name) {
+        Some(text) => Ok(text),
+        None => Err(wrong(alloc, "error: these words ask for nothing\n")),
+    }
+}
+
+// The whole number of an option.
+fn number_of(matches: &ArgMatches<'_>, name: &str) -> Option<u64>
+    ensures some { IfSome result (HasNumber name.now (rows_of (found_of matches.now))) }
+    ensures none { IfNone result ((n : ℕ) → HasNumber name.now (rows_of (found_of matches.now)) n → ⊥) }
+{
+    matches.get_one::<u64>(name)
+}
+
+// The whole number of an option, within its limits.
+fn number_within(
+    alloc: Global,
+    matches: &ArgMatches<'_>,
+    name: &str,
+    limits: (u64, u64),
+    fault: SettingFault,
+) -> Result<u64, Usage>
+    ensures ok { IfOk result (HasNumberWithin name.now limits.0 limits.1 (rows_of (found_of matches.now))) }
+    ensures err { IfErr result (Lacks (HasNumberWithin name.now limits.0 limits.1 (rows_of (found_of matches.now))) (IsJust fault (HasNumberBeyond name.now limits.0 limits.1 (rows_of (found_of matches.now))))) }
+{
+    let Some(number) = number_of(matches, name) else {
+        return Err(wrong(alloc, "error: a number is not given\n"));
+    };
+    if number < limits.0 || number > limits.1 {
+        return Err(Usage::Wrong(Mistake::Setting(fault)));
+    }
+    Ok(number)
+}
+
+fn order_of(alloc: Global, matches: &ArgMatches<'_>) -> Result<Mode, Usage>
+    ensures ok { IfOk result (HasOrder (rows_of (found_of matches.now))) }
+    ensures err { IfErr result (Lacks (HasOrder (rows_of (found_of matches.now))) NoFault) }
+{
+    let word = text_of(alloc, matches, "order")?;
+    if word == "listed" {
+        return Ok(Mode::Listed);
+    }
+    if word == "stowage" {
+        return Ok(Mode::Stowage);
+    }
+    Err(wrong(alloc, "error: the order is 'listed' or 'stowage'\n"))
+}
+
+// The settings of a search.
+fn search_of(alloc: Global, matches: &ArgMatches<'_>) -> Result<Settings, Usage>
+    ensures ok { IfOk result (HasSearch (rows_of (found_of matches.now))) }
+    ensures err { IfErr result (Lacks (HasSearch (rows_of (found_of matches.now))) (IsSearchFault (rows_of (found_of matches.now)))) }
+{
+    let workers = number_within(
+        alloc,
+        matches,
+        "workers",
+        (1, MOST_WORKERS),
+        SettingFault::Workers,
+    )?;
+    let budget = number_within(
+        alloc,
+        matches,
+        "budget",
+        (0, MAX_BUDGET),
+        SettingFault::Budget,
+    )?;
+    let split = number_within(
+        alloc,
+        matches,
+        "split",
+        (0, MOST_SPLIT),
+        SettingFault::Split,
+    )?;
+    match Settings::new(workers as u32, budget, split as u8) {
+        Ok(search) => Ok(search),
+        Err(_) => unreachable!(),
+    }
+}
+
+// The settings of `solve`.
+fn settings_of<'a>(alloc: Global, matches: &ArgMatches<'a>) -> Result<SolveSettings<'a>, Usage>
+    ensures ok { IfOk result (HasSettings (rows_of (found_of matches.now))) }
+    ensures err { IfErr result (Lacks (HasSettings (rows_of (found_of matches.now))) (IsSolveFault (rows_of (found_of matches.now)))) }
+{
+    let search = search_of(alloc, matches)?;
+    let rows = number_within(alloc, matches, "rows", (1, MOST_ROWS), SettingFault::Rows)?;
+    let tiers = number_within(
+        alloc,
+        matches,
+        "tiers",
+        (1, MOST_TIERS),
+        SettingFault::Tiers,
+    )?;
+    let order = order_of(alloc, matches)?;
+    let code = text_of(alloc, matches, "code")?;
+    Ok(SolveSettings {
+        search,
+        rows: rows as u8,
+        tiers: tiers as u8,
+        order,
+        code,
+    })
+}
+
+// What `prove` and its matches ask for.
+fn prove_of<'a>(alloc: Global, matches: &ArgMatches<'a>) -> Result<Job<'a>, Usage>
+    ensures ok { IfOk result (Asks (codes "prove") (rows_of (found_of matches.now))) }
+    ensures err { IfErr result (Lacks (Asks (codes "prove") (rows_of (found_of matches.now))) (IsFault (codes "prove") (rows_of (found_of matches.now)))) }
+{
+    let search = search_of(alloc, matches)?;
+    let file = text_of(alloc, matches, "file")?;
+    Ok(Job::Prove { file, search })
+}
+
+// What `solve` and its matches ask for.
+fn solve_of<'a>(alloc: Global, matches: &ArgMatches<'a>) -> Result<Job<'a>, Usage>
+    ensures ok { IfOk result (Asks (codes "solve") (rows_of (found_of matches.now))) }
+    ensures err { IfErr result (Lacks (Asks (codes "solve") (rows_of (found_of matches.now))) (IsFault (codes "solve") (rows_of (found_of matches.now)))) }
+{
+    let settings = settings_of(alloc, matches)?;
+    let yard = text_of(alloc, matches, "yard")?;
+    let movins = text_of(alloc, matches, "movins")?;
+    Ok(Job::Solve {
+        yard,
+        movins,
+        cert: matches.get_str("cert"),
+        after: matches.get_str("after"),
+        settings,
+    })
+}
+
+// What a command without options and its matches ask for.
+fn leaf_of<'a>(alloc: Global, name: &str, matches: &ArgMatches<'a>) -> Result<Job<'a>, Usage>
+    requires { (name.now ≢ codes "prove") × (name.now ≢ codes "solve") }
+    ensures ok { IfOk result (Asks name.now (rows_of (found_of matches.now))) }
+    ensures err { IfErr result (Lacks (Asks name.now (rows_of (found_of matches.now))) (IsFault name.now (rows_of (found_of matches.now)))) }
+{
+    let file = text_of(alloc, matches, "file")?;
+    if name == "replay" {
+        return Ok(Job::Replay(file));
+    }
+    if name == "bound" {
+        return Ok(Job::Bound(file));
+    }
+    if name == "check" {
+        return Ok(Job::Check(file));
+    }
+    Err(wrong(alloc, "error: there is no such command\n"))
+}
+
+// What a command and its matches ask for.
+fn job_of<'a>(alloc: Global, name: &str, matches: &ArgMatches<'a>) -> Result<Job<'a>, Usage>
+    ensures ok { IfOk result (Asks name.now (rows_of (found_of matches.now))) }
+    ensures err { IfErr result (Lacks (Asks name.now (rows_of (found_of matches.now))) (IsFault name.now (rows_of (found_of matches.now)))) }
+{
+    if name == "prove" {
+        return prove_of(alloc, matches);
+    }
+    if name == "solve" {
+        return solve_of(alloc, matches);
+    }
+    leaf_of(alloc, name, matches)
+}
+
+// The text of a refusal of clap's.
+fn usage_of(alloc: Global, error: &Error) -> Usage
+    ensures { ShowsKind (kind_of error.now) result }
+{
+    let Ok(text) = error.to_string(alloc) else {
+        return Usage::Memory;
+    };
+    match error.kind() {
+        ErrorKind::OutOfMemory => Usage::Memory,
+        ErrorKind::DisplayHelp | ErrorKind::DisplayVersion => Usage::Help(text),
+        _ => Usage::Wrong(Mistake::Words(text)),
+    }
+}
+
+// The words, or a replay of the standard input where there are none.
+fn or_default<'a>(words: &'a [&'a str]) -> &'a [&'a str]
+    ensures { map (λ w. w.now) result.now ≡ words_or_default (map (λ w. w.now) words.entry.now) }
+{
+    if words.is_empty() {
+        NO_WORDS.as_slice()
+    } else {
+        words
+    }
+}
+
+/// What the words after the program's name ask for, as clap's matches of them give it.
+pub fn job<'a>(alloc: Global, words: &'a [&'a str]) -> Result<Job<'a>, Usage>
+    ensures asked { IfOk result (WordsAsk (map (λ w. w.now) words.entry.now)) }
+    ensures refused { IfErr result (Refuses (map (λ w. w.now) words.entry.now)) }
+{
+    let words = or_default(words);
+    let Ok(command) = command_line(alloc) else {
+        return Err(Usage::Memory);
+    };
+    match command.try_get_matches_from(words) {
+        Ok(matches) => match matches.subcommand() {
+            Some((name, inner)) => job_of(alloc, name, inner),
+            None => Err(wrong(alloc, "error: there is no command\n")),
+        },
+        Err(error) => Err(usage_of(alloc, &error)),
+    }
+}
