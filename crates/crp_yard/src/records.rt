@@ -4,14 +4,14 @@ ghost use Rattle.std.specs.Prelude.{◌≡◌, ◌⊎◌, ◌<◌, ◌≤◌, �
 ghost use Rattle.csv.specs.Records.{fields_of};
 ghost use Rattle.crp_yard.specs.Records.{records_of, place_named, field_of, entries_of};
 ghost use Rattle.crp_yard.specs.Faults.{max_containers, is_taken, is_named, fault_of, fault_behind, first_fault_up_to, first_fault};
-ghost use Rattle.crp_yard.specs.Listings.{entries_behind};
+ghost use Rattle.crp_yard.specs.Listings.{IsAtStart, entries_behind};
 ghost use Rattle.crp_yard.specs.declared.fault.YardFault.TheVariants.{Memory};
 
 use crate::fault::YardFault;
 use crate::fields::{field, has_numbers, is_header, is_well_formed, is_within, place_of};
 use crate::listing::Listing;
 use crate::place::Place;
-use csv::{ByteRecord, ReaderBuilder};
+use csv::{ByteRecord, ByteRecordsIntoIter, ReaderBuilder};
 use std::alloc::Global;
 
 /// More containers are not read.
@@ -88,6 +88,17 @@ fn take(
     Ok(())
 }
 
+/// The records of a text, as csv reads them in turn. Its header row is one of them, and they may differ in length.
+fn rows_of<'a>(alloc: Global, text: &'a [u8]) -> ByteRecordsIntoIter<&'a [u8]>
+    ensures { IsAtStart text.entry.now result }
+{
+    let reader = ReaderBuilder::new()
+        .has_headers(false)
+        .flexible(true)
+        .from_reader(alloc, text);
+    reader.into_byte_records()
+}
+
 /// What the records of a text say, where none is faulty but by floating.
 pub(crate) fn listing_of(alloc: Global, text: &[u8], size: Size) -> Result<Listing, YardFault>
     ensures faultless { OnOk result (first_fault_up_to size.rows size.tiers (records_of text.now) (max 1 (length (records_of text.now))) ≡ None) }
@@ -95,13 +106,9 @@ pub(crate) fn listing_of(alloc: Global, text: &[u8], size: Size) -> Result<Listi
     ensures refused { IfErr result (λ fault. (fault ≡ Memory)
         ⊎ (first_fault size.rows size.tiers (records_of text.now) ≡ Some fault)) }
 {
-    let reader = ReaderBuilder::new()
-        .has_headers(false)
-        .flexible(true)
-        .from_reader(alloc, text);
     let mut listing = Listing::new(alloc);
     let mut number = 0;
-    for row in reader.into_byte_records() {
+    for row in rows_of(alloc, text) {
         let Ok(fields) = row else {
             return Err(YardFault::Memory);
         };

@@ -14,23 +14,19 @@ use Rattle.crp_yard.proofs.records.listing_of.Goals as goal
 pub loop-row-init : goal.loop-row-init
 unfolding Reached
 loop-row-init c =
-    let fr = c.from_reader-reader.ensures in
-    let h = c.has_headers.ensures in
-    let e = c.flexible.ensures in
+    let at = c.rows_of-row-items.ensures in
     let start = c.into_iter-row-iterator.ensures.into_iter_gives ∙ refl in
-    let rdr = c.into_byte_records-row-items.ensures.rdr in
-    let left = c.into_byte_records-row-items.ensures.left in
-    rw (start, rdr, c.new-listing.ensures) (
-      rw (e, h) at fr.trim ∙ c.new.ensures.trim,
-      inr (inr (rw (e, h) at fr.has_headers, fr.headers)),
-      left,
-      rw (e, h) at fr.config ∙ c.new.ensures.config,
-      rw e at fr.flexible,
+    rw (start, c.new-listing.ensures) (
+      at.trim,
+      at.ready,
+      at.left,
+      at.config,
+      at.flexible,
       omega arith,
       strip_bom c.args.text.now,
-      fr.source,
+      at.source,
       [],
-      (sym fr.state, refl),
+      (sym at.state, refl),
       read-none c.args.size.rows c.args.size.tiers,
     )
 
