@@ -5,6 +5,7 @@ mod heads;
 mod told;
 mod writing;
 
+use crate::compare::{assert_same, assert_same_at};
 use crp_cert::{CertFault, Head, Rows};
 use crp_plan::{BayName, Problem};
 use std::alloc::{AllocError, Global};
@@ -117,19 +118,19 @@ fn plan_of(plan: &Option<Rows>) -> Option<&[u8]> {
 }
 
 fn assert_stacks(rt: &impl Abort, problem: &Problem, stacks: &[&[u8]]) {
-    assert_eq!(rt; rows_in(problem), stacks.len());
+    assert_same(rt, &rows_in(problem), &stacks.len());
     for (row, stack) in stacks.iter().enumerate() {
-        assert_eq!(rt; stack_of(problem, row), *stack, "row {row}");
+        assert_same_at(rt, &stack_of(problem, row), stack, &row);
     }
 }
 
 fn assert_head(rt: &impl Abort, head: &Head, said: &Said) {
-    assert_eq!(rt; block_of(&head.bay), said.block);
-    assert_eq!(rt; number_of(&head.bay), said.bay);
-    assert_eq!(rt; size_of(&head.problem), said.size);
+    assert_same(rt, &block_of(&head.bay), &said.block);
+    assert_same(rt, &number_of(&head.bay), &said.bay);
+    assert_same(rt, &size_of(&head.problem), &said.size);
     assert_stacks(rt, &head.problem, said.stacks);
-    assert_eq!(rt; head.claim, said.claim);
-    assert_eq!(rt; plan_of(&head.plan), said.plan);
+    assert_same(rt, &head.claim, &said.claim);
+    assert_same(rt, &plan_of(&head.plan), &said.plan);
 }
 
 fn assert_fault(
@@ -138,7 +139,7 @@ fn assert_fault(
     expected: Option<CertFault>,
     text: &[u8],
 ) {
-    assert_eq!(rt; fault, expected, "{text:?}");
+    assert_same_at(rt, &fault, &expected, &text);
 }
 
 fn assert_text(
@@ -147,7 +148,7 @@ fn assert_text(
     expected: &str,
 ) -> Result<(), AllocError> {
     let text = format!(in rt.alloc(); "{fault}")?;
-    assert_eq!(rt; text.as_str(), expected);
+    assert_same(rt, &text.as_str(), &expected);
     Ok(())
 }
 

@@ -1,5 +1,6 @@
-use crp_cert::read_head;
-use crp_checker::{Path, Refused, Verdict, check, check_file, check_for};
+use crate::calls::{check, check_file, check_for, read_head};
+use crate::compare::{assert_at, assert_same, assert_same_at};
+use crp_checker::{Path, Refused, Verdict};
 use crp_plan::{BayName, Problem};
 use std::alloc::{AllocError, Global};
 use std::cmp::Ordering;
@@ -29,7 +30,7 @@ fn six(alloc: Global, lines: &str) -> Result<String, AllocError> {
 
 fn shows(rt: &(impl Abort + AllocGlobal), text: &str, verdict: Verdict) {
     let shown = check(rt.alloc(), text.as_bytes()).expect(rt, "an accepted certificate");
-    assert_eq!(rt; shown, verdict, "{text}");
+    assert_same_at(rt, &shown, &verdict, &text);
 }
 
 fn told(alloc: Global, refused: &Refused) -> Result<String, AllocError> {
@@ -39,7 +40,7 @@ fn told(alloc: Global, refused: &Refused) -> Result<String, AllocError> {
 fn refuses(rt: &(impl Abort + AllocGlobal), text: &str, fault: &str) -> Result<(), AllocError> {
     let refused = check(rt.alloc(), text.as_bytes()).expect_err(rt, "a refused certificate");
     let shown = told(rt.alloc(), &refused)?;
-    assert_eq!(rt; shown.as_str(), fault, "{text}");
+    assert_same_at(rt, &shown.as_str(), &fault, &text);
     Ok(())
 }
 
@@ -283,7 +284,7 @@ fn other_refused_certificates(rt: HostRuntime) -> Result<(), Fail> {
 fn shows_for(rt: &(impl Abort + AllocGlobal), head: &str, text: &str, verdict: Verdict) {
     let problem = problem_of(rt, head);
     let shown = check_for(rt.alloc(), &problem, text.as_bytes()).expect(rt, "its problem");
-    assert_eq!(rt; shown, verdict, "{text}");
+    assert_same_at(rt, &shown, &verdict, &text);
 }
 
 /// The certificate is refused with this fault for the problem of that text's head.
@@ -295,7 +296,7 @@ fn refuses_for(
 ) -> Result<(), AllocError> {
     let problem = problem_of(rt, head);
     let refused = check_for(rt.alloc(), &problem, text.as_bytes()).expect_err(rt, "refused");
-    assert_eq!(rt; told(rt.alloc(), &refused)?.as_str(), fault, "{head}");
+    assert_same_at(rt, &told(rt.alloc(), &refused)?.as_str(), &fault, &head);
     Ok(())
 }
 
@@ -332,7 +333,7 @@ fn certificates_for_problems_that_differ_little(rt: HostRuntime) -> Result<(), F
 fn is_cut(rt: &(impl Abort + AllocGlobal), cut: &[u8]) {
     let length = cut.len();
     let refused = check(rt.alloc(), cut).expect_err(rt, "a cut certificate");
-    assert!(rt; matches!(&refused, Refused::Cert(_)), "{length}");
+    assert_at(rt, matches!(&refused, Refused::Cert(_)), &length);
 }
 
 #[test]
@@ -345,14 +346,14 @@ fn a_certificate_cut_anywhere_has_a_fault_of_its_text(rt: HostRuntime) -> Result
 }
 
 fn verdict_is(rt: &impl Abort, shown: &(BayName, Verdict), verdict: Verdict) {
-    assert_eq!(rt; shown.0.block(), b"A".as_slice());
-    assert_eq!(rt; shown.0.bay(), 1);
-    assert_eq!(rt; shown.1, verdict);
+    assert_same(rt, &shown.0.block(), &b"A".as_slice());
+    assert_same(rt, &shown.0.bay(), &1);
+    assert_same(rt, &shown.1, &verdict);
 }
 
 /// What is shown is of bays A 1, and this.
 fn verdicts_are(rt: &impl Abort, shown: &[(BayName, Verdict)], verdicts: &[Verdict]) {
-    assert_eq!(rt; shown.len(), verdicts.len());
+    assert_same(rt, &shown.len(), &verdicts.len());
     for (one, verdict) in shown.iter().zip(verdicts) {
         verdict_is(rt, one, *verdict);
     }
@@ -382,8 +383,8 @@ fn second_refused(
     let file = format!(in rt.alloc(); "{SIX}{rest}")?;
     let refused = check_file(rt.alloc(), file.as_bytes()).expect_err(rt, "a refused one");
     let text = format!(in rt.alloc(); "{refused}")?;
-    assert_eq!(rt; text.as_str(), fault, "{rest}");
-    assert_eq!(rt; refused.number, 2, "{rest}");
+    assert_same_at(rt, &text.as_str(), &fault, &rest);
+    assert_same_at(rt, &refused.number, &2, &rest);
     verdicts_are(rt, refused.before.as_slice(), &[Verdict::Optimal(3)]);
     Ok(())
 }
@@ -409,8 +410,8 @@ fn files_with_a_refused_certificate(rt: HostRuntime) -> Result<(), Fail> {
 fn path_is(rt: &(impl Abort + AllocGlobal), rows: &[u8], text: &str) -> Result<(), AllocError> {
     let path = Path::from_rows(rt.alloc(), rows)?;
     let shown = format!(in rt.alloc(); "{path}")?;
-    assert_eq!(rt; shown.as_str(), text);
-    assert_eq!(rt; path.rows(), rows, "{text}");
+    assert_same(rt, &shown.as_str(), &text);
+    assert_same_at(rt, &path.rows(), &rows, &text);
     Ok(())
 }
 
@@ -442,8 +443,8 @@ fn paths_stand_row_by_row_and_a_front_first(rt: HostRuntime) -> Result<(), Fail>
     for (i, first) in rows.iter().enumerate() {
         for (j, second) in rows.iter().enumerate() {
             let (order, equal) = compared(rt.alloc(), first, second)?;
-            assert_eq!(rt; order, i.cmp(&j), "{i} and {j}");
-            assert_eq!(rt; equal, i == j, "{i} and {j}");
+            assert_same_at(&rt, &order, &i.cmp(&j), &(i, j));
+            assert_same_at(&rt, &equal, &(i == j), &(i, j));
         }
     }
     Ok(())

@@ -1,4 +1,6 @@
-use edi_text::{EdiFault, MAX_TEXT, Segment, read_segments};
+use crate::calls::read_segments;
+use crate::compare::{assert_at, assert_same, assert_same_at};
+use edi_text::{EdiFault, MAX_TEXT, Segment};
 use std::alloc::Global;
 use std::test::Fail;
 
@@ -85,12 +87,7 @@ fn reads_a_whole_interchange(rt: HostRuntime) -> Result<(), Fail> {
         },
     ];
     for row in &table {
-        assert!(rt;
-            is_spelled(rt.alloc(), row)?,
-            "{:?} of {:?}",
-            row.tag,
-            row.text
-        );
+        assert_at(&rt, is_spelled(rt.alloc(), row)?, &(row.tag, row.text));
     }
     assert!(rt; lacks(rt.alloc(), SIX_LOAD_ORDERS, 0)?);
     assert!(rt; lacks(rt.alloc(), SIX_LOAD_ORDERS, 19)?);
@@ -135,12 +132,7 @@ fn release_takes_the_next_character(rt: HostRuntime) -> Result<(), Fail> {
         },
     ];
     for row in &table {
-        assert!(rt;
-            is_spelled(rt.alloc(), row)?,
-            "{:?} of {:?}",
-            row.tag,
-            row.text
-        );
+        assert_at(&rt, is_spelled(rt.alloc(), row)?, &(row.tag, row.text));
     }
     Ok(())
 }
@@ -181,7 +173,7 @@ fn tells_the_first_fault(rt: HostRuntime) {
         (b"UNB'UNB:1'", EdiFault::Tag { offset: 4 }),
     ];
     for (text, want) in faults {
-        assert_eq!(rt; first_fault(rt.alloc(), text), Some(want), "{text:?}");
+        assert_same_at(&rt, &first_fault(rt.alloc(), text), &Some(want), &text);
     }
 }
 
@@ -207,12 +199,7 @@ fn own_service_characters(rt: HostRuntime) -> Result<(), Fail> {
         },
     ];
     for row in &table {
-        assert!(rt;
-            is_spelled(rt.alloc(), row)?,
-            "{:?} of {:?}",
-            row.tag,
-            row.text
-        );
+        assert_at(&rt, is_spelled(rt.alloc(), row)?, &(row.tag, row.text));
     }
     Ok(())
 }
@@ -223,17 +210,17 @@ fn cut_text_is_unfinished(rt: HostRuntime) {
     let offset = SIX_LOAD_ORDERS.len() - 2;
     let cut = &SIX_LOAD_ORDERS[..offset];
     let fault = EdiFault::Unfinished { offset };
-    assert_eq!(rt; first_fault(rt.alloc(), cut), Some(fault));
+    assert_same(&rt, &first_fault(rt.alloc(), cut), &Some(fault));
 }
 
 #[test]
 fn reads_no_longer_text(rt: HostRuntime) -> Result<(), Fail> {
     let mut text = vec![in rt.alloc(); b'A'; MAX_TEXT]?;
     let fault = EdiFault::Unfinished { offset: MAX_TEXT };
-    assert_eq!(rt; first_fault(rt.alloc(), &text), Some(fault));
+    assert_same(&rt, &first_fault(rt.alloc(), &text), &Some(fault));
     text.push(b'A')?;
     let fault = EdiFault::TooLong { offset: MAX_TEXT };
-    assert_eq!(rt; first_fault(rt.alloc(), &text), Some(fault));
+    assert_same(&rt, &first_fault(rt.alloc(), &text), &Some(fault));
     Ok(())
 }
 
@@ -253,7 +240,7 @@ fn faults_show_their_code(rt: HostRuntime) -> Result<(), Fail> {
         (EdiFault::Memory, "no memory is left"),
     ];
     for (fault, want) in texts {
-        assert_eq!(rt; format!(in rt.alloc(); "{fault}")?.as_str(), want);
+        assert_same(&rt, &format!(in rt.alloc(); "{fault}")?.as_str(), &want);
     }
     Ok(())
 }

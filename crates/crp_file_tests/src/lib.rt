@@ -2,9 +2,13 @@
 #![tactic(auto)]
 
 #[cfg(test)]
+mod calls;
+#[cfg(test)]
 mod cert;
 #[cfg(test)]
 mod checker;
+#[cfg(test)]
+mod compare;
 #[cfg(test)]
 mod edi;
 #[cfg(test)]

@@ -1,8 +1,10 @@
 mod damage;
 mod faults;
 
-use crp_movins::{MovinsFault, Orders, Slot, load_orders};
-use edi_text::{EdiFault, read_segments};
+use crate::calls::{load_orders, read_segments};
+use crate::compare::{assert_same, assert_same_at};
+use crp_movins::{MovinsFault, Orders, Slot};
+use edi_text::EdiFault;
 use std::alloc::{AllocError, Global};
 use std::test::Fail;
 
@@ -88,8 +90,8 @@ fn six_containers_by_place(rt: HostRuntime) -> Result<(), Fail> {
     let alloc = rt.alloc();
     let text = six_load_orders(alloc)?;
     let orders = orders_of(alloc, &text, b"LOA")??;
-    assert_eq!(rt; orders.vacant(), 0);
-    assert_eq!(rt; orders.list().len(), 6);
+    assert_same(&rt, &orders.vacant(), &0);
+    assert_same(&rt, &orders.list().len(), &6);
     let want: [(&[u8], u8); 6] = [
         (b"C1", 82),
         (b"C2", 84),
@@ -99,16 +101,16 @@ fn six_containers_by_place(rt: HostRuntime) -> Result<(), Fail> {
         (b"C6", 92),
     ];
     for (order, (container, tier)) in orders.list().iter().zip(want) {
-        assert_eq!(rt; order.container.bytes(), container);
+        assert_same(&rt, &order.container.bytes(), &container);
         let slot = Slot {
             bay: 1,
             row: 1,
             tier,
         };
-        assert_eq!(rt; order.slot, slot);
+        assert_same(&rt, &order.slot, &slot);
     }
     let list = orders.into_list();
-    assert_eq!(rt; list.len(), 6);
+    assert_same(&rt, &list.len(), &6);
     Ok(())
 }
 
@@ -153,7 +155,7 @@ fn slots_have_six_or_seven_digits(rt: HostRuntime) -> Result<(), Fail> {
         let text = with_body(alloc, &[MESSAGE, LOADING, place, b"EQD+CN+A'UNT+5+1'", END])?;
         let orders = orders_of(alloc, &text, b"LOA")??;
         let slot = orders.list().first().map(|order| order.slot);
-        assert_eq!(rt; slot, Some(want));
+        assert_same(&rt, &slot, &Some(want));
     }
     for place in [
         b"LOC+147+00182'".as_slice(),
@@ -167,9 +169,10 @@ fn slots_have_six_or_seven_digits(rt: HostRuntime) -> Result<(), Fail> {
                 HEADER, MESSAGE, BEGIN, LOADING, place, FIVE, LAST, TRAILER, END,
             ],
         )?;
-        assert_eq!(rt;
-            fault_of(alloc, &text)?,
-            Some(MovinsFault::SlotNumber { segment: 5 })
+        assert_same(
+            &rt,
+            &fault_of(alloc, &text)?,
+            &Some(MovinsFault::SlotNumber { segment: 5 }),
         );
     }
     Ok(())
@@ -189,8 +192,8 @@ fn line_ends_do_not_matter(rt: HostRuntime) -> Result<(), Fail> {
             both.push(*byte)?;
         }
     }
-    assert_eq!(rt; counts_of(alloc, &bare, b"LOA")?, (6, 0));
-    assert_eq!(rt; counts_of(alloc, &both, b"LOA")?, (6, 0));
+    assert_same(&rt, &counts_of(alloc, &bare, b"LOA")?, &(6, 0));
+    assert_same(&rt, &counts_of(alloc, &both, b"LOA")?, &(6, 0));
     Ok(())
 }
 
@@ -315,7 +318,7 @@ fn groups_open_and_close(rt: HostRuntime) -> Result<(), Fail> {
     ];
     for (body, want) in cases {
         let text = with_body(alloc, body)?;
-        assert_eq!(rt; counts_of(alloc, &text, b"LOA")?, want, "{want:?}");
+        assert_same_at(&rt, &counts_of(alloc, &text, b"LOA")?, &want, &want);
     }
     Ok(())
 }
@@ -337,7 +340,7 @@ fn the_code_is_compared_as_bytes(rt: HostRuntime) -> Result<(), Fail> {
             alloc,
             &[MESSAGE, handling, FIRST, b"EQD+CN+C1'UNT+5+1'", END],
         )?;
-        assert_eq!(rt; counts_of(alloc, &text, code)?, want, "{handling:?}");
+        assert_same_at(&rt, &counts_of(alloc, &text, code)?, &want, &handling);
     }
     Ok(())
 }

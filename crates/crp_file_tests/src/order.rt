@@ -1,11 +1,12 @@
 //! What no contract says: worked slots, sequences and bays.
 mod full_bays;
 
-use crp_movins::{Orders, Slot, load_orders};
-use crp_order::{BayProblem, Mode, Sequence, absent, beneath, problems, sequence};
+use crate::calls::{absent, load_orders, problems, read_segments, sequence, yard_of};
+use crate::compare::{assert_same, assert_same_at};
+use crp_movins::{Orders, Slot};
+use crp_order::{BayProblem, Mode, Sequence, beneath};
 use crp_plan::Problem;
-use crp_yard::{Container, Yard, yard_of};
-use edi_text::read_segments;
+use crp_yard::{Container, Yard};
 use std::alloc::{AllocError, Global};
 use std::test::Fail;
 
@@ -201,7 +202,7 @@ fn slots_beneath_slots(rt: HostRuntime) {
         (slot(1, 2, 82), slot(1, 1, 84), false),
     ];
     for (a, b, want) in &cases {
-        assert_eq!(rt; is_beneath(a, b), *want, "{a:?} {b:?}");
+        assert_same_at(&rt, &is_beneath(a, b), want, &(a, b));
     }
 }
 
@@ -311,7 +312,7 @@ fn what_is_beneath_comes_first(rt: HostRuntime) -> Result<(), Fail> {
     let alloc = rt.alloc();
     let orders = b"LOC+147+0020184'EQD+CN+X'\nLOC+147+0010182'EQD+CN+Y'\n";
     let found = second_beneath_first(alloc, orders, b"UNT+7+1'")?;
-    assert_eq!(rt; found, (true, false));
+    assert_same(&rt, &found, &(true, false));
     let stowed = sequence_of(alloc, orders, b"UNT+7+1'", Mode::Stowage)?;
     assert!(rt; is_named(&stowed, &[b"Y", b"X"]));
     Ok(())
@@ -402,8 +403,8 @@ fn one_of_them_is_not_in_the_yard(rt: HostRuntime) -> Result<(), Fail> {
         trailer: b"UNT+17+1'",
         mode: Mode::Listed,
     };
-    assert_eq!(rt; ordered(rt.alloc(), &input)?, 7);
+    assert_same(&rt, &ordered(rt.alloc(), &input)?, &7);
     let (absent, _problems) = stated(rt.alloc(), &input)?;
-    assert_eq!(rt; absent, 1);
+    assert_same(&rt, &absent, &1);
     Ok(())
 }

@@ -5,7 +5,9 @@ mod faults;
 mod lists;
 mod sizes;
 
-use crp_yard::{Yard, YardFault, yard_of, yard_text};
+use crate::calls::{yard_of, yard_text};
+use crate::compare::assert_same;
+use crp_yard::{Yard, YardFault};
 use std::alloc::{AllocError, Global};
 use std::test::Fail;
 
@@ -71,7 +73,7 @@ fn written(alloc: Global, text: &[u8]) -> Result<Vec<u8>, Fail> {
 fn six_containers_in_one_bay(rt: HostRuntime) -> Result<(), Fail> {
     let alloc = rt.alloc();
     let yard = yard_of(alloc, SIX, 3, 3)?;
-    assert_eq!(rt; (yard.rows(), yard.tiers(), yard.count()), (3, 3, 1));
+    assert_same(&rt, &(yard.rows(), yard.tiers(), yard.count()), &(3, 3, 1));
     assert!(rt; yard.count() == 1);
     let name = yard.name(0);
     assert!(rt; name.block() == b"A".as_slice() && name.bay() == 1);
@@ -79,7 +81,7 @@ fn six_containers_in_one_bay(rt: HostRuntime) -> Result<(), Fail> {
     assert!(rt; stands(&yard, 0, 2, &[b"C6"]));
     assert!(rt; stands(&yard, 0, 3, &[b"C3", b"C2"]));
     assert!(rt; yard.holds(b"C5") && !yard.holds(b"C") && !yard.holds(b"C55"));
-    assert_eq!(rt; yard_text(alloc, &yard)?.as_slice(), SIX);
+    assert_same(&rt, &yard_text(alloc, &yard)?.as_slice(), &SIX);
     Ok(())
 }
 
@@ -88,7 +90,7 @@ fn records_in_any_order(rt: HostRuntime) -> Result<(), Fail> {
     let alloc = rt.alloc();
     let text = with_header(alloc, b"B,2,1,2,Y\nA,1,2,1,Z\nB,2,1,1,X\nA,10,1,1,W\n")?;
     let yard = yard_of(alloc, &text, 2, 2)?;
-    assert_eq!(rt; yard.count(), 3);
+    assert_same(&rt, &yard.count(), &3);
     let stacks: [(usize, u8, &[&[u8]]); 6] = [
         (0, 1, &[b"X", b"Y"]),
         (0, 2, &[]),
@@ -106,7 +108,7 @@ fn text_by_bay_row_and_tier(rt: HostRuntime) -> Result<(), Fail> {
     let alloc = rt.alloc();
     let text = with_header(alloc, b"B,2,1,2,Y\nA,1,2,1,Z\nB,2,1,1,X\nA,10,1,1,W\n")?;
     let want = with_header(alloc, b"B,2,1,1,X\nB,2,1,2,Y\nA,1,2,1,Z\nA,10,1,1,W\n")?;
-    assert_eq!(rt; written(alloc, &text)?.as_slice(), want.as_slice());
+    assert_same(&rt, &written(alloc, &text)?.as_slice(), &want.as_slice());
     Ok(())
 }
 
@@ -136,7 +138,7 @@ fn as_csv_reads(rt: HostRuntime) -> Result<(), Fail> {
     for (text, want) in lists {
         let yard = yard_of(alloc, text, 3, 3)?;
         let want = with_header(alloc, want)?;
-        assert_eq!(rt; yard_text(alloc, &yard)?.as_slice(), want.as_slice());
+        assert_same(&rt, &yard_text(alloc, &yard)?.as_slice(), &want.as_slice());
     }
     Ok(())
 }

@@ -1,3 +1,4 @@
+use crate::compare::{assert_at, assert_same, assert_same_at};
 use crp_bay::Position;
 use crp_plan::Problem;
 use std::alloc::{AllocError, Global};
@@ -69,14 +70,14 @@ fn stack_of(position: &Position, row: usize) -> &[u8] {
 }
 
 fn stacks_are(rt: &impl Abort, position: &Position, rows: &[&[u8]]) {
-    assert_eq!(rt; rows_in(position), rows.len());
+    assert_same(rt, &rows_in(position), &rows.len());
     for (row, stack) in rows.iter().enumerate() {
-        assert_eq!(rt; stack_of(position, row), *stack, "row {row} from 0");
+        assert_same_at(rt, &stack_of(position, row), stack, &row);
     }
 }
 
 fn targets_are(rt: &impl Abort, position: &Position, rows: &[u8]) {
-    assert_eq!(rt; position.targets().as_slice(), rows);
+    assert_same(rt, &position.targets().as_slice(), &rows);
 }
 
 /// The position that a path leads to.
@@ -105,13 +106,8 @@ fn assert_stop(rt: &(impl Abort + AllocGlobal), stop: &Stop) -> Result<(), Fail>
     let position = along(rt, start_of(rt.alloc(), 3, SIX_CONTAINERS)?, stop.path);
     stacks_are(rt, &position, stop.stacks);
     targets_are(rt, &position, stop.targets);
-    assert_eq!(rt; next_of(&position), stop.next, "next after {:?}", stop.path);
-    assert_eq!(rt;
-        is_done(&position),
-        stop.is_done,
-        "done after {:?}",
-        stop.path
-    );
+    assert_same_at(rt, &next_of(&position), &stop.next, &stop.path);
+    assert_same_at(rt, &is_done(&position), &stop.is_done, &stop.path);
     assert!(rt; child_of(&position, stop.no_target).is_none());
     Ok(())
 }
@@ -160,8 +156,8 @@ fn six_containers_three_relocations(rt: HostRuntime) -> Result<(), Fail> {
 
 /// Whether the row has room, and whether it is legal to relocate to it.
 fn assert_row(rt: &impl Abort, start: &Position, row: u8, there: bool) {
-    assert_eq!(rt; fits(start, row), there, "row {row}");
-    assert_eq!(rt; child_of(start, row).is_some(), there, "by row {row}");
+    assert_same_at(rt, &fits(start, row), &there, &row);
+    assert_same_at(rt, &child_of(start, row).is_some(), &there, &row);
 }
 
 #[test]
@@ -176,8 +172,8 @@ fn rows_of_six_containers(rt: HostRuntime) -> Result<(), Fail> {
 #[test]
 fn height_of_six_containers(rt: HostRuntime) -> Result<(), Fail> {
     let start = start_of(rt.alloc(), 3, SIX_CONTAINERS)?;
-    assert_eq!(rt; ordered_of(&start), 6);
-    assert_eq!(rt; height_of(&start, 2), Some(3));
+    assert_same(&rt, &ordered_of(&start), &6);
+    assert_same(&rt, &height_of(&start, 2), &Some(3));
     Ok(())
 }
 
@@ -188,7 +184,7 @@ fn nothing_to_relocate(rt: HostRuntime) -> Result<(), Fail> {
     targets_are(&rt, &in_order, &[]);
     let empty = start_of(rt.alloc(), 1, &[&[]])?;
     assert!(rt; is_done(&empty));
-    assert_eq!(rt; next_of(&empty), 1);
+    assert_same(&rt, &next_of(&empty), &1);
     Ok(())
 }
 
@@ -246,12 +242,12 @@ fn are_same(a: &Position, b: &Position) -> bool {
 fn push_as_child(rt: &impl Abort, position: &mut Position, row: u8) -> bool {
     match child_of(position, row) {
         Some(child) => {
-            assert!(rt; push_to(position, row), "row {row} is legal");
-            assert!(rt; are_same(position, &child), "after row {row}");
+            assert_at(rt, push_to(position, row), &row);
+            assert_at(rt, are_same(position, &child), &row);
             true
         }
         None => {
-            assert!(rt; !push_to(position, row), "row {row} is not legal");
+            assert_at(rt, !push_to(position, row), &row);
             false
         }
     }
@@ -272,12 +268,12 @@ fn assert_steps(
     for _ in 0..steps {
         let number = numbers.next();
         if number < pops {
-            assert_eq!(rt; pop_off(&mut position), path.pop().is_some());
+            assert_same(rt, &pop_off(&mut position), &path.pop().is_some());
         } else if push_as_child(rt, &mut position, number - pops) {
             path.push(number - pops)?;
         }
         let again = along(rt, start_of(rt.alloc(), 4, rows)?, path.as_slice());
-        assert!(rt; are_same(&position, &again), "after {:?}", path);
+        assert_at(rt, are_same(&position, &again), &path);
     }
     Ok(())
 }

@@ -2,6 +2,7 @@ ghost use Rattle.std.specs.Prelude.{◌≡◌, [], ◌∷◌};
 ghost use Rattle.crp_plan.specs.Rows.{above, below};
 ghost use Rattle.crp_bounds.specs.Bounds.{HasNoPlace};
 
+use crate::compare::{assert_at, assert_same, assert_same_at};
 use crp_bay::Position;
 use crp_bounds::{Bounded, blocking, look_ahead, words_mean};
 use crp_plan::{Move, Plan, Problem};
@@ -51,8 +52,8 @@ fn along(rt: &impl Abort, start: Position, path: &[u8]) -> Position {
 }
 
 fn bounds_are(rt: &impl Abort, position: &Position, low: u32, high: u32, what: &str) {
-    assert_eq!(rt; low_of(position), low, "blocking: {what}");
-    assert_eq!(rt; high_of(position), high, "look-ahead: {what}");
+    assert_same_at(rt, &low_of(position), &low, &what);
+    assert_same_at(rt, &high_of(position), &high, &what);
 }
 
 fn relocations_of(moves: &[Move]) -> usize {
@@ -231,16 +232,10 @@ fn assert_rising(rt: &impl Abort, start: Position, path: &[u8], count: usize) {
     let mut position = start;
     let mut reach = reach_of(0, &position);
     for (i, row) in path.iter().enumerate() {
-        assert!(rt;
-            reach.low <= reach.high && reach.high <= count,
-            "before row {i}"
-        );
+        assert_at(rt, reach.low <= reach.high && reach.high <= count, &i);
         position = child_of(rt, &position, *row);
         let next = reach_of(i + 1, &position);
-        assert!(rt;
-            reach.low <= next.low && reach.high <= next.high,
-            "after row {i}"
-        );
+        assert_at(rt, reach.low <= next.low && reach.high <= next.high, &i);
         reach = next;
     }
     assert!(rt; is_done(&position) && reach.low == count && reach.high == count);
@@ -324,9 +319,9 @@ fn bounds_agree(bounded: &Bounded) -> bool {
 fn push_as_told(rt: &impl Abort, bounded: &mut Bounded, row: u8) -> bool {
     let after = low_after(bounded, row);
     let is_legal = push_to(bounded, row);
-    assert_eq!(rt; after.is_some(), is_legal, "to row {row}");
+    assert_same_at(rt, &after.is_some(), &is_legal, &row);
     if let Some(low) = after {
-        assert_eq!(rt; kept_low(bounded), low, "to row {row}");
+        assert_same_at(rt, &kept_low(bounded), &low, &row);
     }
     is_legal
 }
@@ -356,12 +351,12 @@ fn assert_steps(
     for _ in 0..steps {
         let number = numbers.next();
         if number < pops {
-            assert_eq!(rt; pop_off(&mut bounded), pushes > 0);
+            assert_same(rt, &pop_off(&mut bounded), &(pushes > 0));
             pushes = pushes.saturating_sub(1);
         } else if push_as_told(rt, &mut bounded, number - pops) {
             pushes = pushes.saturating_add(1);
         }
-        assert!(rt; bounds_agree(&bounded), "with {pushes} pushes");
+        assert_at(rt, bounds_agree(&bounded), &pushes);
     }
     Ok(())
 }

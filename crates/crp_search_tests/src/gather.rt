@@ -1,4 +1,5 @@
 //! One search in three parts, put together in every order and with parts too many and too few.
+use crate::compare::assert_same;
 use crp_bay::Position;
 use crp_bounds::{blocking, look_ahead};
 use crp_gather::{GatherFault, gather};
@@ -172,7 +173,7 @@ fn is_shown(
     text: &str,
 ) -> Result<(), AllocError> {
     let shown = format!(in rt.alloc(); "{fault}")?;
-    assert_eq!(rt; shown.as_str(), text);
+    assert_same(rt, &shown.as_str(), &text);
     Ok(())
 }
 

@@ -6,6 +6,8 @@ mod bay;
 #[cfg(test)]
 mod bounds;
 #[cfg(test)]
+mod compare;
+#[cfg(test)]
 mod gather;
 #[cfg(test)]
 mod incumbent;
@@ -15,6 +17,8 @@ mod plan;
 mod pool;
 #[cfg(test)]
 mod search;
+#[cfg(test)]
+mod solve;
 #[cfg(test)]
 mod steps;
 #[cfg(test)]

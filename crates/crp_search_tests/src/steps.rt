@@ -1,5 +1,6 @@
 ghost use Rattle.std.specs.Prelude.{◌≤◌};
 
+use crate::compare::{assert_same, assert_same_at};
 use crp_plan::{Plan, Problem};
 use crp_steps::{Event, Kind, Stopped, World};
 use std::alloc::{AllocError, Global};
@@ -80,8 +81,8 @@ fn follow(rt: &impl Abort, world: &mut World, steps: &[Step]) {
         } else {
             Err(Stopped::NotNow)
         };
-        assert_eq!(rt; applied, want, "event {i}");
-        assert_eq!(rt; shown_by(world), step.after, "after event {i}");
+        assert_same_at(rt, &applied, &want, &i);
+        assert_same_at(rt, &shown_by(world), &step.after, &i);
     }
 }
 
@@ -98,7 +99,7 @@ fn run_at_once(
     }
     world.run(&events)?;
     let last = steps.last().ok_or("there are no events")?;
-    assert_eq!(rt; shown_by(world), last.after);
+    assert_same(rt, &shown_by(world), &last.after);
     Ok(())
 }
 

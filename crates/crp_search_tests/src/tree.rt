@@ -1,3 +1,4 @@
+use crate::compare::{assert_at, assert_same, assert_same_at};
 use crp_bay::Position;
 use crp_bounds::Bounded;
 use crp_plan::Problem;
@@ -20,7 +21,7 @@ fn named(rt: &impl Abort, rows: &[u8]) -> Name {
 }
 
 fn rows_are(rt: &impl Abort, name: &Name, rows: &[u8]) {
-    assert_eq!(rt; name.rows(), rows);
+    assert_same(rt, &name.rows(), &rows);
 }
 
 // What is compared comes from functions without clauses: so the tests know nothing of it, and are soon checked.
@@ -74,7 +75,7 @@ fn names_of_eight_rows(rt: HostRuntime) -> Result<(), Fail> {
     let eight = [1, 2, 1, 2, 1, 2, 1, 12];
     let full = named(&rt, &eight);
     rows_are(&rt, &full, &eight);
-    assert_eq!(rt; eight.len(), MAX_NAME);
+    assert_same(&rt, &eight.len(), &MAX_NAME);
     assert!(rt; child_of(&full, 1).is_none());
     assert!(rt; Name::from_rows(&[1, 2, 1, 2, 1, 2, 1, 12, 1]).is_none());
     Ok(())
@@ -100,10 +101,10 @@ fn are_equal(name: &Name, other: &Name) -> bool {
 fn assert_order(rt: &impl Abort, first: &[u8], second: &[u8], order: Ordering) {
     let name = named(rt, first);
     let other = named(rt, second);
-    assert_eq!(rt; order_of(&name, &other), order);
-    assert_eq!(rt; partial_order_of(&name, &other), Some(order));
-    assert_eq!(rt; comes_before(&name, &other), order == Ordering::Less);
-    assert_eq!(rt; are_equal(&name, &other), order == Ordering::Equal);
+    assert_same(rt, &order_of(&name, &other), &order);
+    assert_same(rt, &partial_order_of(&name, &other), &Some(order));
+    assert_same(rt, &comes_before(&name, &other), &(order == Ordering::Less));
+    assert_same(rt, &are_equal(&name, &other), &(order == Ordering::Equal));
 }
 
 #[test]
@@ -133,11 +134,11 @@ fn six_containers(alloc: Global) -> Result<Problem, Fail> {
 fn positions_of_names_of_six_containers(rt: HostRuntime) -> Result<(), Fail> {
     let problem = six_containers(rt.alloc())?;
     assert!(rt; is_done(&place_of(&rt, &problem, &[2, 2, 1])));
-    assert_eq!(rt; next_of(&place_of(&rt, &problem, &[])), 1);
+    assert_same(&rt, &next_of(&place_of(&rt, &problem, &[])), &1);
     let first = place_of(&rt, &problem, &[2]);
     let stacks: [&[u8]; 3] = [&[1, 5], &[6, 4], &[3, 2]];
     for (row, stack) in stacks.iter().enumerate() {
-        assert_eq!(rt; stack_of(&first, row), *stack, "row {row} from 0");
+        assert_same_at(&rt, &stack_of(&first, row), stack, &row);
     }
     Ok(())
 }
@@ -149,8 +150,8 @@ fn bounded_of(name: &Name, problem: &Problem) -> Option<Bounded> {
 /// The blocking bound and the look-ahead bound at a path.
 fn bounds_are(rt: &impl Abort, problem: &Problem, rows: &[u8], low: u32, high: u32) {
     let bounded = bounded_of(&named(rt, rows), problem).expect(rt, "a path");
-    assert_eq!(rt; bounded.blocking(), low, "after {rows:?}");
-    assert_eq!(rt; bounded.look_ahead(), high, "after {rows:?}");
+    assert_same_at(rt, &bounded.blocking(), &low, &rows);
+    assert_same_at(rt, &bounded.look_ahead(), &high, &rows);
 }
 
 #[test]
@@ -173,13 +174,15 @@ fn names_without_a_position(rt: HostRuntime) -> Result<(), Fail> {
     let problem = six_containers(rt.alloc())?;
     let no_paths: [&[u8]; 5] = [&[1], &[0], &[4], &[2, 1], &[2, 2, 1, 2]];
     for rows in no_paths {
-        assert!(rt;
+        assert_at(
+            &rt,
             position_of(&named(&rt, rows), &problem).is_none(),
-            "{rows:?}"
+            &rows,
         );
-        assert!(rt;
+        assert_at(
+            &rt,
             bounded_of(&named(&rt, rows), &problem).is_none(),
-            "{rows:?}"
+            &rows,
         );
     }
     Ok(())

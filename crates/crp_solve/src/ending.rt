@@ -13,10 +13,13 @@ use std::alloc::Global;
 
 /// The certificate that workers made together, the best plan that they met, and how many expansions they were granted.
 #[derive(Drop)]
-pub(crate) struct Together {
-    pub(crate) cert: Cert,
-    pub(crate) best: Option<Plan>,
-    pub(crate) expanded: u64,
+pub struct Together {
+    /// The certificate of the parts that they searched.
+    pub cert: Cert,
+    /// The best plan that they met.
+    pub best: Option<Plan>,
+    /// How many expansions were granted to them.
+    pub expanded: u64,
 }
 
 /// Closes the words, and makes one certificate of the parts. Where memory is short the error says how many expansions were granted.

@@ -15,15 +15,14 @@ mod settings;
 mod solver;
 mod solving;
 mod telling;
-#[cfg(test)]
-mod tests;
 mod together;
 mod working;
 
 pub use answer::{Answer, Cause, Solved};
 pub use common::{Gate, NoGate};
+pub use ending::Together;
 pub use group::Group;
 pub use laws::{answers_agree, one_first_limit};
 pub use settings::{MAX_BUDGET, MAX_SPLIT, MAX_WORKERS, Settings, SettingsFault};
-pub use solver::solve;
-pub use solving::solve_alone;
+pub use solver::{answer_to_all, solve};
+pub use solving::{answer_to, solve_alone};

@@ -1,8 +1,9 @@
 //! Certificates that are checked, and those that are made.
+use crate::calls::{check, exit_of, prove};
 use crate::compare::assert_same;
 use crp_cert::CertFault;
 use crp_checker::Refused;
-use crp_commands::{ToolFault, check, exit_of, prove};
+use crp_commands::ToolFault;
 use crp_plan::{PlanFault, Received};
 use crp_report::Status;
 use crp_solve::Settings;

@@ -1,7 +1,8 @@
 //! Replays and bounds of worked bays.
+use crate::calls::{bound, replay};
 use crate::compare::assert_same;
 use crp_cert::CertFault;
-use crp_commands::{ToolFault, bound, replay};
+use crp_commands::ToolFault;
 use crp_plan::{PlanFault, Received};
 use crp_report::Status;
 use std::alloc::Global;

@@ -1,9 +1,10 @@
 //! Commands over devices that fail, are slow, or never end.
 ghost use Rattle.std.specs.Prelude.{Some, None};
 
+use crate::calls::replay;
 use crate::compare::assert_same;
 use crate::devices::{Slow, Small};
-use crp_commands::{ToolFault, replay};
+use crp_commands::ToolFault;
 use crp_plan::{Failure, Received, Sink, Source};
 use crp_report::Status;
 use std::test::Fail;

@@ -1,14 +1,15 @@
 //! Runs over devices that fail in turn, and the moves of one plan.
+use crate::calls::{exit_of, run};
 use crate::compare::assert_same;
 use crate::devices::{Slow, Small};
 use crate::reports::{
     Choice, HEADER, SIX_ANSWERED, SIX_CERTIFIED, SIX_CONTAINERS, SIX_ORDERS, Texts, message,
     settings_of,
 };
-use crp_commands::{ToolFault, exit_of};
+use crp_commands::ToolFault;
 use crp_order::Mode;
 use crp_plan::{Nowhere, Plan, Problem, Received};
-use crp_report::{Fault, Input, Output, Status, print_moves, run};
+use crp_report::{Fault, Input, Output, Status, print_moves};
 use std::alloc::Global;
 use std::sync::Wait;
 use std::test::Fail;

@@ -1,11 +1,12 @@
 //! Runs over sinks that are interrupted and sources that never end, and the moves of one plan.
+use crate::calls::{exit_of, run};
 use crate::compare::assert_same;
 use crate::devices::{Busy, Endless, Slow};
 use crate::reports::{Choice, SIX_CONTAINERS, SIX_ORDERS, message, settings_of};
-use crp_commands::{ToolFault, exit_of};
+use crp_commands::ToolFault;
 use crp_order::Mode;
 use crp_plan::{Plan, Problem, Source};
-use crp_report::{Fault, Output, Status, print_moves, run};
+use crp_report::{Fault, Output, Status, print_moves};
 use std::alloc::Global;
 use std::sync::Wait;
 use std::test::Fail;

@@ -1,9 +1,10 @@
 //! Reports of yards, byte for byte.
+use crate::calls::{check, exit_of, run};
 use crate::compare::assert_same;
-use crp_commands::{ToolFault, check, exit_of};
+use crp_commands::ToolFault;
 use crp_order::Mode;
 use crp_plan::Received;
-use crp_report::{Fault, RunSettings, Status, run};
+use crp_report::{Fault, RunSettings, Status};
 use crp_solve::Settings;
 use std::alloc::Global;
 use std::sync::Wait;

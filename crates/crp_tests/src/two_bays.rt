@@ -1,7 +1,7 @@
 //! Runs over two bays, byte for byte.
+use crate::calls::check;
 use crate::compare::assert_same;
 use crate::reports::{Choice, HEADER, SIX_CONTAINERS, SIX_ORDERS, Texts, message, texts_of};
-use crp_commands::check;
 use crp_order::Mode;
 use crp_plan::Received;
 use crp_report::Status;

@@ -1,12 +1,13 @@
 //! The words of the command line, and exit statuses.
+use crate::calls::{exit_of, job};
 use crate::compare::{assert_at, assert_same};
 use crp_cert::CertFault;
-use crp_commands::{Job, SolveSettings, ToolFault, exit_of, settings_of};
+use crp_commands::{Job, SolveSettings, ToolFault, settings_of};
 use crp_order::Mode;
 use crp_plan::PlanFault;
 use crp_report::{Fault, Input, Output, RunSettings, Status};
 use crp_solve::Settings;
-use crp_words::{Mistake, SettingFault, Usage, job};
+use crp_words::{Mistake, SettingFault, Usage};
 use std::alloc::Global;
 use std::test::Fail;
 

@@ -1,7 +1,9 @@
 use super::{
     SAID_OF_SIX, SIX_CONTAINERS, Said, assert_fault, assert_head, fault_at, joined, line_after,
 };
-use crp_cert::{CertFault, Parts, Script, read_cert};
+use crate::calls::read_cert;
+use crate::compare::{assert_same, assert_same_at};
+use crp_cert::{CertFault, Parts, Script};
 use crp_tree::Tree;
 use std::alloc::{AllocError, Global};
 use std::process::Abort;
@@ -148,7 +150,7 @@ fn assert_parts(
     parts: &[u8],
 ) -> Result<(), Fail> {
     let text = text_of(rt.alloc(), head, rest)?;
-    assert_eq!(rt; parts_of(rt.alloc(), &text)?.as_slice(), parts, "{rest:?}");
+    assert_same_at(rt, &parts_of(rt.alloc(), &text)?.as_slice(), &parts, &rest);
     Ok(())
 }
 
@@ -161,7 +163,7 @@ fn assert_shown(
     parts: &Parts,
     expected: &[u8],
 ) -> Result<(), AllocError> {
-    assert_eq!(rt; shown(rt.alloc(), parts)?.as_slice(), expected);
+    assert_same(rt, &shown(rt.alloc(), parts)?.as_slice(), &expected);
     Ok(())
 }
 
@@ -440,7 +442,7 @@ fn last_line(text: &[u8]) -> &[u8] {
 fn assert_cut(rt: &(impl Abort + AllocGlobal), cut: &[u8]) {
     let fault = cut_fault(line_after(cut), last_line(cut));
     let length = cut.len();
-    assert_eq!(rt; refusal(rt.alloc(), cut), Some(fault), "{length}");
+    assert_same_at(rt, &refusal(rt.alloc(), cut), &Some(fault), &length);
 }
 
 #[test]
@@ -449,6 +451,6 @@ fn certificate_cut_at_every_length(rt: HostRuntime) -> Result<(), Fail> {
     for length in 0..text.len() {
         assert_cut(&rt, &text[..length]);
     }
-    assert_eq!(rt; refusal(rt.alloc(), &text), None);
+    assert_same(&rt, &refusal(rt.alloc(), &text), &None);
     Ok(())
 }

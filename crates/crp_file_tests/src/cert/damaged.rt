@@ -1,6 +1,7 @@
 //! Heads with a byte changed, or cut.
 use super::heads::{assert_refused, refusal};
 use super::{SIX_CONTAINERS, assert_fault, fault_at, joined, line_after};
+use crate::compare::assert_same_at;
 use crp_cert::CertFault;
 use std::alloc::{AllocError, Global};
 use std::process::Abort;
@@ -19,7 +20,7 @@ fn with_byte(alloc: Global, text: &[u8], at: usize, other: u8) -> Result<Vec<u8>
 fn assert_cut(rt: &(impl Abort + AllocGlobal), cut: &[u8]) {
     let length = cut.len();
     let fault = fault_at(line_after(cut));
-    assert_eq!(rt; refusal(rt.alloc(), cut), Some(fault), "{length}");
+    assert_same_at(rt, &refusal(rt.alloc(), cut), &Some(fault), &length);
 }
 
 #[test]

@@ -2,7 +2,9 @@ use super::{
     SAID_OF_SIX, SIX_CONTAINERS, Said, assert_fault, assert_head, block_of, fault_at, joined,
     plan_of,
 };
-use crp_cert::{CertFault, Head, Rows, read_head};
+use crate::calls::read_head;
+use crate::compare::{assert_same, assert_same_at};
+use crp_cert::{CertFault, Head, Rows};
 use std::alloc::{AllocError, Global};
 use std::process::Abort;
 use std::test::Fail;
@@ -113,7 +115,7 @@ fn made_again(rows: Vec<u8>) -> Rows {
 #[test]
 fn rows_of_a_plan(rt: HostRuntime) -> Result<(), Fail> {
     let rows = made_again(b"\x03\x01".to_vec(rt.alloc())?);
-    assert_eq!(rt; plan_of(&Some(rows)), Some(b"\x03\x01".as_slice()));
+    assert_same(&rt, &plan_of(&Some(rows)), &Some(b"\x03\x01".as_slice()));
     Ok(())
 }
 
@@ -148,7 +150,7 @@ fn assert_plan(
     rows: Option<&[u8]>,
 ) -> Result<(), CertFault> {
     let plan = plan_read(rt.alloc(), line)?;
-    assert_eq!(rt; plan_of(&plan), rows, "{line:?}");
+    assert_same_at(rt, &plan_of(&plan), &rows, &line);
     Ok(())
 }
 
@@ -185,7 +187,7 @@ fn count_read(alloc: Global, line: &[u8]) -> Result<usize, CertFault> {
 #[test]
 fn longest_plan(rt: HostRuntime) -> Result<(), Fail> {
     let mut line = long_line(rt.alloc(), 672)?;
-    assert_eq!(rt; count_read(rt.alloc(), &line)?, 672);
+    assert_same(&rt, &count_read(rt.alloc(), &line)?, &672);
     line.extend_from_slice(b" 1")?;
     assert_line_refused(&rt, 8, &line, CertFault::Plan { line: 8 })?;
     Ok(())
@@ -367,7 +369,7 @@ fn claim_read(alloc: Global, line: &[u8]) -> Result<u32, CertFault> {
 
 #[test]
 fn highest_claim(rt: HostRuntime) -> Result<(), Fail> {
-    assert_eq!(rt; claim_read(rt.alloc(), b"at least 13")?, 13);
+    assert_same(&rt, &claim_read(rt.alloc(), b"at least 13")?, &13);
     Ok(())
 }
 
@@ -420,7 +422,7 @@ fn other_bytes_name_a_block(rt: HostRuntime) -> Result<(), Fail> {
     let names: [(&[u8], &[u8]); 2] = [(b"bay ' 1", b"'"), (b"bay , 1", b",")];
     for (line, block) in names {
         let text = with_line(rt.alloc(), 2, line)?;
-        assert_eq!(rt; block_of(&head_of(rt.alloc(), &text)?.bay), block);
+        assert_same(&rt, &block_of(&head_of(rt.alloc(), &text)?.bay), &block);
     }
     Ok(())
 }

@@ -6,7 +6,9 @@ ghost use Rattle.crp_tree.specs.Parts.{claimed};
 ghost use Rattle.crp_cert.specs.Writing.{CanBeSpelled};
 
 use super::stack_of;
-use crp_cert::{PartLine, Script, cert_text, read_cert};
+use crate::calls::{cert_text, read_cert};
+use crate::compare::assert_same;
+use crp_cert::{PartLine, Script};
 use crp_plan::{BayName, Problem};
 use crp_tree::{Cert, Name, Part, Tree};
 use std::alloc::{AllocError, Global};
@@ -59,9 +61,13 @@ fn assert_cut_ahead(rt: &impl Abort, parts: &[PartLine]) {
 }
 
 fn assert_read_again(rt: &impl Abort, script: &Script, told: &(Problem, Cert)) {
-    assert_eq!(rt; script.head.claim, told.1.lower());
+    assert_same(rt, &script.head.claim, &told.1.lower());
     assert!(rt; script.head.plan.is_none());
-    assert_eq!(rt; stack_of(&script.head.problem, 0), stack_of(&told.0, 0));
+    assert_same(
+        rt,
+        &stack_of(&script.head.problem, 0),
+        &stack_of(&told.0, 0),
+    );
     assert_cut_ahead(rt, script.parts.as_slice());
 }
 
@@ -72,7 +78,7 @@ at least 2\nplan -\npart /: L\nend 1\n";
 fn a_claim_that_can_be_told_is_read_again(rt: HostRuntime) -> Result<(), Fail> {
     let told = cut_ahead(&rt, rt.alloc())?;
     let text = text_of(&rt, rt.alloc(), &told)?;
-    assert_eq!(rt; text.as_slice(), CUT_AHEAD);
+    assert_same(&rt, &text.as_slice(), &CUT_AHEAD);
     assert_read_again(&rt, &read_cert(rt.alloc(), &text)?, &told);
     Ok(())
 }

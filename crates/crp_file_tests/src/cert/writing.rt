@@ -5,7 +5,9 @@ ghost use Rattle.crp_plan.specs.Faults.{stacks_of, stated};
 ghost use Rattle.crp_bay.specs.Positions.{settled};
 ghost use Rattle.crp_tree.specs.Trees.{nodes, HasShape, least_value};
 
-use crp_cert::{WriteFault, cert_text, write_cert};
+use crate::calls::{cert_text, write_cert};
+use crate::compare::assert_same;
+use crp_cert::WriteFault;
 use crp_plan::{BayName, Failure, Plan, Problem, Received, Sink};
 use crp_tree::{Cert, Name, Part, Tree};
 use std::alloc::{AllocError, Global};
@@ -128,7 +130,7 @@ fn assert_text(
     expected: &[u8],
 ) -> Result<(), AllocError> {
     let text = text_of(rt, alloc, case, rows)?;
-    assert_eq!(rt; text.as_slice(), expected);
+    assert_same(rt, &text.as_slice(), &expected);
     Ok(())
 }
 
@@ -219,7 +221,7 @@ fn write<W: Sink>(
 fn certificates_go_to_a_sink(rt: HostRuntime) -> Result<(), Fail> {
     let mut sink = Received::new(rt.alloc());
     write(&rt, rt.alloc(), &mut sink, &dead_end(&rt, rt.alloc())?)?;
-    assert_eq!(rt; sink.bytes.as_slice(), DEAD_END);
+    assert_same(&rt, &sink.bytes.as_slice(), &DEAD_END);
     Ok(())
 }
 
@@ -227,9 +229,9 @@ fn certificates_go_to_a_sink(rt: HostRuntime) -> Result<(), Fail> {
 fn a_full_sink_holds_a_front(rt: HostRuntime) -> Result<(), Fail> {
     let mut sink = make_small(rt.alloc(), 20);
     let answer = write(&rt, rt.alloc(), &mut sink, &dead_end(&rt, rt.alloc())?);
-    assert_eq!(rt; answer, Err(WriteFault::Failed));
-    assert_eq!(rt; sink.bytes.as_slice(), &DEAD_END[..20]);
-    assert_eq!(rt; sink.failed, 1);
+    assert_same(&rt, &answer, &Err(WriteFault::Failed));
+    assert_same(&rt, &sink.bytes.as_slice(), &&DEAD_END[..20]);
+    assert_same(&rt, &sink.failed, &1);
     Ok(())
 }
 
@@ -250,7 +252,7 @@ fn assert_fault_text(
     expected: &str,
 ) -> Result<(), AllocError> {
     let text = fault.to_string(rt.alloc())?;
-    assert_eq!(rt; text.as_str(), expected);
+    assert_same(rt, &text.as_str(), &expected);
     Ok(())
 }
 

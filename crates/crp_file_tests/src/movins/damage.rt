@@ -1,6 +1,8 @@
 use super::{END, HEADER, SEGMENTS, counts_of, fault_of, joined, orders_of, six_load_orders};
+use crate::calls::read_segments;
+use crate::compare::{assert_same, assert_same_at};
 use crp_movins::MovinsFault;
-use edi_text::{EdiFault, MAX_TEXT, read_segments};
+use edi_text::{EdiFault, MAX_TEXT};
 use std::test::Fail;
 
 #[test]
@@ -23,20 +25,24 @@ fn cut_at_every_length(rt: HostRuntime) -> Result<(), Fail> {
         }
         let read = orders_of(alloc, front, b"LOA");
         if length == 0 {
-            assert_eq!(rt; read.err(), Some(EdiFault::NoSegment { offset: 0 }));
+            assert_same(&rt, &read.err(), &Some(EdiFault::NoSegment { offset: 0 }));
         } else if !behind {
-            assert_eq!(rt; read.err(), Some(EdiFault::Unfinished { offset: length }));
+            assert_same(
+                &rt,
+                &read.err(),
+                &Some(EdiFault::Unfinished { offset: length }),
+            );
         } else if whole < SEGMENTS {
             let fault = MovinsFault::OutOfPlace {
                 segment: whole.saturating_add(1),
             };
-            assert_eq!(rt; read?.err(), Some(fault));
+            assert_same(&rt, &read?.err(), &Some(fault));
         } else {
-            assert_eq!(rt; read?.is_ok(), true);
+            assert_same(&rt, &read?.is_ok(), &true);
         }
     }
-    assert_eq!(rt; whole, SEGMENTS);
-    assert_eq!(rt; counts_of(alloc, &text, b"LOA")?, (6, 0));
+    assert_same(&rt, &whole, &SEGMENTS);
+    assert_same(&rt, &counts_of(alloc, &text, b"LOA")?, &(6, 0));
     Ok(())
 }
 
@@ -107,14 +113,14 @@ fn every_byte_changed(rt: HostRuntime) -> Result<(), Fail> {
             let told = text_fault(part, byte, place, length);
             let read = read_segments(alloc, &text);
             if told.is_some() {
-                assert_eq!(rt; read.err(), told, "{byte} at {place}");
+                assert_same_at(&rt, &read.err(), &told, &(byte, place));
             } else if byte != b'\'' {
-                assert_eq!(rt; read.is_ok(), true, "{byte} at {place}");
+                assert_same_at(&rt, &read.is_ok(), &true, &(byte, place));
                 assert_ne!(rt; fault_of(alloc, &text)?, Some(MovinsFault::Memory));
             } else if let Err(fault) = read {
                 // The rest of the segment begins with no tag.
                 let offset = place.saturating_add(1);
-                assert_eq!(rt; fault, EdiFault::Tag { offset }, "at {place}");
+                assert_same_at(&rt, &fault, &EdiFault::Tag { offset }, &place);
             } else {
                 assert_ne!(rt; fault_of(alloc, &text)?, Some(MovinsFault::Memory));
             }
@@ -126,7 +132,7 @@ fn every_byte_changed(rt: HostRuntime) -> Result<(), Fail> {
             start = place.saturating_add(1);
         }
     }
-    assert_eq!(rt; counts_of(alloc, &text, b"LOA")?, (6, 0));
+    assert_same(&rt, &counts_of(alloc, &text, b"LOA")?, &(6, 0));
     Ok(())
 }
 
@@ -141,10 +147,10 @@ fn eight_mebibytes_are_read(rt: HostRuntime) -> Result<(), Fail> {
         text.push(b'A')?;
     }
     text.extend_from_slice(&back)?;
-    assert_eq!(rt; text.len(), 8388608);
-    assert_eq!(rt; counts_of(alloc, &text, b"LOA")?, (0, 0));
+    assert_same(&rt, &text.len(), &8388608);
+    assert_same(&rt, &counts_of(alloc, &text, b"LOA")?, &(0, 0));
     text.push(b'\n')?;
     let fault = read_segments(alloc, &text).err();
-    assert_eq!(rt; fault, Some(EdiFault::TooLong { offset: 8388608 }));
+    assert_same(&rt, &fault, &Some(EdiFault::TooLong { offset: 8388608 }));
     Ok(())
 }

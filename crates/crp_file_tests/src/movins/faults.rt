@@ -2,6 +2,7 @@ use super::{
     BEGIN, END, FIRST, FIVE, HEADER, LAST, LOADING, MESSAGE, TRAILER, counts_of, fault_of, joined,
     six_load_orders, with_body,
 };
+use crate::compare::{assert_same, assert_same_at};
 use crp_movins::{MAX_ORDERS, MovinsFault};
 use std::alloc::{AllocError, Global};
 use std::test::Fail;
@@ -105,7 +106,7 @@ fn tells_the_first_fault(rt: HostRuntime) -> Result<(), Fail> {
         ),
     ];
     for (text, want) in cases {
-        assert_eq!(rt; fault_of(alloc, text)?, Some(want), "{text:?}");
+        assert_same_at(&rt, &fault_of(alloc, text)?, &Some(want), &text);
     }
     Ok(())
 }
@@ -222,7 +223,7 @@ fn tells_the_first_fault_of_the_example(rt: HostRuntime) -> Result<(), Fail> {
     ];
     for (body, want) in cases {
         let text = with_body(alloc, body)?;
-        assert_eq!(rt; fault_of(alloc, &text)?, Some(want));
+        assert_same(&rt, &fault_of(alloc, &text)?, &Some(want));
     }
     Ok(())
 }
@@ -234,9 +235,10 @@ fn a_second_message_may_not_repeat_a_container(rt: HostRuntime) -> Result<(), Fa
     // The first message's UNZ is the last line.
     text.truncate(text.len().saturating_sub(END.len()));
     text.extend_from_slice(b"UNH+2+MOVINS:D:95B:UN'HAN+LOA'LOC+147+0010194'EQD+CN+C3'")?;
-    assert_eq!(rt;
-        fault_of(alloc, &text)?,
-        Some(MovinsFault::OrderedTwice { segment: 21 })
+    assert_same(
+        &rt,
+        &fault_of(alloc, &text)?,
+        &Some(MovinsFault::OrderedTwice { segment: 21 }),
     );
     Ok(())
 }
@@ -258,12 +260,13 @@ fn many_orders(alloc: Global, count: usize) -> Result<Vec<u8>, AllocError> {
 fn ten_thousand_orders_are_read(rt: HostRuntime) -> Result<(), Fail> {
     let alloc = rt.alloc();
     let text = many_orders(alloc, MAX_ORDERS)?;
-    assert_eq!(rt; counts_of(alloc, &text, b"LOA")?, (10000, 0));
+    assert_same(&rt, &counts_of(alloc, &text, b"LOA")?, &(10000, 0));
     // Four segments stand before the first EQD.
     let text = many_orders(alloc, 10001)?;
-    assert_eq!(rt;
-        fault_of(alloc, &text)?,
-        Some(MovinsFault::TooManyOrders { segment: 10005 })
+    assert_same(
+        &rt,
+        &fault_of(alloc, &text)?,
+        &Some(MovinsFault::TooManyOrders { segment: 10005 }),
     );
     Ok(())
 }
@@ -317,7 +320,7 @@ fn faults_show_their_code(rt: HostRuntime) -> Result<(), Fail> {
         (MovinsFault::Memory, "no memory is left"),
     ];
     for (fault, want) in texts {
-        assert_eq!(rt; format!(in rt.alloc(); "{fault}")?.as_str(), want);
+        assert_same(&rt, &format!(in rt.alloc(); "{fault}")?.as_str(), &want);
     }
     Ok(())
 }

@@ -1,4 +1,5 @@
 use super::{SIX, fault_of};
+use crate::compare::assert_same;
 use crp_yard::YardFault;
 use std::test::Fail;
 
@@ -14,11 +15,11 @@ fn cut_at_every_length(rt: HostRuntime) -> Result<(), Fail> {
         let fault = fault_of(alloc, &SIX[..length]);
         let header_is_short = line == 1 && length < 28;
         if header_is_short {
-            assert_eq!(rt; fault, Some(YardFault::Header { record: 1 }));
+            assert_same(&rt, &fault, &Some(YardFault::Header { record: 1 }));
         } else if line > 1 && column > 0 && column < SHORTEST {
-            assert_eq!(rt; fault, Some(YardFault::Fields { record: line }));
+            assert_same(&rt, &fault, &Some(YardFault::Fields { record: line }));
         } else {
-            assert_eq!(rt; fault, None);
+            assert_same(&rt, &fault, &None);
         }
         if SIX[length] == b'\n' {
             line = line.saturating_add(1);
@@ -27,7 +28,7 @@ fn cut_at_every_length(rt: HostRuntime) -> Result<(), Fail> {
             column = column.saturating_add(1);
         }
     }
-    assert_eq!(rt; line, 8);
+    assert_same(&rt, &line, &8);
     Ok(())
 }
 
@@ -89,7 +90,7 @@ fn each_byte_changed(rt: HostRuntime) -> Result<(), Fail> {
             floating,
             others: 0,
         };
-        assert_eq!(rt; tally, want);
+        assert_same(&rt, &tally, &want);
     }
     Ok(())
 }

@@ -2,8 +2,10 @@
 ghost use Rattle.std.specs.Prelude.{Some, None};
 
 use super::SIX;
+use crate::calls::{read_yard, write_yard, yard_of};
+use crate::compare::assert_same;
 use crp_plan::{Failure, Received, Sink, Source};
-use crp_yard::{WriteFault, Yard, YardFault, read_yard, write_yard, yard_of};
+use crp_yard::{WriteFault, Yard, YardFault};
 use std::alloc::Global;
 use std::test::Fail;
 
@@ -75,8 +77,8 @@ fn each_read_fails(rt: HostRuntime) -> Result<(), Fail> {
             failed: 0,
         };
         let fault = read_yard(rt.alloc(), &mut source, 3, 3).err();
-        assert_eq!(rt; fault, Some(YardFault::Read));
-        assert_eq!(rt; source.failed, 1001);
+        assert_same(&rt, &fault, &Some(YardFault::Read));
+        assert_same(&rt, &source.failed, &1001);
     }
     Ok(())
 }
@@ -98,8 +100,8 @@ fn each_write_fails(rt: HostRuntime) -> Result<(), Fail> {
     let yard = yard_of(alloc, SIX, 3, 3)?;
     for room in 0..SIX.len() {
         let (bytes, end) = written(alloc, &yard, room);
-        assert_eq!(rt; end, Err(WriteFault::Failed));
-        assert_eq!(rt; bytes.as_slice(), &SIX[..room]);
+        assert_same(&rt, &end, &Err(WriteFault::Failed));
+        assert_same(&rt, &bytes.as_slice(), &&SIX[..room]);
     }
     Ok(())
 }
@@ -111,7 +113,7 @@ fn what_was_read_is_written(rt: HostRuntime) -> Result<(), Fail> {
     let yard = read_yard(alloc, &mut source, 3, 3)?;
     let mut sink = Received::new(alloc);
     write_yard(alloc, &mut sink, &yard)?;
-    assert_eq!(rt; sink.bytes.as_slice(), SIX);
+    assert_same(&rt, &sink.bytes.as_slice(), &SIX);
     Ok(())
 }
 
@@ -119,8 +121,12 @@ fn what_was_read_is_written(rt: HostRuntime) -> Result<(), Fail> {
 fn texts_of_failed_writes(rt: HostRuntime) -> Result<(), Fail> {
     let alloc = rt.alloc();
     let (failed, memory) = (WriteFault::Failed, WriteFault::Memory);
-    assert_eq!(rt; failed.to_string(alloc)?.as_str(), "a write failed");
-    assert_eq!(rt; memory.to_string(alloc)?.as_str(), "no memory is left");
+    assert_same(&rt, &failed.to_string(alloc)?.as_str(), &"a write failed");
+    assert_same(
+        &rt,
+        &memory.to_string(alloc)?.as_str(),
+        &"no memory is left",
+    );
     Ok(())
 }
 
@@ -139,5 +145,5 @@ impl Source for Endless {
 #[test]
 fn ends_what_never_ends(rt: HostRuntime) {
     let fault = read_yard(rt.alloc(), &mut Endless, 3, 3).err();
-    assert_eq!(rt; fault, Some(YardFault::TooLarge));
+    assert_same(&rt, &fault, &Some(YardFault::TooLarge));
 }

@@ -1,4 +1,5 @@
 use super::{fault_of, with_header};
+use crate::compare::assert_same;
 use crp_yard::YardFault;
 use std::alloc::Global;
 use std::test::Fail;
@@ -13,9 +14,10 @@ fn lists_without_their_header(rt: HostRuntime) -> Result<(), Fail> {
         b"\xEF\xBB\xBF\xEF\xBB\xBFblock,bay,row,tier,container",
     ];
     for text in lists {
-        assert_eq!(rt;
-            fault_of(rt.alloc(), text),
-            Some(YardFault::Header { record: 1 })
+        assert_same(
+            &rt,
+            &fault_of(rt.alloc(), text),
+            &Some(YardFault::Header { record: 1 }),
         );
     }
     Ok(())
@@ -57,7 +59,7 @@ fn faults_by_record(rt: HostRuntime) -> Result<(), Fail> {
         (b"A,1,1,2,Z\nA,1,1,x,Y\nA", "Y3 at record 3"),
     ];
     for (records, want) in lists {
-        assert_eq!(rt; told(alloc, records)?.as_str(), want);
+        assert_same(&rt, &told(alloc, records)?.as_str(), &want);
     }
     Ok(())
 }
@@ -73,7 +75,7 @@ fn other_texts_of_faults(rt: HostRuntime) -> Result<(), Fail> {
         (YardFault::Memory, "no memory is left"),
     ];
     for (fault, want) in faults {
-        assert_eq!(rt; fault.to_string(alloc)?.as_str(), want);
+        assert_same(&rt, &fault.to_string(alloc)?.as_str(), &want);
     }
     Ok(())
 }

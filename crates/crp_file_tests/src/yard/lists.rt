@@ -1,3 +1,4 @@
+use crate::compare::assert_same;
 use crp_yard::{Container, Containers};
 use std::alloc::{AllocError, Global};
 use std::test::Fail;
@@ -13,10 +14,10 @@ fn two(alloc: Global) -> Result<Vec<Container>, AllocError> {
 #[test]
 fn containers_are_lists(rt: HostRuntime) -> Result<(), Fail> {
     let list = Containers::from_vec(two(rt.alloc())?);
-    assert_eq!(rt; list.list().len(), 2);
+    assert_same(&rt, &list.list().len(), &2);
     let list = list.into_vec();
-    assert_eq!(rt; list.len(), 2);
-    assert_eq!(rt; list[0].bytes(), b"X".as_slice());
-    assert_eq!(rt; list[1].bytes(), b"YZ".as_slice());
+    assert!(rt; list.len() == 2);
+    assert_same(&rt, &list[0].bytes(), &b"X".as_slice());
+    assert_same(&rt, &list[1].bytes(), &b"YZ".as_slice());
     Ok(())
 }

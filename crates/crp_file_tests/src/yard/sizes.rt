@@ -1,5 +1,7 @@
 use super::{fault_of, with_header};
-use crp_yard::{MAX_BYTES, MAX_CONTAINERS, YardFault, yard_of};
+use crate::calls::yard_of;
+use crate::compare::assert_same;
+use crp_yard::{MAX_BYTES, MAX_CONTAINERS, YardFault};
 use itoa::Buffer;
 use std::alloc::{AllocError, Global};
 use std::test::Fail;
@@ -38,11 +40,11 @@ fn as_many_containers_as_are_read(rt: HostRuntime) -> Result<(), Fail> {
     let alloc = rt.alloc();
     let text = many(alloc, MAX_CONTAINERS)?;
     let yard = yard_of(alloc, &text, 1, 8)?;
-    assert_eq!(rt; yard.count(), 2500);
+    assert_same(&rt, &yard.count(), &2500);
     assert!(rt; yard.holds(b"C19999") && !yard.holds(b"C20000"));
     let text = many(alloc, 20001)?;
     let fault = yard_of(alloc, &text, 1, 8).err();
-    assert_eq!(rt; fault, Some(YardFault::TooMany { record: 20002 }));
+    assert_same(&rt, &fault, &Some(YardFault::TooMany { record: 20002 }));
     Ok(())
 }
 
@@ -52,9 +54,9 @@ fn as_many_bytes_as_are_read(rt: HostRuntime) -> Result<(), Fail> {
     let mut text = with_header(alloc, b"")?;
     let rest = vec![in alloc; b'\n'; 8388608 - 29]?;
     text.extend_from_slice(&rest)?;
-    assert_eq!(rt; text.len(), MAX_BYTES);
-    assert_eq!(rt; fault_of(alloc, &text), None);
+    assert_same(&rt, &text.len(), &MAX_BYTES);
+    assert_same(&rt, &fault_of(alloc, &text), &None);
     text.push(b'\n')?;
-    assert_eq!(rt; fault_of(alloc, &text), Some(YardFault::TooLarge));
+    assert_same(&rt, &fault_of(alloc, &text), &Some(YardFault::TooLarge));
     Ok(())
 }

@@ -1,6 +1,7 @@
 //! What a `Best` keeps of the plans that it is handed.
 
 use super::bays::{others, plan_of, six};
+use crate::compare::assert_same;
 use crp_incumbent::Best;
 use crp_plan::{Plan, Problem};
 use std::process::Abort;
@@ -9,7 +10,7 @@ use std::test::Fail;
 /// The rows of a plan, if there is one.
 fn rows_are(rt: &impl Abort, plan: &Option<Plan>, rows: Option<&[u8]>) {
     match plan {
-        Some(plan) => assert_eq!(rt; Some(plan.rows()), rows),
+        Some(plan) => assert_same(rt, &Some(plan.rows()), &rows),
         None => assert!(rt; rows.is_none()),
     }
 }

@@ -1,6 +1,7 @@
 //! What a board shows.
 
 use super::bays::{others, plan_of, six};
+use crate::compare::assert_same;
 use crp_incumbent::Board;
 use crp_plan::Problem;
 use std::process::Abort;
@@ -10,7 +11,7 @@ use std::test::Fail;
 /// The board shows a plan with so many relocations.
 fn shows(rt: &(impl Wait + Abort), board: &Board, count: Option<u32>) {
     let shown = board.show(rt);
-    assert_eq!(rt; shown.map(|plan| plan.count()), count);
+    assert_same(rt, &shown.map(|plan| plan.count()), &count);
 }
 
 /// Posts the plan with these rows.
@@ -31,6 +32,6 @@ fn a_posted_plan_is_shown(rt: HostRuntime) -> Result<(), Fail> {
     posts(&rt, &board, &six, &[2, 2, 1]);
     posts(&rt, &board, &six, &[2, 3, 2, 1]);
     shows(&rt, &board, Some(3));
-    assert_eq!(rt; board.problem().tiers(), 3);
+    assert_same(&rt, &board.problem().tiers(), &3);
     Ok(())
 }

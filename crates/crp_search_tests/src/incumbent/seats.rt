@@ -3,6 +3,7 @@ ghost use Rattle.std.specs.Prelude.{◌≡◌, IfOk};
 ghost use Rattle.crp_incumbent.specs.Rule.{all_shares};
 
 use super::bays::{plan_of, six};
+use crate::compare::assert_same;
 use crp_incumbent::{Seat, Shared, Why};
 use crp_plan::{Plan, Problem};
 use std::alloc::{AllocError, Global};
@@ -43,7 +44,7 @@ fn keeps_its_share(rt: &impl Abort, shared: &Shared, seat: Seat) -> Seat
     match shared.split(seat) {
         Ok(_) => panic!(rt; "no share is left"),
         Err(refused) => {
-            assert_eq!(rt; refused.why, Why::NoneLeft);
+            assert_same(rt, &refused.why, &Why::NoneLeft);
             refused.seat
         }
     }
@@ -55,7 +56,7 @@ fn sees(rt: &impl Abort, shared: &Shared, seat: Seat, limit: u64) -> Seat
     ensures { result.of ≡ shared.now }
 {
     let (found, seat) = shared.see(seat);
-    assert_eq!(rt; found, limit);
+    assert_same(rt, &found, &limit);
     seat
 }
 
@@ -75,7 +76,7 @@ fn claims(rt: &impl Abort, shared: &Shared, seat: Seat, answer: bool) -> Seat
     ensures share { result.view.share ≡ seat.view.share }
 {
     let (granted, seat) = shared.claim(seat);
-    assert_eq!(rt; granted, answer);
+    assert_same(rt, &granted, &answer);
     seat
 }
 
@@ -117,8 +118,8 @@ fn closes(rt: &impl Abort, shared: Shared, seat: Seat, limit: u64, spent: u64)
     requires whole { seat.view.share ≡ all_shares }
 {
     let totals = shared.close(seat);
-    assert_eq!(rt; totals.limit, limit);
-    assert_eq!(rt; totals.spent, spent);
+    assert_same(rt, &totals.limit, &limit);
+    assert_same(rt, &totals.spent, &spent);
 }
 
 #[test]

@@ -3,6 +3,7 @@ ghost use Rattle.std.specs.Prelude.{◌≡◌};
 ghost use Rattle.crp_incumbent.specs.Rule.{all_shares};
 
 use super::bays::six;
+use crate::compare::assert_same;
 use crp_incumbent::{Seat, Shared};
 use std::process::Abort;
 use std::sync::Wait;
@@ -73,10 +74,14 @@ fn claims_of_two<R: Threads + Wait + Abort + Sync>(rt: &R, shared: Shared, seat:
     };
     let words = &shared;
     let (a, b) = thread::join(rt, || claim_often(words, a), || claim_often(words, b));
-    assert_eq!(rt; u64::from(a.granted) + u64::from(b.granted), granted);
+    assert_same(rt, &(u64::from(a.granted) + u64::from(b.granted)), &granted);
     let seat = shared.join(a.seat, b.seat);
     let totals = shared.close(seat);
-    assert_eq!(rt; totals.spent, u64::from(a.claims) + u64::from(b.claims));
+    assert_same(
+        rt,
+        &totals.spent,
+        &(u64::from(a.claims) + u64::from(b.claims)),
+    );
 }
 
 #[test]

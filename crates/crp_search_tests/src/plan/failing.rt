@@ -1,6 +1,7 @@
 //! Devices that fail, and short ones.
 ghost use Rattle.std.specs.Prelude.{Some, None};
 
+use crate::compare::{assert_same, assert_same_at};
 use crp_plan::{
     Counted, Failure, MOST_INTERRUPTIONS, Nowhere, ReadFault, Received, Sink, Source, WriteFailed,
     read_all, write_all, write_each,
@@ -165,8 +166,8 @@ fn assert_read<R: Source>(
 ) -> u32 {
     let (answer, passed) = read(rt, source, limit, interruptions);
     match answer {
-        Ok(bytes) => assert_eq!(rt; Ok(bytes.as_slice()), expected),
-        Err(fault) => assert_eq!(rt; Err(fault), expected),
+        Ok(bytes) => assert_same(rt, &Ok(bytes.as_slice()), &expected),
+        Err(fault) => assert_same(rt, &Err(fault), &expected),
     }
     passed
 }
@@ -192,13 +193,8 @@ fn assert_reading(rt: &(impl Abort + AllocGlobal), case: &Reading) {
         case.interruptions,
         case.expected,
     );
-    assert_eq!(rt; passed, case.passed, "{} interruptions", case.interrupted);
-    assert_eq!(rt;
-        source.failed,
-        case.failed,
-        "{} interruptions",
-        case.interrupted
-    );
+    assert_same_at(rt, &passed, &case.passed, &case.interrupted);
+    assert_same_at(rt, &source.failed, &case.failed, &case.interrupted);
 }
 
 #[test]
@@ -279,19 +275,23 @@ fn reads_std_readers(rt: HostRuntime) {
 
 /// What a sink holds, and how often it failed.
 fn assert_sink(rt: &impl Abort, sink: &Small, bytes: &[u8], failed: u64) {
-    assert_eq!(rt; sink.bytes.as_slice(), bytes);
-    assert_eq!(rt; sink.failed, failed);
+    assert_same(rt, &sink.bytes.as_slice(), &bytes);
+    assert_same(rt, &sink.failed, &failed);
 }
 
 #[test]
 fn writes_byte_by_byte(rt: HostRuntime) {
     let mut sink = make_small(rt.alloc(), 3, true);
-    assert_eq!(rt; write(&rt, &mut sink, b"abc", 0), (Ok(()), 0));
+    assert_same(&rt, &write(&rt, &mut sink, b"abc", 0), &(Ok(()), 0));
     assert_sink(&rt, &sink, b"abc", 0);
-    assert_eq!(rt; write(&rt, &mut sink, b"d", 0), (Err(WriteFailed), 0));
+    assert_same(&rt, &write(&rt, &mut sink, b"d", 0), &(Err(WriteFailed), 0));
     assert_sink(&rt, &sink, b"abc", 1);
     let mut sink = make_small(rt.alloc(), 2, false);
-    assert_eq!(rt; write(&rt, &mut sink, b"abc", 0), (Err(WriteFailed), 0));
+    assert_same(
+        &rt,
+        &write(&rt, &mut sink, b"abc", 0),
+        &(Err(WriteFailed), 0),
+    );
     assert_sink(&rt, &sink, b"ab", 1);
 }
 
@@ -299,15 +299,23 @@ fn writes_byte_by_byte(rt: HostRuntime) {
 fn passes_a_thousand_interrupted_writes(rt: HostRuntime) {
     let mut sink = make_small(rt.alloc(), 6, true);
     sink.interrupted = 1000;
-    assert_eq!(rt; write(&rt, &mut sink, b"abc", 0), (Ok(()), 1000));
+    assert_same(&rt, &write(&rt, &mut sink, b"abc", 0), &(Ok(()), 1000));
     assert_sink(&rt, &sink, b"abc", 1000);
-    assert_eq!(rt; write(&rt, &mut sink, b"de", 1000), (Ok(()), 1000));
+    assert_same(&rt, &write(&rt, &mut sink, b"de", 1000), &(Ok(()), 1000));
     assert_sink(&rt, &sink, b"abcde", 1000);
     sink.interrupted = 1;
-    assert_eq!(rt; write(&rt, &mut sink, b"f", 1000), (Err(WriteFailed), 1000));
+    assert_same(
+        &rt,
+        &write(&rt, &mut sink, b"f", 1000),
+        &(Err(WriteFailed), 1000),
+    );
     assert_sink(&rt, &sink, b"abcde", 1001);
     sink.interrupted = 1001;
-    assert_eq!(rt; write(&rt, &mut sink, b"f", 0), (Err(WriteFailed), 1000));
+    assert_same(
+        &rt,
+        &write(&rt, &mut sink, b"f", 0),
+        &(Err(WriteFailed), 1000),
+    );
     assert_sink(&rt, &sink, b"abcde", 2002);
 }
 
@@ -316,12 +324,13 @@ fn counts_interruptions_over_all_texts(rt: HostRuntime) -> Result<(), Fail> {
     let texts = vec![in rt.alloc(); b"ab".to_vec(rt.alloc())?, b"c".to_vec(rt.alloc())?]?;
     let mut sink = make_small(rt.alloc(), 6, true);
     sink.interrupted = 999;
-    assert_eq!(rt; write_texts(&rt, &mut sink, &texts, 0), (Ok(()), 999));
+    assert_same(&rt, &write_texts(&rt, &mut sink, &texts, 0), &(Ok(()), 999));
     assert_sink(&rt, &sink, b"abc", 999);
     sink.interrupted = 2;
-    assert_eq!(rt;
-        write_texts(&rt, &mut sink, &texts, 999),
-        (Err(WriteFailed), 1000)
+    assert_same(
+        &rt,
+        &write_texts(&rt, &mut sink, &texts, 999),
+        &(Err(WriteFailed), 1000),
     );
     assert_sink(&rt, &sink, b"abc", 1001);
     Ok(())
@@ -338,13 +347,13 @@ fn write_once<W: Sink>(sink: &mut W, piece: &[u8]) -> Result<usize, Failure> {
 
 /// What a sink received, none of whose calls failed.
 fn assert_received(rt: &impl Abort, sink: &Received, bytes: &[u8]) {
-    assert_eq!(rt; sink.bytes.as_slice(), bytes);
-    assert_eq!(rt; sink.failed, 0);
+    assert_same(rt, &sink.bytes.as_slice(), &bytes);
+    assert_same(rt, &sink.failed, &0);
 }
 
 /// The whole text is written, with no interruption.
 fn assert_whole<W: Sink>(rt: &impl Abort, sink: &mut W, text: &[u8]) {
-    assert_eq!(rt; write(rt, sink, text, 0), (Ok(()), 0));
+    assert_same(rt, &write(rt, sink, text, 0), &(Ok(()), 0));
 }
 
 fn three_texts(alloc: Global) -> Result<Vec<Vec<u8>>, AllocError> {
@@ -361,9 +370,9 @@ fn writes_to_each(rt: HostRuntime) -> Result<(), Fail> {
     let mut sink = received(rt.alloc());
     assert_whole(&rt, &mut sink, b"abc");
     assert_received(&rt, &sink, b"abc");
-    assert_eq!(rt; write_texts(&rt, &mut sink, &texts, 0), (Ok(()), 0));
+    assert_same(&rt, &write_texts(&rt, &mut sink, &texts, 0), &(Ok(()), 0));
     assert_received(&rt, &sink, b"abcdef");
-    assert_eq!(rt; write_once(&mut sink, b"ghi"), Ok(3));
+    assert_same(&rt, &write_once(&mut sink, b"ghi"), &Ok(3));
     assert_received(&rt, &sink, b"abcdefghi");
     Ok(())
 }
@@ -371,12 +380,12 @@ fn writes_to_each(rt: HostRuntime) -> Result<(), Fail> {
 #[test]
 fn writes_to_nowhere(rt: HostRuntime) {
     assert_whole(&rt, &mut Nowhere, b"abc");
-    assert_eq!(rt; write_once(&mut Nowhere, b"abc"), Ok(3));
+    assert_same(&rt, &write_once(&mut Nowhere, b"abc"), &Ok(3));
 }
 
 #[test]
 fn writes_to_std_writers(rt: HostRuntime) {
     let mut sink = counted(Vec::new(rt.alloc()));
     assert_whole(&rt, &mut sink, b"abc");
-    assert_eq!(rt; sink.device.as_slice(), b"abc".as_slice());
+    assert_same(&rt, &sink.device.as_slice(), &b"abc".as_slice());
 }

@@ -1,4 +1,5 @@
 //! Problems, their plans, and the names of bays.
+use crate::compare::{assert_same, assert_same_at};
 use crate::plan::laws::plans_of_six_containers;
 use crp_plan::*;
 use std::alloc::{AllocError, Global};
@@ -77,16 +78,16 @@ fn assert_plan(
     moves: &[Move],
 ) -> Result<(), Fail> {
     let plan = plan_of(problem, rows)?;
-    assert_eq!(rt; count_of(&plan) as usize, rows.len());
-    assert_eq!(rt; rows_in(&plan), rows);
-    assert_eq!(rt; cap_of(plan.problem()), cap_of(problem));
-    assert_eq!(rt; moves_of(rt.alloc(), &plan)?.as_slice(), moves);
+    assert_same(rt, &(count_of(&plan) as usize), &rows.len());
+    assert_same(rt, &rows_in(&plan), &rows);
+    assert_same(rt, &cap_of(plan.problem()), &cap_of(problem));
+    assert_same(rt, &moves_of(rt.alloc(), &plan)?.as_slice(), &moves);
     Ok(())
 }
 
 /// These rows are no plan, for this reason.
 fn assert_no_plan(rt: &impl Abort, problem: &Problem, rows: &[u8], fault: PlanFault) {
-    assert_eq!(rt; plan_of(problem, rows).err(), Some(fault), "{rows:?}");
+    assert_same_at(rt, &plan_of(problem, rows).err(), &Some(fault), &rows);
 }
 
 #[test]
@@ -97,9 +98,9 @@ fn laws_of_six_containers(_rt: HostRuntime) {
 #[test]
 fn six_containers_three_relocations(rt: HostRuntime) -> Result<(), Fail> {
     let problem = problem_of(&rt, 3, 6, SIX_CONTAINERS)?;
-    assert_eq!(rt; size_of(&problem), [3, 3, 6, 6]);
-    assert_eq!(rt; cap_of(&problem), 13);
-    assert_eq!(rt; stack_of(&problem, 0), [1, 5, 4].as_slice());
+    assert_same(&rt, &size_of(&problem), &[3, 3, 6, 6]);
+    assert_same(&rt, &cap_of(&problem), &13);
+    assert_same(&rt, &stack_of(&problem, 0), &[1, 5, 4].as_slice());
     Ok(())
 }
 
@@ -166,10 +167,11 @@ fn largest_bay(rt: HostRuntime) -> Result<(), Fail> {
         (8, 97, Some(ProblemFault::Ordered)),
     ];
     for (tiers, ordered, fault) in cases {
-        assert_eq!(rt;
-            fault_of(tiers, ordered, &stacks),
-            fault,
-            "{ordered} in {tiers}"
+        assert_same_at(
+            &rt,
+            &fault_of(tiers, ordered, &stacks),
+            &fault,
+            &(ordered, tiers),
         );
     }
     Ok(())
@@ -178,17 +180,17 @@ fn largest_bay(rt: HostRuntime) -> Result<(), Fail> {
 #[test]
 fn twelve_rows_and_thirteen(rt: HostRuntime) -> Result<(), Fail> {
     let mut stacks = full_rows(rt.alloc(), 12)?;
-    assert_eq!(rt; cap_of(&stated(8, 96, &stacks)?), 673);
+    assert_same(&rt, &cap_of(&stated(8, 96, &stacks)?), &673);
     stacks.push(Vec::new(rt.alloc()))?;
-    assert_eq!(rt; fault_of(8, 96, &stacks), Some(ProblemFault::Rows));
+    assert_same(&rt, &fault_of(8, 96, &stacks), &Some(ProblemFault::Rows));
     Ok(())
 }
 
 #[test]
 fn bay_without_containers(rt: HostRuntime) -> Result<(), Fail> {
     let problem = problem_of(&rt, 1, 0, &[&[]])?;
-    assert_eq!(rt; cap_of(&problem), 1);
-    assert_eq!(rt; size_of(&problem), [1, 1, 0, 0]);
+    assert_same(&rt, &cap_of(&problem), &1);
+    assert_same(&rt, &size_of(&problem), &[1, 1, 0, 0]);
     assert_plan(&rt, &problem, &[], &[])?;
     assert_no_plan(&rt, &problem, &[1], PlanFault::LeftOver { step: 1 });
     Ok(())
@@ -197,7 +199,7 @@ fn bay_without_containers(rt: HostRuntime) -> Result<(), Fail> {
 #[test]
 fn dead_end(rt: HostRuntime) -> Result<(), Fail> {
     let problem = problem_of(&rt, 2, 4, &[&[1, 2], &[3, 4]])?;
-    assert_eq!(rt; cap_of(&problem), 5);
+    assert_same(&rt, &cap_of(&problem), &5);
     assert_no_plan(&rt, &problem, &[], PlanFault::Incomplete);
     for row in 1..3u8 {
         assert_no_plan(&rt, &problem, &[row], PlanFault::NotLegal { step: 1 });
@@ -220,11 +222,11 @@ fn assert_statement(
 ) -> Result<(), AllocError> {
     let stacks = rows_of(rt.alloc(), statement.rows)?;
     let fault = fault_of(statement.tiers, statement.ordered, &stacks);
-    assert_eq!(rt;
-        fault,
-        statement.fault,
-        "{} of {:?}",
-        statement.ordered, statement.rows
+    assert_same_at(
+        rt,
+        &fault,
+        &statement.fault,
+        &(statement.ordered, statement.rows),
     );
     Ok(())
 }
@@ -305,7 +307,7 @@ fn assert_text(
     expected: &str,
 ) -> Result<(), AllocError> {
     let text = format!(in rt.alloc(); "{fault}")?;
-    assert_eq!(rt; text.as_str(), expected);
+    assert_same(rt, &text.as_str(), &expected);
     Ok(())
 }
 
@@ -330,7 +332,7 @@ fn assert_plan_text(
     expected: &str,
 ) -> Result<(), AllocError> {
     let text = format!(in rt.alloc(); "{fault}")?;
-    assert_eq!(rt; text.as_str(), expected);
+    assert_same(rt, &text.as_str(), &expected);
     Ok(())
 }
 
@@ -374,6 +376,6 @@ fn names_of_bays(rt: HostRuntime) {
         (b"ABCDEFGHIJKLMNOPQ", 9999, true),
     ];
     for (block, bay, named) in names {
-        assert_eq!(rt; is_name(&rt, block, bay), named, "{block:?} {bay}");
+        assert_same_at(&rt, &is_name(&rt, block, bay), &named, &(block, bay));
     }
 }

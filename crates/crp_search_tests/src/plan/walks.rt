@@ -1,5 +1,6 @@
 //! The walk over legal moves, step by step.
 use super::problems::{SIX_CONTAINERS, problem_of};
+use crate::compare::{assert_same, assert_same_at};
 use crp_plan::{Problem, Walk};
 use std::process::Abort;
 use std::test::Fail;
@@ -63,7 +64,7 @@ fn stepped(walk: &mut Walk, to: Option<u8>) -> Option<u8> {
 
 fn assert_steps(rt: &impl Abort, walk: &mut Walk, steps: &[Step]) {
     for (i, (to, from)) in steps.iter().enumerate() {
-        assert_eq!(rt; stepped(walk, *to), *from, "step {i}");
+        assert_same_at(rt, &stepped(walk, *to), from, &i);
     }
 }
 
@@ -80,12 +81,12 @@ const LEGAL: &[Step] = &[(Some(2), Some(1)), (Some(2), Some(1)), (None, Some(1))
 fn walk_of_a_buried_container(rt: HostRuntime) -> Result<(), Fail> {
     let problem = problem_of(&rt, 3, 6, SIX_CONTAINERS)?;
     let mut walk = begun(&problem);
-    assert_eq!(rt; size_of_walk(&walk), (3, 6));
+    assert_same(&rt, &size_of_walk(&walk), &(3, 6));
     assert_steps(&rt, &mut walk, NOT_LEGAL);
     let other = copied(&walk);
     assert_steps(&rt, &mut walk, LEGAL);
     settle(&mut walk);
-    assert_eq!(rt; next_of(&walk), 4);
+    assert_same(&rt, &next_of(&walk), &4);
     assert!(rt; !finished(&walk));
     assert_copy(&rt, &other);
     Ok(())
@@ -93,9 +94,9 @@ fn walk_of_a_buried_container(rt: HostRuntime) -> Result<(), Fail> {
 
 /// The copy stands where the walk began.
 fn assert_copy(rt: &impl Abort, walk: &Walk) {
-    assert_eq!(rt; next_of(walk), 1);
-    assert_eq!(rt; row_of(walk, 1), Some((3, [1, 5, 4].as_slice())));
+    assert_same(rt, &next_of(walk), &1);
+    assert_same(rt, &row_of(walk, 1), &Some((3, [1, 5, 4].as_slice())));
     for (row, there) in [(3, true), (4, false), (0, false)] {
-        assert_eq!(rt; has_row(walk, row), there, "{row}");
+        assert_same_at(rt, &has_row(walk, row), &there, &row);
     }
 }

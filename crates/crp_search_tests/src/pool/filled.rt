@@ -2,6 +2,7 @@
 ghost use Rattle.std.specs.Prelude.{◌≡◌, ◌<◌, ◌≤◌, vec_len};
 ghost use Rattle.crp_pool.specs.Seats.{IsEverySeat};
 
+use crate::compare::{assert_at, assert_same_at};
 use crp_pool::{Pool, PoolSeat};
 use crp_tree::Name;
 use std::alloc::{AllocError, Global};
@@ -15,15 +16,15 @@ pub fn named(rt: &impl Abort, rows: &[u8]) -> Name {
 /// This seat puts the name with these rows.
 pub fn puts(rt: &impl Abort, filled: &mut Filled, seat: usize, rows: &[u8]) {
     assert!(rt; seat < filled.len());
-    assert!(rt; filled.put(seat, named(rt, rows)).is_ok(), "by {seat}");
+    assert_at(rt, filled.put(seat, named(rt, rows)).is_ok(), &seat);
 }
 
 /// This seat takes the name with these rows, or none.
 pub fn takes(rt: &impl Abort, filled: &mut Filled, seat: usize, rows: Option<&[u8]>) {
     assert!(rt; seat < filled.len());
     match filled.take(seat) {
-        Some(name) => assert_eq!(rt; Some(name.rows()), rows, "by {seat}"),
-        None => assert!(rt; rows.is_none(), "by {seat}"),
+        Some(name) => assert_same_at(rt, &Some(name.rows()), &rows, &seat),
+        None => assert_at(rt, rows.is_none(), &seat),
     }
 }
 

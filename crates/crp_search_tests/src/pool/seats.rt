@@ -1,6 +1,7 @@
 //! What seats take, one step after the other.
 
 use super::filled::{Filled, puts, takes};
+use crate::compare::assert_same;
 use std::alloc::{AllocError, Global};
 use std::process::Abort;
 use std::test::Fail;
@@ -30,9 +31,9 @@ fn are_left(
 ) -> Result<(), AllocError> {
     let mut names = filled.left(alloc)?;
     names.sort_unstable();
-    assert_eq!(rt; names.len(), rows.len());
+    assert_same(rt, &names.len(), &rows.len());
     for (name, rows) in names.iter().zip(rows) {
-        assert_eq!(rt; name.rows(), *rows);
+        assert_same(rt, &name.rows(), rows);
     }
     Ok(())
 }
@@ -139,6 +140,10 @@ fn sixty_four_seats_steal_from_the_next(rt: HostRuntime) -> Result<(), Fail> {
         takes(&rt, &mut filled, seat, Some(&[of, name]));
     }
     filled.turn();
-    assert_eq!(rt; filled.left(rt.alloc())?.len(), 3 * 64 - taken.len());
+    assert_same(
+        &rt,
+        &filled.left(rt.alloc())?.len(),
+        &(3 * 64 - taken.len()),
+    );
     Ok(())
 }

@@ -3,6 +3,7 @@ ghost use Rattle.std.specs.Prelude.{ℕ, ◌<◌, length, slice_index_or};
 ghost use Rattle.crp_pool.specs.Seats.{PoolSeat as Place, SameSeat};
 
 use super::filled::Filled;
+use crate::compare::assert_same_at;
 use crp_pool::PoolSeat;
 use crp_tree::Name;
 use std::alloc::{AllocError, Global};
@@ -130,7 +131,7 @@ fn four_threads_account_for_every_name(rt: HostRuntime) -> Result<(), Fail> {
         count(&counts, name);
     }
     for (number, met) in counts.iter().enumerate() {
-        assert_eq!(rt; met.load(Ordering::SeqCst), 1, "{number}");
+        assert_same_at(&rt, &met.load(Ordering::SeqCst), &1, &number);
     }
     Ok(())
 }

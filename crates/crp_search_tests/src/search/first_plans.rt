@@ -1,4 +1,5 @@
 use super::problem_of;
+use crate::compare::assert_same_at;
 use crp_plan::{Plan, Problem};
 use crp_search::first_plan;
 use std::process::Abort;
@@ -28,7 +29,7 @@ pub fn first_of(problem: &Problem) -> Option<Plan> {
 
 fn assert_first(rt: &(impl Abort + AllocGlobal), case: &Worked) -> Result<(), Fail> {
     let problem = problem_of(rt, case.tiers, case.ordered, case.rows)?;
-    assert_eq!(rt; path_of(&first_of(&problem)), case.path, "{}", case.what);
+    assert_same_at(rt, &path_of(&first_of(&problem)), &case.path, &case.what);
     Ok(())
 }
 

@@ -2,6 +2,7 @@ ghost use Rattle.std.specs.Prelude.{◌≡◌, ◌^◌, ◌≤◌};
 
 use super::first_plans::first_of;
 use super::problem_of;
+use crate::compare::{assert_at, assert_same, assert_same_at};
 use crate::search::lone::Lone;
 use crp_plan::{Plan, Problem};
 use crp_search::search;
@@ -72,14 +73,14 @@ fn part_at(
     ensures { limit.new.problem ≡ limit.old.problem }
 {
     let name = Name::from_rows(rows).expect(rt, "8 rows at most");
-    assert!(rt; name.position(problem).is_some(), "a path");
+    assert!(rt; name.position(problem).is_some());
     search(alloc, problem, name, limit, split)
 }
 
 fn tree_is(rt: &impl Abort, alloc: Global, part: &Part, symbols: &str) -> Result<(), AllocError> {
     let mut text = String::new(alloc);
     spell(part.tree(), &mut text)?;
-    assert_eq!(rt; text.as_str(), symbols, "the tree");
+    assert_same_at(rt, &text.as_str(), &symbols, &"the tree");
     Ok(())
 }
 
@@ -92,9 +93,9 @@ fn part_is(
     symbols: &str,
     floor: u32,
 ) -> Result<(), AllocError> {
-    assert_eq!(rt; rows_of(part), rows, "the name of {symbols}");
+    assert_same_at(rt, &rows_of(part), &rows, &symbols);
     tree_is(rt, alloc, part, symbols)?;
-    assert_eq!(rt; floor_of(part), floor, "the floor of {symbols}");
+    assert_same_at(rt, &floor_of(part), &floor, &symbols);
     Ok(())
 }
 
@@ -131,13 +132,8 @@ fn assert_tree(rt: &(impl Abort + AllocGlobal), case: &Worked) -> Result<(), Fai
     let start = start_of(&problem);
     let (part, limit) = searched_alone(rt, alloc, &problem, start, case.budget, 2)?;
     part_is(rt, alloc, &part, &[], case.symbols, case.floor)?;
-    assert_eq!(rt;
-        limit.words.view.granted,
-        case.spent,
-        "the claims of {}",
-        case.symbols
-    );
-    assert_eq!(rt; names_in(alloc, &part)?.as_slice().len(), 0);
+    assert_same_at(rt, &limit.words.view.granted, &case.spent, &case.symbols);
+    assert_same(rt, &names_in(alloc, &part)?.as_slice().len(), &0);
     Ok(())
 }
 
@@ -263,9 +259,9 @@ fn worked_trees_of_one_worker(rt: HostRuntime) -> Result<(), Fail> {
 fn a_better_plan_is_offered(rt: HostRuntime) -> Result<(), Fail> {
     let problem = problem_of(&rt, 3, 6, BLOCKED)?;
     let (_part, limit) = searched_alone(&rt, rt.alloc(), &problem, 4, 3, 0)?;
-    assert_eq!(rt; limit.words.view.mine, 3);
-    assert_eq!(rt; limit.words.view.seen, 3);
-    assert_eq!(rt; limit.words.limit, 3);
+    assert_same(&rt, &limit.words.view.mine, &3);
+    assert_same(&rt, &limit.words.view.seen, &3);
+    assert_same(&rt, &limit.words.limit, &3);
     Ok(())
 }
 
@@ -302,10 +298,10 @@ fn search_three(
 /// The root gives away the names of rows 2 and 3, and these were put.
 fn assert_given(rt: &impl Abort, alloc: Global, three: &Three) -> Result<(), AllocError> {
     let given = Names::from_vec(names_in(alloc, &three.root)?.into_vec()).into_vec();
-    assert_eq!(rt; given.len(), 2);
-    assert_eq!(rt; given[0].rows(), [2].as_slice());
-    assert_eq!(rt; given[1].rows(), [3].as_slice());
-    assert!(rt; given == three.limit.given, "the names that were put");
+    assert!(rt; given.len() == 2);
+    assert_same(rt, &given[0].rows(), &[2].as_slice());
+    assert_same(rt, &given[1].rows(), &[3].as_slice());
+    assert_at(rt, given == three.limit.given, &"the names that were put");
     Ok(())
 }
 
@@ -327,11 +323,11 @@ fn assert_three(rt: &(impl Abort + AllocGlobal), case: &Given) -> Result<(), Fai
     assert_given(rt, alloc, &three)?;
     tree_is(rt, alloc, &three.by_row_three, case.by_row_three)?;
     tree_is(rt, alloc, &three.by_row_two, case.by_row_two)?;
-    assert_eq!(rt;
-        three.limit.words.view.granted,
-        case.spent,
-        "{}",
-        case.by_row_three
+    assert_same_at(
+        rt,
+        &three.limit.words.view.granted,
+        &case.spent,
+        &case.by_row_three,
     );
     let floor = floor_of(&three.by_row_two);
     certificate_is(rt, Cert::whole(alloc, three.root)?, &[], problem.cap());
@@ -378,14 +374,8 @@ fn three_parts(
     second: Part,
     third: Part,
 ) -> Result<Cert, AllocError> {
-    assert!(rt;
-        first.name().precedes(second.name()),
-        "the second comes later"
-    );
-    assert!(rt;
-        second.name().precedes(third.name()),
-        "the third comes later"
-    );
+    assert!(rt; first.name().precedes(second.name()));
+    assert!(rt; second.name().precedes(third.name()));
     names_are_ordered();
     let parts = vec![in alloc; first, second, third]?;
     Ok(Cert::of_parts(Parts::from_vec(parts)))
@@ -405,9 +395,9 @@ fn parts_of_one_search_make_a_certificate(rt: HostRuntime) -> Result<(), Fail> {
     let problem = problem_of(&rt, 3, 6, SIX)?;
     let three = search_three(&rt, alloc, &problem, 3, 1)?;
     let cert = three_parts(&rt, alloc, three.root, three.by_row_two, three.by_row_three)?;
-    assert_eq!(rt; lower_of(&cert), 3);
+    assert_same(&rt, &lower_of(&cert), &3);
     let expected: [(&[u8], &str, u32); 3] = [(&[], "XGG", 13), (&[2], "L", 3), (&[3], "B", 3)];
-    assert_eq!(rt; parts_of(&cert).len(), expected.len());
+    assert_same(&rt, &parts_of(&cert).len(), &expected.len());
     for (i, (rows, symbols, floor)) in expected.iter().enumerate() {
         let part = parts_of(&cert).get(i).expect(&rt, "a part");
         part_is(&rt, alloc, part, rows, symbols, *floor)?;
@@ -421,12 +411,12 @@ fn ordered_of(part: &Part) -> u8 {
 
 /// The certificate of one part of this name, whose problem has six containers that are to leave.
 fn certificate_is(rt: &impl Abort, cert: Cert, rows: &[u8], lower: u32) {
-    assert_eq!(rt; lower_of(&cert), lower);
-    assert_eq!(rt; parts_of(&cert).len(), 1);
+    assert_same(rt, &lower_of(&cert), &lower);
+    assert_same(rt, &parts_of(&cert).len(), &1);
     let parts = Parts::from_vec(cert.into_parts().into_vec());
-    assert_eq!(rt; parts.as_slice().len(), 1);
+    assert_same(rt, &parts.as_slice().len(), &1);
     let part = &parts.as_slice()[0];
-    assert_eq!(rt; rows_of(part), rows);
-    assert_eq!(rt; floor_of(part), lower);
-    assert_eq!(rt; ordered_of(part), 6);
+    assert_same(rt, &rows_of(part), &rows);
+    assert_same(rt, &floor_of(part), &lower);
+    assert_same(rt, &ordered_of(part), &6);
 }

@@ -1,10 +1,11 @@
 //! A search whose steps are also those of a world of one worker.
 ghost use Rattle.std.specs.Prelude.{◌≡◌, ◌+◌, ◌^◌, ◌≤◌};
 
-use crate::alone::Alone;
-use crate::tests::bays::{BAYS, problem_of};
+use crate::compare::assert_at;
+use crate::solve::bays::{BAYS, problem_of};
 use crp_plan::{Plan, Problem, Words};
 use crp_search::{Limit, first_plan, search};
+use crp_solve::{Answer, Settings, solve_alone};
 use crp_steps::{Event, Kind, World};
 use crp_tree::{Name, Tree};
 use std::alloc::{AllocError, Global};
@@ -58,6 +59,22 @@ fn push_looks(looks: &mut Vec<bool>, tree: &Tree) -> Result<(), AllocError> {
                 push_looks(looks, tree)?;
             }
         }
+    }
+    Ok(())
+}
+
+// The same of all cuts that one worker makes.
+fn push_all_looks(
+    looks: &mut Vec<bool>,
+    alloc: Global,
+    problem: &Problem,
+    settings: Settings,
+) -> Result<(), AllocError> {
+    let solved = solve_alone(alloc, problem, settings)?;
+    let (Answer::Optimal { cert, .. } | Answer::NoPlan { cert } | Answer::Between { cert, .. }) =
+        &solved.answer;
+    for part in cert.parts() {
+        push_looks(looks, part.tree())?;
     }
     Ok(())
 }
@@ -131,13 +148,10 @@ fn ends_alike(
     alloc: Global,
     problem: &Problem,
     budget: u64,
-) -> Result<bool, AllocError> {
+) -> Result<bool, Fail> {
     assert!(rt; budget <= 1000000);
-    let whole = Name::root();
-    assert!(rt; whole.position(problem).is_some(), "the root is a path");
-    let part = search(alloc, problem, whole, &mut Alone::new(problem, budget), 0)?;
     let mut looks = Vec::new(alloc);
-    push_looks(&mut looks, part.tree())?;
+    push_all_looks(&mut looks, alloc, problem, Settings::new(1, budget, 0)?)?;
     let first = first_plan(problem);
     let mut world = World::start(alloc, problem, 1, budget, 0, first.as_ref())?;
     let begun = follow(&mut world, Kind::Take);
@@ -153,7 +167,7 @@ fn ends_alike(
         agrees: begun,
     };
     let name = Name::root();
-    assert!(rt; name.position(problem).is_some(), "the root is a path");
+    assert_at(rt, name.position(problem).is_some(), &"the root is a path");
     let part = search(alloc, problem, name, &mut worker, 0)?;
     worker.end();
     Ok(worker.ends_at(part.floor()))
@@ -165,7 +179,7 @@ fn a_search_closes_its_world(rt: HostRuntime) -> Result<(), Fail> {
         let problem = problem_of(rt.alloc(), &bay)?;
         for budget in [0, 1, 2, 3, 1000000] {
             let alike = ends_alike(&rt, rt.alloc(), &problem, budget)?;
-            assert!(rt; alike, "the bay {} with the budget {budget}", bay.name);
+            assert_at(&rt, alike, &(bay.name, budget));
         }
     }
     Ok(())

@@ -1,8 +1,9 @@
 //! Searches by several workers.
-use crate::tests::bays::{BAYS, BETTER_THAN_GREEDY, Bay, FOUR_ROWS, SIX, problem_of};
-use crate::tests::solving::told;
-use crate::{Answer, Gate, NoGate, Settings, Solved, solve, solve_alone};
+use crate::compare::{assert_at, assert_same};
+use crate::solve::bays::{BAYS, BETTER_THAN_GREEDY, Bay, FOUR_ROWS, SIX, problem_of};
+use crate::solve::solving::told;
 use crp_incumbent::Board;
+use crp_solve::{Answer, Gate, NoGate, Settings, Solved, solve, solve_alone};
 use crp_tree::Name;
 use std::alloc::Global;
 use std::sync::Wait;
@@ -102,9 +103,10 @@ fn answers_in_parts(rt: HostRuntime) -> Result<(), Fail> {
             let solved = solved_by(&rt, rt.alloc(), &case.bay, settings)?;
             let text = text_of(rt.alloc(), &solved)?;
             let [first, second] = case.answers;
-            assert!(rt;
+            assert_at(
+                &rt,
                 text.as_str() == first || text.as_str() == second,
-                "{workers} workers: {text}"
+                &(workers, text),
             );
         }
     }
@@ -116,9 +118,10 @@ fn one_worker_searches_the_last_part_first(rt: HostRuntime) -> Result<(), Fail> 
     let settings = Settings::new(1, 3, 1)?;
     let solved = solved_by(&rt, rt.alloc(), &BETTER_THAN_GREEDY, settings)?;
     let text = text_of(rt.alloc(), &solved)?;
-    assert_eq!(rt;
-        text.as_str(),
-        "optimal at least 3, part: XGG, part 2: B, part 3: XXBB, plan 3 2 1, expanded 3"
+    assert_same(
+        &rt,
+        &text.as_str(),
+        &"optimal at least 3, part: XGG, part 2: B, part 3: XXBB, plan 3 2 1, expanded 3",
     );
     Ok(())
 }
@@ -140,10 +143,10 @@ fn many_workers_answer_as_one(rt: HostRuntime) -> Result<(), Fail> {
         for (workers, split) in [(1, 0), (2, 0), (2, 1), (3, 2), (5, 8), (64, 3)] {
             let settings = Settings::new(workers, 1000000, split)?;
             let solved = solved_by(&rt, rt.alloc(), &bay, settings)?;
-            assert!(rt;
+            assert_at(
+                &rt,
                 kind_of(&solved.answer) == kind_of(&alone.answer),
-                "{workers} workers in {}",
-                bay.name
+                &(workers, bay.name),
             );
         }
     }
@@ -197,8 +200,12 @@ fn three_workers_meet(rt: HostRuntime) -> Result<(), Fail> {
     let board = Board::new(&problem);
     let settings = Settings::new(3, 1000000, 1)?;
     let solved = solve(&rt, rt.alloc(), &problem, settings, &board, &gate)?;
-    assert_eq!(rt; text_of(rt.alloc(), &solved)?.as_str(), FOUR_ROWS_IN_PARTS);
-    assert_eq!(rt; gate.met.load(Ordering::SeqCst), 1);
+    assert_same(
+        &rt,
+        &text_of(rt.alloc(), &solved)?.as_str(),
+        &FOUR_ROWS_IN_PARTS,
+    );
+    assert_same(&rt, &gate.met.load(Ordering::SeqCst), &1);
     Ok(())
 }
 
@@ -209,6 +216,6 @@ fn the_board_shows_the_best_plan(rt: HostRuntime) -> Result<(), Fail> {
     let settings = Settings::new(2, 1000000, 1)?;
     solve(&rt, rt.alloc(), &problem, settings, &board, &NoGate)?;
     let count = board.show(&rt).map(|plan| plan.count());
-    assert_eq!(rt; count, Some(3));
+    assert_same(&rt, &count, &Some(3));
     Ok(())
 }

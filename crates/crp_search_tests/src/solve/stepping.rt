@@ -1,8 +1,9 @@
 ghost use Rattle.std.specs.Prelude.{◌≡◌, ◌<◌, ◌≤◌, IfSome};
 
-use crate::{Answer, Settings, solve_alone};
+use crate::compare::assert_same;
 use crp_plan::{Plan, Problem};
 use crp_search::first_plan;
+use crp_solve::{Answer, Settings, solve_alone};
 use crp_steps::{Event, Kind, World};
 use std::alloc::{AllocError, Global};
 use std::process::Abort;
@@ -113,8 +114,8 @@ fn shows(
     let mut world = World::start(alloc, problem, workers, 1_000_000, 2, first)?;
     close(rt, numbers, &mut world, workers)?;
     assert!(rt; !world.was_refused());
-    assert_eq!(rt; world.limit(), u64::from(want));
-    assert_eq!(rt; world.least_leaf(), want);
+    assert_same(rt, &world.limit(), &u64::from(want));
+    assert_same(rt, &world.least_leaf(), &want);
     Ok(())
 }
 

@@ -1,0 +1,120 @@
+//! The calls that the tests make, each in a function with no clause: so a test knows nothing of what is promised, and is soon checked.
+ghost use Rattle.std.specs.Prelude.{◌≤◌};
+
+use crp_cert::{CertFault, Head, Script, WriteFault as CertWriteFault};
+use crp_checker::{FileRefused, Refused, Verdict, Verdicts};
+use crp_movins::{MovinsFault, Orders};
+use crp_order::{BayProblem, Mode, Sequence};
+use crp_plan::{BayName, Plan, Problem, Sink, Source};
+use crp_tree::Cert;
+use crp_yard::{WriteFault, Yard, YardFault};
+use edi_text::{EdiFault, Segments};
+use std::alloc::{AllocError, Global};
+
+pub(crate) fn read_head(alloc: Global, bytes: &[u8]) -> Result<Head, CertFault> {
+    crp_cert::read_head(alloc, bytes)
+}
+
+pub(crate) fn read_cert(alloc: Global, bytes: &[u8]) -> Result<Script, CertFault> {
+    crp_cert::read_cert(alloc, bytes)
+}
+
+pub(crate) fn cert_text(
+    alloc: Global,
+    bay: &BayName,
+    problem: &Problem,
+    cert: &Cert,
+    plan: Option<&Plan>,
+) -> Result<Vec<u8>, AllocError> {
+    crp_cert::cert_text(alloc, bay, problem, cert, plan)
+}
+
+pub(crate) fn write_cert<W: Sink>(
+    alloc: Global,
+    writer: &mut W,
+    bay: &BayName,
+    problem: &Problem,
+    cert: &Cert,
+    plan: Option<&Plan>,
+) -> Result<(), CertWriteFault> {
+    crp_cert::write_cert(alloc, writer, bay, problem, cert, plan)
+}
+
+pub(crate) fn check(alloc: Global, bytes: &[u8]) -> Result<Verdict, Refused> {
+    crp_checker::check(alloc, bytes)
+}
+
+pub(crate) fn check_for(
+    alloc: Global,
+    problem: &Problem,
+    bytes: &[u8],
+) -> Result<Verdict, Refused> {
+    crp_checker::check_for(alloc, problem, bytes)
+}
+
+pub(crate) fn check_file(alloc: Global, bytes: &[u8]) -> Result<Verdicts, FileRefused> {
+    crp_checker::check_file(alloc, bytes)
+}
+
+pub(crate) fn read_segments(alloc: Global, text: &[u8]) -> Result<Segments, EdiFault> {
+    edi_text::read_segments(alloc, text)
+}
+
+pub(crate) fn load_orders(
+    alloc: Global,
+    segments: &Segments,
+    code: &[u8],
+) -> Result<Orders, MovinsFault> {
+    crp_movins::load_orders(alloc, segments, code)
+}
+
+pub(crate) fn yard_of(alloc: Global, text: &[u8], rows: u8, tiers: u8) -> Result<Yard, YardFault>
+    requires some_rows { 1 ≤ rows }
+    requires few_rows { rows ≤ 12 }
+    requires some_tiers { 1 ≤ tiers }
+    requires few_tiers { tiers ≤ 8 }
+{
+    crp_yard::yard_of(alloc, text, rows, tiers)
+}
+
+pub(crate) fn read_yard<R: Source>(
+    alloc: Global,
+    source: &mut R,
+    rows: u8,
+    tiers: u8,
+) -> Result<Yard, YardFault>
+    requires some_rows { 1 ≤ rows }
+    requires few_rows { rows ≤ 12 }
+    requires some_tiers { 1 ≤ tiers }
+    requires few_tiers { tiers ≤ 8 }
+{
+    crp_yard::read_yard(alloc, source, rows, tiers)
+}
+
+pub(crate) fn yard_text(alloc: Global, yard: &Yard) -> Result<Vec<u8>, AllocError> {
+    crp_yard::yard_text(alloc, yard)
+}
+
+pub(crate) fn write_yard<W: Sink>(
+    alloc: Global,
+    sink: &mut W,
+    yard: &Yard,
+) -> Result<(), WriteFault> {
+    crp_yard::write_yard(alloc, sink, yard)
+}
+
+pub(crate) fn sequence(alloc: Global, orders: Orders, mode: Mode) -> Result<Sequence, AllocError> {
+    crp_order::sequence(alloc, orders, mode)
+}
+
+pub(crate) fn problems(
+    alloc: Global,
+    yard: &Yard,
+    sequence: &Sequence,
+) -> Result<Vec<BayProblem>, AllocError> {
+    crp_order::problems(alloc, yard, sequence)
+}
+
+pub(crate) fn absent(yard: &Yard, sequence: &Sequence) -> u32 {
+    crp_order::absent(yard, sequence)
+}

@@ -1,0 +1,64 @@
+//! The calls that the tests make, each in a function with no clause: so a test knows nothing of what is promised, and is soon checked.
+use crp_commands::{Job, ToolFault};
+use crp_plan::{Sink, Source};
+use crp_report::{Fault, RunSettings, Status};
+use crp_solve::Settings;
+use crp_words::Usage;
+use std::alloc::Global;
+use std::sync::Wait;
+use std::thread::Threads;
+
+pub(crate) fn replay<R: Source, W: Sink>(
+    alloc: Global,
+    reader: &mut R,
+    writer: &mut W,
+) -> Result<Status, ToolFault> {
+    crp_commands::replay(alloc, reader, writer)
+}
+
+pub(crate) fn bound<R: Source, W: Sink>(
+    alloc: Global,
+    reader: &mut R,
+    writer: &mut W,
+) -> Result<Status, ToolFault> {
+    crp_commands::bound(alloc, reader, writer)
+}
+
+pub(crate) fn check<R: Source, W: Sink>(
+    alloc: Global,
+    reader: &mut R,
+    writer: &mut W,
+) -> Result<Status, ToolFault> {
+    crp_commands::check(alloc, reader, writer)
+}
+
+pub(crate) fn prove<T: Threads + Wait + Sync, R: Source, W: Sink>(
+    rt: &T,
+    alloc: Global,
+    reader: &mut R,
+    writer: &mut W,
+    settings: Settings,
+) -> Result<Status, ToolFault> {
+    crp_commands::prove(rt, alloc, reader, writer, settings)
+}
+
+pub(crate) fn run<T: Threads + Wait + Sync, Y: Source, M: Source, W: Sink, C: Sink, A: Sink>(
+    rt: &T,
+    alloc: Global,
+    yard: &mut Y,
+    movins: &mut M,
+    settings: &RunSettings,
+    out: &mut W,
+    cert_out: &mut C,
+    after_out: &mut A,
+) -> Result<Status, Fault> {
+    crp_report::run(rt, alloc, yard, movins, settings, out, cert_out, after_out)
+}
+
+pub(crate) fn exit_of(answer: &Result<Status, ToolFault>) -> u8 {
+    crp_commands::exit_of(answer)
+}
+
+pub(crate) fn job<'a>(alloc: Global, words: &'a [&'a str]) -> Result<Job<'a>, Usage> {
+    crp_words::job(alloc, words)
+}
