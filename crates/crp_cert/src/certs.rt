@@ -14,6 +14,7 @@ use crate::parts::{PartLine, Parts};
 use crate::reading::head_and_rest;
 use crate::script::Script;
 use crate::trees::{are_symbols, read_tree};
+use arrayvec::ArrayVec;
 use crp_plan::Problem;
 use crp_tree::Name;
 use itoa::Buffer;
@@ -96,6 +97,27 @@ fn after_end(count: usize, bytes: &[u8]) -> Option<&[u8]>
     let rest = after_tag(b"end ", bytes)?;
     let rest = after_tag(digits.format(count).as_bytes(), rest)?;
     after_newline(rest)
+}
+
+/// The most bytes that the last line has: its word, 20 digits and LF.
+pub const MAX_END: usize = 25;
+
+/// The last line of a certificate with so many parts.
+pub fn end_line(count: usize) -> ArrayVec<u8, MAX_END>
+    ensures { result.items ≡ end_line count }
+{
+    let mut digits = Buffer::new();
+    let mut line = ArrayVec::new();
+    let Ok(()) = line.try_extend_from_slice(b"end ") else {
+        unreachable!()
+    };
+    let Ok(()) = line.try_extend_from_slice(digits.format(count).as_bytes()) else {
+        unreachable!()
+    };
+    let Ok(()) = line.try_extend_from_slice(b"\n") else {
+        unreachable!()
+    };
+    line
 }
 
 /// The script whose text the bytes are. Else the first line that is not as said, or that no memory

@@ -1,8 +1,9 @@
 //! The fields of a part line.
-ghost use Rattle.std.specs.Prelude.{IfSome};
+ghost use Rattle.std.specs.Prelude.{◌≡◌, ℕ, List, IfSome, IfNone};
 ghost use Rattle.crp_plan.specs.Bay.{IsAt, IsProblem};
 ghost use Rattle.crp_cert.specs.Reading.{Reads};
 ghost use Rattle.crp_cert.specs.PartReading.{line_at, name_at, part_at};
+ghost use Rattle.crp_cert.specs.Settled.{IsName, spelled_name};
 
 use crate::fields::{after_newline, after_tag, number};
 use crp_bay::Position;
@@ -71,4 +72,24 @@ pub fn part_line<'a>(problem: &Problem, bytes: &'a [u8]) -> Option<PartFields<'a
         symbols,
         rest,
     })
+}
+
+/// The name of which the bytes are the spelling in a part line: from behind its first word down to
+/// the space before its symbols. `None` where they spell no path of the problem with at most 8 rows.
+pub fn read_name(problem: &Problem, bytes: &[u8]) -> Option<Name>
+    ensures found { IfSome result (λ name. IsName problem.now name × (bytes.now ≡ spelled_name name)) }
+    ensures none { IfNone result ((name : List ℕ) → IsName problem.now name
+        → bytes.now ≡ spelled_name name → ⊥) }
+    ensures problem { IsProblem problem.now }
+{
+    let Some((named, rest)) = name_of(problem, bytes) else {
+        return None;
+    };
+    let Some(after) = after_tag(b": ", rest) else {
+        return None;
+    };
+    if !after.is_empty() {
+        return None;
+    }
+    Some(named.0)
 }

@@ -4,14 +4,16 @@ ghost use Rattle.std.specs.List.{flat_map};
 ghost use Rattle.crp_plan.specs.Faults.{stacks_of, stated};
 ghost use Rattle.crp_cert.specs.Text.{IsSize, IsHead, IsHeadOf, row_line, head_text};
 ghost use Rattle.crp_cert.specs.Faults.{BeginsWith, AreFirstStacks, IsNextStack, IsFirstFault};
+ghost use Rattle.crp_plan.specs.BayNames.{YardBay};
 ghost use Rattle.crp_cert.specs.Reading.{IsStackFault};
+ghost use Rattle.crp_cert.specs.Settled.{BeginsWithBay};
 
 use crate::fault::CertFault;
 use crate::fields::{after_tag, bay_of, claim_of, plan_of, row_of, size_of};
 use crate::head::Head;
 use crate::ranks::{are_all, are_new};
 use crate::size::Size;
-use crp_plan::Problem;
+use crp_plan::{BayName, Problem};
 use std::alloc::{AllocError, Global};
 
 /// Adds the stack that the next row line tells, and gives what follows the line; none where no
@@ -121,4 +123,18 @@ pub fn read_head(alloc: Global, bytes: &[u8]) -> Result<Head, CertFault>
 {
     let (head, _) = head_and_rest(alloc, bytes)?;
     Ok(head)
+}
+
+/// The bay that the first two lines name. `None` where the bytes do not begin with two such lines.
+pub fn read_bay(bytes: &[u8]) -> Option<BayName>
+    ensures found { IfSome result (BeginsWithBay bytes.now) }
+    ensures none { IfNone result ((name : YardBay) → ¬ BeginsWithBay bytes.now name) }
+{
+    let Some(rest) = after_tag(b"CRP-CERT 1\n", bytes) else {
+        return None;
+    };
+    let Some((bay, _)) = bay_of(rest) else {
+        return None;
+    };
+    Some(bay)
 }

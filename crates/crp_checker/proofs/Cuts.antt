@@ -12,7 +12,7 @@ use Rattle.crp_checker.specs.declared.refused.Refused.TheVariants.{Memory}
 use Rattle.crp_checker.specs.Refusals.{IsRefusal}
 use Rattle.crp_checker.specs.Shown.{TextShowsFor}
 use Rattle.crp_checker.specs.Files.{IsWithoutEnd, IsLine, BeginsWithEnd, IsOtherLine, joined_lines, IsEnded, IsOpen, BeginsWithTexts, ShowEach, AddsShown, IsFileRefusal}
-use Rattle.crp_checker.proofs.WalkSteps.{all_both}
+use Rattle.crp_cert.proofs.Joined.{all_both}
 
 -- the bytes are lines that do not begin with `end `
 pub record AreOtherLines (bytes : List ℕ) : Type 0 where

@@ -16,7 +16,7 @@ use Rattle.crp_checker.specs.declared.refused.Refused.TheVariants as refused
 use Rattle.crp_checker.specs.Nodes.{IsLow, IsAtEnd, IsRight, IsFirstWrong}
 use Rattle.crp_checker.specs.AcceptedTexts.{IsWanted}
 use Rattle.crp_checker.specs.Refusals.{NamedNodes, nodes_by_name, IsRightPart, AreRightParts, IsFirstWrongNode, IsMissing, IsUnneeded, HasRightHead, IsFirstWrongClaim}
-use Rattle.crp_checker.proofs.WalkSteps.{all_right}
+use Rattle.crp_cert.proofs.Joined.{all_right}
 use Rattle.crp_checker.proofs.Shapes.{right_from}
 
 -- what holds of all holds of the one among them

@@ -6,7 +6,16 @@ pub mod Shown
 pub mod Files
 pub mod Needs
 pub mod Passing
-pub mod Walks
+pub mod Openings
+pub mod Stages
+pub mod Fed
+pub mod Watches
+pub mod FedFiles
+pub mod Owed
+pub mod Symbols
+pub mod Kept
+pub mod Ends
+pub mod PartEnds
 pub use Rattle.crp_plan.specs.Bay
 pub use Rattle.crp_plan.specs.BayNames
 pub use Rattle.crp_plan.specs.Plans

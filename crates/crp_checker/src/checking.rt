@@ -1,44 +1,28 @@
-//! The check of a certificate.
-ghost use Rattle.std.specs.Prelude.{◌≡◌, ◌≢◌, ◌^◌, ◌<◌, ◌≤◌, ◌⊎◌, Option, None, Some, All, IfOk, OnOk, IfErr, length, List};
+//! The check of a whole certificate.
+ghost use Rattle.std.specs.Prelude.{◌≡◌, ◌≢◌, ◌≤◌, ◌⊎◌, None, Some, IfOk, OnOk, IfErr, List};
 ghost use Rattle.crp_plan.specs.declared.moves.Move.{Move};
-ghost use Rattle.crp_plan.specs.Bay.{Problem as Statement, cap, IsPlan, relocations};
+ghost use Rattle.crp_plan.specs.Bay.{cap, IsPlan, relocations};
 ghost use Rattle.crp_cert.specs.declared.head.Head.{Head};
 ghost use Rattle.crp_cert.specs.Text.{IsHeadOf};
-ghost use Rattle.crp_cert.specs.Script.{IsScriptOf};
-ghost use Rattle.crp_tree.specs.Claims.{nodes_in};
 ghost use Rattle.crp_checker.specs.AcceptedTexts.{IsNotAccepted};
 ghost use Rattle.crp_checker.specs.Verdicts.{Says};
 ghost use Rattle.crp_checker.specs.Shown.{TextShows, TextShowsFor};
 ghost use Rattle.crp_checker.specs.Refusals.{IsRefusal};
 
-use crate::claim::check_claim;
+use crate::checker::Checker;
 use crate::refused::Refused;
 use crate::verdict::Verdict;
-use crp_cert::{Script, read_cert};
 use crp_plan::{BayName, Problem};
 use std::alloc::Global;
-
-/// The script that the bytes are the text of.
-fn script_of(alloc: Global, bytes: &[u8]) -> Result<Script, Refused>
-    ensures text { IfOk result (IsScriptOf bytes.now) }
-    ensures few { IfOk result (λ script.
-        All (λ part. length (nodes_in script.head.problem part) < 2 ^ 64) script.parts) }
-    ensures refused { IfErr result (λ refused. (refused ≡ Refused.Memory)
-        ⊎ ((wanted : Option Statement) → IsRefusal wanted bytes.now refused)) }
-{
-    let script = read_cert(alloc, bytes)?;
-    // No part has more symbols than the text has bytes.
-    let _most = bytes.len();
-    Ok(script)
-}
 
 /// Checks a certificate. Whose it is, and what it shows.
 pub(crate) fn check_text(alloc: Global, bytes: &[u8]) -> Result<(BayName, Verdict), Refused>
     ensures shown { IfOk result (λ told. TextShowsFor bytes.now told.0 told.1) }
     ensures refused { IfErr result (λ refused. (refused ≡ Refused.Memory) ⊎ IsRefusal None bytes.now refused) }
 {
-    let script = script_of(alloc, bytes)?;
-    check_claim(alloc, script)
+    let mut checker = Checker::new(alloc, None);
+    checker.feed(bytes)?;
+    checker.finish_for()
 }
 
 /// What a certificate shows, where the bytes are the text of one that is accepted: the fewest
@@ -75,10 +59,8 @@ pub fn check_for(alloc: Global, problem: &Problem, bytes: &[u8]) -> Result<Verdi
         → head.claim ≡ cap problem.now → IsPlan problem.now moves → ⊥) }
     ensures says { IfOk result (Says problem.now) }
 {
-    let script = script_of(alloc, bytes)?;
-    if !problem.is_same(&script.head.problem) {
-        return Err(Refused::OtherProblem);
-    }
-    let (_bay, verdict) = check_claim(alloc, script)?;
+    let mut checker = Checker::new(alloc, Some(problem));
+    checker.feed(bytes)?;
+    let verdict = checker.finish()?;
     Ok(verdict)
 }

@@ -1,21 +1,37 @@
 //! The independent checker of certificates. It uses nothing of any search.
 #![tactic(auto)]
 
+mod checker;
 mod checking;
 mod claim;
 mod cutting;
 mod file;
+mod file_checker;
+mod findings;
+mod following;
+mod in_head;
+mod in_line;
+mod in_part;
 mod laws;
+mod level;
+mod line;
+mod line_end;
 mod needed;
-mod parts;
+mod opening;
+mod part_names;
 mod path;
 mod refused;
+mod stage;
+mod symbol;
 mod verdict;
 mod verdicts;
-mod walk;
+mod watch;
+mod wrong;
 
+pub use checker::Checker;
 pub use checking::{check, check_for};
 pub use file::check_file;
+pub use file_checker::{Fed, FileChecker};
 pub use laws::{
     accepted_or_refused, one_cut, right_or_wrong, shown_or_refused, verdicts_say,
     written_is_accepted,

@@ -1,0 +1,75 @@
+-- A file of certificates that comes in pieces.
+use Rattle.std.proofs.Common.{◌≡◌, ◌≢◌, ℕ, ◌+◌, ◌≤◌, ◌⊎◌, inl, inr, ⊎_elim, List, [], ◌∷◌, ◌++◌, length, take, drop, None, refl, sym, ap, ◌∙◌, subst, append_assoc}
+use Rattle.std.specs.List.{AllByRecursion}
+use Rattle.std.proofs.lemmas.List.{append-nil, take-append-drop}
+use Rattle.std.proofs.lemmas.Grind.{flat_map-append}
+use Rattle.crp_plan.specs.BayNames.{YardBay}
+use Rattle.crp_cert.proofs.Joined.{all_both}
+use Rattle.crp_checker.specs.declared.verdict.Verdict.{Verdict}
+use Rattle.crp_checker.specs.declared.refused.Refused.{Refused}
+use Rattle.crp_checker.specs.declared.refused.Refused.TheVariants.{Memory}
+use Rattle.crp_checker.specs.declared.watch.Watch.{Watch}
+use Rattle.crp_checker.specs.Shown.{TextShowsFor}
+use Rattle.crp_checker.specs.Refusals.{IsRefusal}
+use Rattle.crp_checker.specs.Files.{IsEnded, IsOpen, joined_lines, BeginsWithTexts, ShowEach, FileShows, IsFileRefusal}
+use Rattle.crp_checker.specs.Watches.{IsUnended}
+use Rattle.crp_checker.specs.FedFiles.{IsEndedFront}
+use Rattle.crp_checker.proofs.Cuts.{texts_more, shown_more, as_many}
+
+-- more bytes
+pub front_on : (file : List ℕ) (verdicts : List (YardBay × Verdict)) (rest more : List ℕ) → IsEndedFront file verdicts rest → IsEndedFront (file ++ more) verdicts (rest ++ more)
+front_on file verdicts rest more front = record {
+  texts = front.texts;
+  ended = front.ended;
+  is = ap (λ l. l ++ more) front.is ∙ append_assoc (joined_lines front.texts) rest more;
+  shown = front.shown;
+}
+
+-- one certificate more
+pub front_more : (file : List ℕ) (verdicts : List (YardBay × Verdict)) (text : List ℕ) (bay : YardBay) (verdict : Verdict) → IsEndedFront file verdicts text → IsEnded text → TextShowsFor text bay verdict →
+    IsEndedFront file (verdicts ++ (bay, verdict) ∷ []) []
+front_more file verdicts text bay verdict front ended shows = record {
+  texts = front.texts ++ text ∷ [];
+  ended = all_both IsEnded front.texts (text ∷ []) front.ended (ended, tt);
+  is = front.is ∙ ap (λ l. joined_lines front.texts ++ l) (sym (append-nil text)) ∙ sym (flat_map-append (λ line. line) front.texts (text ∷ [])) ∙ sym (append-nil (joined_lines (front.texts ++ text ∷ [])));
+  shown = shown_more front.texts verdicts text (bay, verdict) front.shown shows;
+}
+
+-- the file begins with the texts
+begins_from : (texts : List (List ℕ)) (file rest : List ℕ) → AllByRecursion IsEnded texts → file ≡ joined_lines texts ++ rest → BeginsWithTexts file texts rest
+begins_from [] file rest ended is = is
+begins_from (text ∷ texts) file rest ended is =
+    (joined_lines texts ++ rest, is ∙ append_assoc text (joined_lines texts) rest, inl ended.0, begins_from texts (joined_lines texts ++ rest) rest ended.1 refl)
+
+pub begins : (file : List ℕ) (verdicts : List (YardBay × Verdict)) (rest : List ℕ) → (front : IsEndedFront file verdicts rest) → BeginsWithTexts file front.texts rest
+begins file verdicts rest front = begins_from front.texts file rest front.ended front.is
+
+-- bytes that have not ended are those of one more certificate, if there are some
+pub open_text : (text : List ℕ) (watch : Watch) → text ≢ [] → IsUnended text watch → IsOpen text
+open_text text watch some un = record { lines = un.lines; rest = un.begun; others = un.others; part_line = un.open_line; is = un.is; some_bytes = some }
+
+-- one more is refused
+pub refused_next : (file : List ℕ) (verdicts : List (YardBay × Verdict)) (rest text after : List ℕ) (r : Refused) → (front : IsEndedFront file verdicts rest) → rest ≡ text ++ after →
+    IsEnded text ⊎ (IsOpen text × (after ≡ [])) → IsRefusal None text r → IsFileRefusal file verdicts (length verdicts + 1) r
+refused_next file verdicts rest text after r front is ended why = record {
+  texts = front.texts;
+  text = text;
+  after = after;
+  begins = texts_more file front.texts rest text after (begins file verdicts rest front) is ended;
+  shown = front.shown;
+  number_is = ap (λ n. n + 1) (sym (as_many front.texts verdicts front.shown));
+  why = inr why;
+}
+
+-- one more is the last
+pub shown_last : (file : List ℕ) (verdicts : List (YardBay × Verdict)) (text : List ℕ) (last : YardBay × Verdict) → IsEndedFront file verdicts text → IsOpen text → TextShowsFor text last.0 last.1 → FileShows file (verdicts ++ last ∷ [])
+shown_last file verdicts text last front open_text shows = (
+  front.texts ++ text ∷ [],
+  texts_more file front.texts text text [] (begins file verdicts text front) (sym (append-nil text)) (inr (open_text, refl)),
+  shown_more front.texts verdicts text last front.shown shows,
+)
+
+-- a piece, cut in two
+pub cut_piece : (text piece more : List ℕ) (n : ℕ) → text ++ (piece ++ more) ≡ (text ++ take n piece) ++ (drop n piece ++ more)
+cut_piece text piece more n =
+    ap (λ l. text ++ (l ++ more)) (sym (take-append-drop n piece)) ∙ ap (λ l. text ++ l) (append_assoc (take n piece) (drop n piece) more) ∙ sym (append_assoc text (take n piece) (drop n piece ++ more))

@@ -1,0 +1,74 @@
+-- From a branch to the next tree that is owed.
+use Rattle.std.proofs.Common.{◌≡◌, ℕ, suc, ◌+◌, ◌-◌, ◌<◌, ⊎_elim, Bool, true, List, [], ◌∷◌, ◌++◌, length, filter, Contains, refl, sym, ap, ◌∙◌, arith, length-append}
+use Rattle.std.specs.Prelude.{reverse}
+use Rattle.std.proofs.lemmas.Bool.{cases_Bool}
+use Rattle.std.proofs.lemmas.List.{take_at, reverse-append}
+use Rattle.crp_plan.specs.Bay.{Position}
+use Rattle.crp_bay.specs.Positions.{can_shift, child, counted, targets}
+use Rattle.crp_bay.specs.Back.{Standing}
+use Rattle.crp_bay.proofs.Reaching.{can_from_target}
+use Rattle.crp_cert.proofs.PartNames.{not_legal}
+use Rattle.crp_checker.specs.declared.level.Level.{Level}
+use Rattle.crp_checker.specs.Owed.{Spot, spots_below}
+use Rattle.crp_checker.specs.Kept.{left, up, back, pending, owed_by}
+
+-- how many turns branches have, and how often one of them ends
+abbrev pub turns : List Level → ℕ
+turns [] = 0
+turns (level ∷ levels) = suc (length (left level)) + turns levels
+
+-- the path below a branch goes back to it
+up_again : (path : List ℕ) (row : ℕ) → up (path ++ row ∷ []) ≡ path
+up_again path row =
+    let shorter : length path ≡ length (path ++ row ∷ []) - 1 = omega (arith, length-append path (row ∷ [])) in
+    take_at path (row ∷ []) (length (path ++ row ∷ []) - 1) shorter
+
+-- what a branch owes, by the rows that are left
+abbrev owed_in : List ℕ → Standing → List Level → List ℕ → List Spot
+owed_in path s levels rows = spots_below path s.place (filter (can_shift s.place) rows) ++ pending (up path) (back s) levels
+
+-- a legal row
+pub goes_down : (path longer : List ℕ) (s below : Standing) (old new : Level) (levels : List Level) (row : ℕ) → left old ≡ row ∷ left new → Contains (targets s.place) row → longer ≡ path ++ row ∷ [] →
+    below ≡ record { place = child s.place row; trail = s.place ∷ s.trail } → owed_by true longer below (new ∷ levels) ≡ pending path s (old ∷ levels)
+goes_down path longer s below old new levels row rows legal there stands =
+    let can = can_from_target s.place row legal in
+    ap (λ (l : List ℕ). owed_by true l below (new ∷ levels)) there ∙ ap (λ (t : Standing). owed_by true (path ++ row ∷ []) t (new ∷ levels)) stands
+    ∙ ap (λ (l : List ℕ). record { path = path ++ row ∷ []; place = child s.place row } ∷ pending l s (new ∷ levels)) (up_again path row)
+    ∙ sym (ap (owed_in path s levels) rows ∙ rw can refl)
+
+-- a row that is not legal
+pub passes_over : (path : List ℕ) (s : Standing) (old new : Level) (levels : List Level) (row : ℕ) → left old ≡ row ∷ left new → (Contains (targets s.place) row → ⊥) → pending path s (new ∷ levels) ≡ pending path s (old ∷ levels)
+passes_over path s old new levels row rows illegal =
+    let cannot = not_legal s.place row illegal in
+    sym (ap (owed_in path s levels) rows ∙ rw cannot refl)
+
+-- a branch that owes no more
+pub goes_up : (path : List ℕ) (s : Standing) (old : Level) (levels : List Level) → left old ≡ [] → pending (up path) (back s) levels ≡ pending path s (old ∷ levels)
+goes_up path s old levels none = sym (ap (owed_in path s levels) none)
+
+-- the last branch above comes first
+pub last_first : (rest : List Level) (upper : Level) → reverse (rest ++ upper ∷ []) ≡ upper ∷ reverse rest
+last_first rest upper = reverse-append rest (upper ∷ [])
+
+-- a turn that passed
+pub one_fewer : (old new : Level) (levels : List Level) (row : ℕ) → left old ≡ row ∷ left new → turns (new ∷ levels) < turns (old ∷ levels)
+one_fewer old new levels row rows = omega (arith, ap length rows)
+
+-- a branch that ended
+pub one_closed : (old : Level) (levels : List Level) → turns levels < turns (old ∷ levels)
+one_closed old levels = omega arith
+
+-- legal rows are legal once more
+legal_again : (s : Position) → filter (can_shift s) (targets s) ≡ targets s
+legal_again s = twice (can_shift s) (counted 1 (length s.heights))
+  where
+    twice : (p : ℕ → Bool) (xs : List ℕ) → filter p (filter p xs) ≡ filter p xs
+    twice p [] = refl
+    twice p (x ∷ xs) = ⊎_elim (λ t. rw t (rw t (ap (λ l. x ∷ l) (twice p xs)))) (λ f. rw f (twice p xs)) (cases_Bool (p x))
+
+-- a branch that begins owes a tree for each legal row
+pub opens : (path : List ℕ) (s : Standing) (old new : Level) (above longer : List Level) → left new ≡ targets s.place → longer ≡ above ++ old ∷ [] →
+    pending path s (new ∷ reverse longer) ≡ spots_below path s.place (targets s.place) ++ pending (up path) (back s) (old ∷ reverse above)
+opens path s old new above longer rows more =
+    ap (λ l. pending path s (new ∷ reverse l)) more ∙ ap (λ l. pending path s (new ∷ l)) (last_first above old)
+    ∙ ap (owed_in path s (old ∷ reverse above)) rows ∙ ap (λ l. spots_below path s.place l ++ pending (up path) (back s) (old ∷ reverse above)) (legal_again s.place)

@@ -1,0 +1,192 @@
+-- What a symbol pays of what is owed.
+use Rattle.std.proofs.Common.{◌≡◌, ℕ, zero, suc, ◌≤◌, ⊎_elim, Bool, List, [], ◌∷◌, ◌++◌, length, filter, Vec, Global, refl, sym, ap, ◌∙◌, subst, arith, append_assoc, append-nil}
+use Rattle.std.specs.Prelude.{codes}
+use Rattle.std.specs.List.{flat_map}
+use Rattle.std.proofs.lemmas.Bool.{cases_Bool}
+use Rattle.std.proofs.lemmas.List.Concat.{flat_map-append}
+use denote.RawPtr.{null_ptr}
+use Rattle.crp_plan.specs.Bay.{Position}
+use Rattle.crp_bay.specs.Positions.{can_shift, child, counted, targets}
+use Rattle.crp_tree.specs.declared.tree.Tree.{Tree, CutB, CutL, Branch', Given, Branch, Row_of-Tree, end_of-Tree, more_of-Tree, items-the_row-Tree}
+use Rattle.crp_tree.specs.Trees.{Mark, B, L, X, G, nodes, letter, Fits}
+use Rattle.crp_tree.specs.Listed.{nodes_below, AreFit}
+use Rattle.crp_tree.proofs.Listed.{branch_nodes, list_fits}
+use Rattle.crp_cert.specs.Script.{symbols_of, symbols_of_each}
+use Rattle.crp_cert.proofs.Symbols.{branch_read}
+use Rattle.crp_checker.specs.Owed.{Spot, node_at, spots_below, owed_behind, Pay, nodes_of_all}
+
+-- ---- trees that a branch keeps
+
+-- these trees as a branch keeps them
+kept : (trees : List Tree) → length trees ≤ 12 → Vec Tree Global
+kept trees few = record {
+  items = trees;
+  len = length trees;
+  cap = length trees;
+  ok = (refl, omega arith);
+  small = omega arith;
+  ptr = null_ptr;
+  alloc = record { memory = record { seal = tt } };
+}
+
+-- and they are the trees that it keeps
+kept_items : (trees : List Tree) (few : length trees ≤ 12) → (kept trees few).items ≡ trees
+unfolding kept
+kept_items trees few = refl
+
+-- there are no more legal rows than rows
+few_targets : (s : Position) → length (targets s) ≤ length s.heights
+few_targets s = omega (arith, fewer (can_shift s) (counted 1 (length s.heights)), as_many 1 (length s.heights))
+  where
+    as_many : (from more : ℕ) → length (counted from more) ≡ more
+    as_many from zero = refl
+    as_many from (suc more) = ap suc (as_many (suc from) more)
+
+    fewer : (p : ℕ → Bool) (xs : List ℕ) → length (filter p xs) ≤ length xs
+    fewer p [] = omega arith
+    fewer p (x ∷ xs) = ⊎_elim
+        (λ t. rw t (let h = fewer p xs in omega arith))
+        (λ f. rw f (let h = fewer p xs in omega arith))
+        (cases_Bool (p x))
+
+-- ---- what pays two lists of spots
+
+-- trees that pay two lists are those that pay the first and those that pay the second
+record Split (owed more : List Spot) (trees : List Tree) : Type 0 where
+  first : List Tree
+  second : List Tree
+  are : trees ≡ first ++ second
+  pays : Pay owed first
+  pays_more : Pay more second
+
+split : (owed more : List Spot) (trees : List Tree) → Pay (owed ++ more) trees → Split owed more trees
+split [] more trees pays = record { first = []; second = trees; are = refl; pays = tt; pays_more = pays }
+split (spot ∷ owed) more [] pays = absurd pays
+split (spot ∷ owed) more (tree ∷ trees) pays =
+    let r = split owed more trees pays.1 in
+    record { first = tree ∷ r.first; second = r.second; are = ap (λ l. tree ∷ l) r.are; pays = (pays.0, r.pays); pays_more = r.pays_more }
+
+joined : (owed more : List Spot) (first second : List Tree) → Pay owed first → Pay more second → Pay (owed ++ more) (first ++ second)
+joined [] more [] second pays pays_more = pays_more
+joined [] more (tree ∷ first) second pays pays_more = absurd pays
+joined (spot ∷ owed) more [] second pays pays_more = absurd pays
+joined (spot ∷ owed) more (tree ∷ first) second pays pays_more = (pays.0, joined owed more first second pays.1 pays_more)
+
+-- the nodes of both
+nodes_joined : (owed more : List Spot) (first second : List Tree) → Pay owed first → nodes_of_all (owed ++ more) (first ++ second) ≡ nodes_of_all owed first ++ nodes_of_all more second
+nodes_joined [] more [] second pays = refl
+nodes_joined [] more (tree ∷ first) second pays = absurd pays
+nodes_joined (spot ∷ owed) more [] second pays = absurd pays
+nodes_joined (spot ∷ owed) more (tree ∷ first) second pays =
+    ap (λ l. nodes spot.path spot.place tree ++ l) (nodes_joined owed more first second pays.1) ∙ sym (append_assoc (nodes spot.path spot.place tree) (nodes_of_all owed first) (nodes_of_all more second))
+
+-- ---- the trees of a branch
+
+-- what pays the rows of a branch are its trees
+rows_fit : (path : List ℕ) (s : Position) (rows : List ℕ) (trees : List Tree) → Pay (spots_below path s rows) trees → AreFit s rows trees
+rows_fit path s [] [] pays = tt
+rows_fit path s [] (tree ∷ trees) pays = absurd pays
+rows_fit path s (row ∷ rows) [] pays = absurd pays
+rows_fit path s (row ∷ rows) (tree ∷ trees) pays = (pays.0, rows_fit path s rows trees pays.1)
+
+as_many : (path : List ℕ) (s : Position) (rows : List ℕ) (trees : List Tree) → Pay (spots_below path s rows) trees → length trees ≡ length rows
+as_many path s [] [] pays = refl
+as_many path s [] (tree ∷ trees) pays = absurd pays
+as_many path s (row ∷ rows) [] pays = absurd pays
+as_many path s (row ∷ rows) (tree ∷ trees) pays = ap suc (as_many path s rows trees pays.1)
+
+nodes_of_rows : (path : List ℕ) (s : Position) (rows : List ℕ) (trees : List Tree) → nodes_below path s rows trees ≡ nodes_of_all (spots_below path s rows) trees
+nodes_of_rows path s [] trees = refl
+nodes_of_rows path s (row ∷ rows) [] = refl
+nodes_of_rows path s (row ∷ rows) (tree ∷ trees) = ap (λ l. nodes (path ++ row ∷ []) (child s row) tree ++ l) (nodes_of_rows path s rows trees)
+
+-- the trees of a branch pay its rows
+each_pays : (path : List ℕ) (s : Position) (rows : List ℕ) (trees : List Tree) → AreFit s rows trees → Pay (spots_below path s rows) trees
+each_pays path s [] [] fit = tt
+each_pays path s [] (tree ∷ trees) fit = absurd fit
+each_pays path s (row ∷ rows) [] fit = absurd fit
+each_pays path s (row ∷ rows) (tree ∷ trees) fit = (fit.0, each_pays path s rows trees fit.1)
+
+each_symbols : {m : _} (all : Row_of-Tree m) → symbols_of_each all ≡ flat_map symbols_of (items-the_row-Tree m all)
+each_symbols end_of-Tree = refl
+each_symbols (more_of-Tree tree trees) = ap (λ l. symbols_of tree ++ l) (each_symbols trees)
+
+-- ---- one symbol
+
+-- trees that pay what is owed behind a symbol, with the symbol before them, make up trees that pay what was owed before it
+pub record IsPaid (mark : Mark) (spot : Spot) (owed : List Spot) (trees : List Tree) : Type 0 where
+  pub first : Tree
+  pub others : List Tree
+  pub pays : Fits spot.place first × Pay owed others
+  pub symbols_are : symbols_of first ++ flat_map symbols_of others ≡ letter mark ∷ flat_map symbols_of trees
+  pub nodes_are : nodes spot.path spot.place first ++ nodes_of_all owed others ≡ node_at spot mark ∷ nodes_of_all (owed_behind mark spot owed) trees
+
+-- a branch whose trees pay
+branch_paid : (spot : Spot) (owed : List Spot) (trees : List Tree) → length spot.place.heights ≤ 12 → Split (spots_below spot.path spot.place (targets spot.place)) owed trees → IsPaid X spot owed trees
+branch_paid spot owed trees few r =
+    let below : List Spot = spots_below spot.path spot.place (targets spot.place) in
+    let low : length r.first ≤ 12 = omega (arith, as_many spot.path spot.place (targets spot.place) r.first r.pays, few_targets spot.place) in
+    let kids : Vec Tree Global = kept r.first low in
+    let same : kids.items ≡ r.first = kept_items r.first low in
+    let made = branch_read spot.place (88 ∷ flat_map symbols_of r.first) kids [] (subst (AreFit spot.place (targets spot.place)) (sym same) (rows_fit spot.path spot.place (targets spot.place) r.first r.pays))
+    (ap (λ l. 88 ∷ flat_map symbols_of l) (sym same) ∙ sym (append-nil (codes "X" ++ flat_map symbols_of kids.items))) in
+    let text : symbols_of (Branch kids) ≡ 88 ∷ flat_map symbols_of r.first = sym (append-nil (symbols_of (Branch kids))) ∙ sym made.1 in
+    record {
+      first = Branch kids;
+      others = r.second;
+      pays = (made.0, r.pays_more);
+      symbols_are = ap (λ l. l ++ flat_map symbols_of r.second) text ∙ ap (λ l. 88 ∷ l) (sym (flat_map-append symbols_of r.first r.second) ∙ ap (flat_map symbols_of) (sym r.are));
+      nodes_are =
+          ap (λ l. l ++ nodes_of_all owed r.second) (branch_nodes spot.path spot.place (Branch kids) kids r.first refl (sym same))
+          ∙ ap (λ l. node_at spot X ∷ l) (ap (λ l. l ++ nodes_of_all owed r.second) (nodes_of_rows spot.path spot.place (targets spot.place) r.first)
+          ∙ sym (nodes_joined below owed r.first r.second r.pays) ∙ ap (nodes_of_all (below ++ owed)) (sym r.are));
+    }
+
+pub pay : (mark : Mark) (spot : Spot) (owed : List Spot) (trees : List Tree) → length spot.place.heights ≤ 12 → Pay (owed_behind mark spot owed) trees → IsPaid mark spot owed trees
+pay B spot owed trees few pays = record { first = CutB; others = trees; pays = (tt, pays); symbols_are = refl; nodes_are = refl }
+pay L spot owed trees few pays = record { first = CutL; others = trees; pays = (tt, pays); symbols_are = refl; nodes_are = refl }
+pay X spot owed trees few pays = branch_paid spot owed trees few (split (spots_below spot.path spot.place (targets spot.place)) owed trees pays)
+pay G spot owed trees few pays = record { first = Given; others = trees; pays = (tt, pays); symbols_are = refl; nodes_are = refl }
+
+-- ---- the symbol of a tree
+
+-- texts that are equal begin with the same byte
+heads : (x y : ℕ) (xs ys : List ℕ) → x ∷ xs ≡ y ∷ ys → x ≡ y
+heads x y xs ys e = cc
+
+-- and are equal from there on
+tails : (x y : ℕ) (xs ys : List ℕ) → x ∷ xs ≡ y ∷ ys → xs ≡ ys
+tails x y xs ys e = cc
+
+-- texts that begin with unequal bytes are not equal
+unlike : (x y : ℕ) (xs ys : List ℕ) → (x ≡ y → ⊥) → x ∷ xs ≡ y ∷ ys → ⊥
+unlike x y xs ys ne e = ne (heads x y xs ys e)
+
+-- what follows the symbol of a tree and others is what pays what is owed behind it, and what follows that
+abbrev pub Behind : Mark → Spot → List Spot → List ℕ → List ℕ → Type 0
+Behind mark spot owed more rest = (trees : List Tree) × Pay (owed_behind mark spot owed) trees × (more ≡ flat_map symbols_of trees ++ rest)
+
+pub behind : (mark : Mark) (spot : Spot) (owed : List Spot) (tree : Tree) (trees : List Tree) (more rest : List ℕ) → Fits spot.place tree → Pay owed trees →
+    letter mark ∷ more ≡ (symbols_of tree ++ flat_map symbols_of trees) ++ rest → Behind mark spot owed more rest
+behind B spot owed CutB trees more rest m pays e = (trees, pays, tails 66 66 more (flat_map symbols_of trees ++ rest) e)
+behind B spot owed CutL trees more rest m pays e = absurd (unlike 66 76 more (flat_map symbols_of trees ++ rest) (λ h. omega arith) e)
+behind B spot owed (Branch' shape all) trees more rest m pays e = absurd (unlike 66 88 more ((symbols_of_each all ++ flat_map symbols_of trees) ++ rest) (λ h. omega arith) e)
+behind B spot owed Given trees more rest m pays e = absurd (unlike 66 71 more (flat_map symbols_of trees ++ rest) (λ h. omega arith) e)
+behind L spot owed CutB trees more rest m pays e = absurd (unlike 76 66 more (flat_map symbols_of trees ++ rest) (λ h. omega arith) e)
+behind L spot owed CutL trees more rest m pays e = (trees, pays, tails 76 76 more (flat_map symbols_of trees ++ rest) e)
+behind L spot owed (Branch' shape all) trees more rest m pays e = absurd (unlike 76 88 more ((symbols_of_each all ++ flat_map symbols_of trees) ++ rest) (λ h. omega arith) e)
+behind L spot owed Given trees more rest m pays e = absurd (unlike 76 71 more (flat_map symbols_of trees ++ rest) (λ h. omega arith) e)
+behind X spot owed CutB trees more rest m pays e = absurd (unlike 88 66 more (flat_map symbols_of trees ++ rest) (λ h. omega arith) e)
+behind X spot owed CutL trees more rest m pays e = absurd (unlike 88 76 more (flat_map symbols_of trees ++ rest) (λ h. omega arith) e)
+behind X spot owed (Branch' shape all) trees more rest m pays e =
+    let below : List Tree = items-the_row-Tree _ all in (
+      below ++ trees,
+      joined (spots_below spot.path spot.place (targets spot.place)) owed below trees (each_pays spot.path spot.place (targets spot.place) below (list_fits spot.place (targets spot.place) all m)) pays,
+      tails 88 88 more ((symbols_of_each all ++ flat_map symbols_of trees) ++ rest) e
+          ∙ ap (λ l. l ++ rest) (ap (λ l. l ++ flat_map symbols_of trees) (each_symbols all) ∙ sym (flat_map-append symbols_of below trees)),
+    )
+behind X spot owed Given trees more rest m pays e = absurd (unlike 88 71 more (flat_map symbols_of trees ++ rest) (λ h. omega arith) e)
+behind G spot owed CutB trees more rest m pays e = absurd (unlike 71 66 more (flat_map symbols_of trees ++ rest) (λ h. omega arith) e)
+behind G spot owed CutL trees more rest m pays e = absurd (unlike 71 76 more (flat_map symbols_of trees ++ rest) (λ h. omega arith) e)
+behind G spot owed (Branch' shape all) trees more rest m pays e = absurd (unlike 71 88 more ((symbols_of_each all ++ flat_map symbols_of trees) ++ rest) (λ h. omega arith) e)
+behind G spot owed Given trees more rest m pays e = (trees, pays, tails 71 71 more (flat_map symbols_of trees ++ rest) e)

@@ -1,0 +1,14 @@
+-- What a line of symbols is found to be when it ends.
+use Rattle.std.specs.Prelude.{ℕ, List}
+use Rattle.crp_cert.specs.ScriptFaults.{AreSymbols, BeginsWithTree, GoesOnBehindTree}
+use Rattle.crp_checker.specs.declared.line_end.LineEnd.{LineEnd}
+use Rattle.crp_checker.specs.declared.line_end.LineEnd.TheVariants.{Unknown, Trailing, Unfinished, Whole}
+use Rattle.crp_checker.specs.Owed.{Spot}
+use Rattle.crp_checker.specs.Symbols.{IsWhole}
+
+-- the bytes are the symbols of a part whose name leads to the top spot: a byte may not stand there, or else symbols follow the tree, or end before it does, or are those of a tree
+abbrev pub IsLineEnd : ℕ → Spot → List ℕ → LineEnd → Type 0
+IsLineEnd lower top bytes Unknown = ¬ AreSymbols bytes
+IsLineEnd lower top bytes Trailing = AreSymbols bytes × GoesOnBehindTree top.place bytes
+IsLineEnd lower top bytes Unfinished = AreSymbols bytes × ¬ BeginsWithTree top.place bytes
+IsLineEnd lower top bytes (Whole wrong given) = AreSymbols bytes × IsWhole lower top bytes wrong given.items

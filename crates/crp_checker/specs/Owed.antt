@@ -1,0 +1,44 @@
+-- Trees that are owed. A branch owes one tree for each legal row, and symbols pay them, one after the other.
+use Rattle.std.specs.Prelude.{ℕ, List, [], ◌∷◌, ◌++◌, ⊤}
+use Rattle.crp_plan.specs.Bay.{Position}
+use Rattle.crp_bay.specs.Positions.{targets, child}
+use Rattle.crp_tree.specs.declared.tree.Tree.{Tree}
+use Rattle.crp_tree.specs.Trees.{Mark, B, L, X, G, Node, nodes, Fits}
+
+-- where a tree is owed: the path that it is to stand at, and the position there
+pub record Spot : Type 0 where
+  pub path : List ℕ
+  pub place : Position
+
+-- the node of this mark at a spot
+abbrev pub node_at : Spot → Mark → Node
+node_at spot mark = record { path = spot.path; place = spot.place; mark = mark }
+
+-- the spot that a row leads to
+abbrev pub spot_below : List ℕ → Position → ℕ → Spot
+spot_below path s row = record { path = path ++ row ∷ []; place = child s row }
+
+-- the spots that rows lead to, in their order
+abbrev pub spots_below : List ℕ → Position → List ℕ → List Spot
+spots_below path s [] = []
+spots_below path s (row ∷ rows) = spot_below path s row ∷ spots_below path s rows
+
+-- what is owed behind a symbol that came where a tree was owed at this spot, and then others: B, L and G are whole trees, X owes one for each legal row
+abbrev pub owed_behind : Mark → Spot → List Spot → List Spot
+owed_behind B spot owed = owed
+owed_behind L spot owed = owed
+owed_behind X spot owed = spots_below spot.path spot.place (targets spot.place) ++ owed
+owed_behind G spot owed = owed
+
+-- one tree for each spot, in their order, which fits there
+abbrev pub Pay : List Spot → List Tree → Type 0
+Pay [] [] = ⊤
+Pay [] (tree ∷ trees) = ⊥
+Pay (spot ∷ owed) [] = ⊥
+Pay (spot ∷ owed) (tree ∷ trees) = Fits spot.place tree × Pay owed trees
+
+-- the nodes of such trees
+abbrev pub nodes_of_all : List Spot → List Tree → List Node
+nodes_of_all [] trees = []
+nodes_of_all (spot ∷ owed) [] = []
+nodes_of_all (spot ∷ owed) (tree ∷ trees) = nodes spot.path spot.place tree ++ nodes_of_all owed trees

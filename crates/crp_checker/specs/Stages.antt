@@ -1,0 +1,116 @@
+-- What a checker that is fed has read, by the stage that it is at.
+use Rattle.std.specs.Prelude.{◌≡◌, ◌≢◌, ℕ, ◌+◌, ◌≤◌, List, [], ◌++◌, length, Option, Some, None, flat_map, ⊤}
+use Rattle.std.specs.List.{AllByRecursion}
+use Rattle.crp_plan.specs.BayNames.{YardBay}
+use Rattle.crp_plan.specs.Bay.{Problem, Position, IsAt}
+use Rattle.crp_tree.specs.Claims.{Claim, given_by, names}
+use Rattle.crp_cert.specs.declared.head.Head.{Head}
+use Rattle.crp_cert.specs.declared.fault.CertFault.{CertFault}
+use Rattle.crp_cert.specs.declared.script.Script.{Script}
+use Rattle.crp_cert.specs.Text.{IsHeadOf}
+use Rattle.crp_cert.specs.Script.{end_line, claim_of, IsScriptOf}
+use Rattle.crp_cert.specs.ScriptFaults.{BeginsWithParts, IsFirstFaultOfScript}
+use Rattle.crp_cert.specs.Settled.{BeginsWithBay}
+use Rattle.crp_checker.specs.declared.refused.Refused.{Refused}
+use Rattle.crp_checker.specs.declared.refused.Refused.TheVariants as refused
+use Rattle.crp_checker.specs.declared.findings.Findings.{Findings}
+use Rattle.crp_checker.specs.declared.line.SymbolLine.{SymbolLine}
+use Rattle.crp_checker.specs.declared.stage.Stage.{Stage}
+use Rattle.crp_checker.specs.declared.stage.Stage.TheVariants.{Head as Head', Line, Part, Ended, Faulty, Spent}
+use Rattle.crp_checker.specs.declared.wrong.Wrong.{Wrong}
+use Rattle.crp_checker.specs.declared.wrong.Wrong.TheVariants as wrong
+use Rattle.crp_checker.specs.Symbols.{line_after}
+use Rattle.crp_checker.specs.Kept.{line_of}
+use Rattle.crp_checker.specs.Verdicts.{plan_count}
+use Rattle.crp_checker.specs.Openings.{IsBegunWith, named_line, HasNoName}
+use Rattle.crp_checker.specs.Refusals.{HasRightHead, AreRightParts, IsFirstWrongClaim}
+
+-- a head, and no part yet
+abbrev pub first_script : Head → Script
+first_script head = record { head = head; parts = [] }
+
+-- the first thing that is wrong with the problem, the plan or the nodes of a claim, or that nothing is
+abbrev pub IsNote : Option Problem → Claim → Option Refused → Type 0
+IsNote wanted claim None = HasRightHead wanted claim × AreRightParts claim
+IsNote wanted claim (Some refused.OtherProblem) = IsFirstWrongClaim wanted claim refused.OtherProblem
+IsNote wanted claim (Some (refused.Plan fault)) = IsFirstWrongClaim wanted claim (refused.Plan fault)
+IsNote wanted claim (Some (refused.Low part symbol)) = IsFirstWrongClaim wanted claim (refused.Low part symbol)
+IsNote wanted claim (Some (refused.Finished part symbol)) = IsFirstWrongClaim wanted claim (refused.Finished part symbol)
+IsNote wanted claim (Some r) = ⊥
+
+-- the same of a head
+abbrev pub IsHeadNote : Option Problem → Head → Option Refused → Type 0
+IsHeadNote wanted head note = IsNote wanted (claim_of (first_script head)) note
+
+-- the same after one part more of this name, whose first wrong node is this one, if it has one
+abbrev pub note_after : Option Refused → List ℕ → Option Wrong → Option Refused
+note_after (Some r) name w = Some r
+note_after None name None = None
+note_after None name (Some (wrong.Low k)) = Some (refused.Low name k)
+note_after None name (Some (wrong.AtEnd k)) = Some (refused.Finished name k)
+
+-- what is kept of a script, where a problem is asked for or none
+pub record AreFindings (wanted : Option Problem) (script : Script) (findings : Findings) : Type 0 where
+  pub bay_is : findings.bay ≡ script.head.bay
+  pub problem_is : findings.problem ≡ script.head.problem
+  pub claim_is : findings.claim ≡ script.head.claim
+  pub count_is : findings.count ≡ plan_count (claim_of script)
+  pub line_is : findings.line ≡ 6 + length script.head.problem.stacks + length script.parts
+  pub names_are : findings.names ≡ names script.parts
+  pub given_are : findings.given.items ≡ flat_map (given_by script.head.problem) script.parts
+  pub note : IsNote wanted (claim_of script) findings.wrong
+
+-- the bytes begin with no head
+abbrev pub HasNoHead : List ℕ → Type 0
+HasNoHead bytes = (head : Head) → IsHeadOf bytes head → ⊥
+
+-- the line of which these bytes came is still open: neither a name nor the last line stands there
+pub record IsOpenLine (script : Script) (begun : List ℕ) : Type 0 where
+  pub no_name : HasNoName script.head.problem begun
+  pub no_end : IsBegunWith begun (end_line (length script.parts)) → ⊥
+
+-- the bytes are a head, parts, and this of the next line, which is still open
+pub record IsAtLine (wanted : Option Problem) (bytes : List ℕ) (findings : Findings) (begun : List ℕ) : Type 0 where
+  pub script : Script
+  pub line : ℕ
+  pub are : AreFindings wanted script findings
+  pub begins : BeginsWithParts bytes script.head script.parts line begun
+  pub is_open : IsOpenLine script begun
+
+-- the bytes are a head, parts, and a part line down to these symbols, of which this is kept
+pub record IsAtPart (wanted : Option Problem) (bytes : List ℕ) (findings : Findings) (name : List ℕ) (kept : SymbolLine) : Type 0 where
+  pub script : Script
+  pub line : ℕ
+  pub place : Position
+  pub symbols : List ℕ
+  pub are : AreFindings wanted script findings
+  pub begins : BeginsWithParts bytes script.head script.parts line (named_line name ++ symbols)
+  pub short : length name ≤ 8
+  pub is_at : IsAt script.head.problem name place
+  pub one_line : AllByRecursion (λ b. b ≢ 10) symbols
+  pub kept_is : line_of kept ≡ line_after script.head.claim (record { path = name; place = place }) symbols
+
+-- the bytes are the text of a script
+pub record HasEnded (wanted : Option Problem) (bytes : List ℕ) (findings : Findings) : Type 0 where
+  pub script : Script
+  pub are : AreFindings wanted script findings
+  pub is_text : IsScriptOf bytes script
+
+-- the bay that the bytes name, if they name one
+abbrev pub IsBayIn : List ℕ → Option YardBay → Type 0
+IsBayIn bytes (Some name) = BeginsWithBay bytes name
+IsBayIn bytes None = (name : YardBay) → ¬ BeginsWithBay bytes name
+
+-- the bytes have this fault and name this bay, or none, whatever follows
+pub record IsFaulty (bytes : List ℕ) (bay : Option YardBay) (fault : CertFault) : Type 0 where
+  pub fault_stays : (more : List ℕ) → IsFirstFaultOfScript (bytes ++ more) fault
+  pub bay_stays : (more : List ℕ) → IsBayIn (bytes ++ more) bay
+
+-- these bytes lead to this stage, where a problem is asked for or none
+abbrev pub HasCome : Option Problem → List ℕ → Stage → Type 0
+HasCome wanted bytes (Head' text) = (text.items ≡ bytes) × HasNoHead bytes
+HasCome wanted bytes (Line findings begun) = IsAtLine wanted bytes findings begun.items
+HasCome wanted bytes (Part findings name kept) = IsAtPart wanted bytes findings name kept
+HasCome wanted bytes (Ended findings) = HasEnded wanted bytes findings
+HasCome wanted bytes (Faulty bay fault) = IsFaulty bytes bay fault
+HasCome wanted bytes Spent = ⊤

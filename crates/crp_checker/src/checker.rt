@@ -1,0 +1,190 @@
+//! A checker that is fed a certificate in pieces.
+ghost use Rattle.std.specs.Prelude.{◌≡◌, ◌≤◌, ◌⊎◌, ◌++◌, [], List, ℕ, Option, Some, None, Err, OnOk, OnErr, IfOk, IfErr, length, take};
+ghost use Rattle.std.specs.Option.{option_copied};
+ghost use Rattle.crp_plan.specs.Bay.{Problem as Statement};
+ghost use Rattle.crp_checker.specs.Shown.{TextShows, TextShowsFor};
+ghost use Rattle.crp_checker.specs.Refusals.{IsRefusal};
+ghost use Rattle.crp_checker.specs.Stages.{HasCome, IsBayIn};
+ghost use Rattle.crp_checker.specs.Fed.{HasRead, IsSpent};
+
+use crate::claim::conclude;
+use crate::in_head::{self, head_fault};
+use crate::refused::Refused;
+use crate::stage::Stage;
+use crate::verdict::Verdict;
+use crate::{in_line, in_part};
+use crp_cert::{CertFault, read_bay};
+use crp_plan::{BayName, Problem};
+use std::alloc::{AllocError, Global};
+use std::mem;
+
+/// A checker of one certificate, which is fed in pieces, however they are cut. It keeps no tree and
+/// no text: what it keeps is the problem, the names of the parts and those that they give, and the path
+/// to the symbol that comes next.
+#[derive(Drop)]
+pub struct Checker {
+    /// The allocator.
+    pub alloc: Global,
+    /// The problem that is asked for, if one is.
+    pub wanted: Option<Problem>,
+    /// How far it has come.
+    pub stage: Stage,
+}
+
+/// Reads on from a stage: what that leads to, and how many of the bytes were taken.
+fn read_on(
+    alloc: Global,
+    wanted: Option<&Problem>,
+    stage: Stage,
+    bytes: &[u8],
+) -> Result<(Stage, usize), AllocError>
+    requires { 1 ≤ length bytes.now }
+    ensures some { IfOk result (λ next. 1 ≤ next.1) }
+    ensures within { IfOk result (λ next. next.1 ≤ length bytes.now) }
+    ensures come { IfOk result (λ next. (before : List ℕ) → HasCome (option_copied wanted.entry) before stage
+        → HasCome (option_copied wanted.entry) (before ++ take next.1 bytes.now) next.0) }
+{
+    match stage {
+        Stage::Head { text } => in_head::read_on(alloc, wanted, text, bytes),
+        Stage::Line { findings, begun } => in_line::read_on(alloc, findings, begun, bytes),
+        Stage::Part {
+            findings,
+            name,
+            line,
+        } => in_part::read_on(alloc, findings, name, line, bytes),
+        Stage::Ended { findings } => {
+            let line = findings.line.saturating_add(1);
+            Ok((findings.faulty(CertFault::End { line }), bytes.len()))
+        }
+        Stage::Faulty { bay, fault } => Ok((Stage::Faulty { bay, fault }, bytes.len())),
+        Stage::Spent => Err(AllocError),
+    }
+}
+
+/// The same bay once more.
+fn same_bay(bay: &BayName) -> Option<BayName>
+    ensures { result ≡ Some bay.now }
+{
+    BayName::new(bay.block(), bay.bay())
+}
+
+/// The same bay once more, if there is one.
+fn same_bay_if(bay: &Option<BayName>) -> Option<BayName>
+    ensures { result ≡ bay.now }
+{
+    match bay {
+        Some(bay) => same_bay(bay),
+        None => None,
+    }
+}
+
+impl Checker {
+    /// A checker that was fed nothing. Where a problem is asked for, a certificate that states
+    /// another is refused for that.
+    pub fn new(alloc: Global, wanted: Option<&Problem>) -> Checker
+        ensures { HasRead (option_copied wanted.entry) [] result }
+    {
+        Checker {
+            alloc,
+            wanted: wanted.map(Problem::copy),
+            stage: Stage::Head {
+                text: Vec::new(alloc),
+            },
+        }
+    }
+
+    /// Reads some bytes of a piece, and says how many.
+    fn step(&mut self, bytes: &[u8]) -> Result<usize, AllocError>
+        requires { 1 ≤ length bytes.now }
+        ensures some { IfOk result (λ n. 1 ≤ n) }
+        ensures within { IfOk result (λ n. n ≤ length bytes.now) }
+        ensures wanted { OnOk result (self.new.wanted ≡ self.old.wanted) }
+        ensures come { IfOk result (λ n. (before : List ℕ) → HasCome self.old.wanted before self.old.stage
+            → HasCome self.old.wanted (before ++ take n bytes.now) self.new.stage) }
+        ensures spent { OnErr result (IsSpent self.new) }
+    {
+        let stage = mem::replace(&mut self.stage, Stage::Spent);
+        let (stage, taken) = read_on(self.alloc, self.wanted.as_ref(), stage, bytes)?;
+        self.stage = stage;
+        Ok(taken)
+    }
+
+    /// Reads a piece. The error says that no memory was left, now or before; from then on every call says so.
+    pub fn feed(&mut self, piece: &[u8]) -> Result<(), AllocError>
+        ensures read { OnOk result ((wanted : Option Statement) (bytes : List ℕ) → HasRead wanted bytes self.old
+            → HasRead wanted (bytes ++ piece.now) self.new) }
+        ensures spent { OnErr result (IsSpent self.new) }
+        ensures stays { IsSpent self.old → (result ≡ Err (record {})) }
+    {
+        if let Stage::Spent = self.stage {
+            return Err(AllocError);
+        }
+        let mut rest = piece;
+        while !rest.is_empty() {
+            let taken = self.step(rest)?;
+            rest = &rest[taken..];
+        }
+        Ok(())
+    }
+
+    /// The bay that the certificate names. `None` as long as its first two lines are not accepted.
+    pub fn bay(&self) -> Option<BayName>
+        ensures { (wanted : Option Statement) (bytes : List ℕ) → HasRead wanted bytes self.now
+            → IsSpent self.now ⊎ IsBayIn bytes result }
+    {
+        match &self.stage {
+            Stage::Head { text } => read_bay(text),
+            Stage::Line { findings, .. } => same_bay(&findings.bay),
+            Stage::Part { findings, .. } => same_bay(&findings.bay),
+            Stage::Ended { findings } => same_bay(&findings.bay),
+            Stage::Faulty { bay, .. } => same_bay_if(bay),
+            Stage::Spent => None,
+        }
+    }
+
+    /// Whose the certificate is, and what it shows.
+    pub fn finish_for(self) -> Result<(BayName, Verdict), Refused>
+        ensures shown { IfOk result (λ found. (wanted : Option Statement) (bytes : List ℕ) → HasRead wanted bytes self
+            → TextShows wanted bytes found.1) }
+        ensures bay { IfOk result (λ found. (bytes : List ℕ) → HasRead None bytes self
+            → TextShowsFor bytes found.0 found.1) }
+        ensures refused { IfErr result (λ refused. (refused ≡ Refused.Memory)
+            ⊎ ((wanted : Option Statement) (bytes : List ℕ) → HasRead wanted bytes self → IsRefusal wanted bytes refused)) }
+        ensures spent { IsSpent self → result ≡ Err Refused.Memory }
+    {
+        let Checker {
+            alloc,
+            wanted: _,
+            stage,
+        } = self;
+        match stage {
+            Stage::Head { text } => {
+                let fault = head_fault(alloc, &text)?;
+                Err(Refused::Cert(fault))
+            }
+            Stage::Line { findings, begun } => {
+                let fault = in_line::open_fault(findings.line, &begun);
+                Err(Refused::Cert(fault))
+            }
+            Stage::Part { findings, .. } => Err(Refused::Cert(CertFault::Part {
+                line: findings.line,
+            })),
+            Stage::Ended { findings } => conclude(alloc, findings),
+            Stage::Faulty { fault, .. } => Err(Refused::Cert(fault)),
+            Stage::Spent => Err(Refused::Memory),
+        }
+    }
+
+    /// What the certificate shows, of which the pieces are the whole text. Else its first fault, or that no
+    /// memory was left.
+    pub fn finish(self) -> Result<Verdict, Refused>
+        ensures accepted { IfOk result (λ verdict. (wanted : Option Statement) (bytes : List ℕ) → HasRead wanted bytes self
+            → TextShows wanted bytes verdict) }
+        ensures refused { IfErr result (λ refused. (refused ≡ Refused.Memory)
+            ⊎ ((wanted : Option Statement) (bytes : List ℕ) → HasRead wanted bytes self → IsRefusal wanted bytes refused)) }
+        ensures spent { IsSpent self → result ≡ Err Refused.Memory }
+    {
+        let (_bay, verdict) = self.finish_for()?;
+        Ok(verdict)
+    }
+}

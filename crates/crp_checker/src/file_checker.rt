@@ -1,0 +1,107 @@
+//! A checker of files of certificates that is fed in pieces.
+ghost use Rattle.std.specs.Prelude.{◌≡◌, ◌≢◌, ◌⊎◌, ◌+◌, ◌++◌, [], true, false, List, ℕ, IfOk, IfErr, length};
+ghost use Rattle.crp_plan.specs.BayNames.{YardBay};
+ghost use Rattle.crp_checker.specs.declared.verdict.Verdict.{Verdict as Shown};
+ghost use Rattle.crp_checker.specs.Files.{IsFileRefusal};
+ghost use Rattle.crp_checker.specs.FedFiles.{HasReadFile, LeadsOn, IsLast};
+
+use crate::checker::Checker;
+use crate::refused::Refused;
+use crate::verdict::Verdict;
+use crate::watch::{Watch, cut};
+use crp_plan::BayName;
+use std::alloc::Global;
+use std::mem;
+
+/// A checker of a file of certificates, which is fed in pieces, however they are cut. Of the certificates
+/// that have ended it keeps nothing.
+#[derive(Drop)]
+pub struct FileChecker {
+    /// The allocator.
+    pub alloc: Global,
+    /// The checker of the certificate that has not ended.
+    pub checker: Checker,
+    /// The line of it that it stands in.
+    pub watch: Watch,
+    /// Whether a byte of it came.
+    pub has_begun: bool,
+}
+
+/// What a piece of a file leads to.
+#[derive(Drop)]
+pub enum Fed {
+    /// No certificate has ended: all of the piece was read.
+    Open,
+    /// A certificate has ended, which is accepted.
+    Ended {
+        /// How many bytes of the piece were read.
+        taken: usize,
+        /// Whose the certificate is.
+        bay: BayName,
+        /// What it shows.
+        verdict: Verdict,
+    },
+}
+
+/// Whether bytes have come, where these come more.
+fn has_bytes(before: bool, piece: &[u8]) -> bool
+    ensures none { result ≡ false → (before ≡ false) × (piece.now ≡ []) }
+    ensures some { result ≡ true → (before ≡ true) ⊎ (piece.now ≢ []) }
+{
+    before || !piece.is_empty()
+}
+
+impl FileChecker {
+    /// A checker that was fed nothing.
+    pub fn new(alloc: Global) -> FileChecker
+        ensures { HasReadFile [] [] result }
+    {
+        FileChecker {
+            alloc,
+            checker: Checker::new(alloc, None),
+            watch: Watch::Begun,
+            has_begun: false,
+        }
+    }
+
+    /// Reads a piece, down to the end of a certificate, if one ends there. The error says why that one
+    /// is refused.
+    pub fn feed(&mut self, piece: &[u8]) -> Result<Fed, Refused>
+        ensures on { IfOk result (λ fed. (file : List ℕ) (verdicts : List (YardBay × Shown)) → HasReadFile file verdicts self.old
+            → LeadsOn file piece.now verdicts self.new fed) }
+        ensures refused { IfErr result (λ refused. (refused ≡ Refused.Memory)
+            ⊎ ((file : List ℕ) (verdicts : List (YardBay × Shown)) (more : List ℕ) → HasReadFile file verdicts self.old
+            → IsFileRefusal (file ++ (piece.now ++ more)) verdicts (length verdicts + 1) refused)) }
+    {
+        let Some(taken) = cut(&mut self.watch, piece) else {
+            self.checker.feed(piece)?;
+            self.has_begun = has_bytes(self.has_begun, piece);
+            return Ok(Fed::Open);
+        };
+        self.checker.feed(&piece[..taken])?;
+        self.has_begun = false;
+        let checker = mem::replace(&mut self.checker, Checker::new(self.alloc, None));
+        let (bay, verdict) = checker.finish_for()?;
+        Ok(Fed::Ended {
+            taken,
+            bay,
+            verdict,
+        })
+    }
+
+    /// What the last certificate shows, which does not end with its last line but with the file: `None` where
+    /// nothing stands after the others. The error says why it is refused.
+    pub fn finish(self) -> Result<Option<(BayName, Verdict)>, Refused>
+        ensures last { IfOk result (λ last. (file : List ℕ) (verdicts : List (YardBay × Shown)) → HasReadFile file verdicts self
+            → IsLast file verdicts last) }
+        ensures refused { IfErr result (λ refused. (refused ≡ Refused.Memory)
+            ⊎ ((file : List ℕ) (verdicts : List (YardBay × Shown)) → HasReadFile file verdicts self
+            → IsFileRefusal file verdicts (length verdicts + 1) refused)) }
+    {
+        if !self.has_begun {
+            return Ok(None);
+        }
+        let last = self.checker.finish_for()?;
+        Ok(Some(last))
+    }
+}

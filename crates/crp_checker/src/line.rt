@@ -1,0 +1,85 @@
+//! The symbols of one part line, byte by byte.
+ghost use Rattle.std.specs.Prelude.{◌≡◌, ◌≤◌, ℕ, List, length, OnOk, IfOk, fold};
+ghost use Rattle.crp_checker.specs.Owed.{Spot};
+ghost use Rattle.crp_checker.specs.Symbols.{after, line_begun, line_after};
+ghost use Rattle.crp_checker.specs.Kept.{line_of};
+ghost use Rattle.crp_checker.specs.Ends.{IsLineEnd};
+
+use crate::following::Following;
+use crate::line_end::LineEnd;
+use crate::symbol::symbol_of;
+use crp_bounds::Bounded;
+use std::alloc::{AllocError, Global};
+
+/// The symbols of a part line as far as they came.
+#[derive(Drop)]
+pub struct SymbolLine {
+    /// The node that they have come to.
+    pub following: Following,
+    /// Whether symbols followed behind the tree.
+    pub trailing: bool,
+    /// Whether a byte came that may not stand there.
+    pub unknown: bool,
+}
+
+impl SymbolLine {
+    /// The line of a part whose name has these rows and leads to this place.
+    pub fn new(alloc: Global, name: &[u8], place: Bounded) -> Result<SymbolLine, AllocError>
+        ensures { IfOk result (λ line. line_of line ≡ line_begun (record { path = name.now; place = place.place })) }
+    {
+        let following = Following::new(alloc, name, place)?;
+        Ok(SymbolLine {
+            following,
+            trailing: false,
+            unknown: false,
+        })
+    }
+
+    /// Reads one byte more.
+    pub fn read(&mut self, alloc: Global, lower: u32, byte: u8) -> Result<(), AllocError>
+        ensures { OnOk result (line_of self.new ≡ after lower (line_of self.old) byte) }
+    {
+        if self.unknown {
+            return Ok(());
+        }
+        let Some(symbol) = symbol_of(self.following.count, byte) else {
+            self.unknown = true;
+            return Ok(());
+        };
+        if self.following.owes {
+            return self.following.meet(alloc, lower, symbol);
+        }
+        self.trailing = true;
+        Ok(())
+    }
+
+    /// Reads a piece.
+    pub fn feed(&mut self, alloc: Global, lower: u32, piece: &[u8]) -> Result<(), AllocError>
+        ensures { OnOk result (line_of self.new ≡ fold (after lower) (line_of self.old) piece.now) }
+    {
+        for byte in piece {
+            self.read(alloc, lower, *byte)?;
+        }
+        Ok(())
+    }
+
+    /// What the symbols are, now that the line ends.
+    pub fn end(self) -> LineEnd
+        ensures { (lower : ℕ) (top : Spot) (bytes : List ℕ) → length top.place.heights ≤ 12
+            → line_of self ≡ line_after lower top bytes → IsLineEnd lower top bytes result }
+    {
+        if self.unknown {
+            return LineEnd::Unknown;
+        }
+        if self.trailing {
+            return LineEnd::Trailing;
+        }
+        if self.following.owes {
+            return LineEnd::Unfinished;
+        }
+        LineEnd::Whole {
+            wrong: self.following.wrong,
+            given: self.following.given,
+        }
+    }
+}

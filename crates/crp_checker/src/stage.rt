@@ -1,0 +1,36 @@
+use crate::findings::Findings;
+use crate::line::SymbolLine;
+use crate::path::Path;
+use crp_cert::CertFault;
+use crp_plan::BayName;
+
+/// How far a checker that is fed has come in a certificate, and what it keeps for that.
+#[derive(Drop)]
+pub enum Stage {
+    /// In the head, of which these bytes came.
+    Head {
+        text: Vec<u8>,
+    },
+    /// In the line after the head and some parts, of which these bytes came.
+    Line {
+        findings: Findings,
+        begun: Vec<u8>,
+    },
+    /// In the symbols of a part of this name.
+    Part {
+        findings: Findings,
+        name: Path,
+        line: SymbolLine,
+    },
+    /// After the last line.
+    Ended {
+        findings: Findings,
+    },
+    /// After a fault that no further byte changes.
+    Faulty {
+        bay: Option<BayName>,
+        fault: CertFault,
+    },
+    /// No memory was left.
+    Spent,
+}

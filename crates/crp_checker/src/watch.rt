@@ -1,0 +1,60 @@
+//! The line of a file that a checker stands in: whether it is the last of a certificate.
+ghost use Rattle.std.specs.Prelude.{◌≡◌, ◌≤◌, ◌++◌, ◌∷◌, [], ℕ, List, IfSome, IfNone, length, take};
+ghost use Rattle.crp_checker.specs.Files.{IsEnded};
+ghost use Rattle.crp_checker.specs.Watches.{IsUnended};
+
+/// How the bytes of a line so far agree with `end `, with which the last line of a certificate begins.
+#[derive(Clone, Copy)]
+pub enum Watch {
+    /// None came.
+    Begun,
+    /// `e` came.
+    E,
+    /// `en` came.
+    En,
+    /// `end` came.
+    End,
+    /// The line begins with `end `.
+    Last,
+    /// It begins otherwise.
+    Other,
+}
+
+/// The watch after one byte more; `None` where the byte ends a certificate.
+fn next(watch: Watch, byte: u8) -> Option<Watch>
+    ensures on { IfSome result (λ next. (text : List ℕ) → IsUnended text watch → IsUnended (text ++ byte ∷ []) next) }
+    ensures ended { IfNone result ((text : List ℕ) → IsUnended text watch → IsEnded (text ++ byte ∷ [])) }
+{
+    if byte == b'\n' {
+        return match watch {
+            Watch::Last => None,
+            _ => Some(Watch::Begun),
+        };
+    }
+    match (watch, byte) {
+        (Watch::Begun, b'e') => Some(Watch::E),
+        (Watch::E, b'n') => Some(Watch::En),
+        (Watch::En, b'd') => Some(Watch::End),
+        (Watch::End, b' ') | (Watch::Last, _) => Some(Watch::Last),
+        _ => Some(Watch::Other),
+    }
+}
+
+/// How many of the bytes belong to the certificate, which has not ended before them: `None` if they
+/// all do, and it has not ended yet.
+pub fn cut(watch: &mut Watch, bytes: &[u8]) -> Option<usize>
+    ensures some { IfSome result (λ n. 1 ≤ n) }
+    ensures within { IfSome result (λ n. n ≤ length bytes.now) }
+    ensures ended { IfSome result (λ n. (text : List ℕ) → IsUnended text watch.old → IsEnded (text ++ take n bytes.now)) }
+    ensures begun { IfSome result (λ _. watch.new ≡ Watch.Begun) }
+    ensures on { IfNone result ((text : List ℕ) → IsUnended text watch.old → IsUnended (text ++ bytes.now) watch.new) }
+{
+    for (i, byte) in bytes.iter().enumerate() {
+        let Some(next) = next(*watch, *byte) else {
+            *watch = Watch::Begun;
+            return Some(i + 1);
+        };
+        *watch = next;
+    }
+    None
+}
