@@ -22,6 +22,11 @@ pub enum ReadFault {
     Memory,
 }
 
+/// The source failed, or was interrupted once too often.
+#[derive(Clone, Copy, Debug, Drop, PartialEq, Eq, Error)]
+#[error("a read failed")]
+pub struct ReadFailed;
+
 /// The sink failed, was interrupted once too often, or took nothing of a piece.
 #[derive(Clone, Copy, Debug, Drop, PartialEq, Eq, Error)]
 #[error("a write failed")]
@@ -116,6 +121,36 @@ pub fn read_all<R: Source>(
     let mut bytes = Vec::new(alloc);
     while read_piece(reader, &mut bytes, limit, interruptions)? {}
     Ok(bytes)
+}
+
+/// Puts the next bytes of a source at the front of a piece, and says how many. None come only at the end.
+pub fn read_some<R: Source>(
+    reader: &mut R,
+    piece: &mut [u8],
+    interruptions: &mut u32,
+) -> Result<usize, ReadFailed>
+    requires room { 0 < length piece.old }
+    requires passed { interruptions.old ≤ most_interruptions }
+    ensures bound { IfOk result (λ n. n ≤ length piece.new) }
+    ensures got { IfOk result (λ n. Consumes (R.remaining reader.old) (R.remaining reader.new) (take n piece.new)) }
+    ensures end { IfOk result (λ n. n ≡ 0 → IsAtEnd (R.remaining reader.new)) }
+    ensures kept { OnErr result (Keeps (R.remaining reader.old) (R.remaining reader.new)) }
+    ensures failed { OnErr result (HasFailed (R.failures reader.old) (R.failures reader.new)) }
+    ensures count { R.failures reader.old ≤ R.failures reader.new }
+    ensures passed { (interruptions.old ≤ interruptions.new) × (interruptions.new ≤ most_interruptions) }
+    ensures interrupted { OnOk result (CountsMore (interruptions.new - interruptions.old) (R.failures reader.old) (R.failures reader.new)) }
+    ensures ended { OnErr result (CountsMore (interruptions.new - interruptions.old + 1) (R.failures reader.old) (R.failures reader.new)) }
+{
+    loop {
+        match reader.read(piece) {
+            Ok(n) => return Ok(n),
+            Err(failure) => {
+                if !pass_over(failure, interruptions) {
+                    return Err(ReadFailed);
+                }
+            }
+        }
+    }
 }
 
 // One write of a text that is not empty. The answer is how much of it was taken.
