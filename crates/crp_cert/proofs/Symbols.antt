@@ -50,10 +50,6 @@ mutual
       ∙ ap (λ l. l ++ map letter_of (nodes_of_each path s rows trees)) (letters_are (path ++ row ∷ []) (child s row) tree m.0)
       ∙ ap (λ l. symbols_of tree ++ l) (letters_each path s rows trees m.1)
 
--- so there are as many nodes as symbols
-pub length-nodes : (path : List ℕ) (s : Position) (tree : Tree) → Fits s tree → length (nodes path s tree) ≡ length (symbols_of tree)
-length-nodes path s tree m = sym (length-map (nodes path s tree) letter_of) ∙ ap length (letters_are path s tree m)
-
 -- symbols begin with those of one tree at most, as far as its nodes go
 mutual
   pub one_tree : (path : List ℕ) (s : Position) (tree other : Tree) (rest rest' : List ℕ) → Fits s tree → Fits s other → symbols_of tree ++ rest ≡ symbols_of other ++ rest' → (nodes path s tree ≡ nodes path s other) × (rest ≡ rest')

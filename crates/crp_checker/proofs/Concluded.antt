@@ -128,20 +128,6 @@ ends_in_part wanted bytes findings name kept at =
 
 -- ---- a text that ends
 
--- what is noted is why it is refused
-pub noted_refusal : (wanted : Option Problem) (bytes : List ℕ) (findings : Findings) (r : Refused) → HasEnded wanted bytes findings → findings.wrong ≡ Some r → IsRefusal wanted bytes r
-noted_refusal wanted bytes findings r ended is = by_note r (subst (IsNote wanted (claim_of ended.script)) is ended.are.note)
-  where
-    by_note : (r : Refused) → IsNote wanted (claim_of ended.script) (Some r) → IsRefusal wanted bytes r
-    by_note refused.OtherProblem note = (ended.script, ended.is_text, note)
-    by_note (refused.Plan fault) note = (ended.script, ended.is_text, note)
-    by_note (refused.Low part symbol) note = (ended.script, ended.is_text, note)
-    by_note (refused.Finished part symbol) note = (ended.script, ended.is_text, note)
-    by_note (refused.Cert fault) note = absurd note
-    by_note (refused.Missing name) note = absurd note
-    by_note (refused.Unneeded name) note = absurd note
-    by_note refused.Memory note = absurd note
-
 -- where nothing is noted the names decide
 names_refusal : (wanted : Option Problem) (bytes : List ℕ) (findings : Findings) (r : Refused) → (r ≡ refused.Memory → ⊥) → findings.wrong ≡ None → IsNamesRefusal findings.names findings.given.items r → HasEnded wanted bytes findings →
     IsRefusal wanted bytes r

@@ -6,7 +6,6 @@ pub mod Meaning
 pub mod OnTheWay
 pub mod OneCut
 pub mod OneRefusal
-pub mod OneTree
 pub mod Onward
 pub mod Paid
 pub mod PartEnds

@@ -20,7 +20,6 @@ use Rattle.crp_checker.specs.declared.verdict.Verdict.{Verdict}
 use Rattle.crp_checker.specs.declared.verdict.Verdict.TheVariants.{Optimal, NoPlan, Bounds}
 use Rattle.crp_checker.specs.AcceptedTexts.{IsWanted, IsAcceptedText}
 use Rattle.crp_checker.specs.Verdicts.{IsVerdictOf, IsVerdict, Says}
-use Rattle.crp_checker.specs.Passing.{refusal_by}
 use Rattle.crp_checker.specs.Refusals.{IsFirstWrongClaim, IsRefusal}
 
 -- a plan with as many relocations as the bound is a best one
@@ -66,21 +65,10 @@ none_of_head wanted bytes told head moves known of most plan =
     let same = head_is bytes told head known.is_text of in
     no_plan_at_cap (claim_of told) moves known.accepted (subst (λ h. h.claim ≡ cap h.problem) same most) (subst (λ h. IsPlan h.problem moves) same plan)
 
--- a text that the reader refuses is refused for that
-pub text_refused : (bytes : List ℕ) (fault : CertFault) → (fault ≡ cert.Memory) ⊎ IsFirstFaultOfScript bytes fault →
-    (refusal_by fault ≡ refused.Memory) ⊎ ((wanted : Option Problem) → IsRefusal wanted bytes (refusal_by fault))
-text_refused bytes cert.Memory k = inl refl
-text_refused bytes fault k = inr (λ wanted. ⊎_elim (λ e. absurd (cc)) (λ f. f) k)
-
 -- a claim that is wrong is refused for that
 pub claim_refused : (wanted : Option Problem) (bytes : List ℕ) (told : Script) (r : Refused) → IsScriptOf bytes told → IsFirstWrongClaim wanted (claim_of told) r → IsRefusal wanted bytes r
 claim_refused wanted bytes told (refused.Cert fault) is w = absurd w
 claim_refused wanted bytes told r is w = (told, is, w)
-
--- where the problem is as wanted
-pub claim_refused_if : (wanted : Option Problem) (bytes : List ℕ) (told : Script) (r : Refused) → IsScriptOf bytes told → IsWanted wanted told.head.problem →
-    (r ≡ refused.Memory) ⊎ ((any : Option Problem) → IsWanted any told.head.problem → IsFirstWrongClaim any (claim_of told) r) → (r ≡ refused.Memory) ⊎ IsRefusal wanted bytes r
-claim_refused_if wanted bytes told r is asked k = ⊎_elim (λ e. inl e) (λ w. inr (claim_refused wanted bytes told r is (w wanted asked))) k
 
 -- the bound, the cap and a plan give one verdict
 pub one_verdict_of : (bound most : ℕ) (count : Option ℕ) (verdict other : Verdict) → IsVerdictOf bound most count verdict → IsVerdictOf bound most count other → verdict ≡ other

@@ -5,7 +5,6 @@ pub mod Verdicts
 pub mod Shown
 pub mod Files
 pub mod Needs
-pub mod Passing
 pub mod Openings
 pub mod Stages
 pub mod Fed

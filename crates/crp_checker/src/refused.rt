@@ -45,26 +45,3 @@ impl From<AllocError> for Refused {
         Refused::Memory
     }
 }
-
-impl From<CertFault> for Refused {
-    ghost use Rattle.crp_checker.specs.Passing.{refusal_by};
-
-    ghost from_gives = { λ fault refused. refused ≡ refusal_by fault };
-
-    fn from(fault: CertFault) -> Refused {
-        match fault {
-            CertFault::Memory => Refused::Memory,
-            other => Refused::Cert(other),
-        }
-    }
-}
-
-impl From<PlanFault> for Refused {
-    ghost use Rattle.crp_checker.specs.declared.refused.Refused.TheVariants.{Plan};
-
-    ghost from_gives = { λ fault refused. refused ≡ Plan fault };
-
-    fn from(fault: PlanFault) -> Refused {
-        Refused::Plan(fault)
-    }
-}

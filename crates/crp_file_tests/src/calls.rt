@@ -2,7 +2,7 @@
 ghost use Rattle.std.specs.Prelude.{◌≤◌};
 
 use crp_cert::{CertFault, Head, Script, WriteFault as CertWriteFault};
-use crp_checker::{FileRefused, Refused, Verdict, Verdicts};
+use crp_checker::{Checker, FileRefused, Refused, Verdict, Verdicts};
 use crp_movins::{MovinsFault, Orders};
 use crp_order::{BayProblem, Mode, Sequence};
 use crp_plan::{BayName, Plan, Problem, Sink, Source};
@@ -42,6 +42,30 @@ pub(crate) fn write_cert<W: Sink>(
 
 pub(crate) fn check(alloc: Global, bytes: &[u8]) -> Result<Verdict, Refused> {
     crp_checker::check(alloc, bytes)
+}
+
+/// The same, fed byte by byte.
+pub(crate) fn check_bytes(alloc: Global, bytes: &[u8]) -> Result<Verdict, Refused> {
+    let mut checker = Checker::new(alloc, None);
+    for i in 0..bytes.len() {
+        checker.feed(&bytes[i..i + 1])?;
+    }
+    checker.finish()
+}
+
+/// The same, fed in two pieces.
+pub(crate) fn check_pieces(alloc: Global, piece: &[u8], more: &[u8]) -> Result<Verdict, Refused> {
+    let mut checker = Checker::new(alloc, None);
+    checker.feed(piece)?;
+    checker.feed(more)?;
+    checker.finish()
+}
+
+/// The bay that a checker names after these bytes.
+pub(crate) fn bay_after(alloc: Global, bytes: &[u8]) -> Result<Option<BayName>, AllocError> {
+    let mut checker = Checker::new(alloc, None);
+    checker.feed(bytes)?;
+    Ok(checker.bay())
 }
 
 pub(crate) fn check_for(

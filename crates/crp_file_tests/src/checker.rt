@@ -1,4 +1,4 @@
-use crate::calls::{check, check_file, check_for, read_head};
+use crate::calls::{bay_after, check, check_bytes, check_file, check_for, check_pieces, read_head};
 use crate::compare::{assert_at, assert_same, assert_same_at};
 use crp_checker::{Path, Refused, Verdict};
 use crp_plan::{BayName, Problem};
@@ -28,8 +28,11 @@ fn six(alloc: Global, lines: &str) -> Result<String, AllocError> {
     format!(in alloc; "CRP-CERT 1\nbay A 1\nsize 3 3 6 6\nrow 1 5 4\nrow 6\nrow 3 2\n{lines}\n")
 }
 
+/// The certificate shows this, whole and byte by byte.
 fn shows(rt: &(impl Abort + AllocGlobal), text: &str, verdict: Verdict) {
     let shown = check(rt.alloc(), text.as_bytes()).expect(rt, "an accepted certificate");
+    assert_same_at(rt, &shown, &verdict, &text);
+    let shown = check_bytes(rt.alloc(), text.as_bytes()).expect(rt, "an accepted certificate");
     assert_same_at(rt, &shown, &verdict, &text);
 }
 
@@ -37,9 +40,21 @@ fn told(alloc: Global, refused: &Refused) -> Result<String, AllocError> {
     format!(in alloc; "{refused}")
 }
 
+/// The certificate is refused for this, whole and byte by byte.
 fn refuses(rt: &(impl Abort + AllocGlobal), text: &str, fault: &str) -> Result<(), AllocError> {
     let refused = check(rt.alloc(), text.as_bytes()).expect_err(rt, "a refused certificate");
-    let shown = told(rt.alloc(), &refused)?;
+    refused_for(rt, &refused, text, fault)?;
+    let refused = check_bytes(rt.alloc(), text.as_bytes()).expect_err(rt, "a refused certificate");
+    refused_for(rt, &refused, text, fault)
+}
+
+fn refused_for(
+    rt: &(impl Abort + AllocGlobal),
+    refused: &Refused,
+    text: &str,
+    fault: &str,
+) -> Result<(), AllocError> {
+    let shown = told(rt.alloc(), refused)?;
     assert_same_at(rt, &shown.as_str(), &fault, &text);
     Ok(())
 }
@@ -114,7 +129,21 @@ fn bounds_of_six_containers(rt: HostRuntime) -> Result<(), Fail> {
 
 #[test]
 fn refused_certificates_of_six_containers(rt: HostRuntime) -> Result<(), Fail> {
-    let cases: [(&str, &str); 15] = [
+    let cases: [(&str, &str); 20] = [
+        (
+            "at least 3\nplan 2 2 1\npart /: XLBZ\nend 1",
+            "C8 at line 9",
+        ),
+        (
+            "at least 3\nplan 2 2 1\npart /: XBLQ\nend 1",
+            "C8 at line 9",
+        ),
+        (
+            "at least 3\nplan 2 2 1\npart /: XBLL\nend 1",
+            "C10 at line 9",
+        ),
+        ("at least 3\nplan 2 2 1\npart /: G\nend 1", "C8 at line 9"),
+        ("at least 3\nplan 2 2 1\npart /: XLB", "C11 at line 10"),
         (
             "at least 3\nplan 2 2 1\npart /: XBL\nend 1",
             "K3 at part / symbol 2",
@@ -334,6 +363,42 @@ fn is_cut(rt: &(impl Abort + AllocGlobal), cut: &[u8]) {
     let length = cut.len();
     let refused = check(rt.alloc(), cut).expect_err(rt, "a cut certificate");
     assert_at(rt, matches!(&refused, Refused::Cert(_)), &length);
+}
+
+/// The certificate is what it is, wherever it is cut into two pieces.
+fn is_whole(rt: &(impl Abort + AllocGlobal), text: &str) {
+    let bytes = text.as_bytes();
+    let whole = check(rt.alloc(), bytes);
+    for length in 0..bytes.len() {
+        let pieces = check_pieces(rt.alloc(), &bytes[..length], &bytes[length..]);
+        assert_same_at(rt, &pieces, &whole, &length);
+    }
+}
+
+#[test]
+fn certificates_in_two_pieces(rt: HostRuntime) -> Result<(), Fail> {
+    is_whole(&rt, TWO);
+    is_whole(&rt, SIX);
+    is_whole(&rt, ONE_ROW);
+    is_whole(
+        &rt,
+        "CRP-CERT 1\nbay A 1\nsize 3 3 6 6\nrow 1 5 4\nrow 6\nrow 3 2\nat least 3\nplan 2 2 1\npart /: XGG\npart 2: L\npart 3: B\nend 3\n",
+    );
+    is_whole(
+        &rt,
+        "CRP-CERT 1\nbay A 1\nsize 3 3 6 6\nrow 1 5 4\nrow 6\nrow 3 2\nat least 3\nplan 2 2 1\npart /: XBL\npart 2 : L\nend 2\n",
+    );
+    Ok(())
+}
+
+#[test]
+fn the_bay_is_known_from_the_second_line_on(rt: HostRuntime) -> Result<(), Fail> {
+    let bytes = SIX.as_bytes();
+    for length in 0..bytes.len() {
+        let bay = bay_after(rt.alloc(), &bytes[..length])?;
+        assert_at(&rt, bay.is_some() == (length >= 19), &length);
+    }
+    Ok(())
 }
 
 #[test]
