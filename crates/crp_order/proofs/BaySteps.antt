@@ -1,15 +1,15 @@
 -- A bay by the ranks of its containers.
-use Rattle.std.proofs.Common.{◌≡◌, ◌≤◌, ◌<◌, ◌+◌, ◌-◌, ◌==◌, ℕ, suc, Bool, true, false, cond, not, List, [], ◌∷◌, ◌++◌, length, map, get_or, All, refl, ap, ◌∙◌, arith, length-append}
+use Rattle.std.proofs.Common.{◌≡◌, ◌≤◌, ◌<◌, ◌+◌, ◌-◌, ◌==◌, ℕ, suc, Bool, true, false, cond, not, List, [], ◌∷◌, ◌++◌, length, map, get_or, refl, sym, ap, ◌∙◌, arith, length-append}
 use Rattle.std.specs.Prelude.{filter}
 use Rattle.std.specs.Str.{bytes_eq}
 use Rattle.crp_plan.specs.Bay.{IsProblem}
-use Rattle.crp_plan.specs.Rows.{occurrences, total}
-use Rattle.crp_plan.specs.Faults.{stated, AreRanks, HasTiers, FitTiers}
-use Rattle.crp_plan.proofs.Tallies.{made}
+use Rattle.crp_plan.specs.Rows.{occurrences, total, FitRows}
+use Rattle.crp_plan.specs.Faults.{stated_with, AreRanks, AreHeights}
+use Rattle.crp_plan.proofs.Steps.{same_rows}
+use Rattle.crp_plan.proofs.Heights.{made_with}
 use Rattle.crp_plan.proofs.Lists.{times as rank_times, times-cons as rank_times-cons, occurrences-cons}
 use Rattle.std.proofs.lemmas.List.{length-map}
 use Rattle.std.proofs.lemmas.List.Sums.{sum_by-cons}
-use Rattle.std.proofs.lemmas.List.Elements.{All-map, All-weaker}
 use Rattle.std.proofs.lemmas.Bool.{eqb-true}
 use Rattle.crp_yard.specs.Inventory.{times, is_among, FitBay}
 use Rattle.crp_order.specs.BayProblems.{standing, rank_in, ranks_in}
@@ -104,17 +104,19 @@ ranks_once names stacks alike once = record {
 }
 
 -- the ranks of a stack are no more than its containers
-ranks_fit : (tiers : ℕ) (names : List (List ℕ)) (stacks : List (List (List ℕ))) → All (λ stack. length stack ≤ tiers) stacks → FitTiers tiers (ranks_in names stacks)
-ranks_fit tiers names stacks fit =
-    All-map (λ ranks. length ranks ≤ tiers) (map (rank_in names)) stacks (All-weaker (λ stack. length stack ≤ tiers) (λ stack. length (map (rank_in names) stack) ≤ tiers) (λ stack h. omega (arith, h, length-map stack (rank_in names))) stacks fit)
+ranks_fit : (heights : List ℕ) (names : List (List ℕ)) (stacks : List (List (List ℕ))) → FitBay heights stacks → FitRows heights (ranks_in names stacks)
+ranks_fit [] names [] fit = tt
+ranks_fit [] names (stack ∷ stacks) fit = absurd fit
+ranks_fit (height ∷ heights) names [] fit = absurd fit
+ranks_fit (height ∷ heights) names (stack ∷ stacks) fit = (rw (length-map stack (rank_in names)) fit.0, ranks_fit heights names stacks fit.1)
 
 -- a bay by ranks is a problem
-pub problem_stated : (rows tiers : ℕ) (left : List (List ℕ)) (stacks : List (List (List ℕ))) → HasTiers tiers → 1 ≤ rows → rows ≤ 12 → FitBay rows tiers stacks → CanLeave left stacks
-    → ((c : List ℕ) → times c (standing stacks) ≤ 1) → IsProblem (stated tiers (length left) (ranks_in (names_behind left stacks) stacks))
-problem_stated rows tiers left stacks has some few fit can once =
+pub problem_stated : (heights : List ℕ) (left : List (List ℕ)) (stacks : List (List (List ℕ))) → AreHeights heights → 1 ≤ length heights → length heights ≤ 12 → FitBay heights stacks → CanLeave left stacks
+    → ((c : List ℕ) → times c (standing stacks) ≤ 1) → IsProblem (stated_with heights (length left) (ranks_in (names_behind left stacks) stacks))
+problem_stated heights left stacks are some few fit can once =
     let names = names_behind left stacks in
-    let long : length (ranks_in names stacks) ≡ length stacks = length-map stacks (map (rank_in names)) in
-    let n : length stacks ≡ rows = fit.rows_are in
-    made tiers (length left) (ranks_in names stacks) (omega (arith, long, n), omega (arith, long, n)) has (ranks_fit tiers names stacks fit.stacks_fit)
+    let low = ranks_fit heights names stacks fit in
+    let n : length (ranks_in names stacks) ≡ length heights = same_rows heights (ranks_in names stacks) low in
+    made_with heights (length left) (ranks_in names stacks) ((omega (arith, n), omega (arith, n)), sym n) are low
     (ranks_once names stacks (names-times left stacks can once) once)
     (omega (arith, ranks_total names stacks, names-length left stacks can once, length-append left (filter (λ d. not (is_among left d)) (standing stacks))))

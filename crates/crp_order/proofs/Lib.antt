@@ -10,3 +10,4 @@ pub mod SequenceSteps
 pub mod StatingSteps
 pub mod NamedSteps
 pub mod StowageSteps
+pub mod OneHeight

@@ -1,27 +1,26 @@
 -- The ranks of a bay, read as names.
-use Rattle.std.proofs.Common.{◌≡◌, ◌≤◌, ◌<◌, ℕ, List, [], ◌∷◌, length, map, get_or, replicate, All, Some, slice_get, refl, sym, ap, ◌∙◌, subst, arith}
+use Rattle.std.proofs.Common.{◌≡◌, ◌≤◌, ◌<◌, ℕ, List, [], ◌∷◌, length, map, get_or, All, Some, slice_get, refl, sym, ap, ◌∙◌, subst, arith}
 use Rattle.std.specs.Prelude.{filter}
 use Rattle.std.specs.List.{IsDistinct}
 use Rattle.std.specs.Cmp.{IsEquivalence}
 use Rattle.std.proofs.lemmas.Cmp.{nat_list_eq_equiv, nat_eq_equiv, on_equiv, and_equiv}
-use Rattle.std.proofs.lemmas.List.{length-map}
 use Rattle.std.proofs.lemmas.List.Elements.{All-map, All-filter}
 use Rattle.std.proofs.lemmas.Map.Entries.{lookup_from_place}
 use Rattle.std.proofs.lemmas.Map.Made.{IsDistinct-keys_filter}
 use Rattle.std.proofs.lemmas.Option.{slice_get-get_or}
 use Rattle.crp_plan.specs.BayNames.{YardBay}
 use Rattle.crp_yard.specs.Places.{same_bay}
-use Rattle.crp_yard.specs.Inventory.{Inventory, StackedBay, IsYard, FitBay, times}
+use Rattle.crp_yard.specs.Inventory.{Inventory, StackedBay, IsYard, times}
 use Rattle.crp_yard.specs.Ranks.{name_of, named}
 use Rattle.crp_order.specs.declared.bay_problem.BayProblem.{BayProblem}
 use Rattle.crp_order.specs.Sequenced.{AreSequenced}
-use Rattle.crp_order.specs.BayProblems.{standing, leaving, ranked, rank_in, ranks_in, is_called, bay_problem_of, IsNamed}
+use Rattle.crp_order.specs.BayProblems.{standing, leaving, ranked, rank_in, ranks_in, is_called, bay_problem_under, IsNamed}
 use Rattle.crp_order.specs.Groups.{stacks_numbered, names_behind, CanLeave}
 use Rattle.crp_yard.proofs.ListingSteps.{times-append}
 use Rattle.crp_order.proofs.Once.{here}
 use Rattle.crp_order.proofs.RankSteps.{name_of-rank}
 use Rattle.crp_order.proofs.BaySteps.{names-times, names-length, ranks_total}
-use Rattle.crp_order.proofs.YardSteps.{stacks_of_bay, fits, stands_once}
+use Rattle.crp_order.proofs.YardSteps.{stacks_of_bay, stands_once}
 use Rattle.crp_order.proofs.StatingSteps.{can_leave, names-ranked}
 
 pub same_bay_equiv : IsEquivalence same_bay
@@ -44,33 +43,32 @@ stacks_named names (stack ∷ stacks) all =
 
 -- the problem of a bay tells the bay
 bay_named : (yard : Inventory) (sequence : List (List ℕ)) (i : ℕ) (bay : StackedBay) → IsYard yard → AreSequenced sequence → i < length yard.bays → slice_get yard.bays i ≡ Some bay
-    → IsNamed yard (bay_problem_of yard.tiers sequence bay)
+    → IsNamed yard (bay_problem_under yard.heights sequence bay)
 bay_named yard sequence i bay is sequenced there at =
     let own : stacks_numbered yard i ≡ bay.1 = stacks_of_bay yard i bay at in
-    let fit : FitBay yard.rows yard.tiers bay.1 = subst (FitBay yard.rows yard.tiers) own (fits yard i is there) in
     let once : (c : List ℕ) → times c (standing bay.1) ≤ 1 = subst (λ s. (c : List ℕ) → times c (standing s) ≤ 1) own (stands_once yard i is there) in
     let can : CanLeave (leaving sequence bay.1) bay.1 = can_leave sequence bay.1 sequenced in
     let same : names_behind (leaving sequence bay.1) bay.1 ≡ ranked sequence bay.1 = names-ranked sequence bay.1 in
     let often : (c : List ℕ) → times c (ranked sequence bay.1) ≡ times c (standing bay.1) = λ c. ap (times c) (sym same) ∙ names-times (leaving sequence bay.1) bay.1 can once c in
     record {
-      heights = ap (λ n. replicate n yard.tiers) (length-map bay.1 (map (rank_in (ranked sequence bay.1))) ∙ fit.rows_are);
+      heights = refl;
       stands = lookup_from_place same_bay_equiv yard.bays i bay.0 bay.1 is.bays_once at ∙ ap Some (sym (stacks_named (ranked sequence bay.1) bay.1 (λ c h. omega (arith, h, often c))));
       each_rank = ap length (sym same) ∙ names-length (leaving sequence bay.1) bay.1 can once ∙ sym (ranks_total (ranked sequence bay.1) bay.1);
     }
 
 pub all_named : (yard : Inventory) (sequence : List (List ℕ)) (told : List BayProblem) → IsYard yard → AreSequenced sequence
-    → told ≡ map (bay_problem_of yard.tiers sequence) (filter (is_called sequence) yard.bays) → All (IsNamed yard) told
+    → told ≡ map (bay_problem_under yard.heights sequence) (filter (is_called sequence) yard.bays) → All (IsNamed yard) told
 all_named yard sequence told is sequenced e =
     subst (All (IsNamed yard)) (sym e)
-    (All-map (IsNamed yard) (bay_problem_of yard.tiers sequence) (filter (is_called sequence) yard.bays)
-    (All-filter (is_called sequence) (λ bay. IsNamed yard (bay_problem_of yard.tiers sequence bay)) yard.bays
+    (All-map (IsNamed yard) (bay_problem_under yard.heights sequence) (filter (is_called sequence) yard.bays)
+    (All-filter (is_called sequence) (λ bay. IsNamed yard (bay_problem_under yard.heights sequence bay)) yard.bays
     (λ i d there. bay_named yard sequence i (get_or yard.bays i d) is sequenced there (slice_get-get_or yard.bays i d there))))
 
-bays_told : (tiers : ℕ) (sequence : List (List ℕ)) (bays : List StackedBay) → map (λ told. told.bay) (map (bay_problem_of tiers sequence) bays) ≡ map (λ bay. bay.0) bays
-bays_told tiers sequence [] = refl
-bays_told tiers sequence (bay ∷ bays) = ap (λ names. bay.0 ∷ names) (bays_told tiers sequence bays)
+bays_told : (heights : List ℕ) (sequence : List (List ℕ)) (bays : List StackedBay) → map (λ told. told.bay) (map (bay_problem_under heights sequence) bays) ≡ map (λ bay. bay.0) bays
+bays_told heights sequence [] = refl
+bays_told heights sequence (bay ∷ bays) = ap (λ names. bay.0 ∷ names) (bays_told heights sequence bays)
 
-pub all_once : (yard : Inventory) (sequence : List (List ℕ)) (told : List BayProblem) → IsYard yard → told ≡ map (bay_problem_of yard.tiers sequence) (filter (is_called sequence) yard.bays)
+pub all_once : (yard : Inventory) (sequence : List (List ℕ)) (told : List BayProblem) → IsYard yard → told ≡ map (bay_problem_under yard.heights sequence) (filter (is_called sequence) yard.bays)
     → IsDistinct same_bay (map (λ p. p.bay) told)
 all_once yard sequence told is e =
-    subst (IsDistinct same_bay) (sym (ap (map (λ (p : BayProblem). p.bay)) e ∙ bays_told yard.tiers sequence (filter (is_called sequence) yard.bays))) (IsDistinct-keys_filter same_bay (is_called sequence) yard.bays is.bays_once)
+    subst (IsDistinct same_bay) (sym (ap (map (λ (p : BayProblem). p.bay)) e ∙ bays_told yard.heights sequence (filter (is_called sequence) yard.bays))) (IsDistinct-keys_filter same_bay (is_called sequence) yard.bays is.bays_once)

@@ -39,12 +39,12 @@ stack_of_bay yard i row stack e = by (slice_get yard.bays i) e
 pub take_next : {X : Type 0} (xs : List X) (i : ℕ) (x : X) → slice_get xs i ≡ Some x → take (i + 1) xs ≡ take i xs ++ x ∷ []
 take_next xs i x e = Rattle.std.proofs.lemmas.List.take_more xs i x (slice_get_within xs i x e) ∙ ap (λ y. take i xs ++ y ∷ []) (get_or_from_slice_get xs i x x e)
 
-pub fits : (yard : Inventory) (i : ℕ) → IsYard yard → i < length yard.bays → FitBay yard.rows yard.tiers (stacks_numbered yard i)
+pub fits : (yard : Inventory) (i : ℕ) → IsYard yard → i < length yard.bays → FitBay yard.heights (stacks_numbered yard i)
 fits yard i is h =
     let at : AtBay yard i = at_bay yard i h in
-    let fit : FitBay yard.rows yard.tiers (get_or yard.bays i at.bay).1 = All-get_or (λ bay. FitBay yard.rows yard.tiers bay.1) yard.bays i at.bay h is.bays_fit in
+    let fit : FitBay yard.heights (get_or yard.bays i at.bay).1 = All-get_or (λ bay. FitBay yard.heights bay.1) yard.bays i at.bay h is.bays_fit in
     let e : (get_or yard.bays i at.bay).1 ≡ stacks_numbered yard i = ap (λ bay. bay.1) (get_or_from_slice_get yard.bays i at.bay at.bay at.here) ∙ sym at.stacks in
-    subst (FitBay yard.rows yard.tiers) e fit
+    subst (FitBay yard.heights) e fit
 
 -- a container stands in a bay as often as in the yard at most, and in two bays together
 in_one : (bays : List StackedBay) (c : List ℕ) (i : ℕ) (bay : StackedBay) → slice_get bays i ≡ Some bay → times c (standing bay.1) ≤ times c (containers_of bays)

@@ -4,7 +4,7 @@ use Rattle.std.specs.Option.{option_map_or}
 use Rattle.std.specs.Map.{lookup}
 use Rattle.std.specs.Str.{bytes_eq}
 use denote.Ref.{Bor}
-use Rattle.crp_plan.specs.Faults.{stated}
+use Rattle.crp_plan.specs.Faults.{stated_with}
 use Rattle.crp_yard.specs.Inventory.{Inventory, StackedBay, is_among, times, name_at}
 use Rattle.crp_order.specs.declared.bay_problem.BayProblem.{BayProblem}
 use Rattle.crp_order.specs.BayProblems.{standing, leaving, ranks_in}
@@ -54,4 +54,4 @@ pub record CanLeave (left : List (List ℕ)) (stacks : List (List (List ℕ))) :
 pub record IsStated (yard : Inventory) (i : ℕ) (left : List (List ℕ)) (told : BayProblem) : Type 0 where
   pub bay : name_at yard i ≡ Some told.bay
   pub names : told.names ≡ names_behind left (stacks_numbered yard i)
-  pub problem : told.problem ≡ stated yard.tiers (length left) (ranks_in (names_behind left (stacks_numbered yard i)) (stacks_numbered yard i))
+  pub problem : told.problem ≡ stated_with yard.heights (length left) (ranks_in (names_behind left (stacks_numbered yard i)) (stacks_numbered yard i))

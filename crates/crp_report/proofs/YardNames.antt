@@ -1,5 +1,5 @@
 -- The bays and the containers of an accepted yard list have names that fit a line.
-use Rattle.std.proofs.Common.{◌≡◌, ℕ, zero, suc, ◌-◌, ◌<◌, ◌≤◌, ◌==◌, Bool, true, false, not, cond, List, [], ◌∷◌, ◌++◌, length, take, get_or, map, filter, fold, Option, Some, None, refl, sym, subst, arith, nat_le}
+use Rattle.std.proofs.Common.{◌≡◌, ℕ, zero, suc, ◌-◌, ◌<◌, ◌≤◌, ◌==◌, Bool, true, false, not, cond, List, [], ◌∷◌, ◌++◌, length, take, replicate, get_or, map, filter, fold, Option, Some, None, refl, sym, subst, arith, nat_le}
 use Rattle.std.specs.Prelude.{◌&&◌, ◌||◌, max, option_to_list}
 use Rattle.std.specs.List.{AllByRecursion, list_all, list_any}
 use Rattle.std.specs.Char.{is_ascii_digit}
@@ -11,7 +11,7 @@ use Rattle.std.proofs.lemmas.List.Concat.{flat_map-append}
 use Rattle.std.proofs.lemmas.List.Elements.{All-from_recursion, recursion_from_All, All-map}
 use Rattle.crp_plan.specs.BayNames.{YardBay, IsYardBay}
 use Rattle.crp_yard.specs.Places.{YardPlace, same_bay, same_place}
-use Rattle.crp_yard.specs.Records.{Entry, is_block, is_container, is_number, number_of, is_well_formed, has_numbers, field_of, entry_of, entries_of, records_of}
+use Rattle.crp_yard.specs.Records.{Entry, is_block, is_container, is_number, number_of, is_well_formed, has_numbers, field_of, entry_of, entries_of, records_of, height_of}
 use Rattle.crp_yard.specs.Faults.{fault_of, fault_behind, fault_at, first_fault, first_fault_up_to, max_bytes}
 use Rattle.crp_yard.specs.Inventory.{Inventory, StackedBay, bays_of, with_bay, stacked, stack_up_to, stacks_up_to, container_at, is_among}
 use Rattle.crp_yard.specs.Reading.{IsYardList}
@@ -65,9 +65,9 @@ pub record HasGoodNames (entry : Entry) : Type 0 where
   pub bay : IsYardBay entry.0.bay
   pub container : FitsLine entry.1
 
-good_entry : (rows tiers : ℕ) (entries : List Entry) (n : ℕ) (fields : List (List ℕ)) → fault_of rows tiers entries n fields ≡ None → HasGoodNames (entry_of fields)
+good_entry : (heights : List ℕ) (entries : List Entry) (n : ℕ) (fields : List (List ℕ)) → fault_of heights entries n fields ≡ None → HasGoodNames (entry_of fields)
 unfolding fault_of entry_of
-good_entry rows tiers entries n fields e =
+good_entry heights entries n fields e =
     let formed = passed (is_well_formed fields) _ _ e in
     let numbers = passed (has_numbers fields) _ _ formed.1 in
     let three = and_parts (is_number (field_of fields 1) && (is_number (field_of fields 2) && is_number (field_of fields 3))) (nat_le 1 (number_of (field_of fields 1))) numbers.0 in
@@ -82,25 +82,25 @@ good_entry rows tiers entries n fields e =
 
 -- ---- so do all records of a list without a fault
 
-good_behind : (rows tiers : ℕ) (entries : List Entry) (n : ℕ) (fields : List (List ℕ)) → fault_behind rows tiers entries (suc (suc n)) fields ≡ None → HasGoodNames (entry_of fields)
+good_behind : (heights : List ℕ) (entries : List Entry) (n : ℕ) (fields : List (List ℕ)) → fault_behind heights entries (suc (suc n)) fields ≡ None → HasGoodNames (entry_of fields)
 unfolding fault_behind
-good_behind rows tiers entries n fields e = let other : (suc (suc n) == 1) ≡ false = not_one n in good_entry rows tiers entries (suc (suc n)) fields (rw other at e)
+good_behind heights entries n fields e = let other : (suc (suc n) == 1) ≡ false = not_one n in good_entry heights entries (suc (suc n)) fields (rw other at e)
 
-good_record : (rows tiers : ℕ) (first : List (List ℕ)) (records : List (List (List ℕ))) → first_fault rows tiers (first ∷ records) ≡ None → (i : ℕ) → i < length records → HasGoodNames (entry_of (get_or records i []))
+good_record : (heights : List ℕ) (first : List (List ℕ)) (records : List (List (List ℕ))) → first_fault heights (first ∷ records) ≡ None → (i : ℕ) → i < length records → HasGoodNames (entry_of (get_or records i []))
 unfolding first_fault fault_at
-good_record rows tiers first records e i below =
-    let parts = neither (first_fault_up_to rows tiers (first ∷ records) (max 1 (length (first ∷ records)))) _ e in
+good_record heights first records e i below =
+    let parts = neither (first_fault_up_to heights (first ∷ records) (max 1 (length (first ∷ records)))) _ e in
     let top : max 1 (length (first ∷ records)) ≡ suc (length records) = omega arith in
-    let none = faultless-up_to rows tiers (first ∷ records) (suc (length records)) (rw top at parts.0) (suc (suc i)) (omega arith) (omega arith) in
+    let none = faultless-up_to heights (first ∷ records) (suc (length records)) (rw top at parts.0) (suc (suc i)) (omega arith) (omega arith) in
     let number : suc (suc i) - 1 ≡ suc i = omega arith in
-    good_behind rows tiers (map entry_of (take i records)) i (get_or records i []) (rw number at none)
+    good_behind heights (map entry_of (take i records)) i (get_or records i []) (rw number at none)
 
-good_entries : (rows tiers : ℕ) (records : List (List (List ℕ))) → first_fault rows tiers records ≡ None → AllByRecursion HasGoodNames (entries_of records)
-good_entries rows tiers [] e = tt
-good_entries rows tiers (first ∷ records) e =
+good_entries : (heights : List ℕ) (records : List (List (List ℕ))) → first_fault heights records ≡ None → AllByRecursion HasGoodNames (entries_of records)
+good_entries heights [] e = tt
+good_entries heights (first ∷ records) e =
     recursion_from_All HasGoodNames (map entry_of records)
     (All-map HasGoodNames entry_of records
-    (λ i d below. subst (λ fields. HasGoodNames (entry_of fields)) (get_or_default records i [] d below) (good_record rows tiers first records e i below)))
+    (λ i d below. subst (λ fields. HasGoodNames (entry_of fields)) (get_or_default records i [] d below) (good_record heights first records e i below)))
 
 -- ---- and all bays of the yard
 
@@ -132,33 +132,33 @@ stack_fits entries bay row (suc tier) good =
     let place : YardPlace = record { bay = bay; row = row; tier = suc tier } in
     all_both FitsLine (stack_up_to entries bay row tier) (option_to_list (container_at entries place)) (stack_fits entries bay row tier good) (found_fits (same_place place) entries good)
 
-stacks_fit : (entries : List Entry) (bay : YardBay) (tiers rows : ℕ) → AllByRecursion HasGoodNames entries → AllByRecursion FitsLine (standing (stacks_up_to entries bay tiers rows))
-stacks_fit entries bay tiers zero good = tt
-stacks_fit entries bay tiers (suc row) good =
-    let before = stacks_up_to entries bay tiers row in
-    let last = stack_up_to entries bay (suc row) tiers in
+stacks_fit : (entries : List Entry) (bay : YardBay) (heights : List ℕ) (rows : ℕ) → AllByRecursion HasGoodNames entries → AllByRecursion FitsLine (standing (stacks_up_to entries bay heights rows))
+stacks_fit entries bay heights zero good = tt
+stacks_fit entries bay heights (suc row) good =
+    let before = stacks_up_to entries bay heights row in
+    let last = stack_up_to entries bay (suc row) (height_of heights (suc row)) in
     subst (AllByRecursion FitsLine) (sym (flat_map-append (λ stack. stack) before (last ∷ [])))
-    (all_both FitsLine (standing before) (standing (last ∷ [])) (stacks_fit entries bay tiers row good)
-    (all_both FitsLine last [] (stack_fits entries bay (suc row) tiers good) tt))
+    (all_both FitsLine (standing before) (standing (last ∷ [])) (stacks_fit entries bay heights row good)
+    (all_both FitsLine last [] (stack_fits entries bay (suc row) (height_of heights (suc row)) good) tt))
 
 -- a bay has a name, and so have its containers
 pub record IsNamedBay (bay : StackedBay) : Type 0 where
   pub name : IsYardBay bay.0
   pub containers : AllByRecursion FitsLine (standing bay.1)
 
-stacked_named : (rows tiers : ℕ) (entries : List Entry) (bays : List YardBay) → AllByRecursion HasGoodNames entries → AllByRecursion IsYardBay bays → AllByRecursion IsNamedBay (map (stacked rows tiers entries) bays)
-stacked_named rows tiers entries [] good names = tt
-stacked_named rows tiers entries (bay ∷ bays) good names =
-    (record { name = names.0; containers = stacks_fit entries bay tiers rows good }, stacked_named rows tiers entries bays good names.1)
+stacked_named : (heights : List ℕ) (entries : List Entry) (bays : List YardBay) → AllByRecursion HasGoodNames entries → AllByRecursion IsYardBay bays → AllByRecursion IsNamedBay (map (stacked heights entries) bays)
+stacked_named heights entries [] good names = tt
+stacked_named heights entries (bay ∷ bays) good names =
+    (record { name = names.0; containers = stacks_fit entries bay heights (length heights) good }, stacked_named heights entries bays good names.1)
 
 pub yard_named : (rows tiers : ℕ) (text : List ℕ) (yard : Inventory) → IsYardList rows tiers text yard → AllByRecursion IsNamedBay yard.bays
 yard_named rows tiers text yard is =
     let entries = entries_of (records_of text) in
-    let good = good_entries rows tiers (records_of text) (not_long (nat_le (length text) max_bytes) is.faultless) in
+    let good = good_entries (replicate rows tiers) (records_of text) (not_long (nat_le (length text) max_bytes) is.faultless) in
     subst (λ (y : Inventory). AllByRecursion IsNamedBay y.bays) (sym is.stands)
-    (stacked_named rows tiers entries (bays_of entries) good (once_each IsYardBay [] (map (λ entry. entry.0.bay) entries) tt (bays_named entries good)))
+    (stacked_named (replicate rows tiers) entries (bays_of entries) good (once_each IsYardBay [] (map (λ entry. entry.0.bay) entries) tt (bays_named entries good)))
   where
-    not_long : (t : Bool) → cond t (first_fault rows tiers (records_of text)) (Some TooLarge) ≡ None → first_fault rows tiers (records_of text) ≡ None
+    not_long : (t : Bool) → cond t (first_fault (replicate rows tiers) (records_of text)) (Some TooLarge) ≡ None → first_fault (replicate rows tiers) (records_of text) ≡ None
     not_long true e = e
     not_long false e = absurd (cc e)
 

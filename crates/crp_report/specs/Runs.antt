@@ -1,6 +1,6 @@
 -- A run from the bytes of a yard list and of a message to a report, certificates and the yard after: what it saw, what it wrote, and what each
 -- fault tells.
-use Rattle.std.specs.Prelude.{◌≡◌, ◌≢◌, ℕ, ◌+◌, ◌-◌, List, length, Option, None, Some}
+use Rattle.std.specs.Prelude.{◌≡◌, ◌≢◌, ℕ, ◌+◌, ◌-◌, List, length, replicate, Option, None, Some}
 use Rattle.std.specs.Io.KnownBytes.{Appends, Keeps}
 use Rattle.crp_plan.specs.Devices.{AppendsFront, HasFailed, most_interruptions}
 use Rattle.edi_text.specs.Parts.{SegmentParts}
@@ -158,7 +158,7 @@ most_failures f = most_interruptions + failures_told f
 -- that write.
 abbrev pub Tells : RunChosen → Seen → Fault → Type 0
 Tells chosen s (fault.Yard f) = WritesNothing s × (f ≢ yard_fault.Read) × (f ≢ yard_fault.Memory)
-    × ((text : List ℕ) × IsTextOf s.yard.given text × (fault_of_text chosen.rows chosen.tiers text ≡ Some f))
+    × ((text : List ℕ) × IsTextOf s.yard.given text × (fault_of_text (replicate chosen.rows chosen.tiers) text ≡ Some f))
 Tells chosen s (fault.Interchange f) = WritesNothing s × (f ≢ edi.Memory) × IsYardAccepted chosen s
     × ((text : List ℕ) × IsTextOf s.movins.given text × IsFirstFault text f)
 Tells chosen s (fault.Message f) = WritesNothing s × (f ≢ movins.Memory) × IsYardAccepted chosen s

@@ -7,6 +7,7 @@ use Rattle.std.proofs.lemmas.List.{take_more, take_all, take-append-drop}
 use Rattle.std.proofs.lemmas.Bool.{false≢true}
 use Rattle.indexmap.specs.IndexMap.{insert_entry}
 use Rattle.crp_plan.specs.BayNames.{YardBay}
+use Rattle.crp_plan.specs.Rows.{tallest}
 use Rattle.crp_plan.specs.Bay.{IsProblem}
 use Rattle.crp_yard.specs.declared.bay_plan.BayPlan.{BayPlan}
 use Rattle.crp_yard.specs.Places.{same_bay}
@@ -74,16 +75,16 @@ module _ (plans : List BayPlan) (plan : BayPlan) where
           (unmoved old new (same_bay_laws.symm old.0 plan.bay ∙ other) h.0, rest seen)
 
 -- what the plans leave of the bays
-pub record AreKept (rows tiers : ℕ) (old new : List StackedBay) : Type 0 where
+pub record AreKept (heights : List ℕ) (old new : List StackedBay) : Type 0 where
   pub names : map (λ (b : StackedBay). b.0) new ≡ map (λ (b : StackedBay). b.0) old
-  pub fits : AllByRecursion (λ (b : StackedBay). FitBay rows tiers b.1) new
+  pub fits : AllByRecursion (λ (b : StackedBay). FitBay heights b.1) new
   pub fewer : (c : List ℕ) → times c (containers_of new) ≤ times c (containers_of old)
 
 one_kept : (yard : Inventory) (plans : List BayPlan) (old new : StackedBay) → AllByRecursion (IsPlanForBay yard) plans → AllByRecursion (λ plan. IsProblem plan.plan.problem) plans
-    → FitBay yard.rows yard.tiers old.1 → stacks_at yard.bays old.0 ≡ Some old.1 → IsBayAfter plans old new → IsLeft yard.rows yard.tiers old.1 new.1
+    → FitBay yard.heights old.1 → stacks_at yard.bays old.0 ≡ Some old.1 → IsBayAfter plans old new → IsLeft yard.heights old.1 new.1
 one_kept yard plans old new of is fit at h = by (plan_for plans old.0) refl h.1
   where
-    by : (o : Option BayPlan) → plan_for plans old.0 ≡ o → MatchOption (plan_for plans old.0) (new.1 ≡ old.1) (λ p. LeavesNamed p new.1) → IsLeft yard.rows yard.tiers old.1 new.1
+    by : (o : Option BayPlan) → plan_for plans old.0 ≡ o → MatchOption (plan_for plans old.0) (new.1 ≡ old.1) (λ p. LeavesNamed p new.1) → IsLeft yard.heights old.1 new.1
     by None e k =
         let same : new.1 ≡ old.1 = rw e at k in
         rw same (record { fits = fit; fewer = λ c. omega arith })
@@ -94,11 +95,11 @@ one_kept yard plans old new of is fit at h = by (plan_for plans old.0) refl h.1
         let bay : old.0 ≡ p.bay = same_bay_is old.0 p.bay own.1 in
         let both : Some old.1 ≡ Some (named p.names p.plan.problem.stacks) = sym at ∙ ap (stacks_at yard.bays) bay ∙ own.0.stands in
         let before : old.1 ≡ named p.names p.plan.problem.stacks = cc both in
-        rw (before, leaves.2) (left_fits p.plan p.names leaves.0 yard.rows yard.tiers problem.0 own.0.heights leaves.1)
+        rw (before, leaves.2) (left_fits p.plan p.names leaves.0 yard.heights problem.0 own.0.heights leaves.1)
 
 pub all_kept : (yard : Inventory) (plans : List BayPlan) (olds news : List StackedBay) → AllByRecursion (IsPlanForBay yard) plans → AllByRecursion (λ plan. IsProblem plan.plan.problem) plans
-    → AllByRecursion (λ (b : StackedBay). FitBay yard.rows yard.tiers b.1) olds → AllByRecursion (λ (b : StackedBay). stacks_at yard.bays b.0 ≡ Some b.1) olds
-    → AreBaysAfter plans olds news → AreKept yard.rows yard.tiers olds news
+    → AllByRecursion (λ (b : StackedBay). FitBay yard.heights b.1) olds → AllByRecursion (λ (b : StackedBay). stacks_at yard.bays b.0 ≡ Some b.1) olds
+    → AreBaysAfter plans olds news → AreKept yard.heights olds news
 all_kept yard plans [] [] of is fits at h = record { names = refl; fits = tt; fewer = λ c. omega arith }
 all_kept yard plans [] (new ∷ news) of is fits at h = absurd h
 all_kept yard plans (old ∷ olds) [] of is fits at h = absurd h
@@ -112,16 +113,16 @@ all_kept yard plans (old ∷ olds) (new ∷ news) of is fits at h =
     }
 
 pub after_is_yard : (yard : Inventory) (plans : List BayPlan) (news : List StackedBay) → IsYard yard → All (IsPlanForBay yard) plans → AreDone plans yard.bays news
-    → IsYard (record { rows = yard.rows; tiers = yard.tiers; bays = news })
+    → IsYard (record { heights = yard.heights; tiers = tallest yard.heights; bays = news })
 after_is_yard yard plans news sound of done =
     let at = each_at (λ (b : StackedBay). stacks_at yard.bays b.0 ≡ Some b.1) yard.bays (λ i b e. looked_up same_bay same_bay_laws yard.bays i b same_bay_self sound.bays_once e) in
-    let kept = all_kept yard plans yard.bays news (each_of (IsPlanForBay yard) plans of) done.problems (each_of (λ (b : StackedBay). FitBay yard.rows yard.tiers b.1) yard.bays sound.bays_fit) at done.after in
+    let kept = all_kept yard plans yard.bays news (each_of (IsPlanForBay yard) plans of) done.problems (each_of (λ (b : StackedBay). FitBay yard.heights b.1) yard.bays sound.bays_fit) at done.after in
     record {
       some_rows = sound.some_rows;
       few_rows = sound.few_rows;
-      some_tiers = sound.some_tiers;
-      few_tiers = sound.few_tiers;
-      bays_fit = all_of (λ (b : StackedBay). FitBay yard.rows yard.tiers b.1) news kept.fits;
+      heights_fit = sound.heights_fit;
+      tiers_are = refl;
+      bays_fit = all_of (λ (b : StackedBay). FitBay yard.heights b.1) news kept.fits;
       bays_once = rw kept.names sound.bays_once;
       containers_once = λ c. omega (arith, kept.fewer c, sound.containers_once c);
     }
@@ -147,10 +148,10 @@ done_more yard plans i plan stacks old new sound of once within at problem leave
 pub done_all : (plans : List BayPlan) (i : ℕ) (old new : List StackedBay) → length plans ≤ i → AreDone (take i plans) old new → AreDone plans old new
 done_all plans i old new past done = subst (λ l. AreDone l old new) (take_all i plans past) done
 
-pub after_all : (yard after : Inventory) (plans : List BayPlan) (rows tiers : ℕ) (bays : List StackedBay) → rows ≡ yard.rows → tiers ≡ yard.tiers → AreDone plans yard.bays bays
-    → after ≡ record { rows = rows; tiers = tiers; bays = bays } → IsAfter yard plans after
-after_all yard after plans rows tiers bays same_rows same_tiers done e = record {
-  same_rows = ap (λ y. y.rows) e ∙ same_rows;
-  same_tiers = ap (λ y. y.tiers) e ∙ same_tiers;
+pub after_all : (yard after : Inventory) (plans : List BayPlan) (heights : List ℕ) (bays : List StackedBay) → heights ≡ yard.heights → IsYard yard → AreDone plans yard.bays bays
+    → after ≡ record { heights = heights; tiers = tallest heights; bays = bays } → IsAfter yard plans after
+after_all yard after plans heights bays same_heights is done e = record {
+  same_heights = ap (λ y. y.heights) e ∙ same_heights;
+  same_tiers = ap (λ y. y.tiers) e ∙ ap tallest same_heights ∙ sym is.tiers_are;
   bays = subst (AreBaysAfter plans yard.bays) (sym (ap (λ y. y.bays) e)) done.after;
 }

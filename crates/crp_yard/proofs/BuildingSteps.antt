@@ -1,5 +1,5 @@
 -- The bays of the entries so far, and of one more.
-use Rattle.std.proofs.Common.{◌≡◌, ◌+◌, ℕ, zero, suc, Bool, true, false, List, [], ◌∷◌, ◌++◌, map, take, fold, Some, None, is_some, refl, sym, ap, ◌∙◌, add-one, cond}
+use Rattle.std.proofs.Common.{◌≡◌, ◌+◌, ℕ, zero, suc, Bool, true, false, List, [], ◌∷◌, ◌++◌, map, take, length, fold, Some, None, is_some, refl, sym, ap, ◌∙◌, add-one, cond}
 use Rattle.std.specs.Prelude.{slice_get, ◌||◌}
 use Rattle.std.specs.List.{list_any}
 use Rattle.std.specs.Map.{lookup}
@@ -24,31 +24,31 @@ fold_push f y (z ∷ xs) x = fold_push f (f y z) xs x
 bays-more : (entries : List Entry) (entry : Entry) → bays_of (entries ++ entry ∷ []) ≡ with_bay (bays_of entries) entry.0.bay
 bays-more entries entry = rw (map-append (λ e. e.0.bay) entries (entry ∷ [])) (fold_push with_bay [] (map (λ e. e.0.bay) entries) entry.0.bay)
 
-found : (rows tiers : ℕ) (entries : List Entry) (seen : List YardBay) (bay : YardBay) → is_some (lookup (same_bay bay) (map (stacked rows tiers entries) seen)) ≡ list_any (same_bay bay) seen
-found rows tiers entries [] bay = refl
-found rows tiers entries (b ∷ seen) bay = by (same_bay bay b) (found rows tiers entries seen bay)
+found : (heights : List ℕ) (entries : List Entry) (seen : List YardBay) (bay : YardBay) → is_some (lookup (same_bay bay) (map (stacked heights entries) seen)) ≡ list_any (same_bay bay) seen
+found heights entries [] bay = refl
+found heights entries (b ∷ seen) bay = by (same_bay bay b) (found heights entries seen bay)
   where
-    by : (t : Bool) → is_some (lookup (same_bay bay) (map (stacked rows tiers entries) seen)) ≡ list_any (same_bay bay) seen
-        → is_some (cond t (Some (stacked rows tiers entries b).1) (lookup (same_bay bay) (map (stacked rows tiers entries) seen))) ≡ (t || list_any (same_bay bay) seen)
+    by : (t : Bool) → is_some (lookup (same_bay bay) (map (stacked heights entries) seen)) ≡ list_any (same_bay bay) seen
+        → is_some (cond t (Some (stacked heights entries b).1) (lookup (same_bay bay) (map (stacked heights entries) seen))) ≡ (t || list_any (same_bay bay) seen)
     by true h = refl
     by false h = h
 
-module _ (rows tiers : ℕ) (entries : List Entry) (i : ℕ) (entry : Entry) (at : slice_get entries i ≡ Some entry) where
+module _ (heights : List ℕ) (entries : List Entry) (i : ℕ) (entry : Entry) (at : slice_get entries i ≡ Some entry) where
   -- the bays of one entry more
-  next : map (stacked rows tiers entries) (bays_of (take (i + 1) entries)) ≡ map (stacked rows tiers entries) (with_bay (bays_of (take i entries)) entry.0.bay)
-  next = ap (map (stacked rows tiers entries)) (rw (add-one i, take_next entries i entry at) (bays-more (take i entries) entry))
+  next : map (stacked heights entries) (bays_of (take (i + 1) entries)) ≡ map (stacked heights entries) (with_bay (bays_of (take i entries)) entry.0.bay)
+  next = ap (map (stacked heights entries)) (rw (add-one i, take_next entries i entry at) (bays-more (take i entries) entry))
 
-  pub bays-kept : (bays : List StackedBay) → bays ≡ map (stacked rows tiers entries) (bays_of (take i entries)) → is_some (lookup (same_bay entry.0.bay) bays) ≡ true
-      → bays ≡ map (stacked rows tiers entries) (bays_of (take (i + 1) entries))
+  pub bays-kept : (bays : List StackedBay) → bays ≡ map (stacked heights entries) (bays_of (take i entries)) → is_some (lookup (same_bay entry.0.bay) bays) ≡ true
+      → bays ≡ map (stacked heights entries) (bays_of (take (i + 1) entries))
   bays-kept bays e there =
-      let seen : list_any (same_bay entry.0.bay) (bays_of (take i entries)) ≡ true = sym (found rows tiers entries (bays_of (take i entries)) entry.0.bay) ∙ (rw e at there) in
+      let seen : list_any (same_bay entry.0.bay) (bays_of (take i entries)) ≡ true = sym (found heights entries (bays_of (take i entries)) entry.0.bay) ∙ (rw e at there) in
       rw (next, seen) e
 
-  pub bays-added : {S : Type 0} (m : IndexMap YardBay (List (List (List ℕ))) S) (new : List StackedBay) → m.entries ≡ map (stacked rows tiers entries) (bays_of (take i entries))
-      → is_some (lookup (same_bay entry.0.bay) m.entries) ≡ false → new ≡ insert_entry same_bay m.entries entry.0.bay (stacks_up_to entries entry.0.bay tiers rows)
-      → new ≡ map (stacked rows tiers entries) (bays_of (take (i + 1) entries))
+  pub bays-added : {S : Type 0} (m : IndexMap YardBay (List (List (List ℕ))) S) (new : List StackedBay) → m.entries ≡ map (stacked heights entries) (bays_of (take i entries))
+      → is_some (lookup (same_bay entry.0.bay) m.entries) ≡ false → new ≡ insert_entry same_bay m.entries entry.0.bay (stacks_up_to entries entry.0.bay heights (length heights))
+      → new ≡ map (stacked heights entries) (bays_of (take (i + 1) entries))
   bays-added m new e absent added =
-      let seen : list_any (same_bay entry.0.bay) (bays_of (take i entries)) ≡ false = sym (found rows tiers entries (bays_of (take i entries)) entry.0.bay) ∙ (rw e at absent) in
+      let seen : list_any (same_bay entry.0.bay) (bays_of (take i entries)) ≡ false = sym (found heights entries (bays_of (take i entries)) entry.0.bay) ∙ (rw e at absent) in
       let none : get same_bay m entry.0.bay ≡ None = no_value (lookup (same_bay entry.0.bay) m.entries) absent in
-      added ∙ insert_entry-new same_bay m entry.0.bay (stacks_up_to entries entry.0.bay tiers rows) none
-      ∙ rw (next, seen, map-append (stacked rows tiers entries) (bays_of (take i entries)) (entry.0.bay ∷ []), e) refl
+      added ∙ insert_entry-new same_bay m entry.0.bay (stacks_up_to entries entry.0.bay heights (length heights)) none
+      ∙ rw (next, seen, map-append (stacked heights entries) (bays_of (take i entries)) (entry.0.bay ∷ []), e) refl

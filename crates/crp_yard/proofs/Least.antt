@@ -14,20 +14,20 @@ either : (first second : Option YardFault) (fault : YardFault) → or_else first
 either None second fault h = inr (refl, h)
 either (Some told) second fault h = inl h
 
-pub faultless-up_to : (rows tiers : ℕ) (records : List (List (List ℕ))) (n : ℕ) → first_fault_up_to rows tiers records n ≡ None → (k : ℕ) → 1 ≤ k → k ≤ n → fault_at rows tiers records k ≡ None
-faultless-up_to rows tiers records zero h k counts within = absurd (omega arith)
-faultless-up_to rows tiers records (suc n) h k counts within =
-    let parts = neither (first_fault_up_to rows tiers records n) (fault_at rows tiers records (suc n)) h in
+pub faultless-up_to : (heights : List ℕ) (records : List (List (List ℕ))) (n : ℕ) → first_fault_up_to heights records n ≡ None → (k : ℕ) → 1 ≤ k → k ≤ n → fault_at heights records k ≡ None
+faultless-up_to heights records zero h k counts within = absurd (omega arith)
+faultless-up_to heights records (suc n) h k counts within =
+    let parts = neither (first_fault_up_to heights records n) (fault_at heights records (suc n)) h in
     elim (cases_eq k (suc n)) [
-      | inl e ↦ subst (λ (x : ℕ). fault_at rows tiers records x ≡ None) (sym e) parts.1
-      | inr ne ↦ faultless-up_to rows tiers records n parts.0 k counts (omega arith)
+      | inl e ↦ subst (λ (x : ℕ). fault_at heights records x ≡ None) (sym e) parts.1
+      | inr ne ↦ faultless-up_to heights records n parts.0 k counts (omega arith)
     ]
 
-pub first-least : (rows tiers : ℕ) (records : List (List (List ℕ))) (n : ℕ) (fault : YardFault) → first_fault_up_to rows tiers records n ≡ Some fault
-    → (i : ℕ) × (1 ≤ i) × (i ≤ n) × (fault_at rows tiers records i ≡ Some fault) × ((k : ℕ) → 1 ≤ k → k < i → fault_at rows tiers records k ≡ None)
-first-least rows tiers records zero fault h = absurd (cc)
-first-least rows tiers records (suc n) fault h =
-    elim (either (first_fault_up_to rows tiers records n) (fault_at rows tiers records (suc n)) fault h) [
-      | inl before ↦ let found = first-least rows tiers records n fault before in (found.0, found.1, omega (arith, found.2), found.3, found.4)
-      | inr here ↦ (suc n, omega arith, omega arith, here.1, λ k counts below. faultless-up_to rows tiers records n here.0 k counts (omega arith))
+pub first-least : (heights : List ℕ) (records : List (List (List ℕ))) (n : ℕ) (fault : YardFault) → first_fault_up_to heights records n ≡ Some fault
+    → (i : ℕ) × (1 ≤ i) × (i ≤ n) × (fault_at heights records i ≡ Some fault) × ((k : ℕ) → 1 ≤ k → k < i → fault_at heights records k ≡ None)
+first-least heights records zero fault h = absurd (cc)
+first-least heights records (suc n) fault h =
+    elim (either (first_fault_up_to heights records n) (fault_at heights records (suc n)) fault h) [
+      | inl before ↦ let found = first-least heights records n fault before in (found.0, found.1, omega (arith, found.2), found.3, found.4)
+      | inr here ↦ (suc n, omega arith, omega arith, here.1, λ k counts below. faultless-up_to heights records n here.0 k counts (omega arith))
     ]

@@ -1,7 +1,6 @@
 -- What a plan leaves fits the bay, and no container stands there more often than before.
-use Rattle.std.proofs.Common.{◌≡◌, ◌≤◌, ◌+◌, ◌-◌, ℕ, List, [], ◌∷◌, ◌++◌, map, flat_map, length, replicate, Some, slice_get, slice_set, sum_by, refl, sym, ap, ◌∙◌, arith}
-use Rattle.std.specs.List.{AllByRecursion}
-use Rattle.std.proofs.lemmas.List.{map-append, length-map, length-replicate}
+use Rattle.std.proofs.Common.{◌≡◌, ◌≤◌, ◌+◌, ◌-◌, ℕ, List, [], ◌∷◌, ◌++◌, map, flat_map, Some, slice_get, slice_set, sum_by, refl, sym, subst, ap, ◌∙◌, arith}
+use Rattle.std.proofs.lemmas.List.{map-append, length-map}
 use Rattle.std.proofs.lemmas.List.Sums.{sum_by-cons}
 use Rattle.crp_plan.specs.declared.moves.Move.{Move}
 use Rattle.crp_plan.specs.declared.moves.Move.TheVariants.{Shift, Take}
@@ -10,12 +9,10 @@ use Rattle.crp_plan.specs.Bay.{Position, IsProblem, IsTaken, IsShifted, Runs, st
 use Rattle.crp_plan.specs.Plans.{Route}
 use Rattle.crp_plan.proofs.Lists.{sum_put, get_put_other}
 use Rattle.crp_plan.proofs.Sound.{sound_start, sound_runs, apart}
-use Rattle.crp_plan.proofs.Steps.{same_rows, heights_kept}
-use Rattle.crp_plan.proofs.Tallies.{same_fit}
+use Rattle.crp_plan.proofs.Steps.{heights_kept}
 use Rattle.crp_yard.specs.Inventory.{FitBay, times}
 use Rattle.crp_yard.specs.Ranks.{name_of, named, Leaves}
 use Rattle.crp_yard.proofs.ListingSteps.{times-append}
-use Rattle.crp_yard.proofs.Lists.{all_of}
 
 -- how often the name stands in stacks of ranks
 abbrev tally : List (List ℕ) → List ℕ → List (List ℕ) → ℕ
@@ -47,26 +44,23 @@ fewer_run names c s t [] r = let same : t.stacks ≡ s.stacks = ap (λ v. v.stac
 fewer_run names c s t (Shift from to ∷ moves) r = let step : tally names c r.0.stacks ≤ tally names c s.stacks = same_shifted names c s from to r.0 r.1 in omega (arith, step, fewer_run names c r.0 t moves r.2)
 fewer_run names c s t (Take row ∷ moves) r = let step : tally names c r.0.stacks ≤ tally names c s.stacks = fewer_taken names c s row r.0 r.1 in omega (arith, step, fewer_run names c r.0 t moves r.2)
 
-low_named : (names : List (List ℕ)) (tiers : ℕ) (stacks : List (List ℕ)) → AllByRecursion (λ stack. length stack ≤ tiers) stacks → AllByRecursion (λ stack. length stack ≤ tiers) (named names stacks)
-low_named names tiers [] h = tt
-low_named names tiers (stack ∷ stacks) h = (rw (length-map stack (name_of names)) h.0, low_named names tiers stacks h.1)
+fit_named : (names : List (List ℕ)) (heights : List ℕ) (stacks : List (List ℕ)) → FitRows heights stacks → FitBay heights (named names stacks)
+fit_named names [] [] fit = tt
+fit_named names [] (stack ∷ stacks) fit = absurd fit
+fit_named names (height ∷ heights) [] fit = absurd fit
+fit_named names (height ∷ heights) (stack ∷ stacks) fit = (rw (length-map stack (name_of names)) fit.0, fit_named names heights stacks fit.1)
 
 -- what a plan leaves of a bay
-pub record IsLeft (rows tiers : ℕ) (old new : List (List (List ℕ))) : Type 0 where
-  pub fits : FitBay rows tiers new
+pub record IsLeft (heights : List ℕ) (old new : List (List (List ℕ))) : Type 0 where
+  pub fits : FitBay heights new
   pub fewer : (c : List ℕ) → times c (flat_map (λ (stack : List (List ℕ)). stack) new) ≤ times c (flat_map (λ (stack : List (List ℕ)). stack) old)
 
-pub left_fits : (plan : Route) (names : List (List ℕ)) (ranks : List (List ℕ)) (rows tiers : ℕ) → IsProblem plan.problem → plan.problem.heights ≡ replicate rows tiers → Leaves plan ranks
-    → IsLeft rows tiers (named names plan.problem.stacks) (named names ranks)
-left_fits plan names ranks rows tiers is high leaves =
+pub left_fits : (plan : Route) (names : List (List ℕ)) (ranks : List (List ℕ)) (heights : List ℕ) → IsProblem plan.problem → plan.problem.heights ≡ heights → Leaves plan ranks
+    → IsLeft heights (named names plan.problem.stacks) (named names ranks)
+left_fits plan names ranks heights is high leaves =
     let sound = sound_runs (start plan.problem) leaves.moves leaves.end (sound_start plan.problem is) leaves.runs in
-    let heights : leaves.end.heights ≡ replicate rows tiers = heights_kept (start plan.problem) leaves.end leaves.moves leaves.runs ∙ high in
-    let count : length leaves.end.stacks ≡ rows = same_rows leaves.end.heights leaves.end.stacks sound.stacks_fit ∙ ap length heights ∙ length-replicate rows tiers in
-    let low : FitRows (replicate (length leaves.end.stacks) tiers) leaves.end.stacks = rw count (rw heights at sound.stacks_fit) in
+    let same : leaves.end.heights ≡ heights = heights_kept (start plan.problem) leaves.end leaves.moves leaves.runs ∙ high in
     record {
-      fits = rw leaves.left (record {
-        rows_are = length-map leaves.end.stacks (map (name_of names)) ∙ count;
-        stacks_fit = all_of (λ stack. length stack ≤ tiers) (named names leaves.end.stacks) (low_named names tiers leaves.end.stacks (same_fit tiers leaves.end.stacks low));
-      });
+      fits = rw leaves.left (fit_named names heights leaves.end.stacks (subst (λ l. FitRows l leaves.end.stacks) same sound.stacks_fit));
       fewer = λ c. rw (tally-is names c plan.problem.stacks, tally-is names c ranks, leaves.left) (fewer_run names c (start plan.problem) leaves.end leaves.moves leaves.runs);
     }

@@ -1,6 +1,6 @@
 -- No container stands in two places of an inventory, where no entry names it a second time.
 use Prim.Native.Nat.{zero}
-use Rattle.std.proofs.Common.{◌≡◌, ◌≤◌, ◌+◌, ℕ, suc, Bool, true, false, List, [], ◌∷◌, map, flat_map, Some, refl, sym, ap, ◌∙◌, arith, cond}
+use Rattle.std.proofs.Common.{◌≡◌, ◌≤◌, ◌+◌, ℕ, suc, Bool, true, false, List, [], ◌∷◌, map, flat_map, length, Some, refl, sym, ap, ◌∙◌, arith, cond}
 use Rattle.std.specs.Prelude.{◌==◌, ◌&&◌, option_to_list}
 use Rattle.std.specs.List.{IsDistinct, AllByRecursion}
 use Rattle.std.specs.Str.{bytes_eq}
@@ -10,7 +10,7 @@ use Rattle.std.proofs.lemmas.List.Concat.{flat_map-append}
 use Rattle.std.proofs.lemmas.List.{append-nil}
 use Rattle.crp_plan.specs.BayNames.{YardBay}
 use Rattle.crp_yard.specs.Places.{same_bay, same_place}
-use Rattle.crp_yard.specs.Records.{Entry}
+use Rattle.crp_yard.specs.Records.{Entry, height_of}
 use Rattle.crp_yard.specs.Inventory.{container_at, stack_up_to, stacks_up_to, stacked, times, containers_of}
 use Rattle.crp_yard.specs.Listings.{entry_names}
 use Rattle.crp_yard.proofs.BaySteps.{both}
@@ -37,21 +37,21 @@ stack_times entries c bay row (suc n) =
     times-append c (stack_up_to entries bay row n) (option_to_list (container_at entries (record { bay = bay; row = row; tier = suc n })))
     ∙ ap (λ k. k + hit entries c bay row (suc n)) (stack_times entries c bay row n)
 
-stacks_times : (entries : List Entry) (c : List ℕ) (bay : YardBay) (tiers n : ℕ)
-    → times c (flat_map (λ (s : List (List ℕ)). s) (stacks_up_to entries bay tiers n)) ≡ up_sum (λ row. up_sum (hit entries c bay row) tiers) n
-stacks_times entries c bay tiers zero = refl
-stacks_times entries c bay tiers (suc n) =
-    let last = stack_up_to entries bay (suc n) tiers in
-    let before = stacks_up_to entries bay tiers n in
-    rw (flat_map-append (λ (s : List (List ℕ)). s) before (last ∷ []), append-nil last, times-append c (flat_map (λ (s : List (List ℕ)). s) before) last, stacks_times entries c bay tiers n, stack_times entries c bay (suc n) tiers) refl
+stacks_times : (entries : List Entry) (c : List ℕ) (bay : YardBay) (heights : List ℕ) (n : ℕ)
+    → times c (flat_map (λ (s : List (List ℕ)). s) (stacks_up_to entries bay heights n)) ≡ up_sum (λ row. up_sum (hit entries c bay row) (height_of heights row)) n
+stacks_times entries c bay heights zero = refl
+stacks_times entries c bay heights (suc n) =
+    let last = stack_up_to entries bay (suc n) (height_of heights (suc n)) in
+    let before = stacks_up_to entries bay heights n in
+    rw (flat_map-append (λ (s : List (List ℕ)). s) before (last ∷ []), append-nil last, times-append c (flat_map (λ (s : List (List ℕ)). s) before) last, stacks_times entries c bay heights n, stack_times entries c bay (suc n) (height_of heights (suc n))) refl
 
-abbrev pub total : ℕ → ℕ → List Entry → List ℕ → List YardBay → ℕ
-total rows tiers entries c bays = list_sum (λ bay. up_sum (λ row. up_sum (hit entries c bay row) tiers) rows) bays
+abbrev pub total : List ℕ → List Entry → List ℕ → List YardBay → ℕ
+total heights entries c bays = list_sum (λ bay. up_sum (λ row. up_sum (hit entries c bay row) (height_of heights row)) (length heights)) bays
 
-pub bays_times : (rows tiers : ℕ) (entries : List Entry) (c : List ℕ) (bays : List YardBay) → times c (containers_of (map (stacked rows tiers entries) bays)) ≡ total rows tiers entries c bays
-bays_times rows tiers entries c [] = refl
-bays_times rows tiers entries c (bay ∷ bays) =
-    rw (times-append c (flat_map (λ (s : List (List ℕ)). s) (stacks_up_to entries bay tiers rows)) (containers_of (map (stacked rows tiers entries) bays)), stacks_times entries c bay tiers rows, bays_times rows tiers entries c bays) refl
+pub bays_times : (heights : List ℕ) (entries : List Entry) (c : List ℕ) (bays : List YardBay) → times c (containers_of (map (stacked heights entries) bays)) ≡ total heights entries c bays
+bays_times heights entries c [] = refl
+bays_times heights entries c (bay ∷ bays) =
+    rw (times-append c (flat_map (λ (s : List (List ℕ)). s) (stacks_up_to entries bay heights (length heights))) (containers_of (map (stacked heights entries) bays)), stacks_times entries c bay heights (length heights), bays_times heights entries c bays) refl
 
 -- what one entry adds at the place
 abbrev put : Entry → List ℕ → YardBay → ℕ → ℕ → ℕ
@@ -96,27 +96,27 @@ one_bay k w (bay ∷ bays) d = by (same_bay bay k) refl (no_other bay k w bays) 
     by true e none rest = let rest_none : list_sum (λ y. when (same_bay y k) w) bays ≡ 0 = none e d.0 in rw e (omega (arith, rest_none))
     by false e none rest = rw e (omega (arith, rest))
 
-put_once : (rows tiers : ℕ) (entry : Entry) (c : List ℕ) (bays : List YardBay) → IsDistinct same_bay bays
-    → list_sum (λ bay. up_sum (λ row. up_sum (put entry c bay row) tiers) rows) bays ≤ when (bytes_eq c entry.1) 1
-put_once rows tiers entry c bays once =
+put_once : (heights : List ℕ) (entry : Entry) (c : List ℕ) (bays : List YardBay) → IsDistinct same_bay bays
+    → list_sum (λ bay. up_sum (λ row. up_sum (put entry c bay row) (height_of heights row)) (length heights)) bays ≤ when (bytes_eq c entry.1) 1
+put_once heights entry c bays once =
     let w = when (bytes_eq c entry.1) 1 in
     let k = entry.0 in
     let in_row = λ (bay : YardBay) (row : ℕ).
-    below_then (up_below (put entry c bay row) (λ tier. when (tier == k.tier) (when (row == k.row) (when (same_bay bay k.bay) w))) (put_apart entry c bay row) tiers) (at_one_place k.tier (when (row == k.row) (when (same_bay bay k.bay) w)) tiers) in
+    below_then (up_below (put entry c bay row) (λ tier. when (tier == k.tier) (when (row == k.row) (when (same_bay bay k.bay) w))) (put_apart entry c bay row) (height_of heights row)) (at_one_place k.tier (when (row == k.row) (when (same_bay bay k.bay) w)) (height_of heights row)) in
     let in_bay = λ (bay : YardBay).
-    below_then (up_below (λ row. up_sum (put entry c bay row) tiers) (λ row. when (row == k.row) (when (same_bay bay k.bay) w)) (in_row bay) rows) (at_one_place k.row (when (same_bay bay k.bay) w) rows) in
-    below_then (list_below (λ bay. up_sum (λ row. up_sum (put entry c bay row) tiers) rows) (λ bay. when (same_bay bay k.bay) w) in_bay bays) (one_bay k.bay w bays once)
+    below_then (up_below (λ row. up_sum (put entry c bay row) (height_of heights row)) (λ row. when (row == k.row) (when (same_bay bay k.bay) w)) (in_row bay) (length heights)) (at_one_place k.row (when (same_bay bay k.bay) w) (length heights)) in
+    below_then (list_below (λ bay. up_sum (λ row. up_sum (put entry c bay row) (height_of heights row)) (length heights)) (λ bay. when (same_bay bay k.bay) w) in_bay bays) (one_bay k.bay w bays once)
 
-none_stand : (rows tiers : ℕ) (c : List ℕ) (bays : List YardBay) → total rows tiers [] c bays ≡ 0
-none_stand rows tiers c [] = refl
-none_stand rows tiers c (bay ∷ bays) = omega (arith, none_stand rows tiers c bays, up_below (λ row. up_sum (hit [] c bay row) tiers) (λ _. 0) (λ row. omega (arith, up_none tiers)) rows, up_none rows)
+none_stand : (heights : List ℕ) (c : List ℕ) (bays : List YardBay) → total heights [] c bays ≡ 0
+none_stand heights c [] = refl
+none_stand heights c (bay ∷ bays) = omega (arith, none_stand heights c bays, up_below (λ row. up_sum (hit [] c bay row) (height_of heights row)) (λ _. 0) (λ row. omega (arith, up_none (height_of heights row))) (length heights), up_none (length heights))
 
 -- in an inventory a container stands as often as its entries name it, at most
-pub few_times : (rows tiers : ℕ) (entries : List Entry) (c : List ℕ) (bays : List YardBay) → IsDistinct same_bay bays → total rows tiers entries c bays ≤ times c (entry_names entries)
-few_times rows tiers [] c bays once = omega (arith, none_stand rows tiers c bays)
-few_times rows tiers (entry ∷ entries) c bays once =
-    let parted : total rows tiers (entry ∷ entries) c bays ≤ list_sum (λ bay. up_sum (λ row. up_sum (put entry c bay row) tiers) rows) bays + total rows tiers entries c bays =
-    list_split (λ bay. up_sum (λ row. up_sum (hit (entry ∷ entries) c bay row) tiers) rows) (λ bay. up_sum (λ row. up_sum (put entry c bay row) tiers) rows) (λ bay. up_sum (λ row. up_sum (hit entries c bay row) tiers) rows)
-    (λ bay. up_split (λ row. up_sum (hit (entry ∷ entries) c bay row) tiers) (λ row. up_sum (put entry c bay row) tiers) (λ row. up_sum (hit entries c bay row) tiers)
-    (λ row. up_split (hit (entry ∷ entries) c bay row) (put entry c bay row) (hit entries c bay row) (hit_split entry entries c bay row) tiers) rows) bays in
-    omega (arith, parted, put_once rows tiers entry c bays once, few_times rows tiers entries c bays once)
+pub few_times : (heights : List ℕ) (entries : List Entry) (c : List ℕ) (bays : List YardBay) → IsDistinct same_bay bays → total heights entries c bays ≤ times c (entry_names entries)
+few_times heights [] c bays once = omega (arith, none_stand heights c bays)
+few_times heights (entry ∷ entries) c bays once =
+    let parted : total heights (entry ∷ entries) c bays ≤ list_sum (λ bay. up_sum (λ row. up_sum (put entry c bay row) (height_of heights row)) (length heights)) bays + total heights entries c bays =
+    list_split (λ bay. up_sum (λ row. up_sum (hit (entry ∷ entries) c bay row) (height_of heights row)) (length heights)) (λ bay. up_sum (λ row. up_sum (put entry c bay row) (height_of heights row)) (length heights)) (λ bay. up_sum (λ row. up_sum (hit entries c bay row) (height_of heights row)) (length heights))
+    (λ bay. up_split (λ row. up_sum (hit (entry ∷ entries) c bay row) (height_of heights row)) (λ row. up_sum (put entry c bay row) (height_of heights row)) (λ row. up_sum (hit entries c bay row) (height_of heights row))
+    (λ row. up_split (hit (entry ∷ entries) c bay row) (put entry c bay row) (hit entries c bay row) (hit_split entry entries c bay row) (height_of heights row)) (length heights)) bays in
+    omega (arith, parted, put_once heights entry c bays once, few_times heights entries c bays once)

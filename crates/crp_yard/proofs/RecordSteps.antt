@@ -11,47 +11,47 @@ use Rattle.crp_yard.specs.Faults.{fault_at, fault_behind, first_fault, first_fau
 use Rattle.crp_yard.specs.Listings.{IsRead, entries_behind}
 
 -- a fault hangs on the records up to its own
-fault_at-front : (rows tiers : ℕ) (xs ys : List (List (List ℕ))) (n : ℕ) → suc n ≤ length xs → fault_at rows tiers (xs ++ ys) (suc n) ≡ fault_at rows tiers xs (suc n)
+fault_at-front : (heights : List ℕ) (xs ys : List (List (List ℕ))) (n : ℕ) → suc n ≤ length xs → fault_at heights (xs ++ ys) (suc n) ≡ fault_at heights xs (suc n)
 unfolding fault_at
-fault_at-front rows tiers xs ys n h =
+fault_at-front heights xs ys n h =
     let e : suc n - 1 ≡ n = omega arith in
     let within : n ≤ length xs = omega arith in
     let there : n < length xs = omega arith in
     rw (e, take-append-le n xs ys within, get_or_append_left xs ys [] n there) refl
 
-pub up_to-front : (rows tiers : ℕ) (xs ys : List (List (List ℕ))) (n : ℕ) → n ≤ length xs → first_fault_up_to rows tiers (xs ++ ys) n ≡ first_fault_up_to rows tiers xs n
-up_to-front rows tiers xs ys zero h = refl
-up_to-front rows tiers xs ys (suc n) h =
-    let before = up_to-front rows tiers xs ys n (omega arith) in
-    let here = fault_at-front rows tiers xs ys n h in
+pub up_to-front : (heights : List ℕ) (xs ys : List (List (List ℕ))) (n : ℕ) → n ≤ length xs → first_fault_up_to heights (xs ++ ys) n ≡ first_fault_up_to heights xs n
+up_to-front heights xs ys zero h = refl
+up_to-front heights xs ys (suc n) h =
+    let before = up_to-front heights xs ys n (omega arith) in
+    let here = fault_at-front heights xs ys n h in
     rw (before, here) refl
 
 -- the fault of the record behind the records
-fault_at-next : (rows tiers : ℕ) (xs : List (List (List ℕ))) (x : List (List ℕ)) (ys : List (List (List ℕ))) → fault_at rows tiers (xs ++ x ∷ ys) (suc (length xs)) ≡ fault_behind rows tiers (entries_of xs) (suc (length xs)) x
+fault_at-next : (heights : List ℕ) (xs : List (List (List ℕ))) (x : List (List ℕ)) (ys : List (List (List ℕ))) → fault_at heights (xs ++ x ∷ ys) (suc (length xs)) ≡ fault_behind heights (entries_of xs) (suc (length xs)) x
 unfolding fault_at
-fault_at-next rows tiers xs x ys =
+fault_at-next heights xs x ys =
     let e : suc (length xs) - 1 ≡ length xs = omega arith in
     rw (e, take-append_seam xs (x ∷ ys), get_or-append_seam xs x ys []) refl
 
 -- what is told stays told
-up_to-stays : (rows tiers : ℕ) (xs : List (List (List ℕ))) (n k : ℕ) (fault : YardFault) → first_fault_up_to rows tiers xs n ≡ Some fault → first_fault_up_to rows tiers xs (k + n) ≡ Some fault
-up_to-stays rows tiers xs n zero fault e = let same : zero + n ≡ n = omega arith in rw same e
-up_to-stays rows tiers xs n (suc k) fault e =
+up_to-stays : (heights : List ℕ) (xs : List (List (List ℕ))) (n k : ℕ) (fault : YardFault) → first_fault_up_to heights xs n ≡ Some fault → first_fault_up_to heights xs (k + n) ≡ Some fault
+up_to-stays heights xs n zero fault e = let same : zero + n ≡ n = omega arith in rw same e
+up_to-stays heights xs n (suc k) fault e =
     let same : suc k + n ≡ suc (k + n) = omega arith in
-    rw (same, up_to-stays rows tiers xs n k fault e) refl
+    rw (same, up_to-stays heights xs n k fault e) refl
 
 -- the faultless records and one more are told where the fault of that one is
-up_to-next : (rows tiers : ℕ) (xs : List (List (List ℕ))) (x : List (List ℕ)) (ys : List (List (List ℕ))) (n : ℕ) (fault : Option YardFault)
-    → first_fault_up_to rows tiers xs (length xs) ≡ None → n ≡ suc (length xs) → fault_behind rows tiers (entries_of xs) n x ≡ fault
-    → first_fault_up_to rows tiers (xs ++ x ∷ ys) n ≡ fault
-up_to-next rows tiers xs x ys n fault none count e =
+up_to-next : (heights : List ℕ) (xs : List (List (List ℕ))) (x : List (List ℕ)) (ys : List (List (List ℕ))) (n : ℕ) (fault : Option YardFault)
+    → first_fault_up_to heights xs (length xs) ≡ None → n ≡ suc (length xs) → fault_behind heights (entries_of xs) n x ≡ fault
+    → first_fault_up_to heights (xs ++ x ∷ ys) n ≡ fault
+up_to-next heights xs x ys n fault none count e =
     let all : length xs ≤ length xs = omega arith in
-    let before = up_to-front rows tiers xs (x ∷ ys) (length xs) all in
-    let here : fault_behind rows tiers (entries_of xs) (suc (length xs)) x ≡ fault = rw count at e in
-    rw (count, before, none, fault_at-next rows tiers xs x ys) here
+    let before = up_to-front heights xs (x ∷ ys) (length xs) all in
+    let here : fault_behind heights (entries_of xs) (suc (length xs)) x ≡ fault = rw count at e in
+    rw (count, before, none, fault_at-next heights xs x ys) here
 
-pub read-none : (rows tiers : ℕ) → IsRead rows tiers [] [] 0
-read-none rows tiers = record { faultless = refl; said = refl; counted = refl }
+pub read-none : (heights : List ℕ) → IsRead heights [] [] 0
+read-none heights = record { faultless = refl; said = refl; counted = refl }
 
 pub not_one : (n : ℕ) → (suc (suc n) == 1) ≡ false
 not_one n = grind arith
@@ -61,50 +61,50 @@ entries-more [] x = refl
 entries-more (y ∷ xs) x =
     rw (not_one (length xs), map-append entry_of xs (x ∷ [])) refl
 
-pub read-more : (rows tiers : ℕ) (xs : List (List (List ℕ))) (entries new : List Entry) (n m : ℕ) (x : List (List ℕ)) → IsRead rows tiers xs entries n
-    → m ≡ n + 1 → fault_behind rows tiers entries m x ≡ None → new ≡ entries_behind entries m x → IsRead rows tiers (xs ++ x ∷ []) new m
-read-more rows tiers xs entries new n m x read count none added =
+pub read-more : (heights : List ℕ) (xs : List (List (List ℕ))) (entries new : List Entry) (n m : ℕ) (x : List (List ℕ)) → IsRead heights xs entries n
+    → m ≡ n + 1 → fault_behind heights entries m x ≡ None → new ≡ entries_behind entries m x → IsRead heights (xs ++ x ∷ []) new m
+read-more heights xs entries new n m x read count none added =
     let here : m ≡ suc (length xs) = omega (arith, read.counted) in
     let long : length (xs ++ x ∷ []) ≡ m = omega (arith, length-append xs (x ∷ [])) in
     record {
-      faultless = rw long (up_to-next rows tiers xs x [] m None read.faultless here (rw read.said at none));
+      faultless = rw long (up_to-next heights xs x [] m None read.faultless here (rw read.said at none));
       said = added ∙ rw (read.said, here) (entries-more xs x);
       counted = sym long;
     }
 
 -- a fault is told of all records
-pub told-next : (rows tiers : ℕ) (xs : List (List (List ℕ))) (entries : List Entry) (n m : ℕ) (x : List (List ℕ)) (more all : List (List (List ℕ))) (fault : YardFault)
-    → IsRead rows tiers xs entries n → m ≡ n + 1 → fault_behind rows tiers entries m x ≡ Some fault → all ≡ xs ++ x ∷ more → first_fault rows tiers all ≡ Some fault
+pub told-next : (heights : List ℕ) (xs : List (List (List ℕ))) (entries : List Entry) (n m : ℕ) (x : List (List ℕ)) (more all : List (List (List ℕ))) (fault : YardFault)
+    → IsRead heights xs entries n → m ≡ n + 1 → fault_behind heights entries m x ≡ Some fault → all ≡ xs ++ x ∷ more → first_fault heights all ≡ Some fault
 unfolding first_fault
-told-next rows tiers xs entries n m x more all fault read count e whole =
+told-next heights xs entries n m x more all fault read count e whole =
     let here : m ≡ suc (length xs) = omega (arith, read.counted) in
-    let told = up_to-next rows tiers xs x more m (Some fault) read.faultless here (rw read.said at e) in
+    let told = up_to-next heights xs x more m (Some fault) read.faultless here (rw read.said at e) in
     let size = length-append xs (x ∷ more) in
     let top : max 1 (length (xs ++ x ∷ more)) ≡ length more + m = omega (arith, size) in
-    let end = up_to-stays rows tiers (xs ++ x ∷ more) m (length more) fault told in
+    let end = up_to-stays heights (xs ++ x ∷ more) m (length more) fault told in
     rw (whole, top, end) refl
 
 -- no records lack the header
-told-none : (rows tiers : ℕ) → first_fault rows tiers [] ≡ Some (Header 1)
+told-none : (heights : List ℕ) → first_fault heights [] ≡ Some (Header 1)
 unfolding first_fault fault_at fault_behind
-told-none rows tiers = refl
+told-none heights = refl
 
-pub told-empty : (rows tiers : ℕ) (xs : List (List (List ℕ))) (entries : List Entry) (n : ℕ) (all : List (List (List ℕ))) → IsRead rows tiers xs entries n → n ≡ 0 → all ≡ xs
-    → first_fault rows tiers all ≡ Some (Header 1)
-told-empty rows tiers [] entries n all read none whole = rw whole (told-none rows tiers)
-told-empty rows tiers (x ∷ xs) entries n all read none whole = absurd (omega (arith, read.counted))
+pub told-empty : (heights : List ℕ) (xs : List (List (List ℕ))) (entries : List Entry) (n : ℕ) (all : List (List (List ℕ))) → IsRead heights xs entries n → n ≡ 0 → all ≡ xs
+    → first_fault heights all ≡ Some (Header 1)
+told-empty heights [] entries n all read none whole = rw whole (told-none heights)
+told-empty heights (x ∷ xs) entries n all read none whole = absurd (omega (arith, read.counted))
 
-pub read-all : (rows tiers : ℕ) (xs : List (List (List ℕ))) (entries : List Entry) (n : ℕ) (all : List (List (List ℕ))) → IsRead rows tiers xs entries n → (n ≡ 0 → ⊥) → all ≡ xs
-    → first_fault_up_to rows tiers all (max 1 (length all)) ≡ None
-read-all rows tiers xs entries n all read some whole =
+pub read-all : (heights : List ℕ) (xs : List (List (List ℕ))) (entries : List Entry) (n : ℕ) (all : List (List (List ℕ))) → IsRead heights xs entries n → (n ≡ 0 → ⊥) → all ≡ xs
+    → first_fault_up_to heights all (max 1 (length all)) ≡ None
+read-all heights xs entries n all read some whole =
     let top : max 1 (length xs) ≡ length xs = omega (arith, read.counted) in
     rw (whole, top) read.faultless
 
 -- where no record is faulty, what floats is told
-pub floating-whole : (rows tiers : ℕ) (records : List (List (List ℕ))) (floating : Option YardFault) → first_fault_up_to rows tiers records (max 1 (length records)) ≡ None
-    → floating ≡ floating_before (entries_of records) (length (entries_of records)) → first_fault rows tiers records ≡ floating
+pub floating-whole : (heights : List ℕ) (records : List (List (List ℕ))) (floating : Option YardFault) → first_fault_up_to heights records (max 1 (length records)) ≡ None
+    → floating ≡ floating_before (entries_of records) (length (entries_of records)) → first_fault heights records ≡ floating
 unfolding first_fault
-floating-whole rows tiers records floating none is = rw (none, is) refl
+floating-whole heights records floating none is = rw (none, is) refl
 
 -- two facts of what a call gives, as one
 pub ok_by_both : {T E : Type 0} (r : Result T E) (A : Type 0) (P Q : T → Type 0) → OnOk r A → IfOk r P → ((x : T) → A → P x → Q x) → IfOk r Q

@@ -9,7 +9,7 @@ use Rattle.std.proofs.lemmas.Bool.{cases_eq, false≢true, true≢false, leb-tru
 use Rattle.crp_plan.specs.BayNames.{YardBay}
 use Rattle.crp_yard.specs.declared.fault.YardFault.{YardFault}
 use Rattle.crp_yard.specs.Places.{YardPlace, same_bay, same_place}
-use Rattle.crp_yard.specs.Records.{Entry, entry_of, entries_of, place_named, is_within}
+use Rattle.crp_yard.specs.Records.{Entry, entry_of, entries_of, place_named, height_of, is_within}
 use Rattle.crp_yard.specs.Inventory.{container_at, stack_up_to}
 use Rattle.crp_yard.specs.Faults.{faults_of, fault_of, fault_behind, fault_at, first_of, first_fault, first_fault_up_to, floating_before, floats, is_floating, is_taken}
 use Rattle.crp_yard.proofs.BaySteps.{both}
@@ -51,8 +51,8 @@ read_there (f ∷ entries) (suc i) e at free = by (same_place e.0 f.0) free (rea
     by false h rest = rest h
 
 -- entries none of which has a fault
-pub record AreSound (rows tiers : ℕ) (entries : List Entry) : Type 0 where
-  pub within : (i : ℕ) (e : Entry) → slice_get entries i ≡ Some e → is_within rows tiers e.0 ≡ true
+pub record AreSound (heights : List ℕ) (entries : List Entry) : Type 0 where
+  pub within : (i : ℕ) (e : Entry) → slice_get entries i ≡ Some e → is_within heights e.0 ≡ true
   pub free : (i : ℕ) (e : Entry) → slice_get entries i ≡ Some e → is_taken (take i entries) e.0 ≡ false
   pub borne : (i : ℕ) (e : Entry) → slice_get entries i ≡ Some e → is_floating entries e.0 ≡ false
 
@@ -70,7 +70,7 @@ one_of : {X : Type 0} (o : Option X) → is_some o ≡ true → length (option_t
 one_of None h = absurd (false≢true h)
 one_of (Some x) h = refl
 
-module _ (rows tiers : ℕ) (entries : List Entry) (sound : AreSound rows tiers entries) (bay : YardBay) (row : ℕ) where
+module _ (heights : List ℕ) (entries : List Entry) (sound : AreSound heights entries) (bay : YardBay) (row : ℕ) where
   abbrev at_tier : ℕ → Option (List ℕ)
   at_tier tier = container_at entries (record { bay = bay; row = row; tier = tier })
 
@@ -105,10 +105,11 @@ module _ (rows tiers : ℕ) (entries : List Entry) (sound : AreSound rows tiers 
       let same : suc k + n ≡ suc (k + n) = omega arith in
       rw same (in_front (stack_up_to entries bay row (k + n)) (option_to_list (at_tier (suc (k + n)))) t c (stays k n t c e))
 
-pub stands_there : (rows tiers : ℕ) (entries : List Entry) → AreSound rows tiers entries → (i : ℕ) (e : Entry) → slice_get entries i ≡ Some e
-    → slice_get (stack_up_to entries e.0.bay e.0.row tiers) (e.0.tier - 1) ≡ Some e.1
-stands_there rows tiers entries sound i e at =
-    let within = both (nat_le 1 e.0.row && nat_le e.0.row rows) (nat_le 1 e.0.tier && nat_le e.0.tier tiers) (sound.within i e at) in
+pub stands_there : (heights : List ℕ) (entries : List Entry) → AreSound heights entries → (i : ℕ) (e : Entry) → slice_get entries i ≡ Some e
+    → slice_get (stack_up_to entries e.0.bay e.0.row (height_of heights e.0.row)) (e.0.tier - 1) ≡ Some e.1
+stands_there heights entries sound i e at =
+    let tiers = height_of heights e.0.row in
+    let within = both (nat_le 1 e.0.row && nat_le e.0.row (length heights)) (nat_le 1 e.0.tier && nat_le e.0.tier tiers) (sound.within i e at) in
     let ends = both (nat_le 1 e.0.tier) (nat_le e.0.tier tiers) within.1 in
     let low : 1 ≤ e.0.tier = leb-true 1 e.0.tier ends.0 in
     let high : e.0.tier ≤ tiers = leb-true e.0.tier tiers ends.1 in
@@ -117,7 +118,7 @@ stands_there rows tiers entries sound i e at =
     let read = read_there entries i e at (sound.free i e at) in
     let here : container_at entries (record { bay = e.0.bay; row = e.0.row; tier = suc (e.0.tier - 1) }) ≡ Some e.1 = subst (λ t. container_at entries (record { bay = e.0.bay; row = e.0.row; tier = t }) ≡ Some e.1) tier read in
     subst (λ n. slice_get (stack_up_to entries e.0.bay e.0.row n) (e.0.tier - 1) ≡ Some e.1) (sym all)
-    (stays rows tiers entries sound e.0.bay e.0.row (tiers - e.0.tier) (suc (e.0.tier - 1)) (e.0.tier - 1) e.1 (top rows tiers entries sound e.0.bay e.0.row (e.0.tier - 1) e.1 here))
+    (stays heights entries sound e.0.bay e.0.row (tiers - e.0.tier) (suc (e.0.tier - 1)) (e.0.tier - 1) e.1 (top heights entries sound e.0.bay e.0.row (e.0.tier - 1) e.1 here))
 
 -- of a list of faults none of which is told none is there
 none_told : (faults : List (Bool × YardFault)) → first_of faults ≡ None → AllByRecursion (λ fault. fault.0 ≡ false) faults
@@ -132,19 +133,19 @@ not_false : (b : Bool) → not b ≡ false → b ≡ true
 not_false true e = refl
 not_false false e = absurd (true≢false e)
 
-record Passes (rows tiers : ℕ) (entries : List Entry) (fields : List (List ℕ)) : Type 0 where
-  pub within : is_within rows tiers (place_named fields) ≡ true
+record Passes (heights : List ℕ) (entries : List Entry) (fields : List (List ℕ)) : Type 0 where
+  pub within : is_within heights (place_named fields) ≡ true
   pub free : is_taken entries (place_named fields) ≡ false
 
-passes : (rows tiers : ℕ) (entries : List Entry) (n : ℕ) (fields : List (List ℕ)) → fault_of rows tiers entries n fields ≡ None → Passes rows tiers entries fields
+passes : (heights : List ℕ) (entries : List Entry) (n : ℕ) (fields : List (List ℕ)) → fault_of heights entries n fields ≡ None → Passes heights entries fields
 unfolding fault_of
-passes rows tiers entries n fields e =
-    let all = none_told (faults_of rows tiers entries n fields) e in
-    record { within = not_false (is_within rows tiers (place_named fields)) all.1.1.0; free = all.1.1.1.0 }
+passes heights entries n fields e =
+    let all = none_told (faults_of heights entries n fields) e in
+    record { within = not_false (is_within heights (place_named fields)) all.1.1.0; free = all.1.1.1.0 }
 
-behind : (rows tiers : ℕ) (entries : List Entry) (n : ℕ) (fields : List (List ℕ)) → fault_behind rows tiers entries (suc (suc n)) fields ≡ None → fault_of rows tiers entries (suc (suc n)) fields ≡ None
+behind : (heights : List ℕ) (entries : List Entry) (n : ℕ) (fields : List (List ℕ)) → fault_behind heights entries (suc (suc n)) fields ≡ None → fault_of heights entries (suc (suc n)) fields ≡ None
 unfolding fault_behind
-behind rows tiers entries n fields e = let other : (suc (suc n) == 1) ≡ false = not_one n in rw other at e
+behind heights entries n fields e = let other : (suc (suc n) == 1) ≡ false = not_one n in rw other at e
 
 map-take : {X Y : Type 0} (f : X → Y) (xs : List X) (n : ℕ) → map f (take n xs) ≡ take n (map f xs)
 map-take f [] zero = refl
@@ -176,37 +177,37 @@ none_floats entries (suc n) e i below =
     not_there true fault h = absurd (cc h)
     not_there false fault h = refl
 
-module _ (rows tiers : ℕ) (first : List (List ℕ)) (records : List (List (List ℕ))) (e : first_fault rows tiers (first ∷ records) ≡ None) where
-  parts : (first_fault_up_to rows tiers (first ∷ records) (max 1 (length (first ∷ records))) ≡ None) × (floating_before (map entry_of records) (length (map entry_of records)) ≡ None)
+module _ (heights : List ℕ) (first : List (List ℕ)) (records : List (List (List ℕ))) (e : first_fault heights (first ∷ records) ≡ None) where
+  parts : (first_fault_up_to heights (first ∷ records) (max 1 (length (first ∷ records))) ≡ None) × (floating_before (map entry_of records) (length (map entry_of records)) ≡ None)
   unfolding first_fault
   parts = neither _ _ e
 
-  faultless : (i : ℕ) → i < length records → fault_of rows tiers (take i (map entry_of records)) (suc (suc i)) (get_or records i []) ≡ None
+  faultless : (i : ℕ) → i < length records → fault_of heights (take i (map entry_of records)) (suc (suc i)) (get_or records i []) ≡ None
   unfolding fault_at
   faultless i below =
       let top : max 1 (length (first ∷ records)) ≡ suc (length records) = omega arith in
-      let none = faultless-up_to rows tiers (first ∷ records) (suc (length records)) (rw top at parts.0) (suc (suc i)) (omega arith) (omega arith) in
+      let none = faultless-up_to heights (first ∷ records) (suc (length records)) (rw top at parts.0) (suc (suc i)) (omega arith) (omega arith) in
       let number : suc (suc i) - 1 ≡ suc i = omega arith in
-      behind rows tiers (take i (map entry_of records)) i (get_or records i []) (rw (← map-take entry_of records i) (rw number at none))
+      behind heights (take i (map entry_of records)) i (get_or records i []) (rw (← map-take entry_of records i) (rw number at none))
 
-  sound_entry : (i : ℕ) (entry : Entry) → slice_get (map entry_of records) i ≡ Some entry → Passes rows tiers (take i (map entry_of records)) (get_or records i [])
+  sound_entry : (i : ℕ) (entry : Entry) → slice_get (map entry_of records) i ≡ Some entry → Passes heights (take i (map entry_of records)) (get_or records i [])
   sound_entry i entry at =
       let long : length (map entry_of records) ≡ length records = length-map records entry_of in
       let below = within_list (map entry_of records) i entry at in
-      passes rows tiers (take i (map entry_of records)) (suc (suc i)) (get_or records i []) (faultless i (omega arith))
+      passes heights (take i (map entry_of records)) (suc (suc i)) (get_or records i []) (faultless i (omega arith))
 
   place_is : (i : ℕ) (entry : Entry) → slice_get (map entry_of records) i ≡ Some entry → place_named (get_or records i []) ≡ entry.0
   unfolding entry_of
   place_is i entry at = ap (λ (f : Entry). f.0) (told_by entry_of records i entry [] at)
 
-  sound_entries : AreSound rows tiers (map entry_of records)
+  sound_entries : AreSound heights (map entry_of records)
   sound_entries = record {
     within = λ i entry at. rw (← place_is i entry at) (sound_entry i entry at).within;
     free = λ i entry at. rw (← place_is i entry at) (sound_entry i entry at).free;
     borne = λ i entry at. let f = none_floats (map entry_of records) (length (map entry_of records)) parts.1 i (within_list (map entry_of records) i entry at) in rw at at f;
   }
 
-pub each_stands : (rows tiers : ℕ) (records : List (List (List ℕ))) (i : ℕ) (entry : Entry) → first_fault rows tiers records ≡ None → slice_get (entries_of records) i ≡ Some entry
-    → slice_get (stack_up_to (entries_of records) entry.0.bay entry.0.row tiers) (entry.0.tier - 1) ≡ Some entry.1
-each_stands rows tiers [] i entry e at = cc
-each_stands rows tiers (first ∷ records) i entry e at = stands_there rows tiers (map entry_of records) (sound_entries rows tiers first records e) i entry at
+pub each_stands : (heights : List ℕ) (records : List (List (List ℕ))) (i : ℕ) (entry : Entry) → first_fault heights records ≡ None → slice_get (entries_of records) i ≡ Some entry
+    → slice_get (stack_up_to (entries_of records) entry.0.bay entry.0.row (height_of heights entry.0.row)) (entry.0.tier - 1) ≡ Some entry.1
+each_stands heights [] i entry e at = cc
+each_stands heights (first ∷ records) i entry e at = stands_there heights (map entry_of records) (sound_entries heights first records e) i entry at

@@ -1,5 +1,5 @@
 -- The yard as plans leave it.
-use Rattle.std.specs.Prelude.{◌≡◌, ℕ, List, [], ◌∷◌, Option, Some, MatchOption, ⊤, replicate}
+use Rattle.std.specs.Prelude.{◌≡◌, ℕ, List, [], ◌∷◌, Option, Some, MatchOption, ⊤}
 use Rattle.std.specs.List.{find}
 use Rattle.std.specs.Map.{lookup}
 use Rattle.crp_plan.specs.BayNames.{YardBay}
@@ -14,7 +14,7 @@ stacks_at bays bay = lookup (same_bay bay) bays
 
 -- the plan's problem, its ranks read as names, is its bay as it stands in the yard
 pub record IsPlanForBay (yard : Inventory) (plan : BayPlan) : Type 0 where
-  pub heights : plan.plan.problem.heights ≡ replicate yard.rows yard.tiers
+  pub heights : plan.plan.problem.heights ≡ yard.heights
   pub stands : stacks_at yard.bays plan.bay ≡ Some (named plan.names plan.plan.problem.stacks)
 
 -- the plan of a bay, if there is one
@@ -38,6 +38,6 @@ AreBaysAfter plans (old ∷ olds) (new ∷ news) = IsBayAfter plans old new × A
 
 -- the yard after the plans
 pub record IsAfter (yard : Inventory) (plans : List BayPlan) (after : Inventory) : Type 0 where
-  pub same_rows : after.rows ≡ yard.rows
+  pub same_heights : after.heights ≡ yard.heights
   pub same_tiers : after.tiers ≡ yard.tiers
   pub bays : AreBaysAfter plans yard.bays after.bays

@@ -27,11 +27,11 @@ is_named entries container = list_any (λ entry. bytes_eq container entry.1) ent
 
 -- the faults that a record with this number may have behind these entries, in the order in which they are told, each with whether it
 -- is there
-abbrev pub faults_of : ℕ → ℕ → List Entry → ℕ → List (List ℕ) → List (Bool × YardFault)
-faults_of rows tiers entries n fields =
+abbrev pub faults_of : List ℕ → List Entry → ℕ → List (List ℕ) → List (Bool × YardFault)
+faults_of heights entries n fields =
     (not (is_well_formed fields), Fields n)
     ∷ (not (has_numbers fields), Digits n)
-    ∷ (not (is_within rows tiers (place_named fields)), Outside n)
+    ∷ (not (is_within heights (place_named fields)), Outside n)
     ∷ (is_taken entries (place_named fields), PlaceTaken n)
     ∷ (is_named entries (field_of fields 4), StandsAlready n)
     ∷ (nat_le max_containers (length entries), TooMany n)
@@ -43,21 +43,21 @@ first_of [] = None
 first_of (fault ∷ faults) = if fault.0 then Some fault.1 else first_of faults
 
 -- the fault of a record with this number behind these entries
-unfoldable pub fault_of : ℕ → ℕ → List Entry → ℕ → List (List ℕ) → Option YardFault
-fault_of rows tiers entries n fields = first_of (faults_of rows tiers entries n fields)
+unfoldable pub fault_of : List ℕ → List Entry → ℕ → List (List ℕ) → Option YardFault
+fault_of heights entries n fields = first_of (faults_of heights entries n fields)
 
 -- the fault of a record with this number behind these entries, where the first record is the header
-unfoldable pub fault_behind : ℕ → ℕ → List Entry → ℕ → List (List ℕ) → Option YardFault
-fault_behind rows tiers entries n fields =
-    if n == 1 then (if is_header fields then None else Some (Header 1)) else fault_of rows tiers entries n fields
+unfoldable pub fault_behind : List ℕ → List Entry → ℕ → List (List ℕ) → Option YardFault
+fault_behind heights entries n fields =
+    if n == 1 then (if is_header fields then None else Some (Header 1)) else fault_of heights entries n fields
 
 -- the record with this number, from 1; one without fields where there is none
 abbrev pub record_numbered : List (List (List ℕ)) → ℕ → List (List ℕ)
 record_numbered records n = slice_index_or records (n - 1) []
 
 -- the fault of the record with this number, by what the records before it say
-unfoldable pub fault_at : ℕ → ℕ → List (List (List ℕ)) → ℕ → Option YardFault
-fault_at rows tiers records n = fault_behind rows tiers (entries_of (take (n - 1) records)) n (record_numbered records n)
+unfoldable pub fault_at : List ℕ → List (List (List ℕ)) → ℕ → Option YardFault
+fault_at heights records n = fault_behind heights (entries_of (take (n - 1) records)) n (record_numbered records n)
 
 -- the first, and where there is none the second
 abbrev pub or_else : Option YardFault → Option YardFault → Option YardFault
@@ -65,9 +65,9 @@ or_else None second = second
 or_else (Some fault) second = Some fault
 
 -- the fault of the first faulty record up to this number
-abbrev pub first_fault_up_to : ℕ → ℕ → List (List (List ℕ)) → ℕ → Option YardFault
-first_fault_up_to rows tiers records zero = None
-first_fault_up_to rows tiers records (suc n) = or_else (first_fault_up_to rows tiers records n) (fault_at rows tiers records (suc n))
+abbrev pub first_fault_up_to : List ℕ → List (List (List ℕ)) → ℕ → Option YardFault
+first_fault_up_to heights records zero = None
+first_fault_up_to heights records (suc n) = or_else (first_fault_up_to heights records n) (fault_at heights records (suc n))
 
 -- the place one tier lower
 abbrev pub one_tier_lower : YardPlace → YardPlace
@@ -90,10 +90,10 @@ floating_before entries (suc k) =
 
 -- of all faults of the records this one is told; none where no record is faulty and nothing floats. A list without records lacks the
 -- header
-unfoldable pub first_fault : ℕ → ℕ → List (List (List ℕ)) → Option YardFault
-first_fault rows tiers records =
-    or_else (first_fault_up_to rows tiers records (max 1 (length records))) (floating_before (entries_of records) (length (entries_of records)))
+unfoldable pub first_fault : List ℕ → List (List (List ℕ)) → Option YardFault
+first_fault heights records =
+    or_else (first_fault_up_to heights records (max 1 (length records))) (floating_before (entries_of records) (length (entries_of records)))
 
 -- the same of a text: that it is too long comes before all
-abbrev pub fault_of_text : ℕ → ℕ → List ℕ → Option YardFault
-fault_of_text rows tiers text = if nat_le (length text) max_bytes then first_fault rows tiers (records_of text) else Some TooLarge
+abbrev pub fault_of_text : List ℕ → List ℕ → Option YardFault
+fault_of_text heights text = if nat_le (length text) max_bytes then first_fault heights (records_of text) else Some TooLarge

@@ -1,20 +1,22 @@
 -- What stands in a yard.
 use Prim.Native.Nat.{zero}
-use Rattle.std.specs.Prelude.{ℕ, suc, Bool, List, [], ◌∷◌, ◌++◌, map, fold, Option, option_to_list, if◌then◌else◌, ◌≡◌, ◌+◌, ◌≤◌, ◌-◌, All, length, flat_map, slice_get, option_map, option_and_then}
+use Rattle.std.specs.Prelude.{ℕ, suc, Bool, List, [], ◌∷◌, ◌++◌, map, fold, Option, option_to_list, if◌then◌else◌, ◌≡◌, ◌+◌, ◌≤◌, ◌-◌, All, length, flat_map, slice_get, option_map, option_and_then, ⊤}
 use Rattle.std.specs.List.{list_any, IsDistinct}
 use Rattle.std.specs.Str.{bytes_eq}
 use Rattle.std.specs.Map.{lookup}
 use Rattle.crp_plan.specs.BayNames.{YardBay}
+use Rattle.crp_plan.specs.Rows.{tallest}
+use Rattle.crp_plan.specs.Faults.{AreHeights}
 use Rattle.crp_yard.specs.Places.{YardPlace, same_bay, same_place}
-use Rattle.crp_yard.specs.Records.{Entry}
+use Rattle.crp_yard.specs.Records.{Entry, height_of}
 
 -- a bay with its stacks: for each row from the first the containers from bottom to top
 abbrev pub StackedBay : Type 0
 StackedBay = YardBay × List (List (List ℕ))
 
--- how many rows and tiers each bay has, and the bays with their stacks
+-- how many tiers each row of a bay has, the most of them, and the bays with their stacks
 pub record Inventory : Type 0 where
-  pub rows : ℕ
+  pub heights : List ℕ
   pub tiers : ℕ
   pub bays : List StackedBay
 
@@ -40,18 +42,18 @@ stack_up_to entries bay row zero = []
 stack_up_to entries bay row (suc tier) =
     stack_up_to entries bay row tier ++ option_to_list (container_at entries (record { bay = bay; row = row; tier = suc tier }))
 
--- the stacks of the rows of a bay up to this one, each of at most so many tiers
-abbrev pub stacks_up_to : List Entry → YardBay → ℕ → ℕ → List (List (List ℕ))
-stacks_up_to entries bay tiers zero = []
-stacks_up_to entries bay tiers (suc row) = stacks_up_to entries bay tiers row ++ stack_up_to entries bay (suc row) tiers ∷ []
+-- the stacks of the rows of a bay up to this one, each of at most as many tiers as its row has
+abbrev pub stacks_up_to : List Entry → YardBay → List ℕ → ℕ → List (List (List ℕ))
+stacks_up_to entries bay heights zero = []
+stacks_up_to entries bay heights (suc row) = stacks_up_to entries bay heights row ++ stack_up_to entries bay (suc row) (height_of heights (suc row)) ∷ []
 
 -- a bay with the stacks that the entries give it
-abbrev pub stacked : ℕ → ℕ → List Entry → YardBay → StackedBay
-stacked rows tiers entries bay = (bay, stacks_up_to entries bay tiers rows)
+abbrev pub stacked : List ℕ → List Entry → YardBay → StackedBay
+stacked heights entries bay = (bay, stacks_up_to entries bay heights (length heights))
 
--- the inventory of a yard with so many rows and tiers, by its entries
-abbrev pub inventory_of : ℕ → ℕ → List Entry → Inventory
-inventory_of rows tiers entries = record { rows = rows; tiers = tiers; bays = map (stacked rows tiers entries) (bays_of entries) }
+-- the inventory of a yard whose rows have these heights, by its entries
+abbrev pub inventory_of : List ℕ → List Entry → Inventory
+inventory_of heights entries = record { heights = heights; tiers = tallest heights; bays = map (stacked heights entries) (bays_of entries) }
 
 -- all containers of the bays: bay by bay, row by row, from bottom to top
 abbrev pub containers_of : List StackedBay → List (List ℕ)
@@ -78,17 +80,19 @@ name_at yard i = option_map (λ bay. bay.0) (slice_get yard.bays i)
 abbrev pub stack_in_bay : Inventory → ℕ → ℕ → Option (List (List ℕ))
 stack_in_bay yard i row = option_and_then (λ bay. slice_get bay.1 (row - 1)) (slice_get yard.bays i)
 
--- so many stacks, of at most so many containers each
-pub record FitBay (rows tiers : ℕ) (stacks : List (List (List ℕ))) : Type 0 where
-  pub rows_are : length stacks ≡ rows
-  pub stacks_fit : All (λ stack. length stack ≤ tiers) stacks
+-- a stack for each row, none with more containers than its row has tiers
+abbrev pub FitBay : List ℕ → List (List (List ℕ)) → Type 0
+FitBay [] [] = ⊤
+FitBay [] (stack ∷ stacks) = ⊥
+FitBay (height ∷ heights) [] = ⊥
+FitBay (height ∷ heights) (stack ∷ stacks) = (length stack ≤ height) × FitBay heights stacks
 
--- what holds of each yard: 1 to 12 rows and 1 to 8 tiers, which each bay has; each bay once; and each container in one place
+-- what holds of each yard: 1 to 12 rows of 1 to 8 tiers, which each bay has; each bay once; and each container in one place
 pub record IsYard (yard : Inventory) : Type 0 where
-  pub some_rows : 1 ≤ yard.rows
-  pub few_rows : yard.rows ≤ 12
-  pub some_tiers : 1 ≤ yard.tiers
-  pub few_tiers : yard.tiers ≤ 8
-  pub bays_fit : All (λ bay. FitBay yard.rows yard.tiers bay.1) yard.bays
+  pub some_rows : 1 ≤ length yard.heights
+  pub few_rows : length yard.heights ≤ 12
+  pub heights_fit : AreHeights yard.heights
+  pub tiers_are : yard.tiers ≡ tallest yard.heights
+  pub bays_fit : All (λ bay. FitBay yard.heights bay.1) yard.bays
   pub bays_once : IsDistinct same_bay (map (λ bay. bay.0) yard.bays)
   pub containers_once : (container : List ℕ) → times container (containers_of yard.bays) ≤ 1

@@ -37,8 +37,8 @@ abbrev pub entries_behind : List Entry → ℕ → List (List ℕ) → List Entr
 entries_behind entries n fields = if n == 1 then entries else entries ++ entry_of fields ∷ []
 
 -- so many records were read, none of which has a fault, and these entries are what they say
-pub record IsRead (rows tiers : ℕ) (records : List (List (List ℕ))) (entries : List Entry) (n : ℕ) : Type 0 where
-  pub faultless : first_fault_up_to rows tiers records (length records) ≡ None
+pub record IsRead (heights : List ℕ) (records : List (List (List ℕ))) (entries : List Entry) (n : ℕ) : Type 0 where
+  pub faultless : first_fault_up_to heights records (length records) ≡ None
   pub said : entries ≡ entries_of records
   pub counted : n ≡ length records
 

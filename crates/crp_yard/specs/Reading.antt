@@ -1,5 +1,5 @@
 -- What was read of a source, and what a fault tells of it.
-use Rattle.std.specs.Prelude.{◌≡◌, ◌<◌, ℕ, ◌+◌, List, length, Option, Some, None, IfSome}
+use Rattle.std.specs.Prelude.{◌≡◌, ◌<◌, ℕ, ◌+◌, List, length, Option, Some, None, IfSome, replicate}
 use Rattle.crp_plan.specs.Devices.{HasFailed, most_interruptions}
 use Rattle.crp_yard.specs.declared.fault.YardFault.{YardFault}
 use Rattle.crp_yard.specs.declared.fault.YardFault.TheVariants.{Header, Fields, Digits, Outside, PlaceTaken, Floating, StandsAlready, TooMany, Read, TooLarge, Memory}
@@ -7,33 +7,37 @@ use Rattle.crp_yard.specs.Records.{records_of, entries_of}
 use Rattle.crp_yard.specs.Inventory.{Inventory, inventory_of}
 use Rattle.crp_yard.specs.Faults.{fault_of_text, max_bytes}
 
--- the text has no fault, and this is the inventory that its records give
-pub record IsYardList (rows tiers : ℕ) (text : List ℕ) (yard : Inventory) : Type 0 where
-  pub faultless : fault_of_text rows tiers text ≡ None
-  pub stands : yard ≡ inventory_of rows tiers (entries_of (records_of text))
+-- the text has no fault in a yard whose rows have these heights, and this is the inventory that its records give
+pub record IsYardListOf (heights text : List ℕ) (yard : Inventory) : Type 0 where
+  pub faultless : fault_of_text heights text ≡ None
+  pub stands : yard ≡ inventory_of heights (entries_of (records_of text))
+
+-- the same where each bay has so many rows, and each row so many tiers
+abbrev pub IsYardList : ℕ → ℕ → List ℕ → Inventory → Type 0
+IsYardList rows tiers text yard = IsYardListOf (replicate rows tiers) text yard
 
 -- these bytes are those that a source had, where it told them
 abbrev pub IsTextOf : Option (List ℕ) → List ℕ → Type 0
 IsTextOf given text = IfSome given (λ bytes. text ≡ bytes)
 
 -- the bytes that the source had are refused with this fault
-abbrev pub RefusedWith : ℕ → ℕ → Option (List ℕ) → YardFault → Type 0
-RefusedWith rows tiers given fault = (text : List ℕ) × IsTextOf given text × (fault_of_text rows tiers text ≡ Some fault)
+abbrev pub RefusedWith : List ℕ → Option (List ℕ) → YardFault → Type 0
+RefusedWith heights given fault = (text : List ℕ) × IsTextOf given text × (fault_of_text heights text ≡ Some fault)
 
 -- what a fault tells of a source that had these bytes, with its count of failures before and after: that it has failed, that it had too many
 -- bytes, want of memory, or the fault of its bytes
-abbrev pub Tells : ℕ → ℕ → Option (List ℕ) → ℕ → ℕ → YardFault → Type 0
-Tells rows tiers given before after Read = HasFailed before after
-Tells rows tiers given before after TooLarge = IfSome given (λ bytes. max_bytes < length bytes)
-Tells rows tiers given before after Memory = Unit {0}
-Tells rows tiers given before after (Header n) = RefusedWith rows tiers given (Header n)
-Tells rows tiers given before after (Fields n) = RefusedWith rows tiers given (Fields n)
-Tells rows tiers given before after (Digits n) = RefusedWith rows tiers given (Digits n)
-Tells rows tiers given before after (Outside n) = RefusedWith rows tiers given (Outside n)
-Tells rows tiers given before after (PlaceTaken n) = RefusedWith rows tiers given (PlaceTaken n)
-Tells rows tiers given before after (Floating n) = RefusedWith rows tiers given (Floating n)
-Tells rows tiers given before after (StandsAlready n) = RefusedWith rows tiers given (StandsAlready n)
-Tells rows tiers given before after (TooMany n) = RefusedWith rows tiers given (TooMany n)
+abbrev pub Tells : List ℕ → Option (List ℕ) → ℕ → ℕ → YardFault → Type 0
+Tells heights given before after Read = HasFailed before after
+Tells heights given before after TooLarge = IfSome given (λ bytes. max_bytes < length bytes)
+Tells heights given before after Memory = Unit {0}
+Tells heights given before after (Header n) = RefusedWith heights given (Header n)
+Tells heights given before after (Fields n) = RefusedWith heights given (Fields n)
+Tells heights given before after (Digits n) = RefusedWith heights given (Digits n)
+Tells heights given before after (Outside n) = RefusedWith heights given (Outside n)
+Tells heights given before after (PlaceTaken n) = RefusedWith heights given (PlaceTaken n)
+Tells heights given before after (Floating n) = RefusedWith heights given (Floating n)
+Tells heights given before after (StandsAlready n) = RefusedWith heights given (StandsAlready n)
+Tells heights given before after (TooMany n) = RefusedWith heights given (TooMany n)
 
 -- so many reads of a source fail at most where this fault is told: those that are passed over, and, where it tells a failed read, that one
 abbrev pub most_failures : YardFault → ℕ

@@ -55,9 +55,14 @@ place_named fields = record {
   tier = number_of (field_of fields 3);
 }
 
--- row and tier are among those that the bays have
-abbrev pub is_within : ℕ → ℕ → YardPlace → Bool
-is_within rows tiers place = (nat_le 1 place.row && nat_le place.row rows) && (nat_le 1 place.tier && nat_le place.tier tiers)
+-- how many tiers a row has, from 1, of rows with these heights
+abbrev pub height_of : List ℕ → ℕ → ℕ
+height_of heights row = slice_index_or heights (row - 1) 0
+
+-- the row is among those that the bays have, and the tier among those of the row
+abbrev pub is_within : List ℕ → YardPlace → Bool
+is_within heights place =
+    (nat_le 1 place.row && nat_le place.row (length heights)) && (nat_le 1 place.tier && nat_le place.tier (height_of heights place.row))
 
 -- a place, and the container that stands there
 abbrev pub Entry : Type 0

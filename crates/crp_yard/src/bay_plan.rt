@@ -8,7 +8,6 @@ ghost use Rattle.crp_yard.specs.After.{IsPlanForBay, IsAfter};
 use crate::container::{Container, Containers};
 use crate::leaving::stacks_left;
 use crate::place::Bay;
-use crate::records::Size;
 use crate::stacks::Stacks;
 use crate::yard::Yard;
 use crp_plan::{BayName, Plan};
@@ -65,15 +64,12 @@ pub fn after(alloc: Global, yard: &Yard, plans: &[BayPlan]) -> Result<Yard, Allo
     requires once { IsDistinct same_bay (map (λ plan. plan.bay) plans.now) }
     ensures { IfOk result (λ after. IsAfter yard.now plans.now after) }
 {
-    let size = Size {
-        rows: yard.rows(),
-        tiers: yard.tiers(),
-    };
+    let heights = yard.heights();
     let mut bays = copied_bays(alloc, yard)?;
     for plan in plans {
         let stacks = stacks_left(alloc, &plan.plan, &plan.names)?;
         bays.insert(Bay::copy_of(&plan.bay), stacks)?;
         let _problem = plan.plan.problem();
     }
-    Yard::new(alloc, size, bays)
+    Yard::new(alloc, heights, bays)
 }

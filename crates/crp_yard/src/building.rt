@@ -1,12 +1,11 @@
 //! The bays that the records give.
 
-ghost use Rattle.std.specs.Prelude.{◌≡◌, IfOk, map};
+ghost use Rattle.std.specs.Prelude.{◌≡◌, ◌≤◌, IfOk, length, map};
 ghost use Rattle.crp_yard.specs.Inventory.{stack_up_to, stacks_up_to, stacked, bays_of};
 
 use crate::container::{Container, Containers};
 use crate::listing::Listing;
 use crate::place::{Bay, Place};
-use crate::records::Size;
 use crate::stacks::Stacks;
 use indexmap::IndexMap;
 use std::alloc::{AllocError, Global};
@@ -30,12 +29,18 @@ fn stack_of(
     Ok(Containers::from_vec(stack))
 }
 
-fn stacks_of(alloc: Global, listing: &Listing, bay: &Bay, size: Size) -> Result<Stacks, AllocError>
-    ensures { IfOk result (λ stacks. stacks ≡ stacks_up_to listing.now bay.now size.tiers size.rows) }
+fn stacks_of(
+    alloc: Global,
+    listing: &Listing,
+    bay: &Bay,
+    heights: &[u8],
+) -> Result<Stacks, AllocError>
+    requires { length heights.now ≤ 12 }
+    ensures { IfOk result (λ stacks. stacks ≡ stacks_up_to listing.now bay.now heights.now (length heights.now)) }
 {
     let mut stacks = Vec::new(alloc);
-    for i in 0..size.rows {
-        stacks.push(stack_of(alloc, listing, bay, i + 1, size.tiers)?)?;
+    for i in 0..heights.len() {
+        stacks.push(stack_of(alloc, listing, bay, i as u8 + 1, heights[i])?)?;
     }
     Ok(Stacks::from_vec(stacks))
 }
@@ -44,15 +49,16 @@ fn stacks_of(alloc: Global, listing: &Listing, bay: &Bay, size: Size) -> Result<
 pub(crate) fn bays_of(
     alloc: Global,
     listing: &Listing,
-    size: Size,
+    heights: &[u8],
 ) -> Result<IndexMap<Bay, Stacks>, AllocError>
-    ensures { IfOk result (λ bays. bays.entries ≡ map (stacked size.rows size.tiers listing.now) (bays_of listing.now)) }
+    requires { length heights.now ≤ 12 }
+    ensures { IfOk result (λ bays. bays.entries ≡ map (stacked heights.now listing.now) (bays_of listing.now)) }
 {
     let mut bays = IndexMap::new(alloc);
     for i in 0..listing.len() {
         let bay = listing.place(i).bay();
         if !bays.contains_key(bay) {
-            let stacks = stacks_of(alloc, listing, bay, size)?;
+            let stacks = stacks_of(alloc, listing, bay, heights)?;
             bays.insert(bay.copy(), stacks)?;
         }
     }

@@ -19,7 +19,7 @@ pub enum YardFault {
     /// Bay, row or tier are not 1 to 4 digits, or the bay is 0.
     #[error("Y3 at record {record}")]
     Digits { record: usize },
-    /// The bays have no such row, or no such tier.
+    /// The bays have no such row, or the tier is above the row's height.
     #[error("Y4 at record {record}")]
     Outside { record: usize },
     /// A record before it names the same place.

@@ -1,6 +1,6 @@
 //! The fields of a record.
 
-ghost use Rattle.std.specs.Prelude.{◌≡◌, ◌&&◌, nat_le, IsTrue};
+ghost use Rattle.std.specs.Prelude.{◌≡◌, ◌≤◌, ◌&&◌, nat_le, length, IsTrue};
 ghost use Rattle.std.specs.List.{list_all};
 ghost use Rattle.std.specs.Char.{is_ascii_graphic};
 ghost use Rattle.csv.specs.Records.{fields_of};
@@ -71,13 +71,14 @@ pub(crate) fn has_numbers(fields: &ByteRecord) -> bool
     is_number(bay) && is_number(row) && is_number(tier) && number_of(bay) > 0
 }
 
-/// Row and tier are among those that the bays have.
-pub(crate) fn is_within(fields: &ByteRecord, rows: u8, tiers: u8) -> bool
+/// The row is among those that the bays have, and the tier among those of the row.
+pub(crate) fn is_within(fields: &ByteRecord, heights: &[u8]) -> bool
     requires { IsTrue (has_numbers (fields_of fields.now)) }
-    ensures { result ≡ is_within rows tiers (place_named (fields_of fields.now)) }
+    ensures { result ≡ is_within heights.now (place_named (fields_of fields.now)) }
 {
     let (row, tier) = (number_of(field(fields, 2)), number_of(field(fields, 3)));
-    row >= 1 && row <= u16::from(rows) && tier >= 1 && tier <= u16::from(tiers)
+    let row = row as usize;
+    row >= 1 && row <= heights.len() && tier >= 1 && tier <= u16::from(heights[row - 1])
 }
 
 /// The bay that the record names.
@@ -94,10 +95,11 @@ fn bay_of(fields: &ByteRecord) -> Bay
 }
 
 /// The place that the record names.
-pub(crate) fn place_of(fields: &ByteRecord, rows: u8, tiers: u8) -> Place
+pub(crate) fn place_of(fields: &ByteRecord, heights: &[u8]) -> Place
+    requires rows { length heights.now ≤ 12 }
     requires formed { IsTrue (is_well_formed (fields_of fields.now)) }
     requires numbers { IsTrue (has_numbers (fields_of fields.now)) }
-    requires within { IsTrue (is_within rows tiers (place_named (fields_of fields.now))) }
+    requires within { IsTrue (is_within heights.now (place_named (fields_of fields.now))) }
     ensures { result ≡ place_named (fields_of fields.now) }
 {
     let row = number_of(field(fields, 2)) as u8;

@@ -2,7 +2,7 @@
 
 ghost use Rattle.std.specs.Prelude.{◌≡◌, ◌<◌, ◌≤◌, ◌-◌, ℕ, List, Some, None, slice_get};
 ghost use Rattle.crp_yard.specs.declared.fault.YardFault.{YardFault};
-ghost use Rattle.crp_yard.specs.Records.{Entry, records_of, entries_of};
+ghost use Rattle.crp_yard.specs.Records.{Entry, height_of, records_of, entries_of};
 ghost use Rattle.crp_yard.specs.Inventory.{Inventory, stack_up_to};
 ghost use Rattle.crp_yard.specs.Faults.{fault_at, first_fault_up_to, first_fault};
 ghost use Rattle.crp_yard.specs.Text.{records_of_yard, yard_text};
@@ -15,19 +15,19 @@ pub fn text_reads_back()
 /// The first fault up to a record is that of a record before which none is faulty; and where there is no
 /// first fault, no record is faulty.
 pub fn first_fault_is_least()
-    ensures told { (rows tiers : ℕ) (records : List (List (List ℕ))) (n : ℕ) (fault : YardFault)
-        → first_fault_up_to rows tiers records n ≡ Some fault
-        → (i : ℕ) × (1 ≤ i) × (i ≤ n) × (fault_at rows tiers records i ≡ Some fault)
-        × ((k : ℕ) → 1 ≤ k → k < i → fault_at rows tiers records k ≡ None) }
-    ensures faultless { (rows tiers : ℕ) (records : List (List (List ℕ))) (n : ℕ)
-        → first_fault_up_to rows tiers records n ≡ None
-        → (k : ℕ) → 1 ≤ k → k ≤ n → fault_at rows tiers records k ≡ None }
+    ensures told { (heights : List ℕ) (records : List (List (List ℕ))) (n : ℕ) (fault : YardFault)
+        → first_fault_up_to heights records n ≡ Some fault
+        → (i : ℕ) × (1 ≤ i) × (i ≤ n) × (fault_at heights records i ≡ Some fault)
+        × ((k : ℕ) → 1 ≤ k → k < i → fault_at heights records k ≡ None) }
+    ensures faultless { (heights : List ℕ) (records : List (List (List ℕ))) (n : ℕ)
+        → first_fault_up_to heights records n ≡ None
+        → (k : ℕ) → 1 ≤ k → k ≤ n → fault_at heights records k ≡ None }
 {}
 
 /// Where the records have no fault, what each of them says is so: its container stands in its stack at its
 /// tier.
 pub fn each_stands_in_its_place()
-    ensures { (rows tiers : ℕ) (records : List (List (List ℕ))) (i : ℕ) (entry : Entry)
-        → first_fault rows tiers records ≡ None → slice_get (entries_of records) i ≡ Some entry
-        → slice_get (stack_up_to (entries_of records) entry.0.bay entry.0.row tiers) (entry.0.tier - 1) ≡ Some entry.1 }
+    ensures { (heights : List ℕ) (records : List (List (List ℕ))) (i : ℕ) (entry : Entry)
+        → first_fault heights records ≡ None → slice_get (entries_of records) i ≡ Some entry
+        → slice_get (stack_up_to (entries_of records) entry.0.bay entry.0.row (height_of heights entry.0.row)) (entry.0.tier - 1) ≡ Some entry.1 }
 {}

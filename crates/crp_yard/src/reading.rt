@@ -1,64 +1,100 @@
 //! Reads a yard list.
 
-ghost use Rattle.std.specs.Prelude.{◌≡◌, ◌⊎◌, ◌≤◌, ◌-◌, ℕ, List, Some, None, IfOk, OnOk, IfErr, length};
+ghost use Rattle.std.specs.Prelude.{◌≡◌, ◌⊎◌, ◌≤◌, ◌-◌, ℕ, List, Some, None, IfOk, OnOk, IfErr, length, replicate};
 ghost use Rattle.crp_plan.specs.Devices.{most_interruptions};
+ghost use Rattle.crp_plan.specs.Faults.{AreHeights};
 ghost use Rattle.crp_yard.specs.Inventory.{inventory_of};
 ghost use Rattle.crp_yard.specs.Faults.{floating_before, fault_of_text};
-ghost use Rattle.crp_yard.specs.Reading.{IsYardList, IsTextOf, Tells, most_failures};
+ghost use Rattle.crp_yard.specs.Reading.{IsYardList, IsYardListOf, IsTextOf, Tells, most_failures};
 ghost use Rattle.crp_yard.specs.declared.fault.YardFault.TheVariants.{Memory};
 
 use crate::building::bays_of;
 use crate::fault::YardFault;
 use crate::floating::floating;
 use crate::listing::Listing;
-use crate::records::{Size, listing_of};
+use crate::records::listing_of;
 use crate::yard::Yard;
-use crp_plan::{ReadFault, Source, read_all};
+use crp_plan::{MAX_ROWS, ReadFault, Source, read_all};
 use std::alloc::Global;
 
 /// More bytes are not read.
 pub const MAX_BYTES: usize = 8388608;
 
 /// The yard that the entries give where none floats, and else the fault of the first that does.
-fn yard_with(alloc: Global, listing: &Listing, size: Size) -> Result<Yard, YardFault>
-    requires some_rows { 1 ≤ size.rows }
-    requires few_rows { size.rows ≤ 12 }
-    requires some_tiers { 1 ≤ size.tiers }
-    requires few_tiers { size.tiers ≤ 8 }
+fn yard_with(alloc: Global, listing: &Listing, heights: &[u8]) -> Result<Yard, YardFault>
+    requires some_rows { 1 ≤ length heights.now }
+    requires few_rows { length heights.now ≤ 12 }
+    requires heights { AreHeights heights.now }
     ensures standing { OnOk result (floating_before listing.now (length listing.now) ≡ None) }
-    ensures given { IfOk result (λ yard. yard ≡ inventory_of size.rows size.tiers listing.now) }
+    ensures given { IfOk result (λ yard. yard ≡ inventory_of heights.now listing.now) }
     ensures refused { IfErr result (λ fault. (fault ≡ Memory) ⊎ (floating_before listing.now (length listing.now) ≡ Some fault)) }
 {
     match floating(listing) {
         Some(fault) => return Err(fault),
         None => {}
     }
-    let bays = bays_of(alloc, listing, size)?;
+    let bays = bays_of(alloc, listing, heights)?;
     let _containers = listing.len();
-    let yard = Yard::new(alloc, size, bays)?;
+    let yard = Yard::new(alloc, heights, bays)?;
     Ok(yard)
 }
 
-/// The yard that a list of records tells, and else the first fault of the list. Each bay has so many
-/// rows, 1 to 12, and in each row so many tiers, 1 to 8.
+/// The yard that a list of records tells, and else the first fault of the list. Each bay has a row for
+/// each of the heights, 1 to 12 rows, and in the row so many tiers, 1 to 8.
+pub fn yard_of_heights(alloc: Global, text: &[u8], heights: &[u8]) -> Result<Yard, YardFault>
+    requires some_rows { 1 ≤ length heights.now }
+    requires few_rows { length heights.now ≤ 12 }
+    requires heights { AreHeights heights.now }
+    ensures accepted { IfOk result (λ yard. IsYardListOf heights.now text.now yard) }
+    ensures refused { IfErr result (λ fault. (fault ≡ Memory) ⊎ (fault_of_text heights.now text.now ≡ Some fault)) }
+{
+    if text.len() > MAX_BYTES {
+        return Err(YardFault::TooLarge);
+    }
+    let listing = listing_of(alloc, text, heights)?;
+    yard_with(alloc, &listing, heights)
+}
+
+/// The same where each bay has so many rows, 1 to 12, and each row so many tiers, 1 to 8.
 pub fn yard_of(alloc: Global, text: &[u8], rows: u8, tiers: u8) -> Result<Yard, YardFault>
     requires some_rows { 1 ≤ rows }
     requires few_rows { rows ≤ 12 }
     requires some_tiers { 1 ≤ tiers }
     requires few_tiers { tiers ≤ 8 }
     ensures accepted { IfOk result (λ yard. IsYardList rows tiers text.now yard) }
-    ensures refused { IfErr result (λ fault. (fault ≡ Memory) ⊎ (fault_of_text rows tiers text.now ≡ Some fault)) }
+    ensures refused { IfErr result (λ fault. (fault ≡ Memory) ⊎ (fault_of_text (replicate rows tiers) text.now ≡ Some fault)) }
 {
-    if text.len() > MAX_BYTES {
-        return Err(YardFault::TooLarge);
-    }
-    let size = Size { rows, tiers };
-    let listing = listing_of(alloc, text, size)?;
-    yard_with(alloc, &listing, size)
+    let heights = [tiers; MAX_ROWS];
+    yard_of_heights(alloc, text, &heights[..rows as usize])
 }
 
 /// The yard that a source tells: all its bytes are read first. An interrupted call is tried again, at
-/// most 1,000 times.
+/// most 1,000 times. Each bay has a row for each of the heights, 1 to 12 rows, and in the row so many
+/// tiers, 1 to 8.
+pub fn read_yard_heights<R: Source>(
+    alloc: Global,
+    source: &mut R,
+    heights: &[u8],
+) -> Result<Yard, YardFault>
+    requires some_rows { 1 ≤ length heights.now }
+    requires few_rows { length heights.now ≤ 12 }
+    requires heights { AreHeights heights.now }
+    ensures accepted { IfOk result (λ yard. (text : List ℕ) × IsTextOf (R.remaining source.old) text × IsYardListOf heights.now text yard) }
+    ensures refused { IfErr result (Tells heights.now (R.remaining source.old) (R.failures source.old) (R.failures source.new)) }
+    ensures count { R.failures source.old ≤ R.failures source.new }
+    ensures passed { OnOk result (R.failures source.new - R.failures source.old ≤ most_interruptions) }
+    ensures ended { IfErr result (λ fault. R.failures source.new - R.failures source.old ≤ most_failures fault) }
+{
+    let mut interruptions = 0;
+    match read_all(alloc, source, MAX_BYTES, &mut interruptions) {
+        Ok(text) => yard_of_heights(alloc, &text, heights),
+        Err(ReadFault::Failed) => Err(YardFault::Read),
+        Err(ReadFault::TooLarge) => Err(YardFault::TooLarge),
+        Err(ReadFault::Memory) => Err(YardFault::Memory),
+    }
+}
+
+/// The same where each bay has so many rows, 1 to 12, and each row so many tiers, 1 to 8.
 pub fn read_yard<R: Source>(
     alloc: Global,
     source: &mut R,
@@ -70,16 +106,11 @@ pub fn read_yard<R: Source>(
     requires some_tiers { 1 ≤ tiers }
     requires few_tiers { tiers ≤ 8 }
     ensures accepted { IfOk result (λ yard. (text : List ℕ) × IsTextOf (R.remaining source.old) text × IsYardList rows tiers text yard) }
-    ensures refused { IfErr result (Tells rows tiers (R.remaining source.old) (R.failures source.old) (R.failures source.new)) }
+    ensures refused { IfErr result (Tells (replicate rows tiers) (R.remaining source.old) (R.failures source.old) (R.failures source.new)) }
     ensures count { R.failures source.old ≤ R.failures source.new }
     ensures passed { OnOk result (R.failures source.new - R.failures source.old ≤ most_interruptions) }
     ensures ended { IfErr result (λ fault. R.failures source.new - R.failures source.old ≤ most_failures fault) }
 {
-    let mut interruptions = 0;
-    match read_all(alloc, source, MAX_BYTES, &mut interruptions) {
-        Ok(text) => yard_of(alloc, &text, rows, tiers),
-        Err(ReadFault::Failed) => Err(YardFault::Read),
-        Err(ReadFault::TooLarge) => Err(YardFault::TooLarge),
-        Err(ReadFault::Memory) => Err(YardFault::Memory),
-    }
+    let heights = [tiers; MAX_ROWS];
+    read_yard_heights(alloc, source, &heights[..rows as usize])
 }

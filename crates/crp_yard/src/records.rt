@@ -17,27 +17,21 @@ use std::alloc::Global;
 /// More containers are not read.
 pub const MAX_CONTAINERS: usize = 20000;
 
-/// How many rows and tiers the bays have.
-#[derive(Clone, Copy, Debug)]
-pub(crate) struct Size {
-    pub rows: u8,
-    pub tiers: u8,
-}
-
 /// The place that the record with this number names, or its fault behind what the records before it say.
 #[tactic(auto, unfolding(crate::specs::Faults::fault_of))]
 fn accepted_place(
     listing: &Listing,
     fields: &ByteRecord,
-    size: Size,
+    heights: &[u8],
     number: usize,
 ) -> Result<Place, YardFault>
-    ensures faultless { OnOk result (fault_of size.rows size.tiers listing.now number (fields_of fields.now) ≡ None) }
+    requires rows { length heights.now ≤ 12 }
+    ensures faultless { OnOk result (fault_of heights.now listing.now number (fields_of fields.now) ≡ None) }
     ensures place { IfOk result (λ place. place ≡ place_named (fields_of fields.now)) }
     ensures free { IfOk result (λ place. is_taken listing.now place ≡ false) }
     ensures fresh { OnOk result (is_named listing.now (field_of (fields_of fields.now) 4) ≡ false) }
     ensures room { OnOk result (length listing.now < max_containers) }
-    ensures refused { IfErr result (λ fault. fault_of size.rows size.tiers listing.now number (fields_of fields.now) ≡ Some fault) }
+    ensures refused { IfErr result (λ fault. fault_of heights.now listing.now number (fields_of fields.now) ≡ Some fault) }
 {
     if !is_well_formed(fields) {
         return Err(YardFault::Fields { record: number });
@@ -45,10 +39,10 @@ fn accepted_place(
     if !has_numbers(fields) {
         return Err(YardFault::Digits { record: number });
     }
-    if !is_within(fields, size.rows, size.tiers) {
+    if !is_within(fields, heights) {
         return Err(YardFault::Outside { record: number });
     }
-    let place = place_of(fields, size.rows, size.tiers);
+    let place = place_of(fields, heights);
     if listing.is_taken(&place) {
         return Err(YardFault::PlaceTaken { record: number });
     }
@@ -67,15 +61,16 @@ fn take(
     alloc: Global,
     listing: &mut Listing,
     fields: &ByteRecord,
-    size: Size,
+    heights: &[u8],
     number: usize,
 ) -> Result<(), YardFault>
-    requires { length listing.old ≤ max_containers }
+    requires room { length listing.old ≤ max_containers }
+    requires rows { length heights.now ≤ 12 }
     ensures few { OnOk result (length listing.new ≤ max_containers) }
-    ensures faultless { OnOk result (fault_behind size.rows size.tiers listing.old number (fields_of fields.now) ≡ None) }
+    ensures faultless { OnOk result (fault_behind heights.now listing.old number (fields_of fields.now) ≡ None) }
     ensures taken { OnOk result (listing.new ≡ entries_behind listing.old number (fields_of fields.now)) }
     ensures refused { IfErr result (λ fault. (fault ≡ Memory)
-        ⊎ (fault_behind size.rows size.tiers listing.old number (fields_of fields.now) ≡ Some fault)) }
+        ⊎ (fault_behind heights.now listing.old number (fields_of fields.now) ≡ Some fault)) }
 {
     if number == 1 {
         if is_header(fields) {
@@ -83,7 +78,7 @@ fn take(
         }
         return Err(YardFault::Header { record: 1 });
     }
-    let place = accepted_place(listing, fields, size, number)?;
+    let place = accepted_place(listing, fields, heights, number)?;
     listing.push(alloc, place, field(fields, 4))?;
     Ok(())
 }
@@ -100,11 +95,12 @@ fn rows_of<'a>(alloc: Global, text: &'a [u8]) -> ByteRecordsIntoIter<&'a [u8]>
 }
 
 /// What the records of a text say, where none is faulty but by floating.
-pub(crate) fn listing_of(alloc: Global, text: &[u8], size: Size) -> Result<Listing, YardFault>
-    ensures faultless { OnOk result (first_fault_up_to size.rows size.tiers (records_of text.now) (max 1 (length (records_of text.now))) ≡ None) }
+pub(crate) fn listing_of(alloc: Global, text: &[u8], heights: &[u8]) -> Result<Listing, YardFault>
+    requires rows { length heights.now ≤ 12 }
+    ensures faultless { OnOk result (first_fault_up_to heights.now (records_of text.now) (max 1 (length (records_of text.now))) ≡ None) }
     ensures said { IfOk result (λ listing. listing ≡ entries_of (records_of text.now)) }
     ensures refused { IfErr result (λ fault. (fault ≡ Memory)
-        ⊎ (first_fault size.rows size.tiers (records_of text.now) ≡ Some fault)) }
+        ⊎ (first_fault heights.now (records_of text.now) ≡ Some fault)) }
 {
     let mut listing = Listing::new(alloc);
     let mut number = 0;
@@ -113,7 +109,7 @@ pub(crate) fn listing_of(alloc: Global, text: &[u8], size: Size) -> Result<Listi
             return Err(YardFault::Memory);
         };
         number += 1;
-        take(alloc, &mut listing, &fields, size, number)?;
+        take(alloc, &mut listing, &fields, heights, number)?;
     }
     if number == 0 {
         return Err(YardFault::Header { record: 1 });

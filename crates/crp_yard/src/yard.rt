@@ -1,23 +1,23 @@
 //! What stands in a yard.
 
 ghost use Rattle.std.specs.Prelude.{◌≡◌, ◌<◌, ◌≤◌, All, IfOk, Some, length, slice_get};
+ghost use Rattle.crp_plan.specs.Rows.{tallest};
 ghost use Rattle.crp_yard.specs.Inventory.{name_at, stack_in_bay, stands, IsYard};
 
 use crate::container::{Container, Containers};
 use crate::names::names_of;
 use crate::place::Bay;
-use crate::records::Size;
 use crate::stacks::Stacks;
-use crp_plan::BayName;
+use crp_plan::{BayName, tallest};
 use indexmap::{IndexMap, IndexSet};
 use std::alloc::{AllocError, Global};
 use std::marker::Model;
 
-/// The bays of a yard in first-seen order, and what stands in them. Each bay has as many rows, and in
-/// each row at most as many tiers; no container stands in two places.
+/// The bays of a yard in first-seen order, and what stands in them. Each bay has the same rows, each with
+/// its height; no container stands in two places.
 #[derive(Drop)]
 pub struct Yard {
-    rows: u8,
+    heights: Vec<u8>,
     tiers: u8,
     bays: IndexMap<Bay, Stacks>,
     names: IndexSet<Vec<u8>>,
@@ -29,25 +29,27 @@ impl Model for Yard {
 
     ghost Value = { Inventory };
 
-    ghost view = { λ a. record { rows = a.rows; tiers = a.tiers; bays = a.bays.entries } };
+    ghost view = { λ a. record { heights = a.heights.items; tiers = a.tiers; bays = a.bays.entries } };
 
-    ghost invariant = { λ a. IsKept (record { rows = a.rows; tiers = a.tiers; bays = a.bays.entries }) a.names.keys };
+    ghost invariant = { λ a. IsKept (record { heights = a.heights.items; tiers = a.tiers; bays = a.bays.entries }) a.names.keys };
 }
 
 impl Yard {
     /// The yard of these bays.
     pub(crate) fn new(
         alloc: Global,
-        size: Size,
+        heights: &[u8],
         bays: IndexMap<Bay, Stacks>,
     ) -> Result<Yard, AllocError>
-        requires { IsYard (record { rows = size.rows; tiers = size.tiers; bays = bays.entries }) }
-        ensures { IfOk result (λ yard. yard ≡ record { rows = size.rows; tiers = size.tiers; bays = bays.entries }) }
+        requires { IsYard (record { heights = heights.now; tiers = tallest heights.now; bays = bays.entries }) }
+        ensures { IfOk result (λ yard. yard ≡ record { heights = heights.now; tiers = tallest heights.now; bays = bays.entries }) }
     {
         let names = names_of(alloc, &bays)?;
+        let tiers = tallest(heights);
+        let heights = Vec::from_slice(alloc, heights)?;
         Ok(Yard {
-            rows: size.rows,
-            tiers: size.tiers,
+            heights,
+            tiers,
             bays,
             names,
         })
@@ -55,13 +57,21 @@ impl Yard {
 
     /// How many rows each bay has, 1 to 12.
     pub fn rows(&self) -> u8
-        ensures value { result ≡ self.now.rows }
+        ensures value { result ≡ length self.now.heights }
         ensures yard { IsYard self.now }
     {
-        self.rows
+        self.heights.len() as u8
     }
 
-    /// How many tiers each row has, 1 to 8.
+    /// How many tiers each row has, 1 to 8, from row 1.
+    pub fn heights(&self) -> &[u8]
+        ensures value { result.now ≡ self.now.heights }
+        ensures yard { IsYard self.now }
+    {
+        &self.heights
+    }
+
+    /// The most tiers of a row, 1 to 8.
     pub fn tiers(&self) -> u8
         ensures value { result ≡ self.now.tiers }
         ensures yard { IsYard self.now }
@@ -106,7 +116,7 @@ impl Yard {
     pub fn stack(&self, bay: usize, row: u8) -> &[Container]
         requires bay { bay < length self.now.bays }
         requires counts { 1 ≤ row }
-        requires there { row ≤ self.now.rows }
+        requires there { row ≤ length self.now.heights }
         ensures { stack_in_bay self.now bay row ≡ Some result.now }
     {
         match self.bays.get_index(bay) {

@@ -1,5 +1,6 @@
 use Rattle.std.proofs.Common.{◌≡◌, ◌+◌, ◌-◌, ◌∙◌, ap, sym, arith, Some, [], ◌∷◌, ◌++◌, slice_get}
 use Rattle.std.proofs.lemmas.List.{map-append, take_all}
+use Rattle.crp_yard.proofs.YardSteps.{fit_rows}
 use Rattle.crp_order.specs.Groups.{pointed, stacks_numbered}
 use Rattle.crp_order.proofs.YardSteps.{stack_of_bay, take_next, fits}
 use Rattle.crp_order.proofs.bays.stacks_of.Goals as goal
@@ -17,4 +18,4 @@ loop-i-preserved c =
 pub returns : goal.returns
 returns c =
     let fit = fits c.args.yard.now c.args.bay c.rows-i-end.ensures.yard c.requires in
-    c.loop-i.invariant ∙ take_all c.loop-i.i (stacks_numbered c.args.yard.now c.args.bay) (omega (arith, fit.rows_are, c.rows-i-end.ensures.value, c.loop-i-test.false))
+    c.loop-i.invariant ∙ take_all c.loop-i.i (stacks_numbered c.args.yard.now c.args.bay) (omega (arith, fit_rows c.args.yard.now.heights (stacks_numbered c.args.yard.now c.args.bay) fit, c.rows-i-end.ensures.value, c.loop-i-test.false))

@@ -37,7 +37,7 @@ returns-in_err-write_texts g c =
     let are = c.in_ok-texts.ensures in
     rw (p.1, p.2) (
       write_refused c.args.settings.now _ c.in_err-write_texts.field-0.0 (made c.args.settings.now list message c.in_ok-listed.listed c.in_ok-orders.orders texts are)
-          _ (is_made c.args.settings.now _ list message c.in_ok-listed.listed c.in_ok-orders.orders texts are given_list (rw (c.rows.ensures.value, c.tiers.ensures.value) at listed)
+          _ (is_made c.args.settings.now _ list message c.in_ok-listed.listed c.in_ok-orders.orders texts are c.rows.ensures.chosen.0 given_list (rw (c.rows.ensures.value, c.tiers.ensures.value) at listed)
           given_message (rw c.code.ensures at ordered)) told.report_front told.certificates_front told.yard_after_front
           (pieces_made c.args.settings.now c.in_ok-listed.listed c.in_ok-orders.orders texts are) told.stopped told.refused,
       omega (arith, c.in_ok-listed.ensures.counted, c.in_ok-orders.ensures.counted, c.in_ok-orders.ensures.count, told.counted, grown.0, grown.1, grown.2, told.passed),
@@ -51,7 +51,7 @@ returns g c =
     let grown = told.counts in (
       (
         made c.args.settings.now list message c.in_ok-listed.listed c.in_ok-orders.orders c.in_ok-texts.texts c.in_ok-texts.ensures,
-        is_made c.args.settings.now _ list message c.in_ok-listed.listed c.in_ok-orders.orders c.in_ok-texts.texts c.in_ok-texts.ensures given_list
+        is_made c.args.settings.now _ list message c.in_ok-listed.listed c.in_ok-orders.orders c.in_ok-texts.texts c.in_ok-texts.ensures c.rows.ensures.chosen.0 given_list
             (rw (c.rows.ensures.value, c.tiers.ensures.value) at listed) given_message (rw c.code.ensures at ordered),
         c.in_ok-texts.ensures.status,
         told.report,

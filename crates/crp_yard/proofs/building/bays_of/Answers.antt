@@ -4,7 +4,7 @@ use Rattle.indexmap.specs.IndexMap.{insert_entry}
 use Rattle.crp_yard.specs.Places.{same_bay}
 use Rattle.crp_yard.specs.Records.{Entry}
 use Rattle.crp_yard.specs.Inventory.{StackedBay, stacks_up_to}
-use Rattle.std.specs.Prelude.{List}
+use Rattle.std.specs.Prelude.{List, length}
 use Rattle.crp_yard.proofs.BuildingSteps.{bays-kept, bays-added}
 use Rattle.crp_yard.proofs.building.bays_of.Goals as goal
 use Rattle.crp_yard.proofs.building.bays_of.Goals.{then-not-contains_key+in_ok-stacks+in_ok-insert+in-Some-1, then-not-contains_key+in_ok-stacks+in_ok-insert+in-None-1, else-not-contains_key}
@@ -12,10 +12,9 @@ use Rattle.crp_yard.proofs.building.bays_of.Goals.{then-not-contains_key+in_ok-s
 pub loop-i-preserved : goal.loop-i-preserved
 loop-i-preserved c =
     let entry : Entry = (c.place.result.now, c.place.ensures.0) in
-    let rows = c.args.size.rows in
-    let tiers = c.args.size.tiers in
-    let added = λ (new : List StackedBay) (absent : is_some (lookup (same_bay entry.0.bay) c.loop-i.bays.entries) ≡ false) (e : new ≡ insert_entry same_bay c.loop-i.bays.entries entry.0.bay (stacks_up_to c.args.listing.now entry.0.bay tiers rows)).
-    bays-added rows tiers c.args.listing.now c.loop-i.i entry c.place.ensures.1 c.loop-i.bays new c.loop-i.invariant absent e in
+    let heights = c.args.heights.now in
+    let added = λ (new : List StackedBay) (absent : is_some (lookup (same_bay entry.0.bay) c.loop-i.bays.entries) ≡ false) (e : new ≡ insert_entry same_bay c.loop-i.bays.entries entry.0.bay (stacks_up_to c.args.listing.now entry.0.bay heights (length heights))).
+    bays-added heights c.args.listing.now c.loop-i.i entry c.place.ensures.1 c.loop-i.bays new c.loop-i.invariant absent e in
     elim c.if-not-contains_key.branch [
       | then-not-contains_key+in_ok-stacks+in_ok-insert+in-Some-1 w ↦
           let absent : is_some (lookup (same_bay c.bay-bay.result.now) c.loop-i.bays.entries) ≡ false = sym w.if-not-contains_key.ensures in
@@ -25,5 +24,5 @@ loop-i-preserved c =
           rw w.bays-is (added w.insert.new.self.entries (rw c.bay-bay.ensures at absent) (w.in_ok-insert.ensures.entries ∙ rw (w.copy.ensures, w.in_ok-stacks.ensures, c.bay-bay.ensures) refl))
       | else-not-contains_key w ↦
           let there : is_some (lookup (same_bay c.bay-bay.result.now) c.loop-i.bays.entries) ≡ true = sym w.if-not-contains_key.ensures in
-          rw w.bays-is (bays-kept rows tiers c.args.listing.now c.loop-i.i entry c.place.ensures.1 c.loop-i.bays.entries c.loop-i.invariant (rw c.bay-bay.ensures at there))
+          rw w.bays-is (bays-kept heights c.args.listing.now c.loop-i.i entry c.place.ensures.1 c.loop-i.bays.entries c.loop-i.invariant (rw c.bay-bay.ensures at there))
     ]

@@ -4,4 +4,4 @@ use Rattle.crp_yard.specs.Inventory.{stacks_up_to}
 use Rattle.crp_yard.proofs.building.stacks_of.Given as goal
 
 abbrev pub invariant-loop-i : goal.invariant-loop-i
-invariant-loop-i l = l.stacks.items ≡ stacks_up_to l.listing l.bay l.size.tiers l.i
+invariant-loop-i l = l.stacks.items ≡ stacks_up_to l.listing l.bay l.heights l.i
