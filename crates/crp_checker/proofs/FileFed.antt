@@ -1,5 +1,5 @@
 -- A file of certificates that comes in pieces.
-use Rattle.std.proofs.Common.{◌≡◌, ◌≢◌, ℕ, ◌+◌, ◌≤◌, ◌⊎◌, inl, inr, ⊎_elim, List, [], ◌∷◌, ◌++◌, length, take, drop, None, refl, sym, ap, ◌∙◌, subst, append_assoc}
+use Rattle.std.proofs.Common.{◌≡◌, ◌≢◌, ℕ, ◌+◌, ◌⊎◌, inl, inr, List, [], ◌∷◌, ◌++◌, length, take, drop, None, refl, sym, ap, ◌∙◌, append_assoc}
 use Rattle.std.specs.List.{AllByRecursion}
 use Rattle.std.proofs.lemmas.List.{append-nil, take-append-drop}
 use Rattle.std.proofs.lemmas.Grind.{flat_map-append}
@@ -7,11 +7,10 @@ use Rattle.crp_plan.specs.BayNames.{YardBay}
 use Rattle.crp_cert.proofs.Joined.{all_both}
 use Rattle.crp_checker.specs.declared.verdict.Verdict.{Verdict}
 use Rattle.crp_checker.specs.declared.refused.Refused.{Refused}
-use Rattle.crp_checker.specs.declared.refused.Refused.TheVariants.{Memory}
 use Rattle.crp_checker.specs.declared.watch.Watch.{Watch}
 use Rattle.crp_checker.specs.Shown.{TextShowsFor}
 use Rattle.crp_checker.specs.Refusals.{IsRefusal}
-use Rattle.crp_checker.specs.Files.{IsEnded, IsOpen, joined_lines, BeginsWithTexts, ShowEach, FileShows, IsFileRefusal}
+use Rattle.crp_checker.specs.Files.{IsEnded, IsOpen, joined_lines, BeginsWithTexts, FileShows, IsFileRefusal}
 use Rattle.crp_checker.specs.Watches.{IsUnended}
 use Rattle.crp_checker.specs.FedFiles.{IsEndedFront}
 use Rattle.crp_checker.proofs.Cuts.{texts_more, shown_more, as_many}

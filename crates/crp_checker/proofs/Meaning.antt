@@ -1,5 +1,5 @@
 -- What an accepted certificate shows, and how a refusal is told.
-use Rattle.std.proofs.Common.{◌≡◌, ℕ, ◌≤◌, ◌⊎◌, inl, inr, ⊎_elim, List, length, Option, Some, None, IfSome, option_map, refl, sym, ap, ◌∙◌, subst}
+use Rattle.std.proofs.Common.{◌≡◌, ℕ, ◌≤◌, List, length, Option, Some, None, IfSome, option_map, refl, sym, ap, ◌∙◌, subst}
 use Rattle.crp_plan.specs.declared.moves.Move.{Move}
 use Rattle.crp_plan.specs.Bay.{Problem, cap, IsPlan, IsBest, relocations}
 use Rattle.crp_plan.specs.Faults.{IsPlanPath}
@@ -8,17 +8,14 @@ use Rattle.crp_tree.specs.Claims.{Claim, IsAccepted}
 use Rattle.crp_tree.proofs.Accepted.{bounded, no_plan_at_cap, best}
 use Rattle.crp_cert.specs.declared.head.Head.{Head}
 use Rattle.crp_cert.specs.declared.script.Script.{Script}
-use Rattle.crp_cert.specs.declared.fault.CertFault.{CertFault}
-use Rattle.crp_cert.specs.declared.fault.CertFault.TheVariants as cert
 use Rattle.crp_cert.specs.Text.{IsHeadOf}
 use Rattle.crp_cert.specs.Script.{IsScriptOf, claim_of}
-use Rattle.crp_cert.specs.ScriptFaults.{IsFirstFaultOfScript}
 use Rattle.crp_cert.proofs.Heads.{head_once}
 use Rattle.crp_checker.specs.declared.refused.Refused.{Refused}
 use Rattle.crp_checker.specs.declared.refused.Refused.TheVariants as refused
 use Rattle.crp_checker.specs.declared.verdict.Verdict.{Verdict}
 use Rattle.crp_checker.specs.declared.verdict.Verdict.TheVariants.{Optimal, NoPlan, Bounds}
-use Rattle.crp_checker.specs.AcceptedTexts.{IsWanted, IsAcceptedText}
+use Rattle.crp_checker.specs.AcceptedTexts.{IsAcceptedText}
 use Rattle.crp_checker.specs.Verdicts.{IsVerdictOf, IsVerdict, Says}
 use Rattle.crp_checker.specs.Refusals.{IsFirstWrongClaim, IsRefusal}
 

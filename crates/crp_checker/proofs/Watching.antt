@@ -1,14 +1,13 @@
 -- One byte more of a certificate in a file.
-use Rattle.std.proofs.Common.{◌≡◌, ◌≢◌, ℕ, List, [], ◌∷◌, ◌++◌, All, refl, sym, ap, ◌∙◌, subst, append_assoc}
+use Rattle.std.proofs.Common.{◌≡◌, ◌≢◌, ℕ, List, [], ◌∷◌, ◌++◌, refl, sym, ap, ◌∙◌, subst, append_assoc}
 use Rattle.std.specs.Prelude.{codes}
-use Rattle.std.specs.List.{AllByRecursion}
 use Rattle.std.proofs.lemmas.List.{append-nil}
 use Rattle.std.proofs.lemmas.List.Elements.{All-push, All-nil}
 use Rattle.std.proofs.lemmas.Grind.{flat_map-append}
 use Rattle.crp_cert.proofs.Joined.{all_both}
 use Rattle.crp_checker.specs.declared.watch.Watch.{Watch}
 use Rattle.crp_checker.specs.declared.watch.Watch.TheVariants.{Begun, E, En, End, Last, Other}
-use Rattle.crp_checker.specs.Files.{IsWithoutEnd, BeginsWithEnd, IsLine, IsOtherLine, IsEnded, joined_lines}
+use Rattle.crp_checker.specs.Files.{BeginsWithEnd, IsOtherLine, joined_lines}
 use Rattle.crp_checker.specs.Watches.{IsWatched, IsUnended}
 
 -- a line goes on

@@ -1,5 +1,5 @@
 -- The bytes of a certificate in a file, as long as it has not ended.
-use Rattle.std.specs.Prelude.{◌≡◌, ◌≢◌, ℕ, List, [], ◌++◌, codes}
+use Rattle.std.specs.Prelude.{◌≡◌, ℕ, List, [], ◌++◌, codes}
 use Rattle.std.specs.List.{AllByRecursion}
 use Rattle.crp_checker.specs.declared.watch.Watch.{Watch}
 use Rattle.crp_checker.specs.declared.watch.Watch.TheVariants.{Begun, E, En, End, Last, Other}

@@ -1,6 +1,6 @@
-use Rattle.std.proofs.Common.{◌≡◌, ◌++◌, ◌∷◌, [], List, ℕ, sym, subst}
+use Rattle.std.proofs.Common.{◌++◌, ◌∷◌, [], sym, subst}
 use Rattle.crp_checker.specs.Watches.{IsUnended}
-use Rattle.crp_checker.specs.declared.watch.Watch.TheVariants.{Begun, E, En, End, Last, Other}
+use Rattle.crp_checker.specs.declared.watch.Watch.TheVariants.{Begun}
 use Rattle.crp_checker.proofs.Watching.{line_ends, other_goes_on}
 use Rattle.crp_checker.proofs.watch.next.Goals as goal
 

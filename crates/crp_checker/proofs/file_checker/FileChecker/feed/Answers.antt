@@ -1,9 +1,7 @@
-use Rattle.std.proofs.Common.{◌≡◌, ◌≢◌, ◌⊎◌, ⊎_elim, inl, inr, None, Bool, true, false, List, ℕ, [], ◌∷◌, ◌++◌, take, drop, refl, sym, ap, ◌∙◌, subst, append_assoc}
-use Rattle.std.proofs.lemmas.List.{append-nil}
+use Rattle.std.proofs.Common.{◌≡◌, ◌≢◌, ◌⊎◌, ⊎_elim, inl, inr, None, Bool, true, false, List, ℕ, [], ◌∷◌, ◌++◌, take, drop, refl, sym, ap, ◌∙◌, subst}
 use Rattle.std.proofs.lemmas.Result.{err_from_is_err_and}
 use Rattle.crp_checker.specs.Fed.{HasRead}
 use Rattle.crp_checker.specs.Watches.{IsUnended}
-use Rattle.crp_checker.specs.FedFiles.{IsEndedFront}
 use Rattle.crp_checker.proofs.Watching.{nothing_unended}
 use Rattle.crp_checker.proofs.FileFed.{front_on, front_more, refused_next, cut_piece}
 use Rattle.crp_checker.proofs.file_checker.FileChecker.feed.Goals as goal
@@ -49,8 +47,7 @@ pub returns-clause-on : goal.returns-clause-on
 returns-clause-on c file verdicts at =
     let piece : List ℕ = c.args.piece.now in
     let n = c.in-Some.taken in
-    let read = subst (HasRead None (at.text ++ take n piece)) (sym c.replace-checker.ensures.value) (c.in_ok-feed-2.ensures.read None at.text at.read) in
-    (
+    let read = subst (HasRead None (at.text ++ take n piece)) (sym c.replace-checker.ensures.value) (c.in_ok-feed-2.ensures.read None at.text at.read) in (
       c.in-Some.ensures.some,
       c.in-Some.ensures.within,
       record {

@@ -1,5 +1,5 @@
 use Rattle.std.specs.Prelude.{Bool, true, false, not}
-use Rattle.std.proofs.Common.{◌≡◌, ⊎_elim, inl, inr, None, List, ℕ, [], refl, sym, ap, ◌∙◌, subst}
+use Rattle.std.proofs.Common.{◌≡◌, ⊎_elim, inl, inr, None, [], refl, sym, subst}
 use Rattle.std.proofs.lemmas.List.{append-nil}
 use Rattle.std.proofs.lemmas.Result.{err_from_is_err_and}
 use Rattle.crp_checker.specs.FedFiles.{IsEndedFront}
