@@ -1,5 +1,6 @@
 //! What no contract says: worked slots, sequences and bays.
 mod full_bays;
+mod heights;
 
 use crate::calls::{absent, load_orders, problems, read_segments, sequence, yard_of};
 use crate::compare::{assert_same, assert_same_at};

@@ -2,6 +2,7 @@
 mod damage;
 mod devices;
 mod faults;
+mod heights;
 mod lists;
 mod sizes;
 

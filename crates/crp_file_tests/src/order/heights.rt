@@ -1,0 +1,37 @@
+//! Problems of bays whose rows have heights of their own.
+use super::{SIX, sequence_of};
+use crp_order::{BayProblem, Mode, problems};
+use crp_plan::Problem;
+use crp_yard::{Yard, YardFault, yard_of_heights};
+use std::alloc::{AllocError, Global};
+use std::test::Fail;
+
+fn yard_of(alloc: Global) -> Result<Yard, YardFault> {
+    yard_of_heights(alloc, SIX, &[3, 1, 2])
+}
+
+fn heights_of(alloc: Global, problem: &Problem) -> Result<Vec<u8>, AllocError> {
+    let mut heights = Vec::new(alloc);
+    for i in 0..problem.rows() {
+        heights.push(problem.height(i + 1))?;
+    }
+    Ok(heights)
+}
+
+fn stated(alloc: Global) -> Result<Vec<BayProblem>, Fail> {
+    let yard = yard_of(alloc)?;
+    let orders = b"LOC+147+0010182'EQD+CN+C6'\n";
+    let sequence = sequence_of(alloc, orders, b"UNT+5+1'", Mode::Listed)?;
+    Ok(problems(alloc, &yard, &sequence)?)
+}
+
+#[test]
+fn a_problem_has_the_heights_of_its_rows(rt: HostRuntime) -> Result<(), Fail> {
+    let told = stated(rt.alloc())?;
+    assert_eq!(rt; told.len(), 1);
+    for bay in &told {
+        let heights = heights_of(rt.alloc(), &bay.problem)?;
+        assert_eq!(rt; heights.as_slice(), [3, 1, 2].as_slice());
+    }
+    Ok(())
+}
