@@ -6,7 +6,7 @@ use std::alloc::{AllocError, Global};
 use std::process::Abort;
 use std::test::Fail;
 
-fn rows_of(alloc: Global, rows: &[&[u8]]) -> Result<Vec<Vec<u8>>, AllocError> {
+pub(super) fn rows_of(alloc: Global, rows: &[&[u8]]) -> Result<Vec<Vec<u8>>, AllocError> {
     let mut stacks = Vec::new(alloc);
     for row in rows {
         stacks.push(row.to_vec(alloc)?)?;
