@@ -17,7 +17,7 @@ use Rattle.crp_cert.specs.Script.{symbols_of, symbols_of_each, part_line, end_li
 use Rattle.crp_report.proofs.Bytes.{IsPlain, plain_both, plain_words, plain_number}
 use Rattle.crp_checker.specs.Files.{IsLine, BeginsWithEnd, IsOtherLine, joined_lines, IsEnded}
 use Rattle.crp_checker.proofs.Cuts.{AreOtherLines}
-use Rattle.crp_checker.proofs.WalkSteps.{all_both}
+use Rattle.crp_cert.proofs.Joined.{all_both}
 
 -- ---- bytes without LF
 
