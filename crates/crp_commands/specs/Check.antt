@@ -1,14 +1,15 @@
--- What `check` writes: a line for each certificate of a file, and what it tells of one that is refused.
-use Rattle.std.specs.Prelude.{◌≡◌, ◌≢◌, ℕ, ◌<◌, ◌⊎◌, List, [], ◌∷◌, ◌++◌, length, Option, Some, None, IfSome, codes, decimal}
-use Rattle.std.specs.List.{flat_map}
-use Rattle.std.specs.Io.KnownBytes.{Appends, Keeps}
+-- What `check` writes: a line for each certificate of a file as it ends, and what its faults tell.
+use Rattle.std.specs.Prelude.{◌≡◌, ◌≢◌, ℕ, ◌<◌, ◌≤◌, ◌⊎◌, List, [], ◌∷◌, ◌++◌, length, Option, Some, None, IfSome, codes, decimal}
+use Rattle.std.specs.List.{AllByRecursion, flat_map}
+use Rattle.std.specs.Io.KnownBytes.{Appends}
 use Rattle.crp_plan.specs.BayNames.{YardBay}
 use Rattle.crp_plan.specs.Devices.{AppendsFront, HasFailed}
 use Rattle.crp_checker.specs.declared.verdict.Verdict.{Verdict}
 use Rattle.crp_checker.specs.declared.verdict.Verdict.TheVariants as verdict
 use Rattle.crp_checker.specs.declared.refused.Refused.{Refused}
 use Rattle.crp_checker.specs.declared.refused.Refused.TheVariants as refused
-use Rattle.crp_checker.specs.Files.{FileShows, IsFileRefusal}
+use Rattle.crp_checker.specs.Files.{IsWithoutEnd, IsOtherLine, joined_lines, FileShows, IsFileRefusal}
+use Rattle.crp_checker.specs.FedFiles.{IsEndedFront}
 use Rattle.crp_commands.specs.declared.outcome.ToolFault.{ToolFault}
 use Rattle.crp_commands.specs.declared.outcome.ToolFault.TheVariants as fault
 use Rattle.crp_report.specs.Report.{bay_words}
@@ -41,25 +42,62 @@ IsCheck bytes report = (told : List (YardBay × Verdict)) × FileShows bytes tol
 abbrev pub IsCheckBefore : List ℕ → ℕ → Refused → List ℕ → Type 0
 IsCheckBefore bytes number why report = (before : List (YardBay × Verdict)) × IsFileRefusal bytes before number why × (report ≡ verdict_lines before)
 
--- the lines of the file that the source had, or of what stands before a certificate that is refused
-abbrev pub IsSomeCheck : List ℕ → List ℕ → Type 0
-IsSomeCheck bytes report = IsCheck bytes report ⊎ ((number : ℕ) × (why : Refused) × IsCheckBefore bytes number why report)
+-- the known bytes are these
+abbrev pub IsTextOf : Option (List ℕ) → List ℕ → Type 0
+IsTextOf known text = IfSome known (λ xs. text ≡ xs)
 
--- the lines before the certificate with this number were written, and nothing else
-abbrev pub WritesBefore : ℕ → CallSeen → ℕ → Refused → Type 0
-WritesBefore limit s number why =
-    (text : List ℕ) × (report : List ℕ) × IsTextWithin limit s.given text × IsCheckBefore text number why report × Appends s.held s.holds report
+-- the known bytes begin with these
+abbrev pub IsReadFrom : Option (List ℕ) → List ℕ → Type 0
+IsReadFrom known read = IfSome known (λ xs. (rest : List ℕ) × (xs ≡ read ++ rest))
 
--- what a fault tells of a check of at most `limit` bytes: a certificate that is refused, after the lines of those before it; a read or a
--- write that has failed in this call; more bytes than the limit; or want of memory, before anything was written or at a certificate, after the
--- lines of those before it
+-- no certificate ends in these bytes: they are whole lines that do not begin with `end `, and then bytes without LF
+pub record HasNotEnded (text : List ℕ) : Type 0 where
+  pub lines : List (List ℕ)
+  pub begun : List ℕ
+  pub others : AllByRecursion IsOtherLine lines
+  pub open_line : IsWithoutEnd begun
+  pub is : text ≡ joined_lines lines ++ begun
+
+-- the lines before the certificate with this number, which is refused, were written, and nothing else
+abbrev pub WritesBefore : CallSeen → ℕ → Refused → Type 0
+WritesBefore s number why =
+    (text : List ℕ) × (report : List ℕ) × IsTextOf s.given text × IsCheckBefore text number why report × Appends s.held s.holds report
+
+-- the source's bytes begin with those read, which are certificates that have ended and then the rest; the lines of these certificates were
+-- written, and nothing else
+abbrev pub WritesLines : CallSeen → List ℕ → List ℕ → Type 0
+WritesLines s read rest =
+    IsReadFrom s.given read × ((verdicts : List (YardBay × Verdict)) × IsEndedFront read verdicts rest × Appends s.held s.holds (verdict_lines verdicts))
+
+-- the lines of some certificates at the front of the source's bytes, of no more than `limit`, were written, and nothing else
+abbrev pub WritesSome : ℕ → CallSeen → Type 0
+WritesSome limit s = (read : List ℕ) × (rest : List ℕ) × (length read ≤ limit) × WritesLines s read rest
+
+-- a line was written for each certificate that has ended in these bytes, and nothing else
+abbrev pub WritesEach : CallSeen → List ℕ → Type 0
+WritesEach s read = (rest : List ℕ) × HasNotEnded rest × WritesLines s read rest
+
+-- so it was for some bytes at the front of the source's, no more than `limit`
+abbrev pub WritesEnded : ℕ → CallSeen → Type 0
+WritesEnded limit s = (read : List ℕ) × (length read ≤ limit) × WritesEach s read
+
+-- the source's bytes show this, or some bytes at their front, of no more than `limit`
+abbrev pub AreShown : ℕ → Option (List ℕ) → List (YardBay × Verdict) → Type 0
+AreShown limit given verdicts =
+    ((read : List ℕ) × (rest : List ℕ) × (length read ≤ limit) × IsReadFrom given read × IsEndedFront read verdicts rest)
+    ⊎ ((text : List ℕ) × IsTextWithin limit given text × FileShows text verdicts)
+
+-- what a fault tells of a check of at most `limit` bytes: a certificate that is refused, after the lines of those before it; a read that has
+-- failed in this call, after the lines of the certificates that had ended; a write that has failed, after a front of their lines; more bytes
+-- than the limit, after the lines of the certificates that end in the first `limit` bytes; or want of memory, after the lines of some
 abbrev pub TellsOfCheck : ℕ → CallSeen → ToolFault → Type 0
-TellsOfCheck limit s (fault.Checked number why) = (why ≢ refused.Memory) × WritesBefore limit s number why
-TellsOfCheck limit s fault.Read = Keeps s.held s.holds × HasFailed s.source_before s.source_after
+TellsOfCheck limit s (fault.Checked number why) = (why ≢ refused.Memory) × WritesBefore s number why
+TellsOfCheck limit s fault.Read = HasFailed s.source_before s.source_after × WritesEnded limit s
 TellsOfCheck limit s fault.Write = HasFailed s.sink_before s.sink_after
-    × ((text : List ℕ) × (report : List ℕ) × IsTextWithin limit s.given text × IsSomeCheck text report × AppendsFront s.held s.holds report)
-TellsOfCheck limit s fault.TooLarge = Keeps s.held s.holds × IfSome s.given (λ xs. limit < length xs)
-TellsOfCheck limit s fault.Memory = Keeps s.held s.holds ⊎ ((number : ℕ) × WritesBefore limit s number refused.Memory)
+    × ((verdicts : List (YardBay × Verdict)) × AreShown limit s.given verdicts × AppendsFront s.held s.holds (verdict_lines verdicts))
+TellsOfCheck limit s fault.TooLarge = IfSome s.given (λ xs. limit < length xs)
+    × ((read : List ℕ) × (length read ≡ limit) × WritesEach s read)
+TellsOfCheck limit s fault.Memory = WritesSome limit s
 TellsOfCheck limit s (fault.Cert f) = ⊥
 TellsOfCheck limit s (fault.Plan f) = ⊥
 TellsOfCheck limit s (fault.Run f) = ⊥

@@ -4,5 +4,6 @@ pub mod Replay
 pub mod Bound
 pub mod Prove
 pub mod Check
+pub mod Checks
 pub mod Chosen
 pub mod Performing

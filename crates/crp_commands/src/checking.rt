@@ -1,17 +1,22 @@
 //! The command `check`: from the bytes of a file of certificates to a line for each.
-ghost use Rattle.std.specs.Prelude.{◌≡◌, ◌≤◌, ◌++◌, IfOk, OnOk, MatchResult};
+ghost use Rattle.std.specs.Prelude.{◌≡◌, ◌≤◌, ◌<◌, ◌+◌, ◌^◌, ◌++◌, true, false, length, take, IfOk, IfErr, OnOk, MatchResult};
+ghost use Rattle.std.specs.Io.KnownBytes.{Appends, IsAtEnd};
 ghost use Rattle.crp_commands.specs.declared.heads.TheConstants.{MOST_BYTES};
 ghost use Rattle.crp_plan.specs.Devices.{most_interruptions};
-ghost use Rattle.crp_commands.specs.Calls.{CallSeen, failures_in, most_failures, Writes};
-ghost use Rattle.crp_commands.specs.Check.{plan_words, verdict_words, verdict_line, verdict_lines, refusal_told, IsCheck, TellsOfCheck};
+ghost use Rattle.crp_commands.specs.Calls.{CallSeen, failures_in, failures_told, most_failures, Writes};
+ghost use Rattle.crp_commands.specs.Check.{plan_words, verdict_words, verdict_line, refusal_told, IsCheck, TellsOfCheck};
+ghost use Rattle.crp_commands.specs.Checks.{TellsOfText, IsChecking, ChecksPiece, TellsOfPiece, GoesOn, StopsAt};
 
 use crate::heads::MOST_BYTES;
 use crate::outcome::ToolFault;
 use crp_cert::push_decimal;
-use crp_checker::{Refused, Verdict, check_file};
-use crp_plan::{BayName, Sink, Source, read_all, write_all};
+use crp_checker::{Fed, FileChecker, Refused, Verdict};
+use crp_plan::{BayName, Sink, Source, read_some, write_all};
 use crp_report::{Status, push_bay_words};
 use std::alloc::{AllocError, Global};
+
+// How many bytes are read at a time, at most.
+const PIECE: usize = 16_384;
 
 // Adds the relocations of a plan, if there is one.
 fn push_plan_words(text: &mut Vec<u8>, count: Option<u32>) -> Result<(), AllocError>
@@ -52,15 +57,25 @@ fn push_verdict(text: &mut Vec<u8>, bay: &BayName, verdict: Verdict) -> Result<(
     Ok(())
 }
 
-// A line for each certificate.
-fn lines_of(alloc: Global, verdicts: &[(BayName, Verdict)]) -> Result<Vec<u8>, AllocError>
-    ensures { IfOk result (λ text. text.items ≡ verdict_lines verdicts.now) }
+// Writes the line of a certificate.
+fn write_verdict<W: Sink>(
+    alloc: Global,
+    writer: &mut W,
+    bay: &BayName,
+    verdict: Verdict,
+    interruptions: &mut u32,
+) -> Result<(), ToolFault>
+    requires { interruptions.old ≤ most_interruptions }
+    ensures all { OnOk result (Appends (W.contents writer.old) (W.contents writer.new) (verdict_line (bay.now, verdict))) }
+    ensures fault { IfErr result (TellsOfText (W.contents writer.old) (W.contents writer.new) (W.failures writer.old) (W.failures writer.new) (verdict_line (bay.now, verdict))) }
+    ensures counted { MatchResult result (λ _. W.failures writer.new + interruptions.old ≤ W.failures writer.old + interruptions.new) (λ fault. W.failures writer.new + interruptions.old ≤ W.failures writer.old + interruptions.new + failures_told fault) }
+    ensures count { W.failures writer.old ≤ W.failures writer.new }
+    ensures passed { (interruptions.old ≤ interruptions.new) × (interruptions.new ≤ most_interruptions) }
 {
-    let mut text = Vec::new(alloc);
-    for told in verdicts {
-        push_verdict(&mut text, &told.0, told.1)?;
-    }
-    Ok(text)
+    let mut line = Vec::new(alloc);
+    push_verdict(&mut line, bay, verdict)?;
+    write_all(writer, &line, interruptions)?;
+    Ok(())
 }
 
 // How the refusal of a certificate is told.
@@ -73,8 +88,112 @@ fn refused_at(number: u64, refused: Refused) -> ToolFault
     }
 }
 
-/// Writes for each certificate of a source's bytes whose it is and what it shows. A refusal comes after the lines of those
-/// before it.
+// Checks a piece down to the end of a certificate, if one ends there, and writes its line. The answer is how much of the piece was read.
+fn check_some<W: Sink>(
+    alloc: Global,
+    files: &mut FileChecker,
+    number: &mut u64,
+    piece: &[u8],
+    writer: &mut W,
+    interruptions: &mut u32,
+) -> Result<usize, ToolFault>
+    requires reading { IsChecking (W.contents writer.old) files.old number.old }
+    requires some { 0 < length piece.now }
+    requires room { number.old + length piece.now < 2 ^ 64 }
+    requires passed { interruptions.old ≤ most_interruptions }
+    ensures bound { IfOk result (λ n. (1 ≤ n) × (n ≤ length piece.now) × (number.new ≤ number.old + n)) }
+    ensures on { IfOk result (λ n. ChecksPiece (take n piece.now) (W.contents writer.old) files.old number.old (W.contents writer.new) files.new number.new) }
+    ensures fault { IfErr result (TellsOfPiece piece.now (W.contents writer.old) files.old number.old (W.contents writer.new) (W.failures writer.old) (W.failures writer.new)) }
+    ensures counted { MatchResult result (λ _. W.failures writer.new + interruptions.old ≤ W.failures writer.old + interruptions.new) (λ fault. W.failures writer.new + interruptions.old ≤ W.failures writer.old + interruptions.new + failures_told fault) }
+    ensures count { W.failures writer.old ≤ W.failures writer.new }
+    ensures passed { (interruptions.old ≤ interruptions.new) × (interruptions.new ≤ most_interruptions) }
+{
+    match files.feed(piece) {
+        Ok(Fed::Open) => Ok(piece.len()),
+        Ok(
+            Fed::Ended {
+                taken,
+                bay,
+                verdict,
+            },
+        ) => {
+            write_verdict(alloc, writer, &bay, verdict, interruptions)?;
+            *number += 1;
+            Ok(taken)
+        }
+        Err(refused) => Err(refused_at(*number, refused)),
+    }
+}
+
+// Checks a piece, and writes the line of each certificate that ends in it.
+fn check_piece<W: Sink>(
+    alloc: Global,
+    files: &mut FileChecker,
+    number: &mut u64,
+    piece: &[u8],
+    writer: &mut W,
+    interruptions: &mut u32,
+) -> Result<(), ToolFault>
+    requires reading { IsChecking (W.contents writer.old) files.old number.old }
+    requires room { number.old + length piece.now < 2 ^ 64 }
+    requires passed { interruptions.old ≤ most_interruptions }
+    ensures bound { OnOk result (number.new ≤ number.old + length piece.now) }
+    ensures on { OnOk result (ChecksPiece piece.now (W.contents writer.old) files.old number.old (W.contents writer.new) files.new number.new) }
+    ensures fault { IfErr result (TellsOfPiece piece.now (W.contents writer.old) files.old number.old (W.contents writer.new) (W.failures writer.old) (W.failures writer.new)) }
+    ensures counted { MatchResult result (λ _. W.failures writer.new + interruptions.old ≤ W.failures writer.old + interruptions.new) (λ fault. W.failures writer.new + interruptions.old ≤ W.failures writer.old + interruptions.new + failures_told fault) }
+    ensures count { W.failures writer.old ≤ W.failures writer.new }
+    ensures passed { (interruptions.old ≤ interruptions.new) × (interruptions.new ≤ most_interruptions) }
+{
+    let mut rest = piece;
+    while !rest.is_empty() {
+        let n = check_some(alloc, files, number, rest, writer, interruptions)?;
+        rest = &rest[n..];
+    }
+    Ok(())
+}
+
+// Reads a piece and checks what of it is within the limit. The answer says whether more may come.
+fn check_next<R: Source, W: Sink>(
+    alloc: Global,
+    files: &mut FileChecker,
+    number: &mut u64,
+    left: &mut usize,
+    reader: &mut R,
+    writer: &mut W,
+    interruptions: &mut u32,
+) -> Result<bool, ToolFault>
+    requires reading { IsChecking (W.contents writer.old) files.old number.old }
+    requires room { number.old + left.old < 2 ^ 64 }
+    requires passed { interruptions.old ≤ most_interruptions }
+    ensures nearer { IfOk result (λ more. more ≡ true → left.new < left.old) }
+    ensures end { IfOk result (λ more. more ≡ false → IsAtEnd (R.remaining reader.new)) }
+    ensures room { OnOk result (number.new + left.new ≤ number.old + left.old) }
+    ensures on { OnOk result (GoesOn
+        (record { remaining = R.remaining reader.old; holds = W.contents writer.old; files = files.old; number = number.old; left = left.old })
+        (record { remaining = R.remaining reader.new; holds = W.contents writer.new; files = files.new; number = number.new; left = left.new })) }
+    ensures fault { IfErr result (StopsAt
+        (record { remaining = R.remaining reader.old; holds = W.contents writer.old; files = files.old; number = number.old; left = left.old })
+        (W.contents writer.new) (R.failures reader.old) (R.failures reader.new) (W.failures writer.old) (W.failures writer.new)) }
+    ensures counted { MatchResult result (λ _. R.failures reader.new + W.failures writer.new + interruptions.old ≤ R.failures reader.old + W.failures writer.old + interruptions.new) (λ fault. R.failures reader.new + W.failures writer.new + interruptions.old ≤ R.failures reader.old + W.failures writer.old + interruptions.new + failures_told fault) }
+    ensures count { (R.failures reader.old ≤ R.failures reader.new) × (W.failures writer.old ≤ W.failures writer.new) }
+    ensures passed { (interruptions.old ≤ interruptions.new) × (interruptions.new ≤ most_interruptions) }
+{
+    let mut piece = [0u8; PIECE];
+    let n = read_some(reader, &mut piece, interruptions)?;
+    if n == 0 {
+        return Ok(false);
+    }
+    let fed = n.min(*left);
+    check_piece(alloc, files, number, &piece[..fed], writer, interruptions)?;
+    if fed < n {
+        return Err(ToolFault::TooLarge);
+    }
+    *left -= n;
+    Ok(true)
+}
+
+/// Writes for each certificate of a source's bytes whose it is and what it shows, as soon as it has ended. A fault comes after
+/// the lines of the certificates that ended before.
 pub fn check<R: Source, W: Sink>(
     alloc: Global,
     reader: &mut R,
@@ -90,18 +209,25 @@ pub fn check<R: Source, W: Sink>(
       sink_after = W.failures writer.new;
     } in MatchResult result (λ status. ((status ≡ Status.Decided) × Writes MOST_BYTES IsCheck seen) × (failures_in seen ≤ most_interruptions)) (λ fault. TellsOfCheck MOST_BYTES seen fault × (failures_in seen ≤ most_failures fault)) }
 {
+    let mut files = FileChecker::new(alloc);
+    let mut number = 1;
+    let mut left = MOST_BYTES;
     let mut interruptions = 0;
-    let bytes = read_all(alloc, reader, MOST_BYTES, &mut interruptions)?;
-    match check_file(alloc, &bytes) {
-        Ok(verdicts) => {
-            let text = lines_of(alloc, verdicts.as_slice())?;
-            write_all(writer, &text, &mut interruptions)?;
+    while check_next(
+        alloc,
+        &mut files,
+        &mut number,
+        &mut left,
+        reader,
+        writer,
+        &mut interruptions,
+    )? {}
+    match files.finish() {
+        Ok(None) => Ok(Status::Decided),
+        Ok(Some((bay, verdict))) => {
+            write_verdict(alloc, writer, &bay, verdict, &mut interruptions)?;
             Ok(Status::Decided)
         }
-        Err(refusal) => {
-            let text = lines_of(alloc, refusal.before.as_slice())?;
-            write_all(writer, &text, &mut interruptions)?;
-            Err(refused_at(refusal.number, refusal.refused))
-        }
+        Err(refused) => Err(refused_at(number, refused)),
     }
 }

@@ -5,7 +5,7 @@ ghost use Rattle.crp_commands.specs.Calls.{exit_code};
 
 use crp_cert::CertFault;
 use crp_checker::Refused;
-use crp_plan::{PlanFault, ReadFault, WriteFailed};
+use crp_plan::{PlanFault, ReadFailed, ReadFault, WriteFailed};
 use crp_report::{Fault, Status};
 use std::alloc::AllocError;
 use thiserror::Error;
@@ -60,6 +60,16 @@ impl From<ReadFault> for ToolFault {
             ReadFault::TooLarge => ToolFault::TooLarge,
             ReadFault::Memory => ToolFault::Memory,
         }
+    }
+}
+
+impl From<ReadFailed> for ToolFault {
+    ghost use Rattle.crp_commands.specs.declared.outcome.ToolFault.TheVariants.{Read};
+
+    ghost from_gives = { λ _ fault. fault ≡ Read };
+
+    fn from(_error: ReadFailed) -> ToolFault {
+        ToolFault::Read
     }
 }
 

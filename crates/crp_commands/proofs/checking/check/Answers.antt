@@ -1,50 +1,78 @@
-use Rattle.std.proofs.Common.{rules, ◌≡◌, ◌≤◌, length, arith, ap, inr, ◌∙◌}
+use Rattle.std.proofs.Common.{rules, ◌∷◌, [], ◌++◌, refl, subst, arith}
 use Rattle.std.proofs.lemmas.Result.{err_from_is_err_and}
-use Rattle.crp_commands.specs.Calls.{CallSeen, IsTextWithin}
+use Rattle.crp_plan.specs.BayNames.{YardBay}
+use Rattle.crp_checker.specs.declared.verdict.Verdict.{Verdict}
+use Rattle.crp_checker.specs.FedFiles.{IsLast}
 use Rattle.crp_commands.specs.Check.{verdict_lines}
-use Rattle.crp_commands.proofs.Checked.{refusal_tells, given_as}
 use Rattle.crp_commands.specs.declared.heads.TheConstants.{MOST_BYTES}
+use Rattle.crp_commands.proofs.Checked.{seen_by, earlier_check, all_checked, appends_line, last_stops, last_refused}
 use Rattle.crp_commands.proofs.checking.check.Goals as goal
 
-pub returns-in_err-write_all-in-Err : goal.returns-in_err-write_all-in-Err
-returns-in_err-write_all-in-Err g c =
-    let p = err_from_is_err_and c.from_residual-in_err-write_all-in-Err.result c.from_residual-in_err-write_all-in-Err.ensures.1 in
-    let within : length c.in_ok-bytes.bytes.items ≤ MOST_BYTES = omega (arith, c.in_ok-bytes.ensures.within) in
-    let given : IsTextWithin MOST_BYTES (g.R.Source.remaining c.args.reader.now) c.deref.result.now =
-    given_as MOST_BYTES _ c.in_ok-bytes.bytes.items c.deref.result.now c.deref.ensures.value within c.in_ok-bytes.ensures.all in
-    let lines : c.deref-in-Err.result.now ≡ verdict_lines c.in-Err.refusal.before =
-    c.deref-in-Err.ensures.value ∙ c.in_ok-text-in-Err.ensures ∙ ap verdict_lines c.as_slice-in-Err.ensures in
-    rw (p.1, p.2) (
-      (
-        c.in_err-write_all-in-Err.ensures.failed,
-        (
-          c.deref.result.now,
-          c.deref-in-Err.result.now,
-          given,
-          inr (c.in-Err.refusal.number, c.in-Err.refusal.refused, (c.in-Err.refusal.before, c.in-Err.ensures.refused, lines)),
-          c.in_err-write_all-in-Err.ensures.front,
-        ),
-      ),
-      search rules,
-    )
+pub returns-in_err-check_next : goal.returns-in_err-check_next
+returns-in_err-check_next g c =
+    let p = err_from_is_err_and c.from_residual.result c.from_residual.ensures.1 in
+    let inv = c.loop-files.invariant in
+    let step = c.in_err-check_next.ensures in
+    let given = g.R.Source.remaining c.args.reader.now in
+    let held = g.W.Sink.contents c.args.writer.now in
+    rw (p.1, p.2)
+    ((earlier_check MOST_BYTES given held _ _ _ _ _ _ _ c.in_err-check_next.field-0.0 inv.source step.count.0 inv.sink step.count.1 (step.fault given held MOST_BYTES inv.stands)), search rules)
 
-pub returns : goal.returns
-returns g c =
-    let within : length c.in_ok-bytes.bytes.items ≤ MOST_BYTES = omega (arith, c.in_ok-bytes.ensures.within) in
-    let given : IsTextWithin MOST_BYTES (g.R.Source.remaining c.args.reader.now) c.deref.result.now =
-    given_as MOST_BYTES _ c.in_ok-bytes.bytes.items c.deref.result.now c.deref.ensures.value within c.in_ok-bytes.ensures.all in
-    let lines : c.deref-in-Err.result.now ≡ verdict_lines c.in-Err.refusal.before =
-    c.deref-in-Err.ensures.value ∙ c.in_ok-text-in-Err.ensures ∙ ap verdict_lines c.as_slice-in-Err.ensures in
-    let seen : CallSeen = record {
-      given = g.R.Source.remaining c.args.reader.now;
-      held = g.W.Sink.contents c.args.writer.now;
-      holds = g.W.Sink.contents c.write_all-in-Err.new.writer;
-      source_before = g.R.Source.failures c.args.reader.now;
-      source_after = g.R.Source.failures c.read_all.new.reader;
-      sink_before = g.W.Sink.failures c.args.writer.now;
-      sink_after = g.W.Sink.failures c.write_all-in-Err.new.writer;
-    } in (
-      refusal_tells MOST_BYTES seen c.in-Err.refusal.number c.in-Err.refusal.refused c.refused_at.result c.refused_at.ensures
-          (c.deref.result.now, c.deref-in-Err.result.now, given, (c.in-Err.refusal.before, c.in-Err.ensures.refused, lines), c.in_ok-write_all-in-Err.ensures.all),
-      search rules,
-    )
+pub returns-in_err-write_verdict-in-Ok-Some : goal.returns-in_err-write_verdict-in-Ok-Some
+returns-in_err-write_verdict-in-Ok-Some g c =
+    let p = err_from_is_err_and c.from_residual-in_err-write_verdict-in-Ok-Some.result c.from_residual-in_err-write_verdict-in-Ok-Some.ensures.1 in
+    let inv = c.loop-files.invariant in
+    let step = c.in_ok-check_next.ensures in
+    let told : YardBay × Verdict = (c.in-Ok-Some.bay, c.in-Ok-Some.verdict) in
+    let line = c.in_err-write_verdict-in-Ok-Some in
+    let given = g.R.Source.remaining c.args.reader.now in
+    let held = g.W.Sink.contents c.args.writer.now in
+    let holds = g.W.Sink.contents c.check_next.new.writer in
+    let source = g.R.Source.failures c.args.reader.now in
+    let after = g.R.Source.failures c.check_next.new.reader in
+    let sink = g.W.Sink.failures c.args.writer.now in
+    let first = g.W.Sink.failures c.check_next.new.writer in
+    let last = g.W.Sink.failures c.write_verdict.new.writer in
+    let all = all_checked given held MOST_BYTES _ (step.on given held MOST_BYTES inv.stands) (step.end c.if-branch.false) in
+    let shows = subst (IsLast all.file all.verdicts) c.in-Ok-Some.field-0-is (c.in-Ok-Some.ensures.last all.file all.verdicts all.checked.read) in
+    let seen = seen_by given held (g.W.Sink.contents c.write_verdict.new.writer) source after first last in
+    let tells = last_stops MOST_BYTES seen holds all.file all.verdicts told c.check_next.new.files c.check_next.new.number line.field-0.0 all.text all.read all.checked shows line.ensures.fault in
+    rw (p.1, p.2) ((earlier_check MOST_BYTES given held _ source source after sink first last line.field-0.0 (omega arith) (omega (arith, inv.source, step.count)) (omega (arith, inv.sink, step.count)) line.ensures.count tells), search rules)
+
+pub returns-in-Ok-None : goal.returns-in-Ok-None
+returns-in-Ok-None g c =
+    let inv = c.loop-files.invariant in
+    let step = c.in_ok-check_next.ensures in
+    let given = g.R.Source.remaining c.args.reader.now in
+    let held = g.W.Sink.contents c.args.writer.now in
+    let all = all_checked given held MOST_BYTES _ (step.on given held MOST_BYTES inv.stands) (step.end c.if-branch.false) in
+    let shows = subst (IsLast all.file all.verdicts) c.in-Ok-None.field-0-is (c.in-Ok-None.ensures.last all.file all.verdicts all.checked.read) in
+    ((refl, (all.file, verdict_lines all.verdicts, all.text, (all.verdicts, shows, refl), all.checked.written)), search rules)
+
+pub returns-in_ok-write_verdict-in-Ok-Some : goal.returns-in_ok-write_verdict-in-Ok-Some
+returns-in_ok-write_verdict-in-Ok-Some g c =
+    let inv = c.loop-files.invariant in
+    let step = c.in_ok-check_next.ensures in
+    let told : YardBay × Verdict = (c.in-Ok-Some.bay, c.in-Ok-Some.verdict) in
+    let given = g.R.Source.remaining c.args.reader.now in
+    let held = g.W.Sink.contents c.args.writer.now in
+    let all = all_checked given held MOST_BYTES _ (step.on given held MOST_BYTES inv.stands) (step.end c.if-branch.false) in
+    let shows = subst (IsLast all.file all.verdicts) c.in-Ok-Some.field-0-is (c.in-Ok-Some.ensures.last all.file all.verdicts all.checked.read) in
+    let lines = verdict_lines (all.verdicts ++ told ∷ []) in
+    let written = appends_line held _ _ all.verdicts told all.checked.written c.in_ok-write_verdict-in-Ok-Some.ensures.all in
+    ((refl, (all.file, lines, all.text, (all.verdicts ++ told ∷ [], shows, refl), written)), search rules)
+
+pub returns-in-Err : goal.returns-in-Err
+returns-in-Err g c =
+    let inv = c.loop-files.invariant in
+    let step = c.in_ok-check_next.ensures in
+    let given = g.R.Source.remaining c.args.reader.now in
+    let held = g.W.Sink.contents c.args.writer.now in
+    let holds = g.W.Sink.contents c.check_next.new.writer in
+    let all = all_checked given held MOST_BYTES _ (step.on given held MOST_BYTES inv.stands) (step.end c.if-branch.false) in
+    let source = g.R.Source.failures c.args.reader.now in
+    let after = g.R.Source.failures c.check_next.new.reader in
+    let sink = g.W.Sink.failures c.args.writer.now in
+    let last = g.W.Sink.failures c.check_next.new.writer in
+    let seen = seen_by given held holds source after sink last in
+    (last_refused MOST_BYTES seen all.file all.verdicts c.check_next.new.files c.check_next.new.number c.in-Err.refused c.refused_at.result all.text all.read all.checked c.refused_at.ensures c.in-Err.ensures.refused, search rules)
