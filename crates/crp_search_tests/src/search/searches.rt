@@ -77,7 +77,12 @@ fn part_at(
     search(alloc, problem, name, limit, split)
 }
 
-pub(super) fn tree_is(rt: &impl Abort, alloc: Global, part: &Part, symbols: &str) -> Result<(), AllocError> {
+pub(super) fn tree_is(
+    rt: &impl Abort,
+    alloc: Global,
+    part: &Part,
+    symbols: &str,
+) -> Result<(), AllocError> {
     let mut text = String::new(alloc);
     spell(part.tree(), &mut text)?;
     assert_same_at(rt, &text.as_str(), &symbols, &"the tree");
