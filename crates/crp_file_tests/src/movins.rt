@@ -6,6 +6,7 @@ use crate::compare::{assert_same, assert_same_at};
 use crp_movins::{MovinsFault, Orders, Slot};
 use edi_text::EdiFault;
 use std::alloc::{AllocError, Global};
+use std::process::Abort;
 use std::test::Fail;
 
 const HEADER: &[u8] = b"UNB+UNOA:1+YARD+SHIP+250101:0800+1'\n";
@@ -85,33 +86,69 @@ fn counts_of(alloc: Global, text: &[u8], code: &[u8]) -> Result<(usize, usize), 
     Ok((orders.list().len(), orders.vacant()))
 }
 
-#[test]
-fn six_containers_by_place(rt: HostRuntime) -> Result<(), Fail> {
-    let alloc = rt.alloc();
-    let text = six_load_orders(alloc)?;
-    let orders = orders_of(alloc, &text, b"LOA")??;
-    assert_same(&rt, &orders.vacant(), &0);
-    assert_same(&rt, &orders.list().len(), &6);
-    let want: [(&[u8], u8); 6] = [
-        (b"C1", 82),
-        (b"C2", 84),
-        (b"C3", 86),
-        (b"C4", 88),
-        (b"C5", 90),
-        (b"C6", 92),
-    ];
-    for (order, (container, tier)) in orders.list().iter().zip(want) {
-        assert_same(&rt, &order.container.bytes(), &container);
+/// The containers of the example, each with the tier of its slot in bay 1, row 1.
+const SIX: [(&[u8], u8); 6] = [
+    (b"C1", 82),
+    (b"C2", 84),
+    (b"C3", 86),
+    (b"C4", 88),
+    (b"C5", 90),
+    (b"C6", 92),
+];
+
+/// The text has these orders and no others, and no vacant group.
+fn assert_orders(
+    rt: &(impl Abort + AllocGlobal),
+    text: &[u8],
+    want: &[(&[u8], u8)],
+) -> Result<(), Fail> {
+    let orders = orders_of(rt.alloc(), text, b"LOA")??;
+    assert_same(rt, &orders.vacant(), &0);
+    let list = orders.into_list();
+    assert_same(rt, &list.len(), &want.len());
+    for (order, (container, tier)) in list.iter().zip(want) {
+        assert_same(rt, &order.container.bytes(), container);
         let slot = Slot {
             bay: 1,
             row: 1,
-            tier,
+            tier: *tier,
         };
-        assert_same(&rt, &order.slot, &slot);
+        assert_same(rt, &order.slot, &slot);
     }
-    let list = orders.into_list();
-    assert_same(&rt, &list.len(), &6);
     Ok(())
+}
+
+#[test]
+fn six_containers_by_place(rt: HostRuntime) -> Result<(), Fail> {
+    let text = six_load_orders(rt.alloc())?;
+    assert_orders(&rt, &text, &SIX)
+}
+
+#[test]
+fn a_slot_of_six_digits_is_the_same_slot(rt: HostRuntime) -> Result<(), Fail> {
+    let six_digits = b"LOC+147+010182'\n";
+    let body = [
+        MESSAGE, BEGIN, LOADING, six_digits, FIVE, LAST, TRAILER, END,
+    ];
+    let text = with_body(rt.alloc(), &body)?;
+    assert_orders(&rt, &text, &SIX)
+}
+
+#[test]
+fn another_handling_code_ends_the_loading(rt: HostRuntime) -> Result<(), Fail> {
+    let body = [
+        MESSAGE,
+        BEGIN,
+        LOADING,
+        FIRST,
+        FIVE,
+        b"HAN+DIS'\n",
+        LAST,
+        b"UNT+17+1'\n",
+        END,
+    ];
+    let text = with_body(rt.alloc(), &body)?;
+    assert_orders(&rt, &text, &SIX[..5])
 }
 
 #[test]
@@ -200,7 +237,7 @@ fn line_ends_do_not_matter(rt: HostRuntime) -> Result<(), Fail> {
 #[test]
 fn groups_open_and_close(rt: HostRuntime) -> Result<(), Fail> {
     let alloc = rt.alloc();
-    let cases: [(&[&[u8]], (usize, usize)); 14] = [
+    let cases: [(&[&[u8]], (usize, usize)); 13] = [
         // A group without a container is vacant, and one with a container is not.
         (
             &[
@@ -227,21 +264,6 @@ fn groups_open_and_close(rt: HostRuntime) -> Result<(), Fail> {
                 END,
             ],
             (7, 0),
-        ),
-        // Another handling code ends the loading.
-        (
-            &[
-                MESSAGE,
-                BEGIN,
-                LOADING,
-                FIRST,
-                FIVE,
-                b"HAN+DIS'",
-                LAST,
-                b"UNT+17+1'",
-                END,
-            ],
-            (5, 0),
         ),
         // HAN ends a group, though it repeats the code.
         (

@@ -1,6 +1,7 @@
 //! Certificates that are checked, and those that are made.
 use crate::calls::{check, exit_of, prove};
-use crate::compare::assert_same;
+use crate::compare::{assert_same, assert_same_at};
+use crate::devices::Slow;
 use crp_cert::CertFault;
 use crp_checker::Refused;
 use crp_commands::ToolFault;
@@ -8,12 +9,18 @@ use crp_plan::{PlanFault, Received};
 use crp_report::Status;
 use crp_solve::Settings;
 use std::alloc::Global;
+use std::process::Abort;
 use std::sync::Wait;
 use std::test::Fail;
 use std::thread::Threads;
 
 const SIX_CONTAINERS: &[u8] =
     b"CRP-CERT 1\nbay A 1\nsize 3 3 6 6\nrow 1 5 4\nrow 6\nrow 3 2\nat least 3\nplan 2 2 1\npart /: XLB\nend 1\n";
+
+// Where the part line of this certificate begins, and where its last line does.
+const PART_LINE: usize = 78;
+
+const END_LINE: usize = 90;
 
 // What `check` writes, or its fault after what it wrote.
 fn checked(alloc: Global, mut text: &[u8]) -> (Vec<u8>, Result<Status, ToolFault>) {
@@ -176,6 +183,57 @@ fn a_refusal_comes_after_the_lines_before_it(rt: HostRuntime) -> Result<(), Fail
     Ok(())
 }
 
+// What `check` writes where its source fails after these bytes, and its answer.
+fn checked_until_failed(alloc: Global, rest: &[u8]) -> (Vec<u8>, Result<Status, ToolFault>) {
+    let mut sink = Received::new(alloc);
+    let mut source = Slow {
+        interrupted: 0,
+        rest,
+        fails: true,
+        failed: 0,
+    };
+    let answer = check(alloc, &mut source, &mut sink);
+    (sink.bytes, answer)
+}
+
+// So many whole certificates, and the front of one more.
+fn some_certificates(alloc: Global, whole: usize, front: usize) -> Result<Vec<u8>, Fail> {
+    let mut text = Vec::new(alloc);
+    for _ in 0..whole {
+        text.extend_from_slice(SIX_CONTAINERS)?;
+    }
+    text.extend_from_slice(&SIX_CONTAINERS[..front.min(SIX_CONTAINERS.len())])?;
+    Ok(text)
+}
+
+// However much of the next certificate comes before the read fails, these lines are written for the whole ones.
+fn assert_lines_before(
+    rt: &(impl Abort + AllocGlobal),
+    whole: usize,
+    lines: &[u8],
+) -> Result<(), Fail> {
+    for front in 0..SIX_CONTAINERS.len() {
+        let text = some_certificates(rt.alloc(), whole, front)?;
+        let (written, answer) = checked_until_failed(rt.alloc(), &text);
+        assert_same_at(rt, &answer, &Err(ToolFault::Read), &front);
+        assert_same_at(rt, &written.as_slice(), &lines, &front);
+    }
+    Ok(())
+}
+
+#[test]
+fn a_read_fault_comes_after_the_lines_before_it(rt: HostRuntime) -> Result<(), Fail> {
+    let cases: [(usize, &[u8]); 3] = [
+        (0, b""),
+        (1, b"bay A 1: optimal 3\n"),
+        (2, b"bay A 1: optimal 3\nbay A 1: optimal 3\n"),
+    ];
+    for (whole, lines) in cases {
+        assert_lines_before(&rt, whole, lines)?;
+    }
+    Ok(())
+}
+
 // The number of the line in which a front of this length ends.
 fn line_at(length: usize) -> u32 {
     let mut line: u32 = 1;
@@ -325,5 +383,38 @@ fn a_plan_fault_is_told_by_its_step(rt: HostRuntime) -> Result<(), Fail> {
             })
         )
     );
+    Ok(())
+}
+
+// The fault of the certificate with another byte at this place of its last two lines.
+fn changed_fault(place: usize) -> CertFault {
+    let word = PART_LINE + b"part ".len();
+    let symbols = PART_LINE + b"part /: ".len();
+    if place < word {
+        CertFault::End { line: 9 }
+    } else if place < symbols {
+        CertFault::Part { line: 9 }
+    } else if place < END_LINE {
+        CertFault::Symbol { line: 9 }
+    } else {
+        CertFault::End { line: 10 }
+    }
+}
+
+#[test]
+fn each_byte_of_the_last_lines_changed(rt: HostRuntime) -> Result<(), Fail> {
+    for place in PART_LINE..SIX_CONTAINERS.len() {
+        for byte in [0x00, 0x27, 0x2c, 0xff] {
+            let mut text = SIX_CONTAINERS.to_vec(rt.alloc())?;
+            text[place] = byte;
+            let (written, answer) = checked(rt.alloc(), text.as_slice());
+            let refused = ToolFault::Checked {
+                number: 1,
+                refused: Refused::Cert(changed_fault(place)),
+            };
+            assert_same_at(&rt, &answer, &Err(refused), &(place, byte));
+            assert!(rt; written.is_empty());
+        }
+    }
     Ok(())
 }

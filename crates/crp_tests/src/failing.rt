@@ -1,12 +1,13 @@
 //! Commands over devices that fail, are slow, or never end.
 ghost use Rattle.std.specs.Prelude.{Some, None};
 
-use crate::calls::replay;
+use crate::calls::{bound, prove, replay};
 use crate::compare::assert_same;
-use crate::devices::{Slow, Small};
+use crate::devices::{Endless, Slow, Small};
 use crp_commands::ToolFault;
 use crp_plan::{Failure, Received, Sink, Source};
 use crp_report::Status;
+use crp_solve::Settings;
 use std::test::Fail;
 
 const TWO_CONTAINERS: &[u8] =
@@ -60,4 +61,20 @@ fn sinks_that_take_a_byte_a_call(rt: HostRuntime) {
             assert_same(&rt, &sink.bytes.as_slice(), &TWO_CONTAINERS_REPLAYED);
         }
     }
+}
+
+#[test]
+fn heads_that_never_end(rt: HostRuntime) -> Result<(), Fail> {
+    let mut sink = Received::new(rt.alloc());
+    let settings = Settings::new(1, 0, 0)?;
+    let answers = [
+        replay(rt.alloc(), &mut Endless, &mut sink),
+        bound(rt.alloc(), &mut Endless, &mut sink),
+        prove(&rt, rt.alloc(), &mut Endless, &mut sink, settings),
+    ];
+    for answer in answers {
+        assert_same(&rt, &answer, &Err(ToolFault::TooLarge));
+        assert!(rt; sink.bytes.is_empty());
+    }
+    Ok(())
 }

@@ -1,13 +1,15 @@
 //! Jobs over real files: which file is which, and when each is opened.
-use crate::compare::assert_same;
+use crate::compare::{assert_same, assert_same_at};
 use crate::two_bays::{
     Made, THREE_BAYS_DECIDED, THREE_BAYS_VERDICTS, message_of_three_bays, yard_of_three_bays,
 };
+use crp_cert::CertFault;
 use crp_commands::{ToolFault, run_job};
 use crp_plan::Received;
 use crp_report::{Fault, Input, Output, Status};
 use crp_words::job;
 use crp_yard::YardFault;
+use edi_text::EdiFault;
 use std::fs;
 use std::process::Abort;
 use std::sync::Wait;
@@ -189,5 +191,39 @@ fn a_dash_is_the_standard_input(rt: HostRuntime) -> Result<(), Fail> {
     let (answer, report) = run_words(&rt, &rt, &["replay", "-"])?;
     assert!(rt; matches!(answer, Err(ToolFault::Cert(_))));
     assert!(rt; report.is_empty());
+    Ok(())
+}
+
+#[test]
+fn empty_files_and_directories(rt: HostRuntime) -> Result<(), Fail> {
+    let (empty, list) = ("daily-empty", "daily-list.csv");
+    fs::write(&rt, empty, "")?;
+    fs::write(&rt, list, "block,bay,row,tier,container\n")?;
+    let no_head = ToolFault::Cert(CertFault::Opening { line: 1 });
+    let no_list = Fault::Yard(YardFault::Header { record: 1 });
+    let no_message = Fault::Interchange(EdiFault::NoSegment { offset: 0 });
+    let cases: [(&[&str], Result<Status, ToolFault>); 8] = [
+        (&["replay", empty], Err(no_head)),
+        (&["check", empty], Ok(Status::Decided)),
+        (&["solve", empty, empty], Err(ToolFault::Run(no_list))),
+        (&["solve", list, empty], Err(ToolFault::Run(no_message))),
+        (&["replay", "."], Err(ToolFault::Read)),
+        (&["check", "."], Err(ToolFault::Read)),
+        (
+            &["solve", ".", empty],
+            Err(ToolFault::Run(Fault::Read(Input::Yard))),
+        ),
+        (
+            &["solve", list, "."],
+            Err(ToolFault::Run(Fault::Read(Input::Movins))),
+        ),
+    ];
+    for (words, ended) in cases {
+        let (answer, report) = run_words(&rt, &rt, words)?;
+        assert_same_at(&rt, &answer, &ended, &words);
+        assert!(rt; report.is_empty());
+    }
+    fs::remove_file(&rt, empty)?;
+    fs::remove_file(&rt, list)?;
     Ok(())
 }
