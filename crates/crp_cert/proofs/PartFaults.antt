@@ -12,7 +12,7 @@ use Rattle.crp_tree.specs.Names.{Precedes, name_text}
 use Rattle.crp_tree.specs.Claims.{Part, names}
 use Rattle.crp_cert.specs.declared.head.Head.{Head}
 use Rattle.crp_cert.specs.declared.fault.CertFault.{CertFault}
-use Rattle.crp_cert.specs.Text.{head_text, IsHead}
+use Rattle.crp_cert.specs.Text.{head_text, first_part, IsHead}
 use Rattle.crp_cert.specs.Script.{symbols_of, part_line, end_line, IsPartLine}
 use Rattle.crp_cert.specs.ScriptFaults.{BeginsWithPart, ComesAfter, BeginsWithParts, IsLineFault, GoesOnBehindTree}
 use Rattle.crp_cert.specs.Reading.{◌>>=◌, tag_at, newline_at}
@@ -133,7 +133,7 @@ same_line p parts parts' n n' bytes bytes' fault e f g is =
 
 -- a head and parts behind it
 pub tells_parts : (bytes : List ℕ) (head : Head) (behind : List ℕ) (parts : List Part) (line : ℕ) (rest : List ℕ) → IsHead head → bytes ≡ head_text head ++ behind → AreParts head.problem behind parts rest →
-    line ≡ 6 + length head.problem.stacks + length parts → BeginsWithParts bytes head parts line rest
+    line ≡ first_part head + length parts → BeginsWithParts bytes head parts line rest
 tells_parts bytes head behind parts line rest is text are n = record {
   is_head = is;
   each_part = are.each_part;

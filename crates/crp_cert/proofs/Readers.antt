@@ -1,15 +1,17 @@
 -- Readers of a line: what is read is what the line says, and the line is read again.
 use Rattle.std.proofs.Common.{◌≡◌, ℕ, ◌≤◌, Bool, true, cond, List, [], ◌∷◌, ◌++◌, length, Option, Some, None, refl, sym, ap, ◌∙◌, nat_le, ◌&&◌, subst}
-use Rattle.std.specs.Prelude.{IfSome}
+use Rattle.std.specs.Prelude.{IfSome, ⊤}
 use Rattle.std.specs.List.{list_all, AllByRecursion}
 use Rattle.std.proofs.lemmas.Bool.{and_parts, and_from, leb-true, le-leb}
 use Rattle.std.proofs.lemmas.Option.{none-some, some_pair_parts}
 use Rattle.std.proofs.lemmas.List.Elements.{recursion_from_All, All-from_recursion}
 use Rattle.crp_plan.specs.BayNames.{YardBay, IsYardBay}
-use Rattle.crp_cert.specs.Text.{bay_line, size_line, claim_line, plan_line, IsSize, AreRows}
+use Rattle.crp_cert.specs.declared.version.Version.{Version}
+use Rattle.crp_cert.specs.declared.version.Version.TheVariants.{One, Two}
+use Rattle.crp_cert.specs.Text.{title_line, bay_line, size_line, claim_line, plan_line, IsSize, AreRows}
 use Rattle.crp_cert.specs.Faults.{BeginsWith}
-use Rattle.crp_cert.specs.Reading.{◌>>=◌, name_at, size_at, claim_at, plan_at}
-use Rattle.crp_cert.proofs.Numbers.{bind_some, if_some}
+use Rattle.crp_cert.specs.Reading.{◌>>=◌, tag_at, or_else, title_at, name_at, size_at, claim_at, plan_at}
+use Rattle.crp_cert.proofs.Numbers.{bind_some, if_some, tag_takes, tag_again}
 use Rattle.crp_cert.proofs.Lines.{name_takes, name_again, size_takes, size_again, claim_takes, claim_again, plan_takes, plan_again, plan_low}
 
 -- a reader of the lines of what fits
@@ -28,6 +30,10 @@ none_read {A} {fits} {line} {at} reads bytes nothing = by_cases (at bytes) refl
     by_cases : (o : Option (A × List ℕ)) → at bytes ≡ o → at bytes ≡ None
     by_cases None e = e
     by_cases (Some x) e = let t = reads.takes bytes x.0 x.1 e in absurd (nothing (x.0, t.0, (x.1, t.1)))
+
+-- bytes begin with one line of what fits at most
+pub once : {A : Type 0} {fits : A → Type 0} {line : A → List ℕ} {at : List ℕ → Option (A × List ℕ)} → IsReader fits line at → (a b : A) (x y : List ℕ) → fits a → fits b → line a ++ x ≡ line b ++ y → (a ≡ b) × (x ≡ y)
+once {at = at} reads a b x y is-a is-b e = some_pair_parts a b x y (sym (reads.again a x is-a) ∙ ap at e ∙ reads.again b y is-b)
 
 -- a test of each element
 pub all_to : {X : Type 0} (P : X → Type 0) (p : X → Bool) → ((x : X) → p x ≡ true → P x) → (xs : List X) → list_all p xs ≡ true → AllByRecursion P xs
@@ -97,6 +103,34 @@ bay_reader = record { takes = takes; again = again }
 
     again : (name : YardBay) (rest : List ℕ) → IsYardBay name → bay_at (bay_line name ++ rest) ≡ Some (name, rest)
     again name rest is = ap (λ o. o >>= kept_name) (name_again name rest is) ∙ ap (λ (b : Bool). cond b (Some (name, rest)) None) (named_from name is)
+
+-- ---- the title
+
+-- each version has one
+abbrev pub AnyVersion : Version → Type 0
+AnyVersion version = ⊤
+
+-- a version, and what follows its title
+abbrev titled : Version → List ℕ → Option (Version × List ℕ)
+titled version rest = Some (version, rest)
+
+-- the title
+pub title_reader : IsReader AnyVersion title_line title_at
+title_reader = record { takes = λ bytes version rest e. (tt, by_first bytes version rest (tag_at (title_line One) bytes) refl e); again = again }
+  where
+    by_first : (bytes : List ℕ) (version : Version) (rest : List ℕ) (o : Option (List ℕ)) → tag_at (title_line One) bytes ≡ o → or_else (o >>= titled One) (tag_at (title_line Two) bytes >>= titled Two) ≡ Some (version, rest) →
+        bytes ≡ title_line version ++ rest
+    by_first bytes version rest None f e =
+        let x = bind_some (tag_at (title_line Two) bytes) (titled Two) (version, rest) e in
+        let p = some_pair_parts Two version x.0 rest x.2 in
+        tag_takes (title_line Two) bytes x.0 x.1 ∙ ap (λ (v : Version). title_line v ++ x.0) p.0 ∙ ap (λ l. title_line version ++ l) p.1
+    by_first bytes version rest (Some r) f e =
+        let p = some_pair_parts One version r rest e in
+        tag_takes (title_line One) bytes r f ∙ ap (λ (v : Version). title_line v ++ r) p.0 ∙ ap (λ l. title_line version ++ l) p.1
+
+    again : (version : Version) (rest : List ℕ) → AnyVersion version → title_at (title_line version ++ rest) ≡ Some (version, rest)
+    again One rest any = ap (λ o. or_else (o >>= titled One) (tag_at (title_line Two) (title_line One ++ rest) >>= titled Two)) (tag_again (title_line One) rest)
+    again Two rest any = ap (λ o. o >>= titled Two) (tag_again (title_line Two) rest)
 
 -- ---- the other lines
 

@@ -11,7 +11,7 @@ use Rattle.crp_cert.specs.declared.head.Head.{Head}
 use Rattle.crp_cert.specs.declared.script.Script.{Script}
 use Rattle.crp_cert.specs.declared.fault.CertFault.{CertFault}
 use Rattle.crp_cert.specs.declared.fault.CertFault.TheVariants as faults
-use Rattle.crp_cert.specs.Text.{head_text, IsHead}
+use Rattle.crp_cert.specs.Text.{head_text, first_part, IsHead}
 use Rattle.crp_cert.specs.Script.{symbols_of, symbols_line, part_line, end_line, IsPartLine, IsScript, IsScriptOf}
 use Rattle.crp_cert.specs.ScriptFaults.{BeginsWithPart, ComesAfter, AreSymbols, IsLineFault, IsFirstFaultOfScript}
 use Rattle.crp_cert.specs.Reading.{tag_at}
@@ -82,16 +82,16 @@ Answer bytes = ((script : Script) × IsScriptOf bytes script) ⊎ ((fault : Cert
 
 -- the answer where the line behind the parts has a fault
 faulty : (bytes : List ℕ) (head : Head) (behind : List ℕ) (parts : List Part) (rest : List ℕ) (fault : CertFault) → IsHead head → bytes ≡ head_text head ++ behind → AreParts head.problem behind parts rest →
-    IsLineFault head.problem parts (6 + length head.problem.stacks + length parts) rest fault → Answer bytes
+    IsLineFault head.problem parts (first_part head + length parts) rest fault → Answer bytes
 faulty bytes head behind parts rest fault is text are why =
-    inr (fault, inr (head, parts, 6 + length head.problem.stacks + length parts, rest, tells_parts bytes head behind parts (6 + length head.problem.stacks + length parts) rest is text are refl, why))
+    inr (fault, inr (head, parts, first_part head + length parts, rest, tells_parts bytes head behind parts (first_part head + length parts) rest is text are refl, why))
 
 -- from the last line on
 last_answer : (bytes : List ℕ) (head : Head) (behind : List ℕ) (parts : List Part) (rest : List ℕ) → IsHead head → bytes ≡ head_text head ++ behind → AreParts head.problem behind parts rest → tag_at (codes "part ") rest ≡ None → Answer bytes
 last_answer bytes head behind parts rest is text are none = by_last (tag_at (end_line (length parts)) rest) refl
   where
     by_last : (o : Option (List ℕ)) → tag_at (end_line (length parts)) rest ≡ o → Answer bytes
-    by_last None e = faulty bytes head behind parts rest (faults.End (6 + length head.problem.stacks + length parts)) is text are (inl (refl, no_further rest none, no_last (length parts) rest e))
+    by_last None e = faulty bytes head behind parts rest (faults.End (first_part head + length parts)) is text are (inl (refl, no_further rest none, no_last (length parts) rest e))
     by_last (Some []) e =
         inl (
           record { head = head; parts = parts },
@@ -101,7 +101,7 @@ last_answer bytes head behind parts rest is text are none = by_last (tag_at (end
           ),
         )
     by_last (Some (b ∷ after)) e =
-        faulty bytes head behind parts rest (faults.End (suc (6 + length head.problem.stacks + length parts))) is text are (inr (refl, (b, after, tag_takes (end_line (length parts)) rest (b ∷ after) e)))
+        faulty bytes head behind parts rest (faults.End (suc (first_part head + length parts))) is text are (inr (refl, (b, after, tag_takes (end_line (length parts)) rest (b ∷ after) e)))
 
 -- the line that the parts are followed by
 abbrev Next : List ℕ → Head → List ℕ → ℕ → Type 0
@@ -127,13 +127,13 @@ line_answer most bytes head behind parts after name symbols rest place is text a
   where
     by_test : (a : Bool) → after_test (names parts) name ≡ a → (b : Bool) → symbols_test symbols ≡ b → (o : Option (List ℕ)) → behind_tree (length symbols) place symbols ≡ o → Answer bytes
     by_test false f b g o h =
-        faulty bytes head behind parts (codes "part " ++ after) (faults.Order (6 + length head.problem.stacks + length parts)) is text are
+        faulty bytes head behind parts (codes "part " ++ after) (faults.Order (first_part head + length parts)) is text are
         (refl, (told_line head.problem after name symbols rest place is_at e, λ comes. let no' : false ≡ true = sym f ∙ comes_from parts name comes in cc))
     by_test true f false g o h =
-        faulty bytes head behind parts (codes "part " ++ after) (faults.Symbol (6 + length head.problem.stacks + length parts)) is text are
+        faulty bytes head behind parts (codes "part " ++ after) (faults.Symbol (first_part head + length parts)) is text are
         (refl, (told_line head.problem after name symbols rest place is_at e, comes_to parts name f, λ all. let no' : false ≡ true = sym g ∙ symbols_from symbols all in cc))
     by_test true f true g None h =
-        faulty bytes head behind parts (codes "part " ++ after) (faults.Unfinished (6 + length head.problem.stacks + length parts)) is text are (
+        faulty bytes head behind parts (codes "part " ++ after) (faults.Unfinished (first_part head + length parts)) is text are (
           refl,
           (
             told_line head.problem after name symbols rest place is_at e,
@@ -151,7 +151,7 @@ line_answer most bytes head behind parts after name symbols rest place is text a
         next (parts ++ (record { name = name; tree = t.0 }) ∷ []) rest (omega (arith, r.1)) r.0
     by_test true f true g (Some (b ∷ left)) h =
         let t = tree_takes (length symbols) place symbols (b ∷ left) (few_rows head.problem name place is.problem is_at) h in
-        faulty bytes head behind parts (codes "part " ++ after) (faults.Trailing (6 + length head.problem.stacks + length parts)) is text are
+        faulty bytes head behind parts (codes "part " ++ after) (faults.Trailing (first_part head + length parts)) is text are
         (refl, (told_line head.problem after name symbols rest place is_at e, comes_to parts name f, symbols_to symbols g, (t.0, t.1, (b, left, t.2))))
 
 -- from the line behind the parts on
@@ -162,7 +162,7 @@ parts_answer (suc most) bytes head behind parts rest is text enough are =
   where
     by_line : Next bytes head behind most → (after : List ℕ) → rest ≡ codes "part " ++ after → (o : Option ((List ℕ × List ℕ) × List ℕ)) → part_at head.problem after ≡ o → Answer bytes
     by_line next after e None f =
-        faulty bytes head behind parts (codes "part " ++ after) (faults.Part (6 + length head.problem.stacks + length parts)) is text (subst (AreParts head.problem behind parts) e are)
+        faulty bytes head behind parts (codes "part " ++ after) (faults.Part (first_part head + length parts)) is text (subst (AreParts head.problem behind parts) e are)
         (refl, (after, refl), no_part head.problem after is.problem f)
     by_line next after e (Some x) f =
         let r = part_takes head.problem after x.0.0 x.0.1 x.1 f in

@@ -12,12 +12,15 @@ use Rattle.crp_bay.specs.Positions.{settled}
 use Rattle.crp_bay.proofs.Walked.{at_reads}
 use Rattle.crp_cert.proofs.PartNames.{rows_low, first_rows}
 use Rattle.crp_cert.specs.declared.size.Size.{Size}
-use Rattle.crp_cert.specs.Text.{title_line, spaced, numbers_line, bay_line, size_line, row_line, claim_line, plan_line, IsSize, AreRows}
-use Rattle.crp_cert.specs.Faults.{BeginsWith, AreFirstStacks, IsNextStack, most_claimed, BeginsWithSize, BeginsWithStacks, IsFirstFault}
+use Rattle.crp_cert.specs.declared.version.Version.{Version}
+use Rattle.crp_cert.specs.declared.version.Version.TheVariants.{One, Two}
+use Rattle.crp_cert.specs.Text.{title_line, spaced, numbers_line, bay_line, size_line, heights_line, stated_heights, row_line, claim_line, plan_line, IsSize, AreRows}
+use Rattle.crp_cert.specs.Faults.{BeginsWith, AreHeightsOf, MayState, AreFirstStacks, IsNextStack, most_claimed, Frame, BeginsWithFrame, BeginsWithStacks, IsFirstFault}
 use Rattle.crp_cert.specs.declared.fault.CertFault.{CertFault}
 use Rattle.crp_cert.specs.declared.fault.CertFault.TheVariants as faults
 use Rattle.crp_cert.proofs.Joined.{all_both}
-use Rattle.crp_cert.proofs.Stacks.{few_told, next_low, next_small, fewer, few_claimed}
+use Rattle.crp_cert.proofs.Stacks.{few_told, next_eight, next_small, fewer, few_claimed}
+use Rattle.crp_cert.proofs.Heights.{digits, heights_are}
 use Rattle.crp_cert.specs.Settled.{IsShort, IsSettled, longest_line, longest_head, IsName, spelled_name, longest_name, BeginsWithBay}
 
 -- ---- fronts
@@ -119,6 +122,11 @@ size_short size is =
     numbers_short (codes "size") 2 99 longest_line (size.rows ∷ size.tiers ∷ size.ordered ∷ size.total ∷ []) (no_end (codes "size") refl) (omega arith) (omega arith) (omega arith)
     (omega arith, (omega arith, (omega arith, (omega arith, tt)))) (lit≤ tt)
 
+pub heights_short : (size : Size) (heights : List ℕ) → IsSize size → AreHeightsOf size heights → IsShort 10 longest_line (heights_line heights)
+heights_short size heights is are =
+    let few = is.few_rows in let each = are.for_each_row in
+    numbers_short (codes "heights") 2 99 longest_line heights (no_end (codes "heights") refl) (omega arith) (omega arith) (omega arith) (digits heights are.are_heights) (omega arith)
+
 pub claim_short : (most claim : ℕ) → most ≤ 9999 → claim ≤ most → IsShort 10 longest_line (claim_line claim)
 claim_short most claim low le = numbers_short (codes "at least") 4 9999 longest_line (claim ∷ []) (no_end (codes "at least") refl) (omega arith) (omega arith) (omega arith) (omega arith, tt) (lit≤ tt)
 
@@ -148,11 +156,8 @@ bay_short name is =
     printed (b ∷ block) all = (λ e. let le = all.0.0 in omega arith, printed block all.1)
 
 -- the line of a stack that may follow others
-row_is_short : (size : Size) (stacks : List (List ℕ)) (stack : List ℕ) → IsSize size → IsNextStack size stacks stack → IsShort 10 longest_line (row_line stack)
-row_is_short size stacks stack is next =
-    let low = next_low size stacks stack next in
-    let tiers = is.few_tiers in
-    row_short stack (omega arith) (next_small size stacks stack is next)
+row_is_short : (size : Size) (heights : List ℕ) (stacks : List (List ℕ)) (stack : List ℕ) → IsSize size → AreHeightsOf size heights → IsNextStack size heights stacks stack → IsShort 10 longest_line (row_line stack)
+row_is_short size heights stacks stack is are next = row_short stack (next_eight size heights stacks stack are next) (next_small size heights stacks stack is next)
 
 -- ---- what an endless line can still be
 
@@ -162,9 +167,12 @@ bay_stays = stays IsYardBay bay_line 10 longest_line bay_short
 pub size_stays : (bytes more : List ℕ) → IsSettled 10 longest_line bytes → ¬ BeginsWith IsSize size_line bytes → ¬ BeginsWith IsSize size_line (bytes ++ more)
 size_stays = stays IsSize size_line 10 longest_line size_short
 
-pub row_stays : (size : Size) (stacks : List (List ℕ)) → IsSize size → (bytes more : List ℕ) → IsSettled 10 longest_line bytes →
-    ¬ BeginsWith (IsNextStack size stacks) row_line bytes → ¬ BeginsWith (IsNextStack size stacks) row_line (bytes ++ more)
-row_stays size stacks is = stays (IsNextStack size stacks) row_line 10 longest_line (λ stack next. row_is_short size stacks stack is next)
+pub heights_stay : (size : Size) → IsSize size → (bytes more : List ℕ) → IsSettled 10 longest_line bytes → ¬ BeginsWith (AreHeightsOf size) heights_line bytes → ¬ BeginsWith (AreHeightsOf size) heights_line (bytes ++ more)
+heights_stay size is = stays (AreHeightsOf size) heights_line 10 longest_line (λ heights are. heights_short size heights is are)
+
+pub row_stays : (size : Size) (heights : List ℕ) (stacks : List (List ℕ)) → IsSize size → AreHeightsOf size heights → (bytes more : List ℕ) → IsSettled 10 longest_line bytes →
+    ¬ BeginsWith (IsNextStack size heights stacks) row_line bytes → ¬ BeginsWith (IsNextStack size heights stacks) row_line (bytes ++ more)
+row_stays size heights stacks is are = stays (IsNextStack size heights stacks) row_line 10 longest_line (λ stack next. row_is_short size heights stacks stack is are next)
 
 pub claim_stays : (size : Size) → IsSize size → (bytes more : List ℕ) → IsSettled 10 longest_line bytes →
     ¬ BeginsWith (λ claim. claim ≤ most_claimed size) claim_line bytes → ¬ BeginsWith (λ claim. claim ≤ most_claimed size) claim_line (bytes ++ more)
@@ -232,97 +240,141 @@ name_stays p is = stays (IsName p) spelled_name 32 longest_name (λ name fits. n
 -- ---- heads
 
 -- the lines of further stacks
-rows_short : (size : Size) (before more : List (List ℕ)) → IsSize size → AreFirstStacks size (before ++ more) → length (flat_map row_line more) ≤ longest_line * length more
-rows_short size before [] is first = omega arith
-rows_short size before (stack ∷ more) is first =
+rows_short : (size : Size) (heights : List ℕ) (before more : List (List ℕ)) → IsSize size → AreHeightsOf size heights → AreFirstStacks size heights (before ++ more) → length (flat_map row_line more) ≤ longest_line * length more
+rows_short size heights before [] is are first = omega arith
+rows_short size heights before (stack ∷ more) is are first =
     let again : before ++ stack ∷ more ≡ (before ++ stack ∷ []) ++ more = sym (append_assoc before (stack ∷ []) more) in
-    let on : AreFirstStacks size ((before ++ stack ∷ []) ++ more) = subst (AreFirstStacks size) again first in
-    let own = (row_is_short size before stack is (next_of more on)).short in
-    let others = rows_short size (before ++ stack ∷ []) more is on in
+    let on : AreFirstStacks size heights ((before ++ stack ∷ []) ++ more) = subst (AreFirstStacks size heights) again first in
+    let own = (row_is_short size heights before stack is are (next_of more on)).short in
+    let others = rows_short size heights (before ++ stack ∷ []) more is are on in
     omega (arith, length-append (row_line stack) (flat_map row_line more))
   where
-    next_of : (more : List (List ℕ)) → AreFirstStacks size ((before ++ stack ∷ []) ++ more) → IsNextStack size before stack
-    next_of [] on = subst (AreFirstStacks size) (append-nil (before ++ stack ∷ [])) on
-    next_of (other ∷ more) on = fewer size (before ++ stack ∷ []) (other ∷ more) (omega arith) on
+    next_of : (more : List (List ℕ)) → AreFirstStacks size heights ((before ++ stack ∷ []) ++ more) → IsNextStack size heights before stack
+    next_of [] on = subst (AreFirstStacks size heights) (append-nil (before ++ stack ∷ [])) on
+    next_of (other ∷ more) on = fewer size heights (before ++ stack ∷ []) (other ∷ more) (omega arith) on
 
 -- more lines and less room: what is left behind a line that is no longer than it may be
 behind : (a b most room : ℕ) → a ≤ most → most + room ≤ a + b → room ≤ b
 behind a b most room le all = omega arith
 
--- a bay and a size
-size_leaves : (bytes : List ℕ) (size : Size) (rest : List ℕ) → longest_head ≤ length bytes → BeginsWithSize bytes size rest → 14 * longest_line ≤ length rest
-size_leaves bytes size rest long t =
+-- a title
+title_length : (version : Version) → length (title_line version) ≡ 11
+title_length One = refl
+title_length Two = refl
+
+-- what is stated of the heights
+stated_short : (version : Version) (size : Size) (heights : List ℕ) → IsSize size → MayState version size heights → length (stated_heights version heights) ≤ longest_line
+stated_short One size heights is same = omega arith
+stated_short Two size heights is are = (heights_short size heights is are).short
+
+-- the lines above the rows
+frame_leaves : (bytes : List ℕ) (frame : Frame) (rest : List ℕ) → longest_head ≤ length bytes → BeginsWithFrame bytes frame rest → 14 * longest_line ≤ length rest
+frame_leaves bytes frame rest long t =
     let bay = (bay_short t.name t.named).short in
-    let own = (size_short size t.is_size).short in
-    omega (arith, ap length t.text, length-append title_line (bay_line t.name ++ (size_line size ++ rest)), length-append (bay_line t.name) (size_line size ++ rest), length-append (size_line size) rest)
+    let own = (size_short frame.size t.is_size).short in
+    let heights : List ℕ = stated_heights frame.version frame.heights in
+    omega (
+      arith,
+      ap length t.text,
+      title_length frame.version,
+      stated_short frame.version frame.size frame.heights t.is_size t.may_state,
+      length-append (title_line frame.version) (bay_line t.name ++ (size_line frame.size ++ (heights ++ rest))),
+      length-append (bay_line t.name) (size_line frame.size ++ (heights ++ rest)),
+      length-append (size_line frame.size) (heights ++ rest),
+      length-append heights rest,
+    )
 
 -- the stacks too
-stacks_leave : (bytes : List ℕ) (size : Size) (stacks : List (List ℕ)) (rest : List ℕ) → longest_head ≤ length bytes → BeginsWithStacks bytes size stacks rest → 2 * longest_line ≤ length rest
-stacks_leave bytes size stacks rest long t =
-    let left = size_leaves bytes size (flat_map row_line stacks ++ rest) long t.tells in
-    let rows = rows_short size [] stacks t.tells.is_size t.first in
+stacks_leave : (bytes : List ℕ) (frame : Frame) (stacks : List (List ℕ)) (rest : List ℕ) → longest_head ≤ length bytes → BeginsWithStacks bytes frame stacks rest → 2 * longest_line ≤ length rest
+stacks_leave bytes frame stacks rest long t =
+    let left = frame_leaves bytes frame (flat_map row_line stacks ++ rest) long t.tells in
+    let rows = rows_short frame.size frame.heights [] stacks t.tells.is_size (heights_are frame.version frame.size frame.heights t.tells.is_size t.tells.may_state) t.first in
     let few = t.first.few in let twelve = t.tells.is_size.few_rows in
     omega (arith, length-append (flat_map row_line stacks) rest)
 
 -- what the bytes begin with they begin with, whatever follows
-size_on : (bytes more : List ℕ) (size : Size) (rest : List ℕ) → BeginsWithSize bytes size rest → BeginsWithSize (bytes ++ more) size (rest ++ more)
-size_on bytes more size rest t = record {
+frame_on : (bytes more : List ℕ) (frame : Frame) (rest : List ℕ) → BeginsWithFrame bytes frame rest → BeginsWithFrame (bytes ++ more) frame (rest ++ more)
+frame_on bytes more frame rest t = record {
   name = t.name;
   named = t.named;
   is_size = t.is_size;
-  text = ap (λ l. l ++ more) t.text ∙ append_assoc title_line (bay_line t.name ++ (size_line size ++ rest)) more
-      ∙ ap (λ l. title_line ++ l) (append_assoc (bay_line t.name) (size_line size ++ rest) more ∙ ap (λ l. bay_line t.name ++ l) (append_assoc (size_line size) rest more));
+  may_state = t.may_state;
+  text = ap (λ l. l ++ more) t.text ∙ regroup (title_line frame.version) (bay_line t.name) (size_line frame.size) (stated_heights frame.version frame.heights) rest more;
 }
+  where
+    regroup : (a b c d e more : List ℕ) → (a ++ (b ++ (c ++ (d ++ e)))) ++ more ≡ a ++ (b ++ (c ++ (d ++ (e ++ more))))
+    regroup a b c d e more = simp append_assoc
 
-stacks_on : (bytes more : List ℕ) (size : Size) (stacks : List (List ℕ)) (rest : List ℕ) → BeginsWithStacks bytes size stacks rest → BeginsWithStacks (bytes ++ more) size stacks (rest ++ more)
-stacks_on bytes more size stacks rest t = record {
-  tells = subst (BeginsWithSize (bytes ++ more) size) (append_assoc (flat_map row_line stacks) rest more) (size_on bytes more size (flat_map row_line stacks ++ rest) t.tells);
+stacks_on : (bytes more : List ℕ) (frame : Frame) (stacks : List (List ℕ)) (rest : List ℕ) → BeginsWithStacks bytes frame stacks rest → BeginsWithStacks (bytes ++ more) frame stacks (rest ++ more)
+stacks_on bytes more frame stacks rest t = record {
+  tells = subst (BeginsWithFrame (bytes ++ more) frame) (append_assoc (flat_map row_line stacks) rest more) (frame_on bytes more frame (flat_map row_line stacks ++ rest) t.tells);
   first = t.first;
 }
+
+-- three texts one after the other, and more
+regrouped : (a b c more : List ℕ) → (a ++ (b ++ c)) ++ more ≡ a ++ (b ++ (c ++ more))
+regrouped a b c more = simp append_assoc
 
 -- bytes that are longer than any head, and have a fault, have it whatever follows
 pub fault_stays : (bytes more : List ℕ) (fault : CertFault) → longest_head ≤ length bytes → IsFirstFault bytes fault → IsFirstFault (bytes ++ more) fault
 fault_stays bytes more (faults.Opening line) long (inl first) =
-    inl (first.0, λ rest e. let r = front bytes more title_line rest e (omega arith) in first.1 r.0 r.1)
+    inl (first.0, λ version rest e. let r = front bytes more (title_line version) rest e (omega (arith, title_length version)) in first.1 version r.0 r.1)
 fault_stays bytes more (faults.Opening line) long (inr second) =
-    let rest = second.1.0 in
-    let is = second.1.1 in
-    let left : longest_line ≤ length rest = omega (arith, ap length is, length-append title_line rest) in
-    inr (second.0, (rest ++ more, ap (λ l. l ++ more) is ∙ append_assoc title_line rest more, bay_stays rest more (inr left) second.1.2))
-fault_stays bytes more (faults.Size line) long f =
-    let name = f.1.0 in
-    let rest = f.1.1 in
-    let named = f.1.2 in
-    let is = f.1.3 in
+    let version : Version = second.1.0 in
+    let rest : List ℕ = second.1.1 in
+    let is = second.1.2 in
+    let left : longest_line ≤ length rest = omega (arith, ap length is, title_length version, length-append (title_line version) rest) in
+    inr (second.0, (version, rest ++ more, ap (λ l. l ++ more) is ∙ append_assoc (title_line version) rest more, bay_stays rest more (inr left) second.1.3))
+fault_stays bytes more (faults.Size line) long (inl f) =
+    let version : Version = f.1.0 in
+    let name : YardBay = f.1.1 in
+    let rest : List ℕ = f.1.2 in
+    let named = f.1.3 in
+    let is = f.1.4 in
     let bay = (bay_short name named).short in
-    let left : longest_line ≤ length rest = omega (arith, ap length is, length-append title_line (bay_line name ++ rest), length-append (bay_line name) rest) in
-    (f.0, (name, rest ++ more, named, ap (λ l. l ++ more) is ∙ append_assoc title_line (bay_line name ++ rest) more ∙ ap (λ l. title_line ++ l) (append_assoc (bay_line name) rest more), size_stays rest more (inr left) f.1.4))
+    let left : longest_line ≤ length rest = omega (arith, ap length is, title_length version, length-append (title_line version) (bay_line name ++ rest), length-append (bay_line name) rest) in
+    inl (f.0, (version, name, rest ++ more, named, ap (λ l. l ++ more) is ∙ regrouped (title_line version) (bay_line name) rest more, size_stays rest more (inr left) f.1.5))
+fault_stays bytes more (faults.Size line) long (inr f) =
+    let name : YardBay = f.1.0 in
+    let size : Size = f.1.1 in
+    let rest : List ℕ = f.1.2 in
+    let named = f.1.3 in
+    let size_is = f.1.4 in
+    let is = f.1.5 in
+    let bay = (bay_short name named).short in
+    let own = (size_short size size_is).short in
+    let left : longest_line ≤ length rest =
+    omega (arith, ap length is, title_length Two, length-append (title_line Two) (bay_line name ++ (size_line size ++ rest)), length-append (bay_line name) (size_line size ++ rest), length-append (size_line size) rest) in
+    let text : bytes ++ more ≡ title_line Two ++ (bay_line name ++ (size_line size ++ (rest ++ more))) =
+    ap (λ l. l ++ more) is ∙ regrouped (title_line Two) (bay_line name) (size_line size ++ rest) more ∙ ap (λ l. title_line Two ++ (bay_line name ++ l)) (append_assoc (size_line size) rest more) in
+    inr (f.0, (name, size, rest ++ more, named, size_is, text, heights_stay size size_is rest more (inr left) f.1.6))
 fault_stays bytes more (faults.Row line) long f =
-    let size = f.0 in
+    let frame : Frame = f.0 in
     let stacks = f.1 in
     let rest = f.2 in
     let t = f.3 in
-    let left = stacks_leave bytes size stacks rest long t in
-    (size, stacks, rest ++ more, stacks_on bytes more size stacks rest t, f.4, f.5, row_stays size stacks t.tells.is_size rest more (inr (omega arith)) f.6)
+    let left = stacks_leave bytes frame stacks rest long t in
+    let are = heights_are frame.version frame.size frame.heights t.tells.is_size t.tells.may_state in
+    (frame, stacks, rest ++ more, stacks_on bytes more frame stacks rest t, f.4, f.5, row_stays frame.size frame.heights stacks t.tells.is_size are rest more (inr (omega arith)) f.6)
 fault_stays bytes more (faults.Claim line) long f =
-    let size = f.0 in
+    let frame : Frame = f.0 in
     let stacks = f.1 in
     let rest = f.2 in
     let t = f.3 in
-    let left = stacks_leave bytes size stacks rest long t in
-    (size, stacks, rest ++ more, stacks_on bytes more size stacks rest t, f.4, f.5, claim_stays size t.tells.is_size rest more (inr (omega arith)) f.6)
+    let left = stacks_leave bytes frame stacks rest long t in
+    (frame, stacks, rest ++ more, stacks_on bytes more frame stacks rest t, f.4, f.5, claim_stays frame.size t.tells.is_size rest more (inr (omega arith)) f.6)
 fault_stays bytes more (faults.Plan line) long f =
-    let size = f.0 in
+    let frame : Frame = f.0 in
     let stacks = f.1 in
     let claim = f.2 in
     let rest = f.3 in
     let t = f.4 in
     let low = f.6 in
-    let room = stacks_leave bytes size stacks (claim_line claim ++ rest) long t in
-    let own = (claim_short (most_claimed size) claim (few_claimed size t.tells.is_size) low).short in
+    let room = stacks_leave bytes frame stacks (claim_line claim ++ rest) long t in
+    let own = (claim_short (most_claimed frame.size) claim (few_claimed frame.size t.tells.is_size) low).short in
     let left : longest_line ≤ length rest = omega (arith, length-append (claim_line claim) rest) in
-    let on : BeginsWithStacks (bytes ++ more) size stacks (claim_line claim ++ (rest ++ more)) = subst (BeginsWithStacks (bytes ++ more) size stacks) (append_assoc (claim_line claim) rest more) (stacks_on bytes more size stacks (claim_line claim ++ rest) t) in
-    (size, stacks, claim, rest ++ more, on, f.5, low, f.7, plan_stays rest more (inr left) f.8)
+    let on : BeginsWithStacks (bytes ++ more) frame stacks (claim_line claim ++ (rest ++ more)) = subst (BeginsWithStacks (bytes ++ more) frame stacks) (append_assoc (claim_line claim) rest more) (stacks_on bytes more frame stacks (claim_line claim ++ rest) t) in
+    (frame, stacks, claim, rest ++ more, on, f.5, low, f.7, plan_stays rest more (inr left) f.8)
 fault_stays bytes more (faults.Part line) long f = absurd f
 fault_stays bytes more (faults.Order line) long f = absurd f
 fault_stays bytes more (faults.Symbol line) long f = absurd f
@@ -334,8 +386,9 @@ fault_stays bytes more faults.Memory long f = absurd f
 -- and where they do not begin with a bay they do not, whatever follows
 pub no_bay_stays : (bytes more : List ℕ) (name : YardBay) → longest_head ≤ length bytes → ((other : YardBay) → ¬ BeginsWithBay bytes other) → ¬ BeginsWithBay (bytes ++ more) name
 no_bay_stays bytes more name long none stands =
-    let rest = stands.1.0 in
+    let version : Version = stands.1.0 in
+    let rest : List ℕ = stands.1.1 in
     let own = (bay_short name stands.0).short in
-    let text : bytes ++ more ≡ (title_line ++ bay_line name) ++ rest = stands.1.1 ∙ sym (append_assoc title_line (bay_line name) rest) in
-    let r = front bytes more (title_line ++ bay_line name) rest text (omega (arith, length-append title_line (bay_line name))) in
-    none name (stands.0, (r.0, r.1 ∙ append_assoc title_line (bay_line name) r.0))
+    let text : bytes ++ more ≡ (title_line version ++ bay_line name) ++ rest = stands.1.2 ∙ sym (append_assoc (title_line version) (bay_line name) rest) in
+    let r = front bytes more (title_line version ++ bay_line name) rest text (omega (arith, title_length version, length-append (title_line version) (bay_line name))) in
+    none name (stands.0, (version, r.0, r.1 ∙ append_assoc (title_line version) (bay_line name) r.0))

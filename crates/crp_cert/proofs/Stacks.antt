@@ -1,21 +1,23 @@
 -- The first stacks of a bay: when one more may follow, when all of them are a problem, and a test of it.
-use Rattle.std.proofs.Common.{◌≡◌, ℕ, zero, suc, ◌+◌, ◌-◌, ◌*◌, ◌<◌, ◌≤◌, Bool, true, cond, ◌==◌, ◌&&◌, List, [], ◌∷◌, ◌++◌, length, refl, sym, ap, ◌∙◌, subst, ⊎_elim, arith, All, nat_le, nat_lt, length-append}
+use Rattle.std.proofs.Common.{◌≡◌, ℕ, zero, suc, ◌+◌, ◌-◌, ◌*◌, ◌<◌, ◌≤◌, Bool, true, cond, ◌==◌, ◌&&◌, List, [], ◌∷◌, ◌++◌, length, get_or, refl, sym, ap, ◌∙◌, subst, ⊎_elim, arith, All, nat_le, nat_lt, length-append}
 use Rattle.std.specs.List.{list_all, AllByRecursion}
 use Rattle.std.proofs.lemmas.Bool.{and_parts, and_from, leb-true, le-leb, ltb-true, lt-ltb, cases_lt, cases_eq, eq-eqb, ne_eqb}
 use Rattle.std.proofs.lemmas.Nat.{mul-le}
-use Rattle.std.proofs.lemmas.List.Elements.{recursion_from_All, All-from_recursion, All-push, All-nil, All-weaker}
+use Rattle.std.proofs.lemmas.List.Elements.{recursion_from_All, All-from_recursion}
 use Rattle.std.proofs.lemmas.List.Sums.{sum_by-cons, sum_by-append, sum_by_push}
 use Rattle.crp_plan.specs.Rows.{occurrences, total}
 use Rattle.crp_plan.specs.Bay.{IsProblem, cap}
-use Rattle.crp_plan.specs.Faults.{stacks_of, stated}
+use Rattle.crp_plan.specs.Faults.{stacks_of, stated_with, HasTiers}
 use Rattle.crp_plan.proofs.Lists.{times, one_if, times-cons, same_is_one, other_is_zero, occurrences-cons}
 use Rattle.std.proofs.lemmas.List.{map-append}
-use Rattle.crp_plan.proofs.Tallies.{Row, fits_to, in_stack, in_bay, from_stack, from_bay, made, tallest_same}
+use Rattle.crp_plan.proofs.Tallies.{Row, fits_to, in_stack, in_bay, from_stack, from_bay}
+use Rattle.crp_plan.proofs.Heights.{made_with}
 use Rattle.crp_cert.specs.declared.size.Size.{Size}
 use Rattle.crp_cert.specs.Text.{IsSize}
-use Rattle.crp_cert.specs.Faults.{AreFirstStacks, IsNextStack, most_claimed}
+use Rattle.crp_cert.specs.Faults.{AreHeightsOf, AreFirstStacks, IsNextStack, most_claimed}
 use Rattle.crp_cert.specs.Reading.{IsNewRank}
 use Rattle.crp_cert.proofs.Readers.{all_to, all_from}
+use Rattle.crp_cert.proofs.Heights.{front_push, front_last, front_fewer, front_none, front_whole, front_low, is_front, front_to, front_from, height_low}
 
 -- places in two lists of stacks
 occurrences-append : (x : ℕ) (a b : List (List ℕ)) → occurrences x (a ++ b) ≡ occurrences x a + occurrences x b
@@ -42,23 +44,24 @@ abbrev pub AreNew : ℕ → List (List ℕ) → List ℕ → Type 0
 AreNew most stacks stack = All (IsNewRank most stack stacks) stack
 
 -- no stacks are first stacks
-pub no_stacks : (size : Size) → IsSize size → AreFirstStacks size []
-no_stacks size is =
+pub no_stacks : (size : Size) (heights : List ℕ) → IsSize size → AreFirstStacks size heights []
+no_stacks size heights is =
     let some = is.some_rows in
     record {
       few = omega arith;
-      low = All-nil (λ stack. length stack ≤ size.tiers);
+      low = front_none heights;
       in_range = λ x lt. absurd (omega arith);
       apart = λ x. omega arith;
       none_missing = λ e. absurd (omega arith);
     }
 
 -- a stack of new ranks may follow, if it completes the ranks where it is the last
-pub goes_on : (size : Size) (stacks : List (List ℕ)) (stack : List ℕ) → AreFirstStacks size stacks → length stacks < size.rows → length stack ≤ size.tiers → AreNew size.total stacks stack →
-    (suc (length stacks) ≡ size.rows → (x : ℕ) → 1 ≤ x → x ≤ size.total → 0 < occurrences x (stacks ++ stack ∷ [])) → IsNextStack size stacks stack
-goes_on size stacks stack first more low new all = record {
+pub goes_on : (size : Size) (heights : List ℕ) (stacks : List (List ℕ)) (stack : List ℕ) → AreHeightsOf size heights → AreFirstStacks size heights stacks → length stacks < size.rows →
+    length stack ≤ get_or heights (length stacks) 0 → AreNew size.total stacks stack → (suc (length stacks) ≡ size.rows → (x : ℕ) → 1 ≤ x → x ≤ size.total → 0 < occurrences x (stacks ++ stack ∷ [])) →
+    IsNextStack size heights stacks stack
+goes_on size heights stacks stack are first more low new all = record {
   few = omega (arith, length_push stacks stack);
-  low = All-push (λ s. length s ≤ size.tiers) stacks stack first.low low;
+  low = let each = are.for_each_row in front_push heights stacks stack first.low (omega arith) low;
   in_range = λ x some.
       ⊎_elim
       (λ here. let h = at x here in (h.counts, h.low))
@@ -76,8 +79,8 @@ goes_on size stacks stack first more low new all = record {
     at x here = from_stack (IsNewRank size.total stack stacks) stack (recursion_from_All (IsNewRank size.total stack stacks) stack new) x here
 
 -- a stack that may follow has new ranks
-pub next_new : (size : Size) (stacks : List (List ℕ)) (stack : List ℕ) → IsNextStack size stacks stack → AreNew size.total stacks stack
-next_new size stacks stack next = All-from_recursion (IsNewRank size.total stack stacks) stack (in_stack (IsNewRank size.total stack stacks) stack at)
+pub next_new : (size : Size) (heights : List ℕ) (stacks : List (List ℕ)) (stack : List ℕ) → IsNextStack size heights stacks stack → AreNew size.total stacks stack
+next_new size heights stacks stack next = All-from_recursion (IsNewRank size.total stack stacks) stack (in_stack (IsNewRank size.total stack stacks) stack at)
   where
     at : (x : ℕ) → 0 < times x stack → IsNewRank size.total stack stacks x
     at x here =
@@ -89,35 +92,32 @@ next_new size stacks stack next = All-from_recursion (IsNewRank size.total stack
           new = omega (arith, occurrences_push x stacks stack, next.apart x);
         }
 
--- the last of some stacks that are low
-last_low : (m : ℕ) (stacks : List (List ℕ)) (stack : List ℕ) → AllByRecursion (λ s. length s ≤ m) (stacks ++ stack ∷ []) → length stack ≤ m
-last_low m [] stack low = low.0
-last_low m (s ∷ stacks) stack low = last_low m stacks stack low.1
+-- a stack that may follow is not higher than its row
+pub next_low : (size : Size) (heights : List ℕ) (stacks : List (List ℕ)) (stack : List ℕ) → IsNextStack size heights stacks stack → length stack ≤ get_or heights (length stacks) 0
+next_low size heights stacks stack next = front_last heights stacks stack next.low
 
--- a stack that may follow is not higher than the tiers
-pub next_low : (size : Size) (stacks : List (List ℕ)) (stack : List ℕ) → IsNextStack size stacks stack → length stack ≤ size.tiers
-next_low size stacks stack next = last_low size.tiers stacks stack (recursion_from_All (λ s. length s ≤ size.tiers) (stacks ++ stack ∷ []) next.low)
+-- nor than eight
+pub next_eight : (size : Size) (heights : List ℕ) (stacks : List (List ℕ)) (stack : List ℕ) → AreHeightsOf size heights → IsNextStack size heights stacks stack → length stack ≤ 8
+next_eight size heights stacks stack are next =
+    let each = are.for_each_row in
+    omega (arith, next_low size heights stacks stack next, height_low heights (length stacks) (recursion_from_All (λ height. HasTiers height) heights are.are_heights) (omega (arith, next.few, length_push stacks stack)))
 
 -- ranks have one digit or two
-pub next_small : (size : Size) (stacks : List (List ℕ)) (stack : List ℕ) → IsSize size → IsNextStack size stacks stack → AllByRecursion (λ x. x ≤ 99) stack
-next_small size stacks stack is next = in_stack (λ x. x ≤ 99) stack (λ x here.
+pub next_small : (size : Size) (heights : List ℕ) (stacks : List (List ℕ)) (stack : List ℕ) → IsSize size → IsNextStack size heights stacks stack → AllByRecursion (λ x. x ≤ 99) stack
+next_small size heights stacks stack is next = in_stack (λ x. x ≤ 99) stack (λ x here.
     let r = next.in_range x (omega (arith, occurrences_push x stacks stack)) in omega (arith, few_told size is, r.1))
 
 -- the stacks before are first stacks too
-pub fewer : (size : Size) (a b : List (List ℕ)) → 1 ≤ length b → AreFirstStacks size (a ++ b) → AreFirstStacks size a
-fewer size a b some first =
+pub fewer : (size : Size) (heights : List ℕ) (a b : List (List ℕ)) → 1 ≤ length b → AreFirstStacks size heights (a ++ b) → AreFirstStacks size heights a
+fewer size heights a b some first =
     let few = first.few in
     record {
       few = omega (arith, length-append a b);
-      low = All-from_recursion (λ s. length s ≤ size.tiers) a (front a (recursion_from_All (λ s. length s ≤ size.tiers) (a ++ b) first.low));
+      low = front_fewer heights a b first.low;
       in_range = λ x lt. first.in_range x (omega (arith, occurrences-append x a b));
       apart = λ x. omega (arith, occurrences-append x a b, first.apart x);
       none_missing = λ e. absurd (omega (arith, length-append a b));
     }
-  where
-    front : (a : List (List ℕ)) → AllByRecursion (λ s. length s ≤ size.tiers) (a ++ b) → AllByRecursion (λ s. length s ≤ size.tiers) a
-    front [] low = tt
-    front (s ∷ a) low = (low.0, front a low.1)
 
 -- ---- all stacks
 
@@ -194,17 +194,19 @@ counted_once zero stacks once = refl
 counted_once (suc n) stacks once = omega (arith, once (suc n) (omega arith) (omega arith), counted_once n stacks (λ x lo hi. once x lo (omega arith)))
 
 -- all stacks hold as many containers as the size says
-pub total_is : (size : Size) (stacks : List (List ℕ)) → AreFirstStacks size stacks → length stacks ≡ size.rows → total stacks ≡ size.total
-total_is size stacks first all =
+pub total_is : (size : Size) (heights : List ℕ) (stacks : List (List ℕ)) → AreFirstStacks size heights stacks → length stacks ≡ size.rows → total stacks ≡ size.total
+total_is size heights stacks first all =
     sym (counted_all size.total stacks (in_bay (λ x. (1 ≤ x) × (x ≤ size.total)) stacks first.in_range))
     ∙ counted_once size.total stacks (λ x lo hi. omega (arith, first.apart x, first.none_missing all x lo hi))
 
 -- all stacks are a problem
-pub problem_is : (size : Size) (stacks : List (List ℕ)) → IsSize size → AreFirstStacks size stacks → length stacks ≡ size.rows → IsProblem (stated size.tiers size.ordered stacks)
-problem_is size stacks is first all =
-    let n : total stacks ≡ size.total = total_is size stacks first all in
+pub problem_is : (size : Size) (heights : List ℕ) (stacks : List (List ℕ)) → IsSize size → AreHeightsOf size heights → AreFirstStacks size heights stacks → length stacks ≡ size.rows →
+    IsProblem (stated_with heights size.ordered stacks)
+problem_is size heights stacks is are first all =
+    let n : total stacks ≡ size.total = total_is size heights stacks first all in
     let a = is.some_rows in let b = is.few_rows in let c = is.ordered_fit in
-    made size.tiers size.ordered stacks (omega arith, omega arith) (is.some_tiers, is.few_tiers) first.low
+    let each : length heights ≡ length stacks = are.for_each_row ∙ sym all in
+    made_with heights size.ordered stacks ((omega arith, omega arith), each) are.are_heights (front_whole heights stacks (sym each) first.low)
     (record {
       each_once = λ x lo hi. omega (arith, first.apart x, first.none_missing all x lo (omega arith));
       no_other = λ x some. let r = first.in_range x some in (r.0, omega (arith, r.1));
@@ -212,8 +214,8 @@ problem_is size stacks is first all =
     (omega arith)
 
 -- the cap of the problem is the most that may be claimed
-pub cap_is : (size : Size) (stacks : List (List ℕ)) → 1 ≤ length stacks → cap (stated size.tiers size.ordered stacks) ≡ most_claimed size
-cap_is size stacks some = ap (λ t. size.ordered * (t - 1) + 1) (tallest_same (length stacks) size.tiers some)
+pub cap_is : (size : Size) (heights : List ℕ) (stacks : List (List ℕ)) → AreHeightsOf size heights → cap (stated_with heights size.ordered stacks) ≡ most_claimed size
+cap_is size heights stacks are = ap (λ t. size.ordered * (t - 1) + 1) are.largest
 
 -- it has four digits at most
 pub few_claimed : (size : Size) → IsSize size → most_claimed size ≤ 9999
@@ -247,17 +249,13 @@ all_there_from (suc n) stacks all = and_from _ _ (lt-ltb 0 (occurrences (suc n) 
 abbrev is_placed : Size → List (List ℕ) → ℕ → Bool
 is_placed size stacks x = nat_le 1 x && (nat_le x size.total && nat_le (occurrences x stacks) 1)
 
--- a test of a height
-abbrev is_low : Size → List ℕ → Bool
-is_low size stack = nat_le (length stack) size.tiers
-
 -- a test that no rank is missing once all stacks are told
 abbrev is_whole : Size → List (List ℕ) → Bool
 is_whole size stacks = cond (length stacks == size.rows) (all_there size.total stacks) true
 
 -- a test of first stacks
-abbrev pub are_first : Size → List (List ℕ) → Bool
-are_first size stacks = nat_le (length stacks) size.rows && (list_all (is_low size) stacks && (list_all (list_all (is_placed size stacks)) stacks && is_whole size stacks))
+abbrev pub are_first : Size → List ℕ → List (List ℕ) → Bool
+are_first size heights stacks = nat_le (length stacks) size.rows && (is_front heights stacks && (list_all (list_all (is_placed size stacks)) stacks && is_whole size stacks))
 
 -- a rank in range and in one place at most
 abbrev Placed : Size → List (List ℕ) → ℕ → Type 0
@@ -287,26 +285,26 @@ whole_from size stacks all =
     (cases_eq (length stacks) size.rows)
 
 -- what the test of first stacks means
-pub first_to : (size : Size) (stacks : List (List ℕ)) → are_first size stacks ≡ true → AreFirstStacks size stacks
-first_to size stacks e =
-    let a = and_parts (nat_le (length stacks) size.rows) (list_all (is_low size) stacks && (list_all (list_all (is_placed size stacks)) stacks && is_whole size stacks)) e in
-    let b = and_parts (list_all (is_low size) stacks) (list_all (list_all (is_placed size stacks)) stacks && is_whole size stacks) a.1 in
+pub first_to : (size : Size) (heights : List ℕ) (stacks : List (List ℕ)) → are_first size heights stacks ≡ true → AreFirstStacks size heights stacks
+first_to size heights stacks e =
+    let a = and_parts (nat_le (length stacks) size.rows) (is_front heights stacks && (list_all (list_all (is_placed size stacks)) stacks && is_whole size stacks)) e in
+    let b = and_parts (is_front heights stacks) (list_all (list_all (is_placed size stacks)) stacks && is_whole size stacks) a.1 in
     let c = and_parts (list_all (list_all (is_placed size stacks)) stacks) (is_whole size stacks) b.1 in
     let placed = from_bay (Placed size stacks) stacks (all_to (λ stack. All (Placed size stacks) stack) (list_all (is_placed size stacks))
     (λ stack h. All-from_recursion (Placed size stacks) stack (all_to (Placed size stacks) (is_placed size stacks) (placed_to size stacks) stack h)) stacks c.0) in
     record {
       few = leb-true (length stacks) size.rows a.0;
-      low = All-from_recursion (λ stack. length stack ≤ size.tiers) stacks (all_to (λ stack. length stack ≤ size.tiers) (is_low size) (λ stack h. leb-true (length stack) size.tiers h) stacks b.0);
+      low = front_to heights stacks b.0;
       in_range = λ x some. let h = placed x some in (h.0, h.1);
       apart = λ x. ⊎_elim (λ some. (placed x some).2) (λ none. omega arith) (cases_lt 0 (occurrences x stacks));
       none_missing = whole_to size stacks c.1;
     }
 
 -- and back
-pub first_from : (size : Size) (stacks : List (List ℕ)) → AreFirstStacks size stacks → are_first size stacks ≡ true
-first_from size stacks first =
+pub first_from : (size : Size) (heights : List ℕ) (stacks : List (List ℕ)) → AreFirstStacks size heights stacks → are_first size heights stacks ≡ true
+first_from size heights stacks first =
     and_from _ _ (le-leb (length stacks) size.rows first.few)
-    (and_from _ _ (all_from (λ stack. length stack ≤ size.tiers) (is_low size) (λ stack h. le-leb (length stack) size.tiers h) stacks (recursion_from_All (λ stack. length stack ≤ size.tiers) stacks first.low))
+    (and_from _ _ (front_from heights stacks first.low)
     (and_from _ _ (all_from (λ stack. All (Placed size stacks) stack) (list_all (is_placed size stacks))
     (λ stack h. all_from (Placed size stacks) (is_placed size stacks) (placed_from size stacks) stack (recursion_from_All (Placed size stacks) stack h)) stacks
     (in_bay (Placed size stacks) stacks (λ x some. let r = first.in_range x some in (r.0, r.1, first.apart x))))
@@ -319,7 +317,7 @@ pub stacks_push : (rows : List Row) (row : Row) → stacks_of (rows ++ row ∷ [
 stacks_push rows row = map-append (λ (r : Row). r.items) rows (row ∷ [])
 
 -- no first stack is higher than eight
-pub first_low : (size : Size) (rows : List Row) → IsSize size → AreFirstStacks size (stacks_of rows) → All (λ (row : Row). length row.items ≤ 8) rows
-first_low size rows is first =
-    let few = is.few_tiers in
-    fits_to 8 rows (All-weaker (λ stack. length stack ≤ size.tiers) (λ stack. length stack ≤ 8) (λ stack h. omega arith) (stacks_of rows) first.low)
+pub first_low : (size : Size) (heights : List ℕ) (rows : List Row) → AreHeightsOf size heights → AreFirstStacks size heights (stacks_of rows) → All (λ (row : Row). length row.items ≤ 8) rows
+first_low size heights rows are first =
+    fits_to 8 rows (All-from_recursion (λ stack. length stack ≤ 8) (stacks_of rows)
+    (front_low heights (stacks_of rows) (recursion_from_All (λ height. HasTiers height) heights are.are_heights) first.low))

@@ -1,66 +1,73 @@
 -- Each text begins with a head's text or has a first fault, and only one of these.
-use Rattle.std.proofs.Common.{◌≡◌, ℕ, zero, suc, ◌+◌, ◌-◌, ◌≤◌, ◌⊎◌, inl, inr, ⊎_elim, Bool, cond, List, [], ◌∷◌, ◌++◌, length, Option, Some, None, refl, sym, ap, ◌∙◌, subst, arith, append_assoc}
-use Rattle.std.specs.Prelude.{IfSome, replicate}
+use Rattle.std.proofs.Common.{◌≡◌, ℕ, zero, suc, ◌+◌, ◌-◌, ◌≤◌, ◌⊎◌, inl, inr, ⊎_elim, Bool, cond, List, [], ◌∷◌, ◌++◌, length, get_or, Option, Some, None, refl, sym, ap, ◌∙◌, subst, arith, append_assoc}
+use Rattle.std.specs.Prelude.{IfSome}
 use Rattle.std.specs.List.{flat_map}
 use Rattle.std.proofs.lemmas.Option.{none-some, same_Some, some_pair_parts}
 use Rattle.std.proofs.lemmas.List.{append-nil}
-use Rattle.std.proofs.lemmas.List.Elements.{All-from_recursion}
 use Rattle.std.proofs.lemmas.Bool.{cases_lt}
 use Rattle.crp_plan.specs.BayNames.{YardBay, IsYardBay}
-use Rattle.crp_plan.specs.Rows.{total, tallest, FitRows, occurrences}
+use Rattle.crp_plan.specs.Rows.{total, tallest, occurrences}
 use Rattle.crp_plan.specs.Bay.{Problem, IsProblem}
-use Rattle.crp_plan.specs.Faults.{stated}
-use Rattle.crp_plan.proofs.Tallies.{same_fit, tallest_same}
+use Rattle.crp_plan.specs.Faults.{stated_with}
 use Rattle.crp_cert.specs.declared.head.Head.{Head}
 use Rattle.crp_cert.specs.declared.size.Size.{Size}
+use Rattle.crp_cert.specs.declared.version.Version.{Version}
+use Rattle.crp_cert.specs.declared.version.Version.TheVariants.{One, Two}
 use Rattle.crp_cert.specs.declared.fault.CertFault.{CertFault}
 use Rattle.crp_cert.specs.declared.fault.CertFault.TheVariants as faults
-use Rattle.crp_cert.specs.Text.{title_line, bay_line, size_line, row_line, claim_line, plan_line, head_text, size_of, IsSize, IsHead, IsHeadOf, AreRows}
-use Rattle.crp_cert.specs.Faults.{BeginsWith, AreFirstStacks, IsNextStack, most_claimed, BeginsWithSize, BeginsWithStacks, IsFirstFault}
-use Rattle.crp_cert.specs.Reading.{◌>>=◌, tag_at, size_at, row_at, claim_at, plan_at, IsStackFault}
-use Rattle.crp_cert.proofs.Numbers.{tag_takes, tag_again, bind_some, if_some}
+use Rattle.crp_cert.specs.Text.{title_line, bay_line, size_line, stated_heights, row_line, claim_line, plan_line, head_text, first_row, size_of, IsSize, IsHead, IsHeadOf, AreRows}
+use Rattle.crp_cert.specs.Faults.{BeginsWith, MayState, AreFirstStacks, IsNextStack, most_claimed, Frame, BeginsWithFrame, BeginsWithStacks, IsFirstFault}
+use Rattle.crp_cert.specs.Reading.{◌>>=◌, title_at, size_at, heights_at, row_at, claim_at, plan_at, IsStackFault}
+use Rattle.crp_cert.proofs.Numbers.{bind_some, if_some}
 use Rattle.crp_cert.proofs.Lines.{row_again, row_takes}
-use Rattle.crp_cert.proofs.Heads.{head_then, size_is}
-use Rattle.crp_cert.proofs.Readers.{IsReader, none_stands, none_read, bay_at, bay_reader, size_reader, claim_reader, plan_reader}
+use Rattle.crp_cert.proofs.Heads.{head_then, size_is, head_states}
+use Rattle.crp_cert.proofs.Readers.{IsReader, none_stands, none_read, title_reader, bay_at, bay_reader, size_reader, claim_reader, plan_reader}
+use Rattle.crp_cert.proofs.Heights.{line_reader, heights_reader, heights_are, can_state, front_of}
 use Rattle.crp_cert.proofs.Stacks.{no_stacks, next_low, next_small, fewer, problem_is, total_is, cap_is, few_claimed, are_first, first_to, first_from, length_push}
 
 -- ---- the next row line
 
 -- the stack if it may follow
-abbrev kept_stack : Size → List (List ℕ) → List ℕ × List ℕ → Option (List ℕ × List ℕ)
-kept_stack size stacks x = cond (are_first size (stacks ++ x.0 ∷ [])) (Some x) None
+abbrev kept_stack : Size → List ℕ → List (List ℕ) → List ℕ × List ℕ → Option (List ℕ × List ℕ)
+kept_stack size heights stacks x = cond (are_first size heights (stacks ++ x.0 ∷ [])) (Some x) None
+
+-- the height of the row behind some stacks
+abbrev pub next_height : List ℕ → List (List ℕ) → ℕ
+next_height heights stacks = get_or heights (length stacks) 0
 
 -- a stack that may follow, from the front of the bytes
-abbrev pub next_at : Size → List (List ℕ) → List ℕ → Option (List ℕ × List ℕ)
-next_at size stacks bytes = row_at size.tiers bytes >>= kept_stack size stacks
+abbrev pub next_at : Size → List ℕ → List (List ℕ) → List ℕ → Option (List ℕ × List ℕ)
+next_at size heights stacks bytes = row_at (next_height heights stacks) bytes >>= kept_stack size heights stacks
 
 -- the next row line
-pub next_reader : (size : Size) (stacks : List (List ℕ)) → IsSize size → IsReader (IsNextStack size stacks) row_line (next_at size stacks)
-next_reader size stacks is = record { takes = takes; again = again }
+pub next_reader : (size : Size) (heights : List ℕ) (stacks : List (List ℕ)) → IsSize size → IsReader (IsNextStack size heights stacks) row_line (next_at size heights stacks)
+next_reader size heights stacks is = record { takes = takes; again = again }
   where
-    takes : (bytes stack rest : List ℕ) → next_at size stacks bytes ≡ Some (stack, rest) → IsNextStack size stacks stack × (bytes ≡ row_line stack ++ rest)
+    takes : (bytes stack rest : List ℕ) → next_at size heights stacks bytes ≡ Some (stack, rest) → IsNextStack size heights stacks stack × (bytes ≡ row_line stack ++ rest)
     takes bytes stack rest e =
-        let x = bind_some (row_at size.tiers bytes) (kept_stack size stacks) (stack, rest) e in
-        let k = if_some (are_first size (stacks ++ x.0.0 ∷ [])) (Some x.0) (stack, rest) x.2 in
+        let x = bind_some (row_at (next_height heights stacks) bytes) (kept_stack size heights stacks) (stack, rest) e in
+        let k = if_some (are_first size heights (stacks ++ x.0.0 ∷ [])) (Some x.0) (stack, rest) x.2 in
         let p = some_pair_parts x.0.0 stack x.0.1 rest k.1 in
-        let t = (row_takes size.tiers bytes x.0.0 x.0.1 x.1).0 in
-        (subst (IsNextStack size stacks) p.0 (first_to size (stacks ++ x.0.0 ∷ []) k.0), t ∙ ap (λ s. row_line s ++ x.0.1) p.0 ∙ ap (λ l. row_line stack ++ l) p.1)
+        let t = (row_takes (next_height heights stacks) bytes x.0.0 x.0.1 x.1).0 in
+        (subst (IsNextStack size heights stacks) p.0 (first_to size heights (stacks ++ x.0.0 ∷ []) k.0), t ∙ ap (λ s. row_line s ++ x.0.1) p.0 ∙ ap (λ l. row_line stack ++ l) p.1)
 
-    again : (stack rest : List ℕ) → IsNextStack size stacks stack → next_at size stacks (row_line stack ++ rest) ≡ Some (stack, rest)
+    again : (stack rest : List ℕ) → IsNextStack size heights stacks stack → next_at size heights stacks (row_line stack ++ rest) ≡ Some (stack, rest)
     again stack rest next =
-        ap (λ o. o >>= kept_stack size stacks) (row_again size.tiers stack rest (next_low size stacks stack next) (next_small size stacks stack is next))
-        ∙ ap (λ (b : Bool). cond b (Some (stack, rest)) None) (first_from size (stacks ++ stack ∷ []) next)
+        ap (λ o. o >>= kept_stack size heights stacks) (row_again (next_height heights stacks) stack rest (next_low size heights stacks stack next) (next_small size heights stacks stack is next))
+        ∙ ap (λ (b : Bool). cond b (Some (stack, rest)) None) (first_from size heights (stacks ++ stack ∷ []) next)
 
 -- a row line that tells a stack which may not follow
-pub not_next : (size : Size) (stacks : List (List ℕ)) (bytes stack rest : List ℕ) → IsSize size → row_at size.tiers bytes ≡ Some (stack, rest) → ¬ IsNextStack size stacks stack → ¬ BeginsWith (IsNextStack size stacks) row_line bytes
-not_next size stacks bytes stack rest is e never stands =
-    let other : List ℕ = stands.0 in let next : IsNextStack size stacks other = stands.1 in
-    let again : row_at size.tiers bytes ≡ Some (other, stands.2.0) = ap (row_at size.tiers) stands.2.1 ∙ row_again size.tiers other stands.2.0 (next_low size stacks other next) (next_small size stacks other is next) in
-    never (subst (IsNextStack size stacks) (some_pair_parts other stack stands.2.0 rest (sym again ∙ e)).0 next)
+pub not_next : (size : Size) (heights : List ℕ) (stacks : List (List ℕ)) (bytes stack rest : List ℕ) → IsSize size → row_at (next_height heights stacks) bytes ≡ Some (stack, rest) → ¬ IsNextStack size heights stacks stack →
+    ¬ BeginsWith (IsNextStack size heights stacks) row_line bytes
+not_next size heights stacks bytes stack rest is e never stands =
+    let other : List ℕ = stands.0 in let next : IsNextStack size heights stacks other = stands.1 in
+    let again : row_at (next_height heights stacks) bytes ≡ Some (other, stands.2.0) =
+    ap (row_at (next_height heights stacks)) stands.2.1 ∙ row_again (next_height heights stacks) other stands.2.0 (next_low size heights stacks other next) (next_small size heights stacks other is next) in
+    never (subst (IsNextStack size heights stacks) (some_pair_parts other stack stands.2.0 rest (sym again ∙ e)).0 next)
 
 -- no row line, or one of too many ranks
-pub no_row : (size : Size) (stacks : List (List ℕ)) (bytes : List ℕ) → IsSize size → row_at size.tiers bytes ≡ None → ¬ BeginsWith (IsNextStack size stacks) row_line bytes
-no_row size stacks bytes is e = none_stands (next_reader size stacks is) bytes (ap (λ o. o >>= kept_stack size stacks) e)
+pub no_row : (size : Size) (heights : List ℕ) (stacks : List (List ℕ)) (bytes : List ℕ) → IsSize size → row_at (next_height heights stacks) bytes ≡ None → ¬ BeginsWith (IsNextStack size heights stacks) row_line bytes
+no_row size heights stacks bytes is e = none_stands (next_reader size heights stacks is) bytes (ap (λ o. o >>= kept_stack size heights stacks) e)
 
 -- ---- the fault that is met first, going from line to line
 
@@ -69,130 +76,150 @@ abbrev pub or_fault : {A : Type 0} → Option A → CertFault → (A → Option 
 or_fault None fault next = Some fault
 or_fault (Some x) fault next = next x
 
+-- what the lines above the rows say
+abbrev pub frame_of : Version → Size → List ℕ → Frame
+frame_of version size heights = record { version = version; size = size; heights = heights }
+
+-- the number of the claim's line
+abbrev pub claim_number : Frame → ℕ
+claim_number frame = first_row frame.version + frame.size.rows
+
 -- the fault from the plan line on
-plan_fault : Size → List ℕ → Option CertFault
-plan_fault size bytes = or_fault (plan_at bytes) (faults.Plan (5 + size.rows)) (λ x. None)
+plan_fault : Frame → List ℕ → Option CertFault
+plan_fault frame bytes = or_fault (plan_at bytes) (faults.Plan (claim_number frame + 1)) (λ x. None)
 
 -- from the claim line on
-claim_fault : Size → List ℕ → Option CertFault
-claim_fault size bytes = or_fault (claim_at (most_claimed size) bytes) (faults.Claim (4 + size.rows)) (λ x. plan_fault size x.1)
+claim_fault : Frame → List ℕ → Option CertFault
+claim_fault frame bytes = or_fault (claim_at (most_claimed frame.size) bytes) (faults.Claim (claim_number frame)) (λ x. plan_fault frame x.1)
 
 -- from a row line on, where so many are left
-rows_fault : Size → ℕ → List (List ℕ) → List ℕ → Option CertFault
-rows_fault size zero stacks bytes = claim_fault size bytes
-rows_fault size (suc left) stacks bytes = or_fault (next_at size stacks bytes) (faults.Row (4 + length stacks)) (λ x. rows_fault size left (stacks ++ x.0 ∷ []) x.1)
+rows_fault : Frame → ℕ → List (List ℕ) → List ℕ → Option CertFault
+rows_fault frame zero stacks bytes = claim_fault frame bytes
+rows_fault frame (suc left) stacks bytes = or_fault (next_at frame.size frame.heights stacks bytes) (faults.Row (first_row frame.version + length stacks)) (λ x. rows_fault frame left (stacks ++ x.0 ∷ []) x.1)
+
+-- from behind the size line on
+heights_fault : Version → Size → List ℕ → Option CertFault
+heights_fault version size bytes = or_fault (heights_at version size bytes) (faults.Size 4) (λ x. rows_fault (frame_of version size x.0) size.rows [] x.1)
 
 -- from the size line on
-size_fault : List ℕ → Option CertFault
-size_fault bytes = or_fault (size_at bytes) (faults.Size 3) (λ x. rows_fault x.0 x.0.rows [] x.1)
+size_fault : Version → List ℕ → Option CertFault
+size_fault version bytes = or_fault (size_at bytes) (faults.Size 3) (λ x. heights_fault version x.0 x.1)
 
 -- from the line of the bay on
-bay_fault : List ℕ → Option CertFault
-bay_fault bytes = or_fault (bay_at bytes) (faults.Opening 2) (λ x. size_fault x.1)
+bay_fault : Version → List ℕ → Option CertFault
+bay_fault version bytes = or_fault (bay_at bytes) (faults.Opening 2) (λ x. size_fault version x.1)
 
 -- the fault of the whole text, if there is one
 met : List ℕ → Option CertFault
-met bytes = or_fault (tag_at title_line bytes) (faults.Opening 1) bay_fault
+met bytes = or_fault (title_at bytes) (faults.Opening 1) (λ x. bay_fault x.0 x.1)
 
 -- past the title
-past_title : (rest : List ℕ) → met (title_line ++ rest) ≡ bay_fault rest
+past_title : (version : Version) (rest : List ℕ) → met (title_line version ++ rest) ≡ bay_fault version rest
 unfolding met
-past_title rest = ap (λ o. or_fault o (faults.Opening 1) bay_fault) (tag_again title_line rest)
+past_title version rest = ap (λ o. or_fault o (faults.Opening 1) (λ x. bay_fault x.0 x.1)) (title_reader.again version rest tt)
 
 -- past the line of the bay
-past_bay : (name : YardBay) (rest : List ℕ) → IsYardBay name → bay_fault (bay_line name ++ rest) ≡ size_fault rest
+past_bay : (version : Version) (name : YardBay) (rest : List ℕ) → IsYardBay name → bay_fault version (bay_line name ++ rest) ≡ size_fault version rest
 unfolding bay_fault
-past_bay name rest is = ap (λ o. or_fault o (faults.Opening 2) (λ x. size_fault x.1)) (bay_reader.again name rest is)
+past_bay version name rest is = ap (λ o. or_fault o (faults.Opening 2) (λ x. size_fault version x.1)) (bay_reader.again name rest is)
 
 -- past the size line
-past_size : (size : Size) (rest : List ℕ) → IsSize size → size_fault (size_line size ++ rest) ≡ rows_fault size size.rows [] rest
+past_size : (version : Version) (size : Size) (rest : List ℕ) → IsSize size → size_fault version (size_line size ++ rest) ≡ heights_fault version size rest
 unfolding size_fault
-past_size size rest is = ap (λ o. or_fault o (faults.Size 3) (λ x. rows_fault x.0 x.0.rows [] x.1)) (size_reader.again size rest is)
+past_size version size rest is = ap (λ o. or_fault o (faults.Size 3) (λ x. heights_fault version x.0 x.1)) (size_reader.again size rest is)
+
+-- past the heights
+past_heights : (frame : Frame) (rest : List ℕ) → IsSize frame.size → MayState frame.version frame.size frame.heights →
+    heights_fault frame.version frame.size (stated_heights frame.version frame.heights ++ rest) ≡ rows_fault frame frame.size.rows [] rest
+unfolding heights_fault
+past_heights frame rest is state =
+    ap (λ o. or_fault o (faults.Size 4) (λ x. rows_fault (frame_of frame.version frame.size x.0) frame.size.rows [] x.1)) ((heights_reader frame.version frame.size is).again frame.heights rest state)
 
 -- past a row line
-past_row : (size : Size) (left : ℕ) (stacks : List (List ℕ)) (stack rest : List ℕ) → IsSize size → IsNextStack size stacks stack →
-    rows_fault size (suc left) stacks (row_line stack ++ rest) ≡ rows_fault size left (stacks ++ stack ∷ []) rest
+past_row : (frame : Frame) (left : ℕ) (stacks : List (List ℕ)) (stack rest : List ℕ) → IsSize frame.size → IsNextStack frame.size frame.heights stacks stack →
+    rows_fault frame (suc left) stacks (row_line stack ++ rest) ≡ rows_fault frame left (stacks ++ stack ∷ []) rest
 unfolding rows_fault
-past_row size left stacks stack rest is next =
-    ap (λ o. or_fault o (faults.Row (4 + length stacks)) (λ x. rows_fault size left (stacks ++ x.0 ∷ []) x.1)) ((next_reader size stacks is).again stack rest next)
+past_row frame left stacks stack rest is next =
+    ap (λ o. or_fault o (faults.Row (first_row frame.version + length stacks)) (λ x. rows_fault frame left (stacks ++ x.0 ∷ []) x.1)) ((next_reader frame.size frame.heights stacks is).again stack rest next)
 
 -- past row lines
-past_rows : (size : Size) (left k : ℕ) (before more : List (List ℕ)) (rest : List ℕ) → IsSize size → AreFirstStacks size (before ++ more) → k ≡ left + length more →
-    rows_fault size k before (flat_map row_line more ++ rest) ≡ rows_fault size left (before ++ more) rest
-past_rows size left k before [] rest is first e =
+past_rows : (frame : Frame) (left k : ℕ) (before more : List (List ℕ)) (rest : List ℕ) → IsSize frame.size → AreFirstStacks frame.size frame.heights (before ++ more) → k ≡ left + length more →
+    rows_fault frame k before (flat_map row_line more ++ rest) ≡ rows_fault frame left (before ++ more) rest
+past_rows frame left k before [] rest is first e =
     let same : k ≡ left = omega arith in
-    ap (λ n. rows_fault size n before rest) same ∙ ap (λ l. rows_fault size left l rest) (sym (append-nil before))
-past_rows size left zero before (stack ∷ more) rest is first e = absurd (omega arith)
-past_rows size left (suc k) before (stack ∷ more) rest is first e =
+    ap (λ n. rows_fault frame n before rest) same ∙ ap (λ l. rows_fault frame left l rest) (sym (append-nil before))
+past_rows frame left zero before (stack ∷ more) rest is first e = absurd (omega arith)
+past_rows frame left (suc k) before (stack ∷ more) rest is first e =
     let group : (before ++ stack ∷ []) ++ more ≡ before ++ stack ∷ more = append_assoc before (stack ∷ []) more in
-    let first' : AreFirstStacks size ((before ++ stack ∷ []) ++ more) = subst (AreFirstStacks size) (sym group) first in
-    ap (rows_fault size (suc k) before) (append_assoc (row_line stack) (flat_map row_line more) rest)
-    ∙ past_row size k before stack (flat_map row_line more ++ rest) is (some_fewer (before ++ stack ∷ []) more first')
-    ∙ past_rows size left k (before ++ stack ∷ []) more rest is first' (omega arith)
-    ∙ ap (λ l. rows_fault size left l rest) group
+    let first' : AreFirstStacks frame.size frame.heights ((before ++ stack ∷ []) ++ more) = subst (AreFirstStacks frame.size frame.heights) (sym group) first in
+    ap (rows_fault frame (suc k) before) (append_assoc (row_line stack) (flat_map row_line more) rest)
+    ∙ past_row frame k before stack (flat_map row_line more ++ rest) is (some_fewer (before ++ stack ∷ []) more first')
+    ∙ past_rows frame left k (before ++ stack ∷ []) more rest is first' (omega arith)
+    ∙ ap (λ l. rows_fault frame left l rest) group
   where
-    some_fewer : (a b : List (List ℕ)) → AreFirstStacks size (a ++ b) → AreFirstStacks size a
-    some_fewer a [] h = subst (AreFirstStacks size) (append-nil a) h
-    some_fewer a (x ∷ b) h = fewer size a (x ∷ b) (omega arith) h
+    some_fewer : (a b : List (List ℕ)) → AreFirstStacks frame.size frame.heights (a ++ b) → AreFirstStacks frame.size frame.heights a
+    some_fewer a [] h = subst (AreFirstStacks frame.size frame.heights) (append-nil a) h
+    some_fewer a (x ∷ b) h = fewer frame.size frame.heights a (x ∷ b) (omega arith) h
 
--- past the lines down to the size
-met_size : (bytes : List ℕ) (size : Size) (rest : List ℕ) → BeginsWithSize bytes size rest → met bytes ≡ rows_fault size size.rows [] rest
-met_size bytes size rest tells =
-    ap met tells.text ∙ past_title (bay_line tells.name ++ (size_line size ++ rest)) ∙ past_bay tells.name (size_line size ++ rest) tells.named ∙ past_size size rest tells.is_size
+-- past the lines above the rows
+met_frame : (bytes : List ℕ) (frame : Frame) (rest : List ℕ) → BeginsWithFrame bytes frame rest → met bytes ≡ rows_fault frame frame.size.rows [] rest
+met_frame bytes frame rest tells =
+    let more : List ℕ = stated_heights frame.version frame.heights ++ rest in
+    ap met tells.text ∙ past_title frame.version (bay_line tells.name ++ (size_line frame.size ++ more)) ∙ past_bay frame.version tells.name (size_line frame.size ++ more) tells.named
+    ∙ past_size frame.version frame.size more tells.is_size ∙ past_heights frame rest tells.is_size tells.may_state
 
 -- past the lines down to these stacks
-met_stacks : (bytes : List ℕ) (size : Size) (stacks : List (List ℕ)) (rest : List ℕ) (left : ℕ) → BeginsWithStacks bytes size stacks rest → size.rows ≡ left + length stacks → met bytes ≡ rows_fault size left stacks rest
-met_stacks bytes size stacks rest left told e =
-    met_size bytes size (flat_map row_line stacks ++ rest) told.tells ∙ past_rows size left size.rows [] stacks rest told.tells.is_size told.first e
+met_stacks : (bytes : List ℕ) (frame : Frame) (stacks : List (List ℕ)) (rest : List ℕ) (left : ℕ) → BeginsWithStacks bytes frame stacks rest → frame.size.rows ≡ left + length stacks → met bytes ≡ rows_fault frame left stacks rest
+met_stacks bytes frame stacks rest left told e =
+    met_frame bytes frame (flat_map row_line stacks ++ rest) told.tells ∙ past_rows frame left frame.size.rows [] stacks rest told.tells.is_size told.first e
 
 -- past all row lines
-met_all : (bytes : List ℕ) (size : Size) (stacks : List (List ℕ)) (rest : List ℕ) → BeginsWithStacks bytes size stacks rest → length stacks ≡ size.rows → met bytes ≡ claim_fault size rest
+met_all : (bytes : List ℕ) (frame : Frame) (stacks : List (List ℕ)) (rest : List ℕ) → BeginsWithStacks bytes frame stacks rest → length stacks ≡ frame.size.rows → met bytes ≡ claim_fault frame rest
 unfolding rows_fault
-met_all bytes size stacks rest told all = met_stacks bytes size stacks rest 0 told (omega arith)
+met_all bytes frame stacks rest told all = met_stacks bytes frame stacks rest 0 told (omega arith)
 
 -- past the claim line
-past_claim : (size : Size) (claim : ℕ) (rest : List ℕ) → IsSize size → claim ≤ most_claimed size → claim_fault size (claim_line claim ++ rest) ≡ plan_fault size rest
+past_claim : (frame : Frame) (claim : ℕ) (rest : List ℕ) → IsSize frame.size → claim ≤ most_claimed frame.size → claim_fault frame (claim_line claim ++ rest) ≡ plan_fault frame rest
 unfolding claim_fault
-past_claim size claim rest is low =
-    ap (λ o. or_fault o (faults.Claim (4 + size.rows)) (λ x. plan_fault size x.1)) ((claim_reader (most_claimed size) (few_claimed size is)).again claim rest low)
+past_claim frame claim rest is low =
+    ap (λ o. or_fault o (faults.Claim (claim_number frame)) (λ x. plan_fault frame x.1)) ((claim_reader (most_claimed frame.size) (few_claimed frame.size is)).again claim rest low)
 
 -- the first fault is the one that is met
 met_fault : (bytes : List ℕ) (fault : CertFault) → IsFirstFault bytes fault → met bytes ≡ Some fault
-unfolding met bay_fault size_fault rows_fault claim_fault plan_fault
-met_fault bytes (faults.Opening line) is =
-    ⊎_elim
-    (λ one. ap (λ o. or_fault o (faults.Opening 1) bay_fault) (no_title (tag_at title_line bytes) refl one.1) ∙ ap (λ n. Some (faults.Opening n)) (sym one.0))
-    (λ two.
-    ap met two.1.1 ∙ past_title two.1.0 ∙ ap (λ o. or_fault o (faults.Opening 2) (λ x. size_fault x.1)) (none_read bay_reader two.1.0 two.1.2) ∙ ap (λ n. Some (faults.Opening n)) (sym two.0))
-    is
-  where
-    no_title : (o : Option (List ℕ)) → tag_at title_line bytes ≡ o → ((rest : List ℕ) → bytes ≡ title_line ++ rest → ⊥) → tag_at title_line bytes ≡ None
-    no_title None e never = e
-    no_title (Some rest) e never = absurd (never rest (tag_takes title_line bytes rest e))
-met_fault bytes (faults.Size line) is =
-    ap met is.1.3 ∙ past_title (bay_line is.1.0 ++ is.1.1) ∙ past_bay is.1.0 is.1.1 is.1.2
-    ∙ ap (λ o. or_fault o (faults.Size 3) (λ x. rows_fault x.0 x.0.rows [] x.1)) (none_read size_reader is.1.1 is.1.4) ∙ ap (λ n. Some (faults.Size n)) (sym is.0)
-met_fault bytes (faults.Row line) (size, stacks, rest, told, more, place, none) =
-    met_stacks bytes size stacks rest (suc (size.rows - suc (length stacks))) told (omega arith)
-    ∙ ap (λ o. or_fault o (faults.Row (4 + length stacks)) (λ x. rows_fault size (size.rows - suc (length stacks)) (stacks ++ x.0 ∷ []) x.1)) (none_read (next_reader size stacks told.tells.is_size) rest none)
+unfolding met bay_fault size_fault heights_fault rows_fault claim_fault plan_fault
+met_fault bytes (faults.Opening line) (inl is) =
+    ap (λ o. or_fault o (faults.Opening 1) (λ x. bay_fault x.0 x.1)) (none_read title_reader bytes (λ stands. is.1 stands.0 stands.2.0 stands.2.1)) ∙ ap (λ n. Some (faults.Opening n)) (sym is.0)
+met_fault bytes (faults.Opening line) (inr is) =
+    ap met is.1.2 ∙ past_title is.1.0 is.1.1 ∙ ap (λ o. or_fault o (faults.Opening 2) (λ x. size_fault is.1.0 x.1)) (none_read bay_reader is.1.1 is.1.3) ∙ ap (λ n. Some (faults.Opening n)) (sym is.0)
+met_fault bytes (faults.Size line) (inl is) =
+    ap met is.1.4 ∙ past_title is.1.0 (bay_line is.1.1 ++ is.1.2) ∙ past_bay is.1.0 is.1.1 is.1.2 is.1.3
+    ∙ ap (λ o. or_fault o (faults.Size 3) (λ x. heights_fault is.1.0 x.0 x.1)) (none_read size_reader is.1.2 is.1.5) ∙ ap (λ n. Some (faults.Size n)) (sym is.0)
+met_fault bytes (faults.Size line) (inr is) =
+    let name : YardBay = is.1.0 in let size : Size = is.1.1 in let rest : List ℕ = is.1.2 in
+    ap met is.1.5 ∙ past_title Two (bay_line name ++ (size_line size ++ rest)) ∙ past_bay Two name (size_line size ++ rest) is.1.3 ∙ past_size Two size rest is.1.4
+    ∙ ap (λ o. or_fault o (faults.Size 4) (λ x. rows_fault (frame_of Two size x.0) size.rows [] x.1)) (none_read (line_reader size is.1.4) rest is.1.6) ∙ ap (λ n. Some (faults.Size n)) (sym is.0)
+met_fault bytes (faults.Row line) (frame, stacks, rest, told, more, place, none) =
+    met_stacks bytes frame stacks rest (suc (frame.size.rows - suc (length stacks))) told (omega arith)
+    ∙ ap (λ o. or_fault o (faults.Row (first_row frame.version + length stacks)) (λ x. rows_fault frame (frame.size.rows - suc (length stacks)) (stacks ++ x.0 ∷ []) x.1))
+    (none_read (next_reader frame.size frame.heights stacks told.tells.is_size) rest none)
     ∙ ap (λ n. Some (faults.Row n)) (sym place)
-met_fault bytes (faults.Claim line) (size, stacks, rest, told, all, place, none) =
-    met_all bytes size stacks rest told all
-    ∙ ap (λ o. or_fault o (faults.Claim (4 + size.rows)) (λ x. plan_fault size x.1)) (none_read (claim_reader (most_claimed size) (few_claimed size told.tells.is_size)) rest none)
+met_fault bytes (faults.Claim line) (frame, stacks, rest, told, all, place, none) =
+    met_all bytes frame stacks rest told all
+    ∙ ap (λ o. or_fault o (faults.Claim (claim_number frame)) (λ x. plan_fault frame x.1)) (none_read (claim_reader (most_claimed frame.size) (few_claimed frame.size told.tells.is_size)) rest none)
     ∙ ap (λ n. Some (faults.Claim n)) (sym place)
-met_fault bytes (faults.Plan line) (size, stacks, claim, rest, told, all, low, place, none) =
-    met_all bytes size stacks (claim_line claim ++ rest) told all ∙ past_claim size claim rest told.tells.is_size low
-    ∙ ap (λ o. or_fault o (faults.Plan (5 + size.rows)) (λ x. None)) (none_read plan_reader rest none)
+met_fault bytes (faults.Plan line) (frame, stacks, claim, rest, told, all, low, place, none) =
+    met_all bytes frame stacks (claim_line claim ++ rest) told all ∙ past_claim frame claim rest told.tells.is_size low
+    ∙ ap (λ o. or_fault o (faults.Plan (claim_number frame + 1)) (λ x. None)) (none_read plan_reader rest none)
     ∙ ap (λ n. Some (faults.Plan n)) (sym place)
 met_fault bytes _ is = absurd is
 
 -- ---- what a head tells
 
 -- the stacks of a problem are first stacks
-problem_first : (p : Problem) → IsProblem p → p.heights ≡ replicate (length p.stacks) (tallest p.heights) → AreFirstStacks (size_of p) p.stacks
-problem_first p is same = record {
+problem_first : (p : Problem) → IsProblem p → AreFirstStacks (size_of p) p.heights p.stacks
+problem_first p is = record {
   few = omega arith;
-  low = All-from_recursion (λ stack. length stack ≤ tallest p.heights) p.stacks (same_fit (tallest p.heights) p.stacks (subst (λ h. FitRows h p.stacks) same is.stacks_fit));
+  low = front_of p.heights p.stacks is.stacks_fit;
   in_range = is.no_other;
   apart = λ x.
       ⊎_elim
@@ -202,22 +229,26 @@ problem_first p is same = record {
   none_missing = λ all x lo hi. omega (arith, is.each_once x lo hi);
 }
 
+-- what a head says above its rows
+abbrev pub frame_in : Head → Frame
+frame_in head = frame_of head.version (size_of head.problem) head.problem.heights
+
 -- what a head tells above its claim
-head_tells : (bytes : List ℕ) (head : Head) (rest : List ℕ) → IsHead head → bytes ≡ head_text head ++ rest → BeginsWithStacks bytes (size_of head.problem) head.problem.stacks (claim_line head.claim ++ (plan_line head.plan ++ rest))
+head_tells : (bytes : List ℕ) (head : Head) (rest : List ℕ) → IsHead head → bytes ≡ head_text head ++ rest → BeginsWithStacks bytes (frame_in head) head.problem.stacks (claim_line head.claim ++ (plan_line head.plan ++ rest))
 head_tells bytes head rest is text = record {
-  tells = record { name = head.bay; named = is.name; is_size = size_is head is; text = text ∙ head_then head rest };
-  first = problem_first head.problem is.problem is.same_heights;
+  tells = record { name = head.bay; named = is.name; is_size = size_is head is; may_state = head_states head is; text = text ∙ head_then head rest };
+  first = problem_first head.problem is.problem;
 }
 
 -- no fault is met in a head
 met_head : (bytes : List ℕ) (head : Head) → IsHeadOf bytes head → met bytes ≡ None
 unfolding plan_fault
 met_head bytes head of =
-    let is = of.0 in let rest : List ℕ = of.1.0 in let size : Size = size_of head.problem in
+    let is = of.0 in let rest : List ℕ = of.1.0 in let frame : Frame = frame_in head in
     let told = head_tells bytes head rest is of.1.1 in
-    met_all bytes size head.problem.stacks (claim_line head.claim ++ (plan_line head.plan ++ rest)) told refl
-    ∙ past_claim size head.claim (plan_line head.plan ++ rest) told.tells.is_size is.claim
-    ∙ ap (λ o. or_fault o (faults.Plan (5 + size.rows)) (λ x. None)) (plan_reader.again head.plan rest is.plan)
+    met_all bytes frame head.problem.stacks (claim_line head.claim ++ (plan_line head.plan ++ rest)) told refl
+    ∙ past_claim frame head.claim (plan_line head.plan ++ rest) told.tells.is_size is.claim
+    ∙ ap (λ o. or_fault o (faults.Plan (claim_number frame + 1)) (λ x. None)) (plan_reader.again head.plan rest is.plan)
 
 -- no text has both
 pub apart : (bytes : List ℕ) (head : Head) (fault : CertFault) → IsHeadOf bytes head → IsFirstFault bytes fault → ⊥
@@ -234,23 +265,29 @@ abbrev Answer : List ℕ → Type 0
 Answer bytes = ((head : Head) × IsHeadOf bytes head) ⊎ ((fault : CertFault) × IsFirstFault bytes fault)
 
 -- the head that these lines tell
-pub head_of : (bytes : List ℕ) (name : YardBay) (size : Size) (stacks : List (List ℕ)) (claim : ℕ) (plan : Option (List ℕ)) (rest : List ℕ) → IsYardBay name → IsSize size →
-    AreFirstStacks size stacks → length stacks ≡ size.rows → claim ≤ most_claimed size → IfSome plan AreRows →
-    bytes ≡ title_line ++ (bay_line name ++ (size_line size ++ (flat_map row_line stacks ++ (claim_line claim ++ (plan_line plan ++ rest))))) →
-    let head : Head = record { bay = name; problem = stated size.tiers size.ordered stacks; claim = claim; plan = plan } in IsHead head × (bytes ≡ head_text head ++ rest)
-head_of bytes name size stacks claim plan rest named is first all low fits text =
-    let some : 1 ≤ length stacks = (let a = is.some_rows in omega arith) in
-    let high : tallest (replicate (length stacks) size.tiers) ≡ size.tiers = tallest_same (length stacks) size.tiers some in
-    let head : Head = record { bay = name; problem = stated size.tiers size.ordered stacks; claim = claim; plan = plan } in
-    let same : size ≡ size_of (stated size.tiers size.ordered stacks) = same_size size.rows size.tiers size.total (length stacks) (tallest (replicate (length stacks) size.tiers)) (total stacks) size.ordered (sym all) (sym high) (sym (total_is size stacks first all)) in (
+abbrev pub told_head : YardBay → Frame → List (List ℕ) → ℕ → Option (List ℕ) → Head
+told_head name frame stacks claim plan = record { version = frame.version; bay = name; problem = stated_with frame.heights frame.size.ordered stacks; claim = claim; plan = plan }
+
+pub head_of : (bytes : List ℕ) (name : YardBay) (frame : Frame) (stacks : List (List ℕ)) (claim : ℕ) (plan : Option (List ℕ)) (rest : List ℕ) → IsYardBay name → IsSize frame.size →
+    MayState frame.version frame.size frame.heights → AreFirstStacks frame.size frame.heights stacks → length stacks ≡ frame.size.rows → claim ≤ most_claimed frame.size → IfSome plan AreRows →
+    bytes ≡ title_line frame.version ++ (bay_line name ++ (size_line frame.size ++ (stated_heights frame.version frame.heights ++ (flat_map row_line stacks ++ (claim_line claim ++ (plan_line plan ++ rest)))))) →
+    IsHead (told_head name frame stacks claim plan) × (bytes ≡ head_text (told_head name frame stacks claim plan) ++ rest)
+head_of bytes name frame stacks claim plan rest named is state first all low fits text =
+    let size : Size = frame.size in let heights : List ℕ = frame.heights in
+    let are = heights_are frame.version size heights is state in
+    let head : Head = told_head name frame stacks claim plan in
+    let same : size ≡ size_of (stated_with heights size.ordered stacks) =
+    same_size size.rows size.tiers size.total (length stacks) (tallest heights) (total stacks) size.ordered (sym all) (sym are.largest) (sym (total_is size heights stacks first all)) in (
       record {
         name = named;
-        problem = problem_is size stacks is first all;
-        same_heights = ap (replicate (length stacks)) (sym high);
-        claim = subst (λ m. claim ≤ m) (sym (cap_is size stacks some)) low;
+        problem = problem_is size heights stacks is are first all;
+        can_state = can_state frame.version size (stated_with heights size.ordered stacks) all are.largest state;
+        claim = subst (λ m. claim ≤ m) (sym (cap_is size heights stacks are)) low;
         plan = fits;
       },
-      text ∙ ap (λ (s : Size). title_line ++ (bay_line name ++ (size_line s ++ (flat_map row_line stacks ++ (claim_line claim ++ (plan_line plan ++ rest)))))) same ∙ sym (head_then head rest),
+      text
+          ∙ ap (λ (s : Size). title_line frame.version ++ (bay_line name ++ (size_line s ++ (stated_heights frame.version heights ++ (flat_map row_line stacks ++ (claim_line claim ++ (plan_line plan ++ rest))))))) same
+          ∙ sym (head_then head rest),
     )
   where
     same_size : (r t m r' t' m' n : ℕ) → r ≡ r' → t ≡ t' → m ≡ m' → ◌≡◌ {A = Size} (record { rows = r; tiers = t; ordered = n; total = m }) (record { rows = r'; tiers = t'; ordered = n; total = m' })
@@ -258,29 +295,30 @@ head_of bytes name size stacks claim plan rest named is first all low fits text 
         ap (λ x. record { rows = x; tiers = t; ordered = n; total = m }) a ∙ ap (λ x. record { rows = r'; tiers = x; ordered = n; total = m }) b ∙ ap (λ x. record { rows = r'; tiers = t'; ordered = n; total = x }) c
 
 -- from the plan line on there is one of the two
-plan_answer : (bytes : List ℕ) (size : Size) (stacks : List (List ℕ)) (claim : ℕ) (rest : List ℕ) → BeginsWithStacks bytes size stacks (claim_line claim ++ rest) → length stacks ≡ size.rows → claim ≤ most_claimed size → Answer bytes
-plan_answer bytes size stacks claim rest told all low = by_plan (plan_at rest) refl
+plan_answer : (bytes : List ℕ) (frame : Frame) (stacks : List (List ℕ)) (claim : ℕ) (rest : List ℕ) → BeginsWithStacks bytes frame stacks (claim_line claim ++ rest) → length stacks ≡ frame.size.rows → claim ≤ most_claimed frame.size → Answer bytes
+plan_answer bytes frame stacks claim rest told all low = by_plan (plan_at rest) refl
   where
     by_plan : (o : Option (Option (List ℕ) × List ℕ)) → plan_at rest ≡ o → Answer bytes
-    by_plan None e = inr (faults.Plan (5 + size.rows), (size, stacks, claim, rest, told, all, low, refl, none_stands plan_reader rest e))
+    by_plan None e = inr (faults.Plan (claim_number frame + 1), (frame, stacks, claim, rest, told, all, low, refl, none_stands plan_reader rest e))
     by_plan (Some x) e =
+        let name : YardBay = told.tells.name in
         let t = plan_reader.takes rest x.0 x.1 e in
-        let h = head_of bytes told.tells.name size stacks claim x.0 x.1 told.tells.named told.tells.is_size told.first all low t.0
-        (told.tells.text ∙ ap (λ l. title_line ++ (bay_line told.tells.name ++ (size_line size ++ (flat_map row_line stacks ++ (claim_line claim ++ l))))) t.1) in
-        inl (record { bay = told.tells.name; problem = stated size.tiers size.ordered stacks; claim = claim; plan = x.0 }, (h.0, (x.1, h.1)))
+        let h = head_of bytes name frame stacks claim x.0 x.1 told.tells.named told.tells.is_size told.tells.may_state told.first all low t.0
+        (told.tells.text ∙ ap (λ l. title_line frame.version ++ (bay_line name ++ (size_line frame.size ++ (stated_heights frame.version frame.heights ++ (flat_map row_line stacks ++ (claim_line claim ++ l)))))) t.1) in
+        inl (told_head name frame stacks claim x.0, (h.0, (x.1, h.1)))
 
 -- from the claim line on
-claim_answer : (bytes : List ℕ) (size : Size) (stacks : List (List ℕ)) (rest : List ℕ) → BeginsWithStacks bytes size stacks rest → length stacks ≡ size.rows → Answer bytes
-claim_answer bytes size stacks rest told all = by_claim (claim_at (most_claimed size) rest) refl
+claim_answer : (bytes : List ℕ) (frame : Frame) (stacks : List (List ℕ)) (rest : List ℕ) → BeginsWithStacks bytes frame stacks rest → length stacks ≡ frame.size.rows → Answer bytes
+claim_answer bytes frame stacks rest told all = by_claim (claim_at (most_claimed frame.size) rest) refl
   where
-    reader : IsReader (λ claim. claim ≤ most_claimed size) claim_line (claim_at (most_claimed size))
-    reader = claim_reader (most_claimed size) (few_claimed size told.tells.is_size)
+    reader : IsReader (λ claim. claim ≤ most_claimed frame.size) claim_line (claim_at (most_claimed frame.size))
+    reader = claim_reader (most_claimed frame.size) (few_claimed frame.size told.tells.is_size)
 
-    by_claim : (o : Option (ℕ × List ℕ)) → claim_at (most_claimed size) rest ≡ o → Answer bytes
-    by_claim None e = inr (faults.Claim (4 + size.rows), (size, stacks, rest, told, all, refl, none_stands reader rest e))
+    by_claim : (o : Option (ℕ × List ℕ)) → claim_at (most_claimed frame.size) rest ≡ o → Answer bytes
+    by_claim None e = inr (faults.Claim (claim_number frame), (frame, stacks, rest, told, all, refl, none_stands reader rest e))
     by_claim (Some x) e =
         let t = reader.takes rest x.0 x.1 e in
-        plan_answer bytes size stacks x.0 x.1 (subst (BeginsWithStacks bytes size stacks) t.1 told) all t.0
+        plan_answer bytes frame stacks x.0 x.1 (subst (BeginsWithStacks bytes frame stacks) t.1 told) all t.0
 
 -- the text of one more stack
 pub text_push : (bytes : List ℕ) (stacks : List (List ℕ)) (stack rest after : List ℕ) → bytes ≡ flat_map row_line stacks ++ rest → rest ≡ row_line stack ++ after → bytes ≡ flat_map row_line (stacks ++ stack ∷ []) ++ after
@@ -293,60 +331,79 @@ text_push bytes stacks stack rest after e f = e ∙ ap (λ l. flat_map row_line 
         ∙ sym (append_assoc (row_line s) (flat_map row_line (stacks ++ stack ∷ [])) after)
 
 -- the lines with one more row
-pub tells_next : (bytes : List ℕ) (size : Size) (stacks : List (List ℕ)) (stack rest after : List ℕ) → BeginsWithStacks bytes size stacks rest → IsNextStack size stacks stack → rest ≡ row_line stack ++ after → BeginsWithStacks bytes size (stacks ++ stack ∷ []) after
-tells_next bytes size stacks stack rest after told next e = record {
-  tells = subst (BeginsWithSize bytes size) (text_push (flat_map row_line stacks ++ rest) stacks stack rest after refl e) told.tells;
+pub tells_next : (bytes : List ℕ) (frame : Frame) (stacks : List (List ℕ)) (stack rest after : List ℕ) → BeginsWithStacks bytes frame stacks rest → IsNextStack frame.size frame.heights stacks stack → rest ≡ row_line stack ++ after →
+    BeginsWithStacks bytes frame (stacks ++ stack ∷ []) after
+tells_next bytes frame stacks stack rest after told next e = record {
+  tells = subst (BeginsWithFrame bytes frame) (text_push (flat_map row_line stacks ++ rest) stacks stack rest after refl e) told.tells;
   first = next;
 }
 
 -- from a row line on
-rows_answer : (left : ℕ) (bytes : List ℕ) (size : Size) (stacks : List (List ℕ)) (rest : List ℕ) → BeginsWithStacks bytes size stacks rest → size.rows ≡ left + length stacks → Answer bytes
-rows_answer zero bytes size stacks rest told e = claim_answer bytes size stacks rest told (omega arith)
-rows_answer (suc left) bytes size stacks rest told e =
-    by_row (λ stack after next. rows_answer left bytes size (stacks ++ stack ∷ []) after next (omega (arith, length_push stacks stack))) (next_at size stacks rest) refl
+rows_answer : (left : ℕ) (bytes : List ℕ) (frame : Frame) (stacks : List (List ℕ)) (rest : List ℕ) → BeginsWithStacks bytes frame stacks rest → frame.size.rows ≡ left + length stacks → Answer bytes
+rows_answer zero bytes frame stacks rest told e = claim_answer bytes frame stacks rest told (omega arith)
+rows_answer (suc left) bytes frame stacks rest told e =
+    by_row (λ stack after next. rows_answer left bytes frame (stacks ++ stack ∷ []) after next (omega (arith, length_push stacks stack))) (next_at frame.size frame.heights stacks rest) refl
   where
-    reader : IsReader (IsNextStack size stacks) row_line (next_at size stacks)
-    reader = next_reader size stacks told.tells.is_size
+    reader : IsReader (IsNextStack frame.size frame.heights stacks) row_line (next_at frame.size frame.heights stacks)
+    reader = next_reader frame.size frame.heights stacks told.tells.is_size
 
-    by_row : ((stack after : List ℕ) → BeginsWithStacks bytes size (stacks ++ stack ∷ []) after → Answer bytes) → (o : Option (List ℕ × List ℕ)) → next_at size stacks rest ≡ o → Answer bytes
-    by_row go None f = inr (faults.Row (4 + length stacks), (size, stacks, rest, told, omega arith, refl, none_stands reader rest f))
+    by_row : ((stack after : List ℕ) → BeginsWithStacks bytes frame (stacks ++ stack ∷ []) after → Answer bytes) → (o : Option (List ℕ × List ℕ)) → next_at frame.size frame.heights stacks rest ≡ o → Answer bytes
+    by_row go None f = inr (faults.Row (first_row frame.version + length stacks), (frame, stacks, rest, told, omega arith, refl, none_stands reader rest f))
     by_row go (Some x) f =
         let t = reader.takes rest x.0 x.1 f in
-        go x.0 x.1 (tells_next bytes size stacks x.0 rest x.1 told t.0 t.1)
+        go x.0 x.1 (tells_next bytes frame stacks x.0 rest x.1 told t.0 t.1)
+
+-- from behind the size line on
+heights_answer : (bytes : List ℕ) (version : Version) (name : YardBay) (size : Size) (rest : List ℕ) → IsYardBay name → IsSize size → bytes ≡ title_line version ++ (bay_line name ++ (size_line size ++ rest)) → Answer bytes
+heights_answer bytes version name size rest named is text = by_heights version text (heights_at version size rest) refl
+  where
+    by_heights : (v : Version) → bytes ≡ title_line v ++ (bay_line name ++ (size_line size ++ rest)) → (o : Option (List ℕ × List ℕ)) → heights_at v size rest ≡ o → Answer bytes
+    by_heights One text None e = absurd cc
+    by_heights Two text None e = inr (faults.Size 4, inr (refl, (name, size, rest, named, is, text, none_stands (line_reader size is) rest e)))
+    by_heights v text (Some x) e =
+        let t = (heights_reader v size is).takes rest x.0 x.1 e in
+        rows_answer size.rows bytes (frame_of v size x.0) [] x.1
+        (record {
+          tells = record { name = name; named = named; is_size = is; may_state = t.0; text = text ∙ ap (λ l. title_line v ++ (bay_line name ++ (size_line size ++ l))) t.1 };
+          first = no_stacks size x.0 is;
+        }) (omega arith)
 
 -- from the size line on
-size_answer : (bytes : List ℕ) (name : YardBay) (rest : List ℕ) → IsYardBay name → bytes ≡ title_line ++ (bay_line name ++ rest) → Answer bytes
-size_answer bytes name rest named text = by_size (size_at rest) refl
+size_answer : (bytes : List ℕ) (version : Version) (name : YardBay) (rest : List ℕ) → IsYardBay name → bytes ≡ title_line version ++ (bay_line name ++ rest) → Answer bytes
+size_answer bytes version name rest named text = by_size (size_at rest) refl
   where
     by_size : (o : Option (Size × List ℕ)) → size_at rest ≡ o → Answer bytes
-    by_size None e = inr (faults.Size 3, (refl, (name, rest, named, text, none_stands size_reader rest e)))
+    by_size None e = inr (faults.Size 3, inl (refl, (version, name, rest, named, text, none_stands size_reader rest e)))
     by_size (Some x) e =
         let t = size_reader.takes rest x.0 x.1 e in
-        rows_answer x.0.rows bytes x.0 [] x.1
-        (record { tells = record { name = name; named = named; is_size = t.0; text = text ∙ ap (λ l. title_line ++ (bay_line name ++ l)) t.1 }; first = no_stacks x.0 t.0 }) (omega arith)
+        heights_answer bytes version name x.0 x.1 named t.0 (text ∙ ap (λ l. title_line version ++ (bay_line name ++ l)) t.1)
 
 -- from the line of the bay on
-bay_answer : (bytes rest : List ℕ) → bytes ≡ title_line ++ rest → Answer bytes
-bay_answer bytes rest text = by_bay (bay_at rest) refl
+bay_answer : (bytes : List ℕ) (version : Version) (rest : List ℕ) → bytes ≡ title_line version ++ rest → Answer bytes
+bay_answer bytes version rest text = by_bay (bay_at rest) refl
   where
     by_bay : (o : Option (YardBay × List ℕ)) → bay_at rest ≡ o → Answer bytes
-    by_bay None e = inr (faults.Opening 2, inr (refl, (rest, text, none_stands bay_reader rest e)))
+    by_bay None e = inr (faults.Opening 2, inr (refl, (version, rest, text, none_stands bay_reader rest e)))
     by_bay (Some x) e =
         let t = bay_reader.takes rest x.0 x.1 e in
-        size_answer bytes x.0 x.1 t.0 (text ∙ ap (λ l. title_line ++ l) t.1)
+        size_answer bytes version x.0 x.1 t.0 (text ∙ ap (λ l. title_line version ++ l) t.1)
+
+-- where no title is read none stands
+pub no_title : (bytes : List ℕ) → title_at bytes ≡ None → (version : Version) (rest : List ℕ) → bytes ≡ title_line version ++ rest → ⊥
+no_title bytes e version rest text = none_stands title_reader bytes e (version, tt, (rest, text))
 
 -- each text has one of the two
 pub some_answer : (bytes : List ℕ) → Answer bytes
-some_answer bytes = by_title (tag_at title_line bytes) refl
+some_answer bytes = by_title (title_at bytes) refl
   where
-    by_title : (o : Option (List ℕ)) → tag_at title_line bytes ≡ o → Answer bytes
-    by_title None e = inr (faults.Opening 1, inl (refl, λ rest f. none-some rest (sym e ∙ ap (tag_at title_line) f ∙ tag_again title_line rest)))
-    by_title (Some rest) e = bay_answer bytes rest (tag_takes title_line bytes rest e)
+    by_title : (o : Option (Version × List ℕ)) → title_at bytes ≡ o → Answer bytes
+    by_title None e = inr (faults.Opening 1, inl (refl, no_title bytes e))
+    by_title (Some x) e = bay_answer bytes x.0 x.1 (title_reader.takes bytes x.0 x.1 e).1
 
 -- ---- what the reader met
 
 -- a fault among the row lines is a first fault
-pub stack_fault : (bytes : List ℕ) (size : Size) (rest : List ℕ) (fault : CertFault) → BeginsWithSize bytes size rest → IsStackFault size rest fault → IsFirstFault bytes fault
-stack_fault bytes size rest fault tells is =
+pub stack_fault : (bytes : List ℕ) (frame : Frame) (rest : List ℕ) (fault : CertFault) → BeginsWithFrame bytes frame rest → IsStackFault frame.version frame.size frame.heights rest fault → IsFirstFault bytes fault
+stack_fault bytes frame rest fault tells is =
     subst (IsFirstFault bytes) (sym is.fault_is)
-    (size, is.stacks, is.rest, record { tells = subst (BeginsWithSize bytes size) is.text tells; first = is.first }, is.more, refl, is.none)
+    (frame, is.stacks, is.rest, record { tells = subst (BeginsWithFrame bytes frame) is.text tells; first = is.first }, is.more, refl, is.none)

@@ -1,7 +1,6 @@
 -- Worked certificates: trees at the empty paths of three problems, and what they show.
-use Rattle.std.proofs.Common.{◌≡◌, ◌≢◌, ℕ, ◌≤◌, inl, ⊎_elim, List, [], ◌∷◌, ◌++◌, length, map, replicate, Contains, All, AllPairs, None, Vec, Global, refl, sym, ap, ◌∙◌, subst, arith}
+use Rattle.std.proofs.Common.{◌≡◌, ◌≢◌, ℕ, ◌≤◌, inl, ⊎_elim, List, [], ◌∷◌, ◌++◌, map, Contains, All, AllPairs, None, Vec, Global, refl, sym, ap, ◌∙◌, subst, arith}
 use Rattle.std.proofs.lemmas.List.Elements.{All-nil, All-cons, All-same, All-from_recursion}
-use Rattle.crp_plan.specs.Rows.{tallest}
 use Rattle.crp_plan.specs.Bay.{Problem, IsProblem, Position, start, cap}
 use Rattle.crp_plan.specs.Faults.{stated}
 use Rattle.crp_bay.specs.Positions.{settled, targets}
@@ -82,9 +81,9 @@ alone : (R : List ℕ → List ℕ → Type 0) (name : List ℕ) → AllPairs R 
 alone R name i j d ij lt = absurd (omega arith)
 
 -- a tree at the empty path that gives nothing, with the least of its values and no plan: a claim that a text can tell
-pub spelled_at_root : (p : Problem) (tree : Tree) (floor : ℕ) → IsProblem p → p.heights ≡ replicate (length p.stacks) (tallest p.heights) → ShapeAndFloor floor tree p
+pub spelled_at_root : (p : Problem) (tree : Tree) (floor : ℕ) → IsProblem p → ShapeAndFloor floor tree p
     → given_names (nodes [] (settled (start p)) tree) ≡ [] → CanBeSpelled (record { problem = p; lower = floor; plan = None; parts = record { name = []; tree = tree } ∷ [] })
-spelled_at_root p tree floor ok heights shows none =
+spelled_at_root p tree floor ok shows none =
     let part : Part = record { name = []; tree = tree } in
     let is : IsPart p part = part_at_root p [] tree refl ok shows.0 in
     let own : nodes_in p part ≡ nodes [] (settled (start p)) tree = nodes_are p part (settled (start p)) ok (begins_at p ok) in
@@ -104,6 +103,5 @@ spelled_at_root p tree floor ok heights shows none =
               (λ d. absurd (not_in_nil name (subst (λ l. Contains (l ++ []) name) gives d))) n,
         );
       };
-      same_heights = heights;
       rising = alone Precedes [];
     }

@@ -14,12 +14,14 @@ use Rattle.crp_plan.specs.Plans.{Route}
 use Rattle.crp_plan.proofs.Buried.{below_cap}
 use Rattle.crp_plan.proofs.Covered.{relocations-path}
 use Rattle.crp_plan.proofs.Tallies.{cap_low}
-use Rattle.crp_tree.specs.Claims.{Part, IsPart, names, Claim}
+use Rattle.crp_tree.specs.Claims.{Part, IsPart, names, Claim, path_in}
 use Rattle.crp_tree.specs.Parts.{ProblemPart, Certificate, IsCertificate, part_of, claimed}
 use Rattle.crp_tree.proofs.Certified.{same_names}
-use Rattle.crp_cert.specs.Text.{AreRows, head_text}
+use Rattle.crp_cert.specs.declared.version.Version.{Version}
+use Rattle.crp_cert.specs.Text.{AreRows, title_line, bay_line, size_line, stated_heights, size_of, row_line, claim_line, plan_line, head_text}
 use Rattle.crp_cert.specs.Script.{IsPartLine, IsScript, part_line, end_line}
-use Rattle.crp_cert.specs.Writing.{head_for, script_for, certificate_text, CanBeSpelled}
+use Rattle.crp_cert.proofs.Heights.{written_can}
+use Rattle.crp_cert.specs.Writing.{version_for, head_for, script_for, certificate_text, CanBeSpelled}
 use Rattle.crp_tree.specs.Names.{Precedes}
 
 -- ---- lists of bytes
@@ -29,6 +31,20 @@ pub one_more : {X : Type 0} (f : X → List ℕ) (xs : List X) (i : ℕ) (x : X)
 one_more f [] i x e = absurd (none-some x e)
 one_more f (y ∷ ys) zero x e = append-nil (f y) ∙ ap f (same_Some y x e)
 one_more f (y ∷ ys) (suc i) x e = ap (λ l. f y ++ l) (one_more f ys i x e) ∙ sym (append_assoc (f y) (flat_map f (take i ys)) (f x))
+
+-- the lines of a head, each behind those before it, make its text
+pub head_joined : (bay : YardBay) (p : Problem) (claim : ℕ) (plan : Option Route) (version : Version) (old titled named sized high told claimed all : List ℕ) → version ≡ version_for p → titled ≡ old ++ title_line version →
+    named ≡ titled ++ bay_line bay → sized ≡ named ++ size_line (size_of p) → high ≡ sized ++ stated_heights version p.heights → told ≡ high ++ flat_map row_line p.stacks → claimed ≡ told ++ claim_line claim →
+    all ≡ claimed ++ plan_line (path_in plan) → all ≡ old ++ head_text (head_for bay p claim plan)
+head_joined bay p claim plan version old titled named sized high told claimed' all ev et en es eh er ec ea =
+    let name : List ℕ = bay_line bay in let size : List ℕ = size_line (size_of p) in let rows : List ℕ = flat_map row_line p.stacks in
+    let low : List ℕ = claim_line claim in let last : List ℕ = plan_line (path_in plan) in
+    ea ∙ ap (λ l. l ++ last) (ec ∙ ap (λ l. l ++ low) (er ∙ ap (λ l. l ++ rows) (eh ∙ ap (λ l. l ++ stated_heights version p.heights) (es ∙ ap (λ l. l ++ size) (en ∙ ap (λ l. l ++ name) et)))))
+    ∙ joined old (title_line version) name size (stated_heights version p.heights) rows low last
+    ∙ ap (λ (v : Version). old ++ (title_line v ++ (name ++ (size ++ (stated_heights v p.heights ++ (rows ++ (low ++ last))))))) ev
+  where
+    joined : (o t b s h r c p : List ℕ) → ((((((o ++ t) ++ b) ++ s) ++ h) ++ r) ++ c) ++ p ≡ o ++ (t ++ (b ++ (s ++ (h ++ (r ++ (c ++ p))))))
+    joined o t b s h r c p = simp append_assoc
 
 -- the head, the lines of the parts and the last line make the text of a certificate
 pub text_joined : (bay : YardBay) (p : Problem) (cert : Certificate) (plan : Option Route) (lower : ℕ) (parts again : List ProblemPart) (none head lines text : List ℕ) →
@@ -90,7 +106,7 @@ spelled_is_script bay c name t =
       is_head = record {
         name = name;
         problem = is_problem;
-        same_heights = t.same_heights;
+        can_state = written_can c.problem is_problem;
         claim = ok.within_cap;
         plan = plan_rows c.problem c.plan is_problem ok.plan_is;
       };

@@ -1,60 +1,87 @@
 -- Which line is the first that is not as said: the lines before it are, and no line that may stand there does.
-use Rattle.std.specs.Prelude.{◌≡◌, ◌≤◌, ◌<◌, ◌⊎◌, ℕ, ◌+◌, ◌-◌, ◌*◌, List, [], ◌∷◌, ◌++◌, length, All, IfSome}
+use Rattle.std.specs.Prelude.{◌≡◌, ◌≤◌, ◌<◌, ◌⊎◌, ℕ, ◌+◌, ◌-◌, ◌*◌, List, [], ◌∷◌, ◌++◌, length, IfSome, take, replicate}
 use Rattle.std.specs.List.{flat_map}
 use Rattle.crp_plan.specs.BayNames.{YardBay, IsYardBay}
-use Rattle.crp_plan.specs.Rows.{occurrences}
+use Rattle.crp_plan.specs.Rows.{occurrences, FitRows, tallest}
+use Rattle.crp_plan.specs.Faults.{AreHeights}
 use Rattle.crp_cert.specs.declared.size.Size.{Size}
+use Rattle.crp_cert.specs.declared.version.Version.{Version}
+use Rattle.crp_cert.specs.declared.version.Version.TheVariants.{One, Two}
 use Rattle.crp_cert.specs.declared.fault.CertFault.{CertFault}
 use Rattle.crp_cert.specs.declared.fault.CertFault.TheVariants as faults
-use Rattle.crp_cert.specs.Text.{title_line, bay_line, size_line, row_line, claim_line, plan_line, IsSize, AreRows}
+use Rattle.crp_cert.specs.Text.{title_line, bay_line, size_line, heights_line, stated_heights, row_line, claim_line, plan_line, first_row, IsSize, AreRows}
 
 -- the bytes begin with the line of something that may stand there
 abbrev pub BeginsWith : {A : Type 0} → (A → Type 0) → (A → List ℕ) → List ℕ → Type 0
 BeginsWith {A} fits line bytes = (x : A) × fits x × ((rest : List ℕ) × (bytes ≡ line x ++ rest))
 
--- the first stacks of a bay of this size: none is higher than the tiers, the ranks are from 1 to the number of containers, each in one place at most; and once there are all stacks no rank is missing
-pub record AreFirstStacks (size : Size) (stacks : List (List ℕ)) : Type 0 where
+-- what a heights line may say under a size: a height from 1 to 8 for each row, and the largest of them are the tiers
+pub record AreHeightsOf (size : Size) (heights : List ℕ) : Type 0 where
+  pub for_each_row : length heights ≡ size.rows
+  pub are_heights : AreHeights heights
+  pub largest : tallest heights ≡ size.tiers
+
+-- the heights that a version may state under a size: in version 1 each row is as high as the tiers
+abbrev pub MayState : Version → Size → List ℕ → Type 0
+MayState One size heights = heights ≡ replicate size.rows size.tiers
+MayState Two size heights = AreHeightsOf size heights
+
+-- the first stacks of a bay of this size and these heights: none is higher than its own row, the ranks are from 1 to the number of containers,
+-- each in one place at most; and once there are all stacks no rank is missing
+pub record AreFirstStacks (size : Size) (heights : List ℕ) (stacks : List (List ℕ)) : Type 0 where
   pub few : length stacks ≤ size.rows
-  pub low : All (λ stack. length stack ≤ size.tiers) stacks
+  pub low : FitRows (take (length stacks) heights) stacks
   pub in_range : (x : ℕ) → 0 < occurrences x stacks → (1 ≤ x) × (x ≤ size.total)
   pub apart : (x : ℕ) → occurrences x stacks ≤ 1
   pub none_missing : length stacks ≡ size.rows → (x : ℕ) → 1 ≤ x → x ≤ size.total → 0 < occurrences x stacks
 
 -- the stack may follow these
-abbrev pub IsNextStack : Size → List (List ℕ) → List ℕ → Type 0
-IsNextStack size stacks stack = AreFirstStacks size (stacks ++ stack ∷ [])
+abbrev pub IsNextStack : Size → List ℕ → List (List ℕ) → List ℕ → Type 0
+IsNextStack size heights stacks stack = AreFirstStacks size heights (stacks ++ stack ∷ [])
 
 -- more relocations than any plan of a bay of this size has
 abbrev pub most_claimed : Size → ℕ
 most_claimed size = size.ordered * (size.tiers - 1) + 1
 
--- the bytes begin with the title, the line of a bay and that of this size, and then this follows
-pub record BeginsWithSize (bytes : List ℕ) (size : Size) (rest : List ℕ) : Type 0 where
+-- what the lines above the rows say beside the name of the bay
+pub record Frame : Type 0 where
+  pub version : Version
+  pub size : Size
+  pub heights : List ℕ
+
+-- the bytes begin with the lines above the rows, which say this, and then this follows
+pub record BeginsWithFrame (bytes : List ℕ) (frame : Frame) (rest : List ℕ) : Type 0 where
   pub name : YardBay
   pub named : IsYardBay name
-  pub is_size : IsSize size
-  pub text : bytes ≡ title_line ++ (bay_line name ++ (size_line size ++ rest))
+  pub is_size : IsSize frame.size
+  pub may_state : MayState frame.version frame.size frame.heights
+  pub text : bytes ≡ title_line frame.version ++ (bay_line name ++ (size_line frame.size ++ (stated_heights frame.version frame.heights ++ rest)))
 
 -- the same, and the lines of these first stacks
-pub record BeginsWithStacks (bytes : List ℕ) (size : Size) (stacks : List (List ℕ)) (rest : List ℕ) : Type 0 where
-  pub tells : BeginsWithSize bytes size (flat_map row_line stacks ++ rest)
-  pub first : AreFirstStacks size stacks
+pub record BeginsWithStacks (bytes : List ℕ) (frame : Frame) (stacks : List (List ℕ)) (rest : List ℕ) : Type 0 where
+  pub tells : BeginsWithFrame bytes frame (flat_map row_line stacks ++ rest)
+  pub first : AreFirstStacks frame.size frame.heights stacks
 
 -- the first line that is not as said, by what it should spell and its number from 1
 abbrev pub IsFirstFault : List ℕ → CertFault → Type 0
 IsFirstFault bytes (faults.Opening line) =
     ◌⊎◌
-    ((line ≡ 1) × ((rest : List ℕ) → bytes ≡ title_line ++ rest → ⊥))
-    ((line ≡ 2) × ((rest : List ℕ) × (bytes ≡ title_line ++ rest) × ¬ BeginsWith IsYardBay bay_line rest))
+    ((line ≡ 1) × ((version : Version) (rest : List ℕ) → bytes ≡ title_line version ++ rest → ⊥))
+    ((line ≡ 2) × ((version : Version) × (rest : List ℕ) × (bytes ≡ title_line version ++ rest) × ¬ BeginsWith IsYardBay bay_line rest))
 IsFirstFault bytes (faults.Size line) =
-    (line ≡ 3) × ((name : YardBay) × (rest : List ℕ) × IsYardBay name × (bytes ≡ title_line ++ (bay_line name ++ rest)) × ¬ BeginsWith IsSize size_line rest)
+    ◌⊎◌
+    ((line ≡ 3) × ((version : Version) × (name : YardBay) × (rest : List ℕ) × IsYardBay name
+    × (bytes ≡ title_line version ++ (bay_line name ++ rest)) × ¬ BeginsWith IsSize size_line rest))
+    ((line ≡ 4) × ((name : YardBay) × (size : Size) × (rest : List ℕ) × IsYardBay name × IsSize size
+    × (bytes ≡ title_line Two ++ (bay_line name ++ (size_line size ++ rest))) × ¬ BeginsWith (AreHeightsOf size) heights_line rest))
 IsFirstFault bytes (faults.Row line) =
-    (size : Size) × (stacks : List (List ℕ)) × (rest : List ℕ) × BeginsWithStacks bytes size stacks rest
-    × (length stacks < size.rows) × (line ≡ 4 + length stacks) × ¬ BeginsWith (IsNextStack size stacks) row_line rest
+    (frame : Frame) × (stacks : List (List ℕ)) × (rest : List ℕ) × BeginsWithStacks bytes frame stacks rest
+    × (length stacks < frame.size.rows) × (line ≡ first_row frame.version + length stacks) × ¬ BeginsWith (IsNextStack frame.size frame.heights stacks) row_line rest
 IsFirstFault bytes (faults.Claim line) =
-    (size : Size) × (stacks : List (List ℕ)) × (rest : List ℕ) × BeginsWithStacks bytes size stacks rest
-    × (length stacks ≡ size.rows) × (line ≡ 4 + size.rows) × ¬ BeginsWith (λ claim. claim ≤ most_claimed size) claim_line rest
+    (frame : Frame) × (stacks : List (List ℕ)) × (rest : List ℕ) × BeginsWithStacks bytes frame stacks rest
+    × (length stacks ≡ frame.size.rows) × (line ≡ first_row frame.version + frame.size.rows) × ¬ BeginsWith (λ claim. claim ≤ most_claimed frame.size) claim_line rest
 IsFirstFault bytes (faults.Plan line) =
-    (size : Size) × (stacks : List (List ℕ)) × (claim : ℕ) × (rest : List ℕ) × BeginsWithStacks bytes size stacks (claim_line claim ++ rest)
-    × (length stacks ≡ size.rows) × (claim ≤ most_claimed size) × (line ≡ 5 + size.rows) × ¬ BeginsWith (λ plan. IfSome plan AreRows) plan_line rest
+    (frame : Frame) × (stacks : List (List ℕ)) × (claim : ℕ) × (rest : List ℕ) × BeginsWithStacks bytes frame stacks (claim_line claim ++ rest)
+    × (length stacks ≡ frame.size.rows) × (claim ≤ most_claimed frame.size)
+    × (line ≡ first_row frame.version + frame.size.rows + 1) × ¬ BeginsWith (λ plan. IfSome plan AreRows) plan_line rest
 IsFirstFault bytes _ = ⊥

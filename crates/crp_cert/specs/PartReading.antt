@@ -51,9 +51,9 @@ pub record AreParts (p : Problem) (bytes : List ℕ) (parts : List Part) (rest :
   pub rising : AllPairs Precedes (names parts)
   pub text : bytes ≡ flat_map part_line parts ++ rest
 
--- the bytes begin with the lines of parts, and the line after them has this fault
-pub record IsPartsFault (p : Problem) (bytes : List ℕ) (fault : CertFault) : Type 0 where
+-- the bytes begin with the lines of parts, of which the first has this number, and the line after them has this fault
+pub record IsPartsFault (p : Problem) (first : ℕ) (bytes : List ℕ) (fault : CertFault) : Type 0 where
   pub parts : List Part
   pub rest : List ℕ
   pub are : AreParts p bytes parts rest
-  pub why : IsLineFault p parts (6 + length p.stacks + length parts) rest fault
+  pub why : IsLineFault p parts (first + length parts) rest fault

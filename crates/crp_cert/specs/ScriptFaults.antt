@@ -8,7 +8,7 @@ use Rattle.crp_tree.specs.Claims.{Part, names}
 use Rattle.crp_cert.specs.declared.head.Head.{Head}
 use Rattle.crp_cert.specs.declared.fault.CertFault.{CertFault}
 use Rattle.crp_cert.specs.declared.fault.CertFault.TheVariants as faults
-use Rattle.crp_cert.specs.Text.{head_text, IsHead}
+use Rattle.crp_cert.specs.Text.{head_text, first_part, IsHead}
 use Rattle.crp_cert.specs.Faults.{IsFirstFault}
 use Rattle.crp_cert.specs.Script.{symbols_of, symbols_line, part_line, end_line, IsPartLine}
 use Rattle.crp_tree.specs.Trees.{Fits}
@@ -19,7 +19,7 @@ pub record BeginsWithParts (bytes : List ℕ) (head : Head) (parts : List Part) 
   pub each_part : All (IsPartLine head.problem) parts
   pub rising : AllPairs Precedes (names parts)
   pub text : bytes ≡ head_text head ++ (flat_map part_line parts ++ rest)
-  pub number : line ≡ 6 + length head.problem.stacks + length parts
+  pub number : line ≡ first_part head + length parts
 
 -- the bytes begin with a part line: its name has at most 8 rows and is a path of the problem; its symbols may be anything
 pub record BeginsWithPart (p : Problem) (bytes : List ℕ) : Type 0 where

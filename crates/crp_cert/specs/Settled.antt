@@ -4,6 +4,7 @@ use Rattle.std.specs.List.{AllByRecursion}
 use Rattle.crp_plan.specs.BayNames.{YardBay, IsYardBay}
 use Rattle.crp_plan.specs.Bay.{Problem, Position, IsAt}
 use Rattle.crp_tree.specs.Names.{name_text}
+use Rattle.crp_cert.specs.declared.version.Version.{Version}
 use Rattle.crp_cert.specs.Text.{title_line, bay_line}
 
 -- bytes without the stop, then the stop, and no more than so many in all
@@ -28,9 +29,9 @@ IsSettled stop most bytes = HasStop stop bytes ⊎ (most ≤ length bytes)
 abbrev pub longest_line : ℕ
 longest_line = 2021
 
--- no head is longer: it has at most 17 lines, of which 12 are rows
+-- no head is longer: it has at most 18 lines, of which 12 are rows
 abbrev pub longest_head : ℕ
-longest_head = 17 * longest_line
+longest_head = 18 * longest_line
 
 -- a path of the problem with at most 8 rows
 abbrev pub IsName : Problem → List ℕ → Type 0
@@ -44,6 +45,6 @@ spelled_name name = name_text name ++ codes ": "
 abbrev pub longest_name : ℕ
 longest_name = 25
 
--- the bytes begin with the title and the line of this bay
+-- the bytes begin with the title of some version and the line of this bay
 abbrev pub BeginsWithBay : List ℕ → YardBay → Type 0
-BeginsWithBay bytes name = IsYardBay name × ((rest : List ℕ) × (bytes ≡ title_line ++ (bay_line name ++ rest)))
+BeginsWithBay bytes name = IsYardBay name × ((version : Version) × (rest : List ℕ) × (bytes ≡ title_line version ++ (bay_line name ++ rest)))

@@ -1,5 +1,5 @@
 -- The text of a certificate's head, line by line. Each line ends with LF.
-use Rattle.std.specs.Prelude.{◌≡◌, ◌≤◌, ◌*◌, ℕ, List, [], ◌∷◌, ◌++◌, length, All, Option, Some, None, IfSome, codes, replicate}
+use Rattle.std.specs.Prelude.{◌≡◌, ◌≤◌, ◌+◌, ◌*◌, ℕ, List, [], ◌∷◌, ◌++◌, length, All, Option, Some, None, IfSome, codes, replicate, ⊤}
 use Rattle.std.specs.List.{flat_map}
 use Rattle.std.specs.Fmt.{decimal}
 use Rattle.crp_plan.specs.BayNames.{YardBay, IsYardBay}
@@ -7,6 +7,8 @@ use Rattle.crp_plan.specs.Rows.{total, tallest}
 use Rattle.crp_plan.specs.Bay.{Problem, IsProblem, cap}
 use Rattle.crp_cert.specs.declared.head.Head.{Head}
 use Rattle.crp_cert.specs.declared.size.Size.{Size}
+use Rattle.crp_cert.specs.declared.version.Version.{Version}
+use Rattle.crp_cert.specs.declared.version.Version.TheVariants.{One, Two}
 
 -- each number after a space
 abbrev pub spaced : List ℕ → List ℕ
@@ -17,16 +19,26 @@ abbrev pub numbers_line : List ℕ → List ℕ → List ℕ
 numbers_line word ns = word ++ (spaced ns ++ 10 ∷ [])
 
 -- the first line
-abbrev pub title_line : List ℕ
-title_line = codes "CRP-CERT 1" ++ 10 ∷ []
+abbrev pub title_line : Version → List ℕ
+title_line One = codes "CRP-CERT 1" ++ 10 ∷ []
+title_line Two = codes "CRP-CERT 2" ++ 10 ∷ []
 
 -- the name of the bay: its block and its number
 abbrev pub bay_line : YardBay → List ℕ
 bay_line name = codes "bay " ++ (name.block ++ (spaced (name.bay ∷ []) ++ 10 ∷ []))
 
--- the rows, the tiers, the containers that are to leave, and all containers
+-- the rows, the largest height of a row, the containers that are to leave, and all containers
 abbrev pub size_line : Size → List ℕ
 size_line size = numbers_line (codes "size") (size.rows ∷ size.tiers ∷ size.ordered ∷ size.total ∷ [])
+
+-- how high each row may be
+abbrev pub heights_line : List ℕ → List ℕ
+heights_line heights = numbers_line (codes "heights") heights
+
+-- what a version has of the heights: version 1 no line, since each row is as high as the tiers
+abbrev pub stated_heights : Version → List ℕ → List ℕ
+stated_heights One heights = []
+stated_heights Two heights = heights_line heights
 
 -- the ranks of a stack, from bottom to top
 abbrev pub row_line : List ℕ → List ℕ
@@ -62,19 +74,34 @@ size_of p = record { rows = length p.stacks; tiers = tallest p.heights; ordered 
 abbrev pub HasOneHeight : Problem → Type 0
 HasOneHeight p = p.heights ≡ replicate (length p.stacks) (tallest p.heights)
 
+-- a text of this version can state the problem: version 1 where the rows have one height, version 2 always
+abbrev pub CanState : Version → Problem → Type 0
+CanState One p = HasOneHeight p
+CanState Two p = ⊤
+
 -- what a head may say
 pub record IsHead (head : Head) : Type 0 where
   pub name : IsYardBay head.bay
   pub problem : IsProblem head.problem
-  pub same_heights : HasOneHeight head.problem
+  pub can_state : CanState head.version head.problem
   pub claim : head.claim ≤ cap head.problem
   pub plan : IfSome head.plan AreRows
 
 -- the lines down to the plan, in order
 abbrev pub head_text : Head → List ℕ
 head_text head =
-    title_line ++ (bay_line head.bay ++ (size_line (size_of head.problem) ++ (flat_map row_line head.problem.stacks ++ (claim_line head.claim ++ plan_line head.plan))))
+    title_line head.version ++ (bay_line head.bay ++ (size_line (size_of head.problem) ++ (stated_heights head.version head.problem.heights
+    ++ (flat_map row_line head.problem.stacks ++ (claim_line head.claim ++ plan_line head.plan)))))
 
 -- the bytes begin with the head's text; what follows it is anything
 abbrev pub IsHeadOf : List ℕ → Head → Type 0
 IsHeadOf bytes head = IsHead head × ((rest : List ℕ) × (bytes ≡ head_text head ++ rest))
+
+-- the number of the first row's line, from 1
+abbrev pub first_row : Version → ℕ
+first_row One = 4
+first_row Two = 5
+
+-- the number of the first part's line: before it stand the rows, the claim and the plan
+abbrev pub first_part : Head → ℕ
+first_part head = first_row head.version + length head.problem.stacks + 2

@@ -1,5 +1,6 @@
 //! Reading a whole certificate.
-ghost use Rattle.std.specs.Prelude.{◌≡◌, ◌+◌, ◌⊎◌, ◌↔◌, ◌++◌, None, IsTrue, IfOk, IfErr, AllPairs, codes};
+ghost use Rattle.std.specs.Prelude.{◌≡◌, ◌≤◌, ◌+◌, ◌⊎◌, ◌↔◌, ◌++◌, None, IsTrue, IfOk, IfErr, AllPairs, codes};
+ghost use Rattle.crp_plan.specs.Bay.{IsProblem};
 ghost use Rattle.crp_tree.specs.Names.{Precedes};
 ghost use Rattle.crp_tree.specs.Claims.{names};
 ghost use Rattle.crp_cert.specs.Script.{part_line, end_line, IsPartLine, IsScriptOf};
@@ -66,20 +67,23 @@ fn next_part<'a>(
     Ok((PartLine::new(told.name, tree), told.rest))
 }
 
-/// The parts that the lines after a head tell, and what follows the last of these lines.
+/// The parts that the lines from the first one on tell, and what follows the last of these lines.
 fn all_parts<'a>(
     alloc: Global,
     problem: &Problem,
+    first: u32,
     bytes: &'a [u8],
 ) -> Result<(Vec<PartLine>, &'a [u8]), CertFault>
+    requires problem { IsProblem problem.now }
+    requires first { first ≤ 19 }
     ensures parts { IfOk result (λ told. AreParts problem.now bytes.now told.0.items told.1.now) }
     ensures all { IfOk result (λ told. tag_at (codes "part ") told.1.now ≡ None) }
-    ensures refused { IfErr result (λ fault. (fault ≡ CertFault.Memory) ⊎ IsPartsFault problem.now bytes.now fault) }
+    ensures refused { IfErr result (λ fault. (fault ≡ CertFault.Memory) ⊎ IsPartsFault problem.now first bytes.now fault) }
 {
     let mut parts = Vec::new(alloc);
     let mut rest = bytes;
     while let Some(after) = after_tag(b"part ", rest) {
-        let line = 6 + problem.rows() as u32 + parts.len() as u32;
+        let line = first + parts.len() as u32;
         let (part, after) = next_part(alloc, problem, &parts, line, after)?;
         let Ok(()) = parts.push(part) else {
             return Err(CertFault::Memory);
@@ -131,13 +135,14 @@ pub fn read_cert(alloc: Global, bytes: &[u8]) -> Result<Script, CertFault>
     ensures refused { IfErr result (λ fault. (fault ≡ CertFault.Memory) ⊎ IsFirstFaultOfScript bytes.now fault) }
 {
     let (head, rest) = head_and_rest(alloc, bytes)?;
-    let (parts, rest) = all_parts(alloc, &head.problem, rest)?;
-    let line = 6 + head.problem.rows() as u32 + parts.len() as u32;
+    let first = head.first_part();
+    let (parts, rest) = all_parts(alloc, &head.problem, first, rest)?;
+    let last = first + parts.len() as u32;
     let Some(rest) = after_end(parts.len(), rest) else {
-        return Err(CertFault::End { line });
+        return Err(CertFault::End { line: last });
     };
     if !rest.is_empty() {
-        return Err(CertFault::End { line: line + 1 });
+        return Err(CertFault::End { line: last + 1 });
     }
     Ok(Script {
         head,

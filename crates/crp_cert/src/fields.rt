@@ -1,12 +1,15 @@
 //! The fields of a line.
-ghost use Rattle.std.specs.Prelude.{◌≡◌, ◌≤◌, ◌<◌, ◌+◌, ◌*◌, ◌-◌, ◌++◌, ℕ, List, IfOk, IfSome, IfNone};
+ghost use Rattle.std.specs.Prelude.{◌≡◌, ◌≤◌, ◌<◌, ◌+◌, ◌*◌, ◌-◌, ◌++◌, ℕ, List, IfOk, IfSome, IfNone, IsTrue, ◌↔◌, All, replicate};
+ghost use Rattle.std.specs.List.{list_all};
 ghost use Rattle.crp_plan.specs.BayNames.{YardBay, IsYardBay};
 ghost use Rattle.crp_cert.specs.Text.{bay_line};
-ghost use Rattle.crp_cert.specs.Reading.{Reads, tag_at, digits_at, number_at, spaced_at, newline_at, numbers_at, word_at, size_at, claim_at, is_size, name_at, row_at, plan_at};
+ghost use Rattle.crp_cert.specs.Reading.{Reads, tag_at, digits_at, number_at, spaced_at, newline_at, numbers_at, word_at, title_at, size_at, heights_line_at, heights_at, claim_at, is_size, is_height, are_heights, name_at, row_at, plan_at};
 
 use crate::rows::Rows;
 use crate::size::Size;
-use crp_plan::BayName;
+use crate::version::Version;
+use arrayvec::ArrayVec;
+use crp_plan::{BayName, MAX_ROWS, tallest};
 use std::alloc::{AllocError, Global};
 
 /// What follows a tag.
@@ -24,6 +27,17 @@ pub fn after_tag<'a>(tag: &[u8], bytes: &'a [u8]) -> Option<&'a [u8]>
         rest = after;
     }
     Some(rest)
+}
+
+/// The version that a title says.
+pub fn title_of(bytes: &[u8]) -> Option<(Version, &[u8])>
+    ensures { Reads (λ x. (x.0, x.1.now)) result (title_at bytes.now) }
+{
+    if let Some(rest) = after_tag(b"CRP-CERT 1\n", bytes) {
+        return Some((Version::One, rest));
+    }
+    let rest = after_tag(b"CRP-CERT 2\n", bytes)?;
+    Some((Version::Two, rest))
 }
 
 /// A number whose first digit is read, up to the limit, and what follows its digits.
@@ -131,6 +145,78 @@ fn is_allowed(size: Size) -> bool
         && size.tiers <= 8
         && size.ordered <= size.total
         && size.total as u32 <= size.rows as u32 * size.tiers as u32
+}
+
+/// Heights of one or two digits to the end of the line, no more than a bay has rows.
+fn few_numbers(bytes: &[u8]) -> Option<(ArrayVec<u8, MAX_ROWS>, &[u8])>
+    ensures { Reads (λ x. (x.0.items, x.1.now)) result (numbers_at 12 bytes.now) }
+{
+    let mut numbers = ArrayVec::new();
+    let mut rest = bytes;
+    for _ in 0..MAX_ROWS {
+        if let Some(after) = after_newline(rest) {
+            return Some((numbers, after));
+        }
+        let (number, after) = spaced(99, rest)?;
+        numbers.push(number as u8);
+        rest = after;
+    }
+    let after = after_newline(rest)?;
+    Some((numbers, after))
+}
+
+/// Whether each is a height of 1 to 8.
+fn are_low(heights: &[u8]) -> bool
+    ensures { result ≡ list_all is_height heights.now }
+{
+    heights.iter().all(|height| *height >= 1 && *height <= 8)
+}
+
+/// Whether a line may say these heights under a size.
+fn are_allowed(size: Size, heights: &[u8]) -> bool
+    ensures { result ≡ are_heights size heights.now }
+{
+    heights.len() == size.rows as usize && tallest(heights) == size.tiers && are_low(heights)
+}
+
+/// The heights that a line says under a size.
+#[tactic(auto, unfolding(crate::specs::Reading::heights_line_at))]
+fn heights_line_of(size: Size, bytes: &[u8]) -> Option<(ArrayVec<u8, MAX_ROWS>, &[u8])>
+    ensures { Reads (λ x. (x.0.items, x.1.now)) result (heights_line_at size bytes.now) }
+{
+    let rest = after_tag(b"heights", bytes)?;
+    let (heights, rest) = few_numbers(rest)?;
+    if !are_allowed(size, heights.as_slice()) {
+        return None;
+    }
+    Some((heights, rest))
+}
+
+/// The tiers for each row.
+fn same_heights(size: Size) -> ArrayVec<u8, MAX_ROWS>
+    requires { size.rows ≤ 12 }
+    ensures { result.items ≡ replicate size.rows size.tiers }
+{
+    let mut heights = ArrayVec::new();
+    for _ in 0..size.rows {
+        heights.push(size.tiers);
+    }
+    heights
+}
+
+/// The heights that the text of a version states under a size.
+pub fn heights_of(
+    version: Version,
+    size: Size,
+    bytes: &[u8],
+) -> Option<(ArrayVec<u8, MAX_ROWS>, &[u8])>
+    requires { size.rows ≤ 12 }
+    ensures { Reads (λ x. (x.0.items, x.1.now)) result (heights_at version size bytes.now) }
+{
+    match version {
+        Version::One => Some((same_heights(size), bytes)),
+        Version::Two => heights_line_of(size, bytes),
+    }
 }
 
 /// The relocations that a line claims, up to the cap.

@@ -1,18 +1,19 @@
 //! Reading the head of a certificate.
-ghost use Rattle.std.specs.Prelude.{◌≡◌, ℕ, ◌<◌, ◌+◌, ◌⊎◌, List, ◌++◌, ◌∷◌, [], IfOk, IfErr, IfSome, IfNone, length, vec_len};
+ghost use Rattle.std.specs.Prelude.{◌≡◌, ℕ, ◌<◌, ◌≤◌, ◌+◌, ◌⊎◌, List, ◌++◌, ◌∷◌, [], IfOk, IfErr, IfSome, IfNone, length, vec_len};
 ghost use Rattle.std.specs.List.{flat_map};
-ghost use Rattle.crp_plan.specs.Faults.{stacks_of, stated};
+ghost use Rattle.crp_plan.specs.Faults.{stacks_of, stated_with};
 ghost use Rattle.crp_cert.specs.Text.{IsSize, IsHead, IsHeadOf, row_line, head_text};
-ghost use Rattle.crp_cert.specs.Faults.{BeginsWith, AreFirstStacks, IsNextStack, IsFirstFault};
+ghost use Rattle.crp_cert.specs.Faults.{BeginsWith, AreHeightsOf, AreFirstStacks, IsNextStack, IsFirstFault};
 ghost use Rattle.crp_plan.specs.BayNames.{YardBay};
 ghost use Rattle.crp_cert.specs.Reading.{IsStackFault};
 ghost use Rattle.crp_cert.specs.Settled.{BeginsWithBay};
 
 use crate::fault::CertFault;
-use crate::fields::{after_tag, bay_of, claim_of, plan_of, row_of, size_of};
+use crate::fields::{bay_of, claim_of, heights_of, plan_of, row_of, size_of, title_of};
 use crate::head::Head;
 use crate::ranks::{are_all, are_new};
 use crate::size::Size;
+use crate::version::{Version, first_row};
 use crp_plan::{BayName, Problem};
 use std::alloc::{AllocError, Global};
 
@@ -21,20 +22,23 @@ use std::alloc::{AllocError, Global};
 fn next_stack<'a>(
     alloc: Global,
     size: Size,
+    heights: &[u8],
     stacks: &mut Vec<Vec<u8>>,
     bytes: &'a [u8],
 ) -> Result<Option<&'a [u8]>, AllocError>
     requires size { IsSize size }
-    requires first { AreFirstStacks size (stacks_of stacks.old.items) }
+    requires heights { AreHeightsOf size heights.now }
+    requires first { AreFirstStacks size heights.now (stacks_of stacks.old.items) }
     requires more { vec_len stacks.old < size.rows }
     ensures found { IfOk result (λ told. IfSome told (λ rest.
-        (stack : List ℕ) × IsNextStack size (stacks_of stacks.old.items) stack
+        (stack : List ℕ) × IsNextStack size heights.now (stacks_of stacks.old.items) stack
         × (bytes.now ≡ row_line stack ++ rest.now)
         × (stacks_of stacks.new.items ≡ stacks_of stacks.old.items ++ stack ∷ []))) }
     ensures none { IfOk result (λ told. IfNone told
-        (¬ BeginsWith (IsNextStack size (stacks_of stacks.old.items)) row_line bytes.now)) }
+        (¬ BeginsWith (IsNextStack size heights.now (stacks_of stacks.old.items)) row_line bytes.now)) }
 {
-    let Some((stack, rest)) = row_of(alloc, size.tiers as usize, bytes)? else {
+    let height = heights[stacks.len()] as usize;
+    let Some((stack, rest)) = row_of(alloc, height, bytes)? else {
         return Ok(None);
     };
     if !are_new(size.total, &stack, stacks) {
@@ -48,20 +52,27 @@ fn next_stack<'a>(
 }
 
 /// The stacks that the row lines tell, and what follows the last of these lines.
-fn all_stacks(alloc: Global, size: Size, bytes: &[u8]) -> Result<(Vec<Vec<u8>>, &[u8]), CertFault>
-    requires { IsSize size }
-    ensures first { IfOk result (λ told. AreFirstStacks size (stacks_of told.0.items)) }
+fn all_stacks<'a>(
+    alloc: Global,
+    version: Version,
+    size: Size,
+    heights: &[u8],
+    bytes: &'a [u8],
+) -> Result<(Vec<Vec<u8>>, &'a [u8]), CertFault>
+    requires size { IsSize size }
+    requires heights { AreHeightsOf size heights.now }
+    ensures first { IfOk result (λ told. AreFirstStacks size heights.now (stacks_of told.0.items)) }
     ensures all { IfOk result (λ told. vec_len told.0 ≡ size.rows) }
     ensures text { IfOk result (λ told.
         bytes.now ≡ flat_map row_line (stacks_of told.0.items) ++ told.1.now) }
-    ensures refused { IfErr result (λ fault. (fault ≡ CertFault.Memory) ⊎ IsStackFault size bytes.now fault) }
+    ensures refused { IfErr result (λ fault. (fault ≡ CertFault.Memory) ⊎ IsStackFault version size heights.now bytes.now fault) }
 {
     let mut stacks = Vec::new(alloc);
     let mut rest = bytes;
     for row in 0..size.rows {
-        let Some(after) = next_stack(alloc, size, &mut stacks, rest)? else {
+        let Some(after) = next_stack(alloc, size, heights, &mut stacks, rest)? else {
             return Err(CertFault::Row {
-                line: 4 + row as u32,
+                line: first_row(version) + row as u32,
             });
         };
         rest = after;
@@ -69,14 +80,15 @@ fn all_stacks(alloc: Global, size: Size, bytes: &[u8]) -> Result<(Vec<Vec<u8>>, 
     Ok((stacks, rest))
 }
 
-/// The problem that a size and all stacks of the bay tell.
-fn problem_of(size: Size, stacks: &[Vec<u8>]) -> Problem
+/// The problem that a size, the heights and all stacks of the bay tell.
+fn problem_of(size: Size, heights: &[u8], stacks: &[Vec<u8>]) -> Problem
     requires size { IsSize size }
-    requires first { AreFirstStacks size (stacks_of stacks.now) }
+    requires heights { AreHeightsOf size heights.now }
+    requires first { AreFirstStacks size heights.now (stacks_of stacks.now) }
     requires all { length stacks.now ≡ size.rows }
-    ensures { result ≡ stated size.tiers size.ordered (stacks_of stacks.now) }
+    ensures { result ≡ stated_with heights.now size.ordered (stacks_of stacks.now) }
 {
-    match Problem::new(size.tiers, size.ordered, stacks) {
+    match Problem::with_heights(heights, size.ordered, stacks) {
         Ok(problem) => problem,
         Err(_) => unreachable!(),
     }
@@ -88,7 +100,7 @@ pub fn head_and_rest(alloc: Global, bytes: &[u8]) -> Result<(Head, &[u8]), CertF
     ensures text { IfOk result (λ told. bytes.now ≡ head_text told.0 ++ told.1.now) }
     ensures refused { IfErr result (λ fault. (fault ≡ CertFault.Memory) ⊎ IsFirstFault bytes.now fault) }
 {
-    let Some(rest) = after_tag(b"CRP-CERT 1\n", bytes) else {
+    let Some((version, rest)) = title_of(bytes) else {
         return Err(CertFault::Opening { line: 1 });
     };
     let Some((bay, rest)) = bay_of(rest) else {
@@ -97,9 +109,13 @@ pub fn head_and_rest(alloc: Global, bytes: &[u8]) -> Result<(Head, &[u8]), CertF
     let Some((size, rest)) = size_of(rest) else {
         return Err(CertFault::Size { line: 3 });
     };
-    let (stacks, rest) = all_stacks(alloc, size, rest)?;
-    let problem = problem_of(size, &stacks);
-    let line = 4 + size.rows as u32;
+    let Some((heights, rest)) = heights_of(version, size, rest) else {
+        return Err(CertFault::Size { line: 4 });
+    };
+    let heights = heights.as_slice();
+    let (stacks, rest) = all_stacks(alloc, version, size, heights, rest)?;
+    let problem = problem_of(size, heights, &stacks);
+    let line = first_row(version) + size.rows as u32;
     let Some((claim, rest)) = claim_of(problem.cap(), rest) else {
         return Err(CertFault::Claim { line });
     };
@@ -107,6 +123,7 @@ pub fn head_and_rest(alloc: Global, bytes: &[u8]) -> Result<(Head, &[u8]), CertF
         return Err(CertFault::Plan { line: line + 1 });
     };
     let head = Head {
+        version,
         bay,
         problem,
         claim,
@@ -130,7 +147,7 @@ pub fn read_bay(bytes: &[u8]) -> Option<BayName>
     ensures found { IfSome result (BeginsWithBay bytes.now) }
     ensures none { IfNone result ((name : YardBay) → ¬ BeginsWithBay bytes.now name) }
 {
-    let Some(rest) = after_tag(b"CRP-CERT 1\n", bytes) else {
+    let Some((_, rest)) = title_of(bytes) else {
         return None;
     };
     let Some((bay, _)) = bay_of(rest) else {

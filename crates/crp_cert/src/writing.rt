@@ -1,18 +1,20 @@
 //! Writing a certificate.
-ghost use Rattle.std.specs.Prelude.{◌≡◌, ◌≤◌, ◌+◌, ℕ, ◌++◌, ◌∷◌, [], IfOk, OnOk, IsErrOf};
+ghost use Rattle.std.specs.Prelude.{◌≡◌, ◌≤◌, ◌+◌, ℕ, ◌++◌, ◌∷◌, [], IfOk, OnOk, IsErrOf, IsTrue, ◌↔◌};
 ghost use Rattle.std.specs.Option.{option_copied};
 ghost use Rattle.std.specs.List.{flat_map};
 ghost use Rattle.std.specs.Io.KnownBytes.{Appends};
 ghost use Rattle.crp_plan.specs.Devices.{AppendsFront, CountsMore, HasFailed, most_interruptions};
 ghost use Rattle.crp_tree.specs.Claims.{path_in};
 ghost use Rattle.crp_tree.specs.Parts.{part_of};
-ghost use Rattle.crp_cert.specs.Text.{numbers_line, bay_line, size_line, size_of, row_line, plan_line, head_text};
+ghost use Rattle.crp_cert.specs.Text.{numbers_line, title_line, bay_line, size_line, stated_heights, size_of, row_line, plan_line, head_text};
 ghost use Rattle.crp_tree.specs.Names.{name_text};
 ghost use Rattle.crp_cert.specs.Script.{symbols_of, part_line};
-ghost use Rattle.crp_cert.specs.Writing.{head_for, certificate_text};
+ghost use Rattle.crp_cert.specs.Writing.{are_equal, version_for, head_for, certificate_text};
 ghost use Rattle.crp_cert.specs.declared.writing.WriteFault.TheVariants.{Failed, Memory};
 
-use crp_plan::{BayName, Plan, Problem, Sink, WriteFailed, write_all};
+use crate::version::Version;
+use arrayvec::ArrayVec;
+use crp_plan::{BayName, MAX_ROWS, Plan, Problem, Sink, WriteFailed, tallest, write_all};
 use crp_tree::{Cert, Name, Part, Tree};
 use itoa::{Buffer, Integer};
 use std::alloc::{AllocError, Global};
@@ -100,6 +102,55 @@ fn push_size(text: &mut Vec<u8>, problem: &Problem) -> Result<(), AllocError>
     push_numbers(text, b"size", &[rows, tiers, ordered, total])
 }
 
+/// How high each row of a problem may be.
+fn heights_of(problem: &Problem) -> ArrayVec<u8, MAX_ROWS>
+    ensures { result.items ≡ problem.now.heights }
+{
+    let mut heights = ArrayVec::new();
+    for i in 0..problem.rows() {
+        heights.push(problem.height(i + 1));
+    }
+    heights
+}
+
+/// Whether each height is the largest of them.
+fn are_equal(heights: &[u8]) -> bool
+    ensures { result ≡ are_equal heights.now }
+{
+    let tiers = tallest(heights);
+    heights.iter().all(|height| *height == tiers)
+}
+
+/// The version in which a problem is written.
+fn version_of(problem: &Problem) -> Version
+    ensures { result ≡ version_for problem.now }
+{
+    if are_equal(heights_of(problem).as_slice()) {
+        return Version::One;
+    }
+    Version::Two
+}
+
+/// Adds the title of a version.
+fn push_title(text: &mut Vec<u8>, version: Version) -> Result<(), AllocError>
+    ensures { OnOk result (text.new.items ≡ text.old.items ++ title_line version) }
+{
+    match version {
+        Version::One => text.extend_from_slice(b"CRP-CERT 1\n"),
+        Version::Two => text.extend_from_slice(b"CRP-CERT 2\n"),
+    }
+}
+
+/// Adds the line of a problem's heights, where the version has one.
+fn push_heights(text: &mut Vec<u8>, version: Version, problem: &Problem) -> Result<(), AllocError>
+    ensures { OnOk result (text.new.items ≡ text.old.items ++ stated_heights version problem.now.heights) }
+{
+    match version {
+        Version::One => Ok(()),
+        Version::Two => push_numbers(text, b"heights", heights_of(problem).as_slice()),
+    }
+}
+
 /// Adds the lines of a problem's rows.
 fn push_rows(text: &mut Vec<u8>, problem: &Problem) -> Result<(), AllocError>
     ensures { OnOk result (text.new.items ≡ text.old.items ++ flat_map row_line problem.now.stacks) }
@@ -146,9 +197,11 @@ fn push_head(
 ) -> Result<(), AllocError>
     ensures { OnOk result (text.new.items ≡ text.old.items ++ head_text (head_for bay.now problem.now claim (option_copied plan.entry))) }
 {
-    text.extend_from_slice(b"CRP-CERT 1\n")?;
+    let version = version_of(problem);
+    push_title(text, version)?;
     push_bay(text, bay)?;
     push_size(text, problem)?;
+    push_heights(text, version, problem)?;
     push_rows(text, problem)?;
     push_number(text, b"at least", claim as usize)?;
     push_plan(text, plan)

@@ -2,7 +2,6 @@ use Rattle.std.proofs.Common.{◌+◌, List, ◌++◌, length, arith, inl, inr, 
 use Rattle.std.specs.Prelude.{codes}
 use Rattle.std.proofs.lemmas.Result.{err_from_is_err_and}
 use Rattle.crp_plan.specs.Bay.{Problem}
-use Rattle.crp_plan.proofs.Steps.{same_rows}
 use Rattle.crp_tree.specs.Claims.{Part}
 use Rattle.crp_cert.specs.ScriptFaults.{ComesAfter}
 use Rattle.crp_cert.proofs.Numbers.{tag_takes}
@@ -10,23 +9,21 @@ use Rattle.crp_cert.proofs.NameOrder.{few_parts}
 use Rattle.crp_cert.proofs.PartFaults.{parts_push, same_line}
 use Rattle.crp_cert.proofs.certs.all_parts.Goals as goal
 
-pub overflow_cast-line-in-Some : goal.overflow_cast-line-in-Some
-overflow_cast-line-in-Some c =
+pub overflow_cast-line : goal.overflow_cast-line
+overflow_cast-line c =
     let inv = c.loop-after.invariant in
-    omega (arith, few_parts c.args.problem.now c.loop-after.parts.items c.rows.ensures.problem inv.each_part inv.rising)
+    omega (arith, few_parts c.args.problem.now c.loop-after.parts.items c.requires.problem inv.each_part inv.rising)
 
-pub overflow_add-line-in-Some : goal.overflow_add-line-in-Some
-overflow_add-line-in-Some c =
+pub overflow_add-line : goal.overflow_add-line
+overflow_add-line c =
     let inv = c.loop-after.invariant in
-    let most = c.rows.ensures.problem.few_rows in
-    omega (arith, few_parts c.args.problem.now c.loop-after.parts.items c.rows.ensures.problem inv.each_part inv.rising)
+    omega (arith, few_parts c.args.problem.now c.loop-after.parts.items c.requires.problem inv.each_part inv.rising)
 
 pub returns-in_err-part-clause-refused : goal.returns-in_err-part-clause-refused
 returns-in_err-part-clause-refused c =
     let p = err_from_is_err_and c.from_residual.result c.from_residual.ensures.1 in
     let problem : Problem = c.args.problem.now in
     let parts : List Part = c.loop-after.parts.items in
-    let rows = same_rows problem.heights problem.stacks c.rows.ensures.problem.stacks_fit in
     rw (p.1, p.2)
     (⊎_elim
     (λ memory. inl memory)
@@ -34,7 +31,7 @@ returns-in_err-part-clause-refused c =
       parts = parts;
       rest = c.loop-after.rest.now;
       are = c.loop-after.invariant;
-      why = same_line problem c.deref.result.now parts _ (6 + length problem.stacks + length parts) (codes "part " ++ c.in-Some.after.now) c.loop-after.rest.now c.in_err-part.field-0.0 c.deref.ensures.value (omega arith)
+      why = same_line problem c.deref.result.now parts _ (c.args.first + length parts) (codes "part " ++ c.in-Some.after.now) c.loop-after.rest.now c.in_err-part.field-0.0 c.deref.ensures.value (omega arith)
           (sym (tag_takes (codes "part ") c.loop-after.rest.now c.in-Some.after.now c.in-Some.ensures)) is;
     }))
     c.in_err-part.ensures.refused)

@@ -1,4 +1,4 @@
-use Rattle.std.proofs.Common.{◌≡◌, ◌+◌, length, inr, ap, arith, sym}
+use Rattle.std.proofs.Common.{◌≡◌, length, inr, ap, arith}
 use Rattle.crp_plan.specs.Faults.{stacks_of}
 use Rattle.crp_plan.proofs.Tallies.{length-stacks_of}
 use Rattle.crp_cert.specs.declared.fault.CertFault.TheVariants as faults
@@ -13,6 +13,6 @@ returns-in_default-clause-refused c =
       text = c.loop-row.invariant.text;
       first = c.loop-row.invariant.first;
       more = omega arith;
-      fault_is = ap (λ n. faults.Row (4 + n)) (sym told);
+      fault_is = ap (λ n. faults.Row n) (omega (arith, c.first_row.ensures.value, told));
       none = (rw c.in_default.is at c.in_ok-after.ensures).none;
     })
