@@ -7,7 +7,7 @@ use Rattle.crp_tree.specs.Claims.{Part}
 use Rattle.crp_cert.specs.declared.head.Head.{Head}
 use Rattle.crp_cert.specs.declared.fault.CertFault.{CertFault}
 use Rattle.crp_cert.specs.declared.script.Script.{Script}
-use Rattle.crp_cert.specs.Text.{title_line, bay_line, size_line, size_of, row_line, claim_line, plan_line, head_text}
+use Rattle.crp_cert.specs.Text.{title_line, bay_line, size_line, stated_heights, size_of, row_line, claim_line, plan_line, head_text}
 use Rattle.crp_cert.specs.Script.{part_line, end_line}
 use Rattle.crp_cert.specs.ScriptFaults.{BeginsWithParts, IsLineFault}
 use Rattle.crp_cert.specs.Settled.{BeginsWithBay}
@@ -28,13 +28,15 @@ one_more first came new bytes i d lt so_far added =
 pub bay_known : (bytes : List ℕ) (head : Head) (parts : List Part) (line : ℕ) (rest : List ℕ) → BeginsWithParts bytes head parts line rest → (more : List ℕ) → BeginsWithBay (bytes ++ more) head.bay
 bay_known bytes head parts line rest begins more =
     let p = head.problem in
-    let c : List ℕ = size_line (size_of p) ++ (flat_map row_line p.stacks ++ (claim_line head.claim ++ plan_line head.plan)) in
+    let title : List ℕ = title_line head.version in
+    let c : List ℕ = size_line (size_of p) ++ (stated_heights head.version p.heights ++ (flat_map row_line p.stacks ++ (claim_line head.claim ++ plan_line head.plan))) in
     let tail : List ℕ = (flat_map part_line parts ++ rest) ++ more in (
       begins.is_head.name,
       (
+        head.version,
         c ++ tail,
         ap (λ l. l ++ more) begins.text ∙ append_assoc (head_text head) (flat_map part_line parts ++ rest) more
-            ∙ append_assoc title_line (bay_line head.bay ++ c) tail ∙ ap (λ l. title_line ++ l) (append_assoc (bay_line head.bay) c tail),
+            ∙ append_assoc title (bay_line head.bay ++ c) tail ∙ ap (λ l. title ++ l) (append_assoc (bay_line head.bay) c tail),
       ),
     )
 

@@ -14,7 +14,7 @@ use Rattle.crp_cert.specs.Script.{symbols_line, part_line, claim_of}
 use Rattle.crp_cert.specs.ScriptFaults.{BeginsWithParts, IsLineFault}
 use Rattle.crp_cert.specs.PartReading.{AreParts}
 use Rattle.crp_cert.specs.Settled.{spelled_name, BeginsWithBay}
-use Rattle.crp_cert.proofs.Heads.{size_is}
+use Rattle.crp_cert.proofs.Heads.{first_few}
 use Rattle.crp_cert.proofs.Joined.{all_both}
 use Rattle.crp_cert.proofs.NameOrder.{few_parts}
 use Rattle.crp_cert.proofs.Opening.{begins_on, line_fault}
@@ -212,7 +212,7 @@ part_ended wanted before name old new kept end begun w given at order ends whole
     let begins : BeginsWithParts (before ++ 10 ∷ []) head (parts ++ part ∷ []) (suc at.line) [] =
     tells_parts (before ++ 10 ∷ []) head behind (parts ++ part ∷ []) (suc at.line) [] tells.is_head tells.text more (let number = tells.number in omega arith) in
     let few = few_parts p (parts ++ part ∷ []) tells.is_head.problem more.each_part more.rising in
-    let rows = (size_is head tells.is_head).few_rows in
+    let early = first_few head tells.is_head in
     subst (IsAtLine wanted (before ++ 10 ∷ []) new) (sym none)
     (record {
       script = record { head = head; parts = parts ++ part ∷ [] };

@@ -7,10 +7,11 @@ use Rattle.crp_tree.specs.Claims.{Part, IsAccepted, IsRootOrGiven}
 use Rattle.crp_cert.specs.declared.head.Head.{Head}
 use Rattle.crp_cert.specs.declared.fault.CertFault.{CertFault}
 use Rattle.crp_cert.specs.declared.fault.CertFault.TheVariants as faults
+use Rattle.crp_cert.specs.Text.{first_part}
 use Rattle.crp_cert.specs.Script.{end_line, claim_of}
 use Rattle.crp_cert.specs.ScriptFaults.{BeginsWithParts, BeginsWithPart, IsFirstFaultOfScript}
 use Rattle.crp_cert.specs.Settled.{BeginsWithBay, spelled_name}
-use Rattle.crp_cert.proofs.Heads.{size_is}
+use Rattle.crp_cert.proofs.Heads.{first_few}
 use Rattle.crp_cert.proofs.Joined.{all_both}
 use Rattle.crp_cert.proofs.NameOrder.{few_parts}
 use Rattle.crp_cert.proofs.Opening.{name_behind, endless, line_fault}
@@ -32,7 +33,7 @@ use Rattle.crp_checker.proofs.Meaning.{claim_refused}
 
 -- the whole text of a script begins with its parts
 whole_begins : (wanted : Option Problem) (bytes : List ℕ) (findings : Findings) (ended : HasEnded wanted bytes findings) →
-    BeginsWithParts bytes ended.script.head ended.script.parts (6 + length ended.script.head.problem.stacks + length ended.script.parts) (end_line (length ended.script.parts))
+    BeginsWithParts bytes ended.script.head ended.script.parts (first_part ended.script.head + length ended.script.parts) (end_line (length ended.script.parts))
 whole_begins wanted bytes findings ended =
     let is = ended.is_text.0 in record { is_head = is.is_head; each_part = is.each_part; rising = is.rising; text = ended.is_text.1; number = refl }
 
@@ -47,8 +48,8 @@ more_after wanted before (b ∷ bytes) findings number ended some is =
     let parts = script.parts in
     let begins = whole_begins wanted before findings ended in
     let few = few_parts head.problem parts begins.is_head.problem begins.each_part begins.rising in
-    let rows = (size_is head begins.is_head).few_rows in
-    let line : number ≡ suc (6 + length head.problem.stacks + length parts) = let at = ended.are.line_is in is ∙ omega arith in
+    let early = first_few head begins.is_head in
+    let line : number ≡ suc (first_part head + length parts) = let at = ended.are.line_is in is ∙ omega arith in
     record {
       fault_stays = λ more.
           subst (λ l. IsFirstFaultOfScript l (faults.End number)) (sym (append_assoc before (b ∷ bytes) more))

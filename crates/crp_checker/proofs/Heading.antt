@@ -1,5 +1,5 @@
 -- What the bytes of a head lead to, byte by byte.
-use Rattle.std.proofs.Common.{◌≡◌, ◌≢◌, ℕ, ◌+◌, ◌≤◌, List, [], ◌∷◌, ◌++◌, length, Option, Some, None, refl, sym, ap, ◌∙◌, subst, arith, append_assoc, inl, IfSome, IfNone}
+use Rattle.std.proofs.Common.{◌≡◌, ◌≢◌, ℕ, ◌≤◌, List, [], ◌∷◌, ◌++◌, length, Option, Some, None, refl, sym, ap, ◌∙◌, subst, arith, append_assoc, inl, IfSome, IfNone}
 use Rattle.std.specs.Prelude.{codes}
 use Rattle.std.specs.List.{flat_map}
 use Rattle.std.proofs.lemmas.List.{append-nil}
@@ -8,7 +8,7 @@ use Rattle.crp_plan.specs.BayNames.{YardBay}
 use Rattle.crp_cert.specs.declared.head.Head.{Head}
 use Rattle.crp_cert.specs.declared.fault.CertFault.{CertFault}
 use Rattle.crp_cert.specs.declared.script.Script.{Script}
-use Rattle.crp_cert.specs.Text.{title_line, bay_line, size_line, size_of, row_line, claim_line, plan_line, spaced, head_text, IsHead, IsHeadOf}
+use Rattle.crp_cert.specs.Text.{title_line, bay_line, size_line, stated_heights, first_part, size_of, row_line, claim_line, plan_line, spaced, head_text, IsHead, IsHeadOf}
 use Rattle.crp_cert.specs.Faults.{IsFirstFault}
 use Rattle.crp_cert.specs.Settled.{longest_head, BeginsWithBay}
 use Rattle.crp_cert.proofs.Settled.{fault_stays, no_bay_stays}
@@ -26,7 +26,8 @@ head_ends head =
     let b : List ℕ = flat_map row_line p.stacks in
     let c : List ℕ = size_line (size_of p) in
     let d : List ℕ = bay_line head.bay in
-    behind title_line _ (behind d _ (behind c _ (behind b _ (behind a _ plan))))
+    let e : List ℕ = stated_heights head.version p.heights in
+    behind (title_line head.version) _ (behind d _ (behind c _ (behind e _ (behind b _ (behind a _ plan)))))
   where
     EndsWithLf : List ℕ → Type 0
     EndsWithLf text = (body : List ℕ) × (text ≡ body ++ 10 ∷ [])
@@ -66,7 +67,7 @@ pub first_line : (wanted : Option Problem) (head : Head) (findings : Findings) (
 first_line wanted head findings begun is are none = subst (IsAtLine wanted (head_text head) findings) (sym none)
     (record {
       script = first_script head;
-      line = 6 + length head.problem.stacks;
+      line = first_part head;
       are = are;
       begins = record {
         is_head = is;
@@ -83,7 +84,10 @@ pub for_good : (bytes : List ℕ) (bay : Option YardBay) (fault : CertFault) →
     IfNone bay ((name : YardBay) → ¬ BeginsWithBay bytes name) → IsFaulty bytes bay fault
 for_good bytes (Some name) fault long is found none = record {
   fault_stays = λ more. inl (fault_stays bytes more fault long is);
-  bay_stays = λ more. (found.0, (found.1.0 ++ more, ap (λ l. l ++ more) found.1.1 ∙ append_assoc title_line (bay_line name ++ found.1.0) more ∙ ap (λ l. title_line ++ l) (append_assoc (bay_line name) found.1.0 more)));
+  bay_stays = λ more.
+      let title : List ℕ = title_line found.1.0 in
+      let rest : List ℕ = found.1.1 in
+      (found.0, (found.1.0, rest ++ more, ap (λ l. l ++ more) found.1.2 ∙ append_assoc title (bay_line name ++ rest) more ∙ ap (λ l. title ++ l) (append_assoc (bay_line name) rest more)));
 }
 for_good bytes None fault long is found none = record {
   fault_stays = λ more. inl (fault_stays bytes more fault long is);

@@ -7,7 +7,7 @@ use Rattle.crp_tree.specs.Claims.{Claim, given_by, names}
 use Rattle.crp_cert.specs.declared.head.Head.{Head}
 use Rattle.crp_cert.specs.declared.fault.CertFault.{CertFault}
 use Rattle.crp_cert.specs.declared.script.Script.{Script}
-use Rattle.crp_cert.specs.Text.{IsHeadOf}
+use Rattle.crp_cert.specs.Text.{first_part, IsHeadOf}
 use Rattle.crp_cert.specs.Script.{end_line, claim_of, IsScriptOf}
 use Rattle.crp_cert.specs.ScriptFaults.{BeginsWithParts, IsFirstFaultOfScript}
 use Rattle.crp_cert.specs.Settled.{BeginsWithBay}
@@ -55,7 +55,7 @@ pub record AreFindings (wanted : Option Problem) (script : Script) (findings : F
   pub problem_is : findings.problem ≡ script.head.problem
   pub claim_is : findings.claim ≡ script.head.claim
   pub count_is : findings.count ≡ plan_count (claim_of script)
-  pub line_is : findings.line ≡ 6 + length script.head.problem.stacks + length script.parts
+  pub line_is : findings.line ≡ first_part script.head + length script.parts
   pub names_are : findings.names ≡ names script.parts
   pub given_are : findings.given.items ≡ flat_map (given_by script.head.problem) script.parts
   pub note : IsNote wanted (claim_of script) findings.wrong

@@ -111,7 +111,7 @@ impl Findings {
     {
         let wrong = wrong_in(wanted, &head);
         let count = count_of(&head.plan);
-        let line = 6 + head.problem.rows() as u32;
+        let line = head.first_part();
         Findings {
             bay: head.bay,
             problem: head.problem,

@@ -6,7 +6,6 @@ ghost use Rattle.crp_plan.specs.Plans.{Route};
 ghost use Rattle.crp_plan.specs.Faults.{IsPlanPath};
 ghost use Rattle.crp_tree.specs.Claims.{Claim, IsAccepted, path_in};
 ghost use Rattle.crp_tree.specs.Parts.{Certificate, IsAbout, claimed};
-ghost use Rattle.crp_cert.specs.Text.{HasOneHeight};
 ghost use Rattle.crp_cert.specs.Writing.{script_for, certificate_text};
 ghost use Rattle.crp_cert.specs.declared.script.Script.{Script};
 ghost use Rattle.crp_checker.specs.declared.refused.Refused.{Refused};
@@ -45,9 +44,9 @@ pub fn verdicts_say()
 {}
 
 /// What is written of a certificate about a problem, with a plan of it or none, is accepted, whatever its parts give to each other:
-/// under the name of a bay, where the problem's rows have one height.
+/// under the name of a bay.
 pub fn written_is_accepted()
-    ensures { (bay : YardBay) (p : Problem) (cert : Certificate) (plan : Option Route) → IsYardBay bay → HasOneHeight p
+    ensures { (bay : YardBay) (p : Problem) (cert : Certificate) (plan : Option Route) → IsYardBay bay
         → IsAbout p cert → IfSome (path_in plan) (IsPlanPath p)
         → IsAcceptedText (Some p) (certificate_text bay p cert plan) (script_for bay (claimed p cert (path_in plan))) }
 {}
