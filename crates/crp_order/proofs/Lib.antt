@@ -10,4 +10,3 @@ pub mod SequenceSteps
 pub mod StatingSteps
 pub mod NamedSteps
 pub mod StowageSteps
-pub mod OneHeight

@@ -14,7 +14,7 @@ use Rattle.crp_yard.specs.Inventory.{Inventory, StackedBay, IsYard, times}
 use Rattle.crp_yard.specs.Ranks.{name_of, named}
 use Rattle.crp_order.specs.declared.bay_problem.BayProblem.{BayProblem}
 use Rattle.crp_order.specs.Sequenced.{AreSequenced}
-use Rattle.crp_order.specs.BayProblems.{standing, leaving, ranked, rank_in, ranks_in, is_called, bay_problem_under, IsNamed}
+use Rattle.crp_order.specs.BayProblems.{standing, leaving, ranked, rank_in, ranks_in, is_called, bay_problem_of, IsNamed}
 use Rattle.crp_order.specs.Groups.{stacks_numbered, names_behind, CanLeave}
 use Rattle.crp_yard.proofs.ListingSteps.{times-append}
 use Rattle.crp_order.proofs.Once.{here}
@@ -43,7 +43,7 @@ stacks_named names (stack ∷ stacks) all =
 
 -- the problem of a bay tells the bay
 bay_named : (yard : Inventory) (sequence : List (List ℕ)) (i : ℕ) (bay : StackedBay) → IsYard yard → AreSequenced sequence → i < length yard.bays → slice_get yard.bays i ≡ Some bay
-    → IsNamed yard (bay_problem_under yard.heights sequence bay)
+    → IsNamed yard (bay_problem_of yard.heights sequence bay)
 bay_named yard sequence i bay is sequenced there at =
     let own : stacks_numbered yard i ≡ bay.1 = stacks_of_bay yard i bay at in
     let once : (c : List ℕ) → times c (standing bay.1) ≤ 1 = subst (λ s. (c : List ℕ) → times c (standing s) ≤ 1) own (stands_once yard i is there) in
@@ -57,18 +57,18 @@ bay_named yard sequence i bay is sequenced there at =
     }
 
 pub all_named : (yard : Inventory) (sequence : List (List ℕ)) (told : List BayProblem) → IsYard yard → AreSequenced sequence
-    → told ≡ map (bay_problem_under yard.heights sequence) (filter (is_called sequence) yard.bays) → All (IsNamed yard) told
+    → told ≡ map (bay_problem_of yard.heights sequence) (filter (is_called sequence) yard.bays) → All (IsNamed yard) told
 all_named yard sequence told is sequenced e =
     subst (All (IsNamed yard)) (sym e)
-    (All-map (IsNamed yard) (bay_problem_under yard.heights sequence) (filter (is_called sequence) yard.bays)
-    (All-filter (is_called sequence) (λ bay. IsNamed yard (bay_problem_under yard.heights sequence bay)) yard.bays
+    (All-map (IsNamed yard) (bay_problem_of yard.heights sequence) (filter (is_called sequence) yard.bays)
+    (All-filter (is_called sequence) (λ bay. IsNamed yard (bay_problem_of yard.heights sequence bay)) yard.bays
     (λ i d there. bay_named yard sequence i (get_or yard.bays i d) is sequenced there (slice_get-get_or yard.bays i d there))))
 
-bays_told : (heights : List ℕ) (sequence : List (List ℕ)) (bays : List StackedBay) → map (λ told. told.bay) (map (bay_problem_under heights sequence) bays) ≡ map (λ bay. bay.0) bays
+bays_told : (heights : List ℕ) (sequence : List (List ℕ)) (bays : List StackedBay) → map (λ told. told.bay) (map (bay_problem_of heights sequence) bays) ≡ map (λ bay. bay.0) bays
 bays_told heights sequence [] = refl
 bays_told heights sequence (bay ∷ bays) = ap (λ names. bay.0 ∷ names) (bays_told heights sequence bays)
 
-pub all_once : (yard : Inventory) (sequence : List (List ℕ)) (told : List BayProblem) → IsYard yard → told ≡ map (bay_problem_under yard.heights sequence) (filter (is_called sequence) yard.bays)
+pub all_once : (yard : Inventory) (sequence : List (List ℕ)) (told : List BayProblem) → IsYard yard → told ≡ map (bay_problem_of yard.heights sequence) (filter (is_called sequence) yard.bays)
     → IsDistinct same_bay (map (λ p. p.bay) told)
 all_once yard sequence told is e =
     subst (IsDistinct same_bay) (sym (ap (map (λ (p : BayProblem). p.bay)) e ∙ bays_told yard.heights sequence (filter (is_called sequence) yard.bays))) (IsDistinct-keys_filter same_bay (is_called sequence) yard.bays is.bays_once)

@@ -15,7 +15,7 @@ use Rattle.crp_plan.proofs.Tallies.{few_containers}
 use Rattle.crp_yard.specs.Inventory.{Inventory, StackedBay, IsYard, times, is_among, name_at}
 use Rattle.crp_order.specs.declared.bay_problem.BayProblem.{BayProblem}
 use Rattle.crp_order.specs.Sequenced.{AreSequenced}
-use Rattle.crp_order.specs.BayProblems.{standing, leaving, ranked, ranks_in, is_called, bay_problem_under}
+use Rattle.crp_order.specs.BayProblems.{standing, leaving, ranked, ranks_in, is_called, bay_problem_of}
 use Rattle.crp_order.specs.Groups.{stacks_numbered, pointed, names_behind, CanLeave, IsStated, AreGroups}
 use Rattle.crp_yard.proofs.ListingSteps.{times_absent}
 use Rattle.crp_order.proofs.Once.{some_times, among, times-filter, once, filter-same}
@@ -72,7 +72,7 @@ one_problem : (told : BayProblem) (bay : YardBay) (problem : Problem) (names : L
 one_problem told bay problem names b p n = λ k. record { bay = b k; problem = p k; names = n k }
 
 pub stated-problem : (yard : Inventory) (sequence : List (List ℕ)) (i : ℕ) (bay : StackedBay) (left : List (List ℕ)) (told : BayProblem) → slice_get yard.bays i ≡ Some bay → left ≡ leaving sequence bay.1
-    → IsStated yard i left told → told ≡ bay_problem_under yard.heights sequence bay
+    → IsStated yard i left told → told ≡ bay_problem_of yard.heights sequence bay
 stated-problem yard sequence i bay left told here e is =
     let stacks : stacks_numbered yard i ≡ bay.1 = stacks_of_bay yard i bay here in
     let name : name_at yard i ≡ Some bay.0 = ap (λ found. Rattle.std.specs.Option.option_map (λ b. b.0) found) here in
@@ -97,20 +97,20 @@ filter-last : (p : StackedBay → Bool) (bay : StackedBay) (b : Bool) → p bay 
 filter-last p bay b e = ap (λ x. cond x (bay ∷ []) []) e
 
 problems-more : (yard : Inventory) (sequence : List (List ℕ)) (i : ℕ) (bay : StackedBay) (b : Bool) → slice_get yard.bays i ≡ Some bay → is_called sequence bay ≡ b
-    → map (bay_problem_under yard.heights sequence) (filter (is_called sequence) (take (i + 1) yard.bays))
-    ≡ map (bay_problem_under yard.heights sequence) (filter (is_called sequence) (take i yard.bays)) ++ map (bay_problem_under yard.heights sequence) (cond b (bay ∷ []) [])
+    → map (bay_problem_of yard.heights sequence) (filter (is_called sequence) (take (i + 1) yard.bays))
+    ≡ map (bay_problem_of yard.heights sequence) (filter (is_called sequence) (take i yard.bays)) ++ map (bay_problem_of yard.heights sequence) (cond b (bay ∷ []) [])
 problems-more yard sequence i bay b here e =
-    ap (λ bays. map (bay_problem_under yard.heights sequence) (filter (is_called sequence) bays)) (take_next yard.bays i bay here)
-    ∙ ap (map (bay_problem_under yard.heights sequence)) (filter-append (is_called sequence) (take i yard.bays) (bay ∷ []))
-    ∙ map-append (bay_problem_under yard.heights sequence) (filter (is_called sequence) (take i yard.bays)) (filter (is_called sequence) (bay ∷ []))
-    ∙ ap (λ l. map (bay_problem_under yard.heights sequence) (filter (is_called sequence) (take i yard.bays)) ++ map (bay_problem_under yard.heights sequence) l) (filter-last (is_called sequence) bay b e)
+    ap (λ bays. map (bay_problem_of yard.heights sequence) (filter (is_called sequence) bays)) (take_next yard.bays i bay here)
+    ∙ ap (map (bay_problem_of yard.heights sequence)) (filter-append (is_called sequence) (take i yard.bays) (bay ∷ []))
+    ∙ map-append (bay_problem_of yard.heights sequence) (filter (is_called sequence) (take i yard.bays)) (filter (is_called sequence) (bay ∷ []))
+    ∙ ap (λ l. map (bay_problem_of yard.heights sequence) (filter (is_called sequence) (take i yard.bays)) ++ map (bay_problem_of yard.heights sequence) l) (filter-last (is_called sequence) bay b e)
 
 pub problems-next : (yard : Inventory) (sequence : List (List ℕ)) (i : ℕ) (bay : StackedBay) (told : BayProblem) (old new : List BayProblem) → slice_get yard.bays i ≡ Some bay
-    → (length (leaving sequence bay.1) == 0) ≡ false → told ≡ bay_problem_under yard.heights sequence bay
-    → old ≡ map (bay_problem_under yard.heights sequence) (filter (is_called sequence) (take i yard.bays)) → new ≡ old ++ told ∷ []
-    → new ≡ map (bay_problem_under yard.heights sequence) (filter (is_called sequence) (take (i + 1) yard.bays))
+    → (length (leaving sequence bay.1) == 0) ≡ false → told ≡ bay_problem_of yard.heights sequence bay
+    → old ≡ map (bay_problem_of yard.heights sequence) (filter (is_called sequence) (take i yard.bays)) → new ≡ old ++ told ∷ []
+    → new ≡ map (bay_problem_of yard.heights sequence) (filter (is_called sequence) (take (i + 1) yard.bays))
 problems-next yard sequence i bay told old new here some is before more =
-    more ∙ ap (λ l. l ++ told ∷ []) before ∙ ap (λ t. map (bay_problem_under yard.heights sequence) (filter (is_called sequence) (take i yard.bays)) ++ t ∷ []) is
+    more ∙ ap (λ l. l ++ told ∷ []) before ∙ ap (λ t. map (bay_problem_of yard.heights sequence) (filter (is_called sequence) (take i yard.bays)) ++ t ∷ []) is
     ∙ sym (problems-more yard sequence i bay true here (any-filter (is_among (standing bay.1)) sequence ∙ ap not some))
 
 append-none : (xs : List BayProblem) → xs ++ [] ≡ xs
@@ -118,11 +118,11 @@ append-none [] = refl
 append-none (x ∷ xs) = ap (λ ys. x ∷ ys) (append-none xs)
 
 pub problems-same : (yard : Inventory) (sequence : List (List ℕ)) (i : ℕ) (bay : StackedBay) (old : List BayProblem) → slice_get yard.bays i ≡ Some bay
-    → (length (leaving sequence bay.1) == 0) ≡ true → old ≡ map (bay_problem_under yard.heights sequence) (filter (is_called sequence) (take i yard.bays))
-    → old ≡ map (bay_problem_under yard.heights sequence) (filter (is_called sequence) (take (i + 1) yard.bays))
+    → (length (leaving sequence bay.1) == 0) ≡ true → old ≡ map (bay_problem_of yard.heights sequence) (filter (is_called sequence) (take i yard.bays))
+    → old ≡ map (bay_problem_of yard.heights sequence) (filter (is_called sequence) (take (i + 1) yard.bays))
 problems-same yard sequence i bay old here none before =
     before ∙ sym (problems-more yard sequence i bay false here (any-filter (is_among (standing bay.1)) sequence ∙ ap not none)
-    ∙ append-none (map (bay_problem_under yard.heights sequence) (filter (is_called sequence) (take i yard.bays))))
+    ∙ append-none (map (bay_problem_of yard.heights sequence) (filter (is_called sequence) (take i yard.bays))))
 
 pub few_left : (yard : Inventory) (i : ℕ) (left : List (List ℕ)) → IsYard yard → i < length yard.bays → CanLeave left (stacks_numbered yard i) → length left ≤ 96
 few_left yard i left is h can = omega (arith, few_names yard i left is h can, length-append left (filter (λ c. not (is_among left c)) (standing (stacks_numbered yard i))))
@@ -144,8 +144,8 @@ group_at yard sequence groups i group are h e =
 -- all bays are told
 pub problems-all : (yard : Inventory) (sequence : List (List ℕ)) (groups given : List (Vec (Bor (List ℕ)) Global)) (i : ℕ) (told : List BayProblem)
     → AreGroups sequence yard.bays (map (λ g. pointed g.items) groups) → given ≡ groups → length given ≤ i
-    → told ≡ map (bay_problem_under yard.heights sequence) (filter (is_called sequence) (take i yard.bays)) → told ≡ map (bay_problem_under yard.heights sequence) (filter (is_called sequence) yard.bays)
+    → told ≡ map (bay_problem_of yard.heights sequence) (filter (is_called sequence) (take i yard.bays)) → told ≡ map (bay_problem_of yard.heights sequence) (filter (is_called sequence) yard.bays)
 problems-all yard sequence groups given i told are same far e =
     let long : length given ≡ length groups = ap length same in
-    e ∙ ap (λ bays. map (bay_problem_under yard.heights sequence) (filter (is_called sequence) bays))
+    e ∙ ap (λ bays. map (bay_problem_of yard.heights sequence) (filter (is_called sequence) bays))
     (take_all i yard.bays (omega (arith, far, long, are.one_for_each, length-map groups (λ (g : Vec (Bor (List ℕ)) Global). pointed g.items))))

@@ -4,7 +4,7 @@ use Rattle.std.specs.List.{list_any}
 use Rattle.std.specs.Str.{bytes_eq}
 use Rattle.crp_plan.specs.Bay.{Problem}
 use Rattle.crp_plan.specs.Rows.{total}
-use Rattle.crp_plan.specs.Faults.{stated, stated_with}
+use Rattle.crp_plan.specs.Faults.{stated_with}
 use Rattle.crp_yard.specs.Inventory.{Inventory, StackedBay, is_among, stands}
 use Rattle.crp_yard.specs.Ranks.{named}
 use Rattle.crp_yard.specs.After.{stacks_at}
@@ -36,14 +36,14 @@ abbrev pub ranks_in : List (List ℕ) → List (List (List ℕ)) → List (List 
 ranks_in names stacks = map (λ stack. map (rank_in names) stack) stacks
 
 -- the problem of a bay whose rows have these heights: the containers that leave are those of the first ranks
-abbrev pub problem_under : List ℕ → List (List ℕ) → List (List (List ℕ)) → Problem
-problem_under heights sequence stacks = stated_with heights (length (leaving sequence stacks)) (ranks_in (ranked sequence stacks) stacks)
+abbrev pub problem_of : List ℕ → List (List ℕ) → List (List (List ℕ)) → Problem
+problem_of heights sequence stacks = stated_with heights (length (leaving sequence stacks)) (ranks_in (ranked sequence stacks) stacks)
 
 -- the same with the bay's name and the container of each rank
-abbrev pub bay_problem_under : List ℕ → List (List ℕ) → StackedBay → BayProblem
-bay_problem_under heights sequence bay = record {
+abbrev pub bay_problem_of : List ℕ → List (List ℕ) → StackedBay → BayProblem
+bay_problem_of heights sequence bay = record {
   bay = bay.0;
-  problem = problem_under heights sequence bay.1;
+  problem = problem_of heights sequence bay.1;
   names = ranked sequence bay.1;
 }
 
@@ -52,22 +52,8 @@ abbrev pub is_called : List (List ℕ) → StackedBay → Bool
 is_called sequence bay = list_any (is_among (standing bay.1)) sequence
 
 -- the problems of the bays in which some container of the sequence stands, in the yard's order
-abbrev pub problems_under : Inventory → List (List ℕ) → List BayProblem
-problems_under yard sequence = map (bay_problem_under yard.heights sequence) (filter (is_called sequence) yard.bays)
-
--- the same where each row has so many tiers
-abbrev pub problem_of : ℕ → List (List ℕ) → List (List (List ℕ)) → Problem
-problem_of tiers sequence stacks = stated tiers (length (leaving sequence stacks)) (ranks_in (ranked sequence stacks) stacks)
-
-abbrev pub bay_problem_of : ℕ → List (List ℕ) → StackedBay → BayProblem
-bay_problem_of tiers sequence bay = record {
-  bay = bay.0;
-  problem = problem_of tiers sequence bay.1;
-  names = ranked sequence bay.1;
-}
-
 abbrev pub problems_of : Inventory → List (List ℕ) → List BayProblem
-problems_of yard sequence = map (bay_problem_of yard.tiers sequence) (filter (is_called sequence) yard.bays)
+problems_of yard sequence = map (bay_problem_of yard.heights sequence) (filter (is_called sequence) yard.bays)
 
 -- how many containers of the sequence stand nowhere in the yard
 abbrev pub absent_of : Inventory → List (List ℕ) → ℕ

@@ -3,7 +3,7 @@
 ghost use Rattle.std.specs.Prelude.{◌≡◌, ◌<◌, All, IfOk, length, map};
 ghost use Rattle.std.specs.List.{IsDistinct};
 ghost use Rattle.crp_yard.specs.Places.{same_bay};
-ghost use Rattle.crp_order.specs.BayProblems.{problems_under, IsNamed};
+ghost use Rattle.crp_order.specs.BayProblems.{problems_of, IsNamed};
 ghost use Rattle.crp_order.specs.Groups.{stacks_numbered, pointed, IsStated, CanLeave};
 
 use crate::bay_problem::BayProblem;
@@ -58,7 +58,7 @@ pub fn problems(
     yard: &Yard,
     sequence: &Sequence,
 ) -> Result<Vec<BayProblem>, AllocError>
-    ensures exact { IfOk result (λ problems. problems.items ≡ problems_under yard.now sequence.now) }
+    ensures exact { IfOk result (λ problems. problems.items ≡ problems_of yard.now sequence.now) }
 
     // The ranks of each problem, read as its names, are the bay of that name as it stands in the yard.
     ensures named { IfOk result (λ problems. All (IsNamed yard.now) problems.items) }

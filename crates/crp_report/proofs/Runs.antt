@@ -1,5 +1,5 @@
 -- What a run tells, from what its parts tell.
-use Rattle.std.proofs.Common.{◌≡◌, ◌≤◌, ◌∙◌, ℕ, List, inl, inr, refl, sym, ap, subst}
+use Rattle.std.proofs.Common.{◌≡◌, ◌∙◌, ℕ, List, inl, inr, refl, sym, ap, subst}
 use Rattle.crp_movins.specs.LoadOrders.{LoadOrders}
 use Rattle.crp_yard.specs.Inventory.{Inventory}
 use Rattle.crp_yard.specs.Reading.{IsTextOf}
@@ -9,8 +9,6 @@ use Rattle.crp_report.specs.declared.fault.Input.TheVariants as input
 use Rattle.crp_report.specs.declared.fault.Output.{Output}
 use Rattle.crp_report.specs.declared.fault.Output.TheVariants as output
 use Rattle.crp_report.specs.declared.writing.Texts.{Texts}
-use Rattle.crp_order.proofs.OneHeight.{one_height}
-use Rattle.crp_report.specs.Answered.{AreTrueAnswers}
 use Rattle.crp_report.specs.Chosen.{RunChosen}
 use Rattle.crp_report.specs.Runs.{Seen, Made, IsMade, IsListed, AreOrders, numbers_of, sink_of, Gets, GetsFront, WritesNothing, StopsAt, IsYardAccepted, Tells}
 use Rattle.crp_report.specs.Pieces.{Piece, ArePieces, bytes_for, written}
@@ -34,22 +32,22 @@ made chosen list message yard orders t are = record {
 }
 
 pub is_made : (chosen : RunChosen) (s : Seen) (list message : List ℕ) (yard : Inventory) (orders : LoadOrders) (t : Texts) (are : AreTextsOf chosen yard orders t)
-    → 1 ≤ chosen.rows → IsTextOf s.yard.given list → IsListed chosen list yard → IsTextOf s.movins.given message → AreOrders chosen.code message orders
+    → IsTextOf s.yard.given list → IsListed chosen list yard → IsTextOf s.movins.given message → AreOrders chosen.code message orders
     → IsMade chosen s (made chosen list message yard orders t are)
-is_made chosen s list message yard orders t are some given_list listed given_message ordered = record {
+is_made chosen s list message yard orders t are given_list listed given_message ordered = record {
   given_list = given_list;
   given_message = given_message;
   listed = listed;
   ordered = ordered;
   in_sequence = are.in_sequence;
-  true_answers = subst (λ problems. AreTrueAnswers chosen.search.budget problems are.answered) (one_height chosen.rows chosen.tiers list yard are.sequence some listed) are.true_answers;
+  true_answers = are.true_answers;
   report = (_, bays_tell are.answered t.bays.items are.bays, rw (are.first, are.last) refl);
   certificates = bays_certify are.answered t.bays.items are.bays;
   yard_after = are.yard_after;
 }
 
 -- a yard list that is refused
-pub list_refused : (chosen : RunChosen) (s : Seen) (f : Fault) → WritesNothing s → IsNoYard chosen.rows chosen.tiers s.yard.given s.yard.before s.yard.after f → Tells chosen s f
+pub list_refused : (chosen : RunChosen) (s : Seen) (f : Fault) → WritesNothing s → IsNoYard chosen.heights s.yard.given s.yard.before s.yard.after f → Tells chosen s f
 list_refused chosen s (fault.Yard f) nothing (read, memory, first) = (nothing, read, memory, first)
 list_refused chosen s (fault.Read input.Yard) nothing failed = (nothing, tt, failed)
 list_refused chosen s (fault.Read input.Movins) nothing none = absurd none

@@ -107,7 +107,7 @@ tellable budget (bay ∷ answered) named t =
 pub answered_named : (chosen : RunChosen) (seen : Seen) (m : Made) → IsMade chosen seen m → AllByRecursion IsNamedProblem (map (λ bay. bay.told) m.answered)
 answered_named chosen seen m is =
     let t = is.true_answers in
-    subst (AllByRecursion IsNamedProblem) (sym t.one_for_each) (problems_named chosen.rows chosen.tiers m.list m.yard m.sequence is.listed)
+    subst (AllByRecursion IsNamedProblem) (sym t.one_for_each) (problems_named chosen.heights m.list m.yard m.sequence is.listed)
 
 -- what a run says, and that it can be said
 pub record HasSaid (m : Made) : Type 0 where

@@ -1,5 +1,5 @@
 -- The bays and the containers of an accepted yard list have names that fit a line.
-use Rattle.std.proofs.Common.{◌≡◌, ℕ, zero, suc, ◌-◌, ◌<◌, ◌≤◌, ◌==◌, Bool, true, false, not, cond, List, [], ◌∷◌, ◌++◌, length, take, replicate, get_or, map, filter, fold, Option, Some, None, refl, sym, subst, arith, nat_le}
+use Rattle.std.proofs.Common.{◌≡◌, ℕ, zero, suc, ◌-◌, ◌<◌, ◌≤◌, ◌==◌, Bool, true, false, not, cond, List, [], ◌∷◌, ◌++◌, length, take, get_or, map, filter, fold, Option, Some, None, refl, sym, subst, arith, nat_le}
 use Rattle.std.specs.Prelude.{◌&&◌, ◌||◌, max, option_to_list}
 use Rattle.std.specs.List.{AllByRecursion, list_all, list_any}
 use Rattle.std.specs.Char.{is_ascii_digit}
@@ -14,7 +14,7 @@ use Rattle.crp_yard.specs.Places.{YardPlace, same_bay, same_place}
 use Rattle.crp_yard.specs.Records.{Entry, is_block, is_container, is_number, number_of, is_well_formed, has_numbers, field_of, entry_of, entries_of, records_of, height_of}
 use Rattle.crp_yard.specs.Faults.{fault_of, fault_behind, fault_at, first_fault, first_fault_up_to, max_bytes}
 use Rattle.crp_yard.specs.Inventory.{Inventory, StackedBay, bays_of, with_bay, stacked, stack_up_to, stacks_up_to, container_at, is_among}
-use Rattle.crp_yard.specs.Reading.{IsYardList}
+use Rattle.crp_yard.specs.Reading.{IsYardListOf}
 use Rattle.crp_yard.specs.declared.fault.YardFault.TheVariants.{TooLarge}
 use Rattle.crp_yard.proofs.BaySteps.{named}
 use Rattle.crp_yard.proofs.Least.{neither, faultless-up_to}
@@ -151,14 +151,14 @@ stacked_named heights entries [] good names = tt
 stacked_named heights entries (bay ∷ bays) good names =
     (record { name = names.0; containers = stacks_fit entries bay heights (length heights) good }, stacked_named heights entries bays good names.1)
 
-pub yard_named : (rows tiers : ℕ) (text : List ℕ) (yard : Inventory) → IsYardList rows tiers text yard → AllByRecursion IsNamedBay yard.bays
-yard_named rows tiers text yard is =
+pub yard_named : (heights : List ℕ) (text : List ℕ) (yard : Inventory) → IsYardListOf heights text yard → AllByRecursion IsNamedBay yard.bays
+yard_named heights text yard is =
     let entries = entries_of (records_of text) in
-    let good = good_entries (replicate rows tiers) (records_of text) (not_long (nat_le (length text) max_bytes) is.faultless) in
+    let good = good_entries heights (records_of text) (not_long (nat_le (length text) max_bytes) is.faultless) in
     subst (λ (y : Inventory). AllByRecursion IsNamedBay y.bays) (sym is.stands)
-    (stacked_named (replicate rows tiers) entries (bays_of entries) good (once_each IsYardBay [] (map (λ entry. entry.0.bay) entries) tt (bays_named entries good)))
+    (stacked_named heights entries (bays_of entries) good (once_each IsYardBay [] (map (λ entry. entry.0.bay) entries) tt (bays_named entries good)))
   where
-    not_long : (t : Bool) → cond t (first_fault (replicate rows tiers) (records_of text)) (Some TooLarge) ≡ None → first_fault (replicate rows tiers) (records_of text) ≡ None
+    not_long : (t : Bool) → cond t (first_fault heights (records_of text)) (Some TooLarge) ≡ None → first_fault heights (records_of text) ≡ None
     not_long true e = e
     not_long false e = absurd (cc e)
 
@@ -202,12 +202,12 @@ pub record IsNamedProblem (told : BayProblem) : Type 0 where
   pub bay : IsYardBay told.bay
   pub names : AllByRecursion FitsLine told.names
 
-all_named : (tiers : ℕ) (sequence : List (List ℕ)) (bays : List StackedBay) → AllByRecursion IsNamedBay bays → AllByRecursion IsNamedProblem (map (bay_problem_of tiers sequence) bays)
-all_named tiers sequence [] named = tt
-all_named tiers sequence (bay ∷ bays) all =
+all_named : (heights : List ℕ) (sequence : List (List ℕ)) (bays : List StackedBay) → AllByRecursion IsNamedBay bays → AllByRecursion IsNamedProblem (map (bay_problem_of heights sequence) bays)
+all_named heights sequence [] named = tt
+all_named heights sequence (bay ∷ bays) all =
     let first = all.0 in
-    (record { bay = first.name; names = ranked_fit sequence bay.1 first.containers }, all_named tiers sequence bays all.1)
+    (record { bay = first.name; names = ranked_fit sequence bay.1 first.containers }, all_named heights sequence bays all.1)
 
-pub problems_named : (rows tiers : ℕ) (text : List ℕ) (yard : Inventory) (sequence : List (List ℕ)) → IsYardList rows tiers text yard → AllByRecursion IsNamedProblem (problems_of yard sequence)
-problems_named rows tiers text yard sequence is =
-    all_named yard.tiers sequence (filter (is_called sequence) yard.bays) (kept IsNamedBay (is_called sequence) yard.bays (yard_named rows tiers text yard is))
+pub problems_named : (heights : List ℕ) (text : List ℕ) (yard : Inventory) (sequence : List (List ℕ)) → IsYardListOf heights text yard → AllByRecursion IsNamedProblem (problems_of yard sequence)
+problems_named heights text yard sequence is =
+    all_named yard.heights sequence (filter (is_called sequence) yard.bays) (kept IsNamedBay (is_called sequence) yard.bays (yard_named heights text yard is))

@@ -1,6 +1,6 @@
 -- A run from the bytes of a yard list and of a message to a report, certificates and the yard after: what it saw, what it wrote, and what each
 -- fault tells.
-use Rattle.std.specs.Prelude.{◌≡◌, ◌≢◌, ℕ, ◌+◌, ◌-◌, List, length, replicate, Option, None, Some}
+use Rattle.std.specs.Prelude.{◌≡◌, ◌≢◌, ℕ, ◌+◌, ◌-◌, List, length, Option, None, Some}
 use Rattle.std.specs.Io.KnownBytes.{Appends, Keeps}
 use Rattle.crp_plan.specs.Devices.{AppendsFront, HasFailed, most_interruptions}
 use Rattle.edi_text.specs.Parts.{SegmentParts}
@@ -12,7 +12,7 @@ use Rattle.crp_movins.specs.Faults.{first_fault}
 use Rattle.crp_movins.specs.declared.fault.MovinsFault.TheVariants as movins
 use Rattle.crp_yard.specs.Inventory.{Inventory}
 use Rattle.crp_yard.specs.Faults.{fault_of_text}
-use Rattle.crp_yard.specs.Reading.{IsTextOf, IsYardList}
+use Rattle.crp_yard.specs.Reading.{IsTextOf, IsYardListOf}
 use Rattle.crp_yard.specs.declared.fault.YardFault.TheVariants as yard_fault
 use Rattle.crp_order.specs.Sequences.{IsSequence}
 use Rattle.crp_order.specs.BayProblems.{problems_of, absent_of}
@@ -49,9 +49,9 @@ pub record Seen : Type 0 where
   pub certificates : SinkSeen
   pub yard_after : SinkSeen
 
--- the text is a yard list, of bays of the chosen size
+-- the text is a yard list, of bays whose rows have the chosen heights
 abbrev pub IsListed : RunChosen → List ℕ → Inventory → Type 0
-IsListed chosen text yard = IsYardList chosen.rows chosen.tiers text yard
+IsListed chosen text yard = IsYardListOf chosen.heights text yard
 
 -- the text is an interchange, and these are its load orders under the code
 pub record AreOrders (code text : List ℕ) (orders : LoadOrders) : Type 0 where
@@ -158,7 +158,7 @@ most_failures f = most_interruptions + failures_told f
 -- that write.
 abbrev pub Tells : RunChosen → Seen → Fault → Type 0
 Tells chosen s (fault.Yard f) = WritesNothing s × (f ≢ yard_fault.Read) × (f ≢ yard_fault.Memory)
-    × ((text : List ℕ) × IsTextOf s.yard.given text × (fault_of_text (replicate chosen.rows chosen.tiers) text ≡ Some f))
+    × ((text : List ℕ) × IsTextOf s.yard.given text × (fault_of_text chosen.heights text ≡ Some f))
 Tells chosen s (fault.Interchange f) = WritesNothing s × (f ≢ edi.Memory) × IsYardAccepted chosen s
     × ((text : List ℕ) × IsTextOf s.movins.given text × IsFirstFault text f)
 Tells chosen s (fault.Message f) = WritesNothing s × (f ≢ movins.Memory) × IsYardAccepted chosen s

@@ -1,5 +1,5 @@
 -- How a run tells what went wrong in a layer below, and the texts that it keeps of a bay. Only private clauses speak of it.
-use Rattle.std.specs.Prelude.{◌≡◌, ◌≢◌, ℕ, ◌+◌, ◌≤◌, List, [], ◌∷◌, Option, Some, replicate, ⊤}
+use Rattle.std.specs.Prelude.{◌≡◌, ◌≢◌, ℕ, ◌+◌, ◌≤◌, List, [], ◌∷◌, Option, Some, ⊤}
 use Rattle.crp_plan.specs.Devices.{HasFailed}
 use Rattle.crp_yard.specs.declared.fault.YardFault.{YardFault}
 use Rattle.crp_yard.specs.declared.fault.YardFault.TheVariants as yard_fault
@@ -21,7 +21,7 @@ use Rattle.crp_report.specs.declared.writing.Texts.{Texts}
 use Rattle.crp_yard.specs.Inventory.{Inventory}
 use Rattle.crp_movins.specs.LoadOrders.{LoadOrders}
 use Rattle.crp_order.specs.Sequences.{IsSequence}
-use Rattle.crp_order.specs.BayProblems.{problems_under}
+use Rattle.crp_order.specs.BayProblems.{problems_of}
 use Rattle.crp_report.specs.Chosen.{RunChosen}
 use Rattle.crp_report.specs.Runs.{numbers_of}
 use Rattle.crp_report.specs.Answered.{Answered, AreTrueAnswers, status_of, status_of_all}
@@ -45,16 +45,16 @@ message_told f = fault.Message f
 abbrev pub AreFailuresCounted : ℕ → ℕ → ℕ → ℕ → ℕ → Type 0
 AreFailuresCounted besides failed_before failed_after counted_before counted_after = failed_after + counted_before ≤ failed_before + counted_after + besides
 
--- why no yard was read of a source that had these bytes, with its count of failures before and after
-abbrev pub IsNoYard : ℕ → ℕ → Option (List ℕ) → ℕ → ℕ → Fault → Type 0
-IsNoYard rows tiers given before after (fault.Yard f) = (f ≢ yard_fault.Read) × (f ≢ yard_fault.Memory)
-    × ((text : List ℕ) × IsTextOf given text × (fault_of_text (replicate rows tiers) text ≡ Some f))
-IsNoYard rows tiers given before after (fault.Read input.Yard) = HasFailed before after
-IsNoYard rows tiers given before after (fault.Read input.Movins) = ⊥
-IsNoYard rows tiers given before after fault.Memory = Unit {0}
-IsNoYard rows tiers given before after (fault.Interchange f) = ⊥
-IsNoYard rows tiers given before after (fault.Message f) = ⊥
-IsNoYard rows tiers given before after (fault.Write sink) = ⊥
+-- why no yard whose rows have these heights was read of a source that had these bytes, with its count of failures before and after
+abbrev pub IsNoYard : List ℕ → Option (List ℕ) → ℕ → ℕ → Fault → Type 0
+IsNoYard heights given before after (fault.Yard f) = (f ≢ yard_fault.Read) × (f ≢ yard_fault.Memory)
+    × ((text : List ℕ) × IsTextOf given text × (fault_of_text heights text ≡ Some f))
+IsNoYard heights given before after (fault.Read input.Yard) = HasFailed before after
+IsNoYard heights given before after (fault.Read input.Movins) = ⊥
+IsNoYard heights given before after fault.Memory = Unit {0}
+IsNoYard heights given before after (fault.Interchange f) = ⊥
+IsNoYard heights given before after (fault.Message f) = ⊥
+IsNoYard heights given before after (fault.Write sink) = ⊥
 
 -- why this text gives no load orders under this code
 abbrev pub IsNoOrders : List ℕ → List ℕ → Fault → Type 0
@@ -93,7 +93,7 @@ pub record AreTextsOf (chosen : RunChosen) (yard : Inventory) (orders : LoadOrde
   pub sequence : List (List ℕ)
   pub answered : List Answered
   pub in_sequence : IsSequence chosen.mode orders.list sequence
-  pub true_answers : AreTrueAnswers chosen.search.budget (problems_under yard sequence) answered
+  pub true_answers : AreTrueAnswers chosen.search.budget (problems_of yard sequence) answered
   pub first : t.first.items ≡ counts_line (numbers_of yard orders sequence)
   pub bays : AreTold answered t.bays.items
   pub last : t.last.items ≡ last_line answered

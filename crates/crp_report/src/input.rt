@@ -1,32 +1,29 @@
 //! What a run reads.
 ghost use Rattle.std.specs.Prelude.{ℕ, ◌≤◌, List, IfOk, IfErr, MatchResult};
 ghost use Rattle.crp_plan.specs.Devices.{most_interruptions};
-ghost use Rattle.crp_yard.specs.Reading.{IsTextOf, IsYardList};
+ghost use Rattle.crp_yard.specs.Reading.{IsTextOf, IsYardListOf};
+ghost use Rattle.crp_report.specs.Chosen.{CanBeHeights};
 ghost use Rattle.crp_report.specs.Runs.{AreOrders, failures_told};
 ghost use Rattle.crp_report.specs.Telling.{AreFailuresCounted, IsNoYard, IsNoOrders, IsNoMessage};
 
 use crate::fault::{Fault, Input};
 use crp_movins::{Orders, load_orders};
 use crp_plan::{ReadFault, Source, read_all};
-use crp_yard::{MAX_BYTES, Yard, YardFault, yard_of};
+use crp_yard::{MAX_BYTES, Yard, YardFault, yard_of_heights};
 use edi_text::{EdiFault, MAX_TEXT, read_segments};
 use std::alloc::Global;
 
-/// The yard that the bytes of a source list, of bays with so many rows and tiers.
+/// The yard that the bytes of a source list, of bays with a row for each of the heights.
 pub(crate) fn yard_from<Y: Source>(
     alloc: Global,
     source: &mut Y,
-    rows: u8,
-    tiers: u8,
+    heights: &[u8],
     interruptions: &mut u32,
 ) -> Result<Yard, Fault>
-    requires some_rows { 1 ≤ rows }
-    requires few_rows { rows ≤ 12 }
-    requires some_tiers { 1 ≤ tiers }
-    requires few_tiers { tiers ≤ 8 }
+    requires heights { CanBeHeights heights.now }
     requires passed { interruptions.old ≤ most_interruptions }
-    ensures accepted { IfOk result (λ yard. (text : List ℕ) × IsTextOf (Y.remaining source.old) text × IsYardList rows tiers text yard) }
-    ensures refused { IfErr result (IsNoYard rows tiers (Y.remaining source.old) (Y.failures source.old) (Y.failures source.new)) }
+    ensures accepted { IfOk result (λ yard. (text : List ℕ) × IsTextOf (Y.remaining source.old) text × IsYardListOf heights.now text yard) }
+    ensures refused { IfErr result (IsNoYard heights.now (Y.remaining source.old) (Y.failures source.old) (Y.failures source.new)) }
     ensures counted { MatchResult result (λ _. AreFailuresCounted 0 (Y.failures source.old) (Y.failures source.new) interruptions.old interruptions.new) (λ fault. AreFailuresCounted (failures_told fault) (Y.failures source.old) (Y.failures source.new) interruptions.old interruptions.new) }
     ensures passed { interruptions.new ≤ most_interruptions }
 {
@@ -36,7 +33,7 @@ pub(crate) fn yard_from<Y: Source>(
         Err(ReadFault::TooLarge) => return Err(Fault::Yard(YardFault::TooLarge)),
         Err(ReadFault::Memory) => return Err(Fault::Memory),
     };
-    let yard = yard_of(alloc, &text, rows, tiers)?;
+    let yard = yard_of_heights(alloc, &text, heights)?;
     Ok(yard)
 }
 

@@ -6,7 +6,7 @@ ghost use Rattle.crp_yard.specs.Inventory.{IsYard, Inventory};
 ghost use Rattle.crp_yard.specs.Places.{same_bay};
 ghost use Rattle.crp_yard.specs.After.{IsPlanForBay, IsAfter};
 ghost use Rattle.crp_yard.specs.Text.{yard_text as list_of};
-ghost use Rattle.crp_order.specs.BayProblems.{problems_under};
+ghost use Rattle.crp_order.specs.BayProblems.{problems_of};
 ghost use Rattle.crp_report.specs.Answered.{Answered, AreTrueAnswers, bay_plans};
 ghost use Rattle.crp_report.specs.Runs.{Seen, failures_in, most_failures, Writes, Tells};
 ghost use Rattle.crp_report.specs.Telling.{AreTold, AreTextsOf};
@@ -38,7 +38,7 @@ fn told_of<T: Threads + Wait + Sync>(
     settings: Settings,
 ) -> Result<ToldBays, AllocError>
     ensures told { IfOk result (λ told. (answered : List Answered)
-        × AreTrueAnswers settings.budget (problems_under yard.now sequence.now) answered
+        × AreTrueAnswers settings.budget (problems_of yard.now sequence.now) answered
         × AreTold answered told.bays.items × (told.plans.items ≡ bay_plans answered)) }
     ensures plans { IfOk result (λ told. All (IsPlanForBay yard.now) told.plans.items) }
     ensures once { IfOk result (λ told. IsDistinct same_bay (map (λ plan. plan.bay) told.plans.items)) }
@@ -114,13 +114,7 @@ pub fn run<T: Threads + Wait + Sync, Y: Source, M: Source, W: Sink, C: Sink, A: 
     } in MatchResult result (λ status. Writes settings.now seen status × (failures_in seen ≤ most_interruptions)) (λ fault. Tells settings.now seen fault × (failures_in seen ≤ most_failures fault)) }
 {
     let mut interruptions = 0;
-    let listed = yard_from(
-        alloc,
-        yard,
-        settings.rows(),
-        settings.tiers(),
-        &mut interruptions,
-    )?;
+    let listed = yard_from(alloc, yard, settings.heights(), &mut interruptions)?;
     let orders = orders_from(alloc, movins, settings.code(), &mut interruptions)?;
     let texts = texts_of(rt, alloc, &listed, orders, settings)?;
     write_texts(out, cert_out, after_out, &texts, &mut interruptions)?;

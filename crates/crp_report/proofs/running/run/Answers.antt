@@ -7,7 +7,7 @@ pub returns-in_err-listed : goal.returns-in_err-listed
 returns-in_err-listed g c =
     let p = err_from_is_err_and c.from_residual.result c.from_residual.ensures.1 in
     rw (p.1, p.2) (
-      list_refused c.args.settings.now _ c.in_err-listed.field-0.0 (search rules) (rw (c.rows.ensures.value, c.tiers.ensures.value) at c.in_err-listed.ensures.refused),
+      list_refused c.args.settings.now _ c.in_err-listed.field-0.0 (search rules) (rw c.heights.ensures.value at c.in_err-listed.ensures.refused),
       omega (arith, c.in_err-listed.ensures.counted, c.in_err-listed.ensures.passed),
     )
 
@@ -16,7 +16,7 @@ returns-in_err-orders g c =
     let p = err_from_is_err_and c.from_residual-in_err-orders.result c.from_residual-in_err-orders.ensures.1 in
     let (list, given, listed) = c.in_ok-listed.ensures.accepted in
     rw (p.1, p.2) (
-      message_refused c.args.settings.now _ c.in_err-orders.field-0.0 (search rules) (list, c.in_ok-listed.listed, given, rw (c.rows.ensures.value, c.tiers.ensures.value) at listed)
+      message_refused c.args.settings.now _ c.in_err-orders.field-0.0 (search rules) (list, c.in_ok-listed.listed, given, rw c.heights.ensures.value at listed)
           (rw c.code.ensures at c.in_err-orders.ensures.refused),
       omega (arith, c.in_ok-listed.ensures.counted, c.in_err-orders.ensures.counted, c.in_err-orders.ensures.passed),
     )
@@ -37,7 +37,7 @@ returns-in_err-write_texts g c =
     let are = c.in_ok-texts.ensures in
     rw (p.1, p.2) (
       write_refused c.args.settings.now _ c.in_err-write_texts.field-0.0 (made c.args.settings.now list message c.in_ok-listed.listed c.in_ok-orders.orders texts are)
-          _ (is_made c.args.settings.now _ list message c.in_ok-listed.listed c.in_ok-orders.orders texts are c.rows.ensures.chosen.0 given_list (rw (c.rows.ensures.value, c.tiers.ensures.value) at listed)
+          _ (is_made c.args.settings.now _ list message c.in_ok-listed.listed c.in_ok-orders.orders texts are given_list (rw c.heights.ensures.value at listed)
           given_message (rw c.code.ensures at ordered)) told.report_front told.certificates_front told.yard_after_front
           (pieces_made c.args.settings.now c.in_ok-listed.listed c.in_ok-orders.orders texts are) told.stopped told.refused,
       omega (arith, c.in_ok-listed.ensures.counted, c.in_ok-orders.ensures.counted, c.in_ok-orders.ensures.count, told.counted, grown.0, grown.1, grown.2, told.passed),
@@ -51,8 +51,8 @@ returns g c =
     let grown = told.counts in (
       (
         made c.args.settings.now list message c.in_ok-listed.listed c.in_ok-orders.orders c.in_ok-texts.texts c.in_ok-texts.ensures,
-        is_made c.args.settings.now _ list message c.in_ok-listed.listed c.in_ok-orders.orders c.in_ok-texts.texts c.in_ok-texts.ensures c.rows.ensures.chosen.0 given_list
-            (rw (c.rows.ensures.value, c.tiers.ensures.value) at listed) given_message (rw c.code.ensures at ordered),
+        is_made c.args.settings.now _ list message c.in_ok-listed.listed c.in_ok-orders.orders c.in_ok-texts.texts c.in_ok-texts.ensures given_list
+            (rw c.heights.ensures.value at listed) given_message (rw c.code.ensures at ordered),
         c.in_ok-texts.ensures.status,
         told.report,
         told.certificates,
