@@ -1,5 +1,5 @@
 -- What a job does: one over the bytes of one file, and any, as the sink of its report sees it.
-use Rattle.std.specs.Prelude.{◌≡◌, ℕ, ◌≤◌, ◌⊎◌, List, ⊤}
+use Rattle.std.specs.Prelude.{◌≡◌, ℕ, ◌⊎◌, List, ⊤}
 use Rattle.crp_report.specs.declared.fault.Fault.{Fault}
 use Rattle.crp_report.specs.declared.fault.Fault.TheVariants as run
 use Rattle.crp_report.specs.declared.fault.Output.TheVariants as output
@@ -11,7 +11,7 @@ use Rattle.crp_commands.specs.declared.outcome.ToolFault.{ToolFault}
 use Rattle.crp_commands.specs.declared.outcome.ToolFault.TheVariants as fault
 use Rattle.crp_report.specs.Chosen.{RunChosen}
 use Rattle.crp_report.specs.Runs.{SinkSeen, GetsNothing, Seen as SeenByRun, Writes as RunWrites, Tells as RunTells}
-use Rattle.crp_commands.specs.Chosen.{AreChosen}
+use Rattle.crp_commands.specs.Chosen.{AreChosen, IsSizeWithin}
 use Rattle.crp_commands.specs.Calls.{CallSeen, Writes, Tells}
 use Rattle.crp_commands.specs.Replay.{IsReplay, IsNoReplay}
 use Rattle.crp_commands.specs.Bound.{IsBound, IsNoBound}
@@ -33,8 +33,7 @@ IsWithinLimits (job.Replay file) = ⊤
 IsWithinLimits (job.Bound file) = ⊤
 IsWithinLimits (job.Check file) = ⊤
 IsWithinLimits (job.Prove file search) = ⊤
-IsWithinLimits (job.Solve yard movins cert after s) =
-    (1 ≤ s.rows) × (s.rows ≤ 12) × (1 ≤ s.tiers) × (s.tiers ≤ 8)
+IsWithinLimits (job.Solve yard movins cert after settings) = IsSizeWithin settings
 
 -- the file that the job reads
 abbrev pub file_of : Job → List ℕ

@@ -1,5 +1,7 @@
 //! What the program may be asked for.
+use arrayvec::ArrayVec;
 use crp_order::Mode;
+use crp_plan::MAX_ROWS;
 use crp_solve::Settings;
 
 /// What the program is to do. Of `Replay`, `Bound`, `Check` and `Prove` a file named `-` is the standard input.
@@ -40,8 +42,10 @@ pub struct SolveSettings<'a> {
     pub search: Settings,
     /// The rows of each bay, 1 to 12.
     pub rows: u8,
-    /// The tiers of each bay, 1 to 8.
+    /// The tiers of each row, 1 to 8.
     pub tiers: u8,
+    /// The tiers of each row for itself, if that is wanted, in place of the rows and tiers: 1 to 12 rows of 1 to 8.
+    pub heights: Option<ArrayVec<u8, MAX_ROWS>>,
     /// The order in which the containers leave.
     pub order: Mode,
     /// The handling code of what is to be loaded.

@@ -1,6 +1,6 @@
 //! A job over its files.
-ghost use Rattle.std.specs.Prelude.{◌≡◌, ◌≤◌, ◌⊎◌, IfOk, IfErr, MatchResult};
-ghost use Rattle.crp_commands.specs.Chosen.{AreChosen};
+ghost use Rattle.std.specs.Prelude.{◌≡◌, ◌⊎◌, IfOk, IfErr, MatchResult};
+ghost use Rattle.crp_commands.specs.Chosen.{AreChosen, IsSizeWithin};
 ghost use Rattle.crp_report.specs.declared.fault.Fault.{Fault};
 ghost use Rattle.crp_report.specs.Chosen.{RunChosen};
 ghost use Rattle.crp_report.specs.Runs.{SinkSeen, GetsNothing};
@@ -53,22 +53,27 @@ fn run_on<T: Threads + Wait + Sync, W: Sink>(
 
 /// The settings of a run.
 pub fn settings_of(alloc: Global, chosen: &SolveSettings<'_>) -> Result<RunSettings, ToolFault>
-    requires rows { (1 ≤ chosen.now.rows) × (chosen.now.rows ≤ 12) }
-    requires tiers { (1 ≤ chosen.now.tiers) × (chosen.now.tiers ≤ 8) }
+    requires { IsSizeWithin chosen.now }
     ensures chosen { IfOk result (AreChosen chosen.now) }
     ensures memory { IfErr result (λ fault. fault ≡ Memory) }
 {
-    let code = chosen.code.as_bytes();
-    match RunSettings::new(
+    let settings = match RunSettings::new(
         alloc,
         chosen.search,
         chosen.rows,
         chosen.tiers,
         chosen.order,
-        code,
+        chosen.code.as_bytes(),
     ) {
+        Ok(settings) => settings,
+        Err(RunFault::Memory) => return Err(ToolFault::Memory),
+        Err(_) => unreachable!(),
+    };
+    let Some(heights) = &chosen.heights else {
+        return Ok(settings);
+    };
+    match settings.with_heights(heights.as_slice()) {
         Ok(settings) => Ok(settings),
-        Err(RunFault::Memory) => Err(ToolFault::Memory),
         Err(_) => unreachable!(),
     }
 }
@@ -81,8 +86,7 @@ fn solve_with<T: Threads + Wait + Sync, W: Sink>(
     chosen: &SolveSettings<'_>,
     out: &mut W,
 ) -> Result<Status, ToolFault>
-    requires rows { (1 ≤ chosen.now.rows) × (chosen.now.rows ≤ 12) }
-    requires tiers { (1 ≤ chosen.now.tiers) × (chosen.now.tiers ≤ 8) }
+    requires { IsSizeWithin chosen.now }
     ensures { let seen : SinkSeen = record { held = W.contents out.old; holds = W.contents out.new; before = W.failures out.old; after = W.failures out.new }
         in MatchResult result (λ status. (c : RunChosen) × AreChosen chosen.now c × ReportsRun c seen status)
         (λ fault. (fault ≡ Memory) × GetsNothing seen ⊎ ((c : RunChosen) × (f : Fault) × AreChosen chosen.now c × (fault ≡ Run f) × TellsOfRun c seen f)) }
