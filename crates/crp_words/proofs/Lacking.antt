@@ -5,8 +5,9 @@ use Rattle.std.specs.declared.num.ParseIntError.{ParseIntError}
 use Rattle.clap.specs.Words.{Row, Text}
 use Rattle.clap.specs.Matches.{ReadsOne}
 use Rattle.crp_solve.specs.Chosen.{Chosen}
-use Rattle.crp_words.specs.Words.{Asks, HasBudget, HasNumber, HasNumberBeyond, HasNumberWithin, FindsRows, HasSearch, HasSettings, HasSplit, FindsTiers, HasWorkers, IsBudgetBeyond, IsSplitBeyond, AreRowsBeyond, AreTiersBeyond, AreWorkersBeyond, IsFault, IsJust, IsSearchFault, IsSolveFault, IsWordsOrMemory, Lacks, ReadsNumber}
+use Rattle.crp_words.specs.Words.{Asks, HasBudget, HasNumber, HasNumberBeyond, HasNumberWithin, FindsRows, HasSearch, HasSettings, HasSplit, FindsTiers, HasWorkers, MayFindHeights, IsBudgetBeyond, IsSplitBeyond, AreRowsBeyond, AreTiersBeyond, AreHeightsBeyond, AreWorkersBeyond, IsFault, IsJust, IsSearchFault, IsSizedTwice, IsSolveFault, IsWordsOrMemory, Lacks, ReadsNumber}
 use Rattle.crp_commands.specs.declared.job.Job.{Job}
+use Rattle.crp_commands.specs.declared.job.SolveSettings.{SolveSettings}
 use Rattle.crp_commands.specs.declared.job.Job.TheVariants as job
 use Rattle.crp_words.specs.declared.usage.Mistake.TheVariants as mistake
 use Rattle.crp_words.specs.declared.usage.SettingFault.{SettingFault}
@@ -88,6 +89,9 @@ no_split_fault rows n has beyond = not_both (codes "split") 0 8 rows n has beyon
 no_rows_fault : (rows : List Row) (n : ℕ) → FindsRows rows n → AreRowsBeyond rows → ⊥
 no_rows_fault rows n has beyond = not_both (codes "rows") 1 12 rows n has beyond
 
+no_tiers_fault : (rows : List Row) (n : ℕ) → FindsTiers rows n → AreTiersBeyond rows → ⊥
+no_tiers_fault rows n has beyond = not_both (codes "tiers") 1 8 rows n has beyond
+
 -- the settings of a search within their limits have no fault
 no_search_fault : (rows : List Row) (s : Chosen) → HasSearch rows s → (f : SettingFault) → IsSearchFault rows f → ⊥
 no_search_fault rows s has setting.Workers beyond = no_workers_fault rows s.workers has.0 beyond
@@ -95,6 +99,7 @@ no_search_fault rows s has setting.Budget first = no_budget_fault rows s.budget 
 no_search_fault rows s has setting.Split first = no_split_fault rows s.split has.2 first.2
 no_search_fault rows s has setting.Rows none = none
 no_search_fault rows s has setting.Tiers none = none
+no_search_fault rows s has setting.Heights none = none
 
 -- ---- the settings of a search, number by number
 
@@ -110,6 +115,7 @@ no_workers rows u = lacks_more (HasWorkers rows) (HasSearch rows) (IsJust settin
     down setting.Split first = inr first.0
     down setting.Rows none = absurd none
     down setting.Tiers none = absurd none
+    down setting.Heights none = absurd none
 
 -- nor are there without a budget within its limit
 pub no_budget : (rows : List Row) (w : ℕ) (u : Usage) → HasWorkers rows w → Lacks (HasBudget rows) (IsJust setting.Budget (IsBudgetBeyond rows)) u
@@ -123,6 +129,7 @@ no_budget rows w u workers = lacks_more (HasBudget rows) (HasSearch rows) (IsJus
     down setting.Split first = inr first.1
     down setting.Rows none = absurd none
     down setting.Tiers none = absurd none
+    down setting.Heights none = absurd none
 
 -- nor without a split within its limit
 pub no_split : (rows : List Row) (w b : ℕ) (u : Usage) → HasWorkers rows w → HasBudget rows b
@@ -136,6 +143,7 @@ no_split rows w b u workers budget = lacks_more (HasSplit rows) (HasSearch rows)
     down setting.Split first = inl (refl, first.2)
     down setting.Rows none = absurd none
     down setting.Tiers none = absurd none
+    down setting.Heights none = absurd none
 
 -- ---- the settings of solve
 
@@ -146,6 +154,7 @@ search_first rows setting.Budget first = first
 search_first rows setting.Split first = first
 search_first rows setting.Rows none = absurd none
 search_first rows setting.Tiers none = absurd none
+search_first rows setting.Heights none = absurd none
 
 -- without settings of a search there are none of solve
 pub no_search : (rows : List Row) (u : Usage) → Lacks (HasSearch rows) (IsSearchFault rows) u → Lacks (HasSettings rows) (IsSolveFault rows) u
@@ -158,6 +167,7 @@ no_search rows u = lacks_more (HasSearch rows) (HasSettings rows) (IsSearchFault
     down setting.Split first = inl first
     down setting.Rows first = inr first.0
     down setting.Tiers first = inr first.0
+    down setting.Heights first = inr first.0
 
 -- nor are there without rows within their limits
 pub no_rows : (rows : List Row) (s : Chosen) (u : Usage) → HasSearch rows s → Lacks (FindsRows rows) (IsJust setting.Rows (AreRowsBeyond rows)) u
@@ -171,6 +181,7 @@ no_rows rows s u search = lacks_more (FindsRows rows) (HasSettings rows) (IsJust
     down setting.Split first = absurd (no_search_fault rows s search setting.Split first)
     down setting.Rows first = inl (refl, first.1)
     down setting.Tiers first = inr first.1
+    down setting.Heights first = inr first.1
 
 -- nor without tiers within their limits
 pub no_tiers : (rows : List Row) (s : Chosen) (r : ℕ) (u : Usage) → HasSearch rows s → FindsRows rows r
@@ -184,6 +195,21 @@ no_tiers rows s r u search has_rows = lacks_more (FindsTiers rows) (HasSettings 
     down setting.Split first = absurd (no_search_fault rows s search setting.Split first)
     down setting.Rows first = absurd (no_rows_fault rows r has_rows first.1)
     down setting.Tiers first = inl (refl, first.2)
+    down setting.Heights first = inr first.2
+
+-- nor without heights that can be chosen, where heights are given
+pub no_heights : (rows : List Row) (s : Chosen) (r t : ℕ) (u : Usage) → HasSearch rows s → FindsRows rows r → FindsTiers rows t
+    → Lacks (MayFindHeights rows) (IsJust setting.Heights (AreHeightsBeyond rows)) u → Lacks (HasSettings rows) (IsSolveFault rows) u
+no_heights rows s r t u search has_rows has_tiers = lacks_more (MayFindHeights rows) (HasSettings rows) (IsJust setting.Heights (AreHeightsBeyond rows)) (IsSolveFault rows) u
+    (λ s has. (_, has.3)) (λ f just. subst (IsSolveFault rows) (sym just.0) ((s, search), (r, has_rows), (t, has_tiers), just.1)) down
+  where
+    down : (f : SettingFault) → IsSolveFault rows f → IsJust setting.Heights (AreHeightsBeyond rows) f ⊎ ((heights : Option (List ℕ)) × MayFindHeights rows heights)
+    down setting.Workers first = absurd (no_search_fault rows s search setting.Workers first)
+    down setting.Budget first = absurd (no_search_fault rows s search setting.Budget first)
+    down setting.Split first = absurd (no_search_fault rows s search setting.Split first)
+    down setting.Rows first = absurd (no_rows_fault rows r has_rows first.1)
+    down setting.Tiers first = absurd (no_tiers_fault rows t has_tiers first.2)
+    down setting.Heights first = inl (refl, first.3)
 
 -- ---- the search of prove
 
@@ -205,3 +231,38 @@ pub no_prove : (rows : List Row) (u : Usage) → Lacks (HasSearch rows) (IsSearc
     → Lacks (Asks (codes "prove") rows) (IsFault (codes "prove") rows) u
 no_prove rows u = lacks_more (HasSearch rows) (Asks (codes "prove") rows) (IsSearchFault rows) (IsFault (codes "prove") rows) u
     (prove_asks rows) (λ f first. inl (refl, first)) (λ f first. inl (prove_fault rows f first))
+
+-- ---- the settings of solve, and its size
+
+-- what solve asks for has settings
+solve_asks : (rows : List Row) (j : Job) → Asks (codes "solve") rows j → (s : SolveSettings) × HasSettings rows s
+solve_asks rows (job.Replay file) asks = let e : ◌≡◌ {A = ℕ} 115 114 = ap (λ (l : Text). slice_index l 0) asks.0 in absurd (omega arith)
+solve_asks rows (job.Bound file) asks = let e : ◌≡◌ {A = ℕ} 115 98 = ap (λ (l : Text). slice_index l 0) asks.0 in absurd (omega arith)
+solve_asks rows (job.Check file) asks = let e : ◌≡◌ {A = ℕ} 115 99 = ap (λ (l : Text). slice_index l 0) asks.0 in absurd (omega arith)
+solve_asks rows (job.Prove file search) asks = let e : ◌≡◌ {A = ℕ} 115 112 = ap (λ (l : Text). slice_index l 0) asks.0 in absurd (omega arith)
+solve_asks rows (job.Solve yard movins cert after settings) asks = (settings, asks.6)
+
+-- nor has it its size twice
+solve_once : (rows : List Row) (j : Job) → Asks (codes "solve") rows j → ¬ IsSizedTwice rows
+solve_once rows (job.Replay file) asks = let e : ◌≡◌ {A = ℕ} 115 114 = ap (λ (l : Text). slice_index l 0) asks.0 in absurd (omega arith)
+solve_once rows (job.Bound file) asks = let e : ◌≡◌ {A = ℕ} 115 98 = ap (λ (l : Text). slice_index l 0) asks.0 in absurd (omega arith)
+solve_once rows (job.Check file) asks = let e : ◌≡◌ {A = ℕ} 115 99 = ap (λ (l : Text). slice_index l 0) asks.0 in absurd (omega arith)
+solve_once rows (job.Prove file search) asks = let e : ◌≡◌ {A = ℕ} 115 112 = ap (λ (l : Text). slice_index l 0) asks.0 in absurd (omega arith)
+solve_once rows (job.Solve yard movins cert after settings) asks = asks.1
+
+-- a fault of solve comes where its size is not given twice
+solve_fault : (rows : List Row) (f : SettingFault) → IsFault (codes "solve") rows f → ¬ IsSizedTwice rows × IsSolveFault rows f
+solve_fault rows f (inl (is, first)) = let e : ◌≡◌ {A = ℕ} 115 112 = ap (λ (l : Text). slice_index l 0) is in absurd (omega arith)
+solve_fault rows f (inr (is, first)) = first
+
+-- without settings solve asks for nothing
+pub no_solve : (rows : List Row) (u : Usage) → ¬ IsSizedTwice rows → Lacks (HasSettings rows) (IsSolveFault rows) u
+    → Lacks (Asks (codes "solve") rows) (IsFault (codes "solve") rows) u
+no_solve rows u once = lacks_more (HasSettings rows) (Asks (codes "solve") rows) (IsSolveFault rows) (IsFault (codes "solve") rows) u
+    (solve_asks rows) (λ f first. inr (refl, (once, first))) (λ f first. inl (solve_fault rows f first).1)
+
+-- nor does it where its size is given twice
+pub sized_twice : (rows : List Row) (u : Usage) → IsSizedTwice rows → IsWordsOrMemory u
+    → Lacks (Asks (codes "solve") rows) (IsFault (codes "solve") rows) u
+sized_twice rows u twice words = lacks (Asks (codes "solve") rows) (IsFault (codes "solve") rows) u words
+    (λ j asks. solve_once rows j asks twice) (λ f first. (solve_fault rows f first).0 twice)

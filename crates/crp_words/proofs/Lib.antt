@@ -1,4 +1,5 @@
 -- Lemmas on words and their refusals.
 pub mod Asking
+pub mod HeightSteps
 pub mod Lacking
 pub mod CommandLine

@@ -23,9 +23,9 @@ text_rule name default = record (new_rule name) {
 abbrev pub number_rule : Text → Text → Rule
 number_rule name default = record (text_rule name default) { parser = Some (vp.Unsigned 0 18446744073709551615) }
 
--- an option that names a file to be written
-abbrev pub output_rule : Text → Rule
-output_rule name = record (new_rule name) { long = Some name; value_names = 1 }
+-- an option that takes a text, and has none where it is not given
+abbrev pub optional_rule : Text → Rule
+optional_rule name = record (new_rule name) { long = Some name; value_names = 1 }
 
 -- a command with these files and options
 abbrev pub command : Text → List Rule → Shape
@@ -60,8 +60,12 @@ abbrev pub with_search : Shape → Shape
 with_search shape = with_option split_rule (with_option budget_rule (with_option workers_rule shape))
 
 -- a command with [--rows N] [--tiers N]
+abbrev pub with_rows : Shape → Shape
+with_rows shape = with_option (number_rule (codes "tiers") (codes "5")) (with_option (number_rule (codes "rows") (codes "6")) shape)
+
+-- a command with these, and [--heights HEIGHTS] in place of them
 abbrev pub with_size : Shape → Shape
-with_size shape = with_option (number_rule (codes "tiers") (codes "5")) (with_option (number_rule (codes "rows") (codes "6")) shape)
+with_size shape = with_option (optional_rule (codes "heights")) (with_rows shape)
 
 -- a command with [--order listed|stowage] [--code TEXT]
 abbrev pub with_orders : Shape → Shape
@@ -69,7 +73,7 @@ with_orders shape = with_option (text_rule (codes "code") (codes "LOA")) (with_o
 
 -- a command with [--cert FILE] [--after FILE]
 abbrev pub with_outputs : Shape → Shape
-with_outputs shape = with_option (output_rule (codes "after")) (with_option (output_rule (codes "cert")) shape)
+with_outputs shape = with_option (optional_rule (codes "after")) (with_option (optional_rule (codes "cert")) shape)
 
 -- prove FILE, with the options of a search
 abbrev pub prove : Shape

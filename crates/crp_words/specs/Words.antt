@@ -1,11 +1,15 @@
 -- What the words of the command line ask for.
-use Rattle.std.specs.Prelude.{◌≡◌, ℕ, ◌≢◌, ◌⊎◌, ◌==◌, ◌<◌, ◌≤◌, ◌^◌, List, [], ◌∷◌, length, if◌then◌else◌, codes, Option, Some, None, option_map, ⊤}
+use Rattle.std.specs.Prelude.{◌≡◌, ℕ, ◌≢◌, ◌⊎◌, ◌==◌, ◌<◌, ◌≤◌, ◌^◌, List, [], ◌∷◌, length, if◌then◌else◌, codes, Option, Some, None, option_map, option_and_then, find, ⊤}
+use Rattle.std.specs.Str.{bytes_eq}
 use Rattle.std.specs.Str.Parse.{IsNumeral, digits_value, without_leading_plus}
 use Rattle.clap.specs.Words.{IsAmong, Kinds, Row, Text, fault_of, first_of, one_of, subcommand_of}
+use Rattle.clap.specs.declared.parser.matches.ValueSource.{ValueSource}
+use Rattle.clap.specs.declared.parser.matches.ValueSource.TheVariants.{CommandLine}
 use Rattle.clap.specs.declared.error.kind.ErrorKind.{ErrorKind}
 use Rattle.clap.specs.declared.error.kind.ErrorKind.TheVariants as kind
 use Rattle.crp_solve.specs.Chosen.{Chosen}
 use Rattle.crp_words.specs.Commands.{crp}
+use Rattle.crp_words.specs.Heights.{IsHeightsText}
 use Rattle.crp_commands.specs.declared.job.Job.{Job}
 use Rattle.crp_commands.specs.declared.job.Job.TheVariants as job
 use Rattle.crp_words.specs.declared.usage.Mistake.{Mistake}
@@ -33,6 +37,14 @@ HasText id found text = first_of id found ≡ Some text
 abbrev pub ReadsNumber : Option Text → ℕ → Type 0
 ReadsNumber found n = (text : Text) × (found ≡ Some text) × IsNumeral 10 (without_leading_plus text)
     × (n ≡ digits_value 10 (without_leading_plus text)) × (n < 2 ^ 64)
+
+-- where the text for the option comes from, if there is one
+abbrev pub source_of : Text → List Row → Option ValueSource
+source_of id found = option_and_then (λ row. row.source) (find (λ row. bytes_eq row.id id) found)
+
+-- the words give the option, so that it has not its default
+abbrev pub IsGiven : Text → List Row → Type 0
+IsGiven id found = source_of id found ≡ Some CommandLine
 
 -- the rows have this whole number for the option: as it was given, or else its default
 abbrev pub HasNumber : Text → List Row → ℕ → Type 0
@@ -90,6 +102,23 @@ FindsTiers found n = HasNumberWithin (codes "tiers") 1 8 found n
 abbrev pub AreTiersBeyond : List Row → Type 0
 AreTiersBeyond found = HasNumberBeyond (codes "tiers") 1 8 found
 
+-- the heights of the rows that were found
+abbrev pub FindsHeights : List Row → List ℕ → Type 0
+FindsHeights found heights = (text : Text) × HasText (codes "heights") found text × IsHeightsText heights text
+
+-- the same, or that none are wanted
+abbrev pub MayFindHeights : List Row → Option (List ℕ) → Type 0
+MayFindHeights found None = first_of (codes "heights") found ≡ None
+MayFindHeights found (Some heights) = FindsHeights found heights
+
+-- the heights that were found are in the text of none
+abbrev pub AreHeightsBeyond : List Row → Type 0
+AreHeightsBeyond found = (text : Text) × HasText (codes "heights") found text × ((heights : List ℕ) → IsHeightsText heights text → ⊥)
+
+-- the heights are given beside the rows or the tiers, in place of which they stand
+abbrev pub IsSizedTwice : List Row → Type 0
+IsSizedTwice found = IsGiven (codes "heights") found × (IsGiven (codes "rows") found ⊎ IsGiven (codes "tiers") found)
+
 -- the word for an order
 abbrev pub order_word : Mode → Text
 order_word mode.Listed = codes "listed"
@@ -102,9 +131,10 @@ HasOrder found o = HasText (codes "order") found (order_word o)
 -- the settings of solve that were found, within their limits
 abbrev pub HasSettings : List Row → SolveSettings → Type 0
 HasSettings found s = HasSearch found s.search × FindsRows found s.rows × FindsTiers found s.tiers
+    × MayFindHeights found (option_map (λ heights. heights.items) s.heights)
     × HasOrder found s.order × HasText (codes "code") found s.code.now
 
--- ---- the job, or the first number beyond its limits
+-- ---- the job, or the first setting beyond its limits
 
 -- the command and its rows ask for this
 abbrev pub Asks : Text → List Row → Job → Type 0
@@ -112,7 +142,7 @@ Asks name found (job.Replay file) = (name ≡ codes "replay") × HasText (codes 
 Asks name found (job.Bound file) = (name ≡ codes "bound") × HasText (codes "file") found file.now
 Asks name found (job.Check file) = (name ≡ codes "check") × HasText (codes "file") found file.now
 Asks name found (job.Prove file search) = (name ≡ codes "prove") × HasText (codes "file") found file.now × HasSearch found search
-Asks name found (job.Solve yard movins cert after settings) = (name ≡ codes "solve")
+Asks name found (job.Solve yard movins cert after settings) = (name ≡ codes "solve") × ¬ IsSizedTwice found
     × HasText (codes "yard") found yard.now × HasText (codes "movins") found movins.now
     × (first_of (codes "cert") found ≡ option_map (λ text. text.now) cert)
     × (first_of (codes "after") found ≡ option_map (λ text. text.now) after)
@@ -125,23 +155,26 @@ IsSearchFault found setting.Budget = ((n : ℕ) × HasWorkers found n) × IsBudg
 IsSearchFault found setting.Split = ((n : ℕ) × HasWorkers found n) × ((n : ℕ) × HasBudget found n) × IsSplitBeyond found
 IsSearchFault found setting.Rows = ⊥
 IsSearchFault found setting.Tiers = ⊥
+IsSearchFault found setting.Heights = ⊥
 
--- the first number of solve beyond its limits: that of the search, then the rows, then the tiers
+-- the first setting of solve beyond its limits: that of the search, then the rows, then the tiers, then the heights
 abbrev pub IsSolveFault : List Row → SettingFault → Type 0
 IsSolveFault found setting.Rows = ((s : Chosen) × HasSearch found s) × AreRowsBeyond found
 IsSolveFault found setting.Tiers = ((s : Chosen) × HasSearch found s) × ((n : ℕ) × FindsRows found n) × AreTiersBeyond found
+IsSolveFault found setting.Heights = ((s : Chosen) × HasSearch found s) × ((n : ℕ) × FindsRows found n) × ((n : ℕ) × FindsTiers found n)
+    × AreHeightsBeyond found
 IsSolveFault found f = IsSearchFault found f
 
--- the first number of the command beyond its limits
+-- the first setting of the command beyond its limits
 abbrev pub IsFault : Text → List Row → SettingFault → Type 0
-IsFault name found f = ((name ≡ codes "prove") × IsSearchFault found f) ⊎ ((name ≡ codes "solve") × IsSolveFault found f)
+IsFault name found f = ((name ≡ codes "prove") × IsSearchFault found f) ⊎ ((name ≡ codes "solve") × (¬ IsSizedTwice found × IsSolveFault found f))
 
 -- the command, if there is one, and its rows ask for this
 abbrev pub AsksFor : Option (Text × List Row) → Job → Type 0
 AsksFor None j = ⊥
 AsksFor (Some p) j = Asks p.0 p.1 j
 
--- the first number of the command, if there is one, beyond its limits
+-- the first setting of the command, if there is one, beyond its limits
 abbrev pub IsFaultFor : Option (Text × List Row) → SettingFault → Type 0
 IsFaultFor None f = ⊥
 IsFaultFor (Some p) f = IsFault p.0 p.1 f
@@ -151,7 +184,7 @@ abbrev pub WordsAsk : List Text → Job → Type 0
 WordsAsk words j = (fault_of crp (words_or_default words) ≡ [])
     × AsksFor (subcommand_of crp (words_or_default words)) j
 
--- the first number of the words beyond its limits, by clap's matches of them
+-- the first setting of the words beyond its limits, by clap's matches of them
 abbrev pub WordsHaveFault : List Text → SettingFault → Type 0
 WordsHaveFault words f = (fault_of crp (words_or_default words) ≡ [])
     × IsFaultFor (subcommand_of crp (words_or_default words)) f
@@ -162,12 +195,12 @@ WordsHaveFault words f = (fault_of crp (words_or_default words) ≡ [])
 abbrev pub ShowsNothing : Kinds → Type 0
 ShowsNothing kinds = (kinds ≡ []) ⊎ ((k : ErrorKind) × IsAmong k kinds × (k ≢ kind.DisplayHelp) × (k ≢ kind.DisplayVersion))
 
--- the mistake tells the first number beyond its limits exactly where there is one
+-- the mistake tells the first setting beyond its limits exactly where there is one
 abbrev pub TellsFault : (SettingFault → Type 0) → Mistake → Type 0
 TellsFault IsFirst (mistake.Words text) = (f : SettingFault) → IsFirst f → ⊥
 TellsFault IsFirst (mistake.Setting f) = IsFirst f
 
--- when each refusal comes: help and the version where clap shows them, and else only for words that ask for nothing, a number beyond its limits among it
+-- when each refusal comes: help and the version where clap shows them, and else only for words that ask for nothing, a setting beyond its limits among it
 abbrev pub Refuses : List Text → Usage → Type 0
 Refuses words usage.Memory = ⊤
 Refuses words (usage.Help text) = IsAmong kind.DisplayHelp (fault_of crp (words_or_default words))
@@ -175,13 +208,13 @@ Refuses words (usage.Help text) = IsAmong kind.DisplayHelp (fault_of crp (words_
 Refuses words (usage.Wrong m) = ((j : Job) → WordsAsk words j → ⊥) × ShowsNothing (fault_of crp (words_or_default words))
     × TellsFault (WordsHaveFault words) m
 
--- why nothing of a kind comes of the rows of a command: there is none, and its first number beyond its limits is told
+-- why nothing of a kind comes of the rows of a command: there is none, and its first setting beyond its limits is told
 abbrev pub Lacks : {X : Type 0} → (X → Type 0) → (SettingFault → Type 0) → Usage → Type 0
 Lacks Has IsFirst usage.Memory = ⊤
 Lacks Has IsFirst (usage.Help text) = ⊥
 Lacks {X} Has IsFirst (usage.Wrong m) = ((x : X) → Has x → ⊥) × TellsFault IsFirst m
 
--- no number is beyond its limits
+-- no setting is beyond its limits
 abbrev pub NoFault : SettingFault → Type 0
 NoFault f = ⊥
 

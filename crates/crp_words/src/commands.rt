@@ -1,7 +1,7 @@
 //! The command line: each command with its files and options.
 ghost use Rattle.std.specs.Prelude.{◌≡◌, IfOk};
 ghost use Rattle.clap.specs.Words.{App, Shape, app_of, with_subcommand};
-ghost use Rattle.crp_words.specs.Commands.{IsArg, IsCommand, alone, budget_rule, crp, file_rule, leaf as leaf_shape, leaves, number_rule, output_rule, prove as prove_shape, solve as solve_shape, solve_files as solve_files_shape, split_rule, text_rule, top_command as top_shape, with_orders, with_outputs, with_search, with_size, workers_rule};
+ghost use Rattle.crp_words.specs.Commands.{IsArg, IsCommand, alone, budget_rule, crp, file_rule, leaf as leaf_shape, leaves, number_rule, optional_rule, prove as prove_shape, solve as solve_shape, solve_files as solve_files_shape, split_rule, text_rule, top_command as top_shape, with_orders, with_outputs, with_search, with_size, workers_rule};
 
 use clap::{Arg, Command, value_parser};
 use std::alloc::{AllocError, Global};
@@ -45,13 +45,13 @@ fn text<'a>(
         .help(help)
 }
 
-// An option that names a file to be written, which is written only where it is named.
-fn output<'a>(alloc: Global, name: &'a str, help: &'a str) -> Arg<'a>
-    ensures { IsArg (output_rule name.entry.now) result }
+// An option that takes a text, and has none where it is not given.
+fn optional<'a>(alloc: Global, name: &'a str, shown: &'a str, help: &'a str) -> Arg<'a>
+    ensures { IsArg (optional_rule name.entry.now) result }
 {
     Arg::new(alloc, name)
         .long(name)
-        .value_name("FILE")
+        .value_name(shown)
         .help(help)
 }
 
@@ -141,7 +141,13 @@ fn with_size<'a>(alloc: Global, command: Command<'a>) -> Result<Command<'a>, All
 {
     let rows = number(alloc, "rows", "6", "Rows of each bay, 1 to 12");
     let tiers = number(alloc, "tiers", "5", "Tiers of each bay, 1 to 8");
-    command.arg(rows)?.arg(tiers)
+    let heights = optional(
+        alloc,
+        "heights",
+        "HEIGHTS",
+        "Tiers of each row, as 3.1.3, in place of --rows and --tiers",
+    );
+    command.arg(rows)?.arg(tiers)?.arg(heights)
 }
 
 // A command with the order of leaving, and what is to be loaded.
@@ -169,14 +175,16 @@ fn with_orders<'a>(alloc: Global, command: Command<'a>) -> Result<Command<'a>, A
 fn with_outputs<'a>(alloc: Global, command: Command<'a>) -> Result<Command<'a>, AllocError>
     ensures { IfOk result (λ new. (shape : Shape) → IsCommand shape command.entry → IsCommand (with_outputs shape) new) }
 {
-    let cert = output(
+    let cert = optional(
         alloc,
         "cert",
+        "FILE",
         "File that gets the certificates; without it they are not written",
     );
-    let after = output(
+    let after = optional(
         alloc,
         "after",
+        "FILE",
         "File that gets the yard after the plans; without it that is not written",
     );
     command.arg(cert)?.arg(after)

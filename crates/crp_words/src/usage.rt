@@ -1,7 +1,7 @@
 //! Why the words of the command line ask for nothing.
 use thiserror::Error;
 
-/// Which number of the command line is the first beyond its limits.
+/// Which setting of the command line is the first beyond its limits, in this order.
 #[derive(Clone, Copy, Debug, Drop, PartialEq, Eq, Error)]
 pub enum SettingFault {
     /// The workers are none or more than 64.
@@ -19,6 +19,9 @@ pub enum SettingFault {
     /// The tiers are none or more than 8.
     #[error("S6")]
     Tiers,
+    /// The heights are not 1 to 12 digits from 1 to 8, joined by points.
+    #[error("S4")]
+    Heights,
 }
 
 /// What is wrong with the words.
@@ -26,7 +29,7 @@ pub enum SettingFault {
 pub enum Mistake {
     /// They are no command with its files and options, with the text for the user.
     Words(String),
-    /// A number is beyond its limits.
+    /// A setting is beyond its limits.
     Setting(SettingFault),
 }
 

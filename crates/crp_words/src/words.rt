@@ -1,14 +1,20 @@
 //! What the words of the command line ask for.
-ghost use Rattle.std.specs.Prelude.{◌≡◌, ◌≢◌, ℕ, IfOk, IfErr, IfSome, IfNone, map, codes};
+ghost use Rattle.std.specs.Prelude.{◌≡◌, ◌≢◌, ◌↔◌, ◌<◌, ◌+◌, ◌*◌, ℕ, List, length, IfOk, IfErr, IfSome, IfNone, IsTrue, map, option_map, codes};
 ghost use Rattle.clap.specs.Words.{found_of, kind_of, rows_of};
-ghost use Rattle.crp_words.specs.Words.{Asks, HasNumber, HasNumberBeyond, HasNumberWithin, HasOrder, HasSearch, HasSettings, HasText, IsFault, IsJust, IsSearchFault, IsSolveFault, IsWordsOrMemory, Lacks, NoFault, Refuses, ShowsKind, WordsAsk, words_or_default};
+ghost use Rattle.crp_commands.specs.Performing.{IsWithinLimits};
+ghost use Rattle.crp_words.specs.declared.usage.SettingFault.TheVariants as setting;
+ghost use Rattle.crp_words.specs.Heights.{HasHeightAt, IsHeightsText};
+ghost use Rattle.crp_words.specs.Words.{AreHeightsBeyond, Asks, HasNumber, HasNumberBeyond, HasNumberWithin, HasOrder, HasSearch, HasSettings, HasText, IsFault, IsGiven, IsJust, IsSearchFault, IsSizedTwice, IsSolveFault, IsWordsOrMemory, Lacks, MayFindHeights, NoFault, Refuses, ShowsKind, WordsAsk, words_or_default};
 
 use crate::commands::command_line;
 use crate::usage::{Mistake, SettingFault, Usage};
+use arrayvec::ArrayVec;
 use clap::error::ErrorKind;
+use clap::parser::ValueSource;
 use clap::{ArgMatches, Error};
 use crp_commands::{Job, SolveSettings};
 use crp_order::Mode;
+use crp_plan::MAX_ROWS;
 use crp_solve::{MAX_BUDGET, MAX_SPLIT, MAX_WORKERS, Settings};
 use std::alloc::Global;
 
@@ -25,6 +31,13 @@ const MOST_ROWS: u64 = 12;
 
 // The most tiers of a bay.
 const MOST_TIERS: u64 = 8;
+
+// The most bytes of the heights of rows.
+const MOST_BYTES: usize = 2 * MAX_ROWS - 1;
+
+// The refusal of heights beside rows or tiers.
+static SIZED_TWICE: &str =
+    "error: the argument '--heights <HEIGHTS>' cannot be used with '--rows <N>' or '--tiers <N>'\n\nUsage: crp solve [OPTIONS] <YARD> <MOVINS>\n\nFor more information, try '--help'.\n";
 
 // The refusal of words that are no command with its files and options.
 fn wrong(alloc: Global, text: &str) -> Usage
@@ -73,6 +86,74 @@ fn number_within(
         return Err(Usage::Wrong(Mistake::Setting(fault)));
     }
     Ok(number)
+}
+
+// The height that stands in the text behind so many others, behind a point if it is not the first.
+fn height_at(text: &[u8], before: usize) -> Option<u8>
+    requires { 2 * before < length text.now }
+    ensures some { IfSome result (HasHeightAt text.now before) }
+    ensures none { IfNone result ((height : ℕ) → HasHeightAt text.now before height → ⊥) }
+{
+    if before > 0 && text[2 * before - 1] != b'.' {
+        return None;
+    }
+    let digit = text[2 * before];
+    if digit < b'1' || digit > b'8' {
+        return None;
+    }
+    Some(digit - b'0')
+}
+
+// The heights that a text tells: digits from 1 to 8 joined by points.
+fn heights_in(text: &[u8]) -> Option<ArrayVec<u8, MAX_ROWS>>
+    ensures some { IfSome result (λ heights. IsHeightsText heights.items text.now) }
+    ensures none { IfNone result ((heights : List ℕ) → IsHeightsText heights text.now → ⊥) }
+{
+    if text.len() % 2 == 0 || text.len() > MOST_BYTES {
+        return None;
+    }
+    let mut heights = ArrayVec::new();
+    for before in 0..text.len() / 2 + 1 {
+        let Some(height) = height_at(text, before) else {
+            return None;
+        };
+        heights.push(height);
+    }
+    Some(heights)
+}
+
+// The heights of the rows, if they are given.
+fn heights_of(matches: &ArgMatches<'_>) -> Result<Option<ArrayVec<u8, MAX_ROWS>>, Usage>
+    ensures ok { IfOk result (λ heights. MayFindHeights (rows_of (found_of matches.now)) (option_map (λ list. list.items) heights)) }
+    ensures err { IfErr result (Lacks (MayFindHeights (rows_of (found_of matches.now))) (IsJust setting.Heights (AreHeightsBeyond (rows_of (found_of matches.now))))) }
+{
+    let Some(text) = matches.get_str("heights") else {
+        return Ok(None);
+    };
+    match heights_in(text.as_bytes()) {
+        Some(heights) => Ok(Some(heights)),
+        None => Err(Usage::Wrong(Mistake::Setting(SettingFault::Heights))),
+    }
+}
+
+// Whether the words give the option, so that it has not its default.
+fn is_given(matches: &ArgMatches<'_>, name: &str) -> bool
+    ensures { IsTrue result ↔ IsGiven name.now (rows_of (found_of matches.now)) }
+{
+    let Some(source) = matches.value_source(name) else {
+        return false;
+    };
+    match source {
+        ValueSource::CommandLine => true,
+        ValueSource::DefaultValue => false,
+    }
+}
+
+// Whether the heights are given beside the rows or the tiers.
+fn is_sized_twice(matches: &ArgMatches<'_>) -> bool
+    ensures { IsTrue result ↔ IsSizedTwice (rows_of (found_of matches.now)) }
+{
+    is_given(matches, "heights") && (is_given(matches, "rows") || is_given(matches, "tiers"))
 }
 
 fn order_of(alloc: Global, matches: &ArgMatches<'_>) -> Result<Mode, Usage>
@@ -135,12 +216,14 @@ fn settings_of<'a>(alloc: Global, matches: &ArgMatches<'a>) -> Result<SolveSetti
         (1, MOST_TIERS),
         SettingFault::Tiers,
     )?;
+    let heights = heights_of(matches)?;
     let order = order_of(alloc, matches)?;
     let code = text_of(alloc, matches, "code")?;
     Ok(SolveSettings {
         search,
         rows: rows as u8,
         tiers: tiers as u8,
+        heights,
         order,
         code,
     })
@@ -161,6 +244,9 @@ fn solve_of<'a>(alloc: Global, matches: &ArgMatches<'a>) -> Result<Job<'a>, Usag
     ensures ok { IfOk result (Asks (codes "solve") (rows_of (found_of matches.now))) }
     ensures err { IfErr result (Lacks (Asks (codes "solve") (rows_of (found_of matches.now))) (IsFault (codes "solve") (rows_of (found_of matches.now)))) }
 {
+    if is_sized_twice(matches) {
+        return Err(wrong(alloc, SIZED_TWICE));
+    }
     let settings = settings_of(alloc, matches)?;
     let yard = text_of(alloc, matches, "yard")?;
     let movins = text_of(alloc, matches, "movins")?;
@@ -234,6 +320,7 @@ fn or_default<'a>(words: &'a [&'a str]) -> &'a [&'a str]
 /// What the words after the program's name ask for, as clap's matches of them give it.
 pub fn job<'a>(alloc: Global, words: &'a [&'a str]) -> Result<Job<'a>, Usage>
     ensures asked { IfOk result (WordsAsk (map (λ w. w.now) words.entry.now)) }
+    ensures within { IfOk result IsWithinLimits }
     ensures refused { IfErr result (Refuses (map (λ w. w.now) words.entry.now)) }
 {
     let words = or_default(words);

@@ -1,9 +1,10 @@
 use Rattle.std.proofs.Common.{codes}
 use Rattle.std.proofs.lemmas.Result.{IfOk-weaker}
-use Rattle.crp_words.specs.Commands.{number_rule}
+use Rattle.crp_words.specs.Commands.{number_rule, optional_rule}
 use Rattle.crp_words.proofs.CommandLine.{more_arg}
 use Rattle.crp_words.proofs.commands.with_size.Goals as goal
 
 pub returns : goal.returns
-returns c = IfOk-weaker c.arg-2.result _ _ (λ new adds shape is. more_arg _ _ new _ (number_rule (codes "tiers") (codes "5")) adds c.number-tiers.ensures
-    (more_arg _ _ _ shape (number_rule (codes "rows") (codes "6")) c.in_ok-arg.ensures c.number-rows.ensures is)) c.arg-2.ensures
+returns c = IfOk-weaker c.arg-3.result _ _ (λ new adds shape is. more_arg _ _ new _ (optional_rule (codes "heights")) adds c.optional-heights.ensures
+    (more_arg _ _ _ _ (number_rule (codes "tiers") (codes "5")) c.in_ok-arg-2.ensures c.number-tiers.ensures
+    (more_arg _ _ _ shape (number_rule (codes "rows") (codes "6")) c.in_ok-arg.ensures c.number-rows.ensures is))) c.arg-3.ensures
