@@ -9,7 +9,7 @@ use Rattle.crp_plan.specs.Plans.{Route}
 use Rattle.crp_tree.specs.Claims.{IsAccepted, Claim, path_in}
 use Rattle.crp_tree.specs.Parts.{claimed}
 use Rattle.crp_cert.specs.declared.head.Head.{Head}
-use Rattle.crp_cert.specs.Text.{HasOneHeight, IsHead}
+use Rattle.crp_cert.specs.Text.{IsHead}
 use Rattle.crp_cert.specs.Writing.{script_for, CanBeSpelled}
 use Rattle.crp_cert.proofs.Written.{spelled_is_script, claimed_rise}
 use Rattle.crp_solve.specs.declared.answer.Answer.{Answer}
@@ -93,11 +93,10 @@ claim_accepted p budget (answer.NoPlan cert) expanded t = t.accepted
 claim_accepted p budget (answer.Between lower cert plan why) expanded t = t.accepted
 
 -- and a text can tell it
-tellable : (p : Problem) (budget : ℕ) (found : Answer) (expanded : ℕ) → HasOneHeight p → IsTrueAnswer p budget found expanded → CanBeSpelled (claim p found)
-tellable p budget found expanded one t =
+tellable : (p : Problem) (budget : ℕ) (found : Answer) (expanded : ℕ) → IsTrueAnswer p budget found expanded → CanBeSpelled (claim p found)
+tellable p budget found expanded t =
     record {
       accepted = claim_accepted p budget found expanded t;
-      same_heights = one;
       rising = claimed_rise p (cert_of found) (path_in (plan_in found)) t.certificate;
     }
 
@@ -111,11 +110,11 @@ text_accepted wanted bay p found named t asked =
       accepted = t.accepted;
     }
 
-pub answer_accepted : (bay : YardBay) (p : Problem) (budget : ℕ) (found : Answer) (expanded : ℕ) → IsYardBay bay → HasOneHeight p →
+pub answer_accepted : (bay : YardBay) (p : Problem) (budget : ℕ) (found : Answer) (expanded : ℕ) → IsYardBay bay →
     IsTrueAnswer p budget found expanded → IsAcceptedAs (text_of bay p found) bay p found
-answer_accepted bay p budget found expanded named one t =
+answer_accepted bay p budget found expanded named t =
     let k = verdict_on p budget found expanded t in
-    let can = tellable p budget found expanded one t in (
+    let can = tellable p budget found expanded t in (
       k.0,
       record {
         on = k.1;
@@ -129,7 +128,7 @@ pub proof_accepted : (budget : ℕ) (head : Head) (found : Answer) (text : List 
     IsAcceptedAs text head.bay head.problem found
 proof_accepted budget head found text is proof =
     let t = proof.0 in
-    subst (λ l. IsAcceptedAs l head.bay head.problem found) (sym proof.1) (answer_accepted head.bay head.problem budget found t.0 is.name is.same_heights t.1)
+    subst (λ l. IsAcceptedAs l head.bay head.problem found) (sym proof.1) (answer_accepted head.bay head.problem budget found t.0 is.name t.1)
 
 -- ---- files of certificates
 
@@ -143,8 +142,7 @@ cut : (budget : ℕ) (answered : List Answered) → AllByRecursion (IsGood budge
 cut budget [] good = refl
 cut budget (bay ∷ answered) good =
     let is = good.0 in
-    let can = is.can in
-    (certificates_text answered, refl, inl (script_ended (script_for bay.told.bay (claim bay.told.problem bay.answer)) can.0), cut budget answered good.1)
+    (certificates_text answered, refl, inl (script_ended (script_for bay.told.bay (claim bay.told.problem bay.answer)) is.can), cut budget answered good.1)
 
 -- and each shows the verdict on its answer
 each_shown : (budget : ℕ) (answered : List Answered) → AllByRecursion (IsGood budget) answered →
@@ -152,8 +150,7 @@ each_shown : (budget : ℕ) (answered : List Answered) → AllByRecursion (IsGoo
 each_shown budget [] good = ([], tt, tt)
 each_shown budget (bay ∷ answered) good =
     let is = good.0 in
-    let can = is.can in
-    let first = answer_accepted bay.told.bay bay.told.problem budget bay.answer bay.expanded can.0 can.1 is.true_answer in
+    let first = answer_accepted bay.told.bay bay.told.problem budget bay.answer bay.expanded is.can is.true_answer in
     let shown = first.1 in
     let more = each_shown budget answered good.1 in
     ((bay.told.bay, first.0) ∷ more.0, ((refl, shown), more.1), (shown.of_bay, more.2))
@@ -176,6 +173,6 @@ file_accepted budget problems answered t can =
 
 pub run_accepted : (chosen : RunChosen) (seen : Seen) (made : Made) → IsMade chosen seen made → IsAcceptedFile made.certificates made.answered
 run_accepted chosen seen made is =
-    let can = can_be_told chosen.rows chosen.tiers made.list made.yard made.sequence is.listed in
+    let can = can_be_told chosen.heights made.list made.yard made.sequence is.listed in
     subst (λ file. IsAcceptedFile file made.answered) (sym is.certificates)
     (file_accepted chosen.search.budget (problems_of made.yard made.sequence) made.answered is.true_answers can)

@@ -11,7 +11,9 @@ use Rattle.crp_tree.specs.Claims.{Part}
 use Rattle.crp_cert.specs.declared.head.Head.{Head}
 use Rattle.crp_cert.specs.declared.script.Script.{Script}
 use Rattle.crp_cert.specs.declared.size.Size.{Size}
-use Rattle.crp_cert.specs.Text.{spaced, numbers_line, title_line, bay_line, size_line, size_of, row_line, claim_line, plan_line, head_text}
+use Rattle.crp_cert.specs.declared.version.Version.{Version}
+use Rattle.crp_cert.specs.declared.version.Version.TheVariants.{One, Two}
+use Rattle.crp_cert.specs.Text.{spaced, numbers_line, title_line, bay_line, size_line, size_of, stated_heights, row_line, claim_line, plan_line, head_text}
 use Rattle.crp_tree.specs.Names.{name_text}
 use Rattle.crp_cert.specs.Script.{symbols_of, symbols_of_each, part_line, end_line, script_text}
 use Rattle.crp_report.proofs.Bytes.{IsPlain, plain_both, plain_words, plain_number}
@@ -82,8 +84,9 @@ numbers_other : (b : ℕ) (word ns : List ℕ) → b ≢ 101 → IsPlain (b ∷ 
 numbers_other b word ns other plain =
     one_other b (word ++ spaced ns) (numbers_line (b ∷ word) ns) (sym (append_assoc (b ∷ word) (spaced ns) (10 ∷ []))) other (plain_both (b ∷ word) (spaced ns) plain (plain_numbers ns))
 
-title_other : AreOtherLines title_line
-title_other = one_other 67 (codes "RP-CERT 1") title_line refl (λ e. omega (arith, e)) (plain_words (codes "CRP-CERT 1") refl)
+title_other : (version : Version) → AreOtherLines (title_line version)
+title_other One = one_other 67 (codes "RP-CERT 1") (title_line One) refl (λ e. omega (arith, e)) (plain_words (codes "CRP-CERT 1") refl)
+title_other Two = one_other 67 (codes "RP-CERT 2") (title_line Two) refl (λ e. omega (arith, e)) (plain_words (codes "CRP-CERT 2") refl)
 
 bay_other : (bay : YardBay) → IsYardBay bay → AreOtherLines (bay_line bay)
 bay_other bay named =
@@ -101,6 +104,10 @@ bay_other bay named =
 
 size_other : (size : Size) → AreOtherLines (size_line size)
 size_other size = numbers_other 115 (codes "ize") (size.rows ∷ size.tiers ∷ size.ordered ∷ size.total ∷ []) (λ e. omega (arith, e)) (plain_words (codes "size") refl)
+
+heights_other : (version : Version) (heights : List ℕ) → AreOtherLines (stated_heights version heights)
+heights_other One heights = record { lines = []; others = tt; are = refl }
+heights_other Two heights = numbers_other 104 (codes "eights") heights (λ e. omega (arith, e)) (plain_words (codes "heights") refl)
 
 row_other : (stack : List ℕ) → AreOtherLines (row_line stack)
 row_other stack = numbers_other 114 (codes "ow") stack (λ e. omega (arith, e)) (plain_words (codes "row") refl)
@@ -124,14 +131,16 @@ head_other : (head : Head) → IsYardBay head.bay → AreOtherLines (head_text h
 head_other head named =
     let p = head.problem in
     let size = size_line (size_of p) in
+    let heights = stated_heights head.version p.heights in
     let rows = flat_map row_line p.stacks in
     let claim = claim_line head.claim in
     let plan = plan_line head.plan in
-    others_both title_line (bay_line head.bay ++ (size ++ (rows ++ (claim ++ plan)))) title_other
-    (others_both (bay_line head.bay) (size ++ (rows ++ (claim ++ plan))) (bay_other head.bay named)
-    (others_both size (rows ++ (claim ++ plan)) (size_other (size_of p))
+    others_both (title_line head.version) (bay_line head.bay ++ (size ++ (heights ++ (rows ++ (claim ++ plan))))) (title_other head.version)
+    (others_both (bay_line head.bay) (size ++ (heights ++ (rows ++ (claim ++ plan)))) (bay_other head.bay named)
+    (others_both size (heights ++ (rows ++ (claim ++ plan))) (size_other (size_of p))
+    (others_both heights (rows ++ (claim ++ plan)) (heights_other head.version p.heights)
     (others_both rows (claim ++ plan) (others_all row_line row_other p.stacks)
-    (others_both claim plan (numbers_other 97 (codes "t least") (head.claim ∷ []) (λ e. omega (arith, e)) (plain_words (codes "at least") refl)) (plan_other head.plan)))))
+    (others_both claim plan (numbers_other 97 (codes "t least") (head.claim ∷ []) (λ e. omega (arith, e)) (plain_words (codes "at least") refl)) (plan_other head.plan))))))
 
 -- ---- the text
 

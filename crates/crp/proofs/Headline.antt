@@ -81,7 +81,7 @@ answer_so m b budget (answer.Between lower cert plan why) expanded t told fit on
 abbrev reported : StackedBay → Answered → BaySaid → YardBay × Verdict → Reported
 reported bay a s v = record { bay = bay; said = s.said; lines = s.lines; certificate = certificate_of a; verdict = v.1 }
 
-bay_true : (m : Made) (budget : ℕ) (bay : StackedBay) (a : Answered) (s : BaySaid) (v : YardBay × Verdict) → a.told ≡ bay_problem_of m.yard.tiers m.sequence bay
+bay_true : (m : Made) (budget : ℕ) (bay : StackedBay) (a : Answered) (s : BaySaid) (v : YardBay × Verdict) → a.told ≡ bay_problem_of m.yard.heights m.sequence bay
     → IsTrueAnswer a.told.problem budget a.answer a.expanded → IsNamedProblem a.told → IsSaidOf a s → IsVerdictFor a v → IsTrueOf m (reported bay a s v)
 bay_true m budget bay a s v e t named said (name, shown) =
     let b = reported bay a s v in
@@ -112,7 +112,7 @@ both_same : {X : Type 0} (x y : X) (xs ys : List X) → x ∷ xs ≡ y ∷ ys �
 both_same x y xs ys e = (cc, cc)
 
 all_reported : (m : Made) (budget : ℕ) (called : List StackedBay) (answered : List Answered) (said : List BaySaid) (verdicts : List (YardBay × Verdict))
-    → map (λ bay. bay.told) answered ≡ map (bay_problem_of m.yard.tiers m.sequence) called
+    → map (λ bay. bay.told) answered ≡ map (bay_problem_of m.yard.heights m.sequence) called
     → AllByRecursion (λ bay. IsTrueAnswer bay.told.problem budget bay.answer bay.expanded) answered → AllByRecursion IsNamedProblem (map (λ bay. bay.told) answered)
     → AllZip IsSaidOf answered said → AllZip IsVerdictFor answered verdicts → AreReported m called answered said verdicts
 all_reported m budget [] [] [] [] e t named says shown = record { bays = []; called_are = refl; said_are = refl; certificates_are = refl; verdicts_are = refl; each = tt }
@@ -120,12 +120,12 @@ all_reported m budget [] [] [] (v ∷ verdicts) e t named says shown = absurd sh
 all_reported m budget [] [] (s ∷ said) verdicts e t named says shown = absurd says
 all_reported m budget [] (a ∷ answered) said verdicts e t named says shown = absurd (let no : a.told ∷ map (λ (bay : Answered). bay.told) answered ≡ [] = e in cc)
 all_reported m budget (bay ∷ called) [] said verdicts e t named says shown =
-    absurd (let no : [] ≡ bay_problem_of m.yard.tiers m.sequence bay ∷ map (bay_problem_of m.yard.tiers m.sequence) called = e in cc)
+    absurd (let no : [] ≡ bay_problem_of m.yard.heights m.sequence bay ∷ map (bay_problem_of m.yard.heights m.sequence) called = e in cc)
 all_reported m budget (bay ∷ called) (a ∷ answered) [] verdicts e t named says shown = absurd says
 all_reported m budget (bay ∷ called) (a ∷ answered) (s ∷ said) [] e t named says shown = absurd shown
 all_reported m budget (bay ∷ called) (a ∷ answered) (s ∷ said) (v ∷ verdicts) e t named says shown =
-    let problem = bay_problem_of m.yard.tiers m.sequence bay in
-    let same = both_same a.told problem (map (λ (bay : Answered). bay.told) answered) (map (bay_problem_of m.yard.tiers m.sequence) called) e in
+    let problem = bay_problem_of m.yard.heights m.sequence bay in
+    let same = both_same a.told problem (map (λ (bay : Answered). bay.told) answered) (map (bay_problem_of m.yard.heights m.sequence) called) e in
     let more = all_reported m budget called answered said verdicts same.1 t.1 named.1 says.1 shown.1 in
     let is = says.0 in
     let name : bay.0 ≡ a.told.bay = sym (ap (λ (told : BayProblem). told.bay) same.0) in

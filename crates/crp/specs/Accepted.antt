@@ -3,7 +3,6 @@ use Rattle.std.specs.Prelude.{◌≡◌, ℕ, List, length, Some, option_map}
 use Rattle.std.specs.List.{AllZip}
 use Rattle.crp_plan.specs.BayNames.{YardBay, IsYardBay}
 use Rattle.crp_plan.specs.Bay.{Problem, cap}
-use Rattle.crp_cert.specs.Text.{HasOneHeight}
 use Rattle.crp_cert.specs.Writing.{certificate_text}
 use Rattle.crp_solve.specs.declared.answer.Answer.{Answer}
 use Rattle.crp_solve.specs.declared.answer.Answer.TheVariants as answer
@@ -40,9 +39,9 @@ pub record IsShown (text : List ℕ) (bay : YardBay) (p : Problem) (found : Answ
 abbrev pub IsAcceptedAs : List ℕ → YardBay → Problem → Answer → Type 0
 IsAcceptedAs text bay p found = (v : Verdict) × IsShown text bay p found v
 
--- a text can tell the bay and its problem: the bay has a name, and its rows have one height
+-- a text can tell the bay and its problem: the bay has a name
 abbrev pub CanBeTold : BayProblem → Type 0
-CanBeTold told = IsYardBay told.bay × HasOneHeight told.problem
+CanBeTold told = IsYardBay told.bay
 
 -- the bay, and the verdict that its certificate shows on the answer to its problem
 abbrev pub IsVerdictFor : Answered → YardBay × Verdict → Type 0

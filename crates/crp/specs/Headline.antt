@@ -31,9 +31,9 @@ pub record Reported : Type 0 where
 abbrev pub said_of : Reported → BaySaid
 said_of b = record { bay = b.bay.0; said = b.said; lines = b.lines }
 
--- its problem: the containers of the sequence that stand in it are to leave, in the order of the sequence
+-- its problem: its rows have the heights of the yard's, and the containers of the sequence that stand in it are to leave, in the order of the sequence
 abbrev pub problem_in : Made → Reported → Problem
-problem_in m b = problem_of m.yard.tiers m.sequence b.bay.1
+problem_in m b = problem_of m.yard.heights m.sequence b.bay.1
 
 -- the printed lines are those of a complete plan, with so many relocations, and its take lines name the containers of the sequence that stand in
 -- the bay, in the order of the sequence

@@ -3,7 +3,7 @@ ghost use Rattle.std.specs.Prelude.{ℕ, List, All};
 ghost use Rattle.crp_plan.specs.Bay.{Problem};
 ghost use Rattle.crp_plan.specs.BayNames.{YardBay, IsYardBay};
 ghost use Rattle.crp_cert.specs.declared.head.Head.{Head};
-ghost use Rattle.crp_cert.specs.Text.{HasOneHeight, IsHead};
+ghost use Rattle.crp_cert.specs.Text.{IsHead};
 ghost use Rattle.crp_solve.specs.declared.answer.Answer.{Answer};
 ghost use Rattle.crp_solve.specs.Answers.{IsTrueAnswer};
 ghost use Rattle.crp_order.specs.declared.bay_problem.BayProblem.{BayProblem};
@@ -15,10 +15,10 @@ ghost use Rattle.crp_commands.specs.Prove.{IsProofOf};
 ghost use Rattle.crp.specs.Headline.{IsHeadline};
 ghost use Rattle.crp.specs.Accepted.{text_of, IsAcceptedAs, CanBeTold, IsAcceptedFile};
 
-/// The checker accepts what the solver writes: the certificate of a true answer, under the name of a bay whose rows have one
-/// height, is accepted, with the verdict on that answer.
+/// The checker accepts what the solver writes: the certificate of a true answer, under the name of a bay, is accepted, with the
+/// verdict on that answer.
 pub fn answers_are_accepted()
-    ensures { (bay : YardBay) (p : Problem) (budget : ℕ) (found : Answer) (expanded : ℕ) → IsYardBay bay → HasOneHeight p
+    ensures { (bay : YardBay) (p : Problem) (budget : ℕ) (found : Answer) (expanded : ℕ) → IsYardBay bay
         → IsTrueAnswer p budget found expanded → IsAcceptedAs (text_of bay p found) bay p found }
 {}
 
