@@ -116,7 +116,7 @@ fn bounds_of_bays(rt: HostRuntime) -> Result<(), Fail> {
     for (head, report) in bays {
         assert_same(&rt, &bounded(rt.alloc(), head)?.as_slice(), &report);
     }
-    let answer = bounded(rt.alloc(), b"CRP-CERT 2\n");
+    let answer = bounded(rt.alloc(), b"CRP-CERT 3\n");
     assert!(rt; matches!(answer, Err(ToolFault::Cert(CertFault::Opening { line: 1 }))));
     Ok(())
 }

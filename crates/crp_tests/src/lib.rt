@@ -19,6 +19,8 @@ mod failing_runs;
 #[cfg(test)]
 mod files;
 #[cfg(test)]
+mod heights;
+#[cfg(test)]
 mod interrupted_runs;
 #[cfg(test)]
 mod many_workers;

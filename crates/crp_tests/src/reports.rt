@@ -4,7 +4,7 @@ use crate::compare::assert_same;
 use crp_commands::ToolFault;
 use crp_order::Mode;
 use crp_plan::Received;
-use crp_report::{Fault, RunSettings, Status};
+use crp_report::{Fault, RunFault, RunSettings, Status};
 use crp_solve::Settings;
 use std::alloc::Global;
 use std::sync::Wait;
@@ -312,6 +312,42 @@ fn settings_beyond_their_limits(rt: HostRuntime) -> Result<(), Fail> {
         let text = match RunSettings::new(rt.alloc(), search, rows, tiers, Mode::Listed, b"") {
             Err(fault) => format!(in rt.alloc(); "{fault}")?,
             Ok(_) => String::new(rt.alloc()),
+        };
+        assert_same(&rt, &text.as_str(), &line);
+    }
+    Ok(())
+}
+
+// Lists of heights, and what is told where they are refused.
+const HEIGHTS_CASES: [(&[u8], &str); 9] = [
+    (&[1], ""),
+    (&[8; 12], ""),
+    (&[3, 1, 3], ""),
+    (&[], "S4"),
+    (&[1; 13], "S4"),
+    (&[0], "S4"),
+    (&[9], "S4"),
+    (&[3, 0, 3], "S4"),
+    (&[8, 8, 9], "S4"),
+];
+
+// Settings with these heights in place of six rows of five tiers.
+fn with_heights(alloc: Global, heights: &[u8]) -> Result<RunSettings, RunFault> {
+    let Ok(search) = Settings::new(1, 0, 0) else {
+        return Err(RunFault::Memory);
+    };
+    RunSettings::new(alloc, search, 6, 5, Mode::Listed, b"LOA")?.with_heights(heights)
+}
+
+#[test]
+fn heights_at_their_limits(rt: HostRuntime) -> Result<(), Fail> {
+    for (heights, line) in HEIGHTS_CASES {
+        let text = match with_heights(rt.alloc(), heights) {
+            Err(fault) => format!(in rt.alloc(); "{fault}")?,
+            Ok(settings) => {
+                assert_same(&rt, &settings.heights(), &heights);
+                String::new(rt.alloc())
+            }
         };
         assert_same(&rt, &text.as_str(), &line);
     }

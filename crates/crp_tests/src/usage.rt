@@ -1,11 +1,11 @@
 //! The words of the command line, and exit statuses.
 use crate::calls::{exit_of, job};
-use crate::compare::{assert_at, assert_same};
+use crate::compare::{assert_at, assert_same, assert_same_at};
 use crp_cert::CertFault;
 use crp_commands::{Job, SolveSettings, ToolFault, settings_of};
 use crp_order::Mode;
 use crp_plan::PlanFault;
-use crp_report::{Fault, Input, Output, RunSettings, Status};
+use crp_report::{Fault, Input, Output, Status};
 use crp_solve::Settings;
 use crp_words::{Mistake, SettingFault, Usage};
 use std::alloc::Global;
@@ -79,6 +79,7 @@ struct Asked {
 fn has_settings(settings: &SolveSettings<'_>, asked: &Asked) -> bool {
     search_of(&settings.search) == asked.search
         && (settings.rows, settings.tiers) == asked.size
+        && settings.heights.is_none()
         && settings.order == asked.order
         && settings.code == asked.code
 }
@@ -156,9 +157,34 @@ fn reads_a_solve_with_all_options(rt: HostRuntime) {
     assert!(rt; is_solve(&asked, &ALL_OPTIONS));
 }
 
-// The rows, the tiers and the order of a run.
-fn bays_of(settings: &RunSettings) -> (u8, u8, Mode) {
-    (settings.rows(), settings.tiers(), settings.mode())
+// Whether the job is to solve bays whose rows have these heights.
+fn has_heights(job: &Result<Job<'_>, Usage>, heights: &[u8]) -> bool {
+    let Ok(Job::Solve { settings, .. }) = job else {
+        return false;
+    };
+    match &settings.heights {
+        Some(list) => list.as_slice() == heights,
+        None => false,
+    }
+}
+
+const HEIGHTS: [(&str, &[u8]); 4] = [
+    ("--heights=3.1.3", &[3, 1, 3]),
+    ("--heights=8", &[8]),
+    ("--heights=1.1", &[1, 1]),
+    (
+        "--heights=1.2.3.4.5.6.7.8.1.2.3.4",
+        &[1, 2, 3, 4, 5, 6, 7, 8, 1, 2, 3, 4],
+    ),
+];
+
+#[test]
+fn reads_heights(rt: HostRuntime) {
+    for (word, heights) in HEIGHTS {
+        let words = ["solve", "a", "b", word];
+        let asked = job(rt.alloc(), &words);
+        assert_at(&rt, has_heights(&asked, heights), &word);
+    }
 }
 
 #[test]
@@ -167,23 +193,29 @@ fn settings_at_their_limits(rt: HostRuntime) -> Result<(), Fail> {
         search: Settings::new(64, 1099511627776, 8)?,
         rows: 12,
         tiers: 8,
+        heights: None,
         order: Mode::Stowage,
         code: "DIS",
     };
     let most = settings_of(rt.alloc(), &chosen)?;
     assert_same(&rt, &search_of(&most.search()), &(64, 1099511627776, 8));
-    assert_same(&rt, &bays_of(&most), &(12, 8, Mode::Stowage));
+    let eights: [u8; 12] = [8; 12];
+    assert_same(&rt, &most.heights(), &eights.as_slice());
+    assert_same(&rt, &most.mode(), &Mode::Stowage);
     assert_same(&rt, &most.code(), &b"DIS".as_slice());
     let chosen = SolveSettings {
         search: Settings::new(1, 0, 0)?,
         rows: 1,
         tiers: 1,
+        heights: None,
         order: Mode::Listed,
         code: "",
     };
     let least = settings_of(rt.alloc(), &chosen)?;
     assert_same(&rt, &search_of(&least.search()), &(1, 0, 0));
-    assert_same(&rt, &bays_of(&least), &(1, 1, Mode::Listed));
+    let one: [u8; 1] = [1];
+    assert_same(&rt, &least.heights(), &one.as_slice());
+    assert_same(&rt, &least.mode(), &Mode::Listed);
     assert_same(&rt, &least.code(), &b"".as_slice());
     Ok(())
 }
@@ -237,6 +269,38 @@ fn refuses_words_of_solve(rt: HostRuntime) {
     ] {
         assert!(rt; is_wrong(rt.alloc(), &words));
     }
+}
+
+#[test]
+fn refuses_heights_beside_rows_or_tiers(rt: HostRuntime) {
+    for words in [
+        ["solve", "a", "b", "--heights=3.1.3", "--rows=3"],
+        ["solve", "a", "b", "--tiers=5", "--heights=3.1.3"],
+        ["solve", "a", "b", "--heights=9", "--rows=0"],
+        ["solve", "a", "b", "--heights=3", "--heights=3"],
+    ] {
+        assert!(rt; is_wrong(rt.alloc(), &words));
+    }
+}
+
+// The text that tells what is wrong with the words.
+fn text_of(job: Result<Job<'_>, Usage>) -> Option<String> {
+    match job {
+        Err(Usage::Wrong(Mistake::Words(text))) => Some(text),
+        _ => None,
+    }
+}
+
+#[test]
+fn tells_what_heights_stand_in_place_of(rt: HostRuntime) {
+    let words = ["solve", "a", "b", "--heights=3.1.3", "--rows=3"];
+    let Some(text) = text_of(job(rt.alloc(), &words)) else {
+        assert!(rt; false);
+        return;
+    };
+    let told =
+        "error: the argument '--heights <HEIGHTS>' cannot be used with '--rows <N>' or '--tiers <N>'\n\nUsage: crp solve [OPTIONS] <YARD> <MOVINS>\n\nFor more information, try '--help'.\n";
+    assert_same(&rt, &text.as_str(), &told);
 }
 
 #[test]
@@ -308,6 +372,42 @@ fn refuses_numbers_beyond_their_limits(rt: HostRuntime) -> Result<(), Fail> {
     Ok(())
 }
 
+const NO_HEIGHTS: [&str; 10] = [
+    "--heights=3.1.",
+    "--heights=",
+    "--heights=9",
+    "--heights=0.1",
+    "--heights=3,1,3",
+    "--heights=1.1.1.1.1.1.1.1.1.1.1.1.1",
+    "--heights=.3",
+    "--heights=33",
+    "--heights=3..3",
+    "--heights=3.1.x",
+];
+
+#[test]
+fn refuses_what_are_no_heights(rt: HostRuntime) {
+    for word in NO_HEIGHTS {
+        let fault = fault_of(rt.alloc(), &["solve", "a", "b", word]);
+        assert_same_at(&rt, &fault, &Some(SettingFault::Heights), &word);
+    }
+}
+
+#[test]
+fn tells_heights_last(rt: HostRuntime) -> Result<(), Fail> {
+    let alloc = rt.alloc();
+    for (word, fault, text) in [
+        ("--workers=0", SettingFault::Workers, "S1"),
+        ("--split=9", SettingFault::Split, "S3"),
+        ("--order=none", SettingFault::Heights, "S4"),
+    ] {
+        let told = fault_of(alloc, &["solve", "a", "b", "--heights=9", word]);
+        assert_same(&rt, &told, &Some(fault));
+        assert_same(&rt, &format!(in alloc; "{fault}")?.as_str(), &text);
+    }
+    Ok(())
+}
+
 #[test]
 fn help_tells_options_and_defaults(rt: HostRuntime) {
     match job(rt.alloc(), &["solve", "--help"]) {
@@ -318,6 +418,7 @@ fn help_tells_options_and_defaults(rt: HostRuntime) {
                 "1 to 12 [default: 6]",
                 "--tiers <N>",
                 "1 to 8 [default: 5]",
+                "--heights <HEIGHTS>",
                 "--order <ORDER>",
                 "[default: listed]",
                 "--code <TEXT>",
