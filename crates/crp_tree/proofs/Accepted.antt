@@ -30,32 +30,41 @@ part_shows p part f ok is high le =
     let same = nodes_are p part is.place ok is.is_at in
     subst (λ l. Shows p part.name (given_names l) f) (sym same) (shows p part.name is.place part.tree f ok is.is_at is.shape (subst (HasAtLeast f) same high) le)
 
--- parts of a problem that all show one floor, with one for each name that is needed
-record Family (p : Problem) (parts : List Part) (f : ℕ) : Type 0 where
-  is_problem : IsProblem p
-  each : All (IsPart p) parts
-  shown : All (λ part. Shows p part.name (given_by p part) f) parts
-  needed : (name : List ℕ) → IsNeeded p parts name → Contains (names parts) name
+-- parts of a problem, with one for each name that is needed; the plan has f relocations or more where it passes one of them and goes through none of the names that it gives
+pub record Family (p : Problem) (parts : List Part) (f : ℕ) (moves : List Move) : Type 0 where
+  pub is_problem : IsProblem p
+  pub each : All (IsPart p) parts
+  pub shown : (x : Part) → Contains parts x → Begins (path_of moves) x.name → ((g : List ℕ) → Contains (given_by p x) g → Begins (path_of moves) g → ⊥) → f ≤ relocations moves
+  pub needed : (name : List ℕ) → IsNeeded p parts name → Contains (names parts) name
 
 -- a plan that passes one of the parts has at least the floor
-passed : (p : Problem) (parts : List Part) (f : ℕ) (moves : List Move) → Family p parts f → IsPlan p moves → (more : ℕ) (x : Part) → Contains parts x → Begins (path_of moves) x.name →
+passed : (p : Problem) (parts : List Part) (f : ℕ) (moves : List Move) → Family p parts f moves → (more : ℕ) (x : Part) → Contains parts x → Begins (path_of moves) x.name →
     length (path_of moves) < length x.name + more → f ≤ relocations moves
-passed p parts f moves family plan zero x c b enough = absurd (omega (arith, begins_short (path_of moves) x.name b))
-passed p parts f moves family plan (suc more) x c b enough = ⊎_elim
+passed p parts f moves family zero x c b enough = absurd (omega (arith, begins_short (path_of moves) x.name b))
+passed p parts f moves family (suc more) x c b enough = ⊎_elim
     (λ r.
     let y = from_map (λ (y : Part). y.name) parts r.0 (family.needed r.0 (inr (in_flat_map (given_by p) parts x r.0 c r.1))) in
-    passed p parts f moves family plan more y.0 y.1 (subst (Begins (path_of moves)) (sym y.2) r.2)
+    passed p parts f moves family more y.0 y.1 (subst (Begins (path_of moves)) (sym y.2) r.2)
     (omega (arith, part_longer p x r.0 family.is_problem (All-contains (IsPart p) parts x family.each c) r.1, ap length y.2)))
-    (λ none. All-contains (λ (part : Part). Shows p part.name (given_by p part) f) parts x family.shown c moves plan b none)
+    (λ none. family.shown x c b none)
     (some_or_none (path_of moves) (given_by p x))
 
--- so no plan has fewer relocations than the floor
+-- so it has, since it passes the root
+pub covered : (p : Problem) (parts : List Part) (f : ℕ) (moves : List Move) → Family p parts f moves → f ≤ relocations moves
+covered p parts f moves family =
+    let top = from_map (λ (y : Part). y.name) parts [] (family.needed [] (inl refl)) in
+    passed p parts f moves family (suc (length (path_of moves))) top.0 top.1 (path_of moves, ap (λ l. l ++ path_of moves) (sym top.2)) (omega arith)
+
+-- where all parts show one floor no plan has fewer relocations
 pub floor_covers : (p : Problem) (parts : List Part) (f : ℕ) (moves : List Move) → IsProblem p → All (IsPart p) parts → All (λ part. Shows p part.name (given_by p part) f) parts →
     ((name : List ℕ) → IsNeeded p parts name → Contains (names parts) name) → IsPlan p moves → f ≤ relocations moves
 floor_covers p parts f moves ok each shown needed plan =
-    let top = from_map (λ (y : Part). y.name) parts [] (needed [] (inl refl)) in
-    passed p parts f moves (record { is_problem = ok; each = each; shown = shown; needed = needed }) plan (suc (length (path_of moves))) top.0 top.1
-    (path_of moves, ap (λ l. l ++ path_of moves) (sym top.2)) (omega arith)
+    covered p parts f moves (record {
+      is_problem = ok;
+      each = each;
+      shown = λ x c b none. All-contains (λ (part : Part). Shows p part.name (given_by p part) f) parts x shown c moves plan b none;
+      needed = needed;
+    })
 
 -- no plan has fewer relocations than the bound
 pub bounded : (claim : Claim) (moves : List Move) → IsAccepted claim → IsPlan claim.problem moves → claim.lower ≤ relocations moves

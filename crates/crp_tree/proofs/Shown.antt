@@ -12,54 +12,68 @@ use Rattle.crp_bay.proofs.Members.{not_in_nil, in_head, in_tail, in_cons_cases, 
 use Rattle.crp_tree.specs.Trees.{Node, nodes, nodes_of_each, Fits, FitsEach, is_cut, cuts, given_names, value, IsInPlace, HasShape, HasAtLeast, least, least_value, Begins, Shows}
 use Rattle.crp_tree.proofs.Nodes.{in_given}
 
+-- the plan passes the cut: its path begins with the cut's, and it has at least as many relocations as the cut's value
+pub record PassesCut (moves : List Move) (cut : Node) : Type 0 where
+  pub begins : Begins (path_of moves) cut.path
+  pub enough : value cut ≤ relocations moves
+
+-- the plan passes one of the cuts among the nodes, or goes through a name that they give
+abbrev pub Leaves : List Move → List Node → Type 0
+Leaves moves list = ((cut : Node) × Contains (cuts list) cut × PassesCut moves cut) ⊎ ((g : List ℕ) × Contains (given_names list) g × Begins (path_of moves) g)
+
 -- the plan has f relocations or more, or goes through a given name
 abbrev pub Outcome : List Move → ℕ → List (List ℕ) → Type 0
 Outcome moves f given = (f ≤ relocations moves) ⊎ ((g : List ℕ) × Contains given g × Begins (path_of moves) g)
 
--- nodes that may stand where they stand, no cut of which is below f
-record Facts (f : ℕ) (list : List Node) : Type 0 where
-  in_place : (n : Node) → Contains list n → IsInPlace n
-  high : (n : Node) → Contains list n → is_cut n.mark ≡ true → f ≤ value n
+-- a cut among nodes
+cut_in : (list : List Node) (n : Node) → Contains list n → is_cut n.mark ≡ true → Contains (cuts list) n
+cut_in list n c k = in_filter (λ (node : Node). is_cut node.mark) list n c k
 
 mutual
-  -- a plan that passes the path of a tree, whose nodes are among these, has f relocations or more, or goes through a name that these give
-  shown : (p : Problem) (list : List Node) (path more : List ℕ) (s : Position) (moves : List Move) (f : ℕ) → IsProblem p → Facts f list → IsAt p path s → IsPlan p moves → path_of moves ≡ path ++ more →
-      (tree : Tree) → Fits s tree → ((n : Node) → Contains (nodes path s tree) n → Contains list n) → Outcome moves f (given_names list)
-  shown p list path more s moves f is facts a plan e CutB fits sub =
-      let v = facts.high _ (sub _ (in_head _ [])) refl in let w = (cut_floor p path more s moves is a plan e).1 in inl (omega arith)
-  shown p list path more s moves f is facts a plan e CutL fits sub =
-      let v = facts.high _ (sub _ (in_head _ [])) refl in let w = (cut_floor p path more s moves is a plan e).0 in inl (omega arith)
-  shown p list path more s moves f is facts a plan e Given fits sub = inr (path, in_given list _ (sub _ (in_head _ [])) refl, (more, e))
-  shown p list path more s moves f is facts a plan e (Branch' shape all) fits sub =
-      let b = branch p path more s moves is a (facts.in_place _ (sub _ (in_head _ (nodes_of_each path s (targets s) all)))) plan e in
+  -- a plan that passes the path of a tree, whose nodes are among these, passes one of their cuts, or goes through a name that they give
+  left : (p : Problem) (list : List Node) (path more : List ℕ) (s : Position) (moves : List Move) → IsProblem p → ((n : Node) → Contains list n → IsInPlace n) → IsAt p path s → IsPlan p moves → path_of moves ≡ path ++ more →
+      (tree : Tree) → Fits s tree → ((n : Node) → Contains (nodes path s tree) n → Contains list n) → Leaves moves list
+  left p list path more s moves is in_place a plan e CutB fits sub =
+      inl (_, cut_in list _ (sub _ (in_head _ [])) refl, record { begins = (more, e); enough = (cut_floor p path more s moves is a plan e).1 })
+  left p list path more s moves is in_place a plan e CutL fits sub =
+      inl (_, cut_in list _ (sub _ (in_head _ [])) refl, record { begins = (more, e); enough = (cut_floor p path more s moves is a plan e).0 })
+  left p list path more s moves is in_place a plan e Given fits sub = inr (path, in_given list _ (sub _ (in_head _ [])) refl, (more, e))
+  left p list path more s moves is in_place a plan e (Branch' shape all) fits sub =
+      let b = branch p path more s moves is a (in_place _ (sub _ (in_head _ (nodes_of_each path s (targets s) all)))) plan e in
       let t = b.3 in
       let c = (every_target p path s b.0 t.0 is a t.1).0 in
-      shown_each p list path s moves f is facts a plan (targets s) (λ r k. k) b.0 b.1 (e ∙ ap (λ l. path ++ l) b.2) c all fits (λ n k. sub n (in_tail _ (nodes_of_each path s (targets s) all) n k))
+      left_each p list path s moves is in_place a plan (targets s) (λ r k. k) b.0 b.1 (e ∙ ap (λ l. path ++ l) b.2) c all fits (λ n k. sub n (in_tail _ (nodes_of_each path s (targets s) all) n k))
 
   -- the same for the trees of some rows, one of which the plan goes by
-  shown_each : (p : Problem) (list : List Node) (path : List ℕ) (s : Position) (moves : List Move) (f : ℕ) → IsProblem p → Facts f list → IsAt p path s → IsPlan p moves →
+  left_each : (p : Problem) (list : List Node) (path : List ℕ) (s : Position) (moves : List Move) → IsProblem p → ((n : Node) → Contains list n → IsInPlace n) → IsAt p path s → IsPlan p moves →
       (rows : List ℕ) → ((r : ℕ) → Contains rows r → Contains (targets s) r) → (row : ℕ) (after : List ℕ) → path_of moves ≡ path ++ row ∷ after → Contains rows row →
-      {m : _} (all : Row_of-Tree m) → FitsEach s rows all → ((n : Node) → Contains (nodes_of_each path s rows all) n → Contains list n) → Outcome moves f (given_names list)
-  shown_each p list path s moves f is facts a plan [] legal row after e c end_of-Tree fits sub = absurd (not_in_nil row c)
-  shown_each p list path s moves f is facts a plan [] legal row after e c (more_of-Tree tree trees) fits sub = absurd fits
-  shown_each p list path s moves f is facts a plan (r ∷ rows) legal row after e c end_of-Tree fits sub = absurd fits
-  shown_each p list path s moves f is facts a plan (r ∷ rows) legal row after e c (more_of-Tree tree trees) fits sub =
+      {m : _} (all : Row_of-Tree m) → FitsEach s rows all → ((n : Node) → Contains (nodes_of_each path s rows all) n → Contains list n) → Leaves moves list
+  left_each p list path s moves is in_place a plan [] legal row after e c end_of-Tree fits sub = absurd (not_in_nil row c)
+  left_each p list path s moves is in_place a plan [] legal row after e c (more_of-Tree tree trees) fits sub = absurd fits
+  left_each p list path s moves is in_place a plan (r ∷ rows) legal row after e c end_of-Tree fits sub = absurd fits
+  left_each p list path s moves is in_place a plan (r ∷ rows) legal row after e c (more_of-Tree tree trees) fits sub =
       ⊎_elim
-      (λ same. shown p list (path ++ r ∷ []) after (child s r) moves f is facts (target_goes_on p path s r is a (legal r (in_head r rows))) plan
+      (λ same. left p list (path ++ r ∷ []) after (child s r) moves is in_place (target_goes_on p path s r is a (legal r (in_head r rows))) plan
       (e ∙ ap (λ x. path ++ x ∷ after) (sym same) ∙ sym (append_assoc path (r ∷ []) after)) tree fits.0 (λ n k. sub n (Contains-append_left _ _ n k)))
-      (λ later. shown_each p list path s moves f is facts a plan rows (λ x k. legal x (in_tail r rows x k)) row after e later trees fits.1 (λ n k. sub n (Contains-append_right _ _ n k)))
+      (λ later. left_each p list path s moves is in_place a plan rows (λ x k. legal x (in_tail r rows x k)) row after e later trees fits.1 (λ n k. sub n (Contains-append_right _ _ n k)))
       (in_cons_cases r rows row c)
 
--- a plan that passes the name of a tree that has its shape
+-- a plan that passes the name of a tree that has its shape leaves by a cut or a given name
+pub leaves : (p : Problem) (name : List ℕ) (s : Position) (tree : Tree) (moves : List Move) → IsProblem p → IsAt p name s → Fits s tree → All IsInPlace (nodes name s tree) → IsPlan p moves → Begins (path_of moves) name →
+    Leaves moves (nodes name s tree)
+leaves p name s tree moves is a fits in_place plan b =
+    left p (nodes name s tree) name b.0 s moves is (λ n c. All-contains IsInPlace (nodes name s tree) n in_place c) a plan b.1 tree fits (λ n c. c)
+
+-- so, where no cut is below f, it has f relocations or more, or goes through a given name
 pub passing : (p : Problem) (name : List ℕ) (s : Position) (tree : Tree) (f : ℕ) (moves : List Move) → IsProblem p → IsAt p name s → HasShape name s tree → HasAtLeast f (nodes name s tree) → IsPlan p moves → Begins (path_of moves) name →
     Outcome moves f (given_names (nodes name s tree))
-passing p name s tree f moves is a shape high plan b =
-    shown p (nodes name s tree) name b.0 s moves f is
-    (record {
-      in_place = λ n c. All-contains IsInPlace (nodes name s tree) n shape.in_place c;
-      high = λ n c k. All-contains (λ (cut : Node). f ≤ value cut) (cuts (nodes name s tree)) n high (in_filter (λ (node : Node). is_cut node.mark) (nodes name s tree) n c k);
-    })
-    a plan b.1 tree shape.fits (λ n c. c)
+passing p name s tree f moves is a shape high plan b = ⊎_elim
+    (λ c.
+    let cut : Node = c.0 in
+    let pass : PassesCut moves cut = c.2 in
+    inl (omega (arith, All-contains (λ (n : Node). f ≤ value n) (cuts (nodes name s tree)) cut high c.1, pass.enough)))
+    (λ g. inr g)
+    (leaves p name s tree moves is a shape.fits shape.in_place plan b)
 
 -- so the tree shows the floor at its name
 pub shows : (p : Problem) (name : List ℕ) (s : Position) (tree : Tree) (f : ℕ) → IsProblem p → IsAt p name s → HasShape name s tree → HasAtLeast f (nodes name s tree) → f ≤ cap p →

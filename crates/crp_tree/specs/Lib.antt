@@ -8,3 +8,4 @@ pub mod Trees
 pub mod Listed
 pub mod Claims
 pub mod Parts
+pub mod First

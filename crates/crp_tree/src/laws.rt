@@ -10,8 +10,9 @@ ghost use Rattle.crp_tree.specs.Names.{GoesOn, Precedes};
 ghost use Rattle.crp_tree.specs.Claims.{Part, Claim, IsAccepted, IsNeeded, names, times, given_by, IsPart};
 ghost use Rattle.crp_bounds.specs.Bounds.{look_ahead};
 ghost use Rattle.crp_tree.specs.declared.tree.Tree.{Tree};
-ghost use Rattle.crp_tree.specs.Parts.{ProblemPart, nodes_of, IsKeptPart, Certificate, IsAbout, claimed};
-ghost use Rattle.crp_tree.specs.Trees.{Node, X, nodes, Fits, Begins, Shows, HasShape, HasAtLeast, given_names, ahead_of, least_value};
+ghost use Rattle.crp_tree.specs.Parts.{ProblemPart, nodes_of, given_of, IsKeptPart, Certificate, IsAbout, claimed};
+ghost use Rattle.crp_tree.specs.First.{IsFirstBest, IsFirstAccepted, MeetsNeed, need_at};
+ghost use Rattle.crp_tree.specs.Trees.{Node, X, nodes, Fits, Begins, Shows, HasShape, HasAtLeast, given_names, value, ahead_of, least_value};
 
 /// A tree that has its shape at a path, and no cut of a value below the floor, shows the floor there; so it shows the least of
 /// its values, or the cap where none is below that.
@@ -79,4 +80,24 @@ pub fn names_once()
 pub fn nodes_of_parts()
     ensures at { (x : ProblemPart) → IsKeptPart x → All (λ node. IsAt x.problem node.path node.place) (nodes_of x) }
     ensures higher { (x : ProblemPart) (s : Position) → IsKeptPart x → IsAt x.problem x.name s → All (λ node. length x.name + look_ahead s ≤ ahead_of node) (nodes_of x) }
+{}
+
+/// At most one path is the first best plan's.
+pub fn one_first_best()
+    ensures { (p : Problem) (path other : List ℕ) → IsFirstBest p path → IsFirstBest p other → path ≡ other }
+{}
+
+/// The plan of a claim that is accepted as one of the first best plan is the first best plan.
+pub fn first_means()
+    ensures { (claim : Claim) (path : List ℕ) → IsFirstAccepted claim path → IsFirstBest claim.problem path }
+{}
+
+/// A cut meets its need exactly where its value is at least the need as a number.
+pub fn needs_as_numbers()
+    ensures { (k : ℕ) (plan : List ℕ) (cut : Node) → (MeetsNeed k plan cut ↔ (need_at k plan cut.path ≤ value cut)) }
+{}
+
+/// No plan has fewer relocations than the floor of a whole search: of a part at the root that gives nothing away.
+pub fn whole_part_bounds()
+    ensures { (x : ProblemPart) (moves : List Move) → IsKeptPart x → x.name ≡ [] → given_of x ≡ [] → IsPlan x.problem moves → x.floor ≤ relocations moves }
 {}
