@@ -29,7 +29,7 @@ pub record FoundBelow (p : Problem) (split : ℕ) (path : List ℕ) (s : Positio
   pub advances : Advances p old new
 
 -- the cuts and the branches of two lists of nodes, and the least value of their cuts
-cuts-append : (xs ys : List Node) → cuts (xs ++ ys) ≡ cuts xs ++ cuts ys
+pub cuts-append : (xs ys : List Node) → cuts (xs ++ ys) ≡ cuts xs ++ cuts ys
 cuts-append xs ys = filter-append (λ (n : Node). is_cut n.mark) xs ys
 
 branches-append : (xs ys : List Node) → branches (xs ++ ys) ≡ branches xs ++ branches ys

@@ -62,7 +62,7 @@ pub record IsFresh (p : Problem) (s : Position) (f : Frame) : Type 0 where
   pub floor_is : f.floor ≡ cap p
 
 -- where the expansion was granted
-begins : (p : Problem) (split : ℕ) (old now : Mark) (f : Frame) → IsAt p now.path now.stand.place → IsGranted now.path now.stand.place old.view now.view → Advances p old.view now.view → now.puts ≡ old.puts → IsFresh p now.stand.place f →
+pub begins : (p : Problem) (split : ℕ) (old now : Mark) (f : Frame) → IsAt p now.path now.stand.place → IsGranted now.path now.stand.place old.view now.view → Advances p old.view now.view → now.puts ≡ old.puts → IsFresh p now.stand.place f →
     IsHalf p split old now f
 begins p split old now f at granted on puts fresh = record {
   granted = now.view;
@@ -84,7 +84,7 @@ pub goes_down : (p : Problem) (split : ℕ) (first before now : Mark) (f fresh :
 goes_down p split first before now f fresh above h next at granted on puts new = (before, next, begins p split before now fresh at granted on puts new, h)
 
 -- one row more is searched
-half_more : (p : Problem) (split : ℕ) (old now : Mark) (v : View) (q : List (List ℕ)) (f g : Frame) (tree : Tree) (floor : ℕ) → IsHalf p split old now f → length f.trees.items < length f.rows.items → IsOneMore f tree floor g →
+pub half_more : (p : Problem) (split : ℕ) (old now : Mark) (v : View) (q : List (List ℕ)) (f g : Frame) (tree : Tree) (floor : ℕ) → IsHalf p split old now f → length f.trees.items < length f.rows.items → IsOneMore f tree floor g →
     IsFound p split (now.path ++ turn f ∷ []) (child now.stand.place (turn f)) now.view v now.puts q tree floor → Advances p now.view v → IsHalf p split old (mark now.path now.stand v q) g
 half_more p split old now v q f g tree floor h left more one on = record {
   granted = h.granted;
@@ -116,7 +116,7 @@ stays p split first now path stand v q f g tree floor above same_path same_stand
     (stays_there p split first now v q f g tree floor above h left more one on))
 
 -- all rows of a node are searched
-half_ends : (p : Problem) (split : ℕ) (old now : Mark) (f : Frame) → IsHalf p split old now f → length f.rows.items ≤ length f.trees.items → IsFound p split now.path now.stand.place old.view now.view old.puts now.puts (Branch f.trees) f.floor
+pub half_ends : (p : Problem) (split : ℕ) (old now : Mark) (f : Frame) → IsHalf p split old now f → length f.rows.items ≤ length f.trees.items → IsFound p split now.path now.stand.place old.view now.view old.puts now.puts (Branch f.trees) f.floor
 half_ends p split old now f h full =
     all_found p split now.path now.stand.place old.view h.granted now.view old.puts now.puts f.rows.items (length f.trees.items) f.trees f.floor h.rows full h.is_granted h.found
 

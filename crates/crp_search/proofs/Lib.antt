@@ -5,3 +5,7 @@ pub mod Steps
 pub mod Branching
 pub mod Halfway
 pub mod Owing
+pub mod FirstHeld
+pub mod FirstClosing
+pub mod FirstHalfway
+pub mod FirstMet

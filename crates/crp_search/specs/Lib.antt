@@ -8,5 +8,9 @@ pub use Rattle.crp_plan.specs.Running
 pub use Rattle.crp_tree.specs.Trees
 pub use Rattle.crp_tree.specs.Claims
 pub use Rattle.crp_tree.specs.Parts
+pub use Rattle.crp_tree.specs.Names
+pub use Rattle.crp_tree.specs.First
 pub mod Limits
 pub mod Searched
+pub mod Firsts
+pub mod FirstsFound

@@ -1,11 +1,15 @@
 //! Search for the fewest relocations of a bay.
 #![tactic(auto)]
 
+mod first_part;
 mod frames;
 mod greedy;
 mod limit;
 mod searching;
+mod searching_first;
 
+pub use first_part::{FirstEnd, FirstPart};
 pub use greedy::{blocker_moves, first_plan, one_greedy_plan};
 pub use limit::Limit;
 pub use searching::search;
+pub use searching_first::search_first;

@@ -18,7 +18,7 @@ use std::alloc::{AllocError, Global};
 use std::mem;
 
 /// Destination rows, from the first relocation on.
-type Path = ArrayVec<u8, MAX_RELOCATIONS>;
+pub type Path = ArrayVec<u8, MAX_RELOCATIONS>;
 
 /// Offers the plan whose path this is.
 fn offer_path<L: Limit>(problem: &Problem, path: &[u8], limit: &mut L)
@@ -36,7 +36,7 @@ fn offer_path<L: Limit>(problem: &Problem, path: &[u8], limit: &mut L)
 }
 
 /// What is found where a node is closed by a cut of the value. No floor is above `most`.
-fn cut(tree: Tree, value: u32, most: u32) -> Found
+pub fn cut(tree: Tree, value: u32, most: u32) -> Found
     ensures { result ≡ record { tree = tree; floor = min value most } }
 {
     Found {
@@ -119,7 +119,7 @@ fn close<L: Limit>(problem: &Problem, place: &Bounded, path: &[u8], limit: &mut 
 }
 
 /// Puts the name of the path where it has at most `split` rows, and answers whether it was accepted.
-fn give<L: Limit>(path: &[u8], split: u8, limit: &mut L) -> bool
+pub fn give<L: Limit>(path: &[u8], split: u8, limit: &mut L) -> bool
     requires { split ≤ 8 }
     ensures short { IsTrue result → length path.now ≤ split }
     ensures given { IsTrue result → L.puts limit.new ≡ L.puts limit.old ++ path.now ∷ [] }
