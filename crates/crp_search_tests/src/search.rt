@@ -1,5 +1,6 @@
 //! Worked examples, with a limit that one worker shares with nobody.
 mod first_plans;
+mod firsts;
 mod heights;
 mod lone;
 mod searches;
