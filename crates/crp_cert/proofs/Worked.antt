@@ -2,7 +2,7 @@
 use Rattle.std.proofs.Common.{◌≡◌, ◌≢◌, ℕ, ◌≤◌, inl, ⊎_elim, List, [], ◌∷◌, ◌++◌, map, Contains, All, AllPairs, None, Vec, Global, refl, sym, ap, ◌∙◌, subst, arith}
 use Rattle.std.proofs.lemmas.List.Elements.{All-nil, All-cons, All-same, All-from_recursion}
 use Rattle.crp_plan.specs.Bay.{Problem, IsProblem, Position, start, cap}
-use Rattle.crp_plan.specs.Faults.{stated}
+use Rattle.crp_plan.specs.Faults.{stated, stated_with}
 use Rattle.crp_bay.specs.Positions.{settled, targets}
 use Rattle.crp_bay.proofs.Walked.{begins_at}
 use Rattle.crp_tree.specs.declared.tree.Tree.{Tree, CutB, CutL, Branch}
@@ -32,9 +32,25 @@ four = record { heights = 3 ∷ 3 ∷ 3 ∷ []; ordered = 4; stacks = (1 ∷ 4 �
 abbrev pub buried : Problem
 buried = record { heights = 3 ∷ []; ordered = 2; stacks = (1 ∷ 2 ∷ []) ∷ [] }
 
+-- four containers in three rows of heights 3, 1 and 3
+abbrev pub unequal : Problem
+unequal = record { heights = 3 ∷ 1 ∷ 3 ∷ []; ordered = 4; stacks = (1 ∷ 4 ∷ []) ∷ (2 ∷ []) ∷ (3 ∷ []) ∷ [] }
+
+-- three containers in rows of heights 2 and 1, which are full
+abbrev pub narrow : Problem
+narrow = record { heights = 2 ∷ 1 ∷ []; ordered = 3; stacks = (1 ∷ 2 ∷ []) ∷ (3 ∷ []) ∷ [] }
+
+-- what is stated by a height for each of three rows, and of two
+pub three_rows_with : (heights : List ℕ) (ordered : ℕ) (p : Problem) (a b c a' b' c' : List ℕ) → p ≡ stated_with heights ordered (a ∷ b ∷ c ∷ []) → a ≡ a' → b ≡ b' → c ≡ c' → p ≡ stated_with heights ordered (a' ∷ b' ∷ c' ∷ [])
+three_rows_with heights ordered p a b c a' b' c' e x y z =
+    e ∙ ap (λ l. stated_with heights ordered (l ∷ b ∷ c ∷ [])) x ∙ ap (λ l. stated_with heights ordered (a' ∷ l ∷ c ∷ [])) y ∙ ap (λ l. stated_with heights ordered (a' ∷ b' ∷ l ∷ [])) z
+
+pub two_rows_with : (heights : List ℕ) (ordered : ℕ) (p : Problem) (a b a' b' : List ℕ) → p ≡ stated_with heights ordered (a ∷ b ∷ []) → a ≡ a' → b ≡ b' → p ≡ stated_with heights ordered (a' ∷ b' ∷ [])
+two_rows_with heights ordered p a b a' b' e x y = e ∙ ap (λ l. stated_with heights ordered (l ∷ b ∷ [])) x ∙ ap (λ l. stated_with heights ordered (a' ∷ l ∷ [])) y
+
 -- what is stated by three rows, and by one
 pub three_rows : (tiers ordered : ℕ) (p : Problem) (a b c a' b' c' : List ℕ) → p ≡ stated tiers ordered (a ∷ b ∷ c ∷ []) → a ≡ a' → b ≡ b' → c ≡ c' → p ≡ stated tiers ordered (a' ∷ b' ∷ c' ∷ [])
-three_rows tiers ordered p a b c a' b' c' e x y z = e ∙ ap (λ l. stated tiers ordered (l ∷ b ∷ c ∷ [])) x ∙ ap (λ l. stated tiers ordered (a' ∷ l ∷ c ∷ [])) y ∙ ap (λ l. stated tiers ordered (a' ∷ b' ∷ l ∷ [])) z
+three_rows tiers ordered = three_rows_with (tiers ∷ tiers ∷ tiers ∷ []) ordered
 
 pub one_row : (tiers ordered : ℕ) (p : Problem) (a a' : List ℕ) → p ≡ stated tiers ordered (a ∷ []) → a ≡ a' → p ≡ stated tiers ordered (a' ∷ [])
 one_row tiers ordered p a a' e x = e ∙ ap (λ l. stated tiers ordered (l ∷ [])) x
@@ -72,9 +88,16 @@ six_cut p is = subst (ShapeAndFloor 2 CutB) (sym is) (record { fits = tt; in_pla
 pub four_show : (p : Problem) → p ≡ four → ShapeAndFloor 2 CutL p
 four_show p is = subst (ShapeAndFloor 2 CutL) (sym is) (record { fits = tt; in_place = All-from_recursion IsInPlace (nodes [] (settled (start four)) CutL) (tt, tt); not_given = λ n. n }, refl)
 
+-- under unequal heights too
+pub unequal_show : (p : Problem) → p ≡ unequal → ShapeAndFloor 2 CutL p
+unequal_show p is = subst (ShapeAndFloor 2 CutL) (sym is) (record { fits = tt; in_place = All-from_recursion IsInPlace (nodes [] (settled (start unequal)) CutL) (tt, tt); not_given = λ n. n }, refl)
+
 -- a branch without trees shows the cap, where no row is legal
 pub buried_shows : (p : Problem) (trees : Vec Tree Global) → p ≡ buried → trees.items ≡ [] → ShapeAndFloor 5 (Branch trees) p
 buried_shows p trees is e = subst (ShapeAndFloor 5 (Branch trees)) (sym is) (branch_shows buried 5 trees [] e (omega arith) tt (All-nil IsInPlace) refl)
+
+pub narrow_shows : (p : Problem) (trees : Vec Tree Global) → p ≡ narrow → trees.items ≡ [] → ShapeAndFloor 4 (Branch trees) p
+narrow_shows p trees is e = subst (ShapeAndFloor 4 (Branch trees)) (sym is) (branch_shows narrow 4 trees [] e (omega arith) tt (All-nil IsInPlace) refl)
 
 -- of one name there are no two
 alone : (R : List ℕ → List ℕ → Type 0) (name : List ℕ) → AllPairs R (name ∷ [])

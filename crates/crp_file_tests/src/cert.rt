@@ -2,6 +2,7 @@
 mod certs;
 mod damaged;
 mod heads;
+mod heights;
 mod told;
 mod writing;
 

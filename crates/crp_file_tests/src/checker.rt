@@ -23,6 +23,14 @@ const SIX: &str =
 const ONE_ROW: &str =
     "CRP-CERT 1\nbay A 1\nsize 1 3 2 2\nrow 1 2\nat least 5\nplan -\npart /: X\nend 1\n";
 
+/// Four containers under heights 3, 1 and 3: two relocations.
+const UNEQUAL: &str =
+    "CRP-CERT 2\nbay A 1\nsize 3 3 4 4\nheights 3 1 3\nrow 1 4\nrow 2\nrow 3\nat least 2\nplan 3 1\npart /: L\nend 1\n";
+
+/// Rows of heights 2 and 1, both full: no plan.
+const NARROW: &str =
+    "CRP-CERT 2\nbay A 1\nsize 2 2 3 3\nheights 2 1\nrow 1 2\nrow 3\nat least 4\nplan -\npart /: X\nend 1\n";
+
 /// The certificate of the six containers with these lines from the claim on.
 fn six(alloc: Global, lines: &str) -> Result<String, AllocError> {
     format!(in alloc; "CRP-CERT 1\nbay A 1\nsize 3 3 6 6\nrow 1 5 4\nrow 6\nrow 3 2\n{lines}\n")
@@ -112,6 +120,79 @@ fn certificates_that_there_is_no_plan(rt: HostRuntime) -> Result<(), Fail> {
     let full =
         "CRP-CERT 1\nbay A 1\nsize 2 2 4 4\nrow 1 2\nrow 3 4\nat least 5\nplan -\npart /: X\nend 1\n";
     shows(&rt, full, Verdict::NoPlan);
+    Ok(())
+}
+
+#[test]
+fn certificates_of_unequal_heights(rt: HostRuntime) -> Result<(), Fail> {
+    let lower = UNEQUAL.replace(rt.alloc(), "3 1 3", "3 1 2")?;
+    let cases: [(&str, Verdict); 3] = [
+        (UNEQUAL, Verdict::Optimal(2)),
+        (NARROW, Verdict::NoPlan),
+        (&lower, Verdict::Optimal(2)),
+    ];
+    for (text, verdict) in cases {
+        shows(&rt, text, verdict);
+    }
+    Ok(())
+}
+
+/// The lines that differ between certificates of four containers in rows of unequal heights.
+#[derive(Clone, Copy)]
+struct Changed<'a> {
+    heights: &'a str,
+    second: &'a str,
+    claim: &'a str,
+    plan: &'a str,
+}
+
+/// A certificate of unequal heights with these lines is refused with this fault.
+fn unequal_refuses(
+    rt: &(impl Abort + AllocGlobal),
+    lines: Changed,
+    fault: &str,
+) -> Result<(), AllocError> {
+    let Changed {
+        heights,
+        second,
+        claim,
+        plan,
+    } = lines;
+    let text = format!(in rt.alloc();
+        "CRP-CERT 2\nbay A 1\nsize 3 3 4 4\nheights {heights}\nrow 1 4\nrow {second}\nrow 3\n{claim}\nplan {plan}\npart /: L\nend 1\n"
+    )?;
+    refuses(rt, &text, fault)
+}
+
+#[test]
+fn refused_certificates_of_unequal_heights(rt: HostRuntime) -> Result<(), Fail> {
+    let cases: [(&str, &str, &str, &str, &str); 6] = [
+        ("3 1 3", "2", "at least 2", "2 1", "K2 (Q2 at step 1)"),
+        ("3 1", "2", "at least 2", "3 1", "C2 at line 4"),
+        ("2 1 2", "2", "at least 2", "3 1", "C2 at line 4"),
+        ("3 1 3", "2 3", "at least 2", "3 1", "C3 at line 6"),
+        ("3 1 3", "2", "first 2", "3 1", "C4 at line 8"),
+        ("3 1 3", "2", "at least 3", "3 1", "K3 at part / symbol 1"),
+    ];
+    for (heights, second, claim, plan, fault) in cases {
+        let lines = Changed {
+            heights,
+            second,
+            claim,
+            plan,
+        };
+        unequal_refuses(&rt, lines, fault)?;
+    }
+    Ok(())
+}
+
+#[test]
+fn equal_heights_in_either_version(rt: HostRuntime) -> Result<(), Fail> {
+    let stated =
+        "CRP-CERT 2\nbay A 1\nsize 3 3 4 4\nheights 3 3 3\nrow 1 4\nrow 2\nrow 3\nat least 2\nplan 3 1\npart /: L\nend 1\n";
+    shows(&rt, stated, Verdict::Optimal(2));
+    shows_for(&rt, FOUR, stated, Verdict::Optimal(2));
+    refuses_for(&rt, FOUR, UNEQUAL, "K1")?;
     Ok(())
 }
 
@@ -334,7 +415,7 @@ fn certificates_for_a_problem(rt: HostRuntime) -> Result<(), Fail> {
     refuses_for(&rt, FOUR, SIX, "K1")?;
     shows_for(&rt, SIX, SIX, Verdict::Optimal(3));
     shows_for(&rt, ONE_ROW, ONE_ROW, Verdict::NoPlan);
-    refuses_for(&rt, SIX, "CRP-CERT 2\n", "C1 at line 1")?;
+    refuses_for(&rt, SIX, "CRP-CERT 3\n", "C1 at line 1")?;
     Ok(())
 }
 
@@ -380,6 +461,7 @@ fn certificates_in_two_pieces(rt: HostRuntime) -> Result<(), Fail> {
     is_whole(&rt, TWO);
     is_whole(&rt, SIX);
     is_whole(&rt, ONE_ROW);
+    is_whole(&rt, UNEQUAL);
     is_whole(
         &rt,
         "CRP-CERT 1\nbay A 1\nsize 3 3 6 6\nrow 1 5 4\nrow 6\nrow 3 2\nat least 3\nplan 2 2 1\npart /: XGG\npart 2: L\npart 3: B\nend 3\n",

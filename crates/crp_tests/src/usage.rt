@@ -283,24 +283,19 @@ fn refuses_heights_beside_rows_or_tiers(rt: HostRuntime) {
     }
 }
 
-// The text that tells what is wrong with the words.
-fn text_of(job: Result<Job<'_>, Usage>) -> Option<String> {
-    match job {
-        Err(Usage::Wrong(Mistake::Words(text))) => Some(text),
-        _ => None,
-    }
-}
-
 #[test]
 fn tells_what_heights_stand_in_place_of(rt: HostRuntime) {
     let words = ["solve", "a", "b", "--heights=3.1.3", "--rows=3"];
-    let Some(text) = text_of(job(rt.alloc(), &words)) else {
-        assert!(rt; false);
-        return;
-    };
-    let told =
-        "error: the argument '--heights <HEIGHTS>' cannot be used with '--rows <N>' or '--tiers <N>'\n\nUsage: crp solve [OPTIONS] <YARD> <MOVINS>\n\nFor more information, try '--help'.\n";
-    assert_same(&rt, &text.as_str(), &told);
+    match job(rt.alloc(), &words) {
+        Err(Usage::Wrong(Mistake::Words(text))) => {
+            assert_same(
+                &rt,
+                &text.as_str(),
+                &"error: the argument '--heights <HEIGHTS>' cannot be used with '--rows <N>' or '--tiers <N>'\n\nUsage: crp solve [OPTIONS] <YARD> <MOVINS>\n\nFor more information, try '--help'.\n",
+            );
+        }
+        _ => assert!(rt; false),
+    }
 }
 
 #[test]

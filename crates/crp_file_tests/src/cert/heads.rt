@@ -11,8 +11,18 @@ use std::test::Fail;
 
 /// The head of the six containers with another line, counted from 1, in place of its own.
 fn with_line(alloc: Global, number: usize, other: &[u8]) -> Result<Vec<u8>, AllocError> {
+    changed(alloc, &SIX_CONTAINERS, number, other)
+}
+
+/// These lines with another one, counted from 1, in place of its own.
+pub(super) fn changed(
+    alloc: Global,
+    lines: &[&[u8]],
+    number: usize,
+    other: &[u8],
+) -> Result<Vec<u8>, AllocError> {
     let mut text = Vec::new(alloc);
-    for (i, line) in SIX_CONTAINERS.iter().enumerate() {
+    for (i, line) in lines.iter().enumerate() {
         if i + 1 == number {
             text.extend_from_slice(other)?;
         } else {
@@ -243,7 +253,7 @@ fn largest_bay(rt: HostRuntime) -> Result<(), Fail> {
 fn openings_that_are_refused(rt: HostRuntime) -> Result<(), Fail> {
     let titles: [&[u8]; 6] = [
         b"",
-        b"CRP-CERT 2",
+        b"CRP-CERT 3",
         b"CRP-CERT 01",
         b"CRP-CERT  1",
         b"crp-cert 1",

@@ -23,7 +23,12 @@ fn problem_of(rt: &impl Abort, tiers: u8, ordered: u8, stacks: &[Vec<u8>]) -> Pr
 }
 
 /// The certificate of one tree at the empty path, which shows this floor.
-fn whole(alloc: Global, problem: &Problem, tree: Tree, floor: u32) -> Result<Cert, AllocError>
+pub(super) fn whole(
+    alloc: Global,
+    problem: &Problem,
+    tree: Tree,
+    floor: u32,
+) -> Result<Cert, AllocError>
     requires problem { IsProblem problem.now }
     requires shape { HasShape [] (settled (start problem.now)) tree }
     requires floor { floor ≡ least_value (cap problem.now) (nodes [] (settled (start problem.now)) tree) }
@@ -57,7 +62,7 @@ fn cut_at_once(rt: &impl Abort, alloc: Global) -> Result<(Problem, Cert), AllocE
 }
 
 /// Four containers in three rows, cut by the look-ahead bound: two relocations at least.
-fn cut_ahead(rt: &impl Abort, alloc: Global) -> Result<(Problem, Cert), AllocError> {
+pub(super) fn cut_ahead(rt: &impl Abort, alloc: Global) -> Result<(Problem, Cert), AllocError> {
     let stacks = [
         vec![in alloc; 1, 4]?,
         vec![in alloc; 2]?,
@@ -112,7 +117,7 @@ at least 3\nplan 2 2 1\npart /: XLB\nend 1\n";
 const CUT_AT_ONCE: &[u8] = b"CRP-CERT 1\nbay A 1\nsize 3 3 6 6\nrow 1 5 4\nrow 6\nrow 3 2\n\
 at least 2\nplan 2 2 1\npart /: B\nend 1\n";
 
-const CUT_AHEAD: &[u8] = b"CRP-CERT 1\nbay A 1\nsize 3 3 4 4\nrow 1 4\nrow 2\nrow 3\n\
+pub(super) const CUT_AHEAD: &[u8] = b"CRP-CERT 1\nbay A 1\nsize 3 3 4 4\nrow 1 4\nrow 2\nrow 3\n\
 at least 2\nplan 3 1\npart /: L\nend 1\n";
 
 const DEAD_END: &[u8] = b"CRP-CERT 1\nbay A 1\nsize 1 3 2 2\nrow 1 2\n\
@@ -122,7 +127,7 @@ const NOTHING_BURIED: &[u8] = b"CRP-CERT 1\nbay A 1\nsize 2 2 2 2\nrow 2 1\nrow\
 at least 0\nplan\npart /: B\nend 1\n";
 
 /// The text of a certificate with the plan of these rows or none is this.
-fn assert_text(
+pub(super) fn assert_text(
     rt: &impl Abort,
     alloc: Global,
     case: &(Problem, Cert),

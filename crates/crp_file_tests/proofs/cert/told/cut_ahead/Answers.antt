@@ -1,5 +1,4 @@
-use Rattle.std.proofs.Common.{◌≡◌, [], ◌∷◌, length, replicate, None, refl, sym, ap, ◌∙◌, subst}
-use Rattle.crp_plan.specs.Rows.{tallest}
+use Rattle.std.proofs.Common.{◌≡◌, [], ◌∷◌, None, refl, sym, ap, ◌∙◌, subst}
 use Rattle.crp_plan.specs.Bay.{cap}
 use Rattle.crp_tree.specs.declared.tree.Tree.{CutL}
 use Rattle.crp_tree.specs.Trees.{least_value}
@@ -22,7 +21,6 @@ new-part-requires-clause-floor g c =
 pub returns : goal.returns
 returns g c =
     let is : c.four-problem.result ≡ four = three_rows 3 4 c.four-problem.result _ _ _ _ _ _ c.four-problem.ensures.value c.in_ok-vec.ensures.items c.in_ok-vec-2.ensures.items c.in_ok-vec-3.ensures.items in
-    let heights = subst (λ p. p.heights ≡ replicate (length p.stacks) (tallest p.heights)) (sym is) refl in
     let cert = c.in_ok-cert.ensures.value ∙ ap (λ (x : ProblemPart). record { parts = x ∷ []; lower = x.floor }) (c.new-part.ensures.value ∙ ap (λ name. record { problem = c.four-problem.result; name = name; tree = CutL; floor = 2 }) c.root.ensures) in
     subst (λ l. CanBeSpelled (claimed c.four-problem.result l None)) (sym cert)
-    (spelled_at_root c.four-problem.result CutL 2 c.four-problem.ensures.problem heights (four_show c.four-problem.result is) refl)
+    (spelled_at_root c.four-problem.result CutL 2 c.four-problem.ensures.problem (four_show c.four-problem.result is) refl)
