@@ -1,16 +1,16 @@
 -- A branch is searched row by row.
-use Rattle.std.proofs.Common.{◌≡◌, ℕ, suc, ◌+◌, ◌-◌, ◌<◌, ◌≤◌, min, inl, inr, ⊎_elim, List, [], ◌∷◌, ◌++◌, length, map, take, get_or, All, Vec, Global, sym, ap, ◌∙◌, subst, refl, arith, append_assoc, append-nil, length-append, add-one}
-use Rattle.std.proofs.lemmas.List.Elements.{All-nil, All-cons, All-append, All-weaker, All-same, filter-append}
-use Rattle.std.proofs.lemmas.List.{take_all, map-append}
+use Rattle.std.proofs.Common.{◌≡◌, ℕ, suc, ◌+◌, ◌<◌, ◌≤◌, min, inl, inr, ⊎_elim, List, [], ◌∷◌, ◌++◌, length, take, get_or, All, Vec, Global, sym, ap, ◌∙◌, subst, refl, arith, append_assoc, append-nil, length-append, add-one}
+use Rattle.std.proofs.lemmas.List.Elements.{All-nil, All-cons, All-append, All-weaker, All-same}
+use Rattle.std.proofs.lemmas.List.{take_all}
 use Rattle.crp_plan.specs.Bay.{Problem, Position, cap}
 use Rattle.crp_plan.specs.declared.running.View.{View}
 use Rattle.crp_bay.specs.Positions.{targets, child}
 use Rattle.crp_tree.specs.declared.tree.Tree.{Tree, Branch}
-use Rattle.crp_tree.specs.Trees.{Node, nodes, is_cut, is_branch, IsInPlace, cuts, branches, given_names, value, least, least_value}
+use Rattle.crp_tree.specs.Trees.{Node, nodes, IsInPlace, cuts, branches, given_names, least, least_value}
 use Rattle.crp_tree.specs.Listed.{nodes_below, AreFit}
 use Rattle.crp_tree.proofs.Listed.{IsBranchOf, branch_of, branch_node, nodes_push, fit_push}
 use Rattle.crp_tree.proofs.Nodes.{given_names-append}
-use Rattle.crp_tree.proofs.Shown.{least_most}
+use Rattle.crp_tree.proofs.Joined.{cuts-append, branches-append, least_value-append}
 use Rattle.crp_search.specs.Limits.{Advances}
 use Rattle.crp_search.specs.Searched.{IsClosed, NeedsLookAhead, IsBelow, IsShort, IsFound, IsGranted, PutsMore}
 
@@ -27,20 +27,6 @@ pub record FoundBelow (p : Problem) (split : ℕ) (path : List ℕ) (s : Positio
   pub needed : All NeedsLookAhead (cuts (nodes_below path s (take i rows) trees))
   pub below : All (IsBelow old.seen) (branches (nodes_below path s (take i rows) trees))
   pub advances : Advances p old new
-
--- the cuts and the branches of two lists of nodes, and the least value of their cuts
-pub cuts-append : (xs ys : List Node) → cuts (xs ++ ys) ≡ cuts xs ++ cuts ys
-cuts-append xs ys = filter-append (λ (n : Node). is_cut n.mark) xs ys
-
-branches-append : (xs ys : List Node) → branches (xs ++ ys) ≡ branches xs ++ branches ys
-branches-append xs ys = filter-append (λ (n : Node). is_branch n.mark) xs ys
-
-least_value-append : (most : ℕ) (xs ys : List Node) → least_value most (xs ++ ys) ≡ min (least_value most xs) (least_value most ys)
-least_value-append most xs ys = ap (least most) (ap (map value) (cuts-append xs ys) ∙ map-append value (cuts xs) (cuts ys)) ∙ least-append most (map value (cuts xs)) (map value (cuts ys))
-  where
-    least-append : (most : ℕ) (xs ys : List ℕ) → least most (xs ++ ys) ≡ min (least most xs) (least most ys)
-    least-append most [] ys = let low = least_most most ys in omega arith
-    least-append most (x ∷ xs) ys = let e = least-append most xs ys in omega arith
 
 -- what goes on goes on
 pub on_and_on : (p : Problem) (old mid new : View) → Advances p old mid → Advances p mid new → Advances p old new
@@ -144,16 +130,6 @@ all_found p split path s old granted new old_puts new_puts rows i trees floor sa
       needed = All-same NeedsLookAhead _ _ (ap cuts are) (subst (λ l. All NeedsLookAhead (cuts l)) list f.needed);
       below = All-same (IsBelow old.seen) _ _ (ap branches are) (All-cons (IsBelow old.seen) (branch_node path s) (branches below) g.below (subst (λ l. All (IsBelow old.seen) (branches l)) list f.below));
     }
-
--- the row that was put behind a path is taken off again
-pub back_again : (popped full path : List ℕ) (n row : ℕ) → n ≡ length full → full ≡ path ++ row ∷ [] → popped ≡ take (n - 1) full → popped ≡ path
-back_again popped full path n row size e p =
-    let shorter : n - 1 ≡ length path = omega (arith, ap length e, length-append path (row ∷ [])) in
-    p ∙ ap (λ k. take k full) shorter ∙ ap (take (length path)) e ∙ take_own path (row ∷ [])
-  where
-    take_own : (xs ys : List ℕ) → take (length xs) (xs ++ ys) ≡ xs
-    take_own [] ys = refl
-    take_own (x ∷ xs) ys = ap (λ l. x ∷ l) (take_own xs ys)
 
 -- what is put after more was put is more
 pub more_again : (old mid new : List (List ℕ)) → PutsMore old mid → PutsMore mid new → PutsMore old new

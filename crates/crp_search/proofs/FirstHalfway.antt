@@ -10,10 +10,10 @@ use Rattle.crp_tree.specs.declared.tree.Tree.{Tree, Branch}
 use Rattle.crp_tree.specs.Trees.{Node, nodes, cuts}
 use Rattle.crp_tree.specs.Listed.{nodes_below}
 use Rattle.crp_tree.proofs.Listed.{IsBranchOf, branch_of, nodes_push}
+use Rattle.crp_tree.proofs.Joined.{cuts-append}
 use Rattle.crp_search.specs.declared.frames.Frame.{Frame}
 use Rattle.crp_search.specs.Firsts.{OnlyClaims}
 use Rattle.crp_search.specs.FirstsFound.{aimed, AreHeld, IsFirstFound, IsOpen}
-use Rattle.crp_search.proofs.Branching.{cuts-append}
 use Rattle.crp_search.proofs.Halfway.{Mark, mark, turn, IsHalf, IsNext, AreHalf, IsOneMore, IsFresh, begins, half_more, half_ends, turn_leads}
 use Rattle.crp_search.proofs.FirstHeld.{held_none, held_append, aims_on, claims_on}
 

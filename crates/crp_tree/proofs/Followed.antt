@@ -1,5 +1,5 @@
 -- Following a path row by row.
-use Rattle.std.proofs.Common.{◌≡◌, ℕ, ◌+◌, ◌<◌, ◌≤◌, ⊎_elim, Bool, true, false, IsTrue, List, [], ◌∷◌, length, drop, get_or, Option, Some, None, IsSome, IfSome, Contains, ◌↔◌, refl, sym, ap, ◌∙◌, subst, add-one}
+use Rattle.std.proofs.Common.{◌≡◌, ℕ, ◌+◌, ◌-◌, ◌<◌, ◌≤◌, ⊎_elim, Bool, true, false, IsTrue, List, [], ◌∷◌, ◌++◌, length, take, drop, get_or, Option, Some, None, IsSome, IfSome, Contains, ◌↔◌, refl, sym, ap, ◌∙◌, subst, arith, add-one, length-append}
 use Rattle.std.specs.Bool.{OnTrue, OnFalse}
 use Rattle.std.proofs.Math.Seq.{drop-cons}
 use Rattle.std.proofs.lemmas.Bool.{cases_Bool}
@@ -92,3 +92,13 @@ arrived p rows items i s is same done e =
 pub none_is_not_some : {X : Type 0} (o : Option X) → o ≡ None → IsSome o → ⊥
 none_is_not_some None e s = cc
 none_is_not_some (Some x) e s = cc
+
+-- the row that was put behind a path is taken off again
+pub back_again : (popped full path : List ℕ) (n row : ℕ) → n ≡ length full → full ≡ path ++ row ∷ [] → popped ≡ take (n - 1) full → popped ≡ path
+back_again popped full path n row size e p =
+    let shorter : n - 1 ≡ length path = omega (arith, ap length e, length-append path (row ∷ [])) in
+    p ∙ ap (λ k. take k full) shorter ∙ ap (take (length path)) e ∙ take_own path (row ∷ [])
+  where
+    take_own : (xs ys : List ℕ) → take (length xs) (xs ++ ys) ≡ xs
+    take_own [] ys = refl
+    take_own (x ∷ xs) ys = ap (λ l. x ∷ l) (take_own xs ys)

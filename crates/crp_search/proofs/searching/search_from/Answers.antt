@@ -9,8 +9,8 @@ use Rattle.crp_tree.specs.declared.tree.Tree.{Branch}
 use Rattle.crp_search.specs.declared.frames.Found.{Found}
 use Rattle.crp_search.specs.declared.frames.Frame.{Frame}
 use Rattle.crp_search.specs.Searched.{IsFound}
-use Rattle.crp_tree.proofs.Followed.{pop_back}
-use Rattle.crp_search.proofs.Branching.{on_and_on, more_again, back_again}
+use Rattle.crp_tree.proofs.Followed.{pop_back, back_again}
+use Rattle.crp_search.proofs.Branching.{on_and_on, more_again}
 use Rattle.crp_search.proofs.Halfway.{Mark, mark, turn, IsNext, AreHalf, IsOneMore, IsFresh, goes_up, ends, half_at, half_advances, half_puts, reverse_push, legal_turn, turn_leads, goes_to_child, stays_met, takes_branch, one_less_left}
 use Rattle.crp_search.proofs.Owing.{left, owed, owes_less, owes_below, owes_above}
 use Rattle.crp_search.proofs.searching.search_from.Goals as goal

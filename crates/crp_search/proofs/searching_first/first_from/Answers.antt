@@ -6,11 +6,11 @@ use Rattle.crp_plan.proofs.Steps.{short_path}
 use Rattle.crp_bay.specs.Positions.{targets, child}
 use Rattle.crp_bay.specs.Back.{Standing}
 use Rattle.crp_tree.specs.declared.tree.Tree.{Branch}
-use Rattle.crp_tree.proofs.Followed.{pop_back}
+use Rattle.crp_tree.proofs.Followed.{pop_back, back_again}
 use Rattle.crp_search.specs.declared.frames.Found.{Found}
 use Rattle.crp_search.specs.declared.frames.Frame.{Frame}
 use Rattle.crp_search.specs.FirstsFound.{IsFirstFound}
-use Rattle.crp_search.proofs.Branching.{more_again, back_again}
+use Rattle.crp_search.proofs.Branching.{more_again}
 use Rattle.crp_search.proofs.Halfway.{turn, IsNext, IsOneMore, IsFresh, half_at, half_puts, reverse_push, legal_turn, turn_leads, takes_branch, one_less_left}
 use Rattle.crp_search.proofs.FirstHeld.{claims_on}
 use Rattle.crp_search.proofs.FirstHalfway.{Stage, stage, aim, AreFirst, are_half, goes_up, ends, goes_to_child, stays_met}
