@@ -1,24 +1,26 @@
 -- What the definitions of the first best plan mean.
-use Rattle.std.proofs.Common.{◌≡◌, ℕ, ◌+◌, ◌≤◌, ⊎_elim, ◌↔◌, true, false, List, [], ◌∷◌, ◌++◌, length, Contains, All, refl, sym, ap, ◌∙◌, subst, arith, inl, append-nil}
+use Rattle.std.proofs.Common.{◌≡◌, ℕ, ◌+◌, ◌<◌, ◌≤◌, ⊎_elim, ◌↔◌, true, false, List, [], ◌∷◌, ◌++◌, length, get_or, Contains, All, Some, refl, sym, ap, ◌∙◌, subst, arith, inl, append-nil}
 use Rattle.std.specs.declared.cmp.Ordering.{Ordering}
 use Rattle.std.specs.declared.cmp.Ordering.TheVariants.{Less, Equal, Greater}
 use Rattle.std.specs.Ordering.{nat_cmp, MatchOrdering, is_lt}
 use Rattle.std.specs.Cmp.Lexicographic.{slice_cmp}
 use Rattle.std.proofs.lemmas.Bool.{cases_Bool}
-use Rattle.std.proofs.lemmas.List.Elements.{All-contains}
+use Rattle.std.proofs.lemmas.List.Elements.{All-contains, All-map, All-weaker}
 use Rattle.crp_plan.specs.declared.moves.Move.{Move}
-use Rattle.crp_plan.specs.Bay.{Problem, IsProblem, IsPlan, IsBest, relocations, path_of}
+use Rattle.crp_plan.specs.Bay.{Problem, IsProblem, IsPlan, IsBest, relocations, path_of, cap}
 use Rattle.crp_plan.specs.Faults.{IsPlanPath}
 use Rattle.crp_plan.proofs.Covered.{relocations-path}
+use Rattle.crp_plan.proofs.Buried.{below_cap}
 use Rattle.crp_bay.proofs.Members.{not_in_nil}
 use Rattle.crp_tree.specs.Names.{Precedes}
 use Rattle.crp_tree.specs.Trees.{Node, cuts, value, Begins}
 use Rattle.crp_tree.specs.Claims.{Part, IsPart, nodes_in, given_by, Claim, IsAccepted}
-use Rattle.crp_tree.specs.Parts.{ProblemPart, IsKeptPart, given_of}
-use Rattle.crp_tree.specs.First.{IsFirstBest, MeetsNeed, need_at, IsFirstAccepted}
+use Rattle.crp_tree.specs.Parts.{ProblemPart, IsKeptPart, part_of, given_of, cuts_in, Certificate, IsAbout, claimed}
+use Rattle.crp_tree.specs.First.{IsFirstBest, MeetsNeed, need_at, IsFirstAccepted, MeetNeeds}
 use Rattle.crp_tree.proofs.Ordered.{compared, goes_further, before_test}
-use Rattle.crp_tree.proofs.Shown.{PassesCut, Leaves, leaves}
-use Rattle.crp_tree.proofs.Accepted.{nodes_are, covered, best}
+use Rattle.crp_tree.proofs.Shown.{PassesCut, Leaves, leaves, least_over}
+use Rattle.crp_tree.proofs.Accepted.{nodes_are, covered, bounded, best}
+use Rattle.crp_tree.proofs.Certified.{certified, lowest_part}
 
 -- a front of a path that comes before another comes before that too
 pub front_before : (front path other : List ℕ) → Begins path front → Precedes path other → Precedes front other
@@ -98,3 +100,29 @@ as_number k plan cut =
 pub whole_bounds : (x : ProblemPart) (moves : List Move) → IsKeptPart x → x.name ≡ [] → given_of x ≡ [] → IsPlan x.problem moves → x.floor ≤ relocations moves
 whole_bounds x moves k root none plan =
     k.shows moves plan (path_of moves, ap (λ l. l ++ path_of moves) (sym root)) (λ g c b. not_in_nil g (subst (λ l. Contains l g) none c))
+
+-- where each cut of a part meets its need, no floor is below the plan's relocations
+high_floor : (p : Problem) (k : ℕ) (path : List ℕ) (x : ProblemPart) → x.problem ≡ p → IsKeptPart x → k ≤ cap p → All (MeetsNeed k path) (cuts_in x) → k ≤ x.floor
+high_floor p k path x same kept within needs =
+    let over : All (λ cut. k ≤ value cut) (cuts_in x) = All-weaker (MeetsNeed k path) (λ cut. k ≤ value cut) (λ cut need. need.enough) (cuts_in x) needs in
+    let floor = kept.floor_is in
+    omega (arith, least_over k (cap x.problem) value (cuts_in x) (omega (arith, ap cap same)) over)
+
+-- so what a certificate claims with the plan is accepted as a claim of the first best plan
+pub first_certified : (p : Problem) (cert : Certificate) (path : List ℕ) → IsAbout p cert → IsPlanPath p path → MeetNeeds (length path) path cert.parts → IsFirstAccepted (claimed p cert (Some path)) path
+first_certified p cert path about plan needs =
+    let ok : IsAccepted (claimed p cert (Some path)) = certified p cert (Some path) about plan in
+    let few : length path < cap p = omega (arith, below_cap p plan.0 about.is_problem plan.1, relocations-path plan.0, ap length plan.2) in
+    let low = lowest_part cert about.certificate in
+    let x : ProblemPart = low.0 in
+    let high : length path ≤ x.floor = high_floor p (length path) path x (All-contains (λ (y : ProblemPart). y.problem ≡ p) cert.parts x about.of_problem low.1) (All-contains IsKeptPart cert.parts x about.kept low.1) (omega arith)
+    (All-contains (λ (y : ProblemPart). All (MeetsNeed (length path) path) (cuts_in y)) cert.parts x needs low.1) in
+    let same : length path ≡ cert.lower = omega (arith, low.2, bounded (claimed p cert (Some path)) plan.0 ok plan.1, relocations-path plan.0, ap length plan.2) in
+    record {
+      accepted = ok;
+      plan_is = refl;
+      count = same;
+      each_need = All-map (λ part. All (MeetsNeed cert.lower path) (cuts (nodes_in p part))) part_of cert.parts (λ k d lt.
+          let y : ProblemPart = get_or cert.parts k d in
+          subst (λ n. All (MeetsNeed n path) (cuts (nodes_in p (part_of y)))) same (subst (λ q. All (MeetsNeed (length path) path) (cuts (nodes_in q (part_of y)))) (about.of_problem k d lt) (needs k d lt)));
+    }

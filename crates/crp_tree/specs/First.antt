@@ -7,6 +7,7 @@ use Rattle.crp_plan.specs.Faults.{IsPlanPath}
 use Rattle.crp_tree.specs.Names.{Precedes}
 use Rattle.crp_tree.specs.Trees.{Node, cuts, value}
 use Rattle.crp_tree.specs.Claims.{Claim, IsAccepted, nodes_in}
+use Rattle.crp_tree.specs.Parts.{ProblemPart, cuts_in}
 
 -- the first best plan, by its path: it is complete, no plan has fewer relocations, and the path of no plan with as many comes before its own
 pub record IsFirstBest (p : Problem) (path : List ℕ) : Type 0 where
@@ -31,3 +32,7 @@ pub record IsFirstAccepted (claim : Claim) (path : List ℕ) : Type 0 where
   pub plan_is : claim.plan ≡ Some path
   pub count : length path ≡ claim.lower
   pub each_need : All (λ part. All (MeetsNeed claim.lower path) (cuts (nodes_in claim.problem part))) claim.parts
+
+-- each cut of these parts of a problem meets its need
+abbrev pub MeetNeeds : ℕ → List ℕ → List ProblemPart → Type 0
+MeetNeeds k plan parts = All (λ part. All (MeetsNeed k plan) (cuts_in part)) parts

@@ -11,7 +11,7 @@ ghost use Rattle.crp_tree.specs.Claims.{Part, Claim, IsAccepted, IsNeeded, names
 ghost use Rattle.crp_bounds.specs.Bounds.{look_ahead};
 ghost use Rattle.crp_tree.specs.declared.tree.Tree.{Tree};
 ghost use Rattle.crp_tree.specs.Parts.{ProblemPart, nodes_of, given_of, IsKeptPart, Certificate, IsAbout, claimed};
-ghost use Rattle.crp_tree.specs.First.{IsFirstBest, IsFirstAccepted, MeetsNeed, need_at};
+ghost use Rattle.crp_tree.specs.First.{IsFirstBest, IsFirstAccepted, MeetsNeed, MeetNeeds, need_at};
 ghost use Rattle.crp_tree.specs.Trees.{Node, X, nodes, Fits, Begins, Shows, HasShape, HasAtLeast, given_names, value, ahead_of, least_value};
 
 /// A tree that has its shape at a path, and no cut of a value below the floor, shows the floor there; so it shows the least of
@@ -90,6 +90,12 @@ pub fn one_first_best()
 /// The plan of a claim that is accepted as one of the first best plan is the first best plan.
 pub fn first_means()
     ensures { (claim : Claim) (path : List ℕ) → IsFirstAccepted claim path → IsFirstBest claim.problem path }
+{}
+
+/// What a certificate about a problem claims with a plan of it, by which each cut meets its need, is accepted as a claim of the first
+/// best plan.
+pub fn firsts_are_accepted()
+    ensures { (p : Problem) (cert : Certificate) (path : List ℕ) → IsAbout p cert → IsPlanPath p path → MeetNeeds (length path) path cert.parts → IsFirstAccepted (claimed p cert (Some path)) path }
 {}
 
 /// A cut meets its need exactly where its value is at least the need as a number.
