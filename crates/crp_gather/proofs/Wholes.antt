@@ -97,7 +97,7 @@ whole_not_refused p xs (fault.Missing a) w r = absurd (let f = r.1 in let h = f.
 whole_not_refused p xs (fault.Stranger a) w r = absurd (let f = r.2 in let h = f.holds in h.strange (All-contains (Belongs p xs) xs h.part w.belong h.stands))
 
 -- the names that parts of the problem give
-given_flat : (p : Problem) (xs : List ProblemPart) → All (λ x. x.problem ≡ p) xs → flat_map given_of xs ≡ flat_map (given_by p) (map part_of xs)
+pub given_flat : (p : Problem) (xs : List ProblemPart) → All (λ x. x.problem ≡ p) xs → flat_map given_of xs ≡ flat_map (given_by p) (map part_of xs)
 given_flat p [] all = refl
 given_flat p (x ∷ xs) all = ap (λ q. given_by q (part_of x) ++ flat_map given_of xs) (all 0 x (omega arith)) ∙ ap (λ l. given_by p (part_of x) ++ l) (given_flat p xs (λ k d lt. all (suc k) d (omega arith)))
 
