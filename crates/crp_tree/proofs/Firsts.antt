@@ -96,6 +96,13 @@ as_number k plan cut =
     (λ (no : is_lt (slice_cmp nat_cmp cut.path plan) ≡ false). rw no (λ m. m.enough, λ le. record { enough = le; more_before = λ b. let yes = test.1 b in cc }))
     (cases_Bool (is_lt (slice_cmp nat_cmp cut.path plan)))
 
+-- a cut that is above k meets its need by any plan, and one that meets it by a plan does so by an earlier one
+pub above_all : (k : ℕ) (plan : List ℕ) (cut : Node) → k + 1 ≤ value cut → MeetsNeed k plan cut
+above_all k plan cut le = record { enough = omega arith; more_before = λ before. le }
+
+pub by_earlier : (k : ℕ) (plan earlier : List ℕ) (cut : Node) → Precedes earlier plan → MeetsNeed k plan cut → MeetsNeed k earlier cut
+by_earlier k plan earlier cut first need = record { enough = need.enough; more_before = λ before. need.more_before (goes_further cut.path earlier plan before first) }
+
 -- no plan has fewer relocations than a part at the root that gives nothing away shows
 pub whole_bounds : (x : ProblemPart) (moves : List Move) → IsKeptPart x → x.name ≡ [] → given_of x ≡ [] → IsPlan x.problem moves → x.floor ≤ relocations moves
 whole_bounds x moves k root none plan =

@@ -103,6 +103,12 @@ pub fn needs_as_numbers()
     ensures { (k : ℕ) (plan : List ℕ) (cut : Node) → (MeetsNeed k plan cut ↔ (need_at k plan cut.path ≤ value cut)) }
 {}
 
+/// A cut of a value above k meets its need by whatever plan, and one that meets its need by a plan does so by each plan before.
+pub fn needs_pass_on()
+    ensures above { (k : ℕ) (plan : List ℕ) (cut : Node) → k + 1 ≤ value cut → MeetsNeed k plan cut }
+    ensures earlier { (k : ℕ) (plan earlier : List ℕ) (cut : Node) → Precedes earlier plan → MeetsNeed k plan cut → MeetsNeed k earlier cut }
+{}
+
 /// No plan has fewer relocations than the floor of a whole search: of a part at the root that gives nothing away.
 pub fn whole_part_bounds()
     ensures { (x : ProblemPart) (moves : List Move) → IsKeptPart x → x.name ≡ [] → given_of x ≡ [] → IsPlan x.problem moves → x.floor ≤ relocations moves }

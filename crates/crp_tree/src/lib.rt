@@ -13,8 +13,8 @@ mod tree;
 pub use cert::Cert;
 pub use laws::{
     accepted_means, claims_are_accepted, first_means, firsts_are_accepted, names_are_ordered,
-    names_given, names_once, needs_as_numbers, nodes_of_parts, nodes_of_trees, one_first_best,
-    parts_cover, trees_show, whole_part_bounds,
+    names_given, names_once, needs_as_numbers, needs_pass_on, nodes_of_parts, nodes_of_trees,
+    one_first_best, parts_cover, trees_show, whole_part_bounds,
 };
 pub use name::{MAX_NAME, Name};
 pub use name_list::Names;
