@@ -1,3 +1,4 @@
+mod counted;
 mod damage;
 mod faults;
 
