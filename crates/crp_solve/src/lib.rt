@@ -18,7 +18,7 @@ mod telling;
 mod together;
 mod working;
 
-pub use answer::{Answer, Cause, Solved};
+pub use answer::{Answer, Cause, Second, Solved};
 pub use common::{Gate, NoGate};
 pub use ending::Together;
 pub use group::Group;
