@@ -16,7 +16,7 @@ use Rattle.crp_pool.proofs.Hands.{weigh-append}
 use Rattle.crp_solve.specs.Answers.{path_in, IsPlanOf}
 use Rattle.crp_solve.specs.Searches.{IsSearched}
 use Rattle.crp_solve.specs.Desks.{count_or, KeepsPlan}
-use Rattle.crp_solve.specs.Groups.{Crew, root_at, roots, given_in, IsCounted, IsGroup}
+use Rattle.crp_solve.specs.Groups.{Crew, Keeping, root_at, roots, given_in, IsCounted, IsKeptSoFar, IsGroup}
 
 pub takes-append : (h : List ℕ → ℕ) (xs ys : List PoolSeat) → weigh h (all_takes (xs ++ ys)) ≡ weigh h (all_takes xs) + weigh h (all_takes ys)
 takes-append h [] ys = omega arith
@@ -81,25 +81,40 @@ not_short false true x y e = absurd (cc)
 not_short true b x y e = absurd (cc)
 
 -- the parts of both, or of the first
-pub parts_together : (p : Problem) (first : ℕ) (v w : View) (xs ys zs : List ProblemPart) (fit : Bool) → All (IsSearched p first v) xs → All (IsSearched p first w) ys →
-    zs ≡ (if fit then xs ++ ys else xs) → All (IsSearched p first (view_joined v w)) zs
-parts_together p first v w xs ys zs true a b e = subst (All (IsSearched p first (view_joined v w))) (sym e)
-    (All-append (IsSearched p first (view_joined v w)) xs ys (searched_later p first v (view_joined v w) xs (omega arith) (omega arith) a) (searched_later p first w (view_joined v w) ys (omega arith) (omega arith) b))
-parts_together p first v w xs ys zs false a b e = subst (All (IsSearched p first (view_joined v w))) (sym e) (searched_later p first v (view_joined v w) xs (omega arith) (omega arith) a)
+parts_together : (Holds : List ProblemPart → Type 0) (xs ys zs : List ProblemPart) (fit : Bool) → Holds (xs ++ ys) → Holds xs → zs ≡ (if fit then xs ++ ys else xs) → Holds zs
+parts_together Holds xs ys zs true both mine e = subst Holds (sym e) both
+parts_together Holds xs ys zs false both mine e = subst Holds (sym e) mine
 
 -- so two groups make one
-pub merged : (a b c : Crew) (parts_fit places_fit : Bool) → IsGroup a → IsGroup b → b.of ≡ a.of → c.of ≡ a.of → c.view ≡ view_joined a.view b.view →
-    KeepsPlan a.of (view_joined a.view b.view) c.plan → c.parts ≡ (if parts_fit then a.parts ++ b.parts else a.parts) → c.places ≡ (if places_fit then a.places ++ b.places else a.places) →
-    (c.short ≡ false → (a.short ≡ false) × (b.short ≡ false) × (parts_fit ≡ true) × (places_fit ≡ true)) → IsGroup c
-merged a b c parts_fit places_fit ka kb same of view plan parts places short = record {
-  plan_kept = subst (λ o. KeepsPlan o c.view c.plan) (sym of) (subst (λ v. KeepsPlan a.of v c.plan) (sym view) plan);
-  searched = subst (λ o. All (IsSearched o.key.problem o.key.start c.view) c.parts) (sym of) (subst (λ v. All (IsSearched a.of.key.problem a.of.key.start v) c.parts) (sym view)
-      (parts_together a.of.key.problem a.of.key.start a.view b.view a.parts b.parts c.parts parts_fit ka.searched
-      (subst (λ o. All (IsSearched o.key.problem o.key.start b.view) b.parts) same kb.searched) parts));
+pub merged : (keeps : Keeping) (a b c : Crew) (parts_fit places_fit : Bool) → IsGroup keeps a → IsGroup keeps b → c.of ≡ a.of → c.view ≡ view_joined a.view b.view →
+    keeps a.of (view_joined a.view b.view) c.plan (a.parts ++ b.parts) → keeps a.of (view_joined a.view b.view) c.plan a.parts →
+    c.parts ≡ (if parts_fit then a.parts ++ b.parts else a.parts) → c.places ≡ (if places_fit then a.places ++ b.places else a.places) →
+    (c.short ≡ false → (a.short ≡ false) × (b.short ≡ false) × (parts_fit ≡ true) × (places_fit ≡ true)) → IsGroup keeps c
+merged keeps a b c parts_fit places_fit ka kb of view both mine parts places short = record {
+  kept = subst (λ o. keeps o c.view c.plan c.parts) (sym of) (subst (λ v. keeps a.of v c.plan c.parts) (sym view)
+      (parts_together (keeps a.of (view_joined a.view b.view) c.plan) a.parts b.parts c.parts parts_fit both mine parts));
   counted = λ ok. (
       let s = short ok in
       let xs : c.parts ≡ a.parts ++ b.parts = parts ∙ ap (λ (fit : Bool). if fit then a.parts ++ b.parts else a.parts) s.2 in
       let ls : c.places ≡ a.places ++ b.places = places ∙ ap (λ (fit : Bool). if fit then a.places ++ b.places else a.places) s.3 in
       subst (λ v. IsCounted v c.parts c.places) (sym view) (subst (λ l. IsCounted (view_joined a.view b.view) l c.places) (sym xs) (subst (IsCounted (view_joined a.view b.view) (a.parts ++ b.parts)) (sym ls)
       (counted_together a.view b.view a.parts b.parts a.places b.places (ka.counted s.0) (kb.counted s.1)))));
+}
+
+-- what a search for the fewest relocations keeps, with the better plan: the parts of the first
+pub kept_mine : (of : Shared) (v w : View) (plan other best : Option Route) (xs ys : List ProblemPart) → IsKeptSoFar of v plan xs → IsKeptSoFar of w other ys →
+    min v.mine w.mine ≡ count_or of.key.start (path_in best) → IfSome best (IsPlanOf of.key.problem) → IsKeptSoFar of (view_joined v w) best xs
+kept_mine of v w plan other best xs ys a b fewest is = record {
+  plan_kept = plans_together of v w plan other best a.plan_kept b.plan_kept fewest is;
+  searched = searched_later of.key.problem of.key.start v (view_joined v w) xs (omega arith) (omega arith) a.searched;
+}
+
+-- and the parts of both
+pub kept_both : (of : Shared) (v w : View) (plan other best : Option Route) (xs ys : List ProblemPart) → IsKeptSoFar of v plan xs → IsKeptSoFar of w other ys →
+    min v.mine w.mine ≡ count_or of.key.start (path_in best) → IfSome best (IsPlanOf of.key.problem) → IsKeptSoFar of (view_joined v w) best (xs ++ ys)
+kept_both of v w plan other best xs ys a b fewest is = record {
+  plan_kept = plans_together of v w plan other best a.plan_kept b.plan_kept fewest is;
+  searched = All-append (IsSearched of.key.problem of.key.start (view_joined v w)) xs ys
+      (searched_later of.key.problem of.key.start v (view_joined v w) xs (omega arith) (omega arith) a.searched)
+      (searched_later of.key.problem of.key.start w (view_joined v w) ys (omega arith) (omega arith) b.searched);
 }

@@ -1,18 +1,16 @@
 -- The state of all workers, as the thread that started them takes it.
-use Rattle.std.proofs.Common.{◌≡◌, ◌<◌, ◌≤◌, ℕ, zero, suc, ◌+◌, ◌==◌, if◌then◌else◌, ⊎_elim, Bool, true, false, List, [], ◌∷◌, length, map, All, Some, sym, refl, ap, ◌∙◌, subst, arith}
+use Rattle.std.proofs.Common.{◌≡◌, ◌<◌, ◌≤◌, ℕ, zero, suc, ◌+◌, ◌==◌, if◌then◌else◌, ⊎_elim, Bool, true, false, List, [], ◌∷◌, length, map, All, Option, Some, sym, refl, ap, ◌∙◌, arith}
 use Rattle.std.specs.Prelude.{slice_get}
 use Rattle.std.proofs.lemmas.Bool.{cases_Bool, eqb-true}
 use Rattle.crp_incumbent.specs.Rule.{view_joined}
 use Rattle.crp_incumbent.specs.Seats.{Shared, Seat}
+use Rattle.crp_plan.specs.Plans.{Route}
 use Rattle.crp_pool.specs.Weigh.{weigh, SameNames}
 use Rattle.crp_pool.specs.Deques.{DequeId}
 use Rattle.crp_pool.specs.Seats.{PoolSeat, seat_number, numbers, IsSeatOf, IsEverySeat, all_puts, all_takes}
 use Rattle.crp_pool.proofs.Hands.{weigh-append}
-use Rattle.crp_solve.specs.Searches.{IsSearched}
-use Rattle.crp_solve.specs.Desks.{KeepsPlan}
-use Rattle.crp_solve.specs.Groups.{Crew, root_at, roots, given_in, place_key, IsGroup, IsUnusedSeat}
-use Rattle.crp_solve.specs.Rests.{IsKeptSoFar, IsDoneUpTo}
-use Rattle.crp_solve.proofs.Grouped.{searched_later}
+use Rattle.crp_solve.specs.Groups.{Crew, Keeping, root_at, roots, given_in, place_key, IsGroup, IsUnusedSeat}
+use Rattle.crp_solve.specs.Rests.{IsDoneUpTo}
 
 -- a name of the root for each place, by its number
 abbrev root_weight : (List ℕ → ℕ) → ℕ → ℕ
@@ -44,24 +42,13 @@ one_from h (suc n) some = omega (arith, none_from h (0 + 1) n (omega arith))
 pub one_root : (pool : List DequeId) (places : List PoolSeat) → 0 < length pool → IsEverySeat pool places → SameNames (roots places) ([] ∷ [])
 one_root pool places some every h = let e = every.1 (root_weight h) in omega (arith, roots_by_number h places, one_from h (length pool) some)
 
--- with a seat that offered nothing the plan and the parts are kept
-pub kept_with_left : (of : Shared) (left : Seat) (g : Crew) → g.of ≡ of → IsUnusedSeat of left → IsGroup g → IsKeptSoFar of (view_joined left.view g.view) g.plan g.parts
-kept_with_left of left g at new k =
-    let p : KeepsPlan of g.view g.plan = subst (λ o. KeepsPlan o g.view g.plan) at k.plan_kept in
-    let m = new.mine in let low = p.low in let seen = p.seen in
-    record {
-      plan_kept = record { is_problem = p.is_problem; plan_is = p.plan_is; mine = (let e = p.mine in omega arith); low = omega arith; seen = omega arith };
-      searched = searched_later of.key.problem of.key.start g.view (view_joined left.view g.view) g.parts (omega arith) (omega arith)
-          (subst (λ (o : Shared). All (IsSearched o.key.problem o.key.start g.view) g.parts) at k.searched);
-    }
-
--- and what the pool gives back is counted
-pub done_with_left : (of : Shared) (left : Seat) (g : Crew) (pool : List DequeId) (puts takes : List (List ℕ)) → g.of ≡ of → IsUnusedSeat of left → IsGroup g → g.short ≡ false → 0 < length pool → IsEverySeat pool g.places →
-    SameNames puts (all_puts g.places) → SameNames takes (all_takes g.places) → IsDoneUpTo of (view_joined left.view g.view) g.plan g.parts puts takes
-done_with_left of left g pool puts takes at new k ok some every put took =
+-- what the pool gives back is counted, with a seat that claimed nothing
+pub done_with_left : (keeps : Keeping) (of : Shared) (left : Seat) (g : Crew) (best : Option Route) (pool : List DequeId) (puts takes : List (List ℕ)) → IsUnusedSeat of left → IsGroup keeps g → g.short ≡ false → 0 < length pool →
+    IsEverySeat pool g.places → keeps of (view_joined left.view g.view) best g.parts → SameNames puts (all_puts g.places) → SameNames takes (all_takes g.places) → IsDoneUpTo keeps of (view_joined left.view g.view) best g.parts puts takes
+done_with_left keeps of left g best pool puts takes new k ok some every kept put took =
     let c = k.counted ok in
     record {
-      kept = kept_with_left of left g at new k;
+      kept = kept;
       grants = (let a = c.grants in let b = new.none_granted in omega arith);
       taken = λ h. took h ∙ c.takes h;
       put = λ h. (let a = put h in let b = c.puts h in omega (arith, one_root pool g.places some every h, weigh-append h (roots g.places) (given_in g.parts)));

@@ -13,3 +13,6 @@ pub mod Opened
 pub mod Rested
 pub mod Wholes
 pub mod Joining
+pub mod FirstKept
+pub mod FirstFound
+pub mod FirstTold

@@ -1,8 +1,9 @@
 -- A group after it searched one part more.
-use Rattle.std.proofs.Common.{length, ◌≡◌, ◌≤◌, ℕ, ◌+◌, List, [], ◌∷◌, ◌++◌, All, Option, Some, sym, ap, ◌∙◌, subst, arith}
+use Rattle.std.proofs.Common.{length, ◌≡◌, ◌≤◌, ℕ, ◌+◌, List, [], ◌∷◌, ◌++◌, Option, None, Some, IfSome, MatchOption, sym, ap, ◌∙◌, subst, arith}
 use Rattle.std.proofs.lemmas.List.Elements.{All-append, All-weaker, All-cons, All-nil}
 use Rattle.std.proofs.lemmas.List.Sums.{sum_by-append, sum_by-cons}
 use Rattle.crp_plan.specs.declared.running.View.{View}
+use Rattle.crp_plan.specs.Plans.{Route}
 use Rattle.crp_tree.specs.Parts.{ProblemPart, given_of, branches_in}
 use Rattle.crp_search.specs.Limits.{Advances}
 use Rattle.crp_search.specs.Searched.{IsBelow}
@@ -11,8 +12,8 @@ use Rattle.crp_pool.specs.Weigh.{weigh, SameNames}
 use Rattle.crp_pool.specs.Seats.{PoolSeat, SameSeat}
 use Rattle.crp_pool.proofs.Hands.{weigh-append}
 use Rattle.crp_solve.specs.Searches.{IsSearched}
-use Rattle.crp_solve.specs.Desks.{Fixed, fixed_at, KeepsPlan, IsFoundPart}
-use Rattle.crp_solve.specs.Groups.{Crew, root_at, roots, given_in, IsCounted, IsGroup}
+use Rattle.crp_solve.specs.Desks.{Fixed, fixed_at, KeepsPlan, IsCountedPart, IsFoundPart}
+use Rattle.crp_solve.specs.Groups.{Crew, Keeping, root_at, roots, given_in, IsCounted, IsKeptSoFar, IsGroup}
 use Rattle.crp_solve.proofs.Grouped.{takes-append, puts-append, roots-append, given-append, names-append, searched_later}
 
 -- what stays of a place
@@ -66,25 +67,9 @@ counted_more v w xs x ls q r s name k t grants = record {
       ));
 }
 
--- a part that was found is searched
-pub searched_now : (of : Shared) (v w : View) (before after : Option PoolSeat) (name : List ℕ) (x : ProblemPart) → v.seen ≤ of.key.start → IsFoundPart of v w before after name x → IsSearched of.key.problem of.key.start w x
-searched_now of v w before after name x seen f = record {
-  of_problem = f.of_problem;
-  kept = f.kept;
-  closed = f.closed;
-  below = All-weaker (IsBelow v.seen) (IsBelow of.key.start) (λ node b. omega (arith, seen, b)) (branches_in x) f.below;
-}
-
--- with it all parts are searched
-pub all_searched : (of : Shared) (v w : View) (before after : Option PoolSeat) (name : List ℕ) (xs : List ProblemPart) (x : ProblemPart) → v.seen ≤ of.key.start → Advances of.key.problem v w →
-    All (IsSearched of.key.problem of.key.start v) xs → IsFoundPart of v w before after name x → All (IsSearched of.key.problem of.key.start w) (xs ++ x ∷ [])
-all_searched of v w before after name xs x seen on all f =
-    let P : ProblemPart → Type 0 = IsSearched of.key.problem of.key.start w in
-    All-append P xs (x ∷ []) (searched_later of.key.problem of.key.start v w xs on.seen on.refused all) (All-cons P x [] (searched_now of v w before after name x seen f) (All-nil P))
-
-took : (q r s : PoolSeat) (of : Shared) (v w : View) (name : List ℕ) (x : ProblemPart) → SameSeat q r → r.puts ≡ q.puts → SameNames r.takes (q.takes ++ name ∷ []) → fixed_at (Some s) ≡ fixed_at (Some r) →
-    IsFoundPart of v w (Some r) (Some s) name x → Took q r s name x
-took q r s of v w name x same puts takes fixed f = record {
+took : (q r s : PoolSeat) (v w : View) (name : List ℕ) (x : ProblemPart) → SameSeat q r → r.puts ≡ q.puts → SameNames r.takes (q.takes ++ name ∷ []) → fixed_at (Some s) ≡ fixed_at (Some r) →
+    IsCountedPart v w (Some r) (Some s) name x → Took q r s name x
+took q r s v w name x same puts takes fixed f = record {
   number = same_number r s fixed ∙ same.3;
   takes = λ h. (ap (weigh h) (same_takes r s fixed) ∙ takes h);
   puts = f.puts ∙ ap (λ l. l ++ given_of x) puts;
@@ -92,13 +77,40 @@ took q r s of v w name x same puts takes fixed f = record {
 }
 
 -- so the group keeps what it keeps
-pub task_done : (old new : Crew) (x : ProblemPart) (ls : List PoolSeat) (q r s : PoolSeat) (name : List ℕ) → IsGroup old → new.of ≡ old.of → old.places ≡ ls ++ q ∷ [] →
-    SameSeat q r → r.puts ≡ q.puts → SameNames r.takes (q.takes ++ name ∷ []) → fixed_at (Some s) ≡ fixed_at (Some r) → KeepsPlan old.of new.view new.plan → Advances old.of.key.problem old.view new.view →
-    IsFoundPart old.of old.view new.view (Some r) (Some s) name x → new.parts ≡ old.parts ++ x ∷ [] → new.places ≡ ls ++ s ∷ [] → new.short ≡ old.short → IsGroup new
-task_done old new x ls q r s name k of places same puts takes fixed plan on f parts' places' short = record {
-  plan_kept = subst (λ o. KeepsPlan o new.view new.plan) (sym of) plan;
-  searched = subst (λ o. All (IsSearched o.key.problem o.key.start new.view) new.parts) (sym of) (subst (All (IsSearched old.of.key.problem old.of.key.start new.view)) (sym parts')
-      (all_searched old.of old.view new.view (Some r) (Some s) name old.parts x (let p = k.plan_kept in p.seen) on k.searched f));
+pub task_done : (keeps : Keeping) (old new : Crew) (x : ProblemPart) (ls : List PoolSeat) (q r s : PoolSeat) (name : List ℕ) → IsGroup keeps old → new.of ≡ old.of → old.places ≡ ls ++ q ∷ [] →
+    SameSeat q r → r.puts ≡ q.puts → SameNames r.takes (q.takes ++ name ∷ []) → fixed_at (Some s) ≡ fixed_at (Some r) → keeps old.of new.view new.plan (old.parts ++ x ∷ []) →
+    IsCountedPart old.view new.view (Some r) (Some s) name x → new.parts ≡ old.parts ++ x ∷ [] → new.places ≡ ls ++ s ∷ [] → new.short ≡ old.short → IsGroup keeps new
+task_done keeps old new x ls q r s name k of places same puts takes fixed kept f parts' places' short = record {
+  kept = subst (λ o. keeps o new.view new.plan new.parts) (sym of) (subst (keeps old.of new.view new.plan) (sym parts') kept);
   counted = λ ok. subst (λ l. IsCounted new.view l new.places) (sym parts') (subst (IsCounted new.view (old.parts ++ x ∷ [])) (sym places')
-      (counted_more old.view new.view old.parts x ls q r s name (subst (IsCounted old.view old.parts) places (k.counted (sym short ∙ ok))) (took q r s old.of old.view new.view name x same puts takes fixed f) f.grants));
+      (counted_more old.view new.view old.parts x ls q r s name (subst (IsCounted old.view old.parts) places (k.counted (sym short ∙ ok))) (took q r s old.view new.view name x same puts takes fixed f) f.grants));
 }
+
+-- a part that was found is searched
+pub searched_now : (of : Shared) (v w : View) (x : ProblemPart) → v.seen ≤ of.key.start → IsFoundPart of v w x → IsSearched of.key.problem of.key.start w x
+searched_now of v w x seen f = record {
+  of_problem = f.of_problem;
+  kept = f.kept;
+  closed = f.closed;
+  below = All-weaker (IsBelow v.seen) (IsBelow of.key.start) (λ node b. omega (arith, seen, b)) (branches_in x) f.below;
+}
+
+-- what a search for the fewest relocations kept stays so
+pub kept_later : (of : Shared) (v w : View) (plan better : Option Route) (xs : List ProblemPart) → KeepsPlan of w better → Advances of.key.problem v w → IsKeptSoFar of v plan xs → IsKeptSoFar of w better xs
+kept_later of v w plan better xs keeps on k = record { plan_kept = keeps; searched = searched_later of.key.problem of.key.start v w xs on.seen on.refused k.searched }
+
+-- and with one part more
+pub kept_more : (of : Shared) (v w : View) (plan better : Option Route) (xs : List ProblemPart) (x : ProblemPart) → KeepsPlan of w better → Advances of.key.problem v w → IsKeptSoFar of v plan xs →
+    IsFoundPart of v w x → IsKeptSoFar of w better (xs ++ x ∷ [])
+kept_more of v w plan better xs x keeps on k f =
+    let P : ProblemPart → Type 0 = IsSearched of.key.problem of.key.start w in let low = k.plan_kept in
+    record {
+      plan_kept = keeps;
+      searched = All-append P xs (x ∷ []) (searched_later of.key.problem of.key.start v w xs on.seen on.refused k.searched) (All-cons P x [] (searched_now of v w x low.seen f) (All-nil P));
+    }
+
+-- so with the part that was found, if one was
+pub kept_later_or_more : (of : Shared) (v w : View) (plan better : Option Route) (xs : List ProblemPart) (found : Option ProblemPart) → KeepsPlan of w better → Advances of.key.problem v w → IsKeptSoFar of v plan xs →
+    IfSome found (IsFoundPart of v w) → MatchOption found (IsKeptSoFar of w better xs) (λ part. IsKeptSoFar of w better (xs ++ part ∷ []))
+kept_later_or_more of v w plan better xs None keeps on k f = kept_later of v w plan better xs keeps on k
+kept_later_or_more of v w plan better xs (Some x) keeps on k f = kept_more of v w plan better xs x keeps on k f

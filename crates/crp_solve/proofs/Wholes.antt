@@ -47,14 +47,14 @@ times_weigh n (x ∷ list) = omega (arith, times-cons n x list, times_weigh n li
 pub same_times : (n : List ℕ) (xs ys : List (List ℕ)) → SameNames xs ys → times n xs ≡ times n ys
 same_times n xs ys same = omega (arith, times_weigh n xs, times_weigh n ys, same (λ x. one_if (same_name n x)))
 
--- the parts are of the problem
-of_problem : (p : Problem) (first : ℕ) (view : View) (xs : List ProblemPart) → All (IsSearched p first view) xs → All (λ x. x.problem ≡ p) xs
-of_problem p first view xs all = All-weaker (IsSearched p first view) (λ x. x.problem ≡ p) (λ x s. s.of_problem) xs all
-
 -- the parts are a whole
+pub parts_whole : (p : Problem) (view : View) (xs : List ProblemPart) → IsProblem p → All (λ x. x.problem ≡ p) xs → All IsKeptPart xs → IsAllDone view xs → AreWhole p xs
+parts_whole p view xs is of kept d = whole_balanced p xs is of kept (λ name. same_times name (names_of xs) ([] ∷ given_in xs) d.names)
+
+-- so are parts that were searched
 pub all_whole : (p : Problem) (first : ℕ) (view : View) (xs : List ProblemPart) → IsProblem p → All (IsSearched p first view) xs → IsAllDone view xs → AreWhole p xs
-all_whole p first view xs is all d = whole_balanced p xs is (of_problem p first view xs all) (All-weaker (IsSearched p first view) IsKeptPart (λ x s. s.kept) xs all)
-    (λ name. same_times name (names_of xs) ([] ∷ given_in xs) d.names)
+all_whole p first view xs is all d = parts_whole p view xs is (All-weaker (IsSearched p first view) (λ x. x.problem ≡ p) (λ x s. s.of_problem) xs all)
+    (All-weaker (IsSearched p first view) IsKeptPart (λ x s. s.kept) xs all) d
 
 -- what is known when the shared words are closed
 pub record IsClosedAt (start budget spent limit : ℕ) (view : View) : Type 0 where

@@ -74,13 +74,15 @@ pub record IsCommon (problem : Problem) (first : ℕ) (t : Terms) : Type 0 where
   pub first_is : first ≡ t.of.key.start
   pub short : t.split ≤ 8
 
--- a part was found for the name: each claim that was granted meanwhile is a branch of it, and each name that was put is one that it gives; each cut is
--- closed for what is seen now, and each branch stands below what was seen at the beginning
-pub record IsFoundPart (of : Shared) (old new : View) (before after : Option PoolSeat) (name : List ℕ) (part : ProblemPart) : Type 0 where
-  pub of_problem : part.problem ≡ of.key.problem
+-- a part has the name; each claim that was granted meanwhile is a branch of it, and each name that was put is one that it gives
+pub record IsCountedPart (old new : View) (before after : Option PoolSeat) (name : List ℕ) (part : ProblemPart) : Type 0 where
   pub name_is : part.name ≡ name
-  pub kept : IsKeptPart part
   pub grants : new.granted ≡ old.granted + length (branches_in part)
   pub puts : puts_at after ≡ puts_at before ++ given_of part
+
+-- a part was found: each cut is closed for what is seen now, and each branch stands below what was seen at the beginning
+pub record IsFoundPart (of : Shared) (old new : View) (part : ProblemPart) : Type 0 where
+  pub of_problem : part.problem ≡ of.key.problem
+  pub kept : IsKeptPart part
   pub closed : All (IsClosed new) (cuts_in part)
   pub below : All (IsBelow old.seen) (branches_in part)

@@ -11,7 +11,8 @@ use Rattle.crp_pool.specs.Seats.{PoolSeat, all_puts, all_takes}
 use Rattle.crp_solve.specs.Searches.{IsSearched}
 use Rattle.crp_solve.specs.Desks.{KeepsPlan}
 
--- the shared words, what the workers know of them, their best plan, the parts that they searched, their places in the pool, and whether memory was short
+-- the shared words, what the workers know of them, their best plan, the parts that they searched, their places in the pool, and whether a part was lost: where
+-- memory was short, or, in a search for the first best plan, where a claim was refused
 pub record Crew : Type 0 where
   pub of : Shared
   pub view : View
@@ -42,11 +43,19 @@ pub record IsCounted (view : View) (parts : List ProblemPart) (places : List Poo
   pub takes : SameNames (all_takes places) (names_of parts)
   pub puts : SameNames (all_puts places) (roots places ++ given_in parts)
 
--- what a group keeps: its plan has exactly the relocations that its seat offered; its parts are searched, as far as its seat has seen, and below the
--- limit at the start; and unless memory was short, nothing was lost
-pub record IsGroup (g : Crew) : Type 0 where
-  pub plan_kept : KeepsPlan g.of g.view g.plan
-  pub searched : All (IsSearched g.of.key.problem g.of.key.start g.view) g.parts
+-- what workers keep of their plan and of the parts that they searched, by what they know of their words
+abbrev pub Keeping : Type 1
+Keeping = Shared → View → Option Route → List ProblemPart → Type 0
+
+-- in a search for the fewest relocations: the plan has exactly the relocations that the seat offered; the parts are searched, as far as the seat has
+-- seen, and below the limit at the start
+pub record IsKeptSoFar (of : Shared) (view : View) (plan : Option Route) (parts : List ProblemPart) : Type 0 where
+  pub plan_kept : KeepsPlan of view plan
+  pub searched : All (IsSearched of.key.problem of.key.start view) parts
+
+-- what a group keeps: its plan and its parts, as the search has it; and unless it is marked, nothing was lost
+pub record IsGroup (keeps : Keeping) (g : Crew) : Type 0 where
+  pub kept : keeps g.of g.view g.plan g.parts
   pub counted : g.short ≡ false → IsCounted g.view g.parts g.places
 
 -- which place of which pool
@@ -68,14 +77,14 @@ abbrev pub shares : List Crew → ℕ
 shares [] = 0
 shares (g ∷ gs) = crew_share g + shares gs
 
--- the same workers, later: the words, their share of them and, unless memory was short, their places are the same
+-- the same workers, later: the words, their share of them and, unless they are marked, their places are the same
 pub record SameWorkers (old new : Crew) : Type 0 where
   pub words : new.of ≡ old.of
   pub share : new.view.share ≡ old.view.share
   pub places : new.short ≡ false → keys new ≡ keys old
   pub short : new.short ≡ false → old.short ≡ false
 
--- what these groups became: one of the same words, with their shares of them and, unless memory was short, with all their places
+-- what these groups became: one of the same words, with their shares of them and, unless it is marked, with all their places
 pub record AreTogether (groups : List Crew) (all : Crew) : Type 0 where
   pub words : All (λ g. g.of ≡ all.of) groups
   pub share : all.view.share ≡ shares groups

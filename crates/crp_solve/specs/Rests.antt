@@ -1,24 +1,21 @@
 -- What is left in the pool when its workers are done, and what is known when that is searched too.
-use Rattle.std.specs.Prelude.{◌≡◌, ℕ, List, [], ◌∷◌, All, Option, IfSome}
+use Rattle.std.specs.Prelude.{◌≡◌, ℕ, Bool, false, List, [], ◌∷◌, Option, IfSome}
 use Rattle.crp_plan.specs.declared.running.View.{View}
 use Rattle.crp_plan.specs.Bay.{Problem, IsProblem}
 use Rattle.crp_plan.specs.Plans.{Route}
 use Rattle.crp_tree.specs.Parts.{ProblemPart, Certificate, names_of}
-use Rattle.crp_incumbent.specs.Seats.{Shared}
+use Rattle.crp_incumbent.specs.declared.rule.Key.{Key}
+use Rattle.crp_incumbent.specs.Rule.{all_shares}
+use Rattle.crp_incumbent.specs.Seats.{Shared, Seat}
 use Rattle.crp_pool.specs.Weigh.{SameNames}
 use Rattle.crp_solve.specs.Answers.{path_in, count_of, IsFirstLimit, IsPlanOf}
-use Rattle.crp_solve.specs.Searches.{IsSearched, IsWhole}
-use Rattle.crp_solve.specs.Desks.{count_or, KeepsPlan}
-use Rattle.crp_solve.specs.Groups.{branches_in_parts, given_in}
+use Rattle.crp_solve.specs.Searches.{IsWhole}
+use Rattle.crp_solve.specs.Desks.{count_or}
+use Rattle.crp_solve.specs.Groups.{Keeping, branches_in_parts, given_in}
 
--- the plan is the one that is counted, and the parts were searched
-pub record IsKeptSoFar (of : Shared) (view : View) (plan : Option Route) (parts : List ProblemPart) : Type 0 where
-  pub plan_kept : KeepsPlan of view plan
-  pub searched : All (IsSearched of.key.problem of.key.start view) parts
-
--- the parts were searched and counted: they are those of the names that were taken, and the names that were put are the root's and those that they give
-pub record IsDoneUpTo (of : Shared) (view : View) (plan : Option Route) (parts : List ProblemPart) (puts takes : List (List ℕ)) : Type 0 where
-  pub kept : IsKeptSoFar of view plan parts
+-- the plan and the parts are kept, and the parts are counted: they are those of the names that were taken, and the names that were put are the root's and those that they give
+pub record IsDoneUpTo (keeps : Keeping) (of : Shared) (view : View) (plan : Option Route) (parts : List ProblemPart) (puts takes : List (List ℕ)) : Type 0 where
+  pub kept : keeps of view plan parts
   pub grants : view.granted ≡ branches_in_parts parts
   pub taken : SameNames takes (names_of parts)
   pub put : SameNames puts ([] ∷ given_in parts)
@@ -27,6 +24,15 @@ pub record IsDoneUpTo (of : Shared) (view : View) (plan : Option Route) (parts :
 pub record IsAllDone (view : View) (parts : List ProblemPart) : Type 0 where
   pub grants : view.granted ≡ branches_in_parts parts
   pub names : SameNames (names_of parts) ([] ∷ given_in parts)
+
+-- what workers leave when they are done: their words with this key, a seat at them that has all shares, the plan and the parts that they keep; and unless a part
+-- was lost, nothing is left
+pub record AreDone (keeps : Keeping) (key : Key) (of : Shared) (seat : Seat) (plan : Option Route) (parts : List ProblemPart) (short : Bool) : Type 0 where
+  pub opened : of.key ≡ key
+  pub words : seat.of ≡ of
+  pub share : seat.view.share ≡ all_shares
+  pub kept : keeps of seat.view plan parts
+  pub all : short ≡ false → IsAllDone seat.view parts
 
 -- a search begins with the relocations of this plan, the greedy one; where there is none, with the cap
 pub record IsBegunWith (p : Problem) (first : ℕ) (greedy : Option Route) : Type 0 where

@@ -22,7 +22,7 @@ impl Gate for NoGate {
 
 /// What a worker reaches outside the search: the leave to wait, the gate, and the board for its plans.
 #[derive(Drop)]
-pub(crate) struct Outside<'a, R, G> {
+pub struct Outside<'a, R, G> {
     pub(crate) rt: &'a R,
     pub(crate) gate: &'a G,
     pub(crate) board: &'a Board,
@@ -30,7 +30,7 @@ pub(crate) struct Outside<'a, R, G> {
 
 /// What all workers of a search have in common.
 #[derive(Drop)]
-pub(crate) struct Common {
+pub struct Common {
     pub(crate) alloc: Global,
     pub(crate) problem: Problem,
     pub(crate) shared: Shared,

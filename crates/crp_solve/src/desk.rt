@@ -1,16 +1,19 @@
 //! One worker that shares the limit, the claims and the names with others.
-ghost use Rattle.std.specs.Prelude.{◌≡◌, min, length, Some, IfSome};
+ghost use Rattle.std.specs.Prelude.{◌≡◌, min, length, Some, None, IfSome};
 ghost use Rattle.crp_plan.specs.Bay.{Problem};
 ghost use Rattle.crp_solve.specs.Answers.{path_in, IsPlanOf};
 ghost use Rattle.crp_search.specs.Limits.{Advances};
-ghost use Rattle.crp_solve.specs.Desks.{count_or, fixed_at, KeepsPlan, IsFoundPart};
+ghost use Rattle.crp_search.specs.Firsts.{IsLowerBound, OnlyClaims};
+ghost use Rattle.crp_solve.specs.Desks.{count_or, fixed_at, KeepsPlan, IsCountedPart, IsFoundPart};
+ghost use Rattle.crp_solve.specs.Firsts.{IsPlanOfCount, IsSearchedFirst};
 
+use crate::aim::Searched;
 use crate::common::{Common, Gate, Outside};
 use crp_incumbent::{Board, Seat, Shared};
 use crp_plan::Plan;
 use crp_pool::PoolSeat;
-use crp_search::{Limit, search};
-use crp_tree::{Name, Part};
+use crp_search::{FirstPart, Limit, search, search_first};
+use crp_tree::Name;
 use std::marker::{Brand, Model, PhantomData};
 use std::sync::Wait;
 use std::sync::atomic::{AtomicU64, Ordering};
@@ -119,14 +122,6 @@ impl<'a, R: Wait, K: Opened> Limit for Desk<'a, R, K> {
     }
 }
 
-/// What a worker has after it searched a part. There is no part where memory was wanting.
-pub(crate) struct Searched {
-    pub(crate) part: Option<Part>,
-    pub(crate) seat: Seat,
-    pub(crate) best: Option<Plan>,
-    pub(crate) place: Option<PoolSeat>,
-}
-
 /// Searches the part of the name at a desk that it opens.
 fn at_desk<R: Wait, G: Gate, K: Opened>(
     outside: &Outside<R, G>,
@@ -144,7 +139,8 @@ fn at_desk<R: Wait, G: Gate, K: Opened>(
     ensures plan { KeepsPlan common.now.of result.seat.view result.best }
     ensures advances { Advances common.now.of.key.problem seat.view result.seat.view }
     ensures place { fixed_at result.place ≡ fixed_at place }
-    ensures part { IfSome result.part (IsFoundPart common.now.of seat.view result.seat.view place result.place name) }
+    ensures counted { IfSome result.part (IsCountedPart seat.view result.seat.view place result.place name) }
+    ensures part { IfSome result.part (IsFoundPart common.now.of seat.view result.seat.view) }
 {
     outside.gate.begun(worker, &name);
     let mut desk: Desk<R, K> = Desk {
@@ -185,7 +181,7 @@ fn at_desk<R: Wait, G: Gate, K: Opened>(
 /// Searches the part of the name, with this seat, the plan that it counts, and a place where names may be put.
 ///
 /// A name that is no path of the problem is not searched. None is ever put, but a pool cannot say so.
-pub(crate) fn search_part<R: Wait, G: Gate>(
+pub(crate) fn search_at_desk<R: Wait, G: Gate>(
     outside: &Outside<R, G>,
     common: &Common,
     worker: u32,
@@ -200,7 +196,89 @@ pub(crate) fn search_part<R: Wait, G: Gate>(
     ensures plan { KeepsPlan common.now.of result.seat.view result.best }
     ensures advances { Advances common.now.of.key.problem seat.view result.seat.view }
     ensures place { fixed_at result.place ≡ fixed_at place }
-    ensures part { IfSome result.part (IsFoundPart common.now.of seat.view result.seat.view place result.place name) }
+    ensures counted { IfSome result.part (IsCountedPart seat.view result.seat.view place result.place name) }
+    ensures part { IfSome result.part (IsFoundPart common.now.of seat.view result.seat.view) }
 {
     at_desk::<R, G, Brand>(outside, common, worker, name, seat, best, place)
+}
+
+/// Searches the part of the name for the first plan of the relocations that the words began with, at a desk that it opens.
+fn first_at<R: Wait, G: Gate, K: Opened>(
+    outside: &Outside<R, G>,
+    common: &Common,
+    worker: u32,
+    name: Name,
+    seat: Seat,
+    place: Option<PoolSeat>,
+) -> (Option<FirstPart>, Seat, Option<PoolSeat>)
+    requires opened { (K.words ≡ common.now.of) × (K.place ≡ place) }
+    requires words { seat.of ≡ common.now.of }
+    requires plan { KeepsPlan common.now.of seat.view None }
+    requires least { IsLowerBound common.now.of.key.problem common.now.of.key.start }
+    ensures words { result.1.of ≡ common.now.of }
+    ensures claims { OnlyClaims seat.view result.1.view }
+    ensures place { fixed_at result.2 ≡ fixed_at place }
+    ensures counted { IfSome result.0 (λ found. IsCountedPart seat.view result.1.view place result.2 name found.part) }
+    ensures part { IfSome result.0 (λ found. IsSearchedFirst common.now.of.key.problem common.now.of.key.start found.plan found.part) }
+    ensures plan { IfSome result.0 (λ found. IfSome found.plan (IsPlanOfCount common.now.of.key.problem common.now.of.key.start)) }
+{
+    outside.gate.begun(worker, &name);
+    let mut desk: Desk<R, K> = Desk {
+        rt: outside.rt,
+        board: outside.board,
+        shared: &common.shared,
+        open: &common.open,
+        first: common.first,
+        seat: Some(seat),
+        best: None,
+        place,
+        opened: PhantomData,
+    };
+    let found = if name.position(&common.problem).is_some() {
+        search_first(
+            common.alloc,
+            &common.problem,
+            name,
+            common.first,
+            &mut desk,
+            common.split,
+        )
+        .ok()
+    } else {
+        None
+    };
+    let Desk {
+        rt: _,
+        board: _,
+        shared: _,
+        open: _,
+        first: _,
+        seat,
+        best: _,
+        place,
+        opened: _,
+    } = desk;
+    (found, seat.unwrap(), place)
+}
+
+/// The same with this seat, at which nothing was offered, and a place where names may be put.
+pub(crate) fn first_at_desk<R: Wait, G: Gate>(
+    outside: &Outside<R, G>,
+    common: &Common,
+    worker: u32,
+    name: Name,
+    seat: Seat,
+    place: Option<PoolSeat>,
+) -> (Option<FirstPart>, Seat, Option<PoolSeat>)
+    requires words { seat.of ≡ common.now.of }
+    requires plan { KeepsPlan common.now.of seat.view None }
+    requires least { IsLowerBound common.now.of.key.problem common.now.of.key.start }
+    ensures words { result.1.of ≡ common.now.of }
+    ensures claims { OnlyClaims seat.view result.1.view }
+    ensures place { fixed_at result.2 ≡ fixed_at place }
+    ensures counted { IfSome result.0 (λ found. IsCountedPart seat.view result.1.view place result.2 name found.part) }
+    ensures part { IfSome result.0 (λ found. IsSearchedFirst common.now.of.key.problem common.now.of.key.start found.plan found.part) }
+    ensures plan { IfSome result.0 (λ found. IfSome found.plan (IsPlanOfCount common.now.of.key.problem common.now.of.key.start)) }
+{
+    first_at::<R, G, Brand>(outside, common, worker, name, seat, place)
 }

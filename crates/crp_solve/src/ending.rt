@@ -1,8 +1,8 @@
 //! The end of a search by many workers: the shared words are closed, and the parts become one certificate.
-ghost use Rattle.std.specs.Prelude.{◌≡◌, ℕ, ◌≤◌, false, IfOk, IfErr};
-ghost use Rattle.crp_incumbent.specs.Rule.{all_shares};
+ghost use Rattle.std.specs.Prelude.{◌≤◌, IfOk, IfErr};
 ghost use Rattle.crp_solve.specs.Answers.{IsFirstLimit};
-ghost use Rattle.crp_solve.specs.Rests.{IsKeptSoFar, IsAllDone, IsFoundTogether};
+ghost use Rattle.crp_solve.specs.Rests.{AreDone, IsFoundTogether};
+ghost use Rattle.crp_solve.specs.Groups.{IsKeptSoFar};
 
 use crate::resting::Done;
 use crp_gather::{GatherFault, gather};
@@ -30,14 +30,9 @@ pub(crate) fn ended(
     budget: u64,
     done: Done,
 ) -> Result<Together, u64>
-    requires problem { problem.now ≡ shared.key.problem }
-    requires words { done.seat.of ≡ shared }
-    requires budget { budget ≡ shared.key.budget }
-    requires share { done.seat.view.share ≡ all_shares }
-    requires first { IsFirstLimit shared.key.problem shared.key.start }
-    requires kept { IsKeptSoFar shared done.seat.view done.best done.parts.items }
-    requires all { done.short ≡ false → IsAllDone done.seat.view done.parts.items }
-    ensures found { IfOk result (λ r. IsFoundTogether shared.key.problem budget shared.key.start r.cert r.best r.expanded) }
+    requires first { IsFirstLimit problem.now shared.key.start }
+    requires done { AreDone IsKeptSoFar (record { problem = problem.now; start = shared.key.start; budget = budget }) shared done.seat done.best done.parts.items done.short }
+    ensures found { IfOk result (λ r. IsFoundTogether problem.now budget shared.key.start r.cert r.best r.expanded) }
     ensures within { IfErr result (λ expanded. expanded ≤ budget) }
 {
     let Done {

@@ -1,16 +1,22 @@
 //! The fewest relocations of a bay, with a certificate: the settings of a search, its answer, and the solver of one worker.
 #![tactic(auto)]
 
+mod aim;
 mod alone;
 mod answer;
+mod asked;
 mod common;
 mod desk;
 mod ending;
+mod fewest;
+mod first_best;
+mod first_ending;
 mod group;
 mod laws;
 mod opening;
 mod resting;
 mod running;
+mod second;
 mod settings;
 mod solver;
 mod solving;

@@ -4,20 +4,20 @@ use Rattle.crp_solve.proofs.Opened.{kept_new, shares_snoc, keys_snoc, words_snoc
 use Rattle.crp_solve.proofs.opening.groups_of.Goals as goal
 
 pub loop-place-preserved : goal.loop-place-preserved
-loop-place-preserved c =
-    let before = c.loop-place.invariant in let gs = c.loop-place.groups.items in let g = c.in_ok-seated.field-0 in let left = c.loop-place.left in let kept = c.in-Ok.kept in let given = c.in-Ok.given in
+loop-place-preserved g c =
+    let before = c.loop-place.invariant in let gs = c.loop-place.groups.items in let x = c.in_ok-seated.field-0 in let left = c.loop-place.left in let kept = c.in-Ok.kept in let given = c.in-Ok.given in
     let some : 1 ≤ left.view.share = search rules in
     let kept_share = ap (λ (s : Seat). s.view.share) c.in-Ok.ensures.kept in let given_share = ap (λ (s : Seat). s.view.share) c.in-Ok.ensures.given in
-    let mine : g.view.share ≡ 1 = ap (λ (v : _). v.share) c.in_ok-seated.ensures.view ∙ given_share in
-    let long = length-append c.loop-place.yielded (c.in-Some.place ∷ []) in let long' = length-append gs (g ∷ []) in
-    let more = shares_snoc gs g in
+    let mine : x.view.share ≡ 1 = ap (λ (v : _). v.share) c.in_ok-seated.ensures.view ∙ given_share in
+    let long = length-append c.loop-place.yielded (c.in-Some.place ∷ []) in let long' = length-append gs (x ∷ []) in
+    let more = shares_snoc gs x in
     record {
       can = tt;
       ends = tt;
       left_new = kept_new c.args.shared.now left kept c.in-Ok.ensures.kept before.left_new;
-      words = rw c.in_ok-push.ensures.items (words_snoc c.args.shared.now gs g (c.in_ok-seated.ensures.of ∙ ap (λ (s : Seat). s.of) c.in-Ok.ensures.given ∙ (let n = before.left_new in n.words)) before.words);
+      words = rw c.in_ok-push.ensures.items (words_snoc c.args.shared.now gs x (c.in_ok-seated.ensures.of ∙ ap (λ (s : Seat). s.of) c.in-Ok.ensures.given ∙ (let n = before.left_new in n.words)) before.words);
       count = rw c.in_ok-push.ensures.items (omega (arith, before.count));
       share = rw c.in_ok-push.ensures.items (omega (arith, before.share));
       each = rw c.in_ok-push.ensures.items (omega (arith, before.each));
-      keys_are = rw c.in_ok-push.ensures.items (keys_snoc gs g c.loop-place.yielded c.in-Some.place c.in_ok-seated.ensures.places before.keys_are);
+      keys_are = rw c.in_ok-push.ensures.items (keys_snoc gs x c.loop-place.yielded c.in-Some.place c.in_ok-seated.ensures.places before.keys_are);
     }
