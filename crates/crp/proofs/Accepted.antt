@@ -6,7 +6,7 @@ use Rattle.std.proofs.lemmas.List.Elements.{recursion_from_All}
 use Rattle.crp_plan.specs.BayNames.{YardBay, IsYardBay}
 use Rattle.crp_plan.specs.Bay.{Problem, cap}
 use Rattle.crp_plan.specs.Plans.{Route}
-use Rattle.crp_tree.specs.Claims.{IsAccepted, Claim, path_in}
+use Rattle.crp_tree.specs.Claims.{IsAccepted, Claimed, path_in}
 use Rattle.crp_tree.specs.Parts.{claimed}
 use Rattle.crp_cert.specs.declared.head.Head.{Head}
 use Rattle.crp_cert.specs.Text.{IsHead}
@@ -83,7 +83,7 @@ verdict_on p budget (answer.Between lower cert plan cause.Memory) expanded t =
 -- ---- the certificate
 
 -- what the certificate of an answer claims
-abbrev claim : Problem → Answer → Claim
+abbrev claim : Problem → Answer → Claimed
 claim p found = claimed p (cert_of found) (path_in (plan_in found))
 
 -- it is accepted

@@ -14,7 +14,7 @@ use Rattle.crp_plan.specs.Plans.{Route}
 use Rattle.crp_plan.proofs.Buried.{below_cap}
 use Rattle.crp_plan.proofs.Covered.{relocations-path}
 use Rattle.crp_plan.proofs.Tallies.{cap_low}
-use Rattle.crp_tree.specs.Claims.{Part, IsPart, names, Claim, path_in}
+use Rattle.crp_tree.specs.Claims.{Part, IsPart, names, Claimed, path_in}
 use Rattle.crp_tree.specs.Parts.{ProblemPart, Certificate, IsCertificate, part_of, claimed}
 use Rattle.crp_tree.proofs.Certified.{same_names}
 use Rattle.crp_cert.specs.declared.version.Version.{Version}
@@ -97,7 +97,7 @@ plan_rows p None ok h = tt
 plan_rows p (Some rows) ok h = path_rows p rows ok h
 
 -- a claim that can be told is told by a script
-pub spelled_is_script : (bay : YardBay) (c : Claim) → IsYardBay bay → CanBeSpelled c → IsScript (script_for bay c)
+pub spelled_is_script : (bay : YardBay) (c : Claimed) → IsYardBay bay → CanBeSpelled c → IsScript (script_for bay c)
 spelled_is_script bay c name t =
     let ok = t.accepted in
     let is_problem = ok.is_problem in

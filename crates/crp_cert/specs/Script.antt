@@ -5,7 +5,7 @@ use Rattle.crp_plan.specs.Bay.{Problem, Position, IsAt}
 use Rattle.crp_tree.specs.declared.tree.Tree.{Tree, CutB, CutL, Branch', Given, Row_of-Tree, end_of-Tree, more_of-Tree}
 use Rattle.crp_tree.specs.Names.{Precedes, name_text}
 use Rattle.crp_tree.specs.Trees.{Fits, IsGiven}
-use Rattle.crp_tree.specs.Claims.{Part, Claim, names}
+use Rattle.crp_tree.specs.Claims.{Part, Claimed, names}
 use Rattle.crp_cert.specs.declared.script.Script.{Script}
 use Rattle.crp_cert.specs.Text.{numbers_line, head_text, IsHead}
 
@@ -59,5 +59,5 @@ abbrev pub IsScriptOf : List ℕ → Script → Type 0
 IsScriptOf bytes script = IsScript script × (bytes ≡ script_text script)
 
 -- the claim of a script: the problem, the claimed bound, the plan, and the parts
-abbrev pub claim_of : Script → Claim
+abbrev pub claim_of : Script → Claimed
 claim_of script = record { problem = script.head.problem; lower = script.head.claim; plan = script.head.plan; parts = script.parts }

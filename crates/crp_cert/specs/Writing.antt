@@ -6,7 +6,7 @@ use Rattle.crp_plan.specs.Rows.{tallest}
 use Rattle.crp_plan.specs.Bay.{Problem}
 use Rattle.crp_plan.specs.Plans.{Route}
 use Rattle.crp_tree.specs.Names.{Precedes}
-use Rattle.crp_tree.specs.Claims.{Claim, IsAccepted, names, path_in}
+use Rattle.crp_tree.specs.Claims.{Claimed, IsAccepted, names, path_in}
 use Rattle.crp_tree.specs.Parts.{Certificate, claimed}
 use Rattle.crp_cert.specs.declared.head.Head.{Head}
 use Rattle.crp_cert.specs.declared.script.Script.{Script}
@@ -27,7 +27,7 @@ abbrev pub head_for : YardBay → Problem → ℕ → Option Route → Head
 head_for bay p claim plan = record { version = version_for p; bay = bay; problem = p; claim = claim; plan = path_in plan }
 
 -- the script for a claim under the name of a bay
-abbrev pub script_for : YardBay → Claim → Script
+abbrev pub script_for : YardBay → Claimed → Script
 script_for bay c = record { head = record { version = version_for c.problem; bay = bay; problem = c.problem; claim = c.lower; plan = c.plan }; parts = c.parts }
 
 -- the text of a certificate of a problem, under the name of a bay, with a plan or none
@@ -35,6 +35,6 @@ abbrev pub certificate_text : YardBay → Problem → Certificate → Option Rou
 certificate_text bay p cert plan = script_text (script_for bay (claimed p cert (path_in plan)))
 
 -- a text can spell the claim: it is accepted, and its parts rise by name
-pub record CanBeSpelled (c : Claim) : Type 0 where
+pub record CanBeSpelled (c : Claimed) : Type 0 where
   pub accepted : IsAccepted c
   pub rising : AllPairs Precedes (names c.parts)

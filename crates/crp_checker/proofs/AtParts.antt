@@ -7,7 +7,7 @@ use Rattle.std.proofs.lemmas.List.Elements.{All-from_recursion}
 use Rattle.std.proofs.lemmas.Grind.{flat_map-append}
 use Rattle.crp_plan.specs.Bay.{Problem, IsProblem}
 use Rattle.crp_tree.specs.Names.{Precedes, name_text}
-use Rattle.crp_tree.specs.Claims.{Claim, Part, names, given_by}
+use Rattle.crp_tree.specs.Claims.{Claimed, Part, names, given_by}
 use Rattle.crp_cert.specs.declared.fault.CertFault.{CertFault}
 use Rattle.crp_cert.specs.declared.fault.CertFault.TheVariants as faults
 use Rattle.crp_cert.specs.Script.{symbols_line, part_line, claim_of}
@@ -130,10 +130,10 @@ symbols_fault wanted before name findings kept end fault at order ends is =
 -- ---- one part more
 
 -- the claim with one part more
-with_part : Claim → Part → Claim
+with_part : Claimed → Part → Claimed
 with_part claim part = record claim { parts = claim.parts ++ part ∷ [] }
 
-right_still : (wanted : Option Problem) (claim : Claim) (part : Part) → HasRightHead wanted claim → HasRightHead wanted (record claim { parts = claim.parts ++ part ∷ [] })
+right_still : (wanted : Option Problem) (claim : Claimed) (part : Part) → HasRightHead wanted claim → HasRightHead wanted (record claim { parts = claim.parts ++ part ∷ [] })
 right_still wanted claim part right = record { as_wanted = right.as_wanted; plan_is = right.plan_is }
 
 -- the first wrong node of some parts is the first of more
@@ -162,7 +162,7 @@ first_in_last lower Wrong p parts part name k named right first = record {
 }
 
 -- what is noted
-noted : (wanted : Option Problem) (claim : Claim) (part : Part) (name : List ℕ) (note : Option Refused) (w : Option Wrong) → part.name ≡ name → IsFirstOf claim.lower (named_nodes claim.problem part).nodes w →
+noted : (wanted : Option Problem) (claim : Claimed) (part : Part) (name : List ℕ) (note : Option Refused) (w : Option Wrong) → part.name ≡ name → IsFirstOf claim.lower (named_nodes claim.problem part).nodes w →
     IsNote wanted claim note → IsNote wanted (record claim { parts = claim.parts ++ part ∷ [] }) (note_after note name w)
 noted wanted claim part name (Some refused.OtherProblem) w named first is = is
 noted wanted claim part name (Some (refused.Plan fault)) w named first is = is

@@ -8,7 +8,7 @@ use Rattle.crp_bay.proofs.Members.{in_head, in_tail}
 use Rattle.crp_tree.specs.Names.{IsFirst}
 use Rattle.crp_tree.specs.Trees.{given_names, HasAtLeast}
 use Rattle.crp_tree.proofs.Accepted.{nodes_are}
-use Rattle.crp_tree.specs.Claims.{Claim, IsPart, IsAccepted, IsRootOrGiven, IsNeeded, nodes_in, given_by, names, Part}
+use Rattle.crp_tree.specs.Claims.{Claimed, IsPart, IsAccepted, IsRootOrGiven, IsNeeded, nodes_in, given_by, names, Part}
 use Rattle.crp_tree.proofs.Lists.{in_flat_map, from_map}
 use Rattle.crp_tree.proofs.Certified.{distinct}
 use Rattle.crp_cert.specs.declared.script.Script.{Script}
@@ -81,7 +81,7 @@ accepted_from told held given readable plan right e d same =
         subst (λ n. length n ≤ 8) y.2 r.short
 
 -- names that are refused are refused as said
-pub names_refused : (claim : Claim) (held given : List (List ℕ)) (r : Refused) → held ≡ names claim.parts → given ≡ flat_map (given_by claim.problem) claim.parts → AreRightParts claim →
+pub names_refused : (claim : Claimed) (held given : List (List ℕ)) (r : Refused) → held ≡ names claim.parts → given ≡ flat_map (given_by claim.problem) claim.parts → AreRightParts claim →
     IfSome claim.plan (IsPlanPath claim.problem) → IsNamesRefusal held given r → (r ≡ refused.Memory) ⊎ ((wanted : Option Problem) → IsWanted wanted claim.problem → IsFirstWrongClaim wanted claim r)
 names_refused claim held given (refused.Missing name) e d right plan w =
     inr (λ wanted is. (record { as_wanted = is; plan_is = plan }, right, subst (λ l. IsFirst (IsWithoutPart (names claim.parts) l) name) d (subst (λ l. IsFirst (IsWithoutPart l given) name) e w)))

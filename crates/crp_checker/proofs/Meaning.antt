@@ -4,7 +4,7 @@ use Rattle.crp_plan.specs.declared.moves.Move.{Move}
 use Rattle.crp_plan.specs.Bay.{Problem, cap, IsPlan, IsBest, relocations}
 use Rattle.crp_plan.specs.Faults.{IsPlanPath}
 use Rattle.crp_plan.proofs.Covered.{relocations-path}
-use Rattle.crp_tree.specs.Claims.{Claim, IsAccepted}
+use Rattle.crp_tree.specs.Claims.{Claimed, IsAccepted}
 use Rattle.crp_tree.proofs.Accepted.{bounded, no_plan_at_cap, best}
 use Rattle.crp_cert.specs.declared.head.Head.{Head}
 use Rattle.crp_cert.specs.declared.script.Script.{Script}
@@ -20,7 +20,7 @@ use Rattle.crp_checker.specs.Verdicts.{IsVerdictOf, IsVerdict, Says}
 use Rattle.crp_checker.specs.Refusals.{IsFirstWrongClaim, IsRefusal}
 
 -- a plan with as many relocations as the bound is a best one
-best_from : (claim : Claim) (plan : Option (List ℕ)) → claim.plan ≡ plan → IsAccepted claim → option_map length plan ≡ Some claim.lower → IsBest claim.problem claim.lower
+best_from : (claim : Claimed) (plan : Option (List ℕ)) → claim.plan ≡ plan → IsAccepted claim → option_map length plan ≡ Some claim.lower → IsBest claim.problem claim.lower
 best_from claim None e ok n = absurd (cc)
 best_from claim (Some rows) e ok n = best claim rows ok e (let m : length rows ≡ claim.lower = cc in m)
 
@@ -30,7 +30,7 @@ reached_from p None ok = tt
 reached_from p (Some rows) ok = (ok.0, ok.1, relocations-path ok.0 ∙ ap length ok.2)
 
 -- what a verdict says of an accepted claim is so
-pub says_from : (claim : Claim) (verdict : Verdict) → IsAccepted claim → IsVerdict claim verdict → Says claim.problem verdict
+pub says_from : (claim : Claimed) (verdict : Verdict) → IsAccepted claim → IsVerdict claim verdict → Says claim.problem verdict
 says_from claim (Optimal count) ok v = subst (IsBest claim.problem) (sym v.0) (best_from claim claim.plan refl ok v.1)
 says_from claim NoPlan ok v = λ moves plan. no_plan_at_cap claim moves ok v.1 plan
 says_from claim (Bounds lower upper) ok v = (

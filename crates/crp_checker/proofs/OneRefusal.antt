@@ -8,7 +8,7 @@ use Rattle.crp_plan.specs.Faults.{IsPlanPath, IsPlanFault}
 use Rattle.crp_plan.proofs.Steps.{fault_refuses}
 use Rattle.crp_plan.proofs.OneFault.{one_plan_fault}
 use Rattle.crp_tree.specs.Trees.{X, Node, nodes, is_cut, HasAtLeast}
-use Rattle.crp_tree.specs.Claims.{Part, IsPart, Claim, IsAccepted, nodes_in}
+use Rattle.crp_tree.specs.Claims.{Part, IsPart, Claimed, IsAccepted, nodes_in}
 use Rattle.crp_tree.proofs.Accepted.{nodes_are}
 use Rattle.crp_tree.proofs.InOrder.{one_first}
 use Rattle.crp_checker.specs.declared.refused.Refused.{Refused}
@@ -34,7 +34,7 @@ right_parts p lower (part ∷ parts) is each high =
       right_parts p lower parts is each.1 high.1,
     )
 
-pub right_if_accepted : (claim : Claim) → IsAccepted claim → AreRightParts claim
+pub right_if_accepted : (claim : Claimed) → IsAccepted claim → AreRightParts claim
 right_if_accepted claim ok =
     right_parts claim.problem claim.lower claim.parts ok.is_problem (recursion_from_All (IsPart claim.problem) claim.parts ok.each_part)
     (recursion_from_All (λ part. HasAtLeast claim.lower (nodes_in claim.problem part)) claim.parts ok.each_cut)
@@ -57,7 +57,7 @@ plan_clash : (p : Problem) (plan : Option (List ℕ)) (rows : List ℕ) → IsPr
 plan_clash p plan rows is path e fault f = fault_refuses p rows fault is f (subst (λ o. IfSome o (IsPlanPath p)) e path)
 
 -- an accepted claim is not wrong
-pub not_wrong : (wanted : Option Problem) (claim : Claim) (r : Refused) → IsAccepted claim → IsWanted wanted claim.problem → IsFirstWrongClaim wanted claim r → ⊥
+pub not_wrong : (wanted : Option Problem) (claim : Claimed) (r : Refused) → IsAccepted claim → IsWanted wanted claim.problem → IsFirstWrongClaim wanted claim r → ⊥
 not_wrong wanted claim (refused.Cert fault) ok asked w = w
 not_wrong wanted claim refused.OtherProblem ok asked w = w asked
 not_wrong wanted claim (refused.Plan fault) ok asked w = let k = w.1 in plan_clash claim.problem claim.plan k.0 ok.is_problem ok.plan_is k.1 fault k.2
@@ -128,7 +128,7 @@ end_not_right : (lower : ℕ) (parts : List NamedNodes) (name : List ℕ) (k : �
 end_not_right lower parts name k right met = none_met lower IsAtEnd parts name k (not_at_end lower) right met
 
 -- a plan with a fault is none
-bad_plan : (wanted : Option Problem) (claim : Claim) (fault : PlanFault) → IsProblem claim.problem → IsFirstWrongClaim wanted claim (refused.Plan fault) → HasRightHead wanted claim → ⊥
+bad_plan : (wanted : Option Problem) (claim : Claimed) (fault : PlanFault) → IsProblem claim.problem → IsFirstWrongClaim wanted claim (refused.Plan fault) → HasRightHead wanted claim → ⊥
 bad_plan wanted claim fault is w head = let k = w.1 in plan_clash claim.problem claim.plan k.0 is head.plan_is k.1 fault k.2
 
 -- two faults of one plan are the same
@@ -138,7 +138,7 @@ same_plan_fault p plan rows rows' f g is e a d b =
     one_plan_fault p rows f g is a (subst (λ l. IsPlanFault p l g) same b)
 
 -- a claim is wrong in one way only
-pub one_wrong : (wanted : Option Problem) (claim : Claim) (r q : Refused) → IsProblem claim.problem → IsFirstWrongClaim wanted claim r → IsFirstWrongClaim wanted claim q → r ≡ q
+pub one_wrong : (wanted : Option Problem) (claim : Claimed) (r q : Refused) → IsProblem claim.problem → IsFirstWrongClaim wanted claim r → IsFirstWrongClaim wanted claim q → r ≡ q
 one_wrong wanted claim (refused.Cert f) q is a b = absurd a
 one_wrong wanted claim refused.Memory q is a b = absurd a
 one_wrong wanted claim refused.OtherProblem (refused.Cert f) is a b = absurd b

@@ -5,7 +5,7 @@ use Rattle.crp_plan.specs.Bay.{Problem}
 use Rattle.crp_plan.specs.Faults.{IsPlanPath, IsPlanFault}
 use Rattle.crp_tree.specs.Names.{IsFirst}
 use Rattle.crp_tree.specs.Trees.{Node}
-use Rattle.crp_tree.specs.Claims.{Part, nodes_in, Claim, IsNeeded, names}
+use Rattle.crp_tree.specs.Claims.{Part, nodes_in, Claimed, IsNeeded, names}
 use Rattle.crp_cert.specs.declared.script.Script.{Script}
 use Rattle.crp_cert.specs.Script.{IsScriptOf, claim_of}
 use Rattle.crp_cert.specs.ScriptFaults.{IsFirstFaultOfScript}
@@ -42,29 +42,29 @@ pub record IsFirstWrongNode (lower : ℕ) (Wrong : Node → Type 0) (parts : Lis
   pub first : IsFirstWrong lower Wrong part.nodes k
 
 -- no node of any part is wrong
-abbrev pub AreRightParts : Claim → Type 0
+abbrev pub AreRightParts : Claimed → Type 0
 AreRightParts claim = AllByRecursion (IsRightPart claim.lower) (nodes_by_name claim.problem claim.parts)
 
 -- the first wrong node is wrong in this way
-abbrev pub IsFirstWrongIn : Claim → (Node → Type 0) → List ℕ → ℕ → Type 0
+abbrev pub IsFirstWrongIn : Claimed → (Node → Type 0) → List ℕ → ℕ → Type 0
 IsFirstWrongIn claim Wrong name k = IsFirstWrongNode claim.lower Wrong (nodes_by_name claim.problem claim.parts) name k
 
 -- a part of this name is needed, and there is none
-abbrev pub IsMissing : Claim → List ℕ → Type 0
+abbrev pub IsMissing : Claimed → List ℕ → Type 0
 IsMissing claim name = IsNeeded claim.problem claim.parts name × ¬ Contains (names claim.parts) name
 
 -- there is a part of this name, and it is not needed
-abbrev pub IsUnneeded : Claim → List ℕ → Type 0
+abbrev pub IsUnneeded : Claimed → List ℕ → Type 0
 IsUnneeded claim name = Contains (names claim.parts) name × ¬ IsNeeded claim.problem claim.parts name
 
 -- the problem is the one that is asked for, if one is, and the plan, if there is one, is complete and legal
-pub record HasRightHead (wanted : Option Problem) (claim : Claim) : Type 0 where
+pub record HasRightHead (wanted : Option Problem) (claim : Claimed) : Type 0 where
   pub as_wanted : IsWanted wanted claim.problem
   pub plan_is : IfSome claim.plan (IsPlanPath claim.problem)
 
 -- what is wrong with the claim, where all that is looked at before is right: the problem, the plan, the nodes, the needed names
 -- without a part, the parts that are not needed
-abbrev pub IsFirstWrongClaim : Option Problem → Claim → Refused → Type 0
+abbrev pub IsFirstWrongClaim : Option Problem → Claimed → Refused → Type 0
 IsFirstWrongClaim wanted claim (refused.Cert fault) = ⊥
 IsFirstWrongClaim wanted claim refused.OtherProblem = ¬ IsWanted wanted claim.problem
 IsFirstWrongClaim wanted claim (refused.Plan fault) =

@@ -3,7 +3,7 @@ use Rattle.std.specs.Prelude.{◌≡◌, ◌≢◌, ℕ, ◌+◌, ◌≤◌, Lis
 use Rattle.std.specs.List.{AllByRecursion}
 use Rattle.crp_plan.specs.BayNames.{YardBay}
 use Rattle.crp_plan.specs.Bay.{Problem, Position, IsAt}
-use Rattle.crp_tree.specs.Claims.{Claim, given_by, names}
+use Rattle.crp_tree.specs.Claims.{Claimed, given_by, names}
 use Rattle.crp_cert.specs.declared.head.Head.{Head}
 use Rattle.crp_cert.specs.declared.fault.CertFault.{CertFault}
 use Rattle.crp_cert.specs.declared.script.Script.{Script}
@@ -30,7 +30,7 @@ abbrev pub first_script : Head → Script
 first_script head = record { head = head; parts = [] }
 
 -- the first thing that is wrong with the problem, the plan or the nodes of a claim, or that nothing is
-abbrev pub IsNote : Option Problem → Claim → Option Refused → Type 0
+abbrev pub IsNote : Option Problem → Claimed → Option Refused → Type 0
 IsNote wanted claim None = HasRightHead wanted claim × AreRightParts claim
 IsNote wanted claim (Some refused.OtherProblem) = IsFirstWrongClaim wanted claim refused.OtherProblem
 IsNote wanted claim (Some (refused.Plan fault)) = IsFirstWrongClaim wanted claim (refused.Plan fault)

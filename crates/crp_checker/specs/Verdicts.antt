@@ -2,12 +2,12 @@
 use Rattle.std.specs.Prelude.{◌≡◌, ◌≢◌, ℕ, ◌≤◌, List, length, Option, Some, IfSome, option_map}
 use Rattle.crp_plan.specs.declared.moves.Move.{Move}
 use Rattle.crp_plan.specs.Bay.{Problem, cap, IsPlan, IsBest, relocations}
-use Rattle.crp_tree.specs.Claims.{Claim}
+use Rattle.crp_tree.specs.Claims.{Claimed}
 use Rattle.crp_checker.specs.declared.verdict.Verdict.{Verdict}
 use Rattle.crp_checker.specs.declared.verdict.Verdict.TheVariants.{Optimal, NoPlan, Bounds}
 
 -- how many relocations the plan of a claim has, if it has a plan
-abbrev pub plan_count : Claim → Option ℕ
+abbrev pub plan_count : Claimed → Option ℕ
 plan_count claim = option_map length claim.plan
 
 -- the bound is the fewest where the plan has as many relocations; there is no plan where the bound is the cap; else these are a bound
@@ -18,7 +18,7 @@ IsVerdictOf bound most count NoPlan = (count ≢ Some bound) × (bound ≡ most)
 IsVerdictOf bound most count (Bounds lower upper) = (count ≢ Some bound) × (bound ≢ most) × (lower ≡ bound) × (upper ≡ count)
 
 -- what a claim shows, by its bound, the cap of its problem and its plan
-abbrev pub IsVerdict : Claim → Verdict → Type 0
+abbrev pub IsVerdict : Claimed → Verdict → Type 0
 IsVerdict claim verdict = IsVerdictOf claim.lower (cap claim.problem) (plan_count claim) verdict
 
 -- what a verdict says of a problem: that the fewest relocations of a plan are so many; that there is no plan; or that no plan has fewer

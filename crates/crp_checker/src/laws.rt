@@ -4,7 +4,7 @@ ghost use Rattle.crp_plan.specs.Bay.{Problem, IsProblem};
 ghost use Rattle.crp_plan.specs.BayNames.{YardBay, IsYardBay};
 ghost use Rattle.crp_plan.specs.Plans.{Route};
 ghost use Rattle.crp_plan.specs.Faults.{IsPlanPath};
-ghost use Rattle.crp_tree.specs.Claims.{Claim, IsAccepted, path_in};
+ghost use Rattle.crp_tree.specs.Claims.{Claimed, IsAccepted, path_in};
 ghost use Rattle.crp_tree.specs.Parts.{Certificate, IsAbout, claimed};
 ghost use Rattle.crp_cert.specs.Writing.{script_for, certificate_text};
 ghost use Rattle.crp_cert.specs.declared.script.Script.{Script};
@@ -29,17 +29,17 @@ pub fn accepted_or_refused()
 
 /// An accepted claim is not wrong, and another is wrong in one way at most.
 pub fn right_or_wrong()
-    ensures apart { (wanted : Option Problem) (claim : Claim) (refused : Refused)
+    ensures apart { (wanted : Option Problem) (claim : Claimed) (refused : Refused)
         → IsAccepted claim → IsWanted wanted claim.problem
         → IsFirstWrongClaim wanted claim refused → ⊥ }
-    ensures one { (wanted : Option Problem) (claim : Claim) (refused other : Refused)
+    ensures one { (wanted : Option Problem) (claim : Claimed) (refused other : Refused)
         → IsProblem claim.problem → IsFirstWrongClaim wanted claim refused
         → IsFirstWrongClaim wanted claim other → refused ≡ other }
 {}
 
 /// What a verdict says of an accepted claim is so.
 pub fn verdicts_say()
-    ensures { (claim : Claim) (verdict : Verdict) → IsAccepted claim → IsVerdict claim verdict
+    ensures { (claim : Claimed) (verdict : Verdict) → IsAccepted claim → IsVerdict claim verdict
         → Says claim.problem verdict }
 {}
 

@@ -8,7 +8,7 @@ use Rattle.crp_bay.proofs.Walked.{at_reads}
 use Rattle.crp_plan.proofs.Covered.{relocations-path}
 use Rattle.crp_plan.proofs.Buried.{below_cap}
 use Rattle.crp_tree.specs.Trees.{nodes, given_names, Begins, HasAtLeast, Shows}
-use Rattle.crp_tree.specs.Claims.{Part, IsPart, nodes_in, given_by, names, IsNeeded, Claim, IsAccepted}
+use Rattle.crp_tree.specs.Claims.{Part, IsPart, nodes_in, given_by, names, IsNeeded, Claimed, IsAccepted}
 use Rattle.crp_tree.proofs.Shown.{shows}
 use Rattle.crp_tree.proofs.Nodes.{given_longer}
 use Rattle.crp_tree.proofs.Givers.{begins_short}
@@ -67,18 +67,18 @@ floor_covers p parts f moves ok each shown needed plan =
     })
 
 -- no plan has fewer relocations than the bound
-pub bounded : (claim : Claim) (moves : List Move) → IsAccepted claim → IsPlan claim.problem moves → claim.lower ≤ relocations moves
+pub bounded : (claim : Claimed) (moves : List Move) → IsAccepted claim → IsPlan claim.problem moves → claim.lower ≤ relocations moves
 bounded claim moves ok plan =
     floor_covers claim.problem claim.parts claim.lower moves ok.is_problem ok.each_part
     (λ k d lt. part_shows claim.problem _ claim.lower ok.is_problem (ok.each_part k d lt) (ok.each_cut k d lt) ok.within_cap)
     (λ name. (ok.as_needed name).1) plan
 
 -- at the cap there is no plan
-pub no_plan_at_cap : (claim : Claim) (moves : List Move) → IsAccepted claim → claim.lower ≡ cap claim.problem → IsPlan claim.problem moves → ⊥
+pub no_plan_at_cap : (claim : Claimed) (moves : List Move) → IsAccepted claim → claim.lower ≡ cap claim.problem → IsPlan claim.problem moves → ⊥
 no_plan_at_cap claim moves ok e plan = omega (arith, bounded claim moves ok plan, below_cap claim.problem moves ok.is_problem plan)
 
 -- a plan that meets the bound is a best one
-pub best : (claim : Claim) (rows : List ℕ) → IsAccepted claim → claim.plan ≡ Some rows → length rows ≡ claim.lower → IsBest claim.problem claim.lower
+pub best : (claim : Claimed) (rows : List ℕ) → IsAccepted claim → claim.plan ≡ Some rows → length rows ≡ claim.lower → IsBest claim.problem claim.lower
 best claim rows ok e n =
     let given : IsPlanPath claim.problem rows = rw e at ok.plan_is in
     record {

@@ -14,7 +14,7 @@ use Rattle.crp_plan.proofs.Buried.{below_cap}
 use Rattle.crp_bay.proofs.Members.{not_in_nil}
 use Rattle.crp_tree.specs.Names.{Precedes}
 use Rattle.crp_tree.specs.Trees.{Node, cuts, value, Begins}
-use Rattle.crp_tree.specs.Claims.{Part, IsPart, nodes_in, given_by, Claim, IsAccepted}
+use Rattle.crp_tree.specs.Claims.{Part, IsPart, nodes_in, given_by, Claimed, IsAccepted}
 use Rattle.crp_tree.specs.Parts.{ProblemPart, IsKeptPart, part_of, given_of, cuts_in, Certificate, IsAbout, claimed}
 use Rattle.crp_tree.specs.First.{IsFirstBest, MeetsNeed, need_at, IsFirstAccepted, MeetNeeds}
 use Rattle.crp_tree.proofs.Ordered.{compared, goes_further, before_test}
@@ -47,7 +47,7 @@ part_tells p part k plan moves ok is needs whole before b none =
     out
 
 -- so has a plan whose path comes before that of the claimed one
-more_before : (claim : Claim) (path : List ℕ) (moves : List Move) → IsFirstAccepted claim path → IsPlan claim.problem moves → Precedes (path_of moves) path → claim.lower + 1 ≤ relocations moves
+more_before : (claim : Claimed) (path : List ℕ) (moves : List Move) → IsFirstAccepted claim path → IsPlan claim.problem moves → Precedes (path_of moves) path → claim.lower + 1 ≤ relocations moves
 more_before claim path moves first plan before =
     let p : Problem = claim.problem in
     let ok : IsAccepted claim = first.accepted in
@@ -60,7 +60,7 @@ more_before claim path moves first plan before =
     })
 
 -- so the claimed plan is the first best
-pub first_is : (claim : Claim) (path : List ℕ) → IsFirstAccepted claim path → IsFirstBest claim.problem path
+pub first_is : (claim : Claimed) (path : List ℕ) → IsFirstAccepted claim path → IsFirstBest claim.problem path
 first_is claim path first =
     let ok : IsAccepted claim = first.accepted in
     record {

@@ -55,7 +55,7 @@ abbrev pub path_in : Option Route → Option (List ℕ)
 path_in plan = option_map (λ route. route.path) plan
 
 -- what is claimed of a problem: a lower bound, a plan or none, and the parts that show the bound
-pub record Claim : Type 0 where
+pub record Claimed : Type 0 where
   pub problem : Problem
   pub lower : ℕ
   pub plan : Option (List ℕ)
@@ -63,7 +63,7 @@ pub record Claim : Type 0 where
 
 -- an accepted claim: its bound is at most the cap, its plan is complete and legal, each part has its shape and no cut below the bound,
 -- no two parts have one name, and the names of the parts are the needed ones, no more and no fewer
-pub record IsAccepted (claim : Claim) : Type 0 where
+pub record IsAccepted (claim : Claimed) : Type 0 where
   pub is_problem : IsProblem claim.problem
   pub within_cap : claim.lower ≤ cap claim.problem
   pub plan_is : IfSome claim.plan (IsPlanPath claim.problem)

@@ -6,7 +6,7 @@ use Rattle.crp_plan.specs.Bay.{Problem, IsBest}
 use Rattle.crp_plan.specs.Faults.{IsPlanPath}
 use Rattle.crp_tree.specs.Names.{Precedes}
 use Rattle.crp_tree.specs.Trees.{Node, cuts, value}
-use Rattle.crp_tree.specs.Claims.{Claim, IsAccepted, nodes_in}
+use Rattle.crp_tree.specs.Claims.{Claimed, IsAccepted, nodes_in}
 use Rattle.crp_tree.specs.Parts.{ProblemPart, cuts_in}
 
 -- the first best plan, by its path: it is complete, no plan has fewer relocations, and the path of no plan with as many comes before its own
@@ -27,7 +27,7 @@ need_at k plan path = if is_lt (slice_cmp nat_cmp path plan) then k + 1 else k
 
 -- a claim that is accepted as one of the first best plan: it is accepted, it has the plan of this path, of as many relocations as its bound,
 -- and each cut of its parts meets its need
-pub record IsFirstAccepted (claim : Claim) (path : List ℕ) : Type 0 where
+pub record IsFirstAccepted (claim : Claimed) (path : List ℕ) : Type 0 where
   pub accepted : IsAccepted claim
   pub plan_is : claim.plan ≡ Some path
   pub count : length path ≡ claim.lower

@@ -4,7 +4,7 @@ use Rattle.crp_plan.specs.Bay.{Problem, IsProblem, cap}
 use Rattle.crp_tree.specs.declared.tree.Tree.{Tree}
 use Rattle.crp_tree.specs.Names.{Precedes}
 use Rattle.crp_tree.specs.Trees.{Node, cuts, branches, least_value, Shows}
-use Rattle.crp_tree.specs.Claims.{Part, IsPart, IsNeeded, Claim, nodes_in, given_by}
+use Rattle.crp_tree.specs.Claims.{Part, IsPart, IsNeeded, Claimed, nodes_in, given_by}
 
 -- a part of the search of a problem: the path that it stands at, its tree, and the floor that it shows
 pub record ProblemPart : Type 0 where
@@ -72,5 +72,5 @@ pub record IsAbout (p : Problem) (cert : Certificate) : Type 0 where
   pub as_needed : (name : List ℕ) → Contains (names_of cert.parts) name ↔ IsNeeded p (map part_of cert.parts) name
 
 -- what the certificate claims of the problem, with a plan or none
-abbrev pub claimed : Problem → Certificate → Option (List ℕ) → Claim
+abbrev pub claimed : Problem → Certificate → Option (List ℕ) → Claimed
 claimed p cert plan = record { problem = p; lower = cert.lower; plan = plan; parts = map part_of cert.parts }

@@ -7,7 +7,7 @@ ghost use Rattle.crp_plan.specs.declared.moves.Move.{Move};
 ghost use Rattle.crp_plan.specs.Bay.{Problem, IsProblem, cap, Position, IsAt, IsLegalRow, IsPlan, IsBest, relocations};
 ghost use Rattle.crp_plan.specs.Faults.{IsPlanPath};
 ghost use Rattle.crp_tree.specs.Names.{GoesOn, Precedes};
-ghost use Rattle.crp_tree.specs.Claims.{Part, Claim, IsAccepted, IsNeeded, names, times, given_by, IsPart};
+ghost use Rattle.crp_tree.specs.Claims.{Part, Claimed, IsAccepted, IsNeeded, names, times, given_by, IsPart};
 ghost use Rattle.crp_bounds.specs.Bounds.{look_ahead};
 ghost use Rattle.crp_tree.specs.declared.tree.Tree.{Tree};
 ghost use Rattle.crp_tree.specs.Parts.{ProblemPart, nodes_of, given_of, IsKeptPart, Certificate, IsAbout, claimed};
@@ -55,9 +55,9 @@ pub fn names_are_ordered()
 /// An accepted claim is so: no plan has fewer relocations than its bound; at the cap there is no plan; and its plan, where it meets
 /// the bound, is a best one.
 pub fn accepted_means()
-    ensures bound { (claim : Claim) (moves : List Move) → IsAccepted claim → IsPlan claim.problem moves → claim.lower ≤ relocations moves }
-    ensures no_plan { (claim : Claim) (moves : List Move) → IsAccepted claim → claim.lower ≡ cap claim.problem → IsPlan claim.problem moves → ⊥ }
-    ensures best { (claim : Claim) (rows : List ℕ) → IsAccepted claim → claim.plan ≡ Some rows → length rows ≡ claim.lower → IsBest claim.problem claim.lower }
+    ensures bound { (claim : Claimed) (moves : List Move) → IsAccepted claim → IsPlan claim.problem moves → claim.lower ≤ relocations moves }
+    ensures no_plan { (claim : Claimed) (moves : List Move) → IsAccepted claim → claim.lower ≡ cap claim.problem → IsPlan claim.problem moves → ⊥ }
+    ensures best { (claim : Claimed) (rows : List ℕ) → IsAccepted claim → claim.plan ≡ Some rows → length rows ≡ claim.lower → IsBest claim.problem claim.lower }
 {}
 
 /// What a certificate about a problem claims, with a plan of the problem or none, is accepted.
@@ -89,7 +89,7 @@ pub fn one_first_best()
 
 /// The plan of a claim that is accepted as one of the first best plan is the first best plan.
 pub fn first_means()
-    ensures { (claim : Claim) (path : List ℕ) → IsFirstAccepted claim path → IsFirstBest claim.problem path }
+    ensures { (claim : Claimed) (path : List ℕ) → IsFirstAccepted claim path → IsFirstBest claim.problem path }
 {}
 
 /// What a certificate about a problem claims with a plan of it, by which each cut meets its need, is accepted as a claim of the first
