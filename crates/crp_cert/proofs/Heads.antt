@@ -9,14 +9,15 @@ use Rattle.crp_plan.specs.Bay.{Problem, IsProblem}
 use Rattle.crp_plan.specs.Faults.{stated_with}
 use Rattle.crp_plan.proofs.Steps.{same_rows}
 use Rattle.crp_plan.proofs.Tallies.{low_heights, tallest_low, few_containers, cap_low, in_bay}
+use Rattle.crp_cert.specs.declared.claim.Claim.{Claim}
 use Rattle.crp_cert.specs.declared.head.Head.{Head}
 use Rattle.crp_cert.specs.declared.size.Size.{Size}
 use Rattle.crp_cert.specs.declared.version.Version.{Version}
 use Rattle.crp_cert.specs.declared.version.Version.TheVariants.{One, Two}
 use Rattle.crp_cert.specs.Text.{title_line, bay_line, size_line, stated_heights, row_line, claim_line, plan_line, head_text, first_row, first_part, size_of, IsSize, IsHead}
 use Rattle.crp_cert.specs.Faults.{MayState}
-use Rattle.crp_cert.proofs.Lines.{AreLow, bay_once, size_once, rows_once, claim_once, plan_once}
-use Rattle.crp_cert.proofs.Readers.{once, title_reader}
+use Rattle.crp_cert.proofs.Lines.{AreLow, bay_once, size_once, rows_once, plan_once}
+use Rattle.crp_cert.proofs.Readers.{once, title_reader, claim_reader}
 use Rattle.crp_cert.proofs.Heights.{heights_once, may_state}
 
 -- the text of a head and what follows it, line by line
@@ -108,10 +109,10 @@ head_once a b x y is-a is-b e =
     ap (λ (h : List ℕ). stated_with h a.problem.ordered a.problem.stacks) heights.0 ∙ ap (λ (s : Size). stated_with b.problem.heights s.ordered a.problem.stacks) sizes.0
     ∙ ap (stated_with b.problem.heights b.problem.ordered) rows.0 in
     let low-a = cap_low a.problem is-a.problem in let low-b = cap_low b.problem is-b.problem in let c-a = is-a.claim in let c-b = is-b.claim in
-    let claims = claim_once 673 a.claim b.claim _ _ (omega arith) (omega arith) (omega arith) rows.1 in
+    let claims = once (claim_reader Two 673 (omega arith)) a.claim b.claim _ _ (record { can_claim = tt; within = omega arith }) (record { can_claim = tt; within = omega arith }) rows.1 in
     let plans = plan_once a.plan b.plan x y is-a.plan is-b.plan claims.1 in (
       ap (λ (v : Version). record a { version = v }) titles.0 ∙ ap (λ (n : YardBay). record a { version = b.version; bay = n }) bays.0
           ∙ ap (λ (p : Problem). record a { version = b.version; bay = b.bay; problem = p }) problems
-          ∙ ap (λ (n : ℕ). record a { version = b.version; bay = b.bay; problem = b.problem; claim = n }) claims.0 ∙ ap (λ (o : Option (List ℕ)). record b { plan = o }) plans.0,
+          ∙ ap (λ (n : Claim). record a { version = b.version; bay = b.bay; problem = b.problem; claim = n }) claims.0 ∙ ap (λ (o : Option (List ℕ)). record b { plan = o }) plans.0,
       plans.1,
     )

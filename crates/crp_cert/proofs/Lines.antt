@@ -1,5 +1,5 @@
 -- What is read of a line is what the line says, and a line is read again.
-use Rattle.std.proofs.Common.{◌≡◌, ℕ, ◌+◌, ◌*◌, ◌/◌, ◌%◌, ◌^◌, ◌<◌, ◌≤◌, ⊎_elim, true, cond, ◌==◌, List, [], ◌∷◌, ◌++◌, length, Option, Some, None, refl, sym, ap, ◌∙◌, subst, arith, append_assoc, nat_le, nat_lt}
+use Rattle.std.proofs.Common.{◌≡◌, ℕ, ◌+◌, ◌*◌, ◌/◌, ◌%◌, ◌^◌, ◌<◌, ◌≤◌, ⊎_elim, true, false, cond, ◌==◌, List, [], ◌∷◌, ◌++◌, length, Option, Some, None, refl, sym, ap, ◌∙◌, subst, arith, append_assoc, nat_le, nat_lt}
 use Rattle.std.specs.List.{flat_map, AllByRecursion}
 use Rattle.std.specs.Fmt.{decimal}
 use Rattle.std.proofs.lemmas.Bool.{and_parts, and_from, leb-true, le-leb, ne_eqb, ltb-false, le-ltb}
@@ -10,12 +10,12 @@ use Rattle.std.specs.Prelude.{codes, IfSome}
 use Rattle.std.proofs.lemmas.List.Elements.{recursion_from_All}
 use Rattle.crp_plan.specs.BayNames.{YardBay, IsYardBay}
 use Rattle.crp_cert.specs.declared.size.Size.{Size}
-use Rattle.crp_cert.specs.Text.{spaced, numbers_line, size_line, claim_line, row_line, bay_line, plan_line, AreRows, IsSize}
-use Rattle.crp_cert.specs.Reading.{◌>>=◌, tag_at, spaced_at, newline_at, numbers_at, word_at, is_size, size_at, claim_at, row_at, name_at, plan_at}
+use Rattle.crp_cert.specs.Text.{spaced, numbers_line, size_line, row_line, bay_line, plan_line, AreRows, IsSize}
+use Rattle.crp_cert.specs.Reading.{◌>>=◌, tag_at, spaced_at, newline_at, numbers_at, word_at, is_size, size_at, bound_at, row_at, name_at, plan_at}
 use Rattle.std.proofs.lemmas.List.Elements.{All-from_recursion}
 use Rattle.std.proofs.Common.{◌&&◌}
 use Rattle.crp_cert.specs.Reading.{or_else}
-use Rattle.crp_cert.proofs.Numbers.{bind_some, if_some, if_none, chosen, tag_takes, newline_takes, spaced_takes, spaced_again_at, numbers_take, numbers_again, stops}
+use Rattle.crp_cert.proofs.Numbers.{bind_some, if_some, if_none, chosen, tag_takes, tag_again, newline_takes, spaced_takes, spaced_again_at, numbers_take, numbers_again, stops}
 
 -- ---- words
 
@@ -70,13 +70,18 @@ size_again size rest is =
     is_size_from : (size : Size) → IsSize size → is_size size ≡ true
     is_size_from size is = and_from _ _ (le-leb 1 size.rows is.some_rows) (and_from _ _ (le-leb size.rows 12 is.few_rows) (and_from _ _ (le-leb 1 size.tiers is.some_tiers) (and_from _ _ (le-leb size.tiers 8 is.few_tiers) (and_from _ _ (le-leb size.ordered size.total is.ordered_fit) (le-leb size.total (size.rows * size.tiers) is.room)))))
 
--- a claim line is read again
-pub claim_again : (most claim : ℕ) (rest : List ℕ) → claim ≤ most → most ≤ 9999 → claim_at most (claim_line claim ++ rest) ≡ Some (claim, rest)
-unfolding claim_at
-claim_again most claim rest low few =
+-- a line of a word and a bound is read again
+pub bound_again : (word : List ℕ) (most bound : ℕ) (rest : List ℕ) → bound ≤ most → most ≤ 9999 → bound_at word most (numbers_line word (bound ∷ []) ++ rest) ≡ Some (bound, rest)
+unfolding bound_at
+bound_again word most bound rest low few =
     let d : List ℕ = spaced [] ++ 10 ∷ rest in
-    let e : spaced_at 9999 (spaced (claim ∷ []) ++ 10 ∷ rest) ≡ Some (claim, d) = ap (spaced_at 9999) (spaced_then claim [] (10 ∷ rest)) ∙ spaced_again_at 9999 claim d (omega arith) (omega arith) (omega arith) (stops [] rest) in
-    ap (claim_at most) (numbers_line_then (codes "at least") (claim ∷ []) rest) ∙ rw (e, le-ltb most claim low) refl
+    let e : spaced_at 9999 (spaced (bound ∷ []) ++ 10 ∷ rest) ≡ Some (bound, d) = ap (spaced_at 9999) (spaced_then bound [] (10 ∷ rest)) ∙ spaced_again_at 9999 bound d (omega arith) (omega arith) (omega arith) (stops [] rest) in
+    ap (bound_at word most) (numbers_line_then word (bound ∷ []) rest) ∙ rw (tag_again word (spaced (bound ∷ []) ++ 10 ∷ rest), e, le-ltb most bound low) refl
+
+-- another word is not read
+pub bound_not : (most b t : ℕ) (word bytes : List ℕ) → (b == t) ≡ false → bound_at (t ∷ word) most (b ∷ bytes) ≡ None
+unfolding bound_at
+bound_not most b t word bytes e = rw e refl
 
 -- ---- rows and plans
 
@@ -152,10 +157,6 @@ bay_once a b x y is-a is-b e = name_is (bay_line b ++ y) b.block b.bay y a x (na
 -- bytes begin with one size line at most
 pub size_once : (a b : Size) (x y : List ℕ) → IsSize a → IsSize b → size_line a ++ x ≡ size_line b ++ y → (a ≡ b) × (x ≡ y)
 size_once a b x y is-a is-b e = some_pair_parts a b x y (sym (size_again a x is-a) ∙ ap size_at e ∙ size_again b y is-b)
-
--- bytes begin with one claim line at most
-pub claim_once : (most a b : ℕ) (x y : List ℕ) → a ≤ most → b ≤ most → most ≤ 9999 → claim_line a ++ x ≡ claim_line b ++ y → (a ≡ b) × (x ≡ y)
-claim_once most a b x y low-a low-b few e = some_pair_parts a b x y (sym (claim_again most a x low-a few) ∙ ap (claim_at most) e ∙ claim_again most b y low-b few)
 
 -- not too many numbers, each of one digit or two
 abbrev pub AreLow : ℕ → List ℕ → Type 0
@@ -282,18 +283,18 @@ size_takes bytes size rest e =
         let whole : bytes ≡ size_line (made_size r t n m) ++ f = tag_takes (codes "size") bytes a ea ∙ ap (λ l. codes "size" ++ l) s4 ∙ sym (numbers_line_then (codes "size") (r ∷ t ∷ n ∷ m ∷ []) f) in
         (subst IsSize p.0 (is_size_to (made_size r t n m) k.0), whole ∙ ap (λ (s : Size). size_line s ++ f) p.0 ∙ ap (λ l. size_line size ++ l) p.1)
 
--- what is read of a claim line is what it says
-pub claim_takes : (most : ℕ) (bytes : List ℕ) (claim : ℕ) (rest : List ℕ) → claim_at most bytes ≡ Some (claim, rest) → (claim ≤ most) × (bytes ≡ claim_line claim ++ rest)
-unfolding claim_at
-claim_takes most bytes claim rest e =
-    let a = bind_some (tag_at (codes "at least") bytes) (λ a. spaced_at 9999 a >>= λ x. (newline_at x.1 >>= λ r. cond (nat_lt most x.0) None (Some (x.0, r)))) (claim, rest) e in
-    let x = bind_some (spaced_at 9999 a.0) (λ x. newline_at x.1 >>= λ r. cond (nat_lt most x.0) None (Some (x.0, r))) (claim, rest) a.2 in
-    let l = bind_some (newline_at x.0.1) (λ r. cond (nat_lt most x.0.0) None (Some (x.0.0, r))) (claim, rest) x.2 in
-    let k = if_none (nat_lt most x.0.0) (Some (x.0.0, l.0)) (claim, rest) l.2 in
-    let p = some_pair_parts x.0.0 claim l.0 rest k.1 in
+-- what is read of a line of a word and a bound is what it says
+pub bound_takes : (word : List ℕ) (most : ℕ) (bytes : List ℕ) (bound : ℕ) (rest : List ℕ) → bound_at word most bytes ≡ Some (bound, rest) → (bound ≤ most) × (bytes ≡ numbers_line word (bound ∷ []) ++ rest)
+unfolding bound_at
+bound_takes word most bytes bound rest e =
+    let a = bind_some (tag_at word bytes) (λ a. spaced_at 9999 a >>= λ x. (newline_at x.1 >>= λ r. cond (nat_lt most x.0) None (Some (x.0, r)))) (bound, rest) e in
+    let x = bind_some (spaced_at 9999 a.0) (λ x. newline_at x.1 >>= λ r. cond (nat_lt most x.0) None (Some (x.0, r))) (bound, rest) a.2 in
+    let l = bind_some (newline_at x.0.1) (λ r. cond (nat_lt most x.0.0) None (Some (x.0.0, r))) (bound, rest) x.2 in
+    let k = if_none (nat_lt most x.0.0) (Some (x.0.0, l.0)) (bound, rest) l.2 in
+    let p = some_pair_parts x.0.0 bound l.0 rest k.1 in
     let s : a.0 ≡ spaced (x.0.0 ∷ []) ++ 10 ∷ l.0 = join x.0.0 [] a.0 x.0.1 l.0 (spaced_takes 9999 a.0 x.0.0 x.0.1 (omega arith) (omega arith) x.1).0 (newline_takes x.0.1 l.0 l.1) in
-    let whole : bytes ≡ claim_line x.0.0 ++ l.0 = tag_takes (codes "at least") bytes a.0 a.1 ∙ ap (λ z. codes "at least" ++ z) s ∙ sym (numbers_line_then (codes "at least") (x.0.0 ∷ []) l.0) in
-    (subst (λ c. c ≤ most) p.0 (ltb-false most x.0.0 k.0), whole ∙ ap (λ c. claim_line c ++ l.0) p.0 ∙ ap (λ z. claim_line claim ++ z) p.1)
+    let whole : bytes ≡ numbers_line word (x.0.0 ∷ []) ++ l.0 = tag_takes word bytes a.0 a.1 ∙ ap (λ z. word ++ z) s ∙ sym (numbers_line_then word (x.0.0 ∷ []) l.0) in
+    (subst (λ c. c ≤ most) p.0 (ltb-false most x.0.0 k.0), whole ∙ ap (λ c. numbers_line word (c ∷ []) ++ l.0) p.0 ∙ ap (λ z. numbers_line word (bound ∷ []) ++ z) p.1)
 
 -- what is read of a plan line is what it says
 pub plan_takes : (bytes : List ℕ) (plan : Option (List ℕ)) (rest : List ℕ) → plan_at bytes ≡ Some (plan, rest) → IfSome plan AreRows × (bytes ≡ plan_line plan ++ rest)

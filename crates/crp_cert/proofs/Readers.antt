@@ -1,18 +1,20 @@
 -- Readers of a line: what is read is what the line says, and the line is read again.
 use Rattle.std.proofs.Common.{◌≡◌, ℕ, ◌≤◌, Bool, true, cond, List, [], ◌∷◌, ◌++◌, length, Option, Some, None, refl, sym, ap, ◌∙◌, nat_le, ◌&&◌, subst}
-use Rattle.std.specs.Prelude.{IfSome, ⊤}
+use Rattle.std.specs.Prelude.{IfSome, ⊤, codes}
 use Rattle.std.specs.List.{list_all, AllByRecursion}
 use Rattle.std.proofs.lemmas.Bool.{and_parts, and_from, leb-true, le-leb}
 use Rattle.std.proofs.lemmas.Option.{none-some, some_pair_parts}
 use Rattle.std.proofs.lemmas.List.Elements.{recursion_from_All, All-from_recursion}
 use Rattle.crp_plan.specs.BayNames.{YardBay, IsYardBay}
+use Rattle.crp_cert.specs.declared.claim.Claim.{Claim}
+use Rattle.crp_cert.specs.declared.claim.Claim.TheVariants.{AtLeast, First}
 use Rattle.crp_cert.specs.declared.version.Version.{Version}
 use Rattle.crp_cert.specs.declared.version.Version.TheVariants.{One, Two}
-use Rattle.crp_cert.specs.Text.{title_line, bay_line, size_line, claim_line, plan_line, IsSize, AreRows}
-use Rattle.crp_cert.specs.Faults.{BeginsWith}
-use Rattle.crp_cert.specs.Reading.{◌>>=◌, tag_at, or_else, title_at, name_at, size_at, claim_at, plan_at}
+use Rattle.crp_cert.specs.Text.{spaced, title_line, bay_line, size_line, claim_line, plan_line, IsSize, AreRows, CanClaim}
+use Rattle.crp_cert.specs.Faults.{BeginsWith, MayClaim}
+use Rattle.crp_cert.specs.Reading.{◌>>=◌, tag_at, or_else, title_at, name_at, size_at, bound_at, first_at, claim_at, plan_at}
 use Rattle.crp_cert.proofs.Numbers.{bind_some, if_some, tag_takes, tag_again}
-use Rattle.crp_cert.proofs.Lines.{name_takes, name_again, size_takes, size_again, claim_takes, claim_again, plan_takes, plan_again, plan_low}
+use Rattle.crp_cert.proofs.Lines.{name_takes, name_again, size_takes, size_again, bound_takes, bound_again, bound_not, plan_takes, plan_again, plan_low}
 
 -- a reader of the lines of what fits
 pub record IsReader {A : Type 0} (fits : A → Type 0) (line : A → List ℕ) (at : List ℕ → Option (A × List ℕ)) : Type 0 where
@@ -138,9 +140,40 @@ title_reader = record { takes = λ bytes version rest e. (tt, by_first bytes ver
 pub size_reader : IsReader IsSize size_line size_at
 size_reader = record { takes = size_takes; again = size_again }
 
+-- what is made of a bound that is read
+abbrev claimed : (ℕ → Claim) → Option (ℕ × List ℕ) → Option (Claim × List ℕ)
+claimed of read = read >>= λ x. Some (of x.0, x.1)
+
 -- the claim line
-pub claim_reader : (most : ℕ) → most ≤ 9999 → IsReader (λ claim. claim ≤ most) claim_line (claim_at most)
-claim_reader most few = record { takes = claim_takes most; again = λ claim rest low. claim_again most claim rest low few }
+pub claim_reader : (version : Version) (most : ℕ) → most ≤ 9999 → IsReader (MayClaim version most) claim_line (claim_at version most)
+claim_reader version most few = record { takes = λ bytes claim rest e. by_first version bytes claim rest (bound_at (codes "at least") most bytes) refl e; again = again version }
+  where
+    takes_first : (version : Version) (bytes : List ℕ) (claim : Claim) (rest : List ℕ) → first_at version most bytes ≡ Some (claim, rest) → MayClaim version most claim × (bytes ≡ claim_line claim ++ rest)
+    takes_first One bytes claim rest e = absurd (none-some (claim, rest) e)
+    takes_first Two bytes claim rest e =
+        let x = bind_some (bound_at (codes "first") most bytes) (λ x. Some (First x.0, x.1)) (claim, rest) e in
+        let p = some_pair_parts (First x.0.0) claim x.0.1 rest x.2 in
+        let t = bound_takes (codes "first") most bytes x.0.0 x.0.1 x.1 in
+        (subst (MayClaim Two most) p.0 (record { can_claim = tt; within = t.0 }), t.1 ∙ ap (λ (c : Claim). claim_line c ++ x.0.1) p.0 ∙ ap (λ l. claim_line claim ++ l) p.1)
+
+    low : (version : Version) (least : ℕ) → CanClaim version (AtLeast least)
+    low One least = tt
+    low Two least = tt
+
+    by_first : (version : Version) (bytes : List ℕ) (claim : Claim) (rest : List ℕ) (o : Option (ℕ × List ℕ)) → bound_at (codes "at least") most bytes ≡ o → or_else (claimed AtLeast o) (first_at version most bytes) ≡ Some (claim, rest) →
+        MayClaim version most claim × (bytes ≡ claim_line claim ++ rest)
+    by_first version bytes claim rest None f e = takes_first version bytes claim rest e
+    by_first version bytes claim rest (Some x) f e =
+        let p = some_pair_parts (AtLeast x.0) claim x.1 rest e in
+        let t = bound_takes (codes "at least") most bytes x.0 x.1 f in
+        (subst (MayClaim version most) p.0 (record { can_claim = low version x.0; within = t.0 }), t.1 ∙ ap (λ (c : Claim). claim_line c ++ x.1) p.0 ∙ ap (λ l. claim_line claim ++ l) p.1)
+
+    again : (version : Version) (claim : Claim) (rest : List ℕ) → MayClaim version most claim → claim_at version most (claim_line claim ++ rest) ≡ Some (claim, rest)
+    again version (AtLeast least) rest may = ap (λ o. or_else (claimed AtLeast o) (first_at version most (claim_line (AtLeast least) ++ rest))) (bound_again (codes "at least") most least rest may.within few)
+    again One (First least) rest may = absurd may.can_claim
+    again Two (First least) rest may =
+        ap (λ o. or_else (claimed AtLeast o) (first_at Two most (claim_line (First least) ++ rest))) (bound_not most 102 97 (codes "t least") (codes "irst" ++ (spaced (least ∷ []) ++ 10 ∷ []) ++ rest) refl)
+        ∙ ap (claimed First) (bound_again (codes "first") most least rest may.within few)
 
 -- the plan line
 pub plan_reader : IsReader (λ plan. IfSome plan AreRows) plan_line plan_at

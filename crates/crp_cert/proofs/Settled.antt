@@ -11,11 +11,13 @@ use Rattle.crp_plan.specs.Bay.{Problem, IsProblem, Position, start, IsAt}
 use Rattle.crp_bay.specs.Positions.{settled}
 use Rattle.crp_bay.proofs.Walked.{at_reads}
 use Rattle.crp_cert.proofs.PartNames.{rows_low, first_rows}
+use Rattle.crp_cert.specs.declared.claim.Claim.{Claim}
+use Rattle.crp_cert.specs.declared.claim.Claim.TheVariants.{AtLeast, First}
 use Rattle.crp_cert.specs.declared.size.Size.{Size}
 use Rattle.crp_cert.specs.declared.version.Version.{Version}
 use Rattle.crp_cert.specs.declared.version.Version.TheVariants.{One, Two}
-use Rattle.crp_cert.specs.Text.{title_line, spaced, numbers_line, bay_line, size_line, heights_line, stated_heights, row_line, claim_line, plan_line, IsSize, AreRows}
-use Rattle.crp_cert.specs.Faults.{BeginsWith, AreHeightsOf, MayState, AreFirstStacks, IsNextStack, most_claimed, Frame, BeginsWithFrame, BeginsWithStacks, IsFirstFault}
+use Rattle.crp_cert.specs.Text.{title_line, spaced, numbers_line, bay_line, size_line, heights_line, stated_heights, row_line, bound, claim_line, plan_line, IsSize, AreRows}
+use Rattle.crp_cert.specs.Faults.{BeginsWith, AreHeightsOf, MayState, AreFirstStacks, IsNextStack, most_claimed, MayClaim, Frame, BeginsWithFrame, BeginsWithStacks, IsFirstFault}
 use Rattle.crp_cert.specs.declared.fault.CertFault.{CertFault}
 use Rattle.crp_cert.specs.declared.fault.CertFault.TheVariants as faults
 use Rattle.crp_cert.proofs.Joined.{all_both}
@@ -127,8 +129,9 @@ heights_short size heights is are =
     let few = is.few_rows in let each = are.for_each_row in
     numbers_short (codes "heights") 2 99 longest_line heights (no_end (codes "heights") refl) (omega arith) (omega arith) (omega arith) (digits heights are.are_heights) (omega arith)
 
-pub claim_short : (most claim : ℕ) → most ≤ 9999 → claim ≤ most → IsShort 10 longest_line (claim_line claim)
-claim_short most claim low le = numbers_short (codes "at least") 4 9999 longest_line (claim ∷ []) (no_end (codes "at least") refl) (omega arith) (omega arith) (omega arith) (omega arith, tt) (lit≤ tt)
+pub claim_short : (most : ℕ) (claim : Claim) → most ≤ 9999 → bound claim ≤ most → IsShort 10 longest_line (claim_line claim)
+claim_short most (AtLeast least) low le = numbers_short (codes "at least") 4 9999 longest_line (least ∷ []) (no_end (codes "at least") refl) (omega arith) (omega arith) (omega arith) (omega arith, tt) (lit≤ tt)
+claim_short most (First least) low le = numbers_short (codes "first") 4 9999 longest_line (least ∷ []) (no_end (codes "first") refl) (omega arith) (omega arith) (omega arith) (omega arith, tt) (lit≤ tt)
 
 pub row_short : (stack : List ℕ) → length stack ≤ 8 → AllByRecursion (λ n. n ≤ 99) stack → IsShort 10 longest_line (row_line stack)
 row_short stack few low = numbers_short (codes "row") 2 99 longest_line stack (no_end (codes "row") refl) (omega arith) (omega arith) (omega arith) low (omega arith)
@@ -174,9 +177,9 @@ pub row_stays : (size : Size) (heights : List ℕ) (stacks : List (List ℕ)) �
     ¬ BeginsWith (IsNextStack size heights stacks) row_line bytes → ¬ BeginsWith (IsNextStack size heights stacks) row_line (bytes ++ more)
 row_stays size heights stacks is are = stays (IsNextStack size heights stacks) row_line 10 longest_line (λ stack next. row_is_short size heights stacks stack is are next)
 
-pub claim_stays : (size : Size) → IsSize size → (bytes more : List ℕ) → IsSettled 10 longest_line bytes →
-    ¬ BeginsWith (λ claim. claim ≤ most_claimed size) claim_line bytes → ¬ BeginsWith (λ claim. claim ≤ most_claimed size) claim_line (bytes ++ more)
-claim_stays size is = stays (λ claim. claim ≤ most_claimed size) claim_line 10 longest_line (λ claim le. claim_short (most_claimed size) claim (few_claimed size is) le)
+pub claim_stays : (version : Version) (size : Size) → IsSize size → (bytes more : List ℕ) → IsSettled 10 longest_line bytes →
+    ¬ BeginsWith (MayClaim version (most_claimed size)) claim_line bytes → ¬ BeginsWith (MayClaim version (most_claimed size)) claim_line (bytes ++ more)
+claim_stays version size is = stays (MayClaim version (most_claimed size)) claim_line 10 longest_line (λ claim may. claim_short (most_claimed size) claim (few_claimed size is) may.within)
 
 pub plan_stays : (bytes more : List ℕ) → IsSettled 10 longest_line bytes → ¬ BeginsWith (λ plan. IfSome plan AreRows) plan_line bytes → ¬ BeginsWith (λ plan. IfSome plan AreRows) plan_line (bytes ++ more)
 plan_stays = stays (λ plan. IfSome plan AreRows) plan_line 10 longest_line plan_short
@@ -362,7 +365,7 @@ fault_stays bytes more (faults.Claim line) long f =
     let rest = f.2 in
     let t = f.3 in
     let left = stacks_leave bytes frame stacks rest long t in
-    (frame, stacks, rest ++ more, stacks_on bytes more frame stacks rest t, f.4, f.5, claim_stays frame.size t.tells.is_size rest more (inr (omega arith)) f.6)
+    (frame, stacks, rest ++ more, stacks_on bytes more frame stacks rest t, f.4, f.5, claim_stays frame.version frame.size t.tells.is_size rest more (inr (omega arith)) f.6)
 fault_stays bytes more (faults.Plan line) long f =
     let frame : Frame = f.0 in
     let stacks = f.1 in
@@ -371,7 +374,7 @@ fault_stays bytes more (faults.Plan line) long f =
     let t = f.4 in
     let low = f.6 in
     let room = stacks_leave bytes frame stacks (claim_line claim ++ rest) long t in
-    let own = (claim_short (most_claimed frame.size) claim (few_claimed frame.size t.tells.is_size) low).short in
+    let own = (claim_short (most_claimed frame.size) claim (few_claimed frame.size t.tells.is_size) low.within).short in
     let left : longest_line ≤ length rest = omega (arith, length-append (claim_line claim) rest) in
     let on : BeginsWithStacks (bytes ++ more) frame stacks (claim_line claim ++ (rest ++ more)) = subst (BeginsWithStacks (bytes ++ more) frame stacks) (append_assoc (claim_line claim) rest more) (stacks_on bytes more frame stacks (claim_line claim ++ rest) t) in
     (frame, stacks, claim, rest ++ more, on, f.5, low, f.7, plan_stays rest more (inr left) f.8)

@@ -9,14 +9,15 @@ use Rattle.crp_plan.specs.BayNames.{YardBay, IsYardBay}
 use Rattle.crp_plan.specs.Rows.{total, tallest, occurrences}
 use Rattle.crp_plan.specs.Bay.{Problem, IsProblem}
 use Rattle.crp_plan.specs.Faults.{stated_with}
+use Rattle.crp_cert.specs.declared.claim.Claim.{Claim}
 use Rattle.crp_cert.specs.declared.head.Head.{Head}
 use Rattle.crp_cert.specs.declared.size.Size.{Size}
 use Rattle.crp_cert.specs.declared.version.Version.{Version}
 use Rattle.crp_cert.specs.declared.version.Version.TheVariants.{One, Two}
 use Rattle.crp_cert.specs.declared.fault.CertFault.{CertFault}
 use Rattle.crp_cert.specs.declared.fault.CertFault.TheVariants as faults
-use Rattle.crp_cert.specs.Text.{title_line, bay_line, size_line, stated_heights, row_line, claim_line, plan_line, head_text, first_row, size_of, IsSize, IsHead, IsHeadOf, AreRows}
-use Rattle.crp_cert.specs.Faults.{BeginsWith, MayState, AreFirstStacks, IsNextStack, most_claimed, Frame, BeginsWithFrame, BeginsWithStacks, IsFirstFault}
+use Rattle.crp_cert.specs.Text.{title_line, bay_line, size_line, stated_heights, row_line, bound, claim_line, plan_line, head_text, first_row, size_of, IsSize, IsHead, IsHeadOf, AreRows}
+use Rattle.crp_cert.specs.Faults.{BeginsWith, MayState, AreFirstStacks, IsNextStack, most_claimed, MayClaim, Frame, BeginsWithFrame, BeginsWithStacks, IsFirstFault}
 use Rattle.crp_cert.specs.Reading.{◌>>=◌, title_at, size_at, heights_at, row_at, claim_at, plan_at, IsStackFault}
 use Rattle.crp_cert.proofs.Numbers.{bind_some, if_some}
 use Rattle.crp_cert.proofs.Lines.{row_again, row_takes}
@@ -90,7 +91,7 @@ plan_fault frame bytes = or_fault (plan_at bytes) (faults.Plan (claim_number fra
 
 -- from the claim line on
 claim_fault : Frame → List ℕ → Option CertFault
-claim_fault frame bytes = or_fault (claim_at (most_claimed frame.size) bytes) (faults.Claim (claim_number frame)) (λ x. plan_fault frame x.1)
+claim_fault frame bytes = or_fault (claim_at frame.version (most_claimed frame.size) bytes) (faults.Claim (claim_number frame)) (λ x. plan_fault frame x.1)
 
 -- from a row line on, where so many are left
 rows_fault : Frame → ℕ → List (List ℕ) → List ℕ → Option CertFault
@@ -179,10 +180,10 @@ unfolding rows_fault
 met_all bytes frame stacks rest told all = met_stacks bytes frame stacks rest 0 told (omega arith)
 
 -- past the claim line
-past_claim : (frame : Frame) (claim : ℕ) (rest : List ℕ) → IsSize frame.size → claim ≤ most_claimed frame.size → claim_fault frame (claim_line claim ++ rest) ≡ plan_fault frame rest
+past_claim : (frame : Frame) (claim : Claim) (rest : List ℕ) → IsSize frame.size → MayClaim frame.version (most_claimed frame.size) claim → claim_fault frame (claim_line claim ++ rest) ≡ plan_fault frame rest
 unfolding claim_fault
 past_claim frame claim rest is low =
-    ap (λ o. or_fault o (faults.Claim (claim_number frame)) (λ x. plan_fault frame x.1)) ((claim_reader (most_claimed frame.size) (few_claimed frame.size is)).again claim rest low)
+    ap (λ o. or_fault o (faults.Claim (claim_number frame)) (λ x. plan_fault frame x.1)) ((claim_reader frame.version (most_claimed frame.size) (few_claimed frame.size is)).again claim rest low)
 
 -- the first fault is the one that is met
 met_fault : (bytes : List ℕ) (fault : CertFault) → IsFirstFault bytes fault → met bytes ≡ Some fault
@@ -205,7 +206,7 @@ met_fault bytes (faults.Row line) (frame, stacks, rest, told, more, place, none)
     ∙ ap (λ n. Some (faults.Row n)) (sym place)
 met_fault bytes (faults.Claim line) (frame, stacks, rest, told, all, place, none) =
     met_all bytes frame stacks rest told all
-    ∙ ap (λ o. or_fault o (faults.Claim (claim_number frame)) (λ x. plan_fault frame x.1)) (none_read (claim_reader (most_claimed frame.size) (few_claimed frame.size told.tells.is_size)) rest none)
+    ∙ ap (λ o. or_fault o (faults.Claim (claim_number frame)) (λ x. plan_fault frame x.1)) (none_read (claim_reader frame.version (most_claimed frame.size) (few_claimed frame.size told.tells.is_size)) rest none)
     ∙ ap (λ n. Some (faults.Claim n)) (sym place)
 met_fault bytes (faults.Plan line) (frame, stacks, claim, rest, told, all, low, place, none) =
     met_all bytes frame stacks (claim_line claim ++ rest) told all ∙ past_claim frame claim rest told.tells.is_size low
@@ -240,6 +241,10 @@ head_tells bytes head rest is text = record {
   first = problem_first head.problem is.problem;
 }
 
+-- what a head claims it may claim
+may_claim : (head : Head) → IsHead head → MayClaim head.version (most_claimed (size_of head.problem)) head.claim
+may_claim head is = record { can_claim = is.can_claim; within = is.claim }
+
 -- no fault is met in a head
 met_head : (bytes : List ℕ) (head : Head) → IsHeadOf bytes head → met bytes ≡ None
 unfolding plan_fault
@@ -247,7 +252,7 @@ met_head bytes head of =
     let is = of.0 in let rest : List ℕ = of.1.0 in let frame : Frame = frame_in head in
     let told = head_tells bytes head rest is of.1.1 in
     met_all bytes frame head.problem.stacks (claim_line head.claim ++ (plan_line head.plan ++ rest)) told refl
-    ∙ past_claim frame head.claim (plan_line head.plan ++ rest) told.tells.is_size is.claim
+    ∙ past_claim frame head.claim (plan_line head.plan ++ rest) told.tells.is_size (may_claim head is)
     ∙ ap (λ o. or_fault o (faults.Plan (claim_number frame + 1)) (λ x. None)) (plan_reader.again head.plan rest is.plan)
 
 -- no text has both
@@ -265,11 +270,11 @@ abbrev Answer : List ℕ → Type 0
 Answer bytes = ((head : Head) × IsHeadOf bytes head) ⊎ ((fault : CertFault) × IsFirstFault bytes fault)
 
 -- the head that these lines tell
-abbrev pub told_head : YardBay → Frame → List (List ℕ) → ℕ → Option (List ℕ) → Head
+abbrev pub told_head : YardBay → Frame → List (List ℕ) → Claim → Option (List ℕ) → Head
 told_head name frame stacks claim plan = record { version = frame.version; bay = name; problem = stated_with frame.heights frame.size.ordered stacks; claim = claim; plan = plan }
 
-pub head_of : (bytes : List ℕ) (name : YardBay) (frame : Frame) (stacks : List (List ℕ)) (claim : ℕ) (plan : Option (List ℕ)) (rest : List ℕ) → IsYardBay name → IsSize frame.size →
-    MayState frame.version frame.size frame.heights → AreFirstStacks frame.size frame.heights stacks → length stacks ≡ frame.size.rows → claim ≤ most_claimed frame.size → IfSome plan AreRows →
+pub head_of : (bytes : List ℕ) (name : YardBay) (frame : Frame) (stacks : List (List ℕ)) (claim : Claim) (plan : Option (List ℕ)) (rest : List ℕ) → IsYardBay name → IsSize frame.size →
+    MayState frame.version frame.size frame.heights → AreFirstStacks frame.size frame.heights stacks → length stacks ≡ frame.size.rows → MayClaim frame.version (most_claimed frame.size) claim → IfSome plan AreRows →
     bytes ≡ title_line frame.version ++ (bay_line name ++ (size_line frame.size ++ (stated_heights frame.version frame.heights ++ (flat_map row_line stacks ++ (claim_line claim ++ (plan_line plan ++ rest)))))) →
     IsHead (told_head name frame stacks claim plan) × (bytes ≡ head_text (told_head name frame stacks claim plan) ++ rest)
 head_of bytes name frame stacks claim plan rest named is state first all low fits text =
@@ -282,7 +287,8 @@ head_of bytes name frame stacks claim plan rest named is state first all low fit
         name = named;
         problem = problem_is size heights stacks is are first all;
         can_state = can_state frame.version size (stated_with heights size.ordered stacks) all are.largest state;
-        claim = subst (λ m. claim ≤ m) (sym (cap_is size heights stacks are)) low;
+        can_claim = low.can_claim;
+        claim = subst (λ m. bound claim ≤ m) (sym (cap_is size heights stacks are)) low.within;
         plan = fits;
       },
       text
@@ -295,7 +301,7 @@ head_of bytes name frame stacks claim plan rest named is state first all low fit
         ap (λ x. record { rows = x; tiers = t; ordered = n; total = m }) a ∙ ap (λ x. record { rows = r'; tiers = x; ordered = n; total = m }) b ∙ ap (λ x. record { rows = r'; tiers = t'; ordered = n; total = x }) c
 
 -- from the plan line on there is one of the two
-plan_answer : (bytes : List ℕ) (frame : Frame) (stacks : List (List ℕ)) (claim : ℕ) (rest : List ℕ) → BeginsWithStacks bytes frame stacks (claim_line claim ++ rest) → length stacks ≡ frame.size.rows → claim ≤ most_claimed frame.size → Answer bytes
+plan_answer : (bytes : List ℕ) (frame : Frame) (stacks : List (List ℕ)) (claim : Claim) (rest : List ℕ) → BeginsWithStacks bytes frame stacks (claim_line claim ++ rest) → length stacks ≡ frame.size.rows → MayClaim frame.version (most_claimed frame.size) claim → Answer bytes
 plan_answer bytes frame stacks claim rest told all low = by_plan (plan_at rest) refl
   where
     by_plan : (o : Option (Option (List ℕ) × List ℕ)) → plan_at rest ≡ o → Answer bytes
@@ -309,12 +315,12 @@ plan_answer bytes frame stacks claim rest told all low = by_plan (plan_at rest) 
 
 -- from the claim line on
 claim_answer : (bytes : List ℕ) (frame : Frame) (stacks : List (List ℕ)) (rest : List ℕ) → BeginsWithStacks bytes frame stacks rest → length stacks ≡ frame.size.rows → Answer bytes
-claim_answer bytes frame stacks rest told all = by_claim (claim_at (most_claimed frame.size) rest) refl
+claim_answer bytes frame stacks rest told all = by_claim (claim_at frame.version (most_claimed frame.size) rest) refl
   where
-    reader : IsReader (λ claim. claim ≤ most_claimed frame.size) claim_line (claim_at (most_claimed frame.size))
-    reader = claim_reader (most_claimed frame.size) (few_claimed frame.size told.tells.is_size)
+    reader : IsReader (MayClaim frame.version (most_claimed frame.size)) claim_line (claim_at frame.version (most_claimed frame.size))
+    reader = claim_reader frame.version (most_claimed frame.size) (few_claimed frame.size told.tells.is_size)
 
-    by_claim : (o : Option (ℕ × List ℕ)) → claim_at (most_claimed frame.size) rest ≡ o → Answer bytes
+    by_claim : (o : Option (Claim × List ℕ)) → claim_at frame.version (most_claimed frame.size) rest ≡ o → Answer bytes
     by_claim None e = inr (faults.Claim (claim_number frame), (frame, stacks, rest, told, all, refl, none_stands reader rest e))
     by_claim (Some x) e =
         let t = reader.takes rest x.0 x.1 e in

@@ -1,5 +1,5 @@
 -- What is written: lists of bytes joined one after the other, and when a written text can be read.
-use Rattle.std.proofs.Common.{◌≡◌, ℕ, zero, suc, ◌-◌, ◌≤◌, ◌∙◌, List, [], ◌∷◌, ◌++◌, length, take, slice_get, map, AllPairs, Option, Some, None, IfSome, sym, ap, ap₂, subst, arith, append_assoc, append-nil}
+use Rattle.std.proofs.Common.{◌≡◌, ℕ, zero, suc, ◌-◌, ◌≤◌, ◌∙◌, List, [], ◌∷◌, ◌++◌, length, take, slice_get, map, All, AllPairs, Option, Some, None, IfSome, sym, ap, ap₂, subst, arith, append_assoc, append-nil}
 use Rattle.std.specs.List.{AllByRecursion, flat_map}
 use Rattle.std.proofs.lemmas.List.{length-map}
 use Rattle.std.proofs.lemmas.List.Folds.{flat_map-map}
@@ -17,11 +17,14 @@ use Rattle.crp_plan.proofs.Tallies.{cap_low}
 use Rattle.crp_tree.specs.Claims.{Part, IsPart, names, Claimed, path_in}
 use Rattle.crp_tree.specs.Parts.{ProblemPart, Certificate, IsCertificate, part_of, claimed}
 use Rattle.crp_tree.proofs.Certified.{same_names}
+use Rattle.crp_cert.specs.declared.claim.Claim.{Claim}
+use Rattle.crp_cert.specs.declared.claim.Claim.TheVariants.{AtLeast}
 use Rattle.crp_cert.specs.declared.version.Version.{Version}
-use Rattle.crp_cert.specs.Text.{AreRows, title_line, bay_line, size_line, stated_heights, size_of, row_line, claim_line, plan_line, head_text}
+use Rattle.crp_cert.specs.declared.version.Version.TheVariants.{One, Two}
+use Rattle.crp_cert.specs.Text.{AreRows, title_line, bay_line, size_line, stated_heights, size_of, row_line, claim_line, plan_line, head_text, CanClaim}
 use Rattle.crp_cert.specs.Script.{IsPartLine, IsScript, part_line, end_line}
 use Rattle.crp_cert.proofs.Heights.{written_can}
-use Rattle.crp_cert.specs.Writing.{version_for, head_for, script_for, certificate_text, CanBeSpelled}
+use Rattle.crp_cert.specs.Writing.{version_for, version_under, head_for, script_for, first_script_for, text_under, CanBeSpelled}
 use Rattle.crp_tree.specs.Names.{Precedes}
 
 -- ---- lists of bytes
@@ -33,7 +36,7 @@ one_more f (y ∷ ys) zero x e = append-nil (f y) ∙ ap f (same_Some y x e)
 one_more f (y ∷ ys) (suc i) x e = ap (λ l. f y ++ l) (one_more f ys i x e) ∙ sym (append_assoc (f y) (flat_map f (take i ys)) (f x))
 
 -- the lines of a head, each behind those before it, make its text
-pub head_joined : (bay : YardBay) (p : Problem) (claim : ℕ) (plan : Option Route) (version : Version) (old titled named sized high told claimed all : List ℕ) → version ≡ version_for p → titled ≡ old ++ title_line version →
+pub head_joined : (bay : YardBay) (p : Problem) (claim : Claim) (plan : Option Route) (version : Version) (old titled named sized high told claimed all : List ℕ) → version ≡ version_under p claim → titled ≡ old ++ title_line version →
     named ≡ titled ++ bay_line bay → sized ≡ named ++ size_line (size_of p) → high ≡ sized ++ stated_heights version p.heights → told ≡ high ++ flat_map row_line p.stacks → claimed ≡ told ++ claim_line claim →
     all ≡ claimed ++ plan_line (path_in plan) → all ≡ old ++ head_text (head_for bay p claim plan)
 head_joined bay p claim plan version old titled named sized high told claimed' all ev et en es eh er ec ea =
@@ -47,16 +50,16 @@ head_joined bay p claim plan version old titled named sized high told claimed' a
     joined o t b s h r c p = simp append_assoc
 
 -- the head, the lines of the parts and the last line make the text of a certificate
-pub text_joined : (bay : YardBay) (p : Problem) (cert : Certificate) (plan : Option Route) (lower : ℕ) (parts again : List ProblemPart) (none head lines text : List ℕ) →
-    lower ≡ cert.lower → parts ≡ cert.parts → again ≡ cert.parts → none ≡ [] → head ≡ none ++ head_text (head_for bay p lower plan) →
-    lines ≡ head ++ flat_map (λ part. part_line (part_of part)) parts → text ≡ lines ++ end_line (length again) → text ≡ certificate_text bay p cert plan
-text_joined bay p cert plan lower parts again none head lines text el ep ea en eh es et =
+pub text_joined : (bay : YardBay) (p : Problem) (cert : Certificate) (claim : Claim) (plan : Option Route) (parts again : List ProblemPart) (none head lines text : List ℕ) →
+    parts ≡ cert.parts → again ≡ cert.parts → none ≡ [] → head ≡ none ++ head_text (head_for bay p claim plan) →
+    lines ≡ head ++ flat_map (λ part. part_line (part_of part)) parts → text ≡ lines ++ end_line (length again) → text ≡ text_under bay p cert claim plan
+text_joined bay p cert claim plan parts again none head lines text ep ea en eh es et =
     let told : List Part = map part_of cert.parts in
-    let front : head ≡ head_text (head_for bay p cert.lower plan) = eh ∙ ap (λ l. l ++ head_text (head_for bay p lower plan)) en ∙ ap (λ n. head_text (head_for bay p n plan)) el in
+    let front : head ≡ head_text (head_for bay p claim plan) = eh ∙ ap (λ l. l ++ head_text (head_for bay p claim plan)) en in
     let middle : flat_map (λ part. part_line (part_of part)) parts ≡ flat_map part_line told = ap (flat_map (λ part. part_line (part_of part))) ep ∙ sym (flat_map-map part_line part_of cert.parts) in
     let end : end_line (length again) ≡ end_line (length told) = ap end_line (ap length ea ∙ sym (length-map cert.parts part_of)) in
     et ∙ ap₂ (λ a b. a ++ b) (es ∙ ap₂ (λ a b. a ++ b) front middle) end
-    ∙ append_assoc (head_text (head_for bay p cert.lower plan)) (flat_map part_line told) (end_line (length told))
+    ∙ append_assoc (head_text (head_for bay p claim plan)) (flat_map part_line told) (end_line (length told))
 
 -- ---- what is written can be read
 
@@ -96,21 +99,48 @@ plan_rows : (p : Problem) (plan : Option (List ℕ)) → IsProblem p → IfSome 
 plan_rows p None ok h = tt
 plan_rows p (Some rows) ok h = path_rows p rows ok h
 
+-- the lines of parts of a claim
+lines_of_parts : (c : Claimed) → CanBeSpelled c → All (IsPartLine c.problem) c.parts
+lines_of_parts c t = let each_part = t.accepted.each_part in λ k d lt. line_of_part c.problem _ (each_part k d lt)
+
+-- each version has a lower bound
+claims_bound : (version : Version) (least : ℕ) → CanClaim version (AtLeast least)
+claims_bound One least = tt
+claims_bound Two least = tt
+
 -- a claim that can be told is told by a script
 pub spelled_is_script : (bay : YardBay) (c : Claimed) → IsYardBay bay → CanBeSpelled c → IsScript (script_for bay c)
 spelled_is_script bay c name t =
     let ok = t.accepted in
     let is_problem = ok.is_problem in
-    let each_part = ok.each_part in
     record {
       is_head = record {
         name = name;
         problem = is_problem;
         can_state = written_can c.problem is_problem;
+        can_claim = claims_bound (version_for c.problem) c.lower;
         claim = ok.within_cap;
         plan = plan_rows c.problem c.plan is_problem ok.plan_is;
       };
-      each_part = λ k d lt. line_of_part c.problem _ (each_part k d lt);
+      each_part = lines_of_parts c t;
+      rising = t.rising;
+    }
+
+-- and by one that claims its plan to be the first best one
+pub first_is_script : (bay : YardBay) (c : Claimed) → IsYardBay bay → CanBeSpelled c → IsScript (first_script_for bay c)
+first_is_script bay c name t =
+    let ok = t.accepted in
+    let is_problem = ok.is_problem in
+    record {
+      is_head = record {
+        name = name;
+        problem = is_problem;
+        can_state = tt;
+        can_claim = tt;
+        claim = ok.within_cap;
+        plan = plan_rows c.problem c.plan is_problem ok.plan_is;
+      };
+      each_part = lines_of_parts c t;
       rising = t.rising;
     }
 

@@ -4,12 +4,13 @@ use Rattle.std.specs.List.{flat_map}
 use Rattle.crp_plan.specs.BayNames.{YardBay, IsYardBay}
 use Rattle.crp_plan.specs.Rows.{occurrences, FitRows, tallest}
 use Rattle.crp_plan.specs.Faults.{AreHeights}
+use Rattle.crp_cert.specs.declared.claim.Claim.{Claim}
 use Rattle.crp_cert.specs.declared.size.Size.{Size}
 use Rattle.crp_cert.specs.declared.version.Version.{Version}
 use Rattle.crp_cert.specs.declared.version.Version.TheVariants.{One, Two}
 use Rattle.crp_cert.specs.declared.fault.CertFault.{CertFault}
 use Rattle.crp_cert.specs.declared.fault.CertFault.TheVariants as faults
-use Rattle.crp_cert.specs.Text.{title_line, bay_line, size_line, heights_line, stated_heights, row_line, claim_line, plan_line, first_row, IsSize, AreRows}
+use Rattle.crp_cert.specs.Text.{title_line, bay_line, size_line, heights_line, stated_heights, row_line, bound, claim_line, plan_line, first_row, IsSize, AreRows, CanClaim}
 
 -- the bytes begin with the line of something that may stand there
 abbrev pub BeginsWith : {A : Type 0} → (A → Type 0) → (A → List ℕ) → List ℕ → Type 0
@@ -42,6 +43,11 @@ IsNextStack size heights stacks stack = AreFirstStacks size heights (stacks ++ s
 -- more relocations than any plan of a bay of this size has
 abbrev pub most_claimed : Size → ℕ
 most_claimed size = size.ordered * (size.tiers - 1) + 1
+
+-- what a claim line of a version may say, where so many relocations may be claimed
+pub record MayClaim (version : Version) (most : ℕ) (claim : Claim) : Type 0 where
+  pub can_claim : CanClaim version claim
+  pub within : bound claim ≤ most
 
 -- what the lines above the rows say beside the name of the bay
 pub record Frame : Type 0 where
@@ -79,9 +85,9 @@ IsFirstFault bytes (faults.Row line) =
     × (length stacks < frame.size.rows) × (line ≡ first_row frame.version + length stacks) × ¬ BeginsWith (IsNextStack frame.size frame.heights stacks) row_line rest
 IsFirstFault bytes (faults.Claim line) =
     (frame : Frame) × (stacks : List (List ℕ)) × (rest : List ℕ) × BeginsWithStacks bytes frame stacks rest
-    × (length stacks ≡ frame.size.rows) × (line ≡ first_row frame.version + frame.size.rows) × ¬ BeginsWith (λ claim. claim ≤ most_claimed frame.size) claim_line rest
+    × (length stacks ≡ frame.size.rows) × (line ≡ first_row frame.version + frame.size.rows) × ¬ BeginsWith (MayClaim frame.version (most_claimed frame.size)) claim_line rest
 IsFirstFault bytes (faults.Plan line) =
-    (frame : Frame) × (stacks : List (List ℕ)) × (claim : ℕ) × (rest : List ℕ) × BeginsWithStacks bytes frame stacks (claim_line claim ++ rest)
-    × (length stacks ≡ frame.size.rows) × (claim ≤ most_claimed frame.size)
+    (frame : Frame) × (stacks : List (List ℕ)) × (claim : Claim) × (rest : List ℕ) × BeginsWithStacks bytes frame stacks (claim_line claim ++ rest)
+    × (length stacks ≡ frame.size.rows) × MayClaim frame.version (most_claimed frame.size) claim
     × (line ≡ first_row frame.version + frame.size.rows + 1) × ¬ BeginsWith (λ plan. IfSome plan AreRows) plan_line rest
 IsFirstFault bytes _ = ⊥

@@ -7,7 +7,7 @@ use Rattle.crp_tree.specs.Names.{Precedes, name_text}
 use Rattle.crp_tree.specs.Trees.{Fits, IsGiven}
 use Rattle.crp_tree.specs.Claims.{Part, Claimed, names}
 use Rattle.crp_cert.specs.declared.script.Script.{Script}
-use Rattle.crp_cert.specs.Text.{numbers_line, head_text, IsHead}
+use Rattle.crp_cert.specs.Text.{numbers_line, bound, head_text, IsHead}
 
 -- the symbols of a tree, a branch before its trees: B is a cut by the blocking bound, L a cut by the look-ahead bound, X a branch,
 -- G a subtree that is given to a part of its own
@@ -60,4 +60,4 @@ IsScriptOf bytes script = IsScript script × (bytes ≡ script_text script)
 
 -- the claim of a script: the problem, the claimed bound, the plan, and the parts
 abbrev pub claim_of : Script → Claimed
-claim_of script = record { problem = script.head.problem; lower = script.head.claim; plan = script.head.plan; parts = script.parts }
+claim_of script = record { problem = script.head.problem; lower = bound script.head.claim; plan = script.head.plan; parts = script.parts }

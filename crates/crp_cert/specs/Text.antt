@@ -5,6 +5,8 @@ use Rattle.std.specs.Fmt.{decimal}
 use Rattle.crp_plan.specs.BayNames.{YardBay, IsYardBay}
 use Rattle.crp_plan.specs.Rows.{total, tallest}
 use Rattle.crp_plan.specs.Bay.{Problem, IsProblem, cap}
+use Rattle.crp_cert.specs.declared.claim.Claim.{Claim}
+use Rattle.crp_cert.specs.declared.claim.Claim.TheVariants.{AtLeast, First}
 use Rattle.crp_cert.specs.declared.head.Head.{Head}
 use Rattle.crp_cert.specs.declared.size.Size.{Size}
 use Rattle.crp_cert.specs.declared.version.Version.{Version}
@@ -45,8 +47,14 @@ abbrev pub row_line : List ℕ → List ℕ
 row_line stack = numbers_line (codes "row") stack
 
 -- the relocations that each plan is claimed to have at least
-abbrev pub claim_line : ℕ → List ℕ
-claim_line claim = numbers_line (codes "at least") (claim ∷ [])
+abbrev pub bound : Claim → ℕ
+bound (AtLeast least) = least
+bound (First least) = least
+
+-- what is claimed: a lower bound, or that the plan has so many relocations and is the first best one
+abbrev pub claim_line : Claim → List ℕ
+claim_line (AtLeast least) = numbers_line (codes "at least") (least ∷ [])
+claim_line (First least) = numbers_line (codes "first") (least ∷ [])
 
 -- the rows that the relocations of a plan go to, or that there is no plan
 abbrev pub plan_line : Option (List ℕ) → List ℕ
@@ -79,12 +87,19 @@ abbrev pub CanState : Version → Problem → Type 0
 CanState One p = HasOneHeight p
 CanState Two p = ⊤
 
+-- a text of this version can claim this: version 1 a lower bound alone
+abbrev pub CanClaim : Version → Claim → Type 0
+CanClaim One (AtLeast least) = ⊤
+CanClaim One (First least) = ⊥
+CanClaim Two claim = ⊤
+
 -- what a head may say
 pub record IsHead (head : Head) : Type 0 where
   pub name : IsYardBay head.bay
   pub problem : IsProblem head.problem
   pub can_state : CanState head.version head.problem
-  pub claim : head.claim ≤ cap head.problem
+  pub can_claim : CanClaim head.version head.claim
+  pub claim : bound head.claim ≤ cap head.problem
   pub plan : IfSome head.plan AreRows
 
 -- the lines down to the plan, in order

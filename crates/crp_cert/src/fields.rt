@@ -3,8 +3,9 @@ ghost use Rattle.std.specs.Prelude.{◌≡◌, ◌≤◌, ◌<◌, ◌+◌, ◌*
 ghost use Rattle.std.specs.List.{list_all};
 ghost use Rattle.crp_plan.specs.BayNames.{YardBay, IsYardBay};
 ghost use Rattle.crp_cert.specs.Text.{bay_line};
-ghost use Rattle.crp_cert.specs.Reading.{Reads, tag_at, digits_at, number_at, spaced_at, newline_at, numbers_at, word_at, title_at, size_at, heights_line_at, heights_at, claim_at, is_size, is_height, are_heights, name_at, row_at, plan_at};
+ghost use Rattle.crp_cert.specs.Reading.{Reads, tag_at, digits_at, number_at, spaced_at, newline_at, numbers_at, word_at, title_at, size_at, heights_line_at, heights_at, bound_at, first_at, claim_at, is_size, is_height, are_heights, name_at, row_at, plan_at};
 
+use crate::claim::Claim;
 use crate::rows::Rows;
 use crate::size::Size;
 use crate::version::Version;
@@ -219,18 +220,41 @@ pub fn heights_of(
     }
 }
 
-/// The relocations that a line claims, up to the cap.
-#[tactic(auto, unfolding(crate::specs::Reading::claim_at))]
-pub fn claim_of(cap: u32, bytes: &[u8]) -> Option<(u32, &[u8])>
-    ensures { Reads (λ x. (x.0, x.1.now)) result (claim_at cap bytes.now) }
+/// The bound that a line of a word says, up to the cap.
+#[tactic(auto, unfolding(crate::specs::Reading::bound_at))]
+fn bound_of<'a>(word: &[u8], cap: u32, bytes: &'a [u8]) -> Option<(u32, &'a [u8])>
+    ensures { Reads (λ x. (x.0, x.1.now)) result (bound_at word.now cap bytes.now) }
 {
-    let rest = after_tag(b"at least", bytes)?;
-    let (claim, rest) = spaced(9999, rest)?;
+    let rest = after_tag(word, bytes)?;
+    let (bound, rest) = spaced(9999, rest)?;
     let rest = after_newline(rest)?;
-    if claim > cap {
+    if bound > cap {
         return None;
     }
-    Some((claim, rest))
+    Some((bound, rest))
+}
+
+/// The claim of the first best plan that a line makes, up to the cap, where the version has one.
+fn first_of(version: Version, cap: u32, bytes: &[u8]) -> Option<(Claim, &[u8])>
+    ensures { Reads (λ x. (x.0, x.1.now)) result (first_at version cap bytes.now) }
+{
+    match version {
+        Version::One => None,
+        Version::Two => {
+            let (bound, rest) = bound_of(b"first", cap, bytes)?;
+            Some((Claim::First(bound), rest))
+        }
+    }
+}
+
+/// What a line of a version claims, up to the cap.
+pub fn claim_of(version: Version, cap: u32, bytes: &[u8]) -> Option<(Claim, &[u8])>
+    ensures { Reads (λ x. (x.0, x.1.now)) result (claim_at version cap bytes.now) }
+{
+    if let Some((bound, rest)) = bound_of(b"at least", cap, bytes) {
+        return Some((Claim::AtLeast(bound), rest));
+    }
+    first_of(version, cap, bytes)
 }
 
 /// Numbers of one or two digits to the end of the line, at most so many.

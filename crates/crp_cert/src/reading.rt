@@ -116,7 +116,7 @@ pub fn head_and_rest(alloc: Global, bytes: &[u8]) -> Result<(Head, &[u8]), CertF
     let (stacks, rest) = all_stacks(alloc, version, size, heights, rest)?;
     let problem = problem_of(size, heights, &stacks);
     let line = first_row(version) + size.rows as u32;
-    let Some((claim, rest)) = claim_of(problem.cap(), rest) else {
+    let Some((claim, rest)) = claim_of(version, problem.cap(), rest) else {
         return Err(CertFault::Claim { line });
     };
     let Some((plan, rest)) = plan_of(alloc, rest)? else {

@@ -1,17 +1,18 @@
 //! Writing a certificate.
-ghost use Rattle.std.specs.Prelude.{◌≡◌, ◌≤◌, ◌+◌, ℕ, ◌++◌, ◌∷◌, [], IfOk, OnOk, IsErrOf, IsTrue, ◌↔◌};
+ghost use Rattle.std.specs.Prelude.{◌≡◌, ◌≤◌, ◌+◌, ℕ, ◌++◌, ◌∷◌, [], IfOk, OnOk, OnErr, IsErrOf, IsTrue, ◌↔◌};
 ghost use Rattle.std.specs.Option.{option_copied};
 ghost use Rattle.std.specs.List.{flat_map};
 ghost use Rattle.std.specs.Io.KnownBytes.{Appends};
 ghost use Rattle.crp_plan.specs.Devices.{AppendsFront, CountsMore, HasFailed, most_interruptions};
 ghost use Rattle.crp_tree.specs.Claims.{path_in};
 ghost use Rattle.crp_tree.specs.Parts.{part_of};
-ghost use Rattle.crp_cert.specs.Text.{numbers_line, title_line, bay_line, size_line, stated_heights, size_of, row_line, plan_line, head_text};
+ghost use Rattle.crp_cert.specs.Text.{numbers_line, title_line, bay_line, size_line, stated_heights, size_of, row_line, claim_line, plan_line, head_text};
 ghost use Rattle.crp_tree.specs.Names.{name_text};
 ghost use Rattle.crp_cert.specs.Script.{symbols_of, part_line};
-ghost use Rattle.crp_cert.specs.Writing.{are_equal, version_for, head_for, certificate_text};
+ghost use Rattle.crp_cert.specs.Writing.{are_equal, version_for, version_under, head_for, text_under, certificate_text, first_certificate_text};
 ghost use Rattle.crp_cert.specs.declared.writing.WriteFault.TheVariants.{Failed, Memory};
 
+use crate::claim::Claim;
 use crate::version::Version;
 use arrayvec::ArrayVec;
 use crp_plan::{BayName, MAX_ROWS, Plan, Problem, Sink, WriteFailed, tallest, write_all};
@@ -131,6 +132,16 @@ fn version_of(problem: &Problem) -> Version
     Version::Two
 }
 
+/// The version in which a claim of a problem is written.
+fn version_under(problem: &Problem, claim: Claim) -> Version
+    ensures { result ≡ version_under problem.now claim }
+{
+    match claim {
+        Claim::AtLeast(_) => version_of(problem),
+        Claim::First(_) => Version::Two,
+    }
+}
+
 /// Adds the title of a version.
 fn push_title(text: &mut Vec<u8>, version: Version) -> Result<(), AllocError>
     ensures { OnOk result (text.new.items ≡ text.old.items ++ title_line version) }
@@ -159,6 +170,16 @@ fn push_rows(text: &mut Vec<u8>, problem: &Problem) -> Result<(), AllocError>
         push_numbers(text, b"row", problem.stack(i + 1))?;
     }
     Ok(())
+}
+
+/// Adds the line of a claim.
+fn push_claim(text: &mut Vec<u8>, claim: Claim) -> Result<(), AllocError>
+    ensures { OnOk result (text.new.items ≡ text.old.items ++ claim_line claim) }
+{
+    match claim {
+        Claim::AtLeast(least) => push_number(text, b"at least", least as usize),
+        Claim::First(least) => push_number(text, b"first", least as usize),
+    }
 }
 
 /// Adds the line of a plan, or that there is none.
@@ -192,18 +213,18 @@ fn push_head(
     text: &mut Vec<u8>,
     bay: &BayName,
     problem: &Problem,
-    claim: u32,
+    claim: Claim,
     plan: Option<&Plan>,
 ) -> Result<(), AllocError>
     ensures { OnOk result (text.new.items ≡ text.old.items ++ head_text (head_for bay.now problem.now claim (option_copied plan.entry))) }
 {
-    let version = version_of(problem);
+    let version = version_under(problem, claim);
     push_title(text, version)?;
     push_bay(text, bay)?;
     push_size(text, problem)?;
     push_heights(text, version, problem)?;
     push_rows(text, problem)?;
-    push_number(text, b"at least", claim as usize)?;
+    push_claim(text, claim)?;
     push_plan(text, plan)
 }
 
@@ -257,6 +278,24 @@ fn push_parts(text: &mut Vec<u8>, parts: &[Part]) -> Result<(), AllocError>
     Ok(())
 }
 
+/// The text of a certificate of a problem under a claim, with a plan or none.
+fn text_under(
+    alloc: Global,
+    bay: &BayName,
+    problem: &Problem,
+    cert: &Cert,
+    claim: Claim,
+    plan: Option<&Plan>,
+) -> Result<Vec<u8>, AllocError>
+    ensures { IfOk result (λ text. text.items ≡ text_under bay.now problem.now cert.now claim (option_copied plan.entry)) }
+{
+    let mut text = Vec::new(alloc);
+    push_head(&mut text, bay, problem, claim, plan)?;
+    push_parts(&mut text, cert.parts())?;
+    push_number(&mut text, b"end", cert.parts().len())?;
+    Ok(text)
+}
+
 /// The text of a certificate of a problem, with a plan or none.
 pub fn cert_text(
     alloc: Global,
@@ -267,11 +306,48 @@ pub fn cert_text(
 ) -> Result<Vec<u8>, AllocError>
     ensures { IfOk result (λ text. text.items ≡ certificate_text bay.now problem.now cert.now (option_copied plan.entry)) }
 {
-    let mut text = Vec::new(alloc);
-    push_head(&mut text, bay, problem, cert.lower(), plan)?;
-    push_parts(&mut text, cert.parts())?;
-    push_number(&mut text, b"end", cert.parts().len())?;
-    Ok(text)
+    text_under(
+        alloc,
+        bay,
+        problem,
+        cert,
+        Claim::AtLeast(cert.lower()),
+        plan,
+    )
+}
+
+/// The text of a certificate of a problem, in version 2, which claims the plan to be the first best
+/// one.
+pub fn first_text(
+    alloc: Global,
+    bay: &BayName,
+    problem: &Problem,
+    cert: &Cert,
+    plan: &Plan,
+) -> Result<Vec<u8>, AllocError>
+    ensures { IfOk result (λ text. text.items ≡ first_certificate_text bay.now problem.now cert.now plan.now) }
+{
+    text_under(
+        alloc,
+        bay,
+        problem,
+        cert,
+        Claim::First(cert.lower()),
+        Some(plan),
+    )
+}
+
+/// Hands a text to a sink, and counts its interruptions by itself.
+fn write_text<W: Sink>(writer: &mut W, text: &[u8]) -> Result<(), WriteFailed>
+    ensures all { OnOk result (Appends (W.contents writer.old) (W.contents writer.new) text.now) }
+    ensures front { AppendsFront (W.contents writer.old) (W.contents writer.new) text.now }
+    ensures failed { OnErr result (HasFailed (W.failures writer.old) (W.failures writer.new)) }
+    ensures count { W.failures writer.old ≤ W.failures writer.new }
+    ensures interrupted { OnOk result ((passed : ℕ) × (passed ≤ most_interruptions) × CountsMore passed (W.failures writer.old) (W.failures writer.new)) }
+    ensures ended { OnErr result ((passed : ℕ) × (passed ≤ most_interruptions) × CountsMore (passed + 1) (W.failures writer.old) (W.failures writer.new)) }
+{
+    let mut interruptions = 0;
+    write_all(writer, text, &mut interruptions)
 }
 
 /// Hands the text of a certificate to a sink. Where no memory is left, nothing is handed over. It
@@ -294,7 +370,31 @@ pub fn write_cert<W: Sink>(
         → (passed : ℕ) × (passed ≤ most_interruptions) × CountsMore (passed + 1) (W.failures writer.old) (W.failures writer.new) }
 {
     let text = cert_text(alloc, bay, problem, cert, plan)?;
-    let mut interruptions = 0;
-    write_all(writer, &text, &mut interruptions)?;
+    write_text(writer, &text)?;
+    Ok(())
+}
+
+/// Hands the text of a certificate that claims the plan to be the first best one to a sink. Where
+/// no memory is left, nothing is handed over. It counts its interruptions itself; whoever counts
+/// them over a whole run takes `first_text`.
+pub fn write_first<W: Sink>(
+    alloc: Global,
+    writer: &mut W,
+    bay: &BayName,
+    problem: &Problem,
+    cert: &Cert,
+    plan: &Plan,
+) -> Result<(), WriteFault>
+    ensures all { OnOk result (Appends (W.contents writer.old) (W.contents writer.new) (first_certificate_text bay.now problem.now cert.now plan.now)) }
+    ensures front { AppendsFront (W.contents writer.old) (W.contents writer.new) (first_certificate_text bay.now problem.now cert.now plan.now) }
+    ensures failed { IsErrOf result WriteFault.Failed → HasFailed (W.failures writer.old) (W.failures writer.new) }
+    ensures memory { IsErrOf result WriteFault.Memory → writer.new ≡ writer.old }
+    ensures count { W.failures writer.old ≤ W.failures writer.new }
+    ensures interrupted { OnOk result ((passed : ℕ) × (passed ≤ most_interruptions) × CountsMore passed (W.failures writer.old) (W.failures writer.new)) }
+    ensures ended { IsErrOf result WriteFault.Failed
+        → (passed : ℕ) × (passed ≤ most_interruptions) × CountsMore (passed + 1) (W.failures writer.old) (W.failures writer.new) }
+{
+    let text = first_text(alloc, bay, problem, cert, plan)?;
+    write_text(writer, &text)?;
     Ok(())
 }

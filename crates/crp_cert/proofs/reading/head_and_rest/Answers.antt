@@ -1,4 +1,4 @@
-use Rattle.std.proofs.Common.{◌≡◌, ◌+◌, ◌≤◌, ◌++◌, List, ℕ, length, Option, None, Some, refl, sym, ap, ◌∙◌, inl, inr, ⊎_elim, subst, arith}
+use Rattle.std.proofs.Common.{◌≡◌, ◌+◌, ◌++◌, List, ℕ, length, Option, None, Some, refl, sym, ap, ◌∙◌, inl, inr, ⊎_elim, subst, arith}
 use Rattle.std.specs.Prelude.{IfSome}
 use Rattle.std.specs.List.{flat_map}
 use Rattle.std.proofs.lemmas.Result.{err_from_is_err_and}
@@ -7,13 +7,14 @@ use Rattle.crp_plan.specs.Bay.{Problem, cap}
 use Rattle.crp_plan.specs.Faults.{stacks_of, stated_with}
 use Rattle.crp_plan.proofs.Tallies.{Row, length-stacks_of}
 use Rattle.crp_cert.specs.declared.head.Head.{Head}
+use Rattle.crp_cert.specs.declared.claim.Claim.{Claim}
 use Rattle.crp_cert.specs.declared.size.Size.{Size}
 use Rattle.crp_cert.specs.declared.version.Version.{Version}
 use Rattle.crp_cert.specs.declared.version.Version.TheVariants.{One, Two}
 use Rattle.crp_cert.specs.declared.fault.CertFault.TheVariants as faults
 use Rattle.crp_cert.specs.Text.{title_line, bay_line, size_line, stated_heights, row_line, claim_line, plan_line, IsSize, AreRows, IsHead, head_text}
 use Rattle.crp_cert.specs.Reading.{title_at, size_at, heights_at, claim_at}
-use Rattle.crp_cert.specs.Faults.{AreHeightsOf, MayState, Frame, BeginsWithFrame, BeginsWithStacks, AreFirstStacks, most_claimed, IsFirstFault}
+use Rattle.crp_cert.specs.Faults.{AreHeightsOf, MayState, Frame, BeginsWithFrame, BeginsWithStacks, AreFirstStacks, most_claimed, MayClaim, IsFirstFault}
 use Rattle.crp_cert.proofs.Readers.{none_stands, title_reader, size_reader, claim_reader, plan_reader}
 use Rattle.crp_cert.proofs.Heights.{line_reader, heights_reader, heights_are}
 use Rattle.crp_cert.proofs.Stacks.{cap_is, few_claimed}
@@ -137,7 +138,7 @@ returns-in_default-claim_of-clause-refused c =
     let told = told_stacks c.args.bytes.now frame (stacks_of rows) c.in-Some-heights_of.rest.now c.in_ok-stacks.rest.now tells c.in_ok-stacks.ensures.first c.in_ok-stacks.ensures.text in
     let made = made_of size heights rows c.deref.result.now c.problem_of-problem.result c.deref.ensures.value c.problem_of-problem.ensures in
     let most = most_is size heights (stacks_of rows) c.problem_of-problem.result c.cap.result are made c.cap.ensures.value in
-    let stood = none_stands (claim_reader (most_claimed size) (few_claimed size tells.is_size)) c.in_ok-stacks.rest.now (subst (λ m. claim_at m c.in_ok-stacks.rest.now ≡ None) most c.in_default-claim_of.ensures) in
+    let stood = none_stands (claim_reader frame.version (most_claimed size) (few_claimed size tells.is_size)) c.in_ok-stacks.rest.now (subst (λ m. claim_at frame.version m c.in_ok-stacks.rest.now ≡ None) most c.in_default-claim_of.ensures) in
     inr (frame, stacks_of rows, c.in_ok-stacks.rest.now, told, length-stacks_of rows ∙ all, ap (λ n. n + size.rows) c.first_row.ensures.value, stood)
 
 pub returns-in_default-2-clause-refused : goal.returns-in_default-2-clause-refused
@@ -154,7 +155,7 @@ returns-in_default-2-clause-refused c =
     let are : AreHeightsOf size heights = heights_are c.in-Some.version size heights tells.is_size tells.may_state in
     let made = made_of size heights rows c.deref.result.now c.problem_of-problem.result c.deref.ensures.value c.problem_of-problem.ensures in
     let most = most_is size heights (stacks_of rows) c.problem_of-problem.result c.cap.result are made c.cap.ensures.value in
-    let claims = (claim_reader (most_claimed size) (few_claimed size tells.is_size)).takes c.in_ok-stacks.rest.now c.in-Some-claim_of.claim rest (subst (λ m. claim_at m c.in_ok-stacks.rest.now ≡ Some (c.in-Some-claim_of.claim, rest)) most c.in-Some-claim_of.ensures) in
+    let claims = (claim_reader frame.version (most_claimed size) (few_claimed size tells.is_size)).takes c.in_ok-stacks.rest.now c.in-Some-claim_of.claim rest (subst (λ m. claim_at frame.version m c.in_ok-stacks.rest.now ≡ Some (c.in-Some-claim_of.claim, rest)) most c.in-Some-claim_of.ensures) in
     let told = told_stacks c.args.bytes.now frame (stacks_of rows) c.in-Some-heights_of.rest.now (claim_line c.in-Some-claim_of.claim ++ rest) tells c.in_ok-stacks.ensures.first
     (c.in_ok-stacks.ensures.text ∙ ap (λ l. flat_map row_line (stacks_of rows) ++ l) claims.1) in
     inr (
@@ -170,9 +171,9 @@ returns-in_default-2-clause-refused c =
     )
 
 -- the head that all these lines tell
-whole_head : (bytes : List ℕ) (frame : Frame) (name : YardBay) (stacks : List (List ℕ)) (claim : ℕ) (plan : Option (List ℕ)) (a b c rest : List ℕ) (problem : Problem) → IsYardBay name → IsSize frame.size → MayState frame.version frame.size frame.heights →
+whole_head : (bytes : List ℕ) (frame : Frame) (name : YardBay) (stacks : List (List ℕ)) (claim : Claim) (plan : Option (List ℕ)) (a b c rest : List ℕ) (problem : Problem) → IsYardBay name → IsSize frame.size → MayState frame.version frame.size frame.heights →
     bytes ≡ title_line frame.version ++ (bay_line name ++ (size_line frame.size ++ (stated_heights frame.version frame.heights ++ a))) → problem ≡ stated_with frame.heights frame.size.ordered stacks →
-    AreFirstStacks frame.size frame.heights stacks → length stacks ≡ frame.size.rows → (claim ≤ most_claimed frame.size) × (b ≡ claim_line claim ++ c) → IfSome plan AreRows × (c ≡ plan_line plan ++ rest) → a ≡ flat_map row_line stacks ++ b →
+    AreFirstStacks frame.size frame.heights stacks → length stacks ≡ frame.size.rows → MayClaim frame.version (most_claimed frame.size) claim × (b ≡ claim_line claim ++ c) → IfSome plan AreRows × (c ≡ plan_line plan ++ rest) → a ≡ flat_map row_line stacks ++ b →
     let head : Head = record { version = frame.version; bay = name; problem = problem; claim = claim; plan = plan } in IsHead head × (bytes ≡ head_text head ++ rest)
 whole_head bytes frame name stacks claim plan a b c rest problem named is state text made first all claims plans rows =
     subst (λ (p : Problem). let head : Head = record { version = frame.version; bay = name; problem = p; claim = claim; plan = plan } in IsHead head × (bytes ≡ head_text head ++ rest)) (sym made)
@@ -189,7 +190,7 @@ returns c =
     let rows : List Row = c.in_ok-stacks.stacks.items in
     let all : length rows ≡ size.rows = omega (arith, c.in_ok-stacks.ensures.all) in
     let name : YardBay = c.in-Some-bay_of.bay in
-    let claim : ℕ = c.in-Some-claim_of.claim in
+    let claim : Claim = c.in-Some-claim_of.claim in
     let plan : Option (List ℕ) = c.in-Some-2.plan in
     let rest : List ℕ = c.in-Some-2.rest.now in
     let named = c.in-Some-bay_of.ensures.found in
@@ -199,7 +200,7 @@ returns c =
     let are : AreHeightsOf size heights = heights_are c.in-Some.version size heights tells.is_size tells.may_state in
     let made = made_of size heights rows c.deref.result.now c.problem_of-problem.result c.deref.ensures.value c.problem_of-problem.ensures in
     let most = most_is size heights (stacks_of rows) c.problem_of-problem.result c.cap.result are made c.cap.ensures.value in
-    let claims = (claim_reader (most_claimed size) (few_claimed size tells.is_size)).takes c.in_ok-stacks.rest.now claim c.in-Some-claim_of.rest.now (subst (λ m. claim_at m c.in_ok-stacks.rest.now ≡ Some (claim, c.in-Some-claim_of.rest.now)) most c.in-Some-claim_of.ensures) in
+    let claims = (claim_reader frame.version (most_claimed size) (few_claimed size tells.is_size)).takes c.in_ok-stacks.rest.now claim c.in-Some-claim_of.rest.now (subst (λ m. claim_at frame.version m c.in_ok-stacks.rest.now ≡ Some (claim, c.in-Some-claim_of.rest.now)) most c.in-Some-claim_of.ensures) in
     let plans = plan_reader.takes c.in-Some-claim_of.rest.now plan rest (rw c.in-Some-2.is at c.in_ok-plan.ensures) in
     let text : c.args.bytes.now ≡ title_line frame.version ++ (bay_line name ++ (size_line size ++ (stated_heights frame.version heights ++ c.in-Some-heights_of.rest.now))) = tells.text in
     let told = whole_head c.args.bytes.now frame name (stacks_of rows) claim plan c.in-Some-heights_of.rest.now c.in_ok-stacks.rest.now c.in-Some-claim_of.rest.now rest c.problem_of-problem.result named.0 tells.is_size tells.may_state text made

@@ -1,8 +1,0 @@
-use Rattle.std.specs.Option.{option_copied}
-use Rattle.crp_cert.proofs.Written.{text_joined}
-use Rattle.crp_cert.proofs.writing.cert_text.Goals as goal
-
-pub returns : goal.returns
-returns c =
-    text_joined c.args.bay.now c.args.problem.now c.args.cert.now (option_copied c.args.plan) c.lower.result c.parts.result.now c.parts-2.result.now c.new-text.result.items c.push_head.new.text.items c.push_parts.new.text.items c.push_number.new.text.items
-    c.lower.ensures.value c.parts.ensures.value c.parts-2.ensures.value c.new-text.ensures.items c.in_ok-push_head.ensures c.in_ok-push_parts.ensures c.in_ok-push_number.ensures
