@@ -7,10 +7,11 @@ use Rattle.std.proofs.lemmas.List.Elements.{All-from_recursion}
 use Rattle.std.proofs.lemmas.Grind.{flat_map-append}
 use Rattle.crp_plan.specs.Bay.{Problem, IsProblem}
 use Rattle.crp_tree.specs.Names.{Precedes, name_text}
-use Rattle.crp_tree.specs.Claims.{Claimed, Part, names, given_by}
+use Rattle.crp_tree.specs.Claims.{Part, names, given_by}
 use Rattle.crp_cert.specs.declared.fault.CertFault.{CertFault}
 use Rattle.crp_cert.specs.declared.fault.CertFault.TheVariants as faults
-use Rattle.crp_cert.specs.Script.{symbols_line, part_line, claim_of}
+use Rattle.crp_cert.specs.declared.script.Script.{Script}
+use Rattle.crp_cert.specs.Script.{symbols_line, part_line}
 use Rattle.crp_cert.specs.ScriptFaults.{BeginsWithParts, IsLineFault}
 use Rattle.crp_cert.specs.PartReading.{AreParts}
 use Rattle.crp_cert.specs.Settled.{spelled_name, BeginsWithBay}
@@ -21,21 +22,22 @@ use Rattle.crp_cert.proofs.Opening.{begins_on, line_fault}
 use Rattle.crp_cert.proofs.PartFaults.{parts_push, tells_parts}
 use Rattle.crp_cert.proofs.ScriptVerdicts.{few_rows}
 use Rattle.crp_checker.specs.declared.findings.Findings.{Findings}
+use Rattle.crp_checker.specs.declared.need.Need.{Need}
 use Rattle.crp_checker.specs.declared.line.SymbolLine.{SymbolLine}
 use Rattle.crp_checker.specs.declared.line_end.LineEnd.{LineEnd}
 use Rattle.crp_checker.specs.declared.refused.Refused.{Refused}
 use Rattle.crp_checker.specs.declared.refused.Refused.TheVariants as refused
 use Rattle.crp_checker.specs.declared.wrong.Wrong.{Wrong}
 use Rattle.crp_checker.specs.declared.wrong.Wrong.TheVariants as wrong
-use Rattle.crp_checker.specs.Refusals.{nodes_by_name, named_nodes, IsRightPart, HasRightHead, IsFirstWrongNode}
-use Rattle.crp_checker.specs.Nodes.{IsLow, IsAtEnd, IsFirstWrong}
+use Rattle.crp_checker.specs.Refusals.{nodes_by_name, named_nodes, IsRightPart, need_in, HasRightHead, IsFirstWrongNode}
+use Rattle.crp_checker.specs.Nodes.{need_of, IsLow, IsAtEnd, IsFirstWrong}
 use Rattle.crp_checker.specs.Openings.{part_word, named_line}
 use Rattle.crp_checker.specs.Owed.{Spot}
 use Rattle.crp_checker.specs.Symbols.{after, line_begun, line_after, IsFirstOf}
-use Rattle.crp_checker.specs.Kept.{line_of}
+use Rattle.crp_checker.specs.Kept.{line_of, need_by}
 use Rattle.crp_checker.specs.Ends.{IsLineEnd}
 use Rattle.crp_checker.specs.PartEnds.{IsNextPart, IsPartEnd}
-use Rattle.crp_checker.specs.Stages.{IsNote, note_after, IsAtLine, IsAtPart, IsFaulty}
+use Rattle.crp_checker.specs.Stages.{AreFindings, IsNote, note_after, IsAtLine, IsAtPart, IsFaulty}
 use Rattle.crp_checker.proofs.AtLines.{bay_known}
 use Rattle.crp_checker.proofs.Lines.{pieces_are_joined}
 use Rattle.crp_checker.proofs.PartEnds.{part_lines_end}
@@ -44,12 +46,16 @@ use Rattle.crp_checker.proofs.Heading.{nothing_begun}
 
 -- ---- in the symbols
 
+-- what is kept says what the cuts of the script need
+same_need : (wanted : Option Problem) (script : Script) (findings : Findings) → AreFindings wanted script findings → need_by findings.need ≡ need_in script
+same_need wanted script findings are = ap (λ c. need_of c findings.need.plan) are.claim_is ∙ ap (need_of script.head.claim) are.plan_is
+
 -- some symbols more
 pub symbols_on : (wanted : Option Problem) (before taken name : List ℕ) (findings : Findings) (old new : SymbolLine) → IsAtPart wanted before findings name old → AllByRecursion (λ b. b ≢ 10) taken →
-    line_of new ≡ fold (after findings.claim) (line_of old) taken → IsAtPart wanted (before ++ taken) findings name new
+    line_of new ≡ fold (after (need_by findings.need)) (line_of old) taken → IsAtPart wanted (before ++ taken) findings name new
 symbols_on wanted before taken name findings old new at one_line fed =
     let top : Spot = record { path = name; place = at.place } in
-    let lower = at.script.head.claim in
+    let need = need_in at.script in
     record {
       script = at.script;
       line = at.line;
@@ -61,7 +67,7 @@ symbols_on wanted before taken name findings old new at one_line fed =
       short = at.short;
       is_at = at.is_at;
       one_line = all_both (λ b. b ≢ 10) at.symbols taken at.one_line one_line;
-      kept_is = fed ∙ ap (λ n. fold (after n) (line_of old) taken) at.are.claim_is ∙ ap (λ l. fold (after lower) l taken) at.kept_is ∙ pieces_are_joined lower (line_begun top) at.symbols taken;
+      kept_is = fed ∙ ap (λ n. fold (after n) (line_of old) taken) (same_need wanted at.script findings at.are) ∙ ap (λ l. fold (after need) l taken) at.kept_is ∙ pieces_are_joined need (line_begun top) at.symbols taken;
     }
 
 -- ---- the end of the line
@@ -108,37 +114,33 @@ not_in_order wanted before name findings kept at not =
 
 -- what the end of the symbols means for the line
 meant : (wanted : Option Problem) (before name : List ℕ) (findings : Findings) (kept : SymbolLine) (end : LineEnd) (at : IsAtPart wanted before findings name kept) → All (λ other. Precedes other name) findings.names →
-    ((lower : ℕ) (top : Spot) (bytes : List ℕ) → length top.place.heights ≤ 12 → line_of kept ≡ line_after lower top bytes → IsLineEnd lower top bytes end) →
-    (more : List ℕ) → IsPartEnd at.script.head.claim at.script.head.problem at.script.parts at.line name (symbols_line name at.symbols ++ more) more end
+    ((need : List ℕ → ℕ) (top : Spot) (bytes : List ℕ) → length top.place.heights ≤ 12 → line_of kept ≡ line_after need top bytes → IsLineEnd need top bytes end) →
+    (more : List ℕ) → IsPartEnd (need_in at.script) at.script.head.problem at.script.parts at.line name (symbols_line name at.symbols ++ more) more end
 meant wanted before name findings kept end at order ends more =
     let script = at.script in
     let p = script.head.problem in
     let is : IsProblem p = at.begins.is_head.problem in
     let comes = comes_after script.parts name (subst (All (λ other. Precedes other name)) at.are.names_are order) in
-    part_lines_end script.head.claim p script.parts at.line name at.place at.symbols more end is at.short at.is_at (All-from_recursion (λ b. b ≢ 10) at.symbols at.one_line) comes
-    (ends script.head.claim (record { path = name; place = at.place }) at.symbols (few_rows p name at.place is at.is_at) at.kept_is)
+    part_lines_end (need_in script) p script.parts at.line name at.place at.symbols more end is at.short at.is_at (All-from_recursion (λ b. b ≢ 10) at.symbols at.one_line) comes
+    (ends (need_in script) (record { path = name; place = at.place }) at.symbols (few_rows p name at.place is at.is_at) at.kept_is)
 
 -- a fault of the symbols
 pub symbols_fault : (wanted : Option Problem) (before name : List ℕ) (findings : Findings) (kept : SymbolLine) (end : LineEnd) (fault : CertFault) (at : IsAtPart wanted before findings name kept) →
     All (λ other. Precedes other name) findings.names →
-    ((lower : ℕ) (top : Spot) (bytes : List ℕ) → length top.place.heights ≤ 12 → line_of kept ≡ line_after lower top bytes → IsLineEnd lower top bytes end) →
-    ((p : Problem) (parts : List Part) (lower line : ℕ) (bytes after : List ℕ) → line ≡ findings.line → IsPartEnd lower p parts line name bytes after end → IsLineFault p parts line bytes fault) → IsFaulty (before ++ 10 ∷ []) (Some findings.bay) fault
+    ((need : List ℕ → ℕ) (top : Spot) (bytes : List ℕ) → length top.place.heights ≤ 12 → line_of kept ≡ line_after need top bytes → IsLineEnd need top bytes end) →
+    ((p : Problem) (parts : List Part) (need : List ℕ → ℕ) (line : ℕ) (bytes after : List ℕ) → line ≡ findings.line → IsPartEnd need p parts line name bytes after end → IsLineFault p parts line bytes fault) → IsFaulty (before ++ 10 ∷ []) (Some findings.bay) fault
 symbols_fault wanted before name findings kept end fault at order ends is =
     at_fault wanted before name findings kept fault at
-    (λ more. is at.script.head.problem at.script.parts at.script.head.claim at.line (symbols_line name at.symbols ++ more) more (number_is wanted before name findings kept at) (meant wanted before name findings kept end at order ends more))
+    (λ more. is at.script.head.problem at.script.parts (need_in at.script) at.line (symbols_line name at.symbols ++ more) more (number_is wanted before name findings kept at) (meant wanted before name findings kept end at order ends more))
 
 -- ---- one part more
 
--- the claim with one part more
-with_part : Claimed → Part → Claimed
-with_part claim part = record claim { parts = claim.parts ++ part ∷ [] }
-
-right_still : (wanted : Option Problem) (claim : Claimed) (part : Part) → HasRightHead wanted claim → HasRightHead wanted (record claim { parts = claim.parts ++ part ∷ [] })
-right_still wanted claim part right = record { as_wanted = right.as_wanted; plan_is = right.plan_is }
+right_still : (wanted : Option Problem) (script : Script) (part : Part) → HasRightHead wanted script → HasRightHead wanted (record script { parts = script.parts ++ part ∷ [] })
+right_still wanted script part right = record { as_wanted = right.as_wanted; plan_is = right.plan_is; its_plan = right.its_plan }
 
 -- the first wrong node of some parts is the first of more
-first_still : (lower : ℕ) (Wrong : _) (p : Problem) (parts : List Part) (part : Part) (name : List ℕ) (k : ℕ) → IsFirstWrongNode lower Wrong (nodes_by_name p parts) name k → IsFirstWrongNode lower Wrong (nodes_by_name p (parts ++ part ∷ [])) name k
-first_still lower Wrong p parts part name k m = record {
+first_still : (need : List ℕ → ℕ) (Wrong : _) (p : Problem) (parts : List Part) (part : Part) (name : List ℕ) (k : ℕ) → IsFirstWrongNode need Wrong (nodes_by_name p parts) name k → IsFirstWrongNode need Wrong (nodes_by_name p (parts ++ part ∷ [])) name k
+first_still need Wrong p parts part name k m = record {
   before = m.before;
   part = m.part;
   after = m.after ++ named_nodes p part ∷ [];
@@ -149,9 +151,9 @@ first_still lower Wrong p parts part name k m = record {
 }
 
 -- the first of the last part, where the others are right
-first_in_last : (lower : ℕ) (Wrong : _) (p : Problem) (parts : List Part) (part : Part) (name : List ℕ) (k : ℕ) → part.name ≡ name → AllByRecursion (IsRightPart lower) (nodes_by_name p parts) →
-    IsFirstWrong lower Wrong (named_nodes p part).nodes k → IsFirstWrongNode lower Wrong (nodes_by_name p (parts ++ part ∷ [])) name k
-first_in_last lower Wrong p parts part name k named right first = record {
+first_in_last : (need : List ℕ → ℕ) (Wrong : _) (p : Problem) (parts : List Part) (part : Part) (name : List ℕ) (k : ℕ) → part.name ≡ name → AllByRecursion (IsRightPart need) (nodes_by_name p parts) →
+    IsFirstWrong need Wrong (named_nodes p part).nodes k → IsFirstWrongNode need Wrong (nodes_by_name p (parts ++ part ∷ [])) name k
+first_in_last need Wrong p parts part name k named right first = record {
   before = nodes_by_name p parts;
   part = named_nodes p part;
   after = [];
@@ -162,29 +164,30 @@ first_in_last lower Wrong p parts part name k named right first = record {
 }
 
 -- what is noted
-noted : (wanted : Option Problem) (claim : Claimed) (part : Part) (name : List ℕ) (note : Option Refused) (w : Option Wrong) → part.name ≡ name → IsFirstOf claim.lower (named_nodes claim.problem part).nodes w →
-    IsNote wanted claim note → IsNote wanted (record claim { parts = claim.parts ++ part ∷ [] }) (note_after note name w)
-noted wanted claim part name (Some refused.OtherProblem) w named first is = is
-noted wanted claim part name (Some (refused.Plan fault)) w named first is = is
-noted wanted claim part name (Some (refused.Low other k)) w named first is = (right_still wanted claim part is.0, first_still claim.lower (IsLow claim.lower) claim.problem claim.parts part other k is.1)
-noted wanted claim part name (Some (refused.Finished other k)) w named first is = (right_still wanted claim part is.0, first_still claim.lower IsAtEnd claim.problem claim.parts part other k is.1)
-noted wanted claim part name (Some (refused.Cert fault)) w named first is = absurd is
-noted wanted claim part name (Some (refused.Missing other)) w named first is = absurd is
-noted wanted claim part name (Some (refused.Unneeded other)) w named first is = absurd is
-noted wanted claim part name (Some refused.Memory) w named first is = absurd is
-noted wanted claim part name None None named first is = (
-  right_still wanted claim part is.0,
-  subst (AllByRecursion (IsRightPart claim.lower)) (sym (map-append (named_nodes claim.problem) claim.parts (part ∷ [])))
-      (all_both (IsRightPart claim.lower) (nodes_by_name claim.problem claim.parts) (named_nodes claim.problem part ∷ []) is.1 (first, tt)),
+noted : (wanted : Option Problem) (script : Script) (part : Part) (name : List ℕ) (note : Option Refused) (w : Option Wrong) → part.name ≡ name → IsFirstOf (need_in script) (named_nodes script.head.problem part).nodes w →
+    IsNote wanted script note → IsNote wanted (record script { parts = script.parts ++ part ∷ [] }) (note_after note name w)
+noted wanted script part name (Some refused.OtherProblem) w named first is = is
+noted wanted script part name (Some (refused.Plan fault)) w named first is = is
+noted wanted script part name (Some refused.NoFirstPlan) w named first is = is
+noted wanted script part name (Some (refused.Low other k)) w named first is = (right_still wanted script part is.0, first_still (need_in script) (IsLow (need_in script)) script.head.problem script.parts part other k is.1)
+noted wanted script part name (Some (refused.Finished other k)) w named first is = (right_still wanted script part is.0, first_still (need_in script) IsAtEnd script.head.problem script.parts part other k is.1)
+noted wanted script part name (Some (refused.Cert fault)) w named first is = absurd is
+noted wanted script part name (Some (refused.Missing other)) w named first is = absurd is
+noted wanted script part name (Some (refused.Unneeded other)) w named first is = absurd is
+noted wanted script part name (Some refused.Memory) w named first is = absurd is
+noted wanted script part name None None named first is = (
+  right_still wanted script part is.0,
+  subst (AllByRecursion (IsRightPart (need_in script))) (sym (map-append (named_nodes script.head.problem) script.parts (part ∷ [])))
+      (all_both (IsRightPart (need_in script)) (nodes_by_name script.head.problem script.parts) (named_nodes script.head.problem part ∷ []) is.1 (first, tt)),
 )
-noted wanted claim part name None (Some (wrong.Low k)) named first is = (right_still wanted claim part is.0, first_in_last claim.lower (IsLow claim.lower) claim.problem claim.parts part name k named is.1 first)
-noted wanted claim part name None (Some (wrong.AtEnd k)) named first is = (right_still wanted claim part is.0, first_in_last claim.lower IsAtEnd claim.problem claim.parts part name k named is.1 first)
+noted wanted script part name None (Some (wrong.Low k)) named first is = (right_still wanted script part is.0, first_in_last (need_in script) (IsLow (need_in script)) script.head.problem script.parts part name k named is.1 first)
+noted wanted script part name None (Some (wrong.AtEnd k)) named first is = (right_still wanted script part is.0, first_in_last (need_in script) IsAtEnd script.head.problem script.parts part name k named is.1 first)
 
 -- what is kept of one part more
 pub record IsWithPart (old new : Findings) (name : List ℕ) (w : Option Wrong) (given : List (List ℕ)) : Type 0 where
   pub same_bay : new.bay ≡ old.bay
   pub same_problem : new.problem ≡ old.problem
-  pub same_claim : new.claim ≡ old.claim
+  pub same_need : new.need ≡ old.need
   pub same_count : new.count ≡ old.count
   pub next_line : new.line ≡ min (old.line + 1) (2 ^ 32 - 1)
   pub more_names : new.names ≡ old.names ++ name ∷ []
@@ -193,8 +196,8 @@ pub record IsWithPart (old new : Findings) (name : List ℕ) (w : Option Wrong) 
 
 pub part_ended : (wanted : Option Problem) (before name : List ℕ) (old new : Findings) (kept : SymbolLine) (end : LineEnd) (begun : List ℕ) (w : Option Wrong) (given : List (List ℕ)) → IsAtPart wanted before old name kept →
     All (λ other. Precedes other name) old.names →
-    ((lower : ℕ) (top : Spot) (bytes : List ℕ) → length top.place.heights ≤ 12 → line_of kept ≡ line_after lower top bytes → IsLineEnd lower top bytes end) →
-    ((p : Problem) (parts : List Part) (lower line : ℕ) (bytes after : List ℕ) → IsPartEnd lower p parts line name bytes after end → IsNextPart lower p parts name bytes after w given) →
+    ((need : List ℕ → ℕ) (top : Spot) (bytes : List ℕ) → length top.place.heights ≤ 12 → line_of kept ≡ line_after need top bytes → IsLineEnd need top bytes end) →
+    ((p : Problem) (parts : List Part) (need : List ℕ → ℕ) (line : ℕ) (bytes after : List ℕ) → IsPartEnd need p parts line name bytes after end → IsNextPart need p parts name bytes after w given) →
     IsWithPart old new name w given → begun ≡ [] → IsAtLine wanted (before ++ 10 ∷ []) new begun
 part_ended wanted before name old new kept end begun w given at order ends whole is none =
     let script = at.script in
@@ -202,7 +205,7 @@ part_ended wanted before name old new kept end begun w given at order ends whole
     let p = head.problem in
     let parts = script.parts in
     let rest = symbols_line name at.symbols in
-    let next = whole p parts head.claim at.line (rest ++ []) [] (meant wanted before name old kept end at order ends []) in
+    let next = whole p parts (need_in script) at.line (rest ++ []) [] (meant wanted before name old kept end at order ends []) in
     let part = next.part in
     let tells = line_ends wanted before name old kept at in
     let behind : List ℕ = flat_map part_line parts ++ rest in
@@ -220,12 +223,13 @@ part_ended wanted before name old new kept end begun w given at order ends whole
       are = record {
         bay_is = is.same_bay ∙ at.are.bay_is;
         problem_is = is.same_problem ∙ at.are.problem_is;
-        claim_is = is.same_claim ∙ at.are.claim_is;
+        claim_is = ap (λ (n : Need). n.claim) is.same_need ∙ at.are.claim_is;
+        plan_is = ap (λ (n : Need). n.plan) is.same_need ∙ at.are.plan_is;
         count_is = is.same_count ∙ at.are.count_is;
         line_is = let number = at.are.line_is in is.next_line ∙ omega arith;
         names_are = is.more_names ∙ ap (λ l. l ++ name ∷ []) at.are.names_are ∙ ap (λ n. names parts ++ n ∷ []) (sym next.named) ∙ sym (map-append (λ (x : Part). x.name) parts (part ∷ []));
         given_are = is.more_given ∙ ap (λ l. l ++ given) at.are.given_are ∙ ap (λ l. flat_map (given_by p) parts ++ l) (next.given_are ∙ sym (append-nil (given_by p part))) ∙ sym (flat_map-append (given_by p) parts (part ∷ []));
-        note = subst (IsNote wanted (claim_of (record { head = head; parts = parts ++ part ∷ [] }))) (sym is.same_note) (noted wanted (claim_of script) part name old.wrong w next.named next.wrong_is at.are.note);
+        note = subst (IsNote wanted (record { head = head; parts = parts ++ part ∷ [] })) (sym is.same_note) (noted wanted script part name old.wrong w next.named next.wrong_is at.are.note);
       };
       begins = begins;
       is_open = nothing_begun (record { head = head; parts = parts ++ part ∷ [] });

@@ -3,12 +3,12 @@ use Rattle.std.proofs.Common.{◌≡◌, ◌≢◌, ◌↔◌, Contains, ℕ, su
 use Rattle.std.proofs.lemmas.List.{append-nil}
 use Rattle.crp_plan.specs.Bay.{Problem, cap}
 use Rattle.crp_plan.specs.BayNames.{YardBay}
-use Rattle.crp_tree.specs.Claims.{Part, IsAccepted, IsRootOrGiven}
+use Rattle.crp_tree.specs.Claims.{Part, IsRootOrGiven}
 use Rattle.crp_cert.specs.declared.head.Head.{Head}
 use Rattle.crp_cert.specs.declared.fault.CertFault.{CertFault}
 use Rattle.crp_cert.specs.declared.fault.CertFault.TheVariants as faults
 use Rattle.crp_cert.specs.Text.{first_part}
-use Rattle.crp_cert.specs.Script.{end_line, claim_of}
+use Rattle.crp_cert.specs.Script.{end_line}
 use Rattle.crp_cert.specs.ScriptFaults.{BeginsWithParts, BeginsWithPart, IsFirstFaultOfScript}
 use Rattle.crp_cert.specs.Settled.{BeginsWithBay, spelled_name}
 use Rattle.crp_cert.proofs.Heads.{first_few}
@@ -21,8 +21,8 @@ use Rattle.crp_checker.specs.declared.line.SymbolLine.{SymbolLine}
 use Rattle.crp_checker.specs.declared.refused.Refused.{Refused}
 use Rattle.crp_checker.specs.declared.refused.Refused.TheVariants as refused
 use Rattle.crp_checker.specs.declared.verdict.Verdict.{Verdict}
-use Rattle.crp_checker.specs.AcceptedTexts.{IsAcceptedText}
-use Rattle.crp_checker.specs.Verdicts.{IsVerdictOf, IsVerdict}
+use Rattle.crp_checker.specs.AcceptedTexts.{IsAcceptedScript, IsAcceptedText}
+use Rattle.crp_checker.specs.Verdicts.{IsVerdictUnder, IsVerdict}
 use Rattle.crp_checker.specs.Refusals.{IsRefusal}
 use Rattle.crp_checker.specs.Needs.{IsNamesRefusal}
 use Rattle.crp_checker.specs.Openings.{IsBegunWith, part_word, named_line}
@@ -134,11 +134,11 @@ names_refusal : (wanted : Option Problem) (bytes : List ℕ) (findings : Finding
     IsRefusal wanted bytes r
 names_refusal wanted bytes findings r not right is ended =
     let script = ended.script in
-    let note = subst (IsNote wanted (claim_of script)) right ended.are.note in
+    let note = subst (IsNote wanted script) right ended.are.note in
     ⊎_elim
     (λ memory. absurd (not memory))
     (λ wrong. claim_refused wanted bytes script r ended.is_text (wrong wanted note.0.as_wanted))
-    (names_refused (claim_of script) findings.names findings.given.items r ended.are.names_are ended.are.given_are note.1 note.0.plan_is is)
+    (names_refused script findings.names findings.given.items r ended.are.names_are ended.are.given_are note.1 note.0.plan_is note.0.its_plan is)
 
 pub refused_by_names : (findings : Findings) (r : Refused) → findings.wrong ≡ None → IsNamesRefusal findings.names findings.given.items r →
     (r ≡ refused.Memory) ⊎ ((wanted : Option Problem) (bytes : List ℕ) → HasEnded wanted bytes findings → IsRefusal wanted bytes r)
@@ -148,19 +148,20 @@ refused_by_names findings refused.Memory right is = inl refl
 refused_by_names findings (refused.Cert fault) right is = absurd is
 refused_by_names findings refused.OtherProblem right is = absurd is
 refused_by_names findings (refused.Plan fault) right is = absurd is
+refused_by_names findings refused.NoFirstPlan right is = absurd is
 refused_by_names findings (refused.Low part symbol) right is = absurd is
 refused_by_names findings (refused.Finished part symbol) right is = absurd is
 
 -- it shows what is said
 pub shown_at_end : (wanted : Option Problem) (bytes : List ℕ) (findings : Findings) (verdict : Verdict) (ended : HasEnded wanted bytes findings) → findings.wrong ≡ None →
-    ((name : List ℕ) → Contains findings.names name ↔ IsRootOrGiven findings.given.items name) → IsVerdictOf findings.claim (cap findings.problem) findings.count verdict →
-    IsAcceptedText wanted bytes ended.script × IsVerdict (claim_of ended.script) verdict
+    ((name : List ℕ) → Contains findings.names name ↔ IsRootOrGiven findings.given.items name) → IsVerdictUnder findings.need.claim (cap findings.problem) findings.count verdict →
+    IsAcceptedText wanted bytes ended.script × IsVerdict ended.script verdict
 shown_at_end wanted bytes findings verdict ended right same is =
     let script = ended.script in
-    let note = subst (IsNote wanted (claim_of script)) right ended.are.note in
-    let accepted : IsAccepted (claim_of script) =
-    accepted_from script findings.names findings.given.items ended.is_text.0 note.0.plan_is note.1 ended.are.names_are ended.are.given_are same in (
+    let note = subst (IsNote wanted script) right ended.are.note in
+    let accepted : IsAcceptedScript script =
+    accepted_from script findings.names findings.given.items ended.is_text.0 note.0.plan_is note.0.its_plan note.1 ended.are.names_are ended.are.given_are same in (
       record { is_text = ended.is_text; as_wanted = note.0.as_wanted; accepted = accepted },
-      subst (λ n. IsVerdictOf script.head.claim (cap script.head.problem) n verdict) ended.are.count_is
-          (subst (λ p. IsVerdictOf script.head.claim (cap p) findings.count verdict) ended.are.problem_is (subst (λ n. IsVerdictOf n (cap findings.problem) findings.count verdict) ended.are.claim_is is)),
+      subst (λ n. IsVerdictUnder script.head.claim (cap script.head.problem) n verdict) ended.are.count_is
+          (subst (λ p. IsVerdictUnder script.head.claim (cap p) findings.count verdict) ended.are.problem_is (subst (λ c. IsVerdictUnder c (cap findings.problem) findings.count verdict) ended.are.claim_is is)),
     )

@@ -10,6 +10,7 @@ pub mod Onward
 pub mod Paid
 pub mod PartEnds
 pub mod Shapes
+pub mod Under
 pub mod SameText
 mod Worked
 pub mod OneFile

@@ -113,26 +113,26 @@ fewer_symbols bytes more are = record {
 -- ---- a line
 
 -- what is known of the line after these bytes, where no byte was wrong
-record IsSound (lower : ℕ) (top : Spot) (bytes : List ℕ) (walked : Walked) (trailing : Bool) : Type 0 where
+record IsSound (need : List ℕ → ℕ) (top : Spot) (bytes : List ℕ) (walked : Walked) (trailing : Bool) : Type 0 where
   symbols : List ℕ
   rest : List ℕ
   bytes_are : bytes ≡ symbols ++ rest
-  way : IsOnItsWay lower top symbols walked
+  way : IsOnItsWay need top symbols walked
   are : AreSymbols bytes
   none : trailing ≡ false → rest ≡ []
   some : trailing ≡ true → (walked.owed ≡ []) × (rest ≢ [])
 
-abbrev IsLine : ℕ → Spot → List ℕ → Walked → Bool → Bool → Type 0
-IsLine lower top bytes walked trailing true = ¬ AreSymbols bytes
-IsLine lower top bytes walked trailing false = IsSound lower top bytes walked trailing
+abbrev IsLine : (List ℕ → ℕ) → Spot → List ℕ → Walked → Bool → Bool → Type 0
+IsLine need top bytes walked trailing true = ¬ AreSymbols bytes
+IsLine need top bytes walked trailing false = IsSound need top bytes walked trailing
 
-abbrev LineIs : ℕ → Spot → List ℕ → Line → Type 0
-LineIs lower top bytes line = IsLine lower top bytes line.walked line.trailing line.unknown
+abbrev LineIs : (List ℕ → ℕ) → Spot → List ℕ → Line → Type 0
+LineIs need top bytes line = IsLine need top bytes line.walked line.trailing line.unknown
 
 -- some symbols came, where nothing is owed
-came : (lower : ℕ) (top : Spot) (symbols : List ℕ) (walked : Walked) → IsOnItsWay lower top symbols walked → walked.owed ≡ [] → symbols ≡ [] → ⊥
-came lower top symbols walked way e none =
-    let c = whole lower top symbols walked way e in
+came : (need : List ℕ → ℕ) (top : Spot) (symbols : List ℕ) (walked : Walked) → IsOnItsWay need top symbols walked → walked.owed ≡ [] → symbols ≡ [] → ⊥
+came need top symbols walked way e none =
+    let c = whole need top symbols walked way e in
     some_symbol c.tree [] (sym (append-nil (symbols_of c.tree) ∙ c.symbols_are ∙ append-nil symbols ∙ none))
 
 -- lists that are empty together are empty
@@ -141,14 +141,14 @@ first_empty [] ys e = refl
 first_empty (x ∷ xs) ys e = absurd cc
 
 -- a byte that may not stand there
-unknown_byte : (lower : ℕ) (top : Spot) (bytes : List ℕ) (b : ℕ) (walked : Walked) (trailing : Bool) → IsSound lower top bytes walked trailing → IsNoLetter walked.count b → ¬ AreSymbols (bytes ++ b ∷ [])
-unknown_byte lower top bytes b walked trailing sound (inl other) are = other ((all_right IsSymbol bytes (b ∷ []) (recursion_from_All IsSymbol (bytes ++ b ∷ []) are.each)).0)
-unknown_byte lower top bytes b walked trailing sound (inr first) are =
+unknown_byte : (need : List ℕ → ℕ) (top : Spot) (bytes : List ℕ) (b : ℕ) (walked : Walked) (trailing : Bool) → IsSound need top bytes walked trailing → IsNoLetter walked.count b → ¬ AreSymbols (bytes ++ b ∷ [])
+unknown_byte need top bytes b walked trailing sound (inl other) are = other ((all_right IsSymbol bytes (b ∷ []) (recursion_from_All IsSymbol (bytes ++ b ∷ []) are.each)).0)
+unknown_byte need top bytes b walked trailing sound (inr first) are =
     let way = sound.way in
     let counted = way.counted in
     let nothing : sound.symbols ≡ [] = empty sound.symbols (omega arith) in
     ⊎_elim
-    (λ t. came lower top sound.symbols walked way (sound.some t).0 nothing)
+    (λ t. came need top sound.symbols walked way (sound.some t).0 nothing)
     (λ f. are.not_first [] (ap (λ l. l ++ b ∷ []) (sound.bytes_are ∙ ap (λ l. sound.symbols ++ l) (sound.none f) ∙ append-nil sound.symbols ∙ nothing) ∙ ap (λ x. x ∷ []) first.0))
     (cases_Bool trailing)
   where
@@ -157,10 +157,10 @@ unknown_byte lower top bytes b walked trailing sound (inr first) are =
     empty (x ∷ xs) le = absurd (omega arith)
 
 -- one byte more
-step : (lower : ℕ) (top : Spot) (bytes : List ℕ) (b : ℕ) (walked : Walked) (trailing unknown : Bool) → IsLine lower top bytes walked trailing unknown →
-    LineIs lower top (bytes ++ b ∷ []) (after lower (record { walked = walked; trailing = trailing; unknown = unknown }) b)
-step lower top bytes b walked trailing true bad = λ are. bad (fewer_symbols bytes (b ∷ []) are)
-step lower top bytes b walked trailing false sound = by_symbol (symbol_at walked.count b) (reads walked.count b)
+step : (need : List ℕ → ℕ) (top : Spot) (bytes : List ℕ) (b : ℕ) (walked : Walked) (trailing unknown : Bool) → IsLine need top bytes walked trailing unknown →
+    LineIs need top (bytes ++ b ∷ []) (after need (record { walked = walked; trailing = trailing; unknown = unknown }) b)
+step need top bytes b walked trailing true bad = λ are. bad (fewer_symbols bytes (b ∷ []) are)
+step need top bytes b walked trailing false sound = by_symbol (symbol_at walked.count b) (reads walked.count b)
   where
     first : (mark : Mark) → IsLetter walked.count b mark → bytes ≡ [] → b ≡ 71 → ⊥
     first mark is none g =
@@ -172,7 +172,7 @@ step lower top bytes b walked trailing false sound = by_symbol (symbol_at walked
     now : (mark : Mark) → IsLetter walked.count b mark → AreSymbols (bytes ++ b ∷ [])
     now mark is = more_symbols bytes b sound.are (subst IsSymbol (sym is.is) (is_symbol mark)) (first mark is)
 
-    by_owed : (mark : Mark) → IsLetter walked.count b mark → (owed : List Spot) → walked.owed ≡ owed → LineIs lower top (bytes ++ b ∷ []) (paid lower mark owed (record { walked = walked; trailing = trailing; unknown = false }))
+    by_owed : (mark : Mark) → IsLetter walked.count b mark → (owed : List Spot) → walked.owed ≡ owed → LineIs need top (bytes ++ b ∷ []) (paid need mark owed (record { walked = walked; trailing = trailing; unknown = false }))
     by_owed mark is [] e = record {
       symbols = sound.symbols;
       rest = sound.rest ++ b ∷ [];
@@ -187,7 +187,7 @@ step lower top bytes b walked trailing false sound = by_symbol (symbol_at walked
         not_empty [] f = cc
         not_empty (x ∷ xs) f = cc
     by_owed mark is (spot ∷ owed) e =
-        let goes = goes_on lower top sound.symbols walked mark spot owed sound.way e in
+        let goes = goes_on need top sound.symbols walked mark spot owed sound.way e in
         let all : sound.rest ≡ [] = ⊎_elim (λ t. absurd (let n = (sound.some t).0 in (let f : spot ∷ owed ≡ [] = sym e ∙ n in cc))) sound.none (cases_Bool trailing) in
         record {
           symbols = sound.symbols ++ letter mark ∷ [];
@@ -199,32 +199,32 @@ step lower top bytes b walked trailing false sound = by_symbol (symbol_at walked
           some = λ t. absurd (let n = (sound.some t).0 in (let f : spot ∷ owed ≡ [] = sym e ∙ n in cc));
         }
 
-    by_symbol : (read : Option Mark) → IsRead walked.count b read → LineIs lower top (bytes ++ b ∷ []) (gone_on lower read (record { walked = walked; trailing = trailing; unknown = false }))
-    by_symbol None is = unknown_byte lower top bytes b walked trailing sound is
+    by_symbol : (read : Option Mark) → IsRead walked.count b read → LineIs need top (bytes ++ b ∷ []) (gone_on need read (record { walked = walked; trailing = trailing; unknown = false }))
+    by_symbol None is = unknown_byte need top bytes b walked trailing sound is
     by_symbol (Some mark) is = by_owed mark is walked.owed refl
 
 -- many bytes more
-goes_far : (lower : ℕ) (top : Spot) (bytes more : List ℕ) (line : Line) → LineIs lower top bytes line → LineIs lower top (bytes ++ more) (fold (after lower) line more)
-goes_far lower top bytes [] line is = subst (λ l. LineIs lower top l line) (sym (append-nil bytes)) is
-goes_far lower top bytes (b ∷ more) line is =
-    subst (λ l. LineIs lower top l (fold (after lower) (after lower line b) more)) (append_assoc bytes (b ∷ []) more)
-    (goes_far lower top (bytes ++ b ∷ []) more (after lower line b) (step lower top bytes b line.walked line.trailing line.unknown is))
+goes_far : (need : List ℕ → ℕ) (top : Spot) (bytes more : List ℕ) (line : Line) → LineIs need top bytes line → LineIs need top (bytes ++ more) (fold (after need) line more)
+goes_far need top bytes [] line is = subst (λ l. LineIs need top l line) (sym (append-nil bytes)) is
+goes_far need top bytes (b ∷ more) line is =
+    subst (λ l. LineIs need top l (fold (after need) (after need line b) more)) (append_assoc bytes (b ∷ []) more)
+    (goes_far need top (bytes ++ b ∷ []) more (after need line b) (step need top bytes b line.walked line.trailing line.unknown is))
 
 -- the line from its begin
-from_begin : (lower : ℕ) (top : Spot) (bytes : List ℕ) → length top.place.heights ≤ 12 → LineIs lower top bytes (line_after lower top bytes)
-from_begin lower top bytes few = goes_far lower top [] bytes (line_begun top) (record {
+from_begin : (need : List ℕ → ℕ) (top : Spot) (bytes : List ℕ) → length top.place.heights ≤ 12 → LineIs need top bytes (line_after need top bytes)
+from_begin need top bytes few = goes_far need top [] bytes (line_begun top) (record {
   symbols = [];
   rest = [];
   bytes_are = refl;
-  way = sets_out lower top few;
+  way = sets_out need top few;
   are = no_symbols;
   none = λ f. refl;
   some = λ t. absurd cc;
 })
 
 -- a piece after another is both in one
-pub pieces_are_joined : (lower : ℕ) (line : Line) (piece more : List ℕ) → fold (after lower) (fold (after lower) line piece) more ≡ fold (after lower) line (piece ++ more)
-pieces_are_joined lower line piece more = sym (fold-append (after lower) line piece more)
+pub pieces_are_joined : (need : List ℕ → ℕ) (line : Line) (piece more : List ℕ) → fold (after need) (fold (after need) line piece) more ≡ fold (after need) line (piece ++ more)
+pieces_are_joined need line piece more = sym (fold-append (after need) line piece more)
 
 -- ---- the end of a line
 
@@ -233,21 +233,21 @@ behind_tree : (symbols rest : List ℕ) (top : Spot) (tree : Tree) → Fits top.
 behind_tree symbols [] top tree m e some = absurd (some refl)
 behind_tree symbols (b ∷ rest) top tree m e some = (tree, m, (b, rest, ap (λ l. l ++ b ∷ rest) e))
 
-ends : (lower : ℕ) (top : Spot) (bytes : List ℕ) (walked : Walked) (trailing unknown : Bool) → IsLine lower top bytes walked trailing unknown → Ends lower top bytes walked trailing unknown
-ends lower top bytes walked trailing true bad = bad
-ends lower top bytes walked true false sound =
+ends : (need : List ℕ → ℕ) (top : Spot) (bytes : List ℕ) (walked : Walked) (trailing unknown : Bool) → IsLine need top bytes walked trailing unknown → Ends need top bytes walked trailing unknown
+ends need top bytes walked trailing true bad = bad
+ends need top bytes walked true false sound =
     let s = sound.some refl in
-    let c = whole lower top sound.symbols walked sound.way s.0 in
+    let c = whole need top sound.symbols walked sound.way s.0 in
     (sound.are, subst (GoesOnBehindTree top.place) (sym sound.bytes_are) (behind_tree sound.symbols sound.rest top c.tree c.fits (sym (c.symbols_are ∙ append-nil sound.symbols)) s.1))
-ends lower top bytes walked false false sound = (sound.are, by_owed walked.owed refl)
+ends need top bytes walked false false sound = (sound.are, by_owed walked.owed refl)
   where
     same : bytes ≡ sound.symbols
     same = sound.bytes_are ∙ ap (λ l. sound.symbols ++ l) (sound.none refl) ∙ append-nil sound.symbols
 
-    by_owed : (owed : List Spot) → walked.owed ≡ owed → EndsWalk lower top bytes owed walked.wrong walked.given
+    by_owed : (owed : List Spot) → walked.owed ≡ owed → EndsWalk need top bytes owed walked.wrong walked.given
     by_owed [] e =
         let way = sound.way in
-        let c = whole lower top sound.symbols walked sound.way e in
+        let c = whole need top sound.symbols walked sound.way e in
         let text : bytes ≡ symbols_of c.tree = same ∙ sym (c.symbols_are ∙ append-nil sound.symbols) in
         let nodes_are : nodes top.path top.place c.tree ≡ way.list = c.nodes_are ∙ append-nil way.list in
         record {
@@ -255,43 +255,43 @@ ends lower top bytes walked false false sound = (sound.are, by_owed walked.owed 
           fits = c.fits;
           not_given = none_given bytes [] c.tree sound.are (text ∙ sym (append-nil (symbols_of c.tree)));
           symbols_are = text;
-          wrong_is = subst (λ l. IsFirstOf lower l walked.wrong) (sym nodes_are) way.wrong;
+          wrong_is = subst (λ l. IsFirstOf need l walked.wrong) (sym nodes_are) way.wrong;
           given_are = way.given_are ∙ ap given_names (sym nodes_are);
         }
-    by_owed (spot ∷ owed) e = λ stands. not_whole lower top sound.symbols walked spot owed sound.way e (subst (BeginsWithTree top.place) same stands)
+    by_owed (spot ∷ owed) e = λ stands. not_whole need top sound.symbols walked spot owed sound.way e (subst (BeginsWithTree top.place) same stands)
 
 -- what is known of a line when it ends is what the definitions of certificates say of its symbols
-pub symbols_are_met : (lower : ℕ) (top : Spot) (bytes : List ℕ) → length top.place.heights ≤ 12 →
-    Ends lower top bytes (line_after lower top bytes).walked (line_after lower top bytes).trailing (line_after lower top bytes).unknown
-symbols_are_met lower top bytes few = ends lower top bytes (line_after lower top bytes).walked (line_after lower top bytes).trailing (line_after lower top bytes).unknown (from_begin lower top bytes few)
+pub symbols_are_met : (need : List ℕ → ℕ) (top : Spot) (bytes : List ℕ) → length top.place.heights ≤ 12 →
+    Ends need top bytes (line_after need top bytes).walked (line_after need top bytes).trailing (line_after need top bytes).unknown
+symbols_are_met need top bytes few = ends need top bytes (line_after need top bytes).walked (line_after need top bytes).trailing (line_after need top bytes).unknown (from_begin need top bytes few)
 
 -- ---- the end of a line that is kept
 
 -- what is known of it
-known : (lower : ℕ) (top : Spot) (bytes : List ℕ) (line : Line) → length top.place.heights ≤ 12 → line ≡ line_after lower top bytes → Ends lower top bytes line.walked line.trailing line.unknown
-known lower top bytes line few e = subst (λ (l : Line). Ends lower top bytes l.walked l.trailing l.unknown) (sym e) (symbols_are_met lower top bytes few)
+known : (need : List ℕ → ℕ) (top : Spot) (bytes : List ℕ) (line : Line) → length top.place.heights ≤ 12 → line ≡ line_after need top bytes → Ends need top bytes line.walked line.trailing line.unknown
+known need top bytes line few e = subst (λ (l : Line). Ends need top bytes l.walked l.trailing l.unknown) (sym e) (symbols_are_met need top bytes few)
 
-pub ends_unknown : (lower : ℕ) (top : Spot) (bytes : List ℕ) (line : Line) → length top.place.heights ≤ 12 → line ≡ line_after lower top bytes → line.unknown ≡ true → ¬ AreSymbols bytes
-ends_unknown lower top bytes line few e u = subst (Ends lower top bytes line.walked line.trailing) u (known lower top bytes line few e)
+pub ends_unknown : (need : List ℕ → ℕ) (top : Spot) (bytes : List ℕ) (line : Line) → length top.place.heights ≤ 12 → line ≡ line_after need top bytes → line.unknown ≡ true → ¬ AreSymbols bytes
+ends_unknown need top bytes line few e u = subst (Ends need top bytes line.walked line.trailing) u (known need top bytes line few e)
 
-pub ends_trailing : (lower : ℕ) (top : Spot) (bytes : List ℕ) (line : Line) → length top.place.heights ≤ 12 → line ≡ line_after lower top bytes → line.unknown ≡ false → line.trailing ≡ true →
+pub ends_trailing : (need : List ℕ → ℕ) (top : Spot) (bytes : List ℕ) (line : Line) → length top.place.heights ≤ 12 → line ≡ line_after need top bytes → line.unknown ≡ false → line.trailing ≡ true →
     AreSymbols bytes × GoesOnBehindTree top.place bytes
-ends_trailing lower top bytes line few e u t =
-    subst (λ b. Ends lower top bytes line.walked b false) t (subst (Ends lower top bytes line.walked line.trailing) u (known lower top bytes line few e))
+ends_trailing need top bytes line few e u t =
+    subst (λ b. Ends need top bytes line.walked b false) t (subst (Ends need top bytes line.walked line.trailing) u (known need top bytes line few e))
 
-pub ends_walk : (lower : ℕ) (top : Spot) (bytes : List ℕ) (line : Line) → length top.place.heights ≤ 12 → line ≡ line_after lower top bytes → line.unknown ≡ false → line.trailing ≡ false →
-    AreSymbols bytes × EndsWalk lower top bytes line.walked.owed line.walked.wrong line.walked.given
-ends_walk lower top bytes line few e u t =
-    subst (λ b. Ends lower top bytes line.walked b false) t (subst (Ends lower top bytes line.walked line.trailing) u (known lower top bytes line few e))
+pub ends_walk : (need : List ℕ → ℕ) (top : Spot) (bytes : List ℕ) (line : Line) → length top.place.heights ≤ 12 → line ≡ line_after need top bytes → line.unknown ≡ false → line.trailing ≡ false →
+    AreSymbols bytes × EndsWalk need top bytes line.walked.owed line.walked.wrong line.walked.given
+ends_walk need top bytes line few e u t =
+    subst (λ b. Ends need top bytes line.walked b false) t (subst (Ends need top bytes line.walked line.trailing) u (known need top bytes line few e))
 
 -- where a tree is owed it is not whole
-pub still_owed : (lower : ℕ) (top : Spot) (bytes : List ℕ) (owes : Bool) (path : List ℕ) (s : Standing) (levels : List Level) (wrong : Option Wrong) (given : List (List ℕ)) →
-    EndsWalk lower top bytes (owed_by owes path s levels) wrong given → owes ≡ true → ¬ BeginsWithTree top.place bytes
-still_owed lower top bytes false path s levels wrong given e owes = absurd cc
-still_owed lower top bytes true path s levels wrong given e owes = e
+pub still_owed : (need : List ℕ → ℕ) (top : Spot) (bytes : List ℕ) (owes : Bool) (path : List ℕ) (s : Standing) (levels : List Level) (wrong : Option Wrong) (given : List (List ℕ)) →
+    EndsWalk need top bytes (owed_by owes path s levels) wrong given → owes ≡ true → ¬ BeginsWithTree top.place bytes
+still_owed need top bytes false path s levels wrong given e owes = absurd cc
+still_owed need top bytes true path s levels wrong given e owes = e
 
 -- and where none is it is
-pub all_paid : (lower : ℕ) (top : Spot) (bytes : List ℕ) (owes : Bool) (path : List ℕ) (s : Standing) (levels : List Level) (wrong : Option Wrong) (given : List (List ℕ)) →
-    EndsWalk lower top bytes (owed_by owes path s levels) wrong given → owes ≡ false → IsWhole lower top bytes wrong given
-all_paid lower top bytes false path s levels wrong given e owes = e
-all_paid lower top bytes true path s levels wrong given e owes = absurd cc
+pub all_paid : (need : List ℕ → ℕ) (top : Spot) (bytes : List ℕ) (owes : Bool) (path : List ℕ) (s : Standing) (levels : List Level) (wrong : Option Wrong) (given : List (List ℕ)) →
+    EndsWalk need top bytes (owed_by owes path s levels) wrong given → owes ≡ false → IsWhole need top bytes wrong given
+all_paid need top bytes false path s levels wrong given e owes = e
+all_paid need top bytes true path s levels wrong given e owes = absurd cc

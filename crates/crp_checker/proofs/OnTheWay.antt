@@ -24,21 +24,21 @@ use Rattle.crp_cert.proofs.Joined.{all_both}
 -- ---- the first wrong node
 
 -- what a test decides
-decided : (lower : ℕ) (list : List Node) (test : Bool) (wrong : Wrong) → (test ≡ true → IsFirstOf lower list (Some wrong)) → (test ≡ false → IsFirstOf lower list None) → IsFirstOf lower list (cond test (Some wrong) None)
-decided lower list true wrong y n = y refl
-decided lower list false wrong y n = n refl
+decided : (need : List ℕ → ℕ) (list : List Node) (test : Bool) (wrong : Wrong) → (test ≡ true → IsFirstOf need list (Some wrong)) → (test ≡ false → IsFirstOf need list None) → IsFirstOf need list (cond test (Some wrong) None)
+decided need list true wrong y n = y refl
+decided need list false wrong y n = n refl
 
 -- the last node, where it is wrong and those before it are right
-last_wrong : (lower : ℕ) (Wrong : Node → Type 0) (before : List Node) (node : Node) (k : ℕ) → AllByRecursion (IsRight lower) before → k ≡ length before + 1 → Wrong node → IsFirstWrong lower Wrong (before ++ node ∷ []) k
-last_wrong lower Wrong before node k right number wrong = record { before = before; node = node; after = []; list_is = refl; number = number; right = right; wrong = wrong }
+last_wrong : (need : List ℕ → ℕ) (Wrong : Node → Type 0) (before : List Node) (node : Node) (k : ℕ) → AllByRecursion (IsRight need) before → k ≡ length before + 1 → Wrong node → IsFirstWrong need Wrong (before ++ node ∷ []) k
+last_wrong need Wrong before node k right number wrong = record { before = before; node = node; after = []; list_is = refl; number = number; right = right; wrong = wrong }
 
 -- the last node, where it is right as those before it
-last_right : (lower : ℕ) (before : List Node) (node : Node) → AllByRecursion (IsRight lower) before → IsRight lower node → AllByRecursion (IsRight lower) (before ++ node ∷ [])
-last_right lower before node right own = all_both (IsRight lower) before (node ∷ []) right (own, tt)
+last_right : (need : List ℕ → ℕ) (before : List Node) (node : Node) → AllByRecursion (IsRight need) before → IsRight need node → AllByRecursion (IsRight need) (before ++ node ∷ [])
+last_right need before node right own = all_both (IsRight need) before (node ∷ []) right (own, tt)
 
 -- a cut whose value passes the test is not below
-not_low : (value lower : ℕ) → nat_lt value lower ≡ false → value < lower → ⊥
-not_low value lower f lt = let t = lt-ltb value lower lt in absurd cc
+not_low : (value least : ℕ) → nat_lt value least ≡ false → value < least → ⊥
+not_low value least f lt = let t = lt-ltb value least lt in absurd cc
 
 -- a mark that is no branch's
 no_branch : (mark : Mark) → is_cut mark ≡ true → mark ≡ X → ⊥
@@ -49,27 +49,27 @@ no_cut : (mark : Mark) → is_cut mark ≡ false → is_cut mark ≡ true → �
 no_cut mark not cut = cc
 
 -- the node of one more symbol, where all before it are right
-wrong_next : (lower k : ℕ) (mark : Mark) (spot : Spot) (before : List Node) → AllByRecursion (IsRight lower) before → k ≡ length before + 1 → IsFirstOf lower (before ++ node_at spot mark ∷ []) (wrong_at lower k mark spot)
-wrong_next lower k B spot before right number =
-    decided lower (before ++ node_at spot B ∷ []) (nat_lt (length spot.path + blocking spot.place) lower) (Low k)
-    (λ t. last_wrong lower (IsLow lower) before (node_at spot B) k right number (refl, ltb-true (length spot.path + blocking spot.place) lower t))
-    (λ f. last_right lower before (node_at spot B) right (record { not_low = λ low. not_low (length spot.path + blocking spot.place) lower f low.1; not_at_end = λ end. no_branch B refl end.0 }))
-wrong_next lower k L spot before right number =
-    decided lower (before ++ node_at spot L ∷ []) (nat_lt (length spot.path + look_ahead spot.place) lower) (Low k)
-    (λ t. last_wrong lower (IsLow lower) before (node_at spot L) k right number (refl, ltb-true (length spot.path + look_ahead spot.place) lower t))
-    (λ f. last_right lower before (node_at spot L) right (record { not_low = λ low. not_low (length spot.path + look_ahead spot.place) lower f low.1; not_at_end = λ end. no_branch L refl end.0 }))
-wrong_next lower k X spot before right number =
-    decided lower (before ++ node_at spot X ∷ []) (spot.place.next == suc spot.place.ordered) (AtEnd k)
-    (λ t. last_wrong lower IsAtEnd before (node_at spot X) k right number (refl, eqb-true spot.place.next (suc spot.place.ordered) t))
-    (λ f. last_right lower before (node_at spot X) right (record { not_low = λ low. no_cut X refl low.0; not_at_end = λ end. let t = eq-eqb spot.place.next (suc spot.place.ordered) end.1 in absurd cc }))
-wrong_next lower k G spot before right number = last_right lower before (node_at spot G) right (record { not_low = λ low. no_cut G refl low.0; not_at_end = λ end. no_given end.0 })
+wrong_next : (need : List ℕ → ℕ) (k : ℕ) (mark : Mark) (spot : Spot) (before : List Node) → AllByRecursion (IsRight need) before → k ≡ length before + 1 → IsFirstOf need (before ++ node_at spot mark ∷ []) (wrong_at need k mark spot)
+wrong_next need k B spot before right number =
+    decided need (before ++ node_at spot B ∷ []) (nat_lt (length spot.path + blocking spot.place) (need spot.path)) (Low k)
+    (λ t. last_wrong need (IsLow need) before (node_at spot B) k right number (refl, ltb-true (length spot.path + blocking spot.place) (need spot.path) t))
+    (λ f. last_right need before (node_at spot B) right (record { not_low = λ low. not_low (length spot.path + blocking spot.place) (need spot.path) f low.1; not_at_end = λ end. no_branch B refl end.0 }))
+wrong_next need k L spot before right number =
+    decided need (before ++ node_at spot L ∷ []) (nat_lt (length spot.path + look_ahead spot.place) (need spot.path)) (Low k)
+    (λ t. last_wrong need (IsLow need) before (node_at spot L) k right number (refl, ltb-true (length spot.path + look_ahead spot.place) (need spot.path) t))
+    (λ f. last_right need before (node_at spot L) right (record { not_low = λ low. not_low (length spot.path + look_ahead spot.place) (need spot.path) f low.1; not_at_end = λ end. no_branch L refl end.0 }))
+wrong_next need k X spot before right number =
+    decided need (before ++ node_at spot X ∷ []) (spot.place.next == suc spot.place.ordered) (AtEnd k)
+    (λ t. last_wrong need IsAtEnd before (node_at spot X) k right number (refl, eqb-true spot.place.next (suc spot.place.ordered) t))
+    (λ f. last_right need before (node_at spot X) right (record { not_low = λ low. no_cut X refl low.0; not_at_end = λ end. let t = eq-eqb spot.place.next (suc spot.place.ordered) end.1 in absurd cc }))
+wrong_next need k G spot before right number = last_right need before (node_at spot G) right (record { not_low = λ low. no_cut G refl low.0; not_at_end = λ end. no_given end.0 })
   where
     no_given : G ≡ X → ⊥
     no_given e = cc
 
 -- a node that was wrong stays the first, whatever follows
-still_wrong : (lower : ℕ) (Wrong : Node → Type 0) (list : List Node) (node : Node) (k : ℕ) → IsFirstWrong lower Wrong list k → IsFirstWrong lower Wrong (list ++ node ∷ []) k
-still_wrong lower Wrong list node k w = record {
+still_wrong : (need : List ℕ → ℕ) (Wrong : Node → Type 0) (list : List Node) (node : Node) (k : ℕ) → IsFirstWrong need Wrong list k → IsFirstWrong need Wrong (list ++ node ∷ []) k
+still_wrong need Wrong list node k w = record {
   before = w.before;
   node = w.node;
   after = w.after ++ node ∷ [];
@@ -79,11 +79,11 @@ still_wrong lower Wrong list node k w = record {
   wrong = w.wrong;
 }
 
-wrong_after : (lower k : ℕ) (mark : Mark) (spot : Spot) (before : List Node) (wrong : Option Wrong) → IsFirstOf lower before wrong → k ≡ length before + 1 →
-    IsFirstOf lower (before ++ node_at spot mark ∷ []) (option_or wrong (wrong_at lower k mark spot))
-wrong_after lower k mark spot before None first number = wrong_next lower k mark spot before first number
-wrong_after lower k mark spot before (Some (Low n)) first number = still_wrong lower (IsLow lower) before (node_at spot mark) n first
-wrong_after lower k mark spot before (Some (AtEnd n)) first number = still_wrong lower IsAtEnd before (node_at spot mark) n first
+wrong_after : (need : List ℕ → ℕ) (k : ℕ) (mark : Mark) (spot : Spot) (before : List Node) (wrong : Option Wrong) → IsFirstOf need before wrong → k ≡ length before + 1 →
+    IsFirstOf need (before ++ node_at spot mark ∷ []) (option_or wrong (wrong_at need k mark spot))
+wrong_after need k mark spot before None first number = wrong_next need k mark spot before first number
+wrong_after need k mark spot before (Some (Low n)) first number = still_wrong need (IsLow need) before (node_at spot mark) n first
+wrong_after need k mark spot before (Some (AtEnd n)) first number = still_wrong need IsAtEnd before (node_at spot mark) n first
 
 -- ---- the rows of what is owed
 
@@ -108,8 +108,8 @@ abbrev letter_of : Node → ℕ
 letter_of node = letter node.mark
 
 -- a walk begins
-pub sets_out : (lower : ℕ) (top : Spot) → length top.place.heights ≤ 12 → IsOnItsWay lower top [] (begun top)
-sets_out lower top few = record {
+pub sets_out : (need : List ℕ → ℕ) (top : Spot) → length top.place.heights ≤ 12 → IsOnItsWay need top [] (begun top)
+sets_out need top few = record {
   list = [];
   letters = refl;
   counted = refl;
@@ -126,13 +126,13 @@ sets_out lower top few = record {
     alone (tree ∷ other ∷ trees) pays = absurd pays.1
 
 -- one symbol more
-pub goes_on : (lower : ℕ) (top : Spot) (symbols : List ℕ) (walked : Walked) (mark : Mark) (spot : Spot) (owed : List Spot) → IsOnItsWay lower top symbols walked → walked.owed ≡ spot ∷ owed →
-    IsOnItsWay lower top (symbols ++ letter mark ∷ []) (walked_on lower mark spot owed walked)
-goes_on lower top symbols walked mark spot owed way e = record {
+pub goes_on : (need : List ℕ → ℕ) (top : Spot) (symbols : List ℕ) (walked : Walked) (mark : Mark) (spot : Spot) (owed : List Spot) → IsOnItsWay need top symbols walked → walked.owed ≡ spot ∷ owed →
+    IsOnItsWay need top (symbols ++ letter mark ∷ []) (walked_on need mark spot owed walked)
+goes_on need top symbols walked mark spot owed way e = record {
   list = way.list ++ node_at spot mark ∷ [];
   letters = map-append letter_of way.list (node_at spot mark ∷ []) ∙ ap (λ l. l ++ letter mark ∷ []) way.letters;
   counted = omega (arith, way.counted, length-append symbols (letter mark ∷ []));
-  wrong = wrong_after lower (walked.count + 1) mark spot way.list walked.wrong way.wrong (omega (arith, way.counted, as_many));
+  wrong = wrong_after need (walked.count + 1) mark spot way.list walked.wrong way.wrong (omega (arith, way.counted, as_many));
   given_are = ap (λ l. l ++ given_names (node_at spot mark ∷ [])) way.given_are ∙ sym (given_names-append way.list (node_at spot mark ∷ []));
   few = few_behind mark spot owed few;
   completes = λ trees pays. completed trees (pay mark spot owed trees few.0 pays);
@@ -166,8 +166,8 @@ goes_on lower top symbols walked mark spot owed way e = record {
 -- ---- the end
 
 -- where nothing is owed the symbols are those of a tree
-pub whole : (lower : ℕ) (top : Spot) (symbols : List ℕ) (walked : Walked) (way : IsOnItsWay lower top symbols walked) → walked.owed ≡ [] → IsCompleted top symbols way.list [] []
-whole lower top symbols walked way e = subst (λ o. IsCompleted top symbols way.list o []) e (way.completes [] (subst (λ o. Pay o []) (sym e) tt))
+pub whole : (need : List ℕ → ℕ) (top : Spot) (symbols : List ℕ) (walked : Walked) (way : IsOnItsWay need top symbols walked) → walked.owed ≡ [] → IsCompleted top symbols way.list [] []
+whole need top symbols walked way e = subst (λ o. IsCompleted top symbols way.list o []) e (way.completes [] (subst (λ o. Pay o []) (sym e) tt))
 
 -- a tree has a symbol
 pub some_symbol : (tree : Tree) (rest : List ℕ) → [] ≡ symbols_of tree ++ rest → ⊥
@@ -177,8 +177,8 @@ some_symbol (Branch' shape all) rest e = cc
 some_symbol Given rest e = cc
 
 -- while a tree is owed the symbols begin with no whole one
-pub not_whole : (lower : ℕ) (top : Spot) (symbols : List ℕ) (walked : Walked) (spot : Spot) (owed : List Spot) → IsOnItsWay lower top symbols walked → walked.owed ≡ spot ∷ owed → ¬ BeginsWithTree top.place symbols
-not_whole lower top symbols walked spot owed way e stands =
+pub not_whole : (need : List ℕ → ℕ) (top : Spot) (symbols : List ℕ) (walked : Walked) (spot : Spot) (owed : List Spot) → IsOnItsWay need top symbols walked → walked.owed ≡ spot ∷ owed → ¬ BeginsWithTree top.place symbols
+not_whole need top symbols walked spot owed way e stands =
     let r = way.only stands.0 stands.2.0 [] stands.1 (append-nil symbols ∙ stands.2.1) in
     by_trees r.0 (subst (λ o. Pay o r.0) e r.1) r.2
   where

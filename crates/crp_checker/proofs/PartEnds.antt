@@ -13,14 +13,14 @@ use Rattle.crp_checker.specs.Ends.{IsLineEnd}
 use Rattle.crp_checker.specs.PartEnds.{IsPartEnd}
 
 -- what the symbols of a part line are found to be is what the definitions of certificates say of the line
-pub part_lines_end : (lower : ℕ) (p : Problem) (parts : List Part) (line : ℕ) (name : List ℕ) (place : Position) (symbols after : List ℕ) (end : LineEnd) → IsProblem p → length name ≤ 8 → IsAt p name place →
-    All (λ b. b ≢ 10) symbols → ComesAfter parts name → IsLineEnd lower (record { path = name; place = place }) symbols end → IsPartEnd lower p parts line name (symbols_line name symbols ++ after) after end
-part_lines_end lower p parts line name place symbols after end is short is_at one_line comes = by_end end
+pub part_lines_end : (need : List ℕ → ℕ) (p : Problem) (parts : List Part) (line : ℕ) (name : List ℕ) (place : Position) (symbols after : List ℕ) (end : LineEnd) → IsProblem p → length name ≤ 8 → IsAt p name place →
+    All (λ b. b ≢ 10) symbols → ComesAfter parts name → IsLineEnd need (record { path = name; place = place }) symbols end → IsPartEnd need p parts line name (symbols_line name symbols ++ after) after end
+part_lines_end need p parts line name place symbols after end is short is_at one_line comes = by_end end
   where
     begins : BeginsWithPart p (symbols_line name symbols ++ after)
     begins = record { name = name; short = short; place = place; is_at = is_at; symbols = symbols; one_line = one_line; after = after; text = refl }
 
-    by_end : (end : LineEnd) → IsLineEnd lower (record { path = name; place = place }) symbols end → IsPartEnd lower p parts line name (symbols_line name symbols ++ after) after end
+    by_end : (end : LineEnd) → IsLineEnd need (record { path = name; place = place }) symbols end → IsPartEnd need p parts line name (symbols_line name symbols ++ after) after end
     by_end Unknown e = (refl, (begins, comes, e))
     by_end Trailing e = (refl, (begins, comes, e.0, e.1))
     by_end Unfinished e = (refl, (begins, comes, e.0, e.1))
@@ -34,6 +34,6 @@ part_lines_end lower p parts line name place symbols after end is short is_at on
           readable = record { short = short; place = place; is_at = is_at; fits = w.fits; not_given = w.not_given };
           in_order = comes;
           text = ap (λ l. symbols_line name l ++ after) w.symbols_are;
-          wrong_is = subst (λ l. IsFirstOf lower l wrong) (sym same) w.wrong_is;
+          wrong_is = subst (λ l. IsFirstOf need l wrong) (sym same) w.wrong_is;
           given_are = w.given_are ∙ sym (ap given_names same);
         }

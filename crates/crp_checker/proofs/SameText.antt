@@ -9,17 +9,18 @@ use Rattle.crp_tree.specs.Names.{IsFirst}
 use Rattle.crp_tree.specs.Trees.{nodes, given_names, Fits}
 use Rattle.crp_tree.proofs.Accepted.{nodes_are}
 use Rattle.crp_tree.specs.Claims.{Part, nodes_in, given_by, names}
+use Rattle.crp_cert.specs.declared.head.Head.{Head}
 use Rattle.crp_cert.specs.declared.script.Script.{Script}
-use Rattle.crp_cert.specs.Script.{IsPartLine, IsScriptOf, symbols_of, claim_of}
+use Rattle.crp_cert.specs.Script.{IsPartLine, IsScriptOf, symbols_of}
 use Rattle.crp_cert.proofs.Scripts.{script_once}
 use Rattle.crp_cert.proofs.ScriptVerdicts.{script_apart, one_script_fault}
 use Rattle.crp_checker.specs.declared.verdict.Verdict.{Verdict}
-use Rattle.crp_checker.specs.Verdicts.{IsVerdictOf}
+use Rattle.crp_checker.specs.Verdicts.{IsVerdictUnder}
 use Rattle.crp_checker.specs.Shown.{TextShows}
-use Rattle.crp_checker.proofs.Meaning.{one_verdict_of}
+use Rattle.crp_checker.proofs.Meaning.{one_verdict_under}
 use Rattle.crp_checker.specs.declared.refused.Refused.{Refused}
 use Rattle.crp_checker.specs.declared.refused.Refused.TheVariants as refused
-use Rattle.crp_checker.specs.Nodes.{IsLow, IsAtEnd}
+use Rattle.crp_checker.specs.Nodes.{need_of, IsLow, IsAtEnd}
 use Rattle.crp_checker.specs.AcceptedTexts.{IsAcceptedText, IsNotAccepted}
 use Rattle.crp_checker.specs.Refusals.{nodes_by_name, named_nodes, IsRightPart, IsFirstWrongNode, IsFirstWrongClaim, IsRefusal}
 use Rattle.crp_checker.specs.Needs.{IsWithoutPart, IsWithoutNeed}
@@ -53,35 +54,36 @@ same_parts p (a ∷ parts) (b ∷ others) is x y name text =
     )
 
 -- what is wrong with a claim depends on its parts by their names and nodes and by what they give
-pub wrong_too : (wanted : Option Problem) (p : Problem) (lower : ℕ) (plan : Option (List ℕ)) (parts others : List Part) (r : Refused) → nodes_by_name p parts ≡ nodes_by_name p others → names parts ≡ names others →
-    flat_map (given_by p) parts ≡ flat_map (given_by p) others →
-    IsFirstWrongClaim wanted (record { problem = p; lower = lower; plan = plan; parts = parts }) r → IsFirstWrongClaim wanted (record { problem = p; lower = lower; plan = plan; parts = others }) r
-wrong_too wanted p lower plan parts others (refused.Cert fault) w n g k = k
-wrong_too wanted p lower plan parts others refused.OtherProblem w n g k = k
-wrong_too wanted p lower plan parts others (refused.Plan fault) w n g k = k
-wrong_too wanted p lower plan parts others (refused.Low name symbol) w n g k =
-    let head = k.0 in
-    (record { as_wanted = head.as_wanted; plan_is = head.plan_is }, subst (λ l. IsFirstWrongNode lower (IsLow lower) l name symbol) w k.1)
-wrong_too wanted p lower plan parts others (refused.Finished name symbol) w n g k =
-    let head = k.0 in
-    (record { as_wanted = head.as_wanted; plan_is = head.plan_is }, subst (λ l. IsFirstWrongNode lower IsAtEnd l name symbol) w k.1)
-wrong_too wanted p lower plan parts others (refused.Missing name) w n g k =
-    let head = k.0 in (
-      record { as_wanted = head.as_wanted; plan_is = head.plan_is },
-      subst (AllByRecursion (IsRightPart lower)) w k.1,
-      subst (λ l. IsFirst (IsWithoutPart (names others) l) name) g (subst (λ l. IsFirst (IsWithoutPart l (flat_map (given_by p) parts)) name) n k.2),
+pub wrong_too : (wanted : Option Problem) (head : Head) (parts others : List Part) (r : Refused) → nodes_by_name head.problem parts ≡ nodes_by_name head.problem others → names parts ≡ names others →
+    flat_map (given_by head.problem) parts ≡ flat_map (given_by head.problem) others →
+    IsFirstWrongClaim wanted (record { head = head; parts = parts }) r → IsFirstWrongClaim wanted (record { head = head; parts = others }) r
+wrong_too wanted head parts others (refused.Cert fault) w n g k = k
+wrong_too wanted head parts others refused.OtherProblem w n g k = k
+wrong_too wanted head parts others (refused.Plan fault) w n g k = k
+wrong_too wanted head parts others refused.NoFirstPlan w n g k = k
+wrong_too wanted head parts others (refused.Low name symbol) w n g k =
+    let ok = k.0 in
+    (record { as_wanted = ok.as_wanted; plan_is = ok.plan_is; its_plan = ok.its_plan }, subst (λ l. IsFirstWrongNode (need_of head.claim head.plan) (IsLow (need_of head.claim head.plan)) l name symbol) w k.1)
+wrong_too wanted head parts others (refused.Finished name symbol) w n g k =
+    let ok = k.0 in
+    (record { as_wanted = ok.as_wanted; plan_is = ok.plan_is; its_plan = ok.its_plan }, subst (λ l. IsFirstWrongNode (need_of head.claim head.plan) IsAtEnd l name symbol) w k.1)
+wrong_too wanted head parts others (refused.Missing name) w n g k =
+    let ok = k.0 in (
+      record { as_wanted = ok.as_wanted; plan_is = ok.plan_is; its_plan = ok.its_plan },
+      subst (AllByRecursion (IsRightPart (need_of head.claim head.plan))) w k.1,
+      subst (λ l. IsFirst (IsWithoutPart (names others) l) name) g (subst (λ l. IsFirst (IsWithoutPart l (flat_map (given_by head.problem) parts)) name) n k.2),
     )
-wrong_too wanted p lower plan parts others (refused.Unneeded name) w n g k =
-    let head = k.0 in (
-      record { as_wanted = head.as_wanted; plan_is = head.plan_is },
-      subst (AllByRecursion (IsRightPart lower)) w k.1,
-      subst (λ l. (other : List ℕ) → IsWithoutPart (names others) l other → ⊥) g (subst (λ l. (other : List ℕ) → IsWithoutPart l (flat_map (given_by p) parts) other → ⊥) n k.2),
-      subst (λ l. IsFirst (IsWithoutNeed (names others) l) name) g (subst (λ l. IsFirst (IsWithoutNeed l (flat_map (given_by p) parts)) name) n k.3),
+wrong_too wanted head parts others (refused.Unneeded name) w n g k =
+    let ok = k.0 in (
+      record { as_wanted = ok.as_wanted; plan_is = ok.plan_is; its_plan = ok.its_plan },
+      subst (AllByRecursion (IsRightPart (need_of head.claim head.plan))) w k.1,
+      subst (λ l. (other : List ℕ) → IsWithoutPart (names others) l other → ⊥) g (subst (λ l. (other : List ℕ) → IsWithoutPart l (flat_map (given_by head.problem) parts) other → ⊥) n k.2),
+      subst (λ l. IsFirst (IsWithoutNeed (names others) l) name) g (subst (λ l. IsFirst (IsWithoutNeed l (flat_map (given_by head.problem) parts)) name) n k.3),
     )
-wrong_too wanted p lower plan parts others refused.Memory w n g k = k
+wrong_too wanted head parts others refused.Memory w n g k = k
 
 -- so what is wrong with the claim of one is wrong with that of the other
-pub wrong_alike : (wanted : Option Problem) (bytes : List ℕ) (a b : Script) (r : Refused) → IsScriptOf bytes a → IsScriptOf bytes b → IsFirstWrongClaim wanted (claim_of b) r → IsFirstWrongClaim wanted (claim_of a) r
+pub wrong_alike : (wanted : Option Problem) (bytes : List ℕ) (a b : Script) (r : Refused) → IsScriptOf bytes a → IsScriptOf bytes b → IsFirstWrongClaim wanted b r → IsFirstWrongClaim wanted a r
 wrong_alike wanted bytes a b r x y w =
     let same = script_once bytes a b x y in
     let one = x.0 in
@@ -91,26 +93,27 @@ wrong_alike wanted bytes a b r x y w =
     let each = recursion_from_All (IsPartLine p) a.parts one.each_part in
     let each' = subst (λ h. AllByRecursion (IsPartLine h.problem) b.parts) (sym same.0) (recursion_from_All (IsPartLine b.head.problem) b.parts other.each_part) in
     let parts = same_parts p b.parts a.parts head.problem each' each (sym same.1) (sym same.2) in
-    wrong_too wanted p a.head.claim a.head.plan b.parts a.parts r parts.0 (sym same.1) parts.1
-    (subst (λ h. IsFirstWrongClaim wanted (record { problem = h.problem; lower = h.claim; plan = h.plan; parts = b.parts }) r) (sym same.0) w)
+    wrong_too wanted a.head b.parts a.parts r parts.0 (sym same.1) parts.1
+    (subst (λ h. IsFirstWrongClaim wanted (record { head = h; parts = b.parts }) r) (sym same.0) w)
 
 -- a text that is accepted is not refused
 pub not_both : (wanted : Option Problem) (bytes : List ℕ) (told : Script) (r : Refused) → IsAcceptedText wanted bytes told → IsRefusal wanted bytes r → ⊥
 not_both wanted bytes told (refused.Cert fault) known w = script_apart bytes told fault known.is_text w
-not_both wanted bytes told refused.OtherProblem known w = not_wrong wanted (claim_of told) refused.OtherProblem known.accepted known.as_wanted (wrong_alike wanted bytes told w.0 refused.OtherProblem known.is_text w.1 w.2)
-not_both wanted bytes told (refused.Plan fault) known w = not_wrong wanted (claim_of told) (refused.Plan fault) known.accepted known.as_wanted (wrong_alike wanted bytes told w.0 (refused.Plan fault) known.is_text w.1 w.2)
-not_both wanted bytes told (refused.Low name k) known w = not_wrong wanted (claim_of told) (refused.Low name k) known.accepted known.as_wanted (wrong_alike wanted bytes told w.0 (refused.Low name k) known.is_text w.1 w.2)
-not_both wanted bytes told (refused.Finished name k) known w = not_wrong wanted (claim_of told) (refused.Finished name k) known.accepted known.as_wanted (wrong_alike wanted bytes told w.0 (refused.Finished name k) known.is_text w.1 w.2)
-not_both wanted bytes told (refused.Missing name) known w = not_wrong wanted (claim_of told) (refused.Missing name) known.accepted known.as_wanted (wrong_alike wanted bytes told w.0 (refused.Missing name) known.is_text w.1 w.2)
-not_both wanted bytes told (refused.Unneeded name) known w = not_wrong wanted (claim_of told) (refused.Unneeded name) known.accepted known.as_wanted (wrong_alike wanted bytes told w.0 (refused.Unneeded name) known.is_text w.1 w.2)
+not_both wanted bytes told refused.OtherProblem known w = not_wrong wanted told refused.OtherProblem known.accepted known.as_wanted (wrong_alike wanted bytes told w.0 refused.OtherProblem known.is_text w.1 w.2)
+not_both wanted bytes told (refused.Plan fault) known w = not_wrong wanted told (refused.Plan fault) known.accepted known.as_wanted (wrong_alike wanted bytes told w.0 (refused.Plan fault) known.is_text w.1 w.2)
+not_both wanted bytes told refused.NoFirstPlan known w = not_wrong wanted told refused.NoFirstPlan known.accepted known.as_wanted (wrong_alike wanted bytes told w.0 refused.NoFirstPlan known.is_text w.1 w.2)
+not_both wanted bytes told (refused.Low name k) known w = not_wrong wanted told (refused.Low name k) known.accepted known.as_wanted (wrong_alike wanted bytes told w.0 (refused.Low name k) known.is_text w.1 w.2)
+not_both wanted bytes told (refused.Finished name k) known w = not_wrong wanted told (refused.Finished name k) known.accepted known.as_wanted (wrong_alike wanted bytes told w.0 (refused.Finished name k) known.is_text w.1 w.2)
+not_both wanted bytes told (refused.Missing name) known w = not_wrong wanted told (refused.Missing name) known.accepted known.as_wanted (wrong_alike wanted bytes told w.0 (refused.Missing name) known.is_text w.1 w.2)
+not_both wanted bytes told (refused.Unneeded name) known w = not_wrong wanted told (refused.Unneeded name) known.accepted known.as_wanted (wrong_alike wanted bytes told w.0 (refused.Unneeded name) known.is_text w.1 w.2)
 not_both wanted bytes told refused.Memory known w = w.2
 
 -- two such refusals of a text are the same
-one_of_two : (wanted : Option Problem) (bytes : List ℕ) (r q : Refused) (a b : Script) → IsScriptOf bytes a → IsScriptOf bytes b → IsFirstWrongClaim wanted (claim_of a) r → IsFirstWrongClaim wanted (claim_of b) q → r ≡ q
+one_of_two : (wanted : Option Problem) (bytes : List ℕ) (r q : Refused) (a b : Script) → IsScriptOf bytes a → IsScriptOf bytes b → IsFirstWrongClaim wanted a r → IsFirstWrongClaim wanted b q → r ≡ q
 one_of_two wanted bytes r q a b x y w v =
     let readable = x.0 in
     let head = readable.is_head in
-    one_wrong wanted (claim_of a) r q head.problem w (wrong_alike wanted bytes a b q x y v)
+    one_wrong wanted a r q head.problem w (wrong_alike wanted bytes a b q x y v)
 
 -- so where a text is refused, and memory is not wanted, it is not accepted
 pub rejected : (wanted : Option Problem) (bytes : List ℕ) (r : Refused) → (r ≡ refused.Memory) ⊎ IsRefusal wanted bytes r → r ≢ refused.Memory → IsNotAccepted wanted bytes
@@ -129,4 +132,4 @@ one_shown wanted bytes verdict other a b =
     let known = a.1 in
     let known' = b.1 in
     let same = script_once bytes a.0 b.0 known.is_text known'.is_text in
-    one_verdict_of _ _ _ verdict other a.2 (subst (λ h. IsVerdictOf h.claim (cap h.problem) (option_map length h.plan) other) (sym same.0) b.2)
+    one_verdict_under _ _ _ verdict other a.2 (subst (λ h. IsVerdictUnder h.claim (cap h.problem) (option_map length h.plan) other) (sym same.0) b.2)

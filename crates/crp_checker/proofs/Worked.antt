@@ -22,7 +22,7 @@ abbrev blocking_first : List Node
 blocking_first = nodes_of_each [] before (targets before) (more_of-Tree CutB (more_of-Tree CutL end_of-Tree))
 
 -- where at least 3 is claimed, the first of them is the first that is wrong; the branch above is symbol 1, so it is symbol 2 of the part
-first_is_low : IsFirstWrong 3 (IsLow 3) blocking_first 1
+first_is_low : IsFirstWrong (λ path. 3) (IsLow (λ path. 3)) blocking_first 1
 first_is_low = record {
   before = [];
   node = record { path = 2 ∷ []; place = _; mark = _ };

@@ -7,9 +7,11 @@ use Rattle.crp_bay.specs.Back.{Standing}
 use Rattle.crp_tree.specs.Trees.{Mark, B, L, X, G}
 use Rattle.crp_checker.specs.declared.symbol.Symbol.{Symbol}
 use Rattle.crp_checker.specs.declared.symbol.Symbol.TheVariants as symbols
+use Rattle.crp_checker.specs.declared.need.Need.{Need}
 use Rattle.crp_checker.specs.declared.level.Level.{Level}
 use Rattle.crp_checker.specs.declared.following.Following.{Following}
 use Rattle.crp_checker.specs.declared.line.SymbolLine.{SymbolLine}
+use Rattle.crp_checker.specs.Nodes.{need_of}
 use Rattle.crp_checker.specs.Owed.{Spot, spots_below}
 use Rattle.crp_checker.specs.Symbols.{Walked, Line}
 
@@ -19,6 +21,10 @@ mark_of symbols.B = B
 mark_of symbols.L = L
 mark_of symbols.X = X
 mark_of symbols.G = G
+
+-- what is kept of a head says what each cut needs
+abbrev pub need_by : Need → List ℕ → ℕ
+need_by need = need_of need.claim need.plan
 
 -- the rows of a branch whose turn is still to come
 abbrev pub left : Level → List ℕ

@@ -23,6 +23,7 @@ pub use Rattle.crp_tree.specs.Names
 pub use Rattle.crp_tree.specs.Trees
 pub use Rattle.crp_tree.specs.Claims
 pub use Rattle.crp_tree.specs.Parts
+pub use Rattle.crp_tree.specs.First
 pub use Rattle.crp_cert.specs.Text
 pub use Rattle.crp_cert.specs.Script
 pub use Rattle.crp_cert.specs.ScriptFaults

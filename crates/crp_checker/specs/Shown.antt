@@ -4,14 +4,13 @@ use Rattle.crp_plan.specs.BayNames.{YardBay}
 use Rattle.crp_plan.specs.Bay.{Problem}
 use Rattle.crp_cert.specs.declared.script.Script.{Script}
 use Rattle.crp_checker.specs.declared.verdict.Verdict.{Verdict}
-use Rattle.crp_cert.specs.Script.{claim_of}
 use Rattle.crp_checker.specs.AcceptedTexts.{IsAcceptedText}
 use Rattle.crp_checker.specs.Verdicts.{IsVerdict}
 
 -- the bytes are an accepted text, of the problem that is asked for, if one is, and this is what it shows
 abbrev pub TextShows : Option Problem → List ℕ → Verdict → Type 0
-TextShows wanted bytes verdict = (script : Script) × IsAcceptedText wanted bytes script × IsVerdict (claim_of script) verdict
+TextShows wanted bytes verdict = (script : Script) × IsAcceptedText wanted bytes script × IsVerdict script verdict
 
 -- the bytes are an accepted text for this bay, and this is what it shows
 abbrev pub TextShowsFor : List ℕ → YardBay → Verdict → Type 0
-TextShowsFor bytes bay verdict = (script : Script) × IsAcceptedText None bytes script × (script.head.bay ≡ bay) × IsVerdict (claim_of script) verdict
+TextShowsFor bytes bay verdict = (script : Script) × IsAcceptedText None bytes script × (script.head.bay ≡ bay) × IsVerdict script verdict

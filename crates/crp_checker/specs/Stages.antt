@@ -3,7 +3,7 @@ use Rattle.std.specs.Prelude.{◌≡◌, ◌≢◌, ℕ, ◌+◌, ◌≤◌, Lis
 use Rattle.std.specs.List.{AllByRecursion}
 use Rattle.crp_plan.specs.BayNames.{YardBay}
 use Rattle.crp_plan.specs.Bay.{Problem, Position, IsAt}
-use Rattle.crp_tree.specs.Claims.{Claimed, given_by, names}
+use Rattle.crp_tree.specs.Claims.{given_by, names}
 use Rattle.crp_cert.specs.declared.head.Head.{Head}
 use Rattle.crp_cert.specs.declared.fault.CertFault.{CertFault}
 use Rattle.crp_cert.specs.declared.script.Script.{Script}
@@ -23,24 +23,25 @@ use Rattle.crp_checker.specs.Symbols.{line_after}
 use Rattle.crp_checker.specs.Kept.{line_of}
 use Rattle.crp_checker.specs.Verdicts.{plan_count}
 use Rattle.crp_checker.specs.Openings.{IsBegunWith, named_line, HasNoName}
-use Rattle.crp_checker.specs.Refusals.{HasRightHead, AreRightParts, IsFirstWrongClaim}
+use Rattle.crp_checker.specs.Refusals.{need_in, HasRightHead, AreRightParts, IsFirstWrongClaim}
 
 -- a head, and no part yet
 abbrev pub first_script : Head → Script
 first_script head = record { head = head; parts = [] }
 
--- the first thing that is wrong with the problem, the plan or the nodes of a claim, or that nothing is
-abbrev pub IsNote : Option Problem → Claimed → Option Refused → Type 0
-IsNote wanted claim None = HasRightHead wanted claim × AreRightParts claim
-IsNote wanted claim (Some refused.OtherProblem) = IsFirstWrongClaim wanted claim refused.OtherProblem
-IsNote wanted claim (Some (refused.Plan fault)) = IsFirstWrongClaim wanted claim (refused.Plan fault)
-IsNote wanted claim (Some (refused.Low part symbol)) = IsFirstWrongClaim wanted claim (refused.Low part symbol)
-IsNote wanted claim (Some (refused.Finished part symbol)) = IsFirstWrongClaim wanted claim (refused.Finished part symbol)
-IsNote wanted claim (Some r) = ⊥
+-- the first thing that is wrong with the problem, the plan or the nodes of a script, or that nothing is
+abbrev pub IsNote : Option Problem → Script → Option Refused → Type 0
+IsNote wanted script None = HasRightHead wanted script × AreRightParts script
+IsNote wanted script (Some refused.OtherProblem) = IsFirstWrongClaim wanted script refused.OtherProblem
+IsNote wanted script (Some (refused.Plan fault)) = IsFirstWrongClaim wanted script (refused.Plan fault)
+IsNote wanted script (Some refused.NoFirstPlan) = IsFirstWrongClaim wanted script refused.NoFirstPlan
+IsNote wanted script (Some (refused.Low part symbol)) = IsFirstWrongClaim wanted script (refused.Low part symbol)
+IsNote wanted script (Some (refused.Finished part symbol)) = IsFirstWrongClaim wanted script (refused.Finished part symbol)
+IsNote wanted script (Some r) = ⊥
 
 -- the same of a head
 abbrev pub IsHeadNote : Option Problem → Head → Option Refused → Type 0
-IsHeadNote wanted head note = IsNote wanted (claim_of (first_script head)) note
+IsHeadNote wanted head note = IsNote wanted (first_script head) note
 
 -- the same after one part more of this name, whose first wrong node is this one, if it has one
 abbrev pub note_after : Option Refused → List ℕ → Option Wrong → Option Refused
@@ -53,12 +54,13 @@ note_after None name (Some (wrong.AtEnd k)) = Some (refused.Finished name k)
 pub record AreFindings (wanted : Option Problem) (script : Script) (findings : Findings) : Type 0 where
   pub bay_is : findings.bay ≡ script.head.bay
   pub problem_is : findings.problem ≡ script.head.problem
-  pub claim_is : findings.claim ≡ script.head.claim
+  pub claim_is : findings.need.claim ≡ script.head.claim
+  pub plan_is : findings.need.plan ≡ script.head.plan
   pub count_is : findings.count ≡ plan_count (claim_of script)
   pub line_is : findings.line ≡ first_part script.head + length script.parts
   pub names_are : findings.names ≡ names script.parts
   pub given_are : findings.given.items ≡ flat_map (given_by script.head.problem) script.parts
-  pub note : IsNote wanted (claim_of script) findings.wrong
+  pub note : IsNote wanted script findings.wrong
 
 -- the bytes begin with no head
 abbrev pub HasNoHead : List ℕ → Type 0
@@ -88,7 +90,7 @@ pub record IsAtPart (wanted : Option Problem) (bytes : List ℕ) (findings : Fin
   pub short : length name ≤ 8
   pub is_at : IsAt script.head.problem name place
   pub one_line : AllByRecursion (λ b. b ≢ 10) symbols
-  pub kept_is : line_of kept ≡ line_after script.head.claim (record { path = name; place = place }) symbols
+  pub kept_is : line_of kept ≡ line_after (need_in script) (record { path = name; place = place }) symbols
 
 -- the bytes are the text of a script
 pub record HasEnded (wanted : Option Problem) (bytes : List ℕ) (findings : Findings) : Type 0 where

@@ -21,18 +21,18 @@ pub record Walked : Type 0 where
   pub given : List (List ℕ)
 
 -- what is wrong with the node that symbol number k stands for, if anything is
-abbrev pub wrong_at : ℕ → ℕ → Mark → Spot → Option Wrong
-wrong_at lower k B spot = if nat_lt (length spot.path + blocking spot.place) lower then Some (Low k) else None
-wrong_at lower k L spot = if nat_lt (length spot.path + look_ahead spot.place) lower then Some (Low k) else None
-wrong_at lower k X spot = if spot.place.next == suc spot.place.ordered then Some (AtEnd k) else None
-wrong_at lower k G spot = None
+abbrev pub wrong_at : (List ℕ → ℕ) → ℕ → Mark → Spot → Option Wrong
+wrong_at need k B spot = if nat_lt (length spot.path + blocking spot.place) (need spot.path) then Some (Low k) else None
+wrong_at need k L spot = if nat_lt (length spot.path + look_ahead spot.place) (need spot.path) then Some (Low k) else None
+wrong_at need k X spot = if spot.place.next == suc spot.place.ordered then Some (AtEnd k) else None
+wrong_at need k G spot = None
 
 -- a symbol comes where a tree is owed at this spot, and then others
-abbrev pub walked_on : ℕ → Mark → Spot → List Spot → Walked → Walked
-walked_on lower mark spot owed walked = record {
+abbrev pub walked_on : (List ℕ → ℕ) → Mark → Spot → List Spot → Walked → Walked
+walked_on need mark spot owed walked = record {
   owed = owed_behind mark spot owed;
   count = walked.count + 1;
-  wrong = option_or walked.wrong (wrong_at lower (walked.count + 1) mark spot);
+  wrong = option_or walked.wrong (wrong_at need (walked.count + 1) mark spot);
   given = walked.given ++ given_names (node_at spot mark ∷ []);
 }
 
@@ -53,32 +53,32 @@ symbol_at count b =
     if b == 66 then Some B else (if b == 76 then Some L else (if b == 88 then Some X else (if b == 71 then (if count == 0 then None else Some G) else None)))
 
 -- a symbol comes, where these trees are owed
-abbrev pub paid : ℕ → Mark → List Spot → Line → Line
-paid lower mark [] line = record line { trailing = true }
-paid lower mark (spot ∷ owed) line = record line { walked = walked_on lower mark spot owed line.walked }
+abbrev pub paid : (List ℕ → ℕ) → Mark → List Spot → Line → Line
+paid need mark [] line = record line { trailing = true }
+paid need mark (spot ∷ owed) line = record line { walked = walked_on need mark spot owed line.walked }
 
 -- a symbol comes, or a byte that is none
-abbrev pub gone_on : ℕ → Option Mark → Line → Line
-gone_on lower None line = record line { unknown = true }
-gone_on lower (Some mark) line = paid lower mark line.walked.owed line
+abbrev pub gone_on : (List ℕ → ℕ) → Option Mark → Line → Line
+gone_on need None line = record line { unknown = true }
+gone_on need (Some mark) line = paid need mark line.walked.owed line
 
 -- a byte comes: behind one that may not stand there no other is looked at
-abbrev pub after : ℕ → Line → ℕ → Line
-after lower line b = if line.unknown then line else gone_on lower (symbol_at line.walked.count b) line
+abbrev pub after : (List ℕ → ℕ) → Line → ℕ → Line
+after need line b = if line.unknown then line else gone_on need (symbol_at line.walked.count b) line
 
 -- the line begins
 abbrev pub line_begun : Spot → Line
 line_begun top = record { walked = begun top; trailing = false; unknown = false }
 
 -- what is known of the line after these bytes
-abbrev pub line_after : ℕ → Spot → List ℕ → Line
-line_after lower top bytes = fold (after lower) (line_begun top) bytes
+abbrev pub line_after : (List ℕ → ℕ) → Spot → List ℕ → Line
+line_after need top bytes = fold (after need) (line_begun top) bytes
 
 -- the first wrong node of the list is this one, if one is
-abbrev pub IsFirstOf : ℕ → List Node → Option Wrong → Type 0
-IsFirstOf lower list None = AllByRecursion (IsRight lower) list
-IsFirstOf lower list (Some (Low k)) = IsFirstWrong lower (IsLow lower) list k
-IsFirstOf lower list (Some (AtEnd k)) = IsFirstWrong lower IsAtEnd list k
+abbrev pub IsFirstOf : (List ℕ → ℕ) → List Node → Option Wrong → Type 0
+IsFirstOf need list None = AllByRecursion (IsRight need) list
+IsFirstOf need list (Some (Low k)) = IsFirstWrong need (IsLow need) list k
+IsFirstOf need list (Some (AtEnd k)) = IsFirstWrong need IsAtEnd list k
 
 -- a tree at the top spot begins with these symbols and nodes, and goes on with the trees that pay what is owed
 pub record IsCompleted (top : Spot) (symbols : List ℕ) (list : List Node) (owed : List Spot) (trees : List Tree) : Type 0 where
@@ -88,11 +88,11 @@ pub record IsCompleted (top : Spot) (symbols : List ℕ) (list : List Node) (owe
   pub nodes_are : nodes top.path top.place tree ≡ list ++ nodes_of_all owed trees
 
 -- the symbols are a front of those of a tree at the top spot: whatever pays what is owed completes such a tree, and whatever tree begins so is completed by what pays
-pub record IsOnItsWay (lower : ℕ) (top : Spot) (symbols : List ℕ) (walked : Walked) : Type 0 where
+pub record IsOnItsWay (need : List ℕ → ℕ) (top : Spot) (symbols : List ℕ) (walked : Walked) : Type 0 where
   pub list : List Node
   pub letters : map (λ node. letter node.mark) list ≡ symbols
   pub counted : walked.count ≡ length symbols
-  pub wrong : IsFirstOf lower list walked.wrong
+  pub wrong : IsFirstOf need list walked.wrong
   pub given_are : walked.given ≡ given_names list
   pub few : AllByRecursion (λ spot. length spot.place.heights ≤ 12) walked.owed
   pub completes : (trees : List Tree) → Pay walked.owed trees → IsCompleted top symbols list walked.owed trees
@@ -100,21 +100,21 @@ pub record IsOnItsWay (lower : ℕ) (top : Spot) (symbols : List ℕ) (walked : 
       (trees : List Tree) × Pay walked.owed trees × (more ≡ flat_map symbols_of trees ++ rest)
 
 -- the symbols are those of a whole tree, which is not given away: this is its first wrong node, if it has one, and these paths it gives
-pub record IsWhole (lower : ℕ) (top : Spot) (symbols : List ℕ) (wrong : Option Wrong) (given : List (List ℕ)) : Type 0 where
+pub record IsWhole (need : List ℕ → ℕ) (top : Spot) (symbols : List ℕ) (wrong : Option Wrong) (given : List (List ℕ)) : Type 0 where
   pub tree : Tree
   pub fits : Fits top.place tree
   pub not_given : IsGiven tree → ⊥
   pub symbols_are : symbols ≡ symbols_of tree
-  pub wrong_is : IsFirstOf lower (nodes top.path top.place tree) wrong
+  pub wrong_is : IsFirstOf need (nodes top.path top.place tree) wrong
   pub given_are : given ≡ given_names (nodes top.path top.place tree)
 
 -- where no byte was wrong and none follows the tree: the tree is not whole while one is owed, and else it is
-abbrev pub EndsWalk : ℕ → Spot → List ℕ → List Spot → Option Wrong → List (List ℕ) → Type 0
-EndsWalk lower top bytes [] wrong given = IsWhole lower top bytes wrong given
-EndsWalk lower top bytes (spot ∷ owed) wrong given = ¬ BeginsWithTree top.place bytes
+abbrev pub EndsWalk : (List ℕ → ℕ) → Spot → List ℕ → List Spot → Option Wrong → List (List ℕ) → Type 0
+EndsWalk need top bytes [] wrong given = IsWhole need top bytes wrong given
+EndsWalk need top bytes (spot ∷ owed) wrong given = ¬ BeginsWithTree top.place bytes
 
 -- what the end of the line means: a byte may not stand there, or symbols follow the tree, or the tree is not whole, or it is
-abbrev pub Ends : ℕ → Spot → List ℕ → Walked → (trailing unknown : Bool) → Type 0
-Ends lower top bytes walked trailing true = ¬ AreSymbols bytes
-Ends lower top bytes walked true false = AreSymbols bytes × GoesOnBehindTree top.place bytes
-Ends lower top bytes walked false false = AreSymbols bytes × EndsWalk lower top bytes walked.owed walked.wrong walked.given
+abbrev pub Ends : (List ℕ → ℕ) → Spot → List ℕ → Walked → (trailing unknown : Bool) → Type 0
+Ends need top bytes walked trailing true = ¬ AreSymbols bytes
+Ends need top bytes walked true false = AreSymbols bytes × GoesOnBehindTree top.place bytes
+Ends need top bytes walked false false = AreSymbols bytes × EndsWalk need top bytes walked.owed walked.wrong walked.given

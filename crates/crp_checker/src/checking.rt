@@ -3,7 +3,7 @@ ghost use Rattle.std.specs.Prelude.{◌≡◌, ◌≢◌, ◌≤◌, ◌⊎◌, 
 ghost use Rattle.crp_plan.specs.declared.moves.Move.{Move};
 ghost use Rattle.crp_plan.specs.Bay.{cap, IsPlan, relocations};
 ghost use Rattle.crp_cert.specs.declared.head.Head.{Head};
-ghost use Rattle.crp_cert.specs.Text.{IsHeadOf};
+ghost use Rattle.crp_cert.specs.Text.{bound, IsHeadOf};
 ghost use Rattle.crp_checker.specs.AcceptedTexts.{IsNotAccepted};
 ghost use Rattle.crp_checker.specs.Verdicts.{Says};
 ghost use Rattle.crp_checker.specs.Shown.{TextShows, TextShowsFor};
@@ -26,8 +26,8 @@ pub(crate) fn check_text(alloc: Global, bytes: &[u8]) -> Result<(BayName, Verdic
 }
 
 /// What a certificate shows, where the bytes are the text of one that is accepted: the fewest
-/// relocations of a plan, that there is no plan, or bounds. Else the first fault, or that no memory
-/// is left.
+/// relocations of a plan, that there is no plan, bounds, or that its plan is the first best one. Else
+/// the first fault, or that no memory is left.
 pub fn check(alloc: Global, bytes: &[u8]) -> Result<Verdict, Refused>
     ensures accepted { IfOk result (TextShows None bytes.now) }
     ensures refused { IfErr result (λ refused. (refused ≡ Refused.Memory) ⊎ IsRefusal None bytes.now refused) }
@@ -35,9 +35,9 @@ pub fn check(alloc: Global, bytes: &[u8]) -> Result<Verdict, Refused>
 
     // What this means for the problem that the bytes tell.
     ensures bound { OnOk result ((head : Head) (moves : List Move) → IsHeadOf bytes.now head
-        → IsPlan head.problem moves → head.claim ≤ relocations moves) }
+        → IsPlan head.problem moves → bound head.claim ≤ relocations moves) }
     ensures none { OnOk result ((head : Head) (moves : List Move) → IsHeadOf bytes.now head
-        → head.claim ≡ cap head.problem → IsPlan head.problem moves → ⊥) }
+        → bound head.claim ≡ cap head.problem → IsPlan head.problem moves → ⊥) }
     ensures says { IfOk result (λ verdict. (head : Head) → IsHeadOf bytes.now head
         → Says head.problem verdict) }
 {
@@ -54,9 +54,9 @@ pub fn check_for(alloc: Global, problem: &Problem, bytes: &[u8]) -> Result<Verdi
 
     // What this means for the problem.
     ensures bound { OnOk result ((head : Head) (moves : List Move) → IsHeadOf bytes.now head
-        → IsPlan problem.now moves → head.claim ≤ relocations moves) }
+        → IsPlan problem.now moves → bound head.claim ≤ relocations moves) }
     ensures none { OnOk result ((head : Head) (moves : List Move) → IsHeadOf bytes.now head
-        → head.claim ≡ cap problem.now → IsPlan problem.now moves → ⊥) }
+        → bound head.claim ≡ cap problem.now → IsPlan problem.now moves → ⊥) }
     ensures says { IfOk result (Says problem.now) }
 {
     let mut checker = Checker::new(alloc, Some(problem));

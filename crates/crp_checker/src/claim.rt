@@ -1,7 +1,7 @@
 //! What a certificate shows, once its text is read.
 ghost use Rattle.std.specs.Prelude.{◌≡◌, ◌⊎◌, ℕ, List, Option, None, IfOk, IfErr};
 ghost use Rattle.crp_plan.specs.Bay.{Problem as Statement};
-ghost use Rattle.crp_checker.specs.Verdicts.{IsVerdictOf};
+ghost use Rattle.crp_checker.specs.Verdicts.{IsVerdictOf, IsVerdictUnder};
 ghost use Rattle.crp_checker.specs.Shown.{TextShows, TextShowsFor};
 ghost use Rattle.crp_checker.specs.Stages.{HasEnded};
 ghost use Rattle.crp_checker.specs.Refusals.{IsRefusal};
@@ -10,6 +10,7 @@ use crate::findings::Findings;
 use crate::needed::hold_names;
 use crate::refused::Refused;
 use crate::verdict::Verdict;
+use crp_cert::Claim;
 use crp_plan::BayName;
 use std::alloc::Global;
 
@@ -26,6 +27,16 @@ fn verdict_of(lower: u32, cap: u32, upper: Option<u32>) -> Verdict
     Verdict::Bounds { lower, upper }
 }
 
+/// What is shown under a claim, by the cap, and the relocations of the plan, if there is one.
+fn verdict_under(claim: Claim, cap: u32, count: Option<u32>) -> Verdict
+    ensures { IsVerdictUnder claim cap count result }
+{
+    match claim {
+        Claim::AtLeast(lower) => verdict_of(lower, cap, count),
+        Claim::First(least) => Verdict::First(least),
+    }
+}
+
 /// What the text of a certificate shows, of which this is kept.
 pub fn conclude(alloc: Global, findings: Findings) -> Result<(BayName, Verdict), Refused>
     ensures shown { IfOk result (λ found. (wanted : Option Statement) (bytes : List ℕ) → HasEnded wanted bytes findings
@@ -38,7 +49,7 @@ pub fn conclude(alloc: Global, findings: Findings) -> Result<(BayName, Verdict),
     let Findings {
         bay,
         problem,
-        claim,
+        need,
         count,
         line: _,
         names,
@@ -49,5 +60,5 @@ pub fn conclude(alloc: Global, findings: Findings) -> Result<(BayName, Verdict),
         return Err(refused);
     }
     hold_names(alloc, names.into_vec(), given)?;
-    Ok((bay, verdict_of(claim, problem.cap(), count)))
+    Ok((bay, verdict_under(need.claim, problem.cap(), count)))
 }

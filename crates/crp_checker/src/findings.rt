@@ -1,17 +1,19 @@
 //! What is kept of the lines of a certificate.
-ghost use Rattle.std.specs.Prelude.{◌≡◌, ◌++◌, ◌∷◌, [], ◌+◌, ◌-◌, ◌^◌, min, All, IfSome, IfOk, IfErr, OnOk, length, option_map, Some, None, List, ℕ};
+ghost use Rattle.std.specs.Prelude.{◌≡◌, ◌++◌, ◌∷◌, [], ◌+◌, ◌-◌, ◌^◌, min, All, IfSome, IsTrue, ◌↔◌, IfOk, IfErr, OnOk, length, option_map, Some, None, List, ℕ};
 ghost use Rattle.std.specs.Option.{option_copied};
 ghost use Rattle.crp_plan.specs.Faults.{IsPlanPath, IsPlanFault};
 ghost use Rattle.crp_tree.specs.Names.{Precedes};
 ghost use Rattle.crp_cert.specs.Text.{IsHead, AreRows};
+ghost use Rattle.crp_checker.specs.Refusals.{HasItsPlan};
 ghost use Rattle.crp_checker.specs.Stages.{AreFindings, first_script, IsHeadNote, note_after};
 
+use crate::need::Need;
 use crate::part_names::PartNames;
 use crate::path::Path;
 use crate::refused::Refused;
 use crate::stage::Stage;
 use crate::wrong::Wrong;
-use crp_cert::{CertFault, Head, Rows};
+use crp_cert::{CertFault, Claim, Head, Rows};
 use crp_plan::{BayName, Plan, PlanFault, Problem};
 use std::alloc::{AllocError, Global};
 
@@ -22,8 +24,8 @@ pub struct Findings {
     pub bay: BayName,
     /// The bay and the orders of its containers.
     pub problem: Problem,
-    /// The claimed bound.
-    pub claim: u32,
+    /// What cuts need.
+    pub need: Need,
     /// The relocations of the plan, if there is one.
     pub count: Option<u32>,
     /// The number of the line after the last part, from 1.
@@ -60,8 +62,21 @@ fn check_plan(problem: &Problem, plan: &Option<Rows>) -> Result<(), PlanFault>
     }
 }
 
-/// What is wrong with a head: the problem is not the one that is asked for, or the plan is none of it.
+/// Whether the plan has as many relocations as the bound, where it is claimed to be the first best one.
+fn has_its_plan(claim: Claim, plan: &Option<Rows>) -> bool
+    requires { IfSome plan.now AreRows }
+    ensures { IsTrue result ↔ HasItsPlan claim plan.now }
+{
+    match claim {
+        Claim::AtLeast(_) => true,
+        Claim::First(least) => count_of(plan) == Some(least),
+    }
+}
+
+/// What is wrong with a head: the problem is not the one that is asked for, the plan is none of it, or the claim of the
+/// first best plan is without its plan.
 fn wrong_in(wanted: Option<&Problem>, head: &Head) -> Option<Refused>
+    requires { IsHead head.now }
     ensures { IsHeadNote (option_copied wanted.entry) head.now result }
 {
     if let Some(problem) = wanted {
@@ -69,10 +84,13 @@ fn wrong_in(wanted: Option<&Problem>, head: &Head) -> Option<Refused>
             return Some(Refused::OtherProblem);
         }
     }
-    match check_plan(&head.problem, &head.plan) {
-        Ok(()) => None,
-        Err(fault) => Some(Refused::Plan(fault)),
+    if let Err(fault) = check_plan(&head.problem, &head.plan) {
+        return Some(Refused::Plan(fault));
     }
+    if !has_its_plan(head.claim, &head.plan) {
+        return Some(Refused::NoFirstPlan);
+    }
+    None
 }
 
 /// Adds paths to others.
@@ -115,7 +133,10 @@ impl Findings {
         Findings {
             bay: head.bay,
             problem: head.problem,
-            claim: head.claim,
+            need: Need {
+                claim: head.claim,
+                plan: head.plan,
+            },
             count,
             line,
             names: PartNames::none(alloc),
@@ -135,7 +156,7 @@ impl Findings {
         requires { All (λ other. Precedes other name) self.names }
         ensures bay { IfOk result (λ next. next.bay ≡ self.bay) }
         ensures problem { IfOk result (λ next. next.problem ≡ self.problem) }
-        ensures claim { IfOk result (λ next. next.claim ≡ self.claim) }
+        ensures need { IfOk result (λ next. next.need ≡ self.need) }
         ensures count { IfOk result (λ next. next.count ≡ self.count) }
         ensures line { IfOk result (λ next. next.line ≡ min (self.line + 1) (2 ^ 32 - 1)) }
         ensures names { IfOk result (λ next. next.names ≡ self.names ++ name ∷ []) }

@@ -4,9 +4,10 @@ ghost use Rattle.std.specs.Option.{option_or};
 ghost use Rattle.crp_tree.specs.Trees.{given_names};
 ghost use Rattle.crp_checker.specs.Owed.{node_at, owed_behind};
 ghost use Rattle.crp_checker.specs.Symbols.{begun, walked_on, wrong_at};
-ghost use Rattle.crp_checker.specs.Kept.{mark_of, up, back, pending, owed_by, levels_of, spot_of, pending_above, walked_of};
+ghost use Rattle.crp_checker.specs.Kept.{mark_of, need_by, up, back, pending, owed_by, levels_of, spot_of, pending_above, walked_of};
 
 use crate::level::Level;
+use crate::need::Need;
 use crate::path::Path;
 use crate::symbol::{Symbol, wrong_of};
 use crate::wrong::Wrong;
@@ -95,10 +96,10 @@ impl Following {
     }
 
     /// Counts the symbol of the node that it stands at, and keeps what is wrong with that node, where nothing was wrong before.
-    fn judge(&mut self, lower: u32, symbol: Symbol) -> Result<(), AllocError>
+    fn judge(&mut self, need: &Need, symbol: Symbol) -> Result<(), AllocError>
         ensures count { OnOk result (self.new.count ≡ self.old.count + 1) }
         ensures wrong { OnOk result (self.new.wrong ≡ option_or self.old.wrong
-            (wrong_at lower (self.old.count + 1) (mark_of symbol) (spot_of self.old))) }
+            (wrong_at (need_by need.now) (self.old.count + 1) (mark_of symbol) (spot_of self.old))) }
         ensures place { self.new.place ≡ self.old.place }
         ensures path { self.new.path.items ≡ self.old.path.items }
         ensures levels { levels_of self.new ≡ levels_of self.old }
@@ -109,7 +110,7 @@ impl Following {
         };
         self.count = count;
         if self.wrong.is_none() {
-            self.wrong = wrong_of(lower, count, symbol, &self.path, &self.place);
+            self.wrong = wrong_of(need, count, symbol, &self.path, &self.place);
         }
         Ok(())
     }
@@ -152,11 +153,11 @@ impl Following {
     }
 
     /// A symbol comes where a tree is owed.
-    pub fn meet(&mut self, alloc: Global, lower: u32, symbol: Symbol) -> Result<(), AllocError>
+    pub fn meet(&mut self, alloc: Global, need: &Need, symbol: Symbol) -> Result<(), AllocError>
         ensures { OnOk result (walked_of self.new
-            ≡ walked_on lower (mark_of symbol) (spot_of self.old) (pending_above self.old) (walked_of self.old)) }
+            ≡ walked_on (need_by need.now) (mark_of symbol) (spot_of self.old) (pending_above self.old) (walked_of self.old)) }
     {
-        self.judge(lower, symbol)?;
+        self.judge(need, symbol)?;
         self.enter_or_leave(alloc, symbol)?;
         self.go_on()
     }

@@ -67,7 +67,7 @@ pub fn read_on(
 {
     let mut line = line;
     let len = line_len(bytes);
-    line.feed(alloc, findings.claim, &bytes[..len])?;
+    line.feed(alloc, &findings.need, &bytes[..len])?;
     if len < bytes.len() {
         return Ok((end_part(alloc, findings, name, line)?, len + 1));
     }

@@ -16,6 +16,7 @@ mod laws;
 mod level;
 mod line;
 mod line_end;
+mod need;
 mod needed;
 mod opening;
 mod part_names;
@@ -33,8 +34,8 @@ pub use checking::{check, check_for};
 pub use file::check_file;
 pub use file_checker::{Fed, FileChecker};
 pub use laws::{
-    accepted_or_refused, one_cut, right_or_wrong, shown_or_refused, verdicts_say,
-    written_is_accepted,
+    accepted_or_refused, first_is_best, first_written_is_accepted, one_cut, right_or_wrong,
+    shown_or_refused, verdicts_say, written_is_accepted,
 };
 pub use path::Path;
 pub use refused::Refused;

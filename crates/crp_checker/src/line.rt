@@ -2,11 +2,12 @@
 ghost use Rattle.std.specs.Prelude.{◌≡◌, ◌≤◌, ℕ, List, length, OnOk, IfOk, fold};
 ghost use Rattle.crp_checker.specs.Owed.{Spot};
 ghost use Rattle.crp_checker.specs.Symbols.{after, line_begun, line_after};
-ghost use Rattle.crp_checker.specs.Kept.{line_of};
+ghost use Rattle.crp_checker.specs.Kept.{line_of, need_by};
 ghost use Rattle.crp_checker.specs.Ends.{IsLineEnd};
 
 use crate::following::Following;
 use crate::line_end::LineEnd;
+use crate::need::Need;
 use crate::symbol::symbol_of;
 use crp_bounds::Bounded;
 use std::alloc::{AllocError, Global};
@@ -36,8 +37,8 @@ impl SymbolLine {
     }
 
     /// Reads one byte more.
-    pub fn read(&mut self, alloc: Global, lower: u32, byte: u8) -> Result<(), AllocError>
-        ensures { OnOk result (line_of self.new ≡ after lower (line_of self.old) byte) }
+    pub fn read(&mut self, alloc: Global, need: &Need, byte: u8) -> Result<(), AllocError>
+        ensures { OnOk result (line_of self.new ≡ after (need_by need.now) (line_of self.old) byte) }
     {
         if self.unknown {
             return Ok(());
@@ -47,26 +48,26 @@ impl SymbolLine {
             return Ok(());
         };
         if self.following.owes {
-            return self.following.meet(alloc, lower, symbol);
+            return self.following.meet(alloc, need, symbol);
         }
         self.trailing = true;
         Ok(())
     }
 
     /// Reads a piece.
-    pub fn feed(&mut self, alloc: Global, lower: u32, piece: &[u8]) -> Result<(), AllocError>
-        ensures { OnOk result (line_of self.new ≡ fold (after lower) (line_of self.old) piece.now) }
+    pub fn feed(&mut self, alloc: Global, need: &Need, piece: &[u8]) -> Result<(), AllocError>
+        ensures { OnOk result (line_of self.new ≡ fold (after (need_by need.now)) (line_of self.old) piece.now) }
     {
         for byte in piece {
-            self.read(alloc, lower, *byte)?;
+            self.read(alloc, need, *byte)?;
         }
         Ok(())
     }
 
     /// What the symbols are, now that the line ends.
     pub fn end(self) -> LineEnd
-        ensures { (lower : ℕ) (top : Spot) (bytes : List ℕ) → length top.place.heights ≤ 12
-            → line_of self ≡ line_after lower top bytes → IsLineEnd lower top bytes result }
+        ensures { (needs : List ℕ → ℕ) (top : Spot) (bytes : List ℕ) → length top.place.heights ≤ 12
+            → line_of self ≡ line_after needs top bytes → IsLineEnd needs top bytes result }
     {
         if self.unknown {
             return LineEnd::Unknown;

@@ -18,8 +18,12 @@ pub enum Refused {
     /// The plan is refused.
     #[error("K2 ({0})")]
     Plan(PlanFault),
-    /// The length of a cut's path and its bound are below the claimed bound. Of this fault and the
-    /// next the first symbol decides, part by part.
+    /// The first best plan is claimed, and there is no plan, or one of another count than the bound.
+    #[error("K2")]
+    NoFirstPlan,
+    /// The length of a cut's path and its bound are below what the cut needs: the claimed bound, and one more where the
+    /// first best plan is claimed and the path comes before the plan's. Of this fault and the next the first symbol
+    /// decides, part by part.
     #[error("K3 at part {part} symbol {symbol}")]
     Low { part: Path, symbol: u64 },
     /// A branch stands at a finished position.

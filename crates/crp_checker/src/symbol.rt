@@ -1,8 +1,9 @@
 //! Single symbols, and what is wrong with the nodes that they stand for.
 ghost use Rattle.std.specs.Prelude.{◌≡◌, ◌+◌, length, nat_lt, if◌then◌else◌, Some, None, option_map};
 ghost use Rattle.crp_checker.specs.Symbols.{symbol_at, wrong_at};
-ghost use Rattle.crp_checker.specs.Kept.{mark_of};
+ghost use Rattle.crp_checker.specs.Kept.{mark_of, need_by};
 
+use crate::need::Need;
 use crate::wrong::Wrong;
 use crp_bounds::Bounded;
 
@@ -32,11 +33,11 @@ pub fn symbol_of(count: u64, byte: u8) -> Option<Symbol>
     }
 }
 
-/// Whether a cut at a path has a value below the claimed bound.
-fn low_at(lower: u32, number: u64, path: &[u8], bound: u32) -> Option<Wrong>
-    ensures { result ≡ (if nat_lt (length path.now + bound) lower then Some (Wrong.Low number) else None) }
+/// Whether a cut at a path has a value below what it needs.
+fn low_at(need: &Need, number: u64, path: &[u8], bound: u32) -> Option<Wrong>
+    ensures { result ≡ (if nat_lt (length path.now + bound) (need_by need.now path.now) then Some (Wrong.Low number) else None) }
 {
-    if (bound as usize) < (lower as usize).saturating_sub(path.len()) {
+    if (bound as usize) < need.at(path).saturating_sub(path.len()) {
         return Some(Wrong::Low { symbol: number });
     }
     None
@@ -44,17 +45,17 @@ fn low_at(lower: u32, number: u64, path: &[u8], bound: u32) -> Option<Wrong>
 
 /// What is wrong with the node at a path, which leads to this position, that the symbol with this number stands for.
 pub fn wrong_of(
-    lower: u32,
+    need: &Need,
     number: u64,
     symbol: Symbol,
     path: &[u8],
     place: &Bounded,
 ) -> Option<Wrong>
-    ensures { result ≡ wrong_at lower number (mark_of symbol) (record { path = path.now; place = place.now.place }) }
+    ensures { result ≡ wrong_at (need_by need.now) number (mark_of symbol) (record { path = path.now; place = place.now.place }) }
 {
     match symbol {
-        Symbol::B => low_at(lower, number, path, place.blocking()),
-        Symbol::L => low_at(lower, number, path, place.look_ahead()),
+        Symbol::B => low_at(need, number, path, place.blocking()),
+        Symbol::L => low_at(need, number, path, place.look_ahead()),
         Symbol::X if place.position().is_done() => Some(Wrong::AtEnd { symbol: number }),
         Symbol::X | Symbol::G => None,
     }

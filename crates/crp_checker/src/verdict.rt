@@ -12,4 +12,7 @@ pub enum Verdict {
         /// The relocations of the plan that was found, if one was.
         upper: Option<u32>,
     },
+    /// The plan of the certificate has the fewest relocations, so many, and of all plans with as many
+    /// its path is the first.
+    First(u32),
 }

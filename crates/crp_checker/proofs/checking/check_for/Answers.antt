@@ -3,7 +3,6 @@ use Rattle.std.proofs.lemmas.Result.{err_from_is_err_and}
 use Rattle.crp_plan.specs.Bay.{cap, IsPlan}
 use Rattle.crp_cert.specs.declared.head.Head.{Head}
 use Rattle.crp_cert.specs.Text.{IsHeadOf}
-use Rattle.crp_cert.specs.Script.{claim_of}
 use Rattle.crp_checker.specs.declared.refused.Refused.TheVariants as refused
 use Rattle.crp_checker.specs.Verdicts.{Says}
 use Rattle.crp_checker.specs.Shown.{TextShows}
@@ -56,4 +55,4 @@ pub returns-clause-says : goal.returns-clause-says
 returns-clause-says c =
     let d = (goal.at.returns-clause-says c).In_ok-verdict in
     let text = shown d in
-    subst (λ p. Says p c.in_ok-verdict.verdict) (sym text.1.as_wanted) (says_from (claim_of text.0) c.in_ok-verdict.verdict text.1.accepted text.2)
+    subst (λ p. Says p c.in_ok-verdict.verdict) (sym text.1.as_wanted) (says_from text.0 c.in_ok-verdict.verdict text.1.accepted text.2)

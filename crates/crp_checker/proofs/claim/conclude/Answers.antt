@@ -1,7 +1,7 @@
 use Rattle.std.proofs.Common.{◌↔◌, List, ℕ, Contains, sym, subst}
 use Rattle.std.proofs.lemmas.Result.{err_from_is_err_and}
 use Rattle.crp_tree.specs.Claims.{IsRootOrGiven}
-use Rattle.crp_checker.specs.Verdicts.{IsVerdictOf}
+use Rattle.crp_checker.specs.Verdicts.{IsVerdictUnder}
 use Rattle.crp_checker.specs.Needs.{IsNamesRefusal}
 use Rattle.crp_checker.proofs.Concluded.{refused_by_names, shown_at_end}
 use Rattle.crp_checker.proofs.claim.conclude.Goals as goal
@@ -16,11 +16,11 @@ returns-in_err-hold_names-clause-refused c =
 pub returns-clause-shown : goal.returns-clause-shown
 returns-clause-shown c wanted bytes ended =
     let same = subst (λ (l : List (List ℕ)). (name : List ℕ) → Contains l name ↔ IsRootOrGiven c.args.findings.given.items name) c.into_vec.ensures.value c.in_ok-hold_names.ensures.same in
-    let shown = shown_at_end wanted bytes c.args.findings c.verdict_of.result ended c.in_default.is same (subst (λ n. IsVerdictOf c.args.findings.claim n c.args.findings.count c.verdict_of.result) c.cap.ensures.value c.verdict_of.ensures) in
+    let shown = shown_at_end wanted bytes c.args.findings c.verdict_under.result ended c.in_default.is same (subst (λ n. IsVerdictUnder c.args.findings.need.claim n c.args.findings.count c.verdict_under.result) c.cap.ensures.value c.verdict_under.ensures) in
     (ended.script, shown.0, shown.1)
 
 pub returns-clause-bay : goal.returns-clause-bay
 returns-clause-bay c bytes ended =
     let same = subst (λ (l : List (List ℕ)). (name : List ℕ) → Contains l name ↔ IsRootOrGiven c.args.findings.given.items name) c.into_vec.ensures.value c.in_ok-hold_names.ensures.same in
-    let shown = shown_at_end _ bytes c.args.findings c.verdict_of.result ended c.in_default.is same (subst (λ n. IsVerdictOf c.args.findings.claim n c.args.findings.count c.verdict_of.result) c.cap.ensures.value c.verdict_of.ensures) in
+    let shown = shown_at_end _ bytes c.args.findings c.verdict_under.result ended c.in_default.is same (subst (λ n. IsVerdictUnder c.args.findings.need.claim n c.args.findings.count c.verdict_under.result) c.cap.ensures.value c.verdict_under.ensures) in
     (ended.script, shown.0, sym ended.are.bay_is, shown.1)

@@ -1,0 +1,38 @@
+//! The values that cuts need.
+ghost use Rattle.std.specs.Prelude.{◌≡◌};
+ghost use Rattle.crp_tree.specs.First.{need_at};
+ghost use Rattle.crp_checker.specs.Kept.{need_by};
+
+use crp_cert::{Claim, Rows};
+
+/// What is kept of a head to tell the values that cuts need.
+#[derive(Drop)]
+pub struct Need {
+    /// What is claimed.
+    pub claim: Claim,
+    /// The rows of the plan, if there is one.
+    pub plan: Option<Rows>,
+}
+
+/// The value that a cut at a path needs, where the first best plan is claimed to have so many relocations, and the
+/// plan has these rows: one more before it.
+fn first_need(least: u32, plan: &[u8], path: &[u8]) -> usize
+    ensures { result ≡ need_at least plan.now path.now }
+{
+    if path.cmp(&plan).is_lt() {
+        return least as usize + 1;
+    }
+    least as usize
+}
+
+impl Need {
+    /// The value that a cut at a path needs.
+    pub fn at(&self, path: &[u8]) -> usize
+        ensures { result ≡ need_by self.now path.now }
+    {
+        match (self.claim, &self.plan) {
+            (Claim::First(least), Some(plan)) => first_need(least, plan.as_slice(), path),
+            (claim, _) => claim.bound() as usize,
+        }
+    }
+}
