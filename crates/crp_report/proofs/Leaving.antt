@@ -14,12 +14,14 @@ use Rattle.crp_order.specs.BayProblems.{IsNamed}
 use Rattle.crp_order.specs.declared.bay_problem.BayProblem.{BayProblem}
 use Rattle.crp_solve.specs.declared.answer.Answer.{Answer}
 use Rattle.crp_solve.specs.declared.answer.Answer.TheVariants as answer
-use Rattle.crp_solve.specs.Answers.{IsTrueAnswer}
+use Rattle.crp_solve.specs.Answers.{IsTrueAnswer, IsSolved}
+use Rattle.crp_solve.specs.Chosen.{Chosen}
 use Rattle.crp_report.specs.Answered.{Answered, AreTrueAnswers, plan_in, bay_plans}
 
 -- the plan of a true answer is one of its problem
 plan_of_problem : (p : Problem) (budget : ℕ) (found : Answer) (expanded : ℕ) → IsTrueAnswer p budget found expanded → IfSome (plan_in found) (λ plan. plan.problem ≡ p)
 plan_of_problem p budget (answer.Optimal plan cert) expanded is = is.says.plan_is.of_problem
+plan_of_problem p budget (answer.First plan cert) expanded is = is.says.plan_is.of_problem
 plan_of_problem p budget (answer.NoPlan cert) expanded is = tt
 plan_of_problem p budget (answer.Between lower cert None why) expanded is = tt
 plan_of_problem p budget (answer.Between lower cert (Some plan) why) expanded is = is.says.plan_is.of_problem
@@ -36,20 +38,21 @@ plan_more : (yard : Inventory) (told : BayProblem) (plan : Option Route) (rest :
 plan_more yard told None rest is named all = all
 plan_more yard told (Some plan) rest is named all = (plan_of_bay yard told plan is named, all)
 
-plans_each : (yard : Inventory) (budget : ℕ) (answered : List Answered) → AllByRecursion (λ bay. IsTrueAnswer bay.told.problem budget bay.answer bay.expanded) answered
+plans_each : (yard : Inventory) (chosen : Chosen) (answered : List Answered) → AllByRecursion (λ bay. IsSolved bay.told.problem chosen bay.solved) answered
     → AllByRecursion (IsNamed yard) (map (λ bay. bay.told) answered) → AllByRecursion (IsPlanForBay yard) (bay_plans answered)
-plans_each yard budget [] true_answers named = tt
-plans_each yard budget (bay ∷ answered) true_answers named =
-    plan_more yard bay.told (plan_in bay.answer) (bay_plans answered) (plan_of_problem bay.told.problem budget bay.answer bay.expanded true_answers.0) named.0
-    (plans_each yard budget answered true_answers.1 named.1)
+plans_each yard chosen [] true_answers named = tt
+plans_each yard chosen (bay ∷ answered) true_answers named =
+    let is = true_answers.0 in
+    plan_more yard bay.told (plan_in bay.solved.answer) (bay_plans answered) (plan_of_problem bay.told.problem chosen.budget bay.solved.answer bay.solved.expanded is.answer) named.0
+    (plans_each yard chosen answered true_answers.1 named.1)
 
 -- the plans of true answers to named problems are plans for the bays of the yard
-pub plans_are : (yard : Inventory) (budget : ℕ) (problems : List BayProblem) (answered : List Answered) → AreTrueAnswers budget problems answered → All (IsNamed yard) problems
+pub plans_are : (yard : Inventory) (chosen : Chosen) (problems : List BayProblem) (answered : List Answered) → AreTrueAnswers chosen problems answered → All (IsNamed yard) problems
     → All (IsPlanForBay yard) (bay_plans answered)
-plans_are yard budget problems answered are named =
+plans_are yard chosen problems answered are named =
     let each = each_of (IsNamed yard) problems named in
     let on : AllByRecursion (IsNamed yard) (map (λ bay. bay.told) answered) = subst (AllByRecursion (IsNamed yard)) (sym are.one_for_each) each in
-    all_of (IsPlanForBay yard) (bay_plans answered) (plans_each yard budget answered (each_of _ answered are.each_true) on)
+    all_of (IsPlanForBay yard) (bay_plans answered) (plans_each yard chosen answered (each_of _ answered are.each_true) on)
 
 -- a bay that is none of the answered ones is none of those with plans
 apart_more : (bay own : YardBay) (plan : Option Route) (names : List (List ℕ)) (rest : List BayPlan) → same_bay bay own ≡ false
@@ -61,7 +64,7 @@ apart_more bay own (Some plan) names rest other all = (other, all)
 apart : (bay : YardBay) (answered : List Answered) → AllByRecursion (λ other. same_bay bay other ≡ false) (map (λ told. told.bay) (map (λ a. a.told) answered))
     → AllByRecursion (λ other. same_bay bay other ≡ false) (map (λ p. p.bay) (bay_plans answered))
 apart bay [] others = tt
-apart bay (a ∷ answered) others = apart_more bay a.told.bay (plan_in a.answer) a.told.names (bay_plans answered) others.0 (apart bay answered others.1)
+apart bay (a ∷ answered) others = apart_more bay a.told.bay (plan_in a.solved.answer) a.told.names (bay_plans answered) others.0 (apart bay answered others.1)
 
 once_more : (own : YardBay) (plan : Option Route) (names : List (List ℕ)) (rest : List BayPlan) → AllByRecursion (λ other. same_bay own other ≡ false) (map (λ p. p.bay) rest)
     → IsDistinct same_bay (map (λ p. p.bay) rest)
@@ -74,10 +77,10 @@ once_each : (answered : List Answered) → IsDistinct same_bay (map (λ told. to
 unfolding IsDistinct
 once_each [] once = tt
 once_each (a ∷ answered) once =
-    once_more a.told.bay (plan_in a.answer) a.told.names (bay_plans answered) (apart a.told.bay answered once.0) (once_each answered once.1)
+    once_more a.told.bay (plan_in a.solved.answer) a.told.names (bay_plans answered) (apart a.told.bay answered once.0) (once_each answered once.1)
 
 -- there is one plan for a bay at most
-pub plans_once : (budget : ℕ) (problems : List BayProblem) (answered : List Answered) → AreTrueAnswers budget problems answered
+pub plans_once : (chosen : Chosen) (problems : List BayProblem) (answered : List Answered) → AreTrueAnswers chosen problems answered
     → IsDistinct same_bay (map (λ told. told.bay) problems) → IsDistinct same_bay (map (λ p. p.bay) (bay_plans answered))
-plans_once budget problems answered are once =
+plans_once chosen problems answered are once =
     once_each answered (subst (λ (l : List BayProblem). IsDistinct same_bay (map (λ (told : BayProblem). told.bay) l)) (sym are.one_for_each) once)

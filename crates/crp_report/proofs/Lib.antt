@@ -14,3 +14,4 @@ pub mod YardNames
 pub mod Counts
 pub mod OneText
 pub mod Saying
+pub mod Firsts

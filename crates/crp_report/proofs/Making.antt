@@ -1,12 +1,13 @@
 -- What is told of the bays so far, and of one more.
-use Rattle.std.proofs.Common.{◌≡◌, ◌∙◌, ℕ, suc, List, [], ◌∷◌, ◌++◌, length, Option, Some, None, refl, sym, ap, subst, arith}
+use Rattle.std.proofs.Common.{◌≡◌, ◌∙◌, suc, List, [], ◌∷◌, ◌++◌, length, Option, Some, None, refl, sym, ap, subst, arith}
 use Rattle.std.specs.Prelude.{option_to_list}
 use Rattle.std.specs.List.{cons_option}
 use Rattle.std.proofs.lemmas.List.{map-append}
 use Rattle.std.proofs.lemmas.List.Elements.{All-push, filter_map-append}
 use Rattle.crp_yard.specs.declared.bay_plan.BayPlan.{BayPlan}
 use Rattle.crp_order.specs.declared.bay_problem.BayProblem.{BayProblem}
-use Rattle.crp_solve.specs.Answers.{IsTrueAnswer}
+use Rattle.crp_solve.specs.Answers.{IsSolved}
+use Rattle.crp_solve.specs.Chosen.{Chosen}
 use Rattle.crp_report.specs.declared.telling.ToldBay.{ToldBay}
 use Rattle.crp_report.specs.Answered.{Answered, AreTrueAnswers, bay_plan_in, bay_plans}
 use Rattle.crp_report.specs.Report.{TellsBays, certificates_text}
@@ -14,9 +15,9 @@ use Rattle.crp_report.specs.Telling.{AreTextsOfBay, AreTold}
 use Rattle.crp_report.specs.Writing.{reports_of, certificates_of}
 
 -- true answers to these problems, what is told of them, and their plans
-pub record AreSoFar (budget : ℕ) (problems : List BayProblem) (bays : List ToldBay) (plans : List BayPlan) : Type 0 where
+pub record AreSoFar (chosen : Chosen) (problems : List BayProblem) (bays : List ToldBay) (plans : List BayPlan) : Type 0 where
   pub answered : List Answered
-  pub true_answers : AreTrueAnswers budget problems answered
+  pub true_answers : AreTrueAnswers chosen problems answered
   pub told : AreTold answered bays
   pub plans_are : plans ≡ bay_plans answered
 
@@ -48,18 +49,18 @@ plans_more answered a = filter_map-append bay_plan_in answered (a ∷ []) ∙ ap
     alone None = refl
     alone (Some plan) = refl
 
-pub so_far_none : (budget : ℕ) → AreSoFar budget [] [] []
-so_far_none budget = record { answered = []; true_answers = record { one_for_each = refl; each_true = λ k d within. absurd (omega (arith, within)) }; told = tt; plans_are = refl }
+pub so_far_none : (chosen : Chosen) → AreSoFar chosen [] [] []
+so_far_none chosen = record { answered = []; true_answers = record { one_for_each = refl; each_true = λ k d within. absurd (omega (arith, within)) }; told = tt; plans_are = refl }
 
 -- one more bay is answered and told
-pub so_far_more : (budget : ℕ) (before : List BayProblem) (bays more : List ToldBay) (plans with : List BayPlan) (a : Answered) (t : ToldBay) (plan : Option BayPlan) → AreSoFar budget before bays plans
-    → IsTrueAnswer a.told.problem budget a.answer a.expanded → AreTextsOfBay a t → plan ≡ bay_plan_in a → more ≡ bays ++ t ∷ [] → with ≡ plans ++ option_to_list plan
-    → AreSoFar budget (before ++ a.told ∷ []) more with
-so_far_more budget before bays more plans with a t plan so_far true_answer told plan_is more_is with_is = record {
+pub so_far_more : (chosen : Chosen) (before : List BayProblem) (bays more : List ToldBay) (plans with : List BayPlan) (a : Answered) (t : ToldBay) (plan : Option BayPlan) → AreSoFar chosen before bays plans
+    → IsSolved a.told.problem chosen a.solved → AreTextsOfBay a t → plan ≡ bay_plan_in a → more ≡ bays ++ t ∷ [] → with ≡ plans ++ option_to_list plan
+    → AreSoFar chosen (before ++ a.told ∷ []) more with
+so_far_more chosen before bays more plans with a t plan so_far true_answer told plan_is more_is with_is = record {
   answered = so_far.answered ++ a ∷ [];
   true_answers = record {
     one_for_each = map-append (λ (b : Answered). b.told) so_far.answered (a ∷ []) ∙ ap (λ (l : List BayProblem). l ++ a.told ∷ []) so_far.true_answers.one_for_each;
-    each_true = All-push (λ (b : Answered). IsTrueAnswer b.told.problem budget b.answer b.expanded) so_far.answered a so_far.true_answers.each_true true_answer;
+    each_true = All-push (λ (b : Answered). IsSolved b.told.problem chosen b.solved) so_far.answered a so_far.true_answers.each_true true_answer;
   };
   told = subst (AreTold (so_far.answered ++ a ∷ [])) (sym more_is) (told_more so_far.answered bays a t so_far.told told);
   plans_are = with_is ∙ rw (so_far.plans_are, plan_is) (sym (plans_more so_far.answered a));

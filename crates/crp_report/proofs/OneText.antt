@@ -14,7 +14,7 @@ use Rattle.crp_solve.specs.declared.answer.Cause.{Cause}
 use Rattle.crp_solve.specs.declared.answer.Cause.TheVariants as cause
 use Rattle.crp_report.specs.MoveLines.{TellsMoves}
 use Rattle.crp_report.specs.Report.{Numbers, counts_line, cause_words, TellsPlanIn}
-use Rattle.crp_report.specs.Said.{Said, Optimal, NoPlan, Between, upper_said, said_words, is_settled, BaySaid, bay_text, report_text}
+use Rattle.crp_report.specs.Said.{Said, Optimal, First, NoPlan, Between, upper_said, said_words, is_settled, BaySaid, bay_text, report_text}
 use Rattle.crp_report.proofs.Bytes.{first_same, rest_same, cut_once, all_weaker, IsPlain, IsDigit, are_digits, number_once}
 use Rattle.crp_report.proofs.MoveBodies.{body, body_then, plain_body}
 use Rattle.crp_report.proofs.Counts.{AreSmall}
@@ -88,6 +88,7 @@ lines_once (l ∷ xs) (k ∷ ys) x y a b e =
 
 abbrev pub IsSmall : Said → Type 0
 IsSmall (Optimal count) = count < 2 ^ 64
+IsSmall (First count) = count < 2 ^ 64
 IsSmall NoPlan = Unit {0}
 IsSmall (Between lower upper why) = (lower < 2 ^ 64) × IfSome upper (λ count. count < 2 ^ 64)
 
@@ -115,6 +116,26 @@ upper_once (Some m) (Some n) x y low high e =
     let cut = number_once m n 44 44 x y low high (no_digit_low 44 (omega arith)) (no_digit_low 44 (omega arith)) e in
     (ap Some cut.0, rest_same 44 44 x y cut.1)
 
+-- the words of a first best plan, piece by piece
+first_then : (count : ℕ) (x : List ℕ) → said_words (First count) ++ 10 ∷ x ≡ codes "optimal " ++ (decimal count ++ 32 ∷ (codes "first" ++ 10 ∷ x))
+first_then count x = ap (λ l. codes "optimal " ++ l) (append_assoc (decimal count) (codes " first") (10 ∷ x))
+
+-- after a number the line ends, or it goes on
+first_apart : (m n : ℕ) (x y : List ℕ) → m < 2 ^ 64 → n < 2 ^ 64 → said_words (Optimal m) ++ 10 ∷ x ≡ said_words (First n) ++ 10 ∷ y → ⊥
+first_apart m n x y low high e =
+    let rest : List ℕ = codes "first" ++ 10 ∷ y in
+    let cut = number_once m n 10 32 x rest low high (no_digit_low 10 (omega arith)) (no_digit_low 32 (omega arith))
+    (append_cancel_left (codes "optimal ") (decimal m ++ 10 ∷ x) (decimal n ++ 32 ∷ rest) (e ∙ first_then n y)) in
+    omega (arith, first_same 10 32 x rest cut.1)
+
+first_once : (m n : ℕ) (x y : List ℕ) → m < 2 ^ 64 → n < 2 ^ 64 → said_words (First m) ++ 10 ∷ x ≡ said_words (First n) ++ 10 ∷ y → (m ≡ n) × (x ≡ y)
+first_once m n x y low high e =
+    let here : List ℕ = codes "first" ++ 10 ∷ x in
+    let there : List ℕ = codes "first" ++ 10 ∷ y in
+    let cut = number_once m n 32 32 here there low high (no_digit_low 32 (omega arith)) (no_digit_low 32 (omega arith))
+    (append_cancel_left (codes "optimal ") (decimal m ++ 32 ∷ here) (decimal n ++ 32 ∷ there) (sym (first_then m x) ∙ e ∙ first_then n y)) in
+    (cut.0, rest_same 10 10 x y (append_cancel_left (codes "first") (10 ∷ x) (10 ∷ y) (rest_same 32 32 here there cut.1)))
+
 -- an open bay's words, piece by piece
 between_then : (lower : ℕ) (upper : Option ℕ) (why : Cause) (x : List ℕ)
     → said_words (Between lower upper why) ++ 10 ∷ x ≡ codes "between " ++ (decimal lower ++ (codes " and " ++ (upper_said upper ++ (codes ", " ++ (cause_words why ++ 10 ∷ x)))))
@@ -129,15 +150,26 @@ said_once (Optimal m) (Optimal n) x y low high e =
     let cut = number_once m n 10 10 x y low high (no_digit_low 10 (omega arith)) (no_digit_low 10 (omega arith))
     (append_cancel_left (codes "optimal ") (decimal m ++ 10 ∷ x) (decimal n ++ 10 ∷ y) e) in
     (ap Optimal cut.0, rest_same 10 10 x y cut.1)
+said_once (Optimal m) (First n) x y low high e = absurd (first_apart m n x y low high e)
 said_once (Optimal m) NoPlan x y low high e = absurd (omega (arith, first_same 111 110 (codes "ptimal " ++ (decimal m ++ 10 ∷ x)) (codes "o plan" ++ 10 ∷ y) e))
 said_once (Optimal m) (Between lower upper why) x y low high e =
     absurd (omega (arith, first_same 111 98 (codes "ptimal " ++ (decimal m ++ 10 ∷ x)) (codes "etween " ++ (decimal lower ++ (codes " and " ++ (upper_said upper ++ (codes ", " ++ (cause_words why ++ 10 ∷ y)))))) (e ∙ between_then lower upper why y)))
+said_once (First m) (Optimal n) x y low high e = absurd (first_apart n m y x high low (sym e))
+said_once (First m) (First n) x y low high e = let once = first_once m n x y low high e in (ap First once.0, once.1)
+said_once (First m) NoPlan x y low high e =
+    absurd (omega (arith, first_same 111 110 (codes "ptimal " ++ (decimal m ++ 32 ∷ (codes "first" ++ 10 ∷ x))) (codes "o plan" ++ 10 ∷ y) (sym (first_then m x) ∙ e)))
+said_once (First m) (Between lower upper why) x y low high e =
+    absurd (omega (arith, first_same 111 98 (codes "ptimal " ++ (decimal m ++ 32 ∷ (codes "first" ++ 10 ∷ x))) (codes "etween " ++ (decimal lower ++ (codes " and " ++ (upper_said upper ++ (codes ", " ++ (cause_words why ++ 10 ∷ y)))))) (sym (first_then m x) ∙ e ∙ between_then lower upper why y)))
+said_once NoPlan (First n) x y low high e =
+    absurd (omega (arith, first_same 110 111 (codes "o plan" ++ 10 ∷ x) (codes "ptimal " ++ (decimal n ++ 32 ∷ (codes "first" ++ 10 ∷ y))) (e ∙ first_then n y)))
 said_once NoPlan (Optimal n) x y low high e = absurd (omega (arith, first_same 110 111 (codes "o plan" ++ 10 ∷ x) (codes "ptimal " ++ (decimal n ++ 10 ∷ y)) e))
 said_once NoPlan NoPlan x y low high e = (refl, rest_same 10 10 x y (append_cancel_left (codes "no plan") (10 ∷ x) (10 ∷ y) e))
 said_once NoPlan (Between lower upper why) x y low high e =
     absurd (omega (arith, first_same 110 98 (codes "o plan" ++ 10 ∷ x) (codes "etween " ++ (decimal lower ++ (codes " and " ++ (upper_said upper ++ (codes ", " ++ (cause_words why ++ 10 ∷ y)))))) (e ∙ between_then lower upper why y)))
 said_once (Between lower upper why) (Optimal n) x y low high e =
     absurd (omega (arith, first_same 98 111 (codes "etween " ++ (decimal lower ++ (codes " and " ++ (upper_said upper ++ (codes ", " ++ (cause_words why ++ 10 ∷ x)))))) (codes "ptimal " ++ (decimal n ++ 10 ∷ y)) (sym (between_then lower upper why x) ∙ e)))
+said_once (Between lower upper why) (First n) x y low high e =
+    absurd (omega (arith, first_same 98 111 (codes "etween " ++ (decimal lower ++ (codes " and " ++ (upper_said upper ++ (codes ", " ++ (cause_words why ++ 10 ∷ x)))))) (codes "ptimal " ++ (decimal n ++ 32 ∷ (codes "first" ++ 10 ∷ y))) (sym (between_then lower upper why x) ∙ e ∙ first_then n y)))
 said_once (Between lower upper why) NoPlan x y low high e =
     absurd (omega (arith, first_same 98 110 (codes "etween " ++ (decimal lower ++ (codes " and " ++ (upper_said upper ++ (codes ", " ++ (cause_words why ++ 10 ∷ x)))))) (codes "o plan" ++ 10 ∷ y) (sym (between_then lower upper why x) ∙ e)))
 said_once (Between lower upper why) (Between lower' upper' why') x y low high e =

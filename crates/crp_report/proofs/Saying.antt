@@ -11,7 +11,8 @@ use Rattle.crp_plan.proofs.Tallies.{cap_low}
 use Rattle.crp_solve.specs.declared.answer.Answer.{Answer}
 use Rattle.crp_solve.specs.declared.answer.Answer.TheVariants as answer
 use Rattle.crp_solve.specs.declared.answer.Cause.TheVariants as cause
-use Rattle.crp_solve.specs.Answers.{IsTrueAnswer, IsPlanOf}
+use Rattle.crp_solve.specs.Answers.{IsTrueAnswer, IsPlanOf, IsSolved}
+use Rattle.crp_solve.specs.Chosen.{Chosen}
 use Rattle.crp_solve.proofs.Limits.{count_low}
 use Rattle.crp_report.specs.Answered.{Answered, plan_in, status_of, is_decided}
 use Rattle.crp_report.specs.Chosen.{RunChosen}
@@ -28,7 +29,7 @@ use Rattle.crp_report.proofs.OneText.{plan_lines, IsSmall, IsSayable, report_onc
 pub record IsTellable (bay : Answered) : Type 0 where
   pub named : IsYardBay bay.told.bay
   pub plain : AllByRecursion IsPlain bay.told.names
-  pub small : IsSmall (said_by bay.answer)
+  pub small : IsSmall (said_by bay.solved.answer)
 
 -- what is said of bays
 pub record AreSaid (answered : List Answered) (text : List ℕ) : Type 0 where
@@ -40,6 +41,7 @@ pub record AreSaid (answered : List Answered) (text : List ℕ) : Type 0 where
 -- an answer is said in its words
 words_said : (found : Answer) → answer_words found ≡ said_words (said_by found)
 words_said (answer.Optimal plan cert) = refl
+words_said (answer.First plan cert) = refl
 words_said (answer.NoPlan cert) = refl
 words_said (answer.Between lower cert None why) = refl
 words_said (answer.Between lower cert (Some plan) why) = refl
@@ -49,34 +51,40 @@ bays_said [] text can told = record { bays = []; of_each = tt; sayable = tt; is 
 bays_said (bay ∷ answered) text can (first, rest, (lines, plan, first-is), told, is) =
     let k = can.0 in
     let more = bays_said answered rest can.1 told in
-    let b : BaySaid = record { bay = bay.told.bay; said = said_by bay.answer; lines = lines } in
+    let b : BaySaid = record { bay = bay.told.bay; said = said_by bay.solved.answer; lines = lines } in
     record {
       bays = b ∷ more.bays;
       of_each = (record { bay_is = refl; said_is = refl; lines_are = plan }, more.of_each);
-      sayable = (record { named = k.named; small = k.small; lines = plan_lines bay.told.names (plan_in bay.answer) lines k.plain plan }, more.sayable);
-      is = is ∙ ap (λ l. l ++ rest) (first-is ∙ ap (λ w. (bay_words bay.told.bay ++ (w ++ 10 ∷ [])) ++ lines) (words_said bay.answer)) ∙ ap (λ l. bay_text b ++ l) more.is;
+      sayable = (record { named = k.named; small = k.small; lines = plan_lines bay.told.names (plan_in bay.solved.answer) lines k.plain plan }, more.sayable);
+      is = is ∙ ap (λ l. l ++ rest) (first-is ∙ ap (λ w. (bay_words bay.told.bay ++ (w ++ 10 ∷ [])) ++ lines) (words_said bay.solved.answer)) ∙ ap (λ l. bay_text b ++ l) more.is;
     }
 
 -- as many are settled as are decided
 settled : (found : Answer) → is_settled (said_by found) ≡ is_decided (status_of found)
 settled (answer.Optimal plan cert) = refl
+settled (answer.First plan cert) = refl
 settled (answer.NoPlan cert) = refl
 settled (answer.Between lower cert plan cause.Budget) = refl
 settled (answer.Between lower cert plan cause.Memory) = refl
 
 settled_from : (answered : List Answered) (bays : List BaySaid) → AllZip IsSaidOf answered bays → (n : ℕ)
-    → fold (λ m (b : BaySaid). m + cond (is_settled b.said) 1 0) n bays ≡ fold (λ m (bay : Answered). m + cond (is_decided (status_of bay.answer)) 1 0) n answered
+    → fold (λ m (b : BaySaid). m + cond (is_settled b.said) 1 0) n bays ≡ fold (λ m (bay : Answered). m + cond (is_decided (status_of bay.solved.answer)) 1 0) n answered
 settled_from [] [] said n = refl
 settled_from [] (b ∷ bays) said n = absurd said
 settled_from (bay ∷ answered) [] said n = absurd said
 settled_from (bay ∷ answered) (b ∷ bays) said n =
     let first = said.0 in
-    let e : is_settled b.said ≡ is_decided (status_of bay.answer) = ap is_settled first.said_is ∙ settled bay.answer in
-    rw e (settled_from answered bays said.1 (n + cond (is_decided (status_of bay.answer)) 1 0))
+    let e : is_settled b.said ≡ is_decided (status_of bay.solved.answer) = ap is_settled first.said_is ∙ settled bay.solved.answer in
+    rw e (settled_from answered bays said.1 (n + cond (is_decided (status_of bay.solved.answer)) 1 0))
 
 -- what is said of small numbers
 small_answer : (p : Problem) (budget : ℕ) (found : Answer) (expanded : ℕ) → IsTrueAnswer p budget found expanded → IsSmall (said_by found)
 small_answer p budget (answer.Optimal plan cert) expanded t =
+    let o = t.says in
+    let ok = t.accepted in
+    let low = count_low p (Some plan) ok.is_problem o.plan_is in
+    let few = cap_low p ok.is_problem in omega (arith, low, few)
+small_answer p budget (answer.First plan cert) expanded t =
     let o = t.says in
     let ok = t.accepted in
     let low = count_low p (Some plan) ok.is_problem o.plan_is in
@@ -96,12 +104,19 @@ small_answer p budget (answer.Between lower cert plan why) expanded t =
         let low = count_low p (Some route) problem is in
         let few = cap_low p problem in omega (arith, low, few)
 
-tellable : (budget : ℕ) (answered : List Answered) → AllByRecursion IsNamedProblem (map (λ bay. bay.told) answered)
-    → AllByRecursion (λ bay. IsTrueAnswer bay.told.problem budget bay.answer bay.expanded) answered → AllByRecursion IsTellable answered
-tellable budget [] named t = tt
-tellable budget (bay ∷ answered) named t =
+tellable : (chosen : Chosen) (answered : List Answered) → AllByRecursion IsNamedProblem (map (λ bay. bay.told) answered)
+    → AllByRecursion (λ bay. IsSolved bay.told.problem chosen bay.solved) answered → AllByRecursion IsTellable answered
+tellable chosen [] named t = tt
+tellable chosen (bay ∷ answered) named t =
     let name = named.0 in
-    (record { named = name.bay; plain = plain_names bay.told.names name.names; small = small_answer bay.told.problem budget bay.answer bay.expanded t.0 }, tellable budget answered named.1 t.1)
+    let is = t.0 in (
+      record {
+        named = name.bay;
+        plain = plain_names bay.told.names name.names;
+        small = small_answer bay.told.problem chosen.budget bay.solved.answer bay.solved.expanded is.answer;
+      },
+      tellable chosen answered named.1 t.1,
+    )
 
 -- the problems of a run have names
 pub answered_named : (chosen : RunChosen) (seen : Seen) (m : Made) → IsMade chosen seen m → AllByRecursion IsNamedProblem (map (λ bay. bay.told) m.answered)
@@ -118,9 +133,9 @@ pub record HasSaid (m : Made) : Type 0 where
 pub run_says : (chosen : RunChosen) (seen : Seen) (m : Made) → IsMade chosen seen m → HasSaid m
 run_says chosen seen m is =
     let t = is.true_answers in
-    let each = recursion_from_All (λ (bay : Answered). IsTrueAnswer bay.told.problem chosen.search.budget bay.answer bay.expanded) m.answered t.each_true in
+    let each = recursion_from_All (λ (bay : Answered). IsSolved bay.told.problem chosen.search bay.solved) m.answered t.each_true in
     let report = is.report in
-    let are = bays_said m.answered report.0 (tellable chosen.search.budget m.answered (answered_named chosen seen m is) each) report.1 in
+    let are = bays_said m.answered report.0 (tellable chosen.search m.answered (answered_named chosen seen m is) each) report.1 in
     let n = numbers_of m.yard m.orders m.sequence in
     let count : count_by (λ (b : BaySaid). is_settled b.said) are.bays ≡ decided m.answered = settled_from m.answered are.bays are.of_each 0 in
     record {

@@ -1,5 +1,5 @@
 -- What a search said of a bay, and of all bays together.
-use Rattle.std.specs.Prelude.{◌≡◌, ℕ, Bool, true, false, List, map, All, Option, Some, None, option_map, if◌then◌else◌}
+use Rattle.std.specs.Prelude.{◌≡◌, Bool, true, false, List, map, All, Option, Some, None, option_map, if◌then◌else◌}
 use Rattle.std.specs.List.{list_any, filter_map}
 use Rattle.crp_plan.specs.Plans.{Route}
 use Rattle.crp_yard.specs.declared.bay_plan.BayPlan.{BayPlan}
@@ -8,13 +8,16 @@ use Rattle.crp_solve.specs.declared.answer.Answer.{Answer}
 use Rattle.crp_solve.specs.declared.answer.Answer.TheVariants as answer
 use Rattle.crp_solve.specs.declared.answer.Cause.{Cause}
 use Rattle.crp_solve.specs.declared.answer.Cause.TheVariants as cause
-use Rattle.crp_solve.specs.Answers.{IsTrueAnswer}
+use Rattle.crp_solve.specs.declared.answer.Solved.{Solved}
+use Rattle.crp_solve.specs.Answers.{IsSolved}
+use Rattle.crp_solve.specs.Chosen.{Chosen}
 use Rattle.crp_report.specs.declared.status.Status.{Status}
 use Rattle.crp_report.specs.declared.status.Status.TheVariants as status
 
 -- the plan that the answer gives, if it gives one
 abbrev pub plan_in : Answer → Option Route
 plan_in (answer.Optimal plan cert) = Some plan
+plan_in (answer.First plan cert) = Some plan
 plan_in (answer.NoPlan cert) = None
 plan_in (answer.Between lower cert plan why) = plan
 
@@ -26,19 +29,20 @@ status_by cause.Memory = status.Memory
 -- how the search ended
 abbrev pub status_of : Answer → Status
 status_of (answer.Optimal plan cert) = status.Decided
+status_of (answer.First plan cert) = status.Decided
 status_of (answer.NoPlan cert) = status.Decided
 status_of (answer.Between lower cert plan why) = status_by why
 
--- the problem of a bay, the answer to it, and how many positions were expanded for that
+-- the problem of a bay, and how it is solved
 pub record Answered : Type 0 where
   pub told : BayProblem
-  pub answer : Answer
-  pub expanded : ℕ
+  pub solved : Solved
 
--- one true answer for each of the problems, in their order, each within the budget
-pub record AreTrueAnswers (budget : ℕ) (problems : List BayProblem) (answered : List Answered) : Type 0 where
+-- one true answer for each of the problems, in their order: each is what was chosen for a search, within the budget, and by the first best plan where
+-- that was asked for and found
+pub record AreTrueAnswers (chosen : Chosen) (problems : List BayProblem) (answered : List Answered) : Type 0 where
   pub one_for_each : map (λ bay. bay.told) answered ≡ problems
-  pub each_true : All (λ bay. IsTrueAnswer bay.told.problem budget bay.answer bay.expanded) answered
+  pub each_true : All (λ bay. IsSolved bay.told.problem chosen bay.solved) answered
 
 -- the search ended for want of memory
 abbrev pub is_memory : Status → Bool
@@ -61,12 +65,12 @@ is_decided status.Memory = false
 -- how the searches ended together: with want of memory where one did, else with a budget where one did, else with all bays decided
 abbrev pub status_of_all : List Answered → Status
 status_of_all answered =
-    if list_any (λ bay. is_memory (status_of bay.answer)) answered then status.Memory
-    else (if list_any (λ bay. is_budget (status_of bay.answer)) answered then status.Budget else status.Decided)
+    if list_any (λ bay. is_memory (status_of bay.solved.answer)) answered then status.Memory
+    else (if list_any (λ bay. is_budget (status_of bay.solved.answer)) answered then status.Budget else status.Decided)
 
 -- the plan of a bay with the containers of its ranks, if the answer gives one
 abbrev pub bay_plan_in : Answered → Option BayPlan
-bay_plan_in bay = option_map (λ plan. record { bay = bay.told.bay; plan = plan; names = bay.told.names }) (plan_in bay.answer)
+bay_plan_in bay = option_map (λ plan. record { bay = bay.told.bay; plan = plan; names = bay.told.names }) (plan_in bay.solved.answer)
 
 -- the plans of the bays that have one
 abbrev pub bay_plans : List Answered → List BayPlan

@@ -1,15 +1,14 @@
 -- The report of a yard, and the texts beside it. Each line ends with LF.
 use Rattle.std.specs.Prelude.{◌≡◌, ℕ, List, [], ◌∷◌, ◌++◌, length, flat_map, count_by, Option, Some, None, codes, decimal}
 use Rattle.crp_plan.specs.declared.moves.Move.{Move}
-use Rattle.crp_plan.specs.Bay.{start, IsPlan, path_of}
+use Rattle.crp_plan.specs.Bay.{Problem, start, IsPlan, path_of}
 use Rattle.crp_plan.specs.BayNames.{YardBay}
 use Rattle.crp_plan.specs.Plans.{Route}
 use Rattle.crp_solve.specs.declared.answer.Answer.{Answer}
 use Rattle.crp_solve.specs.declared.answer.Answer.TheVariants as answer
 use Rattle.crp_solve.specs.declared.answer.Cause.{Cause}
 use Rattle.crp_solve.specs.declared.answer.Cause.TheVariants as cause
-use Rattle.crp_solve.specs.Answers.{cert_of}
-use Rattle.crp_cert.specs.Writing.{certificate_text}
+use Rattle.crp_cert.specs.Writing.{certificate_text, first_certificate_text}
 use Rattle.crp_yard.specs.Inventory.{Inventory}
 use Rattle.crp_yard.specs.After.{IsAfter}
 use Rattle.crp_yard.specs.Text.{yard_text}
@@ -43,6 +42,7 @@ cause_words cause.Memory = codes "memory"
 -- an answer in words
 abbrev pub answer_words : Answer → List ℕ
 answer_words (answer.Optimal plan cert) = codes "optimal " ++ decimal (length plan.path)
+answer_words (answer.First plan cert) = codes "optimal " ++ (decimal (length plan.path) ++ codes " first")
 answer_words (answer.NoPlan cert) = codes "no plan"
 answer_words (answer.Between lower cert plan why) = codes "between " ++ (decimal lower ++ (codes " and " ++ (upper_words plan ++ (codes ", " ++ cause_words why))))
 
@@ -61,7 +61,7 @@ TellsPlanIn names (Some plan) text = TellsPlan names plan text
 
 -- the line of a bay, and then the move lines of its plan, if there is one
 abbrev pub TellsBay : Answered → List ℕ → Type 0
-TellsBay bay text = (lines : List ℕ) × TellsPlanIn bay.told.names (plan_in bay.answer) lines × (text ≡ answer_line bay.told.bay bay.answer ++ lines)
+TellsBay bay text = (lines : List ℕ) × TellsPlanIn bay.told.names (plan_in bay.solved.answer) lines × (text ≡ answer_line bay.told.bay bay.solved.answer ++ lines)
 
 -- the lines of bays, one bay after the other
 abbrev pub TellsBays : List Answered → List ℕ → Type 0
@@ -70,7 +70,7 @@ TellsBays (bay ∷ bays) text = (first : List ℕ) × (rest : List ℕ) × Tells
 
 -- how many bays are optimal or without a plan
 abbrev pub decided : List Answered → ℕ
-decided answered = count_by (λ bay. is_decided (status_of bay.answer)) answered
+decided answered = count_by (λ bay. is_decided (status_of bay.solved.answer)) answered
 
 -- how many bays there are, and how many of them are decided
 abbrev pub bays_line : ℕ → ℕ → List ℕ
@@ -84,9 +84,16 @@ last_line answered = bays_line (length answered) (decided answered)
 abbrev pub IsReport : Numbers → List Answered → List ℕ → Type 0
 IsReport n answered text = (lines : List ℕ) × TellsBays answered lines × (text ≡ counts_line n ++ (lines ++ last_line answered))
 
+-- the text of the certificate of an answer to a problem, under the name of a bay: that of a first best plan claims it to be that
+abbrev pub text_of : YardBay → Problem → Answer → List ℕ
+text_of bay p (answer.Optimal plan cert) = certificate_text bay p cert (Some plan)
+text_of bay p (answer.First plan cert) = first_certificate_text bay p cert plan
+text_of bay p (answer.NoPlan cert) = certificate_text bay p cert None
+text_of bay p (answer.Between lower cert plan why) = certificate_text bay p cert plan
+
 -- the certificate of a bay
 abbrev pub certificate_of : Answered → List ℕ
-certificate_of bay = certificate_text bay.told.bay bay.told.problem (cert_of bay.answer) (plan_in bay.answer)
+certificate_of bay = text_of bay.told.bay bay.told.problem bay.solved.answer
 
 -- the certificates, one for each bay, in the order of the report
 abbrev pub certificates_text : List Answered → List ℕ

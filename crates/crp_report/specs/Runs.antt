@@ -83,7 +83,7 @@ pub record IsMade (chosen : RunChosen) (s : Seen) (m : Made) : Type 0 where
   pub listed : IsListed chosen m.list m.yard
   pub ordered : AreOrders chosen.code m.message m.orders
   pub in_sequence : IsSequence chosen.mode m.orders.list m.sequence
-  pub true_answers : AreTrueAnswers chosen.search.budget (problems_of m.yard m.sequence) m.answered
+  pub true_answers : AreTrueAnswers chosen.search (problems_of m.yard m.sequence) m.answered
   pub report : IsReport (numbers_of m.yard m.orders m.sequence) m.answered m.report
   pub certificates : m.certificates ≡ certificates_text m.answered
   pub yard_after : IsYardTextAfter m.yard m.answered m.yard_after

@@ -10,10 +10,11 @@ use Rattle.crp_report.specs.Answered.{Answered, plan_in}
 use Rattle.crp_report.specs.Report.{Numbers, counts_line, bay_words, cause_words, bays_line, TellsPlanIn}
 use Rattle.crp_report.specs.Runs.{Made, numbers_of}
 
--- what is said of the fewest relocations: so many; that there is no plan; or at least so many, and no more than the printed plan has, if there is
--- one, and why the search ended
+-- what is said of the fewest relocations: so many; so many, and that the printed plan is the first of those with as many; that there is no plan; or
+-- at least so many, and no more than the printed plan has, if there is one, and why the search ended
 pub data Said : Type 0 where
   Optimal : ℕ → Said
+  First : ℕ → Said
   NoPlan : Said
   Between : ℕ → Option ℕ → Cause → Said
 
@@ -25,12 +26,14 @@ upper_said (Some count) = decimal count
 -- the same in words
 abbrev pub said_words : Said → List ℕ
 said_words (Optimal count) = codes "optimal " ++ decimal count
+said_words (First count) = codes "optimal " ++ (decimal count ++ codes " first")
 said_words NoPlan = codes "no plan"
 said_words (Between lower upper why) = codes "between " ++ (decimal lower ++ (codes " and " ++ (upper_said upper ++ (codes ", " ++ cause_words why))))
 
 -- it settles the bay
 abbrev pub is_settled : Said → Bool
 is_settled (Optimal count) = true
+is_settled (First count) = true
 is_settled NoPlan = true
 is_settled (Between lower upper why) = false
 
@@ -51,14 +54,19 @@ report_text n bays = counts_line n ++ (flat_map bay_text bays ++ bays_line (leng
 -- what an answer says
 abbrev pub said_by : Answer → Said
 said_by (answer.Optimal plan cert) = Optimal (length plan.path)
+said_by (answer.First plan cert) = First (length plan.path)
 said_by (answer.NoPlan cert) = NoPlan
 said_by (answer.Between lower cert plan why) = Between lower (option_map (λ route. length route.path) plan) why
+
+-- the bay is reported with its first best plan
+abbrev pub IsReportedFirst : Answered → Type 0
+IsReportedFirst bay = (count : ℕ) × (said_by bay.solved.answer ≡ First count)
 
 -- this is what is said of a bay that is answered so
 pub record IsSaidOf (bay : Answered) (b : BaySaid) : Type 0 where
   pub bay_is : b.bay ≡ bay.told.bay
-  pub said_is : b.said ≡ said_by bay.answer
-  pub lines_are : TellsPlanIn bay.told.names (plan_in bay.answer) b.lines
+  pub said_is : b.said ≡ said_by bay.solved.answer
+  pub lines_are : TellsPlanIn bay.told.names (plan_in bay.solved.answer) b.lines
 
 -- this is what a run says of its bays, in order: it is said of each as it was answered, and the report is the text of it
 pub record SaysOfBays (m : Made) (bays : List BaySaid) : Type 0 where

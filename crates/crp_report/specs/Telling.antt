@@ -79,7 +79,7 @@ IsNoMessage code given before after (fault.Write sink) = ⊥
 pub record AreTextsOfBay (bay : Answered) (t : ToldBay) : Type 0 where
   pub report : TellsBay bay t.report.items
   pub certificate : t.certificate.items ≡ certificate_of bay
-  pub status : t.status ≡ status_of bay.answer
+  pub status : t.status ≡ status_of bay.solved.answer
 
 -- so it is with each bay
 abbrev pub AreTold : List Answered → List ToldBay → Type 0
@@ -93,7 +93,7 @@ pub record AreTextsOf (chosen : RunChosen) (yard : Inventory) (orders : LoadOrde
   pub sequence : List (List ℕ)
   pub answered : List Answered
   pub in_sequence : IsSequence chosen.mode orders.list sequence
-  pub true_answers : AreTrueAnswers chosen.search.budget (problems_of yard sequence) answered
+  pub true_answers : AreTrueAnswers chosen.search (problems_of yard sequence) answered
   pub first : t.first.items ≡ counts_line (numbers_of yard orders sequence)
   pub bays : AreTold answered t.bays.items
   pub last : t.last.items ≡ last_line answered

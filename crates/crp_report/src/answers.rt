@@ -1,11 +1,10 @@
 //! Answers to the problems of bays.
 ghost use Rattle.std.specs.Prelude.{◌≡◌, IfOk};
-ghost use Rattle.crp_cert.specs.Writing.{certificate_text};
-ghost use Rattle.crp_solve.specs.Answers.{cert_of};
-ghost use Rattle.crp_report.specs.Answered.{plan_in, status_of};
+ghost use Rattle.crp_report.specs.Answered.{status_of};
+ghost use Rattle.crp_report.specs.Report.{text_of};
 
 use crate::status::Status;
-use crp_cert::cert_text;
+use crp_cert::{cert_text, first_text};
 use crp_plan::{BayName, Problem};
 use crp_solve::{Answer, Cause};
 use std::alloc::{AllocError, Global};
@@ -15,7 +14,7 @@ pub fn status_of(answer: &Answer) -> Status
     ensures { result ≡ status_of answer.now }
 {
     match answer {
-        Answer::Optimal { .. } | Answer::NoPlan { .. } => Status::Decided,
+        Answer::Optimal { .. } | Answer::First { .. } | Answer::NoPlan { .. } => Status::Decided,
         Answer::Between {
             cause: Cause::Budget,
             ..
@@ -27,17 +26,18 @@ pub fn status_of(answer: &Answer) -> Status
     }
 }
 
-/// The text of the certificate of an answer to a problem, under the name of a bay.
+/// The text of the certificate of an answer to a problem, under the name of a bay. That of a first best plan claims it to be that.
 pub fn certificate_of(
     alloc: Global,
     bay: &BayName,
     problem: &Problem,
     answer: &Answer,
 ) -> Result<Vec<u8>, AllocError>
-    ensures { IfOk result (λ text. text.items ≡ certificate_text bay.now problem.now (cert_of answer.now) (plan_in answer.now)) }
+    ensures { IfOk result (λ text. text.items ≡ text_of bay.now problem.now answer.now) }
 {
     match answer {
         Answer::Optimal { plan, cert } => cert_text(alloc, bay, problem, cert, Some(plan)),
+        Answer::First { plan, cert } => first_text(alloc, bay, problem, cert, plan),
         Answer::NoPlan { cert } => cert_text(alloc, bay, problem, cert, None),
         Answer::Between { cert, plan, .. } => {
             cert_text(alloc, bay, problem, cert, plan.as_ref())

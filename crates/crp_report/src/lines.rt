@@ -51,6 +51,11 @@ fn push_answer(text: &mut Vec<u8>, answer: &Answer) -> Result<(), AllocError>
             text.extend_from_slice(b"optimal ")?;
             push_decimal(text, plan.count())
         }
+        Answer::First { plan, .. } => {
+            text.extend_from_slice(b"optimal ")?;
+            push_decimal(text, plan.count())?;
+            text.extend_from_slice(b" first")
+        }
         Answer::NoPlan { .. } => text.extend_from_slice(b"no plan"),
         Answer::Between {
             lower,
@@ -104,6 +109,7 @@ pub(crate) fn answer_lines(
 {
     match answer {
         Answer::Optimal { plan, .. } => plan_lines(alloc, plan, names),
+        Answer::First { plan, .. } => plan_lines(alloc, plan, names),
         Answer::Between {
             plan: Some(plan),
             ..

@@ -38,7 +38,7 @@ fn told_of<T: Threads + Wait + Sync>(
     settings: Settings,
 ) -> Result<ToldBays, AllocError>
     ensures told { IfOk result (λ told. (answered : List Answered)
-        × AreTrueAnswers settings.budget (problems_of yard.now sequence.now) answered
+        × AreTrueAnswers settings (problems_of yard.now sequence.now) answered
         × AreTold answered told.bays.items × (told.plans.items ≡ bay_plans answered)) }
     ensures plans { IfOk result (λ told. All (IsPlanForBay yard.now) told.plans.items) }
     ensures once { IfOk result (λ told. IsDistinct same_bay (map (λ plan. plan.bay) told.plans.items)) }

@@ -1,5 +1,5 @@
 //! What is told of each bay.
-ghost use Rattle.std.specs.Prelude.{◌≡◌, ℕ, List, [], ◌∷◌, ◌++◌, IfOk, OnOk, map, option_to_list};
+ghost use Rattle.std.specs.Prelude.{◌≡◌, List, [], ◌∷◌, ◌++◌, IfOk, OnOk, map, option_to_list};
 ghost use Rattle.crp_report.specs.Answered.{Answered, AreTrueAnswers, bay_plan_in, bay_plans};
 ghost use Rattle.crp_report.specs.Report.{TellsBay};
 ghost use Rattle.crp_report.specs.Telling.{AreTextsOfBay, AreTold};
@@ -9,7 +9,7 @@ use crate::lines::{answer_lines, push_answer_line};
 use crate::status::Status;
 use crp_incumbent::Board;
 use crp_order::BayProblem;
-use crp_solve::{Answer, NoGate, Settings, solve};
+use crp_solve::{Answer, NoGate, Settings, Solved, solve};
 use crp_yard::{BayPlan, Container};
 use std::alloc::{AllocError, Global};
 use std::sync::Wait;
@@ -61,9 +61,10 @@ fn bytes_of(alloc: Global, containers: &[Container]) -> Result<Vec<Vec<u8>>, All
 }
 
 // The lines of a bay.
-fn bay_lines(alloc: Global, bay: &BayProblem, answer: &Answer) -> Result<Vec<u8>, AllocError>
-    ensures { IfOk result (λ text. (expanded : ℕ) → TellsBay (record { told = bay.now; answer = answer.now; expanded = expanded }) text.items) }
+fn bay_lines(alloc: Global, bay: &BayProblem, solved: &Solved) -> Result<Vec<u8>, AllocError>
+    ensures { IfOk result (λ text. TellsBay (record { told = bay.now; solved = solved.now }) text.items) }
 {
+    let answer = &solved.answer;
     let names = bytes_of(alloc, bay.names.list())?;
     let lines = answer_lines(alloc, answer, &names)?;
     let mut text = Vec::new(alloc);
@@ -73,11 +74,12 @@ fn bay_lines(alloc: Global, bay: &BayProblem, answer: &Answer) -> Result<Vec<u8>
 }
 
 // The plan of a bay, if there is one.
-fn bay_plan(bay: BayProblem, answer: Answer) -> Option<BayPlan>
-    ensures { (expanded : ℕ) → result ≡ bay_plan_in (record { told = bay; answer = answer; expanded = expanded }) }
+fn bay_plan(bay: BayProblem, solved: Solved) -> Option<BayPlan>
+    ensures { result ≡ bay_plan_in (record { told = bay; solved = solved }) }
 {
-    let plan = match answer {
+    let plan = match solved.answer {
         Answer::Optimal { plan, cert: _cert } => Some(plan),
+        Answer::First { plan, cert: _cert } => Some(plan),
         Answer::NoPlan { cert: _cert } => None,
         Answer::Between {
             plan,
@@ -98,12 +100,12 @@ fn bay_plan(bay: BayProblem, answer: Answer) -> Option<BayPlan>
 }
 
 // Tells the answer to the problem of a bay.
-fn told_bay(alloc: Global, bay: &BayProblem, answer: &Answer) -> Result<ToldBay, AllocError>
-    ensures { IfOk result (λ told. (expanded : ℕ) → AreTextsOfBay (record { told = bay.now; answer = answer.now; expanded = expanded }) told) }
+fn told_bay(alloc: Global, bay: &BayProblem, solved: &Solved) -> Result<ToldBay, AllocError>
+    ensures { IfOk result (AreTextsOfBay (record { told = bay.now; solved = solved.now })) }
 {
-    let report = bay_lines(alloc, bay, answer)?;
-    let certificate = certificate_of(alloc, &bay.bay, &bay.problem, answer)?;
-    let status = status_of(answer);
+    let report = bay_lines(alloc, bay, solved)?;
+    let certificate = certificate_of(alloc, &bay.bay, &bay.problem, &solved.answer)?;
+    let status = status_of(&solved.answer);
     Ok(ToldBay {
         report,
         certificate,
@@ -118,7 +120,7 @@ pub(crate) fn told_bays<T: Threads + Wait + Sync>(
     problems: Vec<BayProblem>,
     settings: Settings,
 ) -> Result<ToldBays, AllocError>
-    ensures { IfOk result (λ told. (answered : List Answered) × AreTrueAnswers settings.budget problems.items answered
+    ensures { IfOk result (λ told. (answered : List Answered) × AreTrueAnswers settings problems.items answered
         × AreTold answered told.bays.items × (told.plans.items ≡ bay_plans answered)) }
 {
     let mut told = ToldBays {
@@ -128,8 +130,8 @@ pub(crate) fn told_bays<T: Threads + Wait + Sync>(
     for bay in problems {
         let board = Board::new(&bay.problem);
         let solved = solve(rt, alloc, &bay.problem, settings, &board, &NoGate)?;
-        let lines = told_bay(alloc, &bay, &solved.answer)?;
-        told.push(lines, bay_plan(bay, solved.answer))?;
+        let lines = told_bay(alloc, &bay, &solved)?;
+        told.push(lines, bay_plan(bay, solved))?;
     }
     Ok(told)
 }

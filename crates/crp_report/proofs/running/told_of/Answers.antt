@@ -12,10 +12,10 @@ pub returns-clause-plans : goal.returns-clause-plans
 returns-clause-plans g c =
     let named = c.in_ok-problems.ensures.named in
     IfOk-weaker c.told_bays.result _ _
-    (λ told h. subst (All (IsPlanForBay c.args.yard.now)) (sym h.3) (plans_are c.args.yard.now c.args.settings.budget c.in_ok-problems.problems.items h.0 h.1 named))
+    (λ told h. subst (All (IsPlanForBay c.args.yard.now)) (sym h.3) (plans_are c.args.yard.now c.args.settings c.in_ok-problems.problems.items h.0 h.1 named))
     c.told_bays.ensures
 
 pub returns-clause-once : goal.returns-clause-once
 returns-clause-once g c =
     let once = c.in_ok-problems.ensures.once in
-    IfOk-weaker c.told_bays.result _ _ (λ told h. rw h.3 (plans_once c.args.settings.budget c.in_ok-problems.problems.items h.0 h.1 once)) c.told_bays.ensures
+    IfOk-weaker c.told_bays.result _ _ (λ told h. rw h.3 (plans_once c.args.settings c.in_ok-problems.problems.items h.0 h.1 once)) c.told_bays.ensures

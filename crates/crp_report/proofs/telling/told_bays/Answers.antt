@@ -11,9 +11,9 @@ loop-bay-preserved g c =
     let rest = c.next.new.self.rest.items in
     let next : c.loop-bay.bay-iterator.rest.items ≡ bay ∷ rest = c.in-Some.ensures.steps.0 in
     let solved = c.in_ok-solved.solved in
-    let found : Answered = record { told = bay; answer = solved.answer; expanded = solved.expanded } in (
+    let found : Answered = record { told = bay; solved = solved } in (
       before ++ bay ∷ [],
       append_assoc before (bay ∷ []) rest ∙ ap (λ (l : List BayProblem). before ++ l) (sym next) ∙ split,
-      so_far_more c.args.settings.budget before _ _ _ _ found c.in_ok-lines.lines c.bay_plan.result so_far c.in_ok-solved.ensures.true_answer (c.in_ok-lines.ensures solved.expanded)
-          (c.bay_plan.ensures solved.expanded) c.in_ok-push.ensures.bays c.in_ok-push.ensures.plans,
+      so_far_more c.args.settings before _ _ _ _ found c.in_ok-lines.lines c.bay_plan.result so_far c.in_ok-solved.ensures.solved c.in_ok-lines.ensures c.bay_plan.ensures
+          c.in_ok-push.ensures.bays c.in_ok-push.ensures.plans,
     )

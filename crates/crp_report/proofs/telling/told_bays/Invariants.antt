@@ -6,4 +6,4 @@ use Rattle.crp_report.proofs.telling.told_bays.Given as goal
 
 abbrev pub invariant-loop-bay : goal.invariant-loop-bay
 invariant-loop-bay g l = (before : List BayProblem) × (before ++ l.bay-iterator.rest.items ≡ l.fn.problems.items)
-    × AreSoFar l.settings.budget before l.told.bays.items l.told.plans.items
+    × AreSoFar l.settings before l.told.bays.items l.told.plans.items
