@@ -2,3 +2,4 @@
 pub mod Replayed
 pub mod Checked
 pub mod Performed
+pub mod Solved

@@ -6,4 +6,6 @@ pub mod Prove
 pub mod Check
 pub mod Checks
 pub mod Chosen
+pub mod Opened
+pub mod Solving
 pub mod Performing

@@ -9,6 +9,7 @@ mod bounding;
 mod checking;
 mod heads;
 mod job;
+mod opening;
 mod outcome;
 mod performing;
 mod proving;

@@ -1,8 +1,7 @@
 //! What a job over one file does with the bytes of that file.
-ghost use Rattle.std.specs.Prelude.{◌≡◌, ◌≤◌, MatchResult};
-ghost use Rattle.crp_plan.specs.Devices.{most_interruptions};
-ghost use Rattle.crp_commands.specs.Calls.{CallSeen, failures_in, most_failures};
-ghost use Rattle.crp_commands.specs.Performing.{IsOverOneFile, Performs, TellsOfJob};
+ghost use Rattle.std.specs.Prelude.{◌≡◌, MatchResult};
+ghost use Rattle.crp_commands.specs.Calls.{CallSeen};
+ghost use Rattle.crp_commands.specs.Performing.{IsOverOneFile, PerformsIn, TellsOfJobIn};
 
 use crate::bounding::bound;
 use crate::checking::check;
@@ -33,7 +32,7 @@ pub fn perform<T: Threads + Wait + Sync, R: Source, W: Sink>(
       source_after = R.failures reader.new;
       sink_before = W.failures writer.old;
       sink_after = W.failures writer.new;
-    } in MatchResult result (λ status. Performs job.now status seen × (failures_in seen ≤ most_interruptions)) (λ fault. TellsOfJob job.now seen fault × (failures_in seen ≤ most_failures fault)) }
+    } in MatchResult result (PerformsIn job.now seen) (TellsOfJobIn job.now seen) }
 {
     match job {
         Job::Replay(_) => replay(alloc, reader, writer),

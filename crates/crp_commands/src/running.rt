@@ -3,11 +3,14 @@ ghost use Rattle.std.specs.Prelude.{◌≡◌, ◌⊎◌, IfOk, IfErr, MatchResu
 ghost use Rattle.crp_commands.specs.Chosen.{AreChosen, IsSizeWithin};
 ghost use Rattle.crp_report.specs.declared.fault.Fault.{Fault};
 ghost use Rattle.crp_report.specs.Chosen.{RunChosen};
-ghost use Rattle.crp_report.specs.Runs.{SinkSeen, GetsNothing};
+ghost use Rattle.crp_report.specs.Runs.{SinkSeen};
 ghost use Rattle.crp_commands.specs.declared.outcome.ToolFault.TheVariants.{Memory, Run};
-ghost use Rattle.crp_commands.specs.Performing.{IsOverOneFile, IsWithinLimits, file_of, ReportsFile, TellsOfFile, ReportsRun, TellsOfRun, Reports, TellsOf};
+ghost use Rattle.crp_commands.specs.Opened.{IsLeftAlone};
+ghost use Rattle.crp_commands.specs.Solving.{ReportsRun, TellsOfRun};
+ghost use Rattle.crp_commands.specs.Performing.{IsOverOneFile, IsWithinLimits, file_of, ReportsFile, TellsOfFile, Reports, TellsOf};
 
 use crate::job::{Job, SolveSettings};
+use crate::opening::counted;
 use crate::outcome::ToolFault;
 use crate::performing::perform;
 use crate::solving::{Files, solve};
@@ -45,10 +48,8 @@ fn run_on<T: Threads + Wait + Sync, W: Sink>(
     if name == "-" {
         return perform(threads, rt.alloc(), job, &mut Counted::new(rt.stdin()), out);
     }
-    match File::open(rt, name) {
-        Ok(file) => perform(threads, rt.alloc(), job, &mut Counted::new(file), out),
-        Err(_) => Err(ToolFault::Read),
-    }
+    let mut source = counted(File::open(rt, name), ToolFault::Read)?;
+    perform(threads, rt.alloc(), job, &mut source, out)
 }
 
 /// The settings of a run.
@@ -88,8 +89,9 @@ fn solve_with<T: Threads + Wait + Sync, W: Sink>(
 ) -> Result<Status, ToolFault>
     requires { IsSizeWithin chosen.now }
     ensures { let seen : SinkSeen = record { held = W.contents out.old; holds = W.contents out.new; before = W.failures out.old; after = W.failures out.new }
-        in MatchResult result (λ status. (c : RunChosen) × AreChosen chosen.now c × ReportsRun c seen status)
-        (λ fault. (fault ≡ Memory) × GetsNothing seen ⊎ ((c : RunChosen) × (f : Fault) × AreChosen chosen.now c × (fault ≡ Run f) × TellsOfRun c seen f)) }
+        in MatchResult result (λ status. (c : RunChosen) × AreChosen chosen.now c × ReportsRun files.entry.cert files.entry.after c seen status)
+        (λ fault. (fault ≡ Memory) × IsLeftAlone seen
+        ⊎ ((c : RunChosen) × (f : Fault) × AreChosen chosen.now c × (fault ≡ Run f) × TellsOfRun files.entry.cert files.entry.after c seen f)) }
 {
     let settings = settings_of(rt.alloc(), chosen)?;
     solve(rt, threads, &files, &settings, out)

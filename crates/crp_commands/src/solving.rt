@@ -1,11 +1,12 @@
 //! The command `solve`: opens its files, and runs over them.
-ghost use Rattle.std.specs.Prelude.{◌≡◌, IfErr, MatchResult};
+ghost use Rattle.std.specs.Prelude.{◌≡◌, IfOk, IfErr, MatchResult};
 ghost use Rattle.crp_report.specs.declared.fault.Fault.{Fault};
 ghost use Rattle.crp_report.specs.declared.fault.Fault.TheVariants as run;
-ghost use Rattle.crp_report.specs.Runs.{SinkSeen};
+ghost use Rattle.crp_report.specs.Runs.{Seen, SinkSeen};
 ghost use Rattle.crp_commands.specs.declared.outcome.ToolFault.TheVariants.{Run};
-ghost use Rattle.crp_commands.specs.Performing.{ReportsRun, TellsOfRun};
+ghost use Rattle.crp_commands.specs.Solving.{RunEnds, RunFails, RunEndsAfter, RunFailsAfter, ReportsRun, TellsOfRun};
 
+use crate::opening::counted;
 use crate::outcome::ToolFault;
 use crp_plan::{Counted, Nowhere, Sink, Source};
 use crp_report::{Fault, Input, Output, RunSettings, Status, run};
@@ -27,22 +28,18 @@ pub struct Files<'a> {
 }
 
 fn opened(rt: &HostRuntime, name: &str, input: Input) -> Result<Counted<File>, ToolFault>
-    ensures { IfErr result (λ fault. fault ≡ Run (run.Read input)) }
+    ensures count { IfOk result (λ file. file.failed ≡ 0) }
+    ensures fault { IfErr result (λ fault. fault ≡ Run (run.Read input)) }
 {
-    match File::open(rt, name) {
-        Ok(file) => Ok(Counted::new(file)),
-        Err(_) => Err(ToolFault::Run(Fault::Read(input))),
-    }
+    counted(File::open(rt, name), ToolFault::Run(Fault::Read(input)))
 }
 
 // A file that is there is emptied.
 fn created(rt: &HostRuntime, name: &str, output: Output) -> Result<Counted<File>, ToolFault>
-    ensures { IfErr result (λ fault. fault ≡ Run (run.Write output)) }
+    ensures count { IfOk result (λ file. file.failed ≡ 0) }
+    ensures fault { IfErr result (λ fault. fault ≡ Run (run.Write output)) }
 {
-    match File::create(rt, name) {
-        Ok(file) => Ok(Counted::new(file)),
-        Err(_) => Err(ToolFault::Run(Fault::Write(output))),
-    }
+    counted(File::create(rt, name), ToolFault::Run(Fault::Write(output)))
 }
 
 // Runs over the inputs, and tells a fault of the run as one of the command.
@@ -56,8 +53,13 @@ fn run_to<T: Threads + Wait + Sync, Y: Source, M: Source, W: Sink, C: Sink, A: S
     cert_out: &mut C,
     after_out: &mut A,
 ) -> Result<Status, ToolFault>
-    ensures { let seen : SinkSeen = record { held = W.contents out.old; holds = W.contents out.new; before = W.failures out.old; after = W.failures out.new }
-        in MatchResult result (ReportsRun settings.now seen) (λ fault. (f : Fault) × (fault ≡ Run f) × TellsOfRun settings.now seen f) }
+    ensures { let seen : Seen = record {
+      yard = record { given = Y.remaining yard.old; before = Y.failures yard.old; after = Y.failures yard.new };
+      movins = record { given = M.remaining movins.old; before = M.failures movins.old; after = M.failures movins.new };
+      report = record { held = W.contents out.old; holds = W.contents out.new; before = W.failures out.old; after = W.failures out.new };
+      certificates = record { held = C.contents cert_out.old; holds = C.contents cert_out.new; before = C.failures cert_out.old; after = C.failures cert_out.new };
+      yard_after = record { held = A.contents after_out.old; holds = A.contents after_out.new; before = A.failures after_out.old; after = A.failures after_out.new };
+    } in MatchResult result (RunEnds settings.now seen) (λ fault. (f : Fault) × (fault ≡ Run f) × RunFails settings.now seen f) }
 {
     let alloc = rt.alloc();
     match run(
@@ -79,8 +81,13 @@ fn run_after<T: Threads + Wait + Sync, Y: Source, M: Source, W: Sink, C: Sink>(
     cert_out: &mut C,
     after: Option<&str>,
 ) -> Result<Status, ToolFault>
-    ensures { let seen : SinkSeen = record { held = W.contents out.old; holds = W.contents out.new; before = W.failures out.old; after = W.failures out.new }
-        in MatchResult result (ReportsRun settings.now seen) (λ fault. (f : Fault) × (fault ≡ Run f) × TellsOfRun settings.now seen f) }
+    ensures { let seen : SinkSeen → Seen = λ left. record {
+      yard = record { given = Y.remaining yard.old; before = Y.failures yard.old; after = Y.failures yard.new };
+      movins = record { given = M.remaining movins.old; before = M.failures movins.old; after = M.failures movins.new };
+      report = record { held = W.contents out.old; holds = W.contents out.new; before = W.failures out.old; after = W.failures out.new };
+      certificates = record { held = C.contents cert_out.old; holds = C.contents cert_out.new; before = C.failures cert_out.old; after = C.failures cert_out.new };
+      yard_after = left;
+    } in MatchResult result (RunEndsAfter after.entry settings.now seen) (λ fault. (f : Fault) × (fault ≡ Run f) × RunFailsAfter after.entry settings.now seen f) }
 {
     match after {
         Some(name) => {
@@ -119,7 +126,8 @@ pub fn solve<T: Threads + Wait + Sync, W: Sink>(
     out: &mut W,
 ) -> Result<Status, ToolFault>
     ensures { let seen : SinkSeen = record { held = W.contents out.old; holds = W.contents out.new; before = W.failures out.old; after = W.failures out.new }
-        in MatchResult result (ReportsRun settings.now seen) (λ fault. (f : Fault) × (fault ≡ Run f) × TellsOfRun settings.now seen f) }
+        in MatchResult result (ReportsRun files.now.cert files.now.after settings.now seen)
+        (λ fault. (f : Fault) × (fault ≡ Run f) × TellsOfRun files.now.cert files.now.after settings.now seen f) }
 {
     let mut yard = opened(rt, files.yard, Input::Yard)?;
     let mut movins = opened(rt, files.movins, Input::Movins)?;
