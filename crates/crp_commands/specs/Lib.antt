@@ -9,3 +9,4 @@ pub mod Chosen
 pub mod Opened
 pub mod Solving
 pub mod Performing
+pub mod Advice

@@ -5,6 +5,7 @@
 //! in `specs/Performing.antt`.
 #![tactic(auto)]
 
+mod advice;
 mod bounding;
 mod checking;
 mod heads;
@@ -17,6 +18,7 @@ mod replaying;
 mod running;
 mod solving;
 
+pub use advice::{Place, advice_on, place_of};
 pub use bounding::bound;
 pub use checking::check;
 pub use heads::MOST_BYTES;

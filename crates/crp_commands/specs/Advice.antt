@@ -1,0 +1,59 @@
+-- What the user is told to look at after a fault.
+use Rattle.std.specs.Prelude.{ℕ, Bool, ◌&&◌, ◌++◌, nat_le, nat_lt, List, length, IsTrue, Option, Some, None, option_map, if◌then◌else◌, codes}
+use Rattle.std.specs.List.{list_all}
+use Rattle.std.specs.Str.{bytes_eq}
+use Rattle.crp_report.specs.declared.fault.Input.TheVariants as input
+use Rattle.crp_report.specs.declared.fault.Output.TheVariants as output
+use Rattle.crp_report.specs.declared.fault.Fault.{Fault}
+use Rattle.crp_report.specs.declared.fault.Fault.TheVariants as run
+use Rattle.crp_commands.specs.declared.job.Job.{Job}
+use Rattle.crp_commands.specs.declared.job.Job.TheVariants as job
+use Rattle.crp_commands.specs.declared.outcome.ToolFault.{ToolFault}
+use Rattle.crp_commands.specs.declared.outcome.ToolFault.TheVariants as fault
+use Rattle.crp_commands.specs.declared.advice.Place.{Place}
+use Rattle.crp_commands.specs.declared.advice.Place.TheVariants as place
+use Rattle.crp_commands.specs.Performing.{file_of}
+
+-- a printable ASCII character
+abbrev pub is_printable : ℕ → Bool
+is_printable b = nat_le 32 b && nat_lt b 127
+
+-- one line of plain text: printable ASCII characters, at least one
+abbrev pub IsLine : List ℕ → Type 0
+IsLine text = IsTrue (nat_lt 0 (length text)) × IsTrue (list_all is_printable text)
+
+-- a file, in words
+abbrev pub file_words : List ℕ → List ℕ
+file_words name = codes "the file " ++ name
+
+-- what a job over one file reads, in words: a file named `-` is the standard input
+abbrev pub source_words : List ℕ → List ℕ
+source_words name = if bytes_eq name (codes "-") then codes "the standard input" else file_words name
+
+-- a place, in words
+abbrev pub place_words : Place → List ℕ
+place_words (place.File name) = file_words name.now
+place_words place.StandardInput = codes "the standard input"
+place_words place.StandardOutput = codes "the standard output"
+
+-- what a job over this file could not read or write, in words, where the fault is of that kind; a report goes to the standard output
+abbrev pub failed_in_file : List ℕ → ToolFault → Option (List ℕ)
+failed_in_file name fault.Read = Some (source_words name)
+failed_in_file name fault.Write = Some (codes "the standard output")
+failed_in_file name f = None
+
+-- the same of a run over these files: the yard list, the message, and the two that are written if they are wanted
+abbrev pub failed_in_run : List ℕ → List ℕ → Option (List ℕ) → Option (List ℕ) → Fault → Option (List ℕ)
+failed_in_run yard movins cert after (run.Read input.Yard) = Some (file_words yard)
+failed_in_run yard movins cert after (run.Read input.Movins) = Some (file_words movins)
+failed_in_run yard movins cert after (run.Write output.Report) = Some (codes "the standard output")
+failed_in_run yard movins cert after (run.Write output.Certificates) = option_map file_words cert
+failed_in_run yard movins cert after (run.Write output.YardAfter) = option_map file_words after
+failed_in_run yard movins cert after f = None
+
+-- what the job could not read or write, in words, where the fault is of that kind
+abbrev pub failed_words : Job → ToolFault → Option (List ℕ)
+failed_words (job.Solve yard movins cert after settings) (fault.Run f) =
+    failed_in_run yard.now movins.now (option_map (λ name. name.now) cert) (option_map (λ name. name.now) after) f
+failed_words (job.Solve yard movins cert after settings) f = None
+failed_words j f = failed_in_file (file_of j) f
