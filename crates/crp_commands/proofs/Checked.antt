@@ -27,6 +27,7 @@ by_refusal' P number refused.Memory memory some = memory
 by_refusal' P number (refused.Cert fault) memory some = some (λ e. cc)
 by_refusal' P number refused.OtherProblem memory some = some (λ e. cc)
 by_refusal' P number (refused.Plan fault) memory some = some (λ e. cc)
+by_refusal' P number refused.NoFirstPlan memory some = some (λ e. cc)
 by_refusal' P number (refused.Low part symbol) memory some = some (λ e. cc)
 by_refusal' P number (refused.Finished part symbol) memory some = some (λ e. cc)
 by_refusal' P number (refused.Missing name) memory some = some (λ e. cc)

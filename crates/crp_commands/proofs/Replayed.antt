@@ -6,11 +6,11 @@ use Rattle.crp_cert.specs.declared.fault.CertFault.TheVariants as cert
 use Rattle.crp_cert.specs.Faults.{IsFirstFault}
 use Rattle.crp_cert.specs.declared.head.Head.{Head}
 use Rattle.crp_cert.specs.Text.{IsHeadOf}
-use Rattle.crp_cert.specs.Writing.{certificate_text}
-use Rattle.crp_solve.specs.declared.answer.Answer.{Answer}
-use Rattle.crp_solve.specs.Answers.{IsTrueAnswer, cert_of}
+use Rattle.crp_solve.specs.declared.answer.Solved.{Solved}
+use Rattle.crp_solve.specs.Chosen.{Chosen}
+use Rattle.crp_solve.specs.Answers.{IsSolved}
 use Rattle.crp_commands.specs.Prove.{IsProofOf}
-use Rattle.crp_report.specs.Answered.{plan_in}
+use Rattle.crp_report.specs.Report.{text_of}
 use Rattle.crp_commands.specs.declared.outcome.ToolFault.{ToolFault}
 use Rattle.crp_commands.specs.declared.outcome.ToolFault.TheVariants as fault
 use Rattle.crp_commands.specs.Calls.{CallSeen, IsTextWithin, IsNoHead, Tells, cert_told}
@@ -61,6 +61,6 @@ no_report_told limit seen bytes head (fault.Checked number why) keeps given is n
 no_report_told limit seen bytes head (fault.Run f) keeps given is none = absurd none
 
 -- the certificate of a true answer, as it was made and as it is written
-pub proof_of : (budget expanded : ℕ) (head : Head) (found : Answer) (made written : List ℕ) → IsTrueAnswer head.problem budget found expanded →
-    made ≡ certificate_text head.bay head.problem (cert_of found) (plan_in found) → written ≡ made → IsProofOf budget head found written
-proof_of budget expanded head found made written true' is same = ((expanded, true'), same ∙ is)
+pub proof_of : (chosen : Chosen) (head : Head) (solved : Solved) (made written : List ℕ) → IsSolved head.problem chosen solved →
+    made ≡ text_of head.bay head.problem solved.answer → written ≡ made → IsProofOf chosen head solved written
+proof_of chosen head solved made written answered is same = (answered, same ∙ is)

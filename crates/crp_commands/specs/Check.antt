@@ -23,6 +23,7 @@ plan_words (Some count) = codes ", plan of " ++ decimal count
 -- what a certificate shows, in words
 abbrev pub verdict_words : Verdict → List ℕ
 verdict_words (verdict.Optimal count) = codes "optimal " ++ decimal count
+verdict_words (verdict.First count) = codes "optimal " ++ (decimal count ++ codes " first")
 verdict_words verdict.NoPlan = codes "no plan"
 verdict_words (verdict.Bounds lower upper) = codes "at least " ++ (decimal lower ++ plan_words upper)
 

@@ -48,7 +48,7 @@ abbrev pub Performs : Job → Status → CallSeen → Type 0
 Performs (job.Replay file) ended s = (ended ≡ status.Decided) × Writes MOST_BYTES IsReplay s
 Performs (job.Bound file) ended s = (ended ≡ status.Decided) × Writes MOST_BYTES IsBound s
 Performs (job.Check file) ended s = (ended ≡ status.Decided) × Writes MOST_BYTES IsCheck s
-Performs (job.Prove file search) ended s = Writes MOST_BYTES (IsProof search.budget ended) s
+Performs (job.Prove file search) ended s = Writes MOST_BYTES (IsProof search ended) s
 Performs (job.Solve yard movins cert after settings) ended s = ⊥
 
 -- what a fault tells of the job
@@ -56,7 +56,7 @@ abbrev pub TellsOfJob : Job → CallSeen → ToolFault → Type 0
 TellsOfJob (job.Replay file) s f = Tells MOST_BYTES IsReplay IsNoReplay s f
 TellsOfJob (job.Bound file) s f = Tells MOST_BYTES IsBound IsNoBound s f
 TellsOfJob (job.Check file) s f = TellsOfCheck MOST_BYTES s f
-TellsOfJob (job.Prove file search) s f = Tells MOST_BYTES (IsSomeProof search.budget) IsNoProof s f
+TellsOfJob (job.Prove file search) s f = Tells MOST_BYTES (IsSomeProof search) IsNoProof s f
 TellsOfJob (job.Solve yard movins cert after settings) s f = ⊥
 
 -- what a call saw, of a source and of a sink

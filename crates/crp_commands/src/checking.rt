@@ -38,6 +38,11 @@ fn push_verdict_words(text: &mut Vec<u8>, verdict: Verdict) -> Result<(), AllocE
             text.extend_from_slice(b"optimal ")?;
             push_decimal(text, count)
         }
+        Verdict::First(count) => {
+            text.extend_from_slice(b"optimal ")?;
+            push_decimal(text, count)?;
+            text.extend_from_slice(b" first")
+        }
         Verdict::NoPlan => text.extend_from_slice(b"no plan"),
         Verdict::Bounds { lower, upper } => {
             text.extend_from_slice(b"at least ")?;

@@ -16,7 +16,7 @@ use std::sync::Wait;
 use std::thread::Threads;
 
 /// Solves the problem of the head that a source's bytes begin with, and writes a certificate of the answer. The claim and the
-/// plan of the head are read and not used.
+/// plan of the head are read and not used. Where the first best plan is asked for and found, the certificate claims it to be that.
 pub fn prove<T: Threads + Wait + Sync, R: Source, W: Sink>(
     rt: &T,
     alloc: Global,
@@ -32,7 +32,7 @@ pub fn prove<T: Threads + Wait + Sync, R: Source, W: Sink>(
       source_after = R.failures reader.new;
       sink_before = W.failures writer.old;
       sink_after = W.failures writer.new;
-    } in MatchResult result (λ status. Writes MOST_BYTES (IsProof settings.budget status) seen × (failures_in seen ≤ most_interruptions)) (λ fault. Tells MOST_BYTES (IsSomeProof settings.budget) IsNoProof seen fault × (failures_in seen ≤ most_failures fault)) }
+    } in MatchResult result (λ status. Writes MOST_BYTES (IsProof settings status) seen × (failures_in seen ≤ most_interruptions)) (λ fault. Tells MOST_BYTES (IsSomeProof settings) IsNoProof seen fault × (failures_in seen ≤ most_failures fault)) }
 {
     let mut interruptions = 0;
     let head = head_from(alloc, reader, &mut interruptions)?;
