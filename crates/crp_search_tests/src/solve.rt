@@ -1,4 +1,5 @@
 mod bays;
+mod firsts;
 mod in_world;
 mod settings;
 mod solving;

@@ -14,7 +14,7 @@ use crp_pool::PoolSeat;
 use crp_tree::{Name, Part};
 use std::sync::Wait;
 
-/// What a worker has after it searched a part. There is no part where none was found before the search ended.
+/// What a worker has after it searched a part. There is no part where the search ended before its time.
 pub struct Searched {
     pub(crate) part: Option<Part>,
     pub(crate) seat: Seat,

@@ -45,7 +45,7 @@ pub(crate) fn first_together<R: Threads + Wait + Sync, G: Gate + Sync>(
     first_ended(alloc, problem, shared, budget, done)
 }
 
-/// The first best plan, searched by one worker that shares nothing; this is one of the best plans.
+/// The first best plan, searched by one worker that shares nothing. `known` is one of the best plans.
 pub(crate) fn first_alone(
     alloc: Global,
     problem: &Problem,

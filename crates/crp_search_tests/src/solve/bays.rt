@@ -19,6 +19,13 @@ pub const ONE_EMPTY: Bay = Bay {
     stacks: &[&[1, 2], &[]],
 };
 
+pub const FOUR: Bay = Bay {
+    name: "four containers, two relocations",
+    tiers: 3,
+    ordered: 4,
+    stacks: &[&[1, 4], &[2], &[3]],
+};
+
 pub const SIX: Bay = Bay {
     name: "six containers, three relocations",
     tiers: 3,

@@ -71,8 +71,10 @@ fn push_all_looks(
     settings: Settings,
 ) -> Result<(), AllocError> {
     let solved = solve_alone(alloc, problem, settings)?;
-    let (Answer::Optimal { cert, .. } | Answer::NoPlan { cert } | Answer::Between { cert, .. }) =
-        &solved.answer;
+    let (Answer::Optimal { cert, .. }
+    | Answer::First { cert, .. }
+    | Answer::NoPlan { cert }
+    | Answer::Between { cert, .. }) = &solved.answer;
     for part in cert.parts() {
         push_looks(looks, part.tree())?;
     }

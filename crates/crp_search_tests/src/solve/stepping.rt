@@ -80,7 +80,7 @@ fn close(
 /// What an answer says of the fewest relocations; where there is no plan, the problem's cap.
 fn fewest_of(rt: &impl Abort, answer: &Answer) -> u32 {
     match answer {
-        Answer::Optimal { plan, cert: _ } => plan.count(),
+        Answer::Optimal { plan, cert: _ } | Answer::First { plan, cert: _ } => plan.count(),
         Answer::NoPlan { cert } => cert.lower(),
         Answer::Between {
             lower: _,

@@ -132,6 +132,7 @@ fn kind_of(answer: &Answer) -> (u8, u32) {
         Answer::Optimal { plan, .. } => (0, plan.count()),
         Answer::NoPlan { .. } => (1, 0),
         Answer::Between { lower, .. } => (2, *lower),
+        Answer::First { plan, .. } => (3, plan.count()),
     }
 }
 
