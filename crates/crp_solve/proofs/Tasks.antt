@@ -1,5 +1,5 @@
 -- A group after it searched one part more.
-use Rattle.std.proofs.Common.{length, ◌≡◌, ◌≤◌, ℕ, ◌+◌, List, [], ◌∷◌, ◌++◌, Option, None, Some, IfSome, MatchOption, sym, ap, ◌∙◌, subst, arith}
+use Rattle.std.proofs.Common.{length, ◌≡◌, ◌≤◌, ℕ, ◌+◌, List, [], ◌∷◌, ◌++◌, Option, None, Some, IfSome, sym, ap, ◌∙◌, subst, arith}
 use Rattle.std.proofs.lemmas.List.Elements.{All-append, All-weaker, All-cons, All-nil}
 use Rattle.std.proofs.lemmas.List.Sums.{sum_by-append, sum_by-cons}
 use Rattle.crp_plan.specs.declared.running.View.{View}
@@ -13,7 +13,7 @@ use Rattle.crp_pool.specs.Seats.{PoolSeat, SameSeat}
 use Rattle.crp_pool.proofs.Hands.{weigh-append}
 use Rattle.crp_solve.specs.Searches.{IsSearched}
 use Rattle.crp_solve.specs.Desks.{Fixed, fixed_at, KeepsPlan, IsCountedPart, IsFoundPart}
-use Rattle.crp_solve.specs.Groups.{Crew, Keeping, root_at, roots, given_in, IsCounted, IsKeptSoFar, IsGroup}
+use Rattle.crp_solve.specs.Groups.{Crew, Keeping, with_part, root_at, roots, given_in, IsCounted, IsKeptSoFar, IsGroup}
 use Rattle.crp_solve.proofs.Grouped.{takes-append, puts-append, roots-append, given-append, names-append, searched_later}
 
 -- what stays of a place
@@ -111,6 +111,6 @@ kept_more of v w plan better xs x keeps on k f =
 
 -- so with the part that was found, if one was
 pub kept_later_or_more : (of : Shared) (v w : View) (plan better : Option Route) (xs : List ProblemPart) (found : Option ProblemPart) → KeepsPlan of w better → Advances of.key.problem v w → IsKeptSoFar of v plan xs →
-    IfSome found (IsFoundPart of v w) → MatchOption found (IsKeptSoFar of w better xs) (λ part. IsKeptSoFar of w better (xs ++ part ∷ []))
+    IfSome found (IsFoundPart of v w) → IsKeptSoFar of w better (with_part xs found)
 kept_later_or_more of v w plan better xs None keeps on k f = kept_later of v w plan better xs keeps on k
 kept_later_or_more of v w plan better xs (Some x) keeps on k f = kept_more of v w plan better xs x keeps on k f

@@ -1,9 +1,10 @@
 -- The state of one worker of a search or several, and what it keeps, so that one thread hands it to another.
-use Rattle.std.specs.Prelude.{◌≡◌, ℕ, ◌+◌, ◌<◌, ◌≤◌, length, Bool, false, ◌==◌, if◌then◌else◌, List, [], ◌∷◌, ◌++◌, map, flat_map, sum_by, All, Option}
+use Rattle.std.specs.Prelude.{◌≡◌, ℕ, ◌+◌, ◌<◌, ◌≤◌, length, Bool, false, ◌==◌, if◌then◌else◌, List, [], ◌∷◌, ◌++◌, map, flat_map, sum_by, All, Option, Some, None}
 use Rattle.crp_plan.specs.declared.running.View.{View}
 use Rattle.crp_plan.specs.Plans.{Route}
 use Rattle.crp_tree.specs.Parts.{ProblemPart, given_of, names_of, branches_in}
 use Rattle.crp_plan.specs.Bay.{IsProblem}
+use Rattle.crp_incumbent.specs.Rule.{view_joined}
 use Rattle.crp_incumbent.specs.Seats.{Shared, Seat}
 use Rattle.crp_pool.specs.Weigh.{SameNames}
 use Rattle.crp_pool.specs.Deques.{DequeId}
@@ -46,6 +47,16 @@ pub record IsCounted (view : View) (parts : List ProblemPart) (places : List Poo
 -- what workers keep of their plan and of the parts that they searched, by what they know of their words
 abbrev pub Keeping : Type 1
 Keeping = Shared → View → Option Route → List ProblemPart → Type 0
+
+-- one plan is the better of two: what two workers kept is kept by both together with it, and so are the parts of the first
+pub record IsBetterOf (keeps : Keeping) (plan other better : Option Route) : Type 0 where
+  pub both : (of : Shared) (v w : View) (parts others : List ProblemPart) → keeps of v plan parts → keeps of w other others → keeps of (view_joined v w) better (parts ++ others)
+  pub mine : (of : Shared) (v w : View) (parts others : List ProblemPart) → keeps of v plan parts → keeps of w other others → keeps of (view_joined v w) better parts
+
+-- the parts with one that was found, if one was
+abbrev pub with_part : List ProblemPart → Option ProblemPart → List ProblemPart
+with_part parts None = parts
+with_part parts (Some part) = parts ++ part ∷ []
 
 -- in a search for the fewest relocations: the plan has exactly the relocations that the seat offered; the parts are searched, as far as the seat has
 -- seen, and below the limit at the start

@@ -1,11 +1,11 @@
 //! What a search by many workers is for.
-ghost use Rattle.std.specs.Prelude.{◌≡◌, List, [], ◌∷◌, ◌++◌, Option, IfSome, MatchOption};
+ghost use Rattle.std.specs.Prelude.{◌≡◌, List, Option, IfSome};
 ghost use Rattle.crp_plan.specs.declared.running.View.{View};
 ghost use Rattle.crp_plan.specs.Plans.{Route};
 ghost use Rattle.crp_incumbent.specs.Seats.{Shared};
-ghost use Rattle.crp_incumbent.specs.Rule.{view_joined};
 ghost use Rattle.crp_tree.specs.Parts.{ProblemPart};
 ghost use Rattle.crp_solve.specs.Desks.{fixed_at, IsCountedPart};
+ghost use Rattle.crp_solve.specs.Groups.{IsBetterOf, with_part};
 
 use crate::common::{Common, Gate, Outside};
 use crp_incumbent::Seat;
@@ -29,8 +29,7 @@ pub trait Aim: Drop {
 
     /// The better of two plans.
     fn better_of(plan: Option<Plan>, other: Option<Plan>) -> Option<Plan>
-        ensures both { (of : Shared) (v w : View) (parts others : List ProblemPart) → keeps of v plan parts → keeps of w other others → keeps of (view_joined v w) result (parts ++ others) }
-        ensures mine { (of : Shared) (v w : View) (parts others : List ProblemPart) → keeps of v plan parts → keeps of w other others → keeps of (view_joined v w) result parts };
+        ensures { IsBetterOf keeps plan other result };
 
     /// Searches the part of the name, with this seat, the plan that is kept with it, and a place where names may be put.
     fn search_part<R: Wait, G: Gate>(
@@ -48,5 +47,5 @@ pub trait Aim: Drop {
         ensures share { result.seat.view.share ≡ seat.view.share }
         ensures place { fixed_at result.place ≡ fixed_at place }
         ensures counted { IfSome result.part (IsCountedPart seat.view result.seat.view place result.place name) }
-        ensures kept { (parts : List ProblemPart) → keeps common.now.of seat.view best parts → MatchOption result.part (keeps common.now.of result.seat.view result.best parts) (λ part. keeps common.now.of result.seat.view result.best (parts ++ part ∷ [])) };
+        ensures kept { (parts : List ProblemPart) → keeps common.now.of seat.view best parts → keeps common.now.of result.seat.view result.best (with_part parts result.part) };
 }

@@ -1,6 +1,7 @@
-use Rattle.std.proofs.Common.{◌≡◌, rules, refl, sym, ◌∙◌, ap, subst, Some, ◌∷◌, [], ◌++◌, MatchOption, IfSome}
+use Rattle.std.proofs.Common.{◌≡◌, rules, refl, sym, ◌∙◌, ap, subst, Some, ◌∷◌, [], ◌++◌, IfSome}
 use Rattle.crp_incumbent.specs.Seats.{Shared}
 use Rattle.crp_solve.specs.Desks.{fixed_at, IsCountedPart}
+use Rattle.crp_solve.specs.Groups.{with_part}
 use Rattle.crp_solve.proofs.Tasks.{task_done}
 use Rattle.crp_solve.proofs.working.task.Goals as goal
 
@@ -21,7 +22,7 @@ invariant_of-group-2 g c =
     (subst (λ o. IfSome o (IsCountedPart old.seat.view new.seat.view (Some r) new.place name)) c.in-Some-part.is c.search_part-part.ensures.counted) in
     let kept : keeps of new.seat.view new.best (old.parts.items ++ x ∷ []) =
     subst (λ o. keeps o new.seat.view new.best (old.parts.items ++ x ∷ [])) here
-    (subst (λ o. MatchOption o (keeps c.args.common.now.of new.seat.view new.best old.parts.items) (λ part. keeps c.args.common.now.of new.seat.view new.best (old.parts.items ++ part ∷ []))) c.in-Some-part.is
+    (subst (λ o. keeps c.args.common.now.of new.seat.view new.best (with_part old.parts.items o)) c.in-Some-part.is
     (c.search_part-part.ensures.kept old.parts.items (subst (λ o. keeps o old.seat.view old.best old.parts.items) (sym here) c.group.invariant.kept))) in
     task_done keeps _ _ x c.pop.new.self.items q r s name c.group.invariant (c.search_part-part.ensures.words ∙ here)
     c.in-Some.ensures.items c.in-Some-take.ensures.same.0 c.in-Some-take.ensures.same.1 c.in-Some-take.ensures.taken
