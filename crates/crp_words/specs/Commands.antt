@@ -2,6 +2,7 @@
 use Rattle.std.specs.Prelude.{◌≡◌, true, false, List, [], ◌∷◌, ◌++◌, codes, Some}
 use Rattle.clap.specs.Words.{App, Rule, Shape, Text, app_of, new_rule, rule_of}
 use Rattle.clap.specs.Simple.{new_shape}
+use Rattle.clap.specs.declared.builder.action.ArgAction.TheVariants as action
 use Rattle.clap.specs.declared.builder.arg.Arg.{Arg}
 use Rattle.clap.specs.declared.builder.command.Command.{Command}
 use Rattle.clap.specs.declared.builder.command.Command.TheViews.{out-Command as fields_of}
@@ -27,6 +28,10 @@ number_rule name default = record (text_rule name default) { parser = Some (vp.U
 abbrev pub optional_rule : Text → Rule
 optional_rule name = record (new_rule name) { long = Some name; value_names = 1 }
 
+-- an option that takes no text, and is given or not
+abbrev pub flag_rule : Text → Rule
+flag_rule name = record (new_rule name) { long = Some name; action = Some action.SetTrue }
+
 -- a command with these files and options
 abbrev pub command : Text → List Rule → Shape
 command name rules = record (new_shape name) { rules = rules }
@@ -51,13 +56,21 @@ workers_rule = number_rule (codes "workers") (codes "1")
 abbrev pub split_rule : Rule
 split_rule = number_rule (codes "split") (codes "2")
 
+-- whether the first of all best plans is asked for: it is not where the flag is not given
+abbrev pub first_rule : Rule
+first_rule = flag_rule (codes "first")
+
 -- a command with one option more
 abbrev pub with_option : Rule → Shape → Shape
 with_option rule shape = record shape { rules = shape.rules ++ rule ∷ [] }
 
 -- a command with [--workers N] [--budget N] [--split N]
+abbrev pub with_limits : Shape → Shape
+with_limits shape = with_option split_rule (with_option budget_rule (with_option workers_rule shape))
+
+-- a command with these, and [--first]
 abbrev pub with_search : Shape → Shape
-with_search shape = with_option split_rule (with_option budget_rule (with_option workers_rule shape))
+with_search shape = with_option first_rule (with_limits shape)
 
 -- a command with [--rows N] [--tiers N]
 abbrev pub with_rows : Shape → Shape

@@ -1,5 +1,5 @@
 -- What the words of the command line ask for.
-use Rattle.std.specs.Prelude.{◌≡◌, ℕ, ◌≢◌, ◌⊎◌, ◌==◌, ◌<◌, ◌≤◌, ◌^◌, List, [], ◌∷◌, length, if◌then◌else◌, codes, Option, Some, None, option_map, option_and_then, find, ⊤}
+use Rattle.std.specs.Prelude.{◌≡◌, ℕ, ◌≢◌, ◌↔◌, Bool, IsTrue, ◌⊎◌, ◌==◌, ◌<◌, ◌≤◌, ◌^◌, List, [], ◌∷◌, length, if◌then◌else◌, codes, Option, Some, None, option_map, option_and_then, find, ⊤}
 use Rattle.std.specs.Str.{bytes_eq}
 use Rattle.std.specs.Str.Parse.{IsNumeral, digits_value, without_leading_plus}
 use Rattle.clap.specs.Words.{IsAmong, Kinds, Row, Text, fault_of, first_of, one_of, subcommand_of}
@@ -82,9 +82,13 @@ HasSplit found n = HasNumberWithin (codes "split") 0 8 found n
 abbrev pub IsSplitBeyond : List Row → Type 0
 IsSplitBeyond found = HasNumberBeyond (codes "split") 0 8 found
 
+-- the first of all best plans is asked for exactly where the words give the flag
+abbrev pub MayAskForFirst : List Row → Bool → Type 0
+MayAskForFirst found first = IsTrue first ↔ IsGiven (codes "first") found
+
 -- the settings of a search that were found, within their limits
 abbrev pub HasSearch : List Row → Chosen → Type 0
-HasSearch found s = HasWorkers found s.workers × HasBudget found s.budget × HasSplit found s.split
+HasSearch found s = HasWorkers found s.workers × HasBudget found s.budget × HasSplit found s.split × MayAskForFirst found s.first
 
 -- the rows of a bay that were found, 1 to 12
 abbrev pub FindsRows : List Row → ℕ → Type 0

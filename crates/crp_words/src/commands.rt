@@ -1,9 +1,9 @@
 //! The command line: each command with its files and options.
 ghost use Rattle.std.specs.Prelude.{◌≡◌, IfOk};
 ghost use Rattle.clap.specs.Words.{App, Shape, app_of, with_subcommand};
-ghost use Rattle.crp_words.specs.Commands.{IsArg, IsCommand, alone, budget_rule, crp, file_rule, leaf as leaf_shape, leaves, number_rule, optional_rule, prove as prove_shape, solve as solve_shape, solve_files as solve_files_shape, split_rule, text_rule, top_command as top_shape, with_orders, with_outputs, with_search, with_size, workers_rule};
+ghost use Rattle.crp_words.specs.Commands.{IsArg, IsCommand, alone, budget_rule, crp, file_rule, first_rule, flag_rule, leaf as leaf_shape, leaves, number_rule, optional_rule, prove as prove_shape, solve as solve_shape, solve_files as solve_files_shape, split_rule, text_rule, top_command as top_shape, with_orders, with_outputs, with_search, with_size, workers_rule};
 
-use clap::{Arg, Command, value_parser};
+use clap::{Arg, ArgAction, Command, value_parser};
 use std::alloc::{AllocError, Global};
 
 // A file that has to be named.
@@ -55,6 +55,16 @@ fn optional<'a>(alloc: Global, name: &'a str, shown: &'a str, help: &'a str) -> 
         .help(help)
 }
 
+// An option that takes no text.
+fn flag<'a>(alloc: Global, name: &'a str, help: &'a str) -> Arg<'a>
+    ensures { IsArg (flag_rule name.entry.now) result }
+{
+    Arg::new(alloc, name)
+        .long(name)
+        .action(ArgAction::SetTrue)
+        .help(help)
+}
+
 // A command that takes a file, and no option.
 fn leaf<'a>(
     alloc: Global,
@@ -102,6 +112,16 @@ fn budget<'a>(alloc: Global) -> Arg<'a>
     )
 }
 
+fn first<'a>(alloc: Global) -> Arg<'a>
+    ensures { IsArg first_rule result }
+{
+    flag(
+        alloc,
+        "first",
+        "Give the first of all best plans, whatever the workers do",
+    )
+}
+
 // A command with the options of a search.
 fn with_search<'a>(alloc: Global, command: Command<'a>) -> Result<Command<'a>, AllocError>
     ensures { IfOk result (λ new. (shape : Shape) → IsCommand shape command.entry → IsCommand (with_search shape) new) }
@@ -109,7 +129,8 @@ fn with_search<'a>(alloc: Global, command: Command<'a>) -> Result<Command<'a>, A
     command
         .arg(workers(alloc))?
         .arg(budget(alloc))?
-        .arg(split(alloc))
+        .arg(split(alloc))?
+        .arg(first(alloc))
 }
 
 // The command `prove`.

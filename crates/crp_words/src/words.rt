@@ -196,9 +196,14 @@ fn search_of(alloc: Global, matches: &ArgMatches<'_>) -> Result<Settings, Usage>
         (0, MOST_SPLIT),
         SettingFault::Split,
     )?;
-    match Settings::new(workers as u32, budget, split as u8) {
-        Ok(search) => Ok(search),
+    let search = match Settings::new(workers as u32, budget, split as u8) {
+        Ok(search) => search,
         Err(_) => unreachable!(),
+    };
+    if is_given(matches, "first") {
+        Ok(search.with_first())
+    } else {
+        Ok(search)
     }
 }
 
