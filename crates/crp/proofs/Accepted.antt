@@ -10,26 +10,29 @@ use Rattle.crp_tree.specs.Claims.{IsAccepted, Claimed, path_in}
 use Rattle.crp_tree.specs.Parts.{claimed}
 use Rattle.crp_cert.specs.declared.head.Head.{Head}
 use Rattle.crp_cert.specs.Text.{IsHead}
-use Rattle.crp_cert.specs.Writing.{script_for, CanBeSpelled}
-use Rattle.crp_cert.proofs.Written.{spelled_is_script, claimed_rise}
+use Rattle.crp_cert.specs.declared.script.Script.{Script}
+use Rattle.crp_cert.specs.Writing.{script_for, first_script_for, CanBeSpelled}
+use Rattle.crp_cert.proofs.Written.{spelled_is_script, first_is_script, claimed_rise}
 use Rattle.crp_solve.specs.declared.answer.Answer.{Answer}
 use Rattle.crp_solve.specs.declared.answer.Answer.TheVariants as answer
 use Rattle.crp_solve.specs.declared.answer.Cause.TheVariants as cause
-use Rattle.crp_solve.specs.Answers.{cert_of, count_of, IsTrueAnswer}
+use Rattle.crp_solve.specs.declared.answer.Solved.{Solved}
+use Rattle.crp_solve.specs.Chosen.{Chosen}
+use Rattle.crp_solve.specs.Answers.{cert_of, count_of, IsTrueAnswer, IsSolved}
 use Rattle.crp_solve.proofs.Limits.{count_low}
 use Rattle.crp_checker.specs.declared.verdict.Verdict.{Verdict}
 use Rattle.crp_checker.specs.declared.verdict.Verdict.TheVariants as verdict
 use Rattle.crp_checker.specs.AcceptedTexts.{IsWanted, IsAcceptedText}
-use Rattle.crp_checker.specs.Verdicts.{IsVerdictOf}
-use Rattle.crp_checker.specs.Files.{BeginsWithTexts, ShowEach}
+use Rattle.crp_checker.specs.Verdicts.{IsVerdictOf, IsVerdict}
+use Rattle.crp_checker.specs.Files.{IsEnded, BeginsWithTexts, ShowEach}
 use Rattle.crp_order.specs.declared.bay_problem.BayProblem.{BayProblem}
 use Rattle.crp_report.specs.Answered.{Answered, AreTrueAnswers, plan_in}
-use Rattle.crp_report.specs.Report.{certificate_of, certificates_text}
+use Rattle.crp_report.specs.Report.{text_of, certificate_of, certificates_text}
 use Rattle.crp_report.specs.Chosen.{RunChosen}
 use Rattle.crp_report.specs.Runs.{Seen, Made, IsMade}
 use Rattle.crp_order.specs.BayProblems.{problems_of}
 use Rattle.crp_commands.specs.Prove.{IsProofOf}
-use Rattle.crp.specs.Accepted.{IsVerdictOn, text_of, IsAcceptedAs, CanBeTold, IsVerdictFor, IsAcceptedFile}
+use Rattle.crp.specs.Accepted.{IsVerdictOn, IsAcceptedAs, CanBeTold, IsVerdictFor, IsAcceptedFile}
 use Rattle.crp.proofs.Ended.{script_ended}
 use Rattle.crp.proofs.Named.{can_be_told}
 
@@ -54,16 +57,30 @@ below_plan : (p : Problem) (lower : ℕ) (plan : Option Route) → lower < count
 below_plan p lower None lt e = cc
 below_plan p lower (Some route) lt e = let k : length route.path ≡ lower = cc in omega (arith, k)
 
--- what a true answer's certificate shows with its plan is the verdict on the answer
-verdict_on : (p : Problem) (budget : ℕ) (found : Answer) (expanded : ℕ) → IsTrueAnswer p budget found expanded →
-    (v : Verdict) × IsVerdictOn p found v × IsVerdictOf (cert_of found).lower (cap p) (option_map length (path_in (plan_in found))) v
-verdict_on p budget (answer.Optimal plan cert) expanded t =
+-- what the certificate of an answer claims
+abbrev claim : Problem → Answer → Claimed
+claim p found = claimed p (cert_of found) (path_in (plan_in found))
+
+-- the script whose text it is
+abbrev script_of : YardBay → Problem → Answer → Script
+script_of bay p (answer.Optimal plan cert) = script_for bay (claimed p cert (Some plan.path))
+script_of bay p (answer.First plan cert) = first_script_for bay (claimed p cert (Some plan.path))
+script_of bay p (answer.NoPlan cert) = script_for bay (claimed p cert None)
+script_of bay p (answer.Between lower cert plan why) = script_for bay (claimed p cert (path_in plan))
+
+-- what a true answer's certificate shows is the verdict on the answer
+verdict_on : (bay : YardBay) (p : Problem) (budget : ℕ) (found : Answer) (expanded : ℕ) → IsTrueAnswer p budget found expanded →
+    (v : Verdict) × IsVerdictOn p found v × IsVerdict (script_of bay p found) v
+verdict_on bay p budget (answer.Optimal plan cert) expanded t =
     let o = t.says in
     (verdict.Optimal (length plan.path), refl, (sym o.shown, ap Some (sym o.shown)))
-verdict_on p budget (answer.NoPlan cert) expanded t =
+verdict_on bay p budget (answer.First plan cert) expanded t =
+    let o = t.says in
+    (verdict.First (length plan.path), refl, ap verdict.First (sym o.shown))
+verdict_on bay p budget (answer.NoPlan cert) expanded t =
     let o = t.says in
     (verdict.NoPlan, refl, (λ e. cc, o.shown))
-verdict_on p budget (answer.Between lower cert plan cause.Budget) expanded t =
+verdict_on bay p budget (answer.Between lower cert plan cause.Budget) expanded t =
     let o = t.says in
     let ended = t.ended in
     let spent = ended.1 in
@@ -75,20 +92,17 @@ verdict_on p budget (answer.Between lower cert plan cause.Budget) expanded t =
       subst (λ n. IsVerdictOf n (cap p) (option_map length (path_in plan)) (verdict.Bounds lower (option_map length (path_in plan)))) (sym o.shown)
           (apart, λ e. omega (arith, low, e, count_low p plan ok.is_problem o.plan_is), refl, refl),
     )
-verdict_on p budget (answer.Between lower cert plan cause.Memory) expanded t =
+verdict_on bay p budget (answer.Between lower cert plan cause.Memory) expanded t =
     let o = t.says in
     let k = some_verdict lower (cap p) (option_map length (path_in plan)) in
     (k.0, k.1, subst (λ n. IsVerdictOf n (cap p) (option_map length (path_in plan)) k.0) (sym o.shown) k.1)
 
 -- ---- the certificate
 
--- what the certificate of an answer claims
-abbrev claim : Problem → Answer → Claimed
-claim p found = claimed p (cert_of found) (path_in (plan_in found))
-
--- it is accepted
+-- the claim of a certificate is accepted
 claim_accepted : (p : Problem) (budget : ℕ) (found : Answer) (expanded : ℕ) → IsTrueAnswer p budget found expanded → IsAccepted (claim p found)
 claim_accepted p budget (answer.Optimal plan cert) expanded t = t.accepted
+claim_accepted p budget (answer.First plan cert) expanded t = t.accepted
 claim_accepted p budget (answer.NoPlan cert) expanded t = t.accepted
 claim_accepted p budget (answer.Between lower cert plan why) expanded t = t.accepted
 
@@ -101,78 +115,97 @@ tellable p budget found expanded t =
     }
 
 -- so the text is accepted, for the problem that is asked for, if one is
-text_accepted : (wanted : Option Problem) (bay : YardBay) (p : Problem) (found : Answer) → IsYardBay bay → CanBeSpelled (claim p found) → IsWanted wanted p →
-    IsAcceptedText wanted (text_of bay p found) (script_for bay (claim p found))
-text_accepted wanted bay p found named t asked =
-    record {
-      is_text = (spelled_is_script bay (claim p found) named t, refl);
-      as_wanted = asked;
-      accepted = t.accepted;
-    }
+text_accepted : (wanted : Option Problem) (bay : YardBay) (p : Problem) (budget : ℕ) (found : Answer) (expanded : ℕ) → IsYardBay bay →
+    IsTrueAnswer p budget found expanded → CanBeSpelled (claim p found) → IsWanted wanted p → IsAcceptedText wanted (text_of bay p found) (script_of bay p found)
+text_accepted wanted bay p budget (answer.Optimal plan cert) expanded named t can asked =
+    record { is_text = (spelled_is_script bay (claimed p cert (Some plan.path)) named can, refl); as_wanted = asked; accepted = can.accepted }
+text_accepted wanted bay p budget (answer.First plan cert) expanded named t can asked =
+    let o = t.says in
+    record { is_text = (first_is_script bay (claimed p cert (Some plan.path)) named can, refl); as_wanted = asked; accepted = (plan.path, o.accepted) }
+text_accepted wanted bay p budget (answer.NoPlan cert) expanded named t can asked =
+    record { is_text = (spelled_is_script bay (claimed p cert None) named can, refl); as_wanted = asked; accepted = can.accepted }
+text_accepted wanted bay p budget (answer.Between lower cert plan why) expanded named t can asked =
+    record { is_text = (spelled_is_script bay (claimed p cert (path_in plan)) named can, refl); as_wanted = asked; accepted = can.accepted }
+
+-- it is under the name of the bay
+of_bay : (bay : YardBay) (p : Problem) (found : Answer) → (script_of bay p found).head.bay ≡ bay
+of_bay bay p (answer.Optimal plan cert) = refl
+of_bay bay p (answer.First plan cert) = refl
+of_bay bay p (answer.NoPlan cert) = refl
+of_bay bay p (answer.Between lower cert plan why) = refl
 
 pub answer_accepted : (bay : YardBay) (p : Problem) (budget : ℕ) (found : Answer) (expanded : ℕ) → IsYardBay bay →
     IsTrueAnswer p budget found expanded → IsAcceptedAs (text_of bay p found) bay p found
 answer_accepted bay p budget found expanded named t =
-    let k = verdict_on p budget found expanded t in
+    let k = verdict_on bay p budget found expanded t in
     let can = tellable p budget found expanded t in (
       k.0,
       record {
         on = k.1;
-        of_bay = (script_for bay (claim p found), text_accepted None bay p found named can tt, refl, k.2);
-        of_problem = (script_for bay (claim p found), text_accepted (Some p) bay p found named can refl, k.2);
+        of_bay = (script_of bay p found, text_accepted None bay p budget found expanded named t can tt, of_bay bay p found, k.2);
+        of_problem = (script_of bay p found, text_accepted (Some p) bay p budget found expanded named t can refl, k.2);
       },
     )
 
 -- and so is the certificate of a head
-pub proof_accepted : (budget : ℕ) (head : Head) (found : Answer) (text : List ℕ) → IsHead head → IsProofOf budget head found text →
-    IsAcceptedAs text head.bay head.problem found
-proof_accepted budget head found text is proof =
+pub proof_accepted : (chosen : Chosen) (head : Head) (solved : Solved) (text : List ℕ) → IsHead head → IsProofOf chosen head solved text →
+    IsAcceptedAs text head.bay head.problem solved.answer
+proof_accepted chosen head solved text is proof =
     let t = proof.0 in
-    subst (λ l. IsAcceptedAs l head.bay head.problem found) (sym proof.1) (answer_accepted head.bay head.problem budget found t.0 is.name t.1)
+    subst (λ l. IsAcceptedAs l head.bay head.problem solved.answer) (sym proof.1)
+    (answer_accepted head.bay head.problem chosen.budget solved.answer solved.expanded is.name t.answer)
 
 -- ---- files of certificates
 
 -- a bay with a true answer, whose certificate can be written
-record IsGood (budget : ℕ) (bay : Answered) : Type 0 where
+record IsGood (chosen : Chosen) (bay : Answered) : Type 0 where
   can : CanBeTold bay.told
-  true_answer : IsTrueAnswer bay.told.problem budget bay.answer bay.expanded
+  solved : IsSolved bay.told.problem chosen bay.solved
 
--- the certificates are the texts of the file, since each ends with its first line that begins with `end `
-cut : (budget : ℕ) (answered : List Answered) → AllByRecursion (IsGood budget) answered → BeginsWithTexts (certificates_text answered) (map certificate_of answered) []
-cut budget [] good = refl
-cut budget (bay ∷ answered) good =
+-- the text of a certificate ends with its first line that begins with `end `
+text_ended : (bay : YardBay) (p : Problem) (found : Answer) → IsYardBay bay → IsEnded (text_of bay p found)
+text_ended bay p (answer.Optimal plan cert) named = script_ended (script_for bay (claimed p cert (Some plan.path))) named
+text_ended bay p (answer.First plan cert) named = script_ended (first_script_for bay (claimed p cert (Some plan.path))) named
+text_ended bay p (answer.NoPlan cert) named = script_ended (script_for bay (claimed p cert None)) named
+text_ended bay p (answer.Between lower cert plan why) named = script_ended (script_for bay (claimed p cert (path_in plan))) named
+
+-- so the certificates are the texts of the file
+cut : (chosen : Chosen) (answered : List Answered) → AllByRecursion (IsGood chosen) answered → BeginsWithTexts (certificates_text answered) (map certificate_of answered) []
+cut chosen [] good = refl
+cut chosen (bay ∷ answered) good =
     let is = good.0 in
-    (certificates_text answered, refl, inl (script_ended (script_for bay.told.bay (claim bay.told.problem bay.answer)) is.can), cut budget answered good.1)
+    (certificates_text answered, refl, inl (text_ended bay.told.bay bay.told.problem bay.solved.answer is.can), cut chosen answered good.1)
 
 -- and each shows the verdict on its answer
-each_shown : (budget : ℕ) (answered : List Answered) → AllByRecursion (IsGood budget) answered →
+each_shown : (chosen : Chosen) (answered : List Answered) → AllByRecursion (IsGood chosen) answered →
     (verdicts : List (YardBay × Verdict)) × AllZip IsVerdictFor answered verdicts × ShowEach (map certificate_of answered) verdicts
-each_shown budget [] good = ([], tt, tt)
-each_shown budget (bay ∷ answered) good =
+each_shown chosen [] good = ([], tt, tt)
+each_shown chosen (bay ∷ answered) good =
     let is = good.0 in
-    let first = answer_accepted bay.told.bay bay.told.problem budget bay.answer bay.expanded is.can is.true_answer in
+    let s = is.solved in
+    let first = answer_accepted bay.told.bay bay.told.problem chosen.budget bay.solved.answer bay.solved.expanded is.can s.answer in
     let shown = first.1 in
-    let more = each_shown budget answered good.1 in
+    let more = each_shown chosen answered good.1 in
     ((bay.told.bay, first.0) ∷ more.0, ((refl, shown), more.1), (shown.of_bay, more.2))
 
-file_shown : (budget : ℕ) (answered : List Answered) → AllByRecursion (IsGood budget) answered → IsAcceptedFile (certificates_text answered) answered
-file_shown budget answered good =
-    let each = each_shown budget answered good in
-    (each.0, each.1, (map certificate_of answered, cut budget answered good, each.2))
+file_shown : (chosen : Chosen) (answered : List Answered) → AllByRecursion (IsGood chosen) answered → IsAcceptedFile (certificates_text answered) answered
+file_shown chosen answered good =
+    let each = each_shown chosen answered good in
+    (each.0, each.1, (map certificate_of answered, cut chosen answered good, each.2))
 
-all_good : (budget : ℕ) (answered : List Answered) → AllByRecursion CanBeTold (map (λ bay. bay.told) answered) →
-    AllByRecursion (λ bay. IsTrueAnswer bay.told.problem budget bay.answer bay.expanded) answered → AllByRecursion (IsGood budget) answered
-all_good budget [] can t = tt
-all_good budget (bay ∷ answered) can t = (record { can = can.0; true_answer = t.0 }, all_good budget answered can.1 t.1)
+all_good : (chosen : Chosen) (answered : List Answered) → AllByRecursion CanBeTold (map (λ bay. bay.told) answered) →
+    AllByRecursion (λ bay. IsSolved bay.told.problem chosen bay.solved) answered → AllByRecursion (IsGood chosen) answered
+all_good chosen [] can t = tt
+all_good chosen (bay ∷ answered) can t = (record { can = can.0; solved = t.0 }, all_good chosen answered can.1 t.1)
 
-pub file_accepted : (budget : ℕ) (problems : List BayProblem) (answered : List Answered) → AreTrueAnswers budget problems answered → All CanBeTold problems → IsAcceptedFile (certificates_text answered) answered
-file_accepted budget problems answered t can =
-    file_shown budget answered
-    (all_good budget answered (subst (AllByRecursion CanBeTold) (sym t.one_for_each) (recursion_from_All CanBeTold problems can))
-    (recursion_from_All (λ (bay : Answered). IsTrueAnswer bay.told.problem budget bay.answer bay.expanded) answered t.each_true))
+pub file_accepted : (chosen : Chosen) (problems : List BayProblem) (answered : List Answered) → AreTrueAnswers chosen problems answered → All CanBeTold problems → IsAcceptedFile (certificates_text answered) answered
+file_accepted chosen problems answered t can =
+    file_shown chosen answered
+    (all_good chosen answered (subst (AllByRecursion CanBeTold) (sym t.one_for_each) (recursion_from_All CanBeTold problems can))
+    (recursion_from_All (λ (bay : Answered). IsSolved bay.told.problem chosen bay.solved) answered t.each_true))
 
 pub run_accepted : (chosen : RunChosen) (seen : Seen) (made : Made) → IsMade chosen seen made → IsAcceptedFile made.certificates made.answered
 run_accepted chosen seen made is =
     let can = can_be_told chosen.heights made.list made.yard made.sequence is.listed in
     subst (λ file. IsAcceptedFile file made.answered) (sym is.certificates)
-    (file_accepted chosen.search.budget (problems_of made.yard made.sequence) made.answered is.true_answers can)
+    (file_accepted chosen.search (problems_of made.yard made.sequence) made.answered is.true_answers can)

@@ -3,7 +3,7 @@ use Rattle.std.proofs.Common.{◌≡◌, ℕ, List, [], ◌∷◌, ◌++◌, len
 use Rattle.std.specs.Prelude.{flat_map, option_map}
 use Rattle.std.specs.List.{AllByRecursion, AllZip}
 use Rattle.std.proofs.lemmas.List.Elements.{All-from_recursion, recursion_from_All}
-use Rattle.crp_plan.specs.Bay.{Problem, cap}
+use Rattle.crp_plan.specs.Bay.{Problem, cap, path_of}
 use Rattle.crp_plan.specs.BayNames.{YardBay}
 use Rattle.crp_plan.specs.Plans.{Route}
 use Rattle.crp_plan.proofs.Covered.{relocations-path}
@@ -15,7 +15,9 @@ use Rattle.crp_solve.specs.declared.answer.Answer.{Answer}
 use Rattle.crp_solve.specs.declared.answer.Answer.TheVariants as answer
 use Rattle.crp_solve.specs.declared.answer.Cause.{Cause}
 use Rattle.crp_solve.specs.declared.answer.Cause.TheVariants as cause
-use Rattle.crp_solve.specs.Answers.{IsTrueAnswer, IsPlanOf, path_in}
+use Rattle.crp_tree.specs.First.{IsFirstBest}
+use Rattle.crp_solve.specs.Chosen.{Chosen}
+use Rattle.crp_solve.specs.Answers.{IsTrueAnswer, IsSolved, IsPlanOf, path_in}
 use Rattle.crp_checker.specs.declared.verdict.Verdict.{Verdict}
 use Rattle.crp_checker.specs.declared.verdict.Verdict.TheVariants as verdict
 use Rattle.crp_checker.specs.Verdicts.{IsVerdictOf}
@@ -30,30 +32,39 @@ use Rattle.crp_report.proofs.Takes.{plan_takes}
 use Rattle.crp_report.proofs.YardNames.{IsNamedProblem}
 use Rattle.crp_report.proofs.Saying.{answered_named, run_says}
 use Rattle.crp.specs.Accepted.{IsVerdictOn, IsShown, IsVerdictFor}
-use Rattle.crp.specs.Headline.{Reported, said_of, problem_in, PrintsPlan, IsOpenVerdict, IsSo, IsTrueOf, IsHeadline}
+use Rattle.crp.specs.Headline.{Reported, said_of, problem_in, PrintsPlan, PrintsFirst, IsOpenVerdict, IsSo, IsTrueOf, IsHeadline}
 use Rattle.crp.proofs.Accepted.{run_accepted}
 
 -- ---- one bay
 
--- the lines of the plan of an answer are as they should be
+-- the lines of the plan of an answer are as they should be, and its moves have its path
 plan_printed : (m : Made) (b : Reported) (plan : Route) → IsPlanOf (problem_in m b) plan → TellsPlan (ranked m.sequence b.bay.1) plan b.lines
-    → AllByRecursion FitsLine (ranked m.sequence b.bay.1) → PrintsPlan m b (length plan.path)
+    → AllByRecursion FitsLine (ranked m.sequence b.bay.1) → (prints : PrintsPlan m b (length plan.path)) × (path_of prints.moves ≡ plan.path)
 plan_printed m b plan is told fit =
     let P : Problem → Type 0 = λ p. TellsPlan (ranked m.sequence b.bay.1) (record { problem = p; path = plan.path }) b.lines in
-    let (moves, complete, path, lines) = subst P is.of_problem told in
-    record {
-      moves = moves;
-      complete = complete;
-      printed = lines;
-      counted = relocations-path moves ∙ ap length path;
-      in_order = plan_takes (problem_in m b) (leaving m.sequence b.bay.1) (staying m.sequence b.bay.1) moves b.lines
-          (All-from_recursion FitsLine (ranked m.sequence b.bay.1) fit) refl complete lines;
-    }
+    let (moves, complete, path, lines) = subst P is.of_problem told in (
+      record {
+        moves = moves;
+        complete = complete;
+        printed = lines;
+        counted = relocations-path moves ∙ ap length path;
+        in_order = plan_takes (problem_in m b) (leaving m.sequence b.bay.1) (staying m.sequence b.bay.1) moves b.lines
+            (All-from_recursion FitsLine (ranked m.sequence b.bay.1) fit) refl complete lines;
+      },
+      path,
+    )
+
+-- so are those of a first best plan
+first_printed : (m : Made) (b : Reported) (plan : Route) → IsPlanOf (problem_in m b) plan → IsFirstBest (problem_in m b) plan.path
+    → TellsPlan (ranked m.sequence b.bay.1) plan b.lines → AllByRecursion FitsLine (ranked m.sequence b.bay.1) → PrintsFirst m b (length plan.path)
+first_printed m b plan is first told fit =
+    let printed = plan_printed m b plan is told fit in
+    record { plan = printed.0; first = subst (IsFirstBest (problem_in m b)) (sym printed.1) first }
 
 plan_if : (m : Made) (b : Reported) (plan : Option Route) → MatchOption plan (Unit {0}) (IsPlanOf (problem_in m b)) → TellsPlanIn (ranked m.sequence b.bay.1) plan b.lines
     → AllByRecursion FitsLine (ranked m.sequence b.bay.1) → MatchOption (option_map (λ (route : Route). length route.path) plan) (b.lines ≡ []) (PrintsPlan m b)
 plan_if m b None is told fit = told
-plan_if m b (Some plan) is told fit = plan_printed m b plan is told fit
+plan_if m b (Some plan) is told fit = (plan_printed m b plan is told fit).0
 
 -- the verdict on an open bay
 counts : (plan : Option Route) → option_map length (path_in plan) ≡ option_map (λ (route : Route). length route.path) plan
@@ -71,7 +82,12 @@ answer_so : (m : Made) (b : Reported) (budget : ℕ) (found : Answer) (expanded 
 answer_so m b budget (answer.Optimal plan cert) expanded t told fit on =
     let o = t.says in
     let best = o.best in
-    (plan_printed m b plan o.plan_is told fit, best.least, on)
+    ((plan_printed m b plan o.plan_is told fit).0, best.least, on)
+answer_so m b budget (answer.First plan cert) expanded t told fit on =
+    let o = t.says in
+    let first = o.first in
+    let best = first.best in
+    (first_printed m b plan o.plan_is o.first told fit, best.least, on)
 answer_so m b budget (answer.NoPlan cert) expanded t told fit on = let o = t.says in (o.none, told, on)
 answer_so m b budget (answer.Between lower cert plan why) expanded t told fit on =
     let o = t.says in
@@ -81,17 +97,17 @@ answer_so m b budget (answer.Between lower cert plan why) expanded t told fit on
 abbrev reported : StackedBay → Answered → BaySaid → YardBay × Verdict → Reported
 reported bay a s v = record { bay = bay; said = s.said; lines = s.lines; certificate = certificate_of a; verdict = v.1 }
 
-bay_true : (m : Made) (budget : ℕ) (bay : StackedBay) (a : Answered) (s : BaySaid) (v : YardBay × Verdict) → a.told ≡ bay_problem_of m.yard.heights m.sequence bay
-    → IsTrueAnswer a.told.problem budget a.answer a.expanded → IsNamedProblem a.told → IsSaidOf a s → IsVerdictFor a v → IsTrueOf m (reported bay a s v)
-bay_true m budget bay a s v e t named said (name, shown) =
+bay_true : (m : Made) (chosen : Chosen) (bay : StackedBay) (a : Answered) (s : BaySaid) (v : YardBay × Verdict) → a.told ≡ bay_problem_of m.yard.heights m.sequence bay
+    → IsSolved a.told.problem chosen a.solved → IsNamedProblem a.told → IsSaidOf a s → IsVerdictFor a v → IsTrueOf m (reported bay a s v)
+bay_true m chosen bay a s v e t named said (name, shown) =
     let b = reported bay a s v in
-    let P : BayProblem → Type 0 = λ told. IsTrueAnswer told.problem budget a.answer a.expanded in
+    let P : BayProblem → Type 0 = λ told. IsTrueAnswer told.problem chosen.budget a.solved.answer a.solved.expanded in
     let Q : BayProblem → Type 0 = λ told. AllByRecursion FitsLine told.names in
-    let R : BayProblem → Type 0 = λ told. TellsPlanIn told.names (plan_in a.answer) s.lines in
-    let S : BayProblem → Type 0 = λ told. IsShown (certificate_of a) told.bay told.problem a.answer v.1 in
+    let R : BayProblem → Type 0 = λ told. TellsPlanIn told.names (plan_in a.solved.answer) s.lines in
+    let S : BayProblem → Type 0 = λ told. IsShown (certificate_of a) told.bay told.problem a.solved.answer v.1 in
     let here = subst S e shown in
     record {
-      so = subst (IsSo m b) (sym said.said_is) (answer_so m b budget a.answer a.expanded (subst P e t) (subst R e said.lines_are) (subst Q e named.names) here.on);
+      so = subst (IsSo m b) (sym said.said_is) (answer_so m b chosen.budget a.solved.answer a.solved.expanded (subst P e t.answer) (subst R e said.lines_are) (subst Q e named.names) here.on);
       of_bay = here.of_bay;
       of_problem = here.of_problem;
     }
@@ -111,22 +127,22 @@ record AreReported (m : Made) (called : List StackedBay) (answered : List Answer
 both_same : {X : Type 0} (x y : X) (xs ys : List X) → x ∷ xs ≡ y ∷ ys → (x ≡ y) × (xs ≡ ys)
 both_same x y xs ys e = (cc, cc)
 
-all_reported : (m : Made) (budget : ℕ) (called : List StackedBay) (answered : List Answered) (said : List BaySaid) (verdicts : List (YardBay × Verdict))
+all_reported : (m : Made) (chosen : Chosen) (called : List StackedBay) (answered : List Answered) (said : List BaySaid) (verdicts : List (YardBay × Verdict))
     → map (λ bay. bay.told) answered ≡ map (bay_problem_of m.yard.heights m.sequence) called
-    → AllByRecursion (λ bay. IsTrueAnswer bay.told.problem budget bay.answer bay.expanded) answered → AllByRecursion IsNamedProblem (map (λ bay. bay.told) answered)
+    → AllByRecursion (λ bay. IsSolved bay.told.problem chosen bay.solved) answered → AllByRecursion IsNamedProblem (map (λ bay. bay.told) answered)
     → AllZip IsSaidOf answered said → AllZip IsVerdictFor answered verdicts → AreReported m called answered said verdicts
-all_reported m budget [] [] [] [] e t named says shown = record { bays = []; called_are = refl; said_are = refl; certificates_are = refl; verdicts_are = refl; each = tt }
-all_reported m budget [] [] [] (v ∷ verdicts) e t named says shown = absurd shown
-all_reported m budget [] [] (s ∷ said) verdicts e t named says shown = absurd says
-all_reported m budget [] (a ∷ answered) said verdicts e t named says shown = absurd (let no : a.told ∷ map (λ (bay : Answered). bay.told) answered ≡ [] = e in cc)
-all_reported m budget (bay ∷ called) [] said verdicts e t named says shown =
+all_reported m chosen [] [] [] [] e t named says shown = record { bays = []; called_are = refl; said_are = refl; certificates_are = refl; verdicts_are = refl; each = tt }
+all_reported m chosen [] [] [] (v ∷ verdicts) e t named says shown = absurd shown
+all_reported m chosen [] [] (s ∷ said) verdicts e t named says shown = absurd says
+all_reported m chosen [] (a ∷ answered) said verdicts e t named says shown = absurd (let no : a.told ∷ map (λ (bay : Answered). bay.told) answered ≡ [] = e in cc)
+all_reported m chosen (bay ∷ called) [] said verdicts e t named says shown =
     absurd (let no : [] ≡ bay_problem_of m.yard.heights m.sequence bay ∷ map (bay_problem_of m.yard.heights m.sequence) called = e in cc)
-all_reported m budget (bay ∷ called) (a ∷ answered) [] verdicts e t named says shown = absurd says
-all_reported m budget (bay ∷ called) (a ∷ answered) (s ∷ said) [] e t named says shown = absurd shown
-all_reported m budget (bay ∷ called) (a ∷ answered) (s ∷ said) (v ∷ verdicts) e t named says shown =
+all_reported m chosen (bay ∷ called) (a ∷ answered) [] verdicts e t named says shown = absurd says
+all_reported m chosen (bay ∷ called) (a ∷ answered) (s ∷ said) [] e t named says shown = absurd shown
+all_reported m chosen (bay ∷ called) (a ∷ answered) (s ∷ said) (v ∷ verdicts) e t named says shown =
     let problem = bay_problem_of m.yard.heights m.sequence bay in
     let same = both_same a.told problem (map (λ (bay : Answered). bay.told) answered) (map (bay_problem_of m.yard.heights m.sequence) called) e in
-    let more = all_reported m budget called answered said verdicts same.1 t.1 named.1 says.1 shown.1 in
+    let more = all_reported m chosen called answered said verdicts same.1 t.1 named.1 says.1 shown.1 in
     let is = says.0 in
     let name : bay.0 ≡ a.told.bay = sym (ap (λ (told : BayProblem). told.bay) same.0) in
     let said_first : said_of (reported bay a s v) ≡ s = ap (λ (n : YardBay). record { bay = n; said = s.said; lines = s.lines }) (name ∙ sym is.bay_is) in
@@ -137,19 +153,18 @@ all_reported m budget (bay ∷ called) (a ∷ answered) (s ∷ said) (v ∷ verd
       said_are = ap (λ x. x ∷ map said_of more.bays) said_first ∙ ap (λ l. s ∷ l) more.said_are;
       certificates_are = ap (λ l. certificate_of a ++ l) more.certificates_are;
       verdicts_are = ap (λ x. x ∷ map (λ (b : Reported). (b.bay.0, b.verdict)) more.bays) verdict_first ∙ ap (λ l. v ∷ l) more.verdicts_are;
-      each = (bay_true m budget bay a s v same.0 t.0 named.0 is shown.0, more.each);
+      each = (bay_true m chosen bay a s v same.0 t.0 named.0 is shown.0, more.each);
     }
 
 -- what a run promises
 pub headline_holds : (chosen : RunChosen) (seen : Seen) (made : Made) → IsMade chosen seen made → IsHeadline made
 headline_holds chosen seen made is =
     let t = is.true_answers in
-    let budget = chosen.search.budget in
-    let each = recursion_from_All (λ (bay : Answered). IsTrueAnswer bay.told.problem budget bay.answer bay.expanded) made.answered t.each_true in
+    let each = recursion_from_All (λ (bay : Answered). IsSolved bay.told.problem chosen.search bay.solved) made.answered t.each_true in
     let run = run_says chosen seen made is in
     let says = run.said in
     let (verdicts, shown, accepted) = run_accepted chosen seen made is in
-    let all = all_reported made budget (filter (is_called made.sequence) made.yard.bays) made.answered run.bays verdicts t.one_for_each each (answered_named chosen seen made is) says.of_each shown in
+    let all = all_reported made chosen.search (filter (is_called made.sequence) made.yard.bays) made.answered run.bays verdicts t.one_for_each each (answered_named chosen seen made is) says.of_each shown in
     record {
       bays = all.bays;
       called = all.called_are;

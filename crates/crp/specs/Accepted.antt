@@ -3,31 +3,28 @@ use Rattle.std.specs.Prelude.{◌≡◌, ℕ, List, length, Some, option_map}
 use Rattle.std.specs.List.{AllZip}
 use Rattle.crp_plan.specs.BayNames.{YardBay, IsYardBay}
 use Rattle.crp_plan.specs.Bay.{Problem, cap}
-use Rattle.crp_cert.specs.Writing.{certificate_text}
 use Rattle.crp_solve.specs.declared.answer.Answer.{Answer}
 use Rattle.crp_solve.specs.declared.answer.Answer.TheVariants as answer
 use Rattle.crp_solve.specs.declared.answer.Cause.TheVariants as cause
-use Rattle.crp_solve.specs.Answers.{path_in, cert_of}
+use Rattle.crp_solve.specs.Answers.{path_in}
 use Rattle.crp_checker.specs.declared.verdict.Verdict.{Verdict}
 use Rattle.crp_checker.specs.declared.verdict.Verdict.TheVariants as verdict
 use Rattle.crp_checker.specs.Verdicts.{IsVerdictOf}
 use Rattle.crp_checker.specs.Shown.{TextShows, TextShowsFor}
 use Rattle.crp_checker.specs.Files.{FileShows}
 use Rattle.crp_order.specs.declared.bay_problem.BayProblem.{BayProblem}
-use Rattle.crp_report.specs.Answered.{Answered, plan_in}
+use Rattle.crp_report.specs.Answered.{Answered}
 use Rattle.crp_report.specs.Report.{certificate_of}
 
--- the verdict on an answer: on an optimal one, that the relocations of its plan are the fewest; on one without a plan, that there is none; on one whose
--- budget ended, its bound and the relocations of its plan, if it has one; and where memory was wanting, what the bound, the cap and the plan show
+-- the verdict on an answer: on an optimal one, that the relocations of its plan are the fewest; on one with the first best plan, that it has so many; on
+-- one without a plan, that there is none; on one whose budget ended, its bound and the relocations of its plan, if it has one; and where memory was
+-- wanting, what the bound, the cap and the plan show
 abbrev pub IsVerdictOn : Problem → Answer → Verdict → Type 0
 IsVerdictOn p (answer.Optimal plan cert) v = v ≡ verdict.Optimal (length plan.path)
+IsVerdictOn p (answer.First plan cert) v = v ≡ verdict.First (length plan.path)
 IsVerdictOn p (answer.NoPlan cert) v = v ≡ verdict.NoPlan
 IsVerdictOn p (answer.Between lower cert plan cause.Budget) v = v ≡ verdict.Bounds lower (option_map length (path_in plan))
 IsVerdictOn p (answer.Between lower cert plan cause.Memory) v = IsVerdictOf lower (cap p) (option_map length (path_in plan)) v
-
--- the text of an answer's certificate, under the name of a bay
-abbrev pub text_of : YardBay → Problem → Answer → List ℕ
-text_of bay p found = certificate_text bay p (cert_of found) (plan_in found)
 
 -- the text shows this verdict on the answer, for this bay, whether the problem is asked for or not
 pub record IsShown (text : List ℕ) (bay : YardBay) (p : Problem) (found : Answer) (v : Verdict) : Type 0 where
@@ -45,7 +42,7 @@ CanBeTold told = IsYardBay told.bay
 
 -- the bay, and the verdict that its certificate shows on the answer to its problem
 abbrev pub IsVerdictFor : Answered → YardBay × Verdict → Type 0
-IsVerdictFor bay told = (told.0 ≡ bay.told.bay) × IsShown (certificate_of bay) bay.told.bay bay.told.problem bay.answer told.1
+IsVerdictFor bay told = (told.0 ≡ bay.told.bay) × IsShown (certificate_of bay) bay.told.bay bay.told.problem bay.solved.answer told.1
 
 -- the file is accepted, and shows for each of these bays, in order, the verdict that the bay's certificate shows on the answer to its problem
 abbrev pub IsAcceptedFile : List ℕ → List Answered → Type 0

@@ -3,7 +3,8 @@
 -- crp_checker's Files and Shown.
 use Rattle.std.specs.Prelude.{◌≡◌, ℕ, ◌≤◌, List, [], map, filter, flat_map, All, Option, Some, MatchOption}
 use Rattle.crp_plan.specs.declared.moves.Move.{Move}
-use Rattle.crp_plan.specs.Bay.{Problem, cap, start, IsPlan, relocations}
+use Rattle.crp_plan.specs.Bay.{Problem, cap, start, IsPlan, path_of, relocations}
+use Rattle.crp_tree.specs.First.{IsFirstBest}
 use Rattle.crp_yard.specs.Inventory.{StackedBay}
 use Rattle.crp_order.specs.BayProblems.{leaving, ranked, problem_of, is_called}
 use Rattle.crp_solve.specs.declared.answer.Cause.{Cause}
@@ -16,7 +17,7 @@ use Rattle.crp_checker.specs.Files.{FileShows}
 use Rattle.crp_report.specs.MoveLines.{TellsMoves}
 use Rattle.crp_report.specs.TakeLines.{taken_in}
 use Rattle.crp_report.specs.Runs.{Made, numbers_of}
-use Rattle.crp_report.specs.Said.{Said, Optimal, NoPlan, Between, BaySaid, report_text}
+use Rattle.crp_report.specs.Said.{Said, Optimal, First, NoPlan, Between, BaySaid, report_text}
 
 -- a bay of the report: the bay as it stands in the yard, what the report says of its fewest relocations, the lines of its moves, its certificate,
 -- and the verdict with which the checker accepts that
@@ -48,6 +49,11 @@ pub record PrintsPlan (m : Made) (b : Reported) (count : ℕ) : Type 0 where
 abbrev pub NoneHasFewer : Made → Reported → ℕ → Type 0
 NoneHasFewer m b count = (moves : List Move) → IsPlan (problem_in m b) moves → count ≤ relocations moves
 
+-- it is the first best plan: no complete plan has fewer relocations, and of those with as many none has a path that comes before its own
+pub record PrintsFirst (m : Made) (b : Reported) (count : ℕ) : Type 0 where
+  pub plan : PrintsPlan m b count
+  pub first : IsFirstBest (problem_in m b) (path_of plan.moves)
+
 -- there is no complete plan
 abbrev pub NoneThere : Made → Reported → Type 0
 NoneThere m b = (moves : List Move) → IsPlan (problem_in m b) moves → ⊥
@@ -58,11 +64,12 @@ abbrev pub IsOpenVerdict : Problem → ℕ → Option ℕ → Cause → Verdict 
 IsOpenVerdict p lower upper cause.Budget v = v ≡ verdict.Bounds lower upper
 IsOpenVerdict p lower upper cause.Memory v = IsVerdictOf lower (cap p) upper v
 
--- what is said is so. `optimal`: the printed plan has so many relocations, no plan has fewer, and the verdict says the same. `no plan`: there is
--- none, and the verdict says the same. `between`: no plan has fewer than the lower number, and the printed plan, if there is one, has as many as the
--- upper one
+-- what is said is so. `optimal`: the printed plan has so many relocations, no plan has fewer, and the verdict says the same. `optimal .. first`: the
+-- same, and the printed plan is the first best one, which the verdict says too. `no plan`: there is none, and the verdict says the same. `between`: no
+-- plan has fewer than the lower number, and the printed plan, if there is one, has as many as the upper one
 abbrev pub IsSo : Made → Reported → Said → Type 0
 IsSo m b (Optimal count) = PrintsPlan m b count × NoneHasFewer m b count × (b.verdict ≡ verdict.Optimal count)
+IsSo m b (First count) = PrintsFirst m b count × NoneHasFewer m b count × (b.verdict ≡ verdict.First count)
 IsSo m b NoPlan = NoneThere m b × (b.lines ≡ []) × (b.verdict ≡ verdict.NoPlan)
 IsSo m b (Between lower upper why) =
     NoneHasFewer m b lower × MatchOption upper (b.lines ≡ []) (PrintsPlan m b) × IsOpenVerdict (problem_in m b) lower upper why b.verdict

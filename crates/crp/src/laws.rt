@@ -5,15 +5,17 @@ ghost use Rattle.crp_plan.specs.BayNames.{YardBay, IsYardBay};
 ghost use Rattle.crp_cert.specs.declared.head.Head.{Head};
 ghost use Rattle.crp_cert.specs.Text.{IsHead};
 ghost use Rattle.crp_solve.specs.declared.answer.Answer.{Answer};
+ghost use Rattle.crp_solve.specs.declared.answer.Solved.{Solved};
+ghost use Rattle.crp_solve.specs.Chosen.{Chosen};
 ghost use Rattle.crp_solve.specs.Answers.{IsTrueAnswer};
 ghost use Rattle.crp_order.specs.declared.bay_problem.BayProblem.{BayProblem};
 ghost use Rattle.crp_report.specs.Answered.{Answered, AreTrueAnswers};
-ghost use Rattle.crp_report.specs.Report.{certificates_text};
+ghost use Rattle.crp_report.specs.Report.{text_of, certificates_text};
 ghost use Rattle.crp_report.specs.Chosen.{RunChosen};
 ghost use Rattle.crp_report.specs.Runs.{Seen, Made, IsMade};
 ghost use Rattle.crp_commands.specs.Prove.{IsProofOf};
 ghost use Rattle.crp.specs.Headline.{IsHeadline};
-ghost use Rattle.crp.specs.Accepted.{text_of, IsAcceptedAs, CanBeTold, IsAcceptedFile};
+ghost use Rattle.crp.specs.Accepted.{IsAcceptedAs, CanBeTold, IsAcceptedFile};
 
 /// The checker accepts what the solver writes: the certificate of a true answer, under the name of a bay, is accepted, with the
 /// verdict on that answer.
@@ -25,7 +27,7 @@ pub fn answers_are_accepted()
 /// The checker accepts the file of the certificates of true answers, and it shows for each bay, in order, the verdict on its answer,
 /// as the certificate of that bay's problem does by itself.
 pub fn certificates_are_accepted()
-    ensures { (budget : ℕ) (problems : List BayProblem) (answered : List Answered) → AreTrueAnswers budget problems answered
+    ensures { (chosen : Chosen) (problems : List BayProblem) (answered : List Answered) → AreTrueAnswers chosen problems answered
         → All CanBeTold problems → IsAcceptedFile (certificates_text answered) answered }
 {}
 
@@ -39,7 +41,8 @@ pub fn runs_are_accepted()
 /// What a run promises, in one statement. Its report is a line of three numbers, the lines of the bays from which an ordered container
 /// leaves, in the yard's order, and a line that counts them. Where a bay is said to be optimal, its lines are those of a complete plan
 /// that takes its ordered containers in their order, no complete plan has fewer relocations, and the checker accepts its certificate with
-/// that number; where it is said to have no plan, there is none, and the checker accepts that; where it is left open, both numbers hold,
+/// that number; where the plan is said to be the first, it comes before all others with as few relocations, and the checker accepts that;
+/// where it is said to have no plan, there is none, and the checker accepts that; where it is left open, both numbers hold,
 /// and the checker accepts them.
 pub fn headline()
     ensures { (chosen : RunChosen) (seen : Seen) (made : Made) → IsMade chosen seen made → IsHeadline made }
@@ -47,6 +50,6 @@ pub fn headline()
 
 /// The checker accepts the certificate that is made of a head, with the verdict on the answer to its problem.
 pub fn proofs_are_accepted()
-    ensures { (budget : ℕ) (head : Head) (found : Answer) (text : List ℕ) → IsHead head
-        → IsProofOf budget head found text → IsAcceptedAs text head.bay head.problem found }
+    ensures { (chosen : Chosen) (head : Head) (solved : Solved) (text : List ℕ) → IsHead head
+        → IsProofOf chosen head solved text → IsAcceptedAs text head.bay head.problem solved.answer }
 {}
