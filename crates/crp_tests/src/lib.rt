@@ -19,6 +19,10 @@ mod failing_runs;
 #[cfg(test)]
 mod files;
 #[cfg(test)]
+mod first_runs;
+#[cfg(test)]
+mod firsts;
+#[cfg(test)]
 mod heights;
 #[cfg(test)]
 mod interrupted_runs;

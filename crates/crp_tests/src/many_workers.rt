@@ -38,7 +38,7 @@ fn push_bay(list: &mut Vec<u8>, alloc: Global, bay: u32) -> Result<(), AllocErro
     Ok(())
 }
 
-fn yard_of_many_bays(alloc: Global) -> Result<Vec<u8>, AllocError> {
+pub(crate) fn yard_of_many_bays(alloc: Global) -> Result<Vec<u8>, AllocError> {
     let mut list = HEADER.to_vec(alloc)?;
     for bay in 1..=BAYS {
         push_bay(&mut list, alloc, bay)?;
@@ -57,7 +57,7 @@ fn shuffled(alloc: Global, numbers: &mut Numbers) -> Result<Vec<u32>, AllocError
 }
 
 // A message that orders ten containers of each bay, in an order from the source.
-fn message_of_many_bays(alloc: Global) -> Result<String, AllocError> {
+pub(crate) fn message_of_many_bays(alloc: Global) -> Result<String, AllocError> {
     let mut text = String::from_str(
         alloc,
         "UNB+UNOA:1+YARD+SHIP+250101:0800+1'\nUNH+1+MOVINS:D:95B:UN'\nHAN+LOA'\n",

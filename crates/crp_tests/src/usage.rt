@@ -20,11 +20,20 @@ fn reads_words(rt: HostRuntime) {
     assert!(rt; matches!(job(alloc, &["check", "a"]), Ok(Job::Check(file)) if file == "a"));
 }
 
-// Words of `prove`, and the file, the workers, the budget and the split that they ask for.
-type ProveCase = (&'static [&'static str], &'static str, (u32, u64, u8));
+// The workers, the budget and the split of a search, and whether the first best plan is asked for.
+type Search = (u32, u64, u8, bool);
 
-const PROVE_CASES: [ProveCase; 3] = [
-    (&["prove", "a"], "a", (1, 1000000, 2)),
+// Words of `prove`, and the file and the search that they ask for.
+type ProveCase = (&'static [&'static str], &'static str, Search);
+
+const PROVE_CASES: [ProveCase; 5] = [
+    (&["prove", "a"], "a", (1, 1000000, 2, false)),
+    (&["prove", "a", "--first"], "a", (1, 1000000, 2, true)),
+    (
+        &["prove", "--first", "--split=0", "a", "--budget=1"],
+        "a",
+        (1, 1, 0, true),
+    ),
     (
         &[
             "prove",
@@ -35,22 +44,26 @@ const PROVE_CASES: [ProveCase; 3] = [
             "64",
         ],
         "-",
-        (64, 1099511627776, 8),
+        (64, 1099511627776, 8, false),
     ),
     (
         &["prove", "--workers=1", "--budget", "0", "--split", "0", "b"],
         "b",
-        (1, 0, 0),
+        (1, 0, 0, false),
     ),
 ];
 
-// The workers, the budget and the split of a search.
-fn search_of(settings: &Settings) -> (u32, u64, u8) {
-    (settings.workers(), settings.budget(), settings.split())
+fn search_of(settings: &Settings) -> Search {
+    (
+        settings.workers(),
+        settings.budget(),
+        settings.split(),
+        settings.first(),
+    )
 }
 
 // Whether the job is to prove this file by this search.
-fn is_proof(job: &Result<Job<'_>, Usage>, name: &str, chosen: (u32, u64, u8)) -> bool {
+fn is_proof(job: &Result<Job<'_>, Usage>, name: &str, chosen: Search) -> bool {
     match job {
         Ok(Job::Prove { file, search }) => *file == name && search_of(search) == chosen,
         _ => false,
@@ -70,7 +83,7 @@ fn reads_a_search(rt: HostRuntime) {
 struct Asked {
     files: [&'static str; 2],
     outputs: [Option<&'static str>; 2],
-    search: (u32, u64, u8),
+    search: Search,
     size: (u8, u8),
     order: Mode,
     code: &'static str,
@@ -109,7 +122,7 @@ fn is_solve(job: &Result<Job<'_>, Usage>, asked: &Asked) -> bool {
 const BY_DEFAULT: Asked = Asked {
     files: ["yard.csv", "ship.edi"],
     outputs: [None, None],
-    search: (1, 1000000, 2),
+    search: (1, 1000000, 2, false),
     size: (6, 5),
     order: Mode::Listed,
     code: "LOA",
@@ -118,13 +131,13 @@ const BY_DEFAULT: Asked = Asked {
 const ALL_OPTIONS: Asked = Asked {
     files: ["y", "-"],
     outputs: [Some("c"), Some("-")],
-    search: (7, 0, 3),
+    search: (7, 0, 3, true),
     size: (12, 1),
     order: Mode::Stowage,
     code: "",
 };
 
-const ALL_WORDS: [&str; 18] = [
+const ALL_WORDS: [&str; 19] = [
     "solve",
     "--rows",
     "12",
@@ -139,6 +152,7 @@ const ALL_WORDS: [&str; 18] = [
     "0",
     "--workers=7",
     "--split=3",
+    "--first",
     "--cert",
     "c",
     "--after",
@@ -190,7 +204,7 @@ fn reads_heights(rt: HostRuntime) {
 #[test]
 fn settings_at_their_limits(rt: HostRuntime) -> Result<(), Fail> {
     let chosen = SolveSettings {
-        search: Settings::new(64, 1099511627776, 8)?,
+        search: Settings::new(64, 1099511627776, 8)?.with_first(),
         rows: 12,
         tiers: 8,
         heights: None,
@@ -198,7 +212,7 @@ fn settings_at_their_limits(rt: HostRuntime) -> Result<(), Fail> {
         code: "DIS",
     };
     let most = settings_of(rt.alloc(), &chosen)?;
-    assert_same(&rt, &search_of(&most.search()), &(64, 1099511627776, 8));
+    assert_same(&rt, &search_of(&most.search()), &(64, 1099511627776, 8, true));
     let eights: [u8; 12] = [8; 12];
     assert_same(&rt, &most.heights(), &eights.as_slice());
     assert_same(&rt, &most.mode(), &Mode::Stowage);
@@ -212,7 +226,7 @@ fn settings_at_their_limits(rt: HostRuntime) -> Result<(), Fail> {
         code: "",
     };
     let least = settings_of(rt.alloc(), &chosen)?;
-    assert_same(&rt, &search_of(&least.search()), &(1, 0, 0));
+    assert_same(&rt, &search_of(&least.search()), &(1, 0, 0, false));
     let one: [u8; 1] = [1];
     assert_same(&rt, &least.heights(), &one.as_slice());
     assert_same(&rt, &least.mode(), &Mode::Listed);
@@ -266,6 +280,27 @@ fn refuses_words_of_solve(rt: HostRuntime) {
         ["solve", "a", "b", "--rows=1", "--tiers="],
         ["solve", "a", "b", "--order=Listed", "--rows=1"],
         ["solve", "a", "b", "--workers=1", "--workers=1"],
+    ] {
+        assert!(rt; is_wrong(rt.alloc(), &words));
+    }
+}
+
+#[test]
+fn refuses_first_with_a_value_or_twice(rt: HostRuntime) {
+    for words in [
+        ["prove", "a", "--first", "--first"],
+        ["prove", "a", "--budget=1", "--first=true"],
+        ["solve", "a", "b", "--first=false"],
+        ["solve", "a", "--first", "--first"],
+        ["check", "a", "--first", "--first"],
+    ] {
+        assert!(rt; is_wrong(rt.alloc(), &words));
+    }
+    for words in [
+        ["replay", "a", "--first"],
+        ["bound", "a", "--first"],
+        ["check", "a", "--first"],
+        ["solve", "a", "--first"],
     ] {
         assert!(rt; is_wrong(rt.alloc(), &words));
     }
@@ -424,6 +459,7 @@ fn help_tells_options_and_defaults(rt: HostRuntime) {
                 "0 to 8 [default: 2]",
                 "--budget <N>",
                 "0 to 1099511627776 [default: 1000000]",
+                "--first",
                 "--cert <FILE>",
                 "--after <FILE>",
             ] {
