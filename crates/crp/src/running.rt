@@ -3,10 +3,10 @@ ghost use Rattle.std.specs.Prelude.{◌≡◌, IfOk, map, string_bytes};
 ghost use Rattle.crp_commands.specs.Calls.{exit_code};
 ghost use Rattle.crp_words.specs.Words.{HasUsageStatus};
 
-use crp_commands::{ToolFault, exit_of, run_job};
+use crp_commands::{Job, Place, ToolFault, advice_on, exit_of, place_of, run_job};
 use crp_plan::Counted;
 use crp_report::Status;
-use crp_words::{Mistake, Usage, job};
+use crp_words::{Mistake, Usage, advice_on_setting, job};
 use std::alloc::{AllocError, Global};
 use std::sync::Wait;
 use std::thread::Threads;
@@ -35,14 +35,34 @@ fn texts_of<'a>(alloc: Global, words: &'a [String]) -> Result<Vec<&'a str>, Allo
     Ok(texts)
 }
 
-// The exit status, with the fault's line on the standard error.
-fn told(rt: &HostRuntime, answer: &Result<Status, ToolFault>) -> u8
+// Writes what to look at after a fault to the standard error, and where, if a read or a write failed.
+fn advise(rt: &HostRuntime, fault: &ToolFault, place: Option<Place<'_>>) {
+    let advice = advice_on(fault);
+    let _ = match place {
+        Some(place) => eprintln!(rt; "look at {place}: {advice}"),
+        None => eprintln!(rt; "{advice}"),
+    };
+}
+
+// The exit status, with the lines of the fault on the standard error.
+fn told(rt: &HostRuntime, answer: &Result<Status, ToolFault>, place: Option<Place<'_>>) -> u8
     ensures { result ≡ exit_code answer.now }
 {
     if let Err(fault) = answer {
         let _ = eprintln!(rt; "crp: {fault}");
+        advise(rt, fault, place);
     }
     exit_of(answer)
+}
+
+// The exit status of a job that was done, with the lines of its fault on the standard error.
+fn told_job(rt: &HostRuntime, job: &Job<'_>, answer: &Result<Status, ToolFault>) -> u8
+    ensures { result ≡ exit_code answer.now }
+{
+    match answer {
+        Ok(_) => told(rt, answer, None),
+        Err(fault) => told(rt, answer, place_of(job, fault)),
+    }
 }
 
 fn told_usage(rt: &HostRuntime, usage: &Usage) -> u8
@@ -51,17 +71,18 @@ fn told_usage(rt: &HostRuntime, usage: &Usage) -> u8
     match usage {
         Usage::Help(text) => match print!(rt; "{text}") {
             Ok(()) => 0,
-            Err(_) => told(rt, &Err(ToolFault::Write)),
+            Err(_) => told(rt, &Err(ToolFault::Write), Some(Place::StandardOutput)),
         },
         Usage::Wrong(Mistake::Words(text)) => {
             let _ = eprint!(rt; "{text}");
             WRONG_USAGE
         }
         Usage::Wrong(Mistake::Setting(fault)) => {
-            let _ = eprintln!(rt; "crp: {fault}");
+            let advice = advice_on_setting(fault);
+            let _ = eprintln!(rt; "crp: {fault}\n{advice}");
             WRONG_USAGE
         }
-        Usage::Memory => told(rt, &Err(ToolFault::Memory)),
+        Usage::Memory => told(rt, &Err(ToolFault::Memory), None),
     }
 }
 
@@ -71,20 +92,20 @@ pub fn run<T: Threads + Wait + Sync>(rt: &HostRuntime, threads: &T) -> u8 {
         Ok(words) => words,
         Err(error) => {
             if error.kind() == io::ErrorKind::OutOfMemory {
-                return told(rt, &Err(ToolFault::Memory));
+                return told(rt, &Err(ToolFault::Memory), None);
             }
             let _ = eprintln!(rt; "error: a word is no text");
             return WRONG_USAGE;
         }
     };
     let Ok(texts) = texts_of(rt.alloc(), &words) else {
-        return told(rt, &Err(ToolFault::Memory));
+        return told(rt, &Err(ToolFault::Memory), None);
     };
     match job(rt.alloc(), &texts) {
-        Ok(job) => told(
-            rt,
-            &run_job(rt, threads, &job, &mut Counted::new(rt.stdout())),
-        ),
+        Ok(job) => {
+            let answer = run_job(rt, threads, &job, &mut Counted::new(rt.stdout()));
+            told_job(rt, &job, &answer)
+        }
         Err(usage) => told_usage(rt, &usage),
     }
 }

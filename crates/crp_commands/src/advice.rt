@@ -211,7 +211,7 @@ fn advice_on_refused(refused: &Refused) -> &'static str
     match refused {
         Refused::Cert(fault) => advice_on_certificate(fault),
         Refused::OtherProblem =>
-            "the certificate is about another bay than the one it was asked for",
+            "the certificate states another problem than the one that was asked for",
         Refused::Plan(fault) => advice_on_checked_plan(fault),
         Refused::Low { .. } => {
             "the certificate does not show its claim: at this symbol (B or L) the bound is below what the claim needs"

@@ -4,9 +4,11 @@
 //! words ask for and when they are refused in `specs/Words.antt`.
 #![tactic(auto)]
 
+mod advice;
 mod commands;
 mod usage;
 mod words;
 
+pub use advice::advice_on_setting;
 pub use usage::{Mistake, SettingFault, Usage};
 pub use words::job;

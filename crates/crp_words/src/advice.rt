@@ -1,0 +1,20 @@
+//! What to look at where a setting is beyond its limits, in plain words.
+ghost use Rattle.crp_commands.specs.Advice.{IsLine};
+
+use crate::usage::SettingFault;
+
+/// What the setting must be: one line.
+pub fn advice_on_setting(fault: &SettingFault) -> &'static str
+    ensures { IsLine result.now }
+{
+    match fault {
+        SettingFault::Workers => "--workers must be a number from 1 to 64",
+        SettingFault::Budget => "--budget must be a number from 0 to 1099511627776",
+        SettingFault::Split => "--split must be a number from 0 to 8",
+        SettingFault::Rows => "--rows must be a number from 1 to 12",
+        SettingFault::Tiers => "--tiers must be a number from 1 to 8",
+        SettingFault::Heights => {
+            "--heights must be one digit from 1 to 8 for each of 1 to 12 rows, joined by points, as 4.5.5.4"
+        }
+    }
+}
