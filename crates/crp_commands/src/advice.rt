@@ -139,7 +139,7 @@ fn advice_on_certificate(fault: &CertFault) -> &'static str
             "a row line is row and its ranks from bottom to top, no more than fit; each rank from 1 to M stands in one place"
         }
         CertFault::Claim { .. } => {
-            "this line must be the claim, such as at least 3, and its number at most N*(TIERS-1)+1"
+            "this line must be the claim, such as at least 3 (or first 3, in version 2), and its number at most N*(TIERS-1)+1"
         }
         CertFault::Plan { .. } => {
             "this line must be plan and the rows that containers go to (at most 672, one or two digits each), or plan -"
@@ -213,6 +213,9 @@ fn advice_on_refused(refused: &Refused) -> &'static str
         Refused::OtherProblem =>
             "the certificate states another problem than the one that was asked for",
         Refused::Plan(fault) => advice_on_checked_plan(fault),
+        Refused::NoFirstPlan => {
+            "the first best plan is claimed: the plan line must give a plan, and of as many relocations as the claim"
+        }
         Refused::Low { .. } => {
             "the certificate does not show its claim: at this symbol (B or L) the bound is below what the claim needs"
         }

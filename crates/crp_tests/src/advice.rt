@@ -191,7 +191,7 @@ const OF_CERTIFICATES: [(CertFault, &str, &str); 11] = [
     (
         CertFault::Claim { line: 5 },
         "C4 at line 5",
-        "this line must be the claim, such as at least 3, and its number at most N*(TIERS-1)+1",
+        "this line must be the claim, such as at least 3 (or first 3, in version 2), and its number at most N*(TIERS-1)+1",
     ),
     (
         CertFault::Plan { line: 6 },
@@ -415,12 +415,17 @@ fn add_certificates(rows: &mut Vec<Row>) -> Result<(), Fail> {
 }
 
 // What a check finds beside the text and the plan.
-fn claims(alloc: Global) -> [Row; 5] {
+fn claims(alloc: Global) -> [Row; 6] {
     [
         Row {
             fault: checked(Refused::OtherProblem),
             text: "certificate 2: K1",
             advice: "the certificate states another problem than the one that was asked for",
+        },
+        Row {
+            fault: checked(Refused::NoFirstPlan),
+            text: "certificate 2: K2",
+            advice: "the first best plan is claimed: the plan line must give a plan, and of as many relocations as the claim",
         },
         Row {
             fault: checked(Refused::Low {
