@@ -3,12 +3,12 @@ use Rattle.std.proofs.Common.{◌≡◌, ◌≢◌, ℕ, ◌≤◌, inl, ⊎_eli
 use Rattle.std.proofs.lemmas.List.Elements.{All-nil, All-cons, All-same, All-from_recursion}
 use Rattle.crp_plan.specs.Bay.{Problem, IsProblem, Position, start, cap}
 use Rattle.crp_plan.specs.Faults.{stated, stated_with}
-use Rattle.crp_bay.specs.Positions.{settled, targets}
+use Rattle.crp_bay.specs.Positions.{settled, child, targets}
 use Rattle.crp_bay.proofs.Walked.{begins_at}
 use Rattle.crp_tree.specs.declared.tree.Tree.{Tree, CutB, CutL, Branch}
 use Rattle.crp_bay.proofs.Members.{not_in_nil, in_head, in_cons_cases}
 use Rattle.crp_tree.specs.Names.{Precedes}
-use Rattle.crp_tree.specs.Trees.{nodes, cuts, given_names, value, IsInPlace, HasShape, HasAtLeast, least_value}
+use Rattle.crp_tree.specs.Trees.{Node, nodes, cuts, given_names, value, IsInPlace, HasShape, HasAtLeast, least_value}
 use Rattle.crp_tree.specs.Listed.{nodes_below, AreFit}
 use Rattle.crp_tree.specs.Claims.{Part, IsPart, nodes_in, given_by}
 use Rattle.crp_tree.proofs.Shown.{least_most, from_least}
@@ -87,6 +87,29 @@ six_cut p is = subst (ShapeAndFloor 2 CutB) (sym is) (record { fits = tt; in_pla
 -- by the look-ahead bound the four show 2
 pub four_show : (p : Problem) → p ≡ four → ShapeAndFloor 2 CutL p
 four_show p is = subst (ShapeAndFloor 2 CutL) (sym is) (record { fits = tt; in_place = All-from_recursion IsInPlace (nodes [] (settled (start four)) CutL) (tt, tt); not_given = λ n. n }, refl)
+
+-- with branches at the empty path and below row 2, and cuts by the blocking bound below these, the four show 2
+pub four_branch : (p : Problem) (trees inner : Vec Tree Global) → p ≡ four → trees.items ≡ Branch inner ∷ CutB ∷ [] → inner.items ≡ CutB ∷ CutB ∷ [] → ShapeAndFloor 2 (Branch trees) p
+four_branch p trees inner is e below =
+    subst (ShapeAndFloor 2 (Branch trees)) (sym is)
+    (branch_shows four 2 trees (Branch inner ∷ CutB ∷ []) e (omega arith) (branch.fits second (tt, (tt, tt)), (tt, tt))
+    (subst (All IsInPlace) (sym listed) (All-from_recursion IsInPlace list (omega arith, (tt, (tt, (tt, tt))))))
+    (ap (least_value (cap four)) (sym listed)))
+  where
+    first : Position
+    first = settled (start four)
+
+    second : Position
+    second = child first 2
+
+    branch : IsBranchOf (Branch inner) (CutB ∷ CutB ∷ [])
+    branch = is_branch_of (Branch inner) inner (CutB ∷ CutB ∷ []) refl (sym below)
+
+    list : List Node
+    list = (branch_node (2 ∷ []) second ∷ nodes_below (2 ∷ []) second (targets second) (CutB ∷ CutB ∷ [])) ++ nodes_below [] first (3 ∷ []) (CutB ∷ [])
+
+    listed : nodes_below [] first (targets first) (Branch inner ∷ CutB ∷ []) ≡ list
+    listed = ap (λ l. l ++ nodes_below [] first (3 ∷ []) (CutB ∷ [])) (branch.nodes_are (2 ∷ []) second)
 
 -- under unequal heights too
 pub unequal_show : (p : Problem) → p ≡ unequal → ShapeAndFloor 2 CutL p

@@ -40,6 +40,27 @@ pub(crate) fn write_cert<W: Sink>(
     crp_cert::write_cert(alloc, writer, bay, problem, cert, plan)
 }
 
+pub(crate) fn first_text(
+    alloc: Global,
+    bay: &BayName,
+    problem: &Problem,
+    cert: &Cert,
+    plan: &Plan,
+) -> Result<Vec<u8>, AllocError> {
+    crp_cert::first_text(alloc, bay, problem, cert, plan)
+}
+
+pub(crate) fn write_first<W: Sink>(
+    alloc: Global,
+    writer: &mut W,
+    bay: &BayName,
+    problem: &Problem,
+    cert: &Cert,
+    plan: &Plan,
+) -> Result<(), CertWriteFault> {
+    crp_cert::write_first(alloc, writer, bay, problem, cert, plan)
+}
+
 pub(crate) fn check(alloc: Global, bytes: &[u8]) -> Result<Verdict, Refused> {
     crp_checker::check(alloc, bytes)
 }

@@ -1,13 +1,14 @@
 //! What no contract says: worked texts byte for byte, and the texts of faults.
 mod certs;
 mod damaged;
+mod first;
 mod heads;
 mod heights;
 mod told;
 mod writing;
 
 use crate::compare::{assert_same, assert_same_at};
-use crp_cert::{CertFault, Head, Rows};
+use crp_cert::{CertFault, Claim, Head, Rows};
 use crp_plan::{BayName, Problem};
 use std::alloc::{AllocError, Global};
 use std::process::Abort;
@@ -65,7 +66,7 @@ struct Said<'a> {
     /// The rows, the tiers, the ordered containers and all of them.
     size: [u8; 4],
     stacks: &'a [&'a [u8]],
-    claim: u32,
+    claim: Claim,
     plan: Option<&'a [u8]>,
 }
 
@@ -75,7 +76,7 @@ const SAID_OF_SIX: Said<'static> = Said {
     bay: 1,
     size: [3, 3, 6, 6],
     stacks: &[&[1, 5, 4], &[6], &[3, 2]],
-    claim: 3,
+    claim: Claim::AtLeast(3),
     plan: Some(&[2, 2, 1]),
 };
 

@@ -1,3 +1,5 @@
+mod first;
+
 use crate::calls::{bay_after, check, check_bytes, check_file, check_for, check_pieces, read_head};
 use crate::compare::{assert_at, assert_same, assert_same_at};
 use crp_checker::{Path, Refused, Verdict};
@@ -166,12 +168,13 @@ fn unequal_refuses(
 
 #[test]
 fn refused_certificates_of_unequal_heights(rt: HostRuntime) -> Result<(), Fail> {
-    let cases: [(&str, &str, &str, &str, &str); 6] = [
+    let cases: [(&str, &str, &str, &str, &str); 7] = [
         ("3 1 3", "2", "at least 2", "2 1", "K2 (Q2 at step 1)"),
         ("3 1", "2", "at least 2", "3 1", "C2 at line 4"),
         ("2 1 2", "2", "at least 2", "3 1", "C2 at line 4"),
         ("3 1 3", "2 3", "at least 2", "3 1", "C3 at line 6"),
-        ("3 1 3", "2", "first 2", "3 1", "C4 at line 8"),
+        ("3 1 3", "2", "first 2", "3 1", "K3 at part / symbol 1"),
+        ("3 1 3", "2", "first 10", "3 1", "C4 at line 8"),
         ("3 1 3", "2", "at least 3", "3 1", "K3 at part / symbol 1"),
     ];
     for (heights, second, claim, plan, fault) in cases {

@@ -4,7 +4,7 @@ use super::{
 };
 use crate::calls::read_head;
 use crate::compare::{assert_same, assert_same_at};
-use crp_cert::{CertFault, Head, Rows};
+use crp_cert::{CertFault, Claim, Head, Rows};
 use std::alloc::{AllocError, Global};
 use std::process::Abort;
 use std::test::Fail;
@@ -111,7 +111,7 @@ fn four_containers_two_relocations(rt: HostRuntime) -> Result<(), Fail> {
         bay: 1,
         size: [3, 3, 4, 4],
         stacks: &[&[1, 4], &[2], &[3]],
-        claim: 2,
+        claim: Claim::AtLeast(2),
         plan: Some(&[3, 1]),
     };
     assert_read(&rt, &text, &said);
@@ -242,7 +242,7 @@ fn largest_bay(rt: HostRuntime) -> Result<(), Fail> {
             &[81, 82, 83, 84, 85, 86, 87, 88],
             &[89, 90, 91, 92, 93, 94, 95, 96],
         ],
-        claim: 673,
+        claim: Claim::AtLeast(673),
         plan: None,
     };
     assert_read(&rt, &joined(rt.alloc(), &lines)?, &said);
@@ -371,7 +371,7 @@ fn claims_that_are_refused(rt: HostRuntime) -> Result<(), Fail> {
 }
 
 /// What the six containers' head claims with this line in place of that of its claim.
-fn claim_read(alloc: Global, line: &[u8]) -> Result<u32, CertFault> {
+fn claim_read(alloc: Global, line: &[u8]) -> Result<Claim, CertFault> {
     let text = with_line(alloc, 7, line)?;
     let head = head_of(alloc, &text)?;
     Ok(head.claim)
@@ -379,7 +379,8 @@ fn claim_read(alloc: Global, line: &[u8]) -> Result<u32, CertFault> {
 
 #[test]
 fn highest_claim(rt: HostRuntime) -> Result<(), Fail> {
-    assert_same(&rt, &claim_read(rt.alloc(), b"at least 13")?, &13);
+    let highest = claim_read(rt.alloc(), b"at least 13")?;
+    assert_same(&rt, &highest, &Claim::AtLeast(13));
     Ok(())
 }
 

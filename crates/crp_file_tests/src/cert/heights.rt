@@ -8,7 +8,7 @@ use super::writing::{CUT_AHEAD, assert_text, cut_ahead, whole};
 use super::{Said, assert_head};
 use crate::calls::{read_cert, read_head};
 use crate::compare::{assert_at, assert_same, assert_same_at};
-use crp_cert::{CertFault, Script, Version};
+use crp_cert::{CertFault, Claim, Script, Version};
 use crp_plan::Problem;
 use crp_tree::{Cert, Tree};
 use std::alloc::{AllocError, Global};
@@ -109,7 +109,7 @@ fn the_other_lines_are_read_too(rt: HostRuntime) -> Result<(), Fail> {
         bay: 1,
         size: [3, 3, 4, 4],
         stacks: &[&[1, 4], &[2], &[3]],
-        claim: 2,
+        claim: Claim::AtLeast(2),
         plan: Some(&[3, 1]),
     };
     let script = script_of(rt.alloc(), UNEQUAL)?;
@@ -211,7 +211,7 @@ fn other_lines_under_heights(rt: HostRuntime) -> Result<(), Fail> {
         (7, b"row 2", Some(CertFault::Row { line: 7 })),
         (8, b"at least 9", None),
         (8, b"at least 10", Some(CertFault::Claim { line: 8 })),
-        (8, b"first 2", Some(CertFault::Claim { line: 8 })),
+        (8, b"first 2", None),
         (9, b"plan 07", Some(CertFault::Plan { line: 9 })),
     ];
     for (number, line, fault) in cases {

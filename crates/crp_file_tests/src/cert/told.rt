@@ -8,7 +8,7 @@ ghost use Rattle.crp_cert.specs.Writing.{CanBeSpelled};
 use super::stack_of;
 use crate::calls::{cert_text, read_cert};
 use crate::compare::assert_same;
-use crp_cert::{PartLine, Script};
+use crp_cert::{Claim, PartLine, Script};
 use crp_plan::{BayName, Problem};
 use crp_tree::{Cert, Name, Part, Tree};
 use std::alloc::{AllocError, Global};
@@ -61,7 +61,7 @@ fn assert_cut_ahead(rt: &impl Abort, parts: &[PartLine]) {
 }
 
 fn assert_read_again(rt: &impl Abort, script: &Script, told: &(Problem, Cert)) {
-    assert_same(rt, &script.head.claim, &told.1.lower());
+    assert_same(rt, &script.head.claim, &Claim::AtLeast(told.1.lower()));
     assert!(rt; script.head.plan.is_none());
     assert_same(
         rt,

@@ -73,6 +73,23 @@ pub(super) fn cut_ahead(rt: &impl Abort, alloc: Global) -> Result<(Problem, Cert
     Ok((problem, cert))
 }
 
+/// The same bay, branched at the empty path and below row 2: two relocations at least.
+pub(super) fn branched_twice(
+    rt: &impl Abort,
+    alloc: Global,
+) -> Result<(Problem, Cert), AllocError> {
+    let stacks = [
+        vec![in alloc; 1, 4]?,
+        vec![in alloc; 2]?,
+        vec![in alloc; 3]?,
+    ];
+    let problem = problem_of(rt, 3, 4, &stacks);
+    let inner = vec![in alloc; Tree::CutB, Tree::CutB]?;
+    let trees = vec![in alloc; Tree::Branch(inner), Tree::CutB]?;
+    let cert = whole(alloc, &problem, Tree::Branch(trees), 2)?;
+    Ok((problem, cert))
+}
+
 /// One row, from which the lower container cannot leave.
 fn dead_end(rt: &impl Abort, alloc: Global) -> Result<(Problem, Cert), AllocError> {
     let stacks = [vec![in alloc; 1, 2]?];
@@ -89,7 +106,7 @@ fn nothing_buried(rt: &impl Abort, alloc: Global) -> Result<(Problem, Cert), All
     Ok((problem, cert))
 }
 
-fn bay_a(rt: &impl Abort) -> BayName {
+pub(super) fn bay_a(rt: &impl Abort) -> BayName {
     BayName::new(b"A", 1).expect(rt, "a name")
 }
 
@@ -176,10 +193,10 @@ fn worked_certificates_are_written(rt: HostRuntime) -> Result<(), Fail> {
 
 /// Takes a byte a call, as long as it has room, and then fails.
 #[derive(Drop)]
-struct Small {
-    bytes: Vec<u8>,
+pub(super) struct Small {
+    pub bytes: Vec<u8>,
     room: usize,
-    failed: u64,
+    pub failed: u64,
 }
 
 impl Sink for Small {
@@ -202,7 +219,7 @@ impl Sink for Small {
 }
 
 /// A sink of this room.
-fn make_small(alloc: Global, room: usize) -> Small {
+pub(super) fn make_small(alloc: Global, room: usize) -> Small {
     Small {
         bytes: Vec::new(alloc),
         room,
