@@ -19,8 +19,8 @@ use std::alloc::{AllocError, Global};
 use std::mem;
 
 /// A checker of one certificate, which is fed in pieces, however they are cut. It keeps no tree and
-/// no text: what it keeps is the problem, the names of the parts and those that they give, and the path
-/// to the symbol that comes next.
+/// no text: what it keeps is the problem, the plan, the names of the parts and those that they give,
+/// and the path to the symbol that comes next.
 #[derive(Drop)]
 pub struct Checker {
     /// The allocator.
