@@ -17,7 +17,9 @@ use std::thread::Threads;
 const SIX_CONTAINERS: &[u8] =
     b"CRP-CERT 1\nbay A 1\nsize 3 3 6 6\nrow 1 5 4\nrow 6\nrow 3 2\nat least 3\nplan 2 2 1\npart /: XLB\nend 1\n";
 
-// Where the part line of this certificate begins, and where its last line does.
+// Where the block of this certificate's bay stands, and where its part line and its last line begin.
+const BLOCK: usize = 15;
+
 const PART_LINE: usize = 78;
 
 const END_LINE: usize = 90;
@@ -387,7 +389,7 @@ fn a_plan_fault_is_told_by_its_step(rt: HostRuntime) -> Result<(), Fail> {
 }
 
 // The fault of the certificate with another byte at this place of its last two lines.
-fn changed_fault(place: usize) -> CertFault {
+fn last_fault(place: usize) -> CertFault {
     let word = PART_LINE + b"part ".len();
     let symbols = PART_LINE + b"part /: ".len();
     if place < word {
@@ -401,19 +403,57 @@ fn changed_fault(place: usize) -> CertFault {
     }
 }
 
+// The fault of the certificate with another byte at this place.
+fn changed_fault(place: usize) -> CertFault {
+    let line = line_at(place);
+    match line {
+        1 | 2 => CertFault::Opening { line },
+        3 => CertFault::Size { line },
+        4 | 5 | 6 => CertFault::Row { line },
+        7 => CertFault::Claim { line },
+        8 => CertFault::Plan { line },
+        _ => last_fault(place),
+    }
+}
+
+// The certificate with this byte at this place is refused, or accepted under another name of its block.
+fn assert_changed(
+    rt: &(impl Abort + AllocGlobal),
+    place: usize,
+    byte: u8,
+    line: &[u8],
+) -> Result<(), Fail> {
+    let mut text = SIX_CONTAINERS.to_vec(rt.alloc())?;
+    if let Some(changed) = text.get_mut(place) {
+        *changed = byte;
+    }
+    let (written, answer) = checked(rt.alloc(), text.as_slice());
+    let refused = ToolFault::Checked {
+        number: 1,
+        refused: Refused::Cert(changed_fault(place)),
+    };
+    let wanted = if line.is_empty() {
+        Err(refused)
+    } else {
+        Ok(Status::Decided)
+    };
+    assert_same_at(rt, &answer, &wanted, &(place, byte));
+    assert_same_at(rt, &written.as_slice(), &line, &(place, byte));
+    Ok(())
+}
+
 #[test]
-fn each_byte_of_the_last_lines_changed(rt: HostRuntime) -> Result<(), Fail> {
-    for place in PART_LINE..SIX_CONTAINERS.len() {
-        for byte in [0x00, 0x27, 0x2c, 0xff] {
-            let mut text = SIX_CONTAINERS.to_vec(rt.alloc())?;
-            text[place] = byte;
-            let (written, answer) = checked(rt.alloc(), text.as_slice());
-            let refused = ToolFault::Checked {
-                number: 1,
-                refused: Refused::Cert(changed_fault(place)),
-            };
-            assert_same_at(&rt, &answer, &Err(refused), &(place, byte));
-            assert!(rt; written.is_empty());
+fn each_byte_of_a_certificate_changed(rt: HostRuntime) -> Result<(), Fail> {
+    let cases: [(u8, &[u8]); 4] = [
+        (0x00, b""),
+        (0x27, b"bay ' 1: optimal 3\n"),
+        (0x2c, b"bay , 1: optimal 3\n"),
+        (0xff, b""),
+    ];
+    for (byte, line) in cases {
+        for place in 0..SIX_CONTAINERS.len() {
+            let told: &[u8] = if place == BLOCK { line } else { b"" };
+            assert_changed(&rt, place, byte, told)?;
         }
     }
     Ok(())

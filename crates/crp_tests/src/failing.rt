@@ -1,11 +1,9 @@
 //! Commands over devices that fail, are slow, or never end.
-ghost use Rattle.std.specs.Prelude.{Some, None};
-
 use crate::calls::{bound, prove, replay};
 use crate::compare::assert_same;
-use crate::devices::{Endless, Slow, Small};
+use crate::devices::{Endless, Slow};
 use crp_commands::ToolFault;
-use crp_plan::{Failure, Received, Sink, Source};
+use crp_plan::Received;
 use crp_report::Status;
 use crp_solve::Settings;
 use std::test::Fail;
@@ -37,30 +35,6 @@ fn slow_sources(rt: HostRuntime) -> Result<(), Fail> {
         assert!(rt; answer == Err(ToolFault::Read) && sink.bytes.is_empty());
     }
     Ok(())
-}
-
-#[test]
-fn sinks_that_take_a_byte_a_call(rt: HostRuntime) {
-    for room in 0..TWO_CONTAINERS_REPLAYED.len() + 1 {
-        let mut sink = Small {
-            bytes: Vec::new(rt.alloc()),
-            room,
-            failed: 0,
-        };
-        let mut text: &[u8] = TWO_CONTAINERS;
-        let answer = replay(rt.alloc(), &mut text, &mut sink);
-        if room < TWO_CONTAINERS_REPLAYED.len() {
-            assert_same(&rt, &answer, &Err(ToolFault::Write));
-            assert_same(
-                &rt,
-                &sink.bytes.as_slice(),
-                &&TWO_CONTAINERS_REPLAYED[..room],
-            );
-        } else {
-            assert_same(&rt, &answer, &Ok(Status::Decided));
-            assert_same(&rt, &sink.bytes.as_slice(), &TWO_CONTAINERS_REPLAYED);
-        }
-    }
 }
 
 #[test]

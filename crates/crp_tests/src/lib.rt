@@ -9,11 +9,15 @@ mod calls;
 #[cfg(test)]
 mod certificates;
 #[cfg(test)]
+mod command_turns;
+#[cfg(test)]
 mod commands;
 #[cfg(test)]
 mod compare;
 #[cfg(test)]
 mod devices;
+#[cfg(test)]
+mod endless;
 #[cfg(test)]
 mod failing;
 #[cfg(test)]
@@ -32,6 +36,8 @@ mod interrupted_runs;
 mod many_workers;
 #[cfg(test)]
 mod reports;
+#[cfg(test)]
+mod turns;
 #[cfg(test)]
 mod two_bays;
 #[cfg(test)]
