@@ -141,12 +141,7 @@ struct FirstMade {
     yard_after: &'static [u8],
 }
 
-fn compare<P: std::fmt::Debug>(
-    rt: &impl Abort,
-    told: &FirstTexts,
-    made: FirstMade,
-    place: &P,
-) {
+fn compare<P: std::fmt::Debug>(rt: &impl Abort, told: &FirstTexts, made: FirstMade, place: &P) {
     assert_same_at(rt, &told.answer, &Ok(Status::Decided), place);
     assert_same_at(rt, &told.report.as_slice(), &made.report, place);
     assert_same_at(rt, &told.certificates.as_slice(), &made.certificates, place);
@@ -211,7 +206,15 @@ fn the_words_ask_for_the_first_plan(rt: HostRuntime) -> Result<(), Fail> {
     fs::write(&rt, list, FOUR_CONTAINERS)?;
     fs::write(&rt, loading, movins.as_slice())?;
     let words = [
-        "solve", list, loading, "--rows=3", "--tiers=3", "--split=0", "--first", "--cert", proofs,
+        "solve",
+        list,
+        loading,
+        "--rows=3",
+        "--tiers=3",
+        "--split=0",
+        "--first",
+        "--cert",
+        proofs,
     ];
     let (answer, report) = run_words(&rt, &rt, &words)?;
     assert_same(&rt, &answer, &Ok(Status::Decided));

@@ -212,7 +212,11 @@ fn settings_at_their_limits(rt: HostRuntime) -> Result<(), Fail> {
         code: "DIS",
     };
     let most = settings_of(rt.alloc(), &chosen)?;
-    assert_same(&rt, &search_of(&most.search()), &(64, 1099511627776, 8, true));
+    assert_same(
+        &rt,
+        &search_of(&most.search()),
+        &(64, 1099511627776, 8, true),
+    );
     let eights: [u8; 12] = [8; 12];
     assert_same(&rt, &most.heights(), &eights.as_slice());
     assert_same(&rt, &most.mode(), &Mode::Stowage);
