@@ -550,7 +550,7 @@ fn every_advice(alloc: Global) -> Result<Vec<&'static str>, Fail> {
 #[test]
 fn no_line_is_of_two_codes(rt: HostRuntime) -> Result<(), Fail> {
     let lines = every_advice(rt.alloc())?;
-    assert_same(&rt, &lines.len(), &68);
+    assert_same(&rt, &lines.len(), &69);
     for (i, advice) in lines.iter().enumerate() {
         let is_new = lines[..i].iter().all(|line| line != advice);
         assert_at(&rt, is_new, advice);
