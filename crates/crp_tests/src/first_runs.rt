@@ -141,11 +141,17 @@ struct FirstMade {
     yard_after: &'static [u8],
 }
 
-fn compare<P: std::fmt::Debug>(rt: &impl Abort, told: &FirstTexts, made: FirstMade, place: &P) {
-    assert_same_at(rt, &told.answer, &Ok(Status::Decided), place);
-    assert_same_at(rt, &told.report.as_slice(), &made.report, place);
-    assert_same_at(rt, &told.certificates.as_slice(), &made.certificates, place);
-    assert_same_at(rt, &told.yard_after.as_slice(), &made.yard_after, place);
+// Compares the texts of a run by so many workers with those that it is to make.
+fn compare(rt: &impl Abort, told: &FirstTexts, made: FirstMade, workers: u32) {
+    assert_same_at(rt, &told.answer, &Ok(Status::Decided), &workers);
+    assert_same_at(rt, &told.report.as_slice(), &made.report, &workers);
+    assert_same_at(
+        rt,
+        &told.certificates.as_slice(),
+        &made.certificates,
+        &workers,
+    );
+    assert_same_at(rt, &told.yard_after.as_slice(), &made.yard_after, &workers);
 }
 
 const SIX_MADE: FirstMade = FirstMade {
@@ -176,7 +182,7 @@ fn first_plans_of_one_bay(rt: HostRuntime) -> Result<(), Fail> {
     ] {
         for workers in WORKERS {
             let told = texts_of(&rt, rt.alloc(), yard, movins, workers, 0)?;
-            compare(&rt, &told, made, &workers);
+            compare(&rt, &told, made, workers);
         }
     }
     Ok(())
@@ -194,7 +200,7 @@ fn first_plans_of_two_bays(rt: HostRuntime) -> Result<(), Fail> {
     let movins = message_of_three_bays(rt.alloc())?;
     for workers in [1, 3, 64] {
         let told = texts_of(&rt, rt.alloc(), &yard, &movins, workers, 0)?;
-        compare(&rt, &told, THREE_BAYS, &workers);
+        compare(&rt, &told, THREE_BAYS, workers);
     }
     Ok(())
 }
