@@ -5,7 +5,7 @@ use Rattle.std.proofs.lemmas.Bool.{cases_eq}
 use Rattle.std.proofs.lemmas.List.Elements.{recursion_from_All}
 use Rattle.crp_plan.specs.BayNames.{YardBay, IsYardBay}
 use Rattle.crp_plan.specs.Bay.{Problem, cap}
-use Rattle.crp_plan.specs.Plans.{Route}
+use Rattle.crp_plan.specs.Plans.{ProblemPath}
 use Rattle.crp_tree.specs.Claims.{IsAccepted, Claimed, path_in}
 use Rattle.crp_tree.specs.Parts.{claimed}
 use Rattle.crp_cert.specs.declared.head.Head.{Head}
@@ -29,12 +29,12 @@ use Rattle.crp_order.specs.declared.bay_problem.BayProblem.{BayProblem}
 use Rattle.crp_report.specs.Answered.{Answered, AreTrueAnswers, plan_in}
 use Rattle.crp_report.specs.Report.{text_of, certificate_of, certificates_text}
 use Rattle.crp_report.specs.Chosen.{RunChosen}
-use Rattle.crp_report.specs.Runs.{Seen, Made, IsMade}
+use Rattle.crp_report.specs.Runs.{RunSeen, Made, IsMade}
 use Rattle.crp_order.specs.BayProblems.{problems_of}
 use Rattle.crp_commands.specs.Prove.{IsProofOf}
-use Rattle.crp.specs.Accepted.{IsVerdictOn, IsAcceptedAs, CanBeTold, IsVerdictFor, IsAcceptedFile}
+use Rattle.crp.specs.Accepted.{IsVerdictOn, IsAcceptedAs, CanBeWritten, IsVerdictFor, IsAcceptedFile}
 use Rattle.crp.proofs.Ended.{script_ended}
-use Rattle.crp.proofs.Named.{can_be_told}
+use Rattle.crp.proofs.Named.{can_be_written}
 
 -- ---- the verdict
 
@@ -53,7 +53,7 @@ some_verdict bound most (Some n) = ⊎_elim
     (cases_eq n bound)
 
 -- a bound below the plan is not the plan's count
-below_plan : (p : Problem) (lower : ℕ) (plan : Option Route) → lower < count_of p (path_in plan) → option_map length (path_in plan) ≢ Some lower
+below_plan : (p : Problem) (lower : ℕ) (plan : Option ProblemPath) → lower < count_of p (path_in plan) → option_map length (path_in plan) ≢ Some lower
 below_plan p lower None lt e = cc
 below_plan p lower (Some route) lt e = let k : length route.path ≡ lower = cc in omega (arith, k)
 
@@ -106,9 +106,9 @@ claim_accepted p budget (answer.First plan cert) expanded t = t.accepted
 claim_accepted p budget (answer.NoPlan cert) expanded t = t.accepted
 claim_accepted p budget (answer.Between lower cert plan why) expanded t = t.accepted
 
--- and a text can tell it
-tellable : (p : Problem) (budget : ℕ) (found : Answer) (expanded : ℕ) → IsTrueAnswer p budget found expanded → CanBeSpelled (claim p found)
-tellable p budget found expanded t =
+-- and a text can state it
+readable : (p : Problem) (budget : ℕ) (found : Answer) (expanded : ℕ) → IsTrueAnswer p budget found expanded → CanBeSpelled (claim p found)
+readable p budget found expanded t =
     record {
       accepted = claim_accepted p budget found expanded t;
       rising = claimed_rise p (cert_of found) (path_in (plan_in found)) t.certificate;
@@ -138,7 +138,7 @@ pub answer_accepted : (bay : YardBay) (p : Problem) (budget : ℕ) (found : Answ
     IsTrueAnswer p budget found expanded → IsAcceptedAs (text_of bay p found) bay p found
 answer_accepted bay p budget found expanded named t =
     let k = verdict_on bay p budget found expanded t in
-    let can = tellable p budget found expanded t in (
+    let can = readable p budget found expanded t in (
       k.0,
       record {
         on = k.1;
@@ -159,8 +159,8 @@ proof_accepted chosen head solved text is proof =
 
 -- a bay with a true answer, whose certificate can be written
 record IsGood (chosen : Chosen) (bay : Answered) : Type 0 where
-  can : CanBeTold bay.told
-  solved : IsSolved bay.told.problem chosen bay.solved
+  can : CanBeWritten bay.stated
+  solved : IsSolved bay.stated.problem chosen bay.solved
 
 -- the text of a certificate ends with its first line that begins with `end `
 text_ended : (bay : YardBay) (p : Problem) (found : Answer) → IsYardBay bay → IsEnded (text_of bay p found)
@@ -174,7 +174,7 @@ cut : (chosen : Chosen) (answered : List Answered) → AllByRecursion (IsGood ch
 cut chosen [] good = refl
 cut chosen (bay ∷ answered) good =
     let is = good.0 in
-    (certificates_text answered, refl, inl (text_ended bay.told.bay bay.told.problem bay.solved.answer is.can), cut chosen answered good.1)
+    (certificates_text answered, refl, inl (text_ended bay.stated.bay bay.stated.problem bay.solved.answer is.can), cut chosen answered good.1)
 
 -- and each shows the verdict on its answer
 each_shown : (chosen : Chosen) (answered : List Answered) → AllByRecursion (IsGood chosen) answered →
@@ -183,29 +183,29 @@ each_shown chosen [] good = ([], tt, tt)
 each_shown chosen (bay ∷ answered) good =
     let is = good.0 in
     let s = is.solved in
-    let first = answer_accepted bay.told.bay bay.told.problem chosen.budget bay.solved.answer bay.solved.expanded is.can s.answer in
+    let first = answer_accepted bay.stated.bay bay.stated.problem chosen.budget bay.solved.answer bay.solved.expanded is.can s.answer in
     let shown = first.1 in
     let more = each_shown chosen answered good.1 in
-    ((bay.told.bay, first.0) ∷ more.0, ((refl, shown), more.1), (shown.of_bay, more.2))
+    ((bay.stated.bay, first.0) ∷ more.0, ((refl, shown), more.1), (shown.of_bay, more.2))
 
 file_shown : (chosen : Chosen) (answered : List Answered) → AllByRecursion (IsGood chosen) answered → IsAcceptedFile (certificates_text answered) answered
 file_shown chosen answered good =
     let each = each_shown chosen answered good in
     (each.0, each.1, (map certificate_of answered, cut chosen answered good, each.2))
 
-all_good : (chosen : Chosen) (answered : List Answered) → AllByRecursion CanBeTold (map (λ bay. bay.told) answered) →
-    AllByRecursion (λ bay. IsSolved bay.told.problem chosen bay.solved) answered → AllByRecursion (IsGood chosen) answered
+all_good : (chosen : Chosen) (answered : List Answered) → AllByRecursion CanBeWritten (map (λ bay. bay.stated) answered) →
+    AllByRecursion (λ bay. IsSolved bay.stated.problem chosen bay.solved) answered → AllByRecursion (IsGood chosen) answered
 all_good chosen [] can t = tt
 all_good chosen (bay ∷ answered) can t = (record { can = can.0; solved = t.0 }, all_good chosen answered can.1 t.1)
 
-pub file_accepted : (chosen : Chosen) (problems : List BayProblem) (answered : List Answered) → AreTrueAnswers chosen problems answered → All CanBeTold problems → IsAcceptedFile (certificates_text answered) answered
+pub file_accepted : (chosen : Chosen) (problems : List BayProblem) (answered : List Answered) → AreTrueAnswers chosen problems answered → All CanBeWritten problems → IsAcceptedFile (certificates_text answered) answered
 file_accepted chosen problems answered t can =
     file_shown chosen answered
-    (all_good chosen answered (subst (AllByRecursion CanBeTold) (sym t.one_for_each) (recursion_from_All CanBeTold problems can))
-    (recursion_from_All (λ (bay : Answered). IsSolved bay.told.problem chosen bay.solved) answered t.each_true))
+    (all_good chosen answered (subst (AllByRecursion CanBeWritten) (sym t.one_for_each) (recursion_from_All CanBeWritten problems can))
+    (recursion_from_All (λ (bay : Answered). IsSolved bay.stated.problem chosen bay.solved) answered t.each_true))
 
-pub run_accepted : (chosen : RunChosen) (seen : Seen) (made : Made) → IsMade chosen seen made → IsAcceptedFile made.certificates made.answered
+pub run_accepted : (chosen : RunChosen) (seen : RunSeen) (made : Made) → IsMade chosen seen made → IsAcceptedFile made.certificates made.answered
 run_accepted chosen seen made is =
-    let can = can_be_told chosen.heights made.list made.yard made.sequence is.listed in
+    let can = can_be_written chosen.heights made.list made.yard made.sequence is.listed in
     subst (λ file. IsAcceptedFile file made.answered) (sym is.certificates)
     (file_accepted chosen.search (problems_of made.yard made.sequence) made.answered is.true_answers can)

@@ -36,13 +36,13 @@ pub record IsShown (text : List ℕ) (bay : YardBay) (p : Problem) (found : Answ
 abbrev pub IsAcceptedAs : List ℕ → YardBay → Problem → Answer → Type 0
 IsAcceptedAs text bay p found = (v : Verdict) × IsShown text bay p found v
 
--- a text can tell the bay and its problem: the bay has a name
-abbrev pub CanBeTold : BayProblem → Type 0
-CanBeTold told = IsYardBay told.bay
+-- a text can state the bay and its problem: the bay has a name
+abbrev pub CanBeWritten : BayProblem → Type 0
+CanBeWritten stated = IsYardBay stated.bay
 
 -- the bay, and the verdict that its certificate shows on the answer to its problem
 abbrev pub IsVerdictFor : Answered → YardBay × Verdict → Type 0
-IsVerdictFor bay told = (told.0 ≡ bay.told.bay) × IsShown (certificate_of bay) bay.told.bay bay.told.problem bay.solved.answer told.1
+IsVerdictFor bay stated = (stated.0 ≡ bay.stated.bay) × IsShown (certificate_of bay) bay.stated.bay bay.stated.problem bay.solved.answer stated.1
 
 -- the file is accepted, and shows for each of these bays, in order, the verdict that the bay's certificate shows on the answer to its problem
 abbrev pub IsAcceptedFile : List ℕ → List Answered → Type 0

@@ -14,7 +14,7 @@ use Rattle.crp_checker.specs.declared.verdict.Verdict.TheVariants as verdict
 use Rattle.crp_checker.specs.Verdicts.{IsVerdictOf}
 use Rattle.crp_checker.specs.Shown.{TextShows, TextShowsFor}
 use Rattle.crp_checker.specs.Files.{FileShows}
-use Rattle.crp_report.specs.MoveLines.{TellsMoves}
+use Rattle.crp_report.specs.MoveLines.{AreMoveLines}
 use Rattle.crp_report.specs.TakeLines.{taken_in}
 use Rattle.crp_report.specs.Runs.{Made, numbers_of}
 use Rattle.crp_report.specs.Said.{Said, Optimal, First, NoPlan, Between, BaySaid, report_text}
@@ -41,7 +41,7 @@ problem_in m b = problem_of m.yard.heights m.sequence b.bay.1
 pub record PrintsPlan (m : Made) (b : Reported) (count : ℕ) : Type 0 where
   pub moves : List Move
   pub complete : IsPlan (problem_in m b) moves
-  pub printed : TellsMoves (ranked m.sequence b.bay.1) (start (problem_in m b)) moves b.lines
+  pub printed : AreMoveLines (ranked m.sequence b.bay.1) (start (problem_in m b)) moves b.lines
   pub counted : relocations moves ≡ count
   pub in_order : taken_in b.lines ≡ leaving m.sequence b.bay.1
 
@@ -58,7 +58,7 @@ pub record PrintsFirst (m : Made) (b : Reported) (count : ℕ) : Type 0 where
 abbrev pub NoneThere : Made → Reported → Type 0
 NoneThere m b = (moves : List Move) → IsPlan (problem_in m b) moves → ⊥
 
--- the verdict on a bay that was left open: where the budget ended, its bounds; where memory was wanting, what the lower bound, the cap and the
+-- the verdict on a bay that was left open: where the budget ended, its bounds; where memory ran out, what the lower bound, the cap and the
 -- relocations of the printed plan show
 abbrev pub IsOpenVerdict : Problem → ℕ → Option ℕ → Cause → Verdict → Type 0
 IsOpenVerdict p lower upper cause.Budget v = v ≡ verdict.Bounds lower upper

@@ -12,10 +12,10 @@ ghost use Rattle.crp_order.specs.declared.bay_problem.BayProblem.{BayProblem};
 ghost use Rattle.crp_report.specs.Answered.{Answered, AreTrueAnswers};
 ghost use Rattle.crp_report.specs.Report.{text_of, certificates_text};
 ghost use Rattle.crp_report.specs.Chosen.{RunChosen};
-ghost use Rattle.crp_report.specs.Runs.{Seen, Made, IsMade};
+ghost use Rattle.crp_report.specs.Runs.{RunSeen, Made, IsMade};
 ghost use Rattle.crp_commands.specs.Prove.{IsProofOf};
 ghost use Rattle.crp.specs.Headline.{IsHeadline};
-ghost use Rattle.crp.specs.Accepted.{IsAcceptedAs, CanBeTold, IsAcceptedFile};
+ghost use Rattle.crp.specs.Accepted.{IsAcceptedAs, CanBeWritten, IsAcceptedFile};
 
 /// The checker accepts what the solver writes: the certificate of a true answer, under the name of a bay, is accepted, with the
 /// verdict on that answer.
@@ -28,13 +28,13 @@ pub fn answers_are_accepted()
 /// as the certificate of that bay's problem does by itself.
 pub fn certificates_are_accepted()
     ensures { (chosen : Chosen) (problems : List BayProblem) (answered : List Answered) → AreTrueAnswers chosen problems answered
-        → All CanBeTold problems → IsAcceptedFile (certificates_text answered) answered }
+        → All CanBeWritten problems → IsAcceptedFile (certificates_text answered) answered }
 {}
 
 /// The checker accepts the file of certificates that a run makes of a yard list and a message, and it shows for each bay of the
 /// report, in order, the verdict on its answer, as the certificate of that bay's problem does by itself.
 pub fn runs_are_accepted()
-    ensures { (chosen : RunChosen) (seen : Seen) (made : Made) → IsMade chosen seen made
+    ensures { (chosen : RunChosen) (seen : RunSeen) (made : Made) → IsMade chosen seen made
         → IsAcceptedFile made.certificates made.answered }
 {}
 
@@ -45,7 +45,7 @@ pub fn runs_are_accepted()
 /// where it is said to have no plan, there is none, and the checker accepts that; where it is left open, both numbers hold,
 /// and the checker accepts them.
 pub fn headline()
-    ensures { (chosen : RunChosen) (seen : Seen) (made : Made) → IsMade chosen seen made → IsHeadline made }
+    ensures { (chosen : RunChosen) (seen : RunSeen) (made : Made) → IsMade chosen seen made → IsHeadline made }
 {}
 
 /// The checker accepts the certificate that is made of a head, with the verdict on the answer to its problem.

@@ -2,10 +2,10 @@
 #![tactic(auto)]
 
 mod laws;
-mod running;
+mod program;
 
 use std::process::ExitCode;
 
 fn main(rt: HostRuntime) -> ExitCode {
-    ExitCode::from(running::run(&rt, &rt))
+    ExitCode::from(program::run(&rt, &rt))
 }

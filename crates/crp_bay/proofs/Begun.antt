@@ -12,7 +12,7 @@ use Rattle.crp_plan.proofs.Tallies.{few_containers}
 use Rattle.crp_plan.proofs.Steps.{same_rows}
 use Rattle.crp_bay.specs.Positions.{settled}
 use Rattle.crp_bay.proofs.Walked.{holds_push, begins_at}
-use Rattle.crp_bay.specs.Located.{IsLocated, IsKept, AreRowsOf}
+use Rattle.crp_bay.specs.Located.{IsLocated, IsKeptPosition, AreRowsOf}
 use Rattle.crp_bay.proofs.Going.{holds_under, located_settle}
 
 -- one more row, counted from 1
@@ -88,7 +88,7 @@ located_start p rows is are n = record {
 }
 
 -- what is kept at the start
-pub kept_start : (p : Problem) (rows : List ℕ) → IsProblem p → IsLocated rows (start p) → IsKept [] rows (settled (start p))
+pub kept_start : (p : Problem) (rows : List ℕ) → IsProblem p → IsLocated rows (start p) → IsKeptPosition [] rows (settled (start p))
 kept_start p rows is l = record {
   reached = record { problem = p; path = []; is_problem = is; is_at = begins_at p is };
   located = located_settle rows _ (start p) l;

@@ -7,8 +7,8 @@ use Rattle.crp_bay.specs.Positions.{top, without_top, source, stack_at, shifted}
 use Rattle.crp_bay.specs.Reached.{IsReached}
 use Rattle.crp_bay.proofs.Reaching.{reached_settled}
 use Rattle.crp_bay.specs.declared.push.Push.{Push}
-use Rattle.crp_bay.specs.Back.{Standing, place_of, all_back, shift_back, unsettled, undone, rows_before, trail_of}
-use Rattle.crp_bay.specs.Located.{IsLocated, IsKept, AreUndoable, WentBy}
+use Rattle.crp_bay.specs.Back.{PlaceAndTrail, place_of, all_back, shift_back, unsettled, undone, rows_before, trail_of}
+use Rattle.crp_bay.specs.Located.{IsLocated, IsKeptPosition, AreUndoable, WentBy}
 use Rattle.crp_bay.proofs.Tops.{top_push, length_push, read_same, read_other}
 use Rattle.crp_bay.proofs.Going.{Shifts, shifts}
 use Rattle.crp_bay.proofs.Shifting.{went_unsettled, push_undone}
@@ -24,7 +24,7 @@ pub record LastPush (more : List Push) (u : Push) (rows : List ℕ) (s : Positio
   pub few : length more ≤ length reached.path
   pub rest : AreUndoable (reverse more) rows_t t
 
-pub last_push : (pushes more : List Push) (u : Push) (rows : List ℕ) (s : Position) → pushes ≡ more ++ u ∷ [] → IsKept pushes rows s → LastPush more u rows s
+pub last_push : (pushes more : List Push) (u : Push) (rows : List ℕ) (s : Position) → pushes ≡ more ++ u ∷ [] → IsKeptPosition pushes rows s → LastPush more u rows s
 last_push pushes more u rows s e kept =
     let turned : reverse pushes ≡ u ∷ reverse more = ap reverse e ∙ reverse-append more (u ∷ []) in
     let c : AreUndoable (u ∷ reverse more) rows s = subst (λ us. AreUndoable us rows s) turned kept.undoable in
@@ -89,7 +89,7 @@ finds more rows h o n u items new p e =
 -- what is kept after the pop
 pub kept_before : (more : List Push) (rows h : List ℕ) (o n rank : ℕ) (u : Push) (items new1 new2 new3 : List (List ℕ)) → LastPush more u rows (place_of h o n items) → place_of h o u.next new1 ≡ unsettled rows u (place_of h o n items) →
     rank ≡ top (get_or new1 u.to []) → new2 ≡ set new1 u.to (without_top (get_or new1 u.to [])) → new3 ≡ set new2 u.from (get_or new2 u.from [] ++ rank ∷ []) → length new3 ≡ length items →
-    IsKept more (set rows rank u.from) (place_of h o u.next (refill (length items) items new3))
+    IsKeptPosition more (set rows rank u.from) (place_of h o u.next (refill (length items) items new3))
     × (place_of h o u.next (refill (length items) items new3) ≡ undone rows u (place_of h o n items))
     × (set rows rank u.from ≡ rows_before rows u (place_of h o n items))
 kept_before more rows h o n rank u items new1 new2 new3 p e er e2 e3 el =
@@ -99,16 +99,16 @@ kept_before more rows h o n rank u items new1 new2 new3 p e er e2 e3 el =
     let place_is : place_of h o u.next (refill (length items) items new3) ≡ undone rows u s = ap (place_of h o u.next) (refill_whole items new3 el) ∙ made ∙ ap (shift_back u.from u.to) e in
     let rows_is : set rows rank u.from ≡ rows_before rows u s = ap (λ x. set rows x u.from) (er ∙ ap (λ (v : Position). top (stack_at v u.to)) e) in
     let back = push_undone u p.rows_t rows p.t s p.reached p.located p.by in
-    let kept : IsKept more p.rows_t p.t = record { reached = p.reached; located = p.located; few = p.few; undoable = p.rest } in (
-      subst (λ w. IsKept more w (place_of h o u.next (refill (length items) items new3))) (sym (rows_is ∙ back.1)) (subst (IsKept more p.rows_t) (sym (place_is ∙ back.0)) kept),
+    let kept : IsKeptPosition more p.rows_t p.t = record { reached = p.reached; located = p.located; few = p.few; undoable = p.rest } in (
+      subst (λ w. IsKeptPosition more w (place_of h o u.next (refill (length items) items new3))) (sym (rows_is ∙ back.1)) (subst (IsKeptPosition more p.rows_t) (sym (place_is ∙ back.0)) kept),
       place_is,
       rows_is,
     )
 
 -- what was seen before is the position with what is seen of it
-pub seen_before : (pushes more : List Push) (rows rows' : List ℕ) (s t : Position) (u : Push) (now : Standing) → pushes ≡ more ++ u ∷ [] → t ≡ undone rows u s → rows' ≡ rows_before rows u s → seen pushes rows s ≡ now → now.trail ≡ t ∷ trail_of (reverse more) rows' t
+pub seen_before : (pushes more : List Push) (rows rows' : List ℕ) (s t : Position) (u : Push) (now : PlaceAndTrail) → pushes ≡ more ++ u ∷ [] → t ≡ undone rows u s → rows' ≡ rows_before rows u s → seen pushes rows s ≡ now → now.trail ≡ t ∷ trail_of (reverse more) rows' t
 seen_before pushes more rows rows' s t u now e et er is =
-    ap (λ (x : Standing). x.trail) (sym is)
+    ap (λ (x : PlaceAndTrail). x.trail) (sym is)
     ∙ ap (λ us. trail_of us rows s) (ap reverse e ∙ reverse-append more (u ∷ []))
     ∙ ap (λ v. v ∷ trail_of (reverse more) (rows_before rows u s) v) (sym et)
     ∙ ap (λ w. t ∷ trail_of (reverse more) w t) (sym er)

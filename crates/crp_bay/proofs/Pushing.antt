@@ -10,8 +10,8 @@ use Rattle.crp_bay.specs.Reached.{IsReached}
 use Rattle.crp_bay.proofs.Walked.{row_is_target, target_goes_on, allows, Allows}
 use Rattle.crp_bay.proofs.Reaching.{reached_settled, reached_same_rows, reached_low, can_from_target}
 use Rattle.crp_bay.specs.declared.push.Push.{Push}
-use Rattle.crp_bay.specs.Back.{Standing, place_of, rows_before, trail_of}
-use Rattle.crp_bay.specs.Located.{IsLocated, IsKept, AreUndoable, WentBy}
+use Rattle.crp_bay.specs.Back.{PlaceAndTrail, place_of, rows_before, trail_of}
+use Rattle.crp_bay.specs.Located.{IsLocated, IsKeptPosition, AreUndoable, WentBy}
 use Rattle.crp_bay.proofs.Tops.{read_other}
 use Rattle.crp_bay.proofs.Going.{Shifts, shifts, row_found, located_settle}
 use Rattle.crp_bay.proofs.Shifting.{located_shifted, push_undone}
@@ -47,7 +47,7 @@ pub record PushSteps (rows : List ℕ) (s : Position) (row : ℕ) : Type 0 where
   pub counts : 1 ≤ row
   pub rank_is : top (get_or s.stacks (get_or rows s.next 0) []) ≡ shifts_by.rank
 
-pub push_steps : (pushes : List Push) (rows : List ℕ) (s : Position) (row : ℕ) → IsKept pushes rows s → can_shift s row ≡ true → PushSteps rows s row
+pub push_steps : (pushes : List Push) (rows : List ℕ) (s : Position) (row : ℕ) → IsKeptPosition pushes rows s → can_shift s row ≡ true → PushSteps rows s row
 push_steps pushes rows s row kept h =
     let a : Allows s row = allows s row h in
     let t : Turn rows s = turn rows s kept.located a.unfinished in
@@ -77,7 +77,7 @@ to_room rows s row r p new e =
 
 -- a push that was made
 pub record Went (u : Push) (pushes : List Push) (rows' : List ℕ) (before_it s : Position) (past : List Position) : Type 0 where
-  pub kept : IsKept (pushes ++ u ∷ []) rows' s
+  pub kept : IsKeptPosition (pushes ++ u ∷ []) rows' s
   pub before_is : trail_of (reverse (pushes ++ u ∷ [])) rows' s ≡ before_it ∷ past
 
 abbrev pub goes_reached : (s : Position) (row : ℕ) → (r : IsReached s) → can_shift s row ≡ true → IsReached (child s row)
@@ -88,7 +88,7 @@ goes_reached s row r h = record {
   is_at = target_goes_on r.problem r.path s row r.is_problem r.is_at (row_is_target s row h);
 }
 
-pub went : (pushes : List Push) (rows : List ℕ) (s t : Position) (row rank : ℕ) (u : Push) → IsKept pushes rows s → (p : PushSteps rows s row) → rank ≡ p.shifts_by.rank → t ≡ child s row → u ≡ record { from = get_or rows s.next 0; to = row - 1; next = s.next } →
+pub went : (pushes : List Push) (rows : List ℕ) (s t : Position) (row rank : ℕ) (u : Push) → IsKeptPosition pushes rows s → (p : PushSteps rows s row) → rank ≡ p.shifts_by.rank → t ≡ child s row → u ≡ record { from = get_or rows s.next 0; to = row - 1; next = s.next } →
     Went u pushes (set rows rank (row - 1)) s t (trail_of (reverse pushes) rows s)
 went pushes rows s t row rank u kept p er et eu =
     let k : Shifts rows s row = p.shifts_by in
@@ -112,7 +112,7 @@ went pushes rows s t row rank u kept p er et eu =
     let undoable : AreUndoable (u ∷ reverse pushes) rows' t =
     (s, rows, kept.reached, by, kept.located, omega (arith, Rattle.std.proofs.lemmas.List.length-reverse pushes), kept.undoable) in
     record {
-      kept = subst (λ v. IsKept (pushes ++ u ∷ []) rows' v) (sym et) (record {
+      kept = subst (λ v. IsKeptPosition (pushes ++ u ∷ []) rows' v) (sym et) (record {
         reached = r;
         located = subst (λ w. IsLocated w (child s row)) (sym rows_k) settled_after;
         few = omega (arith, length-append pushes (u ∷ []), length-append kept.reached.path (row ∷ []));
@@ -122,31 +122,31 @@ went pushes rows s t row rank u kept p er et eu =
     }
 
 -- there is room for one more push
-pub push_room : (pushes : List Push) (rows : List ℕ) (s : Position) (row : ℕ) → IsKept pushes rows s → can_shift s row ≡ true → length pushes < 672
+pub push_room : (pushes : List Push) (rows : List ℕ) (s : Position) (row : ℕ) → IsKeptPosition pushes rows s → can_shift s row ≡ true → length pushes < 672
 push_room pushes rows s row kept h =
     let r : IsReached s = kept.reached in
     let c : IsReached (child s row) = goes_reached s row r h in
     let few = kept.few in
     omega (arith, short_path r.problem (r.path ++ row ∷ []) (child s row) r.is_problem (target_goes_on r.problem r.path s row r.is_problem r.is_at (row_is_target s row h)), length-append r.path (row ∷ []))
 
--- the answer tells whether the row is a target
+-- the answer states whether the row is a target
 pub told : (s : Position) (row : ℕ) (b : Bool) → b ≡ can_shift s row → (IsTrue b → Contains (targets s) row) × (Contains (targets s) row → IsTrue b)
 told s row b e = (λ t. row_is_target s row (sym e ∙ t), λ c. e ∙ can_from_target s row c)
 
 -- what is seen of the fields
-abbrev pub seen : List Push → List ℕ → Position → Standing
+abbrev pub seen : List Push → List ℕ → Position → PlaceAndTrail
 seen pushes rows s = record { place = s; trail = trail_of (reverse pushes) rows s }
 
 -- a push as it starts, over the stacks that code has borrowed
 pub record Started (pushes : List Push) (rows : List ℕ) (s : Position) (row : ℕ) : Type 0 where
-  pub kept : IsKept pushes rows s
+  pub kept : IsKeptPosition pushes rows s
   pub steps : PushSteps rows s row
 
-pub started : (pushes : List Push) (rows h : List ℕ) (o n row : ℕ) (items v : List (List ℕ)) (now : Standing) (b : Bool) → v ≡ items → IsKept pushes rows (place_of h o n items) →
+pub started : (pushes : List Push) (rows h : List ℕ) (o n row : ℕ) (items v : List (List ℕ)) (now : PlaceAndTrail) (b : Bool) → v ≡ items → IsKeptPosition pushes rows (place_of h o n items) →
     seen pushes rows (place_of h o n items) ≡ now → b ≡ can_shift now.place row → b ≡ true → Started pushes rows (place_of h o n v) row
 started pushes rows h o n row items v now b e kept is eb yes_b =
-    let kept_v : IsKept pushes rows (place_of h o n v) = subst (λ w. IsKept pushes rows (place_of h o n w)) (sym e) kept in
-    let can : can_shift (place_of h o n items) row ≡ true = subst (λ (w : Standing). can_shift w.place row ≡ true) (sym is) (sym eb ∙ yes_b) in
+    let kept_v : IsKeptPosition pushes rows (place_of h o n v) = subst (λ w. IsKeptPosition pushes rows (place_of h o n w)) (sym e) kept in
+    let can : can_shift (place_of h o n items) row ≡ true = subst (λ (w : PlaceAndTrail). can_shift w.place row ≡ true) (sym is) (sym eb ∙ yes_b) in
     let can_v : can_shift (place_of h o n v) row ≡ true = subst (λ w. can_shift (place_of h o n w) row ≡ true) (sym e) can in
     record { kept = kept_v; steps = push_steps pushes rows (place_of h o n v) row kept_v can_v }
 
@@ -176,15 +176,15 @@ ended_at pushes rows h hs o n m row rank items v new1 new2 new3 st eh ev er e1 e
     ∙ ap (λ w. child (place_of h o n w) row) ev
 
 -- what is seen after the push
-pub seen_after : (pushes more : List Push) (rows : List ℕ) (s t : Position) (row rank : ℕ) (u : Push) (now : Standing) → IsKept pushes rows s → (p : PushSteps rows s row) → rank ≡ p.shifts_by.rank → t ≡ child s row →
+pub seen_after : (pushes more : List Push) (rows : List ℕ) (s t : Position) (row rank : ℕ) (u : Push) (now : PlaceAndTrail) → IsKeptPosition pushes rows s → (p : PushSteps rows s row) → rank ≡ p.shifts_by.rank → t ≡ child s row →
     u ≡ record { from = get_or rows s.next 0; to = row - 1; next = s.next } → more ≡ pushes ++ u ∷ [] → seen pushes rows s ≡ now →
-    IsKept more (set rows rank (row - 1)) t × (seen more (set rows rank (row - 1)) t ≡ record { place = child now.place row; trail = now.place ∷ now.trail })
+    IsKeptPosition more (set rows rank (row - 1)) t × (seen more (set rows rank (row - 1)) t ≡ record { place = child now.place row; trail = now.place ∷ now.trail })
 seen_after pushes more rows s t row rank u now kept p er et eu em is =
     let w : Went u pushes (set rows rank (row - 1)) s t (trail_of (reverse pushes) rows s) = went pushes rows s t row rank u kept p er et eu in
-    let made : List Position → Position → Standing = λ b x. record { place = x; trail = b } in (
-      subst (λ us. IsKept us (set rows rank (row - 1)) t) (sym em) w.kept,
+    let made : List Position → Position → PlaceAndTrail = λ b x. record { place = x; trail = b } in (
+      subst (λ us. IsKeptPosition us (set rows rank (row - 1)) t) (sym em) w.kept,
       ap (λ us. seen us (set rows rank (row - 1)) t) em
           ∙ ap (λ b. made b t) w.before_is
           ∙ ap (made (s ∷ trail_of (reverse pushes) rows s)) et
-          ∙ ap (λ (x : Standing). made (x.place ∷ x.trail) (child x.place row)) is,
+          ∙ ap (λ (x : PlaceAndTrail). made (x.place ∷ x.trail) (child x.place row)) is,
     )

@@ -108,7 +108,7 @@ stops_target s w row e r none c =
 pub targets_legal : (s : Position) (p : Problem) (path : List ℕ) (row : ℕ) → IsProblem p → IsAt p path s → (Contains (targets s) row → IsLegalRow p path row) × (IsLegalRow p path row → Contains (targets s) row)
 targets_legal s p path row is a = (λ c. (child s row, target_goes_on p path s row is a c), λ l. (every_target p path s row l.0 is a l.1).0)
 
--- the computed test of a row tells the targets
+-- the computed test of a row states the targets
 pub can_from_target : (s : Position) (row : ℕ) → Contains (targets s) row → can_shift s row ≡ true
 can_from_target s row c = (from_filter (can_shift s) (counted 1 (length s.heights)) row c).0
 

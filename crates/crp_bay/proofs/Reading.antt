@@ -7,8 +7,8 @@ use Rattle.crp_plan.proofs.Steps.{short_path}
 use Rattle.crp_bay.specs.Positions.{place, child, targets}
 use Rattle.crp_bay.specs.Reached.{IsReached}
 use Rattle.crp_bay.specs.declared.push.Push.{Push}
-use Rattle.crp_bay.specs.Back.{Standing, rows_before, undone, trail_of}
-use Rattle.crp_bay.specs.Located.{IsLocated, IsKept}
+use Rattle.crp_bay.specs.Back.{PlaceAndTrail, rows_before, undone, trail_of}
+use Rattle.crp_bay.specs.Located.{IsLocated, IsKeptPosition}
 use Rattle.crp_bay.proofs.Walked.{placed, target_goes_on}
 use Rattle.crp_bay.proofs.Reaching.{reached_next, targets_legal}
 use Rattle.crp_bay.proofs.Tops.{any_default}
@@ -44,33 +44,33 @@ trail_length [] rows s = omega arith
 trail_length (u ∷ pushes) rows s = omega (arith, trail_length pushes (rows_before rows u s) (undone rows u s))
 
 -- there are never more than a path can have
-pub short_trail : (pushes : List Push) (rows : List ℕ) (s : Position) → IsKept pushes rows s → length (trail_of (reverse pushes) rows s) ≤ 672
+pub short_trail : (pushes : List Push) (rows : List ℕ) (s : Position) → IsKeptPosition pushes rows s → length (trail_of (reverse pushes) rows s) ≤ 672
 short_trail pushes rows s kept =
     let few = kept.few in
     omega (arith, trail_length (reverse pushes) rows s, length-reverse pushes, short_path kept.reached.problem kept.reached.path s kept.reached.is_problem kept.reached.is_at)
 
 -- whether the row is legal, by what a push to it answered
-pub push_legal : (now : Position) (s : Standing) (row : ℕ) (b b' : Bool) → s ≡ record { place = now; trail = [] } → b ≡ b' → ((IsTrue b → Contains (targets s.place) row) × (Contains (targets s.place) row → IsTrue b)) →
+pub push_legal : (now : Position) (s : PlaceAndTrail) (row : ℕ) (b b' : Bool) → s ≡ record { place = now; trail = [] } → b ≡ b' → ((IsTrue b → Contains (targets s.place) row) × (Contains (targets s.place) row → IsTrue b)) →
     (p : Problem) (path : List ℕ) → IsProblem p → IsAt p path now → (IsTrue b' → IsLegalRow p path row) × (IsLegalRow p path row → IsTrue b')
 push_legal now s row b b' e eb t p path is a =
     let legal = targets_legal now p path row is a in
-    let same : s.place ≡ now = ap (λ (v : Standing). v.place) e in (
+    let same : s.place ≡ now = ap (λ (v : PlaceAndTrail). v.place) e in (
       λ yes_b. legal.0 (subst (λ v. Contains (targets v) row) same (t.0 (eb ∙ yes_b))),
       λ l. sym eb ∙ t.1 (subst (λ v. Contains (targets v) row) (sym same) (legal.1 l)),
     )
 
 -- the same for the computed rows
-pub push_target : (now : Position) (s : Standing) (row : ℕ) (b b' : Bool) → s ≡ record { place = now; trail = [] } → b ≡ b' → ((IsTrue b → Contains (targets s.place) row) × (Contains (targets s.place) row → IsTrue b)) →
+pub push_target : (now : Position) (s : PlaceAndTrail) (row : ℕ) (b b' : Bool) → s ≡ record { place = now; trail = [] } → b ≡ b' → ((IsTrue b → Contains (targets s.place) row) × (Contains (targets s.place) row → IsTrue b)) →
     (IsTrue b' → Contains (targets now) row) × (Contains (targets now) row → IsTrue b')
 push_target now s row b b' e eb t =
-    let same : s.place ≡ now = ap (λ (v : Standing). v.place) e in (
+    let same : s.place ≡ now = ap (λ (v : PlaceAndTrail). v.place) e in (
       λ yes_b. subst (λ v. Contains (targets v) row) same (t.0 (eb ∙ yes_b)),
       λ c. sym eb ∙ t.1 (subst (λ v. Contains (targets v) row) (sym same) c),
     )
 
 -- where the push leads
-pub push_at : (now : Position) (s t : Standing) (row : ℕ) → s ≡ record { place = now; trail = [] } → t.place ≡ child s.place row → Contains (targets s.place) row →
+pub push_at : (now : Position) (s t : PlaceAndTrail) (row : ℕ) → s ≡ record { place = now; trail = [] } → t.place ≡ child s.place row → Contains (targets s.place) row →
     (p : Problem) (path : List ℕ) → IsProblem p → IsAt p path now → IsAt p (path ++ row ∷ []) t.place
 push_at now s t row e et c p path is a =
-    let same : s.place ≡ now = ap (λ (v : Standing). v.place) e in
+    let same : s.place ≡ now = ap (λ (v : PlaceAndTrail). v.place) e in
     subst (IsAt p (path ++ row ∷ [])) (sym (et ∙ ap (λ v. child v row) same)) (target_goes_on p path now row is a (subst (λ v. Contains (targets v) row) same c))

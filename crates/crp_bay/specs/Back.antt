@@ -5,7 +5,7 @@ use Rattle.crp_bay.specs.Positions.{top, without_top, stack_at}
 use Rattle.crp_bay.specs.declared.push.Push.{Push}
 
 -- a position, and the positions before the pushes that are not undone, the latest first
-pub record Standing : Type 0 where
+pub record PlaceAndTrail : Type 0 where
   pub place : Position
   pub trail : List Position
 
@@ -25,7 +25,10 @@ all_back rows (suc n) s = put_back rows (all_back rows n s)
 -- the top of one row, from 0, goes back to another
 abbrev pub shift_back : ℕ → ℕ → Position → Position
 shift_back from to s =
-    record s { stacks = slice_set (slice_set s.stacks to (without_top (stack_at s to))) from (slice_index_or (slice_set s.stacks to (without_top (stack_at s to))) from [] ++ top (stack_at s to) ∷ []) }
+    record s {
+      stacks = slice_set (slice_set s.stacks to (without_top (stack_at s to))) from
+          (slice_index_or (slice_set s.stacks to (without_top (stack_at s to))) from [] ++ top (stack_at s to) ∷ []);
+    }
 
 -- before the takes that a push made
 abbrev pub unsettled : List ℕ → Push → Position → Position

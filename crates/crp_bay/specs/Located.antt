@@ -33,7 +33,7 @@ AreUndoable [] rows s = ⊤
 AreUndoable (u ∷ pushes) rows s =
     (t : Position) × (rows_t : List ℕ) × (r : IsReached t) × WentBy u rows_t rows t s × IsLocated rows_t t × (length pushes ≤ length r.path) × AreUndoable pushes rows_t t
 
-pub record IsKept (pushes : List Push) (rows : List ℕ) (s : Position) : Type 0 where
+pub record IsKeptPosition (pushes : List Push) (rows : List ℕ) (s : Position) : Type 0 where
   pub reached : IsReached s
   pub located : IsLocated rows s
   pub few : length pushes ≤ length reached.path

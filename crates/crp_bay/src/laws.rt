@@ -11,8 +11,10 @@ pub fn walks()
     ensures begins { (p : Problem) → IsProblem p → IsAt p [] (settled (start p)) }
     ensures sound { (p : Problem) (path : List ℕ) (s : Place) → IsProblem p → IsAt p path s → at p path ≡ Some s }
     ensures complete { (p : Problem) (path : List ℕ) (s : Place) → IsProblem p → at p path ≡ Some s → IsAt p path s }
-    ensures goes_on { (p : Problem) (path : List ℕ) (s : Place) (row : ℕ) → IsProblem p → IsAt p path s → Contains (targets s) row → IsAt p (path ++ row ∷ []) (child s row) }
-    ensures every_row { (p : Problem) (path : List ℕ) (s : Place) (row : ℕ) (t : Place) → IsProblem p → IsAt p path s → IsAt p (path ++ row ∷ []) t → Contains (targets s) row × (child s row ≡ t) }
+    ensures goes_on { (p : Problem) (path : List ℕ) (s : Place) (row : ℕ) → IsProblem p → IsAt p path s → Contains (targets s) row
+        → IsAt p (path ++ row ∷ []) (child s row) }
+    ensures every_row { (p : Problem) (path : List ℕ) (s : Place) (row : ℕ) (t : Place) → IsProblem p → IsAt p path s → IsAt p (path ++ row ∷ []) t
+        → Contains (targets s) row × (child s row ≡ t) }
     ensures rising { (s : Place) → IsStrictlyIncreasing (targets s) }
     ensures row_test { (s : Place) (row : ℕ) → (Contains (targets s) row ↔ IsTrue (can_shift s row)) }
 {}

@@ -43,6 +43,7 @@ pub fn settle(heights: &[u8], ordered: u8, first: u8, row_of: &[u8; 97], stacks:
     requires located { IsLocated row_of.now (place_of heights.now ordered first stacks.old) }
     ensures { place_of heights.now ordered result stacks.new ≡ settled (place_of heights.now ordered first stacks.old) }
 {
+    // Named in the contract alone.
     let _heights = heights;
     let mut next = first;
     while next <= ordered {
@@ -70,6 +71,7 @@ pub fn go_back(
     requires steps { (j : ℕ) → j < last - until → StepsBack row_of.now (all_back row_of.now j (place_of heights.now ordered last stacks.old)) }
     ensures { place_of heights.now ordered until stacks.new ≡ all_back row_of.now (last - until) (place_of heights.now ordered last stacks.old) }
 {
+    // Named in the contract alone.
     let _ordered = ordered;
     let _heights = heights;
     let mut next = last;

@@ -29,14 +29,17 @@ pub struct Position {
 
 impl Model for Position {
     ghost use Rattle.std.specs.Prelude.{reverse};
-    ghost use Rattle.crp_bay.specs.Back.{Standing, trail_of, place_of};
-    ghost use Rattle.crp_bay.specs.Located.{IsKept};
+    ghost use Rattle.crp_bay.specs.Back.{PlaceAndTrail, trail_of, place_of};
+    ghost use Rattle.crp_bay.specs.Located.{IsKeptPosition};
 
-    ghost Value = { Standing };
+    ghost Value = { PlaceAndTrail };
 
-    ghost view = { λ p. record { place = place_of p.heights.items p.ordered p.next p.stacks.items; trail = trail_of (reverse p.pushes.items) p.row_of (place_of p.heights.items p.ordered p.next p.stacks.items) } };
+    ghost view = { λ p. record {
+      place = place_of p.heights.items p.ordered p.next p.stacks.items;
+      trail = trail_of (reverse p.pushes.items) p.row_of (place_of p.heights.items p.ordered p.next p.stacks.items);
+    } };
 
-    ghost invariant = { λ p. IsKept p.pushes.items p.row_of (place_of p.heights.items p.ordered p.next p.stacks.items) };
+    ghost invariant = { λ p. IsKeptPosition p.pushes.items p.row_of (place_of p.heights.items p.ordered p.next p.stacks.items) };
 }
 
 impl Position {

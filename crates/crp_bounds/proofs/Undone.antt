@@ -5,7 +5,7 @@ use Rattle.std.proofs.lemmas.Bool.{cases_lt}
 use Rattle.std.proofs.lemmas.List.{reverse-append}
 use Rattle.crp_plan.specs.Bay.{Position}
 use Rattle.crp_bay.specs.Positions.{stack_at, can_shift, child}
-use Rattle.crp_bay.specs.Back.{Standing}
+use Rattle.crp_bay.specs.Back.{PlaceAndTrail}
 use Rattle.crp_bay.specs.Located.{moved}
 use Rattle.crp_bay.proofs.Pushing.{goes_reached}
 use Rattle.crp_bounds.specs.Leasts.{least_ordered, KnowsLeasts, KnowsBounds}
@@ -66,7 +66,7 @@ knows_pushed s row leasts count least count' u k c =
     }
 
 -- the push is kept
-pub kept_pushed : (undos more : List Undo) (old new : Standing) (row : ℕ) (leasts : List ℕ) (count least count' : ℕ) (u : Undo) → KnowsAll (reverse undos) old.trail leasts count old.place → Changes old.place row leasts count least count' u →
+pub kept_pushed : (undos more : List Undo) (old new : PlaceAndTrail) (row : ℕ) (leasts : List ℕ) (count least count' : ℕ) (u : Undo) → KnowsAll (reverse undos) old.trail leasts count old.place → Changes old.place row leasts count least count' u →
     new ≡ record { place = child old.place row; trail = old.place ∷ old.trail } → more ≡ undos ++ u ∷ [] → KnowsAll (reverse more) new.trail (set leasts u.rank least) count' new.place
 kept_pushed undos more old new row leasts count least count' u k c en em =
     let turned : reverse more ≡ u ∷ reverse undos = ap reverse em ∙ reverse-append undos (u ∷ []) in
@@ -75,4 +75,4 @@ kept_pushed undos more old new row leasts count least count' u k c en em =
     let before : KnowsAll (reverse undos) old.trail (set (set leasts u.rank least) u.rank u.least) u.blocking old.place =
     subst (λ l. KnowsAll (reverse undos) old.trail l u.blocking old.place) (sym again) (subst (λ n. KnowsAll (reverse undos) old.trail leasts n old.place) (sym c.old_count) k) in
     subst (λ us. KnowsAll us new.trail (set leasts u.rank least) count' new.place) (sym turned)
-    (subst (λ (v : Standing). KnowsAll (u ∷ reverse undos) v.trail (set leasts u.rank least) count' v.place) (sym en) (now, c.rank_few, before))
+    (subst (λ (v : PlaceAndTrail). KnowsAll (u ∷ reverse undos) v.trail (set leasts u.rank least) count' v.place) (sym en) (now, c.rank_few, before))

@@ -31,9 +31,9 @@ pub struct Bounded {
 
 impl Model for Bounded {
     ghost use Rattle.std.specs.Prelude.{reverse};
-    ghost use Rattle.crp_bay.specs.Back.{Standing};
+    ghost use Rattle.crp_bay.specs.Back.{PlaceAndTrail};
 
-    ghost Value = { Standing };
+    ghost Value = { PlaceAndTrail };
 
     ghost use Rattle.crp_bounds.specs.Undoing.{KnowsAll};
 

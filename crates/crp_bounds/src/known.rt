@@ -33,9 +33,11 @@ pub fn with_top(ordered: u8, rank: u8, least: u8) -> u8
 #[inline]
 pub fn least_of(ordered: u8, leasts: &[u8; 97], stack: &[u8]) -> u8
     requires ranks { All (λ rank. rank ≤ 96) stack.now }
-    requires known { (i : ℕ) → i < length stack.now → slice_index leasts.now (slice_index stack.now i) ≡ least_ordered ordered (take (suc i) stack.now) }
+    requires known { (i : ℕ) → i < length stack.now
+        → slice_index leasts.now (slice_index stack.now i) ≡ least_ordered ordered (take (suc i) stack.now) }
     ensures { result ≡ least_ordered ordered stack.now }
 {
+    // Named in the contract alone.
     let _ordered = ordered;
     let count = stack.len();
     if count == 0 {
@@ -48,7 +50,8 @@ pub fn least_of(ordered: u8, leasts: &[u8; 97], stack: &[u8]) -> u8
 fn mark(ordered: u8, ranks: &[u8], leasts: &mut [u8])
     requires few { All (λ rank. rank < length leasts.old) ranks.now }
     requires once { (x : ℕ) → count_by (λ y. y == x) ranks.now ≤ 1 }
-    ensures known { (i : ℕ) → i < length ranks.now → slice_index leasts.new (slice_index ranks.now i) ≡ least_ordered ordered (take (suc i) ranks.now) }
+    ensures known { (i : ℕ) → i < length ranks.now
+        → slice_index leasts.new (slice_index ranks.now i) ≡ least_ordered ordered (take (suc i) ranks.now) }
     ensures others { (x : ℕ) → holds x ranks.now ≡ false → slice_index leasts.new x ≡ slice_index leasts.old x }
 {
     let mut least: u8 = 255;

@@ -26,27 +26,36 @@ pub fn look_ahead_is_higher()
 pub fn bounds_fall_slowly()
     ensures blocking_taken { (s : Position) (row : ℕ) (t : Position) → IsSound s → Legal s (Move.Take row) t → blocking t ≡ blocking s }
     ensures look_ahead_taken { (s : Position) (row : ℕ) (t : Position) → IsSound s → Legal s (Move.Take row) t → look_ahead t ≡ look_ahead s }
-    ensures blocking_shifted { (s : Position) (from to : ℕ) (t : Position) → IsSound s → Legal s (Move.Shift from to) t → blocking s ≤ 1 + blocking t }
-    ensures look_ahead_shifted { (s : Position) (from to : ℕ) (t : Position) → IsSound s → Legal s (Move.Shift from to) t → look_ahead s ≤ 1 + look_ahead t }
+    ensures blocking_shifted { (s : Position) (from to : ℕ) (t : Position) → IsSound s → Legal s (Move.Shift from to) t
+        → blocking s ≤ 1 + blocking t }
+    ensures look_ahead_shifted { (s : Position) (from to : ℕ) (t : Position) → IsSound s → Legal s (Move.Shift from to) t
+        → look_ahead s ≤ 1 + look_ahead t }
 {}
 
 /// Length plus bound never falls as a path grows by a legal row.
 pub fn paths_grow()
-    ensures blocking { (p : Problem) (path : List ℕ) (row : ℕ) (s t : Position) → IsProblem p → IsAt p path s → IsAt p (path ++ row ∷ []) t → length path + blocking s ≤ length (path ++ row ∷ []) + blocking t }
-    ensures look_ahead { (p : Problem) (path : List ℕ) (row : ℕ) (s t : Position) → IsProblem p → IsAt p path s → IsAt p (path ++ row ∷ []) t → length path + look_ahead s ≤ length (path ++ row ∷ []) + look_ahead t }
+    ensures blocking { (p : Problem) (path : List ℕ) (row : ℕ) (s t : Position) → IsProblem p → IsAt p path s → IsAt p (path ++ row ∷ []) t
+        → length path + blocking s ≤ length (path ++ row ∷ []) + blocking t }
+    ensures look_ahead { (p : Problem) (path : List ℕ) (row : ℕ) (s t : Position) → IsProblem p → IsAt p path s → IsAt p (path ++ row ∷ []) t
+        → length path + look_ahead s ≤ length (path ++ row ∷ []) + look_ahead t }
 {}
 
 /// A plan whose path begins with a path has at least the length of that plus either bound of the position there.
 pub fn plans_pass()
-    ensures blocking { (p : Problem) (path more : List ℕ) (s : Position) (moves : List Move) → IsProblem p → IsAt p path s → IsPlan p moves → path_of moves ≡ path ++ more → length path + blocking s ≤ relocations moves }
-    ensures look_ahead { (p : Problem) (path more : List ℕ) (s : Position) (moves : List Move) → IsProblem p → IsAt p path s → IsPlan p moves → path_of moves ≡ path ++ more → length path + look_ahead s ≤ relocations moves }
+    ensures blocking { (p : Problem) (path more : List ℕ) (s : Position) (moves : List Move) → IsProblem p → IsAt p path s → IsPlan p moves
+        → path_of moves ≡ path ++ more → length path + blocking s ≤ relocations moves }
+    ensures look_ahead { (p : Problem) (path more : List ℕ) (s : Position) (moves : List Move) → IsProblem p → IsAt p path s → IsPlan p moves
+        → path_of moves ≡ path ++ more → length path + look_ahead s ≤ relocations moves }
 {}
 
 /// What the bounds count, said by places: the blocking bound counts the containers that stand, in their stack, above an ordered one
 /// of a lower rank. And what the tests of the look-ahead bound say: of the stacks other than the rank's own, and of a stack cut at
 /// the rank.
 pub fn words_mean()
-    ensures blocking { (s : Position) → ((blockers : List (List ℕ)) × AllZip (AreBlockers s.ordered) s.stacks blockers × (blocking s ≡ sum_by length blockers)) }
-    ensures no_place { (ordered k own : ℕ) (heights : List ℕ) (stacks : List (List ℕ)) (stack : List ℕ) (c : ℕ) → slice_get stacks own ≡ Some stack → IsTrue (holds k stack) → occurrences k stacks ≤ 1 → (IsTrue (has_no_place ordered k heights stacks c) ↔ HasNoPlace ordered own heights stacks c) }
+    ensures blocking { (s : Position)
+        → ((blockers : List (List ℕ)) × AllZip (AreBlockers s.ordered) s.stacks blockers × (blocking s ≡ sum_by length blockers)) }
+    ensures no_place { (ordered k own : ℕ) (heights : List ℕ) (stacks : List (List ℕ)) (stack : List ℕ) (c : ℕ) → slice_get stacks own ≡ Some stack
+        → IsTrue (holds k stack) → occurrences k stacks ≤ 1
+        → (IsTrue (has_no_place ordered k heights stacks c) ↔ HasNoPlace ordered own heights stacks c) }
     ensures cut { (k : ℕ) (low high : List ℕ) → IsFalse (holds k low) → (above k (low ++ k ∷ high) ≡ high) × (below k (low ++ k ∷ high) ≡ low) }
 {}

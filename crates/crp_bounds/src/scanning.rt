@@ -24,7 +24,8 @@ fn heights_now(position: &Position) -> [u8; 16]
 #[inline]
 fn offer_of(ordered: u8, leasts: &[u8; 97], height: u8, stack: &[u8]) -> u8
     requires ranks { All (λ rank. rank ≤ 96) stack.now }
-    requires known { (i : ℕ) → i < length stack.now → slice_index leasts.now (slice_index stack.now i) ≡ least_ordered ordered (take (suc i) stack.now) }
+    requires known { (i : ℕ) → i < length stack.now
+        → slice_index leasts.now (slice_index stack.now i) ≡ least_ordered ordered (take (suc i) stack.now) }
     ensures { result ≡ offer ordered height stack.now }
 {
     if height as usize <= stack.len() {
@@ -36,7 +37,8 @@ fn offer_of(ordered: u8, leasts: &[u8; 97], height: u8, stack: &[u8]) -> u8
 /// What each row offers, from 0.
 fn offers_now(position: &Position, leasts: &[u8; 97]) -> [u8; 16]
     requires { KnowsLeasts leasts.now position.now.place }
-    ensures value { (r : ℕ) → slice_index result r ≡ slice_index (offers position.now.place.ordered position.now.place.heights position.now.place.stacks) r }
+    ensures value { (r : ℕ)
+        → slice_index result r ≡ slice_index (offers position.now.place.ordered position.now.place.heights position.now.place.stacks) r }
     ensures long { length result ≡ 16 }
 {
     let mut offers = [0u8; 16];
@@ -91,7 +93,8 @@ fn cut_at_rank(rank: u8, most: u8, stack: &[u8]) -> Cut
 /// How many containers would block again, rank by rank.
 pub fn again_from(position: &Position, leasts: &[u8; 97]) -> u32
     requires { KnowsLeasts leasts.now position.now.place }
-    ensures value { result ≡ stuck_from position.now.place.ordered position.now.place.heights (suc position.now.place.ordered - position.now.place.next) position.now.place.stacks position.now.place.next }
+    ensures value { result ≡ stuck_from position.now.place.ordered position.now.place.heights
+        (suc position.now.place.ordered - position.now.place.next) position.now.place.stacks position.now.place.next }
     ensures few { result ≤ 96 * 96 }
 {
     let mut left = heights_now(position);

@@ -18,7 +18,7 @@ use Rattle.crp_cert.proofs.PartNames.{first_rows, rows_low}
 
 -- ---- after the last
 
--- the names that are told, one by one
+-- the names that are stated, one by one
 name_told : (parts : List Part) (k : ℕ) (d : Part) → k < length parts → get_or (names parts) k d.name ≡ (get_or parts k d).name
 name_told parts k d lt = get_or-map (λ part. part.name) parts k d d.name lt
 
@@ -72,7 +72,7 @@ rank_low (suc room) (row ∷ rows) low =
     let hi = (low.0).1 in
     omega (arith, rank_low room rows low.1, mul-le row (names_below room) 12 (names_below room) hi (omega arith))
 
--- which of two names comes first is told by their first rows, or else by the others
+-- which of two names comes first is stated by their first rows, or else by the others
 cons_cases : (x y : ℕ) (xs ys : List ℕ) → Precedes (x ∷ xs) (y ∷ ys) → (x < y) ⊎ ((x ≡ y) × Precedes xs ys)
 cons_cases x y xs ys (inl goes) =
     let e = goes.is in

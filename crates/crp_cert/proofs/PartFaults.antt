@@ -1,4 +1,4 @@
--- What the reader of parts meets, told as a part or as a fault.
+-- What the reader of parts meets, stated as a part or as a fault.
 use Rattle.std.proofs.Common.{◌≡◌, ℕ, ◌+◌, ◌<◌, ◌≤◌, Bool, true, false, cond, ◌==◌, get_or, List, [], ◌∷◌, ◌++◌, length, Option, Some, None, refl, sym, ap, ◌∙◌, subst, arith, append_assoc, append-nil}
 use Rattle.std.specs.Prelude.{codes, AllPairs}
 use Rattle.std.specs.List.{flat_map}
@@ -124,7 +124,7 @@ end_reads count bytes rest digits after e is some =
 pub no_end : (count : ℕ) (bytes : List ℕ) → tag_at (codes "end ") bytes ≡ None → tag_at (end_line count) bytes ≡ None
 no_end count bytes e = end_pieces count bytes ∙ ap (λ o. o >>= λ r. (tag_at (decimal count) r >>= newline_at)) e
 
--- the fault of a line, told of the same line
+-- the fault of a line, stated of the same line
 pub same_line : (p : Problem) (parts parts' : List Part) (n n' : ℕ) (bytes bytes' : List ℕ) (fault : CertFault) → parts ≡ parts' → n ≡ n' → bytes ≡ bytes' → IsLineFault p parts n bytes fault → IsLineFault p parts' n' bytes' fault
 same_line p parts parts' n n' bytes bytes' fault e f g is =
     subst (λ l. IsLineFault p l n' bytes' fault) e (subst (λ k. IsLineFault p parts k bytes' fault) f (subst (λ l. IsLineFault p parts n l fault) g is))

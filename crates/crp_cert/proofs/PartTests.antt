@@ -11,7 +11,7 @@ use Rattle.crp_bay.specs.Positions.{targets, child}
 use Rattle.crp_bay.proofs.Members.{not_in_nil, in_cons_cases}
 use Rattle.crp_tree.specs.declared.tree.Tree.{Tree, CutB, CutL, Branch', Given, Row_of-Tree, end_of-Tree, more_of-Tree}
 use Rattle.crp_tree.specs.Names.{Precedes}
-use Rattle.crp_tree.specs.Trees.{IsGiven, Fits, FitsEach}
+use Rattle.crp_tree.specs.Trees.{IsGivenAway, Fits, FitsEach}
 use Rattle.crp_tree.proofs.Ordered.{before_test}
 use Rattle.crp_tree.specs.Claims.{Part, names}
 use Rattle.crp_cert.specs.Script.{symbols_of, symbols_of_each}
@@ -124,7 +124,7 @@ symbols_from symbols are =
     rw (first_from symbols are.not_first) (all_from (λ b. Contains (codes "BLXG") b) symbol_test symbol_from symbols (recursion_from_All (λ b. Contains (codes "BLXG") b) symbols are.each))
 
 -- symbols of a part begin with those of no tree that is given as a whole
-pub none_given : (symbols rest : List ℕ) (tree : Tree) → AreSymbols symbols → symbols ≡ symbols_of tree ++ rest → IsGiven tree → ⊥
+pub none_given : (symbols rest : List ℕ) (tree : Tree) → AreSymbols symbols → symbols ≡ symbols_of tree ++ rest → IsGivenAway tree → ⊥
 none_given symbols rest CutB are e g = g
 none_given symbols rest CutL are e g = g
 none_given symbols rest (Branch' shape all) are e g = g
@@ -162,14 +162,14 @@ one_line [] all = tt
 one_line (b ∷ symbols) all = (λ ten. let e : symbol_test 10 ≡ true = subst (λ x. symbol_test x ≡ true) ten all.0 in cc, one_line symbols all.1)
 
 -- the symbols of a tree that is not given as a whole do not begin with G
-first_tested : (tree : Tree) → (IsGiven tree → ⊥) → first_test (symbols_of tree) ≡ true
+first_tested : (tree : Tree) → (IsGivenAway tree → ⊥) → first_test (symbols_of tree) ≡ true
 first_tested CutB some = refl
 first_tested CutL some = refl
 first_tested (Branch' shape all) some = refl
 first_tested Given some = absurd (some tt)
 
 -- so they may stand in a part line
-pub tree_tested : (s : Position) (tree : Tree) → Fits s tree → (IsGiven tree → ⊥) → symbols_test (symbols_of tree) ≡ true
+pub tree_tested : (s : Position) (tree : Tree) → Fits s tree → (IsGivenAway tree → ⊥) → symbols_test (symbols_of tree) ≡ true
 tree_tested s tree m some = rw (first_tested tree some) (passed (symbols_of tree) (tree_symbols s tree m))
 
 -- and stand in one line

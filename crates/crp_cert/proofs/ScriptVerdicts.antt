@@ -253,7 +253,7 @@ none_met p first behind parts is are = let m = parts_met p first behind parts (e
 abbrev Behind : List ℕ → CertFault → Type 0
 Behind bytes fault = (head : Head) × (parts : List Part) × (line : ℕ) × (rest : List ℕ) × BeginsWithParts bytes head parts line rest × IsLineFault head.problem parts line rest fault
 
--- the parts that are told behind the head
+-- the parts that are stated behind the head
 told_parts : (bytes : List ℕ) (head : Head) (parts : List Part) (line : ℕ) (rest : List ℕ) → BeginsWithParts bytes head parts line rest → AreParts head.problem (flat_map part_line parts ++ rest) parts rest
 told_parts bytes head parts line rest tells = record { each_part = tells.each_part; rising = tells.rising; text = refl }
 

@@ -249,7 +249,7 @@ all_there_from (suc n) stacks all = and_from _ _ (lt-ltb 0 (occurrences (suc n) 
 abbrev is_placed : Size → List (List ℕ) → ℕ → Bool
 is_placed size stacks x = nat_le 1 x && (nat_le x size.total && nat_le (occurrences x stacks) 1)
 
--- a test that no rank is missing once all stacks are told
+-- a test that no rank is missing once all stacks are stated
 abbrev is_whole : Size → List (List ℕ) → Bool
 is_whole size stacks = cond (length stacks == size.rows) (all_there size.total stacks) true
 

@@ -57,7 +57,7 @@ next_reader size heights stacks is = record { takes = takes; again = again }
         ap (λ o. o >>= kept_stack size heights stacks) (row_again (next_height heights stacks) stack rest (next_low size heights stacks stack next) (next_small size heights stacks stack is next))
         ∙ ap (λ (b : Bool). cond b (Some (stack, rest)) None) (first_from size heights (stacks ++ stack ∷ []) next)
 
--- a row line that tells a stack which may not follow
+-- a row line that states a stack which may not follow
 pub not_next : (size : Size) (heights : List ℕ) (stacks : List (List ℕ)) (bytes stack rest : List ℕ) → IsSize size → row_at (next_height heights stacks) bytes ≡ Some (stack, rest) → ¬ IsNextStack size heights stacks stack →
     ¬ BeginsWith (IsNextStack size heights stacks) row_line bytes
 not_next size heights stacks bytes stack rest is e never stands =
@@ -214,7 +214,7 @@ met_fault bytes (faults.Plan line) (frame, stacks, claim, rest, told, all, low, 
     ∙ ap (λ n. Some (faults.Plan n)) (sym place)
 met_fault bytes _ is = absurd is
 
--- ---- what a head tells
+-- ---- what a head states
 
 -- the stacks of a problem are first stacks
 problem_first : (p : Problem) → IsProblem p → AreFirstStacks (size_of p) p.heights p.stacks
@@ -234,7 +234,7 @@ problem_first p is = record {
 abbrev pub frame_in : Head → Frame
 frame_in head = frame_of head.version (size_of head.problem) head.problem.heights
 
--- what a head tells above its claim
+-- what a head states above its claim
 head_tells : (bytes : List ℕ) (head : Head) (rest : List ℕ) → IsHead head → bytes ≡ head_text head ++ rest → BeginsWithStacks bytes (frame_in head) head.problem.stacks (claim_line head.claim ++ (plan_line head.plan ++ rest))
 head_tells bytes head rest is text = record {
   tells = record { name = head.bay; named = is.name; is_size = size_is head is; may_state = head_states head is; text = text ∙ head_then head rest };
@@ -269,7 +269,7 @@ one_fault bytes fault other is also = same_Some fault other (sym (met_fault byte
 abbrev Answer : List ℕ → Type 0
 Answer bytes = ((head : Head) × IsHeadOf bytes head) ⊎ ((fault : CertFault) × IsFirstFault bytes fault)
 
--- the head that these lines tell
+-- the head that these lines state
 abbrev pub told_head : YardBay → Frame → List (List ℕ) → Claim → Option (List ℕ) → Head
 told_head name frame stacks claim plan = record { version = frame.version; bay = name; problem = stated_with frame.heights frame.size.ordered stacks; claim = claim; plan = plan }
 

@@ -126,7 +126,7 @@ narrow_shows p trees is e = subst (ShapeAndFloor 4 (Branch trees)) (sym is) (bra
 alone : (R : List ℕ → List ℕ → Type 0) (name : List ℕ) → AllPairs R (name ∷ [])
 alone R name i j d ij lt = absurd (omega arith)
 
--- a tree at the empty path that gives nothing, with the least of its values and no plan: a claim that a text can tell
+-- a tree at the empty path that gives nothing, with the least of its values and no plan: a claim that a text can state
 pub spelled_at_root : (p : Problem) (tree : Tree) (floor : ℕ) → IsProblem p → ShapeAndFloor floor tree p
     → given_names (nodes [] (settled (start p)) tree) ≡ [] → CanBeSpelled (record { problem = p; lower = floor; plan = None; parts = record { name = []; tree = tree } ∷ [] })
 spelled_at_root p tree floor ok shows none =

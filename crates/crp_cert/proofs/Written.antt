@@ -10,7 +10,7 @@ use Rattle.crp_plan.specs.declared.moves.Move.TheVariants.{Shift, Take}
 use Rattle.crp_plan.specs.BayNames.{YardBay, IsYardBay}
 use Rattle.crp_plan.specs.Bay.{Problem, IsProblem, Position, IsShifted, IsTaken, Runs, path_of}
 use Rattle.crp_plan.specs.Faults.{IsPlanPath}
-use Rattle.crp_plan.specs.Plans.{Route}
+use Rattle.crp_plan.specs.Plans.{ProblemPath}
 use Rattle.crp_plan.proofs.Buried.{below_cap}
 use Rattle.crp_plan.proofs.Covered.{relocations-path}
 use Rattle.crp_plan.proofs.Tallies.{cap_low}
@@ -36,7 +36,7 @@ one_more f (y ∷ ys) zero x e = append-nil (f y) ∙ ap f (same_Some y x e)
 one_more f (y ∷ ys) (suc i) x e = ap (λ l. f y ++ l) (one_more f ys i x e) ∙ sym (append_assoc (f y) (flat_map f (take i ys)) (f x))
 
 -- the lines of a head, each behind those before it, make its text
-pub head_joined : (bay : YardBay) (p : Problem) (claim : Claim) (plan : Option Route) (version : Version) (old titled named sized high told claimed all : List ℕ) → version ≡ version_under p claim → titled ≡ old ++ title_line version →
+pub head_joined : (bay : YardBay) (p : Problem) (claim : Claim) (plan : Option ProblemPath) (version : Version) (old titled named sized high told claimed all : List ℕ) → version ≡ version_under p claim → titled ≡ old ++ title_line version →
     named ≡ titled ++ bay_line bay → sized ≡ named ++ size_line (size_of p) → high ≡ sized ++ stated_heights version p.heights → told ≡ high ++ flat_map row_line p.stacks → claimed ≡ told ++ claim_line claim →
     all ≡ claimed ++ plan_line (path_in plan) → all ≡ old ++ head_text (head_for bay p claim plan)
 head_joined bay p claim plan version old titled named sized high told claimed' all ev et en es eh er ec ea =
@@ -50,7 +50,7 @@ head_joined bay p claim plan version old titled named sized high told claimed' a
     joined o t b s h r c p = simp append_assoc
 
 -- the head, the lines of the parts and the last line make the text of a certificate
-pub text_joined : (bay : YardBay) (p : Problem) (cert : Certificate) (claim : Claim) (plan : Option Route) (parts again : List ProblemPart) (none head lines text : List ℕ) →
+pub text_joined : (bay : YardBay) (p : Problem) (cert : Certificate) (claim : Claim) (plan : Option ProblemPath) (parts again : List ProblemPart) (none head lines text : List ℕ) →
     parts ≡ cert.parts → again ≡ cert.parts → none ≡ [] → head ≡ none ++ head_text (head_for bay p claim plan) →
     lines ≡ head ++ flat_map (λ part. part_line (part_of part)) parts → text ≡ lines ++ end_line (length again) → text ≡ text_under bay p cert claim plan
 text_joined bay p cert claim plan parts again none head lines text ep ea en eh es et =
@@ -108,7 +108,7 @@ claims_bound : (version : Version) (least : ℕ) → CanClaim version (AtLeast l
 claims_bound One least = tt
 claims_bound Two least = tt
 
--- a claim that can be told is told by a script
+-- a claim that can be stated is stated by a script
 pub spelled_is_script : (bay : YardBay) (c : Claimed) → IsYardBay bay → CanBeSpelled c → IsScript (script_for bay c)
 spelled_is_script bay c name t =
     let ok = t.accepted in

@@ -4,7 +4,7 @@ use Rattle.std.specs.List.{flat_map}
 use Rattle.crp_plan.specs.Bay.{Problem, Position, IsAt}
 use Rattle.crp_tree.specs.declared.tree.Tree.{Tree, CutB, CutL, Branch', Given, Row_of-Tree, end_of-Tree, more_of-Tree}
 use Rattle.crp_tree.specs.Names.{Precedes, name_text}
-use Rattle.crp_tree.specs.Trees.{Fits, IsGiven}
+use Rattle.crp_tree.specs.Trees.{Fits, IsGivenAway}
 use Rattle.crp_tree.specs.Claims.{Part, Claimed, names}
 use Rattle.crp_cert.specs.declared.script.Script.{Script}
 use Rattle.crp_cert.specs.Text.{numbers_line, bound, head_text, IsHead}
@@ -46,7 +46,7 @@ pub record IsPartLine (p : Problem) (part : Part) : Type 0 where
   pub place : Position
   pub is_at : IsAt p part.name place
   pub fits : Fits place part.tree
-  pub not_given : IsGiven part.tree → ⊥
+  pub not_given : IsGivenAway part.tree → ⊥
 
 -- what a whole certificate may say: a head, and parts of its problem in rising order of their names
 pub record IsScript (script : Script) : Type 0 where

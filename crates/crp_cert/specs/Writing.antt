@@ -4,7 +4,7 @@ use Rattle.std.specs.List.{list_all}
 use Rattle.crp_plan.specs.BayNames.{YardBay}
 use Rattle.crp_plan.specs.Rows.{tallest}
 use Rattle.crp_plan.specs.Bay.{Problem}
-use Rattle.crp_plan.specs.Plans.{Route}
+use Rattle.crp_plan.specs.Plans.{ProblemPath}
 use Rattle.crp_tree.specs.Names.{Precedes}
 use Rattle.crp_tree.specs.Claims.{Claimed, IsAccepted, names, path_in}
 use Rattle.crp_tree.specs.Parts.{Certificate, claimed}
@@ -30,7 +30,7 @@ version_under p (AtLeast least) = version_for p
 version_under p (First least) = Two
 
 -- the head for a problem, a claim and a plan or none, under the name of a bay
-abbrev pub head_for : YardBay → Problem → Claim → Option Route → Head
+abbrev pub head_for : YardBay → Problem → Claim → Option ProblemPath → Head
 head_for bay p claim plan = record { version = version_under p claim; bay = bay; problem = p; claim = claim; plan = path_in plan }
 
 -- the script for a claim under the name of a bay
@@ -42,15 +42,15 @@ abbrev pub first_script_for : YardBay → Claimed → Script
 first_script_for bay c = record { head = record { version = Two; bay = bay; problem = c.problem; claim = First c.lower; plan = c.plan }; parts = c.parts }
 
 -- the text of a certificate of a problem under a claim, with a plan or none
-abbrev pub text_under : YardBay → Problem → Certificate → Claim → Option Route → List ℕ
+abbrev pub text_under : YardBay → Problem → Certificate → Claim → Option ProblemPath → List ℕ
 text_under bay p cert claim plan = script_text (record { head = head_for bay p claim plan; parts = (claimed p cert (path_in plan)).parts })
 
 -- the text of a certificate of a problem, under the name of a bay, with a plan or none
-abbrev pub certificate_text : YardBay → Problem → Certificate → Option Route → List ℕ
+abbrev pub certificate_text : YardBay → Problem → Certificate → Option ProblemPath → List ℕ
 certificate_text bay p cert plan = script_text (script_for bay (claimed p cert (path_in plan)))
 
 -- the text of a certificate of a problem that claims this plan to be the first best one, under the name of a bay
-abbrev pub first_certificate_text : YardBay → Problem → Certificate → Route → List ℕ
+abbrev pub first_certificate_text : YardBay → Problem → Certificate → ProblemPath → List ℕ
 first_certificate_text bay p cert plan = script_text (first_script_for bay (claimed p cert (Some plan.path)))
 
 -- a text can spell the claim: it is accepted, and its parts rise by name

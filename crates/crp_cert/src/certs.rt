@@ -32,7 +32,7 @@ fn comes_after(parts: &[PartLine], name: &Name) -> bool
     }
 }
 
-/// The part that a line tells after these parts, and what follows the line. The line has this
+/// The part that a line states after these parts, and what follows the line. The line has this
 /// number, and its first word is read.
 fn next_part<'a>(
     alloc: Global,
@@ -67,7 +67,7 @@ fn next_part<'a>(
     Ok((PartLine::new(told.name, tree), told.rest))
 }
 
-/// The parts that the lines from the first one on tell, and what follows the last of these lines.
+/// The parts that the lines from the first one on state, and what follows the last of these lines.
 fn all_parts<'a>(
     alloc: Global,
     problem: &Problem,
@@ -93,7 +93,7 @@ fn all_parts<'a>(
     Ok((parts, rest))
 }
 
-/// What follows the last line, which tells how many parts there are.
+/// What follows the last line, which states how many parts there are.
 fn after_end(count: usize, bytes: &[u8]) -> Option<&[u8]>
     ensures { Reads (λ x. x.now) result (tag_at (end_line count) bytes.now) }
 {

@@ -45,7 +45,7 @@ fn name_of<'a>(problem: &Problem, bytes: &'a [u8]) -> Option<((Name, Position), 
     }
 }
 
-/// What a part line tells: its name and where that leads, its symbols, whatever they are, and what
+/// What a part line states: its name and where that leads, its symbols, whatever they are, and what
 /// follows the line.
 #[derive(Drop)]
 pub struct PartFields<'a> {

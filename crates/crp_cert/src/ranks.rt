@@ -1,4 +1,4 @@
-//! The ranks that the row lines of a certificate tell.
+//! The ranks that the row lines of a certificate state.
 ghost use Rattle.std.specs.Prelude.{ℕ, ◌+◌, ◌*◌, ◌<◌, ◌≤◌, ◌↔◌, All, IsTrue, length, ◌==◌};
 ghost use Rattle.crp_plan.specs.Rows.{occurrences};
 ghost use Rattle.crp_plan.specs.Faults.{stacks_of};

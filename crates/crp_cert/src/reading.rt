@@ -17,8 +17,8 @@ use crate::version::{Version, first_row};
 use crp_plan::{BayName, Problem};
 use std::alloc::{AllocError, Global};
 
-/// Adds the stack that the next row line tells, and gives what follows the line; none where no
-/// stack may be told there.
+/// Adds the stack that the next row line states, and gives what follows the line; none where no
+/// stack may be stated there.
 fn next_stack<'a>(
     alloc: Global,
     size: Size,
@@ -51,7 +51,7 @@ fn next_stack<'a>(
     Ok(Some(rest))
 }
 
-/// The stacks that the row lines tell, and what follows the last of these lines.
+/// The stacks that the row lines state, and what follows the last of these lines.
 fn all_stacks<'a>(
     alloc: Global,
     version: Version,
@@ -80,7 +80,7 @@ fn all_stacks<'a>(
     Ok((stacks, rest))
 }
 
-/// The problem that a size, the heights and all stacks of the bay tell.
+/// The problem that a size, the heights and all stacks of the bay state.
 fn problem_of(size: Size, heights: &[u8], stacks: &[Vec<u8>]) -> Problem
     requires size { IsSize size }
     requires heights { AreHeightsOf size heights.now }

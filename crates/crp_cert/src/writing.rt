@@ -3,7 +3,7 @@ ghost use Rattle.std.specs.Prelude.{◌≡◌, ◌≤◌, ◌+◌, ℕ, ◌++◌
 ghost use Rattle.std.specs.Option.{option_copied};
 ghost use Rattle.std.specs.List.{flat_map};
 ghost use Rattle.std.specs.Io.KnownBytes.{Appends};
-ghost use Rattle.crp_plan.specs.Devices.{AppendsFront, CountsMore, HasFailed, most_interruptions};
+ghost use Rattle.crp_plan.specs.Devices.{AppendsFront, AppendsPart, CountsMore, GivesUp, HasFailed, InterruptedMore, most_interruptions};
 ghost use Rattle.crp_tree.specs.Claims.{path_in};
 ghost use Rattle.crp_tree.specs.Parts.{part_of};
 ghost use Rattle.crp_cert.specs.Text.{numbers_line, title_line, bay_line, size_line, stated_heights, size_of, row_line, claim_line, plan_line, head_text};
@@ -341,10 +341,13 @@ pub fn first_text(
 fn write_text<W: Sink>(writer: &mut W, text: &[u8]) -> Result<(), WriteFailed>
     ensures all { OnOk result (Appends (W.contents writer.old) (W.contents writer.new) text.now) }
     ensures front { AppendsFront (W.contents writer.old) (W.contents writer.new) text.now }
+    ensures part { OnErr result (AppendsPart (W.contents writer.old) (W.contents writer.new) text.now) }
     ensures failed { OnErr result (HasFailed (W.failures writer.old) (W.failures writer.new)) }
     ensures count { W.failures writer.old ≤ W.failures writer.new }
-    ensures interrupted { OnOk result ((passed : ℕ) × (passed ≤ most_interruptions) × CountsMore passed (W.failures writer.old) (W.failures writer.new)) }
-    ensures ended { OnErr result ((passed : ℕ) × (passed ≤ most_interruptions) × CountsMore (passed + 1) (W.failures writer.old) (W.failures writer.new)) }
+    ensures interrupted { OnOk result ((passed : ℕ) × (passed ≤ most_interruptions) × CountsMore passed (W.failures writer.old) (W.failures writer.new)
+        × InterruptedMore passed (W.interrupted writer.old) (W.interrupted writer.new)) }
+    ensures ended { OnErr result ((passed : ℕ) × (passed ≤ most_interruptions) × CountsMore (passed + 1) (W.failures writer.old) (W.failures writer.new)
+        × GivesUp 0 passed (W.interrupted writer.old) (W.interrupted writer.new)) }
 {
     let mut interruptions = 0;
     write_all(writer, text, &mut interruptions)
@@ -362,12 +365,15 @@ pub fn write_cert<W: Sink>(
 ) -> Result<(), WriteFault>
     ensures all { OnOk result (Appends (W.contents writer.old) (W.contents writer.new) (certificate_text bay.now problem.now cert.now (option_copied plan.entry))) }
     ensures front { AppendsFront (W.contents writer.old) (W.contents writer.new) (certificate_text bay.now problem.now cert.now (option_copied plan.entry)) }
+    ensures part { IsErrOf result WriteFault.Failed → AppendsPart (W.contents writer.old) (W.contents writer.new) (certificate_text bay.now problem.now cert.now (option_copied plan.entry)) }
     ensures failed { IsErrOf result WriteFault.Failed → HasFailed (W.failures writer.old) (W.failures writer.new) }
     ensures memory { IsErrOf result WriteFault.Memory → writer.new ≡ writer.old }
     ensures count { W.failures writer.old ≤ W.failures writer.new }
-    ensures interrupted { OnOk result ((passed : ℕ) × (passed ≤ most_interruptions) × CountsMore passed (W.failures writer.old) (W.failures writer.new)) }
+    ensures interrupted { OnOk result ((passed : ℕ) × (passed ≤ most_interruptions) × CountsMore passed (W.failures writer.old) (W.failures writer.new)
+        × InterruptedMore passed (W.interrupted writer.old) (W.interrupted writer.new)) }
     ensures ended { IsErrOf result WriteFault.Failed
-        → (passed : ℕ) × (passed ≤ most_interruptions) × CountsMore (passed + 1) (W.failures writer.old) (W.failures writer.new) }
+        → (passed : ℕ) × (passed ≤ most_interruptions) × CountsMore (passed + 1) (W.failures writer.old) (W.failures writer.new)
+        × GivesUp 0 passed (W.interrupted writer.old) (W.interrupted writer.new) }
 {
     let text = cert_text(alloc, bay, problem, cert, plan)?;
     write_text(writer, &text)?;
@@ -387,12 +393,15 @@ pub fn write_first<W: Sink>(
 ) -> Result<(), WriteFault>
     ensures all { OnOk result (Appends (W.contents writer.old) (W.contents writer.new) (first_certificate_text bay.now problem.now cert.now plan.now)) }
     ensures front { AppendsFront (W.contents writer.old) (W.contents writer.new) (first_certificate_text bay.now problem.now cert.now plan.now) }
+    ensures part { IsErrOf result WriteFault.Failed → AppendsPart (W.contents writer.old) (W.contents writer.new) (first_certificate_text bay.now problem.now cert.now plan.now) }
     ensures failed { IsErrOf result WriteFault.Failed → HasFailed (W.failures writer.old) (W.failures writer.new) }
     ensures memory { IsErrOf result WriteFault.Memory → writer.new ≡ writer.old }
     ensures count { W.failures writer.old ≤ W.failures writer.new }
-    ensures interrupted { OnOk result ((passed : ℕ) × (passed ≤ most_interruptions) × CountsMore passed (W.failures writer.old) (W.failures writer.new)) }
+    ensures interrupted { OnOk result ((passed : ℕ) × (passed ≤ most_interruptions) × CountsMore passed (W.failures writer.old) (W.failures writer.new)
+        × InterruptedMore passed (W.interrupted writer.old) (W.interrupted writer.new)) }
     ensures ended { IsErrOf result WriteFault.Failed
-        → (passed : ℕ) × (passed ≤ most_interruptions) × CountsMore (passed + 1) (W.failures writer.old) (W.failures writer.new) }
+        → (passed : ℕ) × (passed ≤ most_interruptions) × CountsMore (passed + 1) (W.failures writer.old) (W.failures writer.new)
+        × GivesUp 0 passed (W.interrupted writer.old) (W.interrupted writer.new) }
 {
     let text = first_text(alloc, bay, problem, cert, plan)?;
     write_text(writer, &text)?;

@@ -4,7 +4,7 @@ use Rattle.std.specs.Prelude.{codes, fold}
 use Rattle.std.proofs.lemmas.Bool.{cases_Bool, eqb-true}
 use Rattle.std.proofs.lemmas.List.Elements.{All-from_recursion, recursion_from_All}
 use Rattle.std.proofs.lemmas.List.Sums.{fold-append}
-use Rattle.crp_bay.specs.Back.{Standing}
+use Rattle.crp_bay.specs.Back.{PlaceAndTrail}
 use Rattle.crp_bay.proofs.Members.{in_cons_cases, not_in_nil}
 use Rattle.crp_tree.specs.declared.tree.Tree.{Tree}
 use Rattle.crp_tree.specs.Trees.{Mark, B, L, X, G, nodes, letter, given_names, Fits}
@@ -14,7 +14,7 @@ use Rattle.crp_cert.proofs.PartTests.{none_given}
 use Rattle.crp_checker.specs.declared.wrong.Wrong.{Wrong}
 use Rattle.crp_checker.specs.declared.level.Level.{Level}
 use Rattle.crp_checker.specs.Owed.{Spot}
-use Rattle.crp_checker.specs.Symbols.{Walked, Line, symbol_at, paid, gone_on, after, line_begun, line_after, IsFirstOf, IsOnItsWay, IsWhole, EndsWalk, Ends}
+use Rattle.crp_checker.specs.Symbols.{Walked, Line, symbol_at, paid, gone_on, after, line_begun, line_after, IsFirstOf, IsOnItsWay, IsOneWholeTree, EndsWalk, Ends}
 use Rattle.crp_checker.specs.Kept.{owed_by}
 use Rattle.crp_checker.proofs.OnTheWay.{sets_out, goes_on, whole, not_whole, some_symbol}
 use Rattle.crp_cert.proofs.Joined.{all_both, all_left, all_right}
@@ -285,13 +285,13 @@ ends_walk need top bytes line few e u t =
     subst (λ b. Ends need top bytes line.walked b false) t (subst (Ends need top bytes line.walked line.trailing) u (known need top bytes line few e))
 
 -- where a tree is owed it is not whole
-pub still_owed : (need : List ℕ → ℕ) (top : Spot) (bytes : List ℕ) (owes : Bool) (path : List ℕ) (s : Standing) (levels : List Level) (wrong : Option Wrong) (given : List (List ℕ)) →
+pub still_owed : (need : List ℕ → ℕ) (top : Spot) (bytes : List ℕ) (owes : Bool) (path : List ℕ) (s : PlaceAndTrail) (levels : List Level) (wrong : Option Wrong) (given : List (List ℕ)) →
     EndsWalk need top bytes (owed_by owes path s levels) wrong given → owes ≡ true → ¬ BeginsWithTree top.place bytes
 still_owed need top bytes false path s levels wrong given e owes = absurd cc
 still_owed need top bytes true path s levels wrong given e owes = e
 
 -- and where none is it is
-pub all_paid : (need : List ℕ → ℕ) (top : Spot) (bytes : List ℕ) (owes : Bool) (path : List ℕ) (s : Standing) (levels : List Level) (wrong : Option Wrong) (given : List (List ℕ)) →
-    EndsWalk need top bytes (owed_by owes path s levels) wrong given → owes ≡ false → IsWhole need top bytes wrong given
+pub all_paid : (need : List ℕ → ℕ) (top : Spot) (bytes : List ℕ) (owes : Bool) (path : List ℕ) (s : PlaceAndTrail) (levels : List Level) (wrong : Option Wrong) (given : List (List ℕ)) →
+    EndsWalk need top bytes (owed_by owes path s levels) wrong given → owes ≡ false → IsOneWholeTree need top bytes wrong given
 all_paid need top bytes false path s levels wrong given e owes = e
 all_paid need top bytes true path s levels wrong given e owes = absurd cc

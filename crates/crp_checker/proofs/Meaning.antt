@@ -1,4 +1,4 @@
--- What an accepted certificate shows, and how a refusal is told.
+-- What an accepted certificate shows, and how a refusal is stated.
 use Rattle.std.proofs.Common.{◌≡◌, ◌↔◌, ℕ, ◌≤◌, List, length, Option, Some, None, IfSome, option_map, refl, sym, ap, ◌∙◌, subst}
 use Rattle.crp_plan.specs.declared.moves.Move.{Move}
 use Rattle.crp_plan.specs.Bay.{Problem, cap, IsPlan, IsBest, relocations}
@@ -29,7 +29,7 @@ best_from : (c : Claimed) (plan : Option (List ℕ)) → c.plan ≡ plan → IsA
 best_from c None e ok n = absurd (cc)
 best_from c (Some rows) e ok n = best c rows ok e (let m : length rows ≡ c.lower = cc in m)
 
--- some plan has as many relocations as the one that is told
+-- some plan has as many relocations as the one that is stated
 reached_from : (p : Problem) (plan : Option (List ℕ)) → IfSome plan (IsPlanPath p) → IfSome (option_map length plan) (λ count. (moves : List Move) × IsPlan p moves × (relocations moves ≡ count))
 reached_from p None ok = tt
 reached_from p (Some rows) ok = (ok.0, ok.1, relocations-path ok.0 ∙ ap length ok.2)
@@ -59,7 +59,7 @@ head_is bytes told head is of =
     let rest = of.1 in
     (head_once head told.head rest.0 _ of.0 readable.is_head (sym rest.1 ∙ is.1)).0
 
--- what an accepted certificate shows of the problem that its bytes tell
+-- what an accepted certificate shows of the problem that its bytes state
 pub says_of_head : (wanted : Option Problem) (bytes : List ℕ) (told : Script) (verdict : Verdict) (head : Head) → IsAcceptedText wanted bytes told → IsVerdict told verdict → IsHeadOf bytes head → Says head.problem verdict
 says_of_head wanted bytes told verdict head known v of =
     subst (λ h. Says h.problem verdict) (sym (head_is bytes told head known.is_text of)) (says_from told verdict known.accepted v)

@@ -17,7 +17,7 @@ use Rattle.crp_checker.specs.declared.refused.Refused.{Refused}
 use Rattle.crp_checker.specs.declared.refused.Refused.TheVariants as refused
 use Rattle.crp_checker.specs.Nodes.{IsLow, IsAtEnd, IsRight, IsFirstWrong}
 use Rattle.crp_checker.specs.AcceptedTexts.{IsWanted, IsAcceptedScript}
-use Rattle.crp_checker.specs.Refusals.{NamedNodes, nodes_by_name, IsRightPart, need_in, nodes_told, AreRightParts, IsFirstWrongNode, IsMissing, IsUnneeded, HasRightHead, IsFirstWrongClaim}
+use Rattle.crp_checker.specs.Refusals.{NamedNodes, nodes_by_name, IsRightPart, need_in, nodes_of_script, AreRightParts, IsFirstWrongNode, IsMissing, IsUnneeded, HasRightHead, IsFirstWrongClaim}
 use Rattle.crp_cert.proofs.Joined.{all_right}
 use Rattle.crp_checker.proofs.Shapes.{MeetNeed, right_from}
 use Rattle.crp_checker.proofs.Under.{MeetNeedIn, accepted_claim, plan_under, met_under}
@@ -72,8 +72,8 @@ not_wrong wanted script r accepted asked w = clash r w
     clash refused.OtherProblem w = w asked
     clash (refused.Plan fault) w = let k = w.1 in plan_clash script.head.problem script.head.plan k.0 ok.is_problem ok.plan_is k.1 fault k.2
     clash refused.NoFirstPlan w = w.2 (plan_under script.head.claim (claim_of script) refl accepted)
-    clash (refused.Low part symbol) w = none_met (need_in script) (IsLow (need_in script)) (nodes_told script) part symbol (not_low (need_in script)) (right_if_accepted script accepted) w.1
-    clash (refused.Finished part symbol) w = none_met (need_in script) IsAtEnd (nodes_told script) part symbol (not_at_end (need_in script)) (right_if_accepted script accepted) w.1
+    clash (refused.Low part symbol) w = none_met (need_in script) (IsLow (need_in script)) (nodes_of_script script) part symbol (not_low (need_in script)) (right_if_accepted script accepted) w.1
+    clash (refused.Finished part symbol) w = none_met (need_in script) IsAtEnd (nodes_of_script script) part symbol (not_at_end (need_in script)) (right_if_accepted script accepted) w.1
     clash (refused.Missing name) w = let k = w.2 in let h = k.holds in h.1 ((ok.as_needed name).1 h.0)
     clash (refused.Unneeded name) w = let k = w.3 in let h = k.holds in h.1 ((ok.as_needed name).0 h.0)
     clash refused.Memory w = w
@@ -188,29 +188,29 @@ one_wrong wanted script (refused.Low name k) refused.OtherProblem is a b = absur
 one_wrong wanted script (refused.Low name k) (refused.Plan g) is a b = absurd (bad_plan wanted script g is b a.0)
 one_wrong wanted script (refused.Low name k) refused.NoFirstPlan is a b = absurd (let h = a.0 in b.2 h.its_plan)
 one_wrong wanted script (refused.Low name k) (refused.Low other l) is a b =
-    let m = one_met (need_in script) (IsLow (need_in script)) (IsLow (need_in script)) (nodes_told script) name other k l (not_low (need_in script)) (not_low (need_in script)) a.1 b.1 in
+    let m = one_met (need_in script) (IsLow (need_in script)) (IsLow (need_in script)) (nodes_of_script script) name other k l (not_low (need_in script)) (not_low (need_in script)) a.1 b.1 in
     ap (λ x. refused.Low x k) m.same_name ∙ ap (refused.Low other) m.same_number
-one_wrong wanted script (refused.Low name k) (refused.Finished other l) is a b = absurd (not_both_met (need_in script) (nodes_told script) name other k l a.1 b.1)
-one_wrong wanted script (refused.Low name k) (refused.Missing other) is a b = absurd (low_not_right (need_in script) (nodes_told script) name k b.1 a.1)
-one_wrong wanted script (refused.Low name k) (refused.Unneeded other) is a b = absurd (low_not_right (need_in script) (nodes_told script) name k b.1 a.1)
+one_wrong wanted script (refused.Low name k) (refused.Finished other l) is a b = absurd (not_both_met (need_in script) (nodes_of_script script) name other k l a.1 b.1)
+one_wrong wanted script (refused.Low name k) (refused.Missing other) is a b = absurd (low_not_right (need_in script) (nodes_of_script script) name k b.1 a.1)
+one_wrong wanted script (refused.Low name k) (refused.Unneeded other) is a b = absurd (low_not_right (need_in script) (nodes_of_script script) name k b.1 a.1)
 one_wrong wanted script (refused.Finished name k) (refused.Cert g) is a b = absurd b
 one_wrong wanted script (refused.Finished name k) refused.Memory is a b = absurd b
 one_wrong wanted script (refused.Finished name k) refused.OtherProblem is a b = absurd (let h = a.0 in b h.as_wanted)
 one_wrong wanted script (refused.Finished name k) (refused.Plan g) is a b = absurd (bad_plan wanted script g is b a.0)
 one_wrong wanted script (refused.Finished name k) refused.NoFirstPlan is a b = absurd (let h = a.0 in b.2 h.its_plan)
-one_wrong wanted script (refused.Finished name k) (refused.Low other l) is a b = absurd (not_both_met (need_in script) (nodes_told script) other name l k b.1 a.1)
+one_wrong wanted script (refused.Finished name k) (refused.Low other l) is a b = absurd (not_both_met (need_in script) (nodes_of_script script) other name l k b.1 a.1)
 one_wrong wanted script (refused.Finished name k) (refused.Finished other l) is a b =
-    let m = one_met (need_in script) IsAtEnd IsAtEnd (nodes_told script) name other k l (not_at_end (need_in script)) (not_at_end (need_in script)) a.1 b.1 in
+    let m = one_met (need_in script) IsAtEnd IsAtEnd (nodes_of_script script) name other k l (not_at_end (need_in script)) (not_at_end (need_in script)) a.1 b.1 in
     ap (λ x. refused.Finished x k) m.same_name ∙ ap (refused.Finished other) m.same_number
-one_wrong wanted script (refused.Finished name k) (refused.Missing other) is a b = absurd (end_not_right (need_in script) (nodes_told script) name k b.1 a.1)
-one_wrong wanted script (refused.Finished name k) (refused.Unneeded other) is a b = absurd (end_not_right (need_in script) (nodes_told script) name k b.1 a.1)
+one_wrong wanted script (refused.Finished name k) (refused.Missing other) is a b = absurd (end_not_right (need_in script) (nodes_of_script script) name k b.1 a.1)
+one_wrong wanted script (refused.Finished name k) (refused.Unneeded other) is a b = absurd (end_not_right (need_in script) (nodes_of_script script) name k b.1 a.1)
 one_wrong wanted script (refused.Missing name) (refused.Cert g) is a b = absurd b
 one_wrong wanted script (refused.Missing name) refused.Memory is a b = absurd b
 one_wrong wanted script (refused.Missing name) refused.OtherProblem is a b = absurd (let h = a.0 in b h.as_wanted)
 one_wrong wanted script (refused.Missing name) (refused.Plan g) is a b = absurd (bad_plan wanted script g is b a.0)
 one_wrong wanted script (refused.Missing name) refused.NoFirstPlan is a b = absurd (let h = a.0 in b.2 h.its_plan)
-one_wrong wanted script (refused.Missing name) (refused.Low other l) is a b = absurd (low_not_right (need_in script) (nodes_told script) other l a.1 b.1)
-one_wrong wanted script (refused.Missing name) (refused.Finished other l) is a b = absurd (end_not_right (need_in script) (nodes_told script) other l a.1 b.1)
+one_wrong wanted script (refused.Missing name) (refused.Low other l) is a b = absurd (low_not_right (need_in script) (nodes_of_script script) other l a.1 b.1)
+one_wrong wanted script (refused.Missing name) (refused.Finished other l) is a b = absurd (end_not_right (need_in script) (nodes_of_script script) other l a.1 b.1)
 one_wrong wanted script (refused.Missing name) (refused.Missing other) is a b = ap (λ x. refused.Missing x) (one_first (IsMissing script) name other a.2 b.2)
 one_wrong wanted script (refused.Missing name) (refused.Unneeded other) is a b = absurd (let least = a.2 in b.2 name least.holds)
 one_wrong wanted script (refused.Unneeded name) (refused.Cert g) is a b = absurd b
@@ -218,7 +218,7 @@ one_wrong wanted script (refused.Unneeded name) refused.Memory is a b = absurd b
 one_wrong wanted script (refused.Unneeded name) refused.OtherProblem is a b = absurd (let h = a.0 in b h.as_wanted)
 one_wrong wanted script (refused.Unneeded name) (refused.Plan g) is a b = absurd (bad_plan wanted script g is b a.0)
 one_wrong wanted script (refused.Unneeded name) refused.NoFirstPlan is a b = absurd (let h = a.0 in b.2 h.its_plan)
-one_wrong wanted script (refused.Unneeded name) (refused.Low other l) is a b = absurd (low_not_right (need_in script) (nodes_told script) other l a.1 b.1)
-one_wrong wanted script (refused.Unneeded name) (refused.Finished other l) is a b = absurd (end_not_right (need_in script) (nodes_told script) other l a.1 b.1)
+one_wrong wanted script (refused.Unneeded name) (refused.Low other l) is a b = absurd (low_not_right (need_in script) (nodes_of_script script) other l a.1 b.1)
+one_wrong wanted script (refused.Unneeded name) (refused.Finished other l) is a b = absurd (end_not_right (need_in script) (nodes_of_script script) other l a.1 b.1)
 one_wrong wanted script (refused.Unneeded name) (refused.Missing other) is a b = absurd (let least = b.2 in a.2 other least.holds)
 one_wrong wanted script (refused.Unneeded name) (refused.Unneeded other) is a b = ap (λ x. refused.Unneeded x) (one_first (IsUnneeded script) name other a.3 b.3)

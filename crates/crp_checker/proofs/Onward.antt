@@ -5,7 +5,7 @@ use Rattle.std.proofs.lemmas.Bool.{cases_Bool}
 use Rattle.std.proofs.lemmas.List.{take_at, reverse-append}
 use Rattle.crp_plan.specs.Bay.{Position}
 use Rattle.crp_bay.specs.Positions.{can_shift, child, counted, targets}
-use Rattle.crp_bay.specs.Back.{Standing}
+use Rattle.crp_bay.specs.Back.{PlaceAndTrail}
 use Rattle.crp_bay.proofs.Reaching.{can_from_target}
 use Rattle.crp_cert.proofs.PartNames.{not_legal}
 use Rattle.crp_checker.specs.declared.level.Level.{Level}
@@ -24,26 +24,26 @@ up_again path row =
     take_at path (row ∷ []) (length (path ++ row ∷ []) - 1) shorter
 
 -- what a branch owes, by the rows that are left
-abbrev owed_in : List ℕ → Standing → List Level → List ℕ → List Spot
+abbrev owed_in : List ℕ → PlaceAndTrail → List Level → List ℕ → List Spot
 owed_in path s levels rows = spots_below path s.place (filter (can_shift s.place) rows) ++ pending (up path) (back s) levels
 
 -- a legal row
-pub goes_down : (path longer : List ℕ) (s below : Standing) (old new : Level) (levels : List Level) (row : ℕ) → left old ≡ row ∷ left new → Contains (targets s.place) row → longer ≡ path ++ row ∷ [] →
+pub goes_down : (path longer : List ℕ) (s below : PlaceAndTrail) (old new : Level) (levels : List Level) (row : ℕ) → left old ≡ row ∷ left new → Contains (targets s.place) row → longer ≡ path ++ row ∷ [] →
     below ≡ record { place = child s.place row; trail = s.place ∷ s.trail } → owed_by true longer below (new ∷ levels) ≡ pending path s (old ∷ levels)
 goes_down path longer s below old new levels row rows legal there stands =
     let can = can_from_target s.place row legal in
-    ap (λ (l : List ℕ). owed_by true l below (new ∷ levels)) there ∙ ap (λ (t : Standing). owed_by true (path ++ row ∷ []) t (new ∷ levels)) stands
+    ap (λ (l : List ℕ). owed_by true l below (new ∷ levels)) there ∙ ap (λ (t : PlaceAndTrail). owed_by true (path ++ row ∷ []) t (new ∷ levels)) stands
     ∙ ap (λ (l : List ℕ). record { path = path ++ row ∷ []; place = child s.place row } ∷ pending l s (new ∷ levels)) (up_again path row)
     ∙ sym (ap (owed_in path s levels) rows ∙ rw can refl)
 
 -- a row that is not legal
-pub passes_over : (path : List ℕ) (s : Standing) (old new : Level) (levels : List Level) (row : ℕ) → left old ≡ row ∷ left new → (Contains (targets s.place) row → ⊥) → pending path s (new ∷ levels) ≡ pending path s (old ∷ levels)
+pub passes_over : (path : List ℕ) (s : PlaceAndTrail) (old new : Level) (levels : List Level) (row : ℕ) → left old ≡ row ∷ left new → (Contains (targets s.place) row → ⊥) → pending path s (new ∷ levels) ≡ pending path s (old ∷ levels)
 passes_over path s old new levels row rows illegal =
     let cannot = not_legal s.place row illegal in
     sym (ap (owed_in path s levels) rows ∙ rw cannot refl)
 
 -- a branch that owes no more
-pub goes_up : (path : List ℕ) (s : Standing) (old : Level) (levels : List Level) → left old ≡ [] → pending (up path) (back s) levels ≡ pending path s (old ∷ levels)
+pub goes_up : (path : List ℕ) (s : PlaceAndTrail) (old : Level) (levels : List Level) → left old ≡ [] → pending (up path) (back s) levels ≡ pending path s (old ∷ levels)
 goes_up path s old levels none = sym (ap (owed_in path s levels) none)
 
 -- the last branch above comes first
@@ -67,7 +67,7 @@ legal_again s = twice (can_shift s) (counted 1 (length s.heights))
     twice p (x ∷ xs) = ⊎_elim (λ t. rw t (rw t (ap (λ l. x ∷ l) (twice p xs)))) (λ f. rw f (twice p xs)) (cases_Bool (p x))
 
 -- a branch that begins owes a tree for each legal row
-pub opens : (path : List ℕ) (s : Standing) (old new : Level) (above longer : List Level) → left new ≡ targets s.place → longer ≡ above ++ old ∷ [] →
+pub opens : (path : List ℕ) (s : PlaceAndTrail) (old new : Level) (above longer : List Level) → left new ≡ targets s.place → longer ≡ above ++ old ∷ [] →
     pending path s (new ∷ reverse longer) ≡ spots_below path s.place (targets s.place) ++ pending (up path) (back s) (old ∷ reverse above)
 opens path s old new above longer rows more =
     ap (λ l. pending path s (new ∷ reverse l)) more ∙ ap (λ l. pending path s (new ∷ l)) (last_first above old)

@@ -3,7 +3,7 @@
 use Rattle.std.specs.Prelude.{ℕ, ◌-◌, Bool, true, false, List, [], ◌∷◌, ◌++◌, length, take, drop, filter, reverse}
 use Rattle.crp_plan.specs.Bay.{Position}
 use Rattle.crp_bay.specs.Positions.{can_shift}
-use Rattle.crp_bay.specs.Back.{Standing}
+use Rattle.crp_bay.specs.Back.{PlaceAndTrail}
 use Rattle.crp_tree.specs.Trees.{Mark, B, L, X, G}
 use Rattle.crp_checker.specs.declared.symbol.Symbol.{Symbol}
 use Rattle.crp_checker.specs.declared.symbol.Symbol.TheVariants as symbols
@@ -35,21 +35,21 @@ abbrev pub up : List ℕ → List ℕ
 up path = take (length path - 1) path
 
 -- the position before the last push that is not undone, by the trail; where there is no such push, the same
-abbrev pub back_on : Position → List Position → Standing
+abbrev pub back_on : Position → List Position → PlaceAndTrail
 back_on s [] = record { place = s; trail = [] }
 back_on s (before ∷ trail) = record { place = before; trail = trail }
 
 -- what a pop makes of a position that is changed in place
-abbrev pub back : Standing → Standing
+abbrev pub back : PlaceAndTrail → PlaceAndTrail
 back s = back_on s.place s.trail
 
 -- what branches owe, of which the first stands at the path and the others above it: a tree for each legal row that is left, and then what those above it owe
-abbrev pub pending : List ℕ → Standing → List Level → List Spot
+abbrev pub pending : List ℕ → PlaceAndTrail → List Level → List Spot
 pending path s [] = []
 pending path s (level ∷ levels) = spots_below path s.place (filter (can_shift s.place) (left level)) ++ pending (up path) (back s) levels
 
 -- what is owed below these branches where the next tree is owed at the path, which leads here; nothing, if none is
-abbrev pub owed_by : Bool → List ℕ → Standing → List Level → List Spot
+abbrev pub owed_by : Bool → List ℕ → PlaceAndTrail → List Level → List Spot
 owed_by false path s levels = []
 owed_by true path s levels = record { path = path; place = s.place } ∷ pending (up path) (back s) levels
 

@@ -48,16 +48,16 @@ abbrev pub need_in : Script → List ℕ → ℕ
 need_in script = need_of script.head.claim script.head.plan
 
 -- the nodes of a script's parts
-abbrev pub nodes_told : Script → List NamedNodes
-nodes_told script = nodes_by_name script.head.problem script.parts
+abbrev pub nodes_of_script : Script → List NamedNodes
+nodes_of_script script = nodes_by_name script.head.problem script.parts
 
 -- no node of any part is wrong
 abbrev pub AreRightParts : Script → Type 0
-AreRightParts script = AllByRecursion (IsRightPart (need_in script)) (nodes_told script)
+AreRightParts script = AllByRecursion (IsRightPart (need_in script)) (nodes_of_script script)
 
 -- the first wrong node is wrong in this way
 abbrev pub IsFirstWrongIn : Script → (Node → Type 0) → List ℕ → ℕ → Type 0
-IsFirstWrongIn script Wrong name k = IsFirstWrongNode (need_in script) Wrong (nodes_told script) name k
+IsFirstWrongIn script Wrong name k = IsFirstWrongNode (need_in script) Wrong (nodes_of_script script) name k
 
 -- a part of this name is needed, and there is none
 abbrev pub IsMissing : Script → List ℕ → Type 0

@@ -4,7 +4,7 @@ use Rattle.std.specs.List.{AllByRecursion, flat_map}
 use Rattle.std.specs.Option.{option_or}
 use Rattle.crp_bounds.specs.Bounds.{blocking, look_ahead}
 use Rattle.crp_tree.specs.declared.tree.Tree.{Tree}
-use Rattle.crp_tree.specs.Trees.{Mark, B, L, X, G, Node, nodes, letter, given_names, Fits, IsGiven}
+use Rattle.crp_tree.specs.Trees.{Mark, B, L, X, G, Node, nodes, letter, given_names, Fits, IsGivenAway}
 use Rattle.crp_cert.specs.Script.{symbols_of}
 use Rattle.crp_cert.specs.ScriptFaults.{AreSymbols, BeginsWithTree, GoesOnBehindTree}
 use Rattle.crp_checker.specs.declared.wrong.Wrong.{Wrong}
@@ -100,17 +100,17 @@ pub record IsOnItsWay (need : List ℕ → ℕ) (top : Spot) (symbols : List ℕ
       (trees : List Tree) × Pay walked.owed trees × (more ≡ flat_map symbols_of trees ++ rest)
 
 -- the symbols are those of a whole tree, which is not given away: this is its first wrong node, if it has one, and these paths it gives
-pub record IsWhole (need : List ℕ → ℕ) (top : Spot) (symbols : List ℕ) (wrong : Option Wrong) (given : List (List ℕ)) : Type 0 where
+pub record IsOneWholeTree (need : List ℕ → ℕ) (top : Spot) (symbols : List ℕ) (wrong : Option Wrong) (given : List (List ℕ)) : Type 0 where
   pub tree : Tree
   pub fits : Fits top.place tree
-  pub not_given : IsGiven tree → ⊥
+  pub not_given : IsGivenAway tree → ⊥
   pub symbols_are : symbols ≡ symbols_of tree
   pub wrong_is : IsFirstOf need (nodes top.path top.place tree) wrong
   pub given_are : given ≡ given_names (nodes top.path top.place tree)
 
 -- where no byte was wrong and none follows the tree: the tree is not whole while one is owed, and else it is
 abbrev pub EndsWalk : (List ℕ → ℕ) → Spot → List ℕ → List Spot → Option Wrong → List (List ℕ) → Type 0
-EndsWalk need top bytes [] wrong given = IsWhole need top bytes wrong given
+EndsWalk need top bytes [] wrong given = IsOneWholeTree need top bytes wrong given
 EndsWalk need top bytes (spot ∷ owed) wrong given = ¬ BeginsWithTree top.place bytes
 
 -- what the end of the line means: a byte may not stand there, or symbols follow the tree, or the tree is not whole, or it is

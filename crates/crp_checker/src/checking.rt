@@ -33,7 +33,7 @@ pub fn check(alloc: Global, bytes: &[u8]) -> Result<Verdict, Refused>
     ensures refused { IfErr result (λ refused. (refused ≡ Refused.Memory) ⊎ IsRefusal None bytes.now refused) }
     ensures rejected { IfErr result (λ refused. refused ≢ Refused.Memory → IsNotAccepted None bytes.now) }
 
-    // What this means for the problem that the bytes tell.
+    // What this means for the problem that the bytes state.
     ensures bound { OnOk result ((head : Head) (moves : List Move) → IsHeadOf bytes.now head
         → IsPlan head.problem moves → bound head.claim ≤ relocations moves) }
     ensures none { OnOk result ((head : Head) (moves : List Move) → IsHeadOf bytes.now head
@@ -45,7 +45,7 @@ pub fn check(alloc: Global, bytes: &[u8]) -> Result<Verdict, Refused>
     Ok(verdict)
 }
 
-/// The same for a certificate of this problem: a text that tells another is refused for that.
+/// The same for a certificate of this problem: a text that states another is refused for that.
 pub fn check_for(alloc: Global, problem: &Problem, bytes: &[u8]) -> Result<Verdict, Refused>
     ensures accepted { IfOk result (TextShows (Some problem.now) bytes.now) }
     ensures refused { IfErr result (λ refused. (refused ≡ Refused.Memory)

@@ -2,7 +2,7 @@
 ghost use Rattle.std.specs.Prelude.{◌≡◌, ◌≢◌, ◌↔◌, ℕ, List, [], length, Option, Some, IfSome};
 ghost use Rattle.crp_plan.specs.Bay.{Problem, IsProblem};
 ghost use Rattle.crp_plan.specs.BayNames.{YardBay, IsYardBay};
-ghost use Rattle.crp_plan.specs.Plans.{Route};
+ghost use Rattle.crp_plan.specs.Plans.{ProblemPath};
 ghost use Rattle.crp_plan.specs.Faults.{IsPlanPath};
 ghost use Rattle.crp_tree.specs.Claims.{path_in};
 ghost use Rattle.crp_tree.specs.First.{IsFirstBest, MeetNeeds};
@@ -58,14 +58,14 @@ pub fn first_is_best()
 /// What is written of a certificate about a problem, with a plan of it or none, is accepted, whatever its parts give to each other:
 /// under the name of a bay.
 pub fn written_is_accepted()
-    ensures { (bay : YardBay) (p : Problem) (cert : Certificate) (plan : Option Route) → IsYardBay bay
+    ensures { (bay : YardBay) (p : Problem) (cert : Certificate) (plan : Option ProblemPath) → IsYardBay bay
         → IsAbout p cert → IfSome (path_in plan) (IsPlanPath p)
         → IsAcceptedText (Some p) (certificate_text bay p cert plan) (script_for bay (claimed p cert (path_in plan))) }
 {}
 
 /// So is what is written with the claim that the plan is the first best one, where each cut of the certificate meets its need.
 pub fn first_written_is_accepted()
-    ensures { (bay : YardBay) (p : Problem) (cert : Certificate) (plan : Route) → IsYardBay bay
+    ensures { (bay : YardBay) (p : Problem) (cert : Certificate) (plan : ProblemPath) → IsYardBay bay
         → IsAbout p cert → IsPlanPath p plan.path → MeetNeeds (length plan.path) plan.path cert.parts
         → IsAcceptedText (Some p) (first_certificate_text bay p cert plan) (first_script_for bay (claimed p cert (Some plan.path))) }
 {}
@@ -77,7 +77,7 @@ pub fn one_cut()
 {}
 
 /// A file of certificates does not both show verdicts and have a refusal; it shows one list of verdicts, or is refused at one
-/// certificate, behind one list, for one reason. (Want of memory is no reason of the file's.)
+/// certificate, behind one list, for one reason. (That memory ran out is no reason of the file's.)
 pub fn shown_or_refused()
     ensures apart { (file : List ℕ) (verdicts before : List (YardBay × Verdict)) (number : ℕ) (refused : Refused)
         → refused ≢ Refused.Memory → FileShows file verdicts → IsFileRefusal file before number refused → ⊥ }

@@ -5,7 +5,7 @@ ghost use Rattle.crp_checker.specs.Kept.{need_by};
 
 use crp_cert::{Claim, Rows};
 
-/// What is kept of a head to tell the values that cuts need.
+/// What is kept of a head to state the values that cuts need.
 #[derive(Drop)]
 pub struct Need {
     /// What is claimed.

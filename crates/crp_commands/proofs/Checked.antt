@@ -7,8 +7,8 @@ use Rattle.std.proofs.lemmas.Grind.{flat_map-append}
 use Rattle.std.specs.Io.KnownBytes.{Appends, Keeps, Consumes, IsAtEnd}
 use Rattle.std.proofs.KnownBytes.{Appends-trans, Appends-kept, Appends-nil, Consumes-nil, Consumes-trans, Consumes-whole}
 use Rattle.crp_plan.specs.BayNames.{YardBay}
-use Rattle.crp_plan.specs.Devices.{AppendsFront, HasFailed}
-use Rattle.crp_plan.proofs.Fronts.{Appends-then_front}
+use Rattle.crp_plan.specs.Devices.{AppendsPart, HasFailed}
+use Rattle.crp_plan.proofs.Fronts.{Appends-then_part}
 use Rattle.crp_checker.specs.declared.verdict.Verdict.{Verdict}
 use Rattle.crp_checker.specs.declared.refused.Refused.{Refused}
 use Rattle.crp_checker.specs.declared.refused.Refused.TheVariants as refused
@@ -18,11 +18,11 @@ use Rattle.crp_checker.specs.FedFiles.{HasReadFile}
 use Rattle.crp_commands.specs.declared.outcome.ToolFault.{ToolFault}
 use Rattle.crp_commands.specs.declared.outcome.ToolFault.TheVariants as fault
 use Rattle.crp_commands.specs.Calls.{CallSeen, IsTextWithin}
-use Rattle.crp_commands.specs.Check.{verdict_line, verdict_lines, refusal_told, IsTextOf, IsReadFrom, WritesEach, WritesEnded, TellsOfCheck}
-use Rattle.crp_commands.specs.Checks.{TellsOfText, HasChecked, IsChecking, ChecksPiece, AreEndedIn, TellsOfBytes, TellsOfPiece, CheckState, StandsAfter, GoesOn, StopsAt}
+use Rattle.crp_commands.specs.Check.{verdict_line, verdict_lines, fault_of_refusal, IsTextOf, IsReadFrom, WritesEach, WritesEnded, CheckFailsWith}
+use Rattle.crp_commands.specs.Checks.{TextFailsWith, HasChecked, IsChecking, ChecksPiece, AreEndedIn, BytesFailWith, PieceFailsWith, CheckState, StandsAfter, GoesOn, StopsAt}
 
--- how the refusal of a certificate is told
-by_refusal' : (P : ToolFault → Type 0) (number : ℕ) (why : Refused) → P fault.Memory → (why ≢ refused.Memory → P (fault.Checked number why)) → P (refusal_told number why)
+-- how the refusal of a certificate is stated
+by_refusal' : (P : ToolFault → Type 0) (number : ℕ) (why : Refused) → P fault.Memory → (why ≢ refused.Memory → P (fault.Checked number why)) → P (fault_of_refusal number why)
 by_refusal' P number refused.Memory memory some = memory
 by_refusal' P number (refused.Cert fault) memory some = some (λ e. cc)
 by_refusal' P number refused.OtherProblem memory some = some (λ e. cc)
@@ -33,26 +33,26 @@ by_refusal' P number (refused.Finished part symbol) memory some = some (λ e. cc
 by_refusal' P number (refused.Missing name) memory some = some (λ e. cc)
 by_refusal' P number (refused.Unneeded name) memory some = some (λ e. cc)
 
-pub by_refusal : (P : ToolFault → Type 0) (number : ℕ) (why : Refused) (f : ToolFault) → f ≡ refusal_told number why → P fault.Memory → (why ≢ refused.Memory → P (fault.Checked number why)) → P f
+pub by_refusal : (P : ToolFault → Type 0) (number : ℕ) (why : Refused) (f : ToolFault) → f ≡ fault_of_refusal number why → P fault.Memory → (why ≢ refused.Memory → P (fault.Checked number why)) → P f
 by_refusal P number why f e memory some = subst P (sym e) (by_refusal' P number why memory some)
 
 -- ---- what a sink holds
 
 -- one line more
-pub lines_more : (verdicts : List (YardBay × Verdict)) (told : YardBay × Verdict) → verdict_lines (verdicts ++ told ∷ []) ≡ verdict_lines verdicts ++ verdict_line told
-lines_more verdicts told = flat_map-append verdict_line verdicts (told ∷ []) ∙ ap (λ l. verdict_lines verdicts ++ l) (append-nil (verdict_line told))
+pub lines_more : (verdicts : List (YardBay × Verdict)) (stated : YardBay × Verdict) → verdict_lines (verdicts ++ stated ∷ []) ≡ verdict_lines verdicts ++ verdict_line stated
+lines_more verdicts stated = flat_map-append verdict_line verdicts (stated ∷ []) ∙ ap (λ l. verdict_lines verdicts ++ l) (append-nil (verdict_line stated))
 
-pub appends_line : (held holds new : Option (List ℕ)) (verdicts : List (YardBay × Verdict)) (told : YardBay × Verdict) → Appends held holds (verdict_lines verdicts) → Appends holds new (verdict_line told) →
-    Appends held new (verdict_lines (verdicts ++ told ∷ []))
-appends_line held holds new verdicts told written more = subst (Appends held new) (sym (lines_more verdicts told)) (Appends-trans held holds new (verdict_lines verdicts) (verdict_line told) written more)
+pub appends_line : (held holds new : Option (List ℕ)) (verdicts : List (YardBay × Verdict)) (stated : YardBay × Verdict) → Appends held holds (verdict_lines verdicts) → Appends holds new (verdict_line stated) →
+    Appends held new (verdict_lines (verdicts ++ stated ∷ []))
+appends_line held holds new verdicts stated written more = subst (Appends held new) (sym (lines_more verdicts stated)) (Appends-trans held holds new (verdict_lines verdicts) (verdict_line stated) written more)
 
--- a front of one line more
-pub appends_front : (held holds new : Option (List ℕ)) (verdicts : List (YardBay × Verdict)) (told : YardBay × Verdict) → Appends held holds (verdict_lines verdicts) → AppendsFront holds new (verdict_line told) →
-    AppendsFront held new (verdict_lines (verdicts ++ told ∷ []))
-appends_front held holds new verdicts told written front =
-    let whole : verdict_lines verdicts ++ (verdict_line told ++ []) ≡ verdict_lines (verdicts ++ told ∷ []) =
-    ap (λ l. verdict_lines verdicts ++ l) (append-nil (verdict_line told)) ∙ sym (lines_more verdicts told) in
-    subst (AppendsFront held new) whole (Appends-then_front held holds new (verdict_lines verdicts) (verdict_line told) [] written front)
+-- a part of one line more
+pub appends_part : (held holds new : Option (List ℕ)) (verdicts : List (YardBay × Verdict)) (stated : YardBay × Verdict) → Appends held holds (verdict_lines verdicts) → AppendsPart holds new (verdict_line stated) →
+    AppendsPart held new (verdict_lines (verdicts ++ stated ∷ []))
+appends_part held holds new verdicts stated written part =
+    let whole : verdict_lines verdicts ++ (verdict_line stated ++ []) ≡ verdict_lines (verdicts ++ stated ∷ []) =
+    ap (λ l. verdict_lines verdicts ++ l) (append-nil (verdict_line stated)) ∙ sym (lines_more verdicts stated) in
+    subst (AppendsPart held new) whole (Appends-then_part held holds new (verdict_lines verdicts) (verdict_line stated) [] written part)
 
 -- a device that has failed since, has failed since any time before
 pub failed_since : (first before after : ℕ) → first ≤ before → before ≤ after → HasFailed before after → HasFailed first after
@@ -75,36 +75,36 @@ pub none_more : (held holds : Option (List ℕ)) (file piece : List ℕ) (verdic
     HasReadFile (file ++ piece) verdicts next → HasChecked held holds (file ++ piece) verdicts next number
 none_more held holds file piece verdicts files next number has read = record { read = read; next = has.next; written = has.written }
 
-pub one_more : (held holds new : Option (List ℕ)) (file piece : List ℕ) (verdicts : List (YardBay × Verdict)) (told : YardBay × Verdict) (files next : FileChecker) (number : ℕ) →
-    HasChecked held holds file verdicts files number → HasReadFile (file ++ piece) (verdicts ++ told ∷ []) next → Appends holds new (verdict_line told) →
-    HasChecked held new (file ++ piece) (verdicts ++ told ∷ []) next (number + 1)
-one_more held holds new file piece verdicts told files next number has read more = record {
+pub one_more : (held holds new : Option (List ℕ)) (file piece : List ℕ) (verdicts : List (YardBay × Verdict)) (stated : YardBay × Verdict) (files next : FileChecker) (number : ℕ) →
+    HasChecked held holds file verdicts files number → HasReadFile (file ++ piece) (verdicts ++ stated ∷ []) next → Appends holds new (verdict_line stated) →
+    HasChecked held new (file ++ piece) (verdicts ++ stated ∷ []) next (number + 1)
+one_more held holds new file piece verdicts stated files next number has read more = record {
   read = read;
-  next = omega (arith, has.next, length-append verdicts (told ∷ []));
-  written = appends_line held holds new verdicts told has.written more;
+  next = omega (arith, has.next, length-append verdicts (stated ∷ []));
+  written = appends_line held holds new verdicts stated has.written more;
 }
 
 -- a line that is not written
-pub line_stops : (held holds new : Option (List ℕ)) (before after : ℕ) (file piece : List ℕ) (verdicts : List (YardBay × Verdict)) (told : YardBay × Verdict) (files : FileChecker) (number : ℕ) (f : ToolFault) →
-    HasChecked held holds file verdicts files number → AreEndedIn (file ++ piece) (verdicts ++ told ∷ []) → TellsOfText holds new before after (verdict_line told) f → TellsOfBytes held new before after (file ++ piece) f
-line_stops held holds new before after file piece verdicts told files number fault.Memory has ended why =
+pub line_stops : (held holds new : Option (List ℕ)) (before after : ℕ) (file piece : List ℕ) (verdicts : List (YardBay × Verdict)) (stated : YardBay × Verdict) (files : FileChecker) (number : ℕ) (f : ToolFault) →
+    HasChecked held holds file verdicts files number → AreEndedIn (file ++ piece) (verdicts ++ stated ∷ []) → TextFailsWith holds new before after (verdict_line stated) f → BytesFailWith held new before after (file ++ piece) f
+line_stops held holds new before after file piece verdicts stated files number fault.Memory has ended why =
     (verdicts, ended_before file piece verdicts files has.read, Appends-kept held holds new (verdict_lines verdicts) has.written why)
-line_stops held holds new before after file piece verdicts told files number fault.Write has ended why =
-    (why.0, (verdicts ++ told ∷ [], ended, appends_front held holds new verdicts told has.written why.1))
-line_stops held holds new before after file piece verdicts told files number fault.Read has ended why = absurd why
-line_stops held holds new before after file piece verdicts told files number fault.TooLarge has ended why = absurd why
-line_stops held holds new before after file piece verdicts told files number (fault.Checked n r) has ended why = absurd why
-line_stops held holds new before after file piece verdicts told files number (fault.Cert f) has ended why = absurd why
-line_stops held holds new before after file piece verdicts told files number (fault.Plan f) has ended why = absurd why
-line_stops held holds new before after file piece verdicts told files number (fault.Run f) has ended why = absurd why
+line_stops held holds new before after file piece verdicts stated files number fault.Write has ended why =
+    (why.0, (verdicts ++ stated ∷ [], ended, appends_part held holds new verdicts stated has.written why.1))
+line_stops held holds new before after file piece verdicts stated files number fault.Read has ended why = absurd why
+line_stops held holds new before after file piece verdicts stated files number fault.TooLarge has ended why = absurd why
+line_stops held holds new before after file piece verdicts stated files number (fault.Checked n r) has ended why = absurd why
+line_stops held holds new before after file piece verdicts stated files number (fault.Cert f) has ended why = absurd why
+line_stops held holds new before after file piece verdicts stated files number (fault.Plan f) has ended why = absurd why
+line_stops held holds new before after file piece verdicts stated files number (fault.Run f) has ended why = absurd why
 
 -- a certificate that is refused
 pub refusal_stops : (held holds : Option (List ℕ)) (before after : ℕ) (file piece : List ℕ) (verdicts : List (YardBay × Verdict)) (files : FileChecker) (number : ℕ) (why : Refused) (f : ToolFault) →
-    HasChecked held holds file verdicts files number → f ≡ refusal_told number why →
+    HasChecked held holds file verdicts files number → f ≡ fault_of_refusal number why →
     (why ≡ refused.Memory) ⊎ ((read : List ℕ) (shown : List (YardBay × Verdict)) (more : List ℕ) → HasReadFile read shown files → IsFileRefusal (read ++ (piece ++ more)) shown (length shown + 1) why) →
-    TellsOfBytes held holds before after (file ++ piece) f
+    BytesFailWith held holds before after (file ++ piece) f
 refusal_stops held holds before after file piece verdicts files number why f has e refused =
-    by_refusal (TellsOfBytes held holds before after (file ++ piece)) number why f e
+    by_refusal (BytesFailWith held holds before after (file ++ piece)) number why f e
     (verdicts, ended_before file piece verdicts files has.read, has.written)
     (λ some. (
       some,
@@ -134,7 +134,7 @@ checks_both one two all a b c f g h m n o e first second held file verdicts has 
     (end'.0, subst (λ (l : List ℕ). HasChecked held c l end'.0 h o) (append_assoc file one two ∙ ap (λ l. file ++ l) e) end'.1)
 
 -- a fault counts from an earlier time on
-earlier_bytes : (held holds : Option (List ℕ)) (first before after : ℕ) (bytes : List ℕ) (f : ToolFault) → first ≤ before → before ≤ after → TellsOfBytes held holds before after bytes f → TellsOfBytes held holds first after bytes f
+earlier_bytes : (held holds : Option (List ℕ)) (first before after : ℕ) (bytes : List ℕ) (f : ToolFault) → first ≤ before → before ≤ after → BytesFailWith held holds before after bytes f → BytesFailWith held holds first after bytes f
 earlier_bytes held holds first before after bytes (fault.Checked n r) le grows tells = tells
 earlier_bytes held holds first before after bytes fault.Write le grows tells = (failed_since first before after le grows tells.0, tells.1)
 earlier_bytes held holds first before after bytes fault.Memory le grows tells = tells
@@ -146,10 +146,10 @@ earlier_bytes held holds first before after bytes (fault.Run f) le grows tells =
 
 -- a fault after a piece that was checked
 pub stops_after : (one two all : List ℕ) (a b c : Option (List ℕ)) (f g : FileChecker) (m n first before after : ℕ) (why : ToolFault) → one ++ two ≡ all → first ≤ before → before ≤ after →
-    ChecksPiece one a f m b g n → TellsOfPiece two b g n c before after why → TellsOfPiece all a f m c first after why
+    ChecksPiece one a f m b g n → PieceFailsWith two b g n c before after why → PieceFailsWith all a f m c first after why
 stops_after one two all a b c f g m n first before after why e le grows checks tells held file verdicts has =
     let mid = checks held file verdicts has in
-    subst (λ (l : List ℕ). TellsOfBytes held c first after l why) (append_assoc file one two ∙ ap (λ l. file ++ l) e)
+    subst (λ (l : List ℕ). BytesFailWith held c first after l why) (append_assoc file one two ∙ ap (λ l. file ++ l) e)
     (earlier_bytes held c first before after ((file ++ one) ++ two) why le grows (tells held (file ++ one) mid.0 mid.1))
 
 -- a check that goes on is one
@@ -188,16 +188,16 @@ read_within (Some xs) bytes read after e is = (after ++ is.0, is.1 ∙ ap (λ l.
 -- ---- how a check stops
 
 -- at bytes that were read from the source
-pub bytes_stop : (limit : ℕ) (s : CallSeen) (bytes : List ℕ) (f : ToolFault) → IsReadFrom s.given bytes → length bytes ≤ limit → TellsOfBytes s.held s.holds s.sink_before s.sink_after bytes f → TellsOfCheck limit s f
+pub bytes_stop : (limit : ℕ) (s : CallSeen) (bytes : List ℕ) (f : ToolFault) → IsReadFrom s.given bytes → length bytes ≤ limit → BytesFailWith s.held s.holds s.sink_before s.sink_after bytes f → CheckFailsWith limit s f
 bytes_stop limit s bytes (fault.Checked n why) is within tells =
     let text = text_from s.given bytes is in
-    let told = tells.1 in
-    (tells.0, (bytes ++ text.0, told.0, text.1, told.1 text.0, told.2))
+    let stated = tells.1 in
+    (tells.0, (bytes ++ text.0, stated.0, text.1, stated.1 text.0, stated.2))
 bytes_stop limit s bytes fault.Write is within tells =
-    let told = tells.1 in
-    let ended = told.1 in
+    let stated = tells.1 in
+    let ended = stated.1 in
     let front : length ended.read ≤ limit = omega (arith, within, ap length ended.is, length-append ended.read ended.after) in
-    (tells.0, (told.0, inl (ended.read, ended.rest, front, read_within s.given bytes ended.read ended.after ended.is is, ended.front), told.2))
+    (tells.0, (stated.0, inl (ended.read, ended.rest, front, read_within s.given bytes ended.read ended.after ended.is is, ended.front), stated.2))
 bytes_stop limit s bytes fault.Memory is within tells =
     let ended = tells.1 in
     let front : length ended.read ≤ limit = omega (arith, within, ap length ended.is, length-append ended.read ended.after) in
@@ -221,7 +221,7 @@ seen_by given held holds source_before source_after sink_before sink_after =
 
 -- a fault counts from an earlier time on
 pub earlier_check : (limit : ℕ) (given held holds : Option (List ℕ)) (source before after sink first last : ℕ) (f : ToolFault) → source ≤ before → before ≤ after → sink ≤ first → first ≤ last →
-    TellsOfCheck limit (seen_by given held holds before after first last) f → TellsOfCheck limit (seen_by given held holds source after sink last) f
+    CheckFailsWith limit (seen_by given held holds before after first last) f → CheckFailsWith limit (seen_by given held holds source after sink last) f
 earlier_check limit given held holds source before after sink first last (fault.Checked n why) a b c d tells = tells
 earlier_check limit given held holds source before after sink first last fault.Read a b c d tells = (failed_since source before after a b tells.0, tells.1)
 earlier_check limit given held holds source before after sink first last fault.Write a b c d tells = (failed_since sink first last c d tells.0, tells.1)
@@ -232,27 +232,27 @@ earlier_check limit given held holds source before after sink first last (fault.
 earlier_check limit given held holds source before after sink first last (fault.Run f) a b c d tells = absurd tells
 
 -- at the last line
-pub last_stops : (limit : ℕ) (s : CallSeen) (holds : Option (List ℕ)) (file : List ℕ) (verdicts : List (YardBay × Verdict)) (told : YardBay × Verdict) (files : FileChecker) (number : ℕ) (f : ToolFault) →
-    IsTextWithin limit s.given file → IsReadFrom s.given file → HasChecked s.held holds file verdicts files number → FileShows file (verdicts ++ told ∷ []) →
-    TellsOfText holds s.holds s.sink_before s.sink_after (verdict_line told) f → TellsOfCheck limit s f
-last_stops limit s holds file verdicts told files number fault.Memory text is has shows why =
+pub last_stops : (limit : ℕ) (s : CallSeen) (holds : Option (List ℕ)) (file : List ℕ) (verdicts : List (YardBay × Verdict)) (stated : YardBay × Verdict) (files : FileChecker) (number : ℕ) (f : ToolFault) →
+    IsTextWithin limit s.given file → IsReadFrom s.given file → HasChecked s.held holds file verdicts files number → FileShows file (verdicts ++ stated ∷ []) →
+    TextFailsWith holds s.holds s.sink_before s.sink_after (verdict_line stated) f → CheckFailsWith limit s f
+last_stops limit s holds file verdicts stated files number fault.Memory text is has shows why =
     let read = has.read in (file, read.text, text.0, (is, (verdicts, read.front, Appends-kept s.held holds s.holds (verdict_lines verdicts) has.written why)))
-last_stops limit s holds file verdicts told files number fault.Write text is has shows why =
-    (why.0, (verdicts ++ told ∷ [], inr (file, text, shows), appends_front s.held holds s.holds verdicts told has.written why.1))
-last_stops limit s holds file verdicts told files number fault.Read text is has shows why = absurd why
-last_stops limit s holds file verdicts told files number fault.TooLarge text is has shows why = absurd why
-last_stops limit s holds file verdicts told files number (fault.Checked n r) text is has shows why = absurd why
-last_stops limit s holds file verdicts told files number (fault.Cert f) text is has shows why = absurd why
-last_stops limit s holds file verdicts told files number (fault.Plan f) text is has shows why = absurd why
-last_stops limit s holds file verdicts told files number (fault.Run f) text is has shows why = absurd why
+last_stops limit s holds file verdicts stated files number fault.Write text is has shows why =
+    (why.0, (verdicts ++ stated ∷ [], inr (file, text, shows), appends_part s.held holds s.holds verdicts stated has.written why.1))
+last_stops limit s holds file verdicts stated files number fault.Read text is has shows why = absurd why
+last_stops limit s holds file verdicts stated files number fault.TooLarge text is has shows why = absurd why
+last_stops limit s holds file verdicts stated files number (fault.Checked n r) text is has shows why = absurd why
+last_stops limit s holds file verdicts stated files number (fault.Cert f) text is has shows why = absurd why
+last_stops limit s holds file verdicts stated files number (fault.Plan f) text is has shows why = absurd why
+last_stops limit s holds file verdicts stated files number (fault.Run f) text is has shows why = absurd why
 
 -- at the last certificate
 pub last_refused : (limit : ℕ) (s : CallSeen) (file : List ℕ) (verdicts : List (YardBay × Verdict)) (files : FileChecker) (number : ℕ) (why : Refused) (f : ToolFault) →
-    IsTextWithin limit s.given file → IsReadFrom s.given file → HasChecked s.held s.holds file verdicts files number → f ≡ refusal_told number why →
-    (why ≡ refused.Memory) ⊎ ((read : List ℕ) (shown : List (YardBay × Verdict)) → HasReadFile read shown files → IsFileRefusal read shown (length shown + 1) why) → TellsOfCheck limit s f
+    IsTextWithin limit s.given file → IsReadFrom s.given file → HasChecked s.held s.holds file verdicts files number → f ≡ fault_of_refusal number why →
+    (why ≡ refused.Memory) ⊎ ((read : List ℕ) (shown : List (YardBay × Verdict)) → HasReadFile read shown files → IsFileRefusal read shown (length shown + 1) why) → CheckFailsWith limit s f
 last_refused limit s file verdicts files number why f text is has e refused =
     let read = has.read in
-    by_refusal (TellsOfCheck limit s) number why f e
+    by_refusal (CheckFailsWith limit s) number why f e
     (file, read.text, text.0, (is, (verdicts, read.front, has.written)))
     (λ some. (
       some,
@@ -290,7 +290,7 @@ goes_nowhere remaining new holds files number left n piece none got given held l
 
 -- a piece in which a fault came
 pub piece_stops : (remaining new holds new_holds : Option (List ℕ)) (files : FileChecker) (number left k n source_before source_after before after : ℕ) (piece : List ℕ) (f : ToolFault) → k ≤ n → k ≤ left →
-    Consumes remaining new (take n piece) → TellsOfPiece (take k piece) holds files number new_holds before after f →
+    Consumes remaining new (take n piece) → PieceFailsWith (take k piece) holds files number new_holds before after f →
     StopsAt (record { remaining = remaining; holds = holds; files = files; number = number; left = left }) new_holds source_before source_after before after f
 piece_stops remaining new holds new_holds files number left k n source_before source_after before after piece f le within got tells given held limit (file, verdicts, way) =
     bytes_stop limit (seen_by given held new_holds source_before source_after before after) (file ++ take k piece) f (front_fed given remaining new file piece k n le way.consumed got)

@@ -1,13 +1,29 @@
--- A job over one file, from what a call saw of a source that was opened for it.
-use Rattle.std.proofs.Common.{Result, Ok, Err, MatchResult, inr}
+-- A command over what a name stands for, from what a call saw of that source.
+use Rattle.std.proofs.Common.{◌≡◌, ◌≢◌, ℕ, List, Result, Ok, Err, MatchResult, codes, inl, inr, refl}
 use Rattle.crp_report.specs.declared.status.Status.{Status}
-use Rattle.crp_report.specs.Runs.{SourceSeen, SinkSeen}
-use Rattle.crp_commands.specs.declared.job.Job.{Job}
+use Rattle.crp_report.specs.Runs.{SourceSeen}
+use Rattle.crp_commands.specs.declared.job.FileCommand.{FileCommand}
 use Rattle.crp_commands.specs.declared.outcome.ToolFault.{ToolFault}
-use Rattle.crp_commands.specs.Opened.{IsNewSource}
-use Rattle.crp_commands.specs.Performing.{call_of, PerformsIn, TellsOfJobIn, ReportsFile, TellsOfFile}
+use Rattle.crp_commands.specs.Opened.{AreFilesLeftAlone}
+use Rattle.crp_commands.specs.Performing.{JobSeen, IsFrom, IsFromFile, call_of, PerformsIn, CommandFailsInCall, ReportsFile, FileFailsWith}
 
-pub over_source : (j : Job) (source : SourceSeen) (out : SinkSeen) (answer : Result Status ToolFault) → IsNewSource source →
-    MatchResult answer (PerformsIn j (call_of source out)) (TellsOfJobIn j (call_of source out)) → MatchResult answer (ReportsFile j out) (TellsOfFile j out)
-over_source j source out (Ok status) new is = (source, new, is)
-over_source j source out (Err fault) new is = inr (source, new, is)
+-- how a command ended in a call from this source
+abbrev HasEnded : FileCommand → SourceSeen → JobSeen → Result Status ToolFault → Type 0
+HasEnded c source seen answer = MatchResult answer (PerformsIn c (call_of source seen.out)) (CommandFailsInCall c (call_of source seen.out))
+
+-- and over what a name stands for
+abbrev HasEndedOver : List ℕ → FileCommand → JobSeen → Result Status ToolFault → Type 0
+HasEndedOver name c seen answer = MatchResult answer (ReportsFile name c seen) (FileFailsWith name c seen)
+
+from_source : (name : List ℕ) (c : FileCommand) (seen : JobSeen) (source : SourceSeen) (answer : Result Status ToolFault) → IsFrom name seen source →
+    HasEnded c source seen answer → HasEndedOver name c seen answer
+from_source name c seen source (Ok status) from is = (source, from, is)
+from_source name c seen source (Err fault) from is = inr (source, from, is)
+
+pub from_input : (name : List ℕ) (c : FileCommand) (seen : JobSeen) (answer : Result Status ToolFault) → name ≡ codes "-" → AreFilesLeftAlone seen.files →
+    HasEnded c seen.input seen answer → HasEndedOver name c seen answer
+from_input name c seen answer named alone is = from_source name c seen seen.input answer (inl (named, record { is = refl; alone = alone })) is
+
+pub from_file : (name : List ℕ) (c : FileCommand) (seen : JobSeen) (source : SourceSeen) (answer : Result Status ToolFault) → name ≢ codes "-" →
+    IsFromFile name seen source → HasEnded c source seen answer → HasEndedOver name c seen answer
+from_file name c seen source answer named from is = from_source name c seen source answer (inr (named, from)) is

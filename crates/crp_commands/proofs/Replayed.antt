@@ -1,4 +1,4 @@
--- What is written of a head, and how refusals are told.
+-- What is written of a head, and how refusals are stated.
 use Rattle.std.proofs.Common.{◌≡◌, ℕ, List, ◌++◌, Option, Some, None, ◌⊎◌, inl, inr, refl, ap, ◌∙◌, append_assoc}
 use Rattle.std.specs.Io.KnownBytes.{Keeps}
 use Rattle.crp_cert.specs.declared.fault.CertFault.{CertFault}
@@ -13,7 +13,7 @@ use Rattle.crp_commands.specs.Prove.{IsProofOf}
 use Rattle.crp_report.specs.Report.{text_of}
 use Rattle.crp_commands.specs.declared.outcome.ToolFault.{ToolFault}
 use Rattle.crp_commands.specs.declared.outcome.ToolFault.TheVariants as fault
-use Rattle.crp_commands.specs.Calls.{CallSeen, IsTextWithin, IsNoHead, Tells, cert_told}
+use Rattle.crp_commands.specs.Calls.{CallSeen, IsTextWithin, IsNoHead, CallFailsWith, fault_of_cert}
 use Rattle.crp_commands.specs.Replay.{IsReplay, IsNoReplay, IsNoReport}
 
 -- five pieces, one after the other
@@ -29,36 +29,36 @@ pub keeps_same : (known : Option (List ℕ)) → Keeps known known
 keeps_same None = tt
 keeps_same (Some xs) = refl
 
--- why no head was read, as read_head tells it
+-- why no head was read, as read_head states it
 pub no_head : (limit : ℕ) (given : Option (List ℕ)) (before after : ℕ) (bytes : List ℕ) (f : CertFault) → IsTextWithin limit given bytes → (f ≡ cert.Memory) ⊎ IsFirstFault bytes f →
-    IsNoHead limit given before after (cert_told f)
+    IsNoHead limit given before after (fault_of_cert f)
 no_head limit known before after bytes cert.Memory given why = tt
 no_head limit known before after bytes f given (inl e) = absurd (cc)
 no_head limit known before after bytes f given (inr first) = (bytes, given, first)
 
--- a command without a head tells why, where nothing was written
-pub no_head_told : (limit : ℕ) (IsReport : List ℕ → List ℕ → Type 0) (IsRefused : List ℕ → ToolFault → Type 0) (seen : CallSeen) (f : ToolFault) → Keeps seen.held seen.holds →
-    ((bytes : List ℕ) (g : CertFault) → IsFirstFault bytes g → IsRefused bytes (fault.Cert g)) → IsNoHead limit seen.given seen.source_before seen.source_after f → Tells limit IsReport IsRefused seen f
-no_head_told limit IsReport IsRefused seen (fault.Cert f) keeps refuses none = (keeps, (none.0, none.1, refuses none.0 f none.2))
-no_head_told limit IsReport IsRefused seen (fault.Plan f) keeps refuses none = absurd none
-no_head_told limit IsReport IsRefused seen fault.Read keeps refuses none = (keeps, none)
-no_head_told limit IsReport IsRefused seen fault.Write keeps refuses none = absurd none
-no_head_told limit IsReport IsRefused seen fault.TooLarge keeps refuses none = (keeps, none)
-no_head_told limit IsReport IsRefused seen fault.Memory keeps refuses none = keeps
-no_head_told limit IsReport IsRefused seen (fault.Checked number why) keeps refuses none = absurd none
-no_head_told limit IsReport IsRefused seen (fault.Run f) keeps refuses none = absurd none
+-- a command without a head states why, where nothing was written
+pub no_head_reported : (limit : ℕ) (IsReport : List ℕ → List ℕ → Type 0) (IsRefused : List ℕ → ToolFault → Type 0) (seen : CallSeen) (f : ToolFault) → Keeps seen.held seen.holds →
+    ((bytes : List ℕ) (g : CertFault) → IsFirstFault bytes g → IsRefused bytes (fault.Cert g)) → IsNoHead limit seen.given seen.source_before seen.source_after f → CallFailsWith limit IsReport IsRefused seen f
+no_head_reported limit IsReport IsRefused seen (fault.Cert f) keeps refuses none = (keeps, (none.0, none.1, refuses none.0 f none.2))
+no_head_reported limit IsReport IsRefused seen (fault.Plan f) keeps refuses none = absurd none
+no_head_reported limit IsReport IsRefused seen fault.Read keeps refuses none = (keeps, none)
+no_head_reported limit IsReport IsRefused seen fault.Write keeps refuses none = absurd none
+no_head_reported limit IsReport IsRefused seen fault.TooLarge keeps refuses none = (keeps, none)
+no_head_reported limit IsReport IsRefused seen fault.Memory keeps refuses none = keeps
+no_head_reported limit IsReport IsRefused seen (fault.Checked number why) keeps refuses none = absurd none
+no_head_reported limit IsReport IsRefused seen (fault.Run f) keeps refuses none = absurd none
 
--- a replay without a report tells why, where nothing was written
-pub no_report_told : (limit : ℕ) (seen : CallSeen) (bytes : List ℕ) (head : Head) (f : ToolFault) → Keeps seen.held seen.holds → IsTextWithin limit seen.given bytes → IsHeadOf bytes head → IsNoReport head f →
-    Tells limit IsReplay IsNoReplay seen f
-no_report_told limit seen bytes head (fault.Cert f) keeps given is none = absurd none
-no_report_told limit seen bytes head (fault.Plan f) keeps given is none = (keeps, (bytes, given, (head, is, none)))
-no_report_told limit seen bytes head fault.Read keeps given is none = absurd none
-no_report_told limit seen bytes head fault.Write keeps given is none = absurd none
-no_report_told limit seen bytes head fault.TooLarge keeps given is none = absurd none
-no_report_told limit seen bytes head fault.Memory keeps given is none = keeps
-no_report_told limit seen bytes head (fault.Checked number why) keeps given is none = absurd none
-no_report_told limit seen bytes head (fault.Run f) keeps given is none = absurd none
+-- a replay without a report states why, where nothing was written
+pub no_report_reported : (limit : ℕ) (seen : CallSeen) (bytes : List ℕ) (head : Head) (f : ToolFault) → Keeps seen.held seen.holds → IsTextWithin limit seen.given bytes → IsHeadOf bytes head → IsNoReport head f →
+    CallFailsWith limit IsReplay IsNoReplay seen f
+no_report_reported limit seen bytes head (fault.Cert f) keeps given is none = absurd none
+no_report_reported limit seen bytes head (fault.Plan f) keeps given is none = (keeps, (bytes, given, (head, is, none)))
+no_report_reported limit seen bytes head fault.Read keeps given is none = absurd none
+no_report_reported limit seen bytes head fault.Write keeps given is none = absurd none
+no_report_reported limit seen bytes head fault.TooLarge keeps given is none = absurd none
+no_report_reported limit seen bytes head fault.Memory keeps given is none = keeps
+no_report_reported limit seen bytes head (fault.Checked number why) keeps given is none = absurd none
+no_report_reported limit seen bytes head (fault.Run f) keeps given is none = absurd none
 
 -- the certificate of a true answer, as it was made and as it is written
 pub proof_of : (chosen : Chosen) (head : Head) (solved : Solved) (made written : List ℕ) → IsSolved head.problem chosen solved →

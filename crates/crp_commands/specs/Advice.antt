@@ -1,4 +1,4 @@
--- What the user is told to look at after a fault.
+-- What the user is to look at after a fault.
 use Rattle.std.specs.Prelude.{ℕ, Bool, ◌&&◌, ◌++◌, nat_le, nat_lt, List, length, IsTrue, Option, Some, None, option_map, if◌then◌else◌, codes}
 use Rattle.std.specs.List.{list_all}
 use Rattle.std.specs.Str.{bytes_eq}
@@ -8,11 +8,11 @@ use Rattle.crp_report.specs.declared.fault.Fault.{Fault}
 use Rattle.crp_report.specs.declared.fault.Fault.TheVariants as run
 use Rattle.crp_commands.specs.declared.job.Job.{Job}
 use Rattle.crp_commands.specs.declared.job.Job.TheVariants as job
+use Rattle.crp_commands.specs.declared.job.RunFiles.{RunFiles}
 use Rattle.crp_commands.specs.declared.outcome.ToolFault.{ToolFault}
 use Rattle.crp_commands.specs.declared.outcome.ToolFault.TheVariants as fault
 use Rattle.crp_commands.specs.declared.advice.Place.{Place}
 use Rattle.crp_commands.specs.declared.advice.Place.TheVariants as place
-use Rattle.crp_commands.specs.Performing.{file_of}
 
 -- a printable ASCII character
 abbrev pub is_printable : ℕ → Bool
@@ -43,17 +43,16 @@ failed_in_file name fault.Write = Some (codes "the standard output")
 failed_in_file name f = None
 
 -- the same of a run over these files: the yard list, the message, and the two that are written if they are wanted
-abbrev pub failed_in_run : List ℕ → List ℕ → Option (List ℕ) → Option (List ℕ) → Fault → Option (List ℕ)
-failed_in_run yard movins cert after (run.Read input.Yard) = Some (file_words yard)
-failed_in_run yard movins cert after (run.Read input.Movins) = Some (file_words movins)
-failed_in_run yard movins cert after (run.Write output.Report) = Some (codes "the standard output")
-failed_in_run yard movins cert after (run.Write output.Certificates) = option_map file_words cert
-failed_in_run yard movins cert after (run.Write output.YardAfter) = option_map file_words after
-failed_in_run yard movins cert after f = None
+abbrev pub failed_in_run : RunFiles → Fault → Option (List ℕ)
+failed_in_run names (run.Read input.Yard) = Some (file_words names.yard.now)
+failed_in_run names (run.Read input.Movins) = Some (file_words names.movins.now)
+failed_in_run names (run.Write output.Report) = Some (codes "the standard output")
+failed_in_run names (run.Write output.Certificates) = option_map (λ name. file_words name.now) names.cert
+failed_in_run names (run.Write output.YardAfter) = option_map (λ name. file_words name.now) names.after
+failed_in_run names f = None
 
 -- what the job could not read or write, in words, where the fault is of that kind
 abbrev pub failed_words : Job → ToolFault → Option (List ℕ)
-failed_words (job.Solve yard movins cert after settings) (fault.Run f) =
-    failed_in_run yard.now movins.now (option_map (λ name. name.now) cert) (option_map (λ name. name.now) after) f
-failed_words (job.Solve yard movins cert after settings) f = None
-failed_words j f = failed_in_file (file_of j) f
+failed_words (job.OneFile file command) f = failed_in_file file.now f
+failed_words (job.Solve names settings) (fault.Run f) = failed_in_run names f
+failed_words (job.Solve names settings) f = None

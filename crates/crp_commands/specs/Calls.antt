@@ -1,7 +1,7 @@
--- A call of a command over a source and a sink: what it saw, what it wrote, and what each fault tells.
+-- A call of a command over a source and a sink: what it saw, what it wrote, and what each fault states.
 use Rattle.std.specs.Prelude.{◌≡◌, ℕ, ◌+◌, ◌-◌, ◌<◌, ◌≤◌, List, length, Option, IfSome, Result, Ok, Err}
 use Rattle.std.specs.Io.KnownBytes.{Appends, Keeps}
-use Rattle.crp_plan.specs.Devices.{AppendsFront, HasFailed, most_interruptions}
+use Rattle.crp_plan.specs.Devices.{AppendsPart, HasFailed, most_interruptions}
 use Rattle.crp_plan.specs.declared.transfer.ReadFault.{ReadFault}
 use Rattle.crp_plan.specs.declared.transfer.ReadFault.TheVariants as reading
 use Rattle.crp_cert.specs.declared.fault.CertFault.{CertFault}
@@ -14,7 +14,7 @@ use Rattle.crp_report.specs.declared.status.Status.TheVariants as status
 use Rattle.crp_commands.specs.declared.outcome.ToolFault.{ToolFault}
 use Rattle.crp_commands.specs.declared.outcome.ToolFault.TheVariants as fault
 
--- these bytes, no more than the limit, are those that a source had, where it told them
+-- these bytes, no more than the limit, are those that a source had, where it stated them
 abbrev pub IsTextWithin : ℕ → Option (List ℕ) → List ℕ → Type 0
 IsTextWithin limit known text = (length text ≤ limit) × IfSome known (λ xs. text ≡ xs)
 
@@ -30,40 +30,40 @@ pub record CallSeen : Type 0 where
   pub sink_after : ℕ
 
 -- so many calls of the source and the sink have failed in the call
-abbrev pub failures_in : CallSeen → ℕ
-failures_in s = (s.source_after - s.source_before) + (s.sink_after - s.sink_before)
+abbrev pub call_failures : CallSeen → ℕ
+call_failures s = (s.source_after - s.source_before) + (s.sink_after - s.sink_before)
 
--- so many failed calls a fault tells: one where a read or a write has failed, in a run too, else none
-abbrev pub failures_told : ToolFault → ℕ
-failures_told fault.Read = 1
-failures_told fault.Write = 1
-failures_told (fault.Run f) = runs.failures_told f
-failures_told f = 0
+-- so many failed calls a fault states: one where a read or a write has failed, in a run too, else none
+abbrev pub failures_of_fault : ToolFault → ℕ
+failures_of_fault fault.Read = 1
+failures_of_fault fault.Write = 1
+failures_of_fault (fault.Run f) = runs.failures_of_fault f
+failures_of_fault f = 0
 
--- so many calls fail at most in a call that tells this fault: those that are passed over, and the one that is told
-abbrev pub most_failures : ToolFault → ℕ
-most_failures f = most_interruptions + failures_told f
+-- so many calls fail at most in a call that states this fault: those that are passed over, and the one that is stated
+abbrev pub most_call_failures : ToolFault → ℕ
+most_call_failures f = most_interruptions + failures_of_fault f
 
 -- the whole report of the bytes that the source had, no more than `limit`, was written, and nothing else
-abbrev pub Writes : ℕ → (List ℕ → List ℕ → Type 0) → CallSeen → Type 0
-Writes limit IsReport s = (text : List ℕ) × (report : List ℕ) × IsTextWithin limit s.given text × IsReport text report × Appends s.held s.holds report
+abbrev pub WritesReport : ℕ → (List ℕ → List ℕ → Type 0) → CallSeen → Type 0
+WritesReport limit IsReport s = (text : List ℕ) × (report : List ℕ) × IsTextWithin limit s.given text × IsReport text report × Appends s.held s.holds report
 
 -- the bytes that the source had, no more than `limit`, are refused in this way, and nothing was written
-abbrev pub RefusedWith : ℕ → (List ℕ → ToolFault → Type 0) → CallSeen → ToolFault → Type 0
-RefusedWith limit IsRefused s f = Keeps s.held s.holds × ((text : List ℕ) × IsTextWithin limit s.given text × IsRefused text f)
+abbrev pub RefusesText : ℕ → (List ℕ → ToolFault → Type 0) → CallSeen → ToolFault → Type 0
+RefusesText limit IsRefused s f = Keeps s.held s.holds × ((text : List ℕ) × IsTextWithin limit s.given text × IsRefused text f)
 
--- what a fault tells of a call that writes the report of at most `limit` bytes: a refusal, a read or a write that has failed in this call,
--- more bytes than the limit, or want of memory; a front of the report may have been written only where a write failed
-abbrev pub Tells : ℕ → (List ℕ → List ℕ → Type 0) → (List ℕ → ToolFault → Type 0) → CallSeen → ToolFault → Type 0
-Tells limit IsReport IsRefused s (fault.Cert f) = RefusedWith limit IsRefused s (fault.Cert f)
-Tells limit IsReport IsRefused s (fault.Plan f) = RefusedWith limit IsRefused s (fault.Plan f)
-Tells limit IsReport IsRefused s fault.Read = Keeps s.held s.holds × HasFailed s.source_before s.source_after
-Tells limit IsReport IsRefused s fault.Write = HasFailed s.sink_before s.sink_after
-    × ((text : List ℕ) × (report : List ℕ) × IsTextWithin limit s.given text × IsReport text report × AppendsFront s.held s.holds report)
-Tells limit IsReport IsRefused s fault.TooLarge = Keeps s.held s.holds × IfSome s.given (λ xs. limit < length xs)
-Tells limit IsReport IsRefused s fault.Memory = Keeps s.held s.holds
-Tells limit IsReport IsRefused s (fault.Checked number why) = ⊥
-Tells limit IsReport IsRefused s (fault.Run f) = ⊥
+-- what a fault says of a call that writes the report of at most `limit` bytes: a refusal, a read or a write that has failed in this call,
+-- more bytes than the limit, or lack of memory; only where a write failed a front of the report may have been written, which is not all of it
+abbrev pub CallFailsWith : ℕ → (List ℕ → List ℕ → Type 0) → (List ℕ → ToolFault → Type 0) → CallSeen → ToolFault → Type 0
+CallFailsWith limit IsReport IsRefused s (fault.Cert f) = RefusesText limit IsRefused s (fault.Cert f)
+CallFailsWith limit IsReport IsRefused s (fault.Plan f) = RefusesText limit IsRefused s (fault.Plan f)
+CallFailsWith limit IsReport IsRefused s fault.Read = Keeps s.held s.holds × HasFailed s.source_before s.source_after
+CallFailsWith limit IsReport IsRefused s fault.Write = HasFailed s.sink_before s.sink_after
+    × ((text : List ℕ) × (report : List ℕ) × IsTextWithin limit s.given text × IsReport text report × AppendsPart s.held s.holds report)
+CallFailsWith limit IsReport IsRefused s fault.TooLarge = Keeps s.held s.holds × IfSome s.given (λ xs. limit < length xs)
+CallFailsWith limit IsReport IsRefused s fault.Memory = Keeps s.held s.holds
+CallFailsWith limit IsReport IsRefused s (fault.Checked number why) = ⊥
+CallFailsWith limit IsReport IsRefused s (fault.Run f) = ⊥
 
 -- why no head was read from a source: its bytes begin with none, it has failed in this call, it has more bytes than the limit, or memory
 -- is wanted
@@ -77,17 +77,17 @@ IsNoHead limit given before after fault.Write = ⊥
 IsNoHead limit given before after (fault.Checked number why) = ⊥
 IsNoHead limit given before after (fault.Run f) = ⊥
 
--- how a command tells what went wrong in a layer below
-abbrev pub read_told : ReadFault → ToolFault
-read_told reading.Failed = fault.Read
-read_told reading.TooLarge = fault.TooLarge
-read_told reading.Memory = fault.Memory
+-- how a command states what went wrong in a layer below
+abbrev pub fault_of_read : ReadFault → ToolFault
+fault_of_read reading.Failed = fault.Read
+fault_of_read reading.TooLarge = fault.TooLarge
+fault_of_read reading.Memory = fault.Memory
 
-abbrev pub cert_told : CertFault → ToolFault
-cert_told cert.Memory = fault.Memory
-cert_told f = fault.Cert f
+abbrev pub fault_of_cert : CertFault → ToolFault
+fault_of_cert cert.Memory = fault.Memory
+fault_of_cert f = fault.Cert f
 
--- the exit status of the program: 0 decided, 1 a budget ended, 3 input refused, 4 want of memory, 5 a read or write fault, 6 a certificate,
+-- the exit status of the program: 0 decided, 1 a budget ended, 3 input refused, 4 lack of memory, 5 a read or write fault, 6 a certificate,
 -- head or plan refused
 abbrev pub exit_code : Result Status ToolFault → ℕ
 exit_code (Ok status.Decided) = 0

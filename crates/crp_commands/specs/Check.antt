@@ -1,9 +1,9 @@
--- What `check` writes: a line for each certificate of a file as it ends, and what its faults tell.
+-- What `check` writes: a line for each certificate of a file as it ends, and what its faults state.
 use Rattle.std.specs.Prelude.{◌≡◌, ◌≢◌, ℕ, ◌<◌, ◌≤◌, ◌⊎◌, List, [], ◌∷◌, ◌++◌, length, Option, Some, None, IfSome, codes, decimal}
 use Rattle.std.specs.List.{AllByRecursion, flat_map}
 use Rattle.std.specs.Io.KnownBytes.{Appends}
 use Rattle.crp_plan.specs.BayNames.{YardBay}
-use Rattle.crp_plan.specs.Devices.{AppendsFront, HasFailed}
+use Rattle.crp_plan.specs.Devices.{AppendsPart, HasFailed}
 use Rattle.crp_checker.specs.declared.verdict.Verdict.{Verdict}
 use Rattle.crp_checker.specs.declared.verdict.Verdict.TheVariants as verdict
 use Rattle.crp_checker.specs.declared.refused.Refused.{Refused}
@@ -29,15 +29,15 @@ verdict_words (verdict.Bounds lower upper) = codes "at least " ++ (decimal lower
 
 -- the line of a certificate: its bay, and what it shows
 abbrev pub verdict_line : (YardBay × Verdict) → List ℕ
-verdict_line told = bay_words told.0 ++ (verdict_words told.1 ++ 10 ∷ [])
+verdict_line stated = bay_words stated.0 ++ (verdict_words stated.1 ++ 10 ∷ [])
 
 -- a line for each, in order
 abbrev pub verdict_lines : List (YardBay × Verdict) → List ℕ
-verdict_lines told = flat_map verdict_line told
+verdict_lines stated = flat_map verdict_line stated
 
 -- the lines of a file whose certificates are all accepted
 abbrev pub IsCheck : List ℕ → List ℕ → Type 0
-IsCheck bytes report = (told : List (YardBay × Verdict)) × FileShows bytes told × (report ≡ verdict_lines told)
+IsCheck bytes report = (stated : List (YardBay × Verdict)) × FileShows bytes stated × (report ≡ verdict_lines stated)
 
 -- the lines of the certificates before the one with this number, which is refused
 abbrev pub IsCheckBefore : List ℕ → ℕ → Refused → List ℕ → Type 0
@@ -88,22 +88,23 @@ AreShown limit given verdicts =
     ((read : List ℕ) × (rest : List ℕ) × (length read ≤ limit) × IsReadFrom given read × IsEndedFront read verdicts rest)
     ⊎ ((text : List ℕ) × IsTextWithin limit given text × FileShows text verdicts)
 
--- what a fault tells of a check of at most `limit` bytes: a certificate that is refused, after the lines of those before it; a read that has
--- failed in this call, after the lines of the certificates that had ended; a write that has failed, after a front of their lines; more bytes
--- than the limit, after the lines of the certificates that end in the first `limit` bytes; or want of memory, after the lines of some
-abbrev pub TellsOfCheck : ℕ → CallSeen → ToolFault → Type 0
-TellsOfCheck limit s (fault.Checked number why) = (why ≢ refused.Memory) × WritesBefore s number why
-TellsOfCheck limit s fault.Read = HasFailed s.source_before s.source_after × WritesEnded limit s
-TellsOfCheck limit s fault.Write = HasFailed s.sink_before s.sink_after
-    × ((verdicts : List (YardBay × Verdict)) × AreShown limit s.given verdicts × AppendsFront s.held s.holds (verdict_lines verdicts))
-TellsOfCheck limit s fault.TooLarge = IfSome s.given (λ xs. limit < length xs)
+-- what a fault says of a check of at most `limit` bytes: a certificate that is refused, after the lines of those before it; a read that has
+-- failed in this call, after the lines of the certificates that had ended; a write that has failed, after a front of their lines that is not all
+-- of them; more bytes than the limit, after the lines of the certificates that end in the first `limit` bytes; or lack of memory, after the lines
+-- of some
+abbrev pub CheckFailsWith : ℕ → CallSeen → ToolFault → Type 0
+CheckFailsWith limit s (fault.Checked number why) = (why ≢ refused.Memory) × WritesBefore s number why
+CheckFailsWith limit s fault.Read = HasFailed s.source_before s.source_after × WritesEnded limit s
+CheckFailsWith limit s fault.Write = HasFailed s.sink_before s.sink_after
+    × ((verdicts : List (YardBay × Verdict)) × AreShown limit s.given verdicts × AppendsPart s.held s.holds (verdict_lines verdicts))
+CheckFailsWith limit s fault.TooLarge = IfSome s.given (λ xs. limit < length xs)
     × ((read : List ℕ) × (length read ≡ limit) × WritesEach s read)
-TellsOfCheck limit s fault.Memory = WritesSome limit s
-TellsOfCheck limit s (fault.Cert f) = ⊥
-TellsOfCheck limit s (fault.Plan f) = ⊥
-TellsOfCheck limit s (fault.Run f) = ⊥
+CheckFailsWith limit s fault.Memory = WritesSome limit s
+CheckFailsWith limit s (fault.Cert f) = ⊥
+CheckFailsWith limit s (fault.Plan f) = ⊥
+CheckFailsWith limit s (fault.Run f) = ⊥
 
--- how the refusal of a certificate is told
-abbrev pub refusal_told : ℕ → Refused → ToolFault
-refusal_told number refused.Memory = fault.Memory
-refusal_told number why = fault.Checked number why
+-- how the refusal of a certificate is stated
+abbrev pub fault_of_refusal : ℕ → Refused → ToolFault
+fault_of_refusal number refused.Memory = fault.Memory
+fault_of_refusal number why = fault.Checked number why

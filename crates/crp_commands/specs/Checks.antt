@@ -2,25 +2,26 @@
 use Rattle.std.specs.Prelude.{◌≡◌, ◌≢◌, ℕ, ◌+◌, List, ◌++◌, length, Option}
 use Rattle.std.specs.Io.KnownBytes.{Appends, Keeps, Consumes}
 use Rattle.crp_plan.specs.BayNames.{YardBay}
-use Rattle.crp_plan.specs.Devices.{AppendsFront, HasFailed}
+use Rattle.crp_plan.specs.Devices.{AppendsPart, HasFailed}
 use Rattle.crp_checker.specs.declared.verdict.Verdict.{Verdict}
 use Rattle.crp_checker.specs.declared.refused.Refused.TheVariants as refused
 use Rattle.crp_checker.specs.declared.file_checker.FileChecker.{FileChecker}
 use Rattle.crp_checker.specs.FedFiles.{HasReadFile, IsEndedFront}
 use Rattle.crp_commands.specs.declared.outcome.ToolFault.{ToolFault}
 use Rattle.crp_commands.specs.declared.outcome.ToolFault.TheVariants as fault
-use Rattle.crp_commands.specs.Check.{verdict_lines, IsCheckBefore, TellsOfCheck}
+use Rattle.crp_commands.specs.Check.{verdict_lines, IsCheckBefore, CheckFailsWith}
 
--- what a fault tells of a text that was to be written: nothing of it was, for want of memory, or a write has failed after a front of it
-abbrev pub TellsOfText : Option (List ℕ) → Option (List ℕ) → ℕ → ℕ → List ℕ → ToolFault → Type 0
-TellsOfText held holds before after text fault.Memory = Keeps held holds
-TellsOfText held holds before after text fault.Write = HasFailed before after × AppendsFront held holds text
-TellsOfText held holds before after text fault.Read = ⊥
-TellsOfText held holds before after text fault.TooLarge = ⊥
-TellsOfText held holds before after text (fault.Checked number why) = ⊥
-TellsOfText held holds before after text (fault.Cert f) = ⊥
-TellsOfText held holds before after text (fault.Plan f) = ⊥
-TellsOfText held holds before after text (fault.Run f) = ⊥
+-- what a fault says of a text that was to be written: nothing of it was, because memory ran out, or a write has failed, after a front of it
+-- that is not all of it
+abbrev pub TextFailsWith : Option (List ℕ) → Option (List ℕ) → ℕ → ℕ → List ℕ → ToolFault → Type 0
+TextFailsWith held holds before after text fault.Memory = Keeps held holds
+TextFailsWith held holds before after text fault.Write = HasFailed before after × AppendsPart held holds text
+TextFailsWith held holds before after text fault.Read = ⊥
+TextFailsWith held holds before after text fault.TooLarge = ⊥
+TextFailsWith held holds before after text (fault.Checked number why) = ⊥
+TextFailsWith held holds before after text (fault.Cert f) = ⊥
+TextFailsWith held holds before after text (fault.Plan f) = ⊥
+TextFailsWith held holds before after text (fault.Run f) = ⊥
 
 -- the checker has read the file, this is the number of the certificate that comes next, and the lines of those that have ended were written
 pub record HasChecked (held holds : Option (List ℕ)) (file : List ℕ) (verdicts : List (YardBay × Verdict)) (files : FileChecker) (number : ℕ) : Type 0 where
@@ -46,25 +47,25 @@ pub record AreEndedIn (bytes : List ℕ) (verdicts : List (YardBay × Verdict)) 
   pub is : bytes ≡ read ++ after
   pub front : IsEndedFront read verdicts rest
 
--- what a fault tells of bytes that were to be checked, whatever follows them
-abbrev pub TellsOfBytes : Option (List ℕ) → Option (List ℕ) → ℕ → ℕ → List ℕ → ToolFault → Type 0
-TellsOfBytes held holds before after bytes (fault.Checked number why) = (why ≢ refused.Memory)
+-- what a fault says of bytes that were to be checked, whatever follows them
+abbrev pub BytesFailWith : Option (List ℕ) → Option (List ℕ) → ℕ → ℕ → List ℕ → ToolFault → Type 0
+BytesFailWith held holds before after bytes (fault.Checked number why) = (why ≢ refused.Memory)
     × ((report : List ℕ) × ((more : List ℕ) → IsCheckBefore (bytes ++ more) number why report) × Appends held holds report)
-TellsOfBytes held holds before after bytes fault.Write = HasFailed before after
-    × ((verdicts : List (YardBay × Verdict)) × AreEndedIn bytes verdicts × AppendsFront held holds (verdict_lines verdicts))
-TellsOfBytes held holds before after bytes fault.Memory =
+BytesFailWith held holds before after bytes fault.Write = HasFailed before after
+    × ((verdicts : List (YardBay × Verdict)) × AreEndedIn bytes verdicts × AppendsPart held holds (verdict_lines verdicts))
+BytesFailWith held holds before after bytes fault.Memory =
     (verdicts : List (YardBay × Verdict)) × AreEndedIn bytes verdicts × Appends held holds (verdict_lines verdicts)
-TellsOfBytes held holds before after bytes fault.Read = ⊥
-TellsOfBytes held holds before after bytes fault.TooLarge = ⊥
-TellsOfBytes held holds before after bytes (fault.Cert f) = ⊥
-TellsOfBytes held holds before after bytes (fault.Plan f) = ⊥
-TellsOfBytes held holds before after bytes (fault.Run f) = ⊥
+BytesFailWith held holds before after bytes fault.Read = ⊥
+BytesFailWith held holds before after bytes fault.TooLarge = ⊥
+BytesFailWith held holds before after bytes (fault.Cert f) = ⊥
+BytesFailWith held holds before after bytes (fault.Plan f) = ⊥
+BytesFailWith held holds before after bytes (fault.Run f) = ⊥
 
--- whatever was checked before, this is what a fault tells of it and this piece
-abbrev pub TellsOfPiece : List ℕ → Option (List ℕ) → FileChecker → ℕ → Option (List ℕ) → ℕ → ℕ → ToolFault → Type 0
-TellsOfPiece piece holds files number new_holds before after f =
+-- whatever was checked before, this is what a fault says of it and this piece
+abbrev pub PieceFailsWith : List ℕ → Option (List ℕ) → FileChecker → ℕ → Option (List ℕ) → ℕ → ℕ → ToolFault → Type 0
+PieceFailsWith piece holds files number new_holds before after f =
     (held : Option (List ℕ)) (file : List ℕ) (verdicts : List (YardBay × Verdict)) → HasChecked held holds file verdicts files number →
-    TellsOfBytes held new_holds before after (file ++ piece) f
+    BytesFailWith held new_holds before after (file ++ piece) f
 
 -- where a check stands: what its source has left and its sink holds, its checker, the number of the certificate that comes next, and how many
 -- bytes are left of the limit
@@ -89,8 +90,8 @@ StandsAfter given held limit at = (file : List ℕ) × (verdicts : List (YardBay
 abbrev pub GoesOn : CheckState → CheckState → Type 0
 GoesOn old new = (given held : Option (List ℕ)) (limit : ℕ) → StandsAfter given held limit old → StandsAfter given held limit new
 
--- whatever was checked before, this is what a fault tells of the check, with these counts of failures before and after
+-- whatever was checked before, this is what a fault says of the check, with these counts of failures before and after
 abbrev pub StopsAt : CheckState → Option (List ℕ) → ℕ → ℕ → ℕ → ℕ → ToolFault → Type 0
 StopsAt old holds source_before source_after sink_before sink_after f =
     (given held : Option (List ℕ)) (limit : ℕ) → StandsAfter given held limit old →
-    TellsOfCheck limit (record { given = given; held = held; holds = holds; source_before = source_before; source_after = source_after; sink_before = sink_before; sink_after = sink_after }) f
+    CheckFailsWith limit (record { given = given; held = held; holds = holds; source_before = source_before; source_after = source_after; sink_before = sink_before; sink_after = sink_after }) f

@@ -5,7 +5,6 @@ pub mod Bound
 pub mod Prove
 pub mod Check
 pub mod Checks
-pub mod Chosen
 pub mod Opened
 pub mod Solving
 pub mod Performing

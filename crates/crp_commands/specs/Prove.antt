@@ -1,4 +1,4 @@
--- What `prove` writes: a certificate of the problem that a head tells, with a true answer to it. Where that is the first best plan, and it was asked
+-- What `prove` writes: a certificate of the problem that a head states, with a true answer to it. Where that is the first best plan, and it was asked
 -- for, the certificate claims it to be that.
 use Rattle.std.specs.Prelude.{◌≡◌, ℕ, List}
 use Rattle.crp_cert.specs.declared.head.Head.{Head}
@@ -13,7 +13,7 @@ use Rattle.crp_report.specs.Report.{text_of}
 use Rattle.crp_commands.specs.declared.outcome.ToolFault.{ToolFault}
 use Rattle.crp_commands.specs.declared.outcome.ToolFault.TheVariants as fault
 
--- what was chosen for a search of the problem that the head tells is answered so, and the text is the certificate of the answer, under the name of the
+-- what was chosen for a search of the problem that the head states is answered so, and the text is the certificate of the answer, under the name of the
 -- head's bay
 abbrev pub IsProofOf : Chosen → Head → Solved → List ℕ → Type 0
 IsProofOf chosen head solved text = IsSolved head.problem chosen solved × (text ≡ text_of head.bay head.problem solved.answer)

@@ -9,28 +9,28 @@ use Rattle.crp_cert.specs.Text.{bay_line, IsHeadOf}
 use Rattle.crp_cert.specs.Faults.{IsFirstFault}
 use Rattle.crp_commands.specs.declared.outcome.ToolFault.{ToolFault}
 use Rattle.crp_commands.specs.declared.outcome.ToolFault.TheVariants as fault
-use Rattle.crp_report.specs.MoveLines.{rank_names, TellsMoves}
+use Rattle.crp_report.specs.MoveLines.{rank_names, AreMoveLines}
 
 -- how many moves and relocations a plan has
 abbrev pub count_line : List Move → List ℕ
 count_line moves = codes "moves " ++ (decimal (length moves) ++ (codes " relocations " ++ (decimal (relocations moves) ++ 10 ∷ [])))
 
--- the complete plan with these rows as its path is counted, and then its moves are told, with ranks as names
-abbrev pub TellsReplay : Problem → List ℕ → List ℕ → Type 0
-TellsReplay problem rows text =
+-- the complete plan with these rows as its path is counted, and then its moves are stated, with ranks as names
+abbrev pub IsReplayText : Problem → List ℕ → List ℕ → Type 0
+IsReplayText problem rows text =
     (moves : List Move) × (lines : List ℕ) × IsPlan problem moves × (path_of moves ≡ rows)
-    × TellsMoves (rank_names (total problem.stacks)) (start problem) moves lines × (text ≡ count_line moves ++ lines)
+    × AreMoveLines (rank_names (total problem.stacks)) (start problem) moves lines × (text ≡ count_line moves ++ lines)
 
--- what is told of a head: its bay, and its plan or that there is none
+-- what is stated of a head: its bay, and its plan or that there is none
 abbrev pub IsHeadReport : Head → List ℕ → Type 0
 IsHeadReport head report =
-    (text : List ℕ) × (report ≡ bay_line head.bay ++ text) × MatchOption head.plan (text ≡ codes "no plan" ++ 10 ∷ []) (λ rows. TellsReplay head.problem rows text)
+    (text : List ℕ) × (report ≡ bay_line head.bay ++ text) × MatchOption head.plan (text ≡ codes "no plan" ++ 10 ∷ []) (λ rows. IsReplayText head.problem rows text)
 
 -- the report of the head that the bytes begin with
 abbrev pub IsReplay : List ℕ → List ℕ → Type 0
 IsReplay bytes report = (head : Head) × IsHeadOf bytes head × IsHeadReport head report
 
--- why nothing is told of a head: the rows of its plan are no plan's, or memory is wanted
+-- why nothing is stated of a head: the rows of its plan are no plan's, or memory is wanted
 abbrev pub IsNoReport : Head → ToolFault → Type 0
 IsNoReport head (fault.Plan f) = (rows : List ℕ) × (head.plan ≡ Some rows) × IsPlanFault head.problem rows f
 IsNoReport head fault.Memory = Unit {0}

@@ -2,7 +2,7 @@
 ghost use Rattle.std.specs.Prelude.{◌≡◌, Some, option_map};
 ghost use Rattle.crp_commands.specs.Advice.{IsLine, failed_in_file, failed_in_run, failed_words, file_words, place_words, source_words};
 
-use crate::job::Job;
+use crate::job::{Job, RunFiles};
 use crate::outcome::ToolFault;
 use crp_cert::CertFault;
 use crp_checker::Refused;
@@ -326,21 +326,15 @@ fn place_in_file<'a>(file: &'a str, fault: &ToolFault) -> Option<Place<'a>>
 }
 
 // What a run over these files could not read or write.
-fn place_in_run<'a>(
-    yard: &'a str,
-    movins: &'a str,
-    cert: Option<&'a str>,
-    after: Option<&'a str>,
-    fault: &Fault,
-) -> Option<Place<'a>>
-    ensures { option_map place_words result ≡ failed_in_run yard.now movins.now (option_map (λ name. name.now) cert.entry) (option_map (λ name. name.now) after.entry) fault.now }
+fn place_in_run<'a>(names: &RunFiles<'a>, fault: &Fault) -> Option<Place<'a>>
+    ensures { option_map place_words result ≡ failed_in_run names.now fault.now }
 {
     match fault {
-        Fault::Read(Input::Yard) => Some(Place::File(yard)),
-        Fault::Read(Input::Movins) => Some(Place::File(movins)),
+        Fault::Read(Input::Yard) => Some(Place::File(names.yard)),
+        Fault::Read(Input::Movins) => Some(Place::File(names.movins)),
         Fault::Write(Output::Report) => Some(Place::StandardOutput),
-        Fault::Write(Output::Certificates) => cert.map(Place::File),
-        Fault::Write(Output::YardAfter) => after.map(Place::File),
+        Fault::Write(Output::Certificates) => names.cert.map(Place::File),
+        Fault::Write(Output::YardAfter) => names.after.map(Place::File),
         Fault::Yard(_) | Fault::Interchange(_) | Fault::Message(_) | Fault::Memory => None,
     }
 }
@@ -350,17 +344,10 @@ pub fn place_of<'a>(job: &Job<'a>, fault: &ToolFault) -> Option<Place<'a>>
     ensures { option_map place_words result ≡ failed_words job.now fault.now }
 {
     match job {
-        Job::Replay(file) | Job::Bound(file) | Job::Check(file) => place_in_file(file, fault),
-        Job::Prove { file, .. } => place_in_file(file, fault),
-        Job::Solve {
-            yard,
-            movins,
-            cert,
-            after,
-            ..
-        } => {
+        Job::OneFile { file, .. } => place_in_file(file, fault),
+        Job::Solve { files, .. } => {
             if let ToolFault::Run(fault) = fault {
-                return place_in_run(yard, movins, *cert, *after, fault);
+                return place_in_run(files, fault);
             }
             None
         }

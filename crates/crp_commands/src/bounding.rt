@@ -2,7 +2,7 @@
 ghost use Rattle.std.specs.Prelude.{◌≡◌, ◌≤◌, ◌++◌, IfOk, OnOk, MatchResult};
 ghost use Rattle.crp_commands.specs.declared.heads.TheConstants.{MOST_BYTES};
 ghost use Rattle.crp_plan.specs.Devices.{most_interruptions};
-ghost use Rattle.crp_commands.specs.Calls.{CallSeen, failures_in, most_failures, Writes, Tells};
+ghost use Rattle.crp_commands.specs.Calls.{CallSeen, call_failures, most_call_failures, WritesReport, CallFailsWith};
 ghost use Rattle.crp_commands.specs.Bound.{bound_lines, IsBoundReport, IsBound, IsNoBound};
 
 use crate::heads::head_from;
@@ -25,7 +25,7 @@ fn push_bounds(text: &mut Vec<u8>, position: &Position) -> Result<(), AllocError
     Ok(())
 }
 
-// What is told of a head.
+// What is stated of a head.
 fn report_of(alloc: Global, head: &Head) -> Result<Vec<u8>, AllocError>
     ensures { IfOk result (λ report. IsBoundReport head.now report.items) }
 {
@@ -50,7 +50,9 @@ pub fn bound<R: Source, W: Sink>(
       source_after = R.failures reader.new;
       sink_before = W.failures writer.old;
       sink_after = W.failures writer.new;
-    } in MatchResult result (λ status. ((status ≡ Status.Decided) × Writes MOST_BYTES IsBound seen) × (failures_in seen ≤ most_interruptions)) (λ fault. Tells MOST_BYTES IsBound IsNoBound seen fault × (failures_in seen ≤ most_failures fault)) }
+    } in MatchResult result
+        (λ status. ((status ≡ Status.Decided) × WritesReport MOST_BYTES IsBound seen) × (call_failures seen ≤ most_interruptions))
+        (λ fault. CallFailsWith MOST_BYTES IsBound IsNoBound seen fault × (call_failures seen ≤ most_call_failures fault)) }
 {
     let mut interruptions = 0;
     let head = head_from(alloc, reader, &mut interruptions)?;

@@ -3,9 +3,9 @@ ghost use Rattle.std.specs.Prelude.{◌≡◌, ◌≤◌, ◌<◌, ◌+◌, ◌^
 ghost use Rattle.std.specs.Io.KnownBytes.{Appends, IsAtEnd};
 ghost use Rattle.crp_commands.specs.declared.heads.TheConstants.{MOST_BYTES};
 ghost use Rattle.crp_plan.specs.Devices.{most_interruptions};
-ghost use Rattle.crp_commands.specs.Calls.{CallSeen, failures_in, failures_told, most_failures, Writes};
-ghost use Rattle.crp_commands.specs.Check.{plan_words, verdict_words, verdict_line, refusal_told, IsCheck, TellsOfCheck};
-ghost use Rattle.crp_commands.specs.Checks.{TellsOfText, IsChecking, ChecksPiece, TellsOfPiece, GoesOn, StopsAt};
+ghost use Rattle.crp_commands.specs.Calls.{CallSeen, call_failures, failures_of_fault, most_call_failures, WritesReport};
+ghost use Rattle.crp_commands.specs.Check.{plan_words, verdict_words, verdict_line, fault_of_refusal, IsCheck, CheckFailsWith};
+ghost use Rattle.crp_commands.specs.Checks.{TextFailsWith, IsChecking, ChecksPiece, PieceFailsWith, GoesOn, StopsAt};
 
 use crate::heads::MOST_BYTES;
 use crate::outcome::ToolFault;
@@ -72,8 +72,9 @@ fn write_verdict<W: Sink>(
 ) -> Result<(), ToolFault>
     requires { interruptions.old ≤ most_interruptions }
     ensures all { OnOk result (Appends (W.contents writer.old) (W.contents writer.new) (verdict_line (bay.now, verdict))) }
-    ensures fault { IfErr result (TellsOfText (W.contents writer.old) (W.contents writer.new) (W.failures writer.old) (W.failures writer.new) (verdict_line (bay.now, verdict))) }
-    ensures counted { MatchResult result (λ _. W.failures writer.new + interruptions.old ≤ W.failures writer.old + interruptions.new) (λ fault. W.failures writer.new + interruptions.old ≤ W.failures writer.old + interruptions.new + failures_told fault) }
+    ensures fault { IfErr result (TextFailsWith (W.contents writer.old) (W.contents writer.new) (W.failures writer.old) (W.failures writer.new) (verdict_line (bay.now, verdict))) }
+    ensures counted { MatchResult result (λ _. W.failures writer.new + interruptions.old ≤ W.failures writer.old + interruptions.new)
+        (λ fault. W.failures writer.new + interruptions.old ≤ W.failures writer.old + interruptions.new + failures_of_fault fault) }
     ensures count { W.failures writer.old ≤ W.failures writer.new }
     ensures passed { (interruptions.old ≤ interruptions.new) × (interruptions.new ≤ most_interruptions) }
 {
@@ -83,9 +84,9 @@ fn write_verdict<W: Sink>(
     Ok(())
 }
 
-// How the refusal of a certificate is told.
+// How the refusal of a certificate is stated.
 fn refused_at(number: u64, refused: Refused) -> ToolFault
-    ensures { result ≡ refusal_told number refused }
+    ensures { result ≡ fault_of_refusal number refused }
 {
     match refused {
         Refused::Memory => ToolFault::Memory,
@@ -108,8 +109,9 @@ fn check_some<W: Sink>(
     requires passed { interruptions.old ≤ most_interruptions }
     ensures bound { IfOk result (λ n. (1 ≤ n) × (n ≤ length piece.now) × (number.new ≤ number.old + n)) }
     ensures on { IfOk result (λ n. ChecksPiece (take n piece.now) (W.contents writer.old) files.old number.old (W.contents writer.new) files.new number.new) }
-    ensures fault { IfErr result (TellsOfPiece piece.now (W.contents writer.old) files.old number.old (W.contents writer.new) (W.failures writer.old) (W.failures writer.new)) }
-    ensures counted { MatchResult result (λ _. W.failures writer.new + interruptions.old ≤ W.failures writer.old + interruptions.new) (λ fault. W.failures writer.new + interruptions.old ≤ W.failures writer.old + interruptions.new + failures_told fault) }
+    ensures fault { IfErr result (PieceFailsWith piece.now (W.contents writer.old) files.old number.old (W.contents writer.new) (W.failures writer.old) (W.failures writer.new)) }
+    ensures counted { MatchResult result (λ _. W.failures writer.new + interruptions.old ≤ W.failures writer.old + interruptions.new)
+        (λ fault. W.failures writer.new + interruptions.old ≤ W.failures writer.old + interruptions.new + failures_of_fault fault) }
     ensures count { W.failures writer.old ≤ W.failures writer.new }
     ensures passed { (interruptions.old ≤ interruptions.new) × (interruptions.new ≤ most_interruptions) }
 {
@@ -144,8 +146,9 @@ fn check_piece<W: Sink>(
     requires passed { interruptions.old ≤ most_interruptions }
     ensures bound { OnOk result (number.new ≤ number.old + length piece.now) }
     ensures on { OnOk result (ChecksPiece piece.now (W.contents writer.old) files.old number.old (W.contents writer.new) files.new number.new) }
-    ensures fault { IfErr result (TellsOfPiece piece.now (W.contents writer.old) files.old number.old (W.contents writer.new) (W.failures writer.old) (W.failures writer.new)) }
-    ensures counted { MatchResult result (λ _. W.failures writer.new + interruptions.old ≤ W.failures writer.old + interruptions.new) (λ fault. W.failures writer.new + interruptions.old ≤ W.failures writer.old + interruptions.new + failures_told fault) }
+    ensures fault { IfErr result (PieceFailsWith piece.now (W.contents writer.old) files.old number.old (W.contents writer.new) (W.failures writer.old) (W.failures writer.new)) }
+    ensures counted { MatchResult result (λ _. W.failures writer.new + interruptions.old ≤ W.failures writer.old + interruptions.new)
+        (λ fault. W.failures writer.new + interruptions.old ≤ W.failures writer.old + interruptions.new + failures_of_fault fault) }
     ensures count { W.failures writer.old ≤ W.failures writer.new }
     ensures passed { (interruptions.old ≤ interruptions.new) × (interruptions.new ≤ most_interruptions) }
 {
@@ -179,7 +182,9 @@ fn check_next<R: Source, W: Sink>(
     ensures fault { IfErr result (StopsAt
         (record { remaining = R.remaining reader.old; holds = W.contents writer.old; files = files.old; number = number.old; left = left.old })
         (W.contents writer.new) (R.failures reader.old) (R.failures reader.new) (W.failures writer.old) (W.failures writer.new)) }
-    ensures counted { MatchResult result (λ _. R.failures reader.new + W.failures writer.new + interruptions.old ≤ R.failures reader.old + W.failures writer.old + interruptions.new) (λ fault. R.failures reader.new + W.failures writer.new + interruptions.old ≤ R.failures reader.old + W.failures writer.old + interruptions.new + failures_told fault) }
+    ensures counted { MatchResult result
+        (λ _. R.failures reader.new + W.failures writer.new + interruptions.old ≤ R.failures reader.old + W.failures writer.old + interruptions.new)
+        (λ fault. R.failures reader.new + W.failures writer.new + interruptions.old ≤ R.failures reader.old + W.failures writer.old + interruptions.new + failures_of_fault fault) }
     ensures count { (R.failures reader.old ≤ R.failures reader.new) × (W.failures writer.old ≤ W.failures writer.new) }
     ensures passed { (interruptions.old ≤ interruptions.new) × (interruptions.new ≤ most_interruptions) }
 {
@@ -212,7 +217,9 @@ pub fn check<R: Source, W: Sink>(
       source_after = R.failures reader.new;
       sink_before = W.failures writer.old;
       sink_after = W.failures writer.new;
-    } in MatchResult result (λ status. ((status ≡ Status.Decided) × Writes MOST_BYTES IsCheck seen) × (failures_in seen ≤ most_interruptions)) (λ fault. TellsOfCheck MOST_BYTES seen fault × (failures_in seen ≤ most_failures fault)) }
+    } in MatchResult result
+        (λ status. ((status ≡ Status.Decided) × WritesReport MOST_BYTES IsCheck seen) × (call_failures seen ≤ most_interruptions))
+        (λ fault. CheckFailsWith MOST_BYTES seen fault × (call_failures seen ≤ most_call_failures fault)) }
 {
     let mut files = FileChecker::new(alloc);
     let mut number = 1;

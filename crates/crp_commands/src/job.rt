@@ -1,53 +1,48 @@
 //! What the program may be asked for.
-use arrayvec::ArrayVec;
-use crp_order::Mode;
-use crp_plan::MAX_ROWS;
+use crp_report::RunSettings;
 use crp_solve::Settings;
 
-/// What the program is to do. Of `Replay`, `Bound`, `Check` and `Prove` a file named `-` is the standard input.
+/// What is done with the bytes of one file.
+#[derive(Clone, Copy)]
+pub enum FileCommand {
+    /// To print the moves of the plan of a certificate's head.
+    Replay,
+    /// To print the lower bounds of the problem of a certificate's head.
+    Bound,
+    /// To check a file of certificates.
+    Check,
+    /// To solve the problem of a certificate's head, by this search.
+    Prove(Settings),
+}
+
+/// The files of a run over a yard, by their names.
+#[derive(Clone, Copy)]
+pub struct RunFiles<'a> {
+    /// The yard list.
+    pub yard: &'a str,
+    /// The message.
+    pub movins: &'a str,
+    /// What gets the certificates, if they are wanted.
+    pub cert: Option<&'a str>,
+    /// What gets the yard after the plans, if it is wanted.
+    pub after: Option<&'a str>,
+}
+
+/// What the program is to do.
 #[derive(Drop)]
 pub enum Job<'a> {
-    /// To tell the moves of the plan of a certificate's head.
-    Replay(&'a str),
-    /// To tell the lower bounds of the problem of a certificate's head.
-    Bound(&'a str),
-    /// To check a file of certificates.
-    Check(&'a str),
-    /// To solve the problem of a certificate's head.
-    Prove {
-        /// The file of the certificate.
+    /// A command over the bytes of one file.
+    OneFile {
+        /// The file. One named `-` is the standard input.
         file: &'a str,
-        /// How it is to be searched.
-        search: Settings,
+        /// What is done with its bytes.
+        command: FileCommand,
     },
     /// To solve the bays of a yard for the load orders of a message.
     Solve {
-        /// The file of the yard list.
-        yard: &'a str,
-        /// The file of the message.
-        movins: &'a str,
-        /// The file that gets the certificates, if they are wanted.
-        cert: Option<&'a str>,
-        /// The file that gets the yard after the plans, if it is wanted.
-        after: Option<&'a str>,
-        /// How the bays are to be solved.
-        settings: SolveSettings<'a>,
+        /// The files of the run.
+        files: RunFiles<'a>,
+        /// How the bays are solved.
+        settings: RunSettings,
     },
-}
-
-/// How the bays of a yard are to be solved.
-#[derive(Drop)]
-pub struct SolveSettings<'a> {
-    /// How each bay is to be searched.
-    pub search: Settings,
-    /// The rows of each bay, 1 to 12.
-    pub rows: u8,
-    /// The tiers of each row, 1 to 8.
-    pub tiers: u8,
-    /// The tiers of each row for itself, if that is wanted, in place of the rows and tiers: 1 to 12 rows of 1 to 8.
-    pub heights: Option<ArrayVec<u8, MAX_ROWS>>,
-    /// The order in which the containers leave.
-    pub order: Mode,
-    /// The handling code of what is to be loaded.
-    pub code: &'a str,
 }

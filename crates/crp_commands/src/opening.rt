@@ -1,16 +1,101 @@
-//! Files of the system as devices.
-ghost use Rattle.std.specs.Prelude.{◌≡◌, MatchResult, Ok, Err};
+//! Files as devices: how a job opens them and gives them back, and the files of the system.
+ghost use Rattle.std.specs.Prelude.{◌≡◌, ℕ, IsTrue, IfOk, IfErr, MatchResult};
+ghost use Rattle.crp_plan.specs.Devices.{CountsMore, CountsOne};
+ghost use Rattle.crp_commands.specs.Opened.{KnownFiles, nothing_known};
 
-use crate::outcome::ToolFault;
-use crp_plan::Counted;
-use std::io;
+use crp_plan::{Counted, Sink, Source};
+use std::fs::File;
 
-/// The device of a file that was opened, none of whose calls has failed yet. The fault is told only of one that was not opened.
-pub fn counted<F: Drop>(opened: io::Result<F>, fault: ToolFault) -> Result<Counted<F>, ToolFault>
-    ensures { MatchResult opened (λ file. result ≡ Ok (record { device = file; failed = 0 })) (λ _. result ≡ Err fault) }
-{
-    match opened {
-        Ok(file) => Ok(Counted::new(file)),
-        Err(_) => Err(fault),
+/// A file that cannot be opened.
+#[derive(Clone, Copy, Debug, PartialEq, Eq)]
+pub struct NotOpened;
+
+/// Opens files by their names, and counts what has failed of them.
+pub trait Files {
+    /// A file that is read.
+    type Input: Source + Drop;
+
+    /// A file that is written.
+    type Output: Sink + Drop;
+
+    // What is known of each file by its name.
+    ghost known: { Self → KnownFiles } = { λ _. nothing_known };
+
+    // How many files could not be opened, and how many calls of those that were closed have failed, up to the largest u64.
+    ghost failures: { Self → ℕ };
+
+    /// Opens a file that is there, to read it from its beginning.
+    fn open(&mut self, name: &str) -> Result<Self::Input, NotOpened>
+        ensures new { IfOk result (λ file. Self.Input.failures file ≡ 0) }
+        ensures bytes { IfOk result (λ file. Self.Input.remaining file ≡ (known self.old).given name.now) }
+        ensures refused { IfErr result (λ _. IsTrue ((known self.old).may_not_open name.now)) }
+        ensures kept { known self.new ≡ known self.old }
+        ensures count { MatchResult result (λ _. failures self.new ≡ failures self.old) (λ _. CountsOne (failures self.old) (failures self.new)) };
+
+    /// Makes a file, or empties the one that is there, to write it.
+    fn create(&mut self, name: &str) -> Result<Self::Output, NotOpened>
+        ensures new { IfOk result (λ file. Self.Output.failures file ≡ 0) }
+        ensures refused { IfErr result (λ _. IsTrue ((known self.old).may_not_create name.now)) }
+        ensures kept { (known self.new).may_not_create ≡ (known self.old).may_not_create }
+        ensures count { MatchResult result (λ _. failures self.new ≡ failures self.old) (λ _. CountsOne (failures self.old) (failures self.new)) };
+
+    /// Closes a file that was read.
+    fn close(&mut self, file: Self::Input)
+        ensures { CountsMore (Self.Input.failures file) (failures self.old) (failures self.new) };
+
+    /// Closes a file that was written.
+    fn finish(&mut self, file: Self::Output)
+        ensures { CountsMore (Self.Output.failures file) (failures self.old) (failures self.new) };
+}
+
+/// The files of the system, of whose bytes nothing is known.
+#[derive(Drop)]
+pub struct SystemFiles<'a> {
+    rt: &'a HostRuntime,
+    failed: u64,
+}
+
+impl<'a> SystemFiles<'a> {
+    /// All files, none of which has failed yet.
+    pub fn new(rt: &'a HostRuntime) -> SystemFiles<'a>
+        ensures { ⟦<SystemFiles<'a> as Files>⟧.failures result ≡ 0 }
+    {
+        SystemFiles { rt, failed: 0 }
+    }
+}
+
+impl Files for SystemFiles<'_> {
+    type Input = Counted<File>;
+
+    type Output = Counted<File>;
+
+    ghost failures = { λ files. files.failed };
+
+    fn open(&mut self, name: &str) -> Result<Counted<File>, NotOpened> {
+        match File::open(self.rt, name) {
+            Ok(file) => Ok(Counted::new(file)),
+            Err(_) => {
+                self.failed = self.failed.saturating_add(1);
+                Err(NotOpened)
+            }
+        }
+    }
+
+    fn create(&mut self, name: &str) -> Result<Counted<File>, NotOpened> {
+        match File::create(self.rt, name) {
+            Ok(file) => Ok(Counted::new(file)),
+            Err(_) => {
+                self.failed = self.failed.saturating_add(1);
+                Err(NotOpened)
+            }
+        }
+    }
+
+    fn close(&mut self, file: Counted<File>) {
+        self.failed = self.failed.saturating_add(file.failed);
+    }
+
+    fn finish(&mut self, file: Counted<File>) {
+        self.failed = self.failed.saturating_add(file.failed);
     }
 }

@@ -50,9 +50,9 @@ impl From<AllocError> for ToolFault {
 }
 
 impl From<ReadFault> for ToolFault {
-    ghost use Rattle.crp_commands.specs.Calls.{read_told};
+    ghost use Rattle.crp_commands.specs.Calls.{fault_of_read};
 
-    ghost from_gives = { λ error fault. fault ≡ read_told error };
+    ghost from_gives = { λ error fault. fault ≡ fault_of_read error };
 
     fn from(error: ReadFault) -> ToolFault {
         match error {
@@ -84,9 +84,9 @@ impl From<WriteFailed> for ToolFault {
 }
 
 impl From<CertFault> for ToolFault {
-    ghost use Rattle.crp_commands.specs.Calls.{cert_told};
+    ghost use Rattle.crp_commands.specs.Calls.{fault_of_cert};
 
-    ghost from_gives = { λ error fault. fault ≡ cert_told error };
+    ghost from_gives = { λ error fault. fault ≡ fault_of_cert error };
 
     fn from(error: CertFault) -> ToolFault {
         match error {

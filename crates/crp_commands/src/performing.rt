@@ -1,11 +1,11 @@
-//! What a job over one file does with the bytes of that file.
-ghost use Rattle.std.specs.Prelude.{◌≡◌, MatchResult};
+//! What a command does with the bytes of one file.
+ghost use Rattle.std.specs.Prelude.{MatchResult};
 ghost use Rattle.crp_commands.specs.Calls.{CallSeen};
-ghost use Rattle.crp_commands.specs.Performing.{IsOverOneFile, PerformsIn, TellsOfJobIn};
+ghost use Rattle.crp_commands.specs.Performing.{PerformsIn, CommandFailsInCall};
 
 use crate::bounding::bound;
 use crate::checking::check;
-use crate::job::Job;
+use crate::job::FileCommand;
 use crate::outcome::ToolFault;
 use crate::proving::prove;
 use crate::replaying::replay;
@@ -15,15 +15,14 @@ use std::alloc::Global;
 use std::sync::Wait;
 use std::thread::Threads;
 
-/// Does a job over one file, from a source of that file's bytes to the sink of its report.
+/// Does a command over one file, from a source of that file's bytes to the sink of its report.
 pub fn perform<T: Threads + Wait + Sync, R: Source, W: Sink>(
     rt: &T,
     alloc: Global,
-    job: &Job<'_>,
+    command: &FileCommand,
     reader: &mut R,
     writer: &mut W,
 ) -> Result<Status, ToolFault>
-    requires { IsOverOneFile job.now }
     ensures { let seen : CallSeen = record {
       given = R.remaining reader.old;
       held = W.contents writer.old;
@@ -32,13 +31,12 @@ pub fn perform<T: Threads + Wait + Sync, R: Source, W: Sink>(
       source_after = R.failures reader.new;
       sink_before = W.failures writer.old;
       sink_after = W.failures writer.new;
-    } in MatchResult result (PerformsIn job.now seen) (TellsOfJobIn job.now seen) }
+    } in MatchResult result (PerformsIn command.now seen) (CommandFailsInCall command.now seen) }
 {
-    match job {
-        Job::Replay(_) => replay(alloc, reader, writer),
-        Job::Bound(_) => bound(alloc, reader, writer),
-        Job::Check(_) => check(alloc, reader, writer),
-        Job::Prove { search, .. } => prove(rt, alloc, reader, writer, *search),
-        Job::Solve { .. } => unreachable!(),
+    match command {
+        FileCommand::Replay => replay(alloc, reader, writer),
+        FileCommand::Bound => bound(alloc, reader, writer),
+        FileCommand::Check => check(alloc, reader, writer),
+        FileCommand::Prove(search) => prove(rt, alloc, reader, writer, *search),
     }
 }

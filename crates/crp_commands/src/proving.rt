@@ -2,7 +2,7 @@
 ghost use Rattle.std.specs.Prelude.{◌≤◌, MatchResult};
 ghost use Rattle.crp_commands.specs.declared.heads.TheConstants.{MOST_BYTES};
 ghost use Rattle.crp_plan.specs.Devices.{most_interruptions};
-ghost use Rattle.crp_commands.specs.Calls.{CallSeen, failures_in, most_failures, Writes, Tells};
+ghost use Rattle.crp_commands.specs.Calls.{CallSeen, call_failures, most_call_failures, WritesReport, CallFailsWith};
 ghost use Rattle.crp_commands.specs.Prove.{IsProof, IsSomeProof, IsNoProof};
 
 use crate::heads::head_from;
@@ -32,7 +32,8 @@ pub fn prove<T: Threads + Wait + Sync, R: Source, W: Sink>(
       source_after = R.failures reader.new;
       sink_before = W.failures writer.old;
       sink_after = W.failures writer.new;
-    } in MatchResult result (λ status. Writes MOST_BYTES (IsProof settings status) seen × (failures_in seen ≤ most_interruptions)) (λ fault. Tells MOST_BYTES (IsSomeProof settings) IsNoProof seen fault × (failures_in seen ≤ most_failures fault)) }
+    } in MatchResult result (λ status. WritesReport MOST_BYTES (IsProof settings status) seen × (call_failures seen ≤ most_interruptions))
+        (λ fault. CallFailsWith MOST_BYTES (IsSomeProof settings) IsNoProof seen fault × (call_failures seen ≤ most_call_failures fault)) }
 {
     let mut interruptions = 0;
     let head = head_from(alloc, reader, &mut interruptions)?;

@@ -3,8 +3,8 @@ ghost use Rattle.std.specs.Prelude.{◌≡◌, ◌≤◌, ℕ, List, ◌++◌, I
 ghost use Rattle.crp_commands.specs.declared.heads.TheConstants.{MOST_BYTES};
 ghost use Rattle.crp_plan.specs.Bay.{relocations};
 ghost use Rattle.crp_plan.specs.Devices.{most_interruptions};
-ghost use Rattle.crp_commands.specs.Calls.{CallSeen, failures_in, most_failures, Writes, Tells};
-ghost use Rattle.crp_commands.specs.Replay.{count_line, TellsReplay, IsHeadReport, IsReplay, IsNoReplay, IsNoReport};
+ghost use Rattle.crp_commands.specs.Calls.{CallSeen, call_failures, most_call_failures, WritesReport, CallFailsWith};
+ghost use Rattle.crp_commands.specs.Replay.{count_line, IsReplayText, IsHeadReport, IsReplay, IsNoReplay, IsNoReport};
 
 use crate::heads::head_from;
 use crate::outcome::ToolFault;
@@ -27,7 +27,7 @@ fn push_count(text: &mut Vec<u8>, moves: &[Move], count: u32) -> Result<(), Allo
 
 // The count of a plan's moves, and its moves, with ranks as names.
 fn push_plan(alloc: Global, text: &mut Vec<u8>, plan: &Plan) -> Result<(), AllocError>
-    ensures { OnOk result ((more : List ℕ) × TellsReplay plan.now.problem plan.now.path more × (text.new.items ≡ text.old.items ++ more)) }
+    ensures { OnOk result ((more : List ℕ) × IsReplayText plan.now.problem plan.now.path more × (text.new.items ≡ text.old.items ++ more)) }
 {
     let moves = plan.moves(alloc)?;
     let names = names_of_ranks(alloc, plan.problem().total())?;
@@ -36,9 +36,9 @@ fn push_plan(alloc: Global, text: &mut Vec<u8>, plan: &Plan) -> Result<(), Alloc
     text.extend_from_slice(&lines)
 }
 
-// What is told of a head.
+// What is stated of a head.
 fn report_of(alloc: Global, head: &Head) -> Result<Vec<u8>, ToolFault>
-    ensures told { IfOk result (λ report. IsHeadReport head.now report.items) }
+    ensures stated { IfOk result (λ report. IsHeadReport head.now report.items) }
     ensures refused { IfErr result (IsNoReport head.now) }
 {
     let mut report = Vec::new(alloc);
@@ -70,7 +70,9 @@ pub fn replay<R: Source, W: Sink>(
       source_after = R.failures reader.new;
       sink_before = W.failures writer.old;
       sink_after = W.failures writer.new;
-    } in MatchResult result (λ status. ((status ≡ Status.Decided) × Writes MOST_BYTES IsReplay seen) × (failures_in seen ≤ most_interruptions)) (λ fault. Tells MOST_BYTES IsReplay IsNoReplay seen fault × (failures_in seen ≤ most_failures fault)) }
+    } in MatchResult result
+        (λ status. ((status ≡ Status.Decided) × WritesReport MOST_BYTES IsReplay seen) × (call_failures seen ≤ most_interruptions))
+        (λ fault. CallFailsWith MOST_BYTES IsReplay IsNoReplay seen fault × (call_failures seen ≤ most_call_failures fault)) }
 {
     let mut interruptions = 0;
     let head = head_from(alloc, reader, &mut interruptions)?;

@@ -1,10 +1,10 @@
 //! What no contract says: worked texts byte for byte, and the texts of faults.
 mod certs;
+mod claims;
 mod damaged;
 mod first;
 mod heads;
 mod heights;
-mod told;
 mod writing;
 
 use crate::compare::{assert_same, assert_same_at};

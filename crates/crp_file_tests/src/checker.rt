@@ -46,7 +46,7 @@ fn shows(rt: &(impl Abort + AllocGlobal), text: &str, verdict: Verdict) {
     assert_same_at(rt, &shown, &verdict, &text);
 }
 
-fn told(alloc: Global, refused: &Refused) -> Result<String, AllocError> {
+fn text_of_refusal(alloc: Global, refused: &Refused) -> Result<String, AllocError> {
     format!(in alloc; "{refused}")
 }
 
@@ -64,7 +64,7 @@ fn refused_for(
     text: &str,
     fault: &str,
 ) -> Result<(), AllocError> {
-    let shown = told(rt.alloc(), refused)?;
+    let shown = text_of_refusal(rt.alloc(), refused)?;
     assert_same_at(rt, &shown.as_str(), &fault, &text);
     Ok(())
 }
@@ -393,10 +393,15 @@ fn other_refused_certificates(rt: HostRuntime) -> Result<(), Fail> {
     Ok(())
 }
 
+/// What is answered to the certificate for the problem of that text's head.
+fn answer_for(rt: &(impl Abort + AllocGlobal), head: &str, text: &str) -> Result<Verdict, Refused> {
+    let problem = problem_of(rt, head);
+    check_for(rt.alloc(), &problem, text.as_bytes())
+}
+
 /// The certificate shows this for the problem of that text's head.
 fn shows_for(rt: &(impl Abort + AllocGlobal), head: &str, text: &str, verdict: Verdict) {
-    let problem = problem_of(rt, head);
-    let shown = check_for(rt.alloc(), &problem, text.as_bytes()).expect(rt, "its problem");
+    let shown = answer_for(rt, head, text).expect(rt, "its problem");
     assert_same_at(rt, &shown, &verdict, &text);
 }
 
@@ -407,18 +412,17 @@ fn refuses_for(
     text: &str,
     fault: &str,
 ) -> Result<(), AllocError> {
-    let problem = problem_of(rt, head);
-    let refused = check_for(rt.alloc(), &problem, text.as_bytes()).expect_err(rt, "refused");
-    assert_same_at(rt, &told(rt.alloc(), &refused)?.as_str(), &fault, &head);
-    Ok(())
+    let refused = answer_for(rt, head, text).expect_err(rt, "refused");
+    refused_for(rt, &refused, head, fault)
 }
 
 #[test]
 fn certificates_for_a_problem(rt: HostRuntime) -> Result<(), Fail> {
-    refuses_for(&rt, FOUR, SIX, "K1")?;
     shows_for(&rt, SIX, SIX, Verdict::Optimal(3));
     shows_for(&rt, ONE_ROW, ONE_ROW, Verdict::NoPlan);
-    refuses_for(&rt, SIX, "CRP-CERT 3\n", "C1 at line 1")?;
+    for (head, text, fault) in [(FOUR, SIX, "K1"), (SIX, "CRP-CERT 3\n", "C1 at line 1")] {
+        refuses_for(&rt, head, text, fault)?;
+    }
     Ok(())
 }
 

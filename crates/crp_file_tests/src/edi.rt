@@ -1,7 +1,8 @@
 use crate::calls::read_segments;
 use crate::compare::{assert_at, assert_same, assert_same_at};
-use edi_text::{EdiFault, MAX_TEXT, Segment};
-use std::alloc::Global;
+use edi_text::{EdiFault, MAX_TEXT, Segment, Segments};
+use std::alloc::{AllocError, Global};
+use std::process::Abort;
 use std::test::Fail;
 
 /// A whole interchange, with a line end after each segment.
@@ -41,98 +42,122 @@ fn says(segment: &Segment<'_>, element: usize, component: usize, want: &[u8]) ->
     segment.component(element, component) == want
 }
 
-fn is_spelled(alloc: Global, want: &Spelled) -> Result<bool, Fail> {
-    let segments = read_segments(alloc, want.text)?;
-    let segment = segments.segment(want.number).ok_or("segment")?;
-    let mut same = segments.count() == want.count
-        && segment.tag() == want.tag
-        && segment.elements() == want.elements;
+/// The segment has this tag, so many elements, and these components.
+fn is_segment(segment: &Segment<'_>, want: &Spelled) -> bool {
+    let mut same = segment.tag() == want.tag && segment.elements() == want.elements;
     for (element, component, bytes) in want.components {
-        same = same && says(&segment, *element, *component, bytes);
+        same = same && says(segment, *element, *component, bytes);
     }
-    Ok(same)
+    same
+}
+
+/// There are so many segments, and one of them is as wanted.
+fn are_spelled(segments: &Segments, want: &Spelled) -> bool {
+    let Some(segment) = segments.segment(want.number) else {
+        return false;
+    };
+    segments.count() == want.count && is_segment(&segment, want)
+}
+
+/// The text spells what is wanted.
+fn assert_spelled(rt: &(impl Abort + AllocGlobal), want: &Spelled) -> Result<(), EdiFault> {
+    let segments = read_segments(rt.alloc(), want.text)?;
+    let spelled = are_spelled(&segments, want);
+    assert_at(rt, spelled, &(want.tag, want.text));
+    Ok(())
+}
+
+fn has(segments: &Segments, number: usize) -> bool {
+    segments.segment(number).is_some()
 }
 
 /// Whether the text spells a list without a segment of this number.
 fn lacks(alloc: Global, text: &[u8], number: usize) -> Result<bool, EdiFault> {
-    Ok(read_segments(alloc, text)?.segment(number).is_none())
+    let segments = read_segments(alloc, text)?;
+    Ok(!has(&segments, number))
 }
+
+/// What the whole interchange spells.
+const WHOLE: [Spelled; 3] = [
+    Spelled {
+        text: SIX_LOAD_ORDERS,
+        count: 18,
+        number: 1,
+        tag: b"UNB",
+        elements: 5,
+        components: &[(1, 1, b"UNOA"), (4, 2, b"0800")],
+    },
+    Spelled {
+        text: SIX_LOAD_ORDERS,
+        count: 18,
+        number: 3,
+        tag: b"BGM",
+        elements: 3,
+        components: &[(1, 1, b""), (3, 1, b"9"), (3, 2, b""), (0, 1, b"")],
+    },
+    Spelled {
+        text: SIX_LOAD_ORDERS,
+        count: 18,
+        number: 18,
+        tag: b"UNZ",
+        elements: 2,
+        components: &[],
+    },
+];
 
 #[test]
 fn reads_a_whole_interchange(rt: HostRuntime) -> Result<(), Fail> {
-    let table = [
-        Spelled {
-            text: SIX_LOAD_ORDERS,
-            count: 18,
-            number: 1,
-            tag: b"UNB",
-            elements: 5,
-            components: &[(1, 1, b"UNOA"), (4, 2, b"0800")],
-        },
-        Spelled {
-            text: SIX_LOAD_ORDERS,
-            count: 18,
-            number: 3,
-            tag: b"BGM",
-            elements: 3,
-            components: &[(1, 1, b""), (3, 1, b"9"), (3, 2, b""), (0, 1, b"")],
-        },
-        Spelled {
-            text: SIX_LOAD_ORDERS,
-            count: 18,
-            number: 18,
-            tag: b"UNZ",
-            elements: 2,
-            components: &[],
-        },
-    ];
-    for row in &table {
-        assert_at(&rt, is_spelled(rt.alloc(), row)?, &(row.tag, row.text));
+    for row in &WHOLE {
+        assert_spelled(&rt, row)?;
     }
-    assert!(rt; lacks(rt.alloc(), SIX_LOAD_ORDERS, 0)?);
-    assert!(rt; lacks(rt.alloc(), SIX_LOAD_ORDERS, 19)?);
+    for number in [0, 19] {
+        let lacks = lacks(rt.alloc(), SIX_LOAD_ORDERS, number)?;
+        assert_at(&rt, lacks, &number);
+    }
     Ok(())
 }
 
+/// What texts with release characters spell.
+const RELEASED: [Spelled; 4] = [
+    Spelled {
+        text: b"EQD+CN+AB?+C1'",
+        count: 1,
+        number: 1,
+        tag: b"EQD",
+        elements: 2,
+        components: &[(2, 1, b"AB+C1")],
+    },
+    // A space in the advice stands for no release character.
+    Spelled {
+        text: b"UNA:+.  'EQD+CN+AB?+C1'",
+        count: 1,
+        number: 1,
+        tag: b"EQD",
+        elements: 3,
+        components: &[(2, 1, b"AB?"), (3, 1, b"C1")],
+    },
+    Spelled {
+        text: b"EQD+CN+A?'B'\r\nEQD+CN+??'",
+        count: 2,
+        number: 1,
+        tag: b"EQD",
+        elements: 2,
+        components: &[(2, 1, b"A'B")],
+    },
+    Spelled {
+        text: b"EQD+CN+A?'B'\r\nEQD+CN+??'",
+        count: 2,
+        number: 2,
+        tag: b"EQD",
+        elements: 2,
+        components: &[(2, 1, b"?")],
+    },
+];
+
 #[test]
 fn release_takes_the_next_character(rt: HostRuntime) -> Result<(), Fail> {
-    let table = [
-        Spelled {
-            text: b"EQD+CN+AB?+C1'",
-            count: 1,
-            number: 1,
-            tag: b"EQD",
-            elements: 2,
-            components: &[(2, 1, b"AB+C1")],
-        },
-        // A space in the advice stands for no release character.
-        Spelled {
-            text: b"UNA:+.  'EQD+CN+AB?+C1'",
-            count: 1,
-            number: 1,
-            tag: b"EQD",
-            elements: 3,
-            components: &[(2, 1, b"AB?"), (3, 1, b"C1")],
-        },
-        Spelled {
-            text: b"EQD+CN+A?'B'\r\nEQD+CN+??'",
-            count: 2,
-            number: 1,
-            tag: b"EQD",
-            elements: 2,
-            components: &[(2, 1, b"A'B")],
-        },
-        Spelled {
-            text: b"EQD+CN+A?'B'\r\nEQD+CN+??'",
-            count: 2,
-            number: 2,
-            tag: b"EQD",
-            elements: 2,
-            components: &[(2, 1, b"?")],
-        },
-    ];
-    for row in &table {
-        assert_at(&rt, is_spelled(rt.alloc(), row)?, &(row.tag, row.text));
+    for row in &RELEASED {
+        assert_spelled(&rt, row)?;
     }
     Ok(())
 }
@@ -142,7 +167,7 @@ fn first_fault(alloc: Global, text: &[u8]) -> Option<EdiFault> {
 }
 
 #[test]
-fn tells_the_first_fault(rt: HostRuntime) {
+fn returns_the_first_fault(rt: HostRuntime) {
     let faults: [(&[u8], EdiFault); 21] = [
         (b"", EdiFault::NoSegment { offset: 0 }),
         (b"UNA::.? 'UNB'", EdiFault::Advice { offset: 0 }),
@@ -164,7 +189,7 @@ fn tells_the_first_fault(rt: HostRuntime) {
         (b"UNAx+.? 'UNB'", EdiFault::Advice { offset: 0 }),
         (b"UNA:+.?\n'UNB'", EdiFault::Advice { offset: 0 }),
         // The advice comes before the segments, and the length of a text without a release
-        // character at its end is told by its last segment.
+        // character at its end is stated by its last segment.
         (b"UNA::.? '\t", EdiFault::Advice { offset: 0 }),
         (b"UNA:+. *'UNB+?", EdiFault::Unfinished { offset: 14 }),
         (b"UNA:+.?*'UNB+?", EdiFault::Release { offset: 13 }),
@@ -177,29 +202,30 @@ fn tells_the_first_fault(rt: HostRuntime) {
     }
 }
 
+/// What a text with service characters of its own spells. The decimal mark and the reserved character may be anything from 0x20 on.
+const OWN_CHARACTERS: [Spelled; 2] = [
+    Spelled {
+        text: b"UNA*;;!;~\r\nU!NB;a*b;!;c:+'~\n\r\nUNZ~",
+        count: 2,
+        number: 1,
+        tag: b"UNB",
+        elements: 2,
+        components: &[(1, 1, b"a"), (1, 2, b"b"), (2, 1, b";c:+'")],
+    },
+    Spelled {
+        text: b"UNA*;;!;~\r\nU!NB;a*b;!;c:+'~\n\r\nUNZ~",
+        count: 2,
+        number: 2,
+        tag: b"UNZ",
+        elements: 0,
+        components: &[],
+    },
+];
+
 #[test]
 fn own_service_characters(rt: HostRuntime) -> Result<(), Fail> {
-    // The decimal mark and the reserved character may be anything from 0x20 on.
-    let table = [
-        Spelled {
-            text: b"UNA*;;!;~\r\nU!NB;a*b;!;c:+'~\n\r\nUNZ~",
-            count: 2,
-            number: 1,
-            tag: b"UNB",
-            elements: 2,
-            components: &[(1, 1, b"a"), (1, 2, b"b"), (2, 1, b";c:+'")],
-        },
-        Spelled {
-            text: b"UNA*;;!;~\r\nU!NB;a*b;!;c:+'~\n\r\nUNZ~",
-            count: 2,
-            number: 2,
-            tag: b"UNZ",
-            elements: 0,
-            components: &[],
-        },
-    ];
-    for row in &table {
-        assert_at(&rt, is_spelled(rt.alloc(), row)?, &(row.tag, row.text));
+    for row in &OWN_CHARACTERS {
+        assert_spelled(&rt, row)?;
     }
     Ok(())
 }
@@ -209,18 +235,29 @@ fn cut_text_is_unfinished(rt: HostRuntime) {
     // Without the last terminator and its line end.
     let offset = SIX_LOAD_ORDERS.len() - 2;
     let cut = &SIX_LOAD_ORDERS[..offset];
-    let fault = EdiFault::Unfinished { offset };
-    assert_same(&rt, &first_fault(rt.alloc(), cut), &Some(fault));
+    assert_fault(&rt, cut, EdiFault::Unfinished { offset });
+}
+
+fn assert_fault(rt: &(impl Abort + AllocGlobal), text: &[u8], fault: EdiFault) {
+    assert_same(rt, &first_fault(rt.alloc(), text), &Some(fault));
 }
 
 #[test]
 fn reads_no_longer_text(rt: HostRuntime) -> Result<(), Fail> {
     let mut text = vec![in rt.alloc(); b'A'; MAX_TEXT]?;
-    let fault = EdiFault::Unfinished { offset: MAX_TEXT };
-    assert_same(&rt, &first_fault(rt.alloc(), &text), &Some(fault));
+    assert_fault(&rt, &text, EdiFault::Unfinished { offset: MAX_TEXT });
     text.push(b'A')?;
-    let fault = EdiFault::TooLong { offset: MAX_TEXT };
-    assert_same(&rt, &first_fault(rt.alloc(), &text), &Some(fault));
+    assert_fault(&rt, &text, EdiFault::TooLong { offset: MAX_TEXT });
+    Ok(())
+}
+
+fn assert_text(
+    rt: &(impl Abort + AllocGlobal),
+    fault: EdiFault,
+    expected: &str,
+) -> Result<(), AllocError> {
+    let text = format!(in rt.alloc(); "{fault}")?;
+    assert_same(rt, &text.as_str(), &expected);
     Ok(())
 }
 
@@ -240,7 +277,7 @@ fn faults_show_their_code(rt: HostRuntime) -> Result<(), Fail> {
         (EdiFault::Memory, "no memory is left"),
     ];
     for (fault, want) in texts {
-        assert_same(&rt, &format!(in rt.alloc(); "{fault}")?.as_str(), &want);
+        assert_text(&rt, fault, want)?;
     }
     Ok(())
 }

@@ -4,7 +4,7 @@ mod faults;
 
 use crate::calls::{load_orders, read_segments};
 use crate::compare::{assert_same, assert_same_at};
-use crp_movins::{MovinsFault, Orders, Slot};
+use crp_movins::{MovinsFault, Order, Orders, Slot};
 use edi_text::EdiFault;
 use std::alloc::{AllocError, Global};
 use std::process::Abort;
@@ -76,7 +76,12 @@ fn orders_of(
     Ok(load_orders(alloc, &segments, code))
 }
 
-/// The fault that is told of a text that spells segments.
+/// The fault of a text that spells no segments, if it is one.
+fn first_fault(alloc: Global, text: &[u8]) -> Option<EdiFault> {
+    read_segments(alloc, text).err()
+}
+
+/// The fault that is stated of a text that spells segments.
 fn fault_of(alloc: Global, text: &[u8]) -> Result<Option<MovinsFault>, EdiFault> {
     Ok(orders_of(alloc, text, b"LOA")?.err())
 }
@@ -97,6 +102,31 @@ const SIX: [(&[u8], u8); 6] = [
     (b"C6", 92),
 ];
 
+fn bytes_of(order: &Order) -> &[u8] {
+    order.container.bytes()
+}
+
+/// These are the containers of the orders, each in a slot of this tier in bay 1, row 1.
+fn assert_listed(rt: &impl Abort, list: &[Order], want: &[(&[u8], u8)]) {
+    assert_same(rt, &list.len(), &want.len());
+    for (order, (container, tier)) in list.iter().zip(want) {
+        let slot = Slot {
+            bay: 1,
+            row: 1,
+            tier: *tier,
+        };
+        assert_same(rt, &(bytes_of(order), order.slot), &(*container, slot));
+    }
+}
+
+fn vacant_in(orders: &Orders) -> usize {
+    orders.vacant()
+}
+
+fn list_of(orders: Orders) -> Vec<Order> {
+    orders.into_list()
+}
+
 /// The text has these orders and no others, and no vacant group.
 fn assert_orders(
     rt: &(impl Abort + AllocGlobal),
@@ -104,18 +134,8 @@ fn assert_orders(
     want: &[(&[u8], u8)],
 ) -> Result<(), Fail> {
     let orders = orders_of(rt.alloc(), text, b"LOA")??;
-    assert_same(rt, &orders.vacant(), &0);
-    let list = orders.into_list();
-    assert_same(rt, &list.len(), &want.len());
-    for (order, (container, tier)) in list.iter().zip(want) {
-        assert_same(rt, &order.container.bytes(), container);
-        let slot = Slot {
-            bay: 1,
-            row: 1,
-            tier: *tier,
-        };
-        assert_same(rt, &order.slot, &slot);
-    }
+    assert_same(rt, &vacant_in(&orders), &0);
+    assert_listed(rt, &list_of(orders), want);
     Ok(())
 }
 
@@ -152,92 +172,111 @@ fn another_handling_code_ends_the_loading(rt: HostRuntime) -> Result<(), Fail> {
     assert_orders(&rt, &text, &SIX[..5])
 }
 
+/// The slot of the first order, if there is one.
+fn first_slot(orders: &Orders) -> Option<Slot> {
+    match orders.list() {
+        [order, ..] => Some(order.slot),
+        [] => None,
+    }
+}
+
+/// The slot of the one order of a message with this place.
+fn slot_of(alloc: Global, place: &[u8]) -> Result<Option<Slot>, Fail> {
+    let text = with_body(alloc, &[MESSAGE, LOADING, place, b"EQD+CN+A'UNT+5+1'", END])?;
+    let orders = orders_of(alloc, &text, b"LOA")??;
+    Ok(first_slot(&orders))
+}
+
+const fn slot(bay: u16, row: u8, tier: u8) -> Slot {
+    Slot { bay, row, tier }
+}
+
+fn assert_slot(rt: &(impl Abort + AllocGlobal), place: &[u8], want: Slot) -> Result<(), Fail> {
+    let slot = slot_of(rt.alloc(), place)?;
+    assert_same_at(rt, &slot, &Some(want), &place);
+    Ok(())
+}
+
 #[test]
 fn slots_have_six_or_seven_digits(rt: HostRuntime) -> Result<(), Fail> {
-    let alloc = rt.alloc();
     let slots: [(&[u8], Slot); 4] = [
-        (
-            b"LOC+147+010184'",
-            Slot {
-                bay: 1,
-                row: 1,
-                tier: 84,
-            },
-        ),
-        (
-            b"LOC+147+0010184'",
-            Slot {
-                bay: 1,
-                row: 1,
-                tier: 84,
-            },
-        ),
-        (
-            b"LOC+147:1+9990900:5+X'",
-            Slot {
-                bay: 999,
-                row: 9,
-                tier: 0,
-            },
-        ),
-        (
-            b"LOC+147+341207'",
-            Slot {
-                bay: 34,
-                row: 12,
-                tier: 7,
-            },
-        ),
+        (b"LOC+147+010184'", slot(1, 1, 84)),
+        (b"LOC+147+0010184'", slot(1, 1, 84)),
+        (b"LOC+147:1+9990900:5+X'", slot(999, 9, 0)),
+        (b"LOC+147+341207'", slot(34, 12, 7)),
     ];
     for (place, want) in slots {
-        let text = with_body(alloc, &[MESSAGE, LOADING, place, b"EQD+CN+A'UNT+5+1'", END])?;
-        let orders = orders_of(alloc, &text, b"LOA")??;
-        let slot = orders.list().first().map(|order| order.slot);
-        assert_same(&rt, &slot, &Some(want));
+        assert_slot(&rt, place, want)?;
     }
-    for place in [
-        b"LOC+147+00182'".as_slice(),
+    Ok(())
+}
+
+/// The example with this place of the first order is refused for its slot.
+fn assert_no_slot(rt: &(impl Abort + AllocGlobal), place: &[u8]) -> Result<(), Fail> {
+    let body = [MESSAGE, BEGIN, LOADING, place, FIVE, LAST, TRAILER, END];
+    let text = with_body(rt.alloc(), &body)?;
+    let fault = fault_of(rt.alloc(), &text)?;
+    assert_same_at(
+        rt,
+        &fault,
+        &Some(MovinsFault::SlotNumber { segment: 5 }),
+        &place,
+    );
+    Ok(())
+}
+
+#[test]
+fn other_slots_are_refused(rt: HostRuntime) -> Result<(), Fail> {
+    let places: [&[u8]; 4] = [
+        b"LOC+147+00182'",
         b"LOC+147+00101820'",
         b"LOC+147+00101A2'",
         b"LOC+147'",
-    ] {
-        let text = joined(
-            alloc,
-            &[
-                HEADER, MESSAGE, BEGIN, LOADING, place, FIVE, LAST, TRAILER, END,
-            ],
-        )?;
-        assert_same(
-            &rt,
-            &fault_of(alloc, &text)?,
-            &Some(MovinsFault::SlotNumber { segment: 5 }),
-        );
+    ];
+    for place in places {
+        assert_no_slot(&rt, place)?;
     }
+    Ok(())
+}
+
+/// The text with these bytes in the place of each line end.
+fn with_line_ends(alloc: Global, text: &[u8], end: &[u8]) -> Result<Vec<u8>, AllocError> {
+    let mut other = Vec::new(alloc);
+    for byte in text {
+        if *byte == b'\n' {
+            other.extend_from_slice(end)?;
+        } else {
+            other.push(*byte)?;
+        }
+    }
+    Ok(other)
+}
+
+/// The text has so many orders and vacant groups.
+fn assert_counts(
+    rt: &(impl Abort + AllocGlobal),
+    text: &[u8],
+    code: &[u8],
+    want: (usize, usize),
+) -> Result<(), Fail> {
+    let counts = counts_of(rt.alloc(), text, code)?;
+    assert_same_at(rt, &counts, &want, &text);
     Ok(())
 }
 
 #[test]
 fn line_ends_do_not_matter(rt: HostRuntime) -> Result<(), Fail> {
-    let alloc = rt.alloc();
-    let text = six_load_orders(alloc)?;
-    let mut bare = Vec::new(alloc);
-    let mut both = Vec::new(alloc);
-    for byte in &text {
-        if *byte == b'\n' {
-            both.extend_from_slice(b"\r\n")?;
-        } else {
-            bare.push(*byte)?;
-            both.push(*byte)?;
-        }
+    let example = six_load_orders(rt.alloc())?;
+    let ends: [&[u8]; 2] = [b"", b"\r\n"];
+    for end in ends {
+        let text = with_line_ends(rt.alloc(), &example, end)?;
+        assert_counts(&rt, &text, b"LOA", (6, 0))?;
     }
-    assert_same(&rt, &counts_of(alloc, &bare, b"LOA")?, &(6, 0));
-    assert_same(&rt, &counts_of(alloc, &both, b"LOA")?, &(6, 0));
     Ok(())
 }
 
 #[test]
 fn groups_open_and_close(rt: HostRuntime) -> Result<(), Fail> {
-    let alloc = rt.alloc();
     let cases: [(&[&[u8]], (usize, usize)); 13] = [
         // A group without a container is vacant, and one with a container is not.
         (
@@ -340,15 +379,28 @@ fn groups_open_and_close(rt: HostRuntime) -> Result<(), Fail> {
         ),
     ];
     for (body, want) in cases {
-        let text = with_body(alloc, body)?;
-        assert_same_at(&rt, &counts_of(alloc, &text, b"LOA")?, &want, &want);
+        let text = with_body(rt.alloc(), body)?;
+        assert_counts(&rt, &text, b"LOA", want)?;
     }
     Ok(())
 }
 
+/// A message with this handling code, one place and one container has so many orders and vacant groups under this code.
+fn assert_handled(
+    rt: &(impl Abort + AllocGlobal),
+    handling: &[u8],
+    code: &[u8],
+    want: (usize, usize),
+) -> Result<(), Fail> {
+    let text = with_body(
+        rt.alloc(),
+        &[MESSAGE, handling, FIRST, b"EQD+CN+C1'UNT+5+1'", END],
+    )?;
+    assert_counts(rt, &text, code, want)
+}
+
 #[test]
 fn the_code_is_compared_as_bytes(rt: HostRuntime) -> Result<(), Fail> {
-    let alloc = rt.alloc();
     let cases: [(&[u8], &[u8], (usize, usize)); 6] = [
         (b"HAN+DIS'", b"DIS", (1, 0)),
         (b"HAN+loa'", b"LOA", (0, 0)),
@@ -359,11 +411,7 @@ fn the_code_is_compared_as_bytes(rt: HostRuntime) -> Result<(), Fail> {
         (b"BGM'", b"", (0, 0)),
     ];
     for (handling, code, want) in cases {
-        let text = with_body(
-            alloc,
-            &[MESSAGE, handling, FIRST, b"EQD+CN+C1'UNT+5+1'", END],
-        )?;
-        assert_same_at(&rt, &counts_of(alloc, &text, code)?, &want, &handling);
+        assert_handled(&rt, handling, code, want)?;
     }
     Ok(())
 }

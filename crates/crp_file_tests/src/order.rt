@@ -100,12 +100,27 @@ fn yard(alloc: Global, text: &[u8], rows: u8, tiers: u8) -> Result<Yard, Fail> {
     Ok(yard_of(alloc, text, rows, tiers)?)
 }
 
+// A function here owns one list at most: what owns a yard and a sequence at once is slow to check.
+
 /// How many ordered containers are absent from the yard, and the problems of its bays.
-fn stated(alloc: Global, input: &Input<'_>) -> Result<(u32, Vec<BayProblem>), Fail> {
-    let yard = yard(alloc, input.yard, input.rows, input.tiers)?;
+type Stated = (u32, Vec<BayProblem>);
+
+fn stated_of(alloc: Global, yard: &Yard, sequence: &Sequence) -> Result<Stated, AllocError> {
+    let absent = absent(yard, sequence);
+    let problems = problems(alloc, yard, sequence)?;
+    Ok((absent, problems))
+}
+
+/// The same of a yard and the load orders of a message.
+fn stated_by(alloc: Global, yard: &Yard, input: &Input<'_>) -> Result<Stated, Fail> {
     let sequence = sequence_of(alloc, input.orders, input.trailer, input.mode)?;
-    let told = problems(alloc, &yard, &sequence)?;
-    Ok((absent(&yard, &sequence), told))
+    Ok(stated_of(alloc, yard, &sequence)?)
+}
+
+/// The same of a yard list and the load orders of a message.
+fn stated(alloc: Global, input: &Input<'_>) -> Result<Stated, Fail> {
+    let yard = yard(alloc, input.yard, input.rows, input.tiers)?;
+    stated_by(alloc, &yard, input)
 }
 
 /// The sequence has these names, in this order.
@@ -138,72 +153,84 @@ fn holds(problem: &Problem, row: u8, ranks: &[u8]) -> bool {
 }
 
 /// The problem is of the bay, and so many of so many containers leave it.
-fn is_of(told: &BayProblem, want: &Bay) -> bool {
-    told.bay.block() == want.block
-        && told.bay.bay() == want.bay
-        && told.problem.ordered() == want.ordered
-        && told.problem.total() == want.total
+fn is_of(got: &BayProblem, want: &Bay) -> bool {
+    got.bay.block() == want.block
+        && got.bay.bay() == want.bay
+        && got.problem.ordered() == want.ordered
+        && got.problem.total() == want.total
 }
 
-fn are_ranked(told: &BayProblem, want: &Bay) -> bool {
-    let mut same = told.names.list().len() == usize::from(want.total);
+fn are_ranked(got: &BayProblem, want: &Bay) -> bool {
+    let mut same = got.names.list().len() == usize::from(want.total);
     for (rank, name) in want.names {
-        same = same && has_rank(told.names.list(), *rank, name);
+        same = same && has_rank(got.names.list(), *rank, name);
     }
     same
 }
 
-fn are_stacked(told: &BayProblem, want: &Bay) -> bool {
+fn are_stacked(got: &BayProblem, want: &Bay) -> bool {
     let mut same = true;
     for (row, ranks) in want.stacks {
-        same = same && holds(&told.problem, *row, ranks);
+        same = same && holds(&got.problem, *row, ranks);
     }
     same
 }
 
-fn has_size(told: &BayProblem, input: &Input<'_>) -> bool {
-    told.problem.rows() == input.rows && told.problem.tiers() == input.tiers
+fn has_size(got: &BayProblem, input: &Input<'_>) -> bool {
+    got.problem.rows() == input.rows && got.problem.tiers() == input.tiers
+}
+
+fn is_stated(got: &BayProblem, want: &Bay, input: &Input<'_>) -> bool {
+    is_of(got, want) && has_size(got, input) && are_ranked(got, want) && are_stacked(got, want)
+}
+
+/// The problems are of these bays, in this order.
+fn are_stated(problems: &[BayProblem], bays: &[Bay], input: &Input<'_>) -> bool {
+    let mut same = problems.len() == bays.len();
+    for (got, want) in problems.iter().zip(bays) {
+        same = same && is_stated(got, want, input);
+    }
+    same
 }
 
 /// So many ordered containers are absent, and the problems are of these bays, in this order.
 fn states(alloc: Global, input: &Input<'_>, absent: u32, bays: &[Bay]) -> Result<bool, Fail> {
     let (count, problems) = stated(alloc, input)?;
-    let mut same = count == absent && problems.len() == bays.len();
-    for (told, want) in problems.iter().zip(bays) {
-        same = same && is_of(told, want) && has_size(told, input);
-        same = same && are_ranked(told, want) && are_stacked(told, want);
-    }
-    Ok(same)
+    Ok(count == absent && are_stated(&problems, bays, input))
 }
 
-fn slot(bay: u16, row: u8, tier: u8) -> Slot {
+/// The bay, the row and the tier of a slot of the ship.
+type Place = (u16, u8, u8);
+
+fn slot(place: Place) -> Slot {
+    let (bay, row, tier) = place;
     Slot { bay, row, tier }
 }
 
-fn is_beneath(a: &Slot, b: &Slot) -> bool {
-    beneath(a, b)
+fn is_beneath(a: Place, b: Place) -> bool {
+    beneath(&slot(a), &slot(b))
 }
 
 #[test]
 fn slots_beneath_slots(rt: HostRuntime) {
-    let cases = [
-        (slot(1, 1, 82), slot(1, 1, 84), true),
-        (slot(1, 1, 82), slot(2, 1, 84), true),
-        (slot(1, 1, 82), slot(5, 1, 84), false),
-        (slot(2, 1, 82), slot(1, 1, 84), true),
-        (slot(2, 1, 82), slot(3, 1, 84), true),
-        (slot(2, 1, 82), slot(4, 1, 84), true),
-        (slot(1, 1, 82), slot(3, 1, 84), false),
-        (slot(2, 1, 82), slot(5, 1, 84), false),
-        (slot(0, 1, 82), slot(1, 1, 84), true),
-        (slot(0, 1, 82), slot(2, 1, 84), true),
-        (slot(0, 1, 82), slot(3, 1, 84), false),
-        (slot(1, 1, 84), slot(1, 1, 82), false),
-        (slot(1, 1, 82), slot(1, 1, 82), false),
-        (slot(1, 2, 82), slot(1, 1, 84), false),
+    let cases: [(Place, Place, bool); 14] = [
+        ((1, 1, 82), (1, 1, 84), true),
+        ((1, 1, 82), (2, 1, 84), true),
+        ((1, 1, 82), (5, 1, 84), false),
+        ((2, 1, 82), (1, 1, 84), true),
+        ((2, 1, 82), (3, 1, 84), true),
+        ((2, 1, 82), (4, 1, 84), true),
+        ((1, 1, 82), (3, 1, 84), false),
+        ((2, 1, 82), (5, 1, 84), false),
+        ((0, 1, 82), (1, 1, 84), true),
+        ((0, 1, 82), (2, 1, 84), true),
+        ((0, 1, 82), (3, 1, 84), false),
+        ((1, 1, 84), (1, 1, 82), false),
+        ((1, 1, 82), (1, 1, 82), false),
+        ((1, 2, 82), (1, 1, 84), false),
     ];
-    for (a, b, want) in &cases {
-        assert_same_at(&rt, &is_beneath(a, b), want, &(a, b));
+    for (a, b, want) in cases {
+        assert_same_at(&rt, &is_beneath(a, b), &want, &(a, b));
     }
 }
 

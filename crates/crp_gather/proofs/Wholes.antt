@@ -89,7 +89,7 @@ one_fault p xs (fault.Stranger a) (fault.Double b) r s = absurd (r.0 b s.holds)
 one_fault p xs (fault.Stranger a) (fault.Missing b) r s = absurd (let f = s.1 in r.1 b f.holds)
 one_fault p xs (fault.Stranger a) (fault.Stranger b) r s = inr (inr (ap fault.Stranger (one_first (IsStranger p xs) a b r.2 s.2)))
 
--- a whole is refused for want of memory alone
+-- a whole is refused because memory ran out alone
 pub whole_not_refused : (p : Problem) (xs : List ProblemPart) (f : GatherFault) → AreWhole p xs → IsGatherFault p xs f → f ≡ fault.Memory
 whole_not_refused p xs fault.Memory w r = refl
 whole_not_refused p xs (fault.Double a) w r = absurd (let h = r.holds in omega (arith, h, whole_once p xs w a))

@@ -4,7 +4,7 @@ ghost use Rattle.crp_plan.specs.Bay.{IsAt};
 ghost use Rattle.crp_bay.specs.Positions.{targets};
 ghost use Rattle.crp_bounds.specs.Bounds.{blocking as blocking_bound, look_ahead as look_ahead_bound};
 ghost use Rattle.crp_tree.specs.Names.{Precedes};
-ghost use Rattle.crp_tree.specs.Trees.{X, nodes, Fits, IsInPlace, IsGiven};
+ghost use Rattle.crp_tree.specs.Trees.{X, nodes, Fits, IsInPlace, IsGivenAway};
 ghost use Rattle.crp_tree.specs.Listed.{AreFit, nodes_below};
 ghost use Rattle.crp_tree.specs.Parts.{IsKeptPart, IsAbout};
 ghost use Rattle.crp_tree.specs.First.{MeetNeeds};
@@ -31,6 +31,7 @@ fn low_at(problem: &Problem, place: &Bounded, path: &[u8]) -> u32
     requires { IsAt problem.now path.now place.now.place }
     ensures { result ≡ length path.now + blocking_bound place.now.place }
 {
+    // For its contract alone: there is a cap, and a path is shorter.
     let _most = problem.cap();
     path.len() as u32 + place.blocking()
 }
@@ -40,6 +41,7 @@ fn high_at(problem: &Problem, place: &Bounded, path: &[u8]) -> u32
     requires { IsAt problem.now path.now place.now.place }
     ensures { result ≡ length path.now + look_ahead_bound place.now.place }
 {
+    // For its contract alone: there is a cap, and a path is shorter.
     let _most = problem.cap();
     path.len() as u32 + place.look_ahead()
 }
@@ -55,8 +57,9 @@ fn comes_after(path: &[u8], plan: &Plan) -> bool
 fn close_past(problem: &Problem, place: &Bounded, path: &[u8], plan: &Plan) -> Option<Settled>
     requires path { IsAt problem.now path.now place.now.place }
     ensures past { IfSome result (λ settled. IsPast plan.now.path path.now place.now.place) }
-    ensures settled { IfSome result (λ settled. (old : Tree) → IsSettledTo problem.now plan.now.path path.now place.now.place (nodes path.now place.now.place old) settled.tree settled.floor) }
-    ensures own { IfSome result (λ settled. IsGiven settled.tree → ⊥) }
+    ensures settled { IfSome result (λ settled. (old : Tree)
+        → IsSettledTo problem.now plan.now.path path.now place.now.place (nodes path.now place.now.place old) settled.tree settled.floor) }
+    ensures own { IfSome result (λ settled. IsGivenAway settled.tree → ⊥) }
     ensures open { IfNone result (IsPast plan.now.path path.now place.now.place → ⊥) }
 {
     if !comes_after(path, plan) {
@@ -93,8 +96,9 @@ fn settle_tree(
     requires path { IsAt problem.now path.old.items place.old.place }
     requires fits { Fits place.old.place tree.now }
     requires in_place { All IsInPlace (nodes path.old.items place.old.place tree.now) }
-    ensures settled { IfOk result (λ settled. IsSettledTo problem.now plan.now.path path.old.items place.old.place (nodes path.old.items place.old.place tree.now) settled.tree settled.floor) }
-    ensures own { IfOk result (λ settled. IsGiven settled.tree → IsGiven tree.now) }
+    ensures settled { IfOk result
+        (λ settled. IsSettledTo problem.now plan.now.path path.old.items place.old.place (nodes path.old.items place.old.place tree.now) settled.tree settled.floor) }
+    ensures own { IfOk result (λ settled. IsGivenAway settled.tree → IsGivenAway tree.now) }
     ensures back { OnOk result ((place.new ≡ place.old) × (path.new.items ≡ path.old.items)) }
 {
     if let Some(settled) = close_past(problem, place, path.as_slice(), plan) {
@@ -134,7 +138,7 @@ fn settle_below(
     requires in_place { All IsInPlace (record { path = path.old.items; place = place.old.place; mark = X } ∷ nodes_below path.old.items place.old.place (targets place.old.place) trees.now) }
     ensures settled { IfOk result (λ settled. IsSettledTo problem.now plan.now.path path.old.items place.old.place
         (record { path = path.old.items; place = place.old.place; mark = X } ∷ nodes_below path.old.items place.old.place (targets place.old.place) trees.now) settled.tree settled.floor) }
-    ensures own { IfOk result (λ settled. IsGiven settled.tree → ⊥) }
+    ensures own { IfOk result (λ settled. IsGivenAway settled.tree → ⊥) }
     ensures back { OnOk result ((place.new ≡ place.old) × (path.new.items ≡ path.old.items)) }
 {
     let targets = place.position().targets();
@@ -177,6 +181,7 @@ fn settle_part(alloc: Global, part: &Part, plan: &Plan) -> Result<Option<Part>, 
     let settled = settle_tree(alloc, problem, part.tree(), &mut place, &mut path, plan)?;
     let name = part.name().copy();
     let part = Part::new(problem, name, settled.tree, settled.floor);
+    // For its contract alone: the floor is what the part shows.
     let _floor = part.floor();
     Ok(Some(part))
 }
@@ -189,7 +194,8 @@ pub fn settle(alloc: Global, cert: Cert, plan: &Plan) -> Result<Cert, AllocError
     requires about { IsAbout plan.now.problem cert }
     ensures about { IfOk result (IsAbout plan.now.problem) }
     ensures settled { IfOk result (IsSettled plan.now.path cert) }
-    ensures needs { MeetNeeds (length plan.now.path) plan.now.path cert.parts → IfOk result (λ settled. MeetNeeds (length plan.now.path) plan.now.path settled.parts) }
+    ensures needs { MeetNeeds (length plan.now.path) plan.now.path cert.parts
+        → IfOk result (λ settled. MeetNeeds (length plan.now.path) plan.now.path settled.parts) }
 {
     let mut parts = Vec::new(alloc);
     for part in cert.parts() {

@@ -9,21 +9,21 @@ use Rattle.atomic_table.proofs.Lists.{at_set, at_snoc, set_here, set_else, set_a
 use Rattle.crp_plan.specs.declared.running.View.{View}
 use Rattle.crp_plan.specs.Running.{words, after_see, after_offer, after_claim}
 use Rattle.crp_incumbent.specs.declared.rule.Key.{Key}
-use Rattle.crp_incumbent.specs.declared.rule.Standing.{Standing}
-use Rattle.crp_incumbent.specs.Rule.{all_shares, gone, kept, given, joined_standing, IsPlanCount, IsLimit, IsAbove, IsLive, granted_of, refused_of, share_of, least_mine, IsKept, Keeps}
+use Rattle.crp_incumbent.specs.declared.rule.KeyedView.{KeyedView}
+use Rattle.crp_incumbent.specs.Rule.{all_shares, gone, kept, given, joined, IsPlanCount, IsLimit, IsAbove, IsLive, granted_of, refused_of, share_of, least_mine, KeepsRule, Keeps}
 use Rattle.crp_incumbent.specs.Steps.{IsLimitBeside, Saw, OfferedUnder, Claimed, Looked}
 use Rattle.crp_incumbent.proofs.Lists.{index_is, at_below, sum-le, sum-set, sum-snoc, least-set, least-at, least-top, least-snoc, min_cases, least_known, sum_of_gone, least_of_gone}
 
 abbrev Mine : Type 0
-Mine = Me (Unit {0}) Standing
+Mine = Me (Unit {0}) KeyedView
 
 abbrev St : Type 0
-St = State (Unit {0}) Standing
+St = State (Unit {0}) KeyedView
 
 under : (key : Key) (limit limit' n : ℕ) → limit' ≤ limit → IsAbove key limit n → IsAbove key limit' n
 under key limit limit' n le h = let low = h.low in record { low = omega arith; high = h.high; known = h.known }
 
-lower : (key : Key) (limit limit' : ℕ) (s : Standing) → limit' ≤ limit → IsLive key limit s → IsLive key limit' s
+lower : (key : Key) (limit limit' : ℕ) (s : KeyedView) → limit' ≤ limit → IsLive key limit s → IsLive key limit' s
 lower key limit limit' s le h = record {
   same = h.same;
   seen = under key limit limit' s.view.seen le h.seen;
@@ -33,20 +33,20 @@ lower key limit limit' s le h = record {
 }
 
 -- a view with a share is of a seat that lives
-living : (key : Key) (limit : ℕ) (s : Standing) → 1 ≤ s.view.share → IsLive key limit s ⊎ (s ≡ gone) → IsLive key limit s
+living : (key : Key) (limit : ℕ) (s : KeyedView) → 1 ≤ s.view.share → IsLive key limit s ⊎ (s ≡ gone) → IsLive key limit s
 living key limit s h e = ⊎_elim (λ (l : IsLive key limit s). l) (λ (g : s ≡ gone). let z : s.view.share ≡ 0 = ap share_of g in absurd (omega arith)) e
 
 -- the limit itself is the start or a plan's count, and at most the start
-limit_above : (key : Key) (spent limit : ℕ) (views : List Standing) → IsKept key spent limit views → IsAbove key limit limit
+limit_above : (key : Key) (spent limit : ℕ) (views : List KeyedView) → KeepsRule key spent limit views → IsAbove key limit limit
 limit_above key spent limit views k = let is = k.least in let start = k.start in let top = least-top key.start views in
     let known : IsLimit key (least_mine key.start views) = least_known key views (omega arith) (λ i s e. ⊎_elim (λ (l : IsLive key limit s). inl l.mine.known) (λ (g : s ≡ gone). inr g) (k.each i s e)) in
     record { low = le_refl limit; high = omega arith; known = subst (IsLimit key) (sym is) known }
 
 -- the seat id steps from v to w
-moved : (key : Key) (spent limit spent' limit' : ℕ) (views : List Standing) (id : ℕ) (v w : Standing) → IsKept key spent limit views → get_elem? views id ≡ some v
+moved : (key : Key) (spent limit spent' limit' : ℕ) (views : List KeyedView) (id : ℕ) (v w : KeyedView) → KeepsRule key spent limit views → get_elem? views id ≡ some v
     → limit' ≤ limit → IsLive key limit' w → w.view.mine ≤ v.view.mine → min limit w.view.mine ≡ limit' → w.view.share ≡ v.view.share
     → spent' + (v.view.granted + v.view.refused) ≡ spent + (w.view.granted + w.view.refused) → w.view.granted + min spent key.budget ≡ v.view.granted + min spent' key.budget
-    → IsKept key spent' limit' (set views id w)
+    → KeepsRule key spent' limit' (set views id w)
 moved key spent limit spent' limit' views id v w k at le live mine least share count grant = let is = k.least in let counted = k.counted in let granted = k.granted in let whole = k.whole in
     let g = sum-set granted_of views id v w at in let r = sum-set refused_of views id v w at in let h = sum-set share_of views id v w at in
     let l = least-set key.start views id v w at in let here = set_here views id w (at_below views id v at) in let m = least-at key.start (set views id w) id w here in record {
@@ -61,21 +61,21 @@ moved key spent limit spent' limit' views id v w k at le live mine least share c
     }
 
 -- the limit becomes n
-put_limit : (key : Key) (s : St) (n : ℕ) (views : List Standing) → Keeps key s → IsKept key (slice_index s.words 0) n views → Keeps key record { words = slice_set s.words 8 n; homes = s.homes; views = views }
+put_limit : (key : Key) (s : St) (n : ℕ) (views : List KeyedView) → Keeps key s → KeepsRule key (slice_index s.words 0) n views → Keeps key record { words = slice_set s.words 8 n; homes = s.homes; views = views }
 put_limit key s n views k h = let long = k.words in record {
   words = length-set s.words 8 n ∙ long;
-  kept = subst (λ (x : ℕ × ℕ). IsKept key x.0 x.1 views) (λ i. (sym (get_or-set_other s.words 8 0 n 0 (λ e. omega arith)) i, sym (get_or-set_same s.words 8 n 0 (omega arith)) i)) h;
+  kept = subst (λ (x : ℕ × ℕ). KeepsRule key x.0 x.1 views) (λ i. (sym (get_or-set_other s.words 8 0 n 0 (λ e. omega arith)) i, sym (get_or-set_same s.words 8 n 0 (omega arith)) i)) h;
 }
 
 -- the number of claims becomes n
-put_spent : (key : Key) (s : St) (n : ℕ) (views : List Standing) → Keeps key s → IsKept key n (slice_index s.words 8) views → Keeps key record { words = slice_set s.words 0 n; homes = s.homes; views = views }
+put_spent : (key : Key) (s : St) (n : ℕ) (views : List KeyedView) → Keeps key s → KeepsRule key n (slice_index s.words 8) views → Keeps key record { words = slice_set s.words 0 n; homes = s.homes; views = views }
 put_spent key s n views k h = let long = k.words in record {
   words = length-set s.words 0 n ∙ long;
-  kept = subst (λ (x : ℕ × ℕ). IsKept key x.0 x.1 views) (λ i. (sym (get_or-set_same s.words 0 n 0 (omega arith)) i, sym (get_or-set_other s.words 0 8 n 0 (λ e. omega arith)) i)) h;
+  kept = subst (λ (x : ℕ × ℕ). KeepsRule key x.0 x.1 views) (λ i. (sym (get_or-set_same s.words 0 n 0 (omega arith)) i, sym (get_or-set_other s.words 0 8 n 0 (λ e. omega arith)) i)) h;
 }
 
--- what the rule tells a live seat of the limit
-below : (key : Key) (spent limit : ℕ) (views : List Standing) (v : Standing) → IsKept key spent limit views → IsLive key limit v → IsLimitBeside v limit
+-- what the rule states a live seat of the limit
+below : (key : Key) (spent limit : ℕ) (views : List KeyedView) (v : KeyedView) → KeepsRule key spent limit views → IsLive key limit v → IsLimitBeside v limit
 below key spent limit views v k live = record {
   seen = live.seen.low;
   mine = live.mine.low;
@@ -85,7 +85,7 @@ below key spent limit views v k live = record {
 pub sees : (key : Key) (slots id : ℕ) (m : Mine) → m.1 ≡ [] → 1 ≤ m.0.view.share → Allows (Keeps key) slots id m 8 (λ n. n) (Saw (step slots 8 0 0 none) m)
 sees key slots id m empty share s k _ at _ = let spent : ℕ = slice_index s.words 0 in let limit : ℕ = slice_index s.words 8 in
     let live = living key limit m.0 share (k.kept.each id m.0 at) in let above = limit_above key spent limit s.views k.kept in
-    let w : Standing = record m.0 { view = (after_see (words limit 0 m.0.view)).view } in
+    let w : KeyedView = record m.0 { view = (after_see (words limit 0 m.0.view)).view } in
     let live' : IsLive key limit w = record { same = live.same; seen = above; mine = live.mine; refused = live.refused; share = live.share } in let low = live.mine.low in (
       w,
       keeps,
@@ -98,7 +98,7 @@ pub offers : (key : Key) (slots id count : ℕ) (m : Mine) → m.1 ≡ [] → 1 
     → Allows (Keeps key) slots id m 8 (λ n. min n count) (OfferedUnder (step slots 8 count 0 none) m)
 offers key slots id count m empty share plan s k _ at _ = let spent : ℕ = slice_index s.words 0 in let limit : ℕ = slice_index s.words 8 in
     let live = living key limit m.0 share (k.kept.each id m.0 at) in let above = limit_above key spent limit s.views k.kept in
-    let w : Standing = record m.0 { view = (after_offer count (words limit 0 m.0.view)).view } in
+    let w : KeyedView = record m.0 { view = (after_offer count (words limit 0 m.0.view)).view } in
     let low = live.mine.low in let high = live.mine.high in let top = above.high in
     let seen : IsAbove key (min limit count) (min limit count) = record { low = le_refl _; high = omega arith; known = min_cases limit count (IsLimit key) above.known (inr plan) } in
     let mine : IsAbove key (min limit count) (min m.0.view.mine count) = record { low = omega arith; high = omega arith; known = min_cases m.0.view.mine count (IsLimit key) live.mine.known (inr plan) } in
@@ -110,7 +110,7 @@ offers key slots id count m empty share plan s k _ at _ = let spent : ℕ = slic
       record { below = below key spent limit s.views m.0 k.kept live; after = record { standing = refl; slots = empty } },
     )
 
-share_below : (key : Key) (spent limit : ℕ) (views : List Standing) (id : ℕ) (v : Standing) → IsKept key spent limit views → get_elem? views id ≡ some v → v.view.share ≤ all_shares
+share_below : (key : Key) (spent limit : ℕ) (views : List KeyedView) (id : ℕ) (v : KeyedView) → KeepsRule key spent limit views → get_elem? views id ≡ some v → v.view.share ≤ all_shares
 share_below key spent limit views id v k at = let whole = k.whole in let h = sum-set share_of views id v gone at in omega arith
 
 pub looks : (key : Key) (slots id : ℕ) (m : Mine) → Allows (Keeps key) slots id m 0 (λ n. n) (Looked (step slots 0 0 0 none) m)
@@ -118,17 +118,17 @@ looks key slots id m s k _ at _ = let spent : ℕ = slice_index s.words 0 in let
   m.0,
   keeps,
   tt,
-  put_spent key s spent (set s.views id m.0) k (subst (IsKept key spent limit) (sym (set_again s.views id m.0 at)) k.kept),
+  put_spent key s spent (set s.views id m.0) k (subst (KeepsRule key spent limit) (sym (set_again s.views id m.0 at)) k.kept),
   record { share = share_below key spent limit s.views id m.0 k.kept at },
 )
 
 -- all refused claims are at most all shares
-refused_below : (key : Key) (spent limit : ℕ) (views : List Standing) → IsKept key spent limit views → sum_by refused_of views ≤ all_shares
+refused_below : (key : Key) (spent limit : ℕ) (views : List KeyedView) → KeepsRule key spent limit views → sum_by refused_of views ≤ all_shares
 refused_below key spent limit views k = let whole = k.whole in let le = sum-le refused_of share_of views
     (λ i s e. ⊎_elim (λ (l : IsLive key limit s). l.refused) (λ (g : s ≡ gone). let r : s.view.refused ≡ 0 = ap refused_of g in omega arith) (k.each i s e)) in omega arith
 
-claim_kept : (key : Key) (spent limit : ℕ) (views : List Standing) (id : ℕ) (v : Standing) → IsKept key spent limit views → get_elem? views id ≡ some v → 1 ≤ v.view.share → v.view.refused ≡ 0
-    → IsKept key (spent + 1) limit (set views id (record v { view = (after_claim key.budget (words 0 spent v.view)).view }))
+claim_kept : (key : Key) (spent limit : ℕ) (views : List KeyedView) (id : ℕ) (v : KeyedView) → KeepsRule key spent limit views → get_elem? views id ≡ some v → 1 ≤ v.view.share → v.view.refused ≡ 0
+    → KeepsRule key (spent + 1) limit (set views id (record v { view = (after_claim key.budget (words 0 spent v.view)).view }))
 claim_kept key spent limit views id v k at share fresh = go (nat_lt spent key.budget) refl
   where
     live : IsLive key limit v
@@ -143,33 +143,33 @@ claim_kept key spent limit views id v k at share fresh = go (nat_lt spent key.bu
     no_view : View
     no_view = record v.view { refused = v.view.refused + 1 }
 
-    go : (b : Bool) → nat_lt spent key.budget ≡ b → IsKept key (spent + 1) limit (set views id (record v { view = if b then yes_view else no_view }))
-    go true e = let less = ltb-true spent key.budget e in let w : Standing = record v { view = yes_view } in
+    go : (b : Bool) → nat_lt spent key.budget ≡ b → KeepsRule key (spent + 1) limit (set views id (record v { view = if b then yes_view else no_view }))
+    go true e = let less = ltb-true spent key.budget e in let w : KeyedView = record v { view = yes_view } in
         let live' : IsLive key limit w = record { same = live.same; seen = live.seen; mine = live.mine; refused = live.refused; share = share } in
         moved key spent limit (spent + 1) limit views id v w k at (le_refl limit) live' (le_refl _) (omega arith) refl (omega arith) (omega arith)
-    go false e = let more = ltb-false spent key.budget e in let w : Standing = record v { view = no_view } in
+    go false e = let more = ltb-false spent key.budget e in let w : KeyedView = record v { view = no_view } in
         let live' : IsLive key limit w = record { same = live.same; seen = live.seen; mine = live.mine; refused = omega arith; share = share } in
         moved key spent limit (spent + 1) limit views id v w k at (le_refl limit) live' (le_refl _) (omega arith) refl (omega arith) (omega arith)
 
 pub claims : (key : Key) (slots id : ℕ) (m : Mine) → m.1 ≡ [] → 1 ≤ m.0.view.share → m.0.view.refused ≡ 0 → Allows (Keeps key) slots id m 0 (λ n. (n + 1) % 2 ^ 64) (Claimed (step slots 0 1 0 none) m)
 claims key slots id m empty share fresh s k _ at _ = let spent : ℕ = slice_index s.words 0 in let limit : ℕ = slice_index s.words 8 in
     let live = living key limit m.0 share (k.kept.each id m.0 at) in let budget : m.0.key.budget ≡ key.budget = ap (λ (q : Key). q.budget) live.same in
-    let w : Standing = record m.0 { view = (after_claim m.0.key.budget (words 0 spent m.0.view)).view } in
+    let w : KeyedView = record m.0 { view = (after_claim m.0.key.budget (words 0 spent m.0.view)).view } in
     let counted = k.kept.counted in let granted = k.kept.granted in let few = k.kept.budget in let refused = refused_below key spent limit s.views k.kept in
     let fits : spent + 1 ≡ (spent + 1) % 2 ^ 64 = omega arith in
-    let kept' : IsKept key (spent + 1) limit (set s.views id w) = subst (λ (n : ℕ). IsKept key (spent + 1) limit (set s.views id (record m.0 { view = (after_claim n (words 0 spent m.0.view)).view }))) (sym budget)
+    let kept' : KeepsRule key (spent + 1) limit (set s.views id w) = subst (λ (n : ℕ). KeepsRule key (spent + 1) limit (set s.views id (record m.0 { view = (after_claim n (words 0 spent m.0.view)).view }))) (sym budget)
     (claim_kept key spent limit s.views id m.0 k.kept at share fresh) in (
       w,
       keeps,
       tt,
-      put_spent key s ((spent + 1) % 2 ^ 64) (set s.views id w) k (subst (λ (n : ℕ). IsKept key n limit (set s.views id w)) fits kept'),
+      put_spent key s ((spent + 1) % 2 ^ 64) (set s.views id w) k (subst (λ (n : ℕ). KeepsRule key n limit (set s.views id w)) fits kept'),
       record { after = record { standing = refl; slots = empty } },
     )
 
-pub splits : (key : Key) (id : ℕ) (v : Standing) → 1 < v.view.share → v.view.refused < v.view.share → Splits (Keeps key) id v (kept v) (given v)
+pub splits : (key : Key) (id : ℕ) (v : KeyedView) → 1 < v.view.share → v.view.refused < v.view.share → Splits (Keeps key) id v (kept v) (given v)
 splits key id v more left s k at = let spent : ℕ = slice_index s.words 0 in let limit : ℕ = slice_index s.words 8 in let views = s.views in
     let live = living key limit v (omega arith) (k.kept.each id v at) in let low = live.mine.low in let high = live.mine.high in
-    let one : List Standing = set views id (kept v) in let here = set_here views id (kept v) (at_below views id v at) in
+    let one : List KeyedView = set views id (kept v) in let here = set_here views id (kept v) (at_below views id v at) in
     let start : v.key.start ≡ key.start = ap (λ (q : Key). q.start) live.same in
     let live_kept : IsLive key limit (kept v) = record { same = live.same; seen = live.seen; mine = live.mine; refused = omega arith; share = omega arith } in
     let live_given : IsLive key limit (given v) = record { same = live.same; seen = live.seen; mine = record { low = omega arith; high = omega arith; known = inl start }; refused = omega arith; share = omega arith } in
@@ -195,9 +195,9 @@ splits key id v more left s k at = let spent : ℕ = slice_index s.words 0 in le
 above_both : (key : Key) (limit a b : ℕ) → IsAbove key limit a → IsAbove key limit b → IsAbove key limit (min a b)
 above_both key limit a b p q = let low = p.low in let low' = q.low in let high = p.high in record { low = omega arith; high = omega arith; known = min_cases a b (IsLimit key) p.known q.known }
 
-pub joins : (key : Key) (id other : ℕ) (v w : Standing) → 1 ≤ v.view.share → 1 ≤ w.view.share → Joins (Keeps key) id v other w (joined_standing v w) gone
-joins key id other v w share_v share_w s k at differ at' = let spent : ℕ = slice_index s.words 0 in let limit : ℕ = slice_index s.words 8 in let views = s.views in let b : Standing = joined_standing v w in
-    let one : List Standing = set views id b in let two : List Standing = set one other gone in
+pub joins : (key : Key) (id other : ℕ) (v w : KeyedView) → 1 ≤ v.view.share → 1 ≤ w.view.share → Joins (Keeps key) id v other w (joined v w) gone
+joins key id other v w share_v share_w s k at differ at' = let spent : ℕ = slice_index s.words 0 in let limit : ℕ = slice_index s.words 8 in let views = s.views in let b : KeyedView = joined v w in
+    let one : List KeyedView = set views id b in let two : List KeyedView = set one other gone in
     let at_w : get_elem? views other ≡ some w = sym (set_else views id other b differ) ∙ at' in
     let here : get_elem? one id ≡ some b = set_here views id b (at_below views id v at) in
     let still : get_elem? two id ≡ some b = set_else one other id gone (λ e. differ (sym e)) ∙ here in
@@ -225,14 +225,14 @@ joins key id other v w share_v share_w s k at differ at' = let spent : ℕ = sli
     }
 
 -- the words at the end, where one seat has all shares
-pub closes : (key : Key) (id : ℕ) (v : Standing) (ws : List ℕ) (xs : List (Unit {0})) → v.view.share ≡ all_shares → Final (Seen (Keeps key) id v) ws xs → (spent limit : ℕ) → get_elem? ws 0 ≡ some spent → get_elem? ws 8 ≡ some limit
+pub closes : (key : Key) (id : ℕ) (v : KeyedView) (ws : List ℕ) (xs : List (Unit {0})) → v.view.share ≡ all_shares → Final (Seen (Keeps key) id v) ws xs → (spent limit : ℕ) → get_elem? ws 0 ≡ some spent → get_elem? ws 8 ≡ some limit
     → (limit ≡ min key.start v.view.mine) × (spent ≡ v.view.granted + v.view.refused) × (v.view.granted ≡ min spent key.budget) × (spent ≤ key.budget + all_shares) × (limit ≤ v.view.seen) × (v.view.mine ≤ key.start)
-closes key id v ws xs all f spent limit e0 e1 = let s = f.0 in let k = f.1.0.kept in let at = f.1.1 in let views = s.views in let rest : List Standing = set views id gone in
+closes key id v ws xs all f spent limit e0 e1 = let s = f.0 in let k = f.1.0.kept in let at = f.1.1 in let views = s.views in let rest : List KeyedView = set views id gone in
     let a : slice_index s.words 0 ≡ spent = ap (λ (l : List ℕ). slice_index l 0) f.2 ∙ index_is ws 0 spent e0 in
     let b : slice_index s.words 8 ≡ limit = ap (λ (l : List ℕ). slice_index l 8) f.2 ∙ index_is ws 8 limit e1 in
     let is = k.least in let counted = k.counted in let granted = k.granted in let whole = k.whole in let small = k.start in
     let h = sum-set share_of views id v gone at in let none_left : sum_by share_of rest ≡ 0 = omega arith in
-    let each : (i : ℕ) (t : Standing) → get_elem? rest i ≡ some t → (1 ≤ t.view.share) ⊎ (t ≡ gone) = λ i t e. ⊎_elim (λ (u : (i ≡ id) × (gone ≡ t)). inr (sym u.1))
+    let each : (i : ℕ) (t : KeyedView) → get_elem? rest i ≡ some t → (1 ≤ t.view.share) ⊎ (t ≡ gone) = λ i t e. ⊎_elim (λ (u : (i ≡ id) × (gone ≡ t)). inr (sym u.1))
     (λ (u : (i ≢ id) × (get_elem? views i ≡ some t)). ⊎_elim (λ (l : IsLive key (slice_index s.words 8) t). inl l.share) (λ (g : t ≡ gone). inr g) (k.each i t u.1)) (at_set views id i gone t e) in
     let g = sum-set granted_of views id v gone at in let g' = sum_of_gone granted_of rest refl none_left each in
     let r = sum-set refused_of views id v gone at in let r' = sum_of_gone refused_of rest refl none_left each in

@@ -8,7 +8,7 @@ use Rattle.crp_plan.specs.Bay.{Problem}
 use Rattle.crp_plan.specs.Faults.{IsPlanPath}
 use Rattle.crp_plan.specs.declared.running.View.{View}
 use Rattle.crp_incumbent.specs.declared.rule.Key.{Key}
-use Rattle.crp_incumbent.specs.declared.rule.Standing.{Standing}
+use Rattle.crp_incumbent.specs.declared.rule.KeyedView.{KeyedView}
 use Rattle.crp_incumbent.specs.declared.rule.Opening.{Opening}
 
 -- all shares of the words: one for each of at most 64 workers, and one
@@ -40,11 +40,11 @@ abbrev pub first_view : ℕ → View
 first_view start = record { seen = start; mine = start; granted = 0; refused = 0; share = all_shares }
 
 -- the first seat
-abbrev pub first : Key → Standing
+abbrev pub first : Key → KeyedView
 first key = record { key = key; view = first_view key.start }
 
 -- what a seat that was given up by a join leaves: it counts for nothing in any sum, nor in the least
-abbrev pub gone : Standing
+abbrev pub gone : KeyedView
 gone = record {
   key = record { problem = record { heights = []; ordered = 0; stacks = [] }; start = 0; budget = 0 };
   view = record { seen = 0; mine = 2 ^ 64; granted = 0; refused = 0; share = 0 };
@@ -59,11 +59,11 @@ abbrev pub view_given : ℕ → View → View
 view_given start v = record { seen = v.seen; mine = start; granted = 0; refused = 0; share = 1 }
 
 -- the seat that gave one share away
-abbrev pub kept : Standing → Standing
+abbrev pub kept : KeyedView → KeyedView
 kept s = record s { view = view_kept s.view }
 
 -- the seat that was given one share
-abbrev pub given : Standing → Standing
+abbrev pub given : KeyedView → KeyedView
 given s = record s { view = view_given s.key.start s.view }
 
 -- what two views know and did together: the least they saw, the least they offered, and the sums of the rest
@@ -77,8 +77,8 @@ view_joined v w = record {
 }
 
 -- the seat that two were made
-abbrev pub joined_standing : Standing → Standing → Standing
-joined_standing s t = record s { view = view_joined s.view t.view }
+abbrev pub joined : KeyedView → KeyedView → KeyedView
+joined s t = record s { view = view_joined s.view t.view }
 
 -- some complete plan of the problem has so many relocations
 abbrev pub IsPlanCount : Problem → ℕ → Type 0
@@ -95,7 +95,7 @@ pub record IsAbove (key : Key) (limit n : ℕ) : Type 0 where
   pub known : IsLimit key n
 
 -- a seat that was not given up: it has this key and a share, what it saw and offered is above the limit, and it was refused no more often than it has shares
-pub record IsLive (key : Key) (limit : ℕ) (s : Standing) : Type 0 where
+pub record IsLive (key : Key) (limit : ℕ) (s : KeyedView) : Type 0 where
   pub same : s.key ≡ key
   pub seen : IsAbove key limit s.view.seen
   pub mine : IsAbove key limit s.view.mine
@@ -103,34 +103,34 @@ pub record IsLive (key : Key) (limit : ℕ) (s : Standing) : Type 0 where
   pub share : 1 ≤ s.view.share
 
 -- a seat's granted claims
-abbrev pub granted_of : Standing → ℕ
+abbrev pub granted_of : KeyedView → ℕ
 granted_of s = s.view.granted
 
 -- a seat's refused claims
-abbrev pub refused_of : Standing → ℕ
+abbrev pub refused_of : KeyedView → ℕ
 refused_of s = s.view.refused
 
 -- a seat's shares
-abbrev pub share_of : Standing → ℕ
+abbrev pub share_of : KeyedView → ℕ
 share_of s = s.view.share
 
 -- the least of a number and of all that the seats offered
-abbrev pub least_mine : ℕ → List Standing → ℕ
+abbrev pub least_mine : ℕ → List KeyedView → ℕ
 least_mine a [] = a
 least_mine a (s ∷ ss) = min s.view.mine (least_mine a ss)
 
 -- the rule: each seat lives or was given up; the limit is the least of the start and of all that was offered; what is spent are the claims, granted
 -- and refused; the granted ones are the lesser of those and of the budget; and the shares are all there
-pub record IsKept (key : Key) (spent limit : ℕ) (views : List Standing) : Type 0 where
+pub record KeepsRule (key : Key) (spent limit : ℕ) (views : List KeyedView) : Type 0 where
   pub budget : key.budget ≤ most_budget
   pub start : key.start < 2 ^ 32
-  pub each : (id : ℕ) (s : Standing) → get_elem? views id ≡ some s → IsLive key limit s ⊎ (s ≡ gone)
+  pub each : (id : ℕ) (s : KeyedView) → get_elem? views id ≡ some s → IsLive key limit s ⊎ (s ≡ gone)
   pub least : limit ≡ least_mine key.start views
   pub counted : spent ≡ sum_by granted_of views + sum_by refused_of views
   pub granted : sum_by granted_of views ≡ min spent key.budget
   pub whole : sum_by share_of views ≡ all_shares
 
 -- the table keeps the rule by two of its words
-pub record Keeps (key : Key) (s : State (Unit {0}) Standing) : Type 0 where
+pub record Keeps (key : Key) (s : State (Unit {0}) KeyedView) : Type 0 where
   pub words : length s.words ≡ all_words
-  pub kept : IsKept key (slice_index s.words spent_at) (slice_index s.words limit_at) s.views
+  pub kept : KeepsRule key (slice_index s.words spent_at) (slice_index s.words limit_at) s.views

@@ -3,21 +3,21 @@ use Rattle.std.specs.Prelude.{◌≡◌, ℕ, ◌≤◌, []}
 use Rattle.atomic_table.specs.Table.{Step, Me}
 use Rattle.crp_plan.specs.declared.running.View.{View}
 use Rattle.crp_plan.specs.Running.{words, after_see, after_offer, after_claim}
-use Rattle.crp_incumbent.specs.declared.rule.Standing.{Standing}
+use Rattle.crp_incumbent.specs.declared.rule.KeyedView.{KeyedView}
 use Rattle.crp_incumbent.specs.Rule.{IsAbove, all_shares}
 
 -- a seat as the table has it
 abbrev pub Mine : Type 0
-Mine = Me (Unit {0}) Standing
+Mine = Me (Unit {0}) KeyedView
 
 -- a limit that the rule allows beside this seat
-pub record IsLimitBeside (s : Standing) (limit : ℕ) : Type 0 where
+pub record IsLimitBeside (s : KeyedView) (limit : ℕ) : Type 0 where
   pub seen : limit ≤ s.view.seen
   pub mine : limit ≤ s.view.mine
   pub start : IsAbove s.key limit limit
 
 -- the seat after a step: its key is the same, and it holds no slot
-pub record Becomes (s : Standing) (view : View) (m : Mine) : Type 0 where
+pub record Becomes (s : KeyedView) (view : View) (m : Mine) : Type 0 where
   pub standing : m.0 ≡ record s { view = view }
   pub slots : m.1 ≡ []
 

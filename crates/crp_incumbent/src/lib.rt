@@ -9,6 +9,6 @@ mod shared;
 
 pub use best::Best;
 pub use board::Board;
-pub use rule::{Key, Standing};
+pub use rule::{Key, KeyedView};
 pub use seat::{Seat, SplitRefused, Why};
 pub use shared::{Shared, Totals};

@@ -15,7 +15,7 @@ pub struct Key {
 }
 
 /// What the table keeps of each seat: its view, beside a copy of the key. No value of it is made.
-pub struct Standing {
+pub struct KeyedView {
     /// What the words are about.
     pub key: Key,
     /// What the seat knows, and what it did.
@@ -33,7 +33,7 @@ pub(crate) struct Opening {
 /// The rule that holds between any two steps.
 pub(crate) struct Keeping;
 
-impl TableRule<(), Standing, Opening> for Keeping {
+impl TableRule<(), KeyedView, Opening> for Keeping {
     ghost use Rattle.crp_incumbent.specs.Rule.{Keeps, key_of, first};
 
     ghost holds = { λ o. Keeps (key_of o) };
@@ -44,7 +44,7 @@ impl TableRule<(), Standing, Opening> for Keeping {
 /// A load of the limit.
 pub(crate) struct Sees;
 
-impl Play<(), Standing> for Sees {
+impl Play<(), KeyedView> for Sees {
     ghost use Rattle.crp_incumbent.specs.Steps.{Saw};
 
     ghost then = { Saw };
@@ -53,7 +53,7 @@ impl Play<(), Standing> for Sees {
 /// The limit becomes the lesser of itself and a plan's relocations.
 pub(crate) struct Offers;
 
-impl Play<(), Standing> for Offers {
+impl Play<(), KeyedView> for Offers {
     ghost use Rattle.crp_incumbent.specs.Steps.{OfferedUnder};
 
     ghost then = { OfferedUnder };
@@ -62,7 +62,7 @@ impl Play<(), Standing> for Offers {
 /// One more is claimed.
 pub(crate) struct Claims;
 
-impl Play<(), Standing> for Claims {
+impl Play<(), KeyedView> for Claims {
     ghost use Rattle.crp_incumbent.specs.Steps.{Claimed};
 
     ghost then = { Claimed };
@@ -71,7 +71,7 @@ impl Play<(), Standing> for Claims {
 /// A load that changes no view, and says that no seat has more than all shares.
 pub(crate) struct Looks;
 
-impl Play<(), Standing> for Looks {
+impl Play<(), KeyedView> for Looks {
     ghost use Rattle.crp_incumbent.specs.Steps.{Looked};
 
     ghost then = { Looked };
@@ -80,7 +80,7 @@ impl Play<(), Standing> for Looks {
 /// One share goes to a new seat, and one seat is made of two.
 pub(crate) struct Shares;
 
-impl Split<Standing> for Shares {
+impl Split<KeyedView> for Shares {
     ghost use Rattle.crp_incumbent.specs.Rule.{kept, given};
 
     ghost left = { kept };
@@ -88,10 +88,10 @@ impl Split<Standing> for Shares {
     ghost right = { given };
 }
 
-impl Join<Standing> for Shares {
-    ghost use Rattle.crp_incumbent.specs.Rule.{joined_standing, gone};
+impl Join<KeyedView> for Shares {
+    ghost use Rattle.crp_incumbent.specs.Rule.{joined, gone};
 
-    ghost both = { joined_standing };
+    ghost both = { joined };
 
     ghost spent = { gone };
 }

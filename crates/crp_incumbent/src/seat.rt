@@ -1,12 +1,12 @@
 //! What one worker has of a `Shared`.
 
-use crate::rule::Standing;
+use crate::rule::KeyedView;
 use std::marker::Model;
 
 /// A worker's seat: by it the worker steps on the shared words. Contracts see at which `Shared` it is, and its view.
 #[derive(Drop)]
 pub struct Seat {
-    pub(crate) token: atomic_table::Seat<(), Standing>,
+    pub(crate) token: atomic_table::Seat<(), KeyedView>,
     pub(crate) share: u64,
     pub(crate) refused: u64,
 }

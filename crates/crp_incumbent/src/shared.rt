@@ -4,7 +4,7 @@ ghost use Rattle.crp_plan.specs.Running.{words, after_see};
 ghost use Rattle.crp_incumbent.specs.Rule.{all_shares, first_view, most_budget, view_kept, view_given, view_joined};
 ghost use Rattle.crp_incumbent.specs.Seats.{with_view, FindsLimit, OffersCount, ClaimsOne};
 
-use crate::rule::{Claims, Keeping, Looks, Offers, Opening, Sees, Shares, Standing};
+use crate::rule::{Claims, Keeping, KeyedView, Looks, Offers, Opening, Sees, Shares};
 use crate::seat::{Seat, SplitRefused, Why};
 use atomic_table::Table;
 use crp_plan::{Plan, Problem};
@@ -28,7 +28,7 @@ const SHARES: u64 = 65;
 /// The running limit and the number of claims. Any thread may step on them with a seat, and no call waits.
 #[derive(Drop)]
 pub struct Shared {
-    table: Table<(), Standing, Opening, Keeping, Global>,
+    table: Table<(), KeyedView, Opening, Keeping, Global>,
     budget: u64,
 }
 

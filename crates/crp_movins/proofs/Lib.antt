@@ -5,3 +5,4 @@ pub mod ReadingSteps
 pub mod Least
 pub mod AcceptedSteps
 pub mod Meaning
+pub mod Vacant

@@ -1,4 +1,4 @@
--- An order, as it is computed from places, is one as a relation of places, and the other way round.
+-- Loading slot groups and orders, as they are computed from places, are those of the relations of places, and the other way round.
 use Prim.Native.Nat.{zero}
 use Rattle.std.proofs.Common.{◌≡◌, ℕ, suc, Bool, true, false, cond, ◌&&◌, List, Option, Some, None, refl, sym, ap, subst, ◌∙◌, inl, inr, arith}
 use Rattle.std.specs.Option.{option_map, option_map_or}
@@ -12,7 +12,7 @@ use Rattle.crp_movins.specs.Digits.{slot_of}
 use Rattle.crp_movins.specs.Kinds.{is_handling, settles_code, is_slot_group, ends_group, is_equipment}
 use Rattle.crp_movins.specs.Places.{kind_at, text_at, last_before, where_holds, is_loading, opens_loading_group, loading_group, ordered_group}
 use Rattle.crp_movins.specs.LoadOrders.{order_at}
-use Rattle.crp_movins.specs.ByPlaces.{IsLast, IsOrdered}
+use Rattle.crp_movins.specs.ByPlaces.{IsLast, IsLoadingGroup, StandsInGroup, IsOrdered}
 use Rattle.crp_movins.proofs.Least.{last-last}
 
 is_last : (test : Kind → Bool) (segments : List SegmentParts) (i j : ℕ) → last_before test segments i ≡ Some j → IsLast test segments i j
@@ -50,40 +50,58 @@ kept test (Some i) j h =
     let parts = taken_then (test i) (Some i) j h in
     (parts.1, let same : i ≡ j = let e = parts.1 in cc in ap test (sym same) ∙ parts.0)
 
-and-both : (a b : Bool) → (a && b) ≡ true → (a ≡ true) × (b ≡ true)
+pub and-both : (a b : Bool) → (a && b) ≡ true → (a ≡ true) × (b ≡ true)
 and-both true b h = (refl, h)
 and-both false b h = absurd (cc)
 
-pub order-means : (segments : List SegmentParts) (code : List ℕ) (i : ℕ) (order : Order) → order_at segments code i ≡ Some order → IsOrdered segments code i order
-order-means segments code i order h =
-    let made = mapped (λ (j : ℕ). let given : Order = record { container = text_at segments i 2 1; slot = slot_of (text_at segments j 2 1) } in given) (ordered_group segments code i) order h in
-    let group = made.0 in
-    let grouped = taken_then (is_equipment (kind_at segments i)) (loading_group segments code i) group made.1 in
-    let opened = kept (opens_loading_group segments code) (last_before ends_group segments i) group grouped.1 in
-    let parts = and-both (is_slot_group (kind_at segments group)) (is_loading segments code group) opened.1 in
+pub group-means : (segments : List SegmentParts) (code : List ℕ) (group : ℕ) → opens_loading_group segments code group ≡ true → IsLoadingGroup segments code group
+group-means segments code group h =
+    let parts = and-both (is_slot_group (kind_at segments group)) (is_loading segments code group) h in
     let settled = held (λ (j : ℕ). is_handling (kind_at segments j) && bytes_eq (text_at segments j 1 1) code) (last_before settles_code segments group) parts.1 in
     let setting = settled.0 in
     let coded = and-both (is_handling (kind_at segments setting)) (bytes_eq (text_at segments setting 1 1) code) settled.2 in
     record {
-      equipment = grouped.0;
-      group = group;
-      last_group = is_last ends_group segments i group opened.0;
       slot_group = parts.0;
       setting = setting;
       last_setting = is_last settles_code segments group setting settled.1;
       handling = coded.0;
       loading = (bytes_eq-Decides (text_at segments setting 1 1) code).0 coded.1;
+    }
+
+pub group-given : (segments : List SegmentParts) (code : List ℕ) (group : ℕ) → IsLoadingGroup segments code group → opens_loading_group segments code group ≡ true
+group-given segments code group h =
+    let setting = last_is settles_code segments group h.setting h.last_setting in
+    let same = (bytes_eq-Decides (text_at segments h.setting 1 1) code).1 h.loading in
+    let loading : is_loading segments code group ≡ true = rw (setting, h.handling, same) refl in
+    rw (h.slot_group, loading) refl
+
+-- the segment orders a container to the slot of the group
+pub filling-means : (segments : List SegmentParts) (code : List ℕ) (i group : ℕ) → ordered_group segments code i ≡ Some group → StandsInGroup segments i group × (opens_loading_group segments code group ≡ true)
+filling-means segments code i group h =
+    let grouped = taken_then (is_equipment (kind_at segments i)) (loading_group segments code i) group h in
+    let opened = kept (opens_loading_group segments code) (last_before ends_group segments i) group grouped.1 in
+    (record { equipment = grouped.0; last_group = is_last ends_group segments i group opened.0 }, opened.1)
+
+pub filling-given : (segments : List SegmentParts) (code : List ℕ) (i group : ℕ) → StandsInGroup segments i group → opens_loading_group segments code group ≡ true → ordered_group segments code i ≡ Some group
+filling-given segments code i group h opens =
+    let last = last_is ends_group segments i group h.last_group in
+    let grouped : loading_group segments code i ≡ Some group = rw (last, opens) refl in
+    rw (h.equipment, grouped) refl
+
+pub order-means : (segments : List SegmentParts) (code : List ℕ) (i : ℕ) (order : Order) → order_at segments code i ≡ Some order → IsOrdered segments code i order
+order-means segments code i order h =
+    let made = mapped (λ (j : ℕ). let given : Order = record { container = text_at segments i 2 1; slot = slot_of (text_at segments j 2 1) } in given) (ordered_group segments code i) order h in
+    let group = made.0 in
+    let filled = filling-means segments code i group made.1 in
+    record {
+      group = group;
+      stands = filled.0;
+      loading_group = group-means segments code group filled.1;
       container = sym (ap (λ (x : Order). x.container) made.2);
       slot = sym (ap (λ (x : Order). x.slot) made.2);
     }
 
 pub order-given : (segments : List SegmentParts) (code : List ℕ) (i : ℕ) (order : Order) → IsOrdered segments code i order → order_at segments code i ≡ Some order
 order-given segments code i order h =
-    let setting = last_is settles_code segments h.group h.setting h.last_setting in
-    let group = last_is ends_group segments i h.group h.last_group in
-    let same = (bytes_eq-Decides (text_at segments h.setting 1 1) code).1 h.loading in
-    let loading : is_loading segments code h.group ≡ true = rw (setting, h.handling, same) refl in
-    let opens : opens_loading_group segments code h.group ≡ true = rw (h.slot_group, loading) refl in
-    let grouped : loading_group segments code i ≡ Some h.group = rw (group, opens) refl in
-    let ordered : ordered_group segments code i ≡ Some h.group = rw (h.equipment, grouped) refl in
+    let ordered = filling-given segments code i h.group h.stands (group-given segments code h.group h.loading_group) in
     rw (ordered, ← h.container, ← h.slot) refl

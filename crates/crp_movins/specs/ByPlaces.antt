@@ -1,5 +1,5 @@
--- What an order is, said as a relation of places (UN/EDIFACT D.95B MOVINS, in this project's profile).
-use Rattle.std.specs.Prelude.{◌≡◌, ℕ, ◌<◌, Bool, true, false, List}
+-- What an order is and which slot groups are vacant, said as relations of places (UN/EDIFACT D.95B MOVINS, in this project's profile).
+use Rattle.std.specs.Prelude.{◌≡◌, ℕ, ◌<◌, Bool, true, false, List, Some, slice_get}
 use Rattle.edi_text.specs.Parts.{SegmentParts}
 use Rattle.crp_movins.specs.declared.kind.Kind.{Kind}
 use Rattle.crp_movins.specs.declared.order.Order.{Order}
@@ -13,16 +13,34 @@ pub record IsLast (test : Kind → Bool) (segments : List SegmentParts) (i j : �
   pub such : test (kind_at segments j) ≡ true
   pub none_between : (k : ℕ) → j < k → k < i → test (kind_at segments k) ≡ false
 
--- An EQD CN with a container orders it to the slot of a LOC 147, where that is the last of UNH, HAN and
--- LOC 147 before it, and the last of UNH and HAN before the LOC is a HAN with the loading code.
-pub record IsOrdered (segments : List SegmentParts) (code : List ℕ) (i : ℕ) (order : Order) : Type 0 where
-  pub equipment : is_equipment (kind_at segments i) ≡ true
-  pub group : ℕ
-  pub last_group : IsLast ends_group segments i group
+-- a LOC 147, where the last of UNH and HAN before it is a HAN with the loading code
+pub record IsLoadingGroup (segments : List SegmentParts) (code : List ℕ) (group : ℕ) : Type 0 where
   pub slot_group : is_slot_group (kind_at segments group) ≡ true
   pub setting : ℕ
   pub last_setting : IsLast settles_code segments group setting
   pub handling : is_handling (kind_at segments setting) ≡ true
   pub loading : text_at segments setting 1 1 ≡ code
+
+-- an EQD CN with a container, where the segment with the number of the group is the last of UNH, HAN and LOC 147 before it
+pub record StandsInGroup (segments : List SegmentParts) (i group : ℕ) : Type 0 where
+  pub equipment : is_equipment (kind_at segments i) ≡ true
+  pub last_group : IsLast ends_group segments i group
+
+-- an EQD CN with a container orders it to the slot of the loading slot group in which it stands
+pub record IsOrdered (segments : List SegmentParts) (code : List ℕ) (i : ℕ) (order : Order) : Type 0 where
+  pub group : ℕ
+  pub stands : StandsInGroup segments i group
+  pub loading_group : IsLoadingGroup segments code group
   pub container : order.container ≡ text_at segments i 2 1
   pub slot : order.slot ≡ slot_of (text_at segments group 2 1)
+
+-- a loading slot group in which no EQD CN with a container stands
+pub record IsVacant (segments : List SegmentParts) (code : List ℕ) (group : ℕ) : Type 0 where
+  pub loading_group : IsLoadingGroup segments code group
+  pub empty : (i : ℕ) → StandsInGroup segments i group → ⊥
+
+-- these are the numbers of the vacant groups, each once and rising, and all of them
+pub record AreVacant (segments : List SegmentParts) (code : List ℕ) (groups : List ℕ) : Type 0 where
+  pub rising : (k l first second : ℕ) → k < l → slice_get groups k ≡ Some first → slice_get groups l ≡ Some second → first < second
+  pub each : (k group : ℕ) → slice_get groups k ≡ Some group → IsVacant segments code group
+  pub all : (group : ℕ) → IsVacant segments code group → (k : ℕ) × (slice_get groups k ≡ Some group)

@@ -21,11 +21,15 @@ lacks_control_reference segments i = nat_lt (elements_at segments i) 5 || is_emp
 -- a UNH with an empty reference; inside a message a UNB, UNH or UNZ; outside of one, after the first
 -- segment, another segment than UNH and UNZ
 unfoldable pub is_out_of_place : List SegmentParts → ℕ → Bool
-is_out_of_place segments i = (is_message_header (kind_at segments i) && is_empty (text_at segments i 1 1)) || (if is_some (open_message segments i) then belongs_outside (kind_at segments i) else (nat_lt 1 i && not (may_follow (kind_at segments i))))
+is_out_of_place segments i =
+    (is_message_header (kind_at segments i) && is_empty (text_at segments i 1 1)) || (if is_some (open_message segments i) then belongs_outside (kind_at segments i)
+    else (nat_lt 1 i && not (may_follow (kind_at segments i))))
 
 -- the UNH is of the message type MOVINS, version D, release 95B, of the agency UN
 abbrev pub is_movins : List SegmentParts → ℕ → Bool
-is_movins segments i = (bytes_eq (text_at segments i 2 1) (codes "MOVINS") && bytes_eq (text_at segments i 2 2) (codes "D")) && (bytes_eq (text_at segments i 2 3) (codes "95B") && bytes_eq (text_at segments i 2 4) (codes "UN"))
+is_movins segments i =
+    (bytes_eq (text_at segments i 2 1) (codes "MOVINS") && bytes_eq (text_at segments i 2 2) (codes "D"))
+    && (bytes_eq (text_at segments i 2 3) (codes "95B") && bytes_eq (text_at segments i 2 4) (codes "UN"))
 
 -- the number of the UNH of the open message; 0 where none is open
 abbrev pub header_of : List SegmentParts → ℕ → ℕ
@@ -39,15 +43,21 @@ is_in_group segments code i = is_some (loading_group segments code i)
 abbrev pub own_faults : Kind → List SegmentParts → List ℕ → ℕ → List (Bool × MovinsFault)
 own_faults InterchangeHeader segments code i = (lacks_control_reference segments i, HeaderFault i) ∷ []
 own_faults MessageHeader segments code i = (not (is_movins segments i), MessageType i) ∷ []
-own_faults MessageTrailer segments code i = (not (counts (text_at segments i 1 1) (i - header_of segments i + 1)), MessageCount i) ∷ (not (bytes_eq (text_at segments i 2 1) (text_at segments (header_of segments i) 1 1)), MessageReference i) ∷ []
-own_faults InterchangeTrailer segments code i = (not (counts (text_at segments i 1 1) (count_before is_message_header segments i)), InterchangeCount i) ∷ (not (bytes_eq (text_at segments i 2 1) (text_at segments 1 5 1)), InterchangeReference i) ∷ []
+own_faults MessageTrailer segments code i =
+    (not (counts (text_at segments i 1 1) (i - header_of segments i + 1)), MessageCount i)
+    ∷ (not (bytes_eq (text_at segments i 2 1) (text_at segments (header_of segments i) 1 1)), MessageReference i) ∷ []
+own_faults InterchangeTrailer segments code i =
+    (not (counts (text_at segments i 1 1) (count_before is_message_header segments i)), InterchangeCount i)
+    ∷ (not (bytes_eq (text_at segments i 2 1) (text_at segments 1 5 1)), InterchangeReference i) ∷ []
 own_faults SlotGroup segments code i = (is_loading segments code i && not (is_slot (text_at segments i 2 1)), SlotNumber i) ∷ []
-own_faults Equipment segments code i = (is_in_group segments code i && is_ordered (orders_before segments code i) (text_at segments i 2 1), OrderedTwice i) ∷ (is_in_group segments code i && nat_le max_orders (length (orders_before segments code i)), TooManyOrders i) ∷ []
+own_faults Equipment segments code i =
+    (is_in_group segments code i && is_ordered (orders_before segments code i) (text_at segments i 2 1), OrderedTwice i)
+    ∷ (is_in_group segments code i && nat_le max_orders (length (orders_before segments code i)), TooManyOrders i) ∷ []
 own_faults FunctionalGroup segments code i = []
 own_faults Handling segments code i = []
 own_faults Other segments code i = []
 
--- the faults that a segment may have, in the order in which they are told, each with whether it is there
+-- the faults that a segment may have, in the order in which they are stated, each with whether it is there
 abbrev pub faults_at : List SegmentParts → List ℕ → ℕ → List (Bool × MovinsFault)
 faults_at segments code i =
     (is_some (last_before is_interchange_trailer segments i), AfterTrailer i)
@@ -61,7 +71,7 @@ abbrev pub first_of : List (Bool × MovinsFault) → Option MovinsFault
 first_of [] = None
 first_of (fault ∷ faults) = if fault.0 then Some fault.1 else first_of faults
 
--- the fault that is told of the segment with this number
+-- the fault that is stated of the segment with this number
 unfoldable pub fault_at : List SegmentParts → List ℕ → ℕ → Option MovinsFault
 fault_at segments code i = first_of (faults_at segments code i)
 
@@ -79,6 +89,6 @@ first_fault_before segments code (suc i) = or_else (first_fault_before segments 
 abbrev pub end_fault : List SegmentParts → Option MovinsFault
 end_fault segments = if is_some (last_before is_interchange_trailer segments (length segments + 1)) then None else Some (OutOfPlace (length segments + 1))
 
--- of all faults of the list this one is told; none where no segment is faulty and there is a UNZ
+-- of all faults of the list this one is stated; none where no segment is faulty and there is a UNZ
 abbrev pub first_fault : List SegmentParts → List ℕ → Option MovinsFault
 first_fault segments code = or_else (first_fault_before segments code (length segments + 1)) (end_fault segments)

@@ -20,7 +20,7 @@ pub enum MovinsFault {
     #[error("V3 at segment {segment}")]
     FunctionalGroup { segment: usize },
     /// Outside of a message a segment other than UNH and UNZ, inside one UNB, UNH or UNZ, or a UNH
-    /// with an empty reference. A list that ends without UNZ is told at one past its last segment.
+    /// with an empty reference. A list that ends without UNZ is stated at one past its last segment.
     #[error("V4 at segment {segment}")]
     OutOfPlace { segment: usize },
     /// UNT does not count the segments of its message.

@@ -1,10 +1,10 @@
 //! Laws of the definitions. Each is the contract of a function that does nothing.
 
-ghost use Rattle.std.specs.Prelude.{◌≡◌, ◌<◌, ℕ, List, Bool, true, false, Some, None};
+ghost use Rattle.std.specs.Prelude.{◌≡◌, ◌<◌, ℕ, List, Bool, true, false, Some, None, length};
 ghost use Rattle.edi_text.specs.Parts.{SegmentParts};
 ghost use Rattle.crp_movins.specs.Places.{kind_at, last_before};
-ghost use Rattle.crp_movins.specs.LoadOrders.{order_at};
-ghost use Rattle.crp_movins.specs.ByPlaces.{IsOrdered};
+ghost use Rattle.crp_movins.specs.LoadOrders.{order_at, load_orders_of};
+ghost use Rattle.crp_movins.specs.ByPlaces.{IsOrdered, AreVacant};
 ghost use Rattle.crp_movins.specs.Faults.{fault_at, first_fault_before};
 ghost use Rattle.crp_movins.specs.declared.order.Order.{Order};
 ghost use Rattle.crp_movins.specs.declared.fault.MovinsFault.{MovinsFault};
@@ -41,4 +41,13 @@ pub fn orders_by_places()
         → order_at segments code i ≡ Some order → IsOrdered segments code i order }
     ensures given { (segments : List SegmentParts) (code : List ℕ) (i : ℕ) (order : Order)
         → IsOrdered segments code i order → order_at segments code i ≡ Some order }
+{}
+
+/// As many vacant groups are counted as there are by the relation of places: one list, and no other, has
+/// the number of each vacant group, once, and of nothing else, and it is as long as the count.
+pub fn vacant_by_places()
+    ensures counted { (segments : List SegmentParts) (code : List ℕ)
+        → (groups : List ℕ) × AreVacant segments code groups × ((load_orders_of segments code).vacant ≡ length groups) }
+    ensures one_list { (segments : List SegmentParts) (code : List ℕ) (groups others : List ℕ)
+        → AreVacant segments code groups → AreVacant segments code others → groups ≡ others }
 {}

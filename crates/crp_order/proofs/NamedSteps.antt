@@ -11,7 +11,7 @@ use Rattle.std.proofs.lemmas.Option.{slice_get-get_or}
 use Rattle.crp_plan.specs.BayNames.{YardBay}
 use Rattle.crp_yard.specs.Places.{same_bay}
 use Rattle.crp_yard.specs.Inventory.{Inventory, StackedBay, IsYard, times}
-use Rattle.crp_yard.specs.Ranks.{name_of, named}
+use Rattle.crp_yard.specs.Ranks.{name_of_rank, named}
 use Rattle.crp_order.specs.declared.bay_problem.BayProblem.{BayProblem}
 use Rattle.crp_order.specs.Sequenced.{AreSequenced}
 use Rattle.crp_order.specs.BayProblems.{standing, leaving, ranked, rank_in, ranks_in, is_called, bay_problem_of, IsNamed}
@@ -26,22 +26,22 @@ use Rattle.crp_order.proofs.StatingSteps.{can_leave, names-ranked}
 pub same_bay_equiv : IsEquivalence same_bay
 same_bay_equiv = and_equiv (on_equiv (λ (bay : YardBay). bay.block) nat_list_eq_equiv) (on_equiv (λ (bay : YardBay). bay.bay) nat_eq_equiv)
 
-stack_named : (names stack : List (List ℕ)) → ((c : List ℕ) → 1 ≤ times c stack → 1 ≤ times c names) → map (name_of names) (map (rank_in names) stack) ≡ stack
+stack_named : (names stack : List (List ℕ)) → ((c : List ℕ) → 1 ≤ times c stack → 1 ≤ times c names) → map (name_of_rank names) (map (rank_in names) stack) ≡ stack
 stack_named names [] all = refl
 stack_named names (c ∷ stack) all =
-    let first : name_of names (rank_in names c) ≡ c = name_of-rank names c (all c (here c stack)) in
-    let rest : map (name_of names) (map (rank_in names) stack) ≡ stack = stack_named names stack (λ d h. all d (omega (arith, h))) in
+    let first : name_of_rank names (rank_in names c) ≡ c = name_of-rank names c (all c (here c stack)) in
+    let rest : map (name_of_rank names) (map (rank_in names) stack) ≡ stack = stack_named names stack (λ d h. all d (omega (arith, h))) in
     λ k. first k ∷ rest k
 
 -- the ranks of a bay's containers name them
 stacks_named : (names : List (List ℕ)) (stacks : List (List (List ℕ))) → ((c : List ℕ) → 1 ≤ times c (standing stacks) → 1 ≤ times c names) → named names (ranks_in names stacks) ≡ stacks
 stacks_named names [] all = refl
 stacks_named names (stack ∷ stacks) all =
-    let first : map (name_of names) (map (rank_in names) stack) ≡ stack = stack_named names stack (λ c h. all c (omega (arith, h, times-append c stack (standing stacks)))) in
+    let first : map (name_of_rank names) (map (rank_in names) stack) ≡ stack = stack_named names stack (λ c h. all c (omega (arith, h, times-append c stack (standing stacks)))) in
     let rest : named names (ranks_in names stacks) ≡ stacks = stacks_named names stacks (λ c h. all c (omega (arith, h, times-append c stack (standing stacks)))) in
     λ k. first k ∷ rest k
 
--- the problem of a bay tells the bay
+-- the problem of a bay states the bay
 bay_named : (yard : Inventory) (sequence : List (List ℕ)) (i : ℕ) (bay : StackedBay) → IsYard yard → AreSequenced sequence → i < length yard.bays → slice_get yard.bays i ≡ Some bay
     → IsNamed yard (bay_problem_of yard.heights sequence bay)
 bay_named yard sequence i bay is sequenced there at =

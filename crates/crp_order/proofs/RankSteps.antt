@@ -5,7 +5,7 @@ use Rattle.std.specs.Str.{bytes_eq}
 use Rattle.std.proofs.lemmas.Bool.{ne_eqb}
 use Rattle.std.proofs.Math.Dec.{eqb-suc-suc}
 use Rattle.crp_yard.specs.Inventory.{times}
-use Rattle.crp_yard.specs.Ranks.{name_of}
+use Rattle.crp_yard.specs.Ranks.{name_of_rank}
 use Rattle.crp_order.specs.BayProblems.{rank_in}
 use Rattle.crp_order.proofs.Once.{same, itself, turned, one_if, here}
 
@@ -26,7 +26,7 @@ rank_high (n ∷ names) c some = by (bytes_eq c n) some (rank_high names c)
     by false h later = omega (arith, later (omega (arith, h)))
 
 -- the container of a container's rank is that container
-pub name_of-rank : (names : List (List ℕ)) (c : List ℕ) → 1 ≤ times c names → name_of names (rank_in names c) ≡ c
+pub name_of-rank : (names : List (List ℕ)) (c : List ℕ) → 1 ≤ times c names → name_of_rank names (rank_in names c) ≡ c
 name_of-rank [] c some = absurd (omega arith)
 name_of-rank (n ∷ names) c some = by (bytes_eq c n) refl some (name_of-rank names c)
   where

@@ -141,7 +141,7 @@ group_at yard sequence groups i group are h e =
     slice_get-map (λ (g : Vec (Bor (List ℕ)) Global). pointed g.items) groups i ∙ ap (option_map (λ (g : Vec (Bor (List ℕ)) Global). pointed g.items)) (slice_get_read groups (length groups) i group refl h e) in
     record { at = at; leaves = same_Some (pointed group.items) (leaving sequence at.bay.1) (sym found ∙ are.leaving_there i at.bay at.here) }
 
--- all bays are told
+-- all bays are stated
 pub problems-all : (yard : Inventory) (sequence : List (List ℕ)) (groups given : List (Vec (Bor (List ℕ)) Global)) (i : ℕ) (told : List BayProblem)
     → AreGroups sequence yard.bays (map (λ g. pointed g.items) groups) → given ≡ groups → length given ≤ i
     → told ≡ map (bay_problem_of yard.heights sequence) (filter (is_called sequence) (take i yard.bays)) → told ≡ map (bay_problem_of yard.heights sequence) (filter (is_called sequence) yard.bays)

@@ -59,7 +59,7 @@ problems_of yard sequence = map (bay_problem_of yard.heights sequence) (filter (
 abbrev pub absent_of : Inventory → List (List ℕ) → ℕ
 absent_of yard sequence = count_by (λ container. not (stands yard.bays container)) sequence
 
--- the problem tells the bay of its name as it stands in the yard: the ranks are the places of the containers among the names, one for
+-- the problem states the bay of its name as it stands in the yard: the ranks are the places of the containers among the names, one for
 -- each container
 pub record IsNamed (yard : Inventory) (told : BayProblem) : Type 0 where
   pub heights : told.problem.heights ≡ yard.heights

@@ -77,6 +77,8 @@ impl Source for &[u8] {
 
     ghost failures = { λ _. 0 };
 
+    ghost interrupted = { λ _. Some 0 };
+
     fn read(&mut self, buf: &mut [u8]) -> Result<usize, Failure> {
         let bytes: &[u8] = *self;
         let n = bytes.len().min(buf.len());
@@ -113,6 +115,8 @@ impl Sink for Received {
 
     ghost failures = { λ s. s.failed };
 
+    ghost interrupted = { λ _. Some 0 };
+
     fn write(&mut self, piece: &[u8]) -> Result<usize, Failure> {
         match self.bytes.extend_from_slice(piece) {
             Ok(()) => Ok(piece.len()),
@@ -124,12 +128,14 @@ impl Sink for Received {
     }
 }
 
-/// Takes all, keeps nothing, tells no bytes and never fails.
+/// Takes all, keeps nothing, states no bytes and never fails.
 #[derive(Clone, Copy, Debug)]
 pub struct Nowhere;
 
 impl Sink for Nowhere {
     ghost failures = { λ _. 0 };
+
+    ghost interrupted = { λ _. Some 0 };
 
     fn write(&mut self, piece: &[u8]) -> Result<usize, Failure> {
         Ok(piece.len())

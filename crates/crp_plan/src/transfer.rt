@@ -2,7 +2,7 @@
 ghost use Rattle.std.specs.Prelude.{◌≡◌, ◌↔◌, ◌⊎◌, ℕ, List, ◌+◌, ◌-◌, ◌<◌, ◌≤◌, ◌++◌, false, true, length, take, vec_len, IsTrue, IfOk, IfSome, OnOk, OnErr, IsErrOf, flat_map};
 ghost use Rattle.std.specs.Bool.{OnTrue, OnFalse};
 ghost use Rattle.std.specs.Io.KnownBytes.{Appends, Consumes, Keeps, IsAtEnd};
-ghost use Rattle.crp_plan.specs.Devices.{AppendsFront, CountsMore, HasFailed, IsPassedOver, most_interruptions};
+ghost use Rattle.crp_plan.specs.Devices.{AppendsFront, AppendsPart, CountsMore, GivesUp, HasFailed, InterruptedMore, IsPassedOver, most_interruptions};
 
 use crate::device::{Failure, Sink, Source};
 use std::alloc::Global;
@@ -69,10 +69,15 @@ fn read_piece<R: Source>(
         → IfSome (R.remaining reader.old) (λ xs. limit < vec_len bytes.old + length xs) }
     ensures passed { (interruptions.old ≤ interruptions.new) × (interruptions.new ≤ most_interruptions) }
     ensures interrupted { OnOk result (CountsMore (interruptions.new - interruptions.old) (R.failures reader.old) (R.failures reader.new)) }
+    ensures tried_again { OnOk result (InterruptedMore (interruptions.new - interruptions.old) (R.interrupted reader.old) (R.interrupted reader.new)) }
     ensures ended { IsErrOf result ReadFault.Failed
         → CountsMore (interruptions.new - interruptions.old + 1) (R.failures reader.old) (R.failures reader.new) }
+    ensures gave_up { IsErrOf result ReadFault.Failed
+        → GivesUp interruptions.old interruptions.new (R.interrupted reader.old) (R.interrupted reader.new) }
     ensures refused { IsErrOf result ReadFault.TooLarge ⊎ IsErrOf result ReadFault.Memory
         → CountsMore (interruptions.new - interruptions.old) (R.failures reader.old) (R.failures reader.new) }
+    ensures tried_again_refused { IsErrOf result ReadFault.TooLarge ⊎ IsErrOf result ReadFault.Memory
+        → InterruptedMore (interruptions.new - interruptions.old) (R.interrupted reader.old) (R.interrupted reader.new) }
 {
     let mut piece = [0u8; PIECE];
     match reader.read(&mut piece) {
@@ -113,10 +118,15 @@ pub fn read_all<R: Source>(
     ensures count { R.failures reader.old ≤ R.failures reader.new }
     ensures passed { (interruptions.old ≤ interruptions.new) × (interruptions.new ≤ most_interruptions) }
     ensures interrupted { OnOk result (CountsMore (interruptions.new - interruptions.old) (R.failures reader.old) (R.failures reader.new)) }
+    ensures tried_again { OnOk result (InterruptedMore (interruptions.new - interruptions.old) (R.interrupted reader.old) (R.interrupted reader.new)) }
     ensures ended { IsErrOf result ReadFault.Failed
         → CountsMore (interruptions.new - interruptions.old + 1) (R.failures reader.old) (R.failures reader.new) }
+    ensures gave_up { IsErrOf result ReadFault.Failed
+        → GivesUp interruptions.old interruptions.new (R.interrupted reader.old) (R.interrupted reader.new) }
     ensures refused { IsErrOf result ReadFault.TooLarge ⊎ IsErrOf result ReadFault.Memory
         → CountsMore (interruptions.new - interruptions.old) (R.failures reader.old) (R.failures reader.new) }
+    ensures tried_again_refused { IsErrOf result ReadFault.TooLarge ⊎ IsErrOf result ReadFault.Memory
+        → InterruptedMore (interruptions.new - interruptions.old) (R.interrupted reader.old) (R.interrupted reader.new) }
 {
     let mut bytes = Vec::new(alloc);
     while read_piece(reader, &mut bytes, limit, interruptions)? {}
@@ -139,7 +149,9 @@ pub fn read_some<R: Source>(
     ensures count { R.failures reader.old ≤ R.failures reader.new }
     ensures passed { (interruptions.old ≤ interruptions.new) × (interruptions.new ≤ most_interruptions) }
     ensures interrupted { OnOk result (CountsMore (interruptions.new - interruptions.old) (R.failures reader.old) (R.failures reader.new)) }
+    ensures tried_again { OnOk result (InterruptedMore (interruptions.new - interruptions.old) (R.interrupted reader.old) (R.interrupted reader.new)) }
     ensures ended { OnErr result (CountsMore (interruptions.new - interruptions.old + 1) (R.failures reader.old) (R.failures reader.new)) }
+    ensures gave_up { OnErr result (GivesUp interruptions.old interruptions.new (R.interrupted reader.old) (R.interrupted reader.new)) }
 {
     loop {
         match reader.read(piece) {
@@ -167,7 +179,9 @@ fn write_piece<W: Sink>(
     ensures nearer { IfOk result (λ n. interruptions.old < n + interruptions.new) }
     ensures passed { (interruptions.old ≤ interruptions.new) × (interruptions.new ≤ most_interruptions) }
     ensures interrupted { OnOk result (CountsMore (interruptions.new - interruptions.old) (W.failures writer.old) (W.failures writer.new)) }
+    ensures tried_again { OnOk result (InterruptedMore (interruptions.new - interruptions.old) (W.interrupted writer.old) (W.interrupted writer.new)) }
     ensures ended { OnErr result (CountsMore (interruptions.new - interruptions.old + 1) (W.failures writer.old) (W.failures writer.new)) }
+    ensures gave_up { OnErr result (GivesUp interruptions.old interruptions.new (W.interrupted writer.old) (W.interrupted writer.new)) }
 {
     match writer.write(text) {
         Ok(0) => Err(WriteFailed),
@@ -190,11 +204,14 @@ pub fn write_all<W: Sink>(
     requires { interruptions.old ≤ most_interruptions }
     ensures all { OnOk result (Appends (W.contents writer.old) (W.contents writer.new) text.now) }
     ensures front { AppendsFront (W.contents writer.old) (W.contents writer.new) text.now }
+    ensures part { OnErr result (AppendsPart (W.contents writer.old) (W.contents writer.new) text.now) }
     ensures failed { OnErr result (HasFailed (W.failures writer.old) (W.failures writer.new)) }
     ensures count { W.failures writer.old ≤ W.failures writer.new }
     ensures passed { (interruptions.old ≤ interruptions.new) × (interruptions.new ≤ most_interruptions) }
     ensures interrupted { OnOk result (CountsMore (interruptions.new - interruptions.old) (W.failures writer.old) (W.failures writer.new)) }
+    ensures tried_again { OnOk result (InterruptedMore (interruptions.new - interruptions.old) (W.interrupted writer.old) (W.interrupted writer.new)) }
     ensures ended { OnErr result (CountsMore (interruptions.new - interruptions.old + 1) (W.failures writer.old) (W.failures writer.new)) }
+    ensures gave_up { OnErr result (GivesUp interruptions.old interruptions.new (W.interrupted writer.old) (W.interrupted writer.new)) }
 {
     let mut rest = text;
     while !rest.is_empty() {
@@ -213,11 +230,14 @@ pub fn write_each<W: Sink>(
     requires { interruptions.old ≤ most_interruptions }
     ensures all { OnOk result (Appends (W.contents writer.old) (W.contents writer.new) (flat_map (λ text. text.items) texts.now)) }
     ensures front { AppendsFront (W.contents writer.old) (W.contents writer.new) (flat_map (λ text. text.items) texts.now) }
+    ensures part { OnErr result (AppendsPart (W.contents writer.old) (W.contents writer.new) (flat_map (λ text. text.items) texts.now)) }
     ensures failed { OnErr result (HasFailed (W.failures writer.old) (W.failures writer.new)) }
     ensures count { W.failures writer.old ≤ W.failures writer.new }
     ensures passed { (interruptions.old ≤ interruptions.new) × (interruptions.new ≤ most_interruptions) }
     ensures interrupted { OnOk result (CountsMore (interruptions.new - interruptions.old) (W.failures writer.old) (W.failures writer.new)) }
+    ensures tried_again { OnOk result (InterruptedMore (interruptions.new - interruptions.old) (W.interrupted writer.old) (W.interrupted writer.new)) }
     ensures ended { OnErr result (CountsMore (interruptions.new - interruptions.old + 1) (W.failures writer.old) (W.failures writer.new)) }
+    ensures gave_up { OnErr result (GivesUp interruptions.old interruptions.new (W.interrupted writer.old) (W.interrupted writer.new)) }
 {
     for text in texts {
         write_all(writer, text, interruptions)?;

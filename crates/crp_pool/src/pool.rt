@@ -59,7 +59,8 @@ fn link_rows(alloc: Global, owners: &mut Vec<Owner>) -> Result<Vec<Vec<Link>>, A
     requires shares { All (λ o. o.hand.shares ≡ all_deque_shares) owners.old.items }
     requires few { length owners.old.items ≤ 64 }
     ensures deques { IfOk result (λ _. map own_deque owners.new.items ≡ map own_deque owners.old.items) }
-    ensures fresh { IfOk result (λ _. (capacity : ℕ) → All (IsFresh all_deque_shares capacity) owners.old.items → All (IsFresh (all_deque_shares - length owners.old.items) capacity) owners.new.items) }
+    ensures fresh { IfOk result (λ _. (capacity : ℕ) → All (IsFresh all_deque_shares capacity) owners.old.items
+        → All (IsFresh (all_deque_shares - length owners.old.items) capacity) owners.new.items) }
     ensures rows { IfOk result (λ v. (length v.items ≡ length owners.old.items) × All (λ r. r.items ≡ map fresh_way (map own_deque owners.old.items)) v.items) }
 {
     let mut rows = Vec::new(alloc);

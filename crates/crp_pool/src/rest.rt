@@ -62,7 +62,8 @@ pub(crate) fn give_back(owners: &mut Vec<Owner>, mut links: Vec<Link>)
     requires shares { All (λ o. 0 < o.hand.shares) owners.old.items }
     ensures deques { map own_deque owners.new.items ≡ map own_deque owners.old.items }
     ensures shares { All (λ o. 0 < o.hand.shares) owners.new.items }
-    ensures sums { (f : Hand → ℕ) → AddsUp f → weigh f (map own_hand owners.new.items) ≡ weigh f (map own_hand owners.old.items) + weigh f (map way_hand links.items) }
+    ensures sums { (f : Hand → ℕ) → AddsUp f
+        → weigh f (map own_hand owners.new.items) ≡ weigh f (map own_hand owners.old.items) + weigh f (map way_hand links.items) }
 {
     while let Some(link) = links.pop() {
         let at = links.len();

@@ -5,7 +5,7 @@ use Rattle.std.specs.Option.{option_map}
 use Rattle.crp_yard.proofs.Lists.{all_of, each_of}
 use Rattle.crp_plan.specs.Bay.{Problem}
 use Rattle.crp_plan.specs.BayNames.{YardBay}
-use Rattle.crp_plan.specs.Plans.{Route}
+use Rattle.crp_plan.specs.Plans.{ProblemPath}
 use Rattle.crp_yard.specs.Places.{same_bay}
 use Rattle.crp_yard.specs.Inventory.{Inventory}
 use Rattle.crp_yard.specs.After.{IsPlanForBay}
@@ -26,24 +26,24 @@ plan_of_problem p budget (answer.NoPlan cert) expanded is = tt
 plan_of_problem p budget (answer.Between lower cert None why) expanded is = tt
 plan_of_problem p budget (answer.Between lower cert (Some plan) why) expanded is = is.says.plan_is.of_problem
 
--- so it tells the bay
-plan_of_bay : (yard : Inventory) (told : BayProblem) (plan : Route) → plan.problem ≡ told.problem → IsNamed yard told
-    → IsPlanForBay yard (record { bay = told.bay; plan = plan; names = told.names })
-plan_of_bay yard told plan is named = record { heights = rw is named.heights; stands = rw is named.stands }
+-- so it states the bay
+plan_of_bay : (yard : Inventory) (stated : BayProblem) (plan : ProblemPath) → plan.problem ≡ stated.problem → IsNamed yard stated
+    → IsPlanForBay yard (record { bay = stated.bay; plan = plan; names = stated.names })
+plan_of_bay yard stated plan is named = record { heights = rw is named.heights; stands = rw is named.stands }
 
 -- with the plan of one more bay, if it has one
-plan_more : (yard : Inventory) (told : BayProblem) (plan : Option Route) (rest : List BayPlan) → IfSome plan (λ route. route.problem ≡ told.problem) → IsNamed yard told
+plan_more : (yard : Inventory) (stated : BayProblem) (plan : Option ProblemPath) (rest : List BayPlan) → IfSome plan (λ route. route.problem ≡ stated.problem) → IsNamed yard stated
     → AllByRecursion (IsPlanForBay yard) rest
-    → AllByRecursion (IsPlanForBay yard) (cons_option (option_map (λ route. record { bay = told.bay; plan = route; names = told.names }) plan) rest)
-plan_more yard told None rest is named all = all
-plan_more yard told (Some plan) rest is named all = (plan_of_bay yard told plan is named, all)
+    → AllByRecursion (IsPlanForBay yard) (cons_option (option_map (λ route. record { bay = stated.bay; plan = route; names = stated.names }) plan) rest)
+plan_more yard stated None rest is named all = all
+plan_more yard stated (Some plan) rest is named all = (plan_of_bay yard stated plan is named, all)
 
-plans_each : (yard : Inventory) (chosen : Chosen) (answered : List Answered) → AllByRecursion (λ bay. IsSolved bay.told.problem chosen bay.solved) answered
-    → AllByRecursion (IsNamed yard) (map (λ bay. bay.told) answered) → AllByRecursion (IsPlanForBay yard) (bay_plans answered)
+plans_each : (yard : Inventory) (chosen : Chosen) (answered : List Answered) → AllByRecursion (λ bay. IsSolved bay.stated.problem chosen bay.solved) answered
+    → AllByRecursion (IsNamed yard) (map (λ bay. bay.stated) answered) → AllByRecursion (IsPlanForBay yard) (bay_plans answered)
 plans_each yard chosen [] true_answers named = tt
 plans_each yard chosen (bay ∷ answered) true_answers named =
     let is = true_answers.0 in
-    plan_more yard bay.told (plan_in bay.solved.answer) (bay_plans answered) (plan_of_problem bay.told.problem chosen.budget bay.solved.answer bay.solved.expanded is.answer) named.0
+    plan_more yard bay.stated (plan_in bay.solved.answer) (bay_plans answered) (plan_of_problem bay.stated.problem chosen.budget bay.solved.answer bay.solved.expanded is.answer) named.0
     (plans_each yard chosen answered true_answers.1 named.1)
 
 -- the plans of true answers to named problems are plans for the bays of the yard
@@ -51,36 +51,36 @@ pub plans_are : (yard : Inventory) (chosen : Chosen) (problems : List BayProblem
     → All (IsPlanForBay yard) (bay_plans answered)
 plans_are yard chosen problems answered are named =
     let each = each_of (IsNamed yard) problems named in
-    let on : AllByRecursion (IsNamed yard) (map (λ bay. bay.told) answered) = subst (AllByRecursion (IsNamed yard)) (sym are.one_for_each) each in
+    let on : AllByRecursion (IsNamed yard) (map (λ bay. bay.stated) answered) = subst (AllByRecursion (IsNamed yard)) (sym are.one_for_each) each in
     all_of (IsPlanForBay yard) (bay_plans answered) (plans_each yard chosen answered (each_of _ answered are.each_true) on)
 
 -- a bay that is none of the answered ones is none of those with plans
-apart_more : (bay own : YardBay) (plan : Option Route) (names : List (List ℕ)) (rest : List BayPlan) → same_bay bay own ≡ false
+apart_more : (bay own : YardBay) (plan : Option ProblemPath) (names : List (List ℕ)) (rest : List BayPlan) → same_bay bay own ≡ false
     → AllByRecursion (λ other. same_bay bay other ≡ false) (map (λ p. p.bay) rest)
     → AllByRecursion (λ other. same_bay bay other ≡ false) (map (λ p. p.bay) (cons_option (option_map (λ route. record { bay = own; plan = route; names = names }) plan) rest))
 apart_more bay own None names rest other all = all
 apart_more bay own (Some plan) names rest other all = (other, all)
 
-apart : (bay : YardBay) (answered : List Answered) → AllByRecursion (λ other. same_bay bay other ≡ false) (map (λ told. told.bay) (map (λ a. a.told) answered))
+apart : (bay : YardBay) (answered : List Answered) → AllByRecursion (λ other. same_bay bay other ≡ false) (map (λ stated. stated.bay) (map (λ a. a.stated) answered))
     → AllByRecursion (λ other. same_bay bay other ≡ false) (map (λ p. p.bay) (bay_plans answered))
 apart bay [] others = tt
-apart bay (a ∷ answered) others = apart_more bay a.told.bay (plan_in a.solved.answer) a.told.names (bay_plans answered) others.0 (apart bay answered others.1)
+apart bay (a ∷ answered) others = apart_more bay a.stated.bay (plan_in a.solved.answer) a.stated.names (bay_plans answered) others.0 (apart bay answered others.1)
 
-once_more : (own : YardBay) (plan : Option Route) (names : List (List ℕ)) (rest : List BayPlan) → AllByRecursion (λ other. same_bay own other ≡ false) (map (λ p. p.bay) rest)
+once_more : (own : YardBay) (plan : Option ProblemPath) (names : List (List ℕ)) (rest : List BayPlan) → AllByRecursion (λ other. same_bay own other ≡ false) (map (λ p. p.bay) rest)
     → IsDistinct same_bay (map (λ p. p.bay) rest)
     → IsDistinct same_bay (map (λ p. p.bay) (cons_option (option_map (λ route. record { bay = own; plan = route; names = names }) plan) rest))
 unfolding IsDistinct
 once_more own None names rest others once = once
 once_more own (Some plan) names rest others once = (others, once)
 
-once_each : (answered : List Answered) → IsDistinct same_bay (map (λ told. told.bay) (map (λ a. a.told) answered)) → IsDistinct same_bay (map (λ p. p.bay) (bay_plans answered))
+once_each : (answered : List Answered) → IsDistinct same_bay (map (λ stated. stated.bay) (map (λ a. a.stated) answered)) → IsDistinct same_bay (map (λ p. p.bay) (bay_plans answered))
 unfolding IsDistinct
 once_each [] once = tt
 once_each (a ∷ answered) once =
-    once_more a.told.bay (plan_in a.solved.answer) a.told.names (bay_plans answered) (apart a.told.bay answered once.0) (once_each answered once.1)
+    once_more a.stated.bay (plan_in a.solved.answer) a.stated.names (bay_plans answered) (apart a.stated.bay answered once.0) (once_each answered once.1)
 
 -- there is one plan for a bay at most
 pub plans_once : (chosen : Chosen) (problems : List BayProblem) (answered : List Answered) → AreTrueAnswers chosen problems answered
-    → IsDistinct same_bay (map (λ told. told.bay) problems) → IsDistinct same_bay (map (λ p. p.bay) (bay_plans answered))
+    → IsDistinct same_bay (map (λ stated. stated.bay) problems) → IsDistinct same_bay (map (λ p. p.bay) (bay_plans answered))
 plans_once chosen problems answered are once =
-    once_each answered (subst (λ (l : List BayProblem). IsDistinct same_bay (map (λ (told : BayProblem). told.bay) l)) (sym are.one_for_each) once)
+    once_each answered (subst (λ (l : List BayProblem). IsDistinct same_bay (map (λ (stated : BayProblem). stated.bay) l)) (sym are.one_for_each) once)

@@ -1,6 +1,5 @@
 -- Lemmas on what is written.
-pub mod Told
-pub mod Pieces
+pub mod LinesSoFar
 pub mod Refusing
 pub mod Ended
 pub mod Leaving

@@ -9,11 +9,11 @@ use Rattle.crp_plan.specs.declared.moves.Move.{Move}
 use Rattle.crp_plan.specs.declared.moves.Move.TheVariants.{Shift, Take}
 use Rattle.crp_plan.specs.Bay.{Position, start}
 use Rattle.crp_plan.specs.BayNames.{IsYardBay}
-use Rattle.crp_plan.specs.Plans.{Route}
+use Rattle.crp_plan.specs.Plans.{ProblemPath}
 use Rattle.crp_solve.specs.declared.answer.Cause.{Cause}
 use Rattle.crp_solve.specs.declared.answer.Cause.TheVariants as cause
-use Rattle.crp_report.specs.MoveLines.{TellsMoves}
-use Rattle.crp_report.specs.Report.{Numbers, counts_line, cause_words, TellsPlanIn}
+use Rattle.crp_report.specs.MoveLines.{AreMoveLines}
+use Rattle.crp_report.specs.Report.{Numbers, counts_line, cause_words, MayBePlanLines}
 use Rattle.crp_report.specs.Said.{Said, Optimal, First, NoPlan, Between, upper_said, said_words, is_settled, BaySaid, bay_text, report_text}
 use Rattle.crp_report.proofs.Bytes.{first_same, rest_same, cut_once, all_weaker, IsPlain, IsDigit, are_digits, number_once}
 use Rattle.crp_report.proofs.MoveBodies.{body, body_then, plain_body}
@@ -32,7 +32,7 @@ pub record IsMoveLine (line : List ℕ) : Type 0 where
 abbrev pub ended : List ℕ → List ℕ
 ended line = line ++ 10 ∷ []
 
-pub record AreMoveLines (text : List ℕ) : Type 0 where
+pub record AreSomeMoveLines (text : List ℕ) : Type 0 where
   pub lines : List (List ℕ)
   pub each : AllByRecursion IsMoveLine lines
   pub is : text ≡ flat_map ended lines
@@ -41,10 +41,10 @@ body_line : (names : List (List ℕ)) (s : Position) (m : Move) → AllByRecursi
 body_line names s (Shift from to) plain = record { first = 115; rest = _; is = refl; other = λ e. omega (arith, e); plain = plain_body names s (Shift from to) plain }
 body_line names s (Take row) plain = record { first = 116; rest = _; is = refl; other = λ e. omega (arith, e); plain = plain_body names s (Take row) plain }
 
-move_lines : (names : List (List ℕ)) (s : Position) (moves : List Move) (text : List ℕ) → AllByRecursion IsPlain names → TellsMoves names s moves text → AreMoveLines text
-move_lines names s [] text plain told = record { lines = []; each = tt; is = told }
-move_lines names s (m ∷ moves) text plain (t, rest, legal, told, is) =
-    let more = move_lines names t moves rest plain told in
+move_lines : (names : List (List ℕ)) (s : Position) (moves : List Move) (text : List ℕ) → AllByRecursion IsPlain names → AreMoveLines names s moves text → AreSomeMoveLines text
+move_lines names s [] text plain stated = record { lines = []; each = tt; is = stated }
+move_lines names s (m ∷ moves) text plain (t, rest, legal, stated, is) =
+    let more = move_lines names t moves rest plain stated in
     let line = body names s m in
     record {
       lines = line ∷ more.lines;
@@ -52,9 +52,9 @@ move_lines names s (m ∷ moves) text plain (t, rest, legal, told, is) =
       is = is ∙ body_then names s m rest ∙ ap (λ l. line ++ 10 ∷ l) more.is ∙ sym (append_assoc line (10 ∷ []) (flat_map ended more.lines));
     }
 
-pub plan_lines : (names : List (List ℕ)) (plan : Option Route) (text : List ℕ) → AllByRecursion IsPlain names → TellsPlanIn names plan text → AreMoveLines text
-plan_lines names None text plain told = record { lines = []; each = tt; is = told }
-plan_lines names (Some plan) text plain (moves, complete, path, told) = move_lines names (start plan.problem) moves text plain told
+pub plan_lines : (names : List (List ℕ)) (plan : Option ProblemPath) (text : List ℕ) → AllByRecursion IsPlain names → MayBePlanLines names plan text → AreSomeMoveLines text
+plan_lines names None text plain stated = record { lines = []; each = tt; is = stated }
+plan_lines names (Some plan) text plain (moves, complete, path, stated) = move_lines names (start plan.problem) moves text plain stated
 
 -- a first line and what follows it
 ended_then : (line more rest : List ℕ) → (ended line ++ more) ++ rest ≡ line ++ 10 ∷ (more ++ rest)
@@ -187,7 +187,7 @@ said_once (Between lower upper why) (Between lower' upper' why') x y low high e 
 pub record IsSayable (b : BaySaid) : Type 0 where
   pub named : IsYardBay b.bay
   pub small : IsSmall b.said
-  pub lines : AreMoveLines b.lines
+  pub lines : AreSomeMoveLines b.lines
 
 -- what follows the first word of a bay's text
 abbrev pub behind_bay : BaySaid → List ℕ → List ℕ

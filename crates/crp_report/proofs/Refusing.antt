@@ -7,8 +7,8 @@ use Rattle.crp_yard.specs.declared.fault.YardFault.{YardFault}
 use Rattle.crp_yard.specs.declared.fault.YardFault.TheVariants as yard_fault
 use Rattle.crp_yard.specs.Faults.{fault_of_text, max_bytes}
 use Rattle.crp_yard.specs.Reading.{IsTextOf}
-use Rattle.crp_yard.proofs.ToldSteps.{of_record}
-use Rattle.crp_report.specs.Telling.{yard_told, IsNoYard}
+use Rattle.crp_yard.proofs.FaultKinds.{of_record}
+use Rattle.crp_report.specs.BayTexts.{fault_of_yard, IsNoYard}
 
 -- where a source had more bytes than this, so had the text that it gave
 pub longer : (n : ℕ) (given : Option (List ℕ)) → IfSome given (λ xs. n < length xs) → (text : List ℕ) × IsTextOf given text × (n < length text)
@@ -23,9 +23,9 @@ list_too_large heights given h =
     let beyond : nat_le (length text) max_bytes ≡ false = lt-leb (length text) max_bytes long in
     (text, is, rw beyond refl)
 
--- what is told of the fault of a yard list that is short enough
+-- what is stated of the fault of a yard list that is short enough
 pub yard_refused : (heights : List ℕ) (given : Option (List ℕ)) (before after : ℕ) (text : List ℕ) (f : YardFault) → length text ≤ max_bytes → IsTextOf given text
-    → (f ≡ yard_fault.Memory) ⊎ (fault_of_text heights text ≡ Some f) → IsNoYard heights given before after (yard_told f)
+    → (f ≡ yard_fault.Memory) ⊎ (fault_of_text heights text ≡ Some f) → IsNoYard heights given before after (fault_of_yard f)
 yard_refused heights given before after text yard_fault.Memory short is h = tt
 yard_refused heights given before after text yard_fault.Read short is h = absurd (⊎_elim (λ e. cc e) (λ e. of_record heights text yard_fault.Read short e) h)
 yard_refused heights given before after text yard_fault.TooLarge short is h = absurd (⊎_elim (λ e. cc e) (λ e. of_record heights text yard_fault.TooLarge short e) h)

@@ -6,7 +6,7 @@ use Rattle.std.proofs.lemmas.List.Elements.{recursion_from_All}
 use Rattle.std.proofs.lemmas.Slice.Zip.{AllZip-long}
 use Rattle.crp_plan.specs.Bay.{Problem, IsProblem}
 use Rattle.crp_plan.specs.BayNames.{IsYardBay}
-use Rattle.crp_plan.specs.Plans.{Route}
+use Rattle.crp_plan.specs.Plans.{ProblemPath}
 use Rattle.crp_plan.proofs.Tallies.{cap_low}
 use Rattle.crp_solve.specs.declared.answer.Answer.{Answer}
 use Rattle.crp_solve.specs.declared.answer.Answer.TheVariants as answer
@@ -16,8 +16,8 @@ use Rattle.crp_solve.specs.Chosen.{Chosen}
 use Rattle.crp_solve.proofs.Limits.{count_low}
 use Rattle.crp_report.specs.Answered.{Answered, plan_in, status_of, is_decided}
 use Rattle.crp_report.specs.Chosen.{RunChosen}
-use Rattle.crp_report.specs.Report.{counts_line, bay_words, answer_words, bays_line, decided, TellsBays}
-use Rattle.crp_report.specs.Runs.{Seen, Made, IsMade, numbers_of}
+use Rattle.crp_report.specs.Report.{counts_line, bay_words, answer_words, bays_line, decided, AreLinesOfBays}
+use Rattle.crp_report.specs.Runs.{RunSeen, Made, IsMade, numbers_of}
 use Rattle.crp_report.specs.Said.{said_words, is_settled, BaySaid, bay_text, said_by, IsSaidOf, SaysOfBays, SayTheSame}
 use Rattle.crp_report.proofs.Bytes.{IsPlain}
 use Rattle.crp_report.proofs.Takes.{plain_names}
@@ -26,9 +26,9 @@ use Rattle.crp_report.proofs.Counts.{AreSmall, numbers_small}
 use Rattle.crp_report.proofs.OneText.{plan_lines, IsSmall, IsSayable, report_once}
 
 -- a bay of which something can be said
-pub record IsTellable (bay : Answered) : Type 0 where
-  pub named : IsYardBay bay.told.bay
-  pub plain : AllByRecursion IsPlain bay.told.names
+pub record IsReadable (bay : Answered) : Type 0 where
+  pub named : IsYardBay bay.stated.bay
+  pub plain : AllByRecursion IsPlain bay.stated.names
   pub small : IsSmall (said_by bay.solved.answer)
 
 -- what is said of bays
@@ -46,17 +46,17 @@ words_said (answer.NoPlan cert) = refl
 words_said (answer.Between lower cert None why) = refl
 words_said (answer.Between lower cert (Some plan) why) = refl
 
-bays_said : (answered : List Answered) (text : List ℕ) → AllByRecursion IsTellable answered → TellsBays answered text → AreSaid answered text
-bays_said [] text can told = record { bays = []; of_each = tt; sayable = tt; is = told }
-bays_said (bay ∷ answered) text can (first, rest, (lines, plan, first-is), told, is) =
+bays_said : (answered : List Answered) (text : List ℕ) → AllByRecursion IsReadable answered → AreLinesOfBays answered text → AreSaid answered text
+bays_said [] text can stated = record { bays = []; of_each = tt; sayable = tt; is = stated }
+bays_said (bay ∷ answered) text can (first, rest, (lines, plan, first-is), stated, is) =
     let k = can.0 in
-    let more = bays_said answered rest can.1 told in
-    let b : BaySaid = record { bay = bay.told.bay; said = said_by bay.solved.answer; lines = lines } in
+    let more = bays_said answered rest can.1 stated in
+    let b : BaySaid = record { bay = bay.stated.bay; said = said_by bay.solved.answer; lines = lines } in
     record {
       bays = b ∷ more.bays;
       of_each = (record { bay_is = refl; said_is = refl; lines_are = plan }, more.of_each);
-      sayable = (record { named = k.named; small = k.small; lines = plan_lines bay.told.names (plan_in bay.solved.answer) lines k.plain plan }, more.sayable);
-      is = is ∙ ap (λ l. l ++ rest) (first-is ∙ ap (λ w. (bay_words bay.told.bay ++ (w ++ 10 ∷ [])) ++ lines) (words_said bay.solved.answer)) ∙ ap (λ l. bay_text b ++ l) more.is;
+      sayable = (record { named = k.named; small = k.small; lines = plan_lines bay.stated.names (plan_in bay.solved.answer) lines k.plain plan }, more.sayable);
+      is = is ∙ ap (λ l. l ++ rest) (first-is ∙ ap (λ w. (bay_words bay.stated.bay ++ (w ++ 10 ∷ [])) ++ lines) (words_said bay.solved.answer)) ∙ ap (λ l. bay_text b ++ l) more.is;
     }
 
 -- as many are settled as are decided
@@ -98,28 +98,28 @@ small_answer p budget (answer.Between lower cert plan why) expanded t =
     let shown = o.shown in
     (omega (arith, few, within, shown), upper plan o.plan_is ok.is_problem)
   where
-    upper : (plan : Option Route) → IfSome plan (IsPlanOf p) → IsProblem p → IfSome (option_map (λ (route : Route). length route.path) plan) (λ count. count < 2 ^ 64)
+    upper : (plan : Option ProblemPath) → IfSome plan (IsPlanOf p) → IsProblem p → IfSome (option_map (λ (route : ProblemPath). length route.path) plan) (λ count. count < 2 ^ 64)
     upper None is problem = tt
     upper (Some route) is problem =
         let low = count_low p (Some route) problem is in
         let few = cap_low p problem in omega (arith, low, few)
 
-tellable : (chosen : Chosen) (answered : List Answered) → AllByRecursion IsNamedProblem (map (λ bay. bay.told) answered)
-    → AllByRecursion (λ bay. IsSolved bay.told.problem chosen bay.solved) answered → AllByRecursion IsTellable answered
-tellable chosen [] named t = tt
-tellable chosen (bay ∷ answered) named t =
+readable : (chosen : Chosen) (answered : List Answered) → AllByRecursion IsNamedProblem (map (λ bay. bay.stated) answered)
+    → AllByRecursion (λ bay. IsSolved bay.stated.problem chosen bay.solved) answered → AllByRecursion IsReadable answered
+readable chosen [] named t = tt
+readable chosen (bay ∷ answered) named t =
     let name = named.0 in
     let is = t.0 in (
       record {
         named = name.bay;
-        plain = plain_names bay.told.names name.names;
-        small = small_answer bay.told.problem chosen.budget bay.solved.answer bay.solved.expanded is.answer;
+        plain = plain_names bay.stated.names name.names;
+        small = small_answer bay.stated.problem chosen.budget bay.solved.answer bay.solved.expanded is.answer;
       },
-      tellable chosen answered named.1 t.1,
+      readable chosen answered named.1 t.1,
     )
 
 -- the problems of a run have names
-pub answered_named : (chosen : RunChosen) (seen : Seen) (m : Made) → IsMade chosen seen m → AllByRecursion IsNamedProblem (map (λ bay. bay.told) m.answered)
+pub answered_named : (chosen : RunChosen) (seen : RunSeen) (m : Made) → IsMade chosen seen m → AllByRecursion IsNamedProblem (map (λ bay. bay.stated) m.answered)
 answered_named chosen seen m is =
     let t = is.true_answers in
     subst (AllByRecursion IsNamedProblem) (sym t.one_for_each) (problems_named chosen.heights m.list m.yard m.sequence is.listed)
@@ -130,12 +130,12 @@ pub record HasSaid (m : Made) : Type 0 where
   pub said : SaysOfBays m bays
   pub sayable : AllByRecursion IsSayable bays
 
-pub run_says : (chosen : RunChosen) (seen : Seen) (m : Made) → IsMade chosen seen m → HasSaid m
+pub run_says : (chosen : RunChosen) (seen : RunSeen) (m : Made) → IsMade chosen seen m → HasSaid m
 run_says chosen seen m is =
     let t = is.true_answers in
-    let each = recursion_from_All (λ (bay : Answered). IsSolved bay.told.problem chosen.search bay.solved) m.answered t.each_true in
+    let each = recursion_from_All (λ (bay : Answered). IsSolved bay.stated.problem chosen.search bay.solved) m.answered t.each_true in
     let report = is.report in
-    let are = bays_said m.answered report.0 (tellable chosen.search m.answered (answered_named chosen seen m is) each) report.1 in
+    let are = bays_said m.answered report.0 (readable chosen.search m.answered (answered_named chosen seen m is) each) report.1 in
     let n = numbers_of m.yard m.orders m.sequence in
     let count : count_by (λ (b : BaySaid). is_settled b.said) are.bays ≡ decided m.answered = settled_from m.answered are.bays are.of_each 0 in
     record {
@@ -149,11 +149,11 @@ run_says chosen seen m is =
       sayable = are.sayable;
     }
 
-pub small_numbers : (chosen : RunChosen) (seen : Seen) (m : Made) → IsMade chosen seen m → AreSmall (numbers_of m.yard m.orders m.sequence)
+pub small_numbers : (chosen : RunChosen) (seen : RunSeen) (m : Made) → IsMade chosen seen m → AreSmall (numbers_of m.yard m.orders m.sequence)
 small_numbers chosen seen m is = numbers_small chosen.mode chosen.code m.message m.yard m.orders m.sequence is.ordered is.in_sequence
 
 -- two runs whose reports are the same bytes say the same
-pub same_said : (chosen other : RunChosen) (seen again : Seen) (m n : Made) → IsMade chosen seen m → IsMade other again n → m.report ≡ n.report → SayTheSame m n
+pub same_said : (chosen other : RunChosen) (seen again : RunSeen) (m n : Made) → IsMade chosen seen m → IsMade other again n → m.report ≡ n.report → SayTheSame m n
 same_said chosen other seen again m n is-m is-n e =
     let a = run_says chosen seen m is-m in
     let b = run_says other again n is-n in

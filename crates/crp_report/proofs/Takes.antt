@@ -8,7 +8,7 @@ use Rattle.std.proofs.lemmas.List.Elements.{recursion_from_All}
 use Rattle.crp_plan.specs.declared.moves.Move.{Move}
 use Rattle.crp_plan.specs.declared.moves.Move.TheVariants.{Shift, Take}
 use Rattle.crp_plan.specs.Bay.{Problem, start, Position, Runs, IsPlan}
-use Rattle.crp_report.specs.MoveLines.{row_stack, name_of, move_line, TellsMoves}
+use Rattle.crp_report.specs.MoveLines.{row_stack, name_of_rank, move_line, AreMoveLines}
 use Rattle.crp_report.specs.TakeLines.{FitsLine, lines_in, behind_space, container_taken, taken_in}
 use Rattle.crp_report.proofs.Bytes.{IsPlain, IsDigit, all_both, all_weaker, are_digits}
 use Rattle.crp_report.proofs.MoveBodies.{spot, body, body_then, plain_body}
@@ -31,11 +31,11 @@ spot_whole row tier = all_both (λ b. b ≢ 32) (decimal row) (46 ∷ decimal ti
     whole : (n : ℕ) → AllByRecursion (λ b. b ≢ 32) (decimal n)
     whole n = all_weaker IsDigit (λ b. b ≢ 32) (decimal n) (λ b is e. let low = is.0 in omega (arith, e, low)) (are_digits n)
 
-take_names : (names : List (List ℕ)) (s : Position) (row : ℕ) → container_taken (body names s (Take row)) ≡ Some (name_of names s.next)
-take_names names s row = ap Some (behind_first (spot row (length (row_stack s row))) (name_of names s.next) (spot_whole row (length (row_stack s row))))
+take_names : (names : List (List ℕ)) (s : Position) (row : ℕ) → container_taken (body names s (Take row)) ≡ Some (name_of_rank names s.next)
+take_names names s row = ap Some (behind_first (spot row (length (row_stack s row))) (name_of_rank names s.next) (spot_whole row (length (row_stack s row))))
 
 taken_next : (names : List (List ℕ)) (s : Position) (row : ℕ) (rest : List ℕ) → AllByRecursion IsPlain names
-    → taken_in (move_line names s (Take row) ++ rest) ≡ name_of names s.next ∷ taken_in rest
+    → taken_in (move_line names s (Take row) ++ rest) ≡ name_of_rank names s.next ∷ taken_in rest
 taken_next names s row rest plain =
     ap taken_in (body_then names s (Take row) rest)
     ∙ ap (filter_map container_taken) (line_first (body names s (Take row)) rest (plain_body names s (Take row) plain))
@@ -66,7 +66,7 @@ ordered_kept s t (Take row ∷ moves) (u, legal, runs) = ordered_kept u t moves 
 ordered_kept s t (Shift from to ∷ moves) (u, legal, runs) = ordered_kept u t moves runs ∙ ap (λ (p : Position). p.ordered) legal.after
 
 -- the name behind these
-name_there : (before after : List (List ℕ)) (name : List ℕ) (rank : ℕ) → rank ≡ suc (length before) → name_of (before ++ name ∷ after) rank ≡ name
+name_there : (before after : List (List ℕ)) (name : List ℕ) (rank : ℕ) → rank ≡ suc (length before) → name_of_rank (before ++ name ∷ after) rank ≡ name
 name_there before after name rank e = let i : rank - 1 ≡ length before = omega (arith, e) in rw i (at before)
   where
     at : (before : List (List ℕ)) → unwrap_or (slice_get (before ++ name ∷ after) (length before)) [] ≡ name
@@ -75,27 +75,27 @@ name_there before after name rank e = let i : rank - 1 ≡ length before = omega
 
 -- from the turn of a name on, the take lines give it and those behind it, up to the turn at the end
 takes_from : (names before now after : List (List ℕ)) (s here end : Position) (moves : List Move) (text : List ℕ) → AllByRecursion IsPlain names → names ≡ before ++ (now ++ after)
-    → TellsMoves names s moves text → Runs here moves end → s.next ≡ suc (length before) → here.next ≡ s.next → end.next ≡ suc (length before) + length now
+    → AreMoveLines names s moves text → Runs here moves end → s.next ≡ suc (length before) → here.next ≡ s.next → end.next ≡ suc (length before) + length now
     → taken_in text ≡ now
-takes_from names before [] after s here end [] text plain is told runs turn same last = ap taken_in told
-takes_from names before (name ∷ now) after s here end [] text plain is told runs turn same last =
+takes_from names before [] after s here end [] text plain is stated runs turn same last = ap taken_in stated
+takes_from names before (name ∷ now) after s here end [] text plain is stated runs turn same last =
     let e : here.next ≡ end.next = ap (λ (p : Position). p.next) runs in absurd (omega (arith, e, turn, same, last))
-takes_from names before [] after s here end (Take row ∷ moves) text plain is told (u, legal, runs) turn same last =
+takes_from names before [] after s here end (Take row ∷ moves) text plain is stated (u, legal, runs) turn same last =
     let e : u.next ≡ suc here.next = ap (λ (p : Position). p.next) legal.after in
     absurd (omega (arith, e, turn, same, last, turn_grows u end moves runs))
-takes_from names before (name ∷ now) after s here end (Take row ∷ moves) text plain is (t, rest, made, told, text-is) (u, legal, runs) turn same last =
+takes_from names before (name ∷ now) after s here end (Take row ∷ moves) text plain is (t, rest, made, stated, text-is) (u, legal, runs) turn same last =
     let at_t : t.next ≡ suc s.next = ap (λ (p : Position). p.next) made.after in
     let at_u : u.next ≡ suc here.next = ap (λ (p : Position). p.next) legal.after in
     let longer : length (before ++ name ∷ []) ≡ suc (length before) = omega (arith, length-append before (name ∷ [])) in
-    let more = takes_from names (before ++ name ∷ []) now after t u end moves rest plain (is ∙ sym (append_assoc before (name ∷ []) (now ++ after))) told runs
+    let more = takes_from names (before ++ name ∷ []) now after t u end moves rest plain (is ∙ sym (append_assoc before (name ∷ []) (now ++ after))) stated runs
     (omega (arith, at_t, turn, longer)) (omega (arith, at_t, at_u, same)) (omega (arith, last, longer)) in
-    let named : name_of names s.next ≡ name = ap (λ l. name_of l s.next) is ∙ name_there before (now ++ after) name s.next turn in
+    let named : name_of_rank names s.next ≡ name = ap (λ l. name_of_rank l s.next) is ∙ name_there before (now ++ after) name s.next turn in
     ap taken_in text-is ∙ taken_next names s row rest plain ∙ ap (λ l. l ∷ taken_in rest) named ∙ ap (λ l. name ∷ l) more
-takes_from names before now after s here end (Shift from to ∷ moves) text plain is (t, rest, made, told, text-is) (u, legal, runs) turn same last =
+takes_from names before now after s here end (Shift from to ∷ moves) text plain is (t, rest, made, stated, text-is) (u, legal, runs) turn same last =
     let at_t : t.next ≡ s.next = ap (λ (p : Position). p.next) made.after in
     let at_u : u.next ≡ here.next = ap (λ (p : Position). p.next) legal.after in
     ap taken_in text-is ∙ taken_later names s from to rest plain
-    ∙ takes_from names before now after t u end moves rest plain is told runs (omega (arith, at_t, turn)) (omega (arith, at_t, at_u, same)) last
+    ∙ takes_from names before now after t u end moves rest plain is stated runs (omega (arith, at_t, turn)) (omega (arith, at_t, at_u, same)) last
 
 -- names that fit a line have no LF
 pub plain_names : (names : List (List ℕ)) → AllByRecursion FitsLine names → AllByRecursion IsPlain names
@@ -104,8 +104,8 @@ plain_names names fit =
 
 -- the take lines of a complete plan name the containers that are to leave, in order
 pub plan_takes : (p : Problem) (leaving staying : List (List ℕ)) (moves : List Move) (text : List ℕ) → All FitsLine (leaving ++ staying) → length leaving ≡ p.ordered
-    → IsPlan p moves → TellsMoves (leaving ++ staying) (start p) moves text → taken_in text ≡ leaving
-plan_takes p leaving staying moves text fit many (end, runs, finished) told =
+    → IsPlan p moves → AreMoveLines (leaving ++ staying) (start p) moves text → taken_in text ≡ leaving
+plan_takes p leaving staying moves text fit many (end, runs, finished) stated =
     let kept : end.ordered ≡ p.ordered = ordered_kept (start p) end moves runs in
-    takes_from (leaving ++ staying) [] leaving staying (start p) (start p) end moves text (plain_names (leaving ++ staying) (recursion_from_All FitsLine (leaving ++ staying) fit)) refl told runs refl refl
+    takes_from (leaving ++ staying) [] leaving staying (start p) (start p) end moves text (plain_names (leaving ++ staying) (recursion_from_All FitsLine (leaving ++ staying) fit)) refl stated runs refl refl
     (omega (arith, finished, kept, many))

@@ -198,9 +198,9 @@ ranked_fit sequence stacks fit =
     (kept FitsLine (λ name. not (is_among sequence name)) (standing stacks) fit)
 
 -- a problem names its bay and its containers
-pub record IsNamedProblem (told : BayProblem) : Type 0 where
-  pub bay : IsYardBay told.bay
-  pub names : AllByRecursion FitsLine told.names
+pub record IsNamedProblem (stated : BayProblem) : Type 0 where
+  pub bay : IsYardBay stated.bay
+  pub names : AllByRecursion FitsLine stated.names
 
 all_named : (heights : List ℕ) (sequence : List (List ℕ)) (bays : List StackedBay) → AllByRecursion IsNamedBay bays → AllByRecursion IsNamedProblem (map (bay_problem_of heights sequence) bays)
 all_named heights sequence [] named = tt

@@ -1,7 +1,7 @@
 -- What a search said of a bay, and of all bays together.
 use Rattle.std.specs.Prelude.{◌≡◌, Bool, true, false, List, map, All, Option, Some, None, option_map, if◌then◌else◌}
 use Rattle.std.specs.List.{list_any, filter_map}
-use Rattle.crp_plan.specs.Plans.{Route}
+use Rattle.crp_plan.specs.Plans.{ProblemPath}
 use Rattle.crp_yard.specs.declared.bay_plan.BayPlan.{BayPlan}
 use Rattle.crp_order.specs.declared.bay_problem.BayProblem.{BayProblem}
 use Rattle.crp_solve.specs.declared.answer.Answer.{Answer}
@@ -15,7 +15,7 @@ use Rattle.crp_report.specs.declared.status.Status.{Status}
 use Rattle.crp_report.specs.declared.status.Status.TheVariants as status
 
 -- the plan that the answer gives, if it gives one
-abbrev pub plan_in : Answer → Option Route
+abbrev pub plan_in : Answer → Option ProblemPath
 plan_in (answer.Optimal plan cert) = Some plan
 plan_in (answer.First plan cert) = Some plan
 plan_in (answer.NoPlan cert) = None
@@ -35,16 +35,16 @@ status_of (answer.Between lower cert plan why) = status_by why
 
 -- the problem of a bay, and how it is solved
 pub record Answered : Type 0 where
-  pub told : BayProblem
+  pub stated : BayProblem
   pub solved : Solved
 
 -- one true answer for each of the problems, in their order: each is what was chosen for a search, within the budget, and by the first best plan where
 -- that was asked for and found
 pub record AreTrueAnswers (chosen : Chosen) (problems : List BayProblem) (answered : List Answered) : Type 0 where
-  pub one_for_each : map (λ bay. bay.told) answered ≡ problems
-  pub each_true : All (λ bay. IsSolved bay.told.problem chosen bay.solved) answered
+  pub one_for_each : map (λ bay. bay.stated) answered ≡ problems
+  pub each_true : All (λ bay. IsSolved bay.stated.problem chosen bay.solved) answered
 
--- the search ended for want of memory
+-- the search ended because memory ran out
 abbrev pub is_memory : Status → Bool
 is_memory status.Memory = true
 is_memory status.Budget = false
@@ -62,7 +62,7 @@ is_decided status.Decided = true
 is_decided status.Budget = false
 is_decided status.Memory = false
 
--- how the searches ended together: with want of memory where one did, else with a budget where one did, else with all bays decided
+-- how the searches ended together: with lack of memory where one did, else with a budget where one did, else with all bays decided
 abbrev pub status_of_all : List Answered → Status
 status_of_all answered =
     if list_any (λ bay. is_memory (status_of bay.solved.answer)) answered then status.Memory
@@ -70,7 +70,7 @@ status_of_all answered =
 
 -- the plan of a bay with the containers of its ranks, if the answer gives one
 abbrev pub bay_plan_in : Answered → Option BayPlan
-bay_plan_in bay = option_map (λ plan. record { bay = bay.told.bay; plan = plan; names = bay.told.names }) (plan_in bay.solved.answer)
+bay_plan_in bay = option_map (λ plan. record { bay = bay.stated.bay; plan = plan; names = bay.stated.names }) (plan_in bay.solved.answer)
 
 -- the plans of the bays that have one
 abbrev pub bay_plans : List Answered → List BayPlan

@@ -21,7 +21,7 @@ IsRowCount rows = (1 ≤ rows) × (rows ≤ 12)
 abbrev pub CanBeHeights : List ℕ → Type 0
 CanBeHeights heights = IsRowCount (length heights) × AreHeights heights
 
--- why settings with so many rows of so many tiers are refused: for the rows, or for the tiers where the rows are right; memory is wanting only where
+-- why settings with so many rows of so many tiers are refused: for the rows, or for the tiers where the rows are right; memory runs out only where
 -- both are
 abbrev pub IsRunFault : ℕ → ℕ → RunFault → Type 0
 IsRunFault rows tiers Rows = ¬ IsRowCount rows

@@ -11,6 +11,6 @@ pub mod Chosen
 pub mod Runs
 pub mod Said
 pub mod Printing
-pub mod Telling
+pub mod BayTexts
 pub mod Writing
 pub mod Words

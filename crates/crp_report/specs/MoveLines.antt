@@ -14,8 +14,8 @@ abbrev pub top_of : List ℕ → ℕ
 top_of stack = slice_index stack (length stack - 1)
 
 -- the name of a rank, where names stand by rank from 1
-abbrev pub name_of : List (List ℕ) → ℕ → List ℕ
-name_of names rank = unwrap_or (slice_get names (rank - 1)) []
+abbrev pub name_of_rank : List (List ℕ) → ℕ → List ℕ
+name_of_rank names rank = unwrap_or (slice_get names (rank - 1)) []
 
 -- each rank's number as its name
 abbrev pub rank_names : ℕ → List (List ℕ)
@@ -28,7 +28,7 @@ place_words row tier = 32 ∷ (decimal row ++ 46 ∷ decimal tier)
 
 -- a space, the name of a container, and the end of the line
 abbrev pub container : List (List ℕ) → ℕ → List ℕ
-container names rank = 32 ∷ (name_of names rank ++ 10 ∷ [])
+container names rank = 32 ∷ (name_of_rank names rank ++ 10 ∷ [])
 
 -- the line of a move that is made in a position: where the container stands, where a relocation puts it, and which it is
 abbrev pub move_line : List (List ℕ) → Position → Move → List ℕ
@@ -37,7 +37,7 @@ move_line names s (Shift from to) =
 move_line names s (Take row) = codes "take" ++ (place_words row (length (row_stack s row)) ++ container names s.next)
 
 -- the lines of moves that are legal one after the other
-abbrev pub TellsMoves : List (List ℕ) → Position → List Move → List ℕ → Type 0
-TellsMoves names s [] text = text ≡ []
-TellsMoves names s (m ∷ moves) text =
-    (t : Position) × (rest : List ℕ) × Legal s m t × TellsMoves names t moves rest × (text ≡ move_line names s m ++ rest)
+abbrev pub AreMoveLines : List (List ℕ) → Position → List Move → List ℕ → Type 0
+AreMoveLines names s [] text = text ≡ []
+AreMoveLines names s (m ∷ moves) text =
+    (t : Position) × (rest : List ℕ) × Legal s m t × AreMoveLines names t moves rest × (text ≡ move_line names s m ++ rest)

@@ -1,9 +1,9 @@
 -- The pieces of what a run writes, in the order in which they are written, and how far they are written where a write fails.
-use Rattle.std.specs.Prelude.{◌≡◌, ℕ, Bool, true, false, List, [], ◌∷◌, ◌++◌, flat_map, take, if◌then◌else◌}
+use Rattle.std.specs.Prelude.{◌≡◌, ℕ, ◌<◌, Bool, true, false, List, [], ◌∷◌, ◌++◌, length, flat_map, take, if◌then◌else◌}
 use Rattle.crp_report.specs.declared.fault.Output.{Output}
 use Rattle.crp_report.specs.declared.fault.Output.TheVariants as output
 use Rattle.crp_report.specs.Answered.{Answered}
-use Rattle.crp_report.specs.Report.{Numbers, counts_line, TellsBay, certificate_of, last_line}
+use Rattle.crp_report.specs.Report.{Numbers, counts_line, AreBayLines, certificate_of, last_line}
 
 -- a piece: the sink that it goes to, and its bytes
 pub record Piece : Type 0 where
@@ -28,7 +28,7 @@ bytes_for sink pieces = flat_map (λ p. if is_same sink p.to then p.bytes else [
 -- the pieces of bays: of each bay its lines, and then its certificate
 abbrev pub AreBayPieces : List Answered → List Piece → Type 0
 AreBayPieces [] pieces = pieces ≡ []
-AreBayPieces (bay ∷ bays) pieces = (lines : List ℕ) × (rest : List Piece) × TellsBay bay lines × AreBayPieces bays rest
+AreBayPieces (bay ∷ bays) pieces = (lines : List ℕ) × (rest : List Piece) × AreBayLines bay lines × AreBayPieces bays rest
     × (pieces ≡ piece output.Report lines ∷ piece output.Certificates (certificate_of bay) ∷ rest)
 
 -- all pieces: the first line, those of the bays, the last line, and the yard after
@@ -36,14 +36,15 @@ abbrev pub ArePieces : Numbers → List Answered → List ℕ → List Piece →
 ArePieces n answered yard_after pieces = (bays : List Piece) × AreBayPieces answered bays
     × (pieces ≡ piece output.Report (counts_line n) ∷ (bays ++ piece output.Report (last_line answered) ∷ piece output.YardAfter yard_after ∷ []))
 
--- where a write failed: the pieces before, the piece of which only so many bytes were taken, and the pieces behind
+-- where a write failed: the pieces before, the piece of which only so many bytes were taken, not all that it has, and the pieces behind
 pub record Stop : Type 0 where
   pub before : List Piece
   pub failed : Piece
   pub taken : ℕ
+  pub not_all : taken < length failed.bytes
   pub behind : List Piece
 
--- all pieces, and those that were written: of the one whose write failed a front, and none behind it
+-- all pieces, and those that were written: of the one whose write failed a front that is not all of it, and none behind it
 abbrev pub wanted : Stop → List Piece
 wanted stop = stop.before ++ stop.failed ∷ stop.behind
 

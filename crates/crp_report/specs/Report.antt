@@ -3,7 +3,7 @@ use Rattle.std.specs.Prelude.{◌≡◌, ℕ, List, [], ◌∷◌, ◌++◌, len
 use Rattle.crp_plan.specs.declared.moves.Move.{Move}
 use Rattle.crp_plan.specs.Bay.{Problem, start, IsPlan, path_of}
 use Rattle.crp_plan.specs.BayNames.{YardBay}
-use Rattle.crp_plan.specs.Plans.{Route}
+use Rattle.crp_plan.specs.Plans.{ProblemPath}
 use Rattle.crp_solve.specs.declared.answer.Answer.{Answer}
 use Rattle.crp_solve.specs.declared.answer.Answer.TheVariants as answer
 use Rattle.crp_solve.specs.declared.answer.Cause.{Cause}
@@ -12,7 +12,7 @@ use Rattle.crp_cert.specs.Writing.{certificate_text, first_certificate_text}
 use Rattle.crp_yard.specs.Inventory.{Inventory}
 use Rattle.crp_yard.specs.After.{IsAfter}
 use Rattle.crp_yard.specs.Text.{yard_text}
-use Rattle.crp_report.specs.MoveLines.{TellsMoves}
+use Rattle.crp_report.specs.MoveLines.{AreMoveLines}
 use Rattle.crp_report.specs.Answered.{Answered, plan_in, status_of, is_decided, bay_plans}
 
 -- three numbers: the loading orders, the loading groups without a container, and the ordered containers that are not in the yard
@@ -30,7 +30,7 @@ abbrev pub bay_words : YardBay → List ℕ
 bay_words bay = codes "bay " ++ (bay.block ++ (32 ∷ (decimal bay.bay ++ codes ": ")))
 
 -- the relocations of the plan, if there is one
-abbrev pub upper_words : Option Route → List ℕ
+abbrev pub upper_words : Option ProblemPath → List ℕ
 upper_words None = codes "none"
 upper_words (Some plan) = decimal (length plan.path)
 
@@ -51,22 +51,22 @@ abbrev pub answer_line : YardBay → Answer → List ℕ
 answer_line bay found = bay_words bay ++ (answer_words found ++ 10 ∷ [])
 
 -- the move lines of a plan: those of the complete plan with its path
-abbrev pub TellsPlan : List (List ℕ) → Route → List ℕ → Type 0
-TellsPlan names plan text = (moves : List Move) × IsPlan plan.problem moves × (path_of moves ≡ plan.path) × TellsMoves names (start plan.problem) moves text
+abbrev pub ArePlanLines : List (List ℕ) → ProblemPath → List ℕ → Type 0
+ArePlanLines names plan text = (moves : List Move) × IsPlan plan.problem moves × (path_of moves ≡ plan.path) × AreMoveLines names (start plan.problem) moves text
 
 -- the move lines of a plan, if there is one
-abbrev pub TellsPlanIn : List (List ℕ) → Option Route → List ℕ → Type 0
-TellsPlanIn names None text = text ≡ []
-TellsPlanIn names (Some plan) text = TellsPlan names plan text
+abbrev pub MayBePlanLines : List (List ℕ) → Option ProblemPath → List ℕ → Type 0
+MayBePlanLines names None text = text ≡ []
+MayBePlanLines names (Some plan) text = ArePlanLines names plan text
 
 -- the line of a bay, and then the move lines of its plan, if there is one
-abbrev pub TellsBay : Answered → List ℕ → Type 0
-TellsBay bay text = (lines : List ℕ) × TellsPlanIn bay.told.names (plan_in bay.solved.answer) lines × (text ≡ answer_line bay.told.bay bay.solved.answer ++ lines)
+abbrev pub AreBayLines : Answered → List ℕ → Type 0
+AreBayLines bay text = (lines : List ℕ) × MayBePlanLines bay.stated.names (plan_in bay.solved.answer) lines × (text ≡ answer_line bay.stated.bay bay.solved.answer ++ lines)
 
 -- the lines of bays, one bay after the other
-abbrev pub TellsBays : List Answered → List ℕ → Type 0
-TellsBays [] text = text ≡ []
-TellsBays (bay ∷ bays) text = (first : List ℕ) × (rest : List ℕ) × TellsBay bay first × TellsBays bays rest × (text ≡ first ++ rest)
+abbrev pub AreLinesOfBays : List Answered → List ℕ → Type 0
+AreLinesOfBays [] text = text ≡ []
+AreLinesOfBays (bay ∷ bays) text = (first : List ℕ) × (rest : List ℕ) × AreBayLines bay first × AreLinesOfBays bays rest × (text ≡ first ++ rest)
 
 -- how many bays are optimal or without a plan
 abbrev pub decided : List Answered → ℕ
@@ -82,7 +82,7 @@ last_line answered = bays_line (length answered) (decided answered)
 
 -- the report: the three numbers, the bays, and how many there are
 abbrev pub IsReport : Numbers → List Answered → List ℕ → Type 0
-IsReport n answered text = (lines : List ℕ) × TellsBays answered lines × (text ≡ counts_line n ++ (lines ++ last_line answered))
+IsReport n answered text = (lines : List ℕ) × AreLinesOfBays answered lines × (text ≡ counts_line n ++ (lines ++ last_line answered))
 
 -- the text of the certificate of an answer to a problem, under the name of a bay: that of a first best plan claims it to be that
 abbrev pub text_of : YardBay → Problem → Answer → List ℕ
@@ -93,7 +93,7 @@ text_of bay p (answer.Between lower cert plan why) = certificate_text bay p cert
 
 -- the certificate of a bay
 abbrev pub certificate_of : Answered → List ℕ
-certificate_of bay = text_of bay.told.bay bay.told.problem bay.solved.answer
+certificate_of bay = text_of bay.stated.bay bay.stated.problem bay.solved.answer
 
 -- the certificates, one for each bay, in the order of the report
 abbrev pub certificates_text : List Answered → List ℕ

@@ -1,8 +1,8 @@
 -- A run from the bytes of a yard list and of a message to a report, certificates and the yard after: what it saw, what it wrote, and what each
--- fault tells.
+-- fault states.
 use Rattle.std.specs.Prelude.{◌≡◌, ◌≢◌, ℕ, ◌+◌, ◌-◌, List, length, Option, None, Some}
 use Rattle.std.specs.Io.KnownBytes.{Appends, Keeps}
-use Rattle.crp_plan.specs.Devices.{AppendsFront, HasFailed, most_interruptions}
+use Rattle.crp_plan.specs.Devices.{AppendsFront, AppendsPart, HasFailed, most_interruptions}
 use Rattle.edi_text.specs.Parts.{SegmentParts}
 use Rattle.edi_text.specs.Spelling.{Spells}
 use Rattle.edi_text.specs.FirstFault.{IsFirstFault}
@@ -26,7 +26,7 @@ use Rattle.crp_report.specs.declared.status.Status.{Status}
 use Rattle.crp_report.specs.Answered.{Answered, AreTrueAnswers, status_of_all}
 use Rattle.crp_report.specs.Chosen.{RunChosen}
 use Rattle.crp_report.specs.Report.{Numbers, IsReport, certificates_text, IsYardTextAfter}
-use Rattle.crp_report.specs.Pieces.{ArePieces, bytes_for, Stop, wanted, written}
+use Rattle.crp_report.specs.Pieces.{Piece, ArePieces, bytes_for, Stop, wanted, written}
 
 -- what a call saw of a source: the bytes that it had, and its count of failures before and after
 pub record SourceSeen : Type 0 where
@@ -42,7 +42,7 @@ pub record SinkSeen : Type 0 where
   pub after : ℕ
 
 -- what a run saw of its two sources and three sinks
-pub record Seen : Type 0 where
+pub record RunSeen : Type 0 where
   pub yard : SourceSeen
   pub movins : SourceSeen
   pub report : SinkSeen
@@ -77,7 +77,7 @@ pub record Made : Type 0 where
   pub yard_after : List ℕ
 
 -- the texts are those that the sources had, both are accepted, the answers are true, and one list of answers gives all three texts
-pub record IsMade (chosen : RunChosen) (s : Seen) (m : Made) : Type 0 where
+pub record IsMade (chosen : RunChosen) (s : RunSeen) (m : Made) : Type 0 where
   pub given_list : IsTextOf s.yard.given m.list
   pub given_message : IsTextOf s.movins.given m.message
   pub listed : IsListed chosen m.list m.yard
@@ -96,73 +96,88 @@ Gets s text = Appends s.held s.holds text
 abbrev pub GetsFront : SinkSeen → List ℕ → Type 0
 GetsFront s text = AppendsFront s.held s.holds text
 
+-- the sink got a front of this text that is not all of it, and nothing else
+abbrev pub GetsPart : SinkSeen → List ℕ → Type 0
+GetsPart s text = AppendsPart s.held s.holds text
+
 -- the sink got nothing
 abbrev pub GetsNothing : SinkSeen → Type 0
 GetsNothing s = Keeps s.held s.holds
 
 -- each sink got its text, and the status says how the searches ended together
-abbrev pub Writes : RunChosen → Seen → Status → Type 0
-Writes chosen s status = (m : Made) × IsMade chosen s m × (status ≡ status_of_all m.answered)
+abbrev pub WritesTexts : RunChosen → RunSeen → Status → Type 0
+WritesTexts chosen s status = (m : Made) × IsMade chosen s m × (status ≡ status_of_all m.answered)
     × Gets s.report m.report × Gets s.certificates m.certificates × Gets s.yard_after m.yard_after
 
 -- what was seen of a source, and of a sink
-abbrev pub source_of : Seen → Input → SourceSeen
+abbrev pub source_of : RunSeen → Input → SourceSeen
 source_of s input.Yard = s.yard
 source_of s input.Movins = s.movins
 
-abbrev pub sink_of : Seen → Output → SinkSeen
+abbrev pub sink_of : RunSeen → Output → SinkSeen
 sink_of s output.Report = s.report
 sink_of s output.Certificates = s.certificates
 sink_of s output.YardAfter = s.yard_after
 
--- the writing stopped within a piece for this sink: each sink got what goes to it of the pieces before and of a front of this one, and nothing else
-abbrev pub StopsAt : Made → Seen → Output → Type 0
-StopsAt m s sink = (stop : Stop) × ArePieces (numbers_of m.yard m.orders m.sequence) m.answered m.yard_after (wanted stop) × (stop.failed.to ≡ sink)
-    × ((each : Output) → Gets (sink_of s each) (bytes_for each (written stop)))
+-- the text of a run that goes to a sink
+abbrev pub text_for : Made → Output → List ℕ
+text_for m output.Report = m.report
+text_for m output.Certificates = m.certificates
+text_for m output.YardAfter = m.yard_after
 
--- each sink got a front of its text, as far as the pieces were written when the writing stopped within one for this sink
-abbrev pub WritesFronts : RunChosen → Seen → Output → Type 0
-WritesFronts chosen s sink = (m : Made) × IsMade chosen s m
-    × GetsFront s.report m.report × GetsFront s.certificates m.certificates × GetsFront s.yard_after m.yard_after × StopsAt m s sink
+-- the pieces for each sink are together the text that goes to it
+abbrev pub MakeUpTexts : Made → List Piece → Type 0
+MakeUpTexts m pieces = (each : Output) → bytes_for each pieces ≡ text_for m each
+
+-- the writing of the three texts stopped within a piece for this sink: each sink got what goes to it of the pieces before and of a front of this one,
+-- which is not all of it, and nothing else
+abbrev pub StopsAt : Made → RunSeen → Output → Type 0
+StopsAt m s sink = (stop : Stop) × ArePieces (numbers_of m.yard m.orders m.sequence) m.answered m.yard_after (wanted stop) × MakeUpTexts m (wanted stop)
+    × (stop.failed.to ≡ sink) × ((each : Output) → Gets (sink_of s each) (bytes_for each (written stop)))
+
+-- each sink got a front of its text, and this one not all of it, as far as the pieces were written when the writing stopped within one for this sink
+abbrev pub WritesFronts : RunChosen → RunSeen → Output → Type 0
+WritesFronts chosen s sink = (m : Made) × IsMade chosen s m × ((each : Output) → GetsFront (sink_of s each) (text_for m each))
+    × GetsPart (sink_of s sink) (text_for m sink) × StopsAt m s sink
 
 -- no sink got anything
-abbrev pub WritesNothing : Seen → Type 0
+abbrev pub WritesNothing : RunSeen → Type 0
 WritesNothing s = GetsNothing s.report × GetsNothing s.certificates × GetsNothing s.yard_after
 
 -- the yard list that the source had is accepted
-abbrev pub IsYardAccepted : RunChosen → Seen → Type 0
+abbrev pub IsYardAccepted : RunChosen → RunSeen → Type 0
 IsYardAccepted chosen s = (text : List ℕ) × (yard : Inventory) × IsTextOf s.yard.given text × IsListed chosen text yard
 
 -- before the message is looked at the yard list is accepted
-abbrev pub IsInputBeforeAccepted : RunChosen → Seen → Input → Type 0
+abbrev pub IsInputBeforeAccepted : RunChosen → RunSeen → Input → Type 0
 IsInputBeforeAccepted chosen s input.Yard = Unit {0}
 IsInputBeforeAccepted chosen s input.Movins = IsYardAccepted chosen s
 
 -- so many calls of the devices have failed in the run
-abbrev pub failures_in : Seen → ℕ
-failures_in s = (s.yard.after - s.yard.before) + ((s.movins.after - s.movins.before) + ((s.report.after - s.report.before)
+abbrev pub run_failures : RunSeen → ℕ
+run_failures s = (s.yard.after - s.yard.before) + ((s.movins.after - s.movins.before) + ((s.report.after - s.report.before)
     + ((s.certificates.after - s.certificates.before) + (s.yard_after.after - s.yard_after.before))))
 
--- so many failed calls a fault tells: one where a read or a write has failed, else none
-abbrev pub failures_told : Fault → ℕ
-failures_told (fault.Read source) = 1
-failures_told (fault.Write sink) = 1
-failures_told f = 0
+-- so many failed calls a fault states: one where a read or a write has failed, else none
+abbrev pub failures_of_fault : Fault → ℕ
+failures_of_fault (fault.Read source) = 1
+failures_of_fault (fault.Write sink) = 1
+failures_of_fault f = 0
 
--- so many calls fail at most in a run that tells this fault: those that are passed over, and the one that is told
-abbrev pub most_failures : Fault → ℕ
-most_failures f = most_interruptions + failures_told f
+-- so many calls fail at most in a run that states this fault: those that are passed over, and the one that is stated
+abbrev pub most_run_failures : Fault → ℕ
+most_run_failures f = most_interruptions + failures_of_fault f
 
--- what a fault tells: the first fault of the yard list; where that has none, the first fault of the interchange or of its message; a read or a
--- write that has failed in this call; or want of memory. Something may have been written only where a write failed: fronts of the three texts, up to
--- that write.
-abbrev pub Tells : RunChosen → Seen → Fault → Type 0
-Tells chosen s (fault.Yard f) = WritesNothing s × (f ≢ yard_fault.Read) × (f ≢ yard_fault.Memory)
+-- what a fault states: the first fault of the yard list; where that has none, the first fault of the interchange or of its message; a read or a
+-- write that has failed in this call; or lack of memory. Something may have been written only where a write failed: fronts of the three texts, up to
+-- that write, and not all of the text whose write failed.
+abbrev pub RunFailsWith : RunChosen → RunSeen → Fault → Type 0
+RunFailsWith chosen s (fault.Yard f) = WritesNothing s × (f ≢ yard_fault.Read) × (f ≢ yard_fault.Memory)
     × ((text : List ℕ) × IsTextOf s.yard.given text × (fault_of_text chosen.heights text ≡ Some f))
-Tells chosen s (fault.Interchange f) = WritesNothing s × (f ≢ edi.Memory) × IsYardAccepted chosen s
+RunFailsWith chosen s (fault.Interchange f) = WritesNothing s × (f ≢ edi.Memory) × IsYardAccepted chosen s
     × ((text : List ℕ) × IsTextOf s.movins.given text × IsFirstFault text f)
-Tells chosen s (fault.Message f) = WritesNothing s × (f ≢ movins.Memory) × IsYardAccepted chosen s
+RunFailsWith chosen s (fault.Message f) = WritesNothing s × (f ≢ movins.Memory) × IsYardAccepted chosen s
     × ((text : List ℕ) × (segments : List SegmentParts) × IsTextOf s.movins.given text × Spells text segments × (first_fault segments chosen.code ≡ Some f))
-Tells chosen s (fault.Read source) = WritesNothing s × IsInputBeforeAccepted chosen s source × HasFailed (source_of s source).before (source_of s source).after
-Tells chosen s (fault.Write sink) = WritesFronts chosen s sink × HasFailed (sink_of s sink).before (sink_of s sink).after
-Tells chosen s fault.Memory = WritesNothing s
+RunFailsWith chosen s (fault.Read source) = WritesNothing s × IsInputBeforeAccepted chosen s source × HasFailed (source_of s source).before (source_of s source).after
+RunFailsWith chosen s (fault.Write sink) = WritesFronts chosen s sink × HasFailed (sink_of s sink).before (sink_of s sink).after
+RunFailsWith chosen s fault.Memory = WritesNothing s

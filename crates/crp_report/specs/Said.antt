@@ -7,7 +7,7 @@ use Rattle.crp_solve.specs.declared.answer.Answer.{Answer}
 use Rattle.crp_solve.specs.declared.answer.Answer.TheVariants as answer
 use Rattle.crp_solve.specs.declared.answer.Cause.{Cause}
 use Rattle.crp_report.specs.Answered.{Answered, plan_in}
-use Rattle.crp_report.specs.Report.{Numbers, counts_line, bay_words, cause_words, bays_line, TellsPlanIn}
+use Rattle.crp_report.specs.Report.{Numbers, counts_line, bay_words, cause_words, bays_line, MayBePlanLines}
 use Rattle.crp_report.specs.Runs.{Made, numbers_of}
 
 -- what is said of the fewest relocations: so many; so many, and that the printed plan is the first of those with as many; that there is no plan; or
@@ -64,9 +64,9 @@ IsReportedFirst bay = (count : ℕ) × (said_by bay.solved.answer ≡ First coun
 
 -- this is what is said of a bay that is answered so
 pub record IsSaidOf (bay : Answered) (b : BaySaid) : Type 0 where
-  pub bay_is : b.bay ≡ bay.told.bay
+  pub bay_is : b.bay ≡ bay.stated.bay
   pub said_is : b.said ≡ said_by bay.solved.answer
-  pub lines_are : TellsPlanIn bay.told.names (plan_in bay.solved.answer) b.lines
+  pub lines_are : MayBePlanLines bay.stated.names (plan_in bay.solved.answer) b.lines
 
 -- this is what a run says of its bays, in order: it is said of each as it was answered, and the report is the text of it
 pub record SaysOfBays (m : Made) (bays : List BaySaid) : Type 0 where

@@ -3,44 +3,44 @@ ghost use Rattle.std.specs.Prelude.{◌≡◌, List, count_by};
 ghost use Rattle.std.specs.List.{list_any};
 ghost use Rattle.crp_report.specs.Answered.{Answered, is_memory, is_budget, is_decided, status_of_all};
 ghost use Rattle.crp_report.specs.Report.{decided};
-ghost use Rattle.crp_report.specs.Telling.{AreTold};
+ghost use Rattle.crp_report.specs.BayTexts.{AreTextsOfBays};
 
+use crate::bay_texts::BayTexts;
 use crate::status::Status;
-use crate::telling::ToldBay;
 
-fn is_memory(bay: &ToldBay) -> bool
+fn is_memory(bay: &BayTexts) -> bool
     ensures { result ≡ is_memory bay.now.status }
 {
     matches!(bay.status, Status::Memory)
 }
 
-fn is_budget(bay: &ToldBay) -> bool
+fn is_budget(bay: &BayTexts) -> bool
     ensures { result ≡ is_budget bay.now.status }
 {
     matches!(bay.status, Status::Budget)
 }
 
-fn is_decided(bay: &ToldBay) -> bool
+fn is_decided(bay: &BayTexts) -> bool
     ensures { result ≡ is_decided bay.now.status }
 {
     matches!(bay.status, Status::Decided)
 }
 
-fn some_memory(bays: &[ToldBay]) -> bool
+fn some_memory(bays: &[BayTexts]) -> bool
     ensures { result ≡ list_any (λ bay. is_memory bay.status) bays.now }
 {
     bays.iter().any(|bay| is_memory(bay))
 }
 
-fn some_budget(bays: &[ToldBay]) -> bool
+fn some_budget(bays: &[BayTexts]) -> bool
     ensures { result ≡ list_any (λ bay. is_budget bay.status) bays.now }
 {
     bays.iter().any(|bay| is_budget(bay))
 }
 
 /// How the searches ended together.
-pub(crate) fn status_of_all(bays: &[ToldBay]) -> Status
-    ensures { (answered : List Answered) → AreTold answered bays.now → result ≡ status_of_all answered }
+pub(crate) fn status_of_all(bays: &[BayTexts]) -> Status
+    ensures { (answered : List Answered) → AreTextsOfBays answered bays.now → result ≡ status_of_all answered }
 {
     if some_memory(bays) {
         Status::Memory
@@ -52,8 +52,8 @@ pub(crate) fn status_of_all(bays: &[ToldBay]) -> Status
 }
 
 /// How many bays are decided.
-pub(crate) fn decided(bays: &[ToldBay]) -> usize
-    ensures { (answered : List Answered) → AreTold answered bays.now → result ≡ decided answered }
+pub(crate) fn decided(bays: &[BayTexts]) -> usize
+    ensures { (answered : List Answered) → AreTextsOfBays answered bays.now → result ≡ decided answered }
 {
     let mut decided = 0;
     for bay in bays {

@@ -1,7 +1,7 @@
 //! Why a run did not do what it was asked for.
 ghost use Rattle.std.specs.Prelude.{◌≡◌, Some};
 ghost use Rattle.crp_report.specs.Words.{input_words, output_words};
-ghost use Rattle.crp_report.specs.Telling.{yard_told, interchange_told, message_told};
+ghost use Rattle.crp_report.specs.BayTexts.{fault_of_yard, fault_of_interchange, fault_of_message};
 ghost use Rattle.crp_report.specs.declared.fault.Fault.TheVariants.{Memory};
 
 use crp_movins::MovinsFault;
@@ -86,7 +86,7 @@ impl From<AllocError> for Fault {
 }
 
 impl From<YardFault> for Fault {
-    ghost from_gives = { λ error fault. fault ≡ yard_told error };
+    ghost from_gives = { λ error fault. fault ≡ fault_of_yard error };
 
     fn from(error: YardFault) -> Fault {
         match error {
@@ -98,7 +98,7 @@ impl From<YardFault> for Fault {
 }
 
 impl From<EdiFault> for Fault {
-    ghost from_gives = { λ error fault. fault ≡ interchange_told error };
+    ghost from_gives = { λ error fault. fault ≡ fault_of_interchange error };
 
     fn from(error: EdiFault) -> Fault {
         match error {
@@ -109,7 +109,7 @@ impl From<EdiFault> for Fault {
 }
 
 impl From<MovinsFault> for Fault {
-    ghost from_gives = { λ error fault. fault ≡ message_told error };
+    ghost from_gives = { λ error fault. fault ≡ fault_of_message error };
 
     fn from(error: MovinsFault) -> Fault {
         match error {

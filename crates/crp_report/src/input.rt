@@ -3,8 +3,8 @@ ghost use Rattle.std.specs.Prelude.{ℕ, ◌≤◌, List, IfOk, IfErr, MatchResu
 ghost use Rattle.crp_plan.specs.Devices.{most_interruptions};
 ghost use Rattle.crp_yard.specs.Reading.{IsTextOf, IsYardListOf};
 ghost use Rattle.crp_report.specs.Chosen.{CanBeHeights};
-ghost use Rattle.crp_report.specs.Runs.{AreOrders, failures_told};
-ghost use Rattle.crp_report.specs.Telling.{AreFailuresCounted, IsNoYard, IsNoOrders, IsNoMessage};
+ghost use Rattle.crp_report.specs.Runs.{AreOrders, failures_of_fault};
+ghost use Rattle.crp_report.specs.BayTexts.{AreFailuresCounted, IsNoYard, IsNoOrders, IsNoMessage};
 
 use crate::fault::{Fault, Input};
 use crp_movins::{Orders, load_orders};
@@ -24,7 +24,9 @@ pub(crate) fn yard_from<Y: Source>(
     requires passed { interruptions.old ≤ most_interruptions }
     ensures accepted { IfOk result (λ yard. (text : List ℕ) × IsTextOf (Y.remaining source.old) text × IsYardListOf heights.now text yard) }
     ensures refused { IfErr result (IsNoYard heights.now (Y.remaining source.old) (Y.failures source.old) (Y.failures source.new)) }
-    ensures counted { MatchResult result (λ _. AreFailuresCounted 0 (Y.failures source.old) (Y.failures source.new) interruptions.old interruptions.new) (λ fault. AreFailuresCounted (failures_told fault) (Y.failures source.old) (Y.failures source.new) interruptions.old interruptions.new) }
+    ensures counted { MatchResult result
+        (λ _. AreFailuresCounted 0 (Y.failures source.old) (Y.failures source.new) interruptions.old interruptions.new)
+        (λ fault. AreFailuresCounted (failures_of_fault fault) (Y.failures source.old) (Y.failures source.new) interruptions.old interruptions.new) }
     ensures passed { interruptions.new ≤ most_interruptions }
 {
     let text = match read_all(alloc, source, MAX_BYTES, interruptions) {
@@ -47,7 +49,7 @@ fn orders_of(alloc: Global, text: &[u8], code: &[u8]) -> Result<Orders, Fault>
     Ok(orders)
 }
 
-/// The load orders that the bytes of a source tell under this handling code.
+/// The load orders that the bytes of a source state under this handling code.
 pub(crate) fn orders_from<M: Source>(
     alloc: Global,
     source: &mut M,
@@ -57,7 +59,9 @@ pub(crate) fn orders_from<M: Source>(
     requires { interruptions.old ≤ most_interruptions }
     ensures accepted { IfOk result (λ orders. (text : List ℕ) × IsTextOf (M.remaining source.old) text × AreOrders code.now text orders) }
     ensures refused { IfErr result (IsNoMessage code.now (M.remaining source.old) (M.failures source.old) (M.failures source.new)) }
-    ensures counted { MatchResult result (λ _. AreFailuresCounted 0 (M.failures source.old) (M.failures source.new) interruptions.old interruptions.new) (λ fault. AreFailuresCounted (failures_told fault) (M.failures source.old) (M.failures source.new) interruptions.old interruptions.new) }
+    ensures counted { MatchResult result
+        (λ _. AreFailuresCounted 0 (M.failures source.old) (M.failures source.new) interruptions.old interruptions.new)
+        (λ fault. AreFailuresCounted (failures_of_fault fault) (M.failures source.old) (M.failures source.new) interruptions.old interruptions.new) }
     ensures count { M.failures source.old ≤ M.failures source.new }
     ensures passed { interruptions.new ≤ most_interruptions }
 {

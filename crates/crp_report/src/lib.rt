@@ -7,6 +7,7 @@
 #![tactic(auto)]
 
 mod answers;
+mod bay_texts;
 mod endings;
 mod fault;
 mod input;
@@ -18,7 +19,6 @@ mod printing;
 mod running;
 mod settings;
 mod status;
-mod telling;
 mod writing;
 
 pub use answers::{certificate_of, status_of};

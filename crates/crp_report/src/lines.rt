@@ -2,7 +2,7 @@
 ghost use Rattle.std.specs.Prelude.{◌≡◌, ◌++◌, ◌∷◌, [], IfOk, OnOk, map};
 ghost use Rattle.std.specs.Option.{option_copied};
 ghost use Rattle.crp_report.specs.Answered.{plan_in};
-ghost use Rattle.crp_report.specs.Report.{counts_line, bay_words, upper_words, cause_words, answer_words, answer_line, bays_line, TellsPlan, TellsPlanIn};
+ghost use Rattle.crp_report.specs.Report.{counts_line, bay_words, upper_words, cause_words, answer_words, answer_line, bays_line, ArePlanLines, MayBePlanLines};
 
 use crate::move_lines::lines_of;
 use crate::numbers::Counts;
@@ -93,7 +93,7 @@ pub(crate) fn plan_lines(
     plan: &Plan,
     names: &[Vec<u8>],
 ) -> Result<Vec<u8>, AllocError>
-    ensures { IfOk result (λ text. TellsPlan (map (λ name. name.items) names.now) plan.now text.items) }
+    ensures { IfOk result (λ text. ArePlanLines (map (λ name. name.items) names.now) plan.now text.items) }
 {
     let moves = plan.moves(alloc)?;
     lines_of(alloc, plan, &moves, names)
@@ -105,7 +105,7 @@ pub(crate) fn answer_lines(
     answer: &Answer,
     names: &[Vec<u8>],
 ) -> Result<Vec<u8>, AllocError>
-    ensures { IfOk result (λ text. TellsPlanIn (map (λ name. name.items) names.now) (plan_in answer.now) text.items) }
+    ensures { IfOk result (λ text. MayBePlanLines (map (λ name. name.items) names.now) (plan_in answer.now) text.items) }
 {
     match answer {
         Answer::Optimal { plan, .. } => plan_lines(alloc, plan, names),

@@ -1,7 +1,7 @@
 //! The moves of a plan as lines of text.
 ghost use Rattle.std.specs.Prelude.{◌≡◌, ◌<◌, ◌+◌, ◌-◌, ◌++◌, IfOk, OnOk, map};
 ghost use Rattle.crp_plan.specs.Bay.{Position, IsSound, Legal, IsPlan, start};
-ghost use Rattle.crp_report.specs.MoveLines.{name_of, rank_names, place_words, container, move_line, TellsMoves};
+ghost use Rattle.crp_report.specs.MoveLines.{name_of_rank, rank_names, place_words, container, move_line, AreMoveLines};
 
 use crp_cert::push_decimal;
 use crp_plan::{Move, Plan, Walk};
@@ -31,7 +31,7 @@ fn push_place(text: &mut Vec<u8>, row: u8, tier: u8) -> Result<(), AllocError>
 
 // What a rank is called.
 fn name_at(names: &[Vec<u8>], rank: u8) -> &[u8]
-    ensures { result.now ≡ name_of (map (λ name. name.items) names.now) rank }
+    ensures { result.now ≡ name_of_rank (map (λ name. name.items) names.now) rank }
 {
     match names.get(rank.saturating_sub(1) as usize) {
         Some(name) => name.as_slice(),
@@ -99,7 +99,7 @@ pub fn lines_of(
     names: &[Vec<u8>],
 ) -> Result<Vec<u8>, AllocError>
     requires { IsPlan plan.now.problem moves.now }
-    ensures { IfOk result (λ text. TellsMoves (map (λ name. name.items) names.now) (start plan.now.problem) moves.now text.items) }
+    ensures { IfOk result (λ text. AreMoveLines (map (λ name. name.items) names.now) (start plan.now.problem) moves.now text.items) }
 {
     let mut walk = Walk::before(plan.problem());
     let mut text = Vec::new(alloc);

@@ -2,8 +2,8 @@
 ghost use Rattle.std.specs.Prelude.{◌≡◌, ◌≤◌, ◌-◌, length, map, OnOk, IfErr, MatchResult};
 ghost use Rattle.crp_plan.specs.Devices.{most_interruptions};
 ghost use Rattle.crp_plan.specs.Rows.{total};
-ghost use Rattle.crp_report.specs.Printing.{WritesMoves, TellsOfMoves};
-ghost use Rattle.crp_report.specs.Runs.{SinkSeen, most_failures};
+ghost use Rattle.crp_report.specs.Printing.{WritesMoves, PrintingFailsWith};
+ghost use Rattle.crp_report.specs.Runs.{SinkSeen, most_run_failures};
 
 use crate::fault::{Fault, Output};
 use crate::lines::plan_lines;
@@ -18,14 +18,14 @@ pub fn print_moves<W: Sink>(
     names: &[Vec<u8>],
 ) -> Result<(), Fault>
     requires { length names.now ≡ total plan.now.problem.stacks }
-    ensures told { let seen : SinkSeen = record {
+    ensures stated { let seen : SinkSeen = record {
       held = W.contents sink.old;
       holds = W.contents sink.new;
       before = W.failures sink.old;
       after = W.failures sink.new;
-    } in MatchResult result (λ _. WritesMoves (map (λ name. name.items) names.now) plan.now seen) (TellsOfMoves (map (λ name. name.items) names.now) plan.now seen) }
+    } in MatchResult result (λ _. WritesMoves (map (λ name. name.items) names.now) plan.now seen) (PrintingFailsWith (map (λ name. name.items) names.now) plan.now seen) }
     ensures passed { OnOk result (W.failures sink.new - W.failures sink.old ≤ most_interruptions) }
-    ensures ended { IfErr result (λ fault. W.failures sink.new - W.failures sink.old ≤ most_failures fault) }
+    ensures ended { IfErr result (λ fault. W.failures sink.new - W.failures sink.old ≤ most_run_failures fault) }
 {
     let lines = plan_lines(alloc, plan, names)?;
     let mut interruptions = 0;

@@ -8,9 +8,10 @@ ghost use Rattle.crp_yard.specs.After.{IsPlanForBay, IsAfter};
 ghost use Rattle.crp_yard.specs.Text.{yard_text as list_of};
 ghost use Rattle.crp_order.specs.BayProblems.{problems_of};
 ghost use Rattle.crp_report.specs.Answered.{Answered, AreTrueAnswers, bay_plans};
-ghost use Rattle.crp_report.specs.Runs.{Seen, failures_in, most_failures, Writes, Tells};
-ghost use Rattle.crp_report.specs.Telling.{AreTold, AreTextsOf};
+ghost use Rattle.crp_report.specs.Runs.{RunSeen, run_failures, most_run_failures, WritesTexts, RunFailsWith};
+ghost use Rattle.crp_report.specs.BayTexts.{AreTextsOfBays, AreTextsOf};
 
+use crate::bay_texts::{TextsOfBays, texts_of_bays};
 use crate::endings::{decided, status_of_all};
 use crate::fault::Fault;
 use crate::input::{orders_from, yard_from};
@@ -18,7 +19,6 @@ use crate::lines::{last_text, numbers_text};
 use crate::numbers::Counts;
 use crate::settings::RunSettings;
 use crate::status::Status;
-use crate::telling::{ToldBays, told_bays};
 use crate::writing::{Texts, write_texts};
 use crp_movins::Orders;
 use crp_order::{Sequence, absent, problems, sequence};
@@ -29,22 +29,22 @@ use std::alloc::{AllocError, Global};
 use std::sync::Wait;
 use std::thread::Threads;
 
-// What is told of the bays of the sequence, once their problems are answered.
-fn told_of<T: Threads + Wait + Sync>(
+// What is stated of the bays of the sequence, once their problems are answered.
+fn texts_for<T: Threads + Wait + Sync>(
     rt: &T,
     alloc: Global,
     yard: &Yard,
     sequence: &Sequence,
     settings: Settings,
-) -> Result<ToldBays, AllocError>
-    ensures told { IfOk result (λ told. (answered : List Answered)
+) -> Result<TextsOfBays, AllocError>
+    ensures stated { IfOk result (λ stated. (answered : List Answered)
         × AreTrueAnswers settings (problems_of yard.now sequence.now) answered
-        × AreTold answered told.bays.items × (told.plans.items ≡ bay_plans answered)) }
-    ensures plans { IfOk result (λ told. All (IsPlanForBay yard.now) told.plans.items) }
-    ensures once { IfOk result (λ told. IsDistinct same_bay (map (λ plan. plan.bay) told.plans.items)) }
+        × AreTextsOfBays answered stated.bays.items × (stated.plans.items ≡ bay_plans answered)) }
+    ensures plans { IfOk result (λ stated. All (IsPlanForBay yard.now) stated.plans.items) }
+    ensures once { IfOk result (λ stated. IsDistinct same_bay (map (λ plan. plan.bay) stated.plans.items)) }
 {
     let problems = problems(alloc, yard, sequence)?;
-    told_bays(rt, alloc, problems, settings)
+    texts_of_bays(rt, alloc, problems, settings)
 }
 
 // The yard list after the plans.
@@ -76,13 +76,13 @@ fn texts_of<T: Threads + Wait + Sync>(
         absent: absent(yard, &sequence),
     };
     let first = numbers_text(alloc, counts)?;
-    let told = told_of(rt, alloc, yard, &sequence, settings.search())?;
-    let yard_after = text_after(alloc, yard, &told.plans)?;
-    let status = status_of_all(&told.bays);
-    let last = last_text(alloc, told.bays.len(), decided(&told.bays))?;
+    let stated = texts_for(rt, alloc, yard, &sequence, settings.search())?;
+    let yard_after = text_after(alloc, yard, &stated.plans)?;
+    let status = status_of_all(&stated.bays);
+    let last = last_text(alloc, stated.bays.len(), decided(&stated.bays))?;
     Ok(Texts {
         first,
-        bays: told.bays,
+        bays: stated.bays,
         last,
         yard_after,
         status,
@@ -105,13 +105,14 @@ pub fn run<T: Threads + Wait + Sync, Y: Source, M: Source, W: Sink, C: Sink, A: 
     cert_out: &mut C,
     after_out: &mut A,
 ) -> Result<Status, Fault>
-    ensures { let seen : Seen = record {
+    ensures { let seen : RunSeen = record {
       yard = record { given = Y.remaining yard.old; before = Y.failures yard.old; after = Y.failures yard.new };
       movins = record { given = M.remaining movins.old; before = M.failures movins.old; after = M.failures movins.new };
       report = record { held = W.contents out.old; holds = W.contents out.new; before = W.failures out.old; after = W.failures out.new };
       certificates = record { held = C.contents cert_out.old; holds = C.contents cert_out.new; before = C.failures cert_out.old; after = C.failures cert_out.new };
       yard_after = record { held = A.contents after_out.old; holds = A.contents after_out.new; before = A.failures after_out.old; after = A.failures after_out.new };
-    } in MatchResult result (λ status. Writes settings.now seen status × (failures_in seen ≤ most_interruptions)) (λ fault. Tells settings.now seen fault × (failures_in seen ≤ most_failures fault)) }
+    } in MatchResult result (λ status. WritesTexts settings.now seen status × (run_failures seen ≤ most_interruptions))
+        (λ fault. RunFailsWith settings.now seen fault × (run_failures seen ≤ most_run_failures fault)) }
 {
     let mut interruptions = 0;
     let listed = yard_from(alloc, yard, settings.heights(), &mut interruptions)?;

@@ -1,14 +1,14 @@
 //! Writes the texts of a run.
-ghost use Rattle.std.specs.Prelude.{◌≤◌, ◌+◌, IfErr, OnOk, MatchResult};
+ghost use Rattle.std.specs.Prelude.{◌≤◌, ◌+◌, IfErr, OnOk, OnErr, MatchResult};
 ghost use Rattle.std.specs.Io.KnownBytes.{Appends};
-ghost use Rattle.crp_plan.specs.Devices.{AppendsFront, most_interruptions};
-ghost use Rattle.crp_report.specs.Runs.{failures_told};
-ghost use Rattle.crp_report.specs.Telling.{AreFailuresCounted};
+ghost use Rattle.crp_plan.specs.Devices.{AppendsPart, most_interruptions};
+ghost use Rattle.crp_report.specs.Runs.{failures_of_fault};
+ghost use Rattle.crp_report.specs.BayTexts.{AreFailuresCounted};
 ghost use Rattle.crp_report.specs.Writing.{reports_of, certificates_of, report_of, IsWriteOf, IsBaysFault, IsTextsFault, bay_pieces, pieces_of, IsBaysStop, IsTextsStop};
 
+use crate::bay_texts::BayTexts;
 use crate::fault::{Fault, Output};
 use crate::status::Status;
-use crate::telling::ToldBay;
 use crp_plan::{Sink, write_all};
 
 /// The texts of a run, in pieces.
@@ -16,8 +16,8 @@ use crp_plan::{Sink, write_all};
 pub(crate) struct Texts {
     /// The first line of the report.
     pub first: Vec<u8>,
-    /// What is told of each bay.
-    pub bays: Vec<ToldBay>,
+    /// What is stated of each bay.
+    pub bays: Vec<BayTexts>,
     /// The last line of the report.
     pub last: Vec<u8>,
     /// The yard list after the plans.
@@ -35,9 +35,10 @@ fn write_piece<W: Sink>(
 ) -> Result<(), Fault>
     requires { interruptions.old ≤ most_interruptions }
     ensures all { OnOk result (Appends (W.contents sink.old) (W.contents sink.new) piece.now) }
-    ensures front { AppendsFront (W.contents sink.old) (W.contents sink.new) piece.now }
+    ensures part { OnErr result (AppendsPart (W.contents sink.old) (W.contents sink.new) piece.now) }
     ensures refused { IfErr result (IsWriteOf output (W.failures sink.old) (W.failures sink.new)) }
-    ensures counted { MatchResult result (λ _. AreFailuresCounted 0 (W.failures sink.old) (W.failures sink.new) interruptions.old interruptions.new) (λ fault. AreFailuresCounted (failures_told fault) (W.failures sink.old) (W.failures sink.new) interruptions.old interruptions.new) }
+    ensures counted { MatchResult result (λ _. AreFailuresCounted 0 (W.failures sink.old) (W.failures sink.new) interruptions.old interruptions.new)
+        (λ fault. AreFailuresCounted (failures_of_fault fault) (W.failures sink.old) (W.failures sink.new) interruptions.old interruptions.new) }
     ensures count { W.failures sink.old ≤ W.failures sink.new }
     ensures passed { interruptions.new ≤ most_interruptions }
 {
@@ -51,17 +52,17 @@ fn write_piece<W: Sink>(
 fn write_bays<W: Sink, C: Sink>(
     out: &mut W,
     cert_out: &mut C,
-    bays: &[ToldBay],
+    bays: &[BayTexts],
     interruptions: &mut u32,
 ) -> Result<(), Fault>
     requires { interruptions.old ≤ most_interruptions }
     ensures reports { OnOk result (Appends (W.contents out.old) (W.contents out.new) (reports_of bays.now)) }
     ensures certificates { OnOk result (Appends (C.contents cert_out.old) (C.contents cert_out.new) (certificates_of bays.now)) }
-    ensures reports_front { AppendsFront (W.contents out.old) (W.contents out.new) (reports_of bays.now) }
-    ensures certificates_front { AppendsFront (C.contents cert_out.old) (C.contents cert_out.new) (certificates_of bays.now) }
     ensures refused { IfErr result (IsBaysFault (W.failures out.old) (W.failures out.new) (C.failures cert_out.old) (C.failures cert_out.new)) }
     ensures stopped { IfErr result (IsBaysStop (bay_pieces bays.now) (W.contents out.old) (W.contents out.new) (C.contents cert_out.old) (C.contents cert_out.new)) }
-    ensures counted { MatchResult result (λ _. AreFailuresCounted 0 (W.failures out.old + C.failures cert_out.old) (W.failures out.new + C.failures cert_out.new) interruptions.old interruptions.new) (λ fault. AreFailuresCounted (failures_told fault) (W.failures out.old + C.failures cert_out.old) (W.failures out.new + C.failures cert_out.new) interruptions.old interruptions.new) }
+    ensures counted { MatchResult result
+        (λ _. AreFailuresCounted 0 (W.failures out.old + C.failures cert_out.old) (W.failures out.new + C.failures cert_out.new) interruptions.old interruptions.new)
+        (λ fault. AreFailuresCounted (failures_of_fault fault) (W.failures out.old + C.failures cert_out.old) (W.failures out.new + C.failures cert_out.new) interruptions.old interruptions.new) }
     ensures counts { (W.failures out.old ≤ W.failures out.new) × (C.failures cert_out.old ≤ C.failures cert_out.new) }
     ensures passed { interruptions.new ≤ most_interruptions }
 {
@@ -89,12 +90,15 @@ pub(crate) fn write_texts<W: Sink, C: Sink, A: Sink>(
     ensures report { OnOk result (Appends (W.contents out.old) (W.contents out.new) (report_of texts.now)) }
     ensures certificates { OnOk result (Appends (C.contents cert_out.old) (C.contents cert_out.new) (certificates_of texts.now.bays.items)) }
     ensures yard_after { OnOk result (Appends (A.contents after_out.old) (A.contents after_out.new) texts.now.yard_after.items) }
-    ensures report_front { AppendsFront (W.contents out.old) (W.contents out.new) (report_of texts.now) }
-    ensures certificates_front { AppendsFront (C.contents cert_out.old) (C.contents cert_out.new) (certificates_of texts.now.bays.items) }
-    ensures yard_after_front { AppendsFront (A.contents after_out.old) (A.contents after_out.new) texts.now.yard_after.items }
-    ensures refused { IfErr result (IsTextsFault (W.failures out.old) (W.failures out.new) (C.failures cert_out.old) (C.failures cert_out.new) (A.failures after_out.old) (A.failures after_out.new)) }
-    ensures stopped { IfErr result (IsTextsStop (pieces_of texts.now) (W.contents out.old) (W.contents out.new) (C.contents cert_out.old) (C.contents cert_out.new) (A.contents after_out.old) (A.contents after_out.new)) }
-    ensures counted { MatchResult result (λ _. AreFailuresCounted 0 (W.failures out.old + (C.failures cert_out.old + A.failures after_out.old)) (W.failures out.new + (C.failures cert_out.new + A.failures after_out.new)) interruptions.old interruptions.new) (λ fault. AreFailuresCounted (failures_told fault) (W.failures out.old + (C.failures cert_out.old + A.failures after_out.old)) (W.failures out.new + (C.failures cert_out.new + A.failures after_out.new)) interruptions.old interruptions.new) }
+    ensures refused { IfErr result (IsTextsFault (W.failures out.old) (W.failures out.new)
+        (C.failures cert_out.old) (C.failures cert_out.new) (A.failures after_out.old) (A.failures after_out.new)) }
+    ensures stopped { IfErr result (IsTextsStop (pieces_of texts.now) (W.contents out.old) (W.contents out.new)
+        (C.contents cert_out.old) (C.contents cert_out.new) (A.contents after_out.old) (A.contents after_out.new)) }
+    ensures counted { MatchResult result
+        (λ _. AreFailuresCounted 0 (W.failures out.old + (C.failures cert_out.old + A.failures after_out.old))
+        (W.failures out.new + (C.failures cert_out.new + A.failures after_out.new)) interruptions.old interruptions.new)
+        (λ fault. AreFailuresCounted (failures_of_fault fault) (W.failures out.old + (C.failures cert_out.old + A.failures after_out.old))
+        (W.failures out.new + (C.failures cert_out.new + A.failures after_out.new)) interruptions.old interruptions.new) }
     ensures counts { (W.failures out.old ≤ W.failures out.new) × (C.failures cert_out.old ≤ C.failures cert_out.new) × (A.failures after_out.old ≤ A.failures after_out.new) }
     ensures passed { interruptions.new ≤ most_interruptions }
 {

@@ -3,7 +3,7 @@ use Rattle.std.proofs.Common.{◌≡◌, ℕ, ◌+◌, ◌<◌, ◌≤◌, min, 
 use Rattle.std.proofs.lemmas.List.Elements.{All-nil, All-cons}
 use Rattle.crp_plan.specs.Bay.{Problem, Position, IsAt, IsFinished, cap}
 use Rattle.crp_plan.specs.Faults.{IsPlanPath}
-use Rattle.crp_plan.specs.Plans.{Route}
+use Rattle.crp_plan.specs.Plans.{ProblemPath}
 use Rattle.crp_plan.specs.declared.running.View.{View}
 use Rattle.crp_plan.proofs.Covered.{relocations-path}
 use Rattle.crp_bounds.specs.Bounds.{blocking, look_ahead}
@@ -16,7 +16,7 @@ use Rattle.crp_search.proofs.Greedily.{complete}
 use Rattle.crp_search.proofs.FirstHeld.{IsOver, held_none, held_one}
 
 -- a cut by the blocking bound that suffices
-pub closed_b : (p : Problem) (k split : ℕ) (path : List ℕ) (s : Position) (v : View) (plan : Option Route) (puts : List (List ℕ)) (tree : Tree) (floor : ℕ) → tree ≡ CutB → floor ≡ min (length path + blocking s) (cap p) →
+pub closed_b : (p : Problem) (k split : ℕ) (path : List ℕ) (s : Position) (v : View) (plan : Option ProblemPath) (puts : List (List ℕ)) (tree : Tree) (floor : ℕ) → tree ≡ CutB → floor ≡ min (length path + blocking s) (cap p) →
     need k plan ≤ length path + blocking s → IsFirstFound p k split path s v v plan plan puts puts tree floor
 closed_b p k split path s v plan puts tree floor tree_is floor_is le =
     let node : Node = record { path = path; place = s; mark = B } in
@@ -36,7 +36,7 @@ closed_b p k split path s v plan puts tree floor tree_is floor_is le =
     })
 
 -- a cut by the look-ahead bound that suffices, where the blocking bound is lower
-pub closed_l : (p : Problem) (k split : ℕ) (path : List ℕ) (s : Position) (v : View) (plan : Option Route) (puts : List (List ℕ)) (tree : Tree) (floor : ℕ) → tree ≡ CutL → floor ≡ min (length path + look_ahead s) (cap p) →
+pub closed_l : (p : Problem) (k split : ℕ) (path : List ℕ) (s : Position) (v : View) (plan : Option ProblemPath) (puts : List (List ℕ)) (tree : Tree) (floor : ℕ) → tree ≡ CutL → floor ≡ min (length path + look_ahead s) (cap p) →
     need k plan ≤ length path + look_ahead s → blocking s < look_ahead s → IsFirstFound p k split path s v v plan plan puts puts tree floor
 closed_l p k split path s v plan puts tree floor tree_is floor_is le lower =
     let node : Node = record { path = path; place = s; mark = L } in
@@ -56,7 +56,7 @@ closed_l p k split path s v plan puts tree floor tree_is floor_is le lower =
     })
 
 -- a subtree that is given away
-pub given_away : (p : Problem) (k split : ℕ) (path : List ℕ) (s : Position) (old new : View) (plan : Option Route) (old_puts new_puts : List (List ℕ)) (tree : Tree) (floor : ℕ) → tree ≡ Given → floor ≡ cap p → new ≡ old →
+pub given_away : (p : Problem) (k split : ℕ) (path : List ℕ) (s : Position) (old new : View) (plan : Option ProblemPath) (old_puts new_puts : List (List ℕ)) (tree : Tree) (floor : ℕ) → tree ≡ Given → floor ≡ cap p → new ≡ old →
     new_puts ≡ old_puts ++ path ∷ [] → length path ≤ split → split ≤ 8 → IsFirstFound p k split path s old new plan plan old_puts new_puts tree floor
 given_away p k split path s old new plan old_puts new_puts tree floor tree_is floor_is same puts few short =
     let node : Node = record { path = path; place = s; mark = G } in
@@ -80,14 +80,14 @@ long_enough : (p : Problem) (k : ℕ) (path : List ℕ) → IsLowerBound p k →
 long_enough p k path least plan = omega (arith, least.bound plan.0 plan.1, relocations-path plan.0, ap length plan.2)
 
 -- a finished node where the blocking bound does not suffice is at the path of a plan of k relocations, and none was met before
-pub plan_met : (p : Problem) (k split : ℕ) (path : List ℕ) (s : Position) (v : View) (met plan : Option Route) (puts : List (List ℕ)) (tree : Tree) (floor : ℕ) → tree ≡ CutB → floor ≡ min (length path + blocking s) (cap p) →
+pub plan_met : (p : Problem) (k split : ℕ) (path : List ℕ) (s : Position) (v : View) (met plan : Option ProblemPath) (puts : List (List ℕ)) (tree : Tree) (floor : ℕ) → tree ≡ CutB → floor ≡ min (length path + blocking s) (cap p) →
     plan ≡ Some (record { problem = p; path = path }) → IsAt p path s → IsFinished s → IsLowerBound p k → length path + blocking s < need k met → IsFirstFound p k split path s v v met plan puts puts tree floor
 plan_met p k split path s v (Some other) plan puts tree floor tree_is floor_is plan_is a end least short =
     absurd (omega (arith, long_enough p k path least (complete p path s a end)))
 plan_met p k split path s v None plan puts tree floor tree_is floor_is plan_is a end least short =
     let whole : IsPlanPath p path = complete p path s a end in
     let enough : k ≤ length path = long_enough p k path least whole in
-    let route : Route = record { problem = p; path = path } in
+    let route : ProblemPath = record { problem = p; path = path } in
     let node : Node = record { path = path; place = s; mark = B } in
     let high : k ≤ value node = omega arith in
     let one : IsMetAmong p k route (node ∷ []) = record {

@@ -2,10 +2,10 @@
 use Rattle.std.proofs.Common.{◌≡◌, ℕ, suc, ◌+◌, ◌<◌, ◌≤◌, List, [], ◌∷◌, ◌++◌, length, take, Option, sym, ap, ◌∙◌, subst, refl, arith, length-append}
 use Rattle.std.proofs.lemmas.List.{take_all}
 use Rattle.crp_plan.specs.Bay.{Problem, IsProblem, Position, IsAt}
-use Rattle.crp_plan.specs.Plans.{Route}
+use Rattle.crp_plan.specs.Plans.{ProblemPath}
 use Rattle.crp_plan.specs.declared.running.View.{View}
 use Rattle.crp_bay.specs.Positions.{targets, child}
-use Rattle.crp_bay.specs.Back.{Standing}
+use Rattle.crp_bay.specs.Back.{PlaceAndTrail}
 use Rattle.crp_tree.specs.declared.tree.Tree.{Tree, Branch}
 use Rattle.crp_tree.specs.Trees.{Node, nodes, cuts}
 use Rattle.crp_tree.specs.Listed.{nodes_below}
@@ -20,12 +20,12 @@ use Rattle.crp_search.proofs.FirstHeld.{held_none, held_append, aims_on, claims_
 -- where a search stands, what its worker knows and has put by then, and the plan that it has met, if any
 pub record Stage : Type 0 where
   pub path : List ℕ
-  pub stand : Standing
+  pub stand : PlaceAndTrail
   pub view : View
-  pub plan : Option Route
+  pub plan : Option ProblemPath
   pub puts : List (List ℕ)
 
-abbrev pub stage : List ℕ → Standing → View → Option Route → List (List ℕ) → Stage
+abbrev pub stage : List ℕ → PlaceAndTrail → View → Option ProblemPath → List (List ℕ) → Stage
 stage path stand view plan puts = record { path = path; stand = stand; view = view; plan = plan; puts = puts }
 
 -- as a search that sees what suffices
@@ -70,12 +70,12 @@ pub sets_out : (p : Problem) (k split : ℕ) (first now : Stage) (f : Frame) →
 sets_out p k split first now f path stand at open' granted on plan puts fresh = (path, stand, begins_first p k split first now f at open' granted on plan puts fresh)
 
 -- and so has the child at the row whose turn it is
-pub goes_to_child : (p : Problem) (k split : ℕ) (first before : Stage) (f fresh : Frame) (above : List Frame) (row : ℕ) (longer slice : List ℕ) (stand : Standing) (v : View) (plan : Option Route) (q : List (List ℕ)) → IsProblem p →
+pub goes_to_child : (p : Problem) (k split : ℕ) (first before : Stage) (f fresh : Frame) (above : List Frame) (row : ℕ) (longer slice : List ℕ) (stand : PlaceAndTrail) (v : View) (plan : Option ProblemPath) (q : List (List ℕ)) → IsProblem p →
     AreFirst p k split first before f above → length f.trees.items < length f.rows.items → row ≡ turn f → longer ≡ before.path ++ row ∷ [] → slice ≡ longer →
     stand ≡ record { place = child before.stand.place row; trail = before.stand.place ∷ before.stand.trail } → IsOpen k before.plan slice (child before.stand.place row) → v.granted ≡ before.view.granted + 1 → OnlyClaims before.view v →
     plan ≡ before.plan → q ≡ before.puts → IsFresh p stand.place fresh → AreFirst p k split first (stage longer stand v plan q) fresh (f ∷ above)
 goes_to_child p k split first before f fresh above row longer slice stand v plan q is h left row_is longer_is slice_is stand_is open' granted on same puts new =
-    let place_is : stand.place ≡ child before.stand.place row = ap (λ (t : Standing). t.place) stand_is in
+    let place_is : stand.place ≡ child before.stand.place row = ap (λ (t : PlaceAndTrail). t.place) stand_is in
     let next : IsNext (aim k before) (aim k (stage longer stand v plan q)) f = record {
       left = left;
       path = longer_is ∙ ap (λ r. before.path ++ r ∷ []) row_is;
@@ -89,7 +89,7 @@ goes_to_child p k split first before f fresh above row longer slice stand v plan
     (before, next, begins_first p k split before (stage longer stand v plan q) fresh at open_at granted on same puts new, h)
 
 -- one row more is searched
-first_more : (p : Problem) (k split : ℕ) (old now : Stage) (v : View) (plan : Option Route) (q : List (List ℕ)) (f g : Frame) (tree : Tree) (floor : ℕ) → IsFirstHalf p k split old now f → length f.trees.items < length f.rows.items →
+first_more : (p : Problem) (k split : ℕ) (old now : Stage) (v : View) (plan : Option ProblemPath) (q : List (List ℕ)) (f g : Frame) (tree : Tree) (floor : ℕ) → IsFirstHalf p k split old now f → length f.trees.items < length f.rows.items →
     IsOneMore f tree floor g → IsFirstFound p k split (now.path ++ turn f ∷ []) (child now.stand.place (turn f)) now.view v now.plan plan now.puts q tree floor → OnlyClaims now.view v →
     IsFirstHalf p k split old (stage now.path now.stand v plan q) g
 first_more p k split old now v plan q f g tree floor h left more one on =
@@ -109,7 +109,7 @@ first_more p k split old now v plan q f g tree floor h left more one on =
       held = subst (AreHeld p k old.plan plan) (sym list) (held_append p k old.plan now.plan plan (cuts first) (cuts own) h.held one.held);
     }
 
-stays_there : (p : Problem) (k split : ℕ) (first now : Stage) (v : View) (plan : Option Route) (q : List (List ℕ)) (f g : Frame) (tree : Tree) (floor : ℕ) (above : List Frame) → AreFirst p k split first now f above →
+stays_there : (p : Problem) (k split : ℕ) (first now : Stage) (v : View) (plan : Option ProblemPath) (q : List (List ℕ)) (f g : Frame) (tree : Tree) (floor : ℕ) (above : List Frame) → AreFirst p k split first now f above →
     length f.trees.items < length f.rows.items → IsOneMore f tree floor g →
     IsFirstFound p k split (now.path ++ turn f ∷ []) (child now.stand.place (turn f)) now.view v now.plan plan now.puts q tree floor → OnlyClaims now.view v → AreFirst p k split first (stage now.path now.stand v plan q) g above
 stays_there p k split first now v plan q f g tree floor [] h left more one on = (h.0, h.1, first_more p k split first now v plan q f g tree floor h.2 left more one on)
@@ -118,7 +118,7 @@ stays_there p k split first now v plan q f g tree floor (upper ∷ above) h left
     (h.0, record { left = next.left; path = next.path; stand = next.stand }, first_more p k split h.0 now v plan q f g tree floor h.2 left more one on, h.3)
 
 -- the search is where it was, with one row more
-stays : (p : Problem) (k split : ℕ) (first now : Stage) (path : List ℕ) (stand : Standing) (v : View) (plan : Option Route) (q : List (List ℕ)) (f g : Frame) (tree : Tree) (floor : ℕ) (above : List Frame) → path ≡ now.path → stand ≡ now.stand →
+stays : (p : Problem) (k split : ℕ) (first now : Stage) (path : List ℕ) (stand : PlaceAndTrail) (v : View) (plan : Option ProblemPath) (q : List (List ℕ)) (f g : Frame) (tree : Tree) (floor : ℕ) (above : List Frame) → path ≡ now.path → stand ≡ now.stand →
     AreFirst p k split first now f above → length f.trees.items < length f.rows.items → IsOneMore f tree floor g →
     IsFirstFound p k split (now.path ++ turn f ∷ []) (child now.stand.place (turn f)) now.view v now.plan plan now.puts q tree floor → OnlyClaims now.view v → AreFirst p k split first (stage path stand v plan q) g above
 stays p k split first now path stand v plan q f g tree floor above same_path same_stand h left more one on =
@@ -142,7 +142,7 @@ first_ends p k split old now f h full =
     }
 
 -- the search goes back to the frame above, with the branch for the row whose turn it was
-pub goes_up : (p : Problem) (k split : ℕ) (first now : Stage) (path : List ℕ) (stand : Standing) (f g more : Frame) (above : List Frame) (h : AreFirst p k split first now f (g ∷ above)) → length f.rows.items ≤ length f.trees.items →
+pub goes_up : (p : Problem) (k split : ℕ) (first now : Stage) (path : List ℕ) (stand : PlaceAndTrail) (f g more : Frame) (above : List Frame) (h : AreFirst p k split first now f (g ∷ above)) → length f.rows.items ≤ length f.trees.items →
     path ≡ h.0.path → stand ≡ h.0.stand → IsOneMore g (Branch f.trees) f.floor more → AreFirst p k split first (stage path stand now.view now.plan now.puts) more above
 goes_up p k split first now path stand f g more above h full same_path same_stand one =
     let before : Stage = h.0 in
@@ -150,7 +150,7 @@ goes_up p k split first now path stand f g more above h full same_path same_stan
     let half = h.2 in
     let here = first_ends p k split before now f h.2 full in
     let at_path = subst (λ l. IsFirstFound p k split l now.stand.place before.view now.view before.plan now.plan before.puts now.puts (Branch f.trees) f.floor) next.path here in
-    let at_place = subst (λ t. IsFirstFound p k split (before.path ++ turn g ∷ []) t before.view now.view before.plan now.plan before.puts now.puts (Branch f.trees) f.floor) (ap (λ (v : Standing). v.place) next.stand) at_path in
+    let at_place = subst (λ t. IsFirstFound p k split (before.path ++ turn g ∷ []) t before.view now.view before.plan now.plan before.puts now.puts (Branch f.trees) f.floor) (ap (λ (v : PlaceAndTrail). v.place) next.stand) at_path in
     stays p k split first before path stand now.view now.plan now.puts g more (Branch f.trees) f.floor above same_path same_stand h.3 next.left one at_place half.only
 
 -- the search ends where it began
@@ -159,12 +159,12 @@ pub ends : (p : Problem) (k split : ℕ) (first now : Stage) (f : Frame) → Are
 ends p k split first now f h full =
     let here = first_ends p k split first now f h.2 full in
     subst (λ l. IsFirstFound p k split l first.stand.place first.view now.view first.plan now.plan first.puts now.puts (Branch f.trees) f.floor) h.0
-    (subst (λ (t : Standing). IsFirstFound p k split now.path t.place first.view now.view first.plan now.plan first.puts now.puts (Branch f.trees) f.floor) h.1 here)
+    (subst (λ (t : PlaceAndTrail). IsFirstFound p k split now.path t.place first.view now.view first.plan now.plan first.puts now.puts (Branch f.trees) f.floor) h.1 here)
 
 -- ---- as the loop meets it
 
 -- the row that was put behind the path is taken off again, with what is found there
-pub stays_met : (p : Problem) (k split : ℕ) (first now : Stage) (f g : Frame) (above : List Frame) (row : ℕ) (longer slice popped : List ℕ) (stand : Standing) (v : View) (plan : Option Route) (q : List (List ℕ)) (tree : Tree) (floor : ℕ) →
+pub stays_met : (p : Problem) (k split : ℕ) (first now : Stage) (f g : Frame) (above : List Frame) (row : ℕ) (longer slice popped : List ℕ) (stand : PlaceAndTrail) (v : View) (plan : Option ProblemPath) (q : List (List ℕ)) (tree : Tree) (floor : ℕ) →
     AreFirst p k split first now f above → length f.trees.items < length f.rows.items → row ≡ turn f → longer ≡ now.path ++ row ∷ [] → slice ≡ longer → popped ≡ now.path → stand ≡ now.stand → IsOneMore f tree floor g →
     IsFirstFound p k split slice (child now.stand.place row) now.view v now.plan plan now.puts q tree floor → OnlyClaims now.view v → AreFirst p k split first (stage popped stand v plan q) g above
 stays_met p k split first now f g above row longer slice popped stand v plan q tree floor h left row_is longer_is slice_is popped_is stand_is more one on =

@@ -2,7 +2,7 @@
 use Rattle.std.proofs.Common.{◌≡◌, ℕ, ◌+◌, ◌≤◌, inl, List, [], ◌∷◌, ◌++◌, Option, Some, None, refl, sym, ap, ◌∙◌, subst, arith, append_assoc}
 use Rattle.std.proofs.lemmas.List.Elements.{All-nil, All-cons, All-append}
 use Rattle.crp_plan.specs.Bay.{Problem}
-use Rattle.crp_plan.specs.Plans.{Route}
+use Rattle.crp_plan.specs.Plans.{ProblemPath}
 use Rattle.crp_plan.specs.declared.running.View.{View}
 use Rattle.crp_tree.specs.Trees.{Node, value}
 use Rattle.crp_search.specs.Limits.{Advances}
@@ -16,17 +16,17 @@ abbrev pub IsOver : ℕ → Node → Type 0
 IsOver k cut = k ≤ value cut
 
 -- no cut yet
-pub held_none : (p : Problem) (k : ℕ) (plan : Option Route) → AreHeld p k plan plan []
+pub held_none : (p : Problem) (k : ℕ) (plan : Option ProblemPath) → AreHeld p k plan plan []
 held_none p k None = All-nil (IsOver (k + 1))
 held_none p k (Some plan) = (refl, All-nil (IsOver k))
 
 -- one whose value suffices
-pub held_one : (p : Problem) (k : ℕ) (plan : Option Route) (cut : Node) → need k plan ≤ value cut → AreHeld p k plan plan (cut ∷ [])
+pub held_one : (p : Problem) (k : ℕ) (plan : Option ProblemPath) (cut : Node) → need k plan ≤ value cut → AreHeld p k plan plan (cut ∷ [])
 held_one p k None cut le = All-cons (IsOver (k + 1)) cut [] le (All-nil (IsOver (k + 1)))
 held_one p k (Some plan) cut le = (refl, All-cons (IsOver k) cut [] le (All-nil (IsOver k)))
 
 -- some after others
-pub held_append : (p : Problem) (k : ℕ) (a b c : Option Route) (xs ys : List Node) → AreHeld p k a b xs → AreHeld p k b c ys → AreHeld p k a c (xs ++ ys)
+pub held_append : (p : Problem) (k : ℕ) (a b c : Option ProblemPath) (xs ys : List Node) → AreHeld p k a b xs → AreHeld p k b c ys → AreHeld p k a c (xs ++ ys)
 held_append p k None None None xs ys h i = All-append (IsOver (k + 1)) xs ys h i
 held_append p k None None (Some plan) xs ys h i =
     let m : IsMetAmong p k plan ys = i in
@@ -61,13 +61,13 @@ held_append p k (Some met) b c xs ys h i =
     (j.0, All-append (IsOver k) xs ys h.1 j.1)
 
 -- what suffices does not rise
-pub need_falls : (p : Problem) (k : ℕ) (a b : Option Route) (list : List Node) → AreHeld p k a b list → need k b ≤ need k a
+pub need_falls : (p : Problem) (k : ℕ) (a b : Option ProblemPath) (list : List Node) → AreHeld p k a b list → need k b ≤ need k a
 need_falls p k None None list h = omega arith
 need_falls p k None (Some plan) list h = omega arith
 need_falls p k (Some met) b list h = subst (λ o. need k o ≤ k) (sym h.0) (omega arith)
 
 -- so a search that only claims goes on like one that sees what suffices
-pub aims_on : (p : Problem) (k : ℕ) (a b : Option Route) (list : List Node) (old new : View) → AreHeld p k a b list → OnlyClaims old new → Advances p (aimed k a old) (aimed k b new)
+pub aims_on : (p : Problem) (k : ℕ) (a b : Option ProblemPath) (list : List Node) (old new : View) → AreHeld p k a b list → OnlyClaims old new → Advances p (aimed k a old) (aimed k b new)
 aims_on p k a b list old new h on = record {
   seen = need_falls p k a b list h;
   mine = let e = on.mine in omega arith;

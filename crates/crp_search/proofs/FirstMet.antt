@@ -3,7 +3,7 @@ use Rattle.std.proofs.Common.{◌≡◌, ℕ, ◌+◌, ◌≤◌, ◌⊎◌, inl
 use Rattle.std.proofs.lemmas.List.Elements.{All-contains, Contains-append_right, Contains-append_cases}
 use Rattle.std.proofs.lemmas.List.Kept.{AllPairs-filter}
 use Rattle.crp_plan.specs.Bay.{Problem, IsProblem, Position, IsAt}
-use Rattle.crp_plan.specs.Plans.{Route}
+use Rattle.crp_plan.specs.Plans.{ProblemPath}
 use Rattle.crp_plan.specs.declared.running.View.{View}
 use Rattle.crp_plan.proofs.Covered.{relocations-path}
 use Rattle.crp_bay.proofs.Members.{not_in_nil, in_head, in_cons_cases, from_filter}
@@ -49,7 +49,7 @@ cuts_in_order : (name : List ℕ) (s : Position) (tree : Tree) → InOrder Rises
 cuts_in_order name s tree = in_order Rises (cuts (nodes name s tree)) (AllPairs-filter Rises (λ n. is_cut n.mark) (nodes name s tree) (nodes_rise name s tree))
 
 -- so those made before the plan was met come before it, and those made later after it
-meets_need : (p : Problem) (k : ℕ) (plan : Route) (list : List Node) (cut : Node) → IsMetAmong p k plan list → InOrder Rises list → Contains list cut → MeetsNeed k plan.path cut
+meets_need : (p : Problem) (k : ℕ) (plan : ProblemPath) (list : List Node) (cut : Node) → IsMetAmong p k plan list → InOrder Rises list → Contains list cut → MeetsNeed k plan.path cut
 meets_need p k plan list cut m rising c =
     let own : Node = m.cut in
     let o = subst (InOrder Rises) m.is rising in
@@ -65,12 +65,12 @@ meets_need p k plan list cut m rising c =
     (Contains-append_cases m.before (m.cut ∷ m.after) cut (subst (λ l. Contains l cut) m.is c))
 
 -- each cut meets its need by the plan that is met
-pub meets_own : (p : Problem) (k : ℕ) (name : List ℕ) (s : Position) (tree : Tree) (plan : Option Route) → AreHeld p k None plan (cuts (nodes name s tree)) → All (MeetsOwn k plan) (cuts (nodes name s tree))
+pub meets_own : (p : Problem) (k : ℕ) (name : List ℕ) (s : Position) (tree : Tree) (plan : Option ProblemPath) → AreHeld p k None plan (cuts (nodes name s tree)) → All (MeetsOwn k plan) (cuts (nodes name s tree))
 meets_own p k name s tree None h = h
 meets_own p k name s tree (Some plan) h = from_members (MeetsNeed k plan.path) (cuts (nodes name s tree)) (λ cut c. meets_need p k plan (cuts (nodes name s tree)) cut h (cuts_in_order name s tree) c)
 
 -- the plan belongs to the part
-plan_here : (p : Problem) (k : ℕ) (name : List ℕ) (s : Position) (tree : Tree) (plan : Route) → IsMetAmong p k plan (cuts (nodes name s tree)) → IsHere p k name (given_names (nodes name s tree)) plan.path
+plan_here : (p : Problem) (k : ℕ) (name : List ℕ) (s : Position) (tree : Tree) (plan : ProblemPath) → IsMetAmong p k plan (cuts (nodes name s tree)) → IsHere p k name (given_names (nodes name s tree)) plan.path
 plan_here p k name s tree plan m =
     let list : List Node = nodes name s tree in
     let own : Node = m.cut in
@@ -109,7 +109,7 @@ by_a_cut p k name s tree path is a fits in_place h =
     out
 
 -- the plan that is met is of the problem, and the first that belongs there
-first_here : (p : Problem) (k : ℕ) (name : List ℕ) (s : Position) (tree : Tree) (plan : Option Route) → IsProblem p → IsAt p name s → Fits s tree → All IsInPlace (nodes name s tree) →
+first_here : (p : Problem) (k : ℕ) (name : List ℕ) (s : Position) (tree : Tree) (plan : Option ProblemPath) → IsProblem p → IsAt p name s → Fits s tree → All IsInPlace (nodes name s tree) →
     AreHeld p k None plan (cuts (nodes name s tree)) → IfSome plan (λ r. IsFirstHere p k name (given_names (nodes name s tree)) r.path)
 first_here p k name s tree None is a fits in_place held = tt
 first_here p k name s tree (Some plan) is a fits in_place held = record {
@@ -122,7 +122,7 @@ first_here p k name s tree (Some plan) is a fits in_place held = record {
 }
 
 -- where none is met none belongs there
-none_here : (p : Problem) (k : ℕ) (name : List ℕ) (s : Position) (tree : Tree) (plan : Option Route) → IsProblem p → IsAt p name s → Fits s tree → All IsInPlace (nodes name s tree) →
+none_here : (p : Problem) (k : ℕ) (name : List ℕ) (s : Position) (tree : Tree) (plan : Option ProblemPath) → IsProblem p → IsAt p name s → Fits s tree → All IsInPlace (nodes name s tree) →
     AreHeld p k None plan (cuts (nodes name s tree)) → IfNone plan (IsNoneHere p k name (given_names (nodes name s tree)))
 none_here p k name s tree (Some plan) is a fits in_place held = tt
 none_here p k name s tree None is a fits in_place held = λ path h.
@@ -130,18 +130,18 @@ none_here p k name s tree None is a fits in_place held = λ path h.
     let need : k + 1 ≤ value c.0 = All-contains (λ (n : Node). k + 1 ≤ value n) (cuts (nodes name s tree)) c.0 held c.1 in
     omega (arith, need, c.3)
 
-met_of : (p : Problem) (k : ℕ) (plan : Option Route) (list : List Node) → AreHeld p k None plan list → IfSome plan (λ r. r.problem ≡ p)
+met_of : (p : Problem) (k : ℕ) (plan : Option ProblemPath) (list : List Node) → AreHeld p k None plan list → IfSome plan (λ r. r.problem ≡ p)
 met_of p k None list held = tt
 met_of p k (Some plan) list held = let m : IsMetAmong p k plan list = held in m.of_problem
 
 -- what a part is that was made of what was found at its name
-pub record IsFirstMet (p : Problem) (k : ℕ) (name : List ℕ) (plan : Option Route) (x : ProblemPart) : Type 0 where
+pub record IsFirstMet (p : Problem) (k : ℕ) (name : List ℕ) (plan : Option ProblemPath) (x : ProblemPart) : Type 0 where
   pub cuts : All (MeetsOwn k plan) (cuts_in x)
   pub of_problem : IfSome plan (λ r. r.problem ≡ p)
   pub first : IfSome plan (λ r. IsFirstHere p k name (given_of x) r.path)
   pub none : IfNone plan (IsNoneHere p k name (given_of x))
 
-pub first_met : (p : Problem) (k split : ℕ) (name path : List ℕ) (s : Position) (old new : View) (plan : Option Route) (old_puts new_puts : List (List ℕ)) (tree : Tree) (floor : ℕ) (x : ProblemPart) → IsProblem p → IsAt p name s → path ≡ name →
+pub first_met : (p : Problem) (k split : ℕ) (name path : List ℕ) (s : Position) (old new : View) (plan : Option ProblemPath) (old_puts new_puts : List (List ℕ)) (tree : Tree) (floor : ℕ) (x : ProblemPart) → IsProblem p → IsAt p name s → path ≡ name →
     IsFirstFound p k split path s old new None plan old_puts new_puts tree floor → x ≡ record { problem = p; name = name; tree = tree; floor = floor } → IsFirstMet p k name plan x
 first_met p k split name path s old new plan old_puts new_puts tree floor x is a same f e =
     let g : IsFirstFound p k split name s old new None plan old_puts new_puts tree floor = subst (λ l. IsFirstFound p k split l s old new None plan old_puts new_puts tree floor) same f in

@@ -5,7 +5,7 @@ use Rattle.std.proofs.lemmas.List.{reverse-append}
 use Rattle.crp_plan.specs.Bay.{Problem, IsProblem, Position, IsAt, cap}
 use Rattle.crp_plan.specs.declared.running.View.{View}
 use Rattle.crp_bay.specs.Positions.{targets, child}
-use Rattle.crp_bay.specs.Back.{Standing}
+use Rattle.crp_bay.specs.Back.{PlaceAndTrail}
 use Rattle.crp_tree.specs.declared.tree.Tree.{Tree, Branch}
 use Rattle.crp_bay.proofs.Walked.{target_goes_on}
 use Rattle.crp_search.specs.declared.frames.Found.{Found}
@@ -19,11 +19,11 @@ use Rattle.crp_search.proofs.Branching.{FoundBelow, on_and_on, none_yet, one_mor
 -- where a search stands, and what its worker knows and has put by then
 pub record Mark : Type 0 where
   pub path : List ℕ
-  pub stand : Standing
+  pub stand : PlaceAndTrail
   pub view : View
   pub puts : List (List ℕ)
 
-abbrev pub mark : List ℕ → Standing → View → List (List ℕ) → Mark
+abbrev pub mark : List ℕ → PlaceAndTrail → View → List (List ℕ) → Mark
 mark path stand view puts = record { path = path; stand = stand; view = view; puts = puts }
 
 -- the row whose turn it is in a frame
@@ -107,7 +107,7 @@ stays_there p split first now v q f g tree floor (upper ∷ above) h left more o
     (h.0, record { left = next.left; path = next.path; stand = next.stand }, half_more p split h.0 now v q f g tree floor h.2 left more one on, h.3)
 
 -- the search is where it was, with one row more
-pub stays : (p : Problem) (split : ℕ) (first now : Mark) (path : List ℕ) (stand : Standing) (v : View) (q : List (List ℕ)) (f g : Frame) (tree : Tree) (floor : ℕ) (above : List Frame) → path ≡ now.path → stand ≡ now.stand →
+pub stays : (p : Problem) (split : ℕ) (first now : Mark) (path : List ℕ) (stand : PlaceAndTrail) (v : View) (q : List (List ℕ)) (f g : Frame) (tree : Tree) (floor : ℕ) (above : List Frame) → path ≡ now.path → stand ≡ now.stand →
     AreHalf p split first now f above → length f.trees.items < length f.rows.items → IsOneMore f tree floor g →
     IsFound p split (now.path ++ turn f ∷ []) (child now.stand.place (turn f)) now.view v now.puts q tree floor → Advances p now.view v → AreHalf p split first (mark path stand v q) g above
 stays p split first now path stand v q f g tree floor above same_path same_stand h left more one on =
@@ -121,14 +121,14 @@ half_ends p split old now f h full =
     all_found p split now.path now.stand.place old.view h.granted now.view old.puts now.puts f.rows.items (length f.trees.items) f.trees f.floor h.rows full h.is_granted h.found
 
 -- the search goes back to the frame above, with the branch for the row whose turn it was
-pub goes_up : (p : Problem) (split : ℕ) (first now : Mark) (path : List ℕ) (stand : Standing) (f g more : Frame) (above : List Frame) (h : AreHalf p split first now f (g ∷ above)) → length f.rows.items ≤ length f.trees.items →
+pub goes_up : (p : Problem) (split : ℕ) (first now : Mark) (path : List ℕ) (stand : PlaceAndTrail) (f g more : Frame) (above : List Frame) (h : AreHalf p split first now f (g ∷ above)) → length f.rows.items ≤ length f.trees.items →
     path ≡ h.0.path → stand ≡ h.0.stand → IsOneMore g (Branch f.trees) f.floor more → AreHalf p split first (mark path stand now.view now.puts) more above
 goes_up p split first now path stand f g more above h full same_path same_stand one =
     let before : Mark = h.0 in
     let next = h.1 in
     let here = half_ends p split before now f h.2 full in
     let at_path = subst (λ l. IsFound p split l now.stand.place before.view now.view before.puts now.puts (Branch f.trees) f.floor) next.path here in
-    let at_place = subst (λ t. IsFound p split (before.path ++ turn g ∷ []) t before.view now.view before.puts now.puts (Branch f.trees) f.floor) (ap (λ (v : Standing). v.place) next.stand) at_path in
+    let at_place = subst (λ t. IsFound p split (before.path ++ turn g ∷ []) t before.view now.view before.puts now.puts (Branch f.trees) f.floor) (ap (λ (v : PlaceAndTrail). v.place) next.stand) at_path in
     let found = h.2.found in
     stays p split first before path stand now.view now.puts g more (Branch f.trees) f.floor above same_path same_stand h.3 next.left one at_place found.advances
 
@@ -137,7 +137,7 @@ pub ends : (p : Problem) (split : ℕ) (first now : Mark) (f : Frame) → AreHal
 ends p split first now f h full =
     let here = half_ends p split first now f h.2 full in
     subst (λ l. IsFound p split l first.stand.place first.view now.view first.puts now.puts (Branch f.trees) f.floor) h.0
-    (subst (λ (t : Standing). IsFound p split now.path t.place first.view now.view first.puts now.puts (Branch f.trees) f.floor) h.1 here)
+    (subst (λ (t : PlaceAndTrail). IsFound p split now.path t.place first.view now.view first.puts now.puts (Branch f.trees) f.floor) h.1 here)
 
 -- the path leads to the position
 pub half_at : (p : Problem) (split : ℕ) (first now : Mark) (f : Frame) (above : List Frame) → AreHalf p split first now f above → IsAt p now.path now.stand.place
@@ -182,11 +182,11 @@ pub turn_leads : (p : Problem) (split : ℕ) (first now : Mark) (f : Frame) (abo
 turn_leads p split first now f above row is h left row_is = target_goes_on p now.path now.stand.place row is (half_at p split first now f above h) (legal_turn p split first now f above row h left row_is)
 
 -- the child at the row whose turn it is has a frame
-pub goes_to_child : (p : Problem) (split : ℕ) (first before : Mark) (f fresh : Frame) (above : List Frame) (row : ℕ) (longer slice : List ℕ) (stand : Standing) (v : View) (q : List (List ℕ)) → IsProblem p → AreHalf p split first before f above →
+pub goes_to_child : (p : Problem) (split : ℕ) (first before : Mark) (f fresh : Frame) (above : List Frame) (row : ℕ) (longer slice : List ℕ) (stand : PlaceAndTrail) (v : View) (q : List (List ℕ)) → IsProblem p → AreHalf p split first before f above →
     length f.trees.items < length f.rows.items → row ≡ turn f → longer ≡ before.path ++ row ∷ [] → slice ≡ longer → stand ≡ record { place = child before.stand.place row; trail = before.stand.place ∷ before.stand.trail } →
     IsGranted slice (child before.stand.place row) before.view v → Advances p before.view v → q ≡ before.puts → IsFresh p stand.place fresh → AreHalf p split first (mark longer stand v q) fresh (f ∷ above)
 goes_to_child p split first before f fresh above row longer slice stand v q is h left row_is longer_is slice_is stand_is granted on puts new =
-    let place_is : stand.place ≡ child before.stand.place row = ap (λ (t : Standing). t.place) stand_is in
+    let place_is : stand.place ≡ child before.stand.place row = ap (λ (t : PlaceAndTrail). t.place) stand_is in
     let next : IsNext before (mark longer stand v q) f = record {
       left = left;
       path = longer_is ∙ ap (λ r. before.path ++ r ∷ []) row_is;
@@ -199,7 +199,7 @@ goes_to_child p split first before f fresh above row longer slice stand v q is h
     goes_down p split first before (mark longer stand v q) f fresh above h next at granted_at on puts new
 
 -- the row that was put behind the path is taken off again, with what is found there
-pub stays_met : (p : Problem) (split : ℕ) (first now : Mark) (f g : Frame) (above : List Frame) (row : ℕ) (longer slice popped : List ℕ) (stand : Standing) (v : View) (q : List (List ℕ)) (tree : Tree) (floor : ℕ) → AreHalf p split first now f above →
+pub stays_met : (p : Problem) (split : ℕ) (first now : Mark) (f g : Frame) (above : List Frame) (row : ℕ) (longer slice popped : List ℕ) (stand : PlaceAndTrail) (v : View) (q : List (List ℕ)) (tree : Tree) (floor : ℕ) → AreHalf p split first now f above →
     length f.trees.items < length f.rows.items → row ≡ turn f → longer ≡ now.path ++ row ∷ [] → slice ≡ longer → popped ≡ now.path → stand ≡ now.stand → IsOneMore f tree floor g →
     IsFound p split slice (child now.stand.place row) now.view v now.puts q tree floor → Advances p now.view v → AreHalf p split first (mark popped stand v q) g above
 stays_met p split first now f g above row longer slice popped stand v q tree floor h left row_is longer_is slice_is popped_is stand_is more one on =

@@ -3,7 +3,7 @@ use Rattle.std.specs.Prelude.{◌≡◌, ℕ, ◌+◌, ◌<◌, ◌≤◌, List,
 use Rattle.crp_plan.specs.declared.moves.Move.{Move}
 use Rattle.crp_plan.specs.Bay.{Problem, IsPlan, relocations}
 use Rattle.crp_plan.specs.Faults.{IsPlanPath}
-use Rattle.crp_plan.specs.Plans.{Route}
+use Rattle.crp_plan.specs.Plans.{ProblemPath}
 use Rattle.crp_plan.specs.declared.running.View.{View}
 use Rattle.crp_tree.specs.Names.{Precedes}
 use Rattle.crp_tree.specs.Trees.{Node, value, Begins}
@@ -32,7 +32,7 @@ abbrev pub IsNoneHere : Problem → ℕ → List ℕ → List (List ℕ) → Typ
 IsNoneHere p k name given = (path : List ℕ) → IsHere p k name given path → ⊥
 
 -- a cut meets its need by the plan that a task met, if any: without a plan its value is above k
-abbrev pub MeetsOwn : ℕ → Option Route → Node → Type 0
+abbrev pub MeetsOwn : ℕ → Option ProblemPath → Node → Type 0
 MeetsOwn k None cut = k + 1 ≤ value cut
 MeetsOwn k (Some plan) cut = MeetsNeed k plan.path cut
 

@@ -4,12 +4,12 @@ use Rattle.crp_plan.specs.Bay.{Problem, Position, cap}
 use Rattle.crp_plan.specs.declared.running.View.{View}
 use Rattle.crp_bounds.specs.Bounds.{blocking, look_ahead}
 use Rattle.crp_tree.specs.declared.tree.Tree.{Tree}
-use Rattle.crp_tree.specs.Trees.{L, X, Node, nodes, Fits, IsInPlace, cuts, branches, given_names, value, ahead_of, least_value}
+use Rattle.crp_tree.specs.Trees.{L, X, Node, nodes, Fits, IsInPlace, cuts, branches, given_names, value, least_through, least_value}
 
 -- a cut is closed for a worker: its value is at least what the worker saw last; or the worker was refused a claim, and the value is at least length
 -- plus look-ahead
 abbrev pub IsClosed : View → Node → Type 0
-IsClosed view cut = (view.seen ≤ value cut) ⊎ ((0 < view.refused) × (ahead_of cut ≤ value cut))
+IsClosed view cut = (view.seen ≤ value cut) ⊎ ((0 < view.refused) × (least_through cut ≤ value cut))
 
 -- a cut by the look-ahead bound stands only where the blocking bound is lower
 abbrev pub NeedsLookAhead : Node → Type 0
@@ -17,7 +17,7 @@ NeedsLookAhead cut = cut.mark ≡ L → blocking cut.place < look_ahead cut.plac
 
 -- a branch stands below the limit: there length plus look-ahead is less
 abbrev pub IsBelow : ℕ → Node → Type 0
-IsBelow limit node = ahead_of node < limit
+IsBelow limit node = least_through node < limit
 
 -- a name of at most so many rows
 abbrev pub IsShort : ℕ → List ℕ → Type 0

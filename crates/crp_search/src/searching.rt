@@ -3,7 +3,7 @@ ghost use Rattle.std.specs.Prelude.{◌≡◌, ℕ, ◌+◌, ◌<◌, ◌≤◌,
 ghost use Rattle.crp_plan.specs.Bay.{IsProblem, IsAt, IsFinished, Position as Place, cap};
 ghost use Rattle.crp_bay.specs.Positions.{child, targets};
 ghost use Rattle.crp_bounds.specs.Bounds.{blocking as blocking_bound};
-ghost use Rattle.crp_tree.specs.Trees.{IsGiven};
+ghost use Rattle.crp_tree.specs.Trees.{IsGivenAway};
 ghost use Rattle.crp_tree.specs.Parts.{IsKeptPart, given_of, cuts_in, branches_in};
 ghost use Rattle.crp_search.specs.Limits.{Advances, SeesLimit};
 ghost use Rattle.crp_search.specs.Searched.{IsClosed, NeedsLookAhead, IsBelow, IsShort, IsFound, IsGranted, PutsMore};
@@ -75,8 +75,9 @@ fn close_below<L: Limit>(
     requires path { IsAt problem.now path.now place.now.place }
     requires low { low ≡ length path.now + blocking_bound place.now.place }
     requires seen { (low < seen) × (seen ≡ (L.view limit.old).seen) }
-    ensures found { IfSome result (λ found. (split : ℕ) → IsFound problem.now split path.now place.now.place (L.view limit.old) (L.view limit.new) (L.puts limit.old) (L.puts limit.new) found.tree found.floor) }
-    ensures own { IfSome result (λ found. IsGiven found.tree → ⊥) }
+    ensures found { IfSome result (λ found. (split : ℕ)
+        → IsFound problem.now split path.now place.now.place (L.view limit.old) (L.view limit.new) (L.puts limit.old) (L.puts limit.new) found.tree found.floor) }
+    ensures own { IfSome result (λ found. IsGivenAway found.tree → ⊥) }
     ensures granted { IfNone result (IsGranted path.now place.now.place (L.view limit.old) (L.view limit.new)) }
     ensures advances { Advances problem.now (L.view limit.old) (L.view limit.new) }
     ensures same { (L.problem limit.new ≡ L.problem limit.old) × (L.budget limit.new ≡ L.budget limit.old) × (L.puts limit.new ≡ L.puts limit.old) }
@@ -104,8 +105,9 @@ fn close_below<L: Limit>(
 fn close<L: Limit>(problem: &Problem, place: &Bounded, path: &[u8], limit: &mut L) -> Option<Found>
     requires problem { problem.now ≡ L.problem limit.old }
     requires path { IsAt problem.now path.now place.now.place }
-    ensures found { IfSome result (λ found. (split : ℕ) → IsFound problem.now split path.now place.now.place (L.view limit.old) (L.view limit.new) (L.puts limit.old) (L.puts limit.new) found.tree found.floor) }
-    ensures own { IfSome result (λ found. IsGiven found.tree → ⊥) }
+    ensures found { IfSome result (λ found. (split : ℕ)
+        → IsFound problem.now split path.now place.now.place (L.view limit.old) (L.view limit.new) (L.puts limit.old) (L.puts limit.new) found.tree found.floor) }
+    ensures own { IfSome result (λ found. IsGivenAway found.tree → ⊥) }
     ensures granted { IfNone result (IsGranted path.now place.now.place (L.view limit.old) (L.view limit.new)) }
     ensures advances { Advances problem.now (L.view limit.old) (L.view limit.new) }
     ensures same { (L.problem limit.new ≡ L.problem limit.old) × (L.budget limit.new ≡ L.budget limit.old) × (L.puts limit.new ≡ L.puts limit.old) }
@@ -152,7 +154,8 @@ fn search_child<L: Limit>(
     requires path { IsAt problem.now path.now (child place.old.place row) }
     requires row { Contains (targets place.old.place) row }
     requires split { split ≤ 8 }
-    ensures found { IfSome result (λ found. IsFound problem.now split path.now (child place.old.place row) (L.view limit.old) (L.view limit.new) (L.puts limit.old) (L.puts limit.new) found.tree found.floor) }
+    ensures found { IfSome result
+        (λ found. IsFound problem.now split path.now (child place.old.place row) (L.view limit.old) (L.view limit.new) (L.puts limit.old) (L.puts limit.new) found.tree found.floor) }
     ensures back { IfSome result (λ found. place.new ≡ place.old) }
     ensures granted { IfNone result (IsGranted path.now (child place.old.place row) (L.view limit.old) (L.view limit.new)) }
     ensures down { IfNone result (place.new ≡ record { place = child place.old.place row; trail = place.old.place ∷ place.old.trail }) }
@@ -191,8 +194,9 @@ fn search_from<L: Limit>(
     requires problem { problem.now ≡ L.problem limit.old }
     requires path { IsAt problem.now path.old.items place.old.place }
     requires split { split ≤ 8 }
-    ensures found { IfOk result (λ found. IsFound problem.now split path.old.items place.old.place (L.view limit.old) (L.view limit.new) (L.puts limit.old) (L.puts limit.new) found.tree found.floor) }
-    ensures own { IfOk result (λ found. IsGiven found.tree → ⊥) }
+    ensures found { IfOk result
+        (λ found. IsFound problem.now split path.old.items place.old.place (L.view limit.old) (L.view limit.new) (L.puts limit.old) (L.puts limit.new) found.tree found.floor) }
+    ensures own { IfOk result (λ found. IsGivenAway found.tree → ⊥) }
     ensures advances { Advances problem.now (L.view limit.old) (L.view limit.new) }
     ensures same { (L.problem limit.new ≡ L.problem limit.old) × (L.budget limit.new ≡ L.budget limit.old) }
     ensures puts { PutsMore (L.puts limit.old) (L.puts limit.new) }
@@ -275,6 +279,7 @@ pub fn search<L: Limit>(
         split.min(MAX_NAME as u8),
     )?;
     let part = Part::new(problem, name, found.tree, found.floor);
+    // For its contract alone: the floor is what the part shows.
     let _floor = part.floor();
     Ok(part)
 }

@@ -4,7 +4,7 @@ ghost use Rattle.crp_plan.specs.Bay.{IsAt, Position as Place};
 ghost use Rattle.crp_plan.specs.declared.running.View.{View};
 ghost use Rattle.crp_bay.specs.Positions.{child, targets};
 ghost use Rattle.crp_bounds.specs.Bounds.{blocking as blocking_bound};
-ghost use Rattle.crp_tree.specs.Trees.{IsGiven, branches};
+ghost use Rattle.crp_tree.specs.Trees.{IsGivenAway, branches};
 ghost use Rattle.crp_tree.specs.Parts.{IsKeptPart, given_of, cuts_in, branches_in};
 ghost use Rattle.crp_search.specs.Searched.{NeedsLookAhead, IsBelow, IsShort, PutsMore};
 ghost use Rattle.crp_search.specs.Firsts.{IsLowerBound, IsFirstHere, IsNoneHere, MeetsOwn, OnlyClaims, EndsAs};
@@ -68,8 +68,9 @@ fn close_finished(
     requires least { IsLowerBound problem.now count }
     requires low { low ≡ length path.now + blocking_bound place.now.place }
     requires short { low < need count plan.old }
-    ensures found { IfSome result (λ found. (split : ℕ) (v : View) (puts : List (List ℕ)) → IsFirstFound problem.now count split path.now place.now.place v v plan.old plan.new puts puts found.tree found.floor) }
-    ensures own { IfSome result (λ found. IsGiven found.tree → ⊥) }
+    ensures found { IfSome result (λ found. (split : ℕ) (v : View) (puts : List (List ℕ))
+        → IsFirstFound problem.now count split path.now place.now.place v v plan.old plan.new puts puts found.tree found.floor) }
+    ensures own { IfSome result (λ found. IsGivenAway found.tree → ⊥) }
     ensures open { IfNone result (IsOpen count plan.old path.now place.now.place) }
     ensures kept { IfNone result (plan.new ≡ plan.old) }
 {
@@ -98,8 +99,9 @@ fn close_first(
 ) -> Option<Found>
     requires path { IsAt problem.now path.now place.now.place }
     requires least { IsLowerBound problem.now count }
-    ensures found { IfSome result (λ found. (split : ℕ) (v : View) (puts : List (List ℕ)) → IsFirstFound problem.now count split path.now place.now.place v v plan.old plan.new puts puts found.tree found.floor) }
-    ensures own { IfSome result (λ found. IsGiven found.tree → ⊥) }
+    ensures found { IfSome result (λ found. (split : ℕ) (v : View) (puts : List (List ℕ))
+        → IsFirstFound problem.now count split path.now place.now.place v v plan.old plan.new puts puts found.tree found.floor) }
+    ensures own { IfSome result (λ found. IsGivenAway found.tree → ⊥) }
     ensures open { IfNone result (IsOpen count plan.old path.now place.now.place) }
     ensures kept { IfNone result (plan.new ≡ plan.old) }
 {
@@ -130,7 +132,8 @@ fn first_child<L: Limit>(
     requires row { Contains (targets place.old.place) row }
     requires least { IsLowerBound problem.now aim.count }
     requires split { aim.split ≤ 8 }
-    ensures found { IfOk result (λ found. IfSome found (λ found. IsFirstFound problem.now aim.count aim.split path.now (child place.old.place row) (L.view limit.old) (L.view limit.new) plan.old plan.new
+    ensures found { IfOk result (λ found. IfSome found
+        (λ found. IsFirstFound problem.now aim.count aim.split path.now (child place.old.place row) (L.view limit.old) (L.view limit.new) plan.old plan.new
         (L.puts limit.old) (L.puts limit.new) found.tree found.floor)) }
     ensures back { IfOk result (λ found. IfSome found (λ found. place.new ≡ place.old)) }
     ensures open { IfOk result (λ found. IfNone found (IsOpen aim.count plan.old path.now (child place.old.place row))) }
@@ -180,7 +183,7 @@ fn first_from<L: Limit>(
     requires split { aim.split ≤ 8 }
     ensures found { IfOk result (λ found. IsFirstFound problem.now aim.count aim.split path.old.items place.old.place (L.view limit.old) (L.view limit.new) plan.old plan.new
         (L.puts limit.old) (L.puts limit.new) found.tree found.floor) }
-    ensures own { IfOk result (λ found. IsGiven found.tree → ⊥) }
+    ensures own { IfOk result (λ found. IsGivenAway found.tree → ⊥) }
     ensures not_refused { OnOk result ((L.view limit.new).refused ≡ (L.view limit.old).refused) }
     ensures end { IfErr result (EndsAs (L.view limit.old) (L.view limit.new)) }
     ensures claims { OnlyClaims (L.view limit.old) (L.view limit.new) }
@@ -276,6 +279,7 @@ pub fn search_first<L: Limit>(
     let mut plan = None;
     let found = first_from(alloc, problem, &mut place, &mut path, aim, &mut plan, limit)?;
     let part = Part::new(problem, name, found.tree, found.floor);
+    // For its contract alone: the floor is what the part shows.
     let _floor = part.floor();
     Ok(FirstPart { part, plan })
 }

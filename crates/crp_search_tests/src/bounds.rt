@@ -316,7 +316,7 @@ fn bounds_agree(bounded: &Bounded) -> bool {
 }
 
 /// Pushes to the row, and says whether that is legal.
-fn push_as_told(rt: &impl Abort, bounded: &mut Bounded, row: u8) -> bool {
+fn push_as_stated(rt: &impl Abort, bounded: &mut Bounded, row: u8) -> bool {
     let after = low_after(bounded, row);
     let is_legal = push_to(bounded, row);
     assert_same_at(rt, &after.is_some(), &is_legal, &row);
@@ -353,7 +353,7 @@ fn assert_steps(
         if number < pops {
             assert_same(rt, &pop_off(&mut bounded), &(pushes > 0));
             pushes = pushes.saturating_sub(1);
-        } else if push_as_told(rt, &mut bounded, number - pops) {
+        } else if push_as_stated(rt, &mut bounded, number - pops) {
             pushes = pushes.saturating_add(1);
         }
         assert_at(rt, bounds_agree(&bounded), &pushes);

@@ -5,7 +5,7 @@ use Rattle.std.proofs.lemmas.List.Elements.{All-weaker, All-cons, All-nil}
 use Rattle.std.proofs.lemmas.List.Sums.{sum_by-cons}
 use Rattle.crp_plan.specs.declared.running.View.{View}
 use Rattle.crp_plan.specs.Bay.{Problem, IsProblem, IsBest}
-use Rattle.crp_plan.specs.Plans.{Route}
+use Rattle.crp_plan.specs.Plans.{ProblemPath}
 use Rattle.crp_plan.proofs.Buried.{below_cap}
 use Rattle.crp_bay.proofs.Members.{in_head, in_tail, in_cons_cases, not_in_nil}
 use Rattle.crp_tree.specs.Names.{Precedes}
@@ -23,11 +23,11 @@ use Rattle.crp_solve.specs.Firsts.{IsPlanOfCount, IsSearchedFirst, IsFoundFirst}
 use Rattle.crp_solve.specs.Rests.{IsAllDone}
 use Rattle.crp_solve.proofs.Covered.{accepted}
 use Rattle.crp_solve.proofs.One.{root_about, one_certificate}
-use Rattle.crp_solve.proofs.Told.{lower_over}
+use Rattle.crp_solve.proofs.TrueAnswers.{lower_over}
 use Rattle.crp_solve.proofs.Wholes.{parts_whole}
 
 -- a plan was met: else each cut would be above the fewest relocations, and so would each plan
-pub some_plan : (p : Problem) (k : ℕ) (cert : Certificate) (plan : Option Route) → IsBest p k → IsAbout p cert → All (IsSearchedFirst p k plan) cert.parts → plan ≡ None → ⊥
+pub some_plan : (p : Problem) (k : ℕ) (cert : Certificate) (plan : Option ProblemPath) → IsBest p k → IsAbout p cert → All (IsSearchedFirst p k plan) cert.parts → plan ≡ None → ⊥
 some_plan p k cert plan best about all none =
     let reached = best.reached in
     let acc : IsAccepted (claimed p cert None) = accepted p cert None about tt in
@@ -36,12 +36,12 @@ some_plan p k cert plan best about all none =
     omega (arith, high, bounded (claimed p cert None) reached.0 acc reached.1, reached.2)
 
 -- the parts meet their needs by the plan
-met_needs : (p : Problem) (k : ℕ) (cert : Certificate) (plan : Route) → length plan.path ≡ k → All (IsSearchedFirst p k (Some plan)) cert.parts → MeetNeeds (length plan.path) plan.path cert.parts
+met_needs : (p : Problem) (k : ℕ) (cert : Certificate) (plan : ProblemPath) → length plan.path ≡ k → All (IsSearchedFirst p k (Some plan)) cert.parts → MeetNeeds (length plan.path) plan.path cert.parts
 met_needs p k cert plan count all =
     subst (λ n. MeetNeeds n plan.path cert.parts) (sym count) (All-weaker (IsSearchedFirst p k (Some plan)) (λ x. All (MeetsNeed k plan.path) (cuts_in x)) (λ x s. s.needs) cert.parts all)
 
 -- so the first best plan is found, with the certificate settled on it
-pub found_first : (p : Problem) (budget k : ℕ) (plan : Route) (cert settled : Certificate) (expanded : ℕ) → IsPlanOfCount p k plan → All (IsSearchedFirst p k (Some plan)) cert.parts → IsAbout plan.problem settled →
+pub found_first : (p : Problem) (budget k : ℕ) (plan : ProblemPath) (cert settled : Certificate) (expanded : ℕ) → IsPlanOfCount p k plan → All (IsSearchedFirst p k (Some plan)) cert.parts → IsAbout plan.problem settled →
     IsSettled plan.path cert settled → (MeetNeeds (length plan.path) plan.path cert.parts → MeetNeeds (length plan.path) plan.path settled.parts) →
     branches_of cert ≤ expanded → expanded ≤ budget → IsFoundFirst p budget k plan settled expanded
 found_first p budget k plan cert settled expanded is all about s needs enough within =
@@ -55,21 +55,21 @@ found_first p budget k plan cert settled expanded is all about s needs enough wi
     }
 
 -- parts that were searched are about the problem under its other name
-pub first_of_problem : (p q : Problem) (k : ℕ) (plan : Option Route) (xs : List ProblemPart) → p ≡ q → All (IsSearchedFirst p k plan) xs → All (IsSearchedFirst q k plan) xs
+pub first_of_problem : (p q : Problem) (k : ℕ) (plan : Option ProblemPath) (xs : List ProblemPart) → p ≡ q → All (IsSearchedFirst p k plan) xs → All (IsSearchedFirst q k plan) xs
 first_of_problem p q k plan xs e all = subst (λ r. All (IsSearchedFirst r k plan) xs) e all
 
 -- and where nothing is left, they are a whole
-pub first_whole : (p : Problem) (k : ℕ) (plan : Option Route) (view : View) (xs : List ProblemPart) → IsProblem p → All (IsSearchedFirst p k plan) xs → IsAllDone view xs → AreWhole p xs
+pub first_whole : (p : Problem) (k : ℕ) (plan : Option ProblemPath) (view : View) (xs : List ProblemPart) → IsProblem p → All (IsSearchedFirst p k plan) xs → IsAllDone view xs → AreWhole p xs
 first_whole p k plan view xs is all d = parts_whole p view xs is (All-weaker (IsSearchedFirst p k plan) (λ x. x.problem ≡ p) (λ x s. s.of_problem) xs all)
     (All-weaker (IsSearchedFirst p k plan) IsKeptPart (λ x s. s.kept) xs all) d
 
 -- a part at the root that gives nothing away was searched: its certificate
-pub record IsAloneFirst (p : Problem) (k : ℕ) (plan : Option Route) (x : ProblemPart) (cert : Certificate) : Type 0 where
+pub record IsAloneFirst (p : Problem) (k : ℕ) (plan : Option ProblemPath) (x : ProblemPart) (cert : Certificate) : Type 0 where
   pub about : IsAbout p cert
   pub searched : All (IsSearchedFirst p k plan) cert.parts
   pub branches : branches_of cert ≡ length (branches_in x)
 
-pub alone_first : (p : Problem) (k : ℕ) (plan : Option Route) (x : ProblemPart) (cert : Certificate) → IsProblem p → cert ≡ record { parts = x ∷ []; lower = x.floor } → x.problem ≡ p → IsKeptPart x → x.name ≡ [] → given_of x ≡ [] →
+pub alone_first : (p : Problem) (k : ℕ) (plan : Option ProblemPath) (x : ProblemPart) (cert : Certificate) → IsProblem p → cert ≡ record { parts = x ∷ []; lower = x.floor } → x.problem ≡ p → IsKeptPart x → x.name ≡ [] → given_of x ≡ [] →
     All (MeetsOwn k plan) (cuts_in x) → IsAloneFirst p k plan x cert
 alone_first p k plan x cert is e same kept root none needs =
     let parts : x ∷ [] ≡ cert.parts = sym (ap (λ (c : Certificate). c.parts) e) in
@@ -80,7 +80,7 @@ alone_first p k plan x cert is e same kept root none needs =
     }
 
 -- the plan that it met has k relocations
-pub first_is_plan : (p : Problem) (k : ℕ) (name : List ℕ) (given : List (List ℕ)) (plan : Route) → plan.problem ≡ p → IsFirstHere p k name given plan.path → IsPlanOfCount p k plan
+pub first_is_plan : (p : Problem) (k : ℕ) (name : List ℕ) (given : List (List ℕ)) (plan : ProblemPath) → plan.problem ≡ p → IsFirstHere p k name given plan.path → IsPlanOfCount p k plan
 first_is_plan p k name given plan of f = let here = f.here in record { plan_is = record { of_problem = of; complete = here.plan }; count = here.count }
 
 -- names that are all the root's, and rise, are one at most

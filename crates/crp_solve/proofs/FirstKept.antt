@@ -3,7 +3,7 @@ use Rattle.std.proofs.Common.{◌≡◌, ℕ, ◌⊎◌, inl, inr, ⊎_elim, Lis
 use Rattle.std.proofs.lemmas.List.Elements.{All-append, All-weaker, All-cons, All-nil}
 use Rattle.crp_plan.specs.declared.running.View.{View}
 use Rattle.crp_plan.specs.Bay.{Problem}
-use Rattle.crp_plan.specs.Plans.{Route}
+use Rattle.crp_plan.specs.Plans.{ProblemPath}
 use Rattle.crp_incumbent.specs.Rule.{view_joined}
 use Rattle.crp_incumbent.specs.Seats.{Shared}
 use Rattle.crp_tree.specs.Names.{Precedes}
@@ -16,11 +16,11 @@ use Rattle.crp_solve.specs.Desks.{KeepsPlan}
 use Rattle.crp_solve.specs.Firsts.{IsPlanOfCount, IsSearchedFirst, IsKeptFirst, IsNoLater}
 
 -- of two plans in order the first is no later
-pub no_later : (plan other : Route) → (other.path ≡ plan.path) ⊎ Precedes plan.path other.path → IsNoLater (Some plan) (Some other)
+pub no_later : (plan other : ProblemPath) → (other.path ≡ plan.path) ⊎ Precedes plan.path other.path → IsNoLater (Some plan) (Some other)
 no_later plan other order = ⊎_elim (λ (same : other.path ≡ plan.path). inl (sym same)) (λ (before : Precedes plan.path other.path). inr before) order
 
 -- a cut that meets its need by one plan does so by each that is no later
-meets_on : (k : ℕ) (plan best : Option Route) (cut : Node) → IsNoLater best plan → MeetsOwn k plan cut → MeetsOwn k best cut
+meets_on : (k : ℕ) (plan best : Option ProblemPath) (cut : Node) → IsNoLater best plan → MeetsOwn k plan cut → MeetsOwn k best cut
 meets_on k None None cut later meets = meets
 meets_on k None (Some best) cut later meets = above_all k best.path cut meets
 meets_on k (Some plan) None cut later meets = absurd later
@@ -30,14 +30,14 @@ meets_on k (Some plan) (Some best) cut later meets = ⊎_elim
     later
 
 -- so a part that was searched stays so
-first_on : (p : Problem) (k : ℕ) (plan best : Option Route) (x : ProblemPart) → IsNoLater best plan → IsSearchedFirst p k plan x → IsSearchedFirst p k best x
+first_on : (p : Problem) (k : ℕ) (plan best : Option ProblemPath) (x : ProblemPart) → IsNoLater best plan → IsSearchedFirst p k plan x → IsSearchedFirst p k best x
 first_on p k plan best x later s = record {
   of_problem = s.of_problem;
   kept = s.kept;
   needs = All-weaker (MeetsOwn k plan) (MeetsOwn k best) (λ cut meets. meets_on k plan best cut later meets) (cuts_in x) s.needs;
 }
 
-all_on : (p : Problem) (k : ℕ) (plan best : Option Route) (xs : List ProblemPart) → IsNoLater best plan → All (IsSearchedFirst p k plan) xs → All (IsSearchedFirst p k best) xs
+all_on : (p : Problem) (k : ℕ) (plan best : Option ProblemPath) (xs : List ProblemPart) → IsNoLater best plan → All (IsSearchedFirst p k plan) xs → All (IsSearchedFirst p k best) xs
 all_on p k plan best xs later all = All-weaker (IsSearchedFirst p k plan) (IsSearchedFirst p k best) (λ x s. first_on p k plan best x later s) xs all
 
 -- where nothing was offered on either side, nothing was
@@ -51,7 +51,7 @@ not_offered of v w a b = record {
 }
 
 -- two that are merged, with a plan that is no later than either: the parts of the first
-pub first_mine : (of : Shared) (v w : View) (plan other best : Option Route) (xs ys : List ProblemPart) → IsKeptFirst of v plan xs → IsKeptFirst of w other ys →
+pub first_mine : (of : Shared) (v w : View) (plan other best : Option ProblemPath) (xs ys : List ProblemPart) → IsKeptFirst of v plan xs → IsKeptFirst of w other ys →
     IsNoLater best plan → IfSome best (IsPlanOfCount of.key.problem of.key.start) → IsKeptFirst of (view_joined v w) best xs
 first_mine of v w plan other best xs ys a b mine is = record {
   least = a.least;
@@ -61,7 +61,7 @@ first_mine of v w plan other best xs ys a b mine is = record {
 }
 
 -- and the parts of both
-pub first_both : (of : Shared) (v w : View) (plan other best : Option Route) (xs ys : List ProblemPart) → IsKeptFirst of v plan xs → IsKeptFirst of w other ys →
+pub first_both : (of : Shared) (v w : View) (plan other best : Option ProblemPath) (xs ys : List ProblemPart) → IsKeptFirst of v plan xs → IsKeptFirst of w other ys →
     IsNoLater best plan → IsNoLater best other → IfSome best (IsPlanOfCount of.key.problem of.key.start) → IsKeptFirst of (view_joined v w) best (xs ++ ys)
 first_both of v w plan other best xs ys a b mine others is = record {
   least = a.least;
@@ -81,11 +81,11 @@ still_not_offered of v w a on = record {
 }
 
 -- a task that was given up
-pub first_later : (of : Shared) (v w : View) (plan : Option Route) (xs : List ProblemPart) → OnlyClaims v w → IsKeptFirst of v plan xs → IsKeptFirst of w plan xs
+pub first_later : (of : Shared) (v w : View) (plan : Option ProblemPath) (xs : List ProblemPart) → OnlyClaims v w → IsKeptFirst of v plan xs → IsKeptFirst of w plan xs
 first_later of v w plan xs on k = record { least = k.least; not_offered = still_not_offered of v w k.not_offered on; plan_is = k.plan_is; searched = k.searched }
 
 -- one part more, with a plan that is no later than that which was kept and that which was met
-pub first_more : (of : Shared) (v w : View) (plan met best : Option Route) (xs : List ProblemPart) (x : ProblemPart) → OnlyClaims v w → IsKeptFirst of v plan xs → IsSearchedFirst of.key.problem of.key.start met x →
+pub first_more : (of : Shared) (v w : View) (plan met best : Option ProblemPath) (xs : List ProblemPart) (x : ProblemPart) → OnlyClaims v w → IsKeptFirst of v plan xs → IsSearchedFirst of.key.problem of.key.start met x →
     IsNoLater best plan → IsNoLater best met → IfSome best (IsPlanOfCount of.key.problem of.key.start) → IsKeptFirst of w best (xs ++ x ∷ [])
 first_more of v w plan met best xs x on k s mine others is =
     let P : ProblemPart → Type 0 = IsSearchedFirst of.key.problem of.key.start best in

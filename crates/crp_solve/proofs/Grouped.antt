@@ -4,7 +4,7 @@ use Rattle.std.proofs.lemmas.List.Elements.{All-append, All-weaker}
 use Rattle.std.proofs.lemmas.List.Sums.{sum_by-append}
 use Rattle.crp_plan.specs.declared.running.View.{View}
 use Rattle.crp_plan.specs.Bay.{Problem}
-use Rattle.crp_plan.specs.Plans.{Route}
+use Rattle.crp_plan.specs.Plans.{ProblemPath}
 use Rattle.crp_tree.specs.Trees.{value}
 use Rattle.crp_tree.specs.Parts.{ProblemPart, given_of, names_of, cuts_in, branches_in}
 use Rattle.crp_search.specs.Searched.{IsClosed}
@@ -62,7 +62,7 @@ counted_together v w xs ys ls ms a b = record {
 }
 
 -- the better plan counts for both
-pub plans_together : (of : Shared) (v w : View) (plan other best : Option Route) → KeepsPlan of v plan → KeepsPlan of w other →
+pub plans_together : (of : Shared) (v w : View) (plan other best : Option ProblemPath) → KeepsPlan of v plan → KeepsPlan of w other →
     min v.mine w.mine ≡ count_or of.key.start (path_in best) → IfSome best (IsPlanOf of.key.problem) → KeepsPlan of (view_joined v w) best
 plans_together of v w plan other best a b fewest is = record {
   is_problem = a.is_problem;
@@ -102,7 +102,7 @@ merged keeps a b c parts_fit places_fit ka kb of view both mine parts places sho
 }
 
 -- what a search for the fewest relocations keeps, with the better plan: the parts of the first
-pub kept_mine : (of : Shared) (v w : View) (plan other best : Option Route) (xs ys : List ProblemPart) → IsKeptSoFar of v plan xs → IsKeptSoFar of w other ys →
+pub kept_mine : (of : Shared) (v w : View) (plan other best : Option ProblemPath) (xs ys : List ProblemPart) → IsKeptSoFar of v plan xs → IsKeptSoFar of w other ys →
     min v.mine w.mine ≡ count_or of.key.start (path_in best) → IfSome best (IsPlanOf of.key.problem) → IsKeptSoFar of (view_joined v w) best xs
 kept_mine of v w plan other best xs ys a b fewest is = record {
   plan_kept = plans_together of v w plan other best a.plan_kept b.plan_kept fewest is;
@@ -110,7 +110,7 @@ kept_mine of v w plan other best xs ys a b fewest is = record {
 }
 
 -- and the parts of both
-pub kept_both : (of : Shared) (v w : View) (plan other best : Option Route) (xs ys : List ProblemPart) → IsKeptSoFar of v plan xs → IsKeptSoFar of w other ys →
+pub kept_both : (of : Shared) (v w : View) (plan other best : Option ProblemPath) (xs ys : List ProblemPart) → IsKeptSoFar of v plan xs → IsKeptSoFar of w other ys →
     min v.mine w.mine ≡ count_or of.key.start (path_in best) → IfSome best (IsPlanOf of.key.problem) → IsKeptSoFar of (view_joined v w) best (xs ++ ys)
 kept_both of v w plan other best xs ys a b fewest is = record {
   plan_kept = plans_together of v w plan other best a.plan_kept b.plan_kept fewest is;

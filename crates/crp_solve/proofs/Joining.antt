@@ -4,7 +4,7 @@ use Rattle.std.specs.Prelude.{slice_get}
 use Rattle.std.proofs.lemmas.Bool.{cases_Bool, eqb-true}
 use Rattle.crp_incumbent.specs.Rule.{view_joined}
 use Rattle.crp_incumbent.specs.Seats.{Shared, Seat}
-use Rattle.crp_plan.specs.Plans.{Route}
+use Rattle.crp_plan.specs.Plans.{ProblemPath}
 use Rattle.crp_pool.specs.Weigh.{weigh, SameNames}
 use Rattle.crp_pool.specs.Deques.{DequeId}
 use Rattle.crp_pool.specs.Seats.{PoolSeat, seat_number, numbers, IsSeatOf, IsEverySeat, all_puts, all_takes}
@@ -43,7 +43,7 @@ pub one_root : (pool : List DequeId) (places : List PoolSeat) → 0 < length poo
 one_root pool places some every h = let e = every.1 (root_weight h) in omega (arith, roots_by_number h places, one_from h (length pool) some)
 
 -- what the pool gives back is counted, with a seat that claimed nothing
-pub done_with_left : (keeps : Keeping) (of : Shared) (left : Seat) (g : Crew) (best : Option Route) (pool : List DequeId) (puts takes : List (List ℕ)) → IsUnusedSeat of left → IsGroup keeps g → g.short ≡ false → 0 < length pool →
+pub done_with_left : (keeps : Keeping) (of : Shared) (left : Seat) (g : Crew) (best : Option ProblemPath) (pool : List DequeId) (puts takes : List (List ℕ)) → IsUnusedSeat of left → IsGroup keeps g → g.short ≡ false → 0 < length pool →
     IsEverySeat pool g.places → keeps of (view_joined left.view g.view) best g.parts → SameNames puts (all_puts g.places) → SameNames takes (all_takes g.places) → IsDoneUpTo keeps of (view_joined left.view g.view) best g.parts puts takes
 done_with_left keeps of left g best pool puts takes new k ok some every kept put took =
     let c = k.counted ok in

@@ -1,7 +1,7 @@
 pub mod Ahead
 pub mod Limits
 pub mod Covered
-pub mod Told
+pub mod TrueAnswers
 pub mod One
 pub mod Starting
 pub mod Searching
@@ -15,4 +15,4 @@ pub mod Wholes
 pub mod Joining
 pub mod FirstKept
 pub mod FirstFound
-pub mod FirstTold
+pub mod FirstAnswers

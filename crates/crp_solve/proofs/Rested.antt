@@ -2,7 +2,7 @@
 use Rattle.std.proofs.Common.{length, ◌≡◌, ℕ, List, [], ◌∷◌, ◌++◌, Option, None, Some, sym, ap, arith}
 use Rattle.std.proofs.lemmas.List.Sums.{sum_by-append, sum_by-cons}
 use Rattle.crp_plan.specs.declared.running.View.{View}
-use Rattle.crp_plan.specs.Plans.{Route}
+use Rattle.crp_plan.specs.Plans.{ProblemPath}
 use Rattle.crp_tree.specs.Parts.{ProblemPart, given_of, branches_in}
 use Rattle.crp_incumbent.specs.Seats.{Shared}
 use Rattle.crp_pool.specs.Weigh.{weigh, SameNames}
@@ -14,7 +14,7 @@ use Rattle.crp_solve.specs.Rests.{IsDoneUpTo, IsAllDone}
 use Rattle.crp_solve.proofs.Grouped.{given-append, names-append}
 
 -- where nothing is left, all is done
-pub all_done : (keeps : Keeping) (of : Shared) (view : View) (plan : Option Route) (parts : List ProblemPart) (puts takes : List (List ℕ)) → IsDoneUpTo keeps of view plan parts puts takes → SameNames puts takes → IsAllDone view parts
+pub all_done : (keeps : Keeping) (of : Shared) (view : View) (plan : Option ProblemPath) (parts : List ProblemPart) (puts takes : List (List ℕ)) → IsDoneUpTo keeps of view plan parts puts takes → SameNames puts takes → IsAllDone view parts
 all_done keeps of view plan parts puts takes d same = record {
   grants = d.grants;
   names = λ h. (let a = d.taken h in let b = d.put h in let c = same h in omega arith);
@@ -26,7 +26,7 @@ gives_none v w None name x e f = sym f.puts
 gives_none v w (Some s) name x e f = absurd (cc)
 
 -- one part more is done
-pub done_more : (keeps : Keeping) (of : Shared) (v w : View) (plan better : Option Route) (xs : List ProblemPart) (x : ProblemPart) (puts takes puts' takes' : List (List ℕ)) (after : Option PoolSeat) (name : List ℕ) →
+pub done_more : (keeps : Keeping) (of : Shared) (v w : View) (plan better : Option ProblemPath) (xs : List ProblemPart) (x : ProblemPart) (puts takes puts' takes' : List (List ℕ)) (after : Option PoolSeat) (name : List ℕ) →
     IsDoneUpTo keeps of v plan xs puts takes → keeps of w better (xs ++ x ∷ []) → IsCountedPart v w None after name x → fixed_at after ≡ None →
     puts' ≡ puts → SameNames takes' (takes ++ name ∷ []) → IsDoneUpTo keeps of w better (xs ++ x ∷ []) puts' takes'
 done_more keeps of v w plan better xs x puts takes puts' takes' after name d kept f fixed same took = record {

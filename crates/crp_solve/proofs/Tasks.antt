@@ -3,7 +3,7 @@ use Rattle.std.proofs.Common.{length, ◌≡◌, ◌≤◌, ℕ, ◌+◌, List, 
 use Rattle.std.proofs.lemmas.List.Elements.{All-append, All-weaker, All-cons, All-nil}
 use Rattle.std.proofs.lemmas.List.Sums.{sum_by-append, sum_by-cons}
 use Rattle.crp_plan.specs.declared.running.View.{View}
-use Rattle.crp_plan.specs.Plans.{Route}
+use Rattle.crp_plan.specs.Plans.{ProblemPath}
 use Rattle.crp_tree.specs.Parts.{ProblemPart, given_of, branches_in}
 use Rattle.crp_search.specs.Limits.{Advances}
 use Rattle.crp_search.specs.Searched.{IsBelow}
@@ -96,11 +96,11 @@ searched_now of v w x seen f = record {
 }
 
 -- what a search for the fewest relocations kept stays so
-pub kept_later : (of : Shared) (v w : View) (plan better : Option Route) (xs : List ProblemPart) → KeepsPlan of w better → Advances of.key.problem v w → IsKeptSoFar of v plan xs → IsKeptSoFar of w better xs
+pub kept_later : (of : Shared) (v w : View) (plan better : Option ProblemPath) (xs : List ProblemPart) → KeepsPlan of w better → Advances of.key.problem v w → IsKeptSoFar of v plan xs → IsKeptSoFar of w better xs
 kept_later of v w plan better xs keeps on k = record { plan_kept = keeps; searched = searched_later of.key.problem of.key.start v w xs on.seen on.refused k.searched }
 
 -- and with one part more
-pub kept_more : (of : Shared) (v w : View) (plan better : Option Route) (xs : List ProblemPart) (x : ProblemPart) → KeepsPlan of w better → Advances of.key.problem v w → IsKeptSoFar of v plan xs →
+pub kept_more : (of : Shared) (v w : View) (plan better : Option ProblemPath) (xs : List ProblemPart) (x : ProblemPart) → KeepsPlan of w better → Advances of.key.problem v w → IsKeptSoFar of v plan xs →
     IsFoundPart of v w x → IsKeptSoFar of w better (xs ++ x ∷ [])
 kept_more of v w plan better xs x keeps on k f =
     let P : ProblemPart → Type 0 = IsSearched of.key.problem of.key.start w in let low = k.plan_kept in
@@ -110,7 +110,7 @@ kept_more of v w plan better xs x keeps on k f =
     }
 
 -- so with the part that was found, if one was
-pub kept_later_or_more : (of : Shared) (v w : View) (plan better : Option Route) (xs : List ProblemPart) (found : Option ProblemPart) → KeepsPlan of w better → Advances of.key.problem v w → IsKeptSoFar of v plan xs →
+pub kept_later_or_more : (of : Shared) (v w : View) (plan better : Option ProblemPath) (xs : List ProblemPart) (found : Option ProblemPart) → KeepsPlan of w better → Advances of.key.problem v w → IsKeptSoFar of v plan xs →
     IfSome found (IsFoundPart of v w) → IsKeptSoFar of w better (with_part xs found)
 kept_later_or_more of v w plan better xs None keeps on k f = kept_later of v w plan better xs keeps on k
 kept_later_or_more of v w plan better xs (Some x) keeps on k f = kept_more of v w plan better xs x keeps on k f

@@ -6,7 +6,7 @@ use Rattle.std.proofs.lemmas.List.Sums.{sum_by-cons}
 use Rattle.std.proofs.lemmas.List.Elements.{All-weaker}
 use Rattle.crp_plan.specs.declared.running.View.{View}
 use Rattle.crp_plan.specs.Bay.{Problem, IsProblem}
-use Rattle.crp_plan.specs.Plans.{Route}
+use Rattle.crp_plan.specs.Plans.{ProblemPath}
 use Rattle.crp_tree.specs.Parts.{ProblemPart, given_of, names_of, IsKeptPart, Certificate, IsAbout, branches_in}
 use Rattle.crp_tree.specs.Claims.{times, same_name}
 use Rattle.crp_plan.proofs.Lists.{one_if}
@@ -16,7 +16,7 @@ use Rattle.crp_gather.proofs.Wholes.{whole_balanced}
 use Rattle.crp_pool.specs.Weigh.{weigh, SameNames}
 use Rattle.crp_pool.proofs.Hands.{weigh-append}
 use Rattle.crp_solve.specs.Answers.{path_in, count_of, IsFirstLimit, IsPlanOf}
-use Rattle.crp_solve.specs.Searches.{IsSearched, IsWhole}
+use Rattle.crp_solve.specs.Searches.{IsSearched, IsEndedSearch}
 use Rattle.crp_solve.specs.Desks.{count_or}
 use Rattle.crp_solve.specs.Groups.{given_in}
 use Rattle.crp_solve.specs.Rests.{IsAllDone}
@@ -65,9 +65,9 @@ pub record IsClosedAt (start budget spent limit : ℕ) (view : View) : Type 0 wh
   pub mine : view.mine ≤ start
 
 -- so the whole problem was searched
-pub whole_together : (p : Problem) (budget first spent limit : ℕ) (view : View) (xs : List ProblemPart) (cert : Certificate) (best plan : Option Route) → IsProblem p → IsFirstLimit p first → IsClosedAt first budget spent limit view →
+pub whole_together : (p : Problem) (budget first spent limit : ℕ) (view : View) (xs : List ProblemPart) (cert : Certificate) (best plan : Option ProblemPath) → IsProblem p → IsFirstLimit p first → IsClosedAt first budget spent limit view →
     All (IsSearched p first view) xs → IsAllDone view xs → IsPermutation xs cert.parts → IsAbout p cert → view.mine ≡ count_or first (path_in best) →
-    IfSome plan (IsPlanOf p) → count_of p (path_in plan) ≡ count_or first (path_in best) → IsWhole p budget first view cert plan
+    IfSome plan (IsPlanOf p) → count_of p (path_in plan) ≡ count_or first (path_in best) → IsEndedSearch p budget first view cert plan
 whole_together p budget first spent limit view xs cert best plan is first_is closed all done moved about mine plan_is count =
     let ys = cert.parts in
     let all' : All (IsSearched p first view) ys = All-permutation (IsSearched p first view) xs ys moved all in
@@ -76,7 +76,7 @@ whole_together p budget first spent limit view xs cert best plan is first_is clo
     record {
       about = about;
       searched = all';
-      told = record { plan_is = plan_is; first_is = first_is; no_more = omega arith };
+      best_met = record { plan_is = plan_is; first_is = first_is; no_more = omega arith };
       met = omega arith;
       granted = done'.grants;
       within = omega arith;

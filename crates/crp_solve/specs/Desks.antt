@@ -2,7 +2,7 @@
 use Rattle.std.specs.Prelude.{◌≡◌, ℕ, ◌+◌, ◌≤◌, List, ◌++◌, [], length, Option, Some, None, IfSome, All, option_map}
 use Rattle.crp_plan.specs.declared.running.View.{View}
 use Rattle.crp_plan.specs.Bay.{Problem, IsProblem}
-use Rattle.crp_plan.specs.Plans.{Route}
+use Rattle.crp_plan.specs.Plans.{ProblemPath}
 use Rattle.crp_incumbent.specs.Seats.{Shared, Seat}
 use Rattle.crp_tree.specs.Parts.{ProblemPart, given_of, cuts_in, branches_in, IsKeptPart}
 use Rattle.crp_search.specs.Searched.{IsClosed, IsBelow}
@@ -14,7 +14,7 @@ use Rattle.crp_solve.specs.Answers.{path_in, IsPlanOf}
 pub record Post : Type 0 where
   pub of : Shared
   pub view : View
-  pub plan : Option Route
+  pub plan : Option ProblemPath
   pub place : Option PoolSeat
 
 -- the relocations of the plan; where there is none, the limit that the search began with
@@ -29,7 +29,7 @@ puts_at (Some place) = place.puts
 
 -- the plan of some workers is one of the problem, with exactly as many relocations as the least that they offered; what they saw and offered is at most
 -- the limit at the start
-pub record KeepsPlan (of : Shared) (view : View) (plan : Option Route) : Type 0 where
+pub record KeepsPlan (of : Shared) (view : View) (plan : Option ProblemPath) : Type 0 where
   pub is_problem : IsProblem of.key.problem
   pub plan_is : IfSome plan (IsPlanOf of.key.problem)
   pub mine : view.mine ≡ count_or of.key.start (path_in plan)
@@ -52,7 +52,7 @@ abbrev pub fixed_at : Option PoolSeat → Option Fixed
 fixed_at place = option_map (λ x. record { number = x.number; pool = x.pool; deque = x.deque; takes = x.takes }) place
 
 -- what a desk keeps; `named` and `begun` are the words and the place that it was opened with
-pub record IsDesk (named of : Shared) (begun place : Option PoolSeat) (seat : Option Seat) (first : ℕ) (plan : Option Route) : Type 0 where
+pub record IsDesk (named of : Shared) (begun place : Option PoolSeat) (seat : Option Seat) (first : ℕ) (plan : Option ProblemPath) : Type 0 where
   pub words : of ≡ named
   pub fixed : fixed_at place ≡ fixed_at begun
   pub seated : seat ≡ Some (seat_in of seat)
@@ -62,7 +62,10 @@ pub record IsDesk (named of : Shared) (begun place : Option PoolSeat) (seat : Op
 
 -- the words of no search
 abbrev pub no_words : Shared
-no_words = record { table = record { words = 0; slots = 0; views_name = 0; atom = 0; block = 0; offset = 0; slot_names = [] }; key = record { problem = record { heights = []; ordered = 0; stacks = [] }; start = 0; budget = 0 } }
+no_words = record {
+  table = record { words = 0; slots = 0; views_name = 0; atom = 0; block = 0; offset = 0; slot_names = [] };
+  key = record { problem = record { heights = []; ordered = 0; stacks = [] }; start = 0; budget = 0 };
+}
 
 -- what all workers of a search have in common: the words, and how many rows a name has at most that is given away
 pub record Terms : Type 0 where

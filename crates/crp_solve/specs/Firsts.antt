@@ -2,7 +2,7 @@
 use Rattle.std.specs.Prelude.{◌≡◌, ℕ, ◌≤◌, ◌⊎◌, List, length, All, Option, Some, None, IfSome, ⊤}
 use Rattle.crp_plan.specs.declared.running.View.{View}
 use Rattle.crp_plan.specs.Bay.{Problem}
-use Rattle.crp_plan.specs.Plans.{Route}
+use Rattle.crp_plan.specs.Plans.{ProblemPath}
 use Rattle.crp_incumbent.specs.Seats.{Shared}
 use Rattle.crp_tree.specs.Names.{Precedes}
 use Rattle.crp_tree.specs.First.{MeetNeeds}
@@ -14,32 +14,32 @@ use Rattle.crp_solve.specs.Answers.{branches_of, IsPlanOf}
 use Rattle.crp_solve.specs.Desks.{KeepsPlan}
 
 -- a complete plan of the problem, with k relocations
-pub record IsPlanOfCount (p : Problem) (k : ℕ) (plan : Route) : Type 0 where
+pub record IsPlanOfCount (p : Problem) (k : ℕ) (plan : ProblemPath) : Type 0 where
   pub plan_is : IsPlanOf p plan
   pub count : length plan.path ≡ k
 
 -- a part that was searched for the first plan of k relocations: each cut meets its need by the plan that is kept, if one is
-pub record IsSearchedFirst (p : Problem) (k : ℕ) (plan : Option Route) (part : ProblemPart) : Type 0 where
+pub record IsSearchedFirst (p : Problem) (k : ℕ) (plan : Option ProblemPath) (part : ProblemPart) : Type 0 where
   pub of_problem : part.problem ≡ p
   pub kept : IsKeptPart part
   pub needs : All (MeetsOwn k plan) (cuts_in part)
 
 -- what workers keep: no complete plan has fewer relocations than the limit at the start, and nothing was offered; their plan has just so many; and the
 -- parts are searched
-pub record IsKeptFirst (of : Shared) (view : View) (plan : Option Route) (parts : List ProblemPart) : Type 0 where
+pub record IsKeptFirst (of : Shared) (view : View) (plan : Option ProblemPath) (parts : List ProblemPart) : Type 0 where
   pub least : IsLowerBound of.key.problem of.key.start
   pub not_offered : KeepsPlan of view None
   pub plan_is : IfSome plan (IsPlanOfCount of.key.problem of.key.start)
   pub searched : All (IsSearchedFirst of.key.problem of.key.start plan) parts
 
 -- a plan is no later than another, if there is another: it has the same path, or one that comes before
-abbrev pub IsNoLater : Option Route → Option Route → Type 0
+abbrev pub IsNoLater : Option ProblemPath → Option ProblemPath → Type 0
 IsNoLater plan None = ⊤
 IsNoLater None (Some other) = ⊥
 IsNoLater (Some plan) (Some other) = (plan.path ≡ other.path) ⊎ Precedes plan.path other.path
 
 -- the first best plan, of k relocations, with a certificate in which each cut meets its need; each branch of that was expanded
-pub record IsFoundFirst (p : Problem) (budget k : ℕ) (plan : Route) (cert : Certificate) (expanded : ℕ) : Type 0 where
+pub record IsFoundFirst (p : Problem) (budget k : ℕ) (plan : ProblemPath) (cert : Certificate) (expanded : ℕ) : Type 0 where
   pub plan_is : IsPlanOfCount p k plan
   pub about : IsAbout p cert
   pub needs : MeetNeeds (length plan.path) plan.path cert.parts

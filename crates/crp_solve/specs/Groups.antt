@@ -1,7 +1,7 @@
 -- The state of one worker of a search or several, and what it keeps, so that one thread hands it to another.
 use Rattle.std.specs.Prelude.{◌≡◌, ℕ, ◌+◌, ◌<◌, ◌≤◌, length, Bool, false, ◌==◌, if◌then◌else◌, List, [], ◌∷◌, ◌++◌, map, flat_map, sum_by, All, Option, Some, None}
 use Rattle.crp_plan.specs.declared.running.View.{View}
-use Rattle.crp_plan.specs.Plans.{Route}
+use Rattle.crp_plan.specs.Plans.{ProblemPath}
 use Rattle.crp_tree.specs.Parts.{ProblemPart, given_of, names_of, branches_in}
 use Rattle.crp_plan.specs.Bay.{IsProblem}
 use Rattle.crp_incumbent.specs.Rule.{view_joined}
@@ -17,7 +17,7 @@ use Rattle.crp_solve.specs.Desks.{KeepsPlan}
 pub record Crew : Type 0 where
   pub of : Shared
   pub view : View
-  pub plan : Option Route
+  pub plan : Option ProblemPath
   pub parts : List ProblemPart
   pub places : List PoolSeat
   pub short : Bool
@@ -46,10 +46,10 @@ pub record IsCounted (view : View) (parts : List ProblemPart) (places : List Poo
 
 -- what workers keep of their plan and of the parts that they searched, by what they know of their words
 abbrev pub Keeping : Type 1
-Keeping = Shared → View → Option Route → List ProblemPart → Type 0
+Keeping = Shared → View → Option ProblemPath → List ProblemPart → Type 0
 
 -- one plan is the better of two: what two workers kept is kept by both together with it, and so are the parts of the first
-pub record IsBetterOf (keeps : Keeping) (plan other better : Option Route) : Type 0 where
+pub record IsBetterOf (keeps : Keeping) (plan other better : Option ProblemPath) : Type 0 where
   pub both : (of : Shared) (v w : View) (parts others : List ProblemPart) → keeps of v plan parts → keeps of w other others → keeps of (view_joined v w) better (parts ++ others)
   pub mine : (of : Shared) (v w : View) (parts others : List ProblemPart) → keeps of v plan parts → keeps of w other others → keeps of (view_joined v w) better parts
 
@@ -60,7 +60,7 @@ with_part parts (Some part) = parts ++ part ∷ []
 
 -- in a search for the fewest relocations: the plan has exactly the relocations that the seat offered; the parts are searched, as far as the seat has
 -- seen, and below the limit at the start
-pub record IsKeptSoFar (of : Shared) (view : View) (plan : Option Route) (parts : List ProblemPart) : Type 0 where
+pub record IsKeptSoFar (of : Shared) (view : View) (plan : Option ProblemPath) (parts : List ProblemPart) : Type 0 where
   pub plan_kept : KeepsPlan of view plan
   pub searched : All (IsSearched of.key.problem of.key.start view) parts
 

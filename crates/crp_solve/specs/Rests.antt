@@ -2,19 +2,19 @@
 use Rattle.std.specs.Prelude.{◌≡◌, ℕ, Bool, false, List, [], ◌∷◌, Option, IfSome}
 use Rattle.crp_plan.specs.declared.running.View.{View}
 use Rattle.crp_plan.specs.Bay.{Problem, IsProblem}
-use Rattle.crp_plan.specs.Plans.{Route}
+use Rattle.crp_plan.specs.Plans.{ProblemPath}
 use Rattle.crp_tree.specs.Parts.{ProblemPart, Certificate, names_of}
 use Rattle.crp_incumbent.specs.declared.rule.Key.{Key}
 use Rattle.crp_incumbent.specs.Rule.{all_shares}
 use Rattle.crp_incumbent.specs.Seats.{Shared, Seat}
 use Rattle.crp_pool.specs.Weigh.{SameNames}
 use Rattle.crp_solve.specs.Answers.{path_in, count_of, IsFirstLimit, IsPlanOf}
-use Rattle.crp_solve.specs.Searches.{IsWhole}
+use Rattle.crp_solve.specs.Searches.{IsEndedSearch}
 use Rattle.crp_solve.specs.Desks.{count_or}
 use Rattle.crp_solve.specs.Groups.{Keeping, branches_in_parts, given_in}
 
 -- the plan and the parts are kept, and the parts are counted: they are those of the names that were taken, and the names that were put are the root's and those that they give
-pub record IsDoneUpTo (keeps : Keeping) (of : Shared) (view : View) (plan : Option Route) (parts : List ProblemPart) (puts takes : List (List ℕ)) : Type 0 where
+pub record IsDoneUpTo (keeps : Keeping) (of : Shared) (view : View) (plan : Option ProblemPath) (parts : List ProblemPart) (puts takes : List (List ℕ)) : Type 0 where
   pub kept : keeps of view plan parts
   pub grants : view.granted ≡ branches_in_parts parts
   pub taken : SameNames takes (names_of parts)
@@ -27,7 +27,7 @@ pub record IsAllDone (view : View) (parts : List ProblemPart) : Type 0 where
 
 -- what workers leave when they are done: their words with this key, a seat at them that has all shares, the plan and the parts that they keep; and unless a part
 -- was lost, nothing is left
-pub record AreDone (keeps : Keeping) (key : Key) (of : Shared) (seat : Seat) (plan : Option Route) (parts : List ProblemPart) (short : Bool) : Type 0 where
+pub record AreDone (keeps : Keeping) (key : Key) (of : Shared) (seat : Seat) (plan : Option ProblemPath) (parts : List ProblemPart) (short : Bool) : Type 0 where
   pub opened : of.key ≡ key
   pub words : seat.of ≡ of
   pub share : seat.view.share ≡ all_shares
@@ -35,7 +35,7 @@ pub record AreDone (keeps : Keeping) (key : Key) (of : Shared) (seat : Seat) (pl
   pub all : short ≡ false → IsAllDone seat.view parts
 
 -- a search begins with the relocations of this plan, the greedy one; where there is none, with the cap
-pub record IsBegunWith (p : Problem) (first : ℕ) (greedy : Option Route) : Type 0 where
+pub record IsBegunWith (p : Problem) (first : ℕ) (greedy : Option ProblemPath) : Type 0 where
   pub is_problem : IsProblem p
   pub plan_is : IfSome greedy (IsPlanOf p)
   pub first_is : IsFirstLimit p first
@@ -43,8 +43,8 @@ pub record IsBegunWith (p : Problem) (first : ℕ) (greedy : Option Route) : Typ
 
 -- what workers found together: with any plan of the problem that has as many relocations as their best one (or, where they have none, as the limit at the
 -- start) they have searched the whole problem
-pub record IsFoundTogether (p : Problem) (budget first : ℕ) (cert : Certificate) (best : Option Route) (expanded : ℕ) : Type 0 where
+pub record IsFoundTogether (p : Problem) (budget first : ℕ) (cert : Certificate) (best : Option ProblemPath) (expanded : ℕ) : Type 0 where
   pub view : View
   pub granted : expanded ≡ view.granted
   pub best_is : IfSome best (IsPlanOf p)
-  pub whole : (plan : Option Route) → IfSome plan (IsPlanOf p) → count_of p (path_in plan) ≡ count_or first (path_in best) → IsWhole p budget first view cert plan
+  pub whole : (plan : Option ProblemPath) → IfSome plan (IsPlanOf p) → count_of p (path_in plan) ≡ count_or first (path_in best) → IsEndedSearch p budget first view cert plan

@@ -1,7 +1,7 @@
 //! What a search by many workers is for.
 ghost use Rattle.std.specs.Prelude.{◌≡◌, List, Option, IfSome};
 ghost use Rattle.crp_plan.specs.declared.running.View.{View};
-ghost use Rattle.crp_plan.specs.Plans.{Route};
+ghost use Rattle.crp_plan.specs.Plans.{ProblemPath};
 ghost use Rattle.crp_incumbent.specs.Seats.{Shared};
 ghost use Rattle.crp_tree.specs.Parts.{ProblemPart};
 ghost use Rattle.crp_solve.specs.Desks.{fixed_at, IsCountedPart};
@@ -25,7 +25,7 @@ pub struct Searched {
 /// What a search is for: which plan its workers keep, and how they search a part.
 pub trait Aim: Drop {
     /// What workers at these words keep of their plan and of the parts that they searched.
-    ghost keeps: { Shared → View → Option Route → List ProblemPart → Type 0 };
+    ghost keeps: { Shared → View → Option ProblemPath → List ProblemPart → Type 0 };
 
     /// The better of two plans.
     fn better_of(plan: Option<Plan>, other: Option<Plan>) -> Option<Plan>

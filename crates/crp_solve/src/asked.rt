@@ -73,7 +73,7 @@ fn given_up_for(cause: Cause) -> Second
 }
 
 /// The answer after the second part: the first best plan, or the best plan that was known.
-pub(crate) fn told_second(best: Optimum, found: Result<First, GivenUp>) -> Solved
+pub(crate) fn answer_with_second(best: Optimum, found: Result<First, GivenUp>) -> Solved
     ensures one_part { length best.cert.parts ≡ 1 → IfOk found (λ first. length first.cert.parts ≡ 1) → length (cert_of result.answer).parts ≡ 1 }
     ensures solved { (p : Statement) (c : Chosen) → c.first ≡ true → IsTrueAnswer p c.budget (Optimal best.plan best.cert) best.expanded
         → IfOk found (λ first. IsFoundFirst p c.budget (length best.plan.path) first.plan first.cert first.expanded)

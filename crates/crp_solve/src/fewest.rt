@@ -19,7 +19,8 @@ pub struct Fewest;
 
 /// The plan with fewer relocations.
 fn shorter_of(plan: Option<Plan>, other: Option<Plan>) -> Option<Plan>
-    ensures fewest { (first mine others : ℕ) → mine ≡ count_or first (path_in plan) → others ≡ count_or first (path_in other) → mine ≤ first → others ≤ first → min mine others ≡ count_or first (path_in result) }
+    ensures fewest { (first mine others : ℕ) → mine ≡ count_or first (path_in plan) → others ≡ count_or first (path_in other) → mine ≤ first
+        → others ≤ first → min mine others ≡ count_or first (path_in result) }
     ensures plan { (p : Statement) → IfSome plan (IsPlanOf p) → IfSome other (IsPlanOf p) → IfSome result (IsPlanOf p) }
 {
     match (plan, other) {

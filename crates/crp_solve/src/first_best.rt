@@ -20,7 +20,8 @@ pub(crate) struct FirstBest;
 pub(crate) fn earlier_of(plan: Option<Plan>, other: Option<Plan>) -> Option<Plan>
     ensures mine { IsNoLater result plan }
     ensures others { IsNoLater result other }
-    ensures plan { (p : Statement) (count : ℕ) → IfSome plan (IsPlanOfCount p count) → IfSome other (IsPlanOfCount p count) → IfSome result (IsPlanOfCount p count) }
+    ensures plan { (p : Statement) (count : ℕ) → IfSome plan (IsPlanOfCount p count) → IfSome other (IsPlanOfCount p count)
+        → IfSome result (IsPlanOfCount p count) }
 {
     match (plan, other) {
         (Some(plan), Some(other)) => {

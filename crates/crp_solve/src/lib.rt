@@ -4,6 +4,7 @@
 mod aim;
 mod alone;
 mod answer;
+mod answering;
 mod asked;
 mod common;
 mod desk;
@@ -20,7 +21,6 @@ mod second;
 mod settings;
 mod solver;
 mod solving;
-mod telling;
 mod together;
 mod working;
 

@@ -73,7 +73,8 @@ pub(crate) fn work_together<R: Threads + Wait + Sync, G: Gate + Sync, A: Aim + S
     gate: &G,
     first: u32,
 ) -> Option<(Shared, Done)>
-    requires begins { (of : Words) (seat : Place) → of.key ≡ record { problem = problem.now; start = first; budget = settings.budget } → IsUnusedSeat of seat → A.keeps of seat.view None [] }
+    requires begins { (of : Words) (seat : Place) → of.key ≡ record { problem = problem.now; start = first; budget = settings.budget }
+        → IsUnusedSeat of seat → A.keeps of seat.view None [] }
     ensures { IfSome result (λ r. AreDone A.keeps (record { problem = problem.now; start = first; budget = settings.budget }) r.0 r.1.seat r.1.best r.1.parts.items r.1.short) }
 {
     let known = problem.copy();
@@ -108,7 +109,7 @@ pub(crate) fn work_together<R: Threads + Wait + Sync, G: Gate + Sync, A: Aim + S
     Some((shared, done))
 }
 
-/// Searches the problem with many workers for the fewest relocations. Where memory was wanting the error tells how many expansions were granted.
+/// Searches the problem with many workers for the fewest relocations. Where memory ran out the error states how many expansions were granted.
 pub(crate) fn search_together<R: Threads + Wait + Sync, G: Gate + Sync>(
     rt: &R,
     alloc: Global,

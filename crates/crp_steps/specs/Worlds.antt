@@ -2,7 +2,7 @@
 use Rattle.std.specs.Prelude.{◌≡◌, ℕ, zero, suc, ◌⊎◌, Bool, false, List, [], ◌∷◌, length, map, replicate, slice_get, slice_set, Option, None, Some}
 use Rattle.crp_plan.specs.Bay.{Problem, IsProblem, cap}
 use Rattle.crp_plan.specs.Faults.{IsPlanPath}
-use Rattle.crp_plan.specs.Plans.{Route}
+use Rattle.crp_plan.specs.Plans.{ProblemPath}
 use Rattle.crp_plan.specs.declared.running.View.{View}
 use Rattle.crp_tree.specs.Trees.{least}
 
@@ -76,6 +76,6 @@ abbrev pub least_leaf : World → ℕ
 least_leaf w = least (cap w.rules.problem) (map (λ (leaf : Leaf). leaf.value) w.leaves)
 
 -- the limit to begin with where this is the first plan: its relocations; without one, the cap
-abbrev pub start_of : Problem → Option Route → ℕ
+abbrev pub start_of : Problem → Option ProblemPath → ℕ
 start_of p None = cap p
 start_of p (Some plan) = length plan.path

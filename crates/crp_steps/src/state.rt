@@ -208,6 +208,7 @@ impl State {
         ensures none { IfNone result ((path : List ℕ) (place : Place) → HoldsCurrent self.now k path place → ⊥) }
         ensures problem { IsProblem self.now.rules.problem }
     {
+        // For its contract alone: there is a cap.
         let _cap = self.problem.cap();
         let Some(path) = self.workers[k].current() else {
             return None;
@@ -219,7 +220,7 @@ impl State {
         Some(Current { path, place })
     }
 
-    /// The worker takes the first name of another worker's deque. It is copied first, so that want of memory changes nothing.
+    /// The worker takes the first name of another worker's deque. It is copied first, so that lack of memory changes nothing.
     fn steal(&mut self, k: usize, victim: usize) -> Result<(), Stopped>
         requires there { k < length self.old.workers }
         ensures done { OnOk result (Steals k victim self.old self.new) }
@@ -265,8 +266,10 @@ impl State {
     /// Whether the worker may close its current path as a leaf of this value.
     fn may_close(&self, k: usize, current: &Current, value: u32) -> bool
         requires there { k < length self.now.workers }
-        ensures may { IsTrue result → (worker : WorkerValue) → IsWorker self.now k worker → MayClose self.now k worker (record { path = current.now.path; value = value }) current.now.place.place }
-        ensures may_not { IsFalse result → (worker : WorkerValue) → IsWorker self.now k worker → MayClose self.now k worker (record { path = current.now.path; value = value }) current.now.place.place → ⊥ }
+        ensures may { IsTrue result → (worker : WorkerValue) → IsWorker self.now k worker
+            → MayClose self.now k worker (record { path = current.now.path; value = value }) current.now.place.place }
+        ensures may_not { IsFalse result → (worker : WorkerValue) → IsWorker self.now k worker
+            → MayClose self.now k worker (record { path = current.now.path; value = value }) current.now.place.place → ⊥ }
     {
         let view = self.workers[k].view();
         view.seen <= u64::from(value)

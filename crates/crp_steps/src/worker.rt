@@ -195,7 +195,8 @@ impl Worker {
         rows: &[u8],
     ) -> Result<(), AllocError>
         requires { length path.now < 672 }
-        ensures done { OnOk result ((others : List (List ℕ)) (last : List ℕ) → self.old.hand ≡ others ++ last ∷ [] → self.new ≡ record self.old { hand = others ++ children path.now rows.now }) }
+        ensures done { OnOk result ((others : List (List ℕ)) (last : List ℕ) → self.old.hand ≡ others ++ last ∷ []
+            → self.new ≡ record self.old { hand = others ++ children path.now rows.now }) }
         ensures same { OnErr result (self.new ≡ self.old) }
     {
         let mut paths = children_of(alloc, path, rows)?;

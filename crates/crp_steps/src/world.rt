@@ -1,7 +1,7 @@
 ghost use Rattle.std.specs.Prelude.{◌≡◌, ℕ, ◌++◌, ◌∷◌, ◌≤◌, ◌<◌, length, IfOk, OnOk, OnErr, IfErr, IfSome, IsTrue, ◌↔◌, ◌⊎◌};
 ghost use Rattle.std.specs.Option.{option_copied};
 ghost use Rattle.crp_plan.specs.Bay.{cap, IsProblem};
-ghost use Rattle.crp_plan.specs.Plans.{Route};
+ghost use Rattle.crp_plan.specs.Plans.{ProblemPath};
 ghost use Rattle.crp_steps.specs.Worlds.{begin, start_of, IsStart, least_leaf as least_leaf_of};
 ghost use Rattle.crp_steps.specs.Events.{Leads, IsNotNow, Comes, Come, ComeInPart};
 ghost use Rattle.crp_steps.specs.Covered.{IsReachedWorld, IsKeptWorld, IsClosedWorld, SomeRefused, ShowsFewest};
@@ -62,7 +62,8 @@ impl World {
         requires workers { 1 ≤ workers }
         requires budget { budget ≤ 1099511627776 }
         requires split { split ≤ 8 }
-        ensures begins { IfOk result (λ world. world ≡ begin (record { problem = problem.now; budget = budget; split = split; start = start_of problem.now (option_copied first.entry) }) workers) }
+        ensures begins { IfOk result
+            (λ world. world ≡ begin (record { problem = problem.now; budget = budget; split = split; start = start_of problem.now (option_copied first.entry) }) workers) }
     {
         let limit = first_limit(problem, first);
         let state = State::start(alloc, problem, workers, budget, split, u64::from(limit))?;

@@ -1,20 +1,17 @@
 //! Certificates that are checked, and those that are made.
-use crate::calls::{check, exit_of, prove};
-use crate::compare::{assert_same, assert_same_at};
+use crate::calls::{check, exit_of};
+use crate::compare::{assert_at, assert_same, assert_same_at};
 use crate::devices::Slow;
 use crp_cert::CertFault;
 use crp_checker::Refused;
 use crp_commands::ToolFault;
-use crp_plan::{PlanFault, Received};
+use crp_plan::Received;
 use crp_report::Status;
-use crp_solve::Settings;
-use std::alloc::Global;
+use std::alloc::{AllocError, Global};
 use std::process::Abort;
-use std::sync::Wait;
 use std::test::Fail;
-use std::thread::Threads;
 
-const SIX_CONTAINERS: &[u8] =
+pub(crate) const SIX_CONTAINERS: &[u8] =
     b"CRP-CERT 1\nbay A 1\nsize 3 3 6 6\nrow 1 5 4\nrow 6\nrow 3 2\nat least 3\nplan 2 2 1\npart /: XLB\nend 1\n";
 
 // Where the block of this certificate's bay stands, and where its part line and its last line begin.
@@ -25,59 +22,69 @@ const PART_LINE: usize = 78;
 const END_LINE: usize = 90;
 
 // What `check` writes, or its fault after what it wrote.
-fn checked(alloc: Global, mut text: &[u8]) -> (Vec<u8>, Result<Status, ToolFault>) {
+pub(crate) fn checked(alloc: Global, mut text: &[u8]) -> (Vec<u8>, Result<Status, ToolFault>) {
     let mut sink = Received::new(alloc);
     let answer = check(alloc, &mut text, &mut sink);
     (sink.bytes, answer)
 }
 
-// What `prove` writes with a budget, and how it ended.
-fn proved<T: Threads + Wait + Sync>(
-    rt: &T,
-    alloc: Global,
-    budget: u64,
-    mut text: &[u8],
-) -> Result<(Vec<u8>, Status), Fail> {
-    let mut sink = Received::new(alloc);
-    let settings = Settings::new(1, budget, 0)?;
-    let status = prove(rt, alloc, &mut text, &mut sink, settings)?;
-    Ok((sink.bytes, status))
+// Certificates, and what is written of them.
+const ACCEPTED: [(&[u8], &[u8]); 8] = [
+    (SIX_CONTAINERS, b"bay A 1: optimal 3\n"),
+    (
+        b"CRP-CERT 1\nbay A 1\nsize 3 3 6 6\nrow 1 5 4\nrow 6\nrow 3 2\nat least 3\nplan 2 2 1\npart /: XLL\nend 1\n",
+        b"bay A 1: optimal 3\n",
+    ),
+    (
+        b"CRP-CERT 1\nbay A 1\nsize 3 3 6 6\nrow 1 5 4\nrow 6\nrow 3 2\nat least 3\nplan 2 2 1\npart /: XXBBB\nend 1\n",
+        b"bay A 1: optimal 3\n",
+    ),
+    (
+        b"CRP-CERT 1\nbay A 1\nsize 3 3 6 6\nrow 1 5 4\nrow 6\nrow 3 2\nat least 2\nplan 2 2 1\npart /: B\nend 1\n",
+        b"bay A 1: at least 2, plan of 3\n",
+    ),
+    (
+        b"CRP-CERT 1\nbay A 1\nsize 3 3 6 6\nrow 1 5 4\nrow 6\nrow 3 2\nat least 2\nplan 2 2 1\npart /: L\nend 1\n",
+        b"bay A 1: at least 2, plan of 3\n",
+    ),
+    (
+        b"CRP-CERT 1\nbay A 1\nsize 3 3 6 6\nrow 1 5 4\nrow 6\nrow 3 2\nat least 2\nplan -\npart /: B\nend 1\n",
+        b"bay A 1: at least 2\n",
+    ),
+    (
+        b"CRP-CERT 1\n\
+            bay A 1\n\
+            size 1 3 2 2\n\
+            row 1 2\n\
+            at least 5\n\
+            plan -\n\
+            part /: X\n\
+            end 1\n\
+            CRP-CERT 1\n\
+            bay B 20\n\
+            size 2 2 4 4\n\
+            row 1 2\n\
+            row 3 4\n\
+            at least 5\n\
+            plan -\n\
+            part /: X\n\
+            end 1\n",
+        b"bay A 1: no plan\nbay B 20: no plan\n",
+    ),
+    (b"", b""),
+];
+
+// The certificates are accepted, and these lines are written of them.
+pub(crate) fn assert_accepted(rt: &(impl Abort + AllocGlobal), text: &[u8], lines: &[u8]) {
+    let (written, answer) = checked(rt.alloc(), text);
+    assert_same_at(rt, &answer, &Ok(Status::Decided), &text);
+    assert_same_at(rt, &written.as_slice(), &lines, &text);
 }
 
 #[test]
 fn certificates_that_are_accepted(rt: HostRuntime) {
-    let certificates: [(&[u8], &[u8]); 8] = [
-        (SIX_CONTAINERS, b"bay A 1: optimal 3\n"),
-        (
-            b"CRP-CERT 1\nbay A 1\nsize 3 3 6 6\nrow 1 5 4\nrow 6\nrow 3 2\nat least 3\nplan 2 2 1\npart /: XLL\nend 1\n",
-            b"bay A 1: optimal 3\n",
-        ),
-        (
-            b"CRP-CERT 1\nbay A 1\nsize 3 3 6 6\nrow 1 5 4\nrow 6\nrow 3 2\nat least 3\nplan 2 2 1\npart /: XXBBB\nend 1\n",
-            b"bay A 1: optimal 3\n",
-        ),
-        (
-            b"CRP-CERT 1\nbay A 1\nsize 3 3 6 6\nrow 1 5 4\nrow 6\nrow 3 2\nat least 2\nplan 2 2 1\npart /: B\nend 1\n",
-            b"bay A 1: at least 2, plan of 3\n",
-        ),
-        (
-            b"CRP-CERT 1\nbay A 1\nsize 3 3 6 6\nrow 1 5 4\nrow 6\nrow 3 2\nat least 2\nplan 2 2 1\npart /: L\nend 1\n",
-            b"bay A 1: at least 2, plan of 3\n",
-        ),
-        (
-            b"CRP-CERT 1\nbay A 1\nsize 3 3 6 6\nrow 1 5 4\nrow 6\nrow 3 2\nat least 2\nplan -\npart /: B\nend 1\n",
-            b"bay A 1: at least 2\n",
-        ),
-        (
-            b"CRP-CERT 1\nbay A 1\nsize 1 3 2 2\nrow 1 2\nat least 5\nplan -\npart /: X\nend 1\nCRP-CERT 1\nbay B 20\nsize 2 2 4 4\nrow 1 2\nrow 3 4\nat least 5\nplan -\npart /: X\nend 1\n",
-            b"bay A 1: no plan\nbay B 20: no plan\n",
-        ),
-        (b"", b""),
-    ];
-    for (text, lines) in certificates {
-        let (written, answer) = checked(rt.alloc(), text);
-        assert_same(&rt, &answer, &Ok(Status::Decided));
-        assert_same(&rt, &written.as_slice(), &lines);
+    for (text, lines) in ACCEPTED {
+        assert_accepted(&rt, text, lines);
     }
 }
 
@@ -89,99 +96,107 @@ fn with_lines(alloc: Global, lines: &[u8]) -> Result<Vec<u8>, Fail> {
     Ok(text)
 }
 
-#[test]
-fn certificates_that_are_refused(rt: HostRuntime) -> Result<(), Fail> {
-    let refused: [(&[u8], &str); 12] = [
-        (
-            b"at least 3\nplan 2 2 1\npart /: XBL\nend 1\n",
-            "certificate 1: K3 at part / symbol 2",
-        ),
-        (
-            b"at least 3\nplan 2 2 1\npart /: XL\nend 1\n",
-            "certificate 1: C9 at line 9",
-        ),
-        (
-            b"at least 3\nplan 2 2 1\npart /: XLBB\nend 1\n",
-            "certificate 1: C10 at line 9",
-        ),
-        (
-            b"at least 3\nplan 2 2 1\npart /: G\nend 1\n",
-            "certificate 1: C8 at line 9",
-        ),
-        (
-            b"at least 4\nplan 2 2 1\npart /: XLB\nend 1\n",
-            "certificate 1: K3 at part / symbol 2",
-        ),
-        (
-            b"at least 14\nplan 2 2 1\npart /: XLB\nend 1\n",
-            "certificate 1: C4 at line 7",
-        ),
-        (
-            b"at least 3\nplan 2 2 1\npart /: XLB\n",
-            "certificate 1: C11 at line 10",
-        ),
-        (
-            b"at least 3\nplan 2 2 1\npart /: XLB\nend 2\n",
-            "certificate 1: C11 at line 10",
-        ),
-        (
-            b"at least 3\nplan 2 1 3\npart /: XLB\nend 1\n",
-            "certificate 1: K2 (Q2 at step 2)",
-        ),
-        (b"at least 3\nplan 2 2 1\nend 0\n", "certificate 1: K5 at /"),
-        (
-            b"at least 3\nplan 2 2 1\npart /: XLB\npart 3.2: B\nend 2\n",
-            "certificate 1: K6 at 3.2",
-        ),
-        (
-            b"at least 3\nplan 2 2 1\npart /: XLB\nend 1\nmore",
-            "certificate 2: C1 at line 1",
-        ),
-    ];
-    for (lines, told) in refused {
-        let text = with_lines(rt.alloc(), lines)?;
-        let (_written, answer) = checked(rt.alloc(), text.as_slice());
-        assert_same(&rt, &exit_of(&answer), &6);
-        let text = match answer {
-            Err(fault) => format!(in rt.alloc(); "{fault}")?,
-            Ok(_) => String::new(rt.alloc()),
-        };
-        assert_same(&rt, &text.as_str(), &told);
+// Lines for the claim, the plan and the parts of the six containers, and the line of the fault.
+const REFUSED: [(&[u8], &str); 12] = [
+    (
+        b"at least 3\nplan 2 2 1\npart /: XBL\nend 1\n",
+        "certificate 1: K3 at part / symbol 2",
+    ),
+    (
+        b"at least 3\nplan 2 2 1\npart /: XL\nend 1\n",
+        "certificate 1: C9 at line 9",
+    ),
+    (
+        b"at least 3\nplan 2 2 1\npart /: XLBB\nend 1\n",
+        "certificate 1: C10 at line 9",
+    ),
+    (
+        b"at least 3\nplan 2 2 1\npart /: G\nend 1\n",
+        "certificate 1: C8 at line 9",
+    ),
+    (
+        b"at least 4\nplan 2 2 1\npart /: XLB\nend 1\n",
+        "certificate 1: K3 at part / symbol 2",
+    ),
+    (
+        b"at least 14\nplan 2 2 1\npart /: XLB\nend 1\n",
+        "certificate 1: C4 at line 7",
+    ),
+    (
+        b"at least 3\nplan 2 2 1\npart /: XLB\n",
+        "certificate 1: C11 at line 10",
+    ),
+    (
+        b"at least 3\nplan 2 2 1\npart /: XLB\nend 2\n",
+        "certificate 1: C11 at line 10",
+    ),
+    (
+        b"at least 3\nplan 2 1 3\npart /: XLB\nend 1\n",
+        "certificate 1: K2 (Q2 at step 2)",
+    ),
+    (b"at least 3\nplan 2 2 1\nend 0\n", "certificate 1: K5 at /"),
+    (
+        b"at least 3\nplan 2 2 1\npart /: XLB\npart 3.2: B\nend 2\n",
+        "certificate 1: K6 at 3.2",
+    ),
+    (
+        b"at least 3\nplan 2 2 1\npart /: XLB\nend 1\nmore",
+        "certificate 2: C1 at line 1",
+    ),
+];
+
+const X_AT_THE_END: &[u8] =
+    b"CRP-CERT 1\nbay A 1\nsize 2 2 2 2\nrow 2 1\nrow\nat least 0\nplan\npart /: X\nend 1\n";
+
+// The exit status of `check`.
+fn exit_after(alloc: Global, text: &[u8]) -> u8 {
+    let (_, answer) = checked(alloc, text);
+    exit_of(&answer)
+}
+
+// The line of the fault of `check`; nothing where there is none.
+fn fault_line(alloc: Global, text: &[u8]) -> Result<String, AllocError> {
+    let (_, answer) = checked(alloc, text);
+    match answer {
+        Err(fault) => format!(in alloc; "{fault}"),
+        Ok(_) => Ok(String::new(alloc)),
     }
-    let at_the_end =
-        b"CRP-CERT 1\nbay A 1\nsize 2 2 2 2\nrow 2 1\nrow\nat least 0\nplan\npart /: X\nend 1\n";
-    let (_written, answer) = checked(rt.alloc(), at_the_end);
-    assert!(rt;
-        matches!(
-            answer,
-            Err(ToolFault::Checked {
-                number: 1,
-                refused: Refused::Finished { symbol: 1, .. }
-            })
-        )
-    );
+}
+
+// The certificates are refused with a fault of this line.
+pub(crate) fn assert_refused(
+    rt: &(impl Abort + AllocGlobal),
+    text: &[u8],
+    line: &str,
+) -> Result<(), AllocError> {
+    assert_same_at(rt, &exit_after(rt.alloc(), text), &6, &text);
+    let found = fault_line(rt.alloc(), text)?;
+    assert_same_at(rt, &found.as_str(), &line, &text);
     Ok(())
 }
 
 #[test]
+fn certificates_that_are_refused(rt: HostRuntime) -> Result<(), Fail> {
+    for (lines, line) in REFUSED {
+        let text = with_lines(rt.alloc(), lines)?;
+        assert_refused(&rt, &text, line)?;
+    }
+    assert_refused(&rt, X_AT_THE_END, "certificate 1: K4 at part / symbol 1")?;
+    Ok(())
+}
+
+// What `check` writes.
+pub(crate) fn lines_of(alloc: Global, text: &[u8]) -> Vec<u8> {
+    let (written, _) = checked(alloc, text);
+    written
+}
+
+#[test]
 fn a_refusal_comes_after_the_lines_before_it(rt: HostRuntime) -> Result<(), Fail> {
-    let mut text = SIX_CONTAINERS.to_vec(rt.alloc())?;
-    text.extend_from_slice(&SIX_CONTAINERS[..90])?;
-    let (written, answer) = checked(rt.alloc(), text.as_slice());
-    assert_same(
-        &rt,
-        &written.as_slice(),
-        &b"bay A 1: optimal 3\n".as_slice(),
-    );
-    assert!(rt;
-        matches!(
-            answer,
-            Err(ToolFault::Checked {
-                number: 2,
-                refused: Refused::Cert(CertFault::End { line: 10 })
-            })
-        )
-    );
+    let text = some_certificates(rt.alloc(), 1, END_LINE)?;
+    let lines = lines_of(rt.alloc(), &text);
+    assert_same(&rt, &lines.as_slice(), &b"bay A 1: optimal 3\n".as_slice());
+    assert_refused(&rt, &text, "certificate 2: C11 at line 10")?;
     Ok(())
 }
 
@@ -247,144 +262,52 @@ fn line_at(length: usize) -> u32 {
     line
 }
 
+// Whether a certificate that is cut to this length may have this fault: that of the line where it ends.
+fn is_cut_fault(fault: &CertFault, length: usize) -> bool {
+    let line = line_at(length);
+    match fault {
+        CertFault::Opening { line: at } => *at == line && line <= 2,
+        CertFault::Size { line: at } => *at == line && line == 3,
+        CertFault::Row { line: at } => *at == line && line >= 4 && line <= 6,
+        CertFault::Claim { line: at } => *at == line && line == 7,
+        CertFault::Plan { line: at } => *at == line && line == 8,
+        CertFault::Part { line: at } => *at == line && line == 9 && length >= 83,
+        CertFault::End { line: at } => { *at == line && (line == 10 || (line == 9 && length < 83)) }
+        _ => false,
+    }
+}
+
+// Whether the first certificate is refused with such a fault.
+fn is_cut(answer: &Result<Status, ToolFault>, length: usize) -> bool {
+    match answer {
+        Err(
+            ToolFault::Checked {
+                number: 1,
+                refused: Refused::Cert(fault),
+            },
+        ) => is_cut_fault(fault, length),
+        _ => false,
+    }
+}
+
+fn assert_cut(rt: &(impl Abort + AllocGlobal), front: &[u8]) {
+    let (written, answer) = checked(rt.alloc(), front);
+    let length = front.len();
+    assert_at(rt, written.is_empty(), &length);
+    assert_at(rt, is_cut(&answer, length), &length);
+}
+
 #[test]
 fn a_certificate_that_is_cut(rt: HostRuntime) {
     for length in 1..SIX_CONTAINERS.len() {
-        let (written, answer) = checked(rt.alloc(), &SIX_CONTAINERS[..length]);
-        assert!(rt; written.is_empty());
-        let line = line_at(length);
-        let told = match answer {
-            Err(
-                ToolFault::Checked {
-                    number: 1,
-                    refused: Refused::Cert(fault),
-                },
-            ) => fault,
-            _ => CertFault::Memory,
-        };
-        let right = match told {
-            CertFault::Opening { line: at } => at == line && line <= 2,
-            CertFault::Size { line: at } => at == line && line == 3,
-            CertFault::Row { line: at } => at == line && line >= 4 && line <= 6,
-            CertFault::Claim { line: at } => at == line && line == 7,
-            CertFault::Plan { line: at } => at == line && line == 8,
-            CertFault::Part { line: at } => at == line && line == 9 && length >= 83,
-            CertFault::End { line: at } => at == line && (line == 10 || (line == 9 && length < 83)),
-            _ => false,
-        };
-        assert!(rt; right);
+        assert_cut(&rt, &SIX_CONTAINERS[..length]);
     }
 }
 
-// A head, a budget, the lines from the claim on that are proved, and how it ends.
-type Case = (&'static [u8], u64, &'static [u8], Status);
-
-const CASES: [Case; 13] = [
-    (
-        b"CRP-CERT 1\nbay A 1\nsize 2 2 2 2\nrow 1 2\nrow\nat least 0\nplan -\n",
-        1_000_000,
-        b"CRP-CERT 1\nbay A 1\nsize 2 2 2 2\nrow 1 2\nrow\nat least 1\nplan 2\npart /: B\nend 1\n",
-        Status::Decided,
-    ),
-    (
-        b"CRP-CERT 1\nbay A 1\nsize 2 2 2 2\nrow 2 1\nrow\nat least 0\nplan -\n",
-        1_000_000,
-        b"CRP-CERT 1\nbay A 1\nsize 2 2 2 2\nrow 2 1\nrow\nat least 0\nplan\npart /: B\nend 1\n",
-        Status::Decided,
-    ),
-    (
-        b"CRP-CERT 1\nbay A 1\nsize 3 3 4 4\nrow 1 4\nrow 2\nrow 3\nat least 0\nplan -\n",
-        0,
-        b"CRP-CERT 1\nbay A 1\nsize 3 3 4 4\nrow 1 4\nrow 2\nrow 3\nat least 2\nplan 3 1\npart /: L\nend 1\n",
-        Status::Decided,
-    ),
-    (
-        b"CRP-CERT 1\nbay A 1\nsize 3 3 6 6\nrow 1 5 4\nrow 6\nrow 3 2\nat least 0\nplan 9\n",
-        1_000_000,
-        SIX_CONTAINERS,
-        Status::Decided,
-    ),
-    (
-        SIX_CONTAINERS,
-        0,
-        b"CRP-CERT 1\nbay A 1\nsize 3 3 6 6\nrow 1 5 4\nrow 6\nrow 3 2\nat least 2\nplan 2 2 1\npart /: B\nend 1\n",
-        Status::Budget,
-    ),
-    (
-        b"CRP-CERT 1\nbay A 1\nsize 1 3 2 2\nrow 1 2\nat least 0\nplan -\n",
-        1_000_000,
-        b"CRP-CERT 1\nbay A 1\nsize 1 3 2 2\nrow 1 2\nat least 5\nplan -\npart /: X\nend 1\n",
-        Status::Decided,
-    ),
-    (
-        b"CRP-CERT 1\nbay A 1\nsize 2 2 4 4\nrow 1 2\nrow 3 4\nat least 0\nplan -\n",
-        1_000_000,
-        b"CRP-CERT 1\nbay A 1\nsize 2 2 4 4\nrow 1 2\nrow 3 4\nat least 5\nplan -\npart /: X\nend 1\n",
-        Status::Decided,
-    ),
-    (
-        b"CRP-CERT 1\nbay A 1\nsize 3 3 6 6\nrow 4 1 6\nrow 2 5\nrow 3\nat least 0\nplan -\n",
-        1_000_000,
-        b"CRP-CERT 1\nbay A 1\nsize 3 3 6 6\nrow 4 1 6\nrow 2 5\nrow 3\nat least 4\nplan 3 1 2 2\npart /: L\nend 1\n",
-        Status::Decided,
-    ),
-    (
-        b"CRP-CERT 1\nbay A 1\nsize 3 3 6 6\nrow 1 3 6\nrow 5 4\nrow 2\nat least 0\nplan -\n",
-        0,
-        b"CRP-CERT 1\nbay A 1\nsize 3 3 6 6\nrow 1 3 6\nrow 5 4\nrow 2\nat least 3\nplan 2 3 1 1\npart /: L\nend 1\n",
-        Status::Budget,
-    ),
-    (
-        b"CRP-CERT 1\nbay A 1\nsize 3 3 6 6\nrow 1 3 6\nrow 5 4\nrow 2\nat least 0\nplan -\n",
-        1,
-        b"CRP-CERT 1\nbay A 1\nsize 3 3 6 6\nrow 1 3 6\nrow 5 4\nrow 2\nat least 3\nplan 2 3 1 1\npart /: XLB\nend 1\n",
-        Status::Budget,
-    ),
-    (
-        b"CRP-CERT 1\nbay A 1\nsize 3 3 6 6\nrow 1 3 6\nrow 5 4\nrow 2\nat least 0\nplan -\n",
-        2,
-        b"CRP-CERT 1\nbay A 1\nsize 3 3 6 6\nrow 1 3 6\nrow 5 4\nrow 2\nat least 3\nplan 2 3 1 1\npart /: XLXBB\nend 1\n",
-        Status::Budget,
-    ),
-    (
-        b"CRP-CERT 1\nbay A 1\nsize 3 3 6 6\nrow 1 3 6\nrow 5 4\nrow 2\nat least 0\nplan -\n",
-        3,
-        b"CRP-CERT 1\nbay A 1\nsize 3 3 6 6\nrow 1 3 6\nrow 5 4\nrow 2\nat least 3\nplan 3 2 1\npart /: XLXXBB\nend 1\n",
-        Status::Decided,
-    ),
-    (
-        b"CRP-CERT 1\nbay A 1\nsize 3 4 8 8\nrow 5 2 8 4\nrow 7 3\nrow 1 6\nat least 0\nplan -\n",
-        5,
-        b"CRP-CERT 1\nbay A 1\nsize 3 4 8 8\nrow 5 2 8 4\nrow 7 3\nrow 1 6\nat least 5\nplan 2 2 3 1 3\npart /: XXXXXBBBL\nend 1\n",
-        Status::Decided,
-    ),
-];
-
 #[test]
-fn what_is_proved_is_accepted(rt: HostRuntime) -> Result<(), Fail> {
-    for (head, budget, certificate, ended) in CASES {
-        let (text, status) = proved(&rt, rt.alloc(), budget, head)?;
-        assert_same(&rt, &text.as_slice(), &certificate);
-        assert_same(&rt, &status, &ended);
-        let (_lines, answer) = checked(rt.alloc(), text.as_slice());
-        assert_same(&rt, &answer, &Ok(Status::Decided));
-    }
-    Ok(())
-}
-
-#[test]
-fn a_plan_fault_is_told_by_its_step(rt: HostRuntime) -> Result<(), Fail> {
+fn a_plan_fault_is_stated_by_its_step(rt: HostRuntime) -> Result<(), Fail> {
     let text = with_lines(rt.alloc(), b"at least 3\nplan 2 4\npart /: XLB\nend 1\n")?;
-    let (_written, answer) = checked(rt.alloc(), text.as_slice());
-    assert!(rt;
-        matches!(
-            answer,
-            Err(ToolFault::Checked {
-                refused: Refused::Plan(PlanFault::NoSuchRow { step: 2 }),
-                ..
-            })
-        )
-    );
+    assert_refused(&rt, &text, "certificate 1: K2 (Q1 at step 2)")?;
     Ok(())
 }
 
@@ -452,8 +375,8 @@ fn each_byte_of_a_certificate_changed(rt: HostRuntime) -> Result<(), Fail> {
     ];
     for (byte, line) in cases {
         for place in 0..SIX_CONTAINERS.len() {
-            let told: &[u8] = if place == BLOCK { line } else { b"" };
-            assert_changed(&rt, place, byte, told)?;
+            let got: &[u8] = if place == BLOCK { line } else { b"" };
+            assert_changed(&rt, place, byte, got)?;
         }
     }
     Ok(())

@@ -24,7 +24,17 @@ enum Command {
 const REPORTS: [(Command, &[u8]); 4] = [
     (
         Command::Replay,
-        b"bay A 1\nmoves 9 relocations 3\nshift 1.3 2.2 4\nshift 1.2 2.3 5\ntake 1.1 1\ntake 3.2 2\ntake 3.1 3\nshift 2.3 1.1 5\ntake 2.2 4\ntake 1.1 5\ntake 2.1 6\n",
+        b"bay A 1\n\
+            moves 9 relocations 3\n\
+            shift 1.3 2.2 4\n\
+            shift 1.2 2.3 5\n\
+            take 1.1 1\n\
+            take 3.2 2\n\
+            take 3.1 3\n\
+            shift 2.3 1.1 5\n\
+            take 2.2 4\n\
+            take 1.1 5\n\
+            take 2.1 6\n",
     ),
     (Command::Bound, b"bay A 1\nblocking 2\nlook-ahead 2\n"),
     (Command::Check, b"bay A 1: optimal 3\n"),
@@ -36,7 +46,7 @@ const ROOM: usize = 1000;
 
 // How a command ended, and what its sink holds then.
 #[derive(Drop)]
-struct Told {
+struct CommandRun {
     answer: Result<Status, ToolFault>,
     held: Vec<u8>,
 }
@@ -48,7 +58,7 @@ fn ended<T: Threads + Wait + Sync>(
     command: Command,
     mut source: Slow<'_>,
     room: usize,
-) -> Result<Told, Fail> {
+) -> Result<CommandRun, Fail> {
     let mut sink = Small {
         bytes: Vec::new(alloc),
         room,
@@ -63,7 +73,7 @@ fn ended<T: Threads + Wait + Sync>(
             prove(rt, alloc, &mut source, &mut sink, settings)
         }
     };
-    Ok(Told {
+    Ok(CommandRun {
         answer,
         held: sink.bytes,
     })
@@ -90,15 +100,15 @@ fn assert_written<T: Threads + Wait + Abort + Sync>(
     report: &[u8],
     room: usize,
 ) -> Result<(), Fail> {
-    let told = ended(rt, alloc, command, slow(SIX_CERTIFIED, false), room)?;
+    let got = ended(rt, alloc, command, slow(SIX_CERTIFIED, false), room)?;
     let answer = if room < report.len() {
         Err(ToolFault::Write)
     } else {
         Ok(Status::Decided)
     };
-    assert_same_at(rt, &told.answer, &answer, &(command, room));
+    assert_same_at(rt, &got.answer, &answer, &(command, room));
     let held = front(report, room);
-    assert_same_at(rt, &told.held.as_slice(), &held, &(command, room));
+    assert_same_at(rt, &got.held.as_slice(), &held, &(command, room));
     Ok(())
 }
 
@@ -121,11 +131,11 @@ fn assert_unread<T: Threads + Wait + Abort + Sync>(
     given: usize,
 ) -> Result<(), Fail> {
     let source = slow(front(SIX_CERTIFIED, given), true);
-    let told = ended(rt, alloc, command, source, ROOM)?;
-    assert_same_at(rt, &told.answer, &Err(ToolFault::Read), &(command, given));
+    let got = ended(rt, alloc, command, source, ROOM)?;
+    assert_same_at(rt, &got.answer, &Err(ToolFault::Read), &(command, given));
     let has_line = command == Command::Check && given == SIX_CERTIFIED.len();
     let held: &[u8] = if has_line { report } else { b"" };
-    assert_same_at(rt, &told.held.as_slice(), &held, &(command, given));
+    assert_same_at(rt, &got.held.as_slice(), &held, &(command, given));
     Ok(())
 }
 

@@ -57,7 +57,7 @@ impl Sink for Lines {
 }
 
 #[test]
-fn too_many_bytes_are_told_after_the_lines_before_them(rt: HostRuntime) -> Result<(), Fail> {
+fn too_many_bytes_are_reported_after_the_lines_before_them(rt: HostRuntime) -> Result<(), Fail> {
     assert_same(&rt, &SIX_CONTAINERS.len(), &96);
     assert_same(&rt, &MOST_BYTES, &268435456);
     let mut lines = Lines { all: 0, right: 0 };

@@ -68,8 +68,8 @@ fn interrupted_reads(rt: HostRuntime) -> Result<(), Fail> {
         ((0, 1000), Ok(Status::Decided)),
     ];
     for (interrupted, answer) in cases {
-        let told = with_slow(&rt, rt.alloc(), &movins, interrupted)?;
-        assert_same(&rt, &told, &answer);
+        let got = with_slow(&rt, rt.alloc(), &movins, interrupted)?;
+        assert_same(&rt, &got, &answer);
     }
     Ok(())
 }

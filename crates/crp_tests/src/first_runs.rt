@@ -42,7 +42,18 @@ const PROOFS: [Proof; 7] = [
     (
         SIX_FIRST,
         1,
-        b"CRP-CERT 2\nbay A 1\nsize 3 3 6 6\nheights 3 3 3\nrow 1 5 4\nrow 6\nrow 3 2\nfirst 3\nplan 2 2 1\npart /: XGB\npart 2: XXBBB\nend 2\n",
+        b"CRP-CERT 2\n\
+            bay A 1\n\
+            size 3 3 6 6\n\
+            heights 3 3 3\n\
+            row 1 5 4\n\
+            row 6\n\
+            row 3 2\n\
+            first 3\n\
+            plan 2 2 1\n\
+            part /: XGB\n\
+            part 2: XXBBB\n\
+            end 2\n",
     ),
     (
         b"CRP-CERT 1\nbay A 1\nsize 3 3 6 6\nrow 1 3 6\nrow 5 4\nrow 2\nat least 0\nplan -\n",
@@ -142,20 +153,31 @@ struct FirstMade {
 }
 
 // Compares the texts of a run by so many workers with those that it is to make.
-fn compare(rt: &impl Abort, told: &FirstTexts, made: FirstMade, workers: u32) {
-    assert_same_at(rt, &told.answer, &Ok(Status::Decided), &workers);
-    assert_same_at(rt, &told.report.as_slice(), &made.report, &workers);
+fn compare(rt: &impl Abort, got: &FirstTexts, made: FirstMade, workers: u32) {
+    assert_same_at(rt, &got.answer, &Ok(Status::Decided), &workers);
+    assert_same_at(rt, &got.report.as_slice(), &made.report, &workers);
     assert_same_at(
         rt,
-        &told.certificates.as_slice(),
+        &got.certificates.as_slice(),
         &made.certificates,
         &workers,
     );
-    assert_same_at(rt, &told.yard_after.as_slice(), &made.yard_after, &workers);
+    assert_same_at(rt, &got.yard_after.as_slice(), &made.yard_after, &workers);
 }
 
 const SIX_MADE: FirstMade = FirstMade {
-    report: b"orders 6 open 0 absent 0\nbay A 1: optimal 3 first\nshift 1.3 2.2 C4\nshift 1.2 2.3 C5\ntake 1.1 C1\ntake 3.2 C2\ntake 3.1 C3\nshift 2.3 1.1 C5\ntake 2.2 C4\ntake 1.1 C5\ntake 2.1 C6\nbays 1 decided 1\n",
+    report: b"orders 6 open 0 absent 0\n\
+        bay A 1: optimal 3 first\n\
+        shift 1.3 2.2 C4\n\
+        shift 1.2 2.3 C5\n\
+        take 1.1 C1\n\
+        take 3.2 C2\n\
+        take 3.1 C3\n\
+        shift 2.3 1.1 C5\n\
+        take 2.2 C4\n\
+        take 1.1 C5\n\
+        take 2.1 C6\n\
+        bays 1 decided 1\n",
     certificates: SIX_FIRST,
     yard_after: HEADER,
 };
@@ -167,7 +189,15 @@ const FOUR_ORDERS: &[u8] =
     b"LOC+147+0010182'\nEQD+CN+C1'\nLOC+147+0010184'\nEQD+CN+C2'\nLOC+147+0010186'\nEQD+CN+C3'\nLOC+147+0010188'\nEQD+CN+C4'\n";
 
 const FOUR_MADE: FirstMade = FirstMade {
-    report: b"orders 4 open 0 absent 0\nbay A 1: optimal 2 first\nshift 1.2 2.2 C4\ntake 1.1 C1\nshift 2.2 1.1 C4\ntake 2.1 C2\ntake 3.1 C3\ntake 1.1 C4\nbays 1 decided 1\n",
+    report: b"orders 4 open 0 absent 0\n\
+        bay A 1: optimal 2 first\n\
+        shift 1.2 2.2 C4\n\
+        take 1.1 C1\n\
+        shift 2.2 1.1 C4\n\
+        take 2.1 C2\n\
+        take 3.1 C3\n\
+        take 1.1 C4\n\
+        bays 1 decided 1\n",
     certificates: FOUR_FIRST,
     yard_after: HEADER,
 };
@@ -181,16 +211,51 @@ fn first_plans_of_one_bay(rt: HostRuntime) -> Result<(), Fail> {
         (FOUR_CONTAINERS, four.as_slice(), FOUR_MADE),
     ] {
         for workers in WORKERS {
-            let told = texts_of(&rt, rt.alloc(), yard, movins, workers, 0)?;
-            compare(&rt, &told, made, workers);
+            let got = texts_of(&rt, rt.alloc(), yard, movins, workers, 0)?;
+            compare(&rt, &got, made, workers);
         }
     }
     Ok(())
 }
 
 const THREE_BAYS: FirstMade = FirstMade {
-    report: b"orders 7 open 0 absent 0\nbay A 1: optimal 3 first\nshift 1.3 2.2 C4\nshift 1.2 2.3 C5\ntake 1.1 C1\ntake 3.2 C2\ntake 3.1 C3\nshift 2.3 1.1 C5\ntake 2.2 C4\ntake 1.1 C5\ntake 2.1 C6\nbay B 2: optimal 1 first\nshift 1.2 2.1 Y\ntake 1.1 X\nbays 2 decided 2\n",
-    certificates: b"CRP-CERT 2\nbay A 1\nsize 3 3 6 6\nheights 3 3 3\nrow 1 5 4\nrow 6\nrow 3 2\nfirst 3\nplan 2 2 1\npart /: XXXBBBB\nend 1\nCRP-CERT 2\nbay B 2\nsize 3 3 1 2\nheights 3 3 3\nrow 1 2\nrow\nrow\nfirst 1\nplan 2\npart /: XBB\nend 1\n",
+    report: b"orders 7 open 0 absent 0\n\
+        bay A 1: optimal 3 first\n\
+        shift 1.3 2.2 C4\n\
+        shift 1.2 2.3 C5\n\
+        take 1.1 C1\n\
+        take 3.2 C2\n\
+        take 3.1 C3\n\
+        shift 2.3 1.1 C5\n\
+        take 2.2 C4\n\
+        take 1.1 C5\n\
+        take 2.1 C6\n\
+        bay B 2: optimal 1 first\n\
+        shift 1.2 2.1 Y\n\
+        take 1.1 X\n\
+        bays 2 decided 2\n",
+    certificates: b"CRP-CERT 2\n\
+        bay A 1\n\
+        size 3 3 6 6\n\
+        heights 3 3 3\n\
+        row 1 5 4\n\
+        row 6\n\
+        row 3 2\n\
+        first 3\n\
+        plan 2 2 1\n\
+        part /: XXXBBBB\n\
+        end 1\n\
+        CRP-CERT 2\n\
+        bay B 2\n\
+        size 3 3 1 2\n\
+        heights 3 3 3\n\
+        row 1 2\n\
+        row\n\
+        row\n\
+        first 1\n\
+        plan 2\n\
+        part /: XBB\n\
+        end 1\n",
     yard_after: b"block,bay,row,tier,container\nA,2,1,1,K1\nA,2,1,2,K2\nB,2,2,1,Y\n",
 };
 
@@ -199,8 +264,8 @@ fn first_plans_of_two_bays(rt: HostRuntime) -> Result<(), Fail> {
     let yard = yard_of_three_bays(rt.alloc())?;
     let movins = message_of_three_bays(rt.alloc())?;
     for workers in [1, 3, 64] {
-        let told = texts_of(&rt, rt.alloc(), &yard, &movins, workers, 0)?;
-        compare(&rt, &told, THREE_BAYS, workers);
+        let got = texts_of(&rt, rt.alloc(), &yard, &movins, workers, 0)?;
+        compare(&rt, &got, THREE_BAYS, workers);
     }
     Ok(())
 }

@@ -1,12 +1,16 @@
 //! Certificates of the first best plan, as the commands read them; and a search that asks for it in vain.
-use crate::calls::{bound, check, exit_of, prove, replay};
-use crate::compare::{assert_same, assert_same_at};
+use crate::calls::{bound, prove, replay};
+use crate::certificates::{assert_accepted, assert_refused, lines_of};
+use crate::compare::{assert_at, assert_same, assert_same_at};
 use crp_commands::ToolFault;
 use crp_plan::Received;
 use crp_report::Status;
 use crp_solve::Settings;
-use std::alloc::Global;
+use std::alloc::{AllocError, Global};
+use std::process::Abort;
+use std::sync::Wait;
 use std::test::Fail;
+use std::thread::Threads;
 
 // Two plans have two relocations; that with the path 2 1 comes first.
 pub(crate) const FOUR_FIRST: &[u8] =
@@ -22,34 +26,24 @@ const FOUR_OPTIMAL: &[u8] =
 // Where the claim line of the four containers' certificate begins.
 const CLAIM_LINE: usize = 66;
 
-// What `check` writes, or its fault after what it wrote.
-fn checked(alloc: Global, mut text: &[u8]) -> (Vec<u8>, Result<Status, ToolFault>) {
-    let mut sink = Received::new(alloc);
-    let answer = check(alloc, &mut text, &mut sink);
-    (sink.bytes, answer)
+// The certificates of both.
+fn both(alloc: Global) -> Result<Vec<u8>, AllocError> {
+    let mut text = FOUR_FIRST.to_vec(alloc)?;
+    text.extend_from_slice(SIX_FIRST)?;
+    Ok(text)
 }
 
 #[test]
 fn first_plans_that_are_accepted(rt: HostRuntime) -> Result<(), Fail> {
-    let mut both = FOUR_FIRST.to_vec(rt.alloc())?;
-    both.extend_from_slice(SIX_FIRST)?;
-    let certificates: [(&[u8], &[u8]); 3] = [
-        (FOUR_FIRST, b"bay A 1: optimal 2 first\n"),
-        (SIX_FIRST, b"bay A 1: optimal 3 first\n"),
-        (
-            both.as_slice(),
-            b"bay A 1: optimal 2 first\nbay A 1: optimal 3 first\n",
-        ),
-    ];
-    for (text, lines) in certificates {
-        let (written, answer) = checked(rt.alloc(), text);
-        assert_same(&rt, &answer, &Ok(Status::Decided));
-        assert_same(&rt, &written.as_slice(), &lines);
-    }
+    assert_accepted(&rt, FOUR_FIRST, b"bay A 1: optimal 2 first\n");
+    assert_accepted(&rt, SIX_FIRST, b"bay A 1: optimal 3 first\n");
+    let both = both(rt.alloc())?;
+    let lines = b"bay A 1: optimal 2 first\nbay A 1: optimal 3 first\n";
+    assert_accepted(&rt, &both, lines);
     Ok(())
 }
 
-// Lines for the claim, the plan and the part of the four containers, and the fault that `check` tells.
+// Lines for the claim, the plan and the part of the four containers, and the fault that `check` states.
 const REFUSED: [(&[u8], &str); 9] = [
     (
         b"first 2\nplan 2 1\npart /: L\nend 1\n",
@@ -97,33 +91,36 @@ fn with_lines(alloc: Global, lines: &[u8]) -> Result<Vec<u8>, Fail> {
     Ok(text)
 }
 
+// The certificate is refused with a fault of this line, and nothing is written.
+fn assert_refused_at_once(
+    rt: &(impl Abort + AllocGlobal),
+    text: &[u8],
+    line: &str,
+) -> Result<(), AllocError> {
+    let lines = lines_of(rt.alloc(), text);
+    assert_at(rt, lines.is_empty(), &text);
+    assert_refused(rt, text, line)
+}
+
 #[test]
 fn first_plans_that_are_refused(rt: HostRuntime) -> Result<(), Fail> {
-    for (lines, told) in REFUSED {
+    for (lines, line) in REFUSED {
         let text = with_lines(rt.alloc(), lines)?;
-        let (written, answer) = checked(rt.alloc(), text.as_slice());
-        assert!(rt; written.is_empty());
-        assert_same(&rt, &exit_of(&answer), &6);
-        let text = match answer {
-            Err(fault) => format!(in rt.alloc(); "{fault}")?,
-            Ok(_) => String::new(rt.alloc()),
-        };
-        assert_same(&rt, &text.as_str(), &told);
+        assert_refused_at_once(&rt, &text, line)?;
     }
     Ok(())
 }
 
 #[test]
-fn version_one_claims_no_first_plan(rt: HostRuntime) {
+fn version_one_claims_no_first_plan(rt: HostRuntime) -> Result<(), Fail> {
     let text =
         b"CRP-CERT 1\nbay A 1\nsize 3 3 4 4\nrow 1 4\nrow 2\nrow 3\nfirst 2\nplan 2 1\npart /: XXBBB\nend 1\n";
-    let (written, answer) = checked(rt.alloc(), text);
-    assert!(rt; written.is_empty());
-    assert!(rt; answer.is_err());
+    assert_refused_at_once(&rt, text, "certificate 1: C4 at line 7")?;
+    Ok(())
 }
 
 // What `replay` and `bound` write, one after the other.
-fn told_of_head(alloc: Global, text: &[u8]) -> Result<Vec<u8>, ToolFault> {
+fn moves_of_head(alloc: Global, text: &[u8]) -> Result<Vec<u8>, ToolFault> {
     let mut sink = Received::new(alloc);
     let mut head = text;
     let _replayed = replay(alloc, &mut head, &mut sink)?;
@@ -134,26 +131,53 @@ fn told_of_head(alloc: Global, text: &[u8]) -> Result<Vec<u8>, ToolFault> {
 
 #[test]
 fn heads_that_claim_a_first_plan(rt: HostRuntime) -> Result<(), Fail> {
-    let told: &[u8] =
-        b"bay A 1\nmoves 6 relocations 2\nshift 1.2 2.2 4\ntake 1.1 1\nshift 2.2 1.1 4\ntake 2.1 2\ntake 3.1 3\ntake 1.1 4\nbay A 1\nblocking 1\nlook-ahead 2\n";
-    let text = told_of_head(rt.alloc(), FOUR_FIRST)?;
-    assert_same(&rt, &text.as_slice(), &told);
+    let got: &[u8] = b"bay A 1\n\
+        moves 6 relocations 2\n\
+        shift 1.2 2.2 4\n\
+        take 1.1 1\n\
+        shift 2.2 1.1 4\n\
+        take 2.1 2\n\
+        take 3.1 3\n\
+        take 1.1 4\n\
+        bay A 1\n\
+        blocking 1\n\
+        look-ahead 2\n";
+    let text = moves_of_head(rt.alloc(), FOUR_FIRST)?;
+    assert_same(&rt, &text.as_slice(), &got);
     Ok(())
 }
 
 // Searches of the bay of the four containers that give no first plan: it is not asked for, or one more expansion does not suffice.
 const IN_VAIN: [(bool, u64); 3] = [(false, 1_000_000), (false, 0), (true, 1)];
 
+fn settings_of(first: bool, budget: u64) -> Result<Settings, Fail> {
+    let plain = Settings::new(1, budget, 0)?;
+    if first {
+        Ok(plain.with_first())
+    } else {
+        Ok(plain)
+    }
+}
+
+// What `prove` writes of the bay of the four containers, and how it ended.
+fn proved<T: Threads + Wait + Sync>(
+    rt: &T,
+    alloc: Global,
+    settings: Settings,
+) -> Result<(Vec<u8>, Status), Fail> {
+    let mut head = FOUR_FIRST;
+    let mut sink = Received::new(alloc);
+    let status = prove(rt, alloc, &mut head, &mut sink, settings)?;
+    Ok((sink.bytes, status))
+}
+
 #[test]
 fn without_a_first_plan_the_certificate_is_as_ever(rt: HostRuntime) -> Result<(), Fail> {
     for (first, budget) in IN_VAIN {
-        let plain = Settings::new(1, budget, 0)?;
-        let settings = if first { plain.with_first() } else { plain };
-        let mut head = FOUR_FIRST;
-        let mut sink = Received::new(rt.alloc());
-        let status = prove(&rt, rt.alloc(), &mut head, &mut sink, settings)?;
+        let settings = settings_of(first, budget)?;
+        let (text, status) = proved(&rt, rt.alloc(), settings)?;
         assert_same_at(&rt, &status, &Status::Decided, &budget);
-        assert_same_at(&rt, &sink.bytes.as_slice(), &FOUR_OPTIMAL, &budget);
+        assert_same_at(&rt, &text.as_slice(), &FOUR_OPTIMAL, &budget);
     }
     Ok(())
 }

@@ -1,6 +1,5 @@
 //! Bays whose rows are not all of one height, through the words of the command line and over files.
-use crate::compare::{assert_same, assert_same_at};
-use crate::files::run_words;
+use crate::files::{assert_file, assert_words, remove_files};
 use crate::reports::message;
 use crp_commands::ToolFault;
 use crp_report::{Fault, Status};
@@ -64,12 +63,10 @@ fn commands_over_uneven_certificates(rt: HostRuntime) -> Result<(), Fail> {
     let name = "uneven-rows.crp";
     for written in &WRITTEN {
         fs::write(&rt, name, written.certificate)?;
-        let (answer, report) = run_words(&rt, &rt, &[written.command, name])?;
-        assert_same_at(&rt, &answer, &Ok(Status::Decided), &written.command);
-        assert_same_at(&rt, &report.as_slice(), &written.report, &written.command);
+        let words = [written.command, name];
+        assert_words(&rt, &rt, &words, &Ok(Status::Decided), written.report)?;
     }
-    fs::remove_file(&rt, name)?;
-    Ok(())
+    remove_files(&rt, &[name])
 }
 
 const FOUR_CONTAINERS: &[u8] =
@@ -78,39 +75,41 @@ const FOUR_CONTAINERS: &[u8] =
 const FOUR_ORDERS: &[u8] =
     b"LOC+147+0010182'\nEQD+CN+C1'\nLOC+147+0010184'\nEQD+CN+C2'\nLOC+147+0010186'\nEQD+CN+C3'\nLOC+147+0010188'\nEQD+CN+C4'\n";
 
-const FOUR_ANSWERED: &[u8] =
-    b"orders 4 open 0 absent 0\nbay A 1: optimal 2\nshift 1.2 3.2 C4\ntake 1.1 C1\ntake 2.1 C2\nshift 3.2 1.1 C4\ntake 3.1 C3\ntake 1.1 C4\nbays 1 decided 1\n";
+const FOUR_ANSWERED: &[u8] = b"orders 4 open 0 absent 0\n\
+    bay A 1: optimal 2\n\
+    shift 1.2 3.2 C4\n\
+    take 1.1 C1\n\
+    take 2.1 C2\n\
+    shift 3.2 1.1 C4\n\
+    take 3.1 C3\n\
+    take 1.1 C4\n\
+    bays 1 decided 1\n";
+
+// Writes the yard of the four containers and the message of their orders.
+fn write_four(rt: &HostRuntime, list: &str, loading: &str) -> Result<(), Fail> {
+    fs::write(rt, list, FOUR_CONTAINERS)?;
+    let movins = message(rt.alloc(), &[FOUR_ORDERS], b"12")?;
+    fs::write(rt, loading, movins.as_slice())?;
+    Ok(())
+}
 
 #[test]
 fn a_yard_with_uneven_rows(rt: HostRuntime) -> Result<(), Fail> {
-    let movins = message(rt.alloc(), &[FOUR_ORDERS], b"12")?;
     let (list, loading, proofs) = ("uneven-list.csv", "uneven-loading.edi", "uneven-proofs.crp");
-    fs::write(&rt, list, FOUR_CONTAINERS)?;
-    fs::write(&rt, loading, movins.as_slice())?;
+    write_four(&rt, list, loading)?;
     let words = ["solve", list, loading, "--heights=3.1.3", "--cert", proofs];
-    let (answer, report) = run_words(&rt, &rt, &words)?;
-    assert_same(&rt, &answer, &Ok(Status::Decided));
-    assert_same(&rt, &report.as_slice(), &FOUR_ANSWERED);
-    assert_same(&rt, &fs::read(&rt, proofs)?.as_slice(), &UNEVEN);
-    for name in [list, loading, proofs] {
-        fs::remove_file(&rt, name)?;
-    }
-    Ok(())
+    assert_words(&rt, &rt, &words, &Ok(Status::Decided), FOUR_ANSWERED)?;
+    assert_file(&rt, &rt, proofs, UNEVEN)?;
+    remove_files(&rt, &[list, loading, proofs])
 }
 
 #[test]
 fn a_container_above_its_row(rt: HostRuntime) -> Result<(), Fail> {
     let list = "above-list.csv";
-    fs::write(
-        &rt,
-        list,
-        "block,bay,row,tier,container\nA,1,2,1,X\nA,1,2,2,Z\n",
-    )?;
+    let records = "block,bay,row,tier,container\nA,1,2,1,X\nA,1,2,2,Z\n";
+    fs::write(&rt, list, records)?;
     let words = ["solve", list, list, "--heights=3.1.3"];
-    let (answer, report) = run_words(&rt, &rt, &words)?;
     let above = Fault::Yard(YardFault::Outside { record: 3 });
-    assert_same(&rt, &answer, &Err(ToolFault::Run(above)));
-    assert!(rt; report.is_empty());
-    fs::remove_file(&rt, list)?;
-    Ok(())
+    assert_words(&rt, &rt, &words, &Err(ToolFault::Run(above)), b"")?;
+    remove_files(&rt, &[list])
 }

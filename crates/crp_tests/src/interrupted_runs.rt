@@ -65,8 +65,8 @@ fn a_thousand_interruptions_are_passed_over(rt: HostRuntime) -> Result<(), Fail>
             failed: 0,
         };
         let mut message = movins.as_slice();
-        let told = ended(&rt, rt.alloc(), &mut yard, &mut message, writes)?;
-        assert_same(&rt, &told, &answer);
+        let got = ended(&rt, rt.alloc(), &mut yard, &mut message, writes)?;
+        assert_same(&rt, &got, &answer);
     }
     Ok(())
 }
@@ -77,16 +77,16 @@ fn moves_that_are_interrupted(rt: HostRuntime) -> Result<(), Fail> {
     let problem = Problem::new(1, 1, &stacks)?;
     let plan = Plan::from_rows(&problem, &[])?;
     let names = vec![in rt.alloc(); Vec::from_slice(rt.alloc(), b"BOX1")?]?;
-    let told = print_moves(rt.alloc(), &mut busy(1000), &plan, &names);
-    assert_same(&rt, &told, &Ok(()));
-    let told = print_moves(rt.alloc(), &mut busy(1001), &plan, &names);
-    assert_same(&rt, &told, &Err(Fault::Write(Output::Report)));
+    let got = print_moves(rt.alloc(), &mut busy(1000), &plan, &names);
+    assert_same(&rt, &got, &Ok(()));
+    let got = print_moves(rt.alloc(), &mut busy(1001), &plan, &names);
+    assert_same(&rt, &got, &Err(Fault::Write(Output::Report)));
     Ok(())
 }
 
 // The fault that ended a run, in words, and the exit status.
-fn refused(alloc: Global, told: Result<Status, Fault>) -> Result<(String, u8), Fail> {
-    match told {
+fn refused(alloc: Global, got: Result<Status, Fault>) -> Result<(String, u8), Fail> {
+    match got {
         Err(fault) => Ok((
             format!(in alloc; "{fault}")?,
             exit_of(&Err(ToolFault::Run(fault))),
@@ -99,12 +99,12 @@ fn refused(alloc: Global, told: Result<Status, Fault>) -> Result<(String, u8), F
 fn sources_that_never_end(rt: HostRuntime) -> Result<(), Fail> {
     let movins = message(rt.alloc(), &[SIX_ORDERS], b"16")?;
     let mut message = movins.as_slice();
-    let told = ended(&rt, rt.alloc(), &mut Endless, &mut message, [0, 0, 0])?;
-    let (line, status) = refused(rt.alloc(), told)?;
+    let got = ended(&rt, rt.alloc(), &mut Endless, &mut message, [0, 0, 0])?;
+    let (line, status) = refused(rt.alloc(), got)?;
     assert!(rt; line.as_str() == "Y10 at record 0" && status == 3);
     let mut yard = SIX_CONTAINERS;
-    let told = ended(&rt, rt.alloc(), &mut yard, &mut Endless, [0, 0, 0])?;
-    let (line, status) = refused(rt.alloc(), told)?;
+    let got = ended(&rt, rt.alloc(), &mut yard, &mut Endless, [0, 0, 0])?;
+    let (line, status) = refused(rt.alloc(), got)?;
     assert!(rt; line.as_str() == "E7 at offset 8388608" && status == 3);
     Ok(())
 }

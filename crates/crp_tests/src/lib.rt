@@ -17,6 +17,8 @@ mod compare;
 #[cfg(test)]
 mod devices;
 #[cfg(test)]
+mod endings;
+#[cfg(test)]
 mod endless;
 #[cfg(test)]
 mod failing;
@@ -33,9 +35,17 @@ mod heights;
 #[cfg(test)]
 mod interrupted_runs;
 #[cfg(test)]
+mod made;
+#[cfg(test)]
 mod many_workers;
 #[cfg(test)]
+mod mistakes;
+#[cfg(test)]
+mod proved;
+#[cfg(test)]
 mod reports;
+#[cfg(test)]
+mod run_settings;
 #[cfg(test)]
 mod turns;
 #[cfg(test)]

@@ -73,16 +73,16 @@ fn front(text: &[u8], length: usize) -> &[u8] {
 // The run ended so, and the sinks hold fronts of their texts of these lengths.
 fn assert_ended(
     rt: &impl Abort,
-    told: &Texts,
+    got: &Texts,
     answer: &Result<Status, Fault>,
     held: [usize; 3],
     at: usize,
 ) {
-    assert_same_at(rt, &told.answer, answer, &at);
+    assert_same_at(rt, &got.answer, answer, &at);
     let fronts = [
-        (&told.report, SIX_ANSWERED, held[0]),
-        (&told.certificates, SIX_CERTIFIED, held[1]),
-        (&told.yard_after, HEADER, held[2]),
+        (&got.report, SIX_ANSWERED, held[0]),
+        (&got.certificates, SIX_CERTIFIED, held[1]),
+        (&got.yard_after, HEADER, held[2]),
     ];
     for (bytes, text, length) in fronts {
         assert_same_at(rt, &bytes.as_slice(), &front(text, length), &at);
@@ -119,9 +119,9 @@ fn assert_unwritten<T: Threads + Wait + Abort + Sync>(
     room: usize,
 ) -> Result<(), Fail> {
     let mut yard = SIX_CONTAINERS;
-    let told = ended(rt, alloc, &mut yard, &mut movins, rooms_of(output, room))?;
+    let got = ended(rt, alloc, &mut yard, &mut movins, rooms_of(output, room))?;
     let fault = Err(Fault::Write(output));
-    assert_ended(rt, &told, &fault, held_of(output, room), room);
+    assert_ended(rt, &got, &fault, held_of(output, room), room);
     Ok(())
 }
 
@@ -160,8 +160,8 @@ fn assert_unread<T: Threads + Wait + Abort + Sync>(
     at: usize,
 ) -> Result<(), Fail> {
     let (mut yard, mut movins) = sources;
-    let told = ended(rt, alloc, &mut yard, &mut movins, [ROOM; 3])?;
-    assert_ended(rt, &told, &Err(Fault::Read(input)), [0; 3], at);
+    let got = ended(rt, alloc, &mut yard, &mut movins, [ROOM; 3])?;
+    assert_ended(rt, &got, &Err(Fault::Read(input)), [0; 3], at);
     Ok(())
 }
 
@@ -194,13 +194,13 @@ fn each_read_of_the_message_fails_in_turn(rt: HostRuntime) -> Result<(), Fail> {
 #[test]
 fn a_byte_a_call(rt: HostRuntime) -> Result<(), Fail> {
     let movins = message(rt.alloc(), &[SIX_ORDERS], b"16")?;
-    let told = ended(
+    let got = ended(
         &rt,
         rt.alloc(),
         &mut slow(SIX_CONTAINERS, false),
         &mut slow(&movins, false),
         [ROOM; 3],
     )?;
-    assert_ended(&rt, &told, &Ok(Status::Decided), [ROOM; 3], 0);
+    assert_ended(&rt, &got, &Ok(Status::Decided), [ROOM; 3], 0);
     Ok(())
 }

@@ -31,9 +31,9 @@ front_before front path other b before = decide front path other b.0 b.1 before
     decide front path other (row ∷ more) e before = goes_further front path other (inl (record { row = row; rest = more; is = e })) before
 
 -- a plan with a path before the claimed one passes only cuts of a value above k, so it has more than k relocations, or goes through a given name
-part_tells : (p : Problem) (part : Part) (k : ℕ) (plan : List ℕ) (moves : List Move) → IsProblem p → IsPart p part → All (MeetsNeed k plan) (cuts (nodes_in p part)) → IsPlan p moves →
+part_shows : (p : Problem) (part : Part) (k : ℕ) (plan : List ℕ) (moves : List Move) → IsProblem p → IsPart p part → All (MeetsNeed k plan) (cuts (nodes_in p part)) → IsPlan p moves →
     Precedes (path_of moves) plan → Begins (path_of moves) part.name → ((g : List ℕ) → Contains (given_by p part) g → Begins (path_of moves) g → ⊥) → k + 1 ≤ relocations moves
-part_tells p part k plan moves ok is needs whole before b none =
+part_shows p part k plan moves ok is needs whole before b none =
     let shape = is.shape in
     let same = nodes_are p part is.place ok is.is_at in
     let out : Leaves moves (nodes_in p part) = subst (Leaves moves) (sym same) (leaves p part.name is.place part.tree moves ok is.is_at shape.fits shape.in_place whole b) in
@@ -54,7 +54,7 @@ more_before claim path moves first plan before =
     covered p claim.parts (claim.lower + 1) moves (record {
       is_problem = ok.is_problem;
       each = ok.each_part;
-      shown = λ x c b none. part_tells p x claim.lower path moves ok.is_problem (All-contains (IsPart p) claim.parts x ok.each_part c)
+      shown = λ x c b none. part_shows p x claim.lower path moves ok.is_problem (All-contains (IsPart p) claim.parts x ok.each_part c)
           (All-contains (λ (part : Part). All (MeetsNeed claim.lower path) (cuts (nodes_in p part))) claim.parts x first.each_need c) plan before b none;
       needed = λ name. (ok.as_needed name).1;
     })

@@ -7,7 +7,7 @@ use Rattle.crp_plan.specs.Bay.{Problem, IsProblem, Position, IsAt, cap}
 use Rattle.crp_plan.proofs.Paths.{same_at}
 use Rattle.crp_bounds.specs.Bounds.{look_ahead}
 use Rattle.crp_tree.specs.declared.tree.Tree.{Tree}
-use Rattle.crp_tree.specs.Trees.{nodes, given_names, ahead_of, least_value, HasShape, Shows}
+use Rattle.crp_tree.specs.Trees.{nodes, given_names, least_through, least_value, HasShape, Shows}
 use Rattle.crp_tree.specs.Claims.{IsPart, nodes_in}
 use Rattle.crp_tree.specs.Parts.{ProblemPart, nodes_of, part_of, IsKeptPart, IsLeast, floors_of}
 use Rattle.crp_tree.proofs.Shown.{shows_least}
@@ -50,9 +50,9 @@ part_nodes x k =
     let is = k.is_part in
     All-weaker (At (StandsAt x.problem (length x.name + look_ahead is.place))) (λ n. IsAt x.problem n.path n.place) (λ n q. q.is_at) (nodes_of x) (part_stands x is.place k is.is_at)
 
-pub part_higher : (x : ProblemPart) (s : Position) → IsKeptPart x → IsAt x.problem x.name s → All (λ n. length x.name + look_ahead s ≤ ahead_of n) (nodes_of x)
+pub part_higher : (x : ProblemPart) (s : Position) → IsKeptPart x → IsAt x.problem x.name s → All (λ n. length x.name + look_ahead s ≤ least_through n) (nodes_of x)
 part_higher x s k a =
-    All-weaker (At (StandsAt x.problem (length x.name + look_ahead s))) (λ n. length x.name + look_ahead s ≤ ahead_of n) (λ n q. q.high) (nodes_of x) (part_stands x s k a)
+    All-weaker (At (StandsAt x.problem (length x.name + look_ahead s))) (λ n. length x.name + look_ahead s ≤ least_through n) (λ n q. q.high) (nodes_of x) (part_stands x s k a)
 
 -- the lesser of two numbers is one of them
 pub lesser_is : (m n : ℕ) → (min m n ≡ m) ⊎ (min m n ≡ n)

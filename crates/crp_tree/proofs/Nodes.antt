@@ -13,7 +13,7 @@ use Rattle.crp_bounds.specs.Bounds.{look_ahead}
 use Rattle.crp_bounds.proofs.Bounding.{ahead_path}
 use Rattle.crp_tree.specs.declared.tree.Tree.{Tree, CutB, CutL, Branch', Given, Row_of-Tree, end_of-Tree, more_of-Tree, items-the_row-Tree}
 use Rattle.crp_tree.specs.Names.{GoesOn, Precedes}
-use Rattle.crp_tree.specs.Trees.{Mark, B, L, X, G, Node, nodes, nodes_of_each, Fits, FitsEach, is_branch, is_given, given_names, MayStand, IsInPlace, IsGiven, Begins}
+use Rattle.crp_tree.specs.Trees.{Mark, B, L, X, G, Node, nodes, nodes_of_each, Fits, FitsEach, is_branch, is_given, given_names, MayStand, IsInPlace, IsGivenAway, Begins}
 use Rattle.crp_tree.specs.Listed.{nodes_below}
 use Rattle.crp_tree.proofs.Listed.{list_nodes}
 use Rattle.crp_tree.proofs.Lists.{in_map, from_map}
@@ -299,7 +299,7 @@ pub given_begins : (path : List ℕ) (s : Position) (tree : Tree) (g : List ℕ)
 given_begins path s tree g c = let r = from_given (nodes path s tree) g c in subst (λ l. Begins l path) r.3 (node_begins path s tree r.0 r.1)
 
 -- and goes on from it, where the tree is not given as a whole
-pub given_goes_on : (path : List ℕ) (s : Position) (tree : Tree) (g : List ℕ) → (IsGiven tree → ⊥) → Contains (given_names (nodes path s tree)) g → GoesOn path g
+pub given_goes_on : (path : List ℕ) (s : Position) (tree : Tree) (g : List ℕ) → (IsGivenAway tree → ⊥) → Contains (given_names (nodes path s tree)) g → GoesOn path g
 given_goes_on path s CutB g not c = absurd (not_in_nil g c)
 given_goes_on path s CutL g not c = absurd (not_in_nil g c)
 given_goes_on path s Given g not c = absurd (not tt)
@@ -309,7 +309,7 @@ given_goes_on path s (Branch' shape all) g not c =
     goes_first path g b.0 (subst (λ l. Begins l (path ++ b.0 ∷ [])) r.3 b.2)
 
 -- so it is longer
-pub given_longer : (path : List ℕ) (s : Position) (tree : Tree) (g : List ℕ) → (IsGiven tree → ⊥) → Contains (given_names (nodes path s tree)) g → length path < length g
+pub given_longer : (path : List ℕ) (s : Position) (tree : Tree) (g : List ℕ) → (IsGivenAway tree → ⊥) → Contains (given_names (nodes path s tree)) g → length path < length g
 given_longer path s tree g not c = let r = given_goes_on path s tree g not c in omega (arith, ap length r.is, length-append path (r.row ∷ r.rest))
 
 -- it has 8 rows at most

@@ -1,7 +1,7 @@
 -- Claims: parts that give subtrees to each other, and the lower bound that they show.
 use Rattle.std.specs.Prelude.{◌≡◌, ◌≢◌, ℕ, ◌≤◌, ◌⊎◌, ◌↔◌, List, [], ◌∷◌, length, map, flat_map, Contains, All, AllPairs, count_by, Bool, true, false, ◌==◌, ◌&&◌, Option, IfSome, option_map, unwrap_or}
 use Rattle.crp_plan.specs.Bay.{Problem, IsProblem, Position, IsAt, cap}
-use Rattle.crp_plan.specs.Plans.{Route}
+use Rattle.crp_plan.specs.Plans.{ProblemPath}
 use Rattle.crp_plan.specs.Faults.{IsPlanPath}
 use Rattle.crp_bay.specs.Positions.{at}
 use Rattle.crp_tree.specs.declared.tree.Tree.{Tree}
@@ -51,7 +51,7 @@ abbrev pub IsNeeded : Problem → List Part → List ℕ → Type 0
 IsNeeded p parts name = IsRootOrGiven (flat_map (given_by p) parts) name
 
 -- the path of a plan, if there is one
-abbrev pub path_in : Option Route → Option (List ℕ)
+abbrev pub path_in : Option ProblemPath → Option (List ℕ)
 path_in plan = option_map (λ route. route.path) plan
 
 -- what is claimed of a problem: a lower bound, a plan or none, and the parts that show the bound

@@ -101,8 +101,8 @@ abbrev pub value : Node → ℕ
 value node = length node.path + bound_by node.mark node.place
 
 -- what any plan through the node has at least: the length of the path and the look-ahead bound of the position there
-abbrev pub ahead_of : Node → ℕ
-ahead_of node = length node.path + look_ahead node.place
+abbrev pub least_through : Node → ℕ
+least_through node = length node.path + look_ahead node.place
 
 -- a node may stand at a path that leads to s: a branch where that is not finished, a subtree that is given away where the path has 8 rows at most
 abbrev pub MayStand : Mark → List ℕ → Position → Type 0
@@ -116,17 +116,17 @@ abbrev pub IsInPlace : Node → Type 0
 IsInPlace node = MayStand node.mark node.path node.place
 
 -- the tree is nothing but a subtree that another part has
-abbrev pub IsGiven : Tree → Type 0
-IsGiven CutB = ⊥
-IsGiven CutL = ⊥
-IsGiven (Branch' shape all) = ⊥
-IsGiven Given = ⊤
+abbrev pub IsGivenAway : Tree → Type 0
+IsGivenAway CutB = ⊥
+IsGivenAway CutL = ⊥
+IsGivenAway (Branch' shape all) = ⊥
+IsGivenAway Given = ⊤
 
 -- the shape of a part's tree at its name, which leads to s: it fits there, each of its nodes may stand where it stands, and it is not given away as a whole
 pub record HasShape (name : List ℕ) (s : Position) (tree : Tree) : Type 0 where
   pub fits : Fits s tree
   pub in_place : All IsInPlace (nodes name s tree)
-  pub not_given : IsGiven tree → ⊥
+  pub not_given : IsGivenAway tree → ⊥
 
 -- no cut among the nodes has a value below f
 abbrev pub HasAtLeast : ℕ → List Node → Type 0

@@ -11,8 +11,6 @@ use Rattle.crp_words.specs.declared.usage.Mistake.TheVariants as mistake
 use Rattle.crp_words.specs.declared.usage.SettingFault.{SettingFault}
 use Rattle.crp_report.specs.Chosen.{CanBeHeights}
 use Rattle.crp_commands.specs.declared.job.Job.{Job}
-use Rattle.crp_commands.specs.declared.job.Job.TheVariants as job
-use Rattle.crp_commands.specs.Performing.{IsWithinLimits}
 use Rattle.crp_words.specs.declared.usage.Usage.{Usage}
 use Rattle.crp_words.specs.declared.usage.Usage.TheVariants as usage
 
@@ -61,19 +59,7 @@ refused words (usage.Wrong (mistake.Words text)) k shows (inr among) =
     (λ j asks. subst (IsAmong k) asks.0 among, inr (k, among, shows.1, shows.2), λ f at. subst (IsAmong k) at.0 among)
 
 -- heights that are found can be chosen
-may_within : {A : Type 0} (items : A → List ℕ) (rows : List Row) (heights : Option A) → MayFindHeights rows (option_map items heights)
+pub may_within : {A : Type 0} (items : A → List ℕ) (rows : List Row) (heights : Option A) → MayFindHeights rows (option_map items heights)
     → IfSome heights (λ (list : A). CanBeHeights (items list))
 may_within items rows None found = tt
 may_within items rows (Some list) found = found.2.0
-
--- what the words ask for is within its limits
-pub asked_within : (name : Text) (rows : List Row) (j : Job) → Asks name rows j → IsWithinLimits j
-asked_within name rows (job.Replay file) asks = tt
-asked_within name rows (job.Bound file) asks = tt
-asked_within name rows (job.Check file) asks = tt
-asked_within name rows (job.Prove file search) asks = tt
-asked_within name rows (job.Solve yard movins cert after settings) asks =
-    let has = asks.6 in
-    let wide = has.1 in
-    let high = has.2 in
-    ((wide.1, wide.2), (high.1, high.2), may_within (λ list. list.items) rows settings.heights has.3)

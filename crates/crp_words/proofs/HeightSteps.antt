@@ -15,7 +15,7 @@ use Rattle.clap.specs.declared.parser.matches.ValueSource.TheVariants.{CommandLi
 use Rattle.clap.proofs.WalkLemmas.{find_row, first_value-rows}
 use Rattle.crp_report.specs.Chosen.{CanBeHeights}
 use Rattle.crp_words.specs.Heights.{behind_points, heights_text, IsHeightsText, HasHeightAt}
-use Rattle.crp_words.specs.Words.{source_of, AreHeightsBeyond, FindsHeights, IsGiven, MayFindHeights}
+use Rattle.crp_words.specs.Words.{source_of, AreHeightsBeyond, FindsHeights, IsGivenByWords, MayFindHeights}
 
 -- ---- from heights to their text
 
@@ -103,9 +103,9 @@ from_points [] text some e = absurd (omega arith)
 from_points (height ∷ heights) text some e = let f : 46 ∷ ((48 + height) ∷ behind_points heights) ≡ 46 ∷ text = e in cc
 
 -- all of them
-pub all_told : (heights : List ℕ) (text : Text) (k : ℕ) → CanBeHeights heights → 2 * k ≡ suc (length text) → behind_points heights ≡ take (2 * k) (46 ∷ text)
+pub all_stated : (heights : List ℕ) (text : Text) (k : ℕ) → CanBeHeights heights → 2 * k ≡ suc (length text) → behind_points heights ≡ take (2 * k) (46 ∷ text)
     → IsHeightsText heights text
-all_told heights text k can n e = (can, from_points heights text can.0.0 (e ∙ take_all (2 * k) (46 ∷ text) (omega (arith, n))))
+all_stated heights text k can n e = (can, from_points heights text can.0.0 (e ∙ take_all (2 * k) (46 ∷ text) (omega (arith, n))))
 
 -- ---- where the text of an option comes from
 
@@ -118,11 +118,11 @@ source_rows f id = go (find (λ (e : Entry). bytes_eq e.0.now id) f.entries.item
 
 -- so it is known whether the words give the option
 pub given : (f : Found) (id : Text) (source : Option ValueSource) → source ≡ option_and_then (λ (a : MatchedArg). a.source) (matched_of f id)
-    → source ≡ Some CommandLine → IsGiven id (rows_of f)
+    → source ≡ Some CommandLine → IsGivenByWords id (rows_of f)
 given f id source is by = sym (source_rows f id) ∙ sym is ∙ by
 
 pub not_given : (f : Found) (id : Text) (source : Option ValueSource) → source ≡ option_and_then (λ (a : MatchedArg). a.source) (matched_of f id)
-    → (source ≡ Some CommandLine → ⊥) → IsGiven id (rows_of f) → ⊥
+    → (source ≡ Some CommandLine → ⊥) → IsGivenByWords id (rows_of f) → ⊥
 not_given f id source is other by = other (is ∙ source_rows f id ∙ by)
 
 -- the heights of a text are those that were found

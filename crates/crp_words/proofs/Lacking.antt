@@ -7,7 +7,8 @@ use Rattle.clap.specs.Matches.{ReadsOne}
 use Rattle.crp_solve.specs.Chosen.{Chosen}
 use Rattle.crp_words.specs.Words.{Asks, HasBudget, HasNumber, HasNumberBeyond, HasNumberWithin, FindsRows, HasSearch, HasSettings, HasSplit, FindsTiers, HasWorkers, MayFindHeights, IsBudgetBeyond, IsSplitBeyond, AreRowsBeyond, AreTiersBeyond, AreHeightsBeyond, AreWorkersBeyond, IsFault, IsJust, IsSearchFault, IsSizedTwice, IsSolveFault, IsWordsOrMemory, Lacks, ReadsNumber}
 use Rattle.crp_commands.specs.declared.job.Job.{Job}
-use Rattle.crp_commands.specs.declared.job.SolveSettings.{SolveSettings}
+use Rattle.crp_report.specs.Chosen.{RunChosen}
+use Rattle.crp_commands.specs.declared.job.FileCommand.TheVariants as command
 use Rattle.crp_commands.specs.declared.job.Job.TheVariants as job
 use Rattle.crp_words.specs.declared.usage.Mistake.TheVariants as mistake
 use Rattle.crp_words.specs.declared.usage.SettingFault.{SettingFault}
@@ -173,7 +174,7 @@ no_search rows u = lacks_more (HasSearch rows) (HasSettings rows) (IsSearchFault
 pub no_rows : (rows : List Row) (s : Chosen) (u : Usage) → HasSearch rows s → Lacks (FindsRows rows) (IsJust setting.Rows (AreRowsBeyond rows)) u
     → Lacks (HasSettings rows) (IsSolveFault rows) u
 no_rows rows s u search = lacks_more (FindsRows rows) (HasSettings rows) (IsJust setting.Rows (AreRowsBeyond rows)) (IsSolveFault rows) u
-    (λ s has. (s.rows, has.1)) (λ f just. subst (IsSolveFault rows) (sym just.0) ((s, search), just.1)) down
+    (λ s has. (has.1.rows, has.1.finds_rows)) (λ f just. subst (IsSolveFault rows) (sym just.0) ((s, search), just.1)) down
   where
     down : (f : SettingFault) → IsSolveFault rows f → IsJust setting.Rows (AreRowsBeyond rows) f ⊎ ((n : ℕ) × FindsRows rows n)
     down setting.Workers first = absurd (no_search_fault rows s search setting.Workers first)
@@ -187,7 +188,7 @@ no_rows rows s u search = lacks_more (FindsRows rows) (HasSettings rows) (IsJust
 pub no_tiers : (rows : List Row) (s : Chosen) (r : ℕ) (u : Usage) → HasSearch rows s → FindsRows rows r
     → Lacks (FindsTiers rows) (IsJust setting.Tiers (AreTiersBeyond rows)) u → Lacks (HasSettings rows) (IsSolveFault rows) u
 no_tiers rows s r u search has_rows = lacks_more (FindsTiers rows) (HasSettings rows) (IsJust setting.Tiers (AreTiersBeyond rows)) (IsSolveFault rows) u
-    (λ s has. (s.tiers, has.2)) (λ f just. subst (IsSolveFault rows) (sym just.0) ((s, search), (r, has_rows), just.1)) down
+    (λ s has. (has.1.tiers, has.1.finds_tiers)) (λ f just. subst (IsSolveFault rows) (sym just.0) ((s, search), (r, has_rows), just.1)) down
   where
     down : (f : SettingFault) → IsSolveFault rows f → IsJust setting.Tiers (AreTiersBeyond rows) f ⊎ ((n : ℕ) × FindsTiers rows n)
     down setting.Workers first = absurd (no_search_fault rows s search setting.Workers first)
@@ -201,7 +202,7 @@ no_tiers rows s r u search has_rows = lacks_more (FindsTiers rows) (HasSettings 
 pub no_heights : (rows : List Row) (s : Chosen) (r t : ℕ) (u : Usage) → HasSearch rows s → FindsRows rows r → FindsTiers rows t
     → Lacks (MayFindHeights rows) (IsJust setting.Heights (AreHeightsBeyond rows)) u → Lacks (HasSettings rows) (IsSolveFault rows) u
 no_heights rows s r t u search has_rows has_tiers = lacks_more (MayFindHeights rows) (HasSettings rows) (IsJust setting.Heights (AreHeightsBeyond rows)) (IsSolveFault rows) u
-    (λ s has. (_, has.3)) (λ f just. subst (IsSolveFault rows) (sym just.0) ((s, search), (r, has_rows), (t, has_tiers), just.1)) down
+    (λ s has. (has.1.own, has.1.finds_own)) (λ f just. subst (IsSolveFault rows) (sym just.0) ((s, search), (r, has_rows), (t, has_tiers), just.1)) down
   where
     down : (f : SettingFault) → IsSolveFault rows f → IsJust setting.Heights (AreHeightsBeyond rows) f ⊎ ((heights : Option (List ℕ)) × MayFindHeights rows heights)
     down setting.Workers first = absurd (no_search_fault rows s search setting.Workers first)
@@ -215,11 +216,11 @@ no_heights rows s r t u search has_rows has_tiers = lacks_more (MayFindHeights r
 
 -- what prove asks for has settings of a search
 prove_asks : (rows : List Row) (j : Job) → Asks (codes "prove") rows j → (s : Chosen) × HasSearch rows s
-prove_asks rows (job.Replay file) asks = let e : ◌≡◌ {A = ℕ} 112 114 = ap (λ (l : Text). slice_index l 0) asks.0 in absurd (omega arith)
-prove_asks rows (job.Bound file) asks = let e : ◌≡◌ {A = ℕ} 112 98 = ap (λ (l : Text). slice_index l 0) asks.0 in absurd (omega arith)
-prove_asks rows (job.Check file) asks = let e : ◌≡◌ {A = ℕ} 112 99 = ap (λ (l : Text). slice_index l 0) asks.0 in absurd (omega arith)
-prove_asks rows (job.Prove file search) asks = (search, asks.2)
-prove_asks rows (job.Solve yard movins cert after settings) asks = let e : ◌≡◌ {A = ℕ} 112 115 = ap (λ (l : Text). slice_index l 0) asks.0 in absurd (omega arith)
+prove_asks rows (job.OneFile file command.Replay) asks = let e : ◌≡◌ {A = ℕ} 112 114 = ap (λ (l : Text). slice_index l 0) asks.0 in absurd (omega arith)
+prove_asks rows (job.OneFile file command.Bound) asks = let e : ◌≡◌ {A = ℕ} 112 98 = ap (λ (l : Text). slice_index l 0) asks.0 in absurd (omega arith)
+prove_asks rows (job.OneFile file command.Check) asks = let e : ◌≡◌ {A = ℕ} 112 99 = ap (λ (l : Text). slice_index l 0) asks.0 in absurd (omega arith)
+prove_asks rows (job.OneFile file (command.Prove search)) asks = (search, asks.0.1)
+prove_asks rows (job.Solve names settings) asks = let e : ◌≡◌ {A = ℕ} 112 115 = ap (λ (l : Text). slice_index l 0) asks.0 in absurd (omega arith)
 
 -- a fault of prove is its search's
 prove_fault : (rows : List Row) (f : SettingFault) → IsFault (codes "prove") rows f → IsSearchFault rows f
@@ -235,20 +236,20 @@ no_prove rows u = lacks_more (HasSearch rows) (Asks (codes "prove") rows) (IsSea
 -- ---- the settings of solve, and its size
 
 -- what solve asks for has settings
-solve_asks : (rows : List Row) (j : Job) → Asks (codes "solve") rows j → (s : SolveSettings) × HasSettings rows s
-solve_asks rows (job.Replay file) asks = let e : ◌≡◌ {A = ℕ} 115 114 = ap (λ (l : Text). slice_index l 0) asks.0 in absurd (omega arith)
-solve_asks rows (job.Bound file) asks = let e : ◌≡◌ {A = ℕ} 115 98 = ap (λ (l : Text). slice_index l 0) asks.0 in absurd (omega arith)
-solve_asks rows (job.Check file) asks = let e : ◌≡◌ {A = ℕ} 115 99 = ap (λ (l : Text). slice_index l 0) asks.0 in absurd (omega arith)
-solve_asks rows (job.Prove file search) asks = let e : ◌≡◌ {A = ℕ} 115 112 = ap (λ (l : Text). slice_index l 0) asks.0 in absurd (omega arith)
-solve_asks rows (job.Solve yard movins cert after settings) asks = (settings, asks.6)
+solve_asks : (rows : List Row) (j : Job) → Asks (codes "solve") rows j → (s : RunChosen) × HasSettings rows s
+solve_asks rows (job.OneFile file command.Replay) asks = let e : ◌≡◌ {A = ℕ} 115 114 = ap (λ (l : Text). slice_index l 0) asks.0 in absurd (omega arith)
+solve_asks rows (job.OneFile file command.Bound) asks = let e : ◌≡◌ {A = ℕ} 115 98 = ap (λ (l : Text). slice_index l 0) asks.0 in absurd (omega arith)
+solve_asks rows (job.OneFile file command.Check) asks = let e : ◌≡◌ {A = ℕ} 115 99 = ap (λ (l : Text). slice_index l 0) asks.0 in absurd (omega arith)
+solve_asks rows (job.OneFile file (command.Prove search)) asks = let e : ◌≡◌ {A = ℕ} 115 112 = ap (λ (l : Text). slice_index l 0) asks.0.0 in absurd (omega arith)
+solve_asks rows (job.Solve names settings) asks = (settings, asks.3)
 
 -- nor has it its size twice
 solve_once : (rows : List Row) (j : Job) → Asks (codes "solve") rows j → ¬ IsSizedTwice rows
-solve_once rows (job.Replay file) asks = let e : ◌≡◌ {A = ℕ} 115 114 = ap (λ (l : Text). slice_index l 0) asks.0 in absurd (omega arith)
-solve_once rows (job.Bound file) asks = let e : ◌≡◌ {A = ℕ} 115 98 = ap (λ (l : Text). slice_index l 0) asks.0 in absurd (omega arith)
-solve_once rows (job.Check file) asks = let e : ◌≡◌ {A = ℕ} 115 99 = ap (λ (l : Text). slice_index l 0) asks.0 in absurd (omega arith)
-solve_once rows (job.Prove file search) asks = let e : ◌≡◌ {A = ℕ} 115 112 = ap (λ (l : Text). slice_index l 0) asks.0 in absurd (omega arith)
-solve_once rows (job.Solve yard movins cert after settings) asks = asks.1
+solve_once rows (job.OneFile file command.Replay) asks = let e : ◌≡◌ {A = ℕ} 115 114 = ap (λ (l : Text). slice_index l 0) asks.0 in absurd (omega arith)
+solve_once rows (job.OneFile file command.Bound) asks = let e : ◌≡◌ {A = ℕ} 115 98 = ap (λ (l : Text). slice_index l 0) asks.0 in absurd (omega arith)
+solve_once rows (job.OneFile file command.Check) asks = let e : ◌≡◌ {A = ℕ} 115 99 = ap (λ (l : Text). slice_index l 0) asks.0 in absurd (omega arith)
+solve_once rows (job.OneFile file (command.Prove search)) asks = let e : ◌≡◌ {A = ℕ} 115 112 = ap (λ (l : Text). slice_index l 0) asks.0.0 in absurd (omega arith)
+solve_once rows (job.Solve names settings) asks = asks.1
 
 -- a fault of solve comes where its size is not given twice
 solve_fault : (rows : List Row) (f : SettingFault) → IsFault (codes "solve") rows f → ¬ IsSizedTwice rows × IsSolveFault rows f

@@ -3,3 +3,4 @@ pub mod Asking
 pub mod HeightSteps
 pub mod Lacking
 pub mod CommandLine
+pub mod Ended

@@ -1,4 +1,5 @@
--- The command line, and what its words ask for.
+-- The command line, what its words ask for, and how the program ends.
 pub mod Commands
 pub mod Heights
 pub mod Words
+pub mod Endings

@@ -1,5 +1,5 @@
 -- What the words of the command line ask for.
-use Rattle.std.specs.Prelude.{◌≡◌, ℕ, ◌≢◌, ◌↔◌, Bool, IsTrue, ◌⊎◌, ◌==◌, ◌<◌, ◌≤◌, ◌^◌, List, [], ◌∷◌, length, if◌then◌else◌, codes, Option, Some, None, option_map, option_and_then, find, ⊤}
+use Rattle.std.specs.Prelude.{◌≡◌, ℕ, ◌≢◌, ◌↔◌, Bool, IsTrue, ◌⊎◌, ◌==◌, ◌<◌, ◌≤◌, ◌^◌, List, [], ◌∷◌, length, if◌then◌else◌, codes, Option, Some, None, option_map, option_and_then, find, replicate, ⊤}
 use Rattle.std.specs.Str.{bytes_eq}
 use Rattle.std.specs.Str.Parse.{IsNumeral, digits_value, without_leading_plus}
 use Rattle.clap.specs.Words.{IsAmong, Kinds, Row, Text, fault_of, first_of, one_of, subcommand_of}
@@ -10,15 +10,18 @@ use Rattle.clap.specs.declared.error.kind.ErrorKind.TheVariants as kind
 use Rattle.crp_solve.specs.Chosen.{Chosen}
 use Rattle.crp_words.specs.Commands.{crp}
 use Rattle.crp_words.specs.Heights.{IsHeightsText}
+use Rattle.crp_commands.specs.declared.job.FileCommand.{FileCommand}
+use Rattle.crp_commands.specs.declared.job.FileCommand.TheVariants as command
 use Rattle.crp_commands.specs.declared.job.Job.{Job}
 use Rattle.crp_commands.specs.declared.job.Job.TheVariants as job
+use Rattle.crp_commands.specs.declared.job.RunFiles.{RunFiles}
 use Rattle.crp_words.specs.declared.usage.Mistake.{Mistake}
 use Rattle.crp_words.specs.declared.usage.Mistake.TheVariants as mistake
 use Rattle.crp_order.specs.declared.sequences.Mode.{Mode}
 use Rattle.crp_order.specs.declared.sequences.Mode.TheVariants as mode
 use Rattle.crp_words.specs.declared.usage.SettingFault.{SettingFault}
 use Rattle.crp_words.specs.declared.usage.SettingFault.TheVariants as setting
-use Rattle.crp_commands.specs.declared.job.SolveSettings.{SolveSettings}
+use Rattle.crp_report.specs.Chosen.{RunChosen}
 use Rattle.crp_words.specs.declared.usage.Usage.{Usage}
 use Rattle.crp_words.specs.declared.usage.Usage.TheVariants as usage
 use Rattle.crp_solve.specs.declared.settings.TheConstants.{MAX_BUDGET}
@@ -43,8 +46,8 @@ abbrev pub source_of : Text → List Row → Option ValueSource
 source_of id found = option_and_then (λ row. row.source) (find (λ row. bytes_eq row.id id) found)
 
 -- the words give the option, so that it has not its default
-abbrev pub IsGiven : Text → List Row → Type 0
-IsGiven id found = source_of id found ≡ Some CommandLine
+abbrev pub IsGivenByWords : Text → List Row → Type 0
+IsGivenByWords id found = source_of id found ≡ Some CommandLine
 
 -- the rows have this whole number for the option: as it was given, or else its default
 abbrev pub HasNumber : Text → List Row → ℕ → Type 0
@@ -84,7 +87,7 @@ IsSplitBeyond found = HasNumberBeyond (codes "split") 0 8 found
 
 -- the first of all best plans is asked for exactly where the words give the flag
 abbrev pub MayAskForFirst : List Row → Bool → Type 0
-MayAskForFirst found first = IsTrue first ↔ IsGiven (codes "first") found
+MayAskForFirst found first = IsTrue first ↔ IsGivenByWords (codes "first") found
 
 -- the settings of a search that were found, within their limits
 abbrev pub HasSearch : List Row → Chosen → Type 0
@@ -121,7 +124,7 @@ AreHeightsBeyond found = (text : Text) × HasText (codes "heights") found text �
 
 -- the heights are given beside the rows or the tiers, in place of which they stand
 abbrev pub IsSizedTwice : List Row → Type 0
-IsSizedTwice found = IsGiven (codes "heights") found × (IsGiven (codes "rows") found ⊎ IsGiven (codes "tiers") found)
+IsSizedTwice found = IsGivenByWords (codes "heights") found × (IsGivenByWords (codes "rows") found ⊎ IsGivenByWords (codes "tiers") found)
 
 -- the word for an order
 abbrev pub order_word : Mode → Text
@@ -132,25 +135,44 @@ order_word mode.Stowage = codes "stowage"
 abbrev pub HasOrder : List Row → Mode → Type 0
 HasOrder found o = HasText (codes "order") found (order_word o)
 
+-- the heights of the rows: those that are wanted, or else as many rows, with as many tiers each
+abbrev pub heights_or : Option (List ℕ) → ℕ → ℕ → List ℕ
+heights_or (Some heights) rows tiers = heights
+heights_or None rows tiers = replicate rows tiers
+
+-- the heights of the rows of a bay that were found: each for itself, where they are, or else as many rows as were found, with as many tiers each
+pub record FindsRowHeights (found : List Row) (heights : List ℕ) : Type 0 where
+  pub rows : ℕ
+  pub tiers : ℕ
+  pub own : Option (List ℕ)
+  pub finds_rows : FindsRows found rows
+  pub finds_tiers : FindsTiers found tiers
+  pub finds_own : MayFindHeights found own
+  pub are : heights ≡ heights_or own rows tiers
+
 -- the settings of solve that were found, within their limits
-abbrev pub HasSettings : List Row → SolveSettings → Type 0
-HasSettings found s = HasSearch found s.search × FindsRows found s.rows × FindsTiers found s.tiers
-    × MayFindHeights found (option_map (λ heights. heights.items) s.heights)
-    × HasOrder found s.order × HasText (codes "code") found s.code.now
+abbrev pub HasSettings : List Row → RunChosen → Type 0
+HasSettings found s = HasSearch found s.search × FindsRowHeights found s.heights × HasOrder found s.mode × HasText (codes "code") found s.code
+
+-- the files of solve that were found: the two inputs, and the outputs that are wanted
+abbrev pub HasFiles : List Row → RunFiles → Type 0
+HasFiles found names = HasText (codes "yard") found names.yard.now × HasText (codes "movins") found names.movins.now
+    × (first_of (codes "cert") found ≡ option_map (λ text. text.now) names.cert)
+    × (first_of (codes "after") found ≡ option_map (λ text. text.now) names.after)
 
 -- ---- the job, or the first setting beyond its limits
 
+-- the command over one file and its rows ask for this
+abbrev pub AsksCommand : Text → List Row → FileCommand → Type 0
+AsksCommand name found command.Replay = name ≡ codes "replay"
+AsksCommand name found command.Bound = name ≡ codes "bound"
+AsksCommand name found command.Check = name ≡ codes "check"
+AsksCommand name found (command.Prove search) = (name ≡ codes "prove") × HasSearch found search
+
 -- the command and its rows ask for this
 abbrev pub Asks : Text → List Row → Job → Type 0
-Asks name found (job.Replay file) = (name ≡ codes "replay") × HasText (codes "file") found file.now
-Asks name found (job.Bound file) = (name ≡ codes "bound") × HasText (codes "file") found file.now
-Asks name found (job.Check file) = (name ≡ codes "check") × HasText (codes "file") found file.now
-Asks name found (job.Prove file search) = (name ≡ codes "prove") × HasText (codes "file") found file.now × HasSearch found search
-Asks name found (job.Solve yard movins cert after settings) = (name ≡ codes "solve") × ¬ IsSizedTwice found
-    × HasText (codes "yard") found yard.now × HasText (codes "movins") found movins.now
-    × (first_of (codes "cert") found ≡ option_map (λ text. text.now) cert)
-    × (first_of (codes "after") found ≡ option_map (λ text. text.now) after)
-    × HasSettings found settings
+Asks name found (job.OneFile file c) = AsksCommand name found c × HasText (codes "file") found file.now
+Asks name found (job.Solve names settings) = (name ≡ codes "solve") × ¬ IsSizedTwice found × HasFiles found names × HasSettings found settings
 
 -- the first number of a search beyond its limits: the workers, then the budget, then the split
 abbrev pub IsSearchFault : List Row → SettingFault → Type 0
@@ -199,10 +221,10 @@ WordsHaveFault words f = (fault_of crp (words_or_default words) ≡ [])
 abbrev pub ShowsNothing : Kinds → Type 0
 ShowsNothing kinds = (kinds ≡ []) ⊎ ((k : ErrorKind) × IsAmong k kinds × (k ≢ kind.DisplayHelp) × (k ≢ kind.DisplayVersion))
 
--- the mistake tells the first setting beyond its limits exactly where there is one
-abbrev pub TellsFault : (SettingFault → Type 0) → Mistake → Type 0
-TellsFault IsFirst (mistake.Words text) = (f : SettingFault) → IsFirst f → ⊥
-TellsFault IsFirst (mistake.Setting f) = IsFirst f
+-- the mistake states the first setting beyond its limits exactly where there is one
+abbrev pub NamesFirstFault : (SettingFault → Type 0) → Mistake → Type 0
+NamesFirstFault IsFirst (mistake.Words text) = (f : SettingFault) → IsFirst f → ⊥
+NamesFirstFault IsFirst (mistake.Setting f) = IsFirst f
 
 -- when each refusal comes: help and the version where clap shows them, and else only for words that ask for nothing, a setting beyond its limits among it
 abbrev pub Refuses : List Text → Usage → Type 0
@@ -210,13 +232,13 @@ Refuses words usage.Memory = ⊤
 Refuses words (usage.Help text) = IsAmong kind.DisplayHelp (fault_of crp (words_or_default words))
     ⊎ IsAmong kind.DisplayVersion (fault_of crp (words_or_default words))
 Refuses words (usage.Wrong m) = ((j : Job) → WordsAsk words j → ⊥) × ShowsNothing (fault_of crp (words_or_default words))
-    × TellsFault (WordsHaveFault words) m
+    × NamesFirstFault (WordsHaveFault words) m
 
--- why nothing of a kind comes of the rows of a command: there is none, and its first setting beyond its limits is told
+-- why nothing of a kind comes of the rows of a command: there is none, and its first setting beyond its limits is stated
 abbrev pub Lacks : {X : Type 0} → (X → Type 0) → (SettingFault → Type 0) → Usage → Type 0
 Lacks Has IsFirst usage.Memory = ⊤
 Lacks Has IsFirst (usage.Help text) = ⊥
-Lacks {X} Has IsFirst (usage.Wrong m) = ((x : X) → Has x → ⊥) × TellsFault IsFirst m
+Lacks {X} Has IsFirst (usage.Wrong m) = ((x : X) → Has x → ⊥) × NamesFirstFault IsFirst m
 
 -- no setting is beyond its limits
 abbrev pub NoFault : SettingFault → Type 0
@@ -226,7 +248,7 @@ NoFault f = ⊥
 abbrev pub IsJust : SettingFault → Type 0 → SettingFault → Type 0
 IsJust given there f = (f ≡ given) × there
 
--- the refusal is by words, or for want of memory
+-- the refusal is by words, or because memory ran out
 abbrev pub IsWordsOrMemory : Usage → Type 0
 IsWordsOrMemory usage.Memory = ⊤
 IsWordsOrMemory (usage.Help text) = ⊥
@@ -239,9 +261,3 @@ ShowsKind k usage.Memory = ⊤
 ShowsKind k (usage.Help text) = (k ≡ kind.DisplayHelp) ⊎ (k ≡ kind.DisplayVersion)
 ShowsKind k (usage.Wrong (mistake.Words text)) = (k ≢ kind.OutOfMemory) × (k ≢ kind.DisplayHelp) × (k ≢ kind.DisplayVersion)
 ShowsKind k (usage.Wrong (mistake.Setting f)) = ⊥
-
--- the exit status of a run whose words ask for nothing: 0 or 5 after help, 2 for wrong words, 4 for want of memory
-abbrev pub HasUsageStatus : Usage → ℕ → Type 0
-HasUsageStatus (usage.Help text) status = (status ≡ 0) ⊎ (status ≡ 5)
-HasUsageStatus (usage.Wrong m) status = status ≡ 2
-HasUsageStatus usage.Memory status = status ≡ 4

@@ -1,14 +1,19 @@
 //! The words of the command line.
 //!
-//! `job` says what they ask for, as `clap`'s own matches of them give it. The command line is defined in `specs/Commands.antt`, what
-//! words ask for and when they are refused in `specs/Words.antt`.
+//! `run_words` does what they ask for, and returns the exit status; `job` says what they ask for, as `clap`'s own matches of them give
+//! it. The command line is defined in `specs/Commands.antt`, what words ask for and when they are refused in `specs/Words.antt`, and how
+//! the program ends in `specs/Endings.antt`.
 #![tactic(auto)]
 
 mod advice;
 mod commands;
+mod doing;
+mod ending;
 mod usage;
 mod words;
 
 pub use advice::advice_on_setting;
+pub use doing::run_words;
+pub use ending::end_with_usage;
 pub use usage::{Mistake, SettingFault, Usage};
 pub use words::job;

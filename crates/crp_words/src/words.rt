@@ -1,10 +1,12 @@
 //! What the words of the command line ask for.
 ghost use Rattle.std.specs.Prelude.{◌≡◌, ◌≢◌, ◌↔◌, ◌<◌, ◌+◌, ◌*◌, ℕ, List, length, IfOk, IfErr, IfSome, IfNone, IsTrue, map, option_map, codes};
 ghost use Rattle.clap.specs.Words.{found_of, kind_of, rows_of};
-ghost use Rattle.crp_commands.specs.Performing.{IsWithinLimits};
+ghost use Rattle.crp_plan.specs.Faults.{HasTiers};
+ghost use Rattle.crp_report.specs.Chosen.{CanBeHeights, IsRowCount};
 ghost use Rattle.crp_words.specs.declared.usage.SettingFault.TheVariants as setting;
+ghost use Rattle.crp_words.specs.declared.usage.Usage.TheVariants as usage;
 ghost use Rattle.crp_words.specs.Heights.{HasHeightAt, IsHeightsText};
-ghost use Rattle.crp_words.specs.Words.{AreHeightsBeyond, Asks, HasNumber, HasNumberBeyond, HasNumberWithin, HasOrder, HasSearch, HasSettings, HasText, IsFault, IsGiven, IsJust, IsSearchFault, IsSizedTwice, IsSolveFault, IsWordsOrMemory, Lacks, MayFindHeights, NoFault, Refuses, ShowsKind, WordsAsk, words_or_default};
+ghost use Rattle.crp_words.specs.Words.{AreHeightsBeyond, Asks, HasNumber, HasNumberBeyond, HasNumberWithin, HasOrder, HasSearch, HasSettings, HasText, IsFault, IsGivenByWords, IsJust, IsSearchFault, IsSizedTwice, IsSolveFault, IsWordsOrMemory, Lacks, MayFindHeights, NoFault, Refuses, ShowsKind, WordsAsk, heights_or, words_or_default};
 
 use crate::commands::command_line;
 use crate::usage::{Mistake, SettingFault, Usage};
@@ -12,9 +14,10 @@ use arrayvec::ArrayVec;
 use clap::error::ErrorKind;
 use clap::parser::ValueSource;
 use clap::{ArgMatches, Error};
-use crp_commands::{Job, SolveSettings};
+use crp_commands::{FileCommand, Job, RunFiles};
 use crp_order::Mode;
 use crp_plan::MAX_ROWS;
+use crp_report::{RunFault, RunSettings};
 use crp_solve::{MAX_BUDGET, MAX_SPLIT, MAX_WORKERS, Settings};
 use std::alloc::Global;
 
@@ -77,7 +80,8 @@ fn number_within(
     fault: SettingFault,
 ) -> Result<u64, Usage>
     ensures ok { IfOk result (HasNumberWithin name.now limits.0 limits.1 (rows_of (found_of matches.now))) }
-    ensures err { IfErr result (Lacks (HasNumberWithin name.now limits.0 limits.1 (rows_of (found_of matches.now))) (IsJust fault (HasNumberBeyond name.now limits.0 limits.1 (rows_of (found_of matches.now))))) }
+    ensures err { IfErr result (Lacks (HasNumberWithin name.now limits.0 limits.1 (rows_of (found_of matches.now)))
+        (IsJust fault (HasNumberBeyond name.now limits.0 limits.1 (rows_of (found_of matches.now))))) }
 {
     let Some(number) = number_of(matches, name) else {
         return Err(wrong(alloc, "error: a number is not given\n"));
@@ -104,7 +108,7 @@ fn height_at(text: &[u8], before: usize) -> Option<u8>
     Some(digit - b'0')
 }
 
-// The heights that a text tells: digits from 1 to 8 joined by points.
+// The heights that a text states: digits from 1 to 8 joined by points.
 fn heights_in(text: &[u8]) -> Option<ArrayVec<u8, MAX_ROWS>>
     ensures some { IfSome result (λ heights. IsHeightsText heights.items text.now) }
     ensures none { IfNone result ((heights : List ℕ) → IsHeightsText heights text.now → ⊥) }
@@ -138,7 +142,7 @@ fn heights_of(matches: &ArgMatches<'_>) -> Result<Option<ArrayVec<u8, MAX_ROWS>>
 
 // Whether the words give the option, so that it has not its default.
 fn is_given(matches: &ArgMatches<'_>, name: &str) -> bool
-    ensures { IsTrue result ↔ IsGiven name.now (rows_of (found_of matches.now)) }
+    ensures { IsTrue result ↔ IsGivenByWords name.now (rows_of (found_of matches.now)) }
 {
     let Some(source) = matches.value_source(name) else {
         return false;
@@ -207,8 +211,37 @@ fn search_of(alloc: Global, matches: &ArgMatches<'_>) -> Result<Settings, Usage>
     }
 }
 
+// The settings of a run whose bays have so many rows with so many tiers, or rows of these heights, where they are given.
+fn run_settings(
+    alloc: Global,
+    search: Settings,
+    size: (u8, u8),
+    heights: &Option<ArrayVec<u8, MAX_ROWS>>,
+    order: Mode,
+    code: &str,
+) -> Result<RunSettings, Usage>
+    requires rows { IsRowCount size.0 }
+    requires tiers { HasTiers size.1 }
+    requires own { IfSome heights.now (λ list. CanBeHeights list.items) }
+    ensures ok { IfOk result (λ settings. settings ≡ record { search = search; heights = heights_or (option_map (λ list. list.items) heights.now) size.0 size.1; mode = order; code = code.now }) }
+    ensures err { IfErr result (λ fault. fault ≡ usage.Memory) }
+{
+    let settings = match RunSettings::new(alloc, search, size.0, size.1, order, code.as_bytes()) {
+        Ok(settings) => settings,
+        Err(RunFault::Memory) => return Err(Usage::Memory),
+        Err(_) => unreachable!(),
+    };
+    let Some(heights) = heights else {
+        return Ok(settings);
+    };
+    match settings.with_heights(heights.as_slice()) {
+        Ok(settings) => Ok(settings),
+        Err(_) => unreachable!(),
+    }
+}
+
 // The settings of `solve`.
-fn settings_of<'a>(alloc: Global, matches: &ArgMatches<'a>) -> Result<SolveSettings<'a>, Usage>
+fn settings_of(alloc: Global, matches: &ArgMatches<'_>) -> Result<RunSettings, Usage>
     ensures ok { IfOk result (HasSettings (rows_of (found_of matches.now))) }
     ensures err { IfErr result (Lacks (HasSettings (rows_of (found_of matches.now))) (IsSolveFault (rows_of (found_of matches.now)))) }
 {
@@ -224,14 +257,14 @@ fn settings_of<'a>(alloc: Global, matches: &ArgMatches<'a>) -> Result<SolveSetti
     let heights = heights_of(matches)?;
     let order = order_of(alloc, matches)?;
     let code = text_of(alloc, matches, "code")?;
-    Ok(SolveSettings {
+    run_settings(
+        alloc,
         search,
-        rows: rows as u8,
-        tiers: tiers as u8,
-        heights,
+        (rows as u8, tiers as u8),
+        &heights,
         order,
         code,
-    })
+    )
 }
 
 // What `prove` and its matches ask for.
@@ -241,7 +274,10 @@ fn prove_of<'a>(alloc: Global, matches: &ArgMatches<'a>) -> Result<Job<'a>, Usag
 {
     let search = search_of(alloc, matches)?;
     let file = text_of(alloc, matches, "file")?;
-    Ok(Job::Prove { file, search })
+    Ok(Job::OneFile {
+        file,
+        command: FileCommand::Prove(search),
+    })
 }
 
 // What `solve` and its matches ask for.
@@ -255,13 +291,13 @@ fn solve_of<'a>(alloc: Global, matches: &ArgMatches<'a>) -> Result<Job<'a>, Usag
     let settings = settings_of(alloc, matches)?;
     let yard = text_of(alloc, matches, "yard")?;
     let movins = text_of(alloc, matches, "movins")?;
-    Ok(Job::Solve {
+    let files = RunFiles {
         yard,
         movins,
         cert: matches.get_str("cert"),
         after: matches.get_str("after"),
-        settings,
-    })
+    };
+    Ok(Job::Solve { files, settings })
 }
 
 // What a command without options and its matches ask for.
@@ -271,16 +307,13 @@ fn leaf_of<'a>(alloc: Global, name: &str, matches: &ArgMatches<'a>) -> Result<Jo
     ensures err { IfErr result (Lacks (Asks name.now (rows_of (found_of matches.now))) (IsFault name.now (rows_of (found_of matches.now)))) }
 {
     let file = text_of(alloc, matches, "file")?;
-    if name == "replay" {
-        return Ok(Job::Replay(file));
-    }
-    if name == "bound" {
-        return Ok(Job::Bound(file));
-    }
-    if name == "check" {
-        return Ok(Job::Check(file));
-    }
-    Err(wrong(alloc, "error: there is no such command\n"))
+    let command = match name {
+        "replay" => FileCommand::Replay,
+        "bound" => FileCommand::Bound,
+        "check" => FileCommand::Check,
+        _ => return Err(wrong(alloc, "error: there is no such command\n")),
+    };
+    Ok(Job::OneFile { file, command })
 }
 
 // What a command and its matches ask for.
@@ -325,7 +358,6 @@ fn or_default<'a>(words: &'a [&'a str]) -> &'a [&'a str]
 /// What the words after the program's name ask for, as clap's matches of them give it.
 pub fn job<'a>(alloc: Global, words: &'a [&'a str]) -> Result<Job<'a>, Usage>
     ensures asked { IfOk result (WordsAsk (map (λ w. w.now) words.entry.now)) }
-    ensures within { IfOk result IsWithinLimits }
     ensures refused { IfErr result (Refuses (map (λ w. w.now) words.entry.now)) }
 {
     let words = or_default(words);

@@ -1,11 +1,13 @@
 -- The bays of a yard after one plan more, and that they are those of a yard.
 use Rattle.std.proofs.Common.{◌≡◌, ◌≤◌, ◌<◌, ◌+◌, ℕ, suc, Bool, true, false, cond, List, [], ◌∷◌, ◌++◌, map, take, drop, flat_map, length, get_or, All, Option, Some, None, MatchOption, is_some, refl, sym, ap, ◌∙◌, subst, arith, drop-cons, add-one}
-use Rattle.std.specs.Prelude.{if◌then◌else◌, ◌||◌}
-use Rattle.std.specs.List.{AllByRecursion, IsDistinct, find, list_any}
+use Rattle.std.specs.Prelude.{slice_get}
+use Rattle.std.specs.Option.{option_map}
+use denote.Ref.{Bor}
+use Rattle.std.specs.List.{AllByRecursion, IsDistinct, list_any}
 use Rattle.std.specs.Map.{lookup}
-use Rattle.std.proofs.lemmas.List.{take_more, take_all, take-append-drop}
-use Rattle.std.proofs.lemmas.Bool.{false≢true}
-use Rattle.indexmap.specs.IndexMap.{insert_entry}
+use Rattle.std.proofs.lemmas.List.{map-append, take_more, take-append-drop}
+use Rattle.indexmap.specs.IndexMap.{IndexMap, insert_entry}
+use Rattle.indexmap.proofs.CallerLemmas.{insert_entry-new}
 use Rattle.crp_plan.specs.BayNames.{YardBay}
 use Rattle.crp_plan.specs.Rows.{tallest}
 use Rattle.crp_plan.specs.Bay.{IsProblem}
@@ -13,9 +15,11 @@ use Rattle.crp_yard.specs.declared.bay_plan.BayPlan.{BayPlan}
 use Rattle.crp_yard.specs.Places.{same_bay}
 use Rattle.crp_yard.specs.Inventory.{Inventory, StackedBay, FitBay, IsYard, times, containers_of}
 use Rattle.crp_yard.specs.Ranks.{named}
+use Rattle.crp_yard.specs.PlansByBay.{plans_in, AreByBay, AreForProblems}
 use Rattle.crp_yard.specs.After.{IsPlanForBay, plan_for, stacks_at, LeavesNamed, IsBayAfter, AreBaysAfter, IsAfter}
-use Rattle.crp_yard.proofs.Lists.{all_of, each_of, each_push, each_at, found_in, find-kept, find-push, not_before, looked_up, looked}
-use Rattle.crp_yard.proofs.ListingSteps.{times-append}
+use Rattle.crp_yard.proofs.Lists.{all_of, each_of, each_push, each_at, found_in, not_before, not_yet, looked_up, looked}
+use Rattle.crp_yard.proofs.ListingSteps.{times-append, no_value}
+use Rattle.crp_yard.proofs.BuildingSteps.{take_next}
 use Rattle.crp_yard.proofs.OnceSteps.{same_bay_is, same_bay_self}
 use Rattle.crp_yard.proofs.YardSteps.{same_bay_laws}
 use Rattle.crp_yard.proofs.LeftSteps.{IsLeft, left_fits}
@@ -25,54 +29,72 @@ pub record AreDone (plans : List BayPlan) (old new : List StackedBay) : Type 0 w
   pub after : AreBaysAfter plans old new
   pub problems : AllByRecursion (λ plan. IsProblem plan.plan.problem) plans
 
-pub done_none : (bays : List StackedBay) → AreBaysAfter [] bays bays
-done_none [] = tt
-done_none (bay ∷ bays) = ((refl, refl), done_none bays)
+module _ (plans : List BayPlan) where
+  pub after_more : (olds news : List StackedBay) (old new : StackedBay) → AreBaysAfter plans olds news → IsBayAfter plans old new → AreBaysAfter plans (olds ++ old ∷ []) (news ++ new ∷ [])
+  after_more [] [] old new h k = (k, tt)
+  after_more [] (n ∷ news) old new h k = absurd h
+  after_more (o ∷ olds) [] old new h k = absurd h
+  after_more (o ∷ olds) (n ∷ news) old new h k = (h.0, after_more olds news old new h.1 k)
 
-module _ (plans : List BayPlan) (plan : BayPlan) where
-  -- a bay for which the new plan is not
-  unmoved : (old new : StackedBay) → same_bay old.0 plan.bay ≡ false → IsBayAfter plans old new → IsBayAfter (plans ++ plan ∷ []) old new
-  unmoved old new other h = (h.0, by (plan_for plans old.0) refl h.1)
-    where
-      test : BayPlan → Bool
-      test p = same_bay old.0 p.bay
+  same_names : (olds news : List StackedBay) → AreBaysAfter plans olds news → map (λ (b : StackedBay). b.0) news ≡ map (λ (b : StackedBay). b.0) olds
+  same_names [] [] h = refl
+  same_names [] (n ∷ news) h = absurd h
+  same_names (o ∷ olds) [] h = absurd h
+  same_names (o ∷ olds) (n ∷ news) h = λ i. h.0.0 i ∷ same_names olds news h.1 i
 
-      by : (o : Option BayPlan) → plan_for plans old.0 ≡ o → MatchOption (plan_for plans old.0) (new.1 ≡ old.1) (λ p. LeavesNamed p new.1)
-          → MatchOption (plan_for (plans ++ plan ∷ []) old.0) (new.1 ≡ old.1) (λ p. LeavesNamed p new.1)
-      by None e k = let none : plan_for (plans ++ plan ∷ []) old.0 ≡ None = find-push (λ p. same_bay old.0 p.bay) plans plan e ∙ ap (λ b. cond b (Some plan) None) other in rw none (rw e at k)
-      by (Some p) e k = rw (find-kept (λ p. same_bay old.0 p.bay) plans plan p e) (rw e at k)
+  -- one bay more
+  pub after_next : {S : Type 0} (bays : List StackedBay) (i : ℕ) (old : StackedBay) (m : IndexMap YardBay (List (List (List ℕ))) S) (left : List (List (List ℕ))) (new : List StackedBay)
+      → IsDistinct same_bay (map (λ (b : StackedBay). b.0) bays) → slice_get bays i ≡ Some old → AreBaysAfter plans (take i bays) m.entries
+      → MatchOption (plan_for plans old.0) (left ≡ old.1) (λ plan. LeavesNamed plan left) → new ≡ insert_entry same_bay m.entries old.0 left → AreBaysAfter plans (take (i + 1) bays) new
+  after_next bays i old m left new once at before here e =
+      let fresh = not_yet same_bay same_bay_laws bays i old once at in
+      let names = same_names (take i bays) m.entries before in
+      let absent : is_some (lookup (same_bay old.0) m.entries) ≡ false = looked (same_bay old.0) m.entries ∙ ap (list_any (same_bay old.0)) names ∙ sym (looked (same_bay old.0) (take i bays)) ∙ fresh in
+      let pushed : new ≡ m.entries ++ (old.0, left) ∷ [] = e ∙ insert_entry-new same_bay m old.0 left (no_value (lookup (same_bay old.0) m.entries) absent) in
+      let next : take (i + 1) bays ≡ take i bays ++ old ∷ [] = rw add-one (take_next bays i old at) in
+      rw (next, pushed) (after_more (take i bays) m.entries old (old.0, left) before (refl, here))
 
-  all_unmoved : (olds news : List StackedBay) → AllByRecursion (λ k. same_bay plan.bay k ≡ false) (map (λ (b : StackedBay). b.0) olds) → AreBaysAfter plans olds news
-      → AreBaysAfter (plans ++ plan ∷ []) olds news
-  all_unmoved [] [] apart h = tt
-  all_unmoved [] (new ∷ news) apart h = h
-  all_unmoved (old ∷ olds) [] apart h = h
-  all_unmoved (old ∷ olds) (new ∷ news) apart h = (unmoved old new (same_bay_laws.symm old.0 plan.bay ∙ apart.0) h.0, all_unmoved olds news apart.1 h.1)
+-- a plan by the name of its bay
+pub plan_looked : (bay : YardBay) (entries : List (YardBay × Bor BayPlan)) → AreByBay entries → plan_for (plans_in entries) bay ≡ option_map (λ (plan : Bor BayPlan). plan.now) (lookup (same_bay bay) entries)
+plan_looked bay [] keyed = refl
+plan_looked bay (e ∷ entries) keyed = rw keyed.0 (by (same_bay bay e.1.now.bay) (plan_looked bay entries keyed.1))
+  where
+    by : (b : Bool) → plan_for (plans_in entries) bay ≡ option_map (λ (plan : Bor BayPlan). plan.now) (lookup (same_bay bay) entries)
+        → cond b (Some e.1.now) (plan_for (plans_in entries) bay) ≡ option_map (λ (plan : Bor BayPlan). plan.now) (cond b (Some e.1) (lookup (same_bay bay) entries))
+    by true h = refl
+    by false h = h
 
-  -- the bay for which it is
-  pub moved : (stacks : List (List (List ℕ))) (olds news : List StackedBay) → plan_for plans plan.bay ≡ None → LeavesNamed plan stacks → IsDistinct same_bay (map (λ (b : StackedBay). b.0) olds)
-      → list_any (same_bay plan.bay) (map (λ (b : StackedBay). b.0) olds) ≡ true → AreBaysAfter plans olds news
-      → AreBaysAfter (plans ++ plan ∷ []) olds (insert_entry same_bay news plan.bay stacks)
-  unfolding Rattle.std.specs.List.IsDistinct
-  moved stacks [] news fresh leaves once there h = absurd (false≢true there)
-  moved stacks (old ∷ olds) [] fresh leaves once there h = absurd h
-  moved stacks (old ∷ olds) (new ∷ news) fresh leaves once there h =
-      by (same_bay plan.bay new.0) refl (λ seen. moved stacks olds news fresh leaves once.1 seen h.1)
-    where
-      by : (b : Bool) → same_bay plan.bay new.0 ≡ b
-          → (list_any (same_bay plan.bay) (map (λ (b : StackedBay). b.0) olds) ≡ true → AreBaysAfter (plans ++ plan ∷ []) olds (insert_entry same_bay news plan.bay stacks))
-          → AreBaysAfter (plans ++ plan ∷ []) (old ∷ olds) (if b then (new.0, stacks) ∷ news else new ∷ insert_entry same_bay news plan.bay stacks)
-      by true e rest =
-          let same : plan.bay ≡ old.0 = same_bay_is plan.bay new.0 e ∙ h.0.0 in
-          let P : YardBay → Type 0 = λ k. plan_for plans k ≡ None in
-          let Q : YardBay → Type 0 = λ k. AllByRecursion (λ j. same_bay k j ≡ false) (map (λ (b : StackedBay). b.0) olds) in
-          let here : same_bay old.0 plan.bay ≡ true = rw same (same_bay_self old.0) in
-          let found : plan_for (plans ++ plan ∷ []) old.0 ≡ Some plan = find-push (λ p. same_bay old.0 p.bay) plans plan (subst P same fresh) ∙ ap (λ b. cond b (Some plan) None) here in
-          ((h.0.0, rw found leaves), all_unmoved olds news (subst Q (sym same) once.0) h.1)
-      by false e rest =
-          let other : same_bay plan.bay old.0 ≡ false = ap (same_bay plan.bay) (sym h.0.0) ∙ e in
-          let seen : list_any (same_bay plan.bay) (map (λ (b : StackedBay). b.0) olds) ≡ true = sym (ap (λ b. b || list_any (same_bay plan.bay) (map (λ (b : StackedBay). b.0) olds)) other) ∙ there in
-          (unmoved old new (same_bay_laws.symm old.0 plan.bay ∙ other) h.0, rest seen)
+-- the plans so far are kept by their bays
+pub record ArePlansSoFar (plans : List BayPlan) (entries : List (YardBay × Bor BayPlan)) : Type 0 where
+  pub all : plans_in entries ≡ plans
+  pub keyed : AreByBay entries
+  pub problems : AreForProblems plans
+
+pub no_plans : ArePlansSoFar [] []
+no_plans = record { all = refl; keyed = tt; problems = tt }
+
+pub one_plan_more : {S : Type 0} (plans : List BayPlan) (i : ℕ) (m : IndexMap YardBay (Bor BayPlan) S) (new : List (YardBay × Bor BayPlan)) (key : YardBay) (plan : Bor BayPlan) → new ≡ insert_entry same_bay m.entries key plan
+    → key ≡ plan.now.bay → IsDistinct same_bay (map (λ plan. plan.bay) plans) → i < length plans → plan.now ≡ get_or plans i plan.now → IsProblem plan.now.plan.problem
+    → ArePlansSoFar (take i plans) m.entries → ArePlansSoFar (take (i + 1) plans) new
+one_plan_more plans i m new key plan put named once within at problem before =
+    let e : new ≡ insert_entry same_bay m.entries plan.now.bay plan = put ∙ ap (λ k. insert_entry same_bay m.entries k plan) named in
+    let next : take (i + 1) plans ≡ take i plans ++ plan.now ∷ [] = take_more plans i plan.now within ∙ ap (λ p. take i plans ++ p ∷ []) (sym at) in
+    let cut : drop i plans ≡ plan.now ∷ drop (i + 1) plans = rw add-one (drop-cons plans i plan.now within ∙ ap (λ p. p ∷ drop (suc i) plans) (sym at)) in
+    let split : plans ≡ take i plans ++ plan.now ∷ drop (i + 1) plans = sym (take-append-drop i plans) ∙ ap (λ l. take i plans ++ l) cut in
+    let apart : IsDistinct same_bay (map (λ plan. plan.bay) (take i plans ++ plan.now ∷ drop (i + 1) plans)) = subst (λ l. IsDistinct same_bay (map (λ plan. plan.bay) l)) split once in
+    let fresh : plan_for (take i plans) plan.now.bay ≡ None = not_before same_bay same_bay_laws (λ plan. plan.bay) (take i plans) plan.now (drop (i + 1) plans) apart in
+    let found = plan_looked plan.now.bay m.entries before.keyed in
+    let absent : is_some (lookup (same_bay plan.now.bay) m.entries) ≡ false = sym (some_mapped (lookup (same_bay plan.now.bay) m.entries)) ∙ ap is_some (sym found ∙ ap (λ ps. plan_for ps plan.now.bay) before.all ∙ fresh) in
+    let pushed : new ≡ m.entries ++ (plan.now.bay, plan) ∷ [] = e ∙ insert_entry-new same_bay m plan.now.bay plan (no_value (lookup (same_bay plan.now.bay) m.entries) absent) in
+    record {
+      all = rw (next, pushed, map-append (λ (entry : YardBay × Bor BayPlan). entry.1.now) m.entries ((plan.now.bay, plan) ∷ []), before.all) refl;
+      keyed = rw pushed (each_push (λ (entry : YardBay × Bor BayPlan). entry.0 ≡ entry.1.now.bay) m.entries (plan.now.bay, plan) before.keyed refl);
+      problems = rw next (each_push (λ plan. IsProblem plan.plan.problem) (take i plans) plan.now before.problems problem);
+    }
+  where
+    some_mapped : (o : Option (Bor BayPlan)) → is_some (option_map (λ (plan : Bor BayPlan). plan.now) o) ≡ is_some o
+    some_mapped None = refl
+    some_mapped (Some x) = refl
 
 -- what the plans leave of the bays
 pub record AreKept (heights : List ℕ) (old new : List StackedBay) : Type 0 where
@@ -126,27 +148,6 @@ after_is_yard yard plans news sound of done =
       bays_once = rw kept.names sound.bays_once;
       containers_once = λ c. omega (arith, kept.fewer c, sound.containers_once c);
     }
-
--- one plan more is done
-pub done_more : (yard : Inventory) (plans : List BayPlan) (i : ℕ) (plan : BayPlan) (stacks : List (List (List ℕ))) (old new : List StackedBay) → IsYard yard → All (IsPlanForBay yard) plans
-    → IsDistinct same_bay (map (λ plan. plan.bay) plans) → i < length plans → plan ≡ get_or plans i plan → IsProblem plan.plan.problem → LeavesNamed plan stacks
-    → AreDone (take i plans) yard.bays old → new ≡ insert_entry same_bay old plan.bay stacks → AreDone (take (i + 1) plans) yard.bays new
-done_more yard plans i plan stacks old new sound of once within at problem leaves done e =
-    let next : take (i + 1) plans ≡ take i plans ++ plan ∷ [] = take_more plans i plan within ∙ ap (λ p. take i plans ++ p ∷ []) (sym at) in
-    let cut : drop i plans ≡ plan ∷ drop (i + 1) plans = rw add-one (drop-cons plans i plan within ∙ ap (λ p. p ∷ drop (suc i) plans) (sym at)) in
-    let split : plans ≡ take i plans ++ plan ∷ drop (i + 1) plans =
-    sym (take-append-drop i plans) ∙ ap (λ l. take i plans ++ l) cut in
-    let apart : IsDistinct same_bay (map (λ plan. plan.bay) (take i plans ++ plan ∷ drop (i + 1) plans)) = subst (λ l. IsDistinct same_bay (map (λ plan. plan.bay) l)) split once in
-    let fresh = not_before same_bay same_bay_laws (λ plan. plan.bay) (take i plans) plan (drop (i + 1) plans) apart in
-    let own : IsPlanForBay yard plan = subst (IsPlanForBay yard) (sym at) (of i plan within) in
-    let there : list_any (same_bay plan.bay) (map (λ (b : StackedBay). b.0) yard.bays) ≡ true = sym (looked (same_bay plan.bay) yard.bays) ∙ ap is_some own.stands in
-    record {
-      after = rw (next, e) (moved (take i plans) plan stacks yard.bays old fresh leaves sound.bays_once there done.after);
-      problems = rw next (each_push (λ plan. IsProblem plan.plan.problem) (take i plans) plan done.problems problem);
-    }
-
-pub done_all : (plans : List BayPlan) (i : ℕ) (old new : List StackedBay) → length plans ≤ i → AreDone (take i plans) old new → AreDone plans old new
-done_all plans i old new past done = subst (λ l. AreDone l old new) (take_all i plans past) done
 
 pub after_all : (yard after : Inventory) (plans : List BayPlan) (heights : List ℕ) (bays : List StackedBay) → heights ≡ yard.heights → IsYard yard → AreDone plans yard.bays bays
     → after ≡ record { heights = heights; tiers = tallest heights; bays = bays } → IsAfter yard plans after

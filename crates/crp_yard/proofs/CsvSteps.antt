@@ -97,7 +97,7 @@ records-front : (cfg : Config) (xs ys : List ℕ) (rows : List (List (List ℕ))
     → (more : List (List (List ℕ))) × (records cfg xs ≡ rows ++ more)
 records-front cfg xs ys rows s2 reached = front_given cfg _ st.StartRecord s2 xs ys rows (omega arith) reached
 
--- the same, of which the last is told apart
+-- the same, of which the last is stated apart
 pub records-next : (cfg : Config) (xs ys : List ℕ) (rows : List (List (List ℕ))) (row : List (List ℕ)) (s2 : State) → Reached cfg st.StartRecord xs (rows ++ row ∷ []) s2 ys
     → (more : List (List (List ℕ))) × (records cfg xs ≡ rows ++ row ∷ more)
 records-next cfg xs ys rows row s2 reached =

@@ -1,4 +1,4 @@
--- Of the entries that float the first is told.
+-- Of the entries that float the first is stated.
 use Prim.Native.Nat.{zero}
 use Rattle.std.proofs.Common.{◌≡◌, ◌<◌, ◌+◌, ◌-◌, ℕ, suc, true, List, length, Some, None, refl, arith}
 use Rattle.std.specs.Prelude.{slice_get}

@@ -3,11 +3,11 @@ use Rattle.std.proofs.Common.{◌≡◌, ℕ, ◌+◌, ◌<◌, List, [], ◌∷
 use Rattle.std.proofs.lemmas.List.{map-append}
 use Rattle.crp_plan.specs.declared.moves.Move.{Move}
 use Rattle.crp_plan.specs.Bay.{Problem, Position, IsSound, IsProblem, IsPlan, IsFinished, IsTaken, IsShifted, Legal, Runs, start, path_of}
-use Rattle.crp_plan.specs.Plans.{Route}
+use Rattle.crp_plan.specs.Plans.{ProblemPath}
 use Rattle.crp_plan.specs.Walks.{NoneToTake}
 use Rattle.crp_plan.proofs.Sound.{sound_legal, sound_start}
 use Rattle.crp_plan.proofs.Determined.{one_take, one_source, legal_is}
-use Rattle.crp_yard.specs.Ranks.{Leaves, named, name_of}
+use Rattle.crp_yard.specs.Ranks.{Leaves, named, name_of_rank}
 use Rattle.crp_yard.proofs.BuildingSteps.{take_next}
 
 -- what was taken is what could be, and so with a relocation
@@ -42,7 +42,7 @@ way_next problem moves i d here within way =
     let split : drop i moves ≡ get_or moves i d ∷ drop (i + 1) moves = rw add-one (drop-cons moves i d within) in
     subst (λ rest. IsOnTheWay problem moves here rest) split way
 
-pub way_ends : (plan : Route) (moves rest : List Move) (here : Position) → rest ≡ [] → path_of moves ≡ plan.path → IsOnTheWay plan.problem moves here rest → Leaves plan here.stacks
+pub way_ends : (plan : ProblemPath) (moves rest : List Move) (here : Position) → rest ≡ [] → path_of moves ≡ plan.path → IsOnTheWay plan.problem moves here rest → Leaves plan here.stacks
 way_ends plan moves [] here e path way = record {
   moves = moves;
   end = way.end;
@@ -55,6 +55,6 @@ way_ends plan moves (m ∷ rest) here e path way = cc
 
 -- the stacks so far are named
 pub named-more : (names : List (List ℕ)) (stacks : List (List ℕ)) (i : ℕ) (stack : List ℕ) (copy : List (List ℕ)) (old new : List (List (List ℕ))) → slice_get stacks i ≡ Some stack
-    → old ≡ named names (take i stacks) → new ≡ old ++ copy ∷ [] → copy ≡ map (name_of names) stack → new ≡ named names (take (i + 1) stacks)
+    → old ≡ named names (take i stacks) → new ≡ old ++ copy ∷ [] → copy ≡ map (name_of_rank names) stack → new ≡ named names (take (i + 1) stacks)
 named-more names stacks i stack copy old new at is e same =
-    rw (e, is, same, add-one i, take_next stacks i stack at, map-append (λ s. map (name_of names) s) (take i stacks) (stack ∷ [])) refl
+    rw (e, is, same, add-one i, take_next stacks i stack at, map-append (λ s. map (name_of_rank names) s) (take i stacks) (stack ∷ [])) refl

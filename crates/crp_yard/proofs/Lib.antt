@@ -1,5 +1,6 @@
 -- Lemmas on yard lists.
 pub mod Lists
+pub mod Seams
 pub mod FieldSteps
 pub mod BaySteps
 pub mod ListingSteps
@@ -11,7 +12,7 @@ pub mod NameSteps
 pub mod Sums
 pub mod OnceSteps
 pub mod YardSteps
-pub mod ToldSteps
+pub mod FaultKinds
 pub mod TextSteps
 pub mod LeavingSteps
 pub mod LeftSteps
@@ -19,3 +20,5 @@ pub mod AfterSteps
 pub mod Least
 pub mod ReadBack
 pub mod Standing
+pub mod FirstSeen
+pub mod InventoryPlaces

@@ -44,23 +44,6 @@ found_in P test (y ∷ xs) x h e = by (test y) refl (λ rest. found_in P test xs
         (subst P same h.0, ap test (sym same) ∙ t)
     by false t rest = rest (sym (ap (λ b. cond b (Some y) (find test xs)) t) ∙ e)
 
-pub find-kept : {X : Type 0} (test : X → Bool) (xs : List X) (x y : X) → find test xs ≡ Some y → find test (xs ++ x ∷ []) ≡ Some y
-find-kept test [] x y e = cc
-find-kept test (z ∷ xs) x y e = by (test z) e (find-kept test xs x y)
-  where
-    by : (b : Bool) → cond b (Some z) (find test xs) ≡ Some y → (find test xs ≡ Some y → find test (xs ++ x ∷ []) ≡ Some y) → cond b (Some z) (find test (xs ++ x ∷ [])) ≡ Some y
-    by true h rest = h
-    by false h rest = rest h
-
-pub find-push : {X : Type 0} (test : X → Bool) (xs : List X) (x : X) → find test xs ≡ None → find test (xs ++ x ∷ []) ≡ cond (test x) (Some x) None
-find-push test [] x e = refl
-find-push test (z ∷ xs) x e = by (test z) e (find-push test xs x)
-  where
-    by : (b : Bool) → cond b (Some z) (find test xs) ≡ None → (find test xs ≡ None → find test (xs ++ x ∷ []) ≡ cond (test x) (Some x) None)
-        → cond b (Some z) (find test (xs ++ x ∷ [])) ≡ cond (test x) (Some x) None
-    by true h rest = cc h
-    by false h rest = rest h
-
 module _ {K : Type 0} (eq : K → K → Bool) (laws : IsEquivalence eq) where
   turned : (a b : K) → eq a b ≡ false → eq b a ≡ false
   turned a b e = sym (laws.symm a b) ∙ e

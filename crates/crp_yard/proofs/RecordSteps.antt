@@ -2,7 +2,7 @@
 use Prim.Native.Nat.{zero}
 use Rattle.std.proofs.Common.{◌≡◌, ◌≤◌, ◌<◌, ◌+◌, ◌-◌, ℕ, suc, false, Result, Ok, Err, List, [], ◌∷◌, ◌++◌, length, length-append, max, Option, Some, None, refl, sym, ◌∙◌, arith}
 use Rattle.std.specs.Prelude.{◌==◌, IfOk, OnOk}
-use Rattle.std.proofs.lemmas.List.{map-append, take-append-le, get_or_append_left}
+use Rattle.std.proofs.lemmas.List.{map-append, length-map, take-append-le, get_or_append_left}
 use Rattle.std.proofs.Math.Seq.{get_or-append_seam, take-append_seam}
 use Rattle.crp_yard.specs.declared.fault.YardFault.{YardFault}
 use Rattle.crp_yard.specs.declared.fault.YardFault.TheVariants.{Header}
@@ -33,14 +33,14 @@ fault_at-next heights xs x ys =
     let e : suc (length xs) - 1 ≡ length xs = omega arith in
     rw (e, take-append_seam xs (x ∷ ys), get_or-append_seam xs x ys []) refl
 
--- what is told stays told
+-- what is stated stays stated
 up_to-stays : (heights : List ℕ) (xs : List (List (List ℕ))) (n k : ℕ) (fault : YardFault) → first_fault_up_to heights xs n ≡ Some fault → first_fault_up_to heights xs (k + n) ≡ Some fault
 up_to-stays heights xs n zero fault e = let same : zero + n ≡ n = omega arith in rw same e
 up_to-stays heights xs n (suc k) fault e =
     let same : suc k + n ≡ suc (k + n) = omega arith in
     rw (same, up_to-stays heights xs n k fault e) refl
 
--- the faultless records and one more are told where the fault of that one is
+-- the faultless records and one more are stated where the fault of that one is
 up_to-next : (heights : List ℕ) (xs : List (List (List ℕ))) (x : List (List ℕ)) (ys : List (List (List ℕ))) (n : ℕ) (fault : Option YardFault)
     → first_fault_up_to heights xs (length xs) ≡ None → n ≡ suc (length xs) → fault_behind heights (entries_of xs) n x ≡ fault
     → first_fault_up_to heights (xs ++ x ∷ ys) n ≡ fault
@@ -72,7 +72,7 @@ read-more heights xs entries new n m x read count none added =
       counted = sym long;
     }
 
--- a fault is told of all records
+-- a fault is stated of all records
 pub told-next : (heights : List ℕ) (xs : List (List (List ℕ))) (entries : List Entry) (n m : ℕ) (x : List (List ℕ)) (more all : List (List (List ℕ))) (fault : YardFault)
     → IsRead heights xs entries n → m ≡ n + 1 → fault_behind heights entries m x ≡ Some fault → all ≡ xs ++ x ∷ more → first_fault heights all ≡ Some fault
 unfolding first_fault
@@ -100,7 +100,7 @@ read-all heights xs entries n all read some whole =
     let top : max 1 (length xs) ≡ length xs = omega (arith, read.counted) in
     rw (whole, top) read.faultless
 
--- where no record is faulty, what floats is told
+-- where no record is faulty, what floats is stated
 pub floating-whole : (heights : List ℕ) (records : List (List (List ℕ))) (floating : Option YardFault) → first_fault_up_to heights records (max 1 (length records)) ≡ None
     → floating ≡ floating_before (entries_of records) (length (entries_of records)) → first_fault heights records ≡ floating
 unfolding first_fault
@@ -110,3 +110,8 @@ floating-whole heights records floating none is = rw (none, is) refl
 pub ok_by_both : {T E : Type 0} (r : Result T E) (A : Type 0) (P Q : T → Type 0) → OnOk r A → IfOk r P → ((x : T) → A → P x → Q x) → IfOk r Q
 ok_by_both (Ok x) A P Q a p by = by x a p
 ok_by_both (Err e) A P Q a p by = tt
+
+-- there is an entry for each record but the header
+pub entries-few : (records : List (List (List ℕ))) → length records ≤ length (entries_of records) + 1
+entries-few [] = omega arith
+entries-few (first ∷ records) = omega (arith, length-map records entry_of)

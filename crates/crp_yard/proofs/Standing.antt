@@ -1,6 +1,6 @@
 -- Where no record is faulty, each container stands in its stack at its tier.
 use Prim.Native.Nat.{zero}
-use Rattle.std.proofs.Common.{◌≡◌, ℕ, suc, ◌<◌, ◌≤◌, ◌+◌, ◌-◌, max, Bool, true, false, not, cond, List, [], ◌∷◌, ◌++◌, map, take, length, length-append, Option, Some, None, is_some, slice_get, refl, sym, ap, ◌∙◌, subst, arith, get_or, inl, inr}
+use Rattle.std.proofs.Common.{◌≡◌, ℕ, suc, ◌<◌, ◌≤◌, ◌+◌, ◌-◌, max, Bool, true, false, not, cond, List, [], ◌∷◌, ◌++◌, map, take, length, length-append, append-nil, Option, Some, None, is_some, slice_get, refl, sym, ap, ◌∙◌, subst, arith, get_or, inl, inr}
 use Rattle.std.specs.Prelude.{if◌then◌else◌, ◌==◌, ◌&&◌, nat_le, option_to_list}
 use Rattle.std.specs.List.{AllByRecursion}
 use Rattle.std.specs.Map.{lookup}
@@ -17,8 +17,9 @@ use Rattle.crp_yard.proofs.OnceSteps.{same_bay_is, same_bay_self}
 use Rattle.crp_yard.specs.declared.fault.YardFault.TheVariants.{Floating}
 use Rattle.crp_yard.proofs.RecordSteps.{not_one}
 use Rattle.crp_yard.proofs.Least.{neither, faultless-up_to}
+use Rattle.crp_yard.proofs.Seams.{at_seam, in_front, at_end}
 
-same_place_is : (p q : YardPlace) → same_place p q ≡ true → p ≡ q
+pub same_place_is : (p q : YardPlace) → same_place p q ≡ true → p ≡ q
 same_place_is p q e =
     let parts = both (same_bay p.bay q.bay) ((p.row == q.row) && (p.tier == q.tier)) e in
     let places = both (p.row == q.row) (p.tier == q.tier) parts.1 in
@@ -55,16 +56,6 @@ pub record AreSound (heights : List ℕ) (entries : List Entry) : Type 0 where
   pub within : (i : ℕ) (e : Entry) → slice_get entries i ≡ Some e → is_within heights e.0 ≡ true
   pub free : (i : ℕ) (e : Entry) → slice_get entries i ≡ Some e → is_taken (take i entries) e.0 ≡ false
   pub borne : (i : ℕ) (e : Entry) → slice_get entries i ≡ Some e → is_floating entries e.0 ≡ false
-
-at_seam : (xs : List (List ℕ)) (x : List ℕ) (n : ℕ) → length xs ≡ n → slice_get (xs ++ x ∷ []) n ≡ Some x
-at_seam [] x n e = rw (← e) refl
-at_seam (y ∷ xs) x zero e = absurd (omega arith)
-at_seam (y ∷ xs) x (suc n) e = at_seam xs x n (omega arith)
-
-in_front : (xs ys : List (List ℕ)) (k : ℕ) (x : List ℕ) → slice_get xs k ≡ Some x → slice_get (xs ++ ys) k ≡ Some x
-in_front [] ys k x e = cc
-in_front (y ∷ xs) ys zero x e = e
-in_front (y ∷ xs) ys (suc k) x e = in_front xs ys k x e
 
 one_of : {X : Type 0} (o : Option X) → is_some o ≡ true → length (option_to_list o) ≡ 1
 one_of None h = absurd (false≢true h)
@@ -105,6 +96,25 @@ module _ (heights : List ℕ) (entries : List Entry) (sound : AreSound heights e
       let same : suc k + n ≡ suc (k + n) = omega arith in
       rw same (in_front (stack_up_to entries bay row (k + n)) (option_to_list (at_tier (suc (k + n)))) t c (stays k n t c e))
 
+  -- what stands at a place of a stack is read there
+  pub tier_of : (n t : ℕ) (c : List ℕ) → slice_get (stack_up_to entries bay row n) t ≡ Some c → at_tier (suc t) ≡ Some c
+  tier_of zero t c e = absurd (cc)
+  tier_of (suc n) t c e = by (at_tier (suc n)) refl e (tier_of n t c)
+    where
+      lower : List (List ℕ)
+      lower = stack_up_to entries bay row n
+
+      by : (o : Option (List ℕ)) → at_tier (suc n) ≡ o → slice_get (lower ++ option_to_list o) t ≡ Some c → (slice_get lower t ≡ Some c → at_tier (suc t) ≡ Some c) → at_tier (suc t) ≡ Some c
+      by None h at rest = rest (subst (λ (l : List (List ℕ)). slice_get l t ≡ Some c) (append-nil lower) at)
+      by (Some x) h at rest = elim (at_end lower x t c at) [
+        | inl before ↦ rest before
+        | inr last ↦
+            let there : is_some (at_tier (suc n)) ≡ true = ap is_some h in
+            let under : length lower ≡ n = omega (arith, full n there, length-append lower (option_to_list (at_tier (suc n))), one_of (at_tier (suc n)) there) in
+            let here : t ≡ n = last.0 ∙ under in
+            subst (λ (k : ℕ). at_tier (suc k) ≡ Some c) (sym here) (h ∙ ap Some last.1)
+      ]
+
 pub stands_there : (heights : List ℕ) (entries : List Entry) → AreSound heights entries → (i : ℕ) (e : Entry) → slice_get entries i ≡ Some e
     → slice_get (stack_up_to entries e.0.bay e.0.row (height_of heights e.0.row)) (e.0.tier - 1) ≡ Some e.1
 stands_there heights entries sound i e at =
@@ -120,10 +130,10 @@ stands_there heights entries sound i e at =
     subst (λ n. slice_get (stack_up_to entries e.0.bay e.0.row n) (e.0.tier - 1) ≡ Some e.1) (sym all)
     (stays heights entries sound e.0.bay e.0.row (tiers - e.0.tier) (suc (e.0.tier - 1)) (e.0.tier - 1) e.1 (top heights entries sound e.0.bay e.0.row (e.0.tier - 1) e.1 here))
 
--- of a list of faults none of which is told none is there
-none_told : (faults : List (Bool × YardFault)) → first_of faults ≡ None → AllByRecursion (λ fault. fault.0 ≡ false) faults
-none_told [] e = tt
-none_told (fault ∷ faults) e = by fault.0 refl (none_told faults)
+-- of a list of faults none of which is stated none is there
+none_found : (faults : List (Bool × YardFault)) → first_of faults ≡ None → AllByRecursion (λ fault. fault.0 ≡ false) faults
+none_found [] e = tt
+none_found (fault ∷ faults) e = by fault.0 refl (none_found faults)
   where
     by : (b : Bool) → fault.0 ≡ b → (first_of faults ≡ None → AllByRecursion (λ fault. fault.0 ≡ false) faults) → (fault.0 ≡ false) × AllByRecursion (λ fault. fault.0 ≡ false) faults
     by true h rest = let told : Some fault.1 ≡ None = rw h at e in absurd (cc told)
@@ -140,7 +150,7 @@ record Passes (heights : List ℕ) (entries : List Entry) (fields : List (List �
 passes : (heights : List ℕ) (entries : List Entry) (n : ℕ) (fields : List (List ℕ)) → fault_of heights entries n fields ≡ None → Passes heights entries fields
 unfolding fault_of
 passes heights entries n fields e =
-    let all = none_told (faults_of heights entries n fields) e in
+    let all = none_found (faults_of heights entries n fields) e in
     record { within = not_false (is_within heights (place_named fields)) all.1.1.0; free = all.1.1.1.0 }
 
 behind : (heights : List ℕ) (entries : List Entry) (n : ℕ) (fields : List (List ℕ)) → fault_behind heights entries (suc (suc n)) fields ≡ None → fault_of heights entries (suc (suc n)) fields ≡ None
@@ -153,10 +163,10 @@ map-take f [] (suc n) = refl
 map-take f (x ∷ xs) zero = refl
 map-take f (x ∷ xs) (suc n) = ap (λ l. f x ∷ l) (map-take f xs n)
 
-told_by : {X Y : Type 0} (f : X → Y) (xs : List X) (i : ℕ) (y : Y) (d : X) → slice_get (map f xs) i ≡ Some y → f (get_or xs i d) ≡ y
-told_by f [] i y d e = cc
-told_by f (x ∷ xs) zero y d e = cc e
-told_by f (x ∷ xs) (suc i) y d e = told_by f xs i y d e
+fault_by : {X Y : Type 0} (f : X → Y) (xs : List X) (i : ℕ) (y : Y) (d : X) → slice_get (map f xs) i ≡ Some y → f (get_or xs i d) ≡ y
+fault_by f [] i y d e = cc
+fault_by f (x ∷ xs) zero y d e = cc e
+fault_by f (x ∷ xs) (suc i) y d e = fault_by f xs i y d e
 
 within_list : {X : Type 0} (xs : List X) (i : ℕ) (x : X) → slice_get xs i ≡ Some x → i < length xs
 within_list [] i x e = cc
@@ -198,9 +208,9 @@ module _ (heights : List ℕ) (first : List (List ℕ)) (records : List (List (L
 
   place_is : (i : ℕ) (entry : Entry) → slice_get (map entry_of records) i ≡ Some entry → place_named (get_or records i []) ≡ entry.0
   unfolding entry_of
-  place_is i entry at = ap (λ (f : Entry). f.0) (told_by entry_of records i entry [] at)
+  place_is i entry at = ap (λ (f : Entry). f.0) (fault_by entry_of records i entry [] at)
 
-  sound_entries : AreSound heights (map entry_of records)
+  pub sound_entries : AreSound heights (map entry_of records)
   sound_entries = record {
     within = λ i entry at. rw (← place_is i entry at) (sound_entry i entry at).within;
     free = λ i entry at. rw (← place_is i entry at) (sound_entry i entry at).free;

@@ -1,5 +1,5 @@
 -- Which fault of a yard list is the first: the first faulty record decides, and within it the order of the table below; a container
--- that floats is told only where no record has another fault.
+-- that floats is stated only where no record has another fault.
 use Prim.Native.Nat.{zero}
 use Rattle.std.specs.Prelude.{ℕ, suc, ◌+◌, ◌-◌, max, Bool, false, not, ◌&&◌, ◌==◌, nat_le, List, [], ◌∷◌, length, take, Option, Some, None, is_some, slice_get, slice_index_or, if◌then◌else◌}
 use Rattle.std.specs.List.{list_any}
@@ -25,7 +25,7 @@ is_taken entries place = is_some (container_at entries place)
 abbrev pub is_named : List Entry → List ℕ → Bool
 is_named entries container = list_any (λ entry. bytes_eq container entry.1) entries
 
--- the faults that a record with this number may have behind these entries, in the order in which they are told, each with whether it
+-- the faults that a record with this number may have behind these entries, in the order in which they are stated, each with whether it
 -- is there
 abbrev pub faults_of : List ℕ → List Entry → ℕ → List (List ℕ) → List (Bool × YardFault)
 faults_of heights entries n fields =
@@ -88,7 +88,7 @@ floating_before entries zero = None
 floating_before entries (suc k) =
     or_else (floating_before entries k) (if floats entries (slice_get entries k) then Some (Floating (k + 2)) else None)
 
--- of all faults of the records this one is told; none where no record is faulty and nothing floats. A list without records lacks the
+-- of all faults of the records this one is stated; none where no record is faulty and nothing floats. A list without records lacks the
 -- header
 unfoldable pub first_fault : List ℕ → List (List (List ℕ)) → Option YardFault
 first_fault heights records =

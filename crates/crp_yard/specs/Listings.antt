@@ -1,5 +1,5 @@
 -- What the reader keeps of the records before a record. Only private clauses speak of it.
-use Rattle.std.specs.Prelude.{◌≡◌, ◌<◌, ◌≤◌, ◌==◌, ℕ, List, [], ◌∷◌, ◌++◌, Vec, None, Some, true, map, length, if◌then◌else◌, Bool, ◌||◌}
+use Rattle.std.specs.Prelude.{◌≡◌, ◌<◌, ◌≤◌, ◌==◌, ℕ, List, [], ◌∷◌, ◌++◌, Vec, None, Some, true, map, max, length, if◌then◌else◌, Bool, ◌||◌}
 use Rattle.std.specs.List.{list_any}
 use Rattle.std.specs.Str.{bytes_eq}
 use Rattle.std.specs.declared.alloc.Global.{Global}
@@ -8,6 +8,7 @@ use Rattle.csv.specs.Reading.{Ready, default_config, is_flexible, owned_rows_lef
 use Rattle.csv.specs.declared.iter.ByteRecordsIntoIter.{ByteRecordsIntoIter}
 use Rattle.csv.specs.declared.parser.State.TheVariants as st
 use Rattle.csv.specs.declared.reader.Trim.TheVariants as trim
+use Rattle.crp_yard.specs.Places.{YardPlace}
 use Rattle.crp_yard.specs.Records.{Entry, entry_of, entries_of}
 use Rattle.crp_yard.specs.Inventory.{Inventory, StackedBay, times, stands, is_among, IsYard}
 use Rattle.crp_yard.specs.Faults.{max_containers, first_fault_up_to}
@@ -26,11 +27,22 @@ pub record IsAtStart (text : List ℕ) (rows : ByteRecordsIntoIter (Bor (List �
 abbrev pub entry_names : List Entry → List (List ℕ)
 entry_names entries = map (λ entry. entry.1) entries
 
--- the set has the containers of the entries, none of which stands in two places, and there are no more than are read
-pub record IsListing (entries : List Entry) (names : List (Vec ℕ Global)) : Type 0 where
-  pub named : map (λ name. name.items) names ≡ entry_names entries
-  pub once : (container : List ℕ) → times container (entry_names entries) ≤ 1
-  pub few : length entries ≤ max_containers
+-- the entries of places and of containers that are listed side by side
+abbrev pub entries_listed : List YardPlace → List (Vec ℕ Global) → List Entry
+entries_listed [] names = []
+entries_listed (place ∷ places) [] = []
+entries_listed (place ∷ places) (name ∷ names) = (place, name.items) ∷ entries_listed places names
+
+-- there is a container for each place, none of them is there twice, and there are no more than are read
+pub record IsListing (places : List YardPlace) (names : List (Vec ℕ Global)) : Type 0 where
+  pub one_for_each : length places ≡ length names
+  pub once : (container : List ℕ) → times container (map (λ name. name.items) names) ≤ 1
+  pub few : length names ≤ max_containers
+
+-- records that have no fault but by floating say these entries
+pub record AreEntriesOf (heights : List ℕ) (records : List (List (List ℕ))) (entries : List Entry) : Type 0 where
+  pub faultless : first_fault_up_to heights records (max 1 (length records)) ≡ None
+  pub said : entries ≡ entries_of records
 
 -- the entries behind a record with this number: the first is the header, which gives none
 abbrev pub entries_behind : List Entry → ℕ → List (List ℕ) → List Entry

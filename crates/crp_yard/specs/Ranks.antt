@@ -2,18 +2,18 @@
 use Rattle.std.specs.Prelude.{◌≡◌, ℕ, ◌-◌, List, [], map, slice_index_or}
 use Rattle.crp_plan.specs.declared.moves.Move.{Move}
 use Rattle.crp_plan.specs.Bay.{Position, Runs, IsFinished, start, path_of}
-use Rattle.crp_plan.specs.Plans.{Route}
+use Rattle.crp_plan.specs.Plans.{ProblemPath}
 
 -- the name of a rank, from 1
-abbrev pub name_of : List (List ℕ) → ℕ → List ℕ
-name_of names rank = slice_index_or names (rank - 1) []
+abbrev pub name_of_rank : List (List ℕ) → ℕ → List ℕ
+name_of_rank names rank = slice_index_or names (rank - 1) []
 
 -- stacks of ranks, read as names
 abbrev pub named : List (List ℕ) → List (List ℕ) → List (List (List ℕ))
-named names stacks = map (λ stack. map (name_of names) stack) stacks
+named names stacks = map (λ stack. map (name_of_rank names) stack) stacks
 
 -- the stacks that a plan leaves: its moves lead from the start to a finished position with them
-pub record Leaves (plan : Route) (stacks : List (List ℕ)) : Type 0 where
+pub record Leaves (plan : ProblemPath) (stacks : List (List ℕ)) : Type 0 where
   pub moves : List Move
   pub end : Position
   pub runs : Runs (start plan.problem) moves end

@@ -1,4 +1,4 @@
--- What was read of a source, and what a fault tells of it.
+-- What was read of a source, and what a fault says of it.
 use Rattle.std.specs.Prelude.{◌≡◌, ◌<◌, ℕ, ◌+◌, List, length, Option, Some, None, IfSome, replicate}
 use Rattle.crp_plan.specs.Devices.{HasFailed, most_interruptions}
 use Rattle.crp_yard.specs.declared.fault.YardFault.{YardFault}
@@ -16,30 +16,30 @@ pub record IsYardListOf (heights text : List ℕ) (yard : Inventory) : Type 0 wh
 abbrev pub IsYardList : ℕ → ℕ → List ℕ → Inventory → Type 0
 IsYardList rows tiers text yard = IsYardListOf (replicate rows tiers) text yard
 
--- these bytes are those that a source had, where it told them
+-- these bytes are those that a source had, where it stated them
 abbrev pub IsTextOf : Option (List ℕ) → List ℕ → Type 0
 IsTextOf given text = IfSome given (λ bytes. text ≡ bytes)
 
 -- the bytes that the source had are refused with this fault
-abbrev pub RefusedWith : List ℕ → Option (List ℕ) → YardFault → Type 0
-RefusedWith heights given fault = (text : List ℕ) × IsTextOf given text × (fault_of_text heights text ≡ Some fault)
+abbrev pub IsRefusedText : List ℕ → Option (List ℕ) → YardFault → Type 0
+IsRefusedText heights given fault = (text : List ℕ) × IsTextOf given text × (fault_of_text heights text ≡ Some fault)
 
--- what a fault tells of a source that had these bytes, with its count of failures before and after: that it has failed, that it had too many
--- bytes, want of memory, or the fault of its bytes
-abbrev pub Tells : List ℕ → Option (List ℕ) → ℕ → ℕ → YardFault → Type 0
-Tells heights given before after Read = HasFailed before after
-Tells heights given before after TooLarge = IfSome given (λ bytes. max_bytes < length bytes)
-Tells heights given before after Memory = Unit {0}
-Tells heights given before after (Header n) = RefusedWith heights given (Header n)
-Tells heights given before after (Fields n) = RefusedWith heights given (Fields n)
-Tells heights given before after (Digits n) = RefusedWith heights given (Digits n)
-Tells heights given before after (Outside n) = RefusedWith heights given (Outside n)
-Tells heights given before after (PlaceTaken n) = RefusedWith heights given (PlaceTaken n)
-Tells heights given before after (Floating n) = RefusedWith heights given (Floating n)
-Tells heights given before after (StandsAlready n) = RefusedWith heights given (StandsAlready n)
-Tells heights given before after (TooMany n) = RefusedWith heights given (TooMany n)
+-- what a fault says of a source that had these bytes, with its count of failures before and after: that it has failed, that it had too many
+-- bytes, lack of memory, or the fault of its bytes
+abbrev pub ReadingFailsWith : List ℕ → Option (List ℕ) → ℕ → ℕ → YardFault → Type 0
+ReadingFailsWith heights given before after Read = HasFailed before after
+ReadingFailsWith heights given before after TooLarge = IfSome given (λ bytes. max_bytes < length bytes)
+ReadingFailsWith heights given before after Memory = Unit {0}
+ReadingFailsWith heights given before after (Header n) = IsRefusedText heights given (Header n)
+ReadingFailsWith heights given before after (Fields n) = IsRefusedText heights given (Fields n)
+ReadingFailsWith heights given before after (Digits n) = IsRefusedText heights given (Digits n)
+ReadingFailsWith heights given before after (Outside n) = IsRefusedText heights given (Outside n)
+ReadingFailsWith heights given before after (PlaceTaken n) = IsRefusedText heights given (PlaceTaken n)
+ReadingFailsWith heights given before after (Floating n) = IsRefusedText heights given (Floating n)
+ReadingFailsWith heights given before after (StandsAlready n) = IsRefusedText heights given (StandsAlready n)
+ReadingFailsWith heights given before after (TooMany n) = IsRefusedText heights given (TooMany n)
 
--- so many reads of a source fail at most where this fault is told: those that are passed over, and, where it tells a failed read, that one
-abbrev pub most_failures : YardFault → ℕ
-most_failures Read = most_interruptions + 1
-most_failures fault = most_interruptions
+-- so many reads of a source fail at most where this fault is stated: those that are passed over, and, where it states a failed read, that one
+abbrev pub most_read_failures : YardFault → ℕ
+most_read_failures Read = most_interruptions + 1
+most_read_failures fault = most_interruptions

@@ -1,9 +1,10 @@
 //! The yard as plans leave it.
 
-ghost use Rattle.std.specs.Prelude.{◌≡◌, IfOk, All, map};
+ghost use Rattle.std.specs.Prelude.{◌≡◌, IfOk, OnOk, All, MatchOption, map};
 ghost use Rattle.std.specs.List.{IsDistinct};
 ghost use Rattle.crp_yard.specs.Places.{same_bay};
-ghost use Rattle.crp_yard.specs.After.{IsPlanForBay, IsAfter};
+ghost use Rattle.crp_yard.specs.After.{IsPlanForBay, plan_for, LeavesNamed, AreBaysAfter, IsAfter};
+ghost use Rattle.crp_yard.specs.PlansByBay.{plans_in, AreByBay, AreForProblems};
 
 use crate::container::{Container, Containers};
 use crate::leaving::stacks_left;
@@ -45,15 +46,52 @@ fn copied_stacks(alloc: Global, stacks: &[Containers]) -> Result<Stacks, AllocEr
     Ok(Stacks::from_vec(copy))
 }
 
-/// The bays of a yard once more.
-fn copied_bays(alloc: Global, yard: &Yard) -> Result<IndexMap<Bay, Stacks>, AllocError>
-    ensures { IfOk result (λ bays. bays.entries ≡ yard.now.bays) }
+/// The plans by the names of their bays.
+fn by_bay<'a>(alloc: Global, plans: &'a [BayPlan]) -> Result<IndexMap<Bay, &'a BayPlan>, AllocError>
+    requires { IsDistinct same_bay (map (λ plan. plan.bay) plans.now) }
+    ensures all { IfOk result (λ by_bay. plans_in by_bay.entries ≡ plans.now) }
+    ensures keyed { IfOk result (λ by_bay. AreByBay by_bay.entries) }
+    ensures problems { OnOk result (AreForProblems plans.now) }
+{
+    let mut by_bay = IndexMap::new(alloc);
+    for plan in plans {
+        by_bay.insert(Bay::copy_of(&plan.bay), plan)?;
+        let _problem = plan.plan.problem();
+    }
+    Ok(by_bay)
+}
+
+/// The stacks of a bay as its plan leaves them, or as they are where it has none.
+fn stacks_after(
+    alloc: Global,
+    plans: &IndexMap<Bay, &BayPlan>,
+    bay: &BayName,
+    stacks: &[Containers],
+) -> Result<Stacks, AllocError>
+    requires { AreByBay plans.now.entries }
+    ensures { IfOk result (λ left. MatchOption (plan_for (plans_in plans.now.entries) bay.now) (left ≡ stacks.now) (λ plan. LeavesNamed plan left)) }
+{
+    let key = Bay::copy_of(bay);
+    match plans.get(&key) {
+        Some(plan) => stacks_left(alloc, &plan.plan, &plan.names),
+        None => copied_stacks(alloc, stacks),
+    }
+}
+
+/// The bays of a yard as the plans leave them.
+fn bays_after(
+    alloc: Global,
+    yard: &Yard,
+    plans: &IndexMap<Bay, &BayPlan>,
+) -> Result<IndexMap<Bay, Stacks>, AllocError>
+    requires { AreByBay plans.now.entries }
+    ensures { IfOk result (λ bays. AreBaysAfter (plans_in plans.now.entries) yard.now.bays bays.entries) }
 {
     let mut bays = IndexMap::new(alloc);
     for i in 0..yard.count() {
         let (name, stacks) = yard.bay(i);
-        let stacks = copied_stacks(alloc, stacks)?;
-        bays.insert(Bay::copy_of(name), stacks)?;
+        let left = stacks_after(alloc, plans, name, stacks)?;
+        bays.insert(Bay::copy_of(name), left)?;
     }
     Ok(bays)
 }
@@ -64,12 +102,7 @@ pub fn after(alloc: Global, yard: &Yard, plans: &[BayPlan]) -> Result<Yard, Allo
     requires once { IsDistinct same_bay (map (λ plan. plan.bay) plans.now) }
     ensures { IfOk result (λ after. IsAfter yard.now plans.now after) }
 {
-    let heights = yard.heights();
-    let mut bays = copied_bays(alloc, yard)?;
-    for plan in plans {
-        let stacks = stacks_left(alloc, &plan.plan, &plan.names)?;
-        bays.insert(Bay::copy_of(&plan.bay), stacks)?;
-        let _problem = plan.plan.problem();
-    }
-    Yard::new(alloc, heights, bays)
+    let plans = by_bay(alloc, plans)?;
+    let bays = bays_after(alloc, yard, &plans)?;
+    Yard::new(alloc, yard.heights(), bays)
 }

@@ -23,7 +23,7 @@ fn stack_of(
     for i in 0..tiers {
         let place = Place::new(bay.copy(), row, i + 1);
         if let Some(container) = listing.container_at(&place) {
-            stack.push(Container::named(alloc, container.bytes())?)?;
+            stack.push(Container::named(alloc, container)?)?;
         }
     }
     Ok(Containers::from_vec(stack))

@@ -25,7 +25,7 @@ pub enum YardFault {
     /// A record before it names the same place.
     #[error("Y5 at record {record}")]
     PlaceTaken { record: usize },
-    /// The container stands above the lowest tier, and no record names the place below it. This is told
+    /// The container stands above the lowest tier, and no record names the place below it. This is stated
     /// only where no record has another fault.
     #[error("Y6 at record {record}")]
     Floating { record: usize },

@@ -3,7 +3,8 @@
 ghost use Rattle.std.specs.Prelude.{◌≡◌, ◌<◌, ◌≤◌, ◌-◌, ℕ, List, Some, None, slice_get};
 ghost use Rattle.crp_yard.specs.declared.fault.YardFault.{YardFault};
 ghost use Rattle.crp_yard.specs.Records.{Entry, height_of, records_of, entries_of};
-ghost use Rattle.crp_yard.specs.Inventory.{Inventory, stack_up_to};
+ghost use Rattle.crp_yard.specs.Inventory.{Inventory, stack_up_to, inventory_of};
+ghost use Rattle.crp_yard.specs.ByPlaces.{HasEntries};
 ghost use Rattle.crp_yard.specs.Faults.{fault_at, first_fault_up_to, first_fault};
 ghost use Rattle.crp_yard.specs.Text.{records_of_yard, yard_text};
 
@@ -30,4 +31,11 @@ pub fn each_stands_in_its_place()
     ensures { (heights : List ℕ) (records : List (List (List ℕ))) (i : ℕ) (entry : Entry)
         → first_fault heights records ≡ None → slice_get (entries_of records) i ≡ Some entry
         → slice_get (stack_up_to (entries_of records) entry.0.bay entry.0.row (height_of heights entry.0.row)) (entry.0.tier - 1) ≡ Some entry.1 }
+{}
+
+/// Where the records have no fault, the inventory that they give has what they say, and nothing else: what a
+/// record says stands there, and what stands there some record says.
+pub fn inventory_by_places()
+    ensures { (heights : List ℕ) (records : List (List (List ℕ)))
+        → first_fault heights records ≡ None → HasEntries (entries_of records) (inventory_of heights (entries_of records)) }
 {}

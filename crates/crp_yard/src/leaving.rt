@@ -2,7 +2,7 @@
 
 ghost use Rattle.std.specs.Prelude.{◌≡◌, ℕ, List, IfOk, map};
 ghost use Rattle.crp_plan.specs.Bay.{Position, IsSound, Legal};
-ghost use Rattle.crp_yard.specs.Ranks.{name_of, named, Leaves};
+ghost use Rattle.crp_yard.specs.Ranks.{name_of_rank, named, Leaves};
 
 use crate::container::{Container, Containers};
 use crate::stacks::Stacks;
@@ -40,7 +40,7 @@ fn end_of(alloc: Global, plan: &Plan) -> Result<Walk, AllocError>
 
 // The name of a rank, from 1.
 fn name_at(names: &Containers, rank: u8) -> &[u8]
-    ensures { result.now ≡ name_of names.now rank }
+    ensures { result.now ≡ name_of_rank names.now rank }
 {
     match names.list().get(rank.saturating_sub(1) as usize) {
         Some(name) => name.bytes(),
@@ -49,7 +49,7 @@ fn name_at(names: &Containers, rank: u8) -> &[u8]
 }
 
 fn named_stack(alloc: Global, names: &Containers, ranks: &[u8]) -> Result<Containers, AllocError>
-    ensures { IfOk result (λ stack. stack ≡ map (name_of names.now) ranks.now) }
+    ensures { IfOk result (λ stack. stack ≡ map (name_of_rank names.now) ranks.now) }
 {
     let mut stack = Vec::new(alloc);
     for rank in ranks {

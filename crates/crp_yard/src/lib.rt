@@ -27,7 +27,9 @@ mod yard;
 pub use bay_plan::{BayPlan, after};
 pub use container::{Container, Containers};
 pub use fault::YardFault;
-pub use laws::{each_stands_in_its_place, first_fault_is_least, text_reads_back};
+pub use laws::{
+    each_stands_in_its_place, first_fault_is_least, inventory_by_places, text_reads_back,
+};
 pub use reading::{MAX_BYTES, read_yard, read_yard_heights, yard_of, yard_of_heights};
 pub use records::MAX_CONTAINERS;
 pub use writing::{WriteFault, write_yard, yard_text};

@@ -1,35 +1,34 @@
 //! What the records say that have been read.
 
-ghost use Rattle.std.specs.Prelude.{◌≡◌, ◌<◌, ◌≤◌, ◌++◌, ◌∷◌, [], ℕ, List, false, length, OnOk, Some, slice_get};
+ghost use Rattle.std.specs.Prelude.{◌≡◌, ◌<◌, ◌≤◌, ◌++◌, ◌∷◌, [], ℕ, List, false, length, map, OnOk, Some, slice_get};
 ghost use Rattle.std.specs.Option.{option_copied};
 ghost use Rattle.crp_yard.specs.Faults.{max_containers, is_taken, is_named};
 ghost use Rattle.crp_yard.specs.Inventory.{container_at, times};
 ghost use Rattle.crp_yard.specs.Listings.{entry_names};
 
-use crate::container::Container;
 use crate::place::Place;
-use indexmap::{IndexMap, IndexSet};
+use indexmap::IndexSet;
 use std::alloc::{AllocError, Global};
 use std::marker::Model;
 
-/// The containers of the records by place, in the order of the records, and beside them the set of the
-/// containers.
+/// The places of the records and their containers, each a set in the order of the records. So the container
+/// of a place has its number.
 #[derive(Drop)]
 pub(crate) struct Listing {
-    places: IndexMap<Place, Container>,
+    places: IndexSet<Place>,
     names: IndexSet<Vec<u8>>,
 }
 
 impl Model for Listing {
     ghost use Rattle.std.specs.Prelude.{List};
     ghost use Rattle.crp_yard.specs.Records.{Entry};
-    ghost use Rattle.crp_yard.specs.Listings.{IsListing};
+    ghost use Rattle.crp_yard.specs.Listings.{entries_listed, IsListing};
 
     ghost Value = { List Entry };
 
-    ghost view = { λ a. a.places.entries };
+    ghost view = { λ a. entries_listed a.places.keys a.names.keys };
 
-    ghost invariant = { λ a. IsListing a.places.entries a.names.keys };
+    ghost invariant = { λ a. IsListing a.places.keys a.names.keys };
 }
 
 impl Listing {
@@ -37,7 +36,7 @@ impl Listing {
         ensures { result ≡ [] }
     {
         Listing {
-            places: IndexMap::new(alloc),
+            places: IndexSet::new(alloc),
             names: IndexSet::new(alloc),
         }
     }
@@ -48,21 +47,27 @@ impl Listing {
         ensures few { length self.now ≤ max_containers }
         ensures once { (container : List ℕ) → times container (entry_names self.now) ≤ 1 }
     {
-        self.places.len()
+        self.names.len()
     }
 
     /// The container at the place.
-    pub fn container_at(&self, place: &Place) -> Option<&Container>
+    pub fn container_at(&self, place: &Place) -> Option<&[u8]>
         ensures { option_copied result ≡ container_at self.now place.now }
     {
-        self.places.get(place)
+        match self.places.get_index_of(place) {
+            Some(i) => match self.names.get_index(i) {
+                Some(name) => Some(name.as_slice()),
+                None => None,
+            },
+            None => None,
+        }
     }
 
     /// A record names the place.
     pub fn is_taken(&self, place: &Place) -> bool
         ensures { result ≡ is_taken self.now place.now }
     {
-        self.places.contains_key(place)
+        self.places.contains(place)
     }
 
     /// A record names the container.
@@ -78,7 +83,7 @@ impl Listing {
         ensures { (container : List ℕ) × (slice_get self.now i ≡ Some (result.now, container)) }
     {
         match self.places.get_index(i) {
-            Some((place, _)) => place,
+            Some(place) => place,
             None => unreachable!(),
         }
     }
@@ -91,10 +96,17 @@ impl Listing {
         ensures { OnOk result (self.new ≡ self.old ++ (place, container.now) ∷ []) }
     {
         let name = Vec::from_slice(alloc, container)?;
-        let container = Container::named(alloc, container)?;
         self.places.reserve(1)?;
         self.names.insert(name)?;
-        self.places.insert(place, container)?;
+        self.places.insert(place)?;
         Ok(())
+    }
+
+    /// The set of the containers.
+    pub fn into_names(self) -> IndexSet<Vec<u8>>
+        ensures { map (λ name. name.items) result.keys ≡ entry_names self }
+    {
+        let Listing { places: _, names } = self;
+        names
     }
 }

@@ -1,11 +1,12 @@
 //! Reads a yard list.
 
-ghost use Rattle.std.specs.Prelude.{◌≡◌, ◌⊎◌, ◌≤◌, ◌-◌, ℕ, List, Some, None, IfOk, OnOk, IfErr, length, replicate};
-ghost use Rattle.crp_plan.specs.Devices.{most_interruptions};
+ghost use Rattle.std.specs.Prelude.{◌≡◌, ◌⊎◌, ◌≤◌, ◌+◌, ◌-◌, ℕ, List, Some, None, IfOk, OnOk, IfErr, IsErrOf, length, replicate};
+ghost use Rattle.crp_plan.specs.Devices.{CountsMore, GivesUp, InterruptedMore, most_interruptions};
 ghost use Rattle.crp_plan.specs.Faults.{AreHeights};
 ghost use Rattle.crp_yard.specs.Inventory.{inventory_of};
+ghost use Rattle.crp_yard.specs.Listings.{AreEntriesOf};
 ghost use Rattle.crp_yard.specs.Faults.{floating_before, fault_of_text};
-ghost use Rattle.crp_yard.specs.Reading.{IsYardList, IsYardListOf, IsTextOf, Tells, most_failures};
+ghost use Rattle.crp_yard.specs.Reading.{IsYardList, IsYardListOf, IsTextOf, ReadingFailsWith, most_read_failures};
 ghost use Rattle.crp_yard.specs.declared.fault.YardFault.TheVariants.{Memory};
 
 use crate::building::bays_of;
@@ -21,25 +22,27 @@ use std::alloc::Global;
 pub const MAX_BYTES: usize = 8388608;
 
 /// The yard that the entries give where none floats, and else the fault of the first that does.
-fn yard_with(alloc: Global, listing: &Listing, heights: &[u8]) -> Result<Yard, YardFault>
+fn yard_with(alloc: Global, listing: Listing, heights: &[u8]) -> Result<Yard, YardFault>
     requires some_rows { 1 ≤ length heights.now }
     requires few_rows { length heights.now ≤ 12 }
     requires heights { AreHeights heights.now }
-    ensures standing { OnOk result (floating_before listing.now (length listing.now) ≡ None) }
-    ensures given { IfOk result (λ yard. yard ≡ inventory_of heights.now listing.now) }
-    ensures refused { IfErr result (λ fault. (fault ≡ Memory) ⊎ (floating_before listing.now (length listing.now) ≡ Some fault)) }
+    requires entries { (records : List (List (List ℕ))) × AreEntriesOf heights.now records listing }
+    ensures standing { OnOk result (floating_before listing (length listing) ≡ None) }
+    ensures given { IfOk result (λ yard. yard ≡ inventory_of heights.now listing) }
+    ensures refused { IfErr result (λ fault. (fault ≡ Memory) ⊎ (floating_before listing (length listing) ≡ Some fault)) }
 {
-    match floating(listing) {
+    match floating(&listing) {
         Some(fault) => return Err(fault),
         None => {}
     }
-    let bays = bays_of(alloc, listing, heights)?;
+    let bays = bays_of(alloc, &listing, heights)?;
+    // For its contract alone: the list is within its limit.
     let _containers = listing.len();
-    let yard = Yard::new(alloc, heights, bays)?;
+    let yard = Yard::with_names(alloc, heights, bays, listing.into_names())?;
     Ok(yard)
 }
 
-/// The yard that a list of records tells, and else the first fault of the list. Each bay has a row for
+/// The yard that a list of records states, and else the first fault of the list. Each bay has a row for
 /// each of the heights, 1 to 12 rows, and in the row so many tiers, 1 to 8.
 pub fn yard_of_heights(alloc: Global, text: &[u8], heights: &[u8]) -> Result<Yard, YardFault>
     requires some_rows { 1 ≤ length heights.now }
@@ -52,7 +55,7 @@ pub fn yard_of_heights(alloc: Global, text: &[u8], heights: &[u8]) -> Result<Yar
         return Err(YardFault::TooLarge);
     }
     let listing = listing_of(alloc, text, heights)?;
-    yard_with(alloc, &listing, heights)
+    yard_with(alloc, listing, heights)
 }
 
 /// The same where each bay has so many rows, 1 to 12, and each row so many tiers, 1 to 8.
@@ -68,7 +71,7 @@ pub fn yard_of(alloc: Global, text: &[u8], rows: u8, tiers: u8) -> Result<Yard, 
     yard_of_heights(alloc, text, &heights[..rows as usize])
 }
 
-/// The yard that a source tells: all its bytes are read first. An interrupted call is tried again, at
+/// The yard that a source states: all its bytes are read first. An interrupted call is tried again, at
 /// most 1,000 times. Each bay has a row for each of the heights, 1 to 12 rows, and in the row so many
 /// tiers, 1 to 8.
 pub fn read_yard_heights<R: Source>(
@@ -80,10 +83,14 @@ pub fn read_yard_heights<R: Source>(
     requires few_rows { length heights.now ≤ 12 }
     requires heights { AreHeights heights.now }
     ensures accepted { IfOk result (λ yard. (text : List ℕ) × IsTextOf (R.remaining source.old) text × IsYardListOf heights.now text yard) }
-    ensures refused { IfErr result (Tells heights.now (R.remaining source.old) (R.failures source.old) (R.failures source.new)) }
+    ensures refused { IfErr result (ReadingFailsWith heights.now (R.remaining source.old) (R.failures source.old) (R.failures source.new)) }
     ensures count { R.failures source.old ≤ R.failures source.new }
     ensures passed { OnOk result (R.failures source.new - R.failures source.old ≤ most_interruptions) }
-    ensures ended { IfErr result (λ fault. R.failures source.new - R.failures source.old ≤ most_failures fault) }
+    ensures tried_again { OnOk result ((passed : ℕ) × (passed ≤ most_interruptions) × CountsMore passed (R.failures source.old) (R.failures source.new)
+        × InterruptedMore passed (R.interrupted source.old) (R.interrupted source.new)) }
+    ensures gave_up { IsErrOf result YardFault.Read → (passed : ℕ) × CountsMore (passed + 1) (R.failures source.old) (R.failures source.new)
+        × GivesUp 0 passed (R.interrupted source.old) (R.interrupted source.new) }
+    ensures ended { IfErr result (λ fault. R.failures source.new - R.failures source.old ≤ most_read_failures fault) }
 {
     let mut interruptions = 0;
     match read_all(alloc, source, MAX_BYTES, &mut interruptions) {
@@ -106,10 +113,14 @@ pub fn read_yard<R: Source>(
     requires some_tiers { 1 ≤ tiers }
     requires few_tiers { tiers ≤ 8 }
     ensures accepted { IfOk result (λ yard. (text : List ℕ) × IsTextOf (R.remaining source.old) text × IsYardList rows tiers text yard) }
-    ensures refused { IfErr result (Tells (replicate rows tiers) (R.remaining source.old) (R.failures source.old) (R.failures source.new)) }
+    ensures refused { IfErr result (ReadingFailsWith (replicate rows tiers) (R.remaining source.old) (R.failures source.old) (R.failures source.new)) }
     ensures count { R.failures source.old ≤ R.failures source.new }
     ensures passed { OnOk result (R.failures source.new - R.failures source.old ≤ most_interruptions) }
-    ensures ended { IfErr result (λ fault. R.failures source.new - R.failures source.old ≤ most_failures fault) }
+    ensures tried_again { OnOk result ((passed : ℕ) × (passed ≤ most_interruptions) × CountsMore passed (R.failures source.old) (R.failures source.new)
+        × InterruptedMore passed (R.interrupted source.old) (R.interrupted source.new)) }
+    ensures gave_up { IsErrOf result YardFault.Read → (passed : ℕ) × CountsMore (passed + 1) (R.failures source.old) (R.failures source.new)
+        × GivesUp 0 passed (R.interrupted source.old) (R.interrupted source.new) }
+    ensures ended { IfErr result (λ fault. R.failures source.new - R.failures source.old ≤ most_read_failures fault) }
 {
     let heights = [tiers; MAX_ROWS];
     read_yard_heights(alloc, source, &heights[..rows as usize])

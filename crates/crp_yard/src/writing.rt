@@ -1,43 +1,40 @@
 //! Writes a yard list.
 
-ghost use Rattle.std.specs.Prelude.{◌≡◌, ◌≤◌, ◌+◌, ◌-◌, ◌++◌, All, IfOk, OnOk, IsErrOf, length, map};
+ghost use Rattle.std.specs.Prelude.{◌≡◌, ◌≤◌, ℕ, ◌+◌, ◌-◌, [], All, IfOk, OnOk, IsErrOf, length, map};
 ghost use Rattle.std.specs.Io.KnownBytes.{Appends};
 ghost use Rattle.csv.specs.Writing.{default_writer, row_text};
-ghost use Rattle.crp_plan.specs.Devices.{AppendsFront, HasFailed, most_interruptions};
+ghost use Rattle.crp_plan.specs.Devices.{AppendsFront, AppendsPart, CountsMore, GivesUp, HasFailed, InterruptedMore, most_interruptions};
+ghost use Rattle.crp_yard.specs.Written.{text_written_by, IsBetweenRecords, WritesRecords};
 ghost use Rattle.crp_yard.specs.Text.{fields_at, records_of_stack, records_of_rows, text_of_records, yard_text};
 
 use crate::container::{Container, Containers};
 use crate::yard::Yard;
 use crp_plan::{BayName, Sink, write_all};
-use csv::WriterBuilder;
+use csv::{Writer, WriterBuilder};
 use itoa::Buffer;
 use std::alloc::{AllocError, Global};
 use thiserror::Error;
 
-/// Adds a record as csv writes it.
-fn push_record(alloc: Global, text: &mut Vec<u8>, fields: &[&[u8]]) -> Result<(), AllocError>
-    ensures { OnOk result (text.new.items ≡ text.old.items ++ row_text default_writer (map (λ field. field.now) fields.now)) }
+/// Writes a record.
+fn push_record(writer: &mut Writer<Vec<u8>>, fields: &[&[u8]]) -> Result<(), AllocError>
+    requires { IsBetweenRecords writer.old }
+    ensures { OnOk result (WritesRecords writer.old writer.new (row_text default_writer (map (λ field. field.now) fields.now))) }
 {
-    let mut writer = WriterBuilder::new().from_writer(Vec::new(alloc));
     match writer.write_fields(fields) {
-        Ok(()) => {}
-        Err(_) => return Err(AllocError),
-    }
-    match writer.into_inner() {
-        Ok(row) => text.extend_from_slice(&row),
+        Ok(()) => Ok(()),
         Err(_) => Err(AllocError),
     }
 }
 
 fn push_container(
-    alloc: Global,
-    text: &mut Vec<u8>,
+    writer: &mut Writer<Vec<u8>>,
     bay: &BayName,
     row: u8,
     tier: u8,
     container: &Container,
 ) -> Result<(), AllocError>
-    ensures { OnOk result (text.new.items ≡ text.old.items ++ row_text default_writer (fields_at bay.now row tier container.now)) }
+    requires { IsBetweenRecords writer.old }
+    ensures { OnOk result (WritesRecords writer.old writer.new (row_text default_writer (fields_at bay.now row tier container.now))) }
 {
     let (mut bays, mut rows, mut tiers) = (Buffer::new(), Buffer::new(), Buffer::new());
     let fields = [
@@ -47,39 +44,47 @@ fn push_container(
         tiers.format(tier).as_bytes(),
         container.bytes(),
     ];
-    push_record(alloc, text, fields.as_slice())
+    push_record(writer, fields.as_slice())
 }
 
 fn push_stack(
-    alloc: Global,
-    text: &mut Vec<u8>,
+    writer: &mut Writer<Vec<u8>>,
     bay: &BayName,
     row: u8,
     stack: &[Container],
 ) -> Result<(), AllocError>
-    requires { length stack.now ≤ 8 }
-    ensures { OnOk result (text.new.items ≡ text.old.items ++ text_of_records (records_of_stack bay.now row 1 stack.now)) }
+    requires between { IsBetweenRecords writer.old }
+    requires tiers { length stack.now ≤ 8 }
+    ensures { OnOk result (WritesRecords writer.old writer.new (text_of_records (records_of_stack bay.now row 1 stack.now))) }
 {
     for (i, container) in stack.iter().enumerate() {
-        push_container(alloc, text, bay, row, i as u8 + 1, container)?;
+        push_container(writer, bay, row, i as u8 + 1, container)?;
     }
     Ok(())
 }
 
 fn push_bay(
-    alloc: Global,
-    text: &mut Vec<u8>,
+    writer: &mut Writer<Vec<u8>>,
     bay: &BayName,
     stacks: &[Containers],
 ) -> Result<(), AllocError>
+    requires between { IsBetweenRecords writer.old }
     requires rows { length stacks.now ≤ 12 }
     requires tiers { All (λ stack. length stack ≤ 8) stacks.now }
-    ensures { OnOk result (text.new.items ≡ text.old.items ++ text_of_records (records_of_rows bay.now 1 stacks.now)) }
+    ensures { OnOk result (WritesRecords writer.old writer.new (text_of_records (records_of_rows bay.now 1 stacks.now))) }
 {
     for (i, stack) in stacks.iter().enumerate() {
-        push_stack(alloc, text, bay, i as u8 + 1, stack.list())?;
+        push_stack(writer, bay, i as u8 + 1, stack.list())?;
     }
     Ok(())
+}
+
+/// csv's writer, with its defaults, in front of an empty list.
+fn new_writer(alloc: Global) -> Writer<Vec<u8>>
+    ensures between { IsBetweenRecords result }
+    ensures empty { text_written_by result ≡ [] }
+{
+    WriterBuilder::new().from_writer(Vec::new(alloc))
 }
 
 /// The text of a yard: the header, and then a record for each container, by bay in first-seen order, row
@@ -87,14 +92,17 @@ fn push_bay(
 pub fn yard_text(alloc: Global, yard: &Yard) -> Result<Vec<u8>, AllocError>
     ensures { IfOk result (λ text. text.items ≡ yard_text yard.now) }
 {
-    let mut text = Vec::new(alloc);
+    let mut writer = new_writer(alloc);
     let header: [&[u8]; 5] = [b"block", b"bay", b"row", b"tier", b"container"];
-    push_record(alloc, &mut text, header.as_slice())?;
+    push_record(&mut writer, header.as_slice())?;
     for i in 0..yard.count() {
         let (bay, stacks) = yard.bay(i);
-        push_bay(alloc, &mut text, bay, stacks)?;
+        push_bay(&mut writer, bay, stacks)?;
     }
-    Ok(text)
+    match writer.into_inner() {
+        Ok(text) => Ok(text),
+        Err(_) => Err(AllocError),
+    }
 }
 
 /// Why a yard was not written.
@@ -112,10 +120,15 @@ pub enum WriteFault {
 pub fn write_yard<W: Sink>(alloc: Global, sink: &mut W, yard: &Yard) -> Result<(), WriteFault>
     ensures all { OnOk result (Appends (W.contents sink.old) (W.contents sink.new) (yard_text yard.now)) }
     ensures front { AppendsFront (W.contents sink.old) (W.contents sink.new) (yard_text yard.now) }
+    ensures part { IsErrOf result WriteFault.Failed → AppendsPart (W.contents sink.old) (W.contents sink.new) (yard_text yard.now) }
     ensures failed { IsErrOf result WriteFault.Failed → HasFailed (W.failures sink.old) (W.failures sink.new) }
     ensures memory { IsErrOf result WriteFault.Memory → sink.new ≡ sink.old }
     ensures count { W.failures sink.old ≤ W.failures sink.new }
     ensures passed { OnOk result (W.failures sink.new - W.failures sink.old ≤ most_interruptions) }
+    ensures tried_again { OnOk result ((passed : ℕ) × (passed ≤ most_interruptions) × CountsMore passed (W.failures sink.old) (W.failures sink.new)
+        × InterruptedMore passed (W.interrupted sink.old) (W.interrupted sink.new)) }
+    ensures gave_up { IsErrOf result WriteFault.Failed → (passed : ℕ) × CountsMore (passed + 1) (W.failures sink.old) (W.failures sink.new)
+        × GivesUp 0 passed (W.interrupted sink.old) (W.interrupted sink.new) }
     ensures ended { IsErrOf result WriteFault.Failed → W.failures sink.new - W.failures sink.old ≤ most_interruptions + 1 }
 {
     let Ok(text) = yard_text(alloc, yard) else {

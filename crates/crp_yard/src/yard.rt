@@ -3,6 +3,7 @@
 ghost use Rattle.std.specs.Prelude.{◌≡◌, ◌<◌, ◌≤◌, All, IfOk, Some, length, slice_get};
 ghost use Rattle.crp_plan.specs.Rows.{tallest};
 ghost use Rattle.crp_yard.specs.Inventory.{name_at, stack_in_bay, stands, IsYard};
+ghost use Rattle.crp_yard.specs.Listings.{HasNames};
 
 use crate::container::{Container, Containers};
 use crate::names::names_of;
@@ -45,6 +46,20 @@ impl Yard {
         ensures { IfOk result (λ yard. yard ≡ record { heights = heights.now; tiers = tallest heights.now; bays = bays.entries }) }
     {
         let names = names_of(alloc, &bays)?;
+        Yard::with_names(alloc, heights, bays, names)
+    }
+
+    /// The yard of these bays, where the set has their containers.
+    pub(crate) fn with_names(
+        alloc: Global,
+        heights: &[u8],
+        bays: IndexMap<Bay, Stacks>,
+        names: IndexSet<Vec<u8>>,
+    ) -> Result<Yard, AllocError>
+        requires yard { IsYard (record { heights = heights.now; tiers = tallest heights.now; bays = bays.entries }) }
+        requires names { HasNames bays.entries names.keys }
+        ensures { IfOk result (λ yard. yard ≡ record { heights = heights.now; tiers = tallest heights.now; bays = bays.entries }) }
+    {
         let tiers = tallest(heights);
         let heights = Vec::from_slice(alloc, heights)?;
         Ok(Yard {

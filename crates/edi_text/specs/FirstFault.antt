@@ -98,7 +98,7 @@ IsAdviceFault text (AdviceFault offset) = BeginsWithRefused text × (offset ≡ 
 IsAdviceFault text (Unfinished offset) = BeginsWithAdvice text × (length text < 9) × (offset ≡ length text)
 IsAdviceFault text _ = ⊥
 
--- of all faults of the text this one is told
+-- of all faults of the text this one is stated
 abbrev pub IsFirstFault : List ℕ → EdiFault → Type 0
 IsFirstFault text (TooLong offset) = (max_text < length text) × (offset ≡ max_text)
 IsFirstFault text fault = (length text ≤ max_text) × (IsAdviceFault text fault ⊎ IsSegmentFault text fault)

@@ -11,7 +11,7 @@ use std::alloc::{AllocError, Global};
 use std::marker::Model;
 
 /// Segments as lists of elements, these as lists of components, and these as bytes. All bytes lie in
-/// one vector, and each end tells how many of the layer below come before it. What stands after the
+/// one vector, and each end states how many of the layer below come before it. What stands after the
 /// last end belongs to a segment that is being read.
 #[derive(Drop)]
 pub(crate) struct Store {

@@ -337,7 +337,7 @@ fn rows_that_are_refused(rt: HostRuntime) -> Result<(), Fail> {
         (5, b"row 6 1", 5),
         (6, b"row 3 4", 6),
         (6, b"row 3 6", 6),
-        // A rank that is missing is told at the last row.
+        // A rank that is missing is stated at the last row.
         (4, b"row", 6),
         (4, b"row 1 5", 6),
         (5, b"row", 6),
@@ -428,12 +428,23 @@ fn first_of_several_faults(rt: HostRuntime) -> Result<(), Fail> {
     Ok(())
 }
 
+/// The head of the six containers with this line is of a bay of this block.
+fn assert_block(
+    rt: &(impl Abort + AllocGlobal),
+    line: &[u8],
+    block: &[u8],
+) -> Result<(), CertFault> {
+    let text = with_line(rt.alloc(), 2, line)?;
+    let head = head_of(rt.alloc(), &text)?;
+    assert_same_at(rt, &block_of(&head.bay), &block, &line);
+    Ok(())
+}
+
 #[test]
 fn other_bytes_name_a_block(rt: HostRuntime) -> Result<(), Fail> {
     let names: [(&[u8], &[u8]); 2] = [(b"bay ' 1", b"'"), (b"bay , 1", b",")];
     for (line, block) in names {
-        let text = with_line(rt.alloc(), 2, line)?;
-        assert_same(&rt, &block_of(&head_of(rt.alloc(), &text)?.bay), &block);
+        assert_block(&rt, line, block)?;
     }
     Ok(())
 }

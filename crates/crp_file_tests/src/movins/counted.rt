@@ -31,7 +31,7 @@ const NONE: Tally = Tally {
     segments: 0,
 };
 
-/// The number of a fault's code, and its segment. Want of memory is 0.
+/// The number of a fault's code, and its segment. Out of memory is 0.
 fn code_of(fault: MovinsFault) -> (usize, usize) {
     match fault {
         MovinsFault::NoInterchangeHeader { segment } => (1, segment),
@@ -76,7 +76,7 @@ impl Tally {
     }
 }
 
-/// What is told of a comma in the place of each byte, and of a byte that is no letter of any alphabet here.
+/// What is stated of a comma in the place of each byte, and of a byte that is no letter of any alphabet here.
 const DATA: Tally = Tally {
     unspelled: 108,
     accepted: 86,
@@ -88,7 +88,7 @@ const DATA: Tally = Tally {
 
 // Counted by a reader of interchanges that was written in another language.
 #[test]
-fn each_byte_changed_is_told_by_number(rt: HostRuntime) -> Result<(), Fail> {
+fn each_byte_changed_is_reported_by_number(rt: HostRuntime) -> Result<(), Fail> {
     let cases = [
         (
             0x00,

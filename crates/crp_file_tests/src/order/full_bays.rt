@@ -65,8 +65,8 @@ fn all_containers_of_a_full_bay_leave(rt: HostRuntime) -> Result<(), Fail> {
     }];
     assert!(rt; states(alloc, &input, 0, &bays)?);
     let (_, problems) = stated(alloc, &input)?;
-    for told in &problems {
-        assert!(rt; are_numbered(alloc, told.names.list())?);
+    for got in &problems {
+        assert!(rt; are_numbered(alloc, got.names.list())?);
     }
     Ok(())
 }

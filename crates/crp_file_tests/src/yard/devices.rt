@@ -3,10 +3,11 @@ ghost use Rattle.std.specs.Prelude.{Some, None};
 
 use super::SIX;
 use crate::calls::{read_yard, write_yard, yard_of};
-use crate::compare::assert_same;
+use crate::compare::{assert_same, assert_same_at};
 use crp_plan::{Failure, Received, Sink, Source};
 use crp_yard::{WriteFault, Yard, YardFault};
-use std::alloc::Global;
+use std::alloc::{AllocError, Global};
+use std::process::Abort;
 use std::test::Fail;
 
 // Gives so many bytes one by one, is interrupted so often before each, and then fails.
@@ -68,17 +69,22 @@ impl Sink for Small {
     }
 }
 
+/// The fault of a source that gives these bytes and then fails, and how often it failed.
+fn unread(alloc: Global, rest: &[u8]) -> (Option<YardFault>, u64) {
+    let mut source = Failing {
+        rest,
+        interrupted: 1000,
+        failed: 0,
+    };
+    let fault = read_yard(alloc, &mut source, 3, 3).err();
+    (fault, source.failed)
+}
+
 #[test]
 fn each_read_fails(rt: HostRuntime) -> Result<(), Fail> {
     for length in 0..SIX.len() {
-        let mut source = Failing {
-            rest: &SIX[..length],
-            interrupted: 1000,
-            failed: 0,
-        };
-        let fault = read_yard(rt.alloc(), &mut source, 3, 3).err();
-        assert_same(&rt, &fault, &Some(YardFault::Read));
-        assert_same(&rt, &source.failed, &1001);
+        let found = unread(rt.alloc(), &SIX[..length]);
+        assert_same_at(&rt, &found, &(Some(YardFault::Read), 1001), &length);
     }
     Ok(())
 }
@@ -94,39 +100,61 @@ fn written(alloc: Global, yard: &Yard, room: usize) -> (Vec<u8>, Result<(), Writ
     (sink.bytes, end)
 }
 
+/// A sink with so much room receives as much of the text of a yard, and the write fails.
+fn assert_unwritten(rt: &(impl Abort + AllocGlobal), yard: &Yard, room: usize, text: &[u8]) {
+    let (bytes, end) = written(rt.alloc(), yard, room);
+    assert_same_at(rt, &end, &Err(WriteFault::Failed), &room);
+    assert_same_at(rt, &bytes.as_slice(), &text, &room);
+}
+
 #[test]
 fn each_write_fails(rt: HostRuntime) -> Result<(), Fail> {
-    let alloc = rt.alloc();
-    let yard = yard_of(alloc, SIX, 3, 3)?;
+    let yard = yard_of(rt.alloc(), SIX, 3, 3)?;
     for room in 0..SIX.len() {
-        let (bytes, end) = written(alloc, &yard, room);
-        assert_same(&rt, &end, &Err(WriteFault::Failed));
-        assert_same(&rt, &bytes.as_slice(), &&SIX[..room]);
+        assert_unwritten(&rt, &yard, room, &SIX[..room]);
     }
     Ok(())
 }
 
+/// The yard of a source of these bytes.
+fn read(alloc: Global, mut source: &[u8]) -> Result<Yard, YardFault> {
+    read_yard(alloc, &mut source, 3, 3)
+}
+
+/// What a sink receives of a yard.
+fn received(alloc: Global, yard: &Yard) -> Result<Vec<u8>, WriteFault> {
+    let mut sink = Received::new(alloc);
+    write_yard(alloc, &mut sink, yard)?;
+    Ok(sink.bytes)
+}
+
 #[test]
 fn what_was_read_is_written(rt: HostRuntime) -> Result<(), Fail> {
-    let alloc = rt.alloc();
-    let mut source = SIX;
-    let yard = read_yard(alloc, &mut source, 3, 3)?;
-    let mut sink = Received::new(alloc);
-    write_yard(alloc, &mut sink, &yard)?;
-    assert_same(&rt, &sink.bytes.as_slice(), &SIX);
+    let yard = read(rt.alloc(), SIX)?;
+    let text = received(rt.alloc(), &yard)?;
+    assert_same(&rt, &text.as_slice(), &SIX);
+    Ok(())
+}
+
+fn assert_text(
+    rt: &(impl Abort + AllocGlobal),
+    fault: WriteFault,
+    expected: &str,
+) -> Result<(), AllocError> {
+    let text = fault.to_string(rt.alloc())?;
+    assert_same(rt, &text.as_str(), &expected);
     Ok(())
 }
 
 #[test]
 fn texts_of_failed_writes(rt: HostRuntime) -> Result<(), Fail> {
-    let alloc = rt.alloc();
-    let (failed, memory) = (WriteFault::Failed, WriteFault::Memory);
-    assert_same(&rt, &failed.to_string(alloc)?.as_str(), &"a write failed");
-    assert_same(
-        &rt,
-        &memory.to_string(alloc)?.as_str(),
-        &"no memory is left",
-    );
+    let texts = [
+        (WriteFault::Failed, "a write failed"),
+        (WriteFault::Memory, "no memory is left"),
+    ];
+    for (fault, expected) in texts {
+        assert_text(&rt, fault, expected)?;
+    }
     Ok(())
 }
 

@@ -1,7 +1,8 @@
 use super::{fault_of, with_header};
-use crate::compare::assert_same;
+use crate::compare::{assert_same, assert_same_at};
 use crp_yard::YardFault;
-use std::alloc::Global;
+use std::alloc::AllocError;
+use std::process::Abort;
 use std::test::Fail;
 
 #[test]
@@ -14,26 +15,37 @@ fn lists_without_their_header(rt: HostRuntime) -> Result<(), Fail> {
         b"\xEF\xBB\xBF\xEF\xBB\xBFblock,bay,row,tier,container",
     ];
     for text in lists {
-        assert_same(
-            &rt,
-            &fault_of(rt.alloc(), text),
-            &Some(YardFault::Header { record: 1 }),
-        );
+        let fault = fault_of(rt.alloc(), text);
+        assert_same_at(&rt, &fault, &Some(YardFault::Header { record: 1 }), &text);
     }
     Ok(())
 }
 
-/// The text of the fault of a list with these records behind the header.
-fn told(alloc: Global, records: &[u8]) -> Result<String, Fail> {
-    let text = with_header(alloc, records)?;
-    let fault = fault_of(alloc, &text).ok_or("a fault")?;
-    Ok(fault.to_string(alloc)?)
+fn assert_text(
+    rt: &(impl Abort + AllocGlobal),
+    fault: YardFault,
+    expected: &str,
+) -> Result<(), AllocError> {
+    let text = fault.to_string(rt.alloc())?;
+    assert_same(rt, &text.as_str(), &expected);
+    Ok(())
 }
 
-// The records behind a header, and the fault that is told of them with its text.
+/// A list with these records behind the header has a fault of this text.
+fn assert_fault(
+    rt: &(impl Abort + AllocGlobal),
+    records: &[u8],
+    expected: &str,
+) -> Result<(), Fail> {
+    let text = with_header(rt.alloc(), records)?;
+    let fault = fault_of(rt.alloc(), &text).ok_or("a fault")?;
+    assert_text(rt, fault, expected)?;
+    Ok(())
+}
+
+// The records behind a header, and the fault that is stated of them with its text.
 #[test]
 fn faults_by_record(rt: HostRuntime) -> Result<(), Fail> {
-    let alloc = rt.alloc();
     let lists: [(&[u8], &str); 19] = [
         (b"A,1,1,1", "Y2 at record 2"),
         (b"  \n", "Y2 at record 2"),
@@ -59,14 +71,13 @@ fn faults_by_record(rt: HostRuntime) -> Result<(), Fail> {
         (b"A,1,1,2,Z\nA,1,1,x,Y\nA", "Y3 at record 3"),
     ];
     for (records, want) in lists {
-        assert_same(&rt, &told(alloc, records)?.as_str(), &want);
+        assert_fault(&rt, records, want)?;
     }
     Ok(())
 }
 
 #[test]
 fn other_texts_of_faults(rt: HostRuntime) -> Result<(), Fail> {
-    let alloc = rt.alloc();
     let faults = [
         (YardFault::Header { record: 1 }, "Y1 at record 1"),
         (YardFault::TooMany { record: 20002 }, "Y8 at record 20002"),
@@ -75,7 +86,7 @@ fn other_texts_of_faults(rt: HostRuntime) -> Result<(), Fail> {
         (YardFault::Memory, "no memory is left"),
     ];
     for (fault, want) in faults {
-        assert_same(&rt, &fault.to_string(alloc)?.as_str(), &want);
+        assert_text(&rt, fault, want)?;
     }
     Ok(())
 }

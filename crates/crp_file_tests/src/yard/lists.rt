@@ -1,6 +1,7 @@
 use crate::compare::assert_same;
 use crp_yard::{Container, Containers};
 use std::alloc::{AllocError, Global};
+use std::process::Abort;
 use std::test::Fail;
 
 /// Two containers, made in the two ways.
@@ -11,13 +12,37 @@ fn two(alloc: Global) -> Result<Vec<Container>, AllocError> {
     Ok(list)
 }
 
+fn bytes_of(container: &Container) -> &[u8] {
+    container.bytes()
+}
+
+/// The list is of X and YZ.
+fn assert_two(rt: &impl Abort, list: &[Container]) {
+    match list {
+        [one, other] => {
+            assert_same(rt, &bytes_of(one), &b"X".as_slice());
+            assert_same(rt, &bytes_of(other), &b"YZ".as_slice());
+        }
+        _ => panic!(rt; "there are two containers"),
+    }
+}
+
+fn made_of(list: Vec<Container>) -> Containers {
+    Containers::from_vec(list)
+}
+
+fn list_of(list: &Containers) -> &[Container] {
+    list.list()
+}
+
+fn vec_of(list: Containers) -> Vec<Container> {
+    list.into_vec()
+}
+
 #[test]
 fn containers_are_lists(rt: HostRuntime) -> Result<(), Fail> {
-    let list = Containers::from_vec(two(rt.alloc())?);
-    assert_same(&rt, &list.list().len(), &2);
-    let list = list.into_vec();
-    assert!(rt; list.len() == 2);
-    assert_same(&rt, &list[0].bytes(), &b"X".as_slice());
-    assert_same(&rt, &list[1].bytes(), &b"YZ".as_slice());
+    let list = made_of(two(rt.alloc())?);
+    assert_two(&rt, list_of(&list));
+    assert_two(&rt, &vec_of(list));
     Ok(())
 }

@@ -1,6 +1,6 @@
 use super::{fault_of, with_header};
 use crate::calls::yard_of;
-use crate::compare::assert_same;
+use crate::compare::{assert_same, assert_same_at};
 use crp_yard::{MAX_BYTES, MAX_CONTAINERS, YardFault};
 use itoa::Buffer;
 use std::alloc::{AllocError, Global};
@@ -35,28 +35,40 @@ fn many(alloc: Global, count: usize) -> Result<Vec<u8>, AllocError> {
     Ok(text)
 }
 
+/// How many bays the yard of one row with eight tiers has that a list states, and which of two containers stand in it.
+fn counted(alloc: Global, text: &[u8]) -> Result<(usize, bool, bool), YardFault> {
+    let yard = yard_of(alloc, text, 1, 8)?;
+    let count = yard.count();
+    let last = yard.holds(b"C19999");
+    let next = yard.holds(b"C20000");
+    Ok((count, last, next))
+}
+
 #[test]
 fn as_many_containers_as_are_read(rt: HostRuntime) -> Result<(), Fail> {
-    let alloc = rt.alloc();
-    let text = many(alloc, MAX_CONTAINERS)?;
-    let yard = yard_of(alloc, &text, 1, 8)?;
-    assert_same(&rt, &yard.count(), &2500);
-    assert!(rt; yard.holds(b"C19999") && !yard.holds(b"C20000"));
-    let text = many(alloc, 20001)?;
-    let fault = yard_of(alloc, &text, 1, 8).err();
+    let text = many(rt.alloc(), MAX_CONTAINERS)?;
+    let found = counted(rt.alloc(), &text)?;
+    assert_same(&rt, &found, &(2500, true, false));
+    let text = many(rt.alloc(), 20001)?;
+    let fault = counted(rt.alloc(), &text).err();
     assert_same(&rt, &fault, &Some(YardFault::TooMany { record: 20002 }));
     Ok(())
 }
 
+/// A list of this length, without containers: the header, and empty lines behind it.
+fn with_length(alloc: Global, length: usize) -> Result<Vec<u8>, AllocError> {
+    let mut text = with_header(alloc, b"")?;
+    let rest = vec![in alloc; b'\n'; length.saturating_sub(text.len())]?;
+    text.extend_from_slice(&rest)?;
+    Ok(text)
+}
+
 #[test]
 fn as_many_bytes_as_are_read(rt: HostRuntime) -> Result<(), Fail> {
-    let alloc = rt.alloc();
-    let mut text = with_header(alloc, b"")?;
-    let rest = vec![in alloc; b'\n'; 8388608 - 29]?;
-    text.extend_from_slice(&rest)?;
-    assert_same(&rt, &text.len(), &MAX_BYTES);
-    assert_same(&rt, &fault_of(alloc, &text), &None);
-    text.push(b'\n')?;
-    assert_same(&rt, &fault_of(alloc, &text), &Some(YardFault::TooLarge));
+    assert_same(&rt, &MAX_BYTES, &8388608);
+    for (length, fault) in [(MAX_BYTES, None), (8388609, Some(YardFault::TooLarge))] {
+        let text = with_length(rt.alloc(), length)?;
+        assert_same_at(&rt, &fault_of(rt.alloc(), &text), &fault, &text.len());
+    }
     Ok(())
 }

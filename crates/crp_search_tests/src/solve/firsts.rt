@@ -1,7 +1,7 @@
 //! Searches for the first of all best plans.
 use crate::compare::assert_same_at;
 use crate::solve::bays::{BETTER_THAN_GREEDY, Bay, FOUR, FULL, SIX, problem_of};
-use crate::solve::solving::told;
+use crate::solve::solving::text_of_answer;
 use crp_incumbent::Board;
 use crp_solve::{NoGate, Second, Settings, Solved, solve, solve_alone};
 use std::alloc::Global;
@@ -40,7 +40,7 @@ fn ended(second: Second) -> &'static str {
 
 // The same in words.
 fn text_of(alloc: Global, solved: &Solved) -> Result<String, Fail> {
-    let mut text = told(alloc, &solved.answer)?;
+    let mut text = text_of_answer(alloc, &solved.answer)?;
     write!(text, ", expanded {}; ", solved.expanded)?;
     text.push_str(ended(solved.second))?;
     Ok(text)

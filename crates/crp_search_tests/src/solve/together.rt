@@ -1,11 +1,12 @@
 //! Searches by several workers.
-use crate::compare::{assert_at, assert_same};
+use crate::compare::{assert_at, assert_same, assert_same_at};
 use crate::solve::bays::{BAYS, BETTER_THAN_GREEDY, Bay, FOUR_ROWS, SIX, problem_of};
-use crate::solve::solving::told;
+use crate::solve::solving::text_of_answer;
 use crp_incumbent::Board;
 use crp_solve::{Answer, Gate, NoGate, Settings, Solved, solve, solve_alone};
 use crp_tree::Name;
 use std::alloc::Global;
+use std::process::Abort;
 use std::sync::Wait;
 use std::sync::atomic::{AtomicU64, Ordering};
 use std::test::Fail;
@@ -26,9 +27,20 @@ fn solved_by<R: Threads + Wait + Sync>(
 
 // The same in words.
 fn text_of(alloc: Global, solved: &Solved) -> Result<String, Fail> {
-    let mut text = told(alloc, &solved.answer)?;
+    let mut text = text_of_answer(alloc, &solved.answer)?;
     write!(text, ", expanded {}", solved.expanded)?;
     Ok(text)
+}
+
+// What workers answer to the problem of a bay, in words.
+fn text_by<R: Threads + Wait + Sync>(
+    rt: &R,
+    alloc: Global,
+    bay: &Bay,
+    settings: Settings,
+) -> Result<String, Fail> {
+    let solved = solved_by(rt, alloc, bay, settings)?;
+    text_of(alloc, &solved)
 }
 
 // A bay, a budget and a split, and the two answers of which each number of workers gives one.
@@ -95,19 +107,75 @@ const CASES: [Case; 6] = [
     },
 ];
 
+// So many workers give one of the two answers.
+fn assert_in_parts<R: Threads + Wait + Abort + Sync>(
+    rt: &R,
+    alloc: Global,
+    workers: u32,
+    case: &Case,
+) -> Result<(), Fail> {
+    let settings = Settings::new(workers, case.budget, case.split)?;
+    let text = text_by(rt, alloc, &case.bay, settings)?;
+    let [first, second] = case.answers;
+    let known = text.as_str() == first || text.as_str() == second;
+    assert_at(rt, known, &(workers, text.as_str()));
+    Ok(())
+}
+
 #[test]
 fn answers_in_parts(rt: HostRuntime) -> Result<(), Fail> {
-    for case in CASES {
+    for case in &CASES {
         for workers in [1, 2, 3, 64] {
-            let settings = Settings::new(workers, case.budget, case.split)?;
-            let solved = solved_by(&rt, rt.alloc(), &case.bay, settings)?;
-            let text = text_of(rt.alloc(), &solved)?;
-            let [first, second] = case.answers;
-            assert_at(
-                &rt,
-                text.as_str() == first || text.as_str() == second,
-                &(workers, text),
-            );
+            assert_in_parts(&rt, rt.alloc(), workers, case)?;
+        }
+    }
+    Ok(())
+}
+
+/// What budgets from 0 to 4 answer on the bay whose best plan is better than the first one found, where no subtree is given away: the first
+/// plan has four relocations, and the search ends after three expansions.
+const BUDGETS: [(u64, &str); 5] = [
+    (
+        0,
+        "between from 3 at least 3, part: L, plan 2 3 1 1, budget, expanded 0",
+    ),
+    (
+        1,
+        "between from 3 at least 3, part: XLB, plan 2 3 1 1, budget, expanded 1",
+    ),
+    (
+        2,
+        "between from 3 at least 3, part: XLXBB, plan 2 3 1 1, budget, expanded 2",
+    ),
+    (
+        3,
+        "optimal at least 3, part: XLXXBB, plan 3 2 1, expanded 3",
+    ),
+    (
+        4,
+        "optimal at least 3, part: XLXXBB, plan 3 2 1, expanded 3",
+    ),
+];
+
+/// So many workers with this budget, and without parts, give this answer.
+fn assert_budget<R: Threads + Wait + Abort + Sync>(
+    rt: &R,
+    alloc: Global,
+    workers: u32,
+    budget: u64,
+    answer: &str,
+) -> Result<(), Fail> {
+    let settings = Settings::new(workers, budget, 0)?;
+    let text = text_by(rt, alloc, &BETTER_THAN_GREEDY, settings)?;
+    assert_same_at(rt, &text.as_str(), &answer, &(workers, budget));
+    Ok(())
+}
+
+#[test]
+fn budgets_from_none_to_more_than_enough(rt: HostRuntime) -> Result<(), Fail> {
+    for workers in [1, 2, 64] {
+        for (budget, answer) in BUDGETS {
+            assert_budget(&rt, rt.alloc(), workers, budget, answer)?;
         }
     }
     Ok(())
@@ -116,8 +184,7 @@ fn answers_in_parts(rt: HostRuntime) -> Result<(), Fail> {
 #[test]
 fn one_worker_searches_the_last_part_first(rt: HostRuntime) -> Result<(), Fail> {
     let settings = Settings::new(1, 3, 1)?;
-    let solved = solved_by(&rt, rt.alloc(), &BETTER_THAN_GREEDY, settings)?;
-    let text = text_of(rt.alloc(), &solved)?;
+    let text = text_by(&rt, rt.alloc(), &BETTER_THAN_GREEDY, settings)?;
     assert_same(
         &rt,
         &text.as_str(),
@@ -136,20 +203,44 @@ fn kind_of(answer: &Answer) -> (u8, u32) {
     }
 }
 
+fn kind_alone(alloc: Global, bay: &Bay) -> Result<(u8, u32), Fail> {
+    let problem = problem_of(alloc, bay)?;
+    let solved = solve_alone(alloc, &problem, Settings::new(1, 1000000, 0)?)?;
+    Ok(kind_of(&solved.answer))
+}
+
+fn kind_by<R: Threads + Wait + Sync>(
+    rt: &R,
+    alloc: Global,
+    bay: &Bay,
+    settings: Settings,
+) -> Result<(u8, u32), Fail> {
+    let solved = solved_by(rt, alloc, bay, settings)?;
+    Ok(kind_of(&solved.answer))
+}
+
+// Numbers of workers, each with a split.
+const TEAMS: [(u32, u8); 6] = [(1, 0), (2, 0), (2, 1), (3, 2), (5, 8), (64, 3)];
+
+// Each team gives an answer of the kind that one worker alone gives.
+fn assert_kind<R: Threads + Wait + Abort + Sync>(
+    rt: &R,
+    alloc: Global,
+    bay: &Bay,
+) -> Result<(), Fail> {
+    let alone = kind_alone(alloc, bay)?;
+    for (workers, split) in TEAMS {
+        let settings = Settings::new(workers, 1000000, split)?;
+        let kind = kind_by(rt, alloc, bay, settings)?;
+        assert_same_at(rt, &kind, &alone, &(workers, bay.name));
+    }
+    Ok(())
+}
+
 #[test]
 fn many_workers_answer_as_one(rt: HostRuntime) -> Result<(), Fail> {
     for bay in BAYS {
-        let problem = problem_of(rt.alloc(), &bay)?;
-        let alone = solve_alone(rt.alloc(), &problem, Settings::new(1, 1000000, 0)?)?;
-        for (workers, split) in [(1, 0), (2, 0), (2, 1), (3, 2), (5, 8), (64, 3)] {
-            let settings = Settings::new(workers, 1000000, split)?;
-            let solved = solved_by(&rt, rt.alloc(), &bay, settings)?;
-            assert_at(
-                &rt,
-                kind_of(&solved.answer) == kind_of(&alone.answer),
-                &(workers, bay.name),
-            );
-        }
+        assert_kind(&rt, rt.alloc(), &bay)?;
     }
     Ok(())
 }

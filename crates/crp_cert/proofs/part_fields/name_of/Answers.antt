@@ -1,13 +1,13 @@
 use Rattle.std.proofs.Common.{ap, ◌≡◌, ◌≤◌, ◌-◌, length, true, refl, ⊎_elim}
 use Rattle.std.proofs.lemmas.Bool.{cases_lt}
 use Rattle.crp_bay.specs.Positions.{can_shift}
-use Rattle.crp_bay.specs.Back.{Standing}
+use Rattle.crp_bay.specs.Back.{PlaceAndTrail}
 use Rattle.crp_bay.proofs.Reaching.{can_from_target}
 use Rattle.crp_cert.proofs.PartNames.{names_begin, rows_no_number, rows_illegal, names_fail, names_end, names_go_on, none_named, some_named, not_legal, no_room}
 use Rattle.crp_cert.proofs.part_fields.name_of.Goals as goal
 
 pub loop-row-init : goal.loop-row-init
-loop-row-init c = record { rows = names_begin c.root-name.result c.start-place.result.place _ c.args.bytes.now c.root-name.ensures (ap (λ (v : Standing). v.place) c.start-place.ensures.value); no_root = c.in_default.ensures; is_problem = c.start-place.ensures.problem }
+loop-row-init c = record { rows = names_begin c.root-name.result c.start-place.result.place _ c.args.bytes.now c.root-name.ensures (ap (λ (v : PlaceAndTrail). v.place) c.start-place.ensures.value); no_root = c.in_default.ensures; is_problem = c.start-place.ensures.problem }
 
 pub returns-in_err-row-clause-value : goal.returns-in_err-row-clause-value
 returns-in_err-row-clause-value c =
@@ -38,7 +38,7 @@ returns-in_default-after_tag-clause-value c =
     let legal : can_shift c.loop-row.place.place c.in_ok-row.row ≡ true = can_from_target c.loop-row.place.place c.in_ok-row.row (c.in_ok-place.ensures.target.0 refl) in
     some_named c.args.problem.now c.args.bytes.now _ inv.no_root
     (names_end c.loop-row.name c.in_ok-name.name c.loop-row.place.place _ c.in_ok-place.place.place c.in_ok-row.row c.loop-row.rest.now c.args.bytes.now c.in_ok-row.after.now (c.in_ok-name.ensures.room.0 refl)
-    c.in_ok-name.ensures.value (ap (λ (v : Standing). v.place) c.in_ok-place.ensures.value) inv.rows c.in_ok-row.ensures.value legal c.in_default-after_tag.ensures)
+    c.in_ok-name.ensures.value (ap (λ (v : PlaceAndTrail). v.place) c.in_ok-place.ensures.value) inv.rows c.in_ok-row.ensures.value legal c.in_default-after_tag.ensures)
 
 pub loop-row-preserved : goal.loop-row-preserved
 loop-row-preserved c =
@@ -46,7 +46,7 @@ loop-row-preserved c =
     let legal : can_shift c.loop-row.place.place c.in_ok-row.row ≡ true = can_from_target c.loop-row.place.place c.in_ok-row.row (c.in_ok-place.ensures.target.0 refl) in
     record {
       rows = names_go_on c.loop-row.name c.in_ok-name.name c.loop-row.place.place _ c.in_ok-place.place.place c.in_ok-row.row c.loop-row.rest.now c.args.bytes.now c.in_ok-row.after.now c.in-Some-after_tag.more.now (c.in_ok-name.ensures.room.0 refl)
-          c.in_ok-name.ensures.value (ap (λ (v : Standing). v.place) c.in_ok-place.ensures.value) inv.rows c.in_ok-row.ensures.value legal c.in-Some-after_tag.ensures;
+          c.in_ok-name.ensures.value (ap (λ (v : PlaceAndTrail). v.place) c.in_ok-place.ensures.value) inv.rows c.in_ok-row.ensures.value legal c.in-Some-after_tag.ensures;
       no_root = inv.no_root;
       is_problem = inv.is_problem;
     }

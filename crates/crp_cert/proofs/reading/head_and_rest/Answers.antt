@@ -21,7 +21,7 @@ use Rattle.crp_cert.proofs.Stacks.{cap_is, few_claimed}
 use Rattle.crp_cert.proofs.Verdicts.{frame_of, head_of, stack_fault}
 use Rattle.crp_cert.proofs.reading.head_and_rest.Goals as goal
 
--- what the lines above the rows tell
+-- what the lines above the rows state
 told_frame : (bytes a b more rest : List ℕ) (version : Version) (name : YardBay) (size : Size) (heights shown : List ℕ) → shown ≡ heights → title_at bytes ≡ Some (version, a) → IsYardBay name × (a ≡ bay_line name ++ b) → size_at b ≡ Some (size, more) →
     heights_at version size more ≡ Some (heights, rest) → BeginsWithFrame bytes (frame_of version size shown) rest
 told_frame bytes a b more rest version name size heights shown same title named read state =
@@ -63,7 +63,7 @@ no_heights bytes a b more Two name size title named read none =
 most_is : (size : Size) (heights : List ℕ) (stacks : List (List ℕ)) (problem : Problem) (n : ℕ) → AreHeightsOf size heights → problem ≡ stated_with heights size.ordered stacks → n ≡ cap problem → n ≡ most_claimed size
 most_is size heights stacks problem n are made e = e ∙ ap cap made ∙ cap_is size heights stacks are
 
--- the heights that are told
+-- the heights that are stated
 told_heights : (b more rest : List ℕ) (version : Version) (size : Size) (heights shown : List ℕ) → shown ≡ heights → size_at b ≡ Some (size, more) → heights_at version size more ≡ Some (heights, rest) → AreHeightsOf size shown
 told_heights b more rest version size heights shown same read state =
     let s = size_reader.takes b size more read in
@@ -120,7 +120,7 @@ problem_of-problem-requires-clause-heights c =
     told_heights c.in-Some-bay_of.rest.now c.in-Some-size_of.rest.now c.in-Some-heights_of.rest.now c.in-Some.version c.in-Some-size_of.size c.in-Some-heights_of.heights.items c.as_slice-heights.result.now c.as_slice-heights.ensures.value
     c.in-Some-size_of.ensures c.in-Some-heights_of.ensures
 
--- the problem over the stacks that were told
+-- the problem over the stacks that were stated
 made_of : (size : Size) (heights : List ℕ) (rows read : List Row) (problem : Problem) → read ≡ rows → problem ≡ stated_with heights size.ordered (stacks_of read) → problem ≡ stated_with heights size.ordered (stacks_of rows)
 made_of size heights rows read problem same made = made ∙ ap (λ l. stated_with heights size.ordered (stacks_of l)) same
 
@@ -170,7 +170,7 @@ returns-in_default-2-clause-refused c =
       none_stands plan_reader rest (rw c.in_default-2.is at c.in_ok-plan.ensures),
     )
 
--- the head that all these lines tell
+-- the head that all these lines state
 whole_head : (bytes : List ℕ) (frame : Frame) (name : YardBay) (stacks : List (List ℕ)) (claim : Claim) (plan : Option (List ℕ)) (a b c rest : List ℕ) (problem : Problem) → IsYardBay name → IsSize frame.size → MayState frame.version frame.size frame.heights →
     bytes ≡ title_line frame.version ++ (bay_line name ++ (size_line frame.size ++ (stated_heights frame.version frame.heights ++ a))) → problem ≡ stated_with frame.heights frame.size.ordered stacks →
     AreFirstStacks frame.size frame.heights stacks → length stacks ≡ frame.size.rows → MayClaim frame.version (most_claimed frame.size) claim × (b ≡ claim_line claim ++ c) → IfSome plan AreRows × (c ≡ plan_line plan ++ rest) → a ≡ flat_map row_line stacks ++ b →

@@ -1,7 +1,7 @@
 use Rattle.std.proofs.Common.{◌≡◌, ℕ, ◌∙◌, sym, subst, arith, take, get_or, suc, add-one, ap, ◌++◌}
 use Rattle.std.specs.Prelude.{codes}
 use Rattle.crp_cert.specs.Script.{symbols_of}
-use Rattle.crp_bay.specs.Back.{Standing}
+use Rattle.crp_bay.specs.Back.{PlaceAndTrail}
 use Rattle.crp_cert.specs.ScriptFaults.{BeginsWithTree}
 use Rattle.std.specs.List.{flat_map}
 use Rattle.std.proofs.lemmas.List.{take_all}
@@ -22,7 +22,7 @@ returns-in_default-2-clause-none t c =
     let inv = c.loop-row.invariant in
     branch_stops c.args.place.now.place c.args.bytes.now c.as_slice-row-items.result.now c.loop-row.trees.items c.loop-row.row-index 0 c.loop-row.rest.now inv.rows c.loop-row-test.true inv.match inv.text
     (subst (λ v. ¬ BeginsWithTree v c.loop-row.rest.now)
-    (ap (λ (v : Standing). v.place) c.if-not-push.ensures.pushed ∙ ap (λ (v : Standing). child v.place (get_or c.as_slice-row-items.result.now c.loop-row.row-index 0)) inv.same)
+    (ap (λ (v : PlaceAndTrail). v.place) c.if-not-push.ensures.pushed ∙ ap (λ (v : PlaceAndTrail). child v.place (get_or c.as_slice-row-items.result.now c.loop-row.row-index 0)) inv.same)
     ((rw c.in_default-2.is at c.in_ok-tree.ensures).none))
 
 pub loop-row-preserved : goal.loop-row-preserved
@@ -30,7 +30,7 @@ loop-row-preserved t c =
     let inv = c.loop-row.invariant in
     let row : ℕ = get_or c.as_slice-row-items.result.now c.loop-row.row-index 0 in
     let whole = rw c.in-Some-2.is at c.in_ok-tree.ensures in
-    let next : c.push.new.self.place ≡ child c.args.place.now.place row = ap (λ (v : Standing). v.place) c.if-not-push.ensures.pushed ∙ ap (λ (v : Standing). child v.place row) inv.same in
+    let next : c.push.new.self.place ≡ child c.args.place.now.place row = ap (λ (v : PlaceAndTrail). v.place) c.if-not-push.ensures.pushed ∙ ap (λ (v : PlaceAndTrail). child v.place row) inv.same in
     record {
       same = pop_back c.loop-row.place c.read_tree.new.place c.pop-popped.new.self row c.pop-popped.result (whole.back ∙ c.if-not-push.ensures.pushed)
           (record { popped = c.pop-popped.ensures.popped; none = c.pop-popped.ensures.none }) ∙ inv.same;

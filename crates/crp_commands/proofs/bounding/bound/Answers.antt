@@ -2,7 +2,7 @@ use Rattle.std.proofs.Common.{rules, subst, sym}
 use Rattle.std.proofs.lemmas.Result.{err_from_is_err_and}
 use Rattle.crp_commands.specs.Calls.{CallSeen}
 use Rattle.crp_commands.specs.Bound.{IsBound, IsNoBound, IsBoundReport}
-use Rattle.crp_commands.proofs.Replayed.{no_head_told, keeps_same}
+use Rattle.crp_commands.proofs.Replayed.{no_head_reported, keeps_same}
 use Rattle.crp_commands.specs.declared.heads.TheConstants.{MOST_BYTES}
 use Rattle.crp_commands.proofs.bounding.bound.Goals as goal
 
@@ -18,12 +18,12 @@ returns-in_err-head g c =
       sink_before = g.W.Sink.failures c.args.writer.now;
       sink_after = g.W.Sink.failures c.args.writer.now;
     } in
-    rw (p.1, p.2) (no_head_told MOST_BYTES IsBound IsNoBound seen c.in_err-head.field-0.0 (keeps_same _) (λ bytes f first. first) c.in_err-head.ensures.none, search rules)
+    rw (p.1, p.2) (no_head_reported MOST_BYTES IsBound IsNoBound seen c.in_err-head.field-0.0 (keeps_same _) (λ bytes f first. first) c.in_err-head.ensures.none, search rules)
 
 pub returns-in_err-write_all : goal.returns-in_err-write_all
 returns-in_err-write_all g c =
     let p = err_from_is_err_and c.from_residual-in_err-write_all.result c.from_residual-in_err-write_all.ensures.1 in
-    let told = subst (IsBoundReport c.in_ok-head.head) (sym c.deref.ensures.value) c.in_ok-report.ensures in
+    let stated = subst (IsBoundReport c.in_ok-head.head) (sym c.deref.ensures.value) c.in_ok-report.ensures in
     let found = c.in_ok-head.ensures.found in
     rw (p.1, p.2)
-    ((c.in_err-write_all.ensures.failed, (found.0, c.deref.result.now, found.1, (c.in_ok-head.head, found.2, told), c.in_err-write_all.ensures.front)), search rules)
+    ((c.in_err-write_all.ensures.failed, (found.0, c.deref.result.now, found.1, (c.in_ok-head.head, found.2, stated), c.in_err-write_all.ensures.part)), search rules)

@@ -23,7 +23,7 @@ returns-in_err-write_verdict-in-Ok-Some g c =
     let p = err_from_is_err_and c.from_residual-in_err-write_verdict-in-Ok-Some.result c.from_residual-in_err-write_verdict-in-Ok-Some.ensures.1 in
     let inv = c.loop-files.invariant in
     let step = c.in_ok-check_next.ensures in
-    let told : YardBay × Verdict = (c.in-Ok-Some.bay, c.in-Ok-Some.verdict) in
+    let stated : YardBay × Verdict = (c.in-Ok-Some.bay, c.in-Ok-Some.verdict) in
     let line = c.in_err-write_verdict-in-Ok-Some in
     let given = g.R.Source.remaining c.args.reader.now in
     let held = g.W.Sink.contents c.args.writer.now in
@@ -36,7 +36,7 @@ returns-in_err-write_verdict-in-Ok-Some g c =
     let all = all_checked given held MOST_BYTES _ (step.on given held MOST_BYTES inv.stands) (step.end c.if-branch.false) in
     let shows = subst (IsLast all.file all.verdicts) c.in-Ok-Some.field-0-is (c.in-Ok-Some.ensures.last all.file all.verdicts all.checked.read) in
     let seen = seen_by given held (g.W.Sink.contents c.write_verdict.new.writer) source after first last in
-    let tells = last_stops MOST_BYTES seen holds all.file all.verdicts told c.check_next.new.files c.check_next.new.number line.field-0.0 all.text all.read all.checked shows line.ensures.fault in
+    let tells = last_stops MOST_BYTES seen holds all.file all.verdicts stated c.check_next.new.files c.check_next.new.number line.field-0.0 all.text all.read all.checked shows line.ensures.fault in
     rw (p.1, p.2) ((earlier_check MOST_BYTES given held _ source source after sink first last line.field-0.0 (omega arith) (omega (arith, inv.source, step.count)) (omega (arith, inv.sink, step.count)) line.ensures.count tells), search rules)
 
 pub returns-in-Ok-None : goal.returns-in-Ok-None
@@ -53,14 +53,14 @@ pub returns-in_ok-write_verdict-in-Ok-Some : goal.returns-in_ok-write_verdict-in
 returns-in_ok-write_verdict-in-Ok-Some g c =
     let inv = c.loop-files.invariant in
     let step = c.in_ok-check_next.ensures in
-    let told : YardBay × Verdict = (c.in-Ok-Some.bay, c.in-Ok-Some.verdict) in
+    let stated : YardBay × Verdict = (c.in-Ok-Some.bay, c.in-Ok-Some.verdict) in
     let given = g.R.Source.remaining c.args.reader.now in
     let held = g.W.Sink.contents c.args.writer.now in
     let all = all_checked given held MOST_BYTES _ (step.on given held MOST_BYTES inv.stands) (step.end c.if-branch.false) in
     let shows = subst (IsLast all.file all.verdicts) c.in-Ok-Some.field-0-is (c.in-Ok-Some.ensures.last all.file all.verdicts all.checked.read) in
-    let lines = verdict_lines (all.verdicts ++ told ∷ []) in
-    let written = appends_line held _ _ all.verdicts told all.checked.written c.in_ok-write_verdict-in-Ok-Some.ensures.all in
-    ((refl, (all.file, lines, all.text, (all.verdicts ++ told ∷ [], shows, refl), written)), search rules)
+    let lines = verdict_lines (all.verdicts ++ stated ∷ []) in
+    let written = appends_line held _ _ all.verdicts stated all.checked.written c.in_ok-write_verdict-in-Ok-Some.ensures.all in
+    ((refl, (all.file, lines, all.text, (all.verdicts ++ stated ∷ [], shows, refl), written)), search rules)
 
 pub returns-in-Err : goal.returns-in-Err
 returns-in-Err g c =

@@ -18,7 +18,7 @@ returns-in_err-write_all g c =
           c.deref.result.now,
           found.1,
           (c.status_of-status.result, (c.in_ok-head.head, found.2, (solved, proof, c.status_of-status.ensures))),
-          c.in_err-write_all.ensures.front,
+          c.in_err-write_all.ensures.part,
         ),
       ),
       search rules,

@@ -2,7 +2,7 @@ use Rattle.std.proofs.Common.{◌≡◌, ℕ, ◌<◌, [], ◌∷◌, ◌++◌, 
 use Rattle.std.proofs.lemmas.List.Elements.{All-tail, Contains-get_or}
 use Rattle.crp_plan.specs.Bay.{IsAt}
 use Rattle.crp_plan.proofs.Steps.{short_path}
-use Rattle.crp_bay.specs.Back.{Standing}
+use Rattle.crp_bay.specs.Back.{PlaceAndTrail}
 use Rattle.crp_bay.proofs.Walked.{target_goes_on}
 use Rattle.crp_bay.specs.Positions.{targets, child}
 use Rattle.crp_tree.specs.Trees.{IsInPlace}
@@ -15,12 +15,12 @@ use Rattle.crp_gather.proofs.settling.+settling.Goals as goal
 
 pub settle_below-bounds-rows-i : goal.settle_below-bounds-rows-i
 settle_below-bounds-rows-i t c =
-    let rows : c.as_slice-rows.result.now ≡ targets c.args.place.now.place = c.as_slice-rows.ensures.value ∙ c.targets-targets.ensures.value ∙ ap (λ (v : Standing). targets v.place) c.position.ensures in
+    let rows : c.as_slice-rows.result.now ≡ targets c.args.place.now.place = c.as_slice-rows.ensures.value ∙ c.targets-targets.ensures.value ∙ ap (λ (v : PlaceAndTrail). targets v.place) c.position.ensures in
     rw rows (omega (arith, fit_lengths c.args.place.now.place (targets c.args.place.now.place) c.args.trees.now c.requires.fit))
 
 pub settle_below-push-requires : goal.settle_below-push-requires
 settle_below-push-requires t c =
-    let rows : c.as_slice-rows.result.now ≡ targets c.args.place.now.place = c.as_slice-rows.ensures.value ∙ c.targets-targets.ensures.value ∙ ap (λ (v : Standing). targets v.place) c.position.ensures in
+    let rows : c.as_slice-rows.result.now ≡ targets c.args.place.now.place = c.as_slice-rows.ensures.value ∙ c.targets-targets.ensures.value ∙ ap (λ (v : PlaceAndTrail). targets v.place) c.position.ensures in
     let there : c.loop-i.i < length c.as_slice-rows.result.now = rw rows (omega (arith, fit_lengths c.args.place.now.place (targets c.args.place.now.place) c.args.trees.now c.requires.fit)) in
     let row : ℕ = get_or c.as_slice-rows.result.now c.loop-i.i 0 in
     let legal : Contains (targets c.args.place.now.place) row = subst (λ l. Contains l row) rows (Contains-get_or c.as_slice-rows.result.now c.loop-i.i 0 there) in
@@ -30,24 +30,24 @@ settle_below-push-requires t c =
 
 pub settle_below-settle_tree-requires : goal.settle_below-settle_tree-requires
 settle_below-settle_tree-requires t c =
-    let rows : c.as_slice-rows.result.now ≡ targets c.args.place.now.place = c.as_slice-rows.ensures.value ∙ c.targets-targets.ensures.value ∙ ap (λ (v : Standing). targets v.place) c.position.ensures in
+    let rows : c.as_slice-rows.result.now ≡ targets c.args.place.now.place = c.as_slice-rows.ensures.value ∙ c.targets-targets.ensures.value ∙ ap (λ (v : PlaceAndTrail). targets v.place) c.position.ensures in
     let there : c.loop-i.i < length c.as_slice-rows.result.now = rw rows (omega (arith, fit_lengths c.args.place.now.place (targets c.args.place.now.place) c.args.trees.now c.requires.fit)) in
     let row : ℕ = get_or c.as_slice-rows.result.now c.loop-i.i 0 in
     let legal : Contains (targets c.args.place.now.place) row = subst (λ l. Contains l row) rows (Contains-get_or c.as_slice-rows.result.now c.loop-i.i 0 there) in
     let leads : IsAt c.args.problem.now (c.args.path.now.items ++ row ∷ []) (child c.args.place.now.place row) = target_goes_on c.args.problem.now c.args.path.now.items c.args.place.now.place row c.cap-floor.ensures.problem c.requires.path legal in
     let few = short_path c.args.problem.now (c.args.path.now.items ++ row ∷ []) (child c.args.place.now.place row) c.cap-floor.ensures.problem leads in
     let placed : c.push-pushed.new.self ≡ record { place = child c.args.place.now.place row; trail = c.args.place.now.place ∷ c.args.place.now.trail } =
-    legal_push c.args.place.now row c.push-pushed.new.self c.push-pushed.result (subst (λ (v : Standing). Pushes v row c.push-pushed.new.self c.push-pushed.result) c.loop-i.invariant.place (record { target = c.push-pushed.ensures.target; pushed = c.push-pushed.ensures.pushed })) legal in
+    legal_push c.args.place.now row c.push-pushed.new.self c.push-pushed.result (subst (λ (v : PlaceAndTrail). Pushes v row c.push-pushed.new.self c.push-pushed.result) c.loop-i.invariant.place (record { target = c.push-pushed.ensures.target; pushed = c.push-pushed.ensures.pushed })) legal in
     let longer : c.push.new.self.items ≡ c.args.path.now.items ++ row ∷ [] = c.push.ensures.items ∙ ap (λ l. l ++ row ∷ []) c.loop-i.invariant.path in
     let m : Meets c.args.path.now.items c.push.new.self.items c.args.place.now.place c.push-pushed.new.self.place c.as_slice-rows.result.now c.args.trees.now c.loop-i.i row c.index-trees-i.result = record {
       in_rows = there;
       in_trees = c.loop-i-test.true;
       is_row = refl;
-      is_next = ap (λ (v : Standing). v.place) placed;
+      is_next = ap (λ (v : PlaceAndTrail). v.place) placed;
       is_here = longer;
       is_tree = c.index-trees-i.is;
     } in
-    let at : IsAt c.args.problem.now c.push.new.self.items c.push-pushed.new.self.place = subst (λ (v : Standing). IsAt c.args.problem.now c.push.new.self.items v.place) (sym placed) (subst (λ l. IsAt c.args.problem.now l (child c.args.place.now.place row)) (sym longer) leads) in
+    let at : IsAt c.args.problem.now c.push.new.self.items c.push-pushed.new.self.place = subst (λ (v : PlaceAndTrail). IsAt c.args.problem.now c.push.new.self.items v.place) (sym placed) (subst (λ l. IsAt c.args.problem.now l (child c.args.place.now.place row)) (sym longer) leads) in
     let fit = subst (λ l. AreFit c.args.place.now.place l c.args.trees.now) (sym rows) c.requires.fit in
     let in_place = subst (λ l. All IsInPlace (nodes_below c.args.path.now.items c.args.place.now.place l c.args.trees.now)) (sym rows)
     (All-tail IsInPlace (branch_node c.args.path.now.items c.args.place.now.place) (nodes_below c.args.path.now.items c.args.place.now.place (targets c.args.place.now.place) c.args.trees.now) c.requires.in_place) in
@@ -55,19 +55,19 @@ settle_below-settle_tree-requires t c =
 
 pub settle_below-loop-i-preserved : goal.settle_below-loop-i-preserved
 settle_below-loop-i-preserved t c =
-    let rows : c.as_slice-rows.result.now ≡ targets c.args.place.now.place = c.as_slice-rows.ensures.value ∙ c.targets-targets.ensures.value ∙ ap (λ (v : Standing). targets v.place) c.position.ensures in
+    let rows : c.as_slice-rows.result.now ≡ targets c.args.place.now.place = c.as_slice-rows.ensures.value ∙ c.targets-targets.ensures.value ∙ ap (λ (v : PlaceAndTrail). targets v.place) c.position.ensures in
     let there : c.loop-i.i < length c.as_slice-rows.result.now = rw rows (omega (arith, fit_lengths c.args.place.now.place (targets c.args.place.now.place) c.args.trees.now c.requires.fit)) in
     let row : ℕ = get_or c.as_slice-rows.result.now c.loop-i.i 0 in
     let legal : Contains (targets c.args.place.now.place) row = subst (λ l. Contains l row) rows (Contains-get_or c.as_slice-rows.result.now c.loop-i.i 0 there) in
     let leads : IsAt c.args.problem.now (c.args.path.now.items ++ row ∷ []) (child c.args.place.now.place row) = target_goes_on c.args.problem.now c.args.path.now.items c.args.place.now.place row c.cap-floor.ensures.problem c.requires.path legal in
     let placed : c.push-pushed.new.self ≡ record { place = child c.args.place.now.place row; trail = c.args.place.now.place ∷ c.args.place.now.trail } =
-    legal_push c.args.place.now row c.push-pushed.new.self c.push-pushed.result (subst (λ (v : Standing). Pushes v row c.push-pushed.new.self c.push-pushed.result) c.loop-i.invariant.place (record { target = c.push-pushed.ensures.target; pushed = c.push-pushed.ensures.pushed })) legal in
+    legal_push c.args.place.now row c.push-pushed.new.self c.push-pushed.result (subst (λ (v : PlaceAndTrail). Pushes v row c.push-pushed.new.self c.push-pushed.result) c.loop-i.invariant.place (record { target = c.push-pushed.ensures.target; pushed = c.push-pushed.ensures.pushed })) legal in
     let longer : c.push.new.self.items ≡ c.args.path.now.items ++ row ∷ [] = c.push.ensures.items ∙ ap (λ l. l ++ row ∷ []) c.loop-i.invariant.path in
     let m : Meets c.args.path.now.items c.push.new.self.items c.args.place.now.place c.push-pushed.new.self.place c.as_slice-rows.result.now c.args.trees.now c.loop-i.i row c.index-trees-i.result = record {
       in_rows = there;
       in_trees = c.loop-i-test.true;
       is_row = refl;
-      is_next = ap (λ (v : Standing). v.place) placed;
+      is_next = ap (λ (v : PlaceAndTrail). v.place) placed;
       is_here = longer;
       is_tree = c.index-trees-i.is;
     } in
@@ -81,7 +81,7 @@ settle_below-loop-i-preserved t c =
 
 pub settle_below-returns-clause-settled : goal.settle_below-returns-clause-settled
 settle_below-returns-clause-settled t c =
-    let rows : c.as_slice-rows.result.now ≡ targets c.args.place.now.place = c.as_slice-rows.ensures.value ∙ c.targets-targets.ensures.value ∙ ap (λ (v : Standing). targets v.place) c.position.ensures in
+    let rows : c.as_slice-rows.result.now ≡ targets c.args.place.now.place = c.as_slice-rows.ensures.value ∙ c.targets-targets.ensures.value ∙ ap (λ (v : PlaceAndTrail). targets v.place) c.position.ensures in
     all_settled c.args.problem.now c.args.plan.now.path c.args.path.now.items c.args.place.now.place c.as_slice-rows.result.now c.args.trees.now c.loop-i.i c.loop-i.settled c.loop-i.floor rows c.requires.fit c.loop-i-test.false c.requires.in_place c.requires.open c.loop-i.invariant.below
 
 pub settle_tree-settle_below-requires : goal.settle_tree-settle_below-requires

@@ -1,7 +1,9 @@
-use Rattle.std.proofs.Common.{◌≡◌, ◌∙◌, ℕ, ◌+◌, ◌-◌, ◌≤◌, ◌++◌, List, length, take, drop, sym, ap, ap₂, arith, subst, take-append-drop}
+use Rattle.std.proofs.Common.{◌≡◌, ◌∙◌, ℕ, ◌<◌, ◌+◌, ◌-◌, ◌≤◌, ◌++◌, List, length, take, drop, sym, ap, ap₂, arith, rules, length-drop, subst, take-append-drop}
 use Rattle.std.proofs.lemmas.List.{drop-take, drop-drop, take_rest, take-take}
+use Rattle.std.proofs.lemmas.Result.{err_from_is_err_and}
 use Rattle.std.specs.Io.KnownBytes.{Appends}
-use Rattle.std.proofs.KnownBytes.{Appends-trans}
+use Rattle.std.proofs.KnownBytes.{Appends-kept, Appends-trans}
+use Rattle.crp_plan.proofs.Interruptions.{passed_on}
 use Rattle.crp_plan.proofs.transfer.write_all.Goals as goal
 
 -- a front, and the front of what follows it
@@ -24,4 +26,13 @@ loop-rest-preserved g c =
       omega (arith, step.interrupted, step.passed),
       omega (arith, step.passed),
       omega (arith, step.passed),
+      passed_on _ _ _ _ _ _ (search rules) step.passed.0 inv.4 step.tried_again,
     )
+
+pub returns-in_err-n-clause-part : goal.returns-in_err-n-clause-part
+returns-in_err-n-clause-part g c =
+    let p = err_from_is_err_and c.from_residual.result c.from_residual.ensures.1 in
+    let inv = c.loop-rest.invariant in
+    let done = inv.0.0 in
+    let more : 0 < length c.loop-rest.rest.now = search rules in
+    rw (p.1) (done, omega (arith, more, ap length inv.0.1, length-drop done c.args.text.now), Appends-kept _ _ _ _ inv.0.2 c.in_err-n.ensures.err)

@@ -1,8 +1,9 @@
 use Rattle.std.proofs.Common.{◌≡◌, ◌∙◌, ◌<◌, ◌+◌, ℕ, List, ◌∷◌, ◌++◌, Vec, Global, length, take, drop, get_or, sym, ap, rules, subst, take-append-drop, drop-cons, add-one}
 use Rattle.std.specs.Prelude.{flat_map}
 use Rattle.std.proofs.lemmas.Grind.{flat_map-append}
-use Rattle.crp_plan.specs.Devices.{AppendsFront}
-use Rattle.crp_plan.proofs.Fronts.{Appends-front, Appends-then_front}
+use Rattle.std.proofs.lemmas.Result.{err_from_is_err_and}
+use Rattle.crp_plan.specs.Devices.{AppendsFront, AppendsPart}
+use Rattle.crp_plan.proofs.Fronts.{Appends-front, Appends-then_front, Appends-then_part}
 use Rattle.crp_plan.proofs.transfer.write_each.Goals as goal
 
 -- a text of a list stands after those before it, and before those after it
@@ -27,3 +28,13 @@ returns-clause-front g c =
     let all : flat_map (λ (t : Vec ℕ Global). t.items) (take c.loop-text.text-index texts) ++ flat_map (λ (t : Vec ℕ Global). t.items) (drop c.loop-text.text-index texts) ≡ flat_map (λ (t : Vec ℕ Global). t.items) texts =
     sym (flat_map-append _ (take c.loop-text.text-index texts) (drop c.loop-text.text-index texts)) ∙ ap (flat_map (λ (t : Vec ℕ Global). t.items)) (take-append-drop c.loop-text.text-index texts) in
     subst (AppendsFront _ _) all (Appends-front _ _ _ (flat_map (λ (t : Vec ℕ Global). t.items) (drop c.loop-text.text-index texts)) c.loop-text.invariant.0)
+
+pub returns-in_err-write_all-clause-part : goal.returns-in_err-write_all-clause-part
+returns-in_err-write_all-clause-part g c =
+    let p = err_from_is_err_and c.from_residual.result c.from_residual.ensures.1 in
+    let i = c.loop-text.text-index in
+    let texts = c.args.texts.now in
+    let small : i < length texts = search rules in
+    let whole = texts_split (λ (t : Vec ℕ Global). t.items) texts i c.text-item.result small c.text-item.is in
+    let part = rw c.deref.ensures.value at c.in_err-write_all.ensures.part in
+    rw (p.1) (subst (AppendsPart _ _) whole (Appends-then_part _ _ _ _ _ (flat_map (λ (t : Vec ℕ Global). t.items) (drop (i + 1) texts)) c.loop-text.invariant.0 part))

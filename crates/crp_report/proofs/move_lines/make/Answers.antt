@@ -1,7 +1,7 @@
 use Rattle.crp_plan.specs.declared.moves.Move.{Move}
 use Rattle.crp_plan.specs.Bay.{Legal, IsTaken, IsShifted}
 use Rattle.std.proofs.Common.{subst, sym}
-use Rattle.crp_report.proofs.Told.{take_made, shift_made}
+use Rattle.crp_report.proofs.LinesSoFar.{take_made, shift_made}
 use Rattle.crp_report.proofs.move_lines.make.Goals as goal
 
 pub returns-in-Shift : goal.returns-in-Shift

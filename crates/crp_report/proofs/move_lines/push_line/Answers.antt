@@ -2,7 +2,7 @@ use Rattle.crp_plan.specs.declared.moves.Move.{Move}
 use Rattle.crp_plan.specs.Bay.{Legal, IsTaken, IsShifted}
 use Rattle.crp_plan.proofs.Steps.{same_rows}
 use Rattle.std.proofs.Common.{◌++◌, ◌∷◌, [], subst}
-use Rattle.crp_report.proofs.Told.{row_there}
+use Rattle.crp_report.proofs.LinesSoFar.{row_there}
 use Rattle.crp_report.proofs.move_lines.push_line.Goals as goal
 
 pub stack-stack-requires-clause-there : goal.stack-stack-requires-clause-there

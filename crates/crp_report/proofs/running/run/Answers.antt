@@ -1,6 +1,6 @@
 use Rattle.std.proofs.Common.{rules, arith}
 use Rattle.std.proofs.lemmas.Result.{err_from_is_err_and}
-use Rattle.crp_report.proofs.Runs.{made, is_made, pieces_made, list_refused, message_refused, write_refused}
+use Rattle.crp_report.proofs.Runs.{made, is_made, pieces_made, texts_made, list_refused, message_refused, write_refused}
 use Rattle.crp_report.proofs.running.run.Goals as goal
 
 pub returns-in_err-listed : goal.returns-in_err-listed
@@ -31,32 +31,33 @@ returns-in_err-write_texts g c =
     let p = err_from_is_err_and c.from_residual-in_err-write_texts.result c.from_residual-in_err-write_texts.ensures.1 in
     let (list, given_list, listed) = c.in_ok-listed.ensures.accepted in
     let (message, given_message, ordered) = c.in_ok-orders.ensures.accepted in
-    let told = c.in_err-write_texts.ensures in
-    let grown = told.counts in
+    let stated = c.in_err-write_texts.ensures in
+    let grown = stated.counts in
     let texts = c.in_ok-texts.texts in
     let are = c.in_ok-texts.ensures in
     rw (p.1, p.2) (
       write_refused c.args.settings.now _ c.in_err-write_texts.field-0.0 (made c.args.settings.now list message c.in_ok-listed.listed c.in_ok-orders.orders texts are)
           _ (is_made c.args.settings.now _ list message c.in_ok-listed.listed c.in_ok-orders.orders texts are given_list (rw c.heights.ensures.value at listed)
-          given_message (rw c.code.ensures at ordered)) told.report_front told.certificates_front told.yard_after_front
-          (pieces_made c.args.settings.now c.in_ok-listed.listed c.in_ok-orders.orders texts are) told.stopped told.refused,
-      omega (arith, c.in_ok-listed.ensures.counted, c.in_ok-orders.ensures.counted, c.in_ok-orders.ensures.count, told.counted, grown.0, grown.1, grown.2, told.passed),
+          given_message (rw c.code.ensures at ordered))
+          (pieces_made c.args.settings.now c.in_ok-listed.listed c.in_ok-orders.orders texts are)
+          (texts_made c.args.settings.now list message c.in_ok-listed.listed c.in_ok-orders.orders texts are) stated.stopped stated.refused,
+      omega (arith, c.in_ok-listed.ensures.counted, c.in_ok-orders.ensures.counted, c.in_ok-orders.ensures.count, stated.counted, grown.0, grown.1, grown.2, stated.passed),
     )
 
 pub returns : goal.returns
 returns g c =
     let (list, given_list, listed) = c.in_ok-listed.ensures.accepted in
     let (message, given_message, ordered) = c.in_ok-orders.ensures.accepted in
-    let told = c.in_ok-write_texts.ensures in
-    let grown = told.counts in (
+    let stated = c.in_ok-write_texts.ensures in
+    let grown = stated.counts in (
       (
         made c.args.settings.now list message c.in_ok-listed.listed c.in_ok-orders.orders c.in_ok-texts.texts c.in_ok-texts.ensures,
         is_made c.args.settings.now _ list message c.in_ok-listed.listed c.in_ok-orders.orders c.in_ok-texts.texts c.in_ok-texts.ensures given_list
             (rw c.heights.ensures.value at listed) given_message (rw c.code.ensures at ordered),
         c.in_ok-texts.ensures.status,
-        told.report,
-        told.certificates,
-        told.yard_after,
+        stated.report,
+        stated.certificates,
+        stated.yard_after,
       ),
-      omega (arith, c.in_ok-listed.ensures.counted, c.in_ok-orders.ensures.counted, c.in_ok-orders.ensures.count, told.counted, grown.0, grown.1, grown.2, told.passed),
+      omega (arith, c.in_ok-listed.ensures.counted, c.in_ok-orders.ensures.counted, c.in_ok-orders.ensures.count, stated.counted, grown.0, grown.1, grown.2, stated.passed),
     )

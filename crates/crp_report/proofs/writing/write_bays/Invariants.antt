@@ -2,7 +2,7 @@
 use Rattle.std.proofs.Common.{◌≤◌, ◌+◌, take}
 use Rattle.std.specs.Io.KnownBytes.{Appends}
 use Rattle.crp_plan.specs.Devices.{most_interruptions}
-use Rattle.crp_report.specs.Telling.{AreFailuresCounted}
+use Rattle.crp_report.specs.BayTexts.{AreFailuresCounted}
 use Rattle.crp_report.specs.Writing.{reports_of, certificates_of}
 use Rattle.crp_report.proofs.writing.write_bays.Given as goal
 

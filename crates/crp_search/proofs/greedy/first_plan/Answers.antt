@@ -1,6 +1,6 @@
 use Rattle.std.proofs.Common.{◌≡◌, ℕ, List, [], ◌∷◌, ◌++◌, length, sym, ap, ◌∙◌, subst, arith, length-append, lit<}
 use Rattle.crp_plan.specs.Bay.{IsAt, IsFinished}
-use Rattle.crp_plan.specs.Plans.{Route}
+use Rattle.crp_plan.specs.Plans.{ProblemPath}
 use Rattle.crp_plan.proofs.Steps.{short_path}
 use Rattle.crp_search.specs.Greedy.{IsGreedyPath}
 use Rattle.crp_search.proofs.Greedily.{IsGreedyFront, unfinished, front_begins, front_grows, front_ends, front_stops}
@@ -40,5 +40,5 @@ pub returns-clause-greedy : goal.returns-clause-greedy
 returns-clause-greedy c =
     let end : IsFinished c.loop-position.position.place = c.is_done.ensures.done.0 c.loop-position-test.false in
     let greedy : IsGreedyPath c.args.problem.now c.loop-position.path.items = front_ends c.args.problem.now c.loop-position.path.items c.loop-position.position.place c.loop-position.invariant end in
-    let path : c.in-Ok.plan.path ≡ c.loop-position.path.items = ap (λ (r : Route). r.path) c.in-Ok.ensures.value ∙ c.as_slice.ensures.value in
+    let path : c.in-Ok.plan.path ≡ c.loop-position.path.items = ap (λ (r : ProblemPath). r.path) c.in-Ok.ensures.value ∙ c.as_slice.ensures.value in
     subst (IsGreedyPath c.args.problem.now) (sym path) greedy

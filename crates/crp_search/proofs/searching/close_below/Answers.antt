@@ -1,7 +1,7 @@
 use Rattle.std.proofs.Common.{arith, ap, sym, subst}
 use Rattle.crp_plan.specs.declared.running.View.{View}
 use Rattle.crp_plan.specs.Bay.{IsFinished}
-use Rattle.crp_bay.specs.Back.{Standing}
+use Rattle.crp_bay.specs.Back.{PlaceAndTrail}
 use Rattle.crp_plan.proofs.Steps.{short_path}
 use Rattle.crp_search.proofs.Greedily.{unfinished}
 use Rattle.crp_search.proofs.Steps.{claim_grants}
@@ -11,7 +11,7 @@ pub returns-then-claim-clause-granted : goal.returns-then-claim-clause-granted
 returns-then-claim-clause-granted g c =
     let claimed = claim_grants _ _ _ _ c.if-claim.true c.claim.ensures.step in
     record {
-      unfinished = unfinished c.args.problem.now c.args.path.now c.args.place.now.place c.cap-most.ensures.problem c.requires.path (λ end. let yes = c.is_done.ensures.done.1 (subst (λ (v : Standing). IsFinished v.place) (sym c.position.ensures) end) in let test = c.if-is_done.false in cc);
+      unfinished = unfinished c.args.problem.now c.args.path.now c.args.place.now.place c.cap-most.ensures.problem c.requires.path (λ end. let yes = c.is_done.ensures.done.1 (subst (λ (v : PlaceAndTrail). IsFinished v.place) (sym c.position.ensures) end) in let test = c.if-is_done.false in cc);
       below = let a = c.requires.seen.1 in let b = c.if-from-seen.false in let e = c.from.ensures in let h = c.look_ahead.ensures.value in omega arith;
       one_more = ap (λ (v : View). v.granted) claimed;
     }

@@ -4,7 +4,7 @@ use Rattle.std.proofs.lemmas.List.{nil_from_length}
 use Rattle.crp_plan.specs.Bay.{IsAt}
 use Rattle.crp_plan.proofs.Steps.{short_path}
 use Rattle.crp_bay.specs.Positions.{targets, child}
-use Rattle.crp_bay.specs.Back.{Standing}
+use Rattle.crp_bay.specs.Back.{PlaceAndTrail}
 use Rattle.crp_tree.specs.declared.tree.Tree.{Branch}
 use Rattle.crp_search.specs.declared.frames.Found.{Found}
 use Rattle.crp_search.specs.declared.frames.Frame.{Frame}
@@ -100,7 +100,7 @@ loop-row-smaller-in_default-search_child g c =
 pub loop-row-preserved-in_default-search_child : goal.loop-row-preserved-in_default-search_child
 loop-row-preserved-in_default-search_child g c =
     let rev : reverse c.push-in_default-search_child.new.self.items ≡ c.loop-row.frame ∷ reverse c.loop-row.above.items = ap reverse (c.in_ok-push.ensures.items ∙ ap (λ (f : Frame). c.loop-row.above.items ++ f ∷ []) c.replace-in_default-search_child.ensures.value) ∙ reverse_push c.loop-row.above.items c.loop-row.frame in
-    let position : c.position-in_default-search_child.result.now.place ≡ c.search_child.new.place.place = ap (λ (v : Standing). v.place) c.position-in_default-search_child.ensures in
+    let position : c.position-in_default-search_child.result.now.place ≡ c.search_child.new.place.place = ap (λ (v : PlaceAndTrail). v.place) c.position-in_default-search_child.ensures in
     let fresh : IsFresh c.args.problem.now c.search_child.new.place.place c.replace-in_default-search_child.new.dest = subst (IsFresh c.args.problem.now c.search_child.new.place.place) (sym c.replace-in_default-search_child.ensures.after)
     (record { rows = c.in_ok-below.ensures.rows ∙ ap targets position; trees = c.in_ok-below.ensures.trees; floor_is = c.in_ok-below.ensures.floor }) in
     record {

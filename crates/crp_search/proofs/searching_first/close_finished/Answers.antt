@@ -1,6 +1,6 @@
 use Rattle.std.proofs.Common.{◌+◌, ◌<◌, min, length, Some, sym, ap, ◌∙◌, subst, arith}
 use Rattle.crp_plan.specs.Bay.{IsFinished}
-use Rattle.crp_bay.specs.Back.{Standing}
+use Rattle.crp_bay.specs.Back.{PlaceAndTrail}
 use Rattle.crp_bounds.specs.Bounds.{blocking}
 use Rattle.crp_plan.proofs.Steps.{short_path}
 use Rattle.crp_search.specs.declared.frames.Found.{Found}
@@ -14,7 +14,7 @@ returns-then-is_done-clause-found c = λ split v puts.
     plan_met c.args.problem.now c.args.count split c.args.path.now c.args.place.now.place v c.args.plan.now (Some c.in-Ok.met) puts c.cut.result.tree c.cut.result.floor
     (ap (λ (f : Found). f.tree) c.cut.ensures)
     (ap (λ (f : Found). f.floor) c.cut.ensures ∙ ap (λ n. min n c.cap-most.result) c.requires.low ∙ ap (λ n. min (length c.args.path.now + blocking c.args.place.now.place) n) c.cap-most.ensures.value)
-    (ap (λ r. Some r) c.in-Ok.ensures.value) c.requires.path (subst (λ (w : Standing). IsFinished w.place) c.position.ensures (c.is_done.ensures.done.0 c.if-is_done.true)) c.requires.least
+    (ap (λ r. Some r) c.in-Ok.ensures.value) c.requires.path (subst (λ (w : PlaceAndTrail). IsFinished w.place) c.position.ensures (c.is_done.ensures.done.0 c.if-is_done.true)) c.requires.least
     (subst (λ n. n < need c.args.count c.args.plan.now) c.requires.low c.requires.short)
 
 pub overflow_add-high : goal.overflow_add-high
@@ -22,6 +22,6 @@ overflow_add-high c = let few = short_path c.args.problem.now c.args.path.now c.
 
 pub returns-clause-open : goal.returns-clause-open
 returns-clause-open c = record {
-  unfinished = unfinished c.args.problem.now c.args.path.now c.args.place.now.place c.cap-most.ensures.problem c.requires.path (λ end. let yes = c.is_done.ensures.done.1 (subst (λ (v : Standing). IsFinished v.place) (sym c.position.ensures) end) in let test = c.if-is_done.false in cc);
+  unfinished = unfinished c.args.problem.now c.args.path.now c.args.place.now.place c.cap-most.ensures.problem c.requires.path (λ end. let yes = c.is_done.ensures.done.1 (subst (λ (v : PlaceAndTrail). IsFinished v.place) (sym c.position.ensures) end) in let test = c.if-is_done.false in cc);
   below = let b = c.if-from-enough.false in let e = c.from.ensures in let n = c.enough.ensures in let h = c.look_ahead.ensures.value in omega arith;
 }

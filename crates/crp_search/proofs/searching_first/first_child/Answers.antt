@@ -1,7 +1,7 @@
 use Rattle.std.proofs.Common.{◌≡◌, ◌∷◌, sym, subst, arith}
 use Rattle.crp_plan.proofs.Steps.{short_path}
 use Rattle.crp_bay.proofs.Reaching.{can_from_target}
-use Rattle.crp_bay.specs.Back.{Standing}
+use Rattle.crp_bay.specs.Back.{PlaceAndTrail}
 use Rattle.crp_bay.specs.Reached.{IsReached}
 use Rattle.crp_bay.specs.Positions.{child}
 use Rattle.crp_bounds.proofs.Leasts.{few_blocked}
@@ -25,7 +25,7 @@ returns-clause-found g c =
     let given = c.give.ensures in
     let placed : c.push-pushed.new.self ≡ record { place = child c.args.place.now.place c.args.row; trail = c.args.place.now.place ∷ c.args.place.now.trail } = legal_push c.args.place.now c.args.row c.push-pushed.new.self c.push-pushed.result (record { target = c.push-pushed.ensures.target; pushed = c.push-pushed.ensures.pushed }) c.requires.row in
     let found = c.in-Some.ensures.found c.args.aim.split (g.L.Limit.view c.args.limit.now) (g.L.Limit.puts c.args.limit.now) in
-    let here = subst (λ (w : Standing). IsFirstFound c.args.problem.now c.args.aim.count c.args.aim.split c.args.path.now w.place (g.L.Limit.view c.args.limit.now) (g.L.Limit.view c.args.limit.now) c.args.plan.now c.close_finished.new.plan (g.L.Limit.puts c.args.limit.now) (g.L.Limit.puts c.args.limit.now) c.in-Some.found.tree c.in-Some.found.floor) placed found in
+    let here = subst (λ (w : PlaceAndTrail). IsFirstFound c.args.problem.now c.args.aim.count c.args.aim.split c.args.path.now w.place (g.L.Limit.view c.args.limit.now) (g.L.Limit.view c.args.limit.now) c.args.plan.now c.close_finished.new.plan (g.L.Limit.puts c.args.limit.now) (g.L.Limit.puts c.args.limit.now) c.in-Some.found.tree c.in-Some.found.floor) placed found in
     let seen = subst (λ v. IsFirstFound c.args.problem.now c.args.aim.count c.args.aim.split c.args.path.now (child c.args.place.now.place c.args.row) (g.L.Limit.view c.args.limit.now) v c.args.plan.now c.close_finished.new.plan (g.L.Limit.puts c.args.limit.now) (g.L.Limit.puts c.args.limit.now) c.in-Some.found.tree c.in-Some.found.floor) (sym given.same.2) here in
     subst (λ q. IsFirstFound c.args.problem.now c.args.aim.count c.args.aim.split c.args.path.now (child c.args.place.now.place c.args.row) (g.L.Limit.view c.args.limit.now) (g.L.Limit.view c.give.new.limit) c.args.plan.now c.close_finished.new.plan (g.L.Limit.puts c.args.limit.now) q c.in-Some.found.tree c.in-Some.found.floor)
     (sym (given.kept c.if-give.false)) seen

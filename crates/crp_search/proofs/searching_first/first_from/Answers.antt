@@ -4,7 +4,7 @@ use Rattle.std.proofs.lemmas.List.{nil_from_length}
 use Rattle.crp_plan.specs.Bay.{IsAt}
 use Rattle.crp_plan.proofs.Steps.{short_path}
 use Rattle.crp_bay.specs.Positions.{targets, child}
-use Rattle.crp_bay.specs.Back.{Standing}
+use Rattle.crp_bay.specs.Back.{PlaceAndTrail}
 use Rattle.crp_tree.specs.declared.tree.Tree.{Branch}
 use Rattle.crp_tree.proofs.Followed.{pop_back, back_again}
 use Rattle.crp_search.specs.declared.frames.Found.{Found}
@@ -98,7 +98,7 @@ loop-row-smaller-in_default-2 g c =
 pub loop-row-preserved-in_default-2 : goal.loop-row-preserved-in_default-2
 loop-row-preserved-in_default-2 g c =
     let rev : reverse c.push-in_default-2.new.self.items ≡ c.loop-row.frame ∷ reverse c.loop-row.above.items = ap reverse (c.in_ok-push.ensures.items ∙ ap (λ (f : Frame). c.loop-row.above.items ++ f ∷ []) c.replace-in_default-2.ensures.value) ∙ reverse_push c.loop-row.above.items c.loop-row.frame in
-    let position : c.position-in_default-2.result.now.place ≡ c.first_child.new.place.place = ap (λ (v : Standing). v.place) c.position-in_default-2.ensures in
+    let position : c.position-in_default-2.result.now.place ≡ c.first_child.new.place.place = ap (λ (v : PlaceAndTrail). v.place) c.position-in_default-2.ensures in
     let fresh : IsFresh c.args.problem.now c.first_child.new.place.place c.replace-in_default-2.new.dest = subst (IsFresh c.args.problem.now c.first_child.new.place.place) (sym c.replace-in_default-2.ensures.after)
     (record { rows = c.in_ok-below.ensures.rows ∙ ap targets position; trees = c.in_ok-below.ensures.trees; floor_is = c.in_ok-below.ensures.floor }) in
     let child_ends = c.in_ok-found.ensures in

@@ -2,7 +2,7 @@ use Rattle.std.proofs.Common.{◌≤◌, refl, sym, ◌∙◌, ap, subst, IfOk, 
 use Rattle.crp_solve.specs.Answers.{path_in}
 use Rattle.crp_solve.specs.Desks.{count_or}
 use Rattle.crp_solve.specs.Rests.{IsFoundTogether}
-use Rattle.crp_solve.proofs.Told.{same_answer}
+use Rattle.crp_solve.proofs.TrueAnswers.{same_answer}
 use Rattle.crp_solve.proofs.solver.answer_to_all.Goals as goal
 
 pub returns-in-Ok-clause-true_answer : goal.returns-in-Ok-clause-true_answer
@@ -10,8 +10,8 @@ returns-in-Ok-clause-true_answer c budget first begun shown found within =
     let p = c.args.problem.now in let r = c.in-Ok.field-0 in
     let f : IsFoundTogether p budget first r.cert r.best r.expanded = subst (λ o. IfOk o (λ r. IsFoundTogether p budget first r.cert r.best r.expanded)) c.in-Ok.is found in
     let out = c.without_second.ensures in
-    same_answer p budget budget c.told-answer.result c.without_second.result.answer f.view.granted c.without_second.result.expanded refl (sym out.answer) (sym f.granted ∙ sym out.expanded)
-    (c.told-answer.ensures.true_answer budget first f.view
+    same_answer p budget budget c.answer_of_ended-answer.result c.without_second.result.answer f.view.granted c.without_second.result.expanded refl (sym out.answer) (sym f.granted ∙ sym out.expanded)
+    (c.answer_of_ended-answer.ensures.true_answer budget first f.view
     (f.whole c.first_of.result (c.first_of.ensures.plan p f.best_is begun.plan_is) (c.first_of.ensures.count p ∙ ap (λ n. count_or n (path_in r.best)) (sym begun.count))))
 
 pub returns-in_ok-answer-in-Err-clause-true_answer : goal.returns-in_ok-answer-in-Err-clause-true_answer

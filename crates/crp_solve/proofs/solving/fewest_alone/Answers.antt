@@ -1,7 +1,7 @@
 use Rattle.std.proofs.Common.{◌≡◌, sym, ◌∙◌, subst, IfOk}
 use Rattle.crp_solve.specs.Workers.{LoneWorker, best_count}
-use Rattle.crp_solve.specs.Searches.{IsTold, IsWhole}
-use Rattle.crp_solve.proofs.Told.{same_answer}
+use Rattle.crp_solve.specs.Searches.{IsBestMet, IsEndedSearch}
+use Rattle.crp_solve.proofs.TrueAnswers.{same_answer}
 use Rattle.crp_solve.proofs.solving.fewest_alone.Goals as goal
 
 pub returns-clause-true_answer : goal.returns-clause-true_answer
@@ -11,5 +11,5 @@ returns-clause-true_answer c =
     let answer = c.in_ok-answer.answer in let known = c.granted-expanded.ensures.known in let out = c.without_second.ensures in
     same_answer p new.budget c.args.settings.budget answer c.without_second.result.answer new.view.granted c.without_second.result.expanded budget (sym out.answer) (sym c.granted-expanded.ensures.value ∙ sym out.expanded)
     (c.in_ok-answer.ensures.true_answer new.budget (best_count old) new.view
-    (subst (λ plan. IfOk c.search_all-found.result (λ cert. IsWhole p new.budget (best_count old) new.view cert plan)) (sym c.into_best-best.ensures.value) c.search_all-found.ensures.whole)
-    (subst (IsTold p (best_count old)) (sym c.into_best-best.ensures.value) c.search_all-found.ensures.told) known.within)
+    (subst (λ plan. IfOk c.search_all-found.result (λ cert. IsEndedSearch p new.budget (best_count old) new.view cert plan)) (sym c.into_best-best.ensures.value) c.search_all-found.ensures.whole)
+    (subst (IsBestMet p (best_count old)) (sym c.into_best-best.ensures.value) c.search_all-found.ensures.best_met) known.within)

@@ -1,7 +1,7 @@
 use Rattle.std.proofs.Common.{ℕ, arith, [], ◌∷◌, ◌≢◌, inl, take, Contains, length-append, append_assoc, ◌≡◌, ◌<◌, ◌≤◌, ◌++◌, length, All, subst, ap, sym, ◌∙◌, get_or, append-nil, add-one}
 use Rattle.std.proofs.lemmas.List.Elements.{Contains-get_or, All-tail}
 use Rattle.crp_bay.specs.Positions.{targets}
-use Rattle.crp_bay.specs.Back.{Standing}
+use Rattle.crp_bay.specs.Back.{PlaceAndTrail}
 use Rattle.crp_tree.proofs.Followed.{none_is_not_some}
 use Rattle.crp_tree.specs.Trees.{IsInPlace, nodes, given_names}
 use Rattle.crp_tree.specs.Listed.{nodes_below}
@@ -52,7 +52,7 @@ met t c =
       in_rows = omega (arith, fit_lengths c.args.place.now.place (targets c.args.place.now.place) c.args.trees.now c.requires.fit);
       in_trees = c.loop-i-test.true;
       is_row = ap (λ l. get_or l c.loop-i.i 0) (c.as_slice-rows.ensures.value ∙ c.targets-targets.ensures.value);
-      is_next = ap (λ (v : Standing). v.place) c.in-Some-child.ensures.value;
+      is_next = ap (λ (v : PlaceAndTrail). v.place) c.in-Some-child.ensures.value;
       is_here = c.in-Some.ensures.value;
       is_tree = c.index-trees-i.is;
     }

@@ -8,7 +8,7 @@ use Rattle.clap.specs.declared.parser.matches.ArgMatches.{ArgMatches}
 use Rattle.clap.specs.declared.parser.matches.ArgMatches.TheViews.{out-ArgMatches, out-SubCommand}
 use Rattle.clap.specs.Matches.{subcommand_name_of}
 use Rattle.std.specs.Prelude.{box_value}
-use Rattle.crp_words.proofs.Asking.{asked_within, crp_free, crp_simple, not_asked, pair_of, refused}
+use Rattle.crp_words.proofs.Asking.{crp_free, crp_simple, not_asked, pair_of, refused}
 use Rattle.crp_words.proofs.words.job.Goals as goal
 
 -- the command and its rows, as the matches name them
@@ -29,11 +29,6 @@ returns-in-Some-clause-asked c =
     matched.1 ∙ ap₂ subcommand_of c.in-Ok.ensures c.or_default-words.ensures in
     let at : subcommand_rows_of m ≡ Some (c.in-Some.name.now, rows) = entered m c.in-Some.name.now rows c.in-Some.ensures.name c.in-Some.ensures.rows in
     IfOk-weaker c.job_of.result _ _ (λ j h. (fault, subst (λ (o : Option (Text × List Row)). AsksFor o j) (sym at ∙ sub) h)) c.job_of.ensures.ok
-
-pub returns-in-Some-clause-within : goal.returns-in-Some-clause-within
-returns-in-Some-clause-within c =
-    let rows = rows_of (found_of c.in-Some.inner.now) in
-    IfOk-weaker c.job_of.result _ _ (λ j h. asked_within c.in-Some.name.now rows j h) c.job_of.ensures.ok
 
 pub returns-in-Some-clause-refused : goal.returns-in-Some-clause-refused
 returns-in-Some-clause-refused c =

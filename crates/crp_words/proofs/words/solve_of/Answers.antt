@@ -21,9 +21,11 @@ pub returns-clause-ok : goal.returns-clause-ok
 returns-clause-ok c = (
   refl,
   (λ twice. false≢true (sym c.if-is_sized_twice.false ∙ c.is_sized_twice.ensures.1 twice)),
-  c.in_ok-yard.ensures.ok,
-  c.in_ok-movins.ensures.ok,
-  sym (first_value-rows (found_of c.args.matches.now) (codes "cert")) ∙ sym c.get_str.ensures,
-  sym (first_value-rows (found_of c.args.matches.now) (codes "after")) ∙ sym c.get_str-2.ensures,
+  (
+    c.in_ok-yard.ensures.ok,
+    c.in_ok-movins.ensures.ok,
+    sym (first_value-rows (found_of c.args.matches.now) (codes "cert")) ∙ sym c.get_str.ensures,
+    sym (first_value-rows (found_of c.args.matches.now) (codes "after")) ∙ sym c.get_str-2.ensures,
+  ),
   c.in_ok-settings.ensures.ok,
 )

@@ -10,6 +10,9 @@ use Rattle.crp_yard.specs.Reading.{IsYardListOf}
 use Rattle.crp_yard.proofs.RecordSteps.{floating-whole, ok_by_both}
 use Rattle.crp_yard.proofs.reading.yard_of_heights.Goals as goal
 
+pub yard_with-requires-clause-entries : goal.yard_with-requires-clause-entries
+yard_with-requires-clause-entries c = (records_of c.args.text.now, record { faultless = c.in_ok-listing.ensures.faultless; said = c.in_ok-listing.ensures.said })
+
 pub returns-clause-refused : goal.returns-clause-refused
 returns-clause-refused c =
     let short : length c.args.text.now ≤ max_bytes = omega arith in

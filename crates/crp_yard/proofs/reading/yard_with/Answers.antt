@@ -1,10 +1,19 @@
-use Rattle.std.proofs.Common.{◌∙◌, refl}
+use Rattle.std.proofs.Common.{◌≡◌, ◌∙◌, refl, sym, None, length}
+use Rattle.crp_yard.specs.Faults.{floating_before}
+use Rattle.crp_yard.proofs.ListingSteps.{named_by}
 use Rattle.crp_yard.proofs.YardSteps.{inventory_is_yard}
+use Rattle.crp_yard.proofs.InventoryPlaces.{names_of_entries}
 use Rattle.crp_yard.proofs.reading.yard_with.Goals as goal
 
-pub new-requires : goal.new-requires
-new-requires c =
-    rw (c.in_ok-bays.ensures) (inventory_is_yard c.args.heights.now c.args.listing.now c.requires.some_rows c.requires.few_rows c.requires.heights c.len-containers.ensures.once)
+pub with_names-requires-clause-yard : goal.with_names-requires-clause-yard
+with_names-requires-clause-yard c =
+    rw (c.in_ok-bays.ensures) (inventory_is_yard c.args.heights.now c.args.listing c.requires.some_rows c.requires.few_rows c.requires.heights c.len-containers.ensures.once)
+
+pub with_names-requires-clause-names : goal.with_names-requires-clause-names
+with_names-requires-clause-names c =
+    let none : floating_before c.args.listing (length c.args.listing) ≡ None = sym c.in-None.ensures in
+    rw (c.in_ok-bays.ensures) (λ name. named_by c.into_names.result.keys c.args.listing name (sym c.into_names.ensures)
+    ∙ names_of_entries c.args.heights.now c.requires.entries.0 c.args.listing c.requires.entries.1 none name)
 
 pub returns-clause-given : goal.returns-clause-given
 returns-clause-given c = c.in_ok-yard.ensures ∙ rw (c.in_ok-bays.ensures) refl

@@ -1,4 +1,4 @@
-use Rattle.std.proofs.Common.{Bor, List, ℕ, ◌≡◌, ◌+◌, ◌∙◌, ◌++◌, ◌∷◌, [], Some, sym, refl, inl, inr, ⊎_elim, arith}
+use Rattle.std.proofs.Common.{Bor, List, ℕ, length, ap, ◌≡◌, ◌+◌, ◌∙◌, ◌++◌, ◌∷◌, [], Some, sym, refl, inl, inr, ⊎_elim, arith}
 use Rattle.std.proofs.lemmas.Result.{err_from_is_err_and}
 use Rattle.crp_yard.specs.declared.fault.YardFault.{YardFault}
 use Rattle.crp_yard.specs.Faults.{fault_behind}
@@ -8,7 +8,7 @@ use Rattle.csv.specs.declared.parser.State.TheVariants as st
 use Rattle.csv.proofs.ReadFacts.{rows-more}
 use Rattle.crp_yard.specs.Records.{records_of}
 use Rattle.crp_yard.proofs.CsvSteps.{records-next, records-ended}
-use Rattle.crp_yard.proofs.RecordSteps.{read-none, read-more, told-next, told-empty, read-all}
+use Rattle.crp_yard.proofs.RecordSteps.{read-none, read-more, told-next, told-empty, read-all, entries-few}
 use Rattle.crp_yard.proofs.records.listing_of.Goals as goal
 
 pub loop-row-init : goal.loop-row-init
@@ -74,3 +74,24 @@ returns-then-number-eq0-clause-refused c =
     let s = rw c.in-None.is at ((c.next.ensures.steps inv.2 inv.0).0 inv.1) in
     let whole = records-ended c.loop-row.row-iterator.rdr c.next.new.self.rdr (strip_bom c.args.text.now) inv.6 inv.8 inv.3 inv.7 inv.9 s in
     inr (told-empty c.args.heights.now inv.8 c.loop-row.listing c.loop-row.number (records_of c.args.text.now) inv.10 c.if-number-eq0.true whole)
+
+pub returns-in_default-clause-refused : goal.returns-in_default-clause-refused
+returns-in_default-clause-refused c = inl refl
+
+pub take-requires-clause-room : goal.take-requires-clause-room
+take-requires-clause-room c = c.loop-row.invariant.5
+
+pub take-requires-clause-rows : goal.take-requires-clause-rows
+take-requires-clause-rows c = c.requires.rows
+
+pub returns-in_err-take-clause-faultless : goal.returns-in_err-take-clause-faultless
+returns-in_err-take-clause-faultless c = let p = err_from_is_err_and c.from_residual.result c.from_residual.ensures.1 in rw p.1 tt
+
+pub returns-in_err-take-clause-said : goal.returns-in_err-take-clause-said
+returns-in_err-take-clause-said c = let p = err_from_is_err_and c.from_residual.result c.from_residual.ensures.1 in rw p.1 tt
+
+pub overflow_add-number : goal.overflow_add-number
+overflow_add-number c =
+    let inv = c.loop-row.invariant in
+    let few = entries-few inv.8 in
+    omega (arith, inv.5, ap length inv.10.said, inv.10.counted, few)

@@ -1,5 +1,5 @@
 use Rattle.std.proofs.Common.{ap, ◌∙◌}
-use Rattle.crp_bay.specs.Back.{Standing}
+use Rattle.crp_bay.specs.Back.{PlaceAndTrail}
 use Rattle.crp_bay.proofs.Reading.{push_legal, push_target, push_at}
 use Rattle.crp_bay.proofs.position.Position.child.Goals as goal
 
@@ -14,4 +14,4 @@ returns-clause-legal c = push_legal c.args.self.now.place c.copy-copy.result c.a
 
 pub returns-clause-at : goal.returns-clause-at
 returns-clause-at c =
-    push_at c.args.self.now.place c.copy-copy.result c.forget.new.self c.args.row c.copy-copy.ensures (ap (λ (v : Standing). v.place) c.forget.ensures ∙ ap (λ (v : Standing). v.place) c.if-not-push.ensures.pushed) (c.push.ensures.target.0 c.if-not-push.false)
+    push_at c.args.self.now.place c.copy-copy.result c.forget.new.self c.args.row c.copy-copy.ensures (ap (λ (v : PlaceAndTrail). v.place) c.forget.ensures ∙ ap (λ (v : PlaceAndTrail). v.place) c.if-not-push.ensures.pushed) (c.push.ensures.target.0 c.if-not-push.false)

@@ -1,7 +1,7 @@
 use Rattle.std.proofs.Common.{◌≡◌, ◌-◌, ◌≤◌, [], length, get_or, refl, sym, ap, ◌∙◌, subst, arith, lit<}
 use Rattle.crp_bay.specs.Positions.{top}
 use Rattle.crp_bay.proofs.Reaching.{reached_ordered}
-use Rattle.crp_bay.specs.Back.{Standing, place_of}
+use Rattle.crp_bay.specs.Back.{PlaceAndTrail, place_of}
 use Rattle.crp_bay.proofs.Reading.{short_trail}
 use Rattle.crp_bay.proofs.Pushing.{started, located_landed, ended_at, seen_after, to_there, to_room, push_room, told}
 use Rattle.crp_bay.proofs.position.Position.push.Goals as goal
@@ -76,7 +76,7 @@ returns-clause-pushed c =
     (seen_after c.self.inside.pushes.items c.push.new.self.items c.self.inside.row_of (place_of c.self.inside.heights.items c.self.inside.ordered c.self.inside.next c.self.inside.stacks.items) _ c.args.row c.lift-rank.result (record { from = get_or c.self.inside.row_of c.self.inside.next 0; to = c.args.row - 1; next = c.self.inside.next }) c.args.self.now c.self.invariant st0.steps er et refl c.push.ensures.items c.self.view_is).1
 
 pub returns-then-not-is_target-clause-few : goal.returns-then-not-is_target-clause-few
-returns-then-not-is_target-clause-few c = subst (λ (v : Standing). length v.trail ≤ 672) c.self.view_is (short_trail c.self.inside.pushes.items c.self.inside.row_of _ c.self.invariant)
+returns-then-not-is_target-clause-few c = subst (λ (v : PlaceAndTrail). length v.trail ≤ 672) c.self.view_is (short_trail c.self.inside.pushes.items c.self.inside.row_of _ c.self.invariant)
 
 pub returns-clause-few : goal.returns-clause-few
 returns-clause-few c = short_trail _ _ _ (invariant_of-self c)

@@ -4,7 +4,7 @@ use Rattle.crp_plan.specs.Rows.{occurrences}
 use Rattle.crp_plan.specs.Bay.{Problem, Position, IsAt, start}
 use Rattle.crp_bay.specs.Positions.{settled}
 use Rattle.crp_bay.specs.Back.{place_of}
-use Rattle.crp_bay.specs.Located.{IsLocated, IsKept, AreRowsOf}
+use Rattle.crp_bay.specs.Located.{IsLocated, IsKeptPosition, AreRowsOf}
 use Rattle.crp_bay.proofs.Begun.{few_ranks, located_start, kept_start}
 use Rattle.crp_bay.proofs.Pushing.{refill_whole}
 use Rattle.crp_bay.proofs.Walked.{begins_at}
@@ -40,8 +40,8 @@ invariant_of-result c =
     ap (place_of c.heights_of-heights.result.items c.ordered-ordered.result c.settle-next.result) (refill_whole c.stacks_of-stacks.result.items c.settle-next.new.stacks long)
     ∙ ap (λ x. place_of x c.ordered-ordered.result c.settle-next.result c.settle-next.new.stacks) (sym c.as_slice-2.ensures.value)
     ∙ c.settle-next.ensures ∙ ap settled same in
-    subst (λ us. IsKept us c.rows_of-row_of.result (place_of c.heights_of-heights.result.items c.ordered-ordered.result c.settle-next.result (refill (length c.stacks_of-stacks.result.items) c.stacks_of-stacks.result.items c.settle-next.new.stacks))) (sym c.new.ensures)
-    (subst (IsKept [] c.rows_of-row_of.result) (sym whole) (kept_start p c.rows_of-row_of.result c.ordered-ordered.ensures.problem located))
+    subst (λ us. IsKeptPosition us c.rows_of-row_of.result (place_of c.heights_of-heights.result.items c.ordered-ordered.result c.settle-next.result (refill (length c.stacks_of-stacks.result.items) c.stacks_of-stacks.result.items c.settle-next.new.stacks))) (sym c.new.ensures)
+    (subst (IsKeptPosition [] c.rows_of-row_of.result) (sym whole) (kept_start p c.rows_of-row_of.result c.ordered-ordered.ensures.problem located))
 
 pub returns-clause-at : goal.returns-clause-at
 returns-clause-at c =

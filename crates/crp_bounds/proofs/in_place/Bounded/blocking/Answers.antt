@@ -1,5 +1,5 @@
 use Rattle.std.proofs.Common.{reverse, ap, ◌∙◌, arith}
-use Rattle.crp_bay.specs.Back.{Standing}
+use Rattle.crp_bay.specs.Back.{PlaceAndTrail}
 use Rattle.crp_bounds.specs.Bounds.{blocking}
 use Rattle.crp_bounds.specs.Leasts.{KnowsBounds}
 use Rattle.crp_bounds.proofs.Leasts.{few_blocked}
@@ -9,7 +9,7 @@ use Rattle.crp_bounds.proofs.in_place.Bounded.blocking.Goals as goal
 pub returns-clause-value : goal.returns-clause-value
 returns-clause-value c =
     let k : KnowsBounds c.self.inside.leasts c.self.inside.blocking c.self.inside.position.place = known_now (reverse c.self.inside.undos.items) c.self.inside.position.trail c.self.inside.leasts c.self.inside.blocking c.self.inside.position.place c.self.invariant in
-    c.from.ensures ∙ k.blocks ∙ ap (λ (v : Standing). blocking v.place) c.self.view_is
+    c.from.ensures ∙ k.blocks ∙ ap (λ (v : PlaceAndTrail). blocking v.place) c.self.view_is
 
 pub returns-clause-few : goal.returns-clause-few
 returns-clause-few c =

@@ -1,6 +1,6 @@
 use Rattle.std.proofs.Common.{reverse, ◌∙◌, subst, ⊎_elim, arith}
 use Rattle.std.proofs.lemmas.Bool.{cases_lt}
-use Rattle.crp_bay.specs.Back.{Standing}
+use Rattle.crp_bay.specs.Back.{PlaceAndTrail}
 use Rattle.crp_bounds.specs.Leasts.{KnowsBounds}
 use Rattle.crp_bounds.proofs.Leasts.{blocking_goes}
 use Rattle.crp_bounds.proofs.Undone.{known_now, counted}
@@ -12,14 +12,14 @@ relocation-rank-requires c = c.requires
 pub blocking_with-requires : goal.blocking_with-requires
 blocking_with-requires c =
     let k : KnowsBounds c.self.inside.leasts c.self.inside.blocking c.self.inside.position.place = known_now (reverse c.self.inside.undos.items) c.self.inside.position.trail c.self.inside.leasts c.self.inside.blocking c.self.inside.position.place c.self.invariant in
-    let k' : KnowsBounds c.self.inside.leasts c.self.inside.blocking c.args.self.now.place = subst (λ (v : Standing). KnowsBounds c.self.inside.leasts c.self.inside.blocking v.place) c.self.view_is k in
+    let k' : KnowsBounds c.self.inside.leasts c.self.inside.blocking c.args.self.now.place = subst (λ (v : PlaceAndTrail). KnowsBounds c.self.inside.leasts c.self.inside.blocking v.place) c.self.view_is k in
     counted c.args.self.now.place c.args.row c.self.inside.leasts c.self.inside.blocking c.relocation-rank.result.rank c.relocation-rank.result.onto k' c.requires
     c.relocation-rank.ensures.rank c.relocation-rank.ensures.few c.relocation-rank.ensures.onto
 
 pub returns : goal.returns
 returns c =
     let k : KnowsBounds c.self.inside.leasts c.self.inside.blocking c.self.inside.position.place = known_now (reverse c.self.inside.undos.items) c.self.inside.position.trail c.self.inside.leasts c.self.inside.blocking c.self.inside.position.place c.self.invariant in
-    let k' : KnowsBounds c.self.inside.leasts c.self.inside.blocking c.args.self.now.place = subst (λ (v : Standing). KnowsBounds c.self.inside.leasts c.self.inside.blocking v.place) c.self.view_is k in
+    let k' : KnowsBounds c.self.inside.leasts c.self.inside.blocking c.args.self.now.place = subst (λ (v : PlaceAndTrail). KnowsBounds c.self.inside.leasts c.self.inside.blocking v.place) c.self.view_is k in
     let goes = blocking_goes c.args.self.now.place c.args.row k'.reached c.requires (omega (arith, c.relocation-rank.ensures.rank, c.relocation-rank.ensures.few)) in
     let rank = c.relocation-rank.ensures.rank in let onto = c.relocation-rank.ensures.onto in let b = k'.blocks in
     c.from.ensures ∙ ⊎_elim

@@ -1,7 +1,7 @@
 use Rattle.std.proofs.Common.{[], ◌-◌, suc, take, reverse, sym, ap, ◌∙◌}
 use Rattle.std.proofs.lemmas.Option.{get_or_from_slice_get}
 use Rattle.crp_bay.specs.Positions.{stack_at}
-use Rattle.crp_bay.specs.Back.{Standing}
+use Rattle.crp_bay.specs.Back.{PlaceAndTrail}
 use Rattle.crp_bounds.specs.Leasts.{least_ordered, KnowsBounds}
 use Rattle.crp_bounds.proofs.Undone.{known_now}
 use Rattle.crp_bounds.proofs.in_place.Bounded.relocation.Goals as goal
@@ -16,4 +16,4 @@ returns-clause-onto c =
     c.least_of.ensures
     ∙ ap (λ o. least_ordered o c.stack.result.now) c.ordered.ensures.value
     ∙ ap (least_ordered c.self.inside.position.place.ordered) (sym (get_or_from_slice_get c.self.inside.position.place.stacks (c.args.row - 1) c.stack.result.now [] c.stack.ensures.value))
-    ∙ ap (λ (v : Standing). least_ordered v.place.ordered (stack_at v.place (c.args.row - 1))) c.self.view_is
+    ∙ ap (λ (v : PlaceAndTrail). least_ordered v.place.ordered (stack_at v.place (c.args.row - 1))) c.self.view_is

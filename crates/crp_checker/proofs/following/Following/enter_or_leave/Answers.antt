@@ -1,6 +1,6 @@
 use Rattle.std.proofs.Common.{ap, ◌∙◌, [], ◌∷◌, ◌++◌}
 use Rattle.crp_bay.specs.Positions.{targets}
-use Rattle.crp_bay.specs.Back.{Standing}
+use Rattle.crp_bay.specs.Back.{PlaceAndTrail}
 use Rattle.crp_checker.specs.declared.level.Level.{Level}
 use Rattle.crp_checker.specs.Kept.{left}
 use Rattle.crp_checker.proofs.Onward.{opens}
@@ -9,5 +9,5 @@ use Rattle.crp_checker.proofs.following.Following.enter_or_leave.Goals as goal
 pub returns-in_ok-push-in-X-clause-owed : goal.returns-in_ok-push-in-X-clause-owed
 returns-in_ok-push-in-X-clause-owed c =
     rw c.in-X.is (opens c.args.self.now.path.items c.args.self.now.place c.args.self.now.level c.replace.new.dest c.args.self.now.above.items c.push.new.self.items
-    (ap left c.replace.ensures.after ∙ c.at-branch.ensures ∙ ap (λ (s : Standing). targets s.place) c.position.ensures)
+    (ap left c.replace.ensures.after ∙ c.at-branch.ensures ∙ ap (λ (s : PlaceAndTrail). targets s.place) c.position.ensures)
     (c.in_ok-push-in-X.ensures.items ∙ ap (λ (l : Level). c.args.self.now.above.items ++ l ∷ []) c.replace.ensures.value))

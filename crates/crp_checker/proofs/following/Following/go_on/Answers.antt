@@ -1,5 +1,5 @@
 use Rattle.std.proofs.Common.{ap, ◌∙◌, ◌∷◌, reverse}
-use Rattle.crp_bay.specs.Back.{Standing}
+use Rattle.crp_bay.specs.Back.{PlaceAndTrail}
 use Rattle.crp_checker.specs.Kept.{pending}
 use Rattle.crp_checker.proofs.Onward.{goes_down, passes_over}
 use Rattle.crp_checker.proofs.following.Following.go_on.Goals as goal
@@ -13,7 +13,7 @@ returns-then-push-clause-owed c =
 pub loop-row-preserved : goal.loop-row-preserved
 loop-row-preserved c = record {
   owed =
-      ap (λ (s : Standing). pending c.loop-row.self.path.items s (c.turn.new.self ∷ reverse c.loop-row.self.above.items)) c.if-push.ensures.refused
+      ap (λ (s : PlaceAndTrail). pending c.loop-row.self.path.items s (c.turn.new.self ∷ reverse c.loop-row.self.above.items)) c.if-push.ensures.refused
       ∙ passes_over c.loop-row.self.path.items c.loop-row.self.place c.loop-row.self.level c.turn.new.self (reverse c.loop-row.self.above.items) c.in-Some.row
       c.in-Some.ensures.row (λ legal. let yes = c.push.ensures.target.1 legal in let no = c.if-push.false in cc)
       ∙ c.loop-row.invariant.owed;

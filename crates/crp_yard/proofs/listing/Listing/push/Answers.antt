@@ -1,25 +1,45 @@
-use Rattle.std.proofs.Common.{◌≡◌, ◌<◌, ◌++◌, ◌∷◌, [], false, length, None, ◌∙◌, ap}
-use Rattle.indexmap.proofs.CallerLemmas.{insert_entry-new}
-use Rattle.indexmap.specs.IndexMap.{insert_entry}
+use Rattle.std.proofs.Common.{◌≡◌, ◌<◌, ◌++◌, ◌∷◌, [], Bool, false, length, ◌∙◌, sym, ap}
+use Rattle.std.specs.Prelude.{if◌then◌else◌}
+use Rattle.std.specs.List.{list_any}
+use Rattle.std.specs.Str.{bytes_eq}
 use Rattle.crp_yard.specs.Places.{same_place}
-use Rattle.crp_yard.specs.Inventory.{container_at}
-use Rattle.crp_yard.specs.Faults.{is_named, max_containers}
-use Rattle.crp_yard.proofs.ListingSteps.{listing-push, no_value}
+use Rattle.crp_yard.specs.Faults.{is_named, is_taken, max_containers}
+use Rattle.crp_yard.specs.Listings.{entries_listed}
+use Rattle.crp_yard.proofs.ListingSteps.{listing-push, names_listed, named_by, taken_listed, pushed_listed}
 use Rattle.crp_yard.proofs.listing.Listing.push.Goals as goal
 
-grown : (c : goal.Joined-branch-6) → c.insert-2.new.self.entries ≡ c.self.inside.places.entries ++ (c.args.place, c.args.container.now) ∷ []
-grown c =
-    let free : container_at c.self.inside.places.entries c.args.place ≡ None = rw c.self.view_is (no_value (container_at c.args.self.now c.args.place) c.requires.free) in
-    c.in_ok-insert-2.ensures.entries
-    ∙ ap (λ es. insert_entry same_place es c.args.place c.in_ok-container.container) c.in_ok-reserve.ensures.entries
-    ∙ insert_entry-new same_place c.self.inside.places c.args.place c.in_ok-container.container free
-    ∙ ap (λ name. c.self.inside.places.entries ++ (c.args.place, name) ∷ []) c.in_ok-container.ensures
+names_grown : (c : goal.In_ok-insert-2) → c.insert.new.self.keys ≡ c.self.inside.names.keys ++ c.in_ok-name.name ∷ []
+names_grown c =
+    let places = c.self.inside.places.keys in
+    let names = c.self.inside.names.keys in
+    let name = c.in_ok-name.name in
+    let fresh : is_named (entries_listed places names) name.items ≡ false = rw (c.self.view_is, c.in_ok-name.ensures.items) c.requires.fresh in
+    let absent : list_any (λ k. bytes_eq name.items k.items) names ≡ false = named_by names (entries_listed places names) name.items (names_listed places names c.self.invariant.one_for_each) ∙ fresh in
+    c.in_ok-insert.ensures.keys ∙ ap (λ (b : Bool). if b then names else names ++ name ∷ []) absent
+
+places_grown : (c : goal.In_ok-insert-2) → c.insert-2.new.self.keys ≡ c.self.inside.places.keys ++ c.args.place ∷ []
+places_grown c =
+    let places = c.self.inside.places.keys in
+    let names = c.self.inside.names.keys in
+    let absent : list_any (same_place c.args.place) places ≡ false =
+    sym (taken_listed (same_place c.args.place) places names c.self.invariant.one_for_each) ∙ ap (λ entries. is_taken entries c.args.place) c.self.view_is ∙ c.requires.free in
+    c.in_ok-insert-2.ensures.keys ∙ ap (λ ps. if list_any (same_place c.args.place) ps then ps else ps ++ c.args.place ∷ []) c.in_ok-reserve.ensures.keys
+    ∙ ap (λ (b : Bool). if b then places else places ++ c.args.place ∷ []) absent
 
 pub invariant_of-self-2 : goal.invariant_of-self-2
 invariant_of-self-2 c =
-    let fresh : is_named c.self.inside.places.entries c.args.container.now ≡ false = rw c.self.view_is c.requires.fresh in
-    let room : length c.self.inside.places.entries < max_containers = rw c.self.view_is c.requires.room in
-    rw (grown c) (listing-push c.self.inside.places.entries c.self.inside.names.keys (c.args.place, c.args.container.now) c.in_ok-name.name c.insert.new.self.keys c.self.invariant c.in_ok-name.ensures.items fresh room c.in_ok-insert.ensures.keys)
+    let places = c.self.inside.places.keys in
+    let names = c.self.inside.names.keys in
+    let name = c.in_ok-name.name in
+    let fresh : is_named (entries_listed places names) name.items ≡ false = rw (c.self.view_is, c.in_ok-name.ensures.items) c.requires.fresh in
+    let room : length (entries_listed places names) < max_containers = rw c.self.view_is c.requires.room in
+    rw (places_grown c, names_grown c) (listing-push places names c.args.place name c.self.invariant fresh room)
 
 pub returns : goal.returns
-returns c = grown c ∙ ap (λ es. es ++ (c.args.place, c.args.container.now) ∷ []) c.self.view_is
+returns c =
+    let places = c.self.inside.places.keys in
+    let names = c.self.inside.names.keys in
+    let name = c.in_ok-name.name in
+    rw (places_grown c, names_grown c) (pushed_listed places names c.args.place name c.self.invariant.one_for_each)
+    ∙ ap (λ entries. entries ++ (c.args.place, name.items) ∷ []) c.self.view_is
+    ∙ ap (λ l. c.args.self.now ++ (c.args.place, l) ∷ []) c.in_ok-name.ensures.items

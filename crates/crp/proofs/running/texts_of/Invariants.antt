@@ -1,6 +1,0 @@
--- So many words have their texts.
-use Rattle.std.proofs.Common.{◌≡◌, map, string_bytes, take}
-use Rattle.crp.proofs.running.texts_of.Given as goal
-
-abbrev pub invariant-loop-word : goal.invariant-loop-word
-invariant-loop-word l = map (λ text. text.now) l.texts.items ≡ map string_bytes (take l.word-index l.words)

@@ -1,0 +1,68 @@
+//! The program: its words and its streams.
+ghost use Rattle.std.specs.Prelude.{◌≡◌, IfOk, map, string_bytes};
+
+use crp_commands::SystemFiles;
+use crp_plan::Counted;
+use crp_words::{Mistake, Usage, end_with_usage, run_words};
+use std::alloc::{AllocError, Global};
+use std::sync::Wait;
+use std::thread::Threads;
+use std::{env, io};
+
+// The words after the program's name.
+fn words_of(rt: &HostRuntime) -> io::Result<Vec<String>> {
+    let mut words = Vec::new(rt.alloc());
+    for word in env::args(rt)?.skip(1) {
+        words.push(word)?;
+    }
+    Ok(words)
+}
+
+// The texts behind the words.
+fn texts_of<'a>(alloc: Global, words: &'a [String]) -> Result<Vec<&'a str>, AllocError>
+    ensures { IfOk result (λ texts. map (λ text. text.now) texts.items ≡ map string_bytes words.entry.now) }
+{
+    let mut texts = Vec::new(alloc);
+    for word in words {
+        texts.push(word.as_str())?;
+    }
+    Ok(texts)
+}
+
+// Why the words were not had: memory is lacking, or one of them is no text.
+fn usage_without_words(alloc: Global, error: &io::Error) -> Usage {
+    if error.kind() == io::ErrorKind::OutOfMemory {
+        return Usage::Memory;
+    }
+    match String::from_str(alloc, "error: a word is no text\n") {
+        Ok(text) => Usage::Wrong(Mistake::Words(text)),
+        Err(_) => Usage::Memory,
+    }
+}
+
+/// Runs the program over the words of its command line, the files of the system and the standard streams, and returns its exit status.
+/// Only `threads` may start threads and wait for them.
+pub fn run<T: Threads + Wait + Sync>(rt: &HostRuntime, threads: &T) -> u8 {
+    let alloc = rt.alloc();
+    let mut out = Counted::new(rt.stdout());
+    let mut errors = Counted::new(rt.stderr());
+    let words = match words_of(rt) {
+        Ok(words) => words,
+        Err(error) => {
+            let usage = usage_without_words(alloc, &error);
+            return end_with_usage(&usage, &mut out, &mut errors);
+        }
+    };
+    let Ok(texts) = texts_of(alloc, &words) else {
+        return end_with_usage(&Usage::Memory, &mut out, &mut errors);
+    };
+    run_words(
+        threads,
+        alloc,
+        &mut SystemFiles::new(rt),
+        &mut Counted::new(rt.stdin()),
+        &mut out,
+        &mut errors,
+        &texts,
+    )
+}

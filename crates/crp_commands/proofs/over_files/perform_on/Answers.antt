@@ -1,0 +1,24 @@
+use Rattle.std.proofs.Common.{◌≡◌, ◌≢◌, codes, refl, sym, rules}
+use Rattle.crp_report.specs.Runs.{SourceSeen}
+use Rattle.crp_commands.proofs.Performed.{from_input, from_file}
+use Rattle.crp_commands.proofs.Solved.{more_from}
+use Rattle.crp_commands.proofs.over_files.perform_on.Goals as goal
+
+pub returns-then-eq : goal.returns-then-eq
+returns-then-eq g c =
+    let named : c.args.name.now ≡ codes "-" = search rules in
+    from_input c.args.name.now c.args.command.now _ c.perform.result named refl c.perform.ensures
+
+pub returns : goal.returns
+returns g c =
+    let named : c.args.name.now ≢ codes "-" = search rules in
+    let source : SourceSeen = record {
+      given = g.F.Input.Source.remaining c.in-Ok.source;
+      before = g.F.Input.Source.failures c.in-Ok.source;
+      after = g.F.Input.Source.failures c.perform-answer.new.reader;
+    } in
+    from_file c.args.name.now c.args.command.now _ source c.perform-answer.result named (record {
+      opened = record { bytes = c.in-Ok.ensures.bytes; new = c.in-Ok.ensures.new };
+      failed = more_from _ _ _ _ c.in-Ok.ensures.count c.close.ensures;
+      alone = refl;
+    }) c.perform-answer.ensures

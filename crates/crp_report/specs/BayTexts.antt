@@ -1,0 +1,101 @@
+-- How a run states what went wrong in a layer below, and the texts that it keeps of a bay. Only private clauses speak of it.
+use Rattle.std.specs.Prelude.{◌≡◌, ◌≢◌, ℕ, ◌+◌, ◌≤◌, List, [], ◌∷◌, Option, Some, ⊤}
+use Rattle.crp_plan.specs.Devices.{HasFailed}
+use Rattle.crp_yard.specs.declared.fault.YardFault.{YardFault}
+use Rattle.crp_yard.specs.declared.fault.YardFault.TheVariants as yard_fault
+use Rattle.crp_yard.specs.Reading.{IsTextOf}
+use Rattle.crp_yard.specs.Faults.{fault_of_text}
+use Rattle.edi_text.specs.Parts.{SegmentParts}
+use Rattle.edi_text.specs.Spelling.{Spells}
+use Rattle.edi_text.specs.FirstFault.{IsFirstFault}
+use Rattle.edi_text.specs.declared.fault.EdiFault.{EdiFault}
+use Rattle.edi_text.specs.declared.fault.EdiFault.TheVariants as edi
+use Rattle.crp_movins.specs.Faults.{first_fault}
+use Rattle.crp_movins.specs.declared.fault.MovinsFault.{MovinsFault}
+use Rattle.crp_movins.specs.declared.fault.MovinsFault.TheVariants as movins
+use Rattle.crp_report.specs.declared.fault.Fault.{Fault}
+use Rattle.crp_report.specs.declared.fault.Fault.TheVariants as fault
+use Rattle.crp_report.specs.declared.fault.Input.TheVariants as input
+use Rattle.crp_report.specs.declared.bay_texts.BayTexts.{BayTexts}
+use Rattle.crp_report.specs.declared.writing.Texts.{Texts}
+use Rattle.crp_yard.specs.Inventory.{Inventory}
+use Rattle.crp_movins.specs.LoadOrders.{LoadOrders}
+use Rattle.crp_order.specs.Sequences.{IsSequence}
+use Rattle.crp_order.specs.BayProblems.{problems_of}
+use Rattle.crp_report.specs.Chosen.{RunChosen}
+use Rattle.crp_report.specs.Runs.{numbers_of}
+use Rattle.crp_report.specs.Answered.{Answered, AreTrueAnswers, status_of, status_of_all}
+use Rattle.crp_report.specs.Report.{AreBayLines, certificate_of, counts_line, last_line, IsYardTextAfter}
+
+-- the fault of a yard list, of an interchange and of a message, as a run states it
+abbrev pub fault_of_yard : YardFault → Fault
+fault_of_yard yard_fault.Read = fault.Read input.Yard
+fault_of_yard yard_fault.Memory = fault.Memory
+fault_of_yard f = fault.Yard f
+
+abbrev pub fault_of_interchange : EdiFault → Fault
+fault_of_interchange edi.Memory = fault.Memory
+fault_of_interchange f = fault.Interchange f
+
+abbrev pub fault_of_message : MovinsFault → Fault
+fault_of_message movins.Memory = fault.Memory
+fault_of_message f = fault.Message f
+
+-- the calls of a device that have failed are no more than the interruptions that were counted, and so many besides
+abbrev pub AreFailuresCounted : ℕ → ℕ → ℕ → ℕ → ℕ → Type 0
+AreFailuresCounted besides failed_before failed_after counted_before counted_after = failed_after + counted_before ≤ failed_before + counted_after + besides
+
+-- why no yard whose rows have these heights was read of a source that had these bytes, with its count of failures before and after
+abbrev pub IsNoYard : List ℕ → Option (List ℕ) → ℕ → ℕ → Fault → Type 0
+IsNoYard heights given before after (fault.Yard f) = (f ≢ yard_fault.Read) × (f ≢ yard_fault.Memory)
+    × ((text : List ℕ) × IsTextOf given text × (fault_of_text heights text ≡ Some f))
+IsNoYard heights given before after (fault.Read input.Yard) = HasFailed before after
+IsNoYard heights given before after (fault.Read input.Movins) = ⊥
+IsNoYard heights given before after fault.Memory = Unit {0}
+IsNoYard heights given before after (fault.Interchange f) = ⊥
+IsNoYard heights given before after (fault.Message f) = ⊥
+IsNoYard heights given before after (fault.Write sink) = ⊥
+
+-- why this text gives no load orders under this code
+abbrev pub IsNoOrders : List ℕ → List ℕ → Fault → Type 0
+IsNoOrders code text (fault.Interchange f) = (f ≢ edi.Memory) × IsFirstFault text f
+IsNoOrders code text (fault.Message f) = (f ≢ movins.Memory) × ((segments : List SegmentParts) × Spells text segments × (first_fault segments code ≡ Some f))
+IsNoOrders code text fault.Memory = Unit {0}
+IsNoOrders code text (fault.Yard f) = ⊥
+IsNoOrders code text (fault.Read source) = ⊥
+IsNoOrders code text (fault.Write sink) = ⊥
+
+-- why no load orders were read of a source that had these bytes, with its count of failures before and after
+abbrev pub IsNoMessage : List ℕ → Option (List ℕ) → ℕ → ℕ → Fault → Type 0
+IsNoMessage code given before after (fault.Interchange f) = (text : List ℕ) × IsTextOf given text × IsNoOrders code text (fault.Interchange f)
+IsNoMessage code given before after (fault.Message f) = (text : List ℕ) × IsTextOf given text × IsNoOrders code text (fault.Message f)
+IsNoMessage code given before after (fault.Read input.Movins) = HasFailed before after
+IsNoMessage code given before after (fault.Read input.Yard) = ⊥
+IsNoMessage code given before after fault.Memory = Unit {0}
+IsNoMessage code given before after (fault.Yard f) = ⊥
+IsNoMessage code given before after (fault.Write sink) = ⊥
+
+-- these are the texts of an answered bay, and how its search ended
+pub record AreTextsOfBay (bay : Answered) (t : BayTexts) : Type 0 where
+  pub report : AreBayLines bay t.report.items
+  pub certificate : t.certificate.items ≡ certificate_of bay
+  pub status : t.status ≡ status_of bay.solved.answer
+
+-- so it is with each bay
+abbrev pub AreTextsOfBays : List Answered → List BayTexts → Type 0
+AreTextsOfBays [] [] = ⊤
+AreTextsOfBays [] (t ∷ all) = ⊥
+AreTextsOfBays (bay ∷ bays) [] = ⊥
+AreTextsOfBays (bay ∷ bays) (t ∷ all) = AreTextsOfBay bay t × AreTextsOfBays bays all
+
+-- one list of true answers gives all texts of a yard and its load orders
+pub record AreTextsOf (chosen : RunChosen) (yard : Inventory) (orders : LoadOrders) (t : Texts) : Type 0 where
+  pub sequence : List (List ℕ)
+  pub answered : List Answered
+  pub in_sequence : IsSequence chosen.mode orders.list sequence
+  pub true_answers : AreTrueAnswers chosen.search (problems_of yard sequence) answered
+  pub first : t.first.items ≡ counts_line (numbers_of yard orders sequence)
+  pub bays : AreTextsOfBays answered t.bays.items
+  pub last : t.last.items ≡ last_line answered
+  pub yard_after : IsYardTextAfter yard answered t.yard_after.items
+  pub status : t.status ≡ status_of_all answered

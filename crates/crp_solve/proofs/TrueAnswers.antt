@@ -1,0 +1,177 @@
+-- The answer that a search shows is true.
+use Rattle.std.proofs.Common.{◌≡◌, ℕ, ◌<◌, ◌≤◌, min, ⊎_elim, List, [], length, get_or, Contains, All, Option, None, Some, IfSome, sym, ap, ◌∙◌, subst, refl, arith}
+use Rattle.std.proofs.lemmas.List.Elements.{All-contains, All-weaker, All-cons, All-nil, All-same, All-filter}
+use Rattle.std.proofs.lemmas.Bool.{cases_lt}
+use Rattle.crp_plan.specs.Bay.{Problem, IsProblem, cap, Position, IsAt, IsBest}
+use Rattle.crp_plan.specs.Plans.{ProblemPath}
+use Rattle.crp_plan.specs.declared.running.View.{View}
+use Rattle.crp_plan.proofs.Covered.{relocations-path}
+use Rattle.crp_bounds.specs.Bounds.{look_ahead}
+use Rattle.crp_bounds.proofs.Floors.{cut_floor}
+use Rattle.crp_tree.specs.declared.tree.Tree.{Tree, CutB, CutL, Branch', Given}
+use Rattle.crp_tree.specs.Trees.{Node, nodes, is_cut, branches, value, least_through}
+use Rattle.crp_tree.specs.Claims.{IsAccepted}
+use Rattle.crp_tree.specs.Parts.{ProblemPart, nodes_of, cuts_in, branches_in, IsKeptPart, Certificate, claimed}
+use Rattle.crp_tree.proofs.Accepted.{bounded, no_plan_at_cap, best}
+use Rattle.crp_tree.proofs.Shown.{least_over}
+use Rattle.crp_tree.proofs.Kept.{part_nodes, nodes_at_name}
+use Rattle.crp_search.specs.Searched.{IsClosed}
+use Rattle.crp_solve.specs.declared.answer.Answer.{Answer}
+use Rattle.crp_solve.specs.declared.answer.Answer.TheVariants.{Optimal, NoPlan, Between}
+use Rattle.crp_solve.specs.declared.answer.Cause.TheVariants.{Budget, Memory}
+use Rattle.crp_solve.specs.Answers.{path_in, count_of, IsFirstLimit, IsPlanOf, IsCut, IsOneCut, HasNeededBranches, IsTrueAnswer}
+use Rattle.crp_solve.specs.Searches.{IsSearched, IsAbout, IsBestMet, IsEndedSearch}
+use Rattle.crp_solve.proofs.Ahead.{ahead_of_root}
+use Rattle.crp_solve.proofs.Limits.{greedy_met, count_low}
+use Rattle.crp_solve.proofs.Covered.{lowest_part, lower_low, accepted}
+
+-- where no cut is below a number, neither is the floor
+floor_over : (x : ProblemPart) (f : ℕ) → IsKeptPart x → f ≤ cap x.problem → All (λ cut. f ≤ value cut) (cuts_in x) → f ≤ x.floor
+floor_over x f k le all = let e = k.floor_is in omega (arith, e, least_over f (cap x.problem) value (cuts_in x) le all)
+
+-- and where that is so in each part, neither is the bound
+pub lower_over : (p : Problem) (cert : Certificate) (f : ℕ) → IsAbout p cert → f ≤ cap p → All (λ x. All (λ cut. f ≤ value cut) (cuts_in x)) cert.parts → f ≤ cert.lower
+lower_over p cert f a le all =
+    let x = lowest_part cert a.certificate in
+    let same : (x.0).problem ≡ p = All-contains (λ (y : ProblemPart). y.problem ≡ p) cert.parts x.0 a.of_problem x.1 in
+    let kept : IsKeptPart x.0 = All-contains IsKeptPart cert.parts x.0 a.kept x.1 in
+    let cuts : All (λ cut. f ≤ value cut) (cuts_in x.0) = All-contains (λ (y : ProblemPart). All (λ cut. f ≤ value cut) (cuts_in y)) cert.parts x.0 all x.1 in
+    omega (arith, x.2, floor_over x.0 f kept (subst (λ q. f ≤ cap q) (sym same) le) cuts)
+
+-- where no claim was refused, the bound reaches the best plan that was met
+pub reaches : (p : Problem) (budget first : ℕ) (view : View) (cert : Certificate) (plan : Option ProblemPath) → IsEndedSearch p budget first view cert plan → view.refused ≡ 0 → count_of p (path_in plan) ≤ cert.lower
+reaches p budget first view cert plan w none =
+    let a = w.about in let t = w.best_met in
+    lower_over p cert (count_of p (path_in plan)) a (count_low p plan a.is_problem t.plan_is)
+    (λ k d lt. let s = w.searched k d lt in
+    All-weaker (IsClosed view) (λ cut. count_of p (path_in plan) ≤ value cut)
+    (λ cut worth. ⊎_elim (λ (seen : view.seen ≤ value cut). omega (arith, w.met, seen)) (λ (r : (0 < view.refused) × (least_through cut ≤ value cut)). absurd (omega (arith, r.0, none))) worth)
+    (cuts_in (get_or cert.parts k d)) s.closed)
+
+-- the look-ahead bound of the first position is at most a plan's relocations
+count_over : (p : Problem) (plan : Option ProblemPath) (s : Position) → IsProblem p → IfSome plan (IsPlanOf p) → IsAt p [] s → min (cap p) (look_ahead s) ≤ count_of p (path_in plan)
+count_over p None s is best_met a = omega arith
+count_over p (Some route) s is best_met a =
+    let plan = best_met.complete in
+    omega (arith, (cut_floor p [] route.path s plan.0 is a plan.1 plan.2).0, relocations-path plan.0, ap length plan.2)
+
+-- the bound is never below the look-ahead bound of the first position
+pub looks_ahead : (p : Problem) (budget first : ℕ) (view : View) (cert : Certificate) (plan : Option ProblemPath) (s : Position) → IsEndedSearch p budget first view cert plan → IsAt p [] s → min (cap p) (look_ahead s) ≤ cert.lower
+looks_ahead p budget first view cert plan s w at =
+    let a = w.about in let t = w.best_met in
+    let f : ℕ = min (cap p) (look_ahead s) in
+    let over : f ≤ count_of p (path_in plan) = count_over p plan s a.is_problem t.plan_is at in
+    lower_over p cert f a (omega arith)
+    (λ k d lt. let sr = w.searched k d lt in
+    let x : ProblemPart = get_or cert.parts k d in
+    λ i e lti.
+    let cut : Node = get_or (cuts_in x) i e in
+    let here : IsAt p cut.path cut.place = subst (λ q. IsAt q cut.path cut.place) sr.of_problem (All-filter (λ (n : Node). is_cut n.mark) (λ (n : Node). IsAt x.problem n.path n.place) (nodes_of x) (part_nodes x sr.kept) i e lti) in
+    ⊎_elim (λ (seen : view.seen ≤ value cut). omega (arith, w.met, seen, over))
+    (λ (r : (0 < view.refused) × (least_through cut ≤ value cut)). omega (arith, r.1, ahead_of_root p cut.path s cut.place a.is_problem at here))
+    (sr.closed i e lti))
+
+-- each branch stands below the first limit
+pub needed_branches : (p : Problem) (first : ℕ) (view : View) (cert : Certificate) → IsFirstLimit p first → All (IsSearched p first view) cert.parts → HasNeededBranches p cert
+needed_branches p first view cert first_is all = record {
+  first = first;
+  is_first = first_is;
+  below = All-weaker (IsSearched p first view) (λ part. All (λ node. least_through node < first) (branches_in part)) (λ part s. s.below) cert.parts all;
+}
+
+-- the plan has no more relocations than the bound: it is a best one
+pub optimal_is_true : (p : Problem) (budget first : ℕ) (view : View) (cert : Certificate) (plan : ProblemPath) → IsEndedSearch p budget first view cert (Some plan) → length plan.path ≤ cert.lower → IsTrueAnswer p budget (Optimal plan cert) view.granted
+optimal_is_true p budget first view cert plan w le =
+    let a = w.about in let t = w.best_met in
+    let is : IsPlanOf p plan = t.plan_is in let of = is.complete in
+    let acc : IsAccepted (claimed p cert (Some plan.path)) = accepted p cert (Some plan) a is in
+    let same : length plan.path ≡ cert.lower = omega (arith, bounded (claimed p cert (Some plan.path)) of.0 acc of.1, relocations-path of.0, ap length of.2, le) in
+    record {
+      says = record { plan_is = is; best = subst (IsBest p) (sym same) (best (claimed p cert (Some plan.path)) plan.path acc refl same); shown = sym same };
+      ended = w.granted;
+      within = w.within;
+      of_problem = a.of_problem;
+      certificate = a.certificate;
+      accepted = acc;
+      needed = needed_branches p first view cert t.first_is w.searched;
+    }
+
+-- the bound reaches the cap: there is no plan
+pub no_plan_is_true : (p : Problem) (budget first : ℕ) (view : View) (cert : Certificate) → IsEndedSearch p budget first view cert None → cap p ≤ cert.lower → IsTrueAnswer p budget (NoPlan cert) view.granted
+no_plan_is_true p budget first view cert w le =
+    let a = w.about in let t = w.best_met in
+    let acc : IsAccepted (claimed p cert None) = accepted p cert None a tt in
+    let same : cert.lower ≡ cap p = omega (arith, lower_low p cert a, le) in
+    record {
+      says = record { none = λ moves plan. no_plan_at_cap (claimed p cert None) moves acc same plan; shown = same };
+      ended = w.granted;
+      within = w.within;
+      of_problem = a.of_problem;
+      certificate = a.certificate;
+      accepted = acc;
+      needed = needed_branches p first view cert t.first_is w.searched;
+    }
+
+-- the bound is below the best plan: a claim was refused, and so the budget is spent
+pub between_is_true : (p : Problem) (budget first : ℕ) (view : View) (cert : Certificate) (plan : Option ProblemPath) → IsEndedSearch p budget first view cert plan → cert.lower < count_of p (path_in plan) → IsTrueAnswer p budget (Between cert.lower cert plan Budget) view.granted
+between_is_true p budget first view cert plan w lt =
+    let a = w.about in let t = w.best_met in
+    let acc : IsAccepted (claimed p cert (path_in plan)) = accepted p cert plan a t.plan_is in
+    record {
+      says = record {
+        bounds = λ moves is. bounded (claimed p cert (path_in plan)) moves acc is;
+        shown = refl;
+        ahead = λ s at. looks_ahead p budget first view cert plan s w at;
+        plan_is = t.plan_is;
+        greedy = λ path g. greedy_met p first plan path a.is_problem t g;
+      };
+      ended = (w.granted, record { all = ⊎_elim (λ (l : 0 < view.refused). w.refused_last l) (λ (le : view.refused ≤ 0). absurd (omega (arith, lt, reaches p budget first view cert plan w (omega arith)))) (cases_lt 0 view.refused); below = lt });
+      within = w.within;
+      of_problem = a.of_problem;
+      certificate = a.certificate;
+      accepted = acc;
+      needed = needed_branches p first view cert t.first_is w.searched;
+    }
+
+-- a part of one cut has no branch
+no_branches : (x : ProblemPart) → IsKeptPart x → IsCut x.tree → branches_in x ≡ []
+no_branches x k cut = let is = k.is_part in ap branches (nodes_at_name x is.place k is.is_at) ∙ of_cut x.name is.place x.tree cut
+  where
+    of_cut : (path : List ℕ) (s : Position) (tree : Tree) → IsCut tree → branches (nodes path s tree) ≡ []
+    of_cut path s CutB cut = refl
+    of_cut path s CutL cut = refl
+    of_cut path s (Branch' shape all) cut = absurd cut
+    of_cut path s Given cut = absurd cut
+
+-- the look-ahead bound of the first position is what is answered where memory ran out
+pub ahead_is_true : (p : Problem) (budget first expanded : ℕ) (cert : Certificate) (plan : Option ProblemPath) → IsAbout p cert → IsOneCut cert → IsBestMet p first plan → expanded ≤ budget →
+    ((s : Position) → IsAt p [] s → cert.lower ≡ min (cap p) (look_ahead s)) → IsTrueAnswer p budget (Between cert.lower cert plan Memory) expanded
+ahead_is_true p budget first expanded cert plan a one t within lower =
+    let acc : IsAccepted (claimed p cert (path_in plan)) = accepted p cert plan a t.plan_is in
+    record {
+      says = record {
+        bounds = λ moves is. bounded (claimed p cert (path_in plan)) moves acc is;
+        shown = refl;
+        ahead = λ s at. omega (arith, lower s at);
+        plan_is = t.plan_is;
+        greedy = λ path g. greedy_met p first plan path a.is_problem t g;
+      };
+      ended = one;
+      within = within;
+      of_problem = a.of_problem;
+      certificate = a.certificate;
+      accepted = acc;
+      needed = record {
+        first = first;
+        is_first = t.first_is;
+        below = subst (All (λ part. All (λ node. least_through node < first) (branches_in part))) (sym one.alone)
+            (All-cons (λ (part : ProblemPart). All (λ node. least_through node < first) (branches_in part)) one.part []
+            (All-same (λ node. least_through node < first) (branches_in one.part) [] (no_branches one.part (All-contains IsKeptPart cert.parts one.part a.kept (subst (λ l. Contains l one.part) (sym one.alone) (0, omega arith, refl))) one.cut) (All-nil (λ (node : Node). least_through node < first)))
+            (All-nil (λ (part : ProblemPart). All (λ node. least_through node < first) (branches_in part))));
+      };
+    }
+
+-- a true answer is so under other names
+pub same_answer : (p : Problem) (budget budget' : ℕ) (answer answer' : Answer) (expanded expanded' : ℕ) → budget ≡ budget' → answer ≡ answer' → expanded ≡ expanded' → IsTrueAnswer p budget answer expanded → IsTrueAnswer p budget' answer' expanded'
+same_answer p budget budget' answer answer' expanded expanded' eb ea ee t =
+    subst (λ b. IsTrueAnswer p b answer' expanded') eb (subst (λ a. IsTrueAnswer p budget a expanded') ea (subst (λ e. IsTrueAnswer p budget answer e) ee t))

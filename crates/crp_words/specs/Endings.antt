@@ -1,0 +1,66 @@
+-- How the program ends: what its sinks got, what it did over its files, and its exit status.
+use Rattle.std.specs.Prelude.{◌≡◌, ℕ, ◌⊎◌, List, [], ◌∷◌, ◌++◌, Option, Some, None, Ok, Err, codes, string_bytes}
+use Rattle.crp_plan.specs.Devices.{HasFailed}
+use Rattle.crp_report.specs.declared.status.Status.{Status}
+use Rattle.crp_report.specs.Runs.{SourceSeen, SinkSeen, Gets, GetsPart}
+use Rattle.crp_commands.specs.declared.job.Job.{Job}
+use Rattle.crp_commands.specs.declared.outcome.ToolFault.{ToolFault}
+use Rattle.crp_commands.specs.Advice.{IsLine, failed_words}
+use Rattle.crp_commands.specs.Calls.{exit_code}
+use Rattle.crp_commands.specs.Opened.{FilesSeen, AreFilesLeftAlone, IsSourceLeftAlone, IsLeftAlone}
+use Rattle.crp_commands.specs.Performing.{JobSeen, ReportsOverFiles, FailsOverFiles}
+use Rattle.crp_words.specs.declared.usage.Mistake.TheVariants as mistake
+use Rattle.crp_words.specs.declared.usage.Usage.{Usage}
+use Rattle.crp_words.specs.declared.usage.Usage.TheVariants as usage
+use Rattle.crp_words.specs.Words.{WordsAsk, Refuses}
+
+-- ---- lines for the user
+
+-- what stands before the advice where a read or a write has failed: where to look
+abbrev pub place_part : Option (List ℕ) → List ℕ
+place_part None = []
+place_part (Some place) = codes "look at " ++ (place ++ codes ": ")
+
+-- the two lines that explain what went wrong: what it is, behind `crp: `, and the advice, behind the place where a read or a write has failed
+abbrev pub fault_lines : List ℕ → Option (List ℕ) → List ℕ → List ℕ
+fault_lines text place advice = codes "crp: " ++ (text ++ (10 ∷ (place_part place ++ (advice ++ 10 ∷ []))))
+
+-- the sink got the text, or where a write to it has failed a front of it that is not all of it, and nothing else
+abbrev pub GetsLines : SinkSeen → List ℕ → Type 0
+GetsLines s text = Gets s text ⊎ (GetsPart s text × HasFailed s.before s.after)
+
+-- the sink got the two lines of some fault and of some line of advice, with this place
+abbrev pub IsExplained : Option (List ℕ) → SinkSeen → Type 0
+IsExplained place s = (text : List ℕ) × (advice : List ℕ) × IsLine advice × GetsLines s (fault_lines text place advice)
+
+-- ---- words that ask for nothing
+
+-- help was shown, with status 0; or a write of it has failed, with status 5
+abbrev pub HelpEnds : List ℕ → SinkSeen → SinkSeen → ℕ → Type 0
+HelpEnds text out errors status = (Gets out text × IsLeftAlone errors × (status ≡ 0))
+    ⊎ (GetsPart out text × HasFailed out.before out.after × IsExplained (Some (codes "the standard output")) errors × (status ≡ 5))
+
+-- how the program ends whose words ask for nothing: help goes to the standard output; what is wrong with the words is written to the standard error,
+-- with status 2; and so is that memory is lacking, with status 4
+abbrev pub UsageEnds : Usage → SinkSeen → SinkSeen → ℕ → Type 0
+UsageEnds (usage.Help text) out errors status = HelpEnds (string_bytes text) out errors status
+UsageEnds (usage.Wrong (mistake.Words text)) out errors status = IsLeftAlone out × GetsLines errors (string_bytes text) × (status ≡ 2)
+UsageEnds (usage.Wrong (mistake.Setting f)) out errors status = IsLeftAlone out × IsExplained None errors × (status ≡ 2)
+UsageEnds usage.Memory out errors status = IsLeftAlone out × IsExplained None errors × (status ≡ 4)
+
+-- ---- a job
+
+-- how the program ends that does this job: done, and then nothing is written to the standard error; or with a fault, which is explained there
+abbrev pub JobEnds : Job → JobSeen → SinkSeen → ℕ → Type 0
+JobEnds j seen errors status =
+    ((ended : Status) × ReportsOverFiles j seen ended × IsLeftAlone errors × (status ≡ exit_code (Ok ended)))
+    ⊎ ((f : ToolFault) × FailsOverFiles j seen f × IsExplained (failed_words j f) errors × (status ≡ exit_code (Err f)))
+
+-- ---- the program
+
+-- how the program ends by these words: they ask for a job, which is done or fails; or they ask for nothing, and then neither a file nor the standard input
+-- is touched
+abbrev pub ProgramEnds : List (List ℕ) → JobSeen → SinkSeen → ℕ → Type 0
+ProgramEnds words seen errors status =
+    ((j : Job) × WordsAsk words j × JobEnds j seen errors status)
+    ⊎ ((u : Usage) × Refuses words u × AreFilesLeftAlone seen.files × IsSourceLeftAlone seen.input × UsageEnds u seen.out errors status)

@@ -1,0 +1,73 @@
+//! What the words of the command line ask for, done.
+ghost use Rattle.std.specs.Prelude.{MatchResult, map};
+ghost use Rattle.crp_report.specs.Runs.{SinkSeen};
+ghost use Rattle.crp_commands.specs.Advice.{failed_words};
+ghost use Rattle.crp_commands.specs.Opened.{IsLeftAlone};
+ghost use Rattle.crp_commands.specs.Performing.{JobSeen};
+ghost use Rattle.crp_words.specs.Endings.{IsExplained, JobEnds, ProgramEnds};
+
+use crate::ending::{end_with_usage, explain_fault};
+use crate::words::job;
+use crp_commands::{Files, Job, ToolFault, exit_of, place_of, run_job};
+use crp_plan::{Sink, Source};
+use crp_report::Status;
+use std::alloc::Global;
+use std::sync::Wait;
+use std::thread::Threads;
+
+// Explains the fault of a job, if it ended with one.
+fn explain_answer<E: Sink>(errors: &mut E, job: &Job<'_>, answer: &Result<Status, ToolFault>)
+    ensures { let seen : SinkSeen = record { held = E.contents errors.old; holds = E.contents errors.new; before = E.failures errors.old; after = E.failures errors.new }
+        in MatchResult answer.now (λ _. IsLeftAlone seen) (λ fault. IsExplained (failed_words job.now fault) seen) }
+{
+    match answer {
+        Ok(_) => {}
+        Err(fault) => explain_fault(errors, fault, place_of(job, fault)),
+    }
+}
+
+// Does a job, and explains its fault. Returns the exit status.
+fn end_with_job<T: Threads + Wait + Sync, F: Files, R: Source, W: Sink, E: Sink>(
+    threads: &T,
+    alloc: Global,
+    files: &mut F,
+    input: &mut R,
+    out: &mut W,
+    errors: &mut E,
+    job: &Job<'_>,
+) -> u8
+    ensures { let seen : JobSeen = record {
+      files = record { known = F.known files.old; before = F.failures files.old; after = F.failures files.new };
+      input = record { given = R.remaining input.old; before = R.failures input.old; after = R.failures input.new };
+      out = record { held = W.contents out.old; holds = W.contents out.new; before = W.failures out.old; after = W.failures out.new };
+    } in let errors_seen : SinkSeen = record { held = E.contents errors.old; holds = E.contents errors.new; before = E.failures errors.old; after = E.failures errors.new }
+        in JobEnds job.now seen errors_seen result }
+{
+    let answer = run_job(threads, alloc, files, input, out, job);
+    explain_answer(errors, job, &answer);
+    exit_of(&answer)
+}
+
+/// Does what the words of the command line ask for, those behind the program's name: a job over its files, where a file named `-` is
+/// `input`; or help, on `out`. What went wrong is explained on `errors`. Returns the exit status.
+pub fn run_words<T: Threads + Wait + Sync, F: Files, R: Source, W: Sink, E: Sink>(
+    threads: &T,
+    alloc: Global,
+    files: &mut F,
+    input: &mut R,
+    out: &mut W,
+    errors: &mut E,
+    words: &[&str],
+) -> u8
+    ensures { let seen : JobSeen = record {
+      files = record { known = F.known files.old; before = F.failures files.old; after = F.failures files.new };
+      input = record { given = R.remaining input.old; before = R.failures input.old; after = R.failures input.new };
+      out = record { held = W.contents out.old; holds = W.contents out.new; before = W.failures out.old; after = W.failures out.new };
+    } in let errors_seen : SinkSeen = record { held = E.contents errors.old; holds = E.contents errors.new; before = E.failures errors.old; after = E.failures errors.new }
+        in ProgramEnds (map (λ w. w.now) words.now) seen errors_seen result }
+{
+    match job(alloc, words) {
+        Ok(job) => end_with_job(threads, alloc, files, input, out, errors, &job),
+        Err(usage) => end_with_usage(&usage, out, errors),
+    }
+}

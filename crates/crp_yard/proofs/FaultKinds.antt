@@ -1,0 +1,92 @@
+-- The fault of a text says of a record, or that the text is too long.
+use Prim.Native.Nat.{zero}
+use Rattle.std.proofs.Common.{◌≡◌, ◌≤◌, ℕ, suc, max, Bool, true, false, List, [], ◌∷◌, length, Option, Some, None, ⊎_elim, subst}
+use Rattle.std.specs.Prelude.{if◌then◌else◌, nat_le, ◌==◌}
+use Rattle.std.specs.List.{AllByRecursion}
+use Rattle.std.proofs.lemmas.Bool.{le-leb}
+use Rattle.crp_yard.specs.declared.fault.YardFault.{YardFault}
+use Rattle.crp_yard.specs.declared.fault.YardFault.TheVariants.{Header, Fields, Digits, Outside, PlaceTaken, Floating, StandsAlready, TooMany, Read, TooLarge, Memory}
+use Rattle.crp_yard.specs.Records.{Entry, records_of, entries_of, is_header}
+use Rattle.crp_yard.specs.Faults.{faults_of, first_of, fault_of, fault_behind, fault_at, or_else, first_fault_up_to, floating_before, first_fault, fault_of_text, floats, max_bytes}
+use Rattle.std.specs.Prelude.{slice_get, ◌+◌, ◌⊎◌}
+use Rattle.crp_yard.specs.Reading.{IsTextOf, ReadingFailsWith}
+
+-- stated of a record
+abbrev pub IsOfRecord : YardFault → Type 0
+IsOfRecord Read = ⊥
+IsOfRecord TooLarge = ⊥
+IsOfRecord Memory = ⊥
+IsOfRecord (Header n) = Unit {0}
+IsOfRecord (Fields n) = Unit {0}
+IsOfRecord (Digits n) = Unit {0}
+IsOfRecord (Outside n) = Unit {0}
+IsOfRecord (PlaceTaken n) = Unit {0}
+IsOfRecord (Floating n) = Unit {0}
+IsOfRecord (StandsAlready n) = Unit {0}
+IsOfRecord (TooMany n) = Unit {0}
+
+-- the same of a fault, if there is one
+abbrev pub HasRecordKind : Option YardFault → Type 0
+HasRecordKind None = Unit {0}
+HasRecordKind (Some fault) = IsOfRecord fault
+
+kind_or : (a b : Option YardFault) → HasRecordKind a → HasRecordKind b → HasRecordKind (or_else a b)
+kind_or None b h k = k
+kind_or (Some fault) b h k = h
+
+kind_if : (b : Bool) (x y : Option YardFault) → HasRecordKind x → HasRecordKind y → HasRecordKind (if b then x else y)
+kind_if true x y h k = h
+kind_if false x y h k = k
+
+kind_first : (faults : List (Bool × YardFault)) → AllByRecursion (λ fault. IsOfRecord fault.1) faults → HasRecordKind (first_of faults)
+kind_first [] h = tt
+kind_first (fault ∷ faults) h = kind_if fault.0 (Some fault.1) (first_of faults) h.0 (kind_first faults h.1)
+
+kind_record : (heights : List ℕ) (entries : List Entry) (n : ℕ) (fields : List (List ℕ)) → HasRecordKind (fault_of heights entries n fields)
+unfolding fault_of
+kind_record heights entries n fields = kind_first (faults_of heights entries n fields) (tt, (tt, (tt, (tt, (tt, (tt, tt))))))
+
+kind_behind : (heights : List ℕ) (entries : List Entry) (n : ℕ) (fields : List (List ℕ)) → HasRecordKind (fault_behind heights entries n fields)
+unfolding fault_behind
+kind_behind heights entries n fields =
+    kind_if (n == 1) (if is_header fields then None else Some (Header 1)) (fault_of heights entries n fields) (kind_if (is_header fields) None (Some (Header 1)) tt tt) (kind_record heights entries n fields)
+
+kind_at : (heights : List ℕ) (records : List (List (List ℕ))) (n : ℕ) → HasRecordKind (fault_at heights records n)
+unfolding fault_at
+kind_at heights records n = kind_behind heights _ n _
+
+kind_up_to : (heights : List ℕ) (records : List (List (List ℕ))) (n : ℕ) → HasRecordKind (first_fault_up_to heights records n)
+kind_up_to heights records zero = tt
+kind_up_to heights records (suc n) = kind_or (first_fault_up_to heights records n) (fault_at heights records (suc n)) (kind_up_to heights records n) (kind_at heights records (suc n))
+
+kind_floating : (entries : List Entry) (n : ℕ) → HasRecordKind (floating_before entries n)
+kind_floating entries zero = tt
+kind_floating entries (suc n) = kind_or (floating_before entries n) (if floats entries (slice_get entries n) then Some (Floating (n + 2)) else None) (kind_floating entries n) (kind_if (floats entries (slice_get entries n)) (Some (Floating (n + 2))) None tt tt)
+
+kind_whole : (heights : List ℕ) (records : List (List (List ℕ))) → HasRecordKind (first_fault heights records)
+unfolding first_fault
+kind_whole heights records =
+    let entries = entries_of records in
+    kind_or (first_fault_up_to heights records (max 1 (length records))) (floating_before entries (length entries)) (kind_up_to heights records (max 1 (length records))) (kind_floating entries (length entries))
+
+-- the fault of a text that is short enough says of a record
+pub of_record : (heights : List ℕ) (text : List ℕ) (fault : YardFault) → length text ≤ max_bytes → fault_of_text heights text ≡ Some fault → IsOfRecord fault
+of_record heights text fault short e =
+    let within : nat_le (length text) max_bytes ≡ true = le-leb (length text) max_bytes short in
+    let is : first_fault heights (records_of text) ≡ Some fault = rw within at e in
+    subst HasRecordKind is (kind_whole heights (records_of text))
+
+-- what the fault of the bytes says of their source
+pub fault_written_of : (heights : List ℕ) (given : Option (List ℕ)) (before after : ℕ) (text : List ℕ) (fault : YardFault) → length text ≤ max_bytes → IsTextOf given text
+    → (fault ≡ Memory) ⊎ (fault_of_text heights text ≡ Some fault) → ReadingFailsWith heights given before after fault
+fault_written_of heights given before after text Memory short is h = tt
+fault_written_of heights given before after text Read short is h = absurd (⊎_elim (λ e. cc e) (λ e. of_record heights text Read short e) h)
+fault_written_of heights given before after text TooLarge short is h = absurd (⊎_elim (λ e. cc e) (λ e. of_record heights text TooLarge short e) h)
+fault_written_of heights given before after text (Header n) short is h = (text, is, ⊎_elim (λ e. cc e) (λ e. e) h)
+fault_written_of heights given before after text (Fields n) short is h = (text, is, ⊎_elim (λ e. cc e) (λ e. e) h)
+fault_written_of heights given before after text (Digits n) short is h = (text, is, ⊎_elim (λ e. cc e) (λ e. e) h)
+fault_written_of heights given before after text (Outside n) short is h = (text, is, ⊎_elim (λ e. cc e) (λ e. e) h)
+fault_written_of heights given before after text (PlaceTaken n) short is h = (text, is, ⊎_elim (λ e. cc e) (λ e. e) h)
+fault_written_of heights given before after text (Floating n) short is h = (text, is, ⊎_elim (λ e. cc e) (λ e. e) h)
+fault_written_of heights given before after text (StandsAlready n) short is h = (text, is, ⊎_elim (λ e. cc e) (λ e. e) h)
+fault_written_of heights given before after text (TooMany n) short is h = (text, is, ⊎_elim (λ e. cc e) (λ e. e) h)
