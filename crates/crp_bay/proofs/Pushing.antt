@@ -130,8 +130,8 @@ push_room pushes rows s row kept h =
     omega (arith, short_path r.problem (r.path ++ row ∷ []) (child s row) r.is_problem (target_goes_on r.problem r.path s row r.is_problem r.is_at (row_is_target s row h)), length-append r.path (row ∷ []))
 
 -- the answer states whether the row is a target
-pub told : (s : Position) (row : ℕ) (b : Bool) → b ≡ can_shift s row → (IsTrue b → Contains (targets s) row) × (Contains (targets s) row → IsTrue b)
-told s row b e = (λ t. row_is_target s row (sym e ∙ t), λ c. e ∙ can_from_target s row c)
+pub found : (s : Position) (row : ℕ) (b : Bool) → b ≡ can_shift s row → (IsTrue b → Contains (targets s) row) × (Contains (targets s) row → IsTrue b)
+found s row b e = (λ t. row_is_target s row (sym e ∙ t), λ c. e ∙ can_from_target s row c)
 
 -- what is seen of the fields
 abbrev pub seen : List Push → List ℕ → Position → PlaceAndTrail

@@ -19,8 +19,8 @@ use Rattle.crp_cert.proofs.PartNames.{first_rows, rows_low}
 -- ---- after the last
 
 -- the names that are stated, one by one
-name_told : (parts : List Part) (k : ℕ) (d : Part) → k < length parts → get_or (names parts) k d.name ≡ (get_or parts k d).name
-name_told parts k d lt = get_or-map (λ part. part.name) parts k d d.name lt
+name_parsed : (parts : List Part) (k : ℕ) (d : Part) → k < length parts → get_or (names parts) k d.name ≡ (get_or parts k d).name
+name_parsed parts k d lt = get_or-map (λ part. part.name) parts k d d.name lt
 
 -- as many names as parts
 pub length_names : (parts : List Part) → length (names parts) ≡ length parts
@@ -31,8 +31,8 @@ pub after_last : (parts : List Part) (last : Part) (name : List ℕ) → AllPair
 after_last parts last name rising e p k d lt = ⊎_elim
     (λ same. subst (λ (part : Part). Precedes part.name name) (sym (ap (λ i. get_or parts i d) same ∙ get_or_from_slice_get parts (length parts - 1) last d e)) p)
     (λ ne. goes_further (get_or parts k d).name last.name name
-    (subst (λ n. Precedes n last.name) (name_told parts k d lt)
-    (subst (Precedes (get_or (names parts) k d.name)) (name_told parts (length parts - 1) d (omega arith) ∙ ap (λ (part : Part). part.name) (get_or_from_slice_get parts (length parts - 1) last d e))
+    (subst (λ n. Precedes n last.name) (name_parsed parts k d lt)
+    (subst (Precedes (get_or (names parts) k d.name)) (name_parsed parts (length parts - 1) d (omega arith) ∙ ap (λ (part : Part). part.name) (get_or_from_slice_get parts (length parts - 1) last d e))
     (rising k (length parts - 1) d.name (omega arith) (omega (arith, length_names parts)))))
     p)
     (cases_eq k (length parts - 1))

@@ -25,8 +25,8 @@ use Rattle.crp_tree.specs.Trees.{Fits}
 -- ---- one part line
 
 -- the part line that was read
-abbrev pub told_line : (p : Problem) (bytes name symbols after : List ℕ) (s : Position) → IsAt p name s → part_at p bytes ≡ Some ((name, symbols), after) → BeginsWithPart p (codes "part " ++ bytes)
-told_line p bytes name symbols after s is_at e = record {
+abbrev pub parsed_line : (p : Problem) (bytes name symbols after : List ℕ) (s : Position) → IsAt p name s → part_at p bytes ≡ Some ((name, symbols), after) → BeginsWithPart p (codes "part " ++ bytes)
+parsed_line p bytes name symbols after s is_at e = record {
   name = name;
   short = (begins_with p bytes name symbols after e).0;
   place = s;

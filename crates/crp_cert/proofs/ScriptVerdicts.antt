@@ -25,7 +25,7 @@ use Rattle.crp_cert.proofs.Numbers.{tag_takes, tag_again}
 use Rattle.crp_cert.proofs.Heads.{head_once}
 use Rattle.crp_cert.proofs.Verdicts.{or_fault, apart, one_fault}
 use Rattle.crp_cert.proofs.PartLines.{behind_word, line_then, part_takes, part_again}
-use Rattle.crp_cert.proofs.PartFaults.{part_line_some, told_line}
+use Rattle.crp_cert.proofs.PartFaults.{part_line_some, parsed_line}
 use Rattle.crp_cert.proofs.NameOrder.{length_names}
 use Rattle.crp_cert.proofs.PartTests.{after_test, after_yes, comes_from, comes_to, fails, symbols_test, symbols_to, symbols_from, tree_tested, tree_one_line}
 use Rattle.crp_cert.proofs.TreeReading.{behind_tree, tree_again, tree_takes}
@@ -179,7 +179,7 @@ none_at p after is never = by_cases (part_at p after) refl
     by_cases None e = refl
     by_cases (Some x) e =
         let r = part_takes p after x.0.0 x.0.1 x.1 e in
-        absurd (never (told_line p after x.0.0 x.0.1 x.1 r.place (at_means p x.0.0 r.place is r.goes) e))
+        absurd (never (parsed_line p after x.0.0 x.0.1 x.1 r.place (at_means p x.0.0 r.place is r.goes) e))
 
 -- the fault of the line behind the parts
 line_met : (most : ℕ) (p : Problem) (first : ℕ) (parts : List Part) (line : ℕ) (bytes : List ℕ) (fault : CertFault) → IsProblem p → line ≡ first + length (names parts) → IsLineFault p parts line bytes fault →
@@ -254,8 +254,8 @@ abbrev Behind : List ℕ → CertFault → Type 0
 Behind bytes fault = (head : Head) × (parts : List Part) × (line : ℕ) × (rest : List ℕ) × BeginsWithParts bytes head parts line rest × IsLineFault head.problem parts line rest fault
 
 -- the parts that are stated behind the head
-told_parts : (bytes : List ℕ) (head : Head) (parts : List Part) (line : ℕ) (rest : List ℕ) → BeginsWithParts bytes head parts line rest → AreParts head.problem (flat_map part_line parts ++ rest) parts rest
-told_parts bytes head parts line rest tells = record { each_part = tells.each_part; rising = tells.rising; text = refl }
+parsed_parts : (bytes : List ℕ) (head : Head) (parts : List Part) (line : ℕ) (rest : List ℕ) → BeginsWithParts bytes head parts line rest → AreParts head.problem (flat_map part_line parts ++ rest) parts rest
+parsed_parts bytes head parts line rest tells = record { each_part = tells.each_part; rising = tells.rising; text = refl }
 
 -- the fault that is met behind the head that the bytes begin with
 behind_met : (bytes : List ℕ) (head : Head) (behind : List ℕ) (fault : CertFault) → IsHead head → bytes ≡ head_text head ++ behind → Behind bytes fault → lines_fault (suc (length behind)) head.problem (first_part head) [] behind ≡ Some fault
@@ -263,7 +263,7 @@ behind_met bytes head behind fault is text (other, parts, line, rest, tells, why
     let same = head_once head other behind (flat_map part_line parts ++ rest) is tells.is_head (sym text ∙ tells.text) in
     let problem : IsProblem other.problem = (tells.is_head).problem in
     ap (λ (h : Head). lines_fault (suc (length behind)) h.problem (first_part h) [] behind) same.0 ∙ ap (λ l. lines_fault (suc (length l)) other.problem (first_part other) [] l) same.1
-    ∙ fault_met other.problem (first_part other) (flat_map part_line parts ++ rest) parts line rest fault problem (told_parts bytes other parts line rest tells) tells.number why
+    ∙ fault_met other.problem (first_part other) (flat_map part_line parts ++ rest) parts line rest fault problem (parsed_parts bytes other parts line rest tells) tells.number why
 
 -- no text is a script's and has a first fault
 pub script_apart : (bytes : List ℕ) (script : Script) (fault : CertFault) → IsScriptOf bytes script → IsFirstFaultOfScript bytes fault → ⊥

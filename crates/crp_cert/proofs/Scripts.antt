@@ -20,7 +20,7 @@ use Rattle.crp_cert.proofs.Numbers.{tag_takes, tag_again}
 use Rattle.crp_cert.proofs.Heads.{head_once}
 use Rattle.crp_cert.proofs.Verdicts.{some_answer}
 use Rattle.crp_cert.proofs.PartLines.{behind_word, line_then, part_takes, part_again, no_part}
-use Rattle.crp_cert.proofs.PartFaults.{no_parts, parts_push, part_line_some, told_line, no_last, no_further, tells_parts}
+use Rattle.crp_cert.proofs.PartFaults.{no_parts, parts_push, part_line_some, parsed_line, no_last, no_further, tells_parts}
 use Rattle.crp_cert.proofs.PartTests.{after_test, comes_from, comes_to, symbols_test, symbols_to, symbols_from, none_given, tree_one_line}
 use Rattle.crp_cert.proofs.TreeReading.{behind_tree, tree_again, tree_takes}
 use Rattle.crp_cert.proofs.ScriptVerdicts.{few_rows}
@@ -113,9 +113,9 @@ read_part : (p : Problem) (behind : List ℕ) (parts : List Part) (after name sy
     AreParts p behind (parts ++ (record { name = name; tree = tree }) ∷ []) rest × (length rest < length (codes "part " ++ after))
 read_part p behind parts after name symbols rest place tree problem are is_at e comes all m same =
     let part : Part = record { name = name; tree = tree } in
-    let told : BeginsWithPart p (codes "part " ++ after) = told_line p after name symbols rest place is_at e in
-    let line : codes "part " ++ after ≡ part_line part ++ rest = told.text ∙ ap (λ l. symbols_line name l ++ rest) (same ∙ append-nil (symbols_of tree)) in (
-      parts_push p behind parts (parts ++ part ∷ []) part (codes "part " ++ after) rest refl are (record { short = told.short; place = place; is_at = is_at; fits = m; not_given = none_given symbols [] tree all same }) comes line,
+    let parsed : BeginsWithPart p (codes "part " ++ after) = parsed_line p after name symbols rest place is_at e in
+    let line : codes "part " ++ after ≡ part_line part ++ rest = parsed.text ∙ ap (λ l. symbols_line name l ++ rest) (same ∙ append-nil (symbols_of tree)) in (
+      parts_push p behind parts (parts ++ part ∷ []) part (codes "part " ++ after) rest refl are (record { short = parsed.short; place = place; is_at = is_at; fits = m; not_given = none_given symbols [] tree all same }) comes line,
       part_line_some part (codes "part " ++ after) rest line,
     )
 
@@ -128,15 +128,15 @@ line_answer most bytes head behind parts after name symbols rest place is text a
     by_test : (a : Bool) → after_test (names parts) name ≡ a → (b : Bool) → symbols_test symbols ≡ b → (o : Option (List ℕ)) → behind_tree (length symbols) place symbols ≡ o → Answer bytes
     by_test false f b g o h =
         faulty bytes head behind parts (codes "part " ++ after) (faults.Order (first_part head + length parts)) is text are
-        (refl, (told_line head.problem after name symbols rest place is_at e, λ comes. let no' : false ≡ true = sym f ∙ comes_from parts name comes in cc))
+        (refl, (parsed_line head.problem after name symbols rest place is_at e, λ comes. let no' : false ≡ true = sym f ∙ comes_from parts name comes in cc))
     by_test true f false g o h =
         faulty bytes head behind parts (codes "part " ++ after) (faults.Symbol (first_part head + length parts)) is text are
-        (refl, (told_line head.problem after name symbols rest place is_at e, comes_to parts name f, λ all. let no' : false ≡ true = sym g ∙ symbols_from symbols all in cc))
+        (refl, (parsed_line head.problem after name symbols rest place is_at e, comes_to parts name f, λ all. let no' : false ≡ true = sym g ∙ symbols_from symbols all in cc))
     by_test true f true g None h =
         faulty bytes head behind parts (codes "part " ++ after) (faults.Unfinished (first_part head + length parts)) is text are (
           refl,
           (
-            told_line head.problem after name symbols rest place is_at e,
+            parsed_line head.problem after name symbols rest place is_at e,
             comes_to parts name f,
             symbols_to symbols g,
             λ stands.
@@ -152,7 +152,7 @@ line_answer most bytes head behind parts after name symbols rest place is text a
     by_test true f true g (Some (b ∷ left)) h =
         let t = tree_takes (length symbols) place symbols (b ∷ left) (few_rows head.problem name place is.problem is_at) h in
         faulty bytes head behind parts (codes "part " ++ after) (faults.Trailing (first_part head + length parts)) is text are
-        (refl, (told_line head.problem after name symbols rest place is_at e, comes_to parts name f, symbols_to symbols g, (t.0, t.1, (b, left, t.2))))
+        (refl, (parsed_line head.problem after name symbols rest place is_at e, comes_to parts name f, symbols_to symbols g, (t.0, t.1, (b, left, t.2))))
 
 -- from the line behind the parts on
 parts_answer : (most : ℕ) (bytes : List ℕ) (head : Head) (behind : List ℕ) (parts : List Part) (rest : List ℕ) → IsHead head → bytes ≡ head_text head ++ behind → length rest < most → AreParts head.problem behind parts rest → Answer bytes

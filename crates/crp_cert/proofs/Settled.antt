@@ -21,7 +21,7 @@ use Rattle.crp_cert.specs.Faults.{BeginsWith, AreHeightsOf, MayState, AreFirstSt
 use Rattle.crp_cert.specs.declared.fault.CertFault.{CertFault}
 use Rattle.crp_cert.specs.declared.fault.CertFault.TheVariants as faults
 use Rattle.crp_cert.proofs.Joined.{all_both}
-use Rattle.crp_cert.proofs.Stacks.{few_told, next_eight, next_small, fewer, few_claimed}
+use Rattle.crp_cert.proofs.Stacks.{few_parsed, next_eight, next_small, fewer, few_claimed}
 use Rattle.crp_cert.proofs.Heights.{digits, heights_are}
 use Rattle.crp_cert.specs.Settled.{IsShort, IsSettled, longest_line, longest_head, IsName, spelled_name, longest_name, BeginsWithBay}
 
@@ -120,7 +120,7 @@ no_end (x ∷ xs) e =
 
 pub size_short : (size : Size) → IsSize size → IsShort 10 longest_line (size_line size)
 size_short size is =
-    let few = is.few_rows in let low = is.few_tiers in let fit = is.ordered_fit in let total = few_told size is in
+    let few = is.few_rows in let low = is.few_tiers in let fit = is.ordered_fit in let total = few_parsed size is in
     numbers_short (codes "size") 2 99 longest_line (size.rows ∷ size.tiers ∷ size.ordered ∷ size.total ∷ []) (no_end (codes "size") refl) (omega arith) (omega arith) (omega arith)
     (omega arith, (omega arith, (omega arith, (omega arith, tt)))) (lit≤ tt)
 

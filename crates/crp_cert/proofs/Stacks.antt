@@ -32,8 +32,8 @@ pub length_push : (stacks : List (List ℕ)) (stack : List ℕ) → length (stac
 length_push stacks stack = omega (arith, length-append stacks (stack ∷ []))
 
 -- a size has few containers
-pub few_told : (size : Size) → IsSize size → size.total ≤ 96
-few_told size is =
+pub few_parsed : (size : Size) → IsSize size → size.total ≤ 96
+few_parsed size is =
     let a = is.few_rows in let b = is.few_tiers in let c = is.room in
     omega (arith, mul-le size.rows size.tiers 12 8 a b)
 
@@ -105,7 +105,7 @@ next_eight size heights stacks stack are next =
 -- ranks have one digit or two
 pub next_small : (size : Size) (heights : List ℕ) (stacks : List (List ℕ)) (stack : List ℕ) → IsSize size → IsNextStack size heights stacks stack → AllByRecursion (λ x. x ≤ 99) stack
 next_small size heights stacks stack is next = in_stack (λ x. x ≤ 99) stack (λ x here.
-    let r = next.in_range x (omega (arith, occurrences_push x stacks stack)) in omega (arith, few_told size is, r.1))
+    let r = next.in_range x (omega (arith, occurrences_push x stacks stack)) in omega (arith, few_parsed size is, r.1))
 
 -- the stacks before are first stacks too
 pub fewer : (size : Size) (heights : List ℕ) (a b : List (List ℕ)) → 1 ≤ length b → AreFirstStacks size heights (a ++ b) → AreFirstStacks size heights a
@@ -221,7 +221,7 @@ cap_is size heights stacks are = ap (λ t. size.ordered * (t - 1) + 1) are.large
 pub few_claimed : (size : Size) → IsSize size → most_claimed size ≤ 9999
 few_claimed size is =
     let a : size.ordered ≤ size.total = is.ordered_fit in let b : size.tiers ≤ 8 = is.few_tiers in
-    omega (arith, mul-le size.ordered (size.tiers - 1) 96 7 (omega (arith, few_told size is)) (omega arith))
+    omega (arith, mul-le size.ordered (size.tiers - 1) 96 7 (omega (arith, few_parsed size is)) (omega arith))
 
 -- ---- a test
 

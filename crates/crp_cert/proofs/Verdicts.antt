@@ -171,13 +171,13 @@ met_frame bytes frame rest tells =
 
 -- past the lines down to these stacks
 met_stacks : (bytes : List ℕ) (frame : Frame) (stacks : List (List ℕ)) (rest : List ℕ) (left : ℕ) → BeginsWithStacks bytes frame stacks rest → frame.size.rows ≡ left + length stacks → met bytes ≡ rows_fault frame left stacks rest
-met_stacks bytes frame stacks rest left told e =
-    met_frame bytes frame (flat_map row_line stacks ++ rest) told.tells ∙ past_rows frame left frame.size.rows [] stacks rest told.tells.is_size told.first e
+met_stacks bytes frame stacks rest left parsed e =
+    met_frame bytes frame (flat_map row_line stacks ++ rest) parsed.tells ∙ past_rows frame left frame.size.rows [] stacks rest parsed.tells.is_size parsed.first e
 
 -- past all row lines
 met_all : (bytes : List ℕ) (frame : Frame) (stacks : List (List ℕ)) (rest : List ℕ) → BeginsWithStacks bytes frame stacks rest → length stacks ≡ frame.size.rows → met bytes ≡ claim_fault frame rest
 unfolding rows_fault
-met_all bytes frame stacks rest told all = met_stacks bytes frame stacks rest 0 told (omega arith)
+met_all bytes frame stacks rest parsed all = met_stacks bytes frame stacks rest 0 parsed (omega arith)
 
 -- past the claim line
 past_claim : (frame : Frame) (claim : Claim) (rest : List ℕ) → IsSize frame.size → MayClaim frame.version (most_claimed frame.size) claim → claim_fault frame (claim_line claim ++ rest) ≡ plan_fault frame rest
@@ -199,17 +199,17 @@ met_fault bytes (faults.Size line) (inr is) =
     let name : YardBay = is.1.0 in let size : Size = is.1.1 in let rest : List ℕ = is.1.2 in
     ap met is.1.5 ∙ past_title Two (bay_line name ++ (size_line size ++ rest)) ∙ past_bay Two name (size_line size ++ rest) is.1.3 ∙ past_size Two size rest is.1.4
     ∙ ap (λ o. or_fault o (faults.Size 4) (λ x. rows_fault (frame_of Two size x.0) size.rows [] x.1)) (none_read (line_reader size is.1.4) rest is.1.6) ∙ ap (λ n. Some (faults.Size n)) (sym is.0)
-met_fault bytes (faults.Row line) (frame, stacks, rest, told, more, place, none) =
-    met_stacks bytes frame stacks rest (suc (frame.size.rows - suc (length stacks))) told (omega arith)
+met_fault bytes (faults.Row line) (frame, stacks, rest, parsed, more, place, none) =
+    met_stacks bytes frame stacks rest (suc (frame.size.rows - suc (length stacks))) parsed (omega arith)
     ∙ ap (λ o. or_fault o (faults.Row (first_row frame.version + length stacks)) (λ x. rows_fault frame (frame.size.rows - suc (length stacks)) (stacks ++ x.0 ∷ []) x.1))
-    (none_read (next_reader frame.size frame.heights stacks told.tells.is_size) rest none)
+    (none_read (next_reader frame.size frame.heights stacks parsed.tells.is_size) rest none)
     ∙ ap (λ n. Some (faults.Row n)) (sym place)
-met_fault bytes (faults.Claim line) (frame, stacks, rest, told, all, place, none) =
-    met_all bytes frame stacks rest told all
-    ∙ ap (λ o. or_fault o (faults.Claim (claim_number frame)) (λ x. plan_fault frame x.1)) (none_read (claim_reader frame.version (most_claimed frame.size) (few_claimed frame.size told.tells.is_size)) rest none)
+met_fault bytes (faults.Claim line) (frame, stacks, rest, parsed, all, place, none) =
+    met_all bytes frame stacks rest parsed all
+    ∙ ap (λ o. or_fault o (faults.Claim (claim_number frame)) (λ x. plan_fault frame x.1)) (none_read (claim_reader frame.version (most_claimed frame.size) (few_claimed frame.size parsed.tells.is_size)) rest none)
     ∙ ap (λ n. Some (faults.Claim n)) (sym place)
-met_fault bytes (faults.Plan line) (frame, stacks, claim, rest, told, all, low, place, none) =
-    met_all bytes frame stacks (claim_line claim ++ rest) told all ∙ past_claim frame claim rest told.tells.is_size low
+met_fault bytes (faults.Plan line) (frame, stacks, claim, rest, parsed, all, low, place, none) =
+    met_all bytes frame stacks (claim_line claim ++ rest) parsed all ∙ past_claim frame claim rest parsed.tells.is_size low
     ∙ ap (λ o. or_fault o (faults.Plan (claim_number frame + 1)) (λ x. None)) (none_read plan_reader rest none)
     ∙ ap (λ n. Some (faults.Plan n)) (sym place)
 met_fault bytes _ is = absurd is
@@ -250,9 +250,9 @@ met_head : (bytes : List ℕ) (head : Head) → IsHeadOf bytes head → met byte
 unfolding plan_fault
 met_head bytes head of =
     let is = of.0 in let rest : List ℕ = of.1.0 in let frame : Frame = frame_in head in
-    let told = head_tells bytes head rest is of.1.1 in
-    met_all bytes frame head.problem.stacks (claim_line head.claim ++ (plan_line head.plan ++ rest)) told refl
-    ∙ past_claim frame head.claim (plan_line head.plan ++ rest) told.tells.is_size (may_claim head is)
+    let parsed = head_tells bytes head rest is of.1.1 in
+    met_all bytes frame head.problem.stacks (claim_line head.claim ++ (plan_line head.plan ++ rest)) parsed refl
+    ∙ past_claim frame head.claim (plan_line head.plan ++ rest) parsed.tells.is_size (may_claim head is)
     ∙ ap (λ o. or_fault o (faults.Plan (claim_number frame + 1)) (λ x. None)) (plan_reader.again head.plan rest is.plan)
 
 -- no text has both
@@ -270,17 +270,17 @@ abbrev Answer : List ℕ → Type 0
 Answer bytes = ((head : Head) × IsHeadOf bytes head) ⊎ ((fault : CertFault) × IsFirstFault bytes fault)
 
 -- the head that these lines state
-abbrev pub told_head : YardBay → Frame → List (List ℕ) → Claim → Option (List ℕ) → Head
-told_head name frame stacks claim plan = record { version = frame.version; bay = name; problem = stated_with frame.heights frame.size.ordered stacks; claim = claim; plan = plan }
+abbrev pub parsed_head : YardBay → Frame → List (List ℕ) → Claim → Option (List ℕ) → Head
+parsed_head name frame stacks claim plan = record { version = frame.version; bay = name; problem = stated_with frame.heights frame.size.ordered stacks; claim = claim; plan = plan }
 
 pub head_of : (bytes : List ℕ) (name : YardBay) (frame : Frame) (stacks : List (List ℕ)) (claim : Claim) (plan : Option (List ℕ)) (rest : List ℕ) → IsYardBay name → IsSize frame.size →
     MayState frame.version frame.size frame.heights → AreFirstStacks frame.size frame.heights stacks → length stacks ≡ frame.size.rows → MayClaim frame.version (most_claimed frame.size) claim → IfSome plan AreRows →
     bytes ≡ title_line frame.version ++ (bay_line name ++ (size_line frame.size ++ (stated_heights frame.version frame.heights ++ (flat_map row_line stacks ++ (claim_line claim ++ (plan_line plan ++ rest)))))) →
-    IsHead (told_head name frame stacks claim plan) × (bytes ≡ head_text (told_head name frame stacks claim plan) ++ rest)
+    IsHead (parsed_head name frame stacks claim plan) × (bytes ≡ head_text (parsed_head name frame stacks claim plan) ++ rest)
 head_of bytes name frame stacks claim plan rest named is state first all low fits text =
     let size : Size = frame.size in let heights : List ℕ = frame.heights in
     let are = heights_are frame.version size heights is state in
-    let head : Head = told_head name frame stacks claim plan in
+    let head : Head = parsed_head name frame stacks claim plan in
     let same : size ≡ size_of (stated_with heights size.ordered stacks) =
     same_size size.rows size.tiers size.total (length stacks) (tallest heights) (total stacks) size.ordered (sym all) (sym are.largest) (sym (total_is size heights stacks first all)) in (
       record {
@@ -302,29 +302,29 @@ head_of bytes name frame stacks claim plan rest named is state first all low fit
 
 -- from the plan line on there is one of the two
 plan_answer : (bytes : List ℕ) (frame : Frame) (stacks : List (List ℕ)) (claim : Claim) (rest : List ℕ) → BeginsWithStacks bytes frame stacks (claim_line claim ++ rest) → length stacks ≡ frame.size.rows → MayClaim frame.version (most_claimed frame.size) claim → Answer bytes
-plan_answer bytes frame stacks claim rest told all low = by_plan (plan_at rest) refl
+plan_answer bytes frame stacks claim rest parsed all low = by_plan (plan_at rest) refl
   where
     by_plan : (o : Option (Option (List ℕ) × List ℕ)) → plan_at rest ≡ o → Answer bytes
-    by_plan None e = inr (faults.Plan (claim_number frame + 1), (frame, stacks, claim, rest, told, all, low, refl, none_stands plan_reader rest e))
+    by_plan None e = inr (faults.Plan (claim_number frame + 1), (frame, stacks, claim, rest, parsed, all, low, refl, none_stands plan_reader rest e))
     by_plan (Some x) e =
-        let name : YardBay = told.tells.name in
+        let name : YardBay = parsed.tells.name in
         let t = plan_reader.takes rest x.0 x.1 e in
-        let h = head_of bytes name frame stacks claim x.0 x.1 told.tells.named told.tells.is_size told.tells.may_state told.first all low t.0
-        (told.tells.text ∙ ap (λ l. title_line frame.version ++ (bay_line name ++ (size_line frame.size ++ (stated_heights frame.version frame.heights ++ (flat_map row_line stacks ++ (claim_line claim ++ l)))))) t.1) in
-        inl (told_head name frame stacks claim x.0, (h.0, (x.1, h.1)))
+        let h = head_of bytes name frame stacks claim x.0 x.1 parsed.tells.named parsed.tells.is_size parsed.tells.may_state parsed.first all low t.0
+        (parsed.tells.text ∙ ap (λ l. title_line frame.version ++ (bay_line name ++ (size_line frame.size ++ (stated_heights frame.version frame.heights ++ (flat_map row_line stacks ++ (claim_line claim ++ l)))))) t.1) in
+        inl (parsed_head name frame stacks claim x.0, (h.0, (x.1, h.1)))
 
 -- from the claim line on
 claim_answer : (bytes : List ℕ) (frame : Frame) (stacks : List (List ℕ)) (rest : List ℕ) → BeginsWithStacks bytes frame stacks rest → length stacks ≡ frame.size.rows → Answer bytes
-claim_answer bytes frame stacks rest told all = by_claim (claim_at frame.version (most_claimed frame.size) rest) refl
+claim_answer bytes frame stacks rest parsed all = by_claim (claim_at frame.version (most_claimed frame.size) rest) refl
   where
     reader : IsReader (MayClaim frame.version (most_claimed frame.size)) claim_line (claim_at frame.version (most_claimed frame.size))
-    reader = claim_reader frame.version (most_claimed frame.size) (few_claimed frame.size told.tells.is_size)
+    reader = claim_reader frame.version (most_claimed frame.size) (few_claimed frame.size parsed.tells.is_size)
 
     by_claim : (o : Option (Claim × List ℕ)) → claim_at frame.version (most_claimed frame.size) rest ≡ o → Answer bytes
-    by_claim None e = inr (faults.Claim (claim_number frame), (frame, stacks, rest, told, all, refl, none_stands reader rest e))
+    by_claim None e = inr (faults.Claim (claim_number frame), (frame, stacks, rest, parsed, all, refl, none_stands reader rest e))
     by_claim (Some x) e =
         let t = reader.takes rest x.0 x.1 e in
-        plan_answer bytes frame stacks x.0 x.1 (subst (BeginsWithStacks bytes frame stacks) t.1 told) all t.0
+        plan_answer bytes frame stacks x.0 x.1 (subst (BeginsWithStacks bytes frame stacks) t.1 parsed) all t.0
 
 -- the text of one more stack
 pub text_push : (bytes : List ℕ) (stacks : List (List ℕ)) (stack rest after : List ℕ) → bytes ≡ flat_map row_line stacks ++ rest → rest ≡ row_line stack ++ after → bytes ≡ flat_map row_line (stacks ++ stack ∷ []) ++ after
@@ -339,25 +339,25 @@ text_push bytes stacks stack rest after e f = e ∙ ap (λ l. flat_map row_line 
 -- the lines with one more row
 pub tells_next : (bytes : List ℕ) (frame : Frame) (stacks : List (List ℕ)) (stack rest after : List ℕ) → BeginsWithStacks bytes frame stacks rest → IsNextStack frame.size frame.heights stacks stack → rest ≡ row_line stack ++ after →
     BeginsWithStacks bytes frame (stacks ++ stack ∷ []) after
-tells_next bytes frame stacks stack rest after told next e = record {
-  tells = subst (BeginsWithFrame bytes frame) (text_push (flat_map row_line stacks ++ rest) stacks stack rest after refl e) told.tells;
+tells_next bytes frame stacks stack rest after parsed next e = record {
+  tells = subst (BeginsWithFrame bytes frame) (text_push (flat_map row_line stacks ++ rest) stacks stack rest after refl e) parsed.tells;
   first = next;
 }
 
 -- from a row line on
 rows_answer : (left : ℕ) (bytes : List ℕ) (frame : Frame) (stacks : List (List ℕ)) (rest : List ℕ) → BeginsWithStacks bytes frame stacks rest → frame.size.rows ≡ left + length stacks → Answer bytes
-rows_answer zero bytes frame stacks rest told e = claim_answer bytes frame stacks rest told (omega arith)
-rows_answer (suc left) bytes frame stacks rest told e =
+rows_answer zero bytes frame stacks rest parsed e = claim_answer bytes frame stacks rest parsed (omega arith)
+rows_answer (suc left) bytes frame stacks rest parsed e =
     by_row (λ stack after next. rows_answer left bytes frame (stacks ++ stack ∷ []) after next (omega (arith, length_push stacks stack))) (next_at frame.size frame.heights stacks rest) refl
   where
     reader : IsReader (IsNextStack frame.size frame.heights stacks) row_line (next_at frame.size frame.heights stacks)
-    reader = next_reader frame.size frame.heights stacks told.tells.is_size
+    reader = next_reader frame.size frame.heights stacks parsed.tells.is_size
 
     by_row : ((stack after : List ℕ) → BeginsWithStacks bytes frame (stacks ++ stack ∷ []) after → Answer bytes) → (o : Option (List ℕ × List ℕ)) → next_at frame.size frame.heights stacks rest ≡ o → Answer bytes
-    by_row go None f = inr (faults.Row (first_row frame.version + length stacks), (frame, stacks, rest, told, omega arith, refl, none_stands reader rest f))
+    by_row go None f = inr (faults.Row (first_row frame.version + length stacks), (frame, stacks, rest, parsed, omega arith, refl, none_stands reader rest f))
     by_row go (Some x) f =
         let t = reader.takes rest x.0 x.1 f in
-        go x.0 x.1 (tells_next bytes frame stacks x.0 rest x.1 told t.0 t.1)
+        go x.0 x.1 (tells_next bytes frame stacks x.0 rest x.1 parsed t.0 t.1)
 
 -- from behind the size line on
 heights_answer : (bytes : List ℕ) (version : Version) (name : YardBay) (size : Size) (rest : List ℕ) → IsYardBay name → IsSize size → bytes ≡ title_line version ++ (bay_line name ++ (size_line size ++ rest)) → Answer bytes

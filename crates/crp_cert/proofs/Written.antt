@@ -36,10 +36,10 @@ one_more f (y ∷ ys) zero x e = append-nil (f y) ∙ ap f (same_Some y x e)
 one_more f (y ∷ ys) (suc i) x e = ap (λ l. f y ++ l) (one_more f ys i x e) ∙ sym (append_assoc (f y) (flat_map f (take i ys)) (f x))
 
 -- the lines of a head, each behind those before it, make its text
-pub head_joined : (bay : YardBay) (p : Problem) (claim : Claim) (plan : Option ProblemPath) (version : Version) (old titled named sized high told claimed all : List ℕ) → version ≡ version_under p claim → titled ≡ old ++ title_line version →
-    named ≡ titled ++ bay_line bay → sized ≡ named ++ size_line (size_of p) → high ≡ sized ++ stated_heights version p.heights → told ≡ high ++ flat_map row_line p.stacks → claimed ≡ told ++ claim_line claim →
+pub head_joined : (bay : YardBay) (p : Problem) (claim : Claim) (plan : Option ProblemPath) (version : Version) (old titled named sized high parsed claimed all : List ℕ) → version ≡ version_under p claim → titled ≡ old ++ title_line version →
+    named ≡ titled ++ bay_line bay → sized ≡ named ++ size_line (size_of p) → high ≡ sized ++ stated_heights version p.heights → parsed ≡ high ++ flat_map row_line p.stacks → claimed ≡ parsed ++ claim_line claim →
     all ≡ claimed ++ plan_line (path_in plan) → all ≡ old ++ head_text (head_for bay p claim plan)
-head_joined bay p claim plan version old titled named sized high told claimed' all ev et en es eh er ec ea =
+head_joined bay p claim plan version old titled named sized high parsed claimed' all ev et en es eh er ec ea =
     let name : List ℕ = bay_line bay in let size : List ℕ = size_line (size_of p) in let rows : List ℕ = flat_map row_line p.stacks in
     let low : List ℕ = claim_line claim in let last : List ℕ = plan_line (path_in plan) in
     ea ∙ ap (λ l. l ++ last) (ec ∙ ap (λ l. l ++ low) (er ∙ ap (λ l. l ++ rows) (eh ∙ ap (λ l. l ++ stated_heights version p.heights) (es ∙ ap (λ l. l ++ size) (en ∙ ap (λ l. l ++ name) et)))))
@@ -54,12 +54,12 @@ pub text_joined : (bay : YardBay) (p : Problem) (cert : Certificate) (claim : Cl
     parts ≡ cert.parts → again ≡ cert.parts → none ≡ [] → head ≡ none ++ head_text (head_for bay p claim plan) →
     lines ≡ head ++ flat_map (λ part. part_line (part_of part)) parts → text ≡ lines ++ end_line (length again) → text ≡ text_under bay p cert claim plan
 text_joined bay p cert claim plan parts again none head lines text ep ea en eh es et =
-    let told : List Part = map part_of cert.parts in
+    let parsed : List Part = map part_of cert.parts in
     let front : head ≡ head_text (head_for bay p claim plan) = eh ∙ ap (λ l. l ++ head_text (head_for bay p claim plan)) en in
-    let middle : flat_map (λ part. part_line (part_of part)) parts ≡ flat_map part_line told = ap (flat_map (λ part. part_line (part_of part))) ep ∙ sym (flat_map-map part_line part_of cert.parts) in
-    let end : end_line (length again) ≡ end_line (length told) = ap end_line (ap length ea ∙ sym (length-map cert.parts part_of)) in
+    let middle : flat_map (λ part. part_line (part_of part)) parts ≡ flat_map part_line parsed = ap (flat_map (λ part. part_line (part_of part))) ep ∙ sym (flat_map-map part_line part_of cert.parts) in
+    let end : end_line (length again) ≡ end_line (length parsed) = ap end_line (ap length ea ∙ sym (length-map cert.parts part_of)) in
     et ∙ ap₂ (λ a b. a ++ b) (es ∙ ap₂ (λ a b. a ++ b) front middle) end
-    ∙ append_assoc (head_text (head_for bay p claim plan)) (flat_map part_line told) (end_line (length told))
+    ∙ append_assoc (head_text (head_for bay p claim plan)) (flat_map part_line parsed) (end_line (length parsed))
 
 -- ---- what is written can be read
 

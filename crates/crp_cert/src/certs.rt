@@ -42,29 +42,29 @@ fn next_part<'a>(
     bytes: &'a [u8],
 ) -> Result<(PartLine, &'a [u8]), CertFault>
     requires { AllPairs Precedes (names parts.now) }
-    ensures part { IfOk result (λ told. IsPartLine problem.now told.0) }
-    ensures after { IfOk result (λ told. ComesAfter parts.now told.0.name) }
-    ensures text { IfOk result (λ told. codes "part " ++ bytes.now ≡ part_line told.0 ++ told.1.now) }
+    ensures part { IfOk result (λ parsed. IsPartLine problem.now parsed.0) }
+    ensures after { IfOk result (λ parsed. ComesAfter parts.now parsed.0.name) }
+    ensures text { IfOk result (λ parsed. codes "part " ++ bytes.now ≡ part_line parsed.0 ++ parsed.1.now) }
     ensures refused { IfErr result (λ fault. (fault ≡ CertFault.Memory)
         ⊎ IsLineFault problem.now parts.now line (codes "part " ++ bytes.now) fault) }
 {
-    let Some(mut told) = part_line(problem, bytes) else {
+    let Some(mut parsed) = part_line(problem, bytes) else {
         return Err(CertFault::Part { line });
     };
-    if !comes_after(parts, &told.name) {
+    if !comes_after(parts, &parsed.name) {
         return Err(CertFault::Order { line });
     }
-    let symbols = told.symbols;
+    let symbols = parsed.symbols;
     if !are_symbols(symbols) {
         return Err(CertFault::Symbol { line });
     }
-    let Some((tree, left)) = read_tree(alloc, &mut told.place, symbols)? else {
+    let Some((tree, left)) = read_tree(alloc, &mut parsed.place, symbols)? else {
         return Err(CertFault::Unfinished { line });
     };
     if !left.is_empty() {
         return Err(CertFault::Trailing { line });
     }
-    Ok((PartLine::new(told.name, tree), told.rest))
+    Ok((PartLine::new(parsed.name, tree), parsed.rest))
 }
 
 /// The parts that the lines from the first one on state, and what follows the last of these lines.
@@ -76,8 +76,8 @@ fn all_parts<'a>(
 ) -> Result<(Vec<PartLine>, &'a [u8]), CertFault>
     requires problem { IsProblem problem.now }
     requires first { first ≤ 19 }
-    ensures parts { IfOk result (λ told. AreParts problem.now bytes.now told.0.items told.1.now) }
-    ensures all { IfOk result (λ told. tag_at (codes "part ") told.1.now ≡ None) }
+    ensures parts { IfOk result (λ parsed. AreParts problem.now bytes.now parsed.0.items parsed.1.now) }
+    ensures all { IfOk result (λ parsed. tag_at (codes "part ") parsed.1.now ≡ None) }
     ensures refused { IfErr result (λ fault. (fault ≡ CertFault.Memory) ⊎ IsPartsFault problem.now first bytes.now fault) }
 {
     let mut parts = Vec::new(alloc);

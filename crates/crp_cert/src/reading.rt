@@ -30,11 +30,11 @@ fn next_stack<'a>(
     requires heights { AreHeightsOf size heights.now }
     requires first { AreFirstStacks size heights.now (stacks_of stacks.old.items) }
     requires more { vec_len stacks.old < size.rows }
-    ensures found { IfOk result (λ told. IfSome told (λ rest.
+    ensures found { IfOk result (λ parsed. IfSome parsed (λ rest.
         (stack : List ℕ) × IsNextStack size heights.now (stacks_of stacks.old.items) stack
         × (bytes.now ≡ row_line stack ++ rest.now)
         × (stacks_of stacks.new.items ≡ stacks_of stacks.old.items ++ stack ∷ []))) }
-    ensures none { IfOk result (λ told. IfNone told
+    ensures none { IfOk result (λ parsed. IfNone parsed
         (¬ BeginsWith (IsNextStack size heights.now (stacks_of stacks.old.items)) row_line bytes.now)) }
 {
     let height = heights[stacks.len()] as usize;
@@ -61,10 +61,10 @@ fn all_stacks<'a>(
 ) -> Result<(Vec<Vec<u8>>, &'a [u8]), CertFault>
     requires size { IsSize size }
     requires heights { AreHeightsOf size heights.now }
-    ensures first { IfOk result (λ told. AreFirstStacks size heights.now (stacks_of told.0.items)) }
-    ensures all { IfOk result (λ told. vec_len told.0 ≡ size.rows) }
-    ensures text { IfOk result (λ told.
-        bytes.now ≡ flat_map row_line (stacks_of told.0.items) ++ told.1.now) }
+    ensures first { IfOk result (λ parsed. AreFirstStacks size heights.now (stacks_of parsed.0.items)) }
+    ensures all { IfOk result (λ parsed. vec_len parsed.0 ≡ size.rows) }
+    ensures text { IfOk result (λ parsed.
+        bytes.now ≡ flat_map row_line (stacks_of parsed.0.items) ++ parsed.1.now) }
     ensures refused { IfErr result (λ fault. (fault ≡ CertFault.Memory) ⊎ IsStackFault version size heights.now bytes.now fault) }
 {
     let mut stacks = Vec::new(alloc);
@@ -96,8 +96,8 @@ fn problem_of(size: Size, heights: &[u8], stacks: &[Vec<u8>]) -> Problem
 
 /// The head that the bytes begin with, and what follows its plan line.
 pub fn head_and_rest(alloc: Global, bytes: &[u8]) -> Result<(Head, &[u8]), CertFault>
-    ensures head { IfOk result (λ told. IsHead told.0) }
-    ensures text { IfOk result (λ told. bytes.now ≡ head_text told.0 ++ told.1.now) }
+    ensures head { IfOk result (λ parsed. IsHead parsed.0) }
+    ensures text { IfOk result (λ parsed. bytes.now ≡ head_text parsed.0 ++ parsed.1.now) }
     ensures refused { IfErr result (λ fault. (fault ≡ CertFault.Memory) ⊎ IsFirstFault bytes.now fault) }
 {
     let Some((version, rest)) = title_of(bytes) else {

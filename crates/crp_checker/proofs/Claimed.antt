@@ -58,35 +58,35 @@ parts_high claim plan p [] met = tt
 parts_high claim plan p (part ∷ parts) met = (high_under claim plan (nodes_in p part) met.0, parts_high claim plan p parts met.1)
 
 -- a claim that passes all looks is accepted
-pub accepted_from : (told : Script) (held given : List (List ℕ)) → IsScript told → IfSome told.head.plan (IsPlanPath told.head.problem) → HasItsPlan told.head.claim told.head.plan →
-    AreRightParts told → held ≡ names told.parts → given ≡ flat_map (given_by told.head.problem) told.parts →
-    ((name : List ℕ) → Contains held name ↔ IsRootOrGiven given name) → IsAcceptedScript told
-accepted_from told held given readable plan its right e d same =
-    let p : Problem = told.head.problem in
+pub accepted_from : (parsed : Script) (held given : List (List ℕ)) → IsScript parsed → IfSome parsed.head.plan (IsPlanPath parsed.head.problem) → HasItsPlan parsed.head.claim parsed.head.plan →
+    AreRightParts parsed → held ≡ names parsed.parts → given ≡ flat_map (given_by parsed.head.problem) parsed.parts →
+    ((name : List ℕ) → Contains held name ↔ IsRootOrGiven given name) → IsAcceptedScript parsed
+accepted_from parsed held given readable plan its right e d same =
+    let p : Problem = parsed.head.problem in
     let head = readable.is_head in
     let is : IsProblem p = head.problem in
-    let lines = recursion_from_All (IsPartLine p) told.parts readable.each_part in
-    let needed : (name : List ℕ) → Contains (names told.parts) name ↔ IsNeeded p told.parts name =
-    λ name. subst (λ l. Contains (names told.parts) name ↔ IsRootOrGiven l name) d (subst (λ l. Contains l name ↔ IsRootOrGiven given name) e (same name)) in
-    let met = parts_met p (need_in told) told.parts right in
-    let ok : IsAccepted (claim_of told) =
+    let lines = recursion_from_All (IsPartLine p) parsed.parts readable.each_part in
+    let needed : (name : List ℕ) → Contains (names parsed.parts) name ↔ IsNeeded p parsed.parts name =
+    λ name. subst (λ l. Contains (names parsed.parts) name ↔ IsRootOrGiven l name) d (subst (λ l. Contains l name ↔ IsRootOrGiven given name) e (same name)) in
+    let met = parts_met p (need_in parsed) parsed.parts right in
+    let ok : IsAccepted (claim_of parsed) =
     record {
       is_problem = is;
       within_cap = head.claim;
       plan_is = plan;
-      each_part = All-from_recursion (IsPart p) told.parts (parts_are p (need_in told) told.parts is lines right (short_names told p readable.each_part needed));
-      each_cut = All-from_recursion (λ part. HasAtLeast (bound told.head.claim) (nodes_in p part)) told.parts (parts_high told.head.claim told.head.plan p told.parts met);
-      each_once = distinct (names told.parts) readable.rising;
+      each_part = All-from_recursion (IsPart p) parsed.parts (parts_are p (need_in parsed) parsed.parts is lines right (short_names parsed p readable.each_part needed));
+      each_cut = All-from_recursion (λ part. HasAtLeast (bound parsed.head.claim) (nodes_in p part)) parsed.parts (parts_high parsed.head.claim parsed.head.plan p parsed.parts met);
+      each_once = distinct (names parsed.parts) readable.rising;
       as_needed = needed;
     } in
-    accepted_under told.head.claim (claim_of told) refl ok its met
+    accepted_under parsed.head.claim (claim_of parsed) refl ok its met
   where
-    short_names : (told : Script) (p : Problem) → All (IsPartLine p) told.parts → ((name : List ℕ) → Contains (names told.parts) name ↔ IsNeeded p told.parts name) →
-        (part : Part) (g : List ℕ) → Contains told.parts part → Contains (given_by p part) g → length g ≤ 8
-    short_names told p each needed part g c d =
-        let there : Contains (names told.parts) g = (needed g).1 (inr (in_flat_map (given_by p) told.parts part g c d)) in
-        let y = from_map (λ r. r.name) told.parts g there in
-        let r = All-contains (IsPartLine p) told.parts y.0 each y.1 in
+    short_names : (parsed : Script) (p : Problem) → All (IsPartLine p) parsed.parts → ((name : List ℕ) → Contains (names parsed.parts) name ↔ IsNeeded p parsed.parts name) →
+        (part : Part) (g : List ℕ) → Contains parsed.parts part → Contains (given_by p part) g → length g ≤ 8
+    short_names parsed p each needed part g c d =
+        let there : Contains (names parsed.parts) g = (needed g).1 (inr (in_flat_map (given_by p) parsed.parts part g c d)) in
+        let y = from_map (λ r. r.name) parsed.parts g there in
+        let r = All-contains (IsPartLine p) parsed.parts y.0 each y.1 in
         subst (λ n. length n ≤ 8) y.2 r.short
 
 -- names that are refused are refused as said

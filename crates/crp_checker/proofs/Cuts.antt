@@ -114,11 +114,11 @@ texts_more file [] rest text after begins e front = (after, begins ∙ e, front,
 texts_more file (first ∷ texts) rest text after begins e front = (begins.0, begins.1, begins.2, texts_more begins.0 texts rest text after begins.3 e front)
 
 -- and shows one verdict more
-pub shown_more : (texts : List (List ℕ)) (verdicts : List (YardBay × Verdict)) (text : List ℕ) (told : YardBay × Verdict) → ShowEach texts verdicts → TextShowsFor text told.0 told.1 → ShowEach (texts ++ text ∷ []) (verdicts ++ told ∷ [])
-shown_more [] [] text told s k = (k, tt)
-shown_more [] (v ∷ verdicts) text told s k = absurd s
-shown_more (first ∷ texts) [] text told s k = absurd s
-shown_more (first ∷ texts) (v ∷ verdicts) text told s k = (s.0, shown_more texts verdicts text told s.1 k)
+pub shown_more : (texts : List (List ℕ)) (verdicts : List (YardBay × Verdict)) (text : List ℕ) (parsed : YardBay × Verdict) → ShowEach texts verdicts → TextShowsFor text parsed.0 parsed.1 → ShowEach (texts ++ text ∷ []) (verdicts ++ parsed ∷ [])
+shown_more [] [] text parsed s k = (k, tt)
+shown_more [] (v ∷ verdicts) text parsed s k = absurd s
+shown_more (first ∷ texts) [] text parsed s k = absurd s
+shown_more (first ∷ texts) (v ∷ verdicts) text parsed s k = (s.0, shown_more texts verdicts text parsed s.1 k)
 
 -- there are as many verdicts as texts
 pub as_many : (texts : List (List ℕ)) (verdicts : List (YardBay × Verdict)) → ShowEach texts verdicts → length texts ≡ length verdicts

@@ -53,33 +53,33 @@ pub says_from : (script : Script) (verdict : Verdict) → IsAcceptedScript scrip
 says_from script verdict ok v = says_under script.head.claim (claim_of script) verdict refl ok v
 
 -- the bytes of a script begin with no other head
-pub head_is : (bytes : List ℕ) (told : Script) (head : Head) → IsScriptOf bytes told → IsHeadOf bytes head → head ≡ told.head
-head_is bytes told head is of =
+pub head_is : (bytes : List ℕ) (parsed : Script) (head : Head) → IsScriptOf bytes parsed → IsHeadOf bytes head → head ≡ parsed.head
+head_is bytes parsed head is of =
     let readable = is.0 in
     let rest = of.1 in
-    (head_once head told.head rest.0 _ of.0 readable.is_head (sym rest.1 ∙ is.1)).0
+    (head_once head parsed.head rest.0 _ of.0 readable.is_head (sym rest.1 ∙ is.1)).0
 
 -- what an accepted certificate shows of the problem that its bytes state
-pub says_of_head : (wanted : Option Problem) (bytes : List ℕ) (told : Script) (verdict : Verdict) (head : Head) → IsAcceptedText wanted bytes told → IsVerdict told verdict → IsHeadOf bytes head → Says head.problem verdict
-says_of_head wanted bytes told verdict head known v of =
-    subst (λ h. Says h.problem verdict) (sym (head_is bytes told head known.is_text of)) (says_from told verdict known.accepted v)
+pub says_of_head : (wanted : Option Problem) (bytes : List ℕ) (parsed : Script) (verdict : Verdict) (head : Head) → IsAcceptedText wanted bytes parsed → IsVerdict parsed verdict → IsHeadOf bytes head → Says head.problem verdict
+says_of_head wanted bytes parsed verdict head known v of =
+    subst (λ h. Says h.problem verdict) (sym (head_is bytes parsed head known.is_text of)) (says_from parsed verdict known.accepted v)
 
 -- and of each plan of that problem
-pub bound_of_head : (wanted : Option Problem) (bytes : List ℕ) (told : Script) (head : Head) (moves : List Move) → IsAcceptedText wanted bytes told → IsHeadOf bytes head → IsPlan head.problem moves → bound head.claim ≤ relocations moves
-bound_of_head wanted bytes told head moves known of plan =
-    let same = head_is bytes told head known.is_text of in
-    subst (λ h. bound h.claim ≤ relocations moves) (sym same) (bounded (claim_of told) moves (accepted_claim told.head.claim (claim_of told) known.accepted) (subst (λ h. IsPlan h.problem moves) same plan))
+pub bound_of_head : (wanted : Option Problem) (bytes : List ℕ) (parsed : Script) (head : Head) (moves : List Move) → IsAcceptedText wanted bytes parsed → IsHeadOf bytes head → IsPlan head.problem moves → bound head.claim ≤ relocations moves
+bound_of_head wanted bytes parsed head moves known of plan =
+    let same = head_is bytes parsed head known.is_text of in
+    subst (λ h. bound h.claim ≤ relocations moves) (sym same) (bounded (claim_of parsed) moves (accepted_claim parsed.head.claim (claim_of parsed) known.accepted) (subst (λ h. IsPlan h.problem moves) same plan))
 
 -- at the cap there is no plan
-pub none_of_head : (wanted : Option Problem) (bytes : List ℕ) (told : Script) (head : Head) (moves : List Move) → IsAcceptedText wanted bytes told → IsHeadOf bytes head → bound head.claim ≡ cap head.problem → IsPlan head.problem moves → ⊥
-none_of_head wanted bytes told head moves known of most plan =
-    let same = head_is bytes told head known.is_text of in
-    no_plan_at_cap (claim_of told) moves (accepted_claim told.head.claim (claim_of told) known.accepted) (subst (λ h. bound h.claim ≡ cap h.problem) same most) (subst (λ h. IsPlan h.problem moves) same plan)
+pub none_of_head : (wanted : Option Problem) (bytes : List ℕ) (parsed : Script) (head : Head) (moves : List Move) → IsAcceptedText wanted bytes parsed → IsHeadOf bytes head → bound head.claim ≡ cap head.problem → IsPlan head.problem moves → ⊥
+none_of_head wanted bytes parsed head moves known of most plan =
+    let same = head_is bytes parsed head known.is_text of in
+    no_plan_at_cap (claim_of parsed) moves (accepted_claim parsed.head.claim (claim_of parsed) known.accepted) (subst (λ h. bound h.claim ≡ cap h.problem) same most) (subst (λ h. IsPlan h.problem moves) same plan)
 
 -- a claim that is wrong is refused for that
-pub claim_refused : (wanted : Option Problem) (bytes : List ℕ) (told : Script) (r : Refused) → IsScriptOf bytes told → IsFirstWrongClaim wanted told r → IsRefusal wanted bytes r
-claim_refused wanted bytes told (refused.Cert fault) is w = absurd w
-claim_refused wanted bytes told r is w = (told, is, w)
+pub claim_refused : (wanted : Option Problem) (bytes : List ℕ) (parsed : Script) (r : Refused) → IsScriptOf bytes parsed → IsFirstWrongClaim wanted parsed r → IsRefusal wanted bytes r
+claim_refused wanted bytes parsed (refused.Cert fault) is w = absurd w
+claim_refused wanted bytes parsed r is w = (parsed, is, w)
 
 -- the bound, the cap and a plan give one verdict
 pub one_verdict_of : (bound most : ℕ) (count : Option ℕ) (verdict other : Verdict) → IsVerdictOf bound most count verdict → IsVerdictOf bound most count other → verdict ≡ other
@@ -114,6 +114,6 @@ plan_of_first wanted bytes script least known e =
 pub says_first : (what : Claim) (most : ℕ) (count : Option ℕ) (verdict : Verdict) (least : ℕ) → IsVerdictUnder what most count verdict → (verdict ≡ First least) ↔ (what ≡ claim.First least)
 says_first (claim.AtLeast low) most count verdict least v = (λ e. absurd (subst (IsVerdictOf low most count) e v), λ e. absurd (let no : ⊥ = cc in no))
 says_first (claim.First low) most count verdict least v = (
-  λ e. let told : First low ≡ First least = sym v ∙ e in let same : low ≡ least = cc in ap (λ n. claim.First n) same,
+  λ e. let parsed : First low ≡ First least = sym v ∙ e in let same : low ≡ least = cc in ap (λ n. claim.First n) same,
   λ e. let same : low ≡ least = cc in v ∙ ap (λ n. First n) same,
 )

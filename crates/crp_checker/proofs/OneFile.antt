@@ -12,8 +12,8 @@ use Rattle.crp_checker.proofs.OneCut.{first_text, some_text, one_cut_only}
 use Rattle.crp_checker.proofs.SameText.{not_both, one_shown, one_refusal}
 
 -- what one text shows is one thing, of one bay
-one_told : (text : List ℕ) (a b : YardBay × Verdict) → TextShowsFor text a.0 a.1 → TextShowsFor text b.0 b.1 → a ≡ b
-one_told text a b s t =
+one_parsed : (text : List ℕ) (a b : YardBay × Verdict) → TextShowsFor text a.0 a.1 → TextShowsFor text b.0 b.1 → a ≡ b
+one_parsed text a b s t =
     let x = s.1 in let y = t.1 in
     let heads = script_once text s.0 t.0 x.is_text y.is_text in
     let bays : a.0 ≡ b.0 = sym s.2 ∙ ap (λ (h : Head). h.bay) heads.0 ∙ t.2 in
@@ -28,7 +28,7 @@ one_each [] (a ∷ xs) ys s t = absurd s
 one_each (text ∷ texts) [] ys s t = absurd s
 one_each (text ∷ texts) (a ∷ xs) [] s t = absurd t
 one_each (text ∷ texts) (a ∷ xs) (b ∷ ys) s t =
-    let first = one_told text a b s.0 t.0 in
+    let first = one_parsed text a b s.0 t.0 in
     let rest = one_each texts xs ys s.1 t.1 in
     λ k. first k ∷ rest k
 

@@ -97,16 +97,16 @@ wrong_alike wanted bytes a b r x y w =
     (subst (λ h. IsFirstWrongClaim wanted (record { head = h; parts = b.parts }) r) (sym same.0) w)
 
 -- a text that is accepted is not refused
-pub not_both : (wanted : Option Problem) (bytes : List ℕ) (told : Script) (r : Refused) → IsAcceptedText wanted bytes told → IsRefusal wanted bytes r → ⊥
-not_both wanted bytes told (refused.Cert fault) known w = script_apart bytes told fault known.is_text w
-not_both wanted bytes told refused.OtherProblem known w = not_wrong wanted told refused.OtherProblem known.accepted known.as_wanted (wrong_alike wanted bytes told w.0 refused.OtherProblem known.is_text w.1 w.2)
-not_both wanted bytes told (refused.Plan fault) known w = not_wrong wanted told (refused.Plan fault) known.accepted known.as_wanted (wrong_alike wanted bytes told w.0 (refused.Plan fault) known.is_text w.1 w.2)
-not_both wanted bytes told refused.NoFirstPlan known w = not_wrong wanted told refused.NoFirstPlan known.accepted known.as_wanted (wrong_alike wanted bytes told w.0 refused.NoFirstPlan known.is_text w.1 w.2)
-not_both wanted bytes told (refused.Low name k) known w = not_wrong wanted told (refused.Low name k) known.accepted known.as_wanted (wrong_alike wanted bytes told w.0 (refused.Low name k) known.is_text w.1 w.2)
-not_both wanted bytes told (refused.Finished name k) known w = not_wrong wanted told (refused.Finished name k) known.accepted known.as_wanted (wrong_alike wanted bytes told w.0 (refused.Finished name k) known.is_text w.1 w.2)
-not_both wanted bytes told (refused.Missing name) known w = not_wrong wanted told (refused.Missing name) known.accepted known.as_wanted (wrong_alike wanted bytes told w.0 (refused.Missing name) known.is_text w.1 w.2)
-not_both wanted bytes told (refused.Unneeded name) known w = not_wrong wanted told (refused.Unneeded name) known.accepted known.as_wanted (wrong_alike wanted bytes told w.0 (refused.Unneeded name) known.is_text w.1 w.2)
-not_both wanted bytes told refused.Memory known w = w.2
+pub not_both : (wanted : Option Problem) (bytes : List ℕ) (parsed : Script) (r : Refused) → IsAcceptedText wanted bytes parsed → IsRefusal wanted bytes r → ⊥
+not_both wanted bytes parsed (refused.Cert fault) known w = script_apart bytes parsed fault known.is_text w
+not_both wanted bytes parsed refused.OtherProblem known w = not_wrong wanted parsed refused.OtherProblem known.accepted known.as_wanted (wrong_alike wanted bytes parsed w.0 refused.OtherProblem known.is_text w.1 w.2)
+not_both wanted bytes parsed (refused.Plan fault) known w = not_wrong wanted parsed (refused.Plan fault) known.accepted known.as_wanted (wrong_alike wanted bytes parsed w.0 (refused.Plan fault) known.is_text w.1 w.2)
+not_both wanted bytes parsed refused.NoFirstPlan known w = not_wrong wanted parsed refused.NoFirstPlan known.accepted known.as_wanted (wrong_alike wanted bytes parsed w.0 refused.NoFirstPlan known.is_text w.1 w.2)
+not_both wanted bytes parsed (refused.Low name k) known w = not_wrong wanted parsed (refused.Low name k) known.accepted known.as_wanted (wrong_alike wanted bytes parsed w.0 (refused.Low name k) known.is_text w.1 w.2)
+not_both wanted bytes parsed (refused.Finished name k) known w = not_wrong wanted parsed (refused.Finished name k) known.accepted known.as_wanted (wrong_alike wanted bytes parsed w.0 (refused.Finished name k) known.is_text w.1 w.2)
+not_both wanted bytes parsed (refused.Missing name) known w = not_wrong wanted parsed (refused.Missing name) known.accepted known.as_wanted (wrong_alike wanted bytes parsed w.0 (refused.Missing name) known.is_text w.1 w.2)
+not_both wanted bytes parsed (refused.Unneeded name) known w = not_wrong wanted parsed (refused.Unneeded name) known.accepted known.as_wanted (wrong_alike wanted bytes parsed w.0 (refused.Unneeded name) known.is_text w.1 w.2)
+not_both wanted bytes parsed refused.Memory known w = w.2
 
 -- two such refusals of a text are the same
 one_of_two : (wanted : Option Problem) (bytes : List ℕ) (r q : Refused) (a b : Script) → IsScriptOf bytes a → IsScriptOf bytes b → IsFirstWrongClaim wanted a r → IsFirstWrongClaim wanted b q → r ≡ q
@@ -117,7 +117,7 @@ one_of_two wanted bytes r q a b x y w v =
 
 -- so where a text is refused, and memory is not wanted, it is not accepted
 pub rejected : (wanted : Option Problem) (bytes : List ℕ) (r : Refused) → (r ≡ refused.Memory) ⊎ IsRefusal wanted bytes r → r ≢ refused.Memory → IsNotAccepted wanted bytes
-rejected wanted bytes r k other told known = ⊎_elim (λ e. other e) (λ w. not_both wanted bytes told r known w) k
+rejected wanted bytes r k other parsed known = ⊎_elim (λ e. other e) (λ w. not_both wanted bytes parsed r known w) k
 
 -- refusals of one text are the same
 pub one_refusal : (wanted : Option Problem) (bytes : List ℕ) (r q : Refused) → IsRefusal wanted bytes r → IsRefusal wanted bytes q → r ≡ q

@@ -17,7 +17,7 @@ use std::alloc::Global;
 
 /// Checks a certificate. Whose it is, and what it shows.
 pub(crate) fn check_text(alloc: Global, bytes: &[u8]) -> Result<(BayName, Verdict), Refused>
-    ensures shown { IfOk result (λ told. TextShowsFor bytes.now told.0 told.1) }
+    ensures shown { IfOk result (λ parsed. TextShowsFor bytes.now parsed.0 parsed.1) }
     ensures refused { IfErr result (λ refused. (refused ≡ Refused.Memory) ⊎ IsRefusal None bytes.now refused) }
 {
     let mut checker = Checker::new(alloc, None);

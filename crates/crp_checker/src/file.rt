@@ -22,8 +22,8 @@ fn check_next(
         ⊎ IsRefusal None text.now refused) }
     ensures same { OnErr result (verdicts.new.items ≡ verdicts.old.items) }
 {
-    let told = check_text(alloc, text)?;
-    verdicts.push(told).map_err(AllocError::from)?;
+    let verdict = check_text(alloc, text)?;
+    verdicts.push(verdict).map_err(AllocError::from)?;
     Ok(())
 }
 

@@ -21,8 +21,8 @@ ghost use Rattle.crp_checker.specs.Files.{BeginsWithTexts, FileShows, IsFileRefu
 /// Bytes are not both the text of an accepted certificate and refused; they show one thing, or are
 /// refused for one reason.
 pub fn accepted_or_refused()
-    ensures apart { (wanted : Option Problem) (bytes : List ℕ) (told : Script) (refused : Refused)
-        → IsAcceptedText wanted bytes told → IsRefusal wanted bytes refused → ⊥ }
+    ensures apart { (wanted : Option Problem) (bytes : List ℕ) (parsed : Script) (refused : Refused)
+        → IsAcceptedText wanted bytes parsed → IsRefusal wanted bytes refused → ⊥ }
     ensures one_verdict { (wanted : Option Problem) (bytes : List ℕ) (verdict other : Verdict)
         → TextShows wanted bytes verdict → TextShows wanted bytes other → verdict ≡ other }
     ensures one_refusal { (wanted : Option Problem) (bytes : List ℕ) (refused other : Refused)

@@ -137,14 +137,14 @@ one_settled p plan path here s next rows old new more i row floor low least befo
     let first : List Node = nodes_below path s (take i rows) new in
     let own : List Node = nodes here next tree in
     let same : nodes (path ++ get_or rows i 0 ∷ []) (child s (get_or rows i 0)) tree ≡ own = sym (ap (λ l. nodes l next tree) at ∙ ap (λ t. nodes (path ++ get_or rows i 0 ∷ []) t tree) to) in
-    let told : nodes_below path s (take (suc i) rows) (new ++ tree ∷ []) ≡ first ++ own = nodes_push path s rows new i 0 tree m.in_rows b.count ∙ ap (λ l. first ++ l) same in
+    let found : nodes_below path s (take (suc i) rows) (new ++ tree ∷ []) ≡ first ++ own = nodes_push path s rows new i 0 tree m.in_rows b.count ∙ ap (λ l. first ++ l) same in
     let olds : nodes_below path s (take (suc i) rows) (take (suc i) old) ≡ nodes_below path s (take i rows) (take i old) ++ nodes here next before = met_nodes path here s next rows old i row before m in
     let all : BelowSettled p plan path s rows old (suc i) (new ++ tree ∷ []) (min floor low) = record {
       count = let n = b.count in omega (arith, length-append new (tree ∷ []));
       fits = fit_push s rows new i 0 tree m.in_rows b.fits (subst (λ t. Fits t tree) to one.fits);
-      in_place = All-same IsInPlace _ _ told (All-append IsInPlace first own b.in_place one.in_place);
-      floor_is = ap (λ m. min m low) b.floor_is ∙ ap (λ m. min (least_value (cap p) first) m) one.floor_is ∙ sym (ap (least_value (cap p)) told ∙ least_value-append (cap p) first own);
-      settled = subst (AreSettled plan (nodes_below path s (take (suc i) rows) (take (suc i) old))) (sym told)
+      in_place = All-same IsInPlace _ _ found (All-append IsInPlace first own b.in_place one.in_place);
+      floor_is = ap (λ m. min m low) b.floor_is ∙ ap (λ m. min (least_value (cap p) first) m) one.floor_is ∙ sym (ap (least_value (cap p)) found ∙ least_value-append (cap p) first own);
+      settled = subst (AreSettled plan (nodes_below path s (take (suc i) rows) (take (suc i) old))) (sym found)
           (subst (λ l. AreSettled plan l (first ++ own)) (sym olds) (settled_append plan (nodes_below path s (take i rows) (take i old)) first (nodes here next before) own b.settled one.settled));
     } in
     rw (more_is, least_is, add-one) all

@@ -14,7 +14,7 @@ neither (Some fault) second h = absurd (cc)
 
 either : (first second : Option MovinsFault) (fault : MovinsFault) → or_else first second ≡ Some fault → (first ≡ Some fault) ⊎ ((first ≡ None) × (second ≡ Some fault))
 either None second fault h = inr (refl, h)
-either (Some told) second fault h = inl h
+either (Some faulty) second fault h = inl h
 
 pub faultless-before : (segments : List SegmentParts) (code : List ℕ) (n : ℕ) → first_fault_before segments code n ≡ None → (k : ℕ) → k < n → fault_at segments code k ≡ None
 faultless-before segments code zero h k below = absurd (omega arith)

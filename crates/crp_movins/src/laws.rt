@@ -13,7 +13,7 @@ ghost use Rattle.crp_movins.specs.declared.kind.Kind.{Kind};
 /// The first fault is that of a segment before which none is faulty; and where there is no first fault,
 /// no segment is faulty.
 pub fn first_fault_is_least()
-    ensures told { (segments : List SegmentParts) (code : List ℕ) (n : ℕ) (fault : MovinsFault)
+    ensures faulty { (segments : List SegmentParts) (code : List ℕ) (n : ℕ) (fault : MovinsFault)
         → first_fault_before segments code n ≡ Some fault
         → (i : ℕ) × (i < n) × (fault_at segments code i ≡ Some fault)
         × ((k : ℕ) → k < i → fault_at segments code k ≡ None) }

@@ -56,19 +56,19 @@ bay_named yard sequence i bay is sequenced there at =
       each_rank = ap length (sym same) ∙ names-length (leaving sequence bay.1) bay.1 can once ∙ sym (ranks_total (ranked sequence bay.1) bay.1);
     }
 
-pub all_named : (yard : Inventory) (sequence : List (List ℕ)) (told : List BayProblem) → IsYard yard → AreSequenced sequence
-    → told ≡ map (bay_problem_of yard.heights sequence) (filter (is_called sequence) yard.bays) → All (IsNamed yard) told
-all_named yard sequence told is sequenced e =
+pub all_named : (yard : Inventory) (sequence : List (List ℕ)) (made : List BayProblem) → IsYard yard → AreSequenced sequence
+    → made ≡ map (bay_problem_of yard.heights sequence) (filter (is_called sequence) yard.bays) → All (IsNamed yard) made
+all_named yard sequence made is sequenced e =
     subst (All (IsNamed yard)) (sym e)
     (All-map (IsNamed yard) (bay_problem_of yard.heights sequence) (filter (is_called sequence) yard.bays)
     (All-filter (is_called sequence) (λ bay. IsNamed yard (bay_problem_of yard.heights sequence bay)) yard.bays
     (λ i d there. bay_named yard sequence i (get_or yard.bays i d) is sequenced there (slice_get-get_or yard.bays i d there))))
 
-bays_told : (heights : List ℕ) (sequence : List (List ℕ)) (bays : List StackedBay) → map (λ told. told.bay) (map (bay_problem_of heights sequence) bays) ≡ map (λ bay. bay.0) bays
-bays_told heights sequence [] = refl
-bays_told heights sequence (bay ∷ bays) = ap (λ names. bay.0 ∷ names) (bays_told heights sequence bays)
+bays_made : (heights : List ℕ) (sequence : List (List ℕ)) (bays : List StackedBay) → map (λ made. made.bay) (map (bay_problem_of heights sequence) bays) ≡ map (λ bay. bay.0) bays
+bays_made heights sequence [] = refl
+bays_made heights sequence (bay ∷ bays) = ap (λ names. bay.0 ∷ names) (bays_made heights sequence bays)
 
-pub all_once : (yard : Inventory) (sequence : List (List ℕ)) (told : List BayProblem) → IsYard yard → told ≡ map (bay_problem_of yard.heights sequence) (filter (is_called sequence) yard.bays)
-    → IsDistinct same_bay (map (λ p. p.bay) told)
-all_once yard sequence told is e =
-    subst (IsDistinct same_bay) (sym (ap (map (λ (p : BayProblem). p.bay)) e ∙ bays_told yard.heights sequence (filter (is_called sequence) yard.bays))) (IsDistinct-keys_filter same_bay (is_called sequence) yard.bays is.bays_once)
+pub all_once : (yard : Inventory) (sequence : List (List ℕ)) (made : List BayProblem) → IsYard yard → made ≡ map (bay_problem_of yard.heights sequence) (filter (is_called sequence) yard.bays)
+    → IsDistinct same_bay (map (λ p. p.bay) made)
+all_once yard sequence made is e =
+    subst (IsDistinct same_bay) (sym (ap (map (λ (p : BayProblem). p.bay)) e ∙ bays_made yard.heights sequence (filter (is_called sequence) yard.bays))) (IsDistinct-keys_filter same_bay (is_called sequence) yard.bays is.bays_once)

@@ -67,18 +67,18 @@ few_names yard i left is h can =
     omega (arith, few_containers (stated_with yard.heights (length left) (ranks_in names (stacks_numbered yard i))) (bay_is_problem yard i left is h can), ranks_total names (stacks_numbered yard i), names-length left (stacks_numbered yard i) can (stands_once yard i is h))
 
 -- what is stated of a bay is its problem
-one_problem : (told : BayProblem) (bay : YardBay) (problem : Problem) (names : List (List ℕ)) → told.bay ≡ bay → told.problem ≡ problem → told.names ≡ names
-    → told ≡ record { bay = bay; problem = problem; names = names }
-one_problem told bay problem names b p n = λ k. record { bay = b k; problem = p k; names = n k }
+one_problem : (made : BayProblem) (bay : YardBay) (problem : Problem) (names : List (List ℕ)) → made.bay ≡ bay → made.problem ≡ problem → made.names ≡ names
+    → made ≡ record { bay = bay; problem = problem; names = names }
+one_problem made bay problem names b p n = λ k. record { bay = b k; problem = p k; names = n k }
 
-pub stated-problem : (yard : Inventory) (sequence : List (List ℕ)) (i : ℕ) (bay : StackedBay) (left : List (List ℕ)) (told : BayProblem) → slice_get yard.bays i ≡ Some bay → left ≡ leaving sequence bay.1
-    → IsStated yard i left told → told ≡ bay_problem_of yard.heights sequence bay
-stated-problem yard sequence i bay left told here e is =
+pub stated-problem : (yard : Inventory) (sequence : List (List ℕ)) (i : ℕ) (bay : StackedBay) (left : List (List ℕ)) (made : BayProblem) → slice_get yard.bays i ≡ Some bay → left ≡ leaving sequence bay.1
+    → IsStated yard i left made → made ≡ bay_problem_of yard.heights sequence bay
+stated-problem yard sequence i bay left made here e is =
     let stacks : stacks_numbered yard i ≡ bay.1 = stacks_of_bay yard i bay here in
     let name : name_at yard i ≡ Some bay.0 = ap (λ found. Rattle.std.specs.Option.option_map (λ b. b.0) found) here in
     let names : names_behind left (stacks_numbered yard i) ≡ ranked sequence bay.1 = ap (names_behind left) stacks ∙ ap (λ l. names_behind l bay.1) e ∙ names-ranked sequence bay.1 in
-    one_problem told bay.0 (stated_with yard.heights (length (leaving sequence bay.1)) (ranks_in (ranked sequence bay.1) bay.1)) (ranked sequence bay.1)
-    (same_Some told.bay bay.0 (sym is.bay ∙ name))
+    one_problem made bay.0 (stated_with yard.heights (length (leaving sequence bay.1)) (ranks_in (ranked sequence bay.1) bay.1)) (ranked sequence bay.1)
+    (same_Some made.bay bay.0 (sym is.bay ∙ name))
     (is.problem ∙ ap (λ l. stated_with yard.heights (length l) (ranks_in (names_behind left (stacks_numbered yard i)) (stacks_numbered yard i))) e
     ∙ ap (λ n. stated_with yard.heights (length (leaving sequence bay.1)) (ranks_in n (stacks_numbered yard i))) names
     ∙ ap (λ s. stated_with yard.heights (length (leaving sequence bay.1)) (ranks_in (ranked sequence bay.1) s)) stacks)
@@ -105,12 +105,12 @@ problems-more yard sequence i bay b here e =
     ∙ map-append (bay_problem_of yard.heights sequence) (filter (is_called sequence) (take i yard.bays)) (filter (is_called sequence) (bay ∷ []))
     ∙ ap (λ l. map (bay_problem_of yard.heights sequence) (filter (is_called sequence) (take i yard.bays)) ++ map (bay_problem_of yard.heights sequence) l) (filter-last (is_called sequence) bay b e)
 
-pub problems-next : (yard : Inventory) (sequence : List (List ℕ)) (i : ℕ) (bay : StackedBay) (told : BayProblem) (old new : List BayProblem) → slice_get yard.bays i ≡ Some bay
-    → (length (leaving sequence bay.1) == 0) ≡ false → told ≡ bay_problem_of yard.heights sequence bay
-    → old ≡ map (bay_problem_of yard.heights sequence) (filter (is_called sequence) (take i yard.bays)) → new ≡ old ++ told ∷ []
+pub problems-next : (yard : Inventory) (sequence : List (List ℕ)) (i : ℕ) (bay : StackedBay) (made : BayProblem) (old new : List BayProblem) → slice_get yard.bays i ≡ Some bay
+    → (length (leaving sequence bay.1) == 0) ≡ false → made ≡ bay_problem_of yard.heights sequence bay
+    → old ≡ map (bay_problem_of yard.heights sequence) (filter (is_called sequence) (take i yard.bays)) → new ≡ old ++ made ∷ []
     → new ≡ map (bay_problem_of yard.heights sequence) (filter (is_called sequence) (take (i + 1) yard.bays))
-problems-next yard sequence i bay told old new here some is before more =
-    more ∙ ap (λ l. l ++ told ∷ []) before ∙ ap (λ t. map (bay_problem_of yard.heights sequence) (filter (is_called sequence) (take i yard.bays)) ++ t ∷ []) is
+problems-next yard sequence i bay made old new here some is before more =
+    more ∙ ap (λ l. l ++ made ∷ []) before ∙ ap (λ t. map (bay_problem_of yard.heights sequence) (filter (is_called sequence) (take i yard.bays)) ++ t ∷ []) is
     ∙ sym (problems-more yard sequence i bay true here (any-filter (is_among (standing bay.1)) sequence ∙ ap not some))
 
 append-none : (xs : List BayProblem) → xs ++ [] ≡ xs
@@ -142,10 +142,10 @@ group_at yard sequence groups i group are h e =
     record { at = at; leaves = same_Some (pointed group.items) (leaving sequence at.bay.1) (sym found ∙ are.leaving_there i at.bay at.here) }
 
 -- all bays are stated
-pub problems-all : (yard : Inventory) (sequence : List (List ℕ)) (groups given : List (Vec (Bor (List ℕ)) Global)) (i : ℕ) (told : List BayProblem)
+pub problems-all : (yard : Inventory) (sequence : List (List ℕ)) (groups given : List (Vec (Bor (List ℕ)) Global)) (i : ℕ) (made : List BayProblem)
     → AreGroups sequence yard.bays (map (λ g. pointed g.items) groups) → given ≡ groups → length given ≤ i
-    → told ≡ map (bay_problem_of yard.heights sequence) (filter (is_called sequence) (take i yard.bays)) → told ≡ map (bay_problem_of yard.heights sequence) (filter (is_called sequence) yard.bays)
-problems-all yard sequence groups given i told are same far e =
+    → made ≡ map (bay_problem_of yard.heights sequence) (filter (is_called sequence) (take i yard.bays)) → made ≡ map (bay_problem_of yard.heights sequence) (filter (is_called sequence) yard.bays)
+problems-all yard sequence groups given i made are same far e =
     let long : length given ≡ length groups = ap length same in
     e ∙ ap (λ bays. map (bay_problem_of yard.heights sequence) (filter (is_called sequence) bays))
     (take_all i yard.bays (omega (arith, far, long, are.one_for_each, length-map groups (λ (g : Vec (Bor (List ℕ)) Global). pointed g.items))))

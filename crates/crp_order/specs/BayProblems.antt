@@ -61,7 +61,7 @@ absent_of yard sequence = count_by (λ container. not (stands yard.bays containe
 
 -- the problem states the bay of its name as it stands in the yard: the ranks are the places of the containers among the names, one for
 -- each container
-pub record IsNamed (yard : Inventory) (told : BayProblem) : Type 0 where
-  pub heights : told.problem.heights ≡ yard.heights
-  pub stands : stacks_at yard.bays told.bay ≡ Some (named told.names told.problem.stacks)
-  pub each_rank : length told.names ≡ total told.problem.stacks
+pub record IsNamed (yard : Inventory) (made : BayProblem) : Type 0 where
+  pub heights : made.problem.heights ≡ yard.heights
+  pub stands : stacks_at yard.bays made.bay ≡ Some (named made.names made.problem.stacks)
+  pub each_rank : length made.names ≡ total made.problem.stacks

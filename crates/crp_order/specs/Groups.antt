@@ -51,7 +51,7 @@ pub record CanLeave (left : List (List ℕ)) (stacks : List (List (List ℕ))) :
   pub once : (container : List ℕ) → times container left ≤ 1
 
 -- the problem of the bay with this number, which these containers leave in this order
-pub record IsStated (yard : Inventory) (i : ℕ) (left : List (List ℕ)) (told : BayProblem) : Type 0 where
-  pub bay : name_at yard i ≡ Some told.bay
-  pub names : told.names ≡ names_behind left (stacks_numbered yard i)
-  pub problem : told.problem ≡ stated_with yard.heights (length left) (ranks_in (names_behind left (stacks_numbered yard i)) (stacks_numbered yard i))
+pub record IsStated (yard : Inventory) (i : ℕ) (left : List (List ℕ)) (made : BayProblem) : Type 0 where
+  pub bay : name_at yard i ≡ Some made.bay
+  pub names : made.names ≡ names_behind left (stacks_numbered yard i)
+  pub problem : made.problem ≡ stated_with yard.heights (length left) (ranks_in (names_behind left (stacks_numbered yard i)) (stacks_numbered yard i))

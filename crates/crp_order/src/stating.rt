@@ -62,7 +62,7 @@ pub fn problems(
 
     // The ranks of each problem, read as its names, are the bay of that name as it stands in the yard.
     ensures named { IfOk result (λ problems. All (IsNamed yard.now) problems.items) }
-    ensures once { IfOk result (λ problems. IsDistinct same_bay (map (λ told. told.bay) problems.items)) }
+    ensures once { IfOk result (λ problems. IsDistinct same_bay (map (λ made. made.bay) problems.items)) }
 {
     let groups = leaving_by_bay(alloc, yard, sequence)?;
     let mut problems = Vec::new(alloc);

@@ -97,11 +97,11 @@ first_more p k split old now v plan q f g tree floor h left more one on =
     let first : List Node = nodes_below now.path s (take (length f.trees.items) f.rows.items) f.trees.items in
     let own : List Node = nodes (now.path ++ turn f ∷ []) (child s (turn f)) tree in
     let count : length g.trees.items ≡ suc (length f.trees.items) = omega (arith, ap length more.trees, length-append f.trees.items (tree ∷ [])) in
-    let told : nodes_below now.path s (take (suc (length f.trees.items)) f.rows.items) (f.trees.items ++ tree ∷ []) ≡ first ++ own = nodes_push now.path s f.rows.items f.trees.items (length f.trees.items) 0 tree left refl in
+    let shown : nodes_below now.path s (take (suc (length f.trees.items)) f.rows.items) (f.trees.items ++ tree ∷ []) ≡ first ++ own = nodes_push now.path s f.rows.items f.trees.items (length f.trees.items) 0 tree left refl in
     let list : cuts_of now.path s g ≡ cuts first ++ cuts own = ap (λ n. cuts (nodes_below now.path s (take n g.rows.items) g.trees.items)) count
     ∙ ap (λ l. cuts (nodes_below now.path s (take (suc (length f.trees.items)) l) g.trees.items)) more.rows
     ∙ ap (λ l. cuts (nodes_below now.path s (take (suc (length f.trees.items)) f.rows.items) l)) more.trees
-    ∙ ap cuts told ∙ cuts-append first own in
+    ∙ ap cuts shown ∙ cuts-append first own in
     let on_from = aims_on p k now.plan plan (cuts own) now.view v one.held on in
     record {
       half = half_more p split (aim k old) (aim k now) (aimed k plan v) q f g tree floor h.half left more one.found on_from;

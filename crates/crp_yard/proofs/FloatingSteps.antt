@@ -13,9 +13,9 @@ stays entries n (suc k) fault e =
     let same : suc k + n ≡ suc (k + n) = omega arith in
     rw (same, stays entries n k fault e) refl
 
-pub floating-told : (entries : List Entry) (i : ℕ) (entry : Entry) → floating_before entries i ≡ None → i < length entries → slice_get entries i ≡ Some entry
+pub floating-faulty : (entries : List Entry) (i : ℕ) (entry : Entry) → floating_before entries i ≡ None → i < length entries → slice_get entries i ≡ Some entry
     → is_floating entries entry.0 ≡ true → floating_before entries (length entries) ≡ Some (Floating (i + 2))
-floating-told entries i entry none within at floats =
+floating-faulty entries i entry none within at floats =
     let here : floating_before entries (suc i) ≡ Some (Floating (i + 2)) = rw (none, at, floats) refl in
     let end : length entries ≡ (length entries - suc i) + suc i = omega arith in
     rw end (stays entries (suc i) (length entries - suc i) (Floating (i + 2)) here)

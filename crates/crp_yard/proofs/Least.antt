@@ -12,7 +12,7 @@ neither (Some fault) second h = absurd (cc)
 
 either : (first second : Option YardFault) (fault : YardFault) → or_else first second ≡ Some fault → (first ≡ Some fault) ⊎ ((first ≡ None) × (second ≡ Some fault))
 either None second fault h = inr (refl, h)
-either (Some told) second fault h = inl h
+either (Some faulty) second fault h = inl h
 
 pub faultless-up_to : (heights : List ℕ) (records : List (List (List ℕ))) (n : ℕ) → first_fault_up_to heights records n ≡ None → (k : ℕ) → 1 ≤ k → k ≤ n → fault_at heights records k ≡ None
 faultless-up_to heights records zero h k counts within = absurd (omega arith)

@@ -73,26 +73,26 @@ read-more heights xs entries new n m x read count none added =
     }
 
 -- a fault is stated of all records
-pub told-next : (heights : List ℕ) (xs : List (List (List ℕ))) (entries : List Entry) (n m : ℕ) (x : List (List ℕ)) (more all : List (List (List ℕ))) (fault : YardFault)
+pub faulty-next : (heights : List ℕ) (xs : List (List (List ℕ))) (entries : List Entry) (n m : ℕ) (x : List (List ℕ)) (more all : List (List (List ℕ))) (fault : YardFault)
     → IsRead heights xs entries n → m ≡ n + 1 → fault_behind heights entries m x ≡ Some fault → all ≡ xs ++ x ∷ more → first_fault heights all ≡ Some fault
 unfolding first_fault
-told-next heights xs entries n m x more all fault read count e whole =
+faulty-next heights xs entries n m x more all fault read count e whole =
     let here : m ≡ suc (length xs) = omega (arith, read.counted) in
-    let told = up_to-next heights xs x more m (Some fault) read.faultless here (rw read.said at e) in
+    let faulty = up_to-next heights xs x more m (Some fault) read.faultless here (rw read.said at e) in
     let size = length-append xs (x ∷ more) in
     let top : max 1 (length (xs ++ x ∷ more)) ≡ length more + m = omega (arith, size) in
-    let end = up_to-stays heights (xs ++ x ∷ more) m (length more) fault told in
+    let end = up_to-stays heights (xs ++ x ∷ more) m (length more) fault faulty in
     rw (whole, top, end) refl
 
 -- no records lack the header
-told-none : (heights : List ℕ) → first_fault heights [] ≡ Some (Header 1)
+faulty-none : (heights : List ℕ) → first_fault heights [] ≡ Some (Header 1)
 unfolding first_fault fault_at fault_behind
-told-none heights = refl
+faulty-none heights = refl
 
-pub told-empty : (heights : List ℕ) (xs : List (List (List ℕ))) (entries : List Entry) (n : ℕ) (all : List (List (List ℕ))) → IsRead heights xs entries n → n ≡ 0 → all ≡ xs
+pub faulty-empty : (heights : List ℕ) (xs : List (List (List ℕ))) (entries : List Entry) (n : ℕ) (all : List (List (List ℕ))) → IsRead heights xs entries n → n ≡ 0 → all ≡ xs
     → first_fault heights all ≡ Some (Header 1)
-told-empty heights [] entries n all read none whole = rw whole (told-none heights)
-told-empty heights (x ∷ xs) entries n all read none whole = absurd (omega (arith, read.counted))
+faulty-empty heights [] entries n all read none whole = rw whole (faulty-none heights)
+faulty-empty heights (x ∷ xs) entries n all read none whole = absurd (omega (arith, read.counted))
 
 pub read-all : (heights : List ℕ) (xs : List (List (List ℕ))) (entries : List Entry) (n : ℕ) (all : List (List (List ℕ))) → IsRead heights xs entries n → (n ≡ 0 → ⊥) → all ≡ xs
     → first_fault_up_to heights all (max 1 (length all)) ≡ None

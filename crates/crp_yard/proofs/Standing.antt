@@ -136,7 +136,7 @@ none_found [] e = tt
 none_found (fault ∷ faults) e = by fault.0 refl (none_found faults)
   where
     by : (b : Bool) → fault.0 ≡ b → (first_of faults ≡ None → AllByRecursion (λ fault. fault.0 ≡ false) faults) → (fault.0 ≡ false) × AllByRecursion (λ fault. fault.0 ≡ false) faults
-    by true h rest = let told : Some fault.1 ≡ None = rw h at e in absurd (cc told)
+    by true h rest = let faulty : Some fault.1 ≡ None = rw h at e in absurd (cc faulty)
     by false h rest = (h, rest (rw h at e))
 
 not_false : (b : Bool) → not b ≡ false → b ≡ true

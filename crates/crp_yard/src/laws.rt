@@ -16,7 +16,7 @@ pub fn text_reads_back()
 /// The first fault up to a record is that of a record before which none is faulty; and where there is no
 /// first fault, no record is faulty.
 pub fn first_fault_is_least()
-    ensures told { (heights : List ℕ) (records : List (List (List ℕ))) (n : ℕ) (fault : YardFault)
+    ensures faulty { (heights : List ℕ) (records : List (List (List ℕ))) (n : ℕ) (fault : YardFault)
         → first_fault_up_to heights records n ≡ Some fault
         → (i : ℕ) × (1 ≤ i) × (i ≤ n) × (fault_at heights records i ≡ Some fault)
         × ((k : ℕ) → 1 ≤ k → k < i → fault_at heights records k ≡ None) }

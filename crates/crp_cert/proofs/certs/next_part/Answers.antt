@@ -3,7 +3,7 @@ use Rattle.std.proofs.lemmas.Bool.{eqb-false, eqb-true}
 use Rattle.crp_tree.specs.Claims.{Part}
 use Rattle.crp_cert.specs.Script.{symbols_line, part_line}
 use Rattle.crp_cert.proofs.PartLines.{no_part, begins_with}
-use Rattle.crp_cert.proofs.PartFaults.{told_line, left_over, all_used}
+use Rattle.crp_cert.proofs.PartFaults.{parsed_line, left_over, all_used}
 use Rattle.crp_cert.proofs.certs.next_part.Goals as goal
 
 -- a test that failed
@@ -16,22 +16,22 @@ returns-in_default-clause-refused c =
 
 pub returns-then-not-comes_after-clause-refused : goal.returns-then-not-comes_after-clause-refused
 returns-then-not-comes_after-clause-refused c =
-    let told = c.in-Some.told in
+    let parsed = c.in-Some.parsed in
     inr (
       refl,
       (
-        told_line c.args.problem.now c.args.bytes.now told.name told.symbols.now told.rest.now told.place.place c.in-Some.ensures.at c.in-Some.ensures.value,
+        parsed_line c.args.problem.now c.args.bytes.now parsed.name parsed.symbols.now parsed.rest.now parsed.place.place c.in-Some.ensures.at c.in-Some.ensures.value,
         refuted c.comes_after.result c.comes_after.ensures c.if-not-comes_after.true,
       ),
     )
 
 pub returns-then-not-are_symbols-clause-refused : goal.returns-then-not-are_symbols-clause-refused
 returns-then-not-are_symbols-clause-refused c =
-    let told = c.in-Some.told in
+    let parsed = c.in-Some.parsed in
     inr (
       refl,
       (
-        told_line c.args.problem.now c.args.bytes.now told.name told.symbols.now told.rest.now told.place.place c.in-Some.ensures.at c.in-Some.ensures.value,
+        parsed_line c.args.problem.now c.args.bytes.now parsed.name parsed.symbols.now parsed.rest.now parsed.place.place c.in-Some.ensures.at c.in-Some.ensures.value,
         c.comes_after.ensures.0 c.if-not-comes_after.false,
         refuted c.are_symbols.result c.are_symbols.ensures c.if-not-are_symbols.true,
       ),
@@ -39,11 +39,11 @@ returns-then-not-are_symbols-clause-refused c =
 
 pub returns-in_default-2-clause-refused : goal.returns-in_default-2-clause-refused
 returns-in_default-2-clause-refused c =
-    let told = c.in-Some.told in
+    let parsed = c.in-Some.parsed in
     inr (
       refl,
       (
-        told_line c.args.problem.now c.args.bytes.now told.name told.symbols.now told.rest.now told.place.place c.in-Some.ensures.at c.in-Some.ensures.value,
+        parsed_line c.args.problem.now c.args.bytes.now parsed.name parsed.symbols.now parsed.rest.now parsed.place.place c.in-Some.ensures.at c.in-Some.ensures.value,
         c.comes_after.ensures.0 c.if-not-comes_after.false,
         c.are_symbols.ensures.0 c.if-not-are_symbols.false,
         (rw c.in_default-2.is at c.in_ok-tree.ensures).none,
@@ -52,23 +52,23 @@ returns-in_default-2-clause-refused c =
 
 pub returns-then-not-is_empty-clause-refused : goal.returns-then-not-is_empty-clause-refused
 returns-then-not-is_empty-clause-refused c =
-    let told = c.in-Some.told in
+    let parsed = c.in-Some.parsed in
     let r = (rw c.in-Some-2.is at c.in_ok-tree.ensures).found in
     let ne = eqb-false (length c.in-Some-2.left.now) 0 (sym c.is_empty.ensures ∙ c.if-not-is_empty.true) in
     inr (
       refl,
       (
-        told_line c.args.problem.now c.args.bytes.now told.name told.symbols.now told.rest.now told.place.place c.in-Some.ensures.at c.in-Some.ensures.value,
+        parsed_line c.args.problem.now c.args.bytes.now parsed.name parsed.symbols.now parsed.rest.now parsed.place.place c.in-Some.ensures.at c.in-Some.ensures.value,
         c.comes_after.ensures.0 c.if-not-comes_after.false,
         c.are_symbols.ensures.0 c.if-not-are_symbols.false,
-        left_over told.symbols.now c.in-Some-2.left.now told.place.place c.in-Some-2.tree r.0 r.1 (omega arith),
+        left_over parsed.symbols.now c.in-Some-2.left.now parsed.place.place c.in-Some-2.tree r.0 r.1 (omega arith),
       ),
     )
 
 pub returns-clause-text : goal.returns-clause-text
 returns-clause-text c =
-    let told = c.in-Some.told in
+    let parsed = c.in-Some.parsed in
     let r = (rw c.in-Some-2.is at c.in_ok-tree.ensures).found in
-    (begins_with c.args.problem.now c.args.bytes.now told.name told.symbols.now told.rest.now c.in-Some.ensures.value).2
-    ∙ ap (λ (l : List ℕ). symbols_line told.name l ++ told.rest.now) (all_used told.symbols.now c.in-Some-2.left.now c.in-Some-2.tree r.1 (eqb-true (length c.in-Some-2.left.now) 0 (sym c.is_empty.ensures ∙ c.if-not-is_empty.false)))
-    ∙ ap (λ (part : Part). part_line part ++ told.rest.now) (sym c.new.ensures)
+    (begins_with c.args.problem.now c.args.bytes.now parsed.name parsed.symbols.now parsed.rest.now c.in-Some.ensures.value).2
+    ∙ ap (λ (l : List ℕ). symbols_line parsed.name l ++ parsed.rest.now) (all_used parsed.symbols.now c.in-Some-2.left.now c.in-Some-2.tree r.1 (eqb-true (length c.in-Some-2.left.now) 0 (sym c.is_empty.ensures ∙ c.if-not-is_empty.false)))
+    ∙ ap (λ (part : Part). part_line part ++ parsed.rest.now) (sym c.new.ensures)

@@ -6,13 +6,13 @@ use Rattle.crp_cert.proofs.reading.all_stacks.Goals as goal
 
 pub returns-in_default-clause-refused : goal.returns-in_default-clause-refused
 returns-in_default-clause-refused c =
-    let told : length (stacks_of c.loop-row.stacks.items) ≡ c.loop-row.row = omega (arith, length-stacks_of c.loop-row.stacks.items, c.loop-row.invariant.told) in
+    let parsed : length (stacks_of c.loop-row.stacks.items) ≡ c.loop-row.row = omega (arith, length-stacks_of c.loop-row.stacks.items, c.loop-row.invariant.parsed) in
     inr (record {
       stacks = stacks_of c.loop-row.stacks.items;
       rest = c.loop-row.rest.now;
       text = c.loop-row.invariant.text;
       first = c.loop-row.invariant.first;
       more = omega arith;
-      fault_is = ap (λ n. faults.Row n) (omega (arith, c.first_row.ensures.value, told));
+      fault_is = ap (λ n. faults.Row n) (omega (arith, c.first_row.ensures.value, parsed));
       none = (rw c.in_default.is at c.in_ok-after.ensures).none;
     })

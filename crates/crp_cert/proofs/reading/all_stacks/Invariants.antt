@@ -8,6 +8,6 @@ use Rattle.crp_cert.proofs.reading.all_stacks.Given as goal
 abbrev pub invariant-loop-row : goal.invariant-loop-row
 invariant-loop-row l = record {
   first : AreFirstStacks l.size l.heights (stacks_of l.stacks.items);
-  told : vec_len l.stacks ≡ l.row;
+  parsed : vec_len l.stacks ≡ l.row;
   text : l.bytes ≡ flat_map row_line (stacks_of l.stacks.items) ++ l.rest;
 }

@@ -22,9 +22,9 @@ use Rattle.crp_cert.proofs.Verdicts.{frame_of, head_of, stack_fault}
 use Rattle.crp_cert.proofs.reading.head_and_rest.Goals as goal
 
 -- what the lines above the rows state
-told_frame : (bytes a b more rest : List ℕ) (version : Version) (name : YardBay) (size : Size) (heights shown : List ℕ) → shown ≡ heights → title_at bytes ≡ Some (version, a) → IsYardBay name × (a ≡ bay_line name ++ b) → size_at b ≡ Some (size, more) →
+parsed_frame : (bytes a b more rest : List ℕ) (version : Version) (name : YardBay) (size : Size) (heights shown : List ℕ) → shown ≡ heights → title_at bytes ≡ Some (version, a) → IsYardBay name × (a ≡ bay_line name ++ b) → size_at b ≡ Some (size, more) →
     heights_at version size more ≡ Some (heights, rest) → BeginsWithFrame bytes (frame_of version size shown) rest
-told_frame bytes a b more rest version name size heights shown same title named read state =
+parsed_frame bytes a b more rest version name size heights shown same title named read state =
     let s = size_reader.takes b size more read in
     let h = (heights_reader version size s.0).takes more shown rest (subst (λ l. heights_at version size more ≡ Some (l, rest)) (sym same) state) in
     record {
@@ -36,9 +36,9 @@ told_frame bytes a b more rest version name size heights shown same title named 
     }
 
 -- and with the lines of the stacks
-told_stacks : (bytes : List ℕ) (frame : Frame) (stacks : List (List ℕ)) (more rest : List ℕ) → BeginsWithFrame bytes frame more → AreFirstStacks frame.size frame.heights stacks → more ≡ flat_map row_line stacks ++ rest →
+parsed_stacks : (bytes : List ℕ) (frame : Frame) (stacks : List (List ℕ)) (more rest : List ℕ) → BeginsWithFrame bytes frame more → AreFirstStacks frame.size frame.heights stacks → more ≡ flat_map row_line stacks ++ rest →
     BeginsWithStacks bytes frame stacks rest
-told_stacks bytes frame stacks more rest tells first text = record { tells = subst (BeginsWithFrame bytes frame) text tells; first = first }
+parsed_stacks bytes frame stacks more rest tells first text = record { tells = subst (BeginsWithFrame bytes frame) text tells; first = first }
 
 -- where no heights are read, no line of them stands
 no_heights : (bytes a b more : List ℕ) (version : Version) (name : YardBay) (size : Size) → title_at bytes ≡ Some (version, a) → IsYardBay name × (a ≡ bay_line name ++ b) → size_at b ≡ Some (size, more) →
@@ -64,8 +64,8 @@ most_is : (size : Size) (heights : List ℕ) (stacks : List (List ℕ)) (problem
 most_is size heights stacks problem n are made e = e ∙ ap cap made ∙ cap_is size heights stacks are
 
 -- the heights that are stated
-told_heights : (b more rest : List ℕ) (version : Version) (size : Size) (heights shown : List ℕ) → shown ≡ heights → size_at b ≡ Some (size, more) → heights_at version size more ≡ Some (heights, rest) → AreHeightsOf size shown
-told_heights b more rest version size heights shown same read state =
+parsed_heights : (b more rest : List ℕ) (version : Version) (size : Size) (heights shown : List ℕ) → shown ≡ heights → size_at b ≡ Some (size, more) → heights_at version size more ≡ Some (heights, rest) → AreHeightsOf size shown
+parsed_heights b more rest version size heights shown same read state =
     let s = size_reader.takes b size more read in
     subst (AreHeightsOf size) (sym same) (heights_are version size heights s.0 ((heights_reader version size s.0).takes more heights rest state).0)
 
@@ -98,13 +98,13 @@ all_stacks-requires-clause-size c = (size_reader.takes c.in-Some-bay_of.rest.now
 
 pub all_stacks-requires-clause-heights : goal.all_stacks-requires-clause-heights
 all_stacks-requires-clause-heights c =
-    told_heights c.in-Some-bay_of.rest.now c.in-Some-size_of.rest.now c.in-Some-heights_of.rest.now c.in-Some.version c.in-Some-size_of.size c.in-Some-heights_of.heights.items c.as_slice-heights.result.now c.as_slice-heights.ensures.value
+    parsed_heights c.in-Some-bay_of.rest.now c.in-Some-size_of.rest.now c.in-Some-heights_of.rest.now c.in-Some.version c.in-Some-size_of.size c.in-Some-heights_of.heights.items c.as_slice-heights.result.now c.as_slice-heights.ensures.value
     c.in-Some-size_of.ensures c.in-Some-heights_of.ensures
 
 pub returns-in_err-stacks-clause-refused : goal.returns-in_err-stacks-clause-refused
 returns-in_err-stacks-clause-refused c =
     let p = err_from_is_err_and c.from_residual.result c.from_residual.ensures.1 in
-    let tells = told_frame c.args.bytes.now c.in-Some.rest.now c.in-Some-bay_of.rest.now c.in-Some-size_of.rest.now c.in-Some-heights_of.rest.now c.in-Some.version c.in-Some-bay_of.bay c.in-Some-size_of.size
+    let tells = parsed_frame c.args.bytes.now c.in-Some.rest.now c.in-Some-bay_of.rest.now c.in-Some-size_of.rest.now c.in-Some-heights_of.rest.now c.in-Some.version c.in-Some-bay_of.bay c.in-Some-size_of.size
     c.in-Some-heights_of.heights.items c.as_slice-heights.result.now c.as_slice-heights.ensures.value c.in-Some.ensures c.in-Some-bay_of.ensures.found c.in-Some-size_of.ensures c.in-Some-heights_of.ensures in
     rw (p.1, p.2)
     (⊎_elim
@@ -117,7 +117,7 @@ problem_of-problem-requires-clause-size c = (size_reader.takes c.in-Some-bay_of.
 
 pub problem_of-problem-requires-clause-heights : goal.problem_of-problem-requires-clause-heights
 problem_of-problem-requires-clause-heights c =
-    told_heights c.in-Some-bay_of.rest.now c.in-Some-size_of.rest.now c.in-Some-heights_of.rest.now c.in-Some.version c.in-Some-size_of.size c.in-Some-heights_of.heights.items c.as_slice-heights.result.now c.as_slice-heights.ensures.value
+    parsed_heights c.in-Some-bay_of.rest.now c.in-Some-size_of.rest.now c.in-Some-heights_of.rest.now c.in-Some.version c.in-Some-size_of.size c.in-Some-heights_of.heights.items c.as_slice-heights.result.now c.as_slice-heights.ensures.value
     c.in-Some-size_of.ensures c.in-Some-heights_of.ensures
 
 -- the problem over the stacks that were stated
@@ -132,14 +132,14 @@ returns-in_default-claim_of-clause-refused c =
     let rows : List Row = c.in_ok-stacks.stacks.items in
     let all : length rows ≡ size.rows = omega (arith, c.in_ok-stacks.ensures.all) in
     let tells : BeginsWithFrame c.args.bytes.now frame c.in-Some-heights_of.rest.now =
-    told_frame c.args.bytes.now c.in-Some.rest.now c.in-Some-bay_of.rest.now c.in-Some-size_of.rest.now c.in-Some-heights_of.rest.now c.in-Some.version c.in-Some-bay_of.bay size c.in-Some-heights_of.heights.items heights c.as_slice-heights.ensures.value
+    parsed_frame c.args.bytes.now c.in-Some.rest.now c.in-Some-bay_of.rest.now c.in-Some-size_of.rest.now c.in-Some-heights_of.rest.now c.in-Some.version c.in-Some-bay_of.bay size c.in-Some-heights_of.heights.items heights c.as_slice-heights.ensures.value
     c.in-Some.ensures c.in-Some-bay_of.ensures.found c.in-Some-size_of.ensures c.in-Some-heights_of.ensures in
     let are : AreHeightsOf size heights = heights_are c.in-Some.version size heights tells.is_size tells.may_state in
-    let told = told_stacks c.args.bytes.now frame (stacks_of rows) c.in-Some-heights_of.rest.now c.in_ok-stacks.rest.now tells c.in_ok-stacks.ensures.first c.in_ok-stacks.ensures.text in
+    let parsed = parsed_stacks c.args.bytes.now frame (stacks_of rows) c.in-Some-heights_of.rest.now c.in_ok-stacks.rest.now tells c.in_ok-stacks.ensures.first c.in_ok-stacks.ensures.text in
     let made = made_of size heights rows c.deref.result.now c.problem_of-problem.result c.deref.ensures.value c.problem_of-problem.ensures in
     let most = most_is size heights (stacks_of rows) c.problem_of-problem.result c.cap.result are made c.cap.ensures.value in
     let stood = none_stands (claim_reader frame.version (most_claimed size) (few_claimed size tells.is_size)) c.in_ok-stacks.rest.now (subst (λ m. claim_at frame.version m c.in_ok-stacks.rest.now ≡ None) most c.in_default-claim_of.ensures) in
-    inr (frame, stacks_of rows, c.in_ok-stacks.rest.now, told, length-stacks_of rows ∙ all, ap (λ n. n + size.rows) c.first_row.ensures.value, stood)
+    inr (frame, stacks_of rows, c.in_ok-stacks.rest.now, parsed, length-stacks_of rows ∙ all, ap (λ n. n + size.rows) c.first_row.ensures.value, stood)
 
 pub returns-in_default-2-clause-refused : goal.returns-in_default-2-clause-refused
 returns-in_default-2-clause-refused c =
@@ -150,20 +150,20 @@ returns-in_default-2-clause-refused c =
     let rest : List ℕ = c.in-Some-claim_of.rest.now in
     let all : length rows ≡ size.rows = omega (arith, c.in_ok-stacks.ensures.all) in
     let tells : BeginsWithFrame c.args.bytes.now frame c.in-Some-heights_of.rest.now =
-    told_frame c.args.bytes.now c.in-Some.rest.now c.in-Some-bay_of.rest.now c.in-Some-size_of.rest.now c.in-Some-heights_of.rest.now c.in-Some.version c.in-Some-bay_of.bay size c.in-Some-heights_of.heights.items heights c.as_slice-heights.ensures.value
+    parsed_frame c.args.bytes.now c.in-Some.rest.now c.in-Some-bay_of.rest.now c.in-Some-size_of.rest.now c.in-Some-heights_of.rest.now c.in-Some.version c.in-Some-bay_of.bay size c.in-Some-heights_of.heights.items heights c.as_slice-heights.ensures.value
     c.in-Some.ensures c.in-Some-bay_of.ensures.found c.in-Some-size_of.ensures c.in-Some-heights_of.ensures in
     let are : AreHeightsOf size heights = heights_are c.in-Some.version size heights tells.is_size tells.may_state in
     let made = made_of size heights rows c.deref.result.now c.problem_of-problem.result c.deref.ensures.value c.problem_of-problem.ensures in
     let most = most_is size heights (stacks_of rows) c.problem_of-problem.result c.cap.result are made c.cap.ensures.value in
     let claims = (claim_reader frame.version (most_claimed size) (few_claimed size tells.is_size)).takes c.in_ok-stacks.rest.now c.in-Some-claim_of.claim rest (subst (λ m. claim_at frame.version m c.in_ok-stacks.rest.now ≡ Some (c.in-Some-claim_of.claim, rest)) most c.in-Some-claim_of.ensures) in
-    let told = told_stacks c.args.bytes.now frame (stacks_of rows) c.in-Some-heights_of.rest.now (claim_line c.in-Some-claim_of.claim ++ rest) tells c.in_ok-stacks.ensures.first
+    let parsed = parsed_stacks c.args.bytes.now frame (stacks_of rows) c.in-Some-heights_of.rest.now (claim_line c.in-Some-claim_of.claim ++ rest) tells c.in_ok-stacks.ensures.first
     (c.in_ok-stacks.ensures.text ∙ ap (λ l. flat_map row_line (stacks_of rows) ++ l) claims.1) in
     inr (
       frame,
       stacks_of rows,
       c.in-Some-claim_of.claim,
       rest,
-      told,
+      parsed,
       length-stacks_of rows ∙ all,
       claims.0,
       ap (λ n. n + size.rows + 1) c.first_row.ensures.value,
@@ -182,7 +182,7 @@ whole_head bytes frame name stacks claim plan a b c rest problem named is state 
     (rows ∙ ap (λ l. flat_map row_line stacks ++ l) (claims.1 ∙ ap (λ l. claim_line claim ++ l) plans.1))))
 
 pub returns : goal.returns
-unfolding told_frame
+unfolding parsed_frame
 returns c =
     let size : Size = c.in-Some-size_of.size in
     let heights : List ℕ = c.as_slice-heights.result.now in
@@ -195,7 +195,7 @@ returns c =
     let rest : List ℕ = c.in-Some-2.rest.now in
     let named = c.in-Some-bay_of.ensures.found in
     let tells : BeginsWithFrame c.args.bytes.now frame c.in-Some-heights_of.rest.now =
-    told_frame c.args.bytes.now c.in-Some.rest.now c.in-Some-bay_of.rest.now c.in-Some-size_of.rest.now c.in-Some-heights_of.rest.now c.in-Some.version name size c.in-Some-heights_of.heights.items heights c.as_slice-heights.ensures.value
+    parsed_frame c.args.bytes.now c.in-Some.rest.now c.in-Some-bay_of.rest.now c.in-Some-size_of.rest.now c.in-Some-heights_of.rest.now c.in-Some.version name size c.in-Some-heights_of.heights.items heights c.as_slice-heights.ensures.value
     c.in-Some.ensures named c.in-Some-size_of.ensures c.in-Some-heights_of.ensures in
     let are : AreHeightsOf size heights = heights_are c.in-Some.version size heights tells.is_size tells.may_state in
     let made = made_of size heights rows c.deref.result.now c.problem_of-problem.result c.deref.ensures.value c.problem_of-problem.ensures in
@@ -203,6 +203,6 @@ returns c =
     let claims = (claim_reader frame.version (most_claimed size) (few_claimed size tells.is_size)).takes c.in_ok-stacks.rest.now claim c.in-Some-claim_of.rest.now (subst (λ m. claim_at frame.version m c.in_ok-stacks.rest.now ≡ Some (claim, c.in-Some-claim_of.rest.now)) most c.in-Some-claim_of.ensures) in
     let plans = plan_reader.takes c.in-Some-claim_of.rest.now plan rest (rw c.in-Some-2.is at c.in_ok-plan.ensures) in
     let text : c.args.bytes.now ≡ title_line frame.version ++ (bay_line name ++ (size_line size ++ (stated_heights frame.version heights ++ c.in-Some-heights_of.rest.now))) = tells.text in
-    let told = whole_head c.args.bytes.now frame name (stacks_of rows) claim plan c.in-Some-heights_of.rest.now c.in_ok-stacks.rest.now c.in-Some-claim_of.rest.now rest c.problem_of-problem.result named.0 tells.is_size tells.may_state text made
+    let parsed = whole_head c.args.bytes.now frame name (stacks_of rows) claim plan c.in-Some-heights_of.rest.now c.in_ok-stacks.rest.now c.in-Some-claim_of.rest.now rest c.problem_of-problem.result named.0 tells.is_size tells.may_state text made
     c.in_ok-stacks.ensures.first (length-stacks_of rows ∙ all) claims plans c.in_ok-stacks.ensures.text in
-    record { head = told.0; text = told.1; refused = tt }
+    record { head = parsed.0; text = parsed.1; refused = tt }

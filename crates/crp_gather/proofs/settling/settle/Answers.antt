@@ -12,18 +12,18 @@ loop-part-init c = none_settled c.args.plan.now.path c.parts-part-items.result.n
 
 pub loop-part-preserved : goal.loop-part-preserved
 loop-part-preserved c =
-    let told = c.in_ok-settled.ensures in
+    let found = c.in_ok-settled.ensures in
     let about = c.requires.about in
     let cert = about.certificate in
     let rising : AllPairs Precedes (names_of c.parts-part-items.result.now) = subst (λ l. AllPairs Precedes (names_of l)) (sym c.parts-part-items.ensures.value) cert.rising in
     elim c.match-settled.branch [
       | in-Some+in_ok-push w ↦
-          let set = rw w.in-Some.is at told.settled in
-          let kept = rw w.in-Some.is at told.part in
+          let set = rw w.in-Some.is at found.settled in
+          let kept = rw w.in-Some.is at found.part in
           one_there c.args.plan.now.path c.parts-part-items.result.now c.loop-part.parts.items c.match-settled.parts.items c.loop-part.part-index c.part-item.result w.in-Some.settled rising c.loop-part-test.true c.part-item.is set kept
           (ap (λ (v : Vec ProblemPart Global). v.items) w.parts-is ∙ w.in_ok-push.ensures.items) c.loop-part.invariant
       | in_default w ↦
-          let past = rw w.in_default.is at told.past in
+          let past = rw w.in_default.is at found.past in
           subst (AreHalfSettled c.args.plan.now.path c.parts-part-items.result.now (c.loop-part.part-index + 1)) (sym (ap (λ (v : Vec ProblemPart Global). v.items) w.parts-is))
           (one_gone c.args.plan.now.path c.parts-part-items.result.now c.loop-part.parts.items c.loop-part.part-index c.part-item.result c.loop-part-test.true c.part-item.is past c.loop-part.invariant)
     ]

@@ -2,4 +2,4 @@ use Rattle.crp_movins.proofs.Least.{first-least, faultless-before}
 use Rattle.crp_movins.proofs.laws.first_fault_is_least.Goals as goal
 
 pub returns : goal.returns
-returns c = record { told = first-least; faultless = faultless-before }
+returns c = record { faulty = first-least; faultless = faultless-before }

@@ -1,5 +1,5 @@
 use Rattle.std.proofs.Common.{sym, arith, inr}
-use Rattle.crp_movins.proofs.ReadingSteps.{orders-start, faults-start, told-refused}
+use Rattle.crp_movins.proofs.ReadingSteps.{orders-start, faults-start, faulty-refused}
 use Rattle.crp_movins.proofs.reading.load_orders.Goals as goal
 
 pub segments-init : goal.segments-init
@@ -12,4 +12,4 @@ segments-init c = (
 
 pub returns-in-Some-clause-refused : goal.returns-in-Some-clause-refused
 returns-in-Some-clause-refused c =
-    inr (told-refused c.args.segments.now c.args.code.now c.segments.number c.in-Some.fault c.segments.invariant.1 (sym c.in-Some.ensures) (omega arith))
+    inr (faulty-refused c.args.segments.now c.args.code.now c.segments.number c.in-Some.fault c.segments.invariant.1 (sym c.in-Some.ensures) (omega arith))

@@ -22,10 +22,10 @@ loop-i-preserved c =
     let long : length (leaving c.args.sequence.now at.at.bay.1) ≡ vec_len c.leaving-item.result = omega (arith, same, length-map c.leaving-item.result.items (λ reference. reference.now)) in
     elim c.if-not-is_empty.branch [
       | then-not-is_empty+in_ok-problem_of+in_ok-push w ↦
-          let told = w.in_ok-problem_of.field-0 in
+          let made = w.in_ok-problem_of.field-0 in
           let left : pointed w.deref.result.now ≡ leaving c.args.sequence.now at.at.bay.1 = ap pointed w.deref.ensures.value ∙ at.leaves in
-          problems-next c.args.yard.now c.args.sequence.now c.loop-i.i at.at.bay told c.loop-i.problems.items c.if-not-is_empty.problems.items at.at.here
-          (ap (λ n. n == 0) long ∙ sym c.is_empty.ensures ∙ w.if-not-is_empty.true) (stated-problem c.args.yard.now c.args.sequence.now c.loop-i.i at.at.bay (pointed w.deref.result.now) told at.at.here left w.in_ok-problem_of.ensures)
+          problems-next c.args.yard.now c.args.sequence.now c.loop-i.i at.at.bay made c.loop-i.problems.items c.if-not-is_empty.problems.items at.at.here
+          (ap (λ n. n == 0) long ∙ sym c.is_empty.ensures ∙ w.if-not-is_empty.true) (stated-problem c.args.yard.now c.args.sequence.now c.loop-i.i at.at.bay (pointed w.deref.result.now) made at.at.here left w.in_ok-problem_of.ensures)
           c.loop-i.invariant (ap (λ v. v.items) w.problems-is ∙ w.in_ok-push.ensures.items)
       | else-not-is_empty w ↦ rw w.problems-is (problems-same c.args.yard.now c.args.sequence.now c.loop-i.i at.at.bay c.loop-i.problems.items at.at.here (ap (λ n. n == 0) long ∙ sym c.is_empty.ensures ∙ w.if-not-is_empty.false) c.loop-i.invariant)
     ]

@@ -19,10 +19,10 @@ returns-clause-refused c =
     let within : nat_le (length c.args.text.now) max_bytes ≡ true = le-leb (length c.args.text.now) max_bytes short in
     let records = records_of c.args.text.now in
     let listing = c.in_ok-listing.listing in
-    let told : (fault : YardFault) → floating_before listing (length listing) ≡ Some fault → Some fault ≡ floating_before (entries_of records) (length (entries_of records)) =
+    let faulty : (fault : YardFault) → floating_before listing (length listing) ≡ Some fault → Some fault ≡ floating_before (entries_of records) (length (entries_of records)) =
     λ fault h. rw (← c.in_ok-listing.ensures.said) (sym h) in
     MatchResult-weaker c.yard_with.result c.yard_with.ensures.refused (λ yard h. h) (λ fault h.
-    ⊎_elim (λ m. inl m) (λ t. inr (rw within (floating-whole c.args.heights.now records (Some fault) c.in_ok-listing.ensures.faultless (told fault t)))) h)
+    ⊎_elim (λ m. inl m) (λ t. inr (rw within (floating-whole c.args.heights.now records (Some fault) c.in_ok-listing.ensures.faultless (faulty fault t)))) h)
 
 pub returns-clause-accepted : goal.returns-clause-accepted
 returns-clause-accepted c =

@@ -8,7 +8,7 @@ use Rattle.csv.specs.declared.parser.State.TheVariants as st
 use Rattle.csv.proofs.ReadFacts.{rows-more}
 use Rattle.crp_yard.specs.Records.{records_of}
 use Rattle.crp_yard.proofs.CsvSteps.{records-next, records-ended}
-use Rattle.crp_yard.proofs.RecordSteps.{read-none, read-more, told-next, told-empty, read-all, entries-few}
+use Rattle.crp_yard.proofs.RecordSteps.{read-none, read-more, faulty-next, faulty-empty, read-all, entries-few}
 use Rattle.crp_yard.proofs.records.listing_of.Goals as goal
 
 pub loop-row-init : goal.loop-row-init
@@ -50,9 +50,9 @@ returns-in_err-take-clause-refused c =
     let fields = fields_of c.in-Ok.fields in
     let m = rows-more (λ (s : Bor (List ℕ)). Some s.now) c.loop-row.row-iterator.rdr c.next.new.self.rdr fields default_config st.StartRecord (strip_bom c.args.text.now) inv.6 inv.8 inv.3 inv.7 inv.9 s.0 in
     let front = records-next default_config (strip_bom c.args.text.now) m.0 inv.8 fields c.next.new.self.rdr.state m.2 in
-    let told = λ (f : YardFault) (h : fault_behind c.args.heights.now c.loop-row.listing (c.loop-row.number + 1) fields ≡ Some f).
-    told-next c.args.heights.now inv.8 c.loop-row.listing c.loop-row.number (c.loop-row.number + 1) fields front.0 (records_of c.args.text.now) f inv.10 refl h front.1 in
-    rw (p.1, p.2) (⊎_elim (λ h. inl h) (λ h. inr (told _ h)) c.in_err-take.ensures.refused)
+    let faulty = λ (f : YardFault) (h : fault_behind c.args.heights.now c.loop-row.listing (c.loop-row.number + 1) fields ≡ Some f).
+    faulty-next c.args.heights.now inv.8 c.loop-row.listing c.loop-row.number (c.loop-row.number + 1) fields front.0 (records_of c.args.text.now) f inv.10 refl h front.1 in
+    rw (p.1, p.2) (⊎_elim (λ h. inl h) (λ h. inr (faulty _ h)) c.in_err-take.ensures.refused)
 
 pub returns-clause-said : goal.returns-clause-said
 returns-clause-said c =
@@ -73,7 +73,7 @@ returns-then-number-eq0-clause-refused c =
     let inv = c.loop-row.invariant in
     let s = rw c.in-None.is at ((c.next.ensures.steps inv.2 inv.0).0 inv.1) in
     let whole = records-ended c.loop-row.row-iterator.rdr c.next.new.self.rdr (strip_bom c.args.text.now) inv.6 inv.8 inv.3 inv.7 inv.9 s in
-    inr (told-empty c.args.heights.now inv.8 c.loop-row.listing c.loop-row.number (records_of c.args.text.now) inv.10 c.if-number-eq0.true whole)
+    inr (faulty-empty c.args.heights.now inv.8 c.loop-row.listing c.loop-row.number (records_of c.args.text.now) inv.10 c.if-number-eq0.true whole)
 
 pub returns-in_default-clause-refused : goal.returns-in_default-clause-refused
 returns-in_default-clause-refused c = inl refl

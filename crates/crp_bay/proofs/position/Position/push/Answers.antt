@@ -3,11 +3,11 @@ use Rattle.crp_bay.specs.Positions.{top}
 use Rattle.crp_bay.proofs.Reaching.{reached_ordered}
 use Rattle.crp_bay.specs.Back.{PlaceAndTrail, place_of}
 use Rattle.crp_bay.proofs.Reading.{short_trail}
-use Rattle.crp_bay.proofs.Pushing.{started, located_landed, ended_at, seen_after, to_there, to_room, push_room, told}
+use Rattle.crp_bay.proofs.Pushing.{started, located_landed, ended_at, seen_after, to_there, to_room, push_room, found}
 use Rattle.crp_bay.proofs.position.Position.push.Goals as goal
 
 pub returns-then-not-is_target-clause-target : goal.returns-then-not-is_target-clause-target
-returns-then-not-is_target-clause-target c = told c.args.self.now.place c.args.row _ (sym c.if-not-is_target.true ∙ c.is_target.ensures)
+returns-then-not-is_target-clause-target c = found c.args.self.now.place c.args.row _ (sym c.if-not-is_target.true ∙ c.is_target.ensures)
 
 pub bounds-self-inside-next : goal.bounds-self-inside-next
 bounds-self-inside-next c =
@@ -63,7 +63,7 @@ invariant_of-self c =
     (seen_after c.self.inside.pushes.items c.push.new.self.items c.self.inside.row_of (place_of c.self.inside.heights.items c.self.inside.ordered c.self.inside.next c.self.inside.stacks.items) _ c.args.row c.lift-rank.result (record { from = get_or c.self.inside.row_of c.self.inside.next 0; to = c.args.row - 1; next = c.self.inside.next }) c.args.self.now c.self.invariant st0.steps er et refl c.push.ensures.items c.self.view_is).0
 
 pub returns-clause-target : goal.returns-clause-target
-returns-clause-target c = told c.args.self.now.place c.args.row _ (sym c.if-not-is_target.false ∙ c.is_target.ensures)
+returns-clause-target c = found c.args.self.now.place c.args.row _ (sym c.if-not-is_target.false ∙ c.is_target.ensures)
 
 pub returns-clause-pushed : goal.returns-clause-pushed
 returns-clause-pushed c =

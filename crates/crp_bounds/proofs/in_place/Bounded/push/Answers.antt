@@ -5,7 +5,7 @@ use Rattle.crp_bay.specs.Positions.{stack_at, can_shift, child}
 use Rattle.crp_bay.specs.Back.{PlaceAndTrail}
 use Rattle.crp_bay.specs.Located.{moved}
 use Rattle.crp_bay.proofs.Walked.{row_is_target}
-use Rattle.crp_bay.proofs.Pushing.{told}
+use Rattle.crp_bay.proofs.Pushing.{found}
 use Rattle.crp_bounds.specs.Leasts.{least_ordered, KnowsBounds}
 use Rattle.crp_bounds.specs.declared.undo.Undo.{Undo}
 use Rattle.crp_bounds.proofs.Undone.{known_now, kept_length, on_true, counted, Changes, kept_pushed}
@@ -13,7 +13,7 @@ use Rattle.crp_bounds.proofs.in_place.Bounded.push.Goals as goal
 use Rattle.crp_bounds.proofs.in_place.Bounded.push.Goals.{After-push-arg-2-1}
 
 pub returns-then-not-is_target-clause-target : goal.returns-then-not-is_target-clause-target
-returns-then-not-is_target-clause-target c = told c.args.self.now.place c.args.row _ (sym c.if-not-is_target.true ∙ c.is_target.ensures ∙ ap (λ (v : PlaceAndTrail). can_shift v.place c.args.row) c.self.view_is)
+returns-then-not-is_target-clause-target c = found c.args.self.now.place c.args.row _ (sym c.if-not-is_target.true ∙ c.is_target.ensures ∙ ap (λ (v : PlaceAndTrail). can_shift v.place c.args.row) c.self.view_is)
 
 pub blocking_with-blocking-requires : goal.blocking_with-blocking-requires
 blocking_with-blocking-requires c =
@@ -52,7 +52,7 @@ invariant_of-self c =
     (on_true c.push-pushed.result (c.push-pushed.ensures.target.1 (row_is_target s c.args.row (sym c.is_target.ensures ∙ c.if-not-is_target.false))) c.push-pushed.ensures.pushed) c.push.ensures.items
 
 pub returns-clause-target : goal.returns-clause-target
-returns-clause-target c = told c.args.self.now.place c.args.row _ (sym c.if-not-is_target.false ∙ c.is_target.ensures ∙ ap (λ (v : PlaceAndTrail). can_shift v.place c.args.row) c.self.view_is)
+returns-clause-target c = found c.args.self.now.place c.args.row _ (sym c.if-not-is_target.false ∙ c.is_target.ensures ∙ ap (λ (v : PlaceAndTrail). can_shift v.place c.args.row) c.self.view_is)
 
 pub returns-clause-pushed : goal.returns-clause-pushed
 returns-clause-pushed c =
