@@ -15,7 +15,7 @@ use Rattle.crp_cert.specs.Faults.{BeginsWith}
 use Rattle.crp_cert.specs.ScriptFaults.{BeginsWithParts, BeginsWithPart, IsLineFault, IsFirstFaultOfScript}
 use Rattle.crp_cert.specs.Reading.{tag_at}
 use Rattle.crp_cert.specs.PartReading.{name_at}
-use Rattle.crp_cert.specs.Settled.{IsSettled, IsName, spelled_name, longest_name}
+use Rattle.crp_cert.specs.Settled.{CanBeJudged, IsName, spelled_name, longest_name}
 use Rattle.crp_cert.proofs.PartNames.{name_takes, name_again}
 use Rattle.crp_cert.proofs.PartLines.{behind_word, line_then}
 use Rattle.crp_cert.proofs.Joined.{all_right}
@@ -67,7 +67,7 @@ pub name_behind : (p : Problem) (bytes : List ℕ) → BeginsWithPart p (codes "
 name_behind p bytes part =
     (part.name, (part.short, (part.place, part.is_at)), (part.symbols ++ 10 ∷ part.after, word_behind p bytes part ∙ sym (append_assoc (name_text part.name) (codes ": ") (part.symbols ++ 10 ∷ part.after))))
 
-pub refused : (p : Problem) → IsProblem p → (bytes more : List ℕ) → IsSettled 32 longest_name bytes → ¬ BeginsWith (IsName p) spelled_name bytes → ¬ BeginsWithPart p (codes "part " ++ (bytes ++ more))
+pub refused : (p : Problem) → IsProblem p → (bytes more : List ℕ) → CanBeJudged 32 longest_name bytes → ¬ BeginsWith (IsName p) spelled_name bytes → ¬ BeginsWithPart p (codes "part " ++ (bytes ++ more))
 refused p is bytes more settled none part = name_stays p is bytes more settled none (name_behind p (bytes ++ more) part)
 
 -- a part line has an end

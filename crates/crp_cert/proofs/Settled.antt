@@ -23,7 +23,7 @@ use Rattle.crp_cert.specs.declared.fault.CertFault.TheVariants as faults
 use Rattle.crp_cert.proofs.Joined.{all_both}
 use Rattle.crp_cert.proofs.Stacks.{few_parsed, next_eight, next_small, fewer, few_claimed}
 use Rattle.crp_cert.proofs.Heights.{digits, heights_are}
-use Rattle.crp_cert.specs.Settled.{IsShort, IsSettled, longest_line, longest_head, IsName, spelled_name, longest_name, BeginsWithBay}
+use Rattle.crp_cert.specs.Settled.{StopsWithin, CanBeJudged, longest_line, longest_head, IsName, spelled_name, longest_name, BeginsWithBay}
 
 -- ---- fronts
 
@@ -45,7 +45,7 @@ until_stop stop (b ∷ xs) [] x y all all' e = absurd (all.0 (let h : b ≡ stop
 until_stop stop (b ∷ xs) (d ∷ ys) x y all all' e = ap suc (until_stop stop xs ys x y all.1 all'.1 (let t : xs ++ stop ∷ x ≡ ys ++ stop ∷ y = cc in t))
 
 -- a text that is settled, and does not stand there, does not stand there whatever follows
-pub stays : {A : Type 0} (fits : A → Type 0) (text : A → List ℕ) (stop most : ℕ) → ((x : A) → fits x → IsShort stop most (text x)) → (bytes more : List ℕ) → IsSettled stop most bytes →
+pub stays : {A : Type 0} (fits : A → Type 0) (text : A → List ℕ) (stop most : ℕ) → ((x : A) → fits x → StopsWithin stop most (text x)) → (bytes more : List ℕ) → CanBeJudged stop most bytes →
     ¬ BeginsWith fits text bytes → ¬ BeginsWith fits text (bytes ++ more)
 stays fits text stop most are bytes more settled none stands =
     let x = stands.0 in
@@ -93,7 +93,7 @@ spaced_short k most (n ∷ ns) some low small all =
 
 -- a word and numbers
 numbers_short : (word : List ℕ) (k most top : ℕ) (ns : List ℕ) → AllByRecursion (λ b. b ≢ 10) word → 0 < k → most < 10 ^ k → most ≤ 9999 → AllByRecursion (λ n. n ≤ most) ns → length word + (k + 1) * length ns + 1 ≤ top →
-    IsShort 10 top (numbers_line word ns)
+    StopsWithin 10 top (numbers_line word ns)
 numbers_short word k most top ns apart some low small all fits = record {
   body = word ++ spaced ns;
   before = all_both (λ b. b ≢ 10) word (spaced ns) apart (spaced_apart ns (lower ns all));
@@ -118,31 +118,31 @@ no_end (x ∷ xs) e =
     halves true y e = (refl, e)
     halves false y e = absurd cc
 
-pub size_short : (size : Size) → IsSize size → IsShort 10 longest_line (size_line size)
+pub size_short : (size : Size) → IsSize size → StopsWithin 10 longest_line (size_line size)
 size_short size is =
     let few = is.few_rows in let low = is.few_tiers in let fit = is.ordered_fit in let total = few_parsed size is in
     numbers_short (codes "size") 2 99 longest_line (size.rows ∷ size.tiers ∷ size.ordered ∷ size.total ∷ []) (no_end (codes "size") refl) (omega arith) (omega arith) (omega arith)
     (omega arith, (omega arith, (omega arith, (omega arith, tt)))) (lit≤ tt)
 
-pub heights_short : (size : Size) (heights : List ℕ) → IsSize size → AreHeightsOf size heights → IsShort 10 longest_line (heights_line heights)
+pub heights_short : (size : Size) (heights : List ℕ) → IsSize size → AreHeightsOf size heights → StopsWithin 10 longest_line (heights_line heights)
 heights_short size heights is are =
     let few = is.few_rows in let each = are.for_each_row in
     numbers_short (codes "heights") 2 99 longest_line heights (no_end (codes "heights") refl) (omega arith) (omega arith) (omega arith) (digits heights are.are_heights) (omega arith)
 
-pub claim_short : (most : ℕ) (claim : Claim) → most ≤ 9999 → bound claim ≤ most → IsShort 10 longest_line (claim_line claim)
+pub claim_short : (most : ℕ) (claim : Claim) → most ≤ 9999 → bound claim ≤ most → StopsWithin 10 longest_line (claim_line claim)
 claim_short most (AtLeast least) low le = numbers_short (codes "at least") 4 9999 longest_line (least ∷ []) (no_end (codes "at least") refl) (omega arith) (omega arith) (omega arith) (omega arith, tt) (lit≤ tt)
 claim_short most (First least) low le = numbers_short (codes "first") 4 9999 longest_line (least ∷ []) (no_end (codes "first") refl) (omega arith) (omega arith) (omega arith) (omega arith, tt) (lit≤ tt)
 
-pub row_short : (stack : List ℕ) → length stack ≤ 8 → AllByRecursion (λ n. n ≤ 99) stack → IsShort 10 longest_line (row_line stack)
+pub row_short : (stack : List ℕ) → length stack ≤ 8 → AllByRecursion (λ n. n ≤ 99) stack → StopsWithin 10 longest_line (row_line stack)
 row_short stack few low = numbers_short (codes "row") 2 99 longest_line stack (no_end (codes "row") refl) (omega arith) (omega arith) (omega arith) low (omega arith)
 
-pub plan_short : (plan : Option (List ℕ)) → IfSome plan AreRows → IsShort 10 longest_line (plan_line plan)
+pub plan_short : (plan : Option (List ℕ)) → IfSome plan AreRows → StopsWithin 10 longest_line (plan_line plan)
 plan_short None is = record { body = codes "plan -"; before = no_end (codes "plan -") refl; is = refl; short = lit≤ tt }
 plan_short (Some rows) is =
     let few = is.0 in
     numbers_short (codes "plan") 2 99 longest_line rows (no_end (codes "plan") refl) (omega arith) (omega arith) (omega arith) (recursion_from_All (λ row. row ≤ 99) rows is.1) (omega arith)
 
-pub bay_short : (name : YardBay) → IsYardBay name → IsShort 10 longest_line (bay_line name)
+pub bay_short : (name : YardBay) → IsYardBay name → StopsWithin 10 longest_line (bay_line name)
 bay_short name is =
     let few = is.few_characters in let four = is.four_digits in
     let s = spaced_short 4 9999 (name.bay ∷ []) (omega arith) (omega arith) (omega arith) (four, tt) in
@@ -159,29 +159,29 @@ bay_short name is =
     printed (b ∷ block) all = (λ e. let le = all.0.0 in omega arith, printed block all.1)
 
 -- the line of a stack that may follow others
-row_is_short : (size : Size) (heights : List ℕ) (stacks : List (List ℕ)) (stack : List ℕ) → IsSize size → AreHeightsOf size heights → IsNextStack size heights stacks stack → IsShort 10 longest_line (row_line stack)
+row_is_short : (size : Size) (heights : List ℕ) (stacks : List (List ℕ)) (stack : List ℕ) → IsSize size → AreHeightsOf size heights → IsNextStack size heights stacks stack → StopsWithin 10 longest_line (row_line stack)
 row_is_short size heights stacks stack is are next = row_short stack (next_eight size heights stacks stack are next) (next_small size heights stacks stack is next)
 
 -- ---- what an endless line can still be
 
-pub bay_stays : (bytes more : List ℕ) → IsSettled 10 longest_line bytes → ¬ BeginsWith IsYardBay bay_line bytes → ¬ BeginsWith IsYardBay bay_line (bytes ++ more)
+pub bay_stays : (bytes more : List ℕ) → CanBeJudged 10 longest_line bytes → ¬ BeginsWith IsYardBay bay_line bytes → ¬ BeginsWith IsYardBay bay_line (bytes ++ more)
 bay_stays = stays IsYardBay bay_line 10 longest_line bay_short
 
-pub size_stays : (bytes more : List ℕ) → IsSettled 10 longest_line bytes → ¬ BeginsWith IsSize size_line bytes → ¬ BeginsWith IsSize size_line (bytes ++ more)
+pub size_stays : (bytes more : List ℕ) → CanBeJudged 10 longest_line bytes → ¬ BeginsWith IsSize size_line bytes → ¬ BeginsWith IsSize size_line (bytes ++ more)
 size_stays = stays IsSize size_line 10 longest_line size_short
 
-pub heights_stay : (size : Size) → IsSize size → (bytes more : List ℕ) → IsSettled 10 longest_line bytes → ¬ BeginsWith (AreHeightsOf size) heights_line bytes → ¬ BeginsWith (AreHeightsOf size) heights_line (bytes ++ more)
+pub heights_stay : (size : Size) → IsSize size → (bytes more : List ℕ) → CanBeJudged 10 longest_line bytes → ¬ BeginsWith (AreHeightsOf size) heights_line bytes → ¬ BeginsWith (AreHeightsOf size) heights_line (bytes ++ more)
 heights_stay size is = stays (AreHeightsOf size) heights_line 10 longest_line (λ heights are. heights_short size heights is are)
 
-pub row_stays : (size : Size) (heights : List ℕ) (stacks : List (List ℕ)) → IsSize size → AreHeightsOf size heights → (bytes more : List ℕ) → IsSettled 10 longest_line bytes →
+pub row_stays : (size : Size) (heights : List ℕ) (stacks : List (List ℕ)) → IsSize size → AreHeightsOf size heights → (bytes more : List ℕ) → CanBeJudged 10 longest_line bytes →
     ¬ BeginsWith (IsNextStack size heights stacks) row_line bytes → ¬ BeginsWith (IsNextStack size heights stacks) row_line (bytes ++ more)
 row_stays size heights stacks is are = stays (IsNextStack size heights stacks) row_line 10 longest_line (λ stack next. row_is_short size heights stacks stack is are next)
 
-pub claim_stays : (version : Version) (size : Size) → IsSize size → (bytes more : List ℕ) → IsSettled 10 longest_line bytes →
+pub claim_stays : (version : Version) (size : Size) → IsSize size → (bytes more : List ℕ) → CanBeJudged 10 longest_line bytes →
     ¬ BeginsWith (MayClaim version (most_claimed size)) claim_line bytes → ¬ BeginsWith (MayClaim version (most_claimed size)) claim_line (bytes ++ more)
 claim_stays version size is = stays (MayClaim version (most_claimed size)) claim_line 10 longest_line (λ claim may. claim_short (most_claimed size) claim (few_claimed size is) may.within)
 
-pub plan_stays : (bytes more : List ℕ) → IsSettled 10 longest_line bytes → ¬ BeginsWith (λ plan. IfSome plan AreRows) plan_line bytes → ¬ BeginsWith (λ plan. IfSome plan AreRows) plan_line (bytes ++ more)
+pub plan_stays : (bytes more : List ℕ) → CanBeJudged 10 longest_line bytes → ¬ BeginsWith (λ plan. IfSome plan AreRows) plan_line bytes → ¬ BeginsWith (λ plan. IfSome plan AreRows) plan_line (bytes ++ more)
 plan_stays = stays (λ plan. IfSome plan AreRows) plan_line 10 longest_line plan_short
 
 -- ---- names of parts
@@ -201,7 +201,7 @@ points_short (row ∷ rows) low =
     omega (arith, length-append (decimal row) (flat_map (λ r. 46 ∷ decimal r) rows))
 
 -- a name of low rows
-name_short : (name : List ℕ) → length name ≤ 8 → AllByRecursion (λ row. row ≤ 99) name → IsShort 32 longest_name (spelled_name name)
+name_short : (name : List ℕ) → length name ≤ 8 → AllByRecursion (λ row. row ≤ 99) name → StopsWithin 32 longest_name (spelled_name name)
 name_short [] few low = record { body = codes "/:"; before = (λ e. omega arith, (λ e. omega arith, tt)); is = refl; short = lit≤ tt }
 name_short (row ∷ rows) few low =
     let le = low.0 in
@@ -237,7 +237,7 @@ path_low p name s is a =
 pub path_in_line : (p : Problem) (name : List ℕ) (s : Position) → IsProblem p → IsAt p name s → AllByRecursion (λ b. b ≢ 10) (spelled_name name)
 path_in_line p name s is a = name_in_line name (path_low p name s is a)
 
-pub name_stays : (p : Problem) → IsProblem p → (bytes more : List ℕ) → IsSettled 32 longest_name bytes → ¬ BeginsWith (IsName p) spelled_name bytes → ¬ BeginsWith (IsName p) spelled_name (bytes ++ more)
+pub name_stays : (p : Problem) → IsProblem p → (bytes more : List ℕ) → CanBeJudged 32 longest_name bytes → ¬ BeginsWith (IsName p) spelled_name bytes → ¬ BeginsWith (IsName p) spelled_name (bytes ++ more)
 name_stays p is = stays (IsName p) spelled_name 32 longest_name (λ name fits. name_short name fits.0 (path_low p name fits.1.0 is fits.1.1))
 
 -- ---- heads

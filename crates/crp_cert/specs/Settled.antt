@@ -8,7 +8,7 @@ use Rattle.crp_cert.specs.declared.version.Version.{Version}
 use Rattle.crp_cert.specs.Text.{title_line, bay_line}
 
 -- bytes without the stop, then the stop, and no more than so many in all
-pub record IsShort (stop most : ℕ) (text : List ℕ) : Type 0 where
+pub record StopsWithin (stop most : ℕ) (text : List ℕ) : Type 0 where
   pub body : List ℕ
   pub before : AllByRecursion (λ b. b ≢ stop) body
   pub is : text ≡ body ++ stop ∷ []
@@ -22,8 +22,8 @@ pub record HasStop (stop : ℕ) (bytes : List ℕ) : Type 0 where
   pub is : bytes ≡ body ++ stop ∷ rest
 
 -- enough came to judge a text of at most so many bytes that ends with the stop
-abbrev pub IsSettled : ℕ → ℕ → List ℕ → Type 0
-IsSettled stop most bytes = HasStop stop bytes ⊎ (most ≤ length bytes)
+abbrev pub CanBeJudged : ℕ → ℕ → List ℕ → Type 0
+CanBeJudged stop most bytes = HasStop stop bytes ⊎ (most ≤ length bytes)
 
 -- no line of a head is longer: a plan line has at most 672 numbers of two digits
 abbrev pub longest_line : ℕ

@@ -35,7 +35,7 @@ use Rattle.crp_checker.specs.Openings.{part_word, named_line}
 use Rattle.crp_checker.specs.Owed.{Spot}
 use Rattle.crp_checker.specs.Symbols.{after, line_begun, line_after, IsFirstOf}
 use Rattle.crp_checker.specs.Kept.{line_of, need_by}
-use Rattle.crp_checker.specs.Ends.{IsLineEnd}
+use Rattle.crp_checker.specs.Ends.{IsEndOfSymbols}
 use Rattle.crp_checker.specs.PartEnds.{IsNextPart, IsPartEnd}
 use Rattle.crp_checker.specs.Stages.{AreFindings, IsNote, note_after, IsAtLine, IsAtPart, IsFaulty}
 use Rattle.crp_checker.proofs.AtLines.{bay_known}
@@ -114,7 +114,7 @@ not_in_order wanted before name findings kept at not =
 
 -- what the end of the symbols means for the line
 meant : (wanted : Option Problem) (before name : List ℕ) (findings : Findings) (kept : SymbolLine) (end : LineEnd) (at : IsAtPart wanted before findings name kept) → All (λ other. Precedes other name) findings.names →
-    ((need : List ℕ → ℕ) (top : Spot) (bytes : List ℕ) → length top.place.heights ≤ 12 → line_of kept ≡ line_after need top bytes → IsLineEnd need top bytes end) →
+    ((need : List ℕ → ℕ) (top : Spot) (bytes : List ℕ) → length top.place.heights ≤ 12 → line_of kept ≡ line_after need top bytes → IsEndOfSymbols need top bytes end) →
     (more : List ℕ) → IsPartEnd (need_in at.script) at.script.head.problem at.script.parts at.line name (symbols_line name at.symbols ++ more) more end
 meant wanted before name findings kept end at order ends more =
     let script = at.script in
@@ -127,7 +127,7 @@ meant wanted before name findings kept end at order ends more =
 -- a fault of the symbols
 pub symbols_fault : (wanted : Option Problem) (before name : List ℕ) (findings : Findings) (kept : SymbolLine) (end : LineEnd) (fault : CertFault) (at : IsAtPart wanted before findings name kept) →
     All (λ other. Precedes other name) findings.names →
-    ((need : List ℕ → ℕ) (top : Spot) (bytes : List ℕ) → length top.place.heights ≤ 12 → line_of kept ≡ line_after need top bytes → IsLineEnd need top bytes end) →
+    ((need : List ℕ → ℕ) (top : Spot) (bytes : List ℕ) → length top.place.heights ≤ 12 → line_of kept ≡ line_after need top bytes → IsEndOfSymbols need top bytes end) →
     ((p : Problem) (parts : List Part) (need : List ℕ → ℕ) (line : ℕ) (bytes after : List ℕ) → line ≡ findings.line → IsPartEnd need p parts line name bytes after end → IsLineFault p parts line bytes fault) → IsFaulty (before ++ 10 ∷ []) (Some findings.bay) fault
 symbols_fault wanted before name findings kept end fault at order ends is =
     at_fault wanted before name findings kept fault at
@@ -196,7 +196,7 @@ pub record IsWithPart (old new : Findings) (name : List ℕ) (w : Option Wrong) 
 
 pub part_ended : (wanted : Option Problem) (before name : List ℕ) (old new : Findings) (kept : SymbolLine) (end : LineEnd) (begun : List ℕ) (w : Option Wrong) (given : List (List ℕ)) → IsAtPart wanted before old name kept →
     All (λ other. Precedes other name) old.names →
-    ((need : List ℕ → ℕ) (top : Spot) (bytes : List ℕ) → length top.place.heights ≤ 12 → line_of kept ≡ line_after need top bytes → IsLineEnd need top bytes end) →
+    ((need : List ℕ → ℕ) (top : Spot) (bytes : List ℕ) → length top.place.heights ≤ 12 → line_of kept ≡ line_after need top bytes → IsEndOfSymbols need top bytes end) →
     ((p : Problem) (parts : List Part) (need : List ℕ → ℕ) (line : ℕ) (bytes after : List ℕ) → IsPartEnd need p parts line name bytes after end → IsNextPart need p parts name bytes after w given) →
     IsWithPart old new name w given → begun ≡ [] → IsAtLine wanted (before ++ 10 ∷ []) new begun
 part_ended wanted before name old new kept end begun w given at order ends whole is none =

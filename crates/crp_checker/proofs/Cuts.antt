@@ -11,7 +11,7 @@ use Rattle.crp_checker.specs.declared.refused.Refused.{Refused}
 use Rattle.crp_checker.specs.declared.refused.Refused.TheVariants.{Memory}
 use Rattle.crp_checker.specs.Refusals.{IsRefusal}
 use Rattle.crp_checker.specs.Shown.{TextShowsFor}
-use Rattle.crp_checker.specs.Files.{IsWithoutEnd, IsLine, BeginsWithEnd, IsOtherLine, joined_lines, IsEnded, IsOpen, BeginsWithTexts, ShowEach, AddsShown, IsFileRefusal}
+use Rattle.crp_checker.specs.Files.{IsWithoutEnd, IsLine, BeginsWithEnd, IsOtherLine, joined_lines, IsEnded, HasNoEndLine, BeginsWithTexts, ShowEach, AddsShown, IsFileRefusal}
 use Rattle.crp_cert.proofs.Joined.{all_both}
 
 -- the bytes are lines that do not begin with `end `
@@ -73,7 +73,7 @@ pub others_on : (bytes : List ℕ) (from n : ℕ) → AreOtherLines (take from b
 others_on bytes from n o line other = subst AreOtherLines (sym (take-add from n bytes)) (others_more (take from bytes) (take n (drop from bytes)) o line other)
 
 -- where no further line ends, the text is open
-pub open_at : (bytes : List ℕ) (from : ℕ) → AreOtherLines (take from bytes) → IsWithoutEnd (take (length bytes - from) (drop from bytes)) → bytes ≢ [] → IsOpen bytes
+pub open_at : (bytes : List ℕ) (from : ℕ) → AreOtherLines (take from bytes) → IsWithoutEnd (take (length bytes - from) (drop from bytes)) → bytes ≢ [] → HasNoEndLine bytes
 open_at bytes from o none some = record {
   lines = o.lines;
   rest = drop from bytes;
@@ -85,7 +85,7 @@ open_at bytes from o none some = record {
 
 -- how a text stands at the front of the bytes that are left
 abbrev pub IsFront : List ℕ → ℕ → Type 0
-IsFront rest n = IsEnded (take n rest) ⊎ (IsOpen rest × (n ≡ length rest))
+IsFront rest n = IsEnded (take n rest) ⊎ (HasNoEndLine rest × (n ≡ length rest))
 
 -- it has a byte
 pub front_some : (rest : List ℕ) (n : ℕ) → n ≤ length rest → rest ≢ [] → IsFront rest n → 0 < n
@@ -101,14 +101,14 @@ front_some rest n le some front = ⊎_elim
     has_some (x ∷ xs) ne = omega arith
 
 -- so the text is one of the file
-pub front_text : (rest : List ℕ) (n : ℕ) → n ≤ length rest → IsFront rest n → IsEnded (take n rest) ⊎ (IsOpen (take n rest) × (drop n rest ≡ []))
+pub front_text : (rest : List ℕ) (n : ℕ) → n ≤ length rest → IsFront rest n → IsEnded (take n rest) ⊎ (HasNoEndLine (take n rest) × (drop n rest ≡ []))
 front_text rest n le front = ⊎_elim
     (λ e. inl e)
-    (λ o. inr (subst IsOpen (sym (take_all n rest (let all = o.1 in omega arith))) o.0, drop_all n rest (let all = o.1 in omega arith)))
+    (λ o. inr (subst HasNoEndLine (sym (take_all n rest (let all = o.1 in omega arith))) o.0, drop_all n rest (let all = o.1 in omega arith)))
     front
 
 -- the file goes on by one text
-pub texts_more : (file : List ℕ) (texts : List (List ℕ)) (rest text after : List ℕ) → BeginsWithTexts file texts rest → rest ≡ text ++ after → IsEnded text ⊎ (IsOpen text × (after ≡ [])) →
+pub texts_more : (file : List ℕ) (texts : List (List ℕ)) (rest text after : List ℕ) → BeginsWithTexts file texts rest → rest ≡ text ++ after → IsEnded text ⊎ (HasNoEndLine text × (after ≡ [])) →
     BeginsWithTexts file (texts ++ text ∷ []) after
 texts_more file [] rest text after begins e front = (after, begins ∙ e, front, refl)
 texts_more file (first ∷ texts) rest text after begins e front = (begins.0, begins.1, begins.2, texts_more begins.0 texts rest text after begins.3 e front)

@@ -10,7 +10,7 @@ use Rattle.crp_checker.specs.declared.refused.Refused.{Refused}
 use Rattle.crp_checker.specs.declared.watch.Watch.{Watch}
 use Rattle.crp_checker.specs.Shown.{TextShowsFor}
 use Rattle.crp_checker.specs.Refusals.{IsRefusal}
-use Rattle.crp_checker.specs.Files.{IsEnded, IsOpen, joined_lines, BeginsWithTexts, FileShows, IsFileRefusal}
+use Rattle.crp_checker.specs.Files.{IsEnded, HasNoEndLine, joined_lines, BeginsWithTexts, FileShows, IsFileRefusal}
 use Rattle.crp_checker.specs.Watches.{IsUnended}
 use Rattle.crp_checker.specs.FedFiles.{IsEndedFront}
 use Rattle.crp_checker.proofs.Cuts.{texts_more, shown_more, as_many}
@@ -44,12 +44,12 @@ pub begins : (file : List ℕ) (verdicts : List (YardBay × Verdict)) (rest : Li
 begins file verdicts rest front = begins_from front.texts file rest front.ended front.is
 
 -- bytes that have not ended are those of one more certificate, if there are some
-pub open_text : (text : List ℕ) (watch : Watch) → text ≢ [] → IsUnended text watch → IsOpen text
+pub open_text : (text : List ℕ) (watch : Watch) → text ≢ [] → IsUnended text watch → HasNoEndLine text
 open_text text watch some un = record { lines = un.lines; rest = un.begun; others = un.others; part_line = un.open_line; is = un.is; some_bytes = some }
 
 -- one more is refused
 pub refused_next : (file : List ℕ) (verdicts : List (YardBay × Verdict)) (rest text after : List ℕ) (r : Refused) → (front : IsEndedFront file verdicts rest) → rest ≡ text ++ after →
-    IsEnded text ⊎ (IsOpen text × (after ≡ [])) → IsRefusal None text r → IsFileRefusal file verdicts (length verdicts + 1) r
+    IsEnded text ⊎ (HasNoEndLine text × (after ≡ [])) → IsRefusal None text r → IsFileRefusal file verdicts (length verdicts + 1) r
 refused_next file verdicts rest text after r front is ended why = record {
   texts = front.texts;
   text = text;
@@ -61,7 +61,7 @@ refused_next file verdicts rest text after r front is ended why = record {
 }
 
 -- one more is the last
-pub shown_last : (file : List ℕ) (verdicts : List (YardBay × Verdict)) (text : List ℕ) (last : YardBay × Verdict) → IsEndedFront file verdicts text → IsOpen text → TextShowsFor text last.0 last.1 → FileShows file (verdicts ++ last ∷ [])
+pub shown_last : (file : List ℕ) (verdicts : List (YardBay × Verdict)) (text : List ℕ) (last : YardBay × Verdict) → IsEndedFront file verdicts text → HasNoEndLine text → TextShowsFor text last.0 last.1 → FileShows file (verdicts ++ last ∷ [])
 shown_last file verdicts text last front open_text shows = (
   front.texts ++ text ∷ [],
   texts_more file front.texts text text [] (begins file verdicts text front) (sym (append-nil text)) (inr (open_text, refl)),

@@ -3,7 +3,7 @@ use Rattle.std.proofs.Common.{◌≡◌, ◌≢◌, ℕ, ◌⊎◌, ⊎_elim, Li
 use Rattle.std.specs.List.{AllByRecursion}
 use Rattle.std.proofs.lemmas.List.{append-nil}
 use Rattle.std.proofs.lemmas.List.Elements.{recursion_from_All}
-use Rattle.crp_checker.specs.Files.{IsWithoutEnd, IsLine, BeginsWithEnd, IsOtherLine, joined_lines, IsEnded, IsOpen, BeginsWithTexts}
+use Rattle.crp_checker.specs.Files.{IsWithoutEnd, IsLine, BeginsWithEnd, IsOtherLine, joined_lines, IsEnded, HasNoEndLine, BeginsWithTexts}
 
 -- two fronts without LF, each followed by LF, are one
 until_end : (xs ys x y : List ℕ) → AllByRecursion (λ b. b ≢ 10) xs → AllByRecursion (λ b. b ≢ 10) ys → xs ++ 10 ∷ x ≡ ys ++ 10 ∷ y → (xs ≡ ys) × (x ≡ y)
@@ -78,14 +78,14 @@ one_ended t u x y a b e =
     let r = ends_once a.lines b.lines a.last b.last x y a.others b.others a.is_line a.is_end b.is_line b.is_end text in
     (a.is ∙ r.0 ∙ sym b.is, r.1)
 
-ended_or_open : (t u x : List ℕ) → IsEnded t → IsOpen u → t ++ x ≡ u → ⊥
+ended_or_open : (t u x : List ℕ) → IsEnded t → HasNoEndLine u → t ++ x ≡ u → ⊥
 ended_or_open t u x a b e =
     ends_not_open a.lines b.lines a.last b.rest x a.others b.others a.is_line a.is_end b.part_line
     (sym (append_assoc (joined_lines a.lines) a.last x) ∙ ap (λ l. l ++ x) (sym a.is) ∙ e ∙ b.is)
 
 -- what stands at the front of a file, which this follows
 abbrev pub Stands : List ℕ → List ℕ → Type 0
-Stands text after = IsEnded text ⊎ (IsOpen text × (after ≡ []))
+Stands text after = IsEnded text ⊎ (HasNoEndLine text × (after ≡ []))
 
 -- a text has a byte
 pub some_text : (text after : List ℕ) → Stands text after → text ++ after ≡ [] → ⊥

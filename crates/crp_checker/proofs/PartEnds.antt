@@ -9,18 +9,18 @@ use Rattle.crp_cert.specs.ScriptFaults.{ComesAfter, BeginsWithPart}
 use Rattle.crp_checker.specs.declared.line_end.LineEnd.{LineEnd}
 use Rattle.crp_checker.specs.declared.line_end.LineEnd.TheVariants.{Unknown, Trailing, Unfinished, Whole}
 use Rattle.crp_checker.specs.Symbols.{IsFirstOf}
-use Rattle.crp_checker.specs.Ends.{IsLineEnd}
+use Rattle.crp_checker.specs.Ends.{IsEndOfSymbols}
 use Rattle.crp_checker.specs.PartEnds.{IsPartEnd}
 
 -- what the symbols of a part line are found to be is what the definitions of certificates say of the line
 pub part_lines_end : (need : List ℕ → ℕ) (p : Problem) (parts : List Part) (line : ℕ) (name : List ℕ) (place : Position) (symbols after : List ℕ) (end : LineEnd) → IsProblem p → length name ≤ 8 → IsAt p name place →
-    All (λ b. b ≢ 10) symbols → ComesAfter parts name → IsLineEnd need (record { path = name; place = place }) symbols end → IsPartEnd need p parts line name (symbols_line name symbols ++ after) after end
+    All (λ b. b ≢ 10) symbols → ComesAfter parts name → IsEndOfSymbols need (record { path = name; place = place }) symbols end → IsPartEnd need p parts line name (symbols_line name symbols ++ after) after end
 part_lines_end need p parts line name place symbols after end is short is_at one_line comes = by_end end
   where
     begins : BeginsWithPart p (symbols_line name symbols ++ after)
     begins = record { name = name; short = short; place = place; is_at = is_at; symbols = symbols; one_line = one_line; after = after; text = refl }
 
-    by_end : (end : LineEnd) → IsLineEnd need (record { path = name; place = place }) symbols end → IsPartEnd need p parts line name (symbols_line name symbols ++ after) after end
+    by_end : (end : LineEnd) → IsEndOfSymbols need (record { path = name; place = place }) symbols end → IsPartEnd need p parts line name (symbols_line name symbols ++ after) after end
     by_end Unknown e = (refl, (begins, comes, e))
     by_end Trailing e = (refl, (begins, comes, e.0, e.1))
     by_end Unfinished e = (refl, (begins, comes, e.0, e.1))

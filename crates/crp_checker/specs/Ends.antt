@@ -7,8 +7,8 @@ use Rattle.crp_checker.specs.Owed.{Spot}
 use Rattle.crp_checker.specs.Symbols.{IsOneWholeTree}
 
 -- the bytes are the symbols of a part whose name leads to the top spot: a byte may not stand there, or else symbols follow the tree, or end before it does, or are those of a tree
-abbrev pub IsLineEnd : (List ℕ → ℕ) → Spot → List ℕ → LineEnd → Type 0
-IsLineEnd need top bytes Unknown = ¬ AreSymbols bytes
-IsLineEnd need top bytes Trailing = AreSymbols bytes × GoesOnBehindTree top.place bytes
-IsLineEnd need top bytes Unfinished = AreSymbols bytes × ¬ BeginsWithTree top.place bytes
-IsLineEnd need top bytes (Whole wrong given) = AreSymbols bytes × IsOneWholeTree need top bytes wrong given.items
+abbrev pub IsEndOfSymbols : (List ℕ → ℕ) → Spot → List ℕ → LineEnd → Type 0
+IsEndOfSymbols need top bytes Unknown = ¬ AreSymbols bytes
+IsEndOfSymbols need top bytes Trailing = AreSymbols bytes × GoesOnBehindTree top.place bytes
+IsEndOfSymbols need top bytes Unfinished = AreSymbols bytes × ¬ BeginsWithTree top.place bytes
+IsEndOfSymbols need top bytes (Whole wrong given) = AreSymbols bytes × IsOneWholeTree need top bytes wrong given.items

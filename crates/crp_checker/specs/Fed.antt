@@ -10,5 +10,5 @@ abbrev pub HasRead : Option Problem → List ℕ → Checker → Type 0
 HasRead wanted bytes checker = (checker.wanted ≡ wanted) × HasCome wanted bytes checker.stage
 
 -- no memory was left for it
-abbrev pub IsSpent : Checker → Type 0
-IsSpent checker = checker.stage ≡ Spent
+abbrev pub IsOutOfMemory : Checker → Type 0
+IsOutOfMemory checker = checker.stage ≡ Spent

@@ -33,6 +33,6 @@ LeadsOn file piece verdicts checker (Ended taken bay verdict) =
     (1 ≤ taken) × (taken ≤ length piece) × HasReadFile (file ++ take taken piece) (verdicts ++ (bay, verdict) ∷ []) checker
 
 -- the file shows what those before show, and then what the last one shows, if there is one more
-abbrev pub IsLast : List ℕ → List (YardBay × Verdict) → Option (YardBay × Verdict) → Type 0
-IsLast file verdicts None = FileShows file verdicts
-IsLast file verdicts (Some last) = FileShows file (verdicts ++ last ∷ [])
+abbrev pub ShowsLast : List ℕ → List (YardBay × Verdict) → Option (YardBay × Verdict) → Type 0
+ShowsLast file verdicts None = FileShows file verdicts
+ShowsLast file verdicts (Some last) = FileShows file (verdicts ++ last ∷ [])

@@ -41,7 +41,7 @@ pub record IsEnded (text : List ℕ) : Type 0 where
   pub is : text ≡ joined_lines lines ++ last
 
 -- some bytes, of which no whole line begins with `end `
-pub record IsOpen (text : List ℕ) : Type 0 where
+pub record HasNoEndLine (text : List ℕ) : Type 0 where
   pub lines : List (List ℕ)
   pub rest : List ℕ
   pub others : AllByRecursion IsOtherLine lines
@@ -54,7 +54,7 @@ pub record IsOpen (text : List ℕ) : Type 0 where
 abbrev pub BeginsWithTexts : List ℕ → List (List ℕ) → List ℕ → Type 0
 BeginsWithTexts file [] rest = file ≡ rest
 BeginsWithTexts file (text ∷ texts) rest =
-    (after : List ℕ) × (file ≡ text ++ after) × (IsEnded text ⊎ (IsOpen text × (after ≡ []))) × BeginsWithTexts after texts rest
+    (after : List ℕ) × (file ≡ text ++ after) × (IsEnded text ⊎ (HasNoEndLine text × (after ≡ []))) × BeginsWithTexts after texts rest
 
 -- each text is that of an accepted certificate for this bay, and shows this
 abbrev pub ShowEach : List (List ℕ) → List (YardBay × Verdict) → Type 0

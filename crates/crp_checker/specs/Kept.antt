@@ -16,11 +16,11 @@ use Rattle.crp_checker.specs.Owed.{Spot, spots_below}
 use Rattle.crp_checker.specs.Symbols.{Walked, Line}
 
 -- the mark of the node that a symbol stands for
-abbrev pub mark_of : Symbol → Mark
-mark_of symbols.B = B
-mark_of symbols.L = L
-mark_of symbols.X = X
-mark_of symbols.G = G
+abbrev pub mark_of_symbol : Symbol → Mark
+mark_of_symbol symbols.B = B
+mark_of_symbol symbols.L = L
+mark_of_symbol symbols.X = X
+mark_of_symbol symbols.G = G
 
 -- what is kept of a head says what each cut needs
 abbrev pub need_by : Need → List ℕ → ℕ

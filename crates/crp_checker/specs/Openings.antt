@@ -5,7 +5,7 @@ use Rattle.crp_tree.specs.Claims.{Part}
 use Rattle.crp_cert.specs.Faults.{BeginsWith}
 use Rattle.crp_cert.specs.Script.{end_line}
 use Rattle.crp_cert.specs.ScriptFaults.{IsLineFault}
-use Rattle.crp_cert.specs.Settled.{IsSettled, IsName, spelled_name, longest_name}
+use Rattle.crp_cert.specs.Settled.{CanBeJudged, IsName, spelled_name, longest_name}
 use Rattle.crp_cert.specs.declared.fault.CertFault.TheVariants as faults
 use Rattle.crp_checker.specs.declared.opening.Opening.{Opening}
 use Rattle.crp_checker.specs.declared.opening.Opening.TheVariants.{Open, Name, Ended, Refused}
@@ -32,7 +32,7 @@ IsPartOpening p line behind Open = (before : List ℕ) → behind ≡ before ++ 
 IsPartOpening p line behind (Name name) = IsName p name × (behind ≡ spelled_name name)
 IsPartOpening p line behind Ended = ⊥
 IsPartOpening p line behind (Refused fault) =
-    (fault ≡ faults.Part line) × IsSettled 32 longest_name behind × ((name : List ℕ) → IsName p name → behind ≡ spelled_name name → ⊥)
+    (fault ≡ faults.Part line) × CanBeJudged 32 longest_name behind × ((name : List ℕ) → IsName p name → behind ≡ spelled_name name → ⊥)
 
 -- what a line is that begins with another word, after so many parts
 abbrev pub IsLastOpening : ℕ → ℕ → List ℕ → Opening → Type 0

@@ -5,7 +5,7 @@ ghost use Rattle.crp_plan.specs.Bay.{Problem as Statement};
 ghost use Rattle.crp_checker.specs.Shown.{TextShows, TextShowsFor};
 ghost use Rattle.crp_checker.specs.Refusals.{IsRefusal};
 ghost use Rattle.crp_checker.specs.Stages.{HasCome, IsBayIn};
-ghost use Rattle.crp_checker.specs.Fed.{HasRead, IsSpent};
+ghost use Rattle.crp_checker.specs.Fed.{HasRead, IsOutOfMemory};
 
 use crate::claim::conclude;
 use crate::in_head::{self, head_fault};
@@ -101,7 +101,7 @@ impl Checker {
         ensures wanted { OnOk result (self.new.wanted ≡ self.old.wanted) }
         ensures come { IfOk result (λ n. (before : List ℕ) → HasCome self.old.wanted before self.old.stage
             → HasCome self.old.wanted (before ++ take n bytes.now) self.new.stage) }
-        ensures spent { OnErr result (IsSpent self.new) }
+        ensures spent { OnErr result (IsOutOfMemory self.new) }
     {
         let stage = mem::replace(&mut self.stage, Stage::Spent);
         let (stage, taken) = read_on(self.alloc, self.wanted.as_ref(), stage, bytes)?;
@@ -113,8 +113,8 @@ impl Checker {
     pub fn feed(&mut self, piece: &[u8]) -> Result<(), AllocError>
         ensures read { OnOk result ((wanted : Option Statement) (bytes : List ℕ) → HasRead wanted bytes self.old
             → HasRead wanted (bytes ++ piece.now) self.new) }
-        ensures spent { OnErr result (IsSpent self.new) }
-        ensures stays { IsSpent self.old → (result ≡ Err (record {})) }
+        ensures spent { OnErr result (IsOutOfMemory self.new) }
+        ensures stays { IsOutOfMemory self.old → (result ≡ Err (record {})) }
     {
         if let Stage::Spent = self.stage {
             return Err(AllocError);
@@ -130,7 +130,7 @@ impl Checker {
     /// The bay that the certificate names. `None` as long as its first two lines are not accepted.
     pub fn bay(&self) -> Option<BayName>
         ensures { (wanted : Option Statement) (bytes : List ℕ) → HasRead wanted bytes self.now
-            → IsSpent self.now ⊎ IsBayIn bytes result }
+            → IsOutOfMemory self.now ⊎ IsBayIn bytes result }
     {
         match &self.stage {
             Stage::Head { text } => read_bay(text),
@@ -150,7 +150,7 @@ impl Checker {
             → TextShowsFor bytes found.0 found.1) }
         ensures refused { IfErr result (λ refused. (refused ≡ Refused.Memory)
             ⊎ ((wanted : Option Statement) (bytes : List ℕ) → HasRead wanted bytes self → IsRefusal wanted bytes refused)) }
-        ensures spent { IsSpent self → result ≡ Err Refused.Memory }
+        ensures spent { IsOutOfMemory self → result ≡ Err Refused.Memory }
     {
         let Checker {
             alloc,
@@ -182,7 +182,7 @@ impl Checker {
             → TextShows wanted bytes verdict) }
         ensures refused { IfErr result (λ refused. (refused ≡ Refused.Memory)
             ⊎ ((wanted : Option Statement) (bytes : List ℕ) → HasRead wanted bytes self → IsRefusal wanted bytes refused)) }
-        ensures spent { IsSpent self → result ≡ Err Refused.Memory }
+        ensures spent { IsOutOfMemory self → result ≡ Err Refused.Memory }
     {
         let (_bay, verdict) = self.finish_for()?;
         Ok(verdict)

@@ -1,6 +1,6 @@
 //! Where the text of a certificate ends in a file.
 ghost use Rattle.std.specs.Prelude.{◌≡◌, ◌≢◌, ◌≤◌, ◌<◌, ◌⊎◌, [], IfSome, IfNone, length, take};
-ghost use Rattle.crp_checker.specs.Files.{IsWithoutEnd, IsLine, IsEnded, IsOpen};
+ghost use Rattle.crp_checker.specs.Files.{IsWithoutEnd, IsLine, IsEnded, HasNoEndLine};
 
 /// How many bytes the first line has, with its LF; none where no line ends.
 fn line_len(bytes: &[u8]) -> Option<usize>
@@ -15,7 +15,7 @@ fn line_len(bytes: &[u8]) -> Option<usize>
 pub fn text_len(bytes: &[u8]) -> usize
     requires { bytes.now ≢ [] }
     ensures within { result ≤ length bytes.now }
-    ensures text { IsEnded (take result bytes.now) ⊎ (IsOpen bytes.now × (result ≡ length bytes.now)) }
+    ensures text { IsEnded (take result bytes.now) ⊎ (HasNoEndLine bytes.now × (result ≡ length bytes.now)) }
 {
     let mut from = 0;
     while let Some(len) = line_len(&bytes[from..]) {

@@ -3,7 +3,7 @@ ghost use Rattle.std.specs.Prelude.{◌≡◌, ◌≢◌, ◌⊎◌, ◌+◌, �
 ghost use Rattle.crp_plan.specs.BayNames.{YardBay};
 ghost use Rattle.crp_checker.specs.declared.verdict.Verdict.{Verdict as Shown};
 ghost use Rattle.crp_checker.specs.Files.{IsFileRefusal};
-ghost use Rattle.crp_checker.specs.FedFiles.{HasReadFile, LeadsOn, IsLast};
+ghost use Rattle.crp_checker.specs.FedFiles.{HasReadFile, LeadsOn, ShowsLast};
 
 use crate::checker::Checker;
 use crate::refused::Refused;
@@ -93,7 +93,7 @@ impl FileChecker {
     /// nothing stands after the others. The error says why it is refused.
     pub fn finish(self) -> Result<Option<(BayName, Verdict)>, Refused>
         ensures last { IfOk result (λ last. (file : List ℕ) (verdicts : List (YardBay × Shown)) → HasReadFile file verdicts self
-            → IsLast file verdicts last) }
+            → ShowsLast file verdicts last) }
         ensures refused { IfErr result (λ refused. (refused ≡ Refused.Memory)
             ⊎ ((file : List ℕ) (verdicts : List (YardBay × Shown)) → HasReadFile file verdicts self
             → IsFileRefusal file verdicts (length verdicts + 1) refused)) }

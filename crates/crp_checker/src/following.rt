@@ -4,7 +4,7 @@ ghost use Rattle.std.specs.Option.{option_or};
 ghost use Rattle.crp_tree.specs.Trees.{given_names};
 ghost use Rattle.crp_checker.specs.Owed.{node_at, owed_behind};
 ghost use Rattle.crp_checker.specs.Symbols.{begun, walked_on, wrong_at};
-ghost use Rattle.crp_checker.specs.Kept.{mark_of, need_by, up, back, pending, owed_by, levels_of, spot_of, pending_above, walked_of};
+ghost use Rattle.crp_checker.specs.Kept.{mark_of_symbol, need_by, up, back, pending, owed_by, levels_of, spot_of, pending_above, walked_of};
 
 use crate::level::Level;
 use crate::need::Need;
@@ -99,7 +99,7 @@ impl Following {
     fn judge(&mut self, need: &Need, symbol: Symbol) -> Result<(), AllocError>
         ensures count { OnOk result (self.new.count ≡ self.old.count + 1) }
         ensures wrong { OnOk result (self.new.wrong ≡ option_or self.old.wrong
-            (wrong_at (need_by need.now) (self.old.count + 1) (mark_of symbol) (spot_of self.old))) }
+            (wrong_at (need_by need.now) (self.old.count + 1) (mark_of_symbol symbol) (spot_of self.old))) }
         ensures place { self.new.place ≡ self.old.place }
         ensures path { self.new.path.items ≡ self.old.path.items }
         ensures levels { levels_of self.new ≡ levels_of self.old }
@@ -132,9 +132,9 @@ impl Following {
     /// Enters a branch, or leaves another node for the branch above.
     fn enter_or_leave(&mut self, alloc: Global, symbol: Symbol) -> Result<(), AllocError>
         ensures owed { OnOk result (pending self.new.path.items self.new.place (levels_of self.new)
-            ≡ owed_behind (mark_of symbol) (spot_of self.old) (pending_above self.old)) }
+            ≡ owed_behind (mark_of_symbol symbol) (spot_of self.old) (pending_above self.old)) }
         ensures given { OnOk result (self.new.given.items
-            ≡ self.old.given.items ++ given_names (node_at (spot_of self.old) (mark_of symbol) ∷ [])) }
+            ≡ self.old.given.items ++ given_names (node_at (spot_of self.old) (mark_of_symbol symbol) ∷ [])) }
         ensures count { self.new.count ≡ self.old.count }
         ensures wrong { self.new.wrong ≡ self.old.wrong }
     {
@@ -155,7 +155,7 @@ impl Following {
     /// A symbol comes where a tree is owed.
     pub fn meet(&mut self, alloc: Global, need: &Need, symbol: Symbol) -> Result<(), AllocError>
         ensures { OnOk result (walked_of self.new
-            ≡ walked_on (need_by need.now) (mark_of symbol) (spot_of self.old) (pending_above self.old) (walked_of self.old)) }
+            ≡ walked_on (need_by need.now) (mark_of_symbol symbol) (spot_of self.old) (pending_above self.old) (walked_of self.old)) }
     {
         self.judge(need, symbol)?;
         self.enter_or_leave(alloc, symbol)?;

@@ -3,7 +3,7 @@ ghost use Rattle.std.specs.Prelude.{◌≡◌, ◌≤◌, ℕ, List, length, OnO
 ghost use Rattle.crp_checker.specs.Owed.{Spot};
 ghost use Rattle.crp_checker.specs.Symbols.{after, line_begun, line_after};
 ghost use Rattle.crp_checker.specs.Kept.{line_of, need_by};
-ghost use Rattle.crp_checker.specs.Ends.{IsLineEnd};
+ghost use Rattle.crp_checker.specs.Ends.{IsEndOfSymbols};
 
 use crate::following::Following;
 use crate::line_end::LineEnd;
@@ -67,7 +67,7 @@ impl SymbolLine {
     /// What the symbols are, now that the line ends.
     pub fn end(self) -> LineEnd
         ensures { (needs : List ℕ → ℕ) (top : Spot) (bytes : List ℕ) → length top.place.heights ≤ 12
-            → line_of self ≡ line_after needs top bytes → IsLineEnd needs top bytes result }
+            → line_of self ≡ line_after needs top bytes → IsEndOfSymbols needs top bytes result }
     {
         if self.unknown {
             return LineEnd::Unknown;

@@ -1,7 +1,7 @@
 //! Single symbols, and what is wrong with the nodes that they stand for.
 ghost use Rattle.std.specs.Prelude.{◌≡◌, ◌+◌, length, nat_lt, if◌then◌else◌, Some, None, option_map};
 ghost use Rattle.crp_checker.specs.Symbols.{symbol_at, wrong_at};
-ghost use Rattle.crp_checker.specs.Kept.{mark_of, need_by};
+ghost use Rattle.crp_checker.specs.Kept.{mark_of_symbol, need_by};
 
 use crate::need::Need;
 use crate::wrong::Wrong;
@@ -22,7 +22,7 @@ pub enum Symbol {
 
 /// The symbol that a byte is behind so many others of its part, which does not begin with `G`.
 pub fn symbol_of(count: u64, byte: u8) -> Option<Symbol>
-    ensures { option_map mark_of result ≡ symbol_at count byte }
+    ensures { option_map mark_of_symbol result ≡ symbol_at count byte }
 {
     match byte {
         b'B' => Some(Symbol::B),
@@ -51,7 +51,7 @@ pub fn wrong_of(
     path: &[u8],
     place: &Bounded,
 ) -> Option<Wrong>
-    ensures { result ≡ wrong_at (need_by need.now) number (mark_of symbol) (record { path = path.now; place = place.now.place }) }
+    ensures { result ≡ wrong_at (need_by need.now) number (mark_of_symbol symbol) (record { path = path.now; place = place.now.place }) }
 {
     match symbol {
         Symbol::B => low_at(need, number, path, place.blocking()),

@@ -9,6 +9,7 @@ use Rattle.std.proofs.KnownBytes.{Appends-trans, Appends-kept, Appends-nil, Cons
 use Rattle.crp_plan.specs.BayNames.{YardBay}
 use Rattle.crp_plan.specs.Devices.{AppendsPart, HasFailed}
 use Rattle.crp_plan.proofs.Fronts.{Appends-then_part}
+use Rattle.crp_yard.specs.Reading.{IsTextOf}
 use Rattle.crp_checker.specs.declared.verdict.Verdict.{Verdict}
 use Rattle.crp_checker.specs.declared.refused.Refused.{Refused}
 use Rattle.crp_checker.specs.declared.refused.Refused.TheVariants as refused
@@ -18,8 +19,8 @@ use Rattle.crp_checker.specs.FedFiles.{HasReadFile}
 use Rattle.crp_commands.specs.declared.outcome.ToolFault.{ToolFault}
 use Rattle.crp_commands.specs.declared.outcome.ToolFault.TheVariants as fault
 use Rattle.crp_commands.specs.Calls.{CallSeen, IsTextWithin}
-use Rattle.crp_commands.specs.Check.{verdict_line, verdict_lines, fault_of_refusal, IsTextOf, IsReadFrom, WritesEach, WritesEnded, CheckFailsWith}
-use Rattle.crp_commands.specs.Checks.{TextFailsWith, HasChecked, IsChecking, ChecksPiece, AreEndedIn, BytesFailWith, PieceFailsWith, CheckState, StandsAfter, GoesOn, StopsAt}
+use Rattle.crp_commands.specs.Check.{verdict_line, verdict_lines, fault_of_refusal, IsReadFrom, WritesEach, WritesEnded, CheckFailsWith}
+use Rattle.crp_commands.specs.Checks.{TextFailsWith, HasChecked, IsChecking, ChecksPiece, AreEndedIn, BytesFailWith, PieceFailsWith, CheckState, StandsAfter, CheckHasGoneOn, CheckStopsAt}
 
 -- how the refusal of a certificate is stated
 by_refusal' : (P : ToolFault → Type 0) (number : ℕ) (why : Refused) → P fault.Memory → (why ≢ refused.Memory → P (fault.Checked number why)) → P (fault_of_refusal number why)
@@ -276,13 +277,13 @@ front_fed given remaining new file piece k n le first second =
 
 -- a read that has failed
 pub read_stops : (remaining holds : Option (List ℕ)) (files : FileChecker) (number left before after sink_before sink_after : ℕ) → HasFailed before after →
-    StopsAt (record { remaining = remaining; holds = holds; files = files; number = number; left = left }) holds before after sink_before sink_after fault.Read
+    CheckStopsAt (record { remaining = remaining; holds = holds; files = files; number = number; left = left }) holds before after sink_before sink_after fault.Read
 read_stops remaining holds files number left before after sink_before sink_after failed given held limit (file, verdicts, way) =
     (failed, (file, omega (arith, way.within), wrote_each (seen_by given held holds before after sink_before sink_after) file verdicts files number (all_read given remaining file way.consumed) way.checked))
 
 -- the end of the source
 pub goes_nowhere : (remaining new holds : Option (List ℕ)) (files : FileChecker) (number left n : ℕ) (piece : List ℕ) → n ≡ 0 → Consumes remaining new (take n piece) →
-    GoesOn (record { remaining = remaining; holds = holds; files = files; number = number; left = left }) (record { remaining = new; holds = holds; files = files; number = number; left = left })
+    CheckHasGoneOn (record { remaining = remaining; holds = holds; files = files; number = number; left = left }) (record { remaining = new; holds = holds; files = files; number = number; left = left })
 goes_nowhere remaining new holds files number left n piece none got given held limit (file, verdicts, way) =
     let nothing : Consumes remaining new [] = subst (λ k. Consumes remaining new (take k piece)) none got in
     let consumed : Consumes given new file = subst (Consumes given new) (append-nil file) (Consumes-trans given remaining new file [] way.consumed nothing) in
@@ -291,7 +292,7 @@ goes_nowhere remaining new holds files number left n piece none got given held l
 -- a piece in which a fault came
 pub piece_stops : (remaining new holds new_holds : Option (List ℕ)) (files : FileChecker) (number left k n source_before source_after before after : ℕ) (piece : List ℕ) (f : ToolFault) → k ≤ n → k ≤ left →
     Consumes remaining new (take n piece) → PieceFailsWith (take k piece) holds files number new_holds before after f →
-    StopsAt (record { remaining = remaining; holds = holds; files = files; number = number; left = left }) new_holds source_before source_after before after f
+    CheckStopsAt (record { remaining = remaining; holds = holds; files = files; number = number; left = left }) new_holds source_before source_after before after f
 piece_stops remaining new holds new_holds files number left k n source_before source_after before after piece f le within got tells given held limit (file, verdicts, way) =
     bytes_stop limit (seen_by given held new_holds source_before source_after before after) (file ++ take k piece) f (front_fed given remaining new file piece k n le way.consumed got)
     (omega (arith, within, way.within, length-append file (take k piece), length-take k piece)) (tells held file verdicts way.checked)
@@ -299,7 +300,7 @@ piece_stops remaining new holds new_holds files number left k n source_before so
 -- more bytes than the limit
 pub limit_stops : (remaining new holds new_holds : Option (List ℕ)) (files next : FileChecker) (number new_number left k n source_before source_after before after : ℕ) (piece : List ℕ) → k < n → k ≡ left → n ≤ length piece →
     Consumes remaining new (take n piece) → ChecksPiece (take k piece) holds files number new_holds next new_number →
-    StopsAt (record { remaining = remaining; holds = holds; files = files; number = number; left = left }) new_holds source_before source_after before after fault.TooLarge
+    CheckStopsAt (record { remaining = remaining; holds = holds; files = files; number = number; left = left }) new_holds source_before source_after before after fault.TooLarge
 limit_stops remaining new holds new_holds files next number new_number left k n source_before source_after before after piece lt all few got checks given held limit (file, verdicts, way) =
     let le : k ≤ n = omega (arith, lt) in
     let checked = checks held file verdicts way.checked in
@@ -316,7 +317,7 @@ limit_stops remaining new holds new_holds files next number new_number left k n 
 -- a whole piece
 pub goes_on : (remaining new holds new_holds : Option (List ℕ)) (files next : FileChecker) (number new_number left new_left k n : ℕ) (piece : List ℕ) → k ≡ n → left ≡ new_left + n → n ≤ length piece →
     Consumes remaining new (take n piece) → ChecksPiece (take k piece) holds files number new_holds next new_number →
-    GoesOn (record { remaining = remaining; holds = holds; files = files; number = number; left = left }) (record { remaining = new; holds = new_holds; files = next; number = new_number; left = new_left })
+    CheckHasGoneOn (record { remaining = remaining; holds = holds; files = files; number = number; left = left }) (record { remaining = new; holds = new_holds; files = next; number = new_number; left = new_left })
 goes_on remaining new holds new_holds files next number new_number left new_left k n piece all fewer few got checks given held limit (file, verdicts, way) =
     let whole = checks_same (take k piece) (take n piece) holds new_holds files next number new_number (ap (λ m. take m piece) all) checks in
     let checked = whole held file verdicts way.checked in (

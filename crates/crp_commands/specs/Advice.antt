@@ -19,8 +19,8 @@ abbrev pub is_printable : ℕ → Bool
 is_printable b = nat_le 32 b && nat_lt b 127
 
 -- one line of plain text: printable ASCII characters, at least one
-abbrev pub IsLine : List ℕ → Type 0
-IsLine text = IsTrue (nat_lt 0 (length text)) × IsTrue (list_all is_printable text)
+abbrev pub IsPlainLine : List ℕ → Type 0
+IsPlainLine text = IsTrue (nat_lt 0 (length text)) × IsTrue (list_all is_printable text)
 
 -- a file, in words
 abbrev pub file_words : List ℕ → List ℕ

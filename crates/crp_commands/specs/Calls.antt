@@ -7,7 +7,7 @@ use Rattle.crp_plan.specs.declared.transfer.ReadFault.TheVariants as reading
 use Rattle.crp_cert.specs.declared.fault.CertFault.{CertFault}
 use Rattle.crp_cert.specs.declared.fault.CertFault.TheVariants as cert
 use Rattle.crp_cert.specs.Faults.{IsFirstFault}
-use Rattle.crp_report.specs.Runs as runs
+use Rattle.crp_report.specs.Runs.{failures_of_fault}
 use Rattle.crp_report.specs.declared.fault.Fault.TheVariants as run
 use Rattle.crp_report.specs.declared.status.Status.{Status}
 use Rattle.crp_report.specs.declared.status.Status.TheVariants as status
@@ -34,15 +34,15 @@ abbrev pub call_failures : CallSeen → ℕ
 call_failures s = (s.source_after - s.source_before) + (s.sink_after - s.sink_before)
 
 -- so many failed calls a fault states: one where a read or a write has failed, in a run too, else none
-abbrev pub failures_of_fault : ToolFault → ℕ
-failures_of_fault fault.Read = 1
-failures_of_fault fault.Write = 1
-failures_of_fault (fault.Run f) = runs.failures_of_fault f
-failures_of_fault f = 0
+abbrev pub failures_of_tool_fault : ToolFault → ℕ
+failures_of_tool_fault fault.Read = 1
+failures_of_tool_fault fault.Write = 1
+failures_of_tool_fault (fault.Run f) = failures_of_fault f
+failures_of_tool_fault f = 0
 
 -- so many calls fail at most in a call that states this fault: those that are passed over, and the one that is stated
 abbrev pub most_call_failures : ToolFault → ℕ
-most_call_failures f = most_interruptions + failures_of_fault f
+most_call_failures f = most_interruptions + failures_of_tool_fault f
 
 -- the whole report of the bytes that the source had, no more than `limit`, was written, and nothing else
 abbrev pub WritesReport : ℕ → (List ℕ → List ℕ → Type 0) → CallSeen → Type 0

@@ -4,6 +4,7 @@ use Rattle.std.specs.List.{AllByRecursion, flat_map}
 use Rattle.std.specs.Io.KnownBytes.{Appends}
 use Rattle.crp_plan.specs.BayNames.{YardBay}
 use Rattle.crp_plan.specs.Devices.{AppendsPart, HasFailed}
+use Rattle.crp_yard.specs.Reading.{IsTextOf}
 use Rattle.crp_checker.specs.declared.verdict.Verdict.{Verdict}
 use Rattle.crp_checker.specs.declared.verdict.Verdict.TheVariants as verdict
 use Rattle.crp_checker.specs.declared.refused.Refused.{Refused}
@@ -42,10 +43,6 @@ IsCheck bytes report = (stated : List (YardBay × Verdict)) × FileShows bytes s
 -- the lines of the certificates before the one with this number, which is refused
 abbrev pub IsCheckBefore : List ℕ → ℕ → Refused → List ℕ → Type 0
 IsCheckBefore bytes number why report = (before : List (YardBay × Verdict)) × IsFileRefusal bytes before number why × (report ≡ verdict_lines before)
-
--- the known bytes are these
-abbrev pub IsTextOf : Option (List ℕ) → List ℕ → Type 0
-IsTextOf known text = IfSome known (λ xs. text ≡ xs)
 
 -- the known bytes begin with these
 abbrev pub IsReadFrom : Option (List ℕ) → List ℕ → Type 0

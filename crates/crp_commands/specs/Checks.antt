@@ -87,11 +87,11 @@ abbrev pub StandsAfter : Option (List ℕ) → Option (List ℕ) → ℕ → Che
 StandsAfter given held limit at = (file : List ℕ) × (verdicts : List (YardBay × Verdict)) × IsUnderWay given held limit file verdicts at
 
 -- whatever was checked before, the check has gone on to here
-abbrev pub GoesOn : CheckState → CheckState → Type 0
-GoesOn old new = (given held : Option (List ℕ)) (limit : ℕ) → StandsAfter given held limit old → StandsAfter given held limit new
+abbrev pub CheckHasGoneOn : CheckState → CheckState → Type 0
+CheckHasGoneOn old new = (given held : Option (List ℕ)) (limit : ℕ) → StandsAfter given held limit old → StandsAfter given held limit new
 
 -- whatever was checked before, this is what a fault says of the check, with these counts of failures before and after
-abbrev pub StopsAt : CheckState → Option (List ℕ) → ℕ → ℕ → ℕ → ℕ → ToolFault → Type 0
-StopsAt old holds source_before source_after sink_before sink_after f =
+abbrev pub CheckStopsAt : CheckState → Option (List ℕ) → ℕ → ℕ → ℕ → ℕ → ToolFault → Type 0
+CheckStopsAt old holds source_before source_after sink_before sink_after f =
     (given held : Option (List ℕ)) (limit : ℕ) → StandsAfter given held limit old →
     CheckFailsWith limit (record { given = given; held = held; holds = holds; source_before = source_before; source_after = source_after; sink_before = sink_before; sink_after = sink_after }) f

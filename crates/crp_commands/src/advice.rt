@@ -1,6 +1,6 @@
 //! What to look at after a fault, in plain words: a line for each fault, and the file that could not be read or written.
 ghost use Rattle.std.specs.Prelude.{◌≡◌, Some, option_map};
-ghost use Rattle.crp_commands.specs.Advice.{IsLine, failed_in_file, failed_in_run, failed_words, file_words, place_words, source_words};
+ghost use Rattle.crp_commands.specs.Advice.{IsPlainLine, failed_in_file, failed_in_run, failed_words, file_words, place_words, source_words};
 
 use crate::job::{Job, RunFiles};
 use crate::outcome::ToolFault;
@@ -21,7 +21,7 @@ const YARD_NOT_READ: &str =
 
 // Of an interchange.
 fn advice_on_interchange(fault: &EdiFault) -> &'static str
-    ensures { IsLine result.now }
+    ensures { IsPlainLine result.now }
 {
     match fault {
         EdiFault::NoSegment { .. } => {
@@ -49,7 +49,7 @@ fn advice_on_interchange(fault: &EdiFault) -> &'static str
 
 // Of a message.
 fn advice_on_message(fault: &MovinsFault) -> &'static str
-    ensures { IsLine result.now }
+    ensures { IsPlainLine result.now }
 {
     match fault {
         MovinsFault::NoInterchangeHeader { .. } => {
@@ -95,7 +95,7 @@ fn advice_on_message(fault: &MovinsFault) -> &'static str
 
 // Of a yard list.
 fn advice_on_yard(fault: &YardFault) -> &'static str
-    ensures { IsLine result.now }
+    ensures { IsPlainLine result.now }
 {
     match fault {
         YardFault::Header { .. } => "the first record must be block,bay,row,tier,container",
@@ -126,7 +126,7 @@ fn advice_on_yard(fault: &YardFault) -> &'static str
 
 // Of a certificate's text.
 fn advice_on_certificate(fault: &CertFault) -> &'static str
-    ensures { IsLine result.now }
+    ensures { IsPlainLine result.now }
 {
     match fault {
         CertFault::Opening { .. } => {
@@ -166,7 +166,7 @@ fn advice_on_certificate(fault: &CertFault) -> &'static str
 
 // Of a head's plan.
 fn advice_on_plan(fault: &PlanFault) -> &'static str
-    ensures { IsLine result.now }
+    ensures { IsPlainLine result.now }
 {
     match fault {
         PlanFault::NoSuchRow { .. } => {
@@ -186,7 +186,7 @@ fn advice_on_plan(fault: &PlanFault) -> &'static str
 
 // Of the plan of a certificate that is checked.
 fn advice_on_checked_plan(fault: &PlanFault) -> &'static str
-    ensures { IsLine result.now }
+    ensures { IsPlainLine result.now }
 {
     match fault {
         PlanFault::NoSuchRow { .. } => {
@@ -206,7 +206,7 @@ fn advice_on_checked_plan(fault: &PlanFault) -> &'static str
 
 // Of a certificate that is checked.
 fn advice_on_refused(refused: &Refused) -> &'static str
-    ensures { IsLine result.now }
+    ensures { IsPlainLine result.now }
 {
     match refused {
         Refused::Cert(fault) => advice_on_certificate(fault),
@@ -232,7 +232,7 @@ fn advice_on_refused(refused: &Refused) -> &'static str
 
 // Of a run over a yard.
 fn advice_on_run(fault: &Fault) -> &'static str
-    ensures { IsLine result.now }
+    ensures { IsPlainLine result.now }
 {
     match fault {
         Fault::Yard(fault) => advice_on_yard(fault),
@@ -258,7 +258,7 @@ fn advice_on_run(fault: &Fault) -> &'static str
 /// What is wrong, or what must be, where a command ended with this fault: one line, which says the limit that was passed, or what to
 /// look at.
 pub fn advice_on(fault: &ToolFault) -> &'static str
-    ensures { IsLine result.now }
+    ensures { IsPlainLine result.now }
 {
     match fault {
         ToolFault::Cert(fault) => advice_on_certificate(fault),

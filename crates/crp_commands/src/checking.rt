@@ -3,9 +3,9 @@ ghost use Rattle.std.specs.Prelude.{◌≡◌, ◌≤◌, ◌<◌, ◌+◌, ◌^
 ghost use Rattle.std.specs.Io.KnownBytes.{Appends, IsAtEnd};
 ghost use Rattle.crp_commands.specs.declared.heads.TheConstants.{MOST_BYTES};
 ghost use Rattle.crp_plan.specs.Devices.{most_interruptions};
-ghost use Rattle.crp_commands.specs.Calls.{CallSeen, call_failures, failures_of_fault, most_call_failures, WritesReport};
+ghost use Rattle.crp_commands.specs.Calls.{CallSeen, call_failures, failures_of_tool_fault, most_call_failures, WritesReport};
 ghost use Rattle.crp_commands.specs.Check.{plan_words, verdict_words, verdict_line, fault_of_refusal, IsCheck, CheckFailsWith};
-ghost use Rattle.crp_commands.specs.Checks.{TextFailsWith, IsChecking, ChecksPiece, PieceFailsWith, GoesOn, StopsAt};
+ghost use Rattle.crp_commands.specs.Checks.{TextFailsWith, IsChecking, ChecksPiece, PieceFailsWith, CheckHasGoneOn, CheckStopsAt};
 
 use crate::heads::MOST_BYTES;
 use crate::outcome::ToolFault;
@@ -74,7 +74,7 @@ fn write_verdict<W: Sink>(
     ensures all { OnOk result (Appends (W.contents writer.old) (W.contents writer.new) (verdict_line (bay.now, verdict))) }
     ensures fault { IfErr result (TextFailsWith (W.contents writer.old) (W.contents writer.new) (W.failures writer.old) (W.failures writer.new) (verdict_line (bay.now, verdict))) }
     ensures counted { MatchResult result (λ _. W.failures writer.new + interruptions.old ≤ W.failures writer.old + interruptions.new)
-        (λ fault. W.failures writer.new + interruptions.old ≤ W.failures writer.old + interruptions.new + failures_of_fault fault) }
+        (λ fault. W.failures writer.new + interruptions.old ≤ W.failures writer.old + interruptions.new + failures_of_tool_fault fault) }
     ensures count { W.failures writer.old ≤ W.failures writer.new }
     ensures passed { (interruptions.old ≤ interruptions.new) × (interruptions.new ≤ most_interruptions) }
 {
@@ -111,7 +111,7 @@ fn check_some<W: Sink>(
     ensures on { IfOk result (λ n. ChecksPiece (take n piece.now) (W.contents writer.old) files.old number.old (W.contents writer.new) files.new number.new) }
     ensures fault { IfErr result (PieceFailsWith piece.now (W.contents writer.old) files.old number.old (W.contents writer.new) (W.failures writer.old) (W.failures writer.new)) }
     ensures counted { MatchResult result (λ _. W.failures writer.new + interruptions.old ≤ W.failures writer.old + interruptions.new)
-        (λ fault. W.failures writer.new + interruptions.old ≤ W.failures writer.old + interruptions.new + failures_of_fault fault) }
+        (λ fault. W.failures writer.new + interruptions.old ≤ W.failures writer.old + interruptions.new + failures_of_tool_fault fault) }
     ensures count { W.failures writer.old ≤ W.failures writer.new }
     ensures passed { (interruptions.old ≤ interruptions.new) × (interruptions.new ≤ most_interruptions) }
 {
@@ -148,7 +148,7 @@ fn check_piece<W: Sink>(
     ensures on { OnOk result (ChecksPiece piece.now (W.contents writer.old) files.old number.old (W.contents writer.new) files.new number.new) }
     ensures fault { IfErr result (PieceFailsWith piece.now (W.contents writer.old) files.old number.old (W.contents writer.new) (W.failures writer.old) (W.failures writer.new)) }
     ensures counted { MatchResult result (λ _. W.failures writer.new + interruptions.old ≤ W.failures writer.old + interruptions.new)
-        (λ fault. W.failures writer.new + interruptions.old ≤ W.failures writer.old + interruptions.new + failures_of_fault fault) }
+        (λ fault. W.failures writer.new + interruptions.old ≤ W.failures writer.old + interruptions.new + failures_of_tool_fault fault) }
     ensures count { W.failures writer.old ≤ W.failures writer.new }
     ensures passed { (interruptions.old ≤ interruptions.new) × (interruptions.new ≤ most_interruptions) }
 {
@@ -176,15 +176,15 @@ fn check_next<R: Source, W: Sink>(
     ensures nearer { IfOk result (λ more. more ≡ true → left.new < left.old) }
     ensures end { IfOk result (λ more. more ≡ false → IsAtEnd (R.remaining reader.new)) }
     ensures room { OnOk result (number.new + left.new ≤ number.old + left.old) }
-    ensures on { OnOk result (GoesOn
+    ensures on { OnOk result (CheckHasGoneOn
         (record { remaining = R.remaining reader.old; holds = W.contents writer.old; files = files.old; number = number.old; left = left.old })
         (record { remaining = R.remaining reader.new; holds = W.contents writer.new; files = files.new; number = number.new; left = left.new })) }
-    ensures fault { IfErr result (StopsAt
+    ensures fault { IfErr result (CheckStopsAt
         (record { remaining = R.remaining reader.old; holds = W.contents writer.old; files = files.old; number = number.old; left = left.old })
         (W.contents writer.new) (R.failures reader.old) (R.failures reader.new) (W.failures writer.old) (W.failures writer.new)) }
     ensures counted { MatchResult result
         (λ _. R.failures reader.new + W.failures writer.new + interruptions.old ≤ R.failures reader.old + W.failures writer.old + interruptions.new)
-        (λ fault. R.failures reader.new + W.failures writer.new + interruptions.old ≤ R.failures reader.old + W.failures writer.old + interruptions.new + failures_of_fault fault) }
+        (λ fault. R.failures reader.new + W.failures writer.new + interruptions.old ≤ R.failures reader.old + W.failures writer.old + interruptions.new + failures_of_tool_fault fault) }
     ensures count { (R.failures reader.old ≤ R.failures reader.new) × (W.failures writer.old ≤ W.failures writer.new) }
     ensures passed { (interruptions.old ≤ interruptions.new) × (interruptions.new ≤ most_interruptions) }
 {

@@ -3,7 +3,7 @@ ghost use Rattle.std.specs.Prelude.{◌≡◌, ◌≤◌, ℕ, List, ◌+◌, If
 ghost use Rattle.crp_commands.specs.declared.heads.TheConstants.{MOST_BYTES};
 ghost use Rattle.crp_plan.specs.Devices.{most_interruptions};
 ghost use Rattle.crp_cert.specs.Text.{IsHeadOf};
-ghost use Rattle.crp_commands.specs.Calls.{IsTextWithin, IsNoHead, failures_of_fault};
+ghost use Rattle.crp_commands.specs.Calls.{IsTextWithin, IsNoHead, failures_of_tool_fault};
 
 use crate::outcome::ToolFault;
 use crp_cert::{Head, read_head};
@@ -23,7 +23,7 @@ pub fn head_from<R: Source>(
     ensures found { IfOk result (λ head. (text : List ℕ) × IsTextWithin MOST_BYTES (R.remaining reader.old) text × IsHeadOf text head) }
     ensures none { IfErr result (IsNoHead MOST_BYTES (R.remaining reader.old) (R.failures reader.old) (R.failures reader.new)) }
     ensures counted { MatchResult result (λ _. R.failures reader.new + interruptions.old ≤ R.failures reader.old + interruptions.new)
-        (λ fault. R.failures reader.new + interruptions.old ≤ R.failures reader.old + interruptions.new + failures_of_fault fault) }
+        (λ fault. R.failures reader.new + interruptions.old ≤ R.failures reader.old + interruptions.new + failures_of_tool_fault fault) }
     ensures passed { interruptions.new ≤ most_interruptions }
 {
     let bytes = read_all(alloc, reader, MOST_BYTES, interruptions)?;

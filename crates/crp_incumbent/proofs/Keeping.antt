@@ -10,8 +10,8 @@ use Rattle.crp_plan.specs.declared.running.View.{View}
 use Rattle.crp_plan.specs.Running.{words, after_see, after_offer, after_claim}
 use Rattle.crp_incumbent.specs.declared.rule.Key.{Key}
 use Rattle.crp_incumbent.specs.declared.rule.KeyedView.{KeyedView}
-use Rattle.crp_incumbent.specs.Rule.{all_shares, gone, kept, given, joined, IsPlanCount, IsLimit, IsAbove, IsLive, granted_of, refused_of, share_of, least_mine, KeepsRule, Keeps}
-use Rattle.crp_incumbent.specs.Steps.{IsLimitBeside, Saw, OfferedUnder, Claimed, Looked}
+use Rattle.crp_incumbent.specs.Rule.{all_shares, gone, kept, given, joined_seat, IsPlanCount, IsLimit, IsAbove, IsLive, granted_of, refused_of, share_of, least_mine, KeepsRule, Keeps}
+use Rattle.crp_incumbent.specs.Steps.{IsLimitBeside, Saw, OfferedUnder, ClaimedUnder, Looked}
 use Rattle.crp_incumbent.proofs.Lists.{index_is, at_below, sum-le, sum-set, sum-snoc, least-set, least-at, least-top, least-snoc, min_cases, least_known, sum_of_gone, least_of_gone}
 
 abbrev Mine : Type 0
@@ -151,7 +151,7 @@ claim_kept key spent limit views id v k at share fresh = go (nat_lt spent key.bu
         let live' : IsLive key limit w = record { same = live.same; seen = live.seen; mine = live.mine; refused = omega arith; share = share } in
         moved key spent limit (spent + 1) limit views id v w k at (le_refl limit) live' (le_refl _) (omega arith) refl (omega arith) (omega arith)
 
-pub claims : (key : Key) (slots id : ℕ) (m : Mine) → m.1 ≡ [] → 1 ≤ m.0.view.share → m.0.view.refused ≡ 0 → Allows (Keeps key) slots id m 0 (λ n. (n + 1) % 2 ^ 64) (Claimed (step slots 0 1 0 none) m)
+pub claims : (key : Key) (slots id : ℕ) (m : Mine) → m.1 ≡ [] → 1 ≤ m.0.view.share → m.0.view.refused ≡ 0 → Allows (Keeps key) slots id m 0 (λ n. (n + 1) % 2 ^ 64) (ClaimedUnder (step slots 0 1 0 none) m)
 claims key slots id m empty share fresh s k _ at _ = let spent : ℕ = slice_index s.words 0 in let limit : ℕ = slice_index s.words 8 in
     let live = living key limit m.0 share (k.kept.each id m.0 at) in let budget : m.0.key.budget ≡ key.budget = ap (λ (q : Key). q.budget) live.same in
     let w : KeyedView = record m.0 { view = (after_claim m.0.key.budget (words 0 spent m.0.view)).view } in
@@ -195,8 +195,8 @@ splits key id v more left s k at = let spent : ℕ = slice_index s.words 0 in le
 above_both : (key : Key) (limit a b : ℕ) → IsAbove key limit a → IsAbove key limit b → IsAbove key limit (min a b)
 above_both key limit a b p q = let low = p.low in let low' = q.low in let high = p.high in record { low = omega arith; high = omega arith; known = min_cases a b (IsLimit key) p.known q.known }
 
-pub joins : (key : Key) (id other : ℕ) (v w : KeyedView) → 1 ≤ v.view.share → 1 ≤ w.view.share → Joins (Keeps key) id v other w (joined v w) gone
-joins key id other v w share_v share_w s k at differ at' = let spent : ℕ = slice_index s.words 0 in let limit : ℕ = slice_index s.words 8 in let views = s.views in let b : KeyedView = joined v w in
+pub joins : (key : Key) (id other : ℕ) (v w : KeyedView) → 1 ≤ v.view.share → 1 ≤ w.view.share → Joins (Keeps key) id v other w (joined_seat v w) gone
+joins key id other v w share_v share_w s k at differ at' = let spent : ℕ = slice_index s.words 0 in let limit : ℕ = slice_index s.words 8 in let views = s.views in let b : KeyedView = joined_seat v w in
     let one : List KeyedView = set views id b in let two : List KeyedView = set one other gone in
     let at_w : get_elem? views other ≡ some w = sym (set_else views id other b differ) ∙ at' in
     let here : get_elem? one id ≡ some b = set_here views id b (at_below views id v at) in

@@ -77,8 +77,8 @@ view_joined v w = record {
 }
 
 -- the seat that two were made
-abbrev pub joined : KeyedView → KeyedView → KeyedView
-joined s t = record s { view = view_joined s.view t.view }
+abbrev pub joined_seat : KeyedView → KeyedView → KeyedView
+joined_seat s t = record s { view = view_joined s.view t.view }
 
 -- some complete plan of the problem has so many relocations
 abbrev pub IsPlanCount : Problem → ℕ → Type 0

@@ -32,7 +32,7 @@ pub record OfferedUnder (st : Step (Unit {0})) (m : Mine) (found : ℕ) (m' : Mi
   pub after : Becomes m.0 (after_offer st.first (words found 0 m.0.view)).view m'
 
 -- one expansion was claimed while so many as were found were spent
-pub record Claimed (st : Step (Unit {0})) (m : Mine) (found : ℕ) (m' : Mine) : Type 0 where
+pub record ClaimedUnder (st : Step (Unit {0})) (m : Mine) (found : ℕ) (m' : Mine) : Type 0 where
   pub after : Becomes m.0 (after_claim m.0.key.budget (words 0 found m.0.view)).view m'
 
 -- the seat has no more than all shares

@@ -63,9 +63,9 @@ impl Play<(), KeyedView> for Offers {
 pub(crate) struct Claims;
 
 impl Play<(), KeyedView> for Claims {
-    ghost use Rattle.crp_incumbent.specs.Steps.{Claimed};
+    ghost use Rattle.crp_incumbent.specs.Steps.{ClaimedUnder};
 
-    ghost then = { Claimed };
+    ghost then = { ClaimedUnder };
 }
 
 /// A load that changes no view, and says that no seat has more than all shares.
@@ -89,9 +89,9 @@ impl Split<KeyedView> for Shares {
 }
 
 impl Join<KeyedView> for Shares {
-    ghost use Rattle.crp_incumbent.specs.Rule.{joined, gone};
+    ghost use Rattle.crp_incumbent.specs.Rule.{joined_seat, gone};
 
-    ghost both = { joined };
+    ghost both = { joined_seat };
 
     ghost spent = { gone };
 }

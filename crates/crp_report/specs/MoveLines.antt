@@ -23,8 +23,8 @@ rank_names zero = []
 rank_names (suc n) = rank_names n ++ decimal (suc n) ∷ []
 
 -- a space and a place
-abbrev pub place_words : ℕ → ℕ → List ℕ
-place_words row tier = 32 ∷ (decimal row ++ 46 ∷ decimal tier)
+abbrev pub spaced_place : ℕ → ℕ → List ℕ
+spaced_place row tier = 32 ∷ (decimal row ++ 46 ∷ decimal tier)
 
 -- a space, the name of a container, and the end of the line
 abbrev pub container : List (List ℕ) → ℕ → List ℕ
@@ -33,8 +33,8 @@ container names rank = 32 ∷ (name_of_rank names rank ++ 10 ∷ [])
 -- the line of a move that is made in a position: where the container stands, where a relocation puts it, and which it is
 abbrev pub move_line : List (List ℕ) → Position → Move → List ℕ
 move_line names s (Shift from to) =
-    codes "shift" ++ (place_words from (length (row_stack s from)) ++ (place_words to (suc (length (row_stack s to))) ++ container names (top_of (row_stack s from))))
-move_line names s (Take row) = codes "take" ++ (place_words row (length (row_stack s row)) ++ container names s.next)
+    codes "shift" ++ (spaced_place from (length (row_stack s from)) ++ (spaced_place to (suc (length (row_stack s to))) ++ container names (top_of (row_stack s from))))
+move_line names s (Take row) = codes "take" ++ (spaced_place row (length (row_stack s row)) ++ container names s.next)
 
 -- the lines of moves that are legal one after the other
 abbrev pub AreMoveLines : List (List ℕ) → Position → List Move → List ℕ → Type 0

@@ -1,7 +1,7 @@
 //! The moves of a plan as lines of text.
 ghost use Rattle.std.specs.Prelude.{◌≡◌, ◌<◌, ◌+◌, ◌-◌, ◌++◌, IfOk, OnOk, map};
 ghost use Rattle.crp_plan.specs.Bay.{Position, IsSound, Legal, IsPlan, start};
-ghost use Rattle.crp_report.specs.MoveLines.{name_of_rank, rank_names, place_words, container, move_line, AreMoveLines};
+ghost use Rattle.crp_report.specs.MoveLines.{name_of_rank, rank_names, spaced_place, container, move_line, AreMoveLines};
 
 use crp_cert::push_decimal;
 use crp_plan::{Move, Plan, Walk};
@@ -21,7 +21,7 @@ pub fn names_of_ranks(alloc: Global, containers: u8) -> Result<Vec<Vec<u8>>, All
 }
 
 fn push_place(text: &mut Vec<u8>, row: u8, tier: u8) -> Result<(), AllocError>
-    ensures { OnOk result (text.new.items ≡ text.old.items ++ place_words row tier) }
+    ensures { OnOk result (text.new.items ≡ text.old.items ++ spaced_place row tier) }
 {
     text.push(b' ')?;
     push_decimal(text, row)?;

@@ -35,7 +35,7 @@ pub record AreDone (keeps : Keeping) (key : Key) (of : Shared) (seat : Seat) (pl
   pub all : short ≡ false → IsAllDone seat.view parts
 
 -- a search begins with the relocations of this plan, the greedy one; where there is none, with the cap
-pub record IsBegunWith (p : Problem) (first : ℕ) (greedy : Option ProblemPath) : Type 0 where
+pub record IsStartLimit (p : Problem) (first : ℕ) (greedy : Option ProblemPath) : Type 0 where
   pub is_problem : IsProblem p
   pub plan_is : IfSome greedy (IsPlanOf p)
   pub first_is : IsFirstLimit p first

@@ -15,7 +15,7 @@ use Rattle.clap.specs.declared.parser.matches.ValueSource.TheVariants.{CommandLi
 use Rattle.clap.proofs.WalkLemmas.{find_row, first_value-rows}
 use Rattle.crp_report.specs.Chosen.{CanBeHeights}
 use Rattle.crp_words.specs.Heights.{behind_points, heights_text, IsHeightsText, HasHeightAt}
-use Rattle.crp_words.specs.Words.{source_of, AreHeightsBeyond, FindsHeights, IsGivenByWords, MayFindHeights}
+use Rattle.crp_words.specs.Words.{value_source_of, AreHeightsBeyond, FindsHeights, IsGivenByWords, MayFindHeights}
 
 -- ---- from heights to their text
 
@@ -109,7 +109,7 @@ all_stated heights text k can n e = (can, from_points heights text can.0.0 (e �
 
 -- ---- where the text of an option comes from
 
-pub source_rows : (f : Found) (id : Text) → option_and_then (λ (a : MatchedArg). a.source) (matched_of f id) ≡ source_of id (rows_of f)
+pub source_rows : (f : Found) (id : Text) → option_and_then (λ (a : MatchedArg). a.source) (matched_of f id) ≡ value_source_of id (rows_of f)
 source_rows f id = go (find (λ (e : Entry). bytes_eq e.0.now id) f.entries.items) ∙ ap (option_and_then (λ (r : Row). r.source)) (sym (find_row f.entries.items id))
   where
     go : (o : Option Entry) → option_and_then (λ (a : MatchedArg). a.source) (option_map (λ e. e.1) o) ≡ option_and_then (λ (r : Row). r.source) (option_map row_of o)

@@ -5,7 +5,7 @@ use Rattle.crp_report.specs.declared.status.Status.{Status}
 use Rattle.crp_report.specs.Runs.{SourceSeen, SinkSeen, Gets, GetsPart}
 use Rattle.crp_commands.specs.declared.job.Job.{Job}
 use Rattle.crp_commands.specs.declared.outcome.ToolFault.{ToolFault}
-use Rattle.crp_commands.specs.Advice.{IsLine, failed_words}
+use Rattle.crp_commands.specs.Advice.{IsPlainLine, failed_words}
 use Rattle.crp_commands.specs.Calls.{exit_code}
 use Rattle.crp_commands.specs.Opened.{FilesSeen, AreFilesLeftAlone, IsSourceLeftAlone, IsLeftAlone}
 use Rattle.crp_commands.specs.Performing.{JobSeen, ReportsOverFiles, FailsOverFiles}
@@ -31,7 +31,7 @@ GetsLines s text = Gets s text ⊎ (GetsPart s text × HasFailed s.before s.afte
 
 -- the sink got the two lines of some fault and of some line of advice, with this place
 abbrev pub IsExplained : Option (List ℕ) → SinkSeen → Type 0
-IsExplained place s = (text : List ℕ) × (advice : List ℕ) × IsLine advice × GetsLines s (fault_lines text place advice)
+IsExplained place s = (text : List ℕ) × (advice : List ℕ) × IsPlainLine advice × GetsLines s (fault_lines text place advice)
 
 -- ---- words that ask for nothing
 

@@ -42,12 +42,12 @@ ReadsNumber found n = (text : Text) × (found ≡ Some text) × IsNumeral 10 (wi
     × (n ≡ digits_value 10 (without_leading_plus text)) × (n < 2 ^ 64)
 
 -- where the text for the option comes from, if there is one
-abbrev pub source_of : Text → List Row → Option ValueSource
-source_of id found = option_and_then (λ row. row.source) (find (λ row. bytes_eq row.id id) found)
+abbrev pub value_source_of : Text → List Row → Option ValueSource
+value_source_of id found = option_and_then (λ row. row.source) (find (λ row. bytes_eq row.id id) found)
 
 -- the words give the option, so that it has not its default
 abbrev pub IsGivenByWords : Text → List Row → Type 0
-IsGivenByWords id found = source_of id found ≡ Some CommandLine
+IsGivenByWords id found = value_source_of id found ≡ Some CommandLine
 
 -- the rows have this whole number for the option: as it was given, or else its default
 abbrev pub HasNumber : Text → List Row → ℕ → Type 0

@@ -1,11 +1,11 @@
 //! What to look at where a setting is beyond its limits, in plain words.
-ghost use Rattle.crp_commands.specs.Advice.{IsLine};
+ghost use Rattle.crp_commands.specs.Advice.{IsPlainLine};
 
 use crate::usage::SettingFault;
 
 /// What the setting must be: one line.
 pub fn advice_on_setting(fault: &SettingFault) -> &'static str
-    ensures { IsLine result.now }
+    ensures { IsPlainLine result.now }
 {
     match fault {
         SettingFault::Workers => "--workers must be a number from 1 to 64",

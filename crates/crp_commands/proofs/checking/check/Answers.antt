@@ -2,7 +2,7 @@ use Rattle.std.proofs.Common.{rules, ◌∷◌, [], ◌++◌, refl, subst, arith
 use Rattle.std.proofs.lemmas.Result.{err_from_is_err_and}
 use Rattle.crp_plan.specs.BayNames.{YardBay}
 use Rattle.crp_checker.specs.declared.verdict.Verdict.{Verdict}
-use Rattle.crp_checker.specs.FedFiles.{IsLast}
+use Rattle.crp_checker.specs.FedFiles.{ShowsLast}
 use Rattle.crp_commands.specs.Check.{verdict_lines}
 use Rattle.crp_commands.specs.declared.heads.TheConstants.{MOST_BYTES}
 use Rattle.crp_commands.proofs.Checked.{seen_by, earlier_check, all_checked, appends_line, last_stops, last_refused}
@@ -34,7 +34,7 @@ returns-in_err-write_verdict-in-Ok-Some g c =
     let first = g.W.Sink.failures c.check_next.new.writer in
     let last = g.W.Sink.failures c.write_verdict.new.writer in
     let all = all_checked given held MOST_BYTES _ (step.on given held MOST_BYTES inv.stands) (step.end c.if-branch.false) in
-    let shows = subst (IsLast all.file all.verdicts) c.in-Ok-Some.field-0-is (c.in-Ok-Some.ensures.last all.file all.verdicts all.checked.read) in
+    let shows = subst (ShowsLast all.file all.verdicts) c.in-Ok-Some.field-0-is (c.in-Ok-Some.ensures.last all.file all.verdicts all.checked.read) in
     let seen = seen_by given held (g.W.Sink.contents c.write_verdict.new.writer) source after first last in
     let tells = last_stops MOST_BYTES seen holds all.file all.verdicts stated c.check_next.new.files c.check_next.new.number line.field-0.0 all.text all.read all.checked shows line.ensures.fault in
     rw (p.1, p.2) ((earlier_check MOST_BYTES given held _ source source after sink first last line.field-0.0 (omega arith) (omega (arith, inv.source, step.count)) (omega (arith, inv.sink, step.count)) line.ensures.count tells), search rules)
@@ -46,7 +46,7 @@ returns-in-Ok-None g c =
     let given = g.R.Source.remaining c.args.reader.now in
     let held = g.W.Sink.contents c.args.writer.now in
     let all = all_checked given held MOST_BYTES _ (step.on given held MOST_BYTES inv.stands) (step.end c.if-branch.false) in
-    let shows = subst (IsLast all.file all.verdicts) c.in-Ok-None.field-0-is (c.in-Ok-None.ensures.last all.file all.verdicts all.checked.read) in
+    let shows = subst (ShowsLast all.file all.verdicts) c.in-Ok-None.field-0-is (c.in-Ok-None.ensures.last all.file all.verdicts all.checked.read) in
     ((refl, (all.file, verdict_lines all.verdicts, all.text, (all.verdicts, shows, refl), all.checked.written)), search rules)
 
 pub returns-in_ok-write_verdict-in-Ok-Some : goal.returns-in_ok-write_verdict-in-Ok-Some
@@ -57,7 +57,7 @@ returns-in_ok-write_verdict-in-Ok-Some g c =
     let given = g.R.Source.remaining c.args.reader.now in
     let held = g.W.Sink.contents c.args.writer.now in
     let all = all_checked given held MOST_BYTES _ (step.on given held MOST_BYTES inv.stands) (step.end c.if-branch.false) in
-    let shows = subst (IsLast all.file all.verdicts) c.in-Ok-Some.field-0-is (c.in-Ok-Some.ensures.last all.file all.verdicts all.checked.read) in
+    let shows = subst (ShowsLast all.file all.verdicts) c.in-Ok-Some.field-0-is (c.in-Ok-Some.ensures.last all.file all.verdicts all.checked.read) in
     let lines = verdict_lines (all.verdicts ++ stated ∷ []) in
     let written = appends_line held _ _ all.verdicts stated all.checked.written c.in_ok-write_verdict-in-Ok-Some.ensures.all in
     ((refl, (all.file, lines, all.text, (all.verdicts ++ stated ∷ [], shows, refl), written)), search rules)
