@@ -1,6 +1,7 @@
 //! What no contract says: worked texts byte for byte, and the texts of faults.
 mod certs;
 mod claims;
+mod cut;
 mod damaged;
 mod first;
 mod heads;

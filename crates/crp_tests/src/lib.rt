@@ -47,6 +47,8 @@ mod reports;
 #[cfg(test)]
 mod run_settings;
 #[cfg(test)]
+mod statuses;
+#[cfg(test)]
 mod turns;
 #[cfg(test)]
 mod two_bays;

@@ -1,16 +1,12 @@
-//! The words of the command line, and exit statuses.
-use crate::calls::{exit_of, job};
-use crate::compare::{assert_at, assert_same, assert_same_at};
-use crp_cert::CertFault;
-use crp_commands::{FileCommand, Job, RunFiles, ToolFault};
+//! The words of the command line: what they ask for.
+use crate::calls::job;
+use crate::compare::assert_at;
+use crp_commands::{FileCommand, Job, RunFiles};
 use crp_order::Mode;
-use crp_plan::PlanFault;
-use crp_report::{Fault, Input, Output, RunSettings, Status};
+use crp_report::RunSettings;
 use crp_solve::Settings;
 use crp_words::Usage;
-use std::alloc::{AllocError, Global};
-use std::process::Abort;
-use std::test::Fail;
+use std::alloc::Global;
 
 // Whether the job is a command without options over this file.
 fn is_plain(job: &Result<Job<'_>, Usage>, word: &str, name: &str) -> bool {
@@ -383,78 +379,4 @@ fn help_states_options_and_defaults(rt: HostRuntime) {
     for piece in HELP {
         assert_at(&rt, says(&help, piece), &piece);
     }
-}
-
-// Faults, each with its exit status and its line.
-const FAULTS: [(ToolFault, u8, &str); 13] = [
-    (
-        ToolFault::Cert(CertFault::Plan { line: 8 }),
-        6,
-        "C5 at line 8",
-    ),
-    (
-        ToolFault::Plan(PlanFault::NotLegal { step: 2 }),
-        6,
-        "Q2 at step 2",
-    ),
-    (ToolFault::Plan(PlanFault::Incomplete), 6, "Q4"),
-    (
-        ToolFault::Run(Fault::Read(Input::Yard)),
-        5,
-        "a read of the yard list failed",
-    ),
-    (
-        ToolFault::Run(Fault::Read(Input::Movins)),
-        5,
-        "a read of the message failed",
-    ),
-    (
-        ToolFault::Run(Fault::Write(Output::Report)),
-        5,
-        "a write of the report failed",
-    ),
-    (
-        ToolFault::Run(Fault::Write(Output::Certificates)),
-        5,
-        "a write of the certificates failed",
-    ),
-    (
-        ToolFault::Run(Fault::Write(Output::YardAfter)),
-        5,
-        "a write of the yard after the plans failed",
-    ),
-    (ToolFault::Run(Fault::Memory), 4, "no memory is left"),
-    (ToolFault::Read, 5, "a read failed"),
-    (ToolFault::Write, 5, "a write failed"),
-    (ToolFault::TooLarge, 3, "the input is too large"),
-    (ToolFault::Memory, 4, "no memory is left"),
-];
-
-// The exit status after this fault is that, and its line.
-fn assert_fault(
-    rt: &(impl Abort + AllocGlobal),
-    fault: ToolFault,
-    status: u8,
-    line: &str,
-) -> Result<(), AllocError> {
-    let text = format!(in rt.alloc(); "{fault}")?;
-    assert_same(rt, &text.as_str(), &line);
-    assert_same_at(rt, &exit_of(&Err(fault)), &status, &line);
-    Ok(())
-}
-
-#[test]
-fn exit_statuses_and_fault_lines(rt: HostRuntime) -> Result<(), Fail> {
-    let ended = [
-        (Status::Decided, 0),
-        (Status::Budget, 1),
-        (Status::Memory, 4),
-    ];
-    for (status, exit) in ended {
-        assert_same_at(&rt, &exit_of(&Ok(status)), &exit, &status);
-    }
-    for (fault, status, line) in FAULTS {
-        assert_fault(&rt, fault, status, line)?;
-    }
-    Ok(())
 }

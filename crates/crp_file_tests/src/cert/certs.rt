@@ -1,6 +1,4 @@
-use super::{
-    SAID_OF_SIX, SIX_CONTAINERS, Said, assert_fault, assert_head, fault_at, joined, line_after,
-};
+use super::{SAID_OF_SIX, SIX_CONTAINERS, Said, assert_fault, assert_head, joined};
 use crate::calls::read_cert;
 use crate::compare::{assert_same, assert_same_at};
 use crp_cert::{CertFault, Parts, Script};
@@ -55,14 +53,14 @@ const LONG_PATHS: [&[u8]; 8] = [
 ];
 
 /// The lines of a head and what follows them.
-fn text_of(alloc: Global, head: &[&[u8]], rest: &[u8]) -> Result<Vec<u8>, AllocError> {
+pub(super) fn text_of(alloc: Global, head: &[&[u8]], rest: &[u8]) -> Result<Vec<u8>, AllocError> {
     let mut text = joined(alloc, head)?;
     text.extend_from_slice(rest)?;
     Ok(text)
 }
 
 /// The fault that a text is refused with, if it is.
-fn refusal(alloc: Global, text: &[u8]) -> Option<CertFault> {
+pub(super) fn refusal(alloc: Global, text: &[u8]) -> Option<CertFault> {
     match read_cert(alloc, text) {
         Ok(_) => None,
         Err(fault) => Some(fault),
@@ -413,44 +411,5 @@ fn faults_of_the_head_come_first(rt: HostRuntime) -> Result<(), Fail> {
     assert_refused(&rt, &lines, b"part /: Q\n", Some(claim))?;
     let opening = CertFault::Opening { line: 1 };
     assert_refused(&rt, &[], b"part /: XLB\nend 1\n", Some(opening))?;
-    Ok(())
-}
-
-/// The fault of a certificate that ends inside a line, of which this much is left.
-fn cut_fault(line: u32, left: &[u8]) -> CertFault {
-    if line <= 8 {
-        fault_at(line)
-    } else if left.starts_with(b"part ") {
-        CertFault::Part { line }
-    } else {
-        CertFault::End { line }
-    }
-}
-
-/// What stands behind the last line feed.
-fn last_line(text: &[u8]) -> &[u8] {
-    let mut start = 0;
-    for (i, byte) in text.iter().enumerate() {
-        if *byte == b'\n' {
-            start = i + 1;
-        }
-    }
-    text.get(start..).unwrap_or(text)
-}
-
-/// The text cut to this length is refused with the fault of the line where it ends.
-fn assert_cut(rt: &(impl Abort + AllocGlobal), cut: &[u8]) {
-    let fault = cut_fault(line_after(cut), last_line(cut));
-    let length = cut.len();
-    assert_same_at(rt, &refusal(rt.alloc(), cut), &Some(fault), &length);
-}
-
-#[test]
-fn certificate_cut_at_every_length(rt: HostRuntime) -> Result<(), Fail> {
-    let text = text_of(rt.alloc(), &SIX_CONTAINERS, b"part /: XLB\nend 1\n")?;
-    for length in 0..text.len() {
-        assert_cut(&rt, &text[..length]);
-    }
-    assert_same(&rt, &refusal(rt.alloc(), &text), &None);
     Ok(())
 }
