@@ -4,7 +4,6 @@ ghost use Rattle.std.specs.Prelude.{◌≤◌};
 use crp_cert::{CertFault, Head, Script, WriteFault as CertWriteFault};
 use crp_checker::{Checker, FileRefused, Refused, Verdict, Verdicts};
 use crp_movins::{MovinsFault, Orders};
-use crp_order::{BayProblem, Mode, Sequence};
 use crp_plan::{BayName, Plan, Problem, Sink, Source};
 use crp_tree::Cert;
 use crp_yard::{WriteFault, Yard, YardFault};
@@ -38,16 +37,6 @@ pub(crate) fn write_cert<W: Sink>(
     plan: Option<&Plan>,
 ) -> Result<(), CertWriteFault> {
     crp_cert::write_cert(alloc, writer, bay, problem, cert, plan)
-}
-
-pub(crate) fn first_text(
-    alloc: Global,
-    bay: &BayName,
-    problem: &Problem,
-    cert: &Cert,
-    plan: &Plan,
-) -> Result<Vec<u8>, AllocError> {
-    crp_cert::first_text(alloc, bay, problem, cert, plan)
 }
 
 pub(crate) fn write_first<W: Sink>(
@@ -136,30 +125,10 @@ pub(crate) fn read_yard<R: Source>(
     crp_yard::read_yard(alloc, source, rows, tiers)
 }
 
-pub(crate) fn yard_text(alloc: Global, yard: &Yard) -> Result<Vec<u8>, AllocError> {
-    crp_yard::yard_text(alloc, yard)
-}
-
 pub(crate) fn write_yard<W: Sink>(
     alloc: Global,
     sink: &mut W,
     yard: &Yard,
 ) -> Result<(), WriteFault> {
     crp_yard::write_yard(alloc, sink, yard)
-}
-
-pub(crate) fn sequence(alloc: Global, orders: Orders, mode: Mode) -> Result<Sequence, AllocError> {
-    crp_order::sequence(alloc, orders, mode)
-}
-
-pub(crate) fn problems(
-    alloc: Global,
-    yard: &Yard,
-    sequence: &Sequence,
-) -> Result<Vec<BayProblem>, AllocError> {
-    crp_order::problems(alloc, yard, sequence)
-}
-
-pub(crate) fn absent(yard: &Yard, sequence: &Sequence) -> u32 {
-    crp_order::absent(yard, sequence)
 }

@@ -1,4 +1,4 @@
-//! What no contract says: worked texts byte for byte, and the texts of faults.
+//! What no contract says and no command shows: what is read of texts, damaged texts, sinks, and the texts of faults.
 mod certs;
 mod claims;
 mod cut;
@@ -158,16 +158,6 @@ fn assert_text(
 #[test]
 fn texts_of_faults(rt: HostRuntime) -> Result<(), Fail> {
     let texts = [
-        (CertFault::Opening { line: 2 }, "C1 at line 2"),
-        (CertFault::Size { line: 3 }, "C2 at line 3"),
-        (CertFault::Row { line: 4 }, "C3 at line 4"),
-        (CertFault::Claim { line: 7 }, "C4 at line 7"),
-        (CertFault::Plan { line: 8 }, "C5 at line 8"),
-        (CertFault::Part { line: 9 }, "C6 at line 9"),
-        (CertFault::Order { line: 10 }, "C7 at line 10"),
-        (CertFault::Symbol { line: 11 }, "C8 at line 11"),
-        (CertFault::Unfinished { line: 12 }, "C9 at line 12"),
-        (CertFault::Trailing { line: 13 }, "C10 at line 13"),
         (
             CertFault::End {
                 line: 4_294_967_295,

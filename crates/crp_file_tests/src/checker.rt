@@ -1,8 +1,5 @@
 //! Certificates that are accepted, and those that are refused.
 mod files;
-mod first;
-mod given;
-mod heights;
 mod paths;
 mod pieces;
 
@@ -38,10 +35,115 @@ const UNEQUAL: &str =
 const NARROW: &str =
     "CRP-CERT 2\nbay A 1\nsize 2 2 3 3\nheights 2 1\nrow 1 2\nrow 3\nat least 4\nplan -\npart /: X\nend 1\n";
 
-/// The certificate of the six containers with these lines from the claim on.
-fn six(alloc: Global, lines: &str) -> Result<String, AllocError> {
-    format!(in alloc; "CRP-CERT 1\nbay A 1\nsize 3 3 6 6\nrow 1 5 4\nrow 6\nrow 3 2\n{lines}\n")
-}
+/// The same four under equal heights that are stated, with the first of their best plans.
+const FIRST: &str =
+    "CRP-CERT 2\nbay A 1\nsize 3 3 4 4\nheights 3 3 3\nrow 1 4\nrow 2\nrow 3\nfirst 2\nplan 2 1\npart /: XXBBB\nend 1\n";
+
+/// Six containers under equal heights that are stated, with the first of their best plans.
+const FIRST_OF_SIX: &str =
+    "CRP-CERT 2\nbay A 1\nsize 3 3 6 6\nheights 3 3 3\nrow 1 5 4\nrow 6\nrow 3 2\nfirst 3\nplan 2 2 1\npart /: XXXBBBB\nend 1\n";
+
+/// The certificate of the four containers, with their equal heights stated.
+const EQUAL: &str =
+    "CRP-CERT 2\nbay A 1\nsize 3 3 4 4\nheights 3 3 3\nrow 1 4\nrow 2\nrow 3\nat least 2\nplan 3 1\npart /: L\nend 1\n";
+
+/// Certificates that are accepted, and what they show: of each verdict one at least.
+const ACCEPTED: [(&str, Verdict); 10] = [
+    (TWO, Verdict::Optimal(1)),
+    (FOUR, Verdict::Optimal(2)),
+    (SIX, Verdict::Optimal(3)),
+    (ONE_ROW, Verdict::NoPlan),
+    (UNEQUAL, Verdict::Optimal(2)),
+    (NARROW, Verdict::NoPlan),
+    (
+        "CRP-CERT 1\nbay A 1\nsize 3 3 6 6\nrow 1 5 4\nrow 6\nrow 3 2\nat least 2\nplan 2 2 1\npart /: B\nend 1\n",
+        Verdict::Bounds {
+            lower: 2,
+            upper: Some(3),
+        },
+    ),
+    (
+        "CRP-CERT 1\nbay A 1\nsize 3 3 6 6\nrow 1 4 6\nrow 3 5\nrow 2\nat least 0\nplan -\npart /: XBXBXXBXXXXGBBBBB\npart 3.3.1.2.1.1.2.2: B\nend 2\n",
+        Verdict::Bounds {
+            lower: 0,
+            upper: None,
+        },
+    ),
+    (
+        "CRP-CERT 1\nbay A 1\nsize 3 3 6 6\nrow 1 5 4\nrow 6\nrow 3 2\nat least 3\nplan 2 2 1\npart /: XGB\npart 2: XGB\npart 2.2: XBB\nend 3\n",
+        Verdict::Optimal(3),
+    ),
+    (FIRST, Verdict::First(2)),
+];
+
+/// Certificates that are refused: for each fault of a text, and for each of a claim but K1.
+const REFUSED: [(&str, &str); 17] = [
+    ("CRP-CERT 3\n", "C1 at line 1"),
+    (
+        "CRP-CERT 2\nbay A 1\nsize 3 3 4 4\nheights 2 1 2\nrow 1 4\nrow 2\nrow 3\nat least 2\nplan 3 1\npart /: L\nend 1\n",
+        "C2 at line 4",
+    ),
+    (
+        "CRP-CERT 2\nbay A 1\nsize 3 3 4 4\nheights 3 1 3\nrow 1 4\nrow 2 3\nrow 3\nat least 2\nplan 3 1\npart /: L\nend 1\n",
+        "C3 at line 6",
+    ),
+    (
+        "CRP-CERT 1\nbay A 1\nsize 3 3 6 6\nrow 1 5 4\nrow 6\nrow 3 2\nat least 14\nplan 2 2 1\npart /: XLB\nend 1\n",
+        "C4 at line 7",
+    ),
+    (
+        "CRP-CERT 1\nbay A 1\nsize 3 3 6 6\nrow 1 5 4\nrow 6\nrow 3 2\nat least 3\nplan 07\npart /: XLB\nend 1\n",
+        "C5 at line 8",
+    ),
+    (
+        "CRP-CERT 1\nbay A 1\nsize 3 3 6 6\nrow 1 5 4\nrow 6\nrow 3 2\nat least 3\nplan 2 2 1\npart /: XGG\npart 1: B\npart 3: B\nend 3\n",
+        "C6 at line 10",
+    ),
+    (
+        "CRP-CERT 1\nbay A 1\nsize 3 3 6 6\nrow 1 5 4\nrow 6\nrow 3 2\nat least 3\nplan 2 2 1\npart /: XGG\npart 3: B\npart 2: L\nend 3\n",
+        "C7 at line 11",
+    ),
+    (
+        "CRP-CERT 1\nbay A 1\nsize 3 3 6 6\nrow 1 5 4\nrow 6\nrow 3 2\nat least 3\nplan 2 2 1\npart /: XLBZ\nend 1\n",
+        "C8 at line 9",
+    ),
+    (
+        "CRP-CERT 1\nbay A 1\nsize 3 3 6 6\nrow 1 5 4\nrow 6\nrow 3 2\nat least 3\nplan 2 2 1\npart /: XXBB\nend 1\n",
+        "C9 at line 9",
+    ),
+    (
+        "CRP-CERT 1\nbay A 1\nsize 3 3 6 6\nrow 1 5 4\nrow 6\nrow 3 2\nat least 3\nplan 2 2 1\npart /: XLBB\nend 1\n",
+        "C10 at line 9",
+    ),
+    (
+        "CRP-CERT 1\nbay A 1\nsize 3 3 6 6\nrow 1 5 4\nrow 6\nrow 3 2\nat least 3\nplan 2 2 1\npart /: XLB\nend 2\n",
+        "C11 at line 10",
+    ),
+    (
+        "CRP-CERT 1\nbay A 1\nsize 3 3 6 6\nrow 1 5 4\nrow 6\nrow 3 2\nat least 3\nplan 1\npart /: XBL\nend 1\n",
+        "K2 (Q2 at step 1)",
+    ),
+    (
+        "CRP-CERT 2\nbay A 1\nsize 3 3 4 4\nheights 3 3 3\nrow 1 4\nrow 2\nrow 3\nfirst 1\nplan 2 1\npart /: XXBBB\nend 1\n",
+        "K2",
+    ),
+    (
+        "CRP-CERT 1\nbay A 1\nsize 3 3 6 6\nrow 1 5 4\nrow 6\nrow 3 2\nat least 3\nplan 2 2 1\npart /: XBL\nend 1\n",
+        "K3 at part / symbol 2",
+    ),
+    (
+        "CRP-CERT 1\nbay A 1\nsize 2 2 2 2\nrow 2 1\nrow\nat least 0\nplan\npart /: X\nend 1\n",
+        "K4 at part / symbol 1",
+    ),
+    (
+        "CRP-CERT 1\nbay A 1\nsize 3 3 6 6\nrow 1 4 6\nrow 3 5\nrow 2\nat least 0\nplan -\npart /: XBXBXXBXXXXXGBBBBBB\nend 1\n",
+        "K5 at 3.3.1.2.1.1.2.2.1",
+    ),
+    (
+        "CRP-CERT 1\nbay A 1\nsize 3 3 6 6\nrow 1 5 4\nrow 6\nrow 3 2\nat least 3\nplan 2 2 1\npart /: XLB\npart 3.2: B\nend 2\n",
+        "K6 at 3.2",
+    ),
+];
 
 /// The certificate shows this, whole and byte by byte.
 fn shows(rt: &(impl Abort + AllocGlobal), text: &str, verdict: Verdict) {
@@ -55,14 +157,6 @@ fn text_of_refusal(alloc: Global, refused: &Refused) -> Result<String, AllocErro
     format!(in alloc; "{refused}")
 }
 
-/// The certificate is refused for this, whole and byte by byte.
-fn refuses(rt: &(impl Abort + AllocGlobal), text: &str, fault: &str) -> Result<(), AllocError> {
-    let refused = check(rt.alloc(), text.as_bytes()).expect_err(rt, "a refused certificate");
-    refused_for(rt, &refused, text, fault)?;
-    let refused = check_bytes(rt.alloc(), text.as_bytes()).expect_err(rt, "a refused certificate");
-    refused_for(rt, &refused, text, fault)
-}
-
 fn refused_for(
     rt: &(impl Abort + AllocGlobal),
     refused: &Refused,
@@ -74,155 +168,29 @@ fn refused_for(
     Ok(())
 }
 
+/// The certificate is refused for this, whole and byte by byte.
+fn refuses(rt: &(impl Abort + AllocGlobal), text: &str, fault: &str) -> Result<(), AllocError> {
+    let refused = check(rt.alloc(), text.as_bytes()).expect_err(rt, "a refused certificate");
+    refused_for(rt, &refused, text, fault)?;
+    let refused = check_bytes(rt.alloc(), text.as_bytes()).expect_err(rt, "a refused certificate");
+    refused_for(rt, &refused, text, fault)
+}
+
+#[test]
+fn certificates_whole_and_byte_by_byte(rt: HostRuntime) -> Result<(), Fail> {
+    for (text, verdict) in ACCEPTED {
+        shows(&rt, text, verdict);
+    }
+    for (text, fault) in REFUSED {
+        refuses(&rt, text, fault)?;
+    }
+    Ok(())
+}
+
 fn problem_of(rt: &(impl Abort + AllocGlobal), text: &str) -> Problem {
     read_head(rt.alloc(), text.as_bytes())
         .expect(rt, "a head")
         .problem
-}
-
-/// The certificate of the six containers with these lines shows this.
-fn six_shows(
-    rt: &(impl Abort + AllocGlobal),
-    lines: &str,
-    verdict: Verdict,
-) -> Result<(), AllocError> {
-    shows(rt, six(rt.alloc(), lines)?.as_str(), verdict);
-    Ok(())
-}
-
-/// The certificate of the six containers with these lines is refused with this fault.
-fn six_refuses(
-    rt: &(impl Abort + AllocGlobal),
-    lines: &str,
-    fault: &str,
-) -> Result<(), AllocError> {
-    refuses(rt, six(rt.alloc(), lines)?.as_str(), fault)
-}
-
-#[test]
-fn optimal_certificates(rt: HostRuntime) -> Result<(), Fail> {
-    let sorted =
-        "CRP-CERT 1\nbay A 1\nsize 2 2 2 2\nrow 2 1\nrow\nat least 0\nplan\npart /: B\nend 1\n";
-    let ahead =
-        "CRP-CERT 1\nbay A 1\nsize 3 3 6 6\nrow 4 1 6\nrow 2 5\nrow 3\nat least 4\nplan 3 1 2 2\npart /: L\nend 1\n";
-    let cases = [(TWO, 1), (sorted, 0), (FOUR, 2), (SIX, 3), (ahead, 4)];
-    for (text, count) in cases {
-        shows(&rt, text, Verdict::Optimal(count));
-    }
-    Ok(())
-}
-
-#[test]
-fn other_optimal_certificates_of_six_containers(rt: HostRuntime) -> Result<(), Fail> {
-    let both_ahead = "at least 3\nplan 2 2 1\npart /: XLL\nend 1";
-    six_shows(&rt, both_ahead, Verdict::Optimal(3))?;
-    let deeper = "at least 3\nplan 2 2 1\npart /: XXBBB\nend 1";
-    six_shows(&rt, deeper, Verdict::Optimal(3))?;
-    Ok(())
-}
-
-#[test]
-fn certificates_that_there_is_no_plan(rt: HostRuntime) -> Result<(), Fail> {
-    shows(&rt, ONE_ROW, Verdict::NoPlan);
-    let full =
-        "CRP-CERT 1\nbay A 1\nsize 2 2 4 4\nrow 1 2\nrow 3 4\nat least 5\nplan -\npart /: X\nend 1\n";
-    shows(&rt, full, Verdict::NoPlan);
-    Ok(())
-}
-
-#[test]
-fn bounds_of_six_containers(rt: HostRuntime) -> Result<(), Fail> {
-    let cases: [(&str, Option<u32>); 2] = [
-        ("at least 2\nplan 2 2 1\npart /: B\nend 1", Some(3)),
-        ("at least 2\nplan -\npart /: B\nend 1", None),
-    ];
-    for (lines, upper) in cases {
-        six_shows(&rt, lines, Verdict::Bounds { lower: 2, upper })?;
-    }
-    Ok(())
-}
-
-#[test]
-fn refused_certificates_of_six_containers(rt: HostRuntime) -> Result<(), Fail> {
-    let cases: [(&str, &str); 20] = [
-        (
-            "at least 3\nplan 2 2 1\npart /: XLBZ\nend 1",
-            "C8 at line 9",
-        ),
-        (
-            "at least 3\nplan 2 2 1\npart /: XBLQ\nend 1",
-            "C8 at line 9",
-        ),
-        (
-            "at least 3\nplan 2 2 1\npart /: XBLL\nend 1",
-            "C10 at line 9",
-        ),
-        ("at least 3\nplan 2 2 1\npart /: G\nend 1", "C8 at line 9"),
-        ("at least 3\nplan 2 2 1\npart /: XLB", "C11 at line 10"),
-        (
-            "at least 3\nplan 2 2 1\npart /: XBL\nend 1",
-            "K3 at part / symbol 2",
-        ),
-        (
-            "at least 4\nplan 2 2 1\npart /: XLB\nend 1",
-            "K3 at part / symbol 2",
-        ),
-        (
-            "at least 3\nplan 2 2 1\npart /: XBB\nend 1",
-            "K3 at part / symbol 2",
-        ),
-        ("at least 3\nplan 2 2 1\npart /: XL\nend 1", "C9 at line 9"),
-        (
-            "at least 3\nplan 2 2 1\npart /: XXBB\nend 1",
-            "C9 at line 9",
-        ),
-        (
-            "at least 3\nplan 2 2 1\npart /: XLBB\nend 1",
-            "C10 at line 9",
-        ),
-        (
-            "at least 14\nplan 2 2 1\npart /: XLB\nend 1",
-            "C4 at line 7",
-        ),
-        (
-            "at least 3\nplan 2 2 1\npart /: XLB\nend 2",
-            "C11 at line 10",
-        ),
-        (
-            "at least 3\nplan 1\npart /: XBL\nend 1",
-            "K2 (Q2 at step 1)",
-        ),
-        ("at least 3\nplan 2 2\npart /: XBL\nend 1", "K2 (Q4)"),
-        ("at least 3\nplan 2 2 1\nend 0", "K5 at /"),
-        ("at least 3\nplan 2 2 1\npart 2: L\nend 1", "K5 at /"),
-        (
-            "at least 3\nplan 2 2 1\npart /: XLB\npart 2: L\nend 2",
-            "K6 at 2",
-        ),
-        (
-            "at least 3\nplan 2 2 1\npart /: XLB\npart 2: B\nend 2",
-            "K3 at part 2 symbol 1",
-        ),
-        (
-            "at least 3\nplan 2 2 1\npart /: XLB\npart 3.2: B\nend 2",
-            "K6 at 3.2",
-        ),
-    ];
-    for (lines, fault) in cases {
-        six_refuses(&rt, lines, fault)?;
-    }
-    Ok(())
-}
-
-#[test]
-fn other_refused_certificates(rt: HostRuntime) -> Result<(), Fail> {
-    let at_end =
-        "CRP-CERT 1\nbay A 1\nsize 2 2 2 2\nrow 2 1\nrow\nat least 0\nplan\npart /: X\nend 1\n";
-    refuses(&rt, at_end, "K4 at part / symbol 1")?;
-    let blocking =
-        "CRP-CERT 1\nbay A 1\nsize 3 3 6 6\nrow 4 1 6\nrow 2 5\nrow 3\nat least 4\nplan 3 1 2 2\npart /: B\nend 1\n";
-    refuses(&rt, blocking, "K3 at part / symbol 1")?;
-    Ok(())
 }
 
 /// What is answered to the certificate for the problem of that text's head.
@@ -250,9 +218,28 @@ fn refuses_for(
 
 #[test]
 fn certificates_for_a_problem(rt: HostRuntime) -> Result<(), Fail> {
-    shows_for(&rt, SIX, SIX, Verdict::Optimal(3));
-    shows_for(&rt, ONE_ROW, ONE_ROW, Verdict::NoPlan);
-    for (head, text, fault) in [(FOUR, SIX, "K1"), (SIX, "CRP-CERT 3\n", "C1 at line 1")] {
+    let cases: [(&str, &str, Verdict); 5] = [
+        (SIX, SIX, Verdict::Optimal(3)),
+        (ONE_ROW, ONE_ROW, Verdict::NoPlan),
+        (FOUR, EQUAL, Verdict::Optimal(2)),
+        (FIRST, FIRST, Verdict::First(2)),
+        (FIRST_OF_SIX, FIRST_OF_SIX, Verdict::First(3)),
+    ];
+    for (head, text, verdict) in cases {
+        shows_for(&rt, head, text, verdict);
+    }
+    Ok(())
+}
+
+#[test]
+fn certificates_for_another_problem(rt: HostRuntime) -> Result<(), Fail> {
+    let cases: [(&str, &str, &str); 4] = [
+        (FOUR, SIX, "K1"),
+        (FOUR, UNEQUAL, "K1"),
+        (FIRST, FIRST_OF_SIX, "K1"),
+        (SIX, "CRP-CERT 3\n", "C1 at line 1"),
+    ];
+    for (head, text, fault) in cases {
         refuses_for(&rt, head, text, fault)?;
     }
     Ok(())

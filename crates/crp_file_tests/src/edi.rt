@@ -1,5 +1,5 @@
 use crate::calls::read_segments;
-use crate::compare::{assert_at, assert_same, assert_same_at};
+use crate::compare::{assert_at, assert_same};
 use edi_text::{EdiFault, MAX_TEXT, Segment, Segments};
 use std::alloc::{AllocError, Global};
 use std::process::Abort;
@@ -117,125 +117,8 @@ fn reads_a_whole_interchange(rt: HostRuntime) -> Result<(), Fail> {
     Ok(())
 }
 
-/// What texts with release characters spell.
-const RELEASED: [Spelled; 4] = [
-    Spelled {
-        text: b"EQD+CN+AB?+C1'",
-        count: 1,
-        number: 1,
-        tag: b"EQD",
-        elements: 2,
-        components: &[(2, 1, b"AB+C1")],
-    },
-    // A space in the advice stands for no release character.
-    Spelled {
-        text: b"UNA:+.  'EQD+CN+AB?+C1'",
-        count: 1,
-        number: 1,
-        tag: b"EQD",
-        elements: 3,
-        components: &[(2, 1, b"AB?"), (3, 1, b"C1")],
-    },
-    Spelled {
-        text: b"EQD+CN+A?'B'\r\nEQD+CN+??'",
-        count: 2,
-        number: 1,
-        tag: b"EQD",
-        elements: 2,
-        components: &[(2, 1, b"A'B")],
-    },
-    Spelled {
-        text: b"EQD+CN+A?'B'\r\nEQD+CN+??'",
-        count: 2,
-        number: 2,
-        tag: b"EQD",
-        elements: 2,
-        components: &[(2, 1, b"?")],
-    },
-];
-
-#[test]
-fn release_takes_the_next_character(rt: HostRuntime) -> Result<(), Fail> {
-    for row in &RELEASED {
-        assert_spelled(&rt, row)?;
-    }
-    Ok(())
-}
-
 fn first_fault(alloc: Global, text: &[u8]) -> Option<EdiFault> {
     read_segments(alloc, text).err()
-}
-
-#[test]
-fn returns_the_first_fault(rt: HostRuntime) {
-    let faults: [(&[u8], EdiFault); 21] = [
-        (b"", EdiFault::NoSegment { offset: 0 }),
-        (b"UNA::.? 'UNB'", EdiFault::Advice { offset: 0 }),
-        (b"UNA:+", EdiFault::Unfinished { offset: 5 }),
-        (b"UNB+1", EdiFault::Unfinished { offset: 5 }),
-        (b"UN+1'", EdiFault::Tag { offset: 0 }),
-        (b"UNB+?", EdiFault::Release { offset: 4 }),
-        (b"UNB+\t1'", EdiFault::Control { offset: 4 }),
-        // Line ends are passed after a terminator and after the advice, but not at the front.
-        (b"UNA:+.? '\r\n", EdiFault::NoSegment { offset: 11 }),
-        (b"\nUNB'", EdiFault::Control { offset: 0 }),
-        (b"UNB'\r\nUN+1'", EdiFault::Tag { offset: 6 }),
-        // A segment's text is looked at before its tag.
-        (b"UN+\n'", EdiFault::Control { offset: 3 }),
-        (b"UN", EdiFault::Unfinished { offset: 2 }),
-        (b"UNB+?\n'", EdiFault::Control { offset: 5 }),
-        // A separator or a space in the wrong place of the advice, a letter, a byte under 0x20.
-        (b"UNA +.? 'UNB'", EdiFault::Advice { offset: 0 }),
-        (b"UNAx+.? 'UNB'", EdiFault::Advice { offset: 0 }),
-        (b"UNA:+.?\n'UNB'", EdiFault::Advice { offset: 0 }),
-        // The advice comes before the segments, and the length of a text without a release
-        // character at its end is stated by its last segment.
-        (b"UNA::.? '\t", EdiFault::Advice { offset: 0 }),
-        (b"UNA:+. *'UNB+?", EdiFault::Unfinished { offset: 14 }),
-        (b"UNA:+.?*'UNB+?", EdiFault::Release { offset: 13 }),
-        // A released letter may stand in a tag, a separator may not.
-        (b"UN?+'", EdiFault::Tag { offset: 0 }),
-        (b"UNB'UNB:1'", EdiFault::Tag { offset: 4 }),
-    ];
-    for (text, want) in faults {
-        assert_same_at(&rt, &first_fault(rt.alloc(), text), &Some(want), &text);
-    }
-}
-
-/// What a text with service characters of its own spells. The decimal mark and the reserved character may be anything from 0x20 on.
-const OWN_CHARACTERS: [Spelled; 2] = [
-    Spelled {
-        text: b"UNA*;;!;~\r\nU!NB;a*b;!;c:+'~\n\r\nUNZ~",
-        count: 2,
-        number: 1,
-        tag: b"UNB",
-        elements: 2,
-        components: &[(1, 1, b"a"), (1, 2, b"b"), (2, 1, b";c:+'")],
-    },
-    Spelled {
-        text: b"UNA*;;!;~\r\nU!NB;a*b;!;c:+'~\n\r\nUNZ~",
-        count: 2,
-        number: 2,
-        tag: b"UNZ",
-        elements: 0,
-        components: &[],
-    },
-];
-
-#[test]
-fn own_service_characters(rt: HostRuntime) -> Result<(), Fail> {
-    for row in &OWN_CHARACTERS {
-        assert_spelled(&rt, row)?;
-    }
-    Ok(())
-}
-
-#[test]
-fn cut_text_is_unfinished(rt: HostRuntime) {
-    // Without the last terminator and its line end.
-    let offset = SIX_LOAD_ORDERS.len() - 2;
-    let cut = &SIX_LOAD_ORDERS[..offset];
-    assert_fault(&rt, cut, EdiFault::Unfinished { offset });
 }
 
 fn assert_fault(rt: &(impl Abort + AllocGlobal), text: &[u8], fault: EdiFault) {
@@ -264,12 +147,6 @@ fn assert_text(
 #[test]
 fn faults_show_their_code(rt: HostRuntime) -> Result<(), Fail> {
     let texts = [
-        (EdiFault::NoSegment { offset: 0 }, "E1 at offset 0"),
-        (EdiFault::Advice { offset: 0 }, "E2 at offset 0"),
-        (EdiFault::Unfinished { offset: 5 }, "E3 at offset 5"),
-        (EdiFault::Tag { offset: 12 }, "E4 at offset 12"),
-        (EdiFault::Release { offset: 4 }, "E5 at offset 4"),
-        (EdiFault::Control { offset: 9 }, "E6 at offset 9"),
         (
             EdiFault::TooLong { offset: 8388608 },
             "E7 at offset 8388608",

@@ -1,221 +1,112 @@
+//! Positions at paths, worked by hand.
+use crate::bays::{Bay, EMPTY, FULL, IN_ORDER, ONE_ROW, SIX, problem_of};
 use crate::compare::{assert_at, assert_same, assert_same_at};
 use crp_bay::Position;
-use crp_plan::Problem;
-use std::alloc::{AllocError, Global};
+use std::alloc::Global;
 use std::process::Abort;
 use std::test::Fail;
 
-fn rows_of(alloc: Global, rows: &[&[u8]]) -> Result<Vec<Vec<u8>>, AllocError> {
-    let mut stacks = Vec::new(alloc);
-    for row in rows {
-        stacks.push(row.to_vec(alloc)?)?;
-    }
-    Ok(stacks)
+/// Where a path of a bay leads to: the stacks, the legal rows, the rows with room, the next container, and whether all have left.
+#[derive(Clone, Copy)]
+struct Stop {
+    bay: Bay,
+    path: &'static [u8],
+    stacks: &'static [&'static [u8]],
+    targets: &'static [u8],
+    with_room: &'static [u8],
+    next: u8,
+    is_done: bool,
 }
 
-fn start_of(alloc: Global, tiers: u8, rows: &[&[u8]]) -> Result<Position, Fail> {
-    let stacks = rows_of(alloc, rows)?;
-    let mut ordered: u8 = 0;
-    for row in rows {
-        if row.len() < 9 && ordered < 97 {
-            ordered += row.len() as u8;
-        }
-    }
-    let problem = Problem::new(tiers, ordered, &stacks)?;
-    Ok(Position::start(&problem))
-}
+const START: Stop = Stop {
+    bay: SIX,
+    path: &[],
+    stacks: &[&[1, 5, 4], &[6], &[3, 2]],
+    targets: &[2, 3],
+    with_room: &[2, 3],
+    next: 1,
+    is_done: false,
+};
+
+const FIRST: Stop = Stop {
+    bay: SIX,
+    path: &[2],
+    stacks: &[&[1, 5], &[6, 4], &[3, 2]],
+    targets: &[2, 3],
+    with_room: &[1, 2, 3],
+    next: 1,
+    is_done: false,
+};
+
+const SECOND: Stop = Stop {
+    bay: SIX,
+    path: &[2, 2],
+    stacks: &[&[], &[6, 4, 5], &[]],
+    targets: &[1, 3],
+    with_room: &[1, 3],
+    next: 4,
+    is_done: false,
+};
+
+const STOPS: [Stop; 8] = [
+    START,
+    FIRST,
+    SECOND,
+    Stop {
+        bay: SIX,
+        path: &[2, 2, 1],
+        stacks: &[&[], &[], &[]],
+        targets: &[],
+        with_room: &[1, 2, 3],
+        next: 7,
+        is_done: true,
+    },
+    Stop {
+        bay: IN_ORDER,
+        path: &[],
+        stacks: &[&[], &[]],
+        targets: &[],
+        with_room: &[1, 2],
+        next: 3,
+        is_done: true,
+    },
+    Stop {
+        bay: EMPTY,
+        path: &[],
+        stacks: &[&[]],
+        targets: &[],
+        with_room: &[1],
+        next: 1,
+        is_done: true,
+    },
+    Stop {
+        bay: ONE_ROW,
+        path: &[],
+        stacks: &[&[1, 2]],
+        targets: &[],
+        with_room: &[1],
+        next: 1,
+        is_done: false,
+    },
+    Stop {
+        bay: FULL,
+        path: &[],
+        stacks: &[&[1, 2], &[3, 4]],
+        targets: &[],
+        with_room: &[],
+        next: 1,
+        is_done: false,
+    },
+];
 
 // What is compared comes from functions without clauses: so the tests know nothing of it, and are soon checked.
 
-fn next_of(position: &Position) -> u8 {
-    position.next()
-}
-
-fn is_done(position: &Position) -> bool {
-    position.is_done()
-}
-
-fn fits(position: &Position, row: u8) -> bool {
-    position.fits(row)
+fn start_of(alloc: Global, bay: &Bay) -> Result<Position, Fail> {
+    Ok(Position::start(&problem_of(alloc, bay)?))
 }
 
 fn child_of(position: &Position, row: u8) -> Option<Position> {
     position.child(row)
-}
-
-fn rows_in(position: &Position) -> usize {
-    position.rows() as usize
-}
-
-fn ordered_of(position: &Position) -> u8 {
-    position.ordered()
-}
-
-/// The height of a row, from 0; none where there is no such row.
-fn height_of(position: &Position, row: usize) -> Option<u8> {
-    if row < position.rows() as usize {
-        Some(position.height(row as u8 + 1))
-    } else {
-        None
-    }
-}
-
-/// The stack of a row, from 0; none where there is no such row.
-fn stack_of(position: &Position, row: usize) -> &[u8] {
-    if row < position.rows() as usize {
-        position.stack(row as u8 + 1)
-    } else {
-        &[]
-    }
-}
-
-fn stacks_are(rt: &impl Abort, position: &Position, rows: &[&[u8]]) {
-    assert_same(rt, &rows_in(position), &rows.len());
-    for (row, stack) in rows.iter().enumerate() {
-        assert_same_at(rt, &stack_of(position, row), stack, &row);
-    }
-}
-
-fn targets_are(rt: &impl Abort, position: &Position, rows: &[u8]) {
-    assert_same(rt, &position.targets().as_slice(), &rows);
-}
-
-/// The position that a path leads to.
-fn along(rt: &impl Abort, start: Position, path: &[u8]) -> Position {
-    let mut position = start;
-    for row in path {
-        position = child_of(&position, *row).expect(rt, "a legal row");
-    }
-    position
-}
-
-/// Where a path of the six containers leads to, and a row that is not legal there.
-#[derive(Clone, Copy)]
-struct Stop<'a> {
-    path: &'a [u8],
-    stacks: &'a [&'a [u8]],
-    targets: &'a [u8],
-    next: u8,
-    is_done: bool,
-    no_target: u8,
-}
-
-const SIX_CONTAINERS: &[&[u8]] = &[&[1, 5, 4], &[6], &[3, 2]];
-
-fn assert_stop(rt: &(impl Abort + AllocGlobal), stop: &Stop) -> Result<(), Fail> {
-    let position = along(rt, start_of(rt.alloc(), 3, SIX_CONTAINERS)?, stop.path);
-    stacks_are(rt, &position, stop.stacks);
-    targets_are(rt, &position, stop.targets);
-    assert_same_at(rt, &next_of(&position), &stop.next, &stop.path);
-    assert_same_at(rt, &is_done(&position), &stop.is_done, &stop.path);
-    assert!(rt; child_of(&position, stop.no_target).is_none());
-    Ok(())
-}
-
-#[test]
-fn six_containers_three_relocations(rt: HostRuntime) -> Result<(), Fail> {
-    let stops = [
-        Stop {
-            path: &[],
-            stacks: SIX_CONTAINERS,
-            targets: &[2, 3],
-            next: 1,
-            is_done: false,
-            no_target: 1,
-        },
-        Stop {
-            path: &[2],
-            stacks: &[&[1, 5], &[6, 4], &[3, 2]],
-            targets: &[2, 3],
-            next: 1,
-            is_done: false,
-            no_target: 1,
-        },
-        Stop {
-            path: &[2, 2],
-            stacks: &[&[], &[6, 4, 5], &[]],
-            targets: &[1, 3],
-            next: 4,
-            is_done: false,
-            no_target: 2,
-        },
-        Stop {
-            path: &[2, 2, 1],
-            stacks: &[&[], &[], &[]],
-            targets: &[],
-            next: 7,
-            is_done: true,
-            no_target: 2,
-        },
-    ];
-    for stop in &stops {
-        assert_stop(&rt, stop)?;
-    }
-    Ok(())
-}
-
-/// Whether the row has room, and whether it is legal to relocate to it.
-fn assert_row(rt: &impl Abort, start: &Position, row: u8, there: bool) {
-    assert_same_at(rt, &fits(start, row), &there, &row);
-    assert_same_at(rt, &child_of(start, row).is_some(), &there, &row);
-}
-
-#[test]
-fn rows_of_six_containers(rt: HostRuntime) -> Result<(), Fail> {
-    let start = start_of(rt.alloc(), 3, SIX_CONTAINERS)?;
-    for (row, there) in [(0, false), (1, false), (2, true), (3, true), (4, false)] {
-        assert_row(&rt, &start, row, there);
-    }
-    Ok(())
-}
-
-#[test]
-fn height_of_six_containers(rt: HostRuntime) -> Result<(), Fail> {
-    let start = start_of(rt.alloc(), 3, SIX_CONTAINERS)?;
-    assert_same(&rt, &ordered_of(&start), &6);
-    assert_same(&rt, &height_of(&start, 2), &Some(3));
-    Ok(())
-}
-
-#[test]
-fn nothing_to_relocate(rt: HostRuntime) -> Result<(), Fail> {
-    let in_order = start_of(rt.alloc(), 2, &[&[2, 1], &[]])?;
-    assert!(rt; is_done(&in_order));
-    targets_are(&rt, &in_order, &[]);
-    let empty = start_of(rt.alloc(), 1, &[&[]])?;
-    assert!(rt; is_done(&empty));
-    assert_same(&rt, &next_of(&empty), &1);
-    Ok(())
-}
-
-#[test]
-fn dead_ends(rt: HostRuntime) -> Result<(), Fail> {
-    let one_row = start_of(rt.alloc(), 3, &[&[1, 2]])?;
-    let full_rows = start_of(rt.alloc(), 2, &[&[1, 2], &[3, 4]])?;
-    for position in [&one_row, &full_rows] {
-        assert!(rt; !is_done(position));
-        targets_are(&rt, position, &[]);
-    }
-    Ok(())
-}
-
-// Pushes and pops in many orders, against `child`.
-
-/// The numbers of a fixed source.
-#[derive(Drop)]
-struct Numbers {
-    last: u32,
-}
-
-impl Numbers {
-    /// A number from 0 to 15.
-    fn next(&mut self) -> u8 {
-        self.last = self
-            .last
-            .wrapping_mul(1_664_525)
-            .wrapping_add(1_013_904_223);
-        ((self.last >> 16) % 16) as u8
-    }
 }
 
 fn push_to(position: &mut Position, row: u8) -> bool {
@@ -226,65 +117,82 @@ fn pop_off(position: &mut Position) -> bool {
     position.pop()
 }
 
-fn are_same(a: &Position, b: &Position) -> bool {
-    if next_of(a) != next_of(b) || rows_in(a) != rows_in(b) {
-        return false;
-    }
-    for row in 0..rows_in(a) {
-        if stack_of(a, row) != stack_of(b, row) {
-            return false;
-        }
-    }
-    a.targets().as_slice() == b.targets().as_slice()
+fn fits(position: &Position, row: u8) -> bool {
+    position.fits(row)
 }
 
-/// Pushes to the row, and says whether that is legal.
-fn push_as_child(rt: &impl Abort, position: &mut Position, row: u8) -> bool {
-    match child_of(position, row) {
-        Some(child) => {
-            assert_at(rt, push_to(position, row), &row);
-            assert_at(rt, are_same(position, &child), &row);
-            true
-        }
-        None => {
-            assert_at(rt, !push_to(position, row), &row);
-            false
-        }
+/// How many rows there are, how many containers are to leave, the next one, and whether all have left.
+fn numbers_of(position: &Position) -> ((usize, u8), (u8, bool)) {
+    let rows = position.rows() as usize;
+    let ordered = position.ordered();
+    let next = position.next();
+    let is_done = position.is_done();
+    ((rows, ordered), (next, is_done))
+}
+
+/// The height and the stack of a row, from 0; none where there is no such row.
+fn row_of(position: &Position, row: usize) -> Option<(u8, &[u8])> {
+    if row < position.rows() as usize {
+        let row = row as u8 + 1;
+        Some((position.height(row), position.stack(row)))
+    } else {
+        None
     }
 }
 
-/// So many steps from the start: where the number is below `pops` a pop, else a push to the row of the number, legal or not.
-fn assert_steps(
-    rt: &(impl Abort + AllocGlobal),
-    rows: &[&[u8]],
-    steps: u32,
-    pops: u8,
-) -> Result<(), Fail> {
-    let mut numbers = Numbers {
-        last: u32::from(pops),
-    };
-    let mut position = start_of(rt.alloc(), 4, rows)?;
-    let mut path = Vec::new(rt.alloc());
-    for _ in 0..steps {
-        let number = numbers.next();
-        if number < pops {
-            assert_same(rt, &pop_off(&mut position), &path.pop().is_some());
-        } else if push_as_child(rt, &mut position, number - pops) {
-            path.push(number - pops)?;
-        }
-        let again = along(rt, start_of(rt.alloc(), 4, rows)?, path.as_slice());
-        assert_at(rt, are_same(&position, &again), &path);
+/// The position is the one of the stop.
+fn stands(rt: &impl Abort, position: &Position, stop: &Stop) {
+    let size = (stop.stacks.len(), stop.bay.ordered);
+    let numbers = (size, (stop.next, stop.is_done));
+    assert_same_at(rt, &numbers_of(position), &numbers, &stop.path);
+    assert_same(rt, &position.targets().as_slice(), &stop.targets);
+    for (row, stack) in stop.stacks.iter().enumerate() {
+        let wanted = Some((stop.bay.tiers, *stack));
+        assert_same_at(rt, &row_of(position, row), &wanted, &stop.path);
+    }
+    for row in 0..6u8 {
+        let is_legal = stop.targets.contains(&row);
+        assert_same_at(rt, &child_of(position, row).is_some(), &is_legal, &row);
+        let has_room = stop.with_room.contains(&row);
+        assert_same_at(rt, &fits(position, row), &has_room, &row);
+    }
+}
+
+/// A new position for each row of the path, and one position that is pushed along it, stand at the stop.
+fn assert_stop(rt: &(impl Abort + AllocGlobal), stop: &Stop) -> Result<(), Fail> {
+    let mut pushed = start_of(rt.alloc(), &stop.bay)?;
+    let mut position = start_of(rt.alloc(), &stop.bay)?;
+    for row in stop.path {
+        assert_at(rt, push_to(&mut pushed, *row), row);
+        position = child_of(&position, *row).expect(rt, "a legal row");
+    }
+    stands(rt, &pushed, stop);
+    stands(rt, &position, stop);
+    Ok(())
+}
+
+#[test]
+fn positions_at_paths(rt: HostRuntime) -> Result<(), Fail> {
+    for stop in &STOPS {
+        assert_stop(&rt, stop)?;
     }
     Ok(())
 }
 
-const TEN_CONTAINERS: &[&[u8]] = &[&[3, 1, 9], &[7, 2, 10], &[5, 4], &[], &[8, 6]];
-
+/// One position stands at a stop again once what was pushed after it is popped; a push to a row that is not legal leaves it there.
 #[test]
 fn pushes_and_pops(rt: HostRuntime) -> Result<(), Fail> {
-    for pops in 0..10 {
-        assert_steps(&rt, SIX_CONTAINERS, 200, pops)?;
-        assert_steps(&rt, TEN_CONTAINERS, 400, pops)?;
+    let mut position = start_of(rt.alloc(), &SIX)?;
+    assert!(rt; !pop_off(&mut position));
+    for row in [2, 2, 1] {
+        assert_at(&rt, push_to(&mut position, row), &row);
     }
+    assert!(rt; !push_to(&mut position, 2));
+    for stop in [SECOND, FIRST, START] {
+        assert_at(&rt, pop_off(&mut position), &stop.path);
+        assert!(rt; !push_to(&mut position, 4));
+        stands(&rt, &position, &stop);
+    }
+    assert!(rt; !pop_off(&mut position));
     Ok(())
 }

@@ -1,8 +1,11 @@
-//! Tests of the crates that search a bay, a module for each crate: what their contracts leave open, and worked examples.
+//! Tests of the crates that search a bay, a module for each crate: what their contracts leave open and no command shows, and worked
+//! examples of it.
 #![tactic(auto)]
 
 #[cfg(test)]
 mod bay;
+#[cfg(test)]
+mod bays;
 #[cfg(test)]
 mod bounds;
 #[cfg(test)]
@@ -16,10 +19,6 @@ mod plan;
 #[cfg(test)]
 mod pool;
 #[cfg(test)]
-mod search;
-#[cfg(test)]
 mod solve;
 #[cfg(test)]
 mod steps;
-#[cfg(test)]
-mod tree;

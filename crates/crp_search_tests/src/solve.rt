@@ -1,7 +1,5 @@
-mod bays;
-mod firsts;
+mod answers;
 mod in_world;
-mod settings;
 mod shown;
 mod solving;
 mod stepping;

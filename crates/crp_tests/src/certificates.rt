@@ -1,17 +1,17 @@
-//! Certificates that are checked, and those that are made.
-use crate::calls::{check, exit_of};
-use crate::compare::{assert_at, assert_same, assert_same_at};
+//! Checks of certificates that are cut or changed, or whose source fails.
+use crate::calls::check;
+use crate::compare::{assert_at, assert_same_at};
 use crate::devices::Slow;
 use crp_cert::CertFault;
 use crp_checker::Refused;
 use crp_commands::ToolFault;
 use crp_plan::Received;
 use crp_report::Status;
-use std::alloc::{AllocError, Global};
+use std::alloc::Global;
 use std::process::Abort;
 use std::test::Fail;
 
-pub(crate) const SIX_CONTAINERS: &[u8] =
+const SIX_CONTAINERS: &[u8] =
     b"CRP-CERT 1\nbay A 1\nsize 3 3 6 6\nrow 1 5 4\nrow 6\nrow 3 2\nat least 3\nplan 2 2 1\npart /: XLB\nend 1\n";
 
 // Where the block of this certificate's bay stands, and where its part line and its last line begin.
@@ -22,182 +22,10 @@ const PART_LINE: usize = 78;
 const END_LINE: usize = 90;
 
 // What `check` writes, or its fault after what it wrote.
-pub(crate) fn checked(alloc: Global, mut text: &[u8]) -> (Vec<u8>, Result<Status, ToolFault>) {
+fn checked(alloc: Global, mut text: &[u8]) -> (Vec<u8>, Result<Status, ToolFault>) {
     let mut sink = Received::new(alloc);
     let answer = check(alloc, &mut text, &mut sink);
     (sink.bytes, answer)
-}
-
-// Certificates, and what is written of them.
-const ACCEPTED: [(&[u8], &[u8]); 8] = [
-    (SIX_CONTAINERS, b"bay A 1: optimal 3\n"),
-    (
-        b"CRP-CERT 1\nbay A 1\nsize 3 3 6 6\nrow 1 5 4\nrow 6\nrow 3 2\nat least 3\nplan 2 2 1\npart /: XLL\nend 1\n",
-        b"bay A 1: optimal 3\n",
-    ),
-    (
-        b"CRP-CERT 1\nbay A 1\nsize 3 3 6 6\nrow 1 5 4\nrow 6\nrow 3 2\nat least 3\nplan 2 2 1\npart /: XXBBB\nend 1\n",
-        b"bay A 1: optimal 3\n",
-    ),
-    (
-        b"CRP-CERT 1\nbay A 1\nsize 3 3 6 6\nrow 1 5 4\nrow 6\nrow 3 2\nat least 2\nplan 2 2 1\npart /: B\nend 1\n",
-        b"bay A 1: at least 2, plan of 3\n",
-    ),
-    (
-        b"CRP-CERT 1\nbay A 1\nsize 3 3 6 6\nrow 1 5 4\nrow 6\nrow 3 2\nat least 2\nplan 2 2 1\npart /: L\nend 1\n",
-        b"bay A 1: at least 2, plan of 3\n",
-    ),
-    (
-        b"CRP-CERT 1\nbay A 1\nsize 3 3 6 6\nrow 1 5 4\nrow 6\nrow 3 2\nat least 2\nplan -\npart /: B\nend 1\n",
-        b"bay A 1: at least 2\n",
-    ),
-    (
-        b"CRP-CERT 1\n\
-            bay A 1\n\
-            size 1 3 2 2\n\
-            row 1 2\n\
-            at least 5\n\
-            plan -\n\
-            part /: X\n\
-            end 1\n\
-            CRP-CERT 1\n\
-            bay B 20\n\
-            size 2 2 4 4\n\
-            row 1 2\n\
-            row 3 4\n\
-            at least 5\n\
-            plan -\n\
-            part /: X\n\
-            end 1\n",
-        b"bay A 1: no plan\nbay B 20: no plan\n",
-    ),
-    (b"", b""),
-];
-
-// The certificates are accepted, and these lines are written of them.
-pub(crate) fn assert_accepted(rt: &(impl Abort + AllocGlobal), text: &[u8], lines: &[u8]) {
-    let (written, answer) = checked(rt.alloc(), text);
-    assert_same_at(rt, &answer, &Ok(Status::Decided), &text);
-    assert_same_at(rt, &written.as_slice(), &lines, &text);
-}
-
-#[test]
-fn certificates_that_are_accepted(rt: HostRuntime) {
-    for (text, lines) in ACCEPTED {
-        assert_accepted(&rt, text, lines);
-    }
-}
-
-// The first six containers with these lines for the claim, the plan and the parts.
-fn with_lines(alloc: Global, lines: &[u8]) -> Result<Vec<u8>, Fail> {
-    let mut text = Vec::new(alloc);
-    text.extend_from_slice(&SIX_CONTAINERS[..56])?;
-    text.extend_from_slice(lines)?;
-    Ok(text)
-}
-
-// Lines for the claim, the plan and the parts of the six containers, and the line of the fault.
-const REFUSED: [(&[u8], &str); 12] = [
-    (
-        b"at least 3\nplan 2 2 1\npart /: XBL\nend 1\n",
-        "certificate 1: K3 at part / symbol 2",
-    ),
-    (
-        b"at least 3\nplan 2 2 1\npart /: XL\nend 1\n",
-        "certificate 1: C9 at line 9",
-    ),
-    (
-        b"at least 3\nplan 2 2 1\npart /: XLBB\nend 1\n",
-        "certificate 1: C10 at line 9",
-    ),
-    (
-        b"at least 3\nplan 2 2 1\npart /: G\nend 1\n",
-        "certificate 1: C8 at line 9",
-    ),
-    (
-        b"at least 4\nplan 2 2 1\npart /: XLB\nend 1\n",
-        "certificate 1: K3 at part / symbol 2",
-    ),
-    (
-        b"at least 14\nplan 2 2 1\npart /: XLB\nend 1\n",
-        "certificate 1: C4 at line 7",
-    ),
-    (
-        b"at least 3\nplan 2 2 1\npart /: XLB\n",
-        "certificate 1: C11 at line 10",
-    ),
-    (
-        b"at least 3\nplan 2 2 1\npart /: XLB\nend 2\n",
-        "certificate 1: C11 at line 10",
-    ),
-    (
-        b"at least 3\nplan 2 1 3\npart /: XLB\nend 1\n",
-        "certificate 1: K2 (Q2 at step 2)",
-    ),
-    (b"at least 3\nplan 2 2 1\nend 0\n", "certificate 1: K5 at /"),
-    (
-        b"at least 3\nplan 2 2 1\npart /: XLB\npart 3.2: B\nend 2\n",
-        "certificate 1: K6 at 3.2",
-    ),
-    (
-        b"at least 3\nplan 2 2 1\npart /: XLB\nend 1\nmore",
-        "certificate 2: C1 at line 1",
-    ),
-];
-
-const X_AT_THE_END: &[u8] =
-    b"CRP-CERT 1\nbay A 1\nsize 2 2 2 2\nrow 2 1\nrow\nat least 0\nplan\npart /: X\nend 1\n";
-
-// The exit status of `check`.
-fn exit_after(alloc: Global, text: &[u8]) -> u8 {
-    let (_, answer) = checked(alloc, text);
-    exit_of(&answer)
-}
-
-// The line of the fault of `check`; nothing where there is none.
-fn fault_line(alloc: Global, text: &[u8]) -> Result<String, AllocError> {
-    let (_, answer) = checked(alloc, text);
-    match answer {
-        Err(fault) => format!(in alloc; "{fault}"),
-        Ok(_) => Ok(String::new(alloc)),
-    }
-}
-
-// The certificates are refused with a fault of this line.
-pub(crate) fn assert_refused(
-    rt: &(impl Abort + AllocGlobal),
-    text: &[u8],
-    line: &str,
-) -> Result<(), AllocError> {
-    assert_same_at(rt, &exit_after(rt.alloc(), text), &6, &text);
-    let found = fault_line(rt.alloc(), text)?;
-    assert_same_at(rt, &found.as_str(), &line, &text);
-    Ok(())
-}
-
-#[test]
-fn certificates_that_are_refused(rt: HostRuntime) -> Result<(), Fail> {
-    for (lines, line) in REFUSED {
-        let text = with_lines(rt.alloc(), lines)?;
-        assert_refused(&rt, &text, line)?;
-    }
-    assert_refused(&rt, X_AT_THE_END, "certificate 1: K4 at part / symbol 1")?;
-    Ok(())
-}
-
-// What `check` writes.
-pub(crate) fn lines_of(alloc: Global, text: &[u8]) -> Vec<u8> {
-    let (written, _) = checked(alloc, text);
-    written
-}
-
-#[test]
-fn a_refusal_comes_after_the_lines_before_it(rt: HostRuntime) -> Result<(), Fail> {
-    let text = some_certificates(rt.alloc(), 1, END_LINE)?;
-    let lines = lines_of(rt.alloc(), &text);
-    assert_same(&rt, &lines.as_slice(), &b"bay A 1: optimal 3\n".as_slice());
-    assert_refused(&rt, &text, "certificate 2: C11 at line 10")?;
-    Ok(())
 }
 
 // What `check` writes where its source fails after these bytes, and its answer.
@@ -302,13 +130,6 @@ fn a_certificate_that_is_cut(rt: HostRuntime) {
     for length in 1..SIX_CONTAINERS.len() {
         assert_cut(&rt, &SIX_CONTAINERS[..length]);
     }
-}
-
-#[test]
-fn a_plan_fault_is_stated_by_its_step(rt: HostRuntime) -> Result<(), Fail> {
-    let text = with_lines(rt.alloc(), b"at least 3\nplan 2 4\npart /: XLB\nend 1\n")?;
-    assert_refused(&rt, &text, "certificate 1: K2 (Q1 at step 2)")?;
-    Ok(())
 }
 
 // The fault of the certificate with another byte at this place of its last two lines.

@@ -2,7 +2,7 @@
 use crate::calls::run;
 use crate::compare::assert_same;
 use crate::devices::{Slow, Small};
-use crate::reports::{Choice, SIX_CONTAINERS, SIX_ORDERS, message, settings_of};
+use crate::six::{Choice, SIX_CONTAINERS, SIX_ORDERS, message, settings_of};
 use crp_order::Mode;
 use crp_plan::{Nowhere, Plan, Problem, Received};
 use crp_report::{Fault, Input, Output, Status, print_moves};

@@ -2,7 +2,7 @@
 use crate::calls::{exit_of, run};
 use crate::compare::assert_same;
 use crate::devices::{Busy, Endless, Slow};
-use crate::reports::{Choice, SIX_CONTAINERS, SIX_ORDERS, message, settings_of};
+use crate::six::{Choice, SIX_CONTAINERS, SIX_ORDERS, message, settings_of};
 use crp_commands::ToolFault;
 use crp_order::Mode;
 use crp_plan::{Plan, Problem, Source};

@@ -1,7 +1,10 @@
 //! A yard of many bays, solved over files by one worker and by several.
 use crate::compare::{assert_at, assert_same};
-use crate::files::run_words;
-use crate::reports::HEADER;
+use crate::six::HEADER;
+use crp_commands::{SystemFiles, ToolFault, run_job};
+use crp_plan::{Counted, Received};
+use crp_report::Status;
+use crp_words::job;
 use std::alloc::{AllocError, Global};
 use std::fs;
 use std::sync::Wait;
@@ -81,6 +84,29 @@ fn bay_lines(alloc: Global, report: &[u8]) -> Result<Vec<u8>, AllocError> {
         }
     }
     Ok(lines)
+}
+
+// Does what the words ask for, and gives how it ended and what was reported.
+pub(crate) fn run_words<T: Threads + Wait + Sync>(
+    rt: &HostRuntime,
+    threads: &T,
+    words: &[&str],
+) -> Result<(Result<Status, ToolFault>, Vec<u8>), Fail> {
+    let mut out = Received::new(rt.alloc());
+    match job(rt.alloc(), words) {
+        Ok(job) => {
+            let answer = run_job(
+                threads,
+                rt.alloc(),
+                &mut SystemFiles::new(rt),
+                &mut Counted::new(rt.stdin()),
+                &mut out,
+                &job,
+            );
+            Ok((answer, out.bytes))
+        }
+        Err(_) => Err(Fail::from("the words ask for nothing")),
+    }
 }
 
 // Solves the yard over the files, and gives the lines of its bays, and what `check` writes of its certificates.

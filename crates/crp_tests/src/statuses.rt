@@ -1,54 +1,20 @@
-//! Faults of the program: their lines, and exit statuses.
+//! Faults that no command shows: their lines, and exit statuses.
 use crate::calls::exit_of;
 use crate::compare::{assert_same, assert_same_at};
-use crp_cert::CertFault;
 use crp_commands::ToolFault;
-use crp_plan::PlanFault;
-use crp_report::{Fault, Input, Output, Status};
+use crp_report::{Fault, Output, Status};
 use std::alloc::AllocError;
 use std::process::Abort;
 use std::test::Fail;
 
 // Faults, each with its exit status and its line.
-const FAULTS: [(ToolFault, u8, &str); 13] = [
-    (
-        ToolFault::Cert(CertFault::Plan { line: 8 }),
-        6,
-        "C5 at line 8",
-    ),
-    (
-        ToolFault::Plan(PlanFault::NotLegal { step: 2 }),
-        6,
-        "Q2 at step 2",
-    ),
-    (ToolFault::Plan(PlanFault::Incomplete), 6, "Q4"),
-    (
-        ToolFault::Run(Fault::Read(Input::Yard)),
-        5,
-        "a read of the yard list failed",
-    ),
-    (
-        ToolFault::Run(Fault::Read(Input::Movins)),
-        5,
-        "a read of the message failed",
-    ),
+const FAULTS: [(ToolFault, u8, &str); 5] = [
     (
         ToolFault::Run(Fault::Write(Output::Report)),
         5,
         "a write of the report failed",
     ),
-    (
-        ToolFault::Run(Fault::Write(Output::Certificates)),
-        5,
-        "a write of the certificates failed",
-    ),
-    (
-        ToolFault::Run(Fault::Write(Output::YardAfter)),
-        5,
-        "a write of the yard after the plans failed",
-    ),
     (ToolFault::Run(Fault::Memory), 4, "no memory is left"),
-    (ToolFault::Read, 5, "a read failed"),
     (ToolFault::Write, 5, "a write failed"),
     (ToolFault::TooLarge, 3, "the input is too large"),
     (ToolFault::Memory, 4, "no memory is left"),
@@ -69,14 +35,7 @@ fn assert_fault(
 
 #[test]
 fn exit_statuses_and_fault_lines(rt: HostRuntime) -> Result<(), Fail> {
-    let ended = [
-        (Status::Decided, 0),
-        (Status::Budget, 1),
-        (Status::Memory, 4),
-    ];
-    for (status, exit) in ended {
-        assert_same_at(&rt, &exit_of(&Ok(status)), &exit, &status);
-    }
+    assert_same(&rt, &exit_of(&Ok(Status::Memory)), &4);
     for (fault, status, line) in FAULTS {
         assert_fault(&rt, fault, status, line)?;
     }

@@ -2,7 +2,7 @@
 use crate::calls::run;
 use crate::compare::assert_same_at;
 use crate::devices::{Slow, Small};
-use crate::reports::{
+use crate::six::{
     Choice, HEADER, SIX_ANSWERED, SIX_CERTIFIED, SIX_CONTAINERS, SIX_ORDERS, Texts, message,
     settings_of,
 };

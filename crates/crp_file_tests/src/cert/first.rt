@@ -1,32 +1,18 @@
-//! Certificates that claim the first best plan, as they are read and written.
-use super::heads::{assert_refused, changed};
+//! Certificates that claim the first best plan: how they are read, and go to a sink.
 use super::writing::{bay_a, branched_twice, make_small};
 use super::{Said, assert_head};
-use crate::calls::{first_text, read_cert, write_first};
+use crate::calls::{read_cert, write_first};
 use crate::compare::assert_same;
-use crp_cert::{CertFault, Claim, Version, WriteFault};
+use crp_cert::{Claim, Version, WriteFault};
 use crp_plan::{Plan, Problem, Received, Sink};
 use crp_tree::Cert;
-use std::alloc::{AllocError, Global};
+use std::alloc::Global;
 use std::process::Abort;
 use std::test::Fail;
 
 /// Four containers in three rows, with the first of their best plans.
 const FIRST: &[u8] = b"CRP-CERT 2\nbay A 1\nsize 3 3 4 4\nheights 3 3 3\nrow 1 4\nrow 2\nrow 3\n\
 first 2\nplan 2 1\npart /: XXBBB\nend 1\n";
-
-/// Its head.
-const HEAD: [&[u8]; 9] = [
-    b"CRP-CERT 2",
-    b"bay A 1",
-    b"size 3 3 4 4",
-    b"heights 3 3 3",
-    b"row 1 4",
-    b"row 2",
-    b"row 3",
-    b"first 2",
-    b"plan 2 1",
-];
 
 /// What it says.
 const SAID: Said<'static> = Said {
@@ -47,56 +33,12 @@ fn a_claim_of_the_first_plan_is_read(rt: HostRuntime) -> Result<(), Fail> {
     Ok(())
 }
 
-/// The head with this line in place of its own is refused with this fault, or is read.
-fn assert_changed(
-    rt: &(impl Abort + AllocGlobal),
-    number: usize,
-    other: &[u8],
-    fault: Option<CertFault>,
-) -> Result<(), AllocError> {
-    let text = changed(rt.alloc(), &HEAD, number, other)?;
-    assert_refused(rt, &text, fault);
-    Ok(())
-}
-
-#[test]
-fn claims_of_the_first_plan(rt: HostRuntime) -> Result<(), Fail> {
-    let lines: [(&[u8], bool); 11] = [
-        (b"first 0", true),
-        (b"first 9", true),
-        (b"first 10", false),
-        (b"first", false),
-        (b"first ", false),
-        (b"first 02", false),
-        (b"first 2 ", false),
-        (b"first  2", false),
-        (b"first at least 2", false),
-        (b"First 2", false),
-        (b"fist 2", false),
-    ];
-    for (line, read) in lines {
-        let fault = if read {
-            None
-        } else {
-            Some(CertFault::Claim { line: 8 })
-        };
-        assert_changed(&rt, 8, line, fault)?;
-    }
-    Ok(())
-}
-
 /// The plan of the rows 2 and 1.
 fn first_plan(rt: &impl Abort, problem: &Problem) -> Plan {
     Plan::from_rows(problem, &[2, 1]).expect(rt, "a plan")
 }
 
-/// The text in bay A 1 that claims the rows 2 and 1 to be the first best plan.
-fn text_of(rt: &impl Abort, alloc: Global, case: &(Problem, Cert)) -> Result<Vec<u8>, AllocError> {
-    let plan = first_plan(rt, &case.0);
-    first_text(alloc, &bay_a(rt), &case.0, &case.1, &plan)
-}
-
-/// Writes that text.
+/// Writes the text in bay A 1 that claims the rows 2 and 1 to be the first best plan.
 fn write<W: Sink>(
     rt: &impl Abort,
     alloc: Global,
@@ -105,13 +47,6 @@ fn write<W: Sink>(
 ) -> Result<(), WriteFault> {
     let plan = first_plan(rt, &case.0);
     write_first(alloc, sink, &bay_a(rt), &case.0, &case.1, &plan)
-}
-
-#[test]
-fn a_claim_of_the_first_plan_is_written(rt: HostRuntime) -> Result<(), Fail> {
-    let text = text_of(&rt, rt.alloc(), &branched_twice(&rt, rt.alloc())?)?;
-    assert_same(&rt, &text.as_slice(), &FIRST);
-    Ok(())
 }
 
 #[test]

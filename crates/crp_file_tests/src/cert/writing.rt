@@ -1,14 +1,14 @@
-//! Certificates as they are written.
+//! Certificates that go to a sink.
 ghost use Rattle.std.specs.Prelude.{◌≡◌, [], Some};
 ghost use Rattle.crp_plan.specs.Bay.{IsProblem, start, cap};
 ghost use Rattle.crp_plan.specs.Faults.{stacks_of, stated};
 ghost use Rattle.crp_bay.specs.Positions.{settled};
 ghost use Rattle.crp_tree.specs.Trees.{nodes, HasShape, least_value};
 
-use crate::calls::{cert_text, write_cert};
+use crate::calls::write_cert;
 use crate::compare::assert_same;
 use crp_cert::WriteFault;
-use crp_plan::{BayName, Failure, Plan, Problem, Received, Sink};
+use crp_plan::{BayName, Failure, Problem, Received, Sink};
 use crp_tree::{Cert, Name, Part, Tree};
 use std::alloc::{AllocError, Global};
 use std::process::Abort;
@@ -23,12 +23,7 @@ fn problem_of(rt: &impl Abort, tiers: u8, ordered: u8, stacks: &[Vec<u8>]) -> Pr
 }
 
 /// The certificate of one tree at the empty path, which shows this floor.
-pub(super) fn whole(
-    alloc: Global,
-    problem: &Problem,
-    tree: Tree,
-    floor: u32,
-) -> Result<Cert, AllocError>
+fn whole(alloc: Global, problem: &Problem, tree: Tree, floor: u32) -> Result<Cert, AllocError>
     requires problem { IsProblem problem.now }
     requires shape { HasShape [] (settled (start problem.now)) tree }
     requires floor { floor ≡ least_value (cap problem.now) (nodes [] (settled (start problem.now)) tree) }
@@ -36,44 +31,7 @@ pub(super) fn whole(
     Cert::whole(alloc, Part::new(problem, Name::root(), tree, floor))
 }
 
-/// Six containers in three rows, cut below the two legal rows: three relocations at least.
-fn branched(rt: &impl Abort, alloc: Global) -> Result<(Problem, Cert), AllocError> {
-    let stacks = [
-        vec![in alloc; 1, 5, 4]?,
-        vec![in alloc; 6]?,
-        vec![in alloc; 3, 2]?,
-    ];
-    let problem = problem_of(rt, 3, 6, &stacks);
-    let trees = vec![in alloc; Tree::CutL, Tree::CutB]?;
-    let cert = whole(alloc, &problem, Tree::Branch(trees), 3)?;
-    Ok((problem, cert))
-}
-
-/// The same bay, cut at once by the blocking bound: two relocations at least.
-fn cut_at_once(rt: &impl Abort, alloc: Global) -> Result<(Problem, Cert), AllocError> {
-    let stacks = [
-        vec![in alloc; 1, 5, 4]?,
-        vec![in alloc; 6]?,
-        vec![in alloc; 3, 2]?,
-    ];
-    let problem = problem_of(rt, 3, 6, &stacks);
-    let cert = whole(alloc, &problem, Tree::CutB, 2)?;
-    Ok((problem, cert))
-}
-
-/// Four containers in three rows, cut by the look-ahead bound: two relocations at least.
-pub(super) fn cut_ahead(rt: &impl Abort, alloc: Global) -> Result<(Problem, Cert), AllocError> {
-    let stacks = [
-        vec![in alloc; 1, 4]?,
-        vec![in alloc; 2]?,
-        vec![in alloc; 3]?,
-    ];
-    let problem = problem_of(rt, 3, 4, &stacks);
-    let cert = whole(alloc, &problem, Tree::CutL, 2)?;
-    Ok((problem, cert))
-}
-
-/// The same bay, branched at the empty path and below row 2: two relocations at least.
+/// Four containers in three rows, branched at the empty path and below row 2: two relocations at least.
 pub(super) fn branched_twice(
     rt: &impl Abort,
     alloc: Global,
@@ -98,98 +56,12 @@ fn dead_end(rt: &impl Abort, alloc: Global) -> Result<(Problem, Cert), AllocErro
     Ok((problem, cert))
 }
 
-/// Two containers that leave from the top.
-fn nothing_buried(rt: &impl Abort, alloc: Global) -> Result<(Problem, Cert), AllocError> {
-    let stacks = [vec![in alloc; 2, 1]?, Vec::new(alloc)];
-    let problem = problem_of(rt, 2, 2, &stacks);
-    let cert = whole(alloc, &problem, Tree::CutB, 0)?;
-    Ok((problem, cert))
-}
-
 pub(super) fn bay_a(rt: &impl Abort) -> BayName {
     BayName::new(b"A", 1).expect(rt, "a name")
 }
 
-/// The text of a certificate in bay A 1, with the plan of these rows or none.
-fn text_of(
-    rt: &impl Abort,
-    alloc: Global,
-    case: &(Problem, Cert),
-    rows: Option<&[u8]>,
-) -> Result<Vec<u8>, AllocError> {
-    let (problem, cert) = case;
-    let bay = bay_a(rt);
-    match rows {
-        Some(rows) => {
-            let plan = Plan::from_rows(problem, rows).expect(rt, "a plan");
-            cert_text(alloc, &bay, problem, cert, Some(&plan))
-        }
-        None => cert_text(alloc, &bay, problem, cert, None),
-    }
-}
-
-const BRANCHED: &[u8] = b"CRP-CERT 1\nbay A 1\nsize 3 3 6 6\nrow 1 5 4\nrow 6\nrow 3 2\n\
-at least 3\nplan 2 2 1\npart /: XLB\nend 1\n";
-
-const CUT_AT_ONCE: &[u8] = b"CRP-CERT 1\nbay A 1\nsize 3 3 6 6\nrow 1 5 4\nrow 6\nrow 3 2\n\
-at least 2\nplan 2 2 1\npart /: B\nend 1\n";
-
-pub(super) const CUT_AHEAD: &[u8] = b"CRP-CERT 1\nbay A 1\nsize 3 3 4 4\nrow 1 4\nrow 2\nrow 3\n\
-at least 2\nplan 3 1\npart /: L\nend 1\n";
-
 const DEAD_END: &[u8] = b"CRP-CERT 1\nbay A 1\nsize 1 3 2 2\nrow 1 2\n\
 at least 5\nplan -\npart /: X\nend 1\n";
-
-const NOTHING_BURIED: &[u8] = b"CRP-CERT 1\nbay A 1\nsize 2 2 2 2\nrow 2 1\nrow\n\
-at least 0\nplan\npart /: B\nend 1\n";
-
-/// The text of a certificate with the plan of these rows or none is this.
-pub(super) fn assert_text(
-    rt: &impl Abort,
-    alloc: Global,
-    case: &(Problem, Cert),
-    rows: Option<&[u8]>,
-    expected: &[u8],
-) -> Result<(), AllocError> {
-    let text = text_of(rt, alloc, case, rows)?;
-    assert_same(rt, &text.as_slice(), &expected);
-    Ok(())
-}
-
-#[test]
-fn worked_certificates_are_written(rt: HostRuntime) -> Result<(), Fail> {
-    let alloc = rt.alloc();
-    assert_text(
-        &rt,
-        alloc,
-        &branched(&rt, alloc)?,
-        Some(&[2, 2, 1]),
-        BRANCHED,
-    )?;
-    assert_text(
-        &rt,
-        alloc,
-        &cut_at_once(&rt, alloc)?,
-        Some(&[2, 2, 1]),
-        CUT_AT_ONCE,
-    )?;
-    assert_text(
-        &rt,
-        alloc,
-        &cut_ahead(&rt, alloc)?,
-        Some(&[3, 1]),
-        CUT_AHEAD,
-    )?;
-    assert_text(&rt, alloc, &dead_end(&rt, alloc)?, None, DEAD_END)?;
-    assert_text(
-        &rt,
-        alloc,
-        &nothing_buried(&rt, alloc)?,
-        Some(&[]),
-        NOTHING_BURIED,
-    )?;
-    Ok(())
-}
 
 /// Takes a byte a call, as long as it has room, and then fails.
 #[derive(Drop)]
@@ -254,17 +126,6 @@ fn a_full_sink_holds_a_front(rt: HostRuntime) -> Result<(), Fail> {
     assert_same(&rt, &answer, &Err(WriteFault::Failed));
     assert_same(&rt, &sink.bytes.as_slice(), &&DEAD_END[..20]);
     assert_same(&rt, &sink.failed, &1);
-    Ok(())
-}
-
-#[test]
-fn names_of_bays_are_written(rt: HostRuntime) -> Result<(), Fail> {
-    let alloc = rt.alloc();
-    let (problem, cert) = nothing_buried(&rt, alloc)?;
-    let bay = BayName::new(b"~NORTH!0", 9999).expect(&rt, "a name");
-    let text = cert_text(alloc, &bay, &problem, &cert, None)?;
-    let opening = b"CRP-CERT 1\nbay ~NORTH!0 9999\nsize 2 2 2 2\n".as_slice();
-    assert!(rt; text.as_slice().starts_with(opening));
     Ok(())
 }
 

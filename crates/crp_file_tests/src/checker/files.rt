@@ -53,18 +53,7 @@ fn second_refused(
 }
 
 #[test]
-fn files_with_a_refused_certificate(rt: HostRuntime) -> Result<(), Fail> {
-    let cases: [(&str, &str); 4] = [
-        ("CRP-CERT 1\nbay B 1\n", "certificate 2: C2 at line 3"),
-        ("end 1\n", "certificate 2: C1 at line 1"),
-        ("\n", "certificate 2: C1 at line 1"),
-        (
-            "CRP-CERT 1\nbay B 1\nsize 1 1 0 0\nrow\nat least 0\nplan\nend 0\n",
-            "certificate 2: K5 at /",
-        ),
-    ];
-    for (rest, fault) in cases {
-        second_refused(&rt, rest, fault)?;
-    }
+fn a_file_with_a_refused_certificate(rt: HostRuntime) -> Result<(), Fail> {
+    second_refused(&rt, "end 1\n", "certificate 2: C1 at line 1")?;
     Ok(())
 }

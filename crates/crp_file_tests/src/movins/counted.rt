@@ -117,7 +117,7 @@ fn each_byte_changed_is_reported_by_number(rt: HostRuntime) -> Result<(), Fail> 
         for place in 0..example.len() {
             let mut text = Vec::from_slice(rt.alloc(), &example)?;
             text[place] = byte;
-            tally.count(orders_of(rt.alloc(), &text, b"LOA"));
+            tally.count(orders_of(rt.alloc(), &text));
         }
         assert_same_at(&rt, &tally, &wanted, &byte);
     }

@@ -1,10 +1,12 @@
-use super::{fault_of, with_header};
+use super::fault_of;
 use crate::calls::yard_of;
 use crate::compare::{assert_same, assert_same_at};
 use crp_yard::{MAX_BYTES, MAX_CONTAINERS, YardFault};
 use itoa::Buffer;
 use std::alloc::{AllocError, Global};
 use std::test::Fail;
+
+const HEADER: &[u8] = b"block,bay,row,tier,container\n";
 
 fn push_piece(text: &mut Vec<u8>, piece: &[u8]) -> Result<(), AllocError> {
     text.extend_from_slice(piece)
@@ -28,7 +30,7 @@ fn push_record(text: &mut Vec<u8>, number: usize) -> Result<(), AllocError> {
 
 /// So many containers, in bays of eight.
 fn many(alloc: Global, count: usize) -> Result<Vec<u8>, AllocError> {
-    let mut text = with_header(alloc, b"")?;
+    let mut text = Vec::from_slice(alloc, HEADER)?;
     for number in 0..count {
         push_record(&mut text, number)?;
     }
@@ -57,7 +59,7 @@ fn as_many_containers_as_are_read(rt: HostRuntime) -> Result<(), Fail> {
 
 /// A list of this length, without containers: the header, and empty lines behind it.
 fn with_length(alloc: Global, length: usize) -> Result<Vec<u8>, AllocError> {
-    let mut text = with_header(alloc, b"")?;
+    let mut text = Vec::from_slice(alloc, HEADER)?;
     let rest = vec![in alloc; b'\n'; length.saturating_sub(text.len())]?;
     text.extend_from_slice(&rest)?;
     Ok(text)

@@ -1,29 +1,14 @@
 //! What one seat sees of another's offers, and how claims end.
-ghost use Rattle.std.specs.Prelude.{◌≡◌, IfOk};
+ghost use Rattle.std.specs.Prelude.{◌≡◌};
 ghost use Rattle.crp_incumbent.specs.Rule.{all_shares};
 
-use super::bays::{plan_of, six};
+use super::plan_of;
+use crate::bays::{SIX, problem_of};
 use crate::compare::assert_same;
-use crp_incumbent::{Seat, Shared, Why};
-use crp_plan::{Plan, Problem};
-use std::alloc::{AllocError, Global};
+use crp_incumbent::{Seat, Shared};
+use crp_plan::Plan;
 use std::process::Abort;
 use std::test::Fail;
-
-/// The words of a problem, and two seats.
-fn opened(
-    rt: &impl Abort,
-    alloc: Global,
-    problem: &Problem,
-    start: u32,
-) -> Result<(Shared, Seat, Seat), AllocError>
-    ensures problem { IfOk result (λ r. r.0.key.problem ≡ problem.now) }
-    ensures seats { IfOk result (λ r. (r.1.of ≡ r.0) × (r.2.of ≡ r.0)) }
-{
-    let (shared, seat) = Shared::open(alloc, problem, start, 2)?;
-    let (first, second) = split(rt, &shared, seat);
-    Ok((shared, first, second))
-}
 
 /// Splits a seat that can be split.
 fn split(rt: &impl Abort, shared: &Shared, seat: Seat) -> (Seat, Seat)
@@ -33,20 +18,6 @@ fn split(rt: &impl Abort, shared: &Shared, seat: Seat) -> (Seat, Seat)
     match shared.split(seat) {
         Ok(seats) => seats,
         Err(_) => panic!(rt; "a share is left"),
-    }
-}
-
-/// A seat with one share is not split, and comes back.
-fn keeps_its_share(rt: &impl Abort, shared: &Shared, seat: Seat) -> Seat
-    requires { seat.of ≡ shared.now }
-    ensures { result.of ≡ shared.now }
-{
-    match shared.split(seat) {
-        Ok(_) => panic!(rt; "no share is left"),
-        Err(refused) => {
-            assert_same(rt, &refused.why, &Why::NoneLeft);
-            refused.seat
-        }
     }
 }
 
@@ -80,35 +51,23 @@ fn claims(rt: &impl Abort, shared: &Shared, seat: Seat, answer: bool) -> Seat
     seat
 }
 
+/// A plan that is no better leaves the limit.
 #[test]
 fn an_offered_plan_is_seen_by_every_seat(rt: HostRuntime) -> Result<(), Fail> {
-    let problem = six(&rt, rt.alloc())?;
-    let plan = plan_of(&rt, &problem, &[2, 2, 1]);
-    let (shared, a, b) = opened(&rt, rt.alloc(), &problem, 5)?;
-    let b = sees(&rt, &shared, b, 5);
-    let a = offers(&shared, a, &plan);
-    let a = sees(&rt, &shared, a, 3);
-    let b = sees(&rt, &shared, b, 3);
-    let b = keeps_its_share(&rt, &shared, b);
-    let both = shared.join(b, a);
-    sees(&rt, &shared, both, 3);
-    Ok(())
-}
-
-#[test]
-fn a_plan_that_is_no_better_leaves_the_limit(rt: HostRuntime) -> Result<(), Fail> {
-    let problem = six(&rt, rt.alloc())?;
+    let problem = problem_of(rt.alloc(), &SIX)?;
     let longer = plan_of(&rt, &problem, &[2, 3, 2, 1]);
     let plan = plan_of(&rt, &problem, &[2, 2, 1]);
-    let (shared, a, b) = opened(&rt, rt.alloc(), &problem, 5)?;
+    let (shared, seat) = Shared::open(rt.alloc(), &problem, 5, 2)?;
+    let (a, b) = split(&rt, &shared, seat);
+    let b = sees(&rt, &shared, b, 5);
     let a = offers(&shared, a, &longer);
     let b = sees(&rt, &shared, b, 4);
     let b = offers(&shared, b, &plan);
     let a = sees(&rt, &shared, a, 3);
     let a = offers(&shared, a, &longer);
     let b = sees(&rt, &shared, b, 3);
-    sees(&rt, &shared, a, 3);
-    sees(&rt, &shared, b, 3);
+    let both = shared.join(b, a);
+    sees(&rt, &shared, both, 3);
     Ok(())
 }
 
@@ -124,7 +83,7 @@ fn closes(rt: &impl Abort, shared: Shared, seat: Seat, limit: u64, spent: u64)
 
 #[test]
 fn a_seat_that_was_refused_makes_no_step(rt: HostRuntime) -> Result<(), Fail> {
-    let problem = six(&rt, rt.alloc())?;
+    let problem = problem_of(rt.alloc(), &SIX)?;
     let (shared, seat) = Shared::open(rt.alloc(), &problem, 5, 2)?;
     let seat = claims(&rt, &shared, seat, true);
     let seat = claims(&rt, &shared, seat, true);

@@ -2,7 +2,7 @@
 ghost use Rattle.std.specs.Prelude.{◌≡◌};
 ghost use Rattle.crp_incumbent.specs.Rule.{all_shares};
 
-use super::bays::six;
+use crate::bays::{SIX, problem_of};
 use crate::compare::assert_same;
 use crp_incumbent::{Seat, Shared};
 use std::process::Abort;
@@ -86,7 +86,7 @@ fn claims_of_two<R: Threads + Wait + Abort + Sync>(rt: &R, shared: Shared, seat:
 
 #[test]
 fn what_is_spent_are_the_claims_of_two_threads(rt: HostRuntime) -> Result<(), Fail> {
-    let problem = six(&rt, rt.alloc())?;
+    let problem = problem_of(rt.alloc(), &SIX)?;
     for (budget, granted) in [(0, 0), (1, 1), (1500, 1500), (5000, 2000)] {
         let (shared, seat) = Shared::open(rt.alloc(), &problem, 13, budget)?;
         claims_of_two(&rt, shared, seat, granted);

@@ -1,10 +1,11 @@
 //! Devices that fail, and short ones.
 ghost use Rattle.std.specs.Prelude.{Some, None};
 
+use crate::bays::stacks_of;
 use crate::compare::{assert_same, assert_same_at};
 use crp_plan::{
-    Counted, Failure, MOST_INTERRUPTIONS, Nowhere, ReadFault, Received, Sink, Source, WriteFailed,
-    read_all, write_all, write_each,
+    Counted, Failure, MOST_INTERRUPTIONS, Nowhere, ReadFault, Received, Sink, Source, read_all,
+    write_all, write_each,
 };
 use std::alloc::{AllocError, Global};
 use std::process::Abort;
@@ -96,25 +97,6 @@ impl Sink for Small {
     }
 }
 
-fn make_slow(interrupted: u32, fails: bool) -> Slow<'static> {
-    Slow {
-        interrupted,
-        rest: b"abc",
-        fails,
-        failed: 0,
-    }
-}
-
-fn make_small(alloc: Global, room: usize, fails: bool) -> Small {
-    Small {
-        interrupted: 0,
-        bytes: Vec::new(alloc),
-        room,
-        fails,
-        failed: 0,
-    }
-}
-
 // The calls, without clauses: so the tests know nothing of what they promise, and are soon checked.
 
 /// Reads all, where so many interruptions were passed over before. The answer, and the interruptions then.
@@ -130,30 +112,22 @@ fn read<R: Source>(
     (answer, passed)
 }
 
-/// Writes a text, where so many interruptions were passed over before. The answer, and the interruptions then.
+/// Writes a text or several, where so many interruptions were passed over before. Whether all was written, and the interruptions then.
 fn write<W: Sink>(
     rt: &impl Abort,
+    alloc: Global,
     sink: &mut W,
-    text: &[u8],
+    texts: &[&[u8]],
     interruptions: u32,
-) -> (Result<(), WriteFailed>, u32) {
+) -> Result<(bool, u32), AllocError> {
     assert!(rt; interruptions <= MOST_INTERRUPTIONS);
     let mut passed = interruptions;
-    let answer = write_all(sink, text, &mut passed);
-    (answer, passed)
-}
-
-/// The same for several texts.
-fn write_texts<W: Sink>(
-    rt: &impl Abort,
-    sink: &mut W,
-    texts: &[Vec<u8>],
-    interruptions: u32,
-) -> (Result<(), WriteFailed>, u32) {
-    assert!(rt; interruptions <= MOST_INTERRUPTIONS);
-    let mut passed = interruptions;
-    let answer = write_each(sink, texts, &mut passed);
-    (answer, passed)
+    let texts = stacks_of(alloc, texts)?;
+    let answer = match texts.as_slice() {
+        [text] => write_all(sink, text.as_slice(), &mut passed),
+        _ => write_each(sink, &texts, &mut passed),
+    };
+    Ok((answer.is_ok(), passed))
 }
 
 /// A read of all gives this. The interruptions then.
@@ -184,208 +158,172 @@ struct Reading {
     failed: u64,
 }
 
-fn assert_reading(rt: &(impl Abort + AllocGlobal), case: &Reading) {
-    let mut source = make_slow(case.interrupted, case.fails);
-    let passed = assert_read(
-        rt,
-        &mut source,
-        case.limit,
-        case.interruptions,
-        case.expected,
-    );
-    assert_same_at(rt, &passed, &case.passed, &case.interrupted);
-    assert_same_at(rt, &source.failed, &case.failed, &case.interrupted);
-}
+const READINGS: [Reading; 5] = [
+    Reading {
+        interrupted: 1000,
+        fails: false,
+        limit: 3,
+        interruptions: 0,
+        expected: Ok(b"abc"),
+        passed: 1000,
+        failed: 1000,
+    },
+    Reading {
+        interrupted: 1,
+        fails: false,
+        limit: 3,
+        interruptions: 1000,
+        expected: Err(ReadFault::Failed),
+        passed: 1000,
+        failed: 1,
+    },
+    Reading {
+        interrupted: 1001,
+        fails: false,
+        limit: 3,
+        interruptions: 0,
+        expected: Err(ReadFault::Failed),
+        passed: 1000,
+        failed: 1001,
+    },
+    // A failed read, and too many bytes.
+    Reading {
+        interrupted: 2,
+        fails: true,
+        limit: 3,
+        interruptions: 0,
+        expected: Err(ReadFault::Failed),
+        passed: 2,
+        failed: 3,
+    },
+    Reading {
+        interrupted: 0,
+        fails: false,
+        limit: 2,
+        interruptions: 0,
+        expected: Err(ReadFault::TooLarge),
+        passed: 0,
+        failed: 0,
+    },
+];
 
 #[test]
-fn passes_a_thousand_interruptions(rt: HostRuntime) -> Result<(), Fail> {
-    let cases = [
-        Reading {
-            interrupted: 1000,
-            fails: false,
-            limit: 3,
-            interruptions: 0,
-            expected: Ok(b"abc"),
-            passed: 1000,
-            failed: 1000,
-        },
-        Reading {
-            interrupted: 1,
-            fails: false,
-            limit: 3,
-            interruptions: 1000,
-            expected: Err(ReadFault::Failed),
-            passed: 1000,
-            failed: 1,
-        },
-        Reading {
-            interrupted: 1001,
-            fails: false,
-            limit: 3,
-            interruptions: 0,
-            expected: Err(ReadFault::Failed),
-            passed: 1000,
-            failed: 1001,
-        },
-        // A failed read, and too many bytes.
-        Reading {
-            interrupted: 2,
-            fails: true,
-            limit: 3,
-            interruptions: 0,
-            expected: Err(ReadFault::Failed),
-            passed: 2,
-            failed: 3,
-        },
-        Reading {
-            interrupted: 0,
-            fails: false,
-            limit: 2,
-            interruptions: 0,
-            expected: Err(ReadFault::TooLarge),
-            passed: 0,
+fn passes_a_thousand_interruptions(rt: HostRuntime) {
+    for case in &READINGS {
+        let mut source = Slow {
+            interrupted: case.interrupted,
+            rest: b"abc",
+            fails: case.fails,
             failed: 0,
-        },
-    ];
-    for case in &cases {
-        assert_reading(&rt, case);
+        };
+        let passed = assert_read(
+            &rt,
+            &mut source,
+            case.limit,
+            case.interruptions,
+            case.expected,
+        );
+        let counts = (passed, source.failed);
+        assert_same_at(&rt, &counts, &(case.passed, case.failed), &case.interrupted);
     }
-    Ok(())
 }
 
 #[test]
-fn ends_what_never_ends(rt: HostRuntime) {
+fn reads_to_an_end_or_to_the_limit(rt: HostRuntime) {
     assert_read(&rt, &mut Endless, 100_000, 0, Err(ReadFault::TooLarge));
-    let mut rest: &[u8] = b"abc";
-    assert_read(&rt, &mut rest, 2, 0, Err(ReadFault::TooLarge));
-}
-
-fn counted<T>(device: T) -> Counted<T> {
-    Counted::new(device)
-}
-
-#[test]
-fn reads_std_readers(rt: HostRuntime) {
     let text: &[u8] = b"abc";
-    assert_read(&rt, &mut counted(text), 3, 0, Ok(text));
+    let mut rest = text;
+    assert_read(&rt, &mut rest, 2, 0, Err(ReadFault::TooLarge));
     let mut rest = text;
     assert_read(&rt, &mut rest, 3, 0, Ok(text));
     assert!(rt; rest.is_empty());
+    assert_read(&rt, &mut Counted::new(text), 3, 0, Ok(text));
 }
 
-/// What a sink holds, and how often it failed.
-fn assert_sink(rt: &impl Abort, sink: &Small, bytes: &[u8], failed: u64) {
-    assert_same(rt, &sink.bytes.as_slice(), &bytes);
-    assert_same(rt, &sink.failed, &failed);
-}
+/// A write: how often the sink is interrupted first, the texts, the interruptions that were passed over before; whether all is written,
+/// and the interruptions then; what the sink holds then, and how often it has failed.
+type Writing = (
+    u32,
+    &'static [&'static [u8]],
+    u32,
+    (bool, u32),
+    (&'static [u8], u64),
+);
 
-#[test]
-fn writes_byte_by_byte(rt: HostRuntime) {
-    let mut sink = make_small(rt.alloc(), 3, true);
-    assert_same(&rt, &write(&rt, &mut sink, b"abc", 0), &(Ok(()), 0));
-    assert_sink(&rt, &sink, b"abc", 0);
-    assert_same(&rt, &write(&rt, &mut sink, b"d", 0), &(Err(WriteFailed), 0));
-    assert_sink(&rt, &sink, b"abc", 1);
-    let mut sink = make_small(rt.alloc(), 2, false);
-    assert_same(
-        &rt,
-        &write(&rt, &mut sink, b"abc", 0),
-        &(Err(WriteFailed), 0),
-    );
-    assert_sink(&rt, &sink, b"ab", 1);
-}
-
-#[test]
-fn passes_a_thousand_interrupted_writes(rt: HostRuntime) {
-    let mut sink = make_small(rt.alloc(), 6, true);
-    sink.interrupted = 1000;
-    assert_same(&rt, &write(&rt, &mut sink, b"abc", 0), &(Ok(()), 1000));
-    assert_sink(&rt, &sink, b"abc", 1000);
-    assert_same(&rt, &write(&rt, &mut sink, b"de", 1000), &(Ok(()), 1000));
-    assert_sink(&rt, &sink, b"abcde", 1000);
-    sink.interrupted = 1;
-    assert_same(
-        &rt,
-        &write(&rt, &mut sink, b"f", 1000),
-        &(Err(WriteFailed), 1000),
-    );
-    assert_sink(&rt, &sink, b"abcde", 1001);
-    sink.interrupted = 1001;
-    assert_same(
-        &rt,
-        &write(&rt, &mut sink, b"f", 0),
-        &(Err(WriteFailed), 1000),
-    );
-    assert_sink(&rt, &sink, b"abcde", 2002);
-}
+/// The room of a sink, whether it fails where it has no more, and the writes to it.
+const SINKS: [(usize, bool, &[Writing]); 4] = [
+    (
+        3,
+        true,
+        &[
+            (0, &[b"abc"], 0, (true, 0), (b"abc", 0)),
+            (0, &[b"d"], 0, (false, 0), (b"abc", 1)),
+        ],
+    ),
+    (2, false, &[(0, &[b"abc"], 0, (false, 0), (b"ab", 1))]),
+    (
+        6,
+        true,
+        &[
+            (1000, &[b"abc"], 0, (true, 1000), (b"abc", 1000)),
+            (0, &[b"de"], 1000, (true, 1000), (b"abcde", 1000)),
+            (1, &[b"f"], 1000, (false, 1000), (b"abcde", 1001)),
+            (1001, &[b"f"], 0, (false, 1000), (b"abcde", 2002)),
+        ],
+    ),
+    // The interruptions of all texts are counted together.
+    (
+        6,
+        true,
+        &[
+            (999, &[b"ab", b"c"], 0, (true, 999), (b"abc", 999)),
+            (2, &[b"ab", b"c"], 999, (false, 1000), (b"abc", 1001)),
+        ],
+    ),
+];
 
 #[test]
-fn counts_interruptions_over_all_texts(rt: HostRuntime) -> Result<(), Fail> {
-    let texts = vec![in rt.alloc(); b"ab".to_vec(rt.alloc())?, b"c".to_vec(rt.alloc())?]?;
-    let mut sink = make_small(rt.alloc(), 6, true);
-    sink.interrupted = 999;
-    assert_same(&rt, &write_texts(&rt, &mut sink, &texts, 0), &(Ok(()), 999));
-    assert_sink(&rt, &sink, b"abc", 999);
-    sink.interrupted = 2;
-    assert_same(
-        &rt,
-        &write_texts(&rt, &mut sink, &texts, 999),
-        &(Err(WriteFailed), 1000),
-    );
-    assert_sink(&rt, &sink, b"abc", 1001);
-    Ok(())
-}
-
-fn received(alloc: Global) -> Received {
-    Received::new(alloc)
-}
-
-/// One call of a sink's write.
-fn write_once<W: Sink>(sink: &mut W, piece: &[u8]) -> Result<usize, Failure> {
-    sink.write(piece)
-}
-
-/// What a sink received, none of whose calls failed.
-fn assert_received(rt: &impl Abort, sink: &Received, bytes: &[u8]) {
-    assert_same(rt, &sink.bytes.as_slice(), &bytes);
-    assert_same(rt, &sink.failed, &0);
-}
-
-/// The whole text is written, with no interruption.
-fn assert_whole<W: Sink>(rt: &impl Abort, sink: &mut W, text: &[u8]) {
-    assert_same(rt, &write(rt, sink, text, 0), &(Ok(()), 0));
-}
-
-fn three_texts(alloc: Global) -> Result<Vec<Vec<u8>>, AllocError> {
-    let mut texts = Vec::new(alloc);
-    for text in [b"de".as_slice(), b"", b"f"] {
-        texts.push(text.to_vec(alloc)?)?;
+fn writes_byte_by_byte(rt: HostRuntime) -> Result<(), Fail> {
+    for (room, fails, writings) in SINKS {
+        let mut sink = Small {
+            interrupted: 0,
+            bytes: Vec::new(rt.alloc()),
+            room,
+            fails,
+            failed: 0,
+        };
+        for (interrupted, texts, interruptions, answer, after) in writings {
+            sink.interrupted = *interrupted;
+            let written = write(&rt, rt.alloc(), &mut sink, texts, *interruptions)?;
+            assert_same_at(&rt, &written, answer, &(interrupted, room));
+            let held = (sink.bytes.as_slice(), sink.failed);
+            assert_same_at(&rt, &held, after, &(interrupted, room));
+        }
     }
-    Ok(texts)
-}
-
-#[test]
-fn writes_to_each(rt: HostRuntime) -> Result<(), Fail> {
-    let texts = three_texts(rt.alloc())?;
-    let mut sink = received(rt.alloc());
-    assert_whole(&rt, &mut sink, b"abc");
-    assert_received(&rt, &sink, b"abc");
-    assert_same(&rt, &write_texts(&rt, &mut sink, &texts, 0), &(Ok(()), 0));
-    assert_received(&rt, &sink, b"abcdef");
-    assert_same(&rt, &write_once(&mut sink, b"ghi"), &Ok(3));
-    assert_received(&rt, &sink, b"abcdefghi");
     Ok(())
 }
 
 #[test]
-fn writes_to_nowhere(rt: HostRuntime) {
-    assert_whole(&rt, &mut Nowhere, b"abc");
-    assert_same(&rt, &write_once(&mut Nowhere, b"abc"), &Ok(3));
-}
-
-#[test]
-fn writes_to_std_writers(rt: HostRuntime) {
-    let mut sink = counted(Vec::new(rt.alloc()));
-    assert_whole(&rt, &mut sink, b"abc");
+fn writes_to_lists_and_nowhere(rt: HostRuntime) -> Result<(), Fail> {
+    let whole = (true, 0);
+    let mut sink = Received::new(rt.alloc());
+    let lists: [&[&[u8]]; 2] = [&[b"abc"], &[b"de", b"", b"f"]];
+    for texts in lists {
+        assert_same(&rt, &write(&rt, rt.alloc(), &mut sink, texts, 0)?, &whole);
+    }
+    let received = (sink.bytes.as_slice(), sink.failed);
+    assert_same(&rt, &received, &(b"abcdef".as_slice(), 0));
+    assert_same(
+        &rt,
+        &write(&rt, rt.alloc(), &mut Nowhere, &[b"abc"], 0)?,
+        &whole,
+    );
+    let mut sink = Counted::new(Vec::new(rt.alloc()));
+    assert_same(
+        &rt,
+        &write(&rt, rt.alloc(), &mut sink, &[b"abc"], 0)?,
+        &whole,
+    );
     assert_same(&rt, &sink.device.as_slice(), &b"abc".as_slice());
+    Ok(())
 }

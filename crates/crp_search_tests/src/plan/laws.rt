@@ -9,7 +9,7 @@ use crp_plan::{few_relocations, path_decides};
 
 /// Six containers in three rows of three tiers are a problem, and these moves are a plan of it. Each of its plans has
 /// twelve relocations at most, and no other has the same path.
-pub fn plans_of_six_containers()
+fn plans_of_six_containers()
     ensures problem { IsProblem (stated 3 6 ((1 ∷ 5 ∷ 4 ∷ []) ∷ (6 ∷ []) ∷ (3 ∷ 2 ∷ []) ∷ [])) }
     ensures plan { IsPlan (stated 3 6 ((1 ∷ 5 ∷ 4 ∷ []) ∷ (6 ∷ []) ∷ (3 ∷ 2 ∷ []) ∷ []))
         (Shift 1 2 ∷ Shift 1 2 ∷ Take 1 ∷ Take 3 ∷ Take 3 ∷ Shift 2 1 ∷ Take 2 ∷ Take 1 ∷ Take 2 ∷ []) }
@@ -21,4 +21,9 @@ pub fn plans_of_six_containers()
 {
     few_relocations();
     path_decides();
+}
+
+#[test]
+fn laws_of_six_containers(_rt: HostRuntime) {
+    plans_of_six_containers();
 }

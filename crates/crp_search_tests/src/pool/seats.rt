@@ -7,7 +7,7 @@ use std::process::Abort;
 use std::test::Fail;
 
 /// A seat puts the name of one row, or takes it; or it takes none.
-#[derive(Drop)]
+#[derive(Clone, Copy)]
 enum Step {
     Put(usize, u8),
     Take(usize, u8),
@@ -38,10 +38,13 @@ fn are_left(
     Ok(())
 }
 
-#[test]
-fn one_seat_takes_the_last_name_first(rt: HostRuntime) -> Result<(), Fail> {
-    let mut filled = Filled::new(rt.alloc(), 1, 4)?;
-    let steps = [
+/// So many seats, each with room for four names, what they do, and the names that are left.
+type Play = (usize, &'static [Step], &'static [&'static [u8]]);
+
+/// Of its own names a seat takes the last one first.
+const ALONE: Play = (
+    1,
+    &[
         Step::TakeNone(0),
         Step::Put(0, 1),
         Step::Put(0, 2),
@@ -52,18 +55,14 @@ fn one_seat_takes_the_last_name_first(rt: HostRuntime) -> Result<(), Fail> {
         Step::Take(0, 4),
         Step::Take(0, 1),
         Step::TakeNone(0),
-    ];
-    for step in steps {
-        does(&rt, &mut filled, &step);
-    }
-    are_left(&rt, filled, rt.alloc(), &[])?;
-    Ok(())
-}
+    ],
+    &[],
+);
 
-#[test]
-fn another_seat_takes_the_oldest_name(rt: HostRuntime) -> Result<(), Fail> {
-    let mut filled = Filled::new(rt.alloc(), 2, 4)?;
-    let steps = [
+/// Of another's it takes the oldest.
+const BY_TWO: Play = (
+    2,
+    &[
         Step::Put(0, 1),
         Step::Put(0, 2),
         Step::Put(0, 3),
@@ -73,11 +72,35 @@ fn another_seat_takes_the_oldest_name(rt: HostRuntime) -> Result<(), Fail> {
         Step::Take(0, 4),
         Step::Put(1, 5),
         Step::Take(1, 5),
-    ];
-    for step in steps {
-        does(&rt, &mut filled, &step);
+    ],
+    &[&[3]],
+);
+
+const BY_THREE: Play = (
+    3,
+    &[
+        Step::Put(0, 1),
+        Step::Put(1, 2),
+        Step::Put(2, 3),
+        Step::Put(2, 4),
+        Step::Take(0, 1),
+        Step::Put(1, 5),
+        Step::Take(0, 2),
+    ],
+    &[&[3], &[4], &[5]],
+);
+
+#[test]
+fn seats_take_names_and_come_back_in_any_order(rt: HostRuntime) -> Result<(), Fail> {
+    for (workers, steps, left) in [ALONE, BY_TWO, BY_THREE] {
+        assert!(rt; workers >= 1 && workers <= 64);
+        let mut filled = Filled::new(rt.alloc(), workers, 4)?;
+        for step in steps {
+            does(&rt, &mut filled, step);
+        }
+        filled.turn();
+        are_left(&rt, filled, rt.alloc(), left)?;
     }
-    are_left(&rt, filled, rt.alloc(), &[&[3]])?;
     Ok(())
 }
 
@@ -93,26 +116,6 @@ fn the_first_puts_succeed(rt: HostRuntime) -> Result<(), Fail> {
         }
         are_left(&rt, filled, rt.alloc(), &[])?;
     }
-    Ok(())
-}
-
-#[test]
-fn seats_come_back_in_any_order(rt: HostRuntime) -> Result<(), Fail> {
-    let mut filled = Filled::new(rt.alloc(), 3, 4)?;
-    let steps = [
-        Step::Put(0, 1),
-        Step::Put(1, 2),
-        Step::Put(2, 3),
-        Step::Put(2, 4),
-        Step::Take(0, 1),
-        Step::Put(1, 5),
-        Step::Take(0, 2),
-    ];
-    for step in steps {
-        does(&rt, &mut filled, &step);
-    }
-    filled.turn();
-    are_left(&rt, filled, rt.alloc(), &[&[3], &[4], &[5]])?;
     Ok(())
 }
 

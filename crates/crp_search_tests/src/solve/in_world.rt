@@ -1,8 +1,8 @@
 //! A search whose steps are also those of a world of one worker.
 ghost use Rattle.std.specs.Prelude.{◌≡◌, ◌+◌, ◌^◌, ◌≤◌};
 
+use crate::bays::{BAYS, problem_of};
 use crate::compare::assert_at;
-use crate::solve::bays::{BAYS, problem_of};
 use crp_plan::{Plan, Problem, Words};
 use crp_search::{Limit, first_plan, search};
 use crp_solve::{Answer, Settings, solve_alone};

@@ -1,8 +1,8 @@
 //! What the board shows while workers search.
 ghost use Rattle.std.specs.Prelude.{◌≡◌};
 
+use crate::bays::{BETTER_THAN_GREEDY, problem_of};
 use crate::compare::assert_same;
-use crate::solve::bays::{BETTER_THAN_GREEDY, problem_of};
 use crp_incumbent::Board;
 use crp_plan::Problem;
 use crp_solve::{Gate, Settings, solve};

@@ -1,21 +1,13 @@
 ghost use Rattle.std.specs.Prelude.{◌≡◌, ◌<◌, ◌≤◌, IfSome};
 
+use crate::bays::{BAYS, Bay, MORE_BAYS, problem_of};
 use crate::compare::assert_same;
 use crp_plan::{Plan, Problem};
 use crp_search::first_plan;
-use crp_solve::{Answer, Settings, solve_alone};
 use crp_steps::{Event, Kind, World};
 use std::alloc::{AllocError, Global};
 use std::process::Abort;
 use std::test::Fail;
-
-fn rows_of(alloc: Global, rows: &[&[u8]]) -> Result<Vec<Vec<u8>>, AllocError> {
-    let mut stacks = Vec::new(alloc);
-    for row in rows {
-        stacks.push(row.to_vec(alloc)?)?;
-    }
-    Ok(stacks)
-}
 
 /// Numbers from a fixed source, well enough spread for a test.
 #[derive(Drop)]
@@ -77,26 +69,6 @@ fn close(
     panic!(rt; "the world is still open")
 }
 
-/// What an answer says of the fewest relocations; where there is no plan, the problem's cap.
-fn fewest_of(rt: &impl Abort, answer: &Answer) -> u32 {
-    match answer {
-        Answer::Optimal { plan, cert: _ } | Answer::First { plan, cert: _ } => plan.count(),
-        Answer::NoPlan { cert } => cert.lower(),
-        Answer::Between {
-            lower: _,
-            cert: _,
-            plan: _,
-            cause: _,
-        } => panic!(rt; "one worker did not decide"),
-    }
-}
-
-/// What one worker finds.
-fn fewest(rt: &impl Abort, alloc: Global, problem: &Problem) -> Result<u32, Fail> {
-    let solved = solve_alone(alloc, problem, Settings::new(1, 1_000_000, 0)?)?;
-    Ok(fewest_of(rt, &solved.answer))
-}
-
 /// Closes a world of so many workers, which then shows the fewest relocations.
 fn shows(
     rt: &impl Abort,
@@ -119,45 +91,34 @@ fn shows(
     Ok(())
 }
 
-/// Closes worlds of one worker to four, which begin at the cap and at the first plan.
-fn agrees(
-    rt: &impl Abort,
-    alloc: Global,
-    numbers: &mut Numbers,
-    problem: &Problem,
-) -> Result<(), Fail> {
-    let want = fewest(rt, alloc, problem)?;
-    let first = first_plan(problem);
+/// Closes worlds of one worker to four, which begin at the cap and at the first plan. Where there is no plan, they show the cap.
+fn agrees(rt: &(impl Abort + AllocGlobal), numbers: &mut Numbers, bay: &Bay) -> Result<(), Fail> {
+    let problem = problem_of(rt.alloc(), bay)?;
+    let want = bay.fewest.unwrap_or(problem.cap());
+    let first = first_plan(&problem);
     for workers in 1..5u32 {
-        shows(rt, alloc, numbers, problem, workers, None, want)?;
-        shows(rt, alloc, numbers, problem, workers, first.as_ref(), want)?;
+        shows(rt, rt.alloc(), numbers, &problem, workers, None, want)?;
+        shows(
+            rt,
+            rt.alloc(),
+            numbers,
+            &problem,
+            workers,
+            first.as_ref(),
+            want,
+        )?;
     }
     Ok(())
 }
 
 #[test]
 fn events_by_chance_find_the_fewest(rt: HostRuntime) -> Result<(), Fail> {
-    // tiers, containers that are to leave, stacks
-    let bays: [(u8, u8, &[&[u8]]); 14] = [
-        (2, 2, &[&[1, 2], &[]]),
-        (2, 2, &[&[2, 1], &[]]),
-        (3, 4, &[&[1, 4], &[2], &[3]]),
-        (3, 6, &[&[1, 5, 4], &[6], &[3, 2]]),
-        (3, 2, &[&[1, 2]]),
-        (2, 4, &[&[1, 2], &[3, 4]]),
-        (2, 1, &[&[1, 2], &[]]),
-        (3, 7, &[&[1, 6, 5], &[7], &[4, 3], &[2]]),
-        (1, 0, &[&[]]),
-        (3, 6, &[&[4, 1, 6], &[2, 5], &[3]]),
-        (3, 6, &[&[1, 3, 6], &[5, 4], &[2]]),
-        (3, 3, &[&[3, 2, 1]]),
-        (3, 7, &[&[4, 7], &[1, 3, 6], &[2, 5]]),
-        (4, 8, &[&[5, 2, 8, 4], &[7, 3], &[1, 6]]),
-    ];
     let mut numbers = Numbers { state: 2012 };
-    for (tiers, ordered, rows) in bays {
-        let problem = Problem::new(tiers, ordered, &rows_of(rt.alloc(), rows)?)?;
-        agrees(&rt, rt.alloc(), &mut numbers, &problem)?;
+    for bay in &BAYS {
+        agrees(&rt, &mut numbers, bay)?;
+    }
+    for bay in &MORE_BAYS {
+        agrees(&rt, &mut numbers, bay)?;
     }
     Ok(())
 }

@@ -1,22 +1,20 @@
-//! Which file is to be looked at.
+//! Which file is to be looked at, where no file that is not there shows it.
 use crate::calls::job;
 use crate::compare::assert_same_at;
-use crp_cert::CertFault;
 use crp_commands::{ToolFault, place_of};
-use crp_report::{Fault, Input, Output};
-use crp_yard::YardFault;
+use crp_report::{Fault, Output};
 use std::alloc::Global;
 use std::process::Abort;
 use std::test::Fail;
 
-// Words of a job over one file, and what it reads.
-const ONE_FILE: [(&[&str], &str); 6] = [
-    (&["replay", "a.crp"], "the file a.crp"),
-    (&["bound", "b.crp"], "the file b.crp"),
-    (&["check", "c.crp"], "the file c.crp"),
-    (&["prove", "--budget=1", "d.crp"], "the file d.crp"),
-    (&["check", "-"], "the standard input"),
-    (&[], "the standard input"),
+// Words of a job over one file.
+const ONE_FILE: [&[&str]; 6] = [
+    &["replay", "a.crp"],
+    &["bound", "b.crp"],
+    &["check", "c.crp"],
+    &["prove", "--budget=1", "d.crp"],
+    &["check", "-"],
+    &[],
 ];
 
 // What could not be read or written, in words; nothing where that is not the fault.
@@ -44,8 +42,10 @@ fn assert_place(
 }
 
 #[test]
-fn the_file_that_is_not_read_is_named(rt: HostRuntime) -> Result<(), Fail> {
-    for (words, place) in ONE_FILE {
+fn the_standard_input_that_is_not_read_is_named(rt: HostRuntime) -> Result<(), Fail> {
+    let standard_input: [&[&str]; 2] = [&["check", "-"], &[]];
+    for words in standard_input {
+        let place = "the standard input";
         assert_place(&rt, rt.alloc(), words, &ToolFault::Read, place)?;
     }
     Ok(())
@@ -53,14 +53,14 @@ fn the_file_that_is_not_read_is_named(rt: HostRuntime) -> Result<(), Fail> {
 
 #[test]
 fn the_report_of_one_file_goes_to_the_standard_output(rt: HostRuntime) -> Result<(), Fail> {
-    for (words, _) in ONE_FILE {
+    for words in ONE_FILE {
         let place = "the standard output";
         assert_place(&rt, rt.alloc(), words, &ToolFault::Write, place)?;
     }
     Ok(())
 }
 
-// Words of `solve`: its two inputs, one of them named as the standard input is elsewhere, and both outputs.
+// Words of `solve` with both outputs, and without.
 const SOLVE: [&str; 7] = [
     "solve",
     "yard.csv",
@@ -73,56 +73,28 @@ const SOLVE: [&str; 7] = [
 
 const SOLVE_WITHOUT_OUTPUTS: [&str; 3] = ["solve", "yard.csv", "ship.edi"];
 
-// Reads and writes of `solve` that failed, and what they are of, with both outputs and without.
-const SOLVE_FILES: [(Fault, &str, &str); 6] = [
-    (
-        Fault::Read(Input::Yard),
-        "the file yard.csv",
-        "the file yard.csv",
-    ),
-    (
-        Fault::Read(Input::Movins),
-        "the file -",
-        "the file ship.edi",
-    ),
-    (
-        Fault::Write(Output::Report),
-        "the standard output",
-        "the standard output",
-    ),
-    (
-        Fault::Write(Output::Certificates),
-        "the file proofs.crp",
-        "",
-    ),
-    (Fault::Write(Output::YardAfter), "the file after.csv", ""),
-    (Fault::Yard(YardFault::Header { record: 1 }), "", ""),
-];
-
 #[test]
-fn the_file_of_a_run_is_named(rt: HostRuntime) -> Result<(), Fail> {
-    for (fault, place, _) in SOLVE_FILES {
-        assert_place(&rt, rt.alloc(), &SOLVE, &ToolFault::Run(fault), place)?;
-    }
-    Ok(())
+fn the_report_of_a_run_goes_to_the_standard_output(rt: HostRuntime) -> Result<(), Fail> {
+    let (fault, place) = (
+        ToolFault::Run(Fault::Write(Output::Report)),
+        "the standard output",
+    );
+    assert_place(&rt, rt.alloc(), &SOLVE, &fault, place)?;
+    assert_place(&rt, rt.alloc(), &SOLVE_WITHOUT_OUTPUTS, &fault, place)
 }
 
 #[test]
 fn a_file_that_is_not_asked_for_is_not_named(rt: HostRuntime) -> Result<(), Fail> {
-    for (fault, _, place) in SOLVE_FILES {
-        let fault = ToolFault::Run(fault);
-        assert_place(&rt, rt.alloc(), &SOLVE_WITHOUT_OUTPUTS, &fault, place)?;
+    for output in [Output::Certificates, Output::YardAfter] {
+        let fault = ToolFault::Run(Fault::Write(output));
+        assert_place(&rt, rt.alloc(), &SOLVE_WITHOUT_OUTPUTS, &fault, "")?;
     }
     Ok(())
 }
 
 #[test]
 fn other_faults_name_no_file(rt: HostRuntime) -> Result<(), Fail> {
-    for fault in [
-        ToolFault::Cert(CertFault::Plan { line: 8 }),
-        ToolFault::TooLarge,
-        ToolFault::Memory,
-    ] {
+    for fault in [ToolFault::TooLarge, ToolFault::Memory] {
         assert_place(&rt, rt.alloc(), &["check", "a.crp"], &fault, "")?;
     }
     Ok(())

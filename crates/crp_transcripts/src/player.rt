@@ -1,0 +1,192 @@
+//! A transcript, played block by block.
+use crate::blocks::{Block, Mark, blocks_of};
+use crp_commands::SystemFiles;
+use crp_plan::{Counted, Received, write_all};
+use crp_words::run_words;
+use std::sync::Wait;
+use std::thread::Threads;
+use std::{fs, io};
+
+// What the last run wrote to the standard error, and its exit status, as far as no block has spoken of them; and how many runs there were.
+#[derive(Drop)]
+struct Played {
+    errors: Vec<u8>,
+    status: u8,
+    runs: u32,
+}
+
+// The words of a run, and the file whose bytes are its standard input.
+fn words_of<'a>(rt: &HostRuntime, words: &'a str) -> io::Result<(Vec<&'a str>, Option<&'a str>)> {
+    let (words, input) = match words.split_once(" < ") {
+        Some((words, input)) => (words, Some(input)),
+        None => (words, None),
+    };
+    let words: Vec<&str> = words.split_whitespace().collect(rt.alloc())?;
+    Ok((words, input))
+}
+
+fn input_of(rt: &HostRuntime, name: Option<&str>) -> io::Result<Vec<u8>> {
+    match name {
+        Some(name) => fs::read(rt, name),
+        None => Ok(Vec::new(rt.alloc())),
+    }
+}
+
+// Shows bytes on the standard error, as far as it takes them.
+fn show(rt: &HostRuntime, bytes: &[u8]) {
+    let mut interruptions = 0;
+    let _shown = write_all(&mut Counted::new(rt.stderr()), bytes, &mut interruptions);
+}
+
+// Whether the two are the same; shows both where they are not.
+fn is_same(rt: &HostRuntime, line: usize, found: &[u8], wanted: &[u8]) -> io::Result<bool> {
+    if found == wanted {
+        return Ok(true);
+    }
+    eprintln!(rt; "line {line}: what was found and what the transcript has:")?;
+    show(rt, found);
+    eprintln!(rt; "--")?;
+    show(rt, wanted);
+    eprintln!(rt; "--")?;
+    Ok(false)
+}
+
+// Runs the program, and returns whether it wrote the text of the block.
+fn run<T: Threads + Wait + Sync>(
+    rt: &HostRuntime,
+    threads: &T,
+    played: &mut Played,
+    block: &Block<'_>,
+) -> io::Result<bool> {
+    let (words, input) = words_of(rt, block.words)?;
+    let input = input_of(rt, input)?;
+    let mut out = Received::new(rt.alloc());
+    let mut errors = Received::new(rt.alloc());
+    played.status = run_words(
+        threads,
+        rt.alloc(),
+        &mut SystemFiles::new(rt),
+        &mut input.as_slice(),
+        &mut out,
+        &mut errors,
+        &words,
+    );
+    played.errors = errors.bytes;
+    played.runs = played.runs.saturating_add(1);
+    is_same(rt, block.line, &out.bytes, &block.text)
+}
+
+// Whether all has been said of the last run: its standard error is empty and its status 0, but for what blocks have said.
+fn is_settled(rt: &HostRuntime, played: &Played, line: usize) -> io::Result<bool> {
+    if played.status != 0 {
+        eprintln!(rt;
+            "line {line}: the run before ended with status {}",
+            played.status
+        )?;
+        return Ok(false);
+    }
+    is_same(rt, line, &played.errors, b"")
+}
+
+// Whether the run before wrote this text to the standard error.
+fn has_errors(rt: &HostRuntime, played: &mut Played, block: &Block<'_>) -> io::Result<bool> {
+    let is_well = is_same(rt, block.line, &played.errors, &block.text)?;
+    played.errors.clear();
+    Ok(is_well)
+}
+
+// Whether the run before ended with this status.
+fn has_status(rt: &HostRuntime, played: &mut Played, block: &Block<'_>) -> io::Result<bool> {
+    let status = format!(in rt.alloc(); "{}", played.status)?;
+    played.status = 0;
+    is_same(rt, block.line, status.as_bytes(), block.words.as_bytes())
+}
+
+// Whether the file of this name holds this text.
+fn holds(rt: &HostRuntime, block: &Block<'_>) -> io::Result<bool> {
+    match fs::read(rt, block.words) {
+        Ok(found) => is_same(rt, block.line, &found, &block.text),
+        Err(_) => {
+            eprintln!(rt; "line {}: there is no file {}", block.line, block.words)?;
+            Ok(false)
+        }
+    }
+}
+
+// Whether there is no file of this name.
+fn is_gone(rt: &HostRuntime, block: &Block<'_>) -> io::Result<bool> {
+    match fs::read(rt, block.words) {
+        Ok(_) => {
+            eprintln!(rt; "line {}: there is a file {}", block.line, block.words)?;
+            Ok(false)
+        }
+        Err(_) => Ok(true),
+    }
+}
+
+// Does what a block says, and returns whether all is as it says.
+fn step<T: Threads + Wait + Sync>(
+    rt: &HostRuntime,
+    threads: &T,
+    played: &mut Played,
+    block: &Block<'_>,
+) -> io::Result<bool> {
+    match block.mark {
+        Mark::Note => Ok(block.text.is_empty()),
+        Mark::Write => {
+            fs::write(rt, block.words, block.text.as_slice())?;
+            is_settled(rt, played, block.line)
+        }
+        Mark::Run => Ok(is_settled(rt, played, block.line)? && run(rt, threads, played, block)?),
+        Mark::Errors => has_errors(rt, played, block),
+        Mark::Status => has_status(rt, played, block),
+        Mark::Holds => holds(rt, block),
+        Mark::Gone => is_gone(rt, block),
+    }
+}
+
+// Plays blocks up to the first that differs, and returns the number of its line. Where they do not say how the last run ended, that is the
+// last block.
+fn play_blocks<T: Threads + Wait + Sync>(
+    rt: &HostRuntime,
+    threads: &T,
+    played: &mut Played,
+    blocks: &[Block<'_>],
+) -> io::Result<Option<usize>> {
+    for block in blocks {
+        if !step(rt, threads, played, block)? {
+            return Ok(Some(block.line));
+        }
+    }
+    match blocks.last() {
+        Some(block) if !is_settled(rt, played, block.line)? => Ok(Some(block.line)),
+        _ => Ok(None),
+    }
+}
+
+/// Plays the transcript of this name, writes a line about it, and returns whether all was as it says.
+pub(crate) fn play<T: Threads + Wait + Sync>(
+    rt: &HostRuntime,
+    threads: &T,
+    name: &str,
+) -> io::Result<bool> {
+    let transcript = fs::read_to_string(rt, name)?;
+    let blocks = match blocks_of(rt.alloc(), transcript.as_str())? {
+        Ok(blocks) => blocks,
+        Err(line) => {
+            println!(rt; "{name}: line {line} is malformed")?;
+            return Ok(false);
+        }
+    };
+    let mut played = Played {
+        errors: Vec::new(rt.alloc()),
+        status: 0,
+        runs: 0,
+    };
+    let differs = play_blocks(rt, threads, &mut played, &blocks)?;
+    match differs {
+        None => println!(rt; "{name}: as written, {} runs", played.runs)?,
+        Some(line) => println!(rt; "{name}: differs at line {line}")?,
+    }
+    Ok(differs.is_none())
+}
