@@ -12,3 +12,4 @@ pub mod Undone
 pub mod Cutting
 pub mod Tallying
 pub mod Scanned
+pub mod Remaining

@@ -1,9 +1,9 @@
 -- What the count of the look-ahead bound reads of a position.
-use Rattle.std.proofs.Common.{◌≡◌, ◌≢◌, ℕ, zero, suc, ◌+◌, ◌-◌, ◌<◌, ◌≤◌, true, false, ◌==◌, List, [], ◌∷◌, length, take, get_or, set, Some, slice_get, refl, sym, ap, ◌∙◌, ⊎_elim, arith, All}
+use Rattle.std.proofs.Common.{◌≡◌, ◌≢◌, ℕ, zero, suc, ◌+◌, ◌-◌, ◌<◌, ◌≤◌, true, false, ◌==◌, List, [], ◌∷◌, length, take, get_or, set, Some, slice_get, count_by, nat_lt, refl, sym, ap, ◌∙◌, subst, ⊎_elim, arith, All}
 use Rattle.std.proofs.lemmas.Bool.{cases_Bool, cases_lt, eqb-true, or_cases}
 use Rattle.std.proofs.lemmas.List.{take-take, get_or-take, length-take, get_or-set_same, get_or-set_other}
 use Rattle.std.proofs.lemmas.Option.{get_or_from_slice_get, same_Some}
-use Rattle.crp_plan.specs.Rows.{holds, occurrences, FitRows}
+use Rattle.crp_plan.specs.Rows.{holds, occurrences, above, below, FitRows}
 use Rattle.crp_plan.specs.Bay.{Position}
 use Rattle.crp_plan.proofs.Lists.{times, times_not_held}
 use Rattle.crp_bay.specs.Positions.{place}
@@ -11,9 +11,9 @@ use Rattle.crp_bay.specs.Reached.{IsReached}
 use Rattle.crp_bay.proofs.Reaching.{reached_sound, reached_rows, reached_same_rows, reached_ordered}
 use Rattle.crp_bounds.specs.Bounds.{stuck_from}
 use Rattle.crp_bounds.specs.Leasts.{least_ordered}
-use Rattle.crp_bounds.specs.Offers.{cut, offer, offers}
+use Rattle.crp_bounds.specs.Offers.{cut, offer, offers, greatest}
 use Rattle.crp_bounds.proofs.Cutting.{cut_all, least_is, least_held, held_in, cut_at}
-use Rattle.crp_bounds.proofs.Tallying.{Ahead, Bay}
+use Rattle.crp_bounds.proofs.Tallying.{Ahead, Bay, Met}
 
 -- beyond the rows there is nothing
 pub beyond : {X : Type 0} (xs : List X) (r : ℕ) (d : X) → length xs ≤ r → get_or xs r d ≡ d
@@ -123,3 +123,21 @@ offer_more xs ys row x lo lt done rest is = (
       (cases_lt r (row - 1)),
   λ r ge. let ne : r ≢ row - 1 = λ q. absurd (omega arith) in get_or-set_other xs (row - 1) r x 0 ne ∙ rest r (omega arith),
 )
+
+-- what is found of a rank that is left, from its stack as it is read
+pub met_here : (s : Position) (k row : ℕ) (stack left offering : List ℕ) (kept more offered : ℕ) → Reads s k row stack left → All (λ rank. rank ≤ 96) stack → holds k (take (get_or left (row - 1) 0) stack) ≡ true →
+    take kept (take (get_or left (row - 1) 0) stack) ≡ below k (take (get_or left (row - 1) 0) stack) → kept < length (take (get_or left (row - 1) 0) stack) → more ≡ count_by (nat_lt (greatest offering)) (above k (take (get_or left (row - 1) 0) stack)) → more ≤ 8 →
+    offered ≡ least_ordered s.ordered (take kept (take (get_or left (row - 1) 0) stack)) → Met s.ordered s.heights s.stacks k left offering (row - 1) kept more offered
+met_here s k row stack left offering kept more offered r ranks held cut lower counts few is =
+    let here : take (get_or left (row - 1) 0) stack ≡ take (get_or left (row - 1) 0) (get_or s.stacks (row - 1) []) = ap (take (get_or left (row - 1) 0)) (sym r.stack_is) in
+    record {
+      is_row = r.index;
+      row_there = r.there;
+      ranks = λ x h. few_held stack x ranks (ap (holds x) (sym r.stack_is) ∙ h);
+      held = ap (holds k) (sym here) ∙ held;
+      below_it = subst (λ l. take kept l ≡ below k l) here cut;
+      lower = subst (λ l. kept < length l) here lower;
+      counts = counts ∙ ap (λ l. count_by (nat_lt (greatest offering)) (above k l)) here;
+      few = few;
+      offer_is = is ∙ ap (λ l. least_ordered s.ordered (take kept l)) here;
+    }

@@ -112,7 +112,7 @@ abbrev pub counted : (ℕ → Bool) → ℕ → List (List ℕ) → ℕ
 counted p k stacks = sum_by (λ stack. count_by p (above k stack)) stacks
 
 -- the count over one stack more
-counted-cons : (p : ℕ → Bool) (k : ℕ) (x : List ℕ) (xs : List (List ℕ)) → counted p k (x ∷ xs) ≡ count_by p (above k x) + counted p k xs
+pub counted-cons : (p : ℕ → Bool) (k : ℕ) (x : List ℕ) (xs : List (List ℕ)) → counted p k (x ∷ xs) ≡ count_by p (above k x) + counted p k xs
 counted-cons p k x xs = sum_by-cons (λ stack. count_by p (above k stack)) x xs
 
 -- more stands above k in a list that goes on

@@ -41,7 +41,8 @@ ahead_absent ordered next heights stacks k left offering again a once le free =
       offering_long = a.offering_long;
     }
 
-length_cut : (left : List ℕ) (stacks : List (List ℕ)) → length (cut left stacks) ≡ length stacks
+-- as many stacks are left
+pub length_cut : (left : List ℕ) (stacks : List (List ℕ)) → length (cut left stacks) ≡ length stacks
 length_cut left [] = refl
 length_cut [] (y ∷ ys) = ap suc (length_cut [] ys)
 length_cut (n ∷ left) (y ∷ ys) = ap suc (length_cut left ys)
@@ -88,6 +89,22 @@ held_above k x (y ∷ xs) h = ⊎_elim
     (λ f. let h' : holds x (above k xs) ≡ true = rw f at h in or_right (y == x) (holds x xs) (held_above k x xs h'))
     (cases_Bool (y == k))
 
+-- less is left of its stack
+met_set : (ordered next : ℕ) (heights : List ℕ) (stacks : List (List ℕ)) (k : ℕ) (left offering : List ℕ) (again r kept more offered : ℕ) → Ahead ordered next heights stacks k left offering again → Bay ordered heights stacks →
+    Met ordered heights stacks k left offering r kept more offered → cut (set left r kept) stacks ≡ set (cut left stacks) r (take kept (take (get_or left r 0) (get_or stacks r [])))
+met_set ordered next heights stacks k left offering again r kept more offered a b m =
+    let lower = m.lower in let rows = b.few_rows in let there = m.row_there in let long = a.left_long in
+    cut_set left stacks r kept (omega arith) ∙ ap (set (cut left stacks) r) (sym (take-take kept (get_or left r 0) (get_or stacks r []) (omega (arith, length-take (get_or left r 0) (get_or stacks r [])))))
+
+-- all stacks are cut off at the rank by that
+pub met_cut : (ordered next : ℕ) (heights : List ℕ) (stacks : List (List ℕ)) (k : ℕ) (left offering : List ℕ) (again r kept more offered : ℕ) → Ahead ordered next heights stacks k left offering again → Bay ordered heights stacks →
+    Met ordered heights stacks k left offering r kept more offered → cut (set left r kept) stacks ≡ map (below k) (cut left stacks)
+met_cut ordered next heights stacks k left offering again r kept more offered a b m =
+    let W : List (List ℕ) = cut left stacks in
+    let here : get_or W r [] ≡ take (get_or left r 0) (get_or stacks r []) = cut_at left stacks r in
+    let once : occurrences k W ≤ 1 = omega (arith, occurrences_cut k left stacks, b.once k) in
+    met_set ordered next heights stacks k left offering again r kept more offered a b m ∙ ap (set W r) (m.below_it ∙ ap (below k) (sym here)) ∙ sym (cut_one k W r (ap (holds k) here ∙ m.held) once)
+
 -- a rank that is left: its stack is cut off at it
 pub ahead_met : (ordered next : ℕ) (heights : List ℕ) (stacks : List (List ℕ)) (k : ℕ) (left offering : List ℕ) (again r kept more offered : ℕ) → Ahead ordered next heights stacks k left offering again → Bay ordered heights stacks → k ≤ ordered →
     Met ordered heights stacks k left offering r kept more offered → Ahead ordered next heights stacks (k + 1) (set left r kept) (set offering r offered) (again + more)
@@ -98,11 +115,10 @@ ahead_met ordered next heights stacks k left offering again r kept more offered 
     let long = a.left_long in let offering_long = a.offering_long in
     let here : get_or W r [] ≡ w = cut_at left stacks r in
     let shorter : length w ≤ get_or left r 0 = omega (arith, length-take (get_or left r 0) (get_or stacks r [])) in
-    let same_part : take kept w ≡ take kept (get_or stacks r []) = take-take kept (get_or left r 0) (get_or stacks r []) (omega arith) in
     let held : holds k (get_or W r []) ≡ true = ap (holds k) here ∙ m.held in
     let once : occurrences k W ≤ 1 = omega (arith, occurrences_cut k left stacks, b.once k) in
-    let now : cut (set left r kept) stacks ≡ set W r (take kept w) = cut_set left stacks r kept (omega arith) ∙ ap (set W r) (sym same_part) in
-    let same : cut (set left r kept) stacks ≡ map (below k) W = now ∙ ap (set W r) (m.below_it ∙ ap (below k) (sym here)) ∙ sym (cut_one k W r held once) in
+    let now : cut (set left r kept) stacks ≡ set W r (take kept w) = met_set ordered next heights stacks k left offering again r kept more offered a b m in
+    let same : cut (set left r kept) stacks ≡ map (below k) W = met_cut ordered next heights stacks k left offering again r kept more offered a b m in
     let once_w : times k w ≤ 1 = omega (arith, held_in k W r held, ap (times k) here) in
     let gone_w : (d : ℕ) → d < k → times d w ≡ 0 = λ d lt. ⊎_elim
     (λ t. let q = held_in d W r (ap (holds d) here ∙ t) in omega (arith, q, a.gone d lt, ap (times d) here))
@@ -147,13 +163,6 @@ ahead_ends ordered next heights stacks k left offering again a le few e =
     let W : List (List ℕ) = cut left stacks in
     let most : greatest (offers ordered heights W) ≡ 255 = sym (same_greatest offering (offers ordered heights W) a.offered) ∙ e in
     omega (arith, a.tallied, open_ends ordered heights (suc ordered - k) W k (omega arith) few (open_found ordered heights W most))
-
--- nor after the last rank
-pub ahead_done : (ordered next : ℕ) (heights : List ℕ) (stacks : List (List ℕ)) (k : ℕ) (left offering : List ℕ) (again : ℕ) → Ahead ordered next heights stacks k left offering again → ordered < k → again ≡ stuck_from ordered heights (suc ordered - next) stacks next
-ahead_done ordered next heights stacks k left offering again a lt =
-    let e : suc ordered - k ≡ 0 = omega arith in
-    let none : stuck_from ordered heights (suc ordered - k) (cut left stacks) k ≡ 0 = ap (λ n. stuck_from ordered heights n (cut left stacks) k) e in
-    omega (arith, a.tallied, none)
 
 -- one container lower
 pub one_down : (p : ℕ → Bool) (xs : List ℕ) (i k : ℕ) → i < length xs → get_or xs i 0 ≢ k → holds k (drop (suc i) xs) ≡ false → holds k xs ≡ true →

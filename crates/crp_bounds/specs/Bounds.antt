@@ -33,9 +33,13 @@ stuck_from ordered heights zero stacks k = 0
 stuck_from ordered heights (suc more) stacks k =
     stuck_above ordered heights stacks k + stuck_from ordered heights more (map (below k) stacks) (suc k)
 
+-- the same for each rank from the next to the last
+abbrev pub stuck_now : Position → ℕ
+stuck_now s = stuck_from s.ordered s.heights (suc s.ordered - s.next) s.stacks s.next
+
 -- the look-ahead bound: the blocking bound, and for each rank from the next to the last the containers above it that would block again
 abbrev pub look_ahead : Position → ℕ
-look_ahead s = blocking s + stuck_from s.ordered s.heights (suc s.ordered - s.next) s.stacks s.next
+look_ahead s = blocking s + stuck_now s
 
 -- a rank that stands in the list, in order and lower than c
 pub record HasLower (ordered c : ℕ) (stack : List ℕ) : Type 0 where

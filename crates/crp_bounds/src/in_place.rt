@@ -1,5 +1,5 @@
 //! A position that is changed in place, with its bounds.
-ghost use Rattle.std.specs.Prelude.{◌≡◌, ◌+◌, ◌-◌, ◌*◌, ◌<◌, ◌≤◌, ◌↔◌, [], ◌∷◌, IsTrue, Contains};
+ghost use Rattle.std.specs.Prelude.{◌≡◌, ◌+◌, ◌-◌, ◌*◌, ◌<◌, ◌≤◌, ◌↔◌, [], ◌∷◌, IsTrue, IfSome, IfNone, Contains};
 ghost use Rattle.std.specs.Bool.{OnTrue, OnFalse};
 ghost use Rattle.crp_plan.specs.Bay.{start, IsProblem};
 ghost use Rattle.crp_bay.specs.Positions.{settled, child, targets, can_shift, stack_at};
@@ -9,7 +9,7 @@ ghost use Rattle.crp_bounds.specs.Leasts.{least_ordered};
 
 use crate::blockers::blocking;
 use crate::known::{least_of, leasts_of, moved_rank, with_top};
-use crate::scanning::again_from;
+use crate::scanning::{again_from, again_reaching};
 use crate::undo::Undo;
 use arrayvec::ArrayVec;
 use crp_bay::Position;
@@ -156,11 +156,29 @@ impl Bounded {
         u32::from(blocking_with(self.blocking, rank, onto))
     }
 
-    /// The look-ahead bound of the position. No stack is copied.
+    /// The look-ahead bound of the position.
     pub fn look_ahead(&self) -> u32
         ensures value { result ≡ look_ahead_bound self.now.place }
         ensures few { result ≤ 96 + 96 * 96 }
     {
-        self.blocking() + again_from(&self.position, &self.leasts)
+        let blocking = self.blocking();
+        blocking + again_from(&self.position, &self.leasts, blocking)
+    }
+
+    /// The look-ahead bound of the position, where it reaches `need`. It stops counting as soon as it cannot.
+    pub fn look_ahead_reaching(&self, need: u32) -> Option<u32>
+        ensures value { IfSome result (λ bound. bound ≡ look_ahead_bound self.now.place) }
+        ensures reached { IfSome result (λ bound. need ≤ bound) }
+        ensures below { IfNone result (look_ahead_bound self.now.place < need) }
+        ensures few { IfSome result (λ bound. bound ≤ 96 + 96 * 96) }
+    {
+        let blocking = self.blocking();
+        let again = again_reaching(
+            &self.position,
+            &self.leasts,
+            blocking,
+            need.saturating_sub(blocking),
+        )?;
+        Some(blocking + again)
     }
 }

@@ -1,6 +1,7 @@
 //! The least ordered ranks of stacks, known by the rank on top.
 ghost use Rattle.std.specs.Prelude.{◌≡◌, ◌<◌, ◌≤◌, ℕ, suc, min, nat_le, if◌then◌else◌, true, false, List, [], ◌++◌, ◌∷◌, All, length, take, slice_index, count_by, ◌==◌};
 ghost use Rattle.crp_plan.specs.Rows.{holds};
+ghost use Rattle.crp_bay.specs.Reached.{IsReached};
 ghost use Rattle.crp_bay.specs.Located.{moved};
 ghost use Rattle.crp_bounds.specs.Leasts.{least_ordered, KnowsLeasts};
 
@@ -63,7 +64,8 @@ fn mark(ordered: u8, ranks: &[u8], leasts: &mut [u8])
 
 /// For each container that stands the least ordered rank at or below it in its row, by its rank.
 pub fn leasts_of(position: &Position) -> [u8; 97]
-    ensures { KnowsLeasts result position.now.place }
+    ensures known { KnowsLeasts result position.now.place }
+    ensures reached { IsReached position.now.place }
 {
     let mut leasts = [0u8; 97];
     for row in 1..position.rows() + 1 {

@@ -1,7 +1,7 @@
 //! The count of the look-ahead bound with no stack copied or cut: how much is left of each, and what each row offers.
-ghost use Rattle.std.specs.Prelude.{◌≡◌, ℕ, ◌+◌, ◌-◌, ◌*◌, ◌<◌, ◌≤◌, suc, true, List, [], All, length, take, count_by, ◌==◌, nat_lt, slice_index, slice_index_or};
+ghost use Rattle.std.specs.Prelude.{◌≡◌, ℕ, ◌+◌, ◌-◌, ◌*◌, ◌<◌, ◌≤◌, suc, true, List, [], All, length, take, count_by, ◌==◌, nat_lt, slice_index, slice_index_or, IfSome, IfNone};
 ghost use Rattle.crp_plan.specs.Rows.{holds, above, below};
-ghost use Rattle.crp_bounds.specs.Bounds.{stuck_from};
+ghost use Rattle.crp_bounds.specs.Bounds.{blocking as blocking_bound, stuck_from, stuck_now};
 ghost use Rattle.crp_bounds.specs.Leasts.{least_ordered, KnowsLeasts};
 ghost use Rattle.crp_bounds.specs.Offers.{greatest as greatest_of, offer, offers};
 
@@ -90,17 +90,42 @@ fn cut_at_rank(rank: u8, most: u8, stack: &[u8]) -> Cut
     Cut { more, kept }
 }
 
-/// How many containers would block again, rank by rank.
-pub fn again_from(position: &Position, leasts: &[u8; 97]) -> u32
-    requires { KnowsLeasts leasts.now position.now.place }
-    ensures value { result ≡ stuck_from position.now.place.ordered position.now.place.heights
-        (suc position.now.place.ordered - position.now.place.next) position.now.place.stacks position.now.place.next }
-    ensures few { result ≤ 96 * 96 }
+/// What was counted, where it is not below `need`.
+#[inline]
+fn if_reached(count: u32, need: u32) -> Option<u32>
+    ensures value { IfSome result (λ reached. reached ≡ count) }
+    ensures reached { IfSome result (λ reached. need ≤ reached) }
+    ensures short { IfNone result (count < need) }
 {
+    if count < need { None } else { Some(count) }
+}
+
+/// How many containers would block again, rank by rank, where those that block now are so many; `None` exactly where they
+/// are fewer than `need`.
+///
+/// Each counts once at most, and only one that blocks: what stands above the next rank in its stack all blocks, and is gone
+/// once the stack is cut off. So there are never more than have counted and still block.
+pub fn again_reaching(
+    position: &Position,
+    leasts: &[u8; 97],
+    blocking: u32,
+    need: u32,
+) -> Option<u32>
+    requires known { KnowsLeasts leasts.now position.now.place }
+    requires blocking { blocking ≡ blocking_bound position.now.place }
+    ensures value { IfSome result (λ again. again ≡ stuck_now position.now.place) }
+    ensures reached { IfSome result (λ again. need ≤ again) }
+    ensures short { IfNone result (stuck_now position.now.place < need) }
+    ensures few { IfSome result (λ again. again ≤ 96 * 96) }
+{
+    let ordered = position.ordered();
+    if blocking < need {
+        return None;
+    }
     let mut left = heights_now(position);
     let mut offers = offers_now(position, leasts);
     let mut again: u32 = 0;
-    let ordered = position.ordered();
+    let mut still = blocking;
     for rank in position.next()..ordered + 1 {
         let row = position.row_of(rank);
         let index = row as usize - 1;
@@ -108,13 +133,30 @@ pub fn again_from(position: &Position, leasts: &[u8; 97]) -> u32
         if least_of(ordered, leasts, stack) == rank {
             let most = greatest(&offers);
             if most == 255 {
-                return again;
+                return if_reached(again, need);
             }
             let Cut { more, kept } = cut_at_rank(rank, most, stack);
             again += more;
+            still -= (stack.len() - 1 - kept) as u32;
+            if again + still < need {
+                return None;
+            }
             left[index] = kept as u8;
             offers[index] = least_of(ordered, leasts, &stack[..kept]);
         }
     }
+    if_reached(again, need)
+}
+
+/// How many containers would block again, rank by rank, where those that block now are so many.
+pub fn again_from(position: &Position, leasts: &[u8; 97], blocking: u32) -> u32
+    requires known { KnowsLeasts leasts.now position.now.place }
+    requires blocking { blocking ≡ blocking_bound position.now.place }
+    ensures value { result ≡ stuck_now position.now.place }
+    ensures few { result ≤ 96 * 96 }
+{
+    let Some(again) = again_reaching(position, leasts, blocking, 0) else {
+        unreachable!()
+    };
     again
 }

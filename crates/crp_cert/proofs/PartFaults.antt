@@ -7,7 +7,7 @@ use Rattle.std.proofs.lemmas.List.Elements.{All-push}
 use Rattle.std.proofs.lemmas.List.Quantifiers.{all_pairs_push}
 use Rattle.std.proofs.lemmas.List.{get_or-map, length-map, map-append, flat_map_more}
 use Rattle.crp_plan.specs.Bay.{Problem, Position, IsAt}
-use Rattle.crp_tree.specs.declared.tree.Tree.{Tree}
+use Rattle.crp_tree.specs.Tree.{Tree}
 use Rattle.crp_tree.specs.Names.{Precedes, name_text}
 use Rattle.crp_tree.specs.Claims.{Part, names}
 use Rattle.crp_cert.specs.declared.head.Head.{Head}

@@ -9,7 +9,7 @@ use Rattle.std.proofs.lemmas.List.Elements.{recursion_from_All, All-from_recursi
 use Rattle.crp_plan.specs.Bay.{Position}
 use Rattle.crp_bay.specs.Positions.{targets, child}
 use Rattle.crp_bay.proofs.Members.{not_in_nil, in_cons_cases}
-use Rattle.crp_tree.specs.declared.tree.Tree.{Tree, CutB, CutL, Branch', Given, Row_of-Tree, end_of-Tree, more_of-Tree}
+use Rattle.crp_tree.specs.Tree.{Tree, CutB, CutL, Branch, Given, Trees, no_trees, one_and}
 use Rattle.crp_tree.specs.Names.{Precedes}
 use Rattle.crp_tree.specs.Trees.{IsGivenAway, Fits, FitsEach}
 use Rattle.crp_tree.proofs.Ordered.{before_test}
@@ -127,7 +127,7 @@ symbols_from symbols are =
 pub none_given : (symbols rest : List ℕ) (tree : Tree) → AreSymbols symbols → symbols ≡ symbols_of tree ++ rest → IsGivenAway tree → ⊥
 none_given symbols rest CutB are e g = g
 none_given symbols rest CutL are e g = g
-none_given symbols rest (Branch' shape all) are e g = g
+none_given symbols rest (Branch all) are e g = g
 none_given symbols rest Given are e g = are.not_first rest e
 
 -- ---- the symbols of a tree
@@ -143,13 +143,13 @@ mutual
   tree_symbols s CutB m = (refl, tt)
   tree_symbols s CutL m = (refl, tt)
   tree_symbols s Given m = (refl, tt)
-  tree_symbols s (Branch' shape all) m = (refl, each_symbols s (targets s) all m)
+  tree_symbols s (Branch all) m = (refl, each_symbols s (targets s) all m)
 
-  each_symbols : (s : Position) (rows : List ℕ) {m : _} (all : Row_of-Tree m) → FitsEach s rows all → AllByRecursion (λ b. symbol_test b ≡ true) (symbols_of_each all)
-  each_symbols s [] end_of-Tree m = tt
-  each_symbols s [] (more_of-Tree tree trees) m = absurd m
-  each_symbols s (row ∷ rows) end_of-Tree m = tt
-  each_symbols s (row ∷ rows) (more_of-Tree tree trees) m =
+  each_symbols : (s : Position) (rows : List ℕ) (all : Trees) → FitsEach s rows all → AllByRecursion (λ b. symbol_test b ≡ true) (symbols_of_each all)
+  each_symbols s [] no_trees m = tt
+  each_symbols s [] (one_and tree trees) m = absurd m
+  each_symbols s (row ∷ rows) no_trees m = tt
+  each_symbols s (row ∷ rows) (one_and tree trees) m =
       both (λ b. symbol_test b ≡ true) (symbols_of tree) (symbols_of_each trees) (tree_symbols (child s row) tree m.0) (each_symbols s rows trees m.1)
 
 -- what passes the test for each symbol passes it for all
@@ -165,7 +165,7 @@ one_line (b ∷ symbols) all = (λ ten. let e : symbol_test 10 ≡ true = subst 
 first_tested : (tree : Tree) → (IsGivenAway tree → ⊥) → first_test (symbols_of tree) ≡ true
 first_tested CutB some = refl
 first_tested CutL some = refl
-first_tested (Branch' shape all) some = refl
+first_tested (Branch all) some = refl
 first_tested Given some = absurd (some tt)
 
 -- so they may stand in a part line

@@ -9,7 +9,7 @@ use Rattle.crp_plan.specs.Bay.{Problem, IsProblem, Position, IsAt}
 use Rattle.crp_bay.specs.Positions.{at}
 use Rattle.crp_bay.proofs.Reaching.{reached_rows}
 use Rattle.crp_bay.proofs.Walked.{at_reads, at_means}
-use Rattle.crp_tree.specs.declared.tree.Tree.{Tree}
+use Rattle.crp_tree.specs.Tree.{Tree}
 use Rattle.crp_tree.specs.Names.{Precedes}
 use Rattle.crp_tree.specs.Claims.{Part, names}
 use Rattle.crp_cert.specs.declared.head.Head.{Head}

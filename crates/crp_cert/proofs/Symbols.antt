@@ -1,12 +1,15 @@
 -- The symbols of trees: bytes begin with those of one tree at most, and a branch is read tree by tree.
-use Rattle.std.proofs.Common.{◌≡◌, ℕ, zero, suc, ◌<◌, List, [], ◌∷◌, ◌++◌, length, map, take, get_or, None, Vec, Global, refl, sym, ap, ◌∙◌, subst, arith, append_assoc, append-nil}
+use Rattle.std.proofs.Common.{◌≡◌, ℕ, zero, suc, ◌<◌, List, [], ◌∷◌, ◌++◌, length, map, take, get_or, None, refl, sym, ap, ◌∙◌, subst, arith, append_assoc, append-nil}
 use Rattle.std.specs.Prelude.{codes}
 use Rattle.std.specs.List.{flat_map}
 use Rattle.std.proofs.lemmas.List.{map-append}
 use Rattle.std.proofs.lemmas.Option.{none-some}
 use Rattle.crp_plan.specs.Bay.{Position}
 use Rattle.crp_bay.specs.Positions.{targets, child}
-use Rattle.crp_tree.specs.declared.tree.Tree.{Tree, CutB, CutL, Branch', Given, Branch, Row_of-Tree, end_of-Tree, more_of-Tree, items-the_row-Tree, items_hidden-the_row-Tree-0}
+use Rattle.crp_tree.specs.Tree.{Tree, CutB, CutL, Branch, Given, Trees, no_trees, one_and, items, row}
+use Rattle.std.proofs.lemmas.List.{map-append}
+use Rattle.crp_cert.specs.Letters.{letter_of_symbol}
+use Rattle.crp_tree.specs.Symbols.{symbols, symbols_of_each as symbols_of_each', items_row}
 use Rattle.crp_tree.specs.Trees.{Node, nodes, nodes_of_each, letter, Fits, FitsEach}
 use Rattle.crp_tree.specs.Listed.{AreFit}
 use Rattle.crp_tree.proofs.Listed.{IsBranch, trees_of, branch_node, branch_of, list_fits}
@@ -39,13 +42,13 @@ mutual
   letters_are path s CutB m = refl
   letters_are path s CutL m = refl
   letters_are path s Given m = refl
-  letters_are path s (Branch' shape all) m = ap (λ l. 88 ∷ l) (letters_each path s (targets s) all m)
+  letters_are path s (Branch all) m = ap (λ l. 88 ∷ l) (letters_each path s (targets s) all m)
 
-  letters_each : (path : List ℕ) (s : Position) (rows : List ℕ) {m : _} (all : Row_of-Tree m) → FitsEach s rows all → map letter_of (nodes_of_each path s rows all) ≡ symbols_of_each all
-  letters_each path s [] end_of-Tree m = refl
-  letters_each path s [] (more_of-Tree tree trees) m = absurd m
-  letters_each path s (row ∷ rows) end_of-Tree m = absurd m
-  letters_each path s (row ∷ rows) (more_of-Tree tree trees) m =
+  letters_each : (path : List ℕ) (s : Position) (rows : List ℕ) (all : Trees) → FitsEach s rows all → map letter_of (nodes_of_each path s rows all) ≡ symbols_of_each all
+  letters_each path s [] no_trees m = refl
+  letters_each path s [] (one_and tree trees) m = absurd m
+  letters_each path s (row ∷ rows) no_trees m = absurd m
+  letters_each path s (row ∷ rows) (one_and tree trees) m =
       map-append letter_of (nodes (path ++ row ∷ []) (child s row) tree) (nodes_of_each path s rows trees)
       ∙ ap (λ l. l ++ map letter_of (nodes_of_each path s rows trees)) (letters_are (path ++ row ∷ []) (child s row) tree m.0)
       ∙ ap (λ l. symbols_of tree ++ l) (letters_each path s rows trees m.1)
@@ -55,32 +58,32 @@ mutual
   pub one_tree : (path : List ℕ) (s : Position) (tree other : Tree) (rest rest' : List ℕ) → Fits s tree → Fits s other → symbols_of tree ++ rest ≡ symbols_of other ++ rest' → (nodes path s tree ≡ nodes path s other) × (rest ≡ rest')
   one_tree path s CutB CutB rest rest' m m' e = (refl, tails 66 66 rest rest' e)
   one_tree path s CutB CutL rest rest' m m' e = absurd (unlike 66 76 rest rest' (λ h. omega arith) e)
-  one_tree path s CutB (Branch' shape all) rest rest' m m' e = absurd (unlike 66 88 rest (symbols_of_each all ++ rest') (λ h. omega arith) e)
+  one_tree path s CutB (Branch all) rest rest' m m' e = absurd (unlike 66 88 rest (symbols_of_each all ++ rest') (λ h. omega arith) e)
   one_tree path s CutB Given rest rest' m m' e = absurd (unlike 66 71 rest rest' (λ h. omega arith) e)
   one_tree path s CutL CutB rest rest' m m' e = absurd (unlike 76 66 rest rest' (λ h. omega arith) e)
   one_tree path s CutL CutL rest rest' m m' e = (refl, tails 76 76 rest rest' e)
-  one_tree path s CutL (Branch' shape all) rest rest' m m' e = absurd (unlike 76 88 rest (symbols_of_each all ++ rest') (λ h. omega arith) e)
+  one_tree path s CutL (Branch all) rest rest' m m' e = absurd (unlike 76 88 rest (symbols_of_each all ++ rest') (λ h. omega arith) e)
   one_tree path s CutL Given rest rest' m m' e = absurd (unlike 76 71 rest rest' (λ h. omega arith) e)
   one_tree path s Given CutB rest rest' m m' e = absurd (unlike 71 66 rest rest' (λ h. omega arith) e)
   one_tree path s Given CutL rest rest' m m' e = absurd (unlike 71 76 rest rest' (λ h. omega arith) e)
-  one_tree path s Given (Branch' shape all) rest rest' m m' e = absurd (unlike 71 88 rest (symbols_of_each all ++ rest') (λ h. omega arith) e)
+  one_tree path s Given (Branch all) rest rest' m m' e = absurd (unlike 71 88 rest (symbols_of_each all ++ rest') (λ h. omega arith) e)
   one_tree path s Given Given rest rest' m m' e = (refl, tails 71 71 rest rest' e)
-  one_tree path s (Branch' shape all) CutB rest rest' m m' e = absurd (unlike 88 66 (symbols_of_each all ++ rest) rest' (λ h. omega arith) e)
-  one_tree path s (Branch' shape all) CutL rest rest' m m' e = absurd (unlike 88 76 (symbols_of_each all ++ rest) rest' (λ h. omega arith) e)
-  one_tree path s (Branch' shape all) Given rest rest' m m' e = absurd (unlike 88 71 (symbols_of_each all ++ rest) rest' (λ h. omega arith) e)
-  one_tree path s (Branch' shape all) (Branch' shape' all') rest rest' m m' e =
+  one_tree path s (Branch all) CutB rest rest' m m' e = absurd (unlike 88 66 (symbols_of_each all ++ rest) rest' (λ h. omega arith) e)
+  one_tree path s (Branch all) CutL rest rest' m m' e = absurd (unlike 88 76 (symbols_of_each all ++ rest) rest' (λ h. omega arith) e)
+  one_tree path s (Branch all) Given rest rest' m m' e = absurd (unlike 88 71 (symbols_of_each all ++ rest) rest' (λ h. omega arith) e)
+  one_tree path s (Branch all) (Branch all') rest rest' m m' e =
       let r = one_row path s (targets s) all all' rest rest' m m' (tails 88 88 (symbols_of_each all ++ rest) (symbols_of_each all' ++ rest') e) in
       (ap (λ l. branch_node path s ∷ l) r.0, r.1)
 
   -- and with those of one row of trees at most
-  one_row : (path : List ℕ) (s : Position) (rows : List ℕ) → {n : _} (all : Row_of-Tree n) → {n' : _} (other : Row_of-Tree n') → (rest rest' : List ℕ) → FitsEach s rows all → FitsEach s rows other →
+  one_row : (path : List ℕ) (s : Position) (rows : List ℕ) → (all : Trees) → (other : Trees) → (rest rest' : List ℕ) → FitsEach s rows all → FitsEach s rows other →
       symbols_of_each all ++ rest ≡ symbols_of_each other ++ rest' → (nodes_of_each path s rows all ≡ nodes_of_each path s rows other) × (rest ≡ rest')
-  one_row path s [] end_of-Tree end_of-Tree rest rest' m m' e = (refl, e)
-  one_row path s [] end_of-Tree (more_of-Tree tree trees) rest rest' m m' e = absurd m'
-  one_row path s [] (more_of-Tree tree trees) other rest rest' m m' e = absurd m
-  one_row path s (row ∷ rows) end_of-Tree other rest rest' m m' e = absurd m
-  one_row path s (row ∷ rows) (more_of-Tree tree trees) end_of-Tree rest rest' m m' e = absurd m'
-  one_row path s (row ∷ rows) (more_of-Tree tree trees) (more_of-Tree tree' trees') rest rest' m m' e =
+  one_row path s [] no_trees no_trees rest rest' m m' e = (refl, e)
+  one_row path s [] no_trees (one_and tree trees) rest rest' m m' e = absurd m'
+  one_row path s [] (one_and tree trees) other rest rest' m m' e = absurd m
+  one_row path s (row ∷ rows) no_trees other rest rest' m m' e = absurd m
+  one_row path s (row ∷ rows) (one_and tree trees) no_trees rest rest' m m' e = absurd m'
+  one_row path s (row ∷ rows) (one_and tree trees) (one_and tree' trees') rest rest' m m' e =
       let h = one_tree (path ++ row ∷ []) (child s row) tree tree' (symbols_of_each trees ++ rest) (symbols_of_each trees' ++ rest') m.0 m'.0
       (sym (append_assoc (symbols_of tree) (symbols_of_each trees) rest) ∙ e ∙ append_assoc (symbols_of tree') (symbols_of_each trees') rest') in
       let r = one_row path s rows trees trees' rest rest' m.1 m'.1 h.1 in
@@ -89,24 +92,23 @@ mutual
 -- ---- a branch, tree by tree
 
 -- its symbols are those of its trees, one after the other
-each_symbols : {m : _} (all : Row_of-Tree m) → symbols_of_each all ≡ flat_map symbols_of (items-the_row-Tree m all)
-each_symbols end_of-Tree = refl
-each_symbols (more_of-Tree tree trees) = ap (λ l. symbols_of tree ++ l) (each_symbols trees)
+each_symbols : (all : Trees) → symbols_of_each all ≡ flat_map symbols_of (items all)
+each_symbols no_trees = refl
+each_symbols (one_and tree trees) = ap (λ l. symbols_of tree ++ l) (each_symbols trees)
 
 symbols_below : (tree : Tree) → IsBranch tree → symbols_of tree ≡ codes "X" ++ flat_map symbols_of (trees_of tree)
 symbols_below CutB is = absurd is
 symbols_below CutL is = absurd is
 symbols_below Given is = absurd is
-symbols_below (Branch' shape all) is = ap (λ l. codes "X" ++ l) (each_symbols all)
+symbols_below (Branch all) is = ap (λ l. codes "X" ++ l) (each_symbols all)
 
-pub branch_symbols : (tree : Tree) (trees : Vec Tree Global) (list : List Tree) → tree ≡ Branch trees → list ≡ trees.items → symbols_of tree ≡ codes "X" ++ flat_map symbols_of list
-branch_symbols tree trees list is same =
-    ap symbols_of is ∙ subst (λ l. symbols_of (Branch trees) ≡ codes "X" ++ flat_map symbols_of l) (items_hidden-the_row-Tree-0 trees) (symbols_below (Branch trees) tt) ∙ ap (λ l. codes "X" ++ flat_map symbols_of l) (sym same)
+pub branch_symbols : (trees : List Tree) → symbols_of (Branch (row trees)) ≡ codes "X" ++ flat_map symbols_of trees
+branch_symbols trees = subst (λ l. symbols_of (Branch (row trees)) ≡ codes "X" ++ flat_map symbols_of l) (items_row trees) (symbols_below (Branch (row trees)) tt)
 
 -- a branch that was read
-pub branch_read : (s : Position) (bytes : List ℕ) (trees : Vec Tree Global) (rest : List ℕ) → AreFit s (targets s) trees.items → bytes ≡ (codes "X" ++ flat_map symbols_of trees.items) ++ rest →
-    Fits s (Branch trees) × (bytes ≡ symbols_of (Branch trees) ++ rest)
-branch_read s bytes trees rest m e = let branch = branch_of trees in (branch.fits s m, e ∙ ap (λ l. l ++ rest) (sym (branch_symbols (Branch trees) trees trees.items refl refl)))
+pub branch_read : (s : Position) (bytes : List ℕ) (trees : List Tree) (rest : List ℕ) → AreFit s (targets s) trees → bytes ≡ (codes "X" ++ flat_map symbols_of trees) ++ rest →
+    Fits s (Branch (row trees)) × (bytes ≡ symbols_of (Branch (row trees)) ++ rest)
+branch_read s bytes trees rest m e = let branch = branch_of trees in (branch.fits s m, e ∙ ap (λ l. l ++ rest) (sym (branch_symbols trees)))
 
 -- the symbols of one tree more
 all_push : (trees : List Tree) (tree : Tree) → flat_map symbols_of (trees ++ tree ∷ []) ≡ flat_map symbols_of trees ++ symbols_of tree
@@ -126,7 +128,7 @@ no_symbol s bytes b l g x stands = by_tree stands.0 stands.1 stands.2.0 stands.2
     by_tree : (tree : Tree) → Fits s tree → (rest : List ℕ) → bytes ≡ symbols_of tree ++ rest → ⊥
     by_tree CutB m rest e = none-some rest (sym b ∙ ap (tag_at (codes "B")) e ∙ tag_again (codes "B") rest)
     by_tree CutL m rest e = none-some rest (sym l ∙ ap (tag_at (codes "L")) e ∙ tag_again (codes "L") rest)
-    by_tree (Branch' shape all) m rest e = none-some (symbols_of_each all ++ rest) (sym x ∙ ap (tag_at (codes "X")) e ∙ tag_again (codes "X") (symbols_of_each all ++ rest))
+    by_tree (Branch all) m rest e = none-some (symbols_of_each all ++ rest) (sym x ∙ ap (tag_at (codes "X")) e ∙ tag_again (codes "X") (symbols_of_each all ++ rest))
     by_tree Given m rest e = none-some rest (sym g ∙ ap (tag_at (codes "G")) e ∙ tag_again (codes "G") rest)
 
 -- trees that were read, and trees of the whole row, go on alike
@@ -152,8 +154,26 @@ branch_stops s bytes rows trees i a left rows_are lt m e none stands = by_tree s
     by_tree CutB m' rest e' = unlike 88 66 (flat_map symbols_of trees ++ left) rest (λ h. omega arith) (sym e ∙ e')
     by_tree CutL m' rest e' = unlike 88 76 (flat_map symbols_of trees ++ left) rest (λ h. omega arith) (sym e ∙ e')
     by_tree Given m' rest e' = unlike 88 71 (flat_map symbols_of trees ++ left) rest (λ h. omega arith) (sym e ∙ e')
-    by_tree (Branch' shape all) m' rest e' =
+    by_tree (Branch all) m' rest e' =
         let t : flat_map symbols_of trees ++ left ≡ symbols_of_each all ++ rest = tails 88 88 (flat_map symbols_of trees ++ left) (symbols_of_each all ++ rest) (sym e ∙ e') in
-        not_further s rows trees (items-the_row-Tree _ all) i a left rest lt m
-        (subst (λ l. AreFit s l (items-the_row-Tree _ all)) (sym rows_are) (list_fits s (targets s) all m'))
+        not_further s rows trees (items all) i a left rest lt m
+        (subst (λ l. AreFit s l (items all)) (sym rows_are) (list_fits s (targets s) all m'))
         (t ∙ ap (λ l. l ++ rest) (each_symbols all)) none
+
+-- ---- the letters of a tree's symbols
+
+mutual
+  pub spelled : (tree : Tree) → map letter_of_symbol (symbols tree) ≡ symbols_of tree
+  spelled CutB = refl
+  spelled CutL = refl
+  spelled Given = refl
+  spelled (Branch trees) = ap (λ l. 88 ∷ l) (spelled_each trees)
+
+  spelled_each : (trees : Trees) → map letter_of_symbol (symbols_of_each' trees) ≡ symbols_of_each trees
+  spelled_each no_trees = refl
+  spelled_each (one_and tree trees) = map-append letter_of_symbol (symbols tree) (symbols_of_each' trees) ∙ ap (λ l. l ++ map letter_of_symbol (symbols_of_each' trees)) (spelled tree) ∙ ap (λ l. symbols_of tree ++ l) (spelled_each trees)
+
+-- the symbols of one tree more
+pub each_push : (trees : List Tree) (tree : Tree) → symbols_of_each' (row trees) ++ symbols tree ≡ symbols_of_each' (row (trees ++ tree ∷ []))
+each_push [] tree = sym (append-nil (symbols tree))
+each_push (t ∷ trees) tree = append_assoc (symbols t) (symbols_of_each' (row trees)) (symbols tree) ∙ ap (λ l. symbols t ++ l) (each_push trees tree)

@@ -6,7 +6,7 @@ use Rattle.std.proofs.lemmas.Option.{same_Some, none-some}
 use denote.RawPtr.{null_ptr}
 use Rattle.crp_plan.specs.Bay.{Position}
 use Rattle.crp_bay.specs.Positions.{can_shift, child, counted, targets}
-use Rattle.crp_tree.specs.declared.tree.Tree.{Tree, CutB, CutL, Branch', Given, Branch, Row_of-Tree, end_of-Tree, more_of-Tree}
+use Rattle.crp_tree.specs.Tree.{Tree, CutB, CutL, Branch, Given, Trees, no_trees, one_and, row}
 use Rattle.crp_cert.specs.Script.{symbols_of, symbols_of_each}
 use Rattle.crp_cert.specs.Reading.{◌>>=◌}
 use Rattle.crp_cert.proofs.Numbers.{bind_some, chosen}
@@ -36,42 +36,25 @@ mutual
   pub tree_again : (levels : ℕ) (s : Position) (tree : Tree) (rest : List ℕ) → length (symbols_of tree) ≤ levels → Fits s tree → behind_tree levels s (symbols_of tree ++ rest) ≡ Some rest
   tree_again zero s CutB rest few m = absurd (omega arith)
   tree_again zero s CutL rest few m = absurd (omega arith)
-  tree_again zero s (Branch' shape all) rest few m = absurd (omega arith)
+  tree_again zero s (Branch all) rest few m = absurd (omega arith)
   tree_again zero s Given rest few m = absurd (omega arith)
   tree_again (suc levels) s CutB rest few m = refl
   tree_again (suc levels) s CutL rest few m = refl
   tree_again (suc levels) s Given rest few m = refl
-  tree_again (suc levels) s (Branch' shape all) rest few m = each_again levels s (targets s) all rest (omega arith) m
+  tree_again (suc levels) s (Branch all) rest few m = each_again levels s (targets s) all rest (omega arith) m
 
-  pub each_again : (levels : ℕ) (s : Position) (rows : List ℕ) {m : _} (all : Row_of-Tree m) (rest : List ℕ) → length (symbols_of_each all) ≤ levels → FitsEach s rows all →
+  pub each_again : (levels : ℕ) (s : Position) (rows : List ℕ) (all : Trees) (rest : List ℕ) → length (symbols_of_each all) ≤ levels → FitsEach s rows all →
       behind_each (behind_tree levels) s rows (symbols_of_each all ++ rest) ≡ Some rest
-  each_again levels s [] end_of-Tree rest few m = refl
-  each_again levels s [] (more_of-Tree tree trees) rest few m = absurd m
-  each_again levels s (row ∷ rows) end_of-Tree rest few m = absurd m
-  each_again levels s (row ∷ rows) (more_of-Tree tree trees) rest few m =
+  each_again levels s [] no_trees rest few m = refl
+  each_again levels s [] (one_and tree trees) rest few m = absurd m
+  each_again levels s (row ∷ rows) no_trees rest few m = absurd m
+  each_again levels s (row ∷ rows) (one_and tree trees) rest few m =
       let long = length-append (symbols_of tree) (symbols_of_each trees) in
       ap (λ l. behind_tree levels (child s row) l >>= λ r. behind_each (behind_tree levels) s rows r) (append_assoc (symbols_of tree) (symbols_of_each trees) rest)
       ∙ ap (λ o. o >>= λ r. behind_each (behind_tree levels) s rows r) (tree_again levels (child s row) tree (symbols_of_each trees ++ rest) (omega arith) m.0)
       ∙ each_again levels s rows trees rest (omega arith) m.1
 
 -- ---- the tree
-
--- these trees as a branch keeps them
-kept : (trees : List Tree) → length trees ≤ 12 → Vec Tree Global
-kept trees few = record {
-  items = trees;
-  len = length trees;
-  cap = length trees;
-  ok = (refl, omega arith);
-  small = omega arith;
-  ptr = null_ptr;
-  alloc = record { memory = record { seal = tt } };
-}
-
--- and they are the trees that it keeps
-kept_items : (trees : List Tree) (few : length trees ≤ 12) → (kept trees few).items ≡ trees
-unfolding kept
-kept_items trees few = refl
 
 -- there are no more legal rows than rows
 few_targets : (s : Position) → length (targets s) ≤ length s.heights
@@ -113,11 +96,8 @@ tree_takes (suc levels) s (b ∷ bytes) rest few e =
     (λ trees.
     let is : b ≡ 88 = eqb-true b 88 trees.0 in
     let r = each_takes (behind_tree levels) s (λ row l after f. tree_takes levels (child s row) l after (omega (arith, child_rows s row)) f) (targets s) bytes rest trees.1 in
-    let low : length r.0 ≤ 12 = omega (arith, fit_lengths s (targets s) r.0 r.1, few_targets s) in
-    let kids : Vec Tree Global = kept r.0 low in
-    let same : kids.items ≡ r.0 = kept_items r.0 low in
-    let made = branch_read s (b ∷ bytes) kids rest (subst (AreFit s (targets s)) (sym same) r.1) (ap (λ x. x ∷ bytes) is ∙ ap (λ l. 88 ∷ l) r.2 ∙ ap (λ l. (codes "X" ++ flat_map symbols_of l) ++ rest) (sym same)) in
-    (Branch kids, made.0, made.1))
+    let made = branch_read s (b ∷ bytes) r.0 rest r.1 (ap (λ x. x ∷ bytes) is ∙ ap (λ l. 88 ∷ l) r.2) in
+    (Branch (row r.0), made.0, made.1))
     (λ nothing. absurd (none-some rest nothing.1))
     (chosen (b == 88) (behind_each (behind_tree levels) s (targets s) bytes) None (Some rest) branch.1))
     (chosen (b == 71) (Some bytes) (cond (b == 88) (behind_each (behind_tree levels) s (targets s) bytes) None) (Some rest) further.1))

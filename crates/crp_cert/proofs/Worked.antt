@@ -1,11 +1,11 @@
 -- Worked certificates: trees at the empty paths of three problems, and what they show.
-use Rattle.std.proofs.Common.{◌≡◌, ◌≢◌, ℕ, ◌≤◌, inl, ⊎_elim, List, [], ◌∷◌, ◌++◌, map, Contains, All, AllPairs, None, Vec, Global, refl, sym, ap, ◌∙◌, subst, arith}
+use Rattle.std.proofs.Common.{◌≡◌, ◌≢◌, ℕ, ◌≤◌, inl, ⊎_elim, List, [], ◌∷◌, ◌++◌, map, Contains, All, AllPairs, None, refl, sym, ap, ◌∙◌, subst, arith}
 use Rattle.std.proofs.lemmas.List.Elements.{All-nil, All-cons, All-same, All-from_recursion}
 use Rattle.crp_plan.specs.Bay.{Problem, IsProblem, Position, start, cap}
 use Rattle.crp_plan.specs.Faults.{stated, stated_with}
 use Rattle.crp_bay.specs.Positions.{settled, child, targets}
 use Rattle.crp_bay.proofs.Walked.{begins_at}
-use Rattle.crp_tree.specs.declared.tree.Tree.{Tree, CutB, CutL, Branch}
+use Rattle.crp_tree.specs.Tree.{Tree, CutB, CutL, Branch, row}
 use Rattle.crp_bay.proofs.Members.{not_in_nil, in_head, in_cons_cases}
 use Rattle.crp_tree.specs.Names.{Precedes}
 use Rattle.crp_tree.specs.Trees.{Node, nodes, cuts, given_names, value, IsInPlace, HasShape, HasAtLeast, least_value}
@@ -14,7 +14,7 @@ use Rattle.crp_tree.specs.Claims.{Part, IsPart, nodes_in, given_by}
 use Rattle.crp_tree.proofs.Shown.{least_most, from_least}
 use Rattle.crp_tree.proofs.Accepted.{nodes_are}
 use Rattle.crp_cert.specs.Writing.{CanBeSpelled}
-use Rattle.crp_tree.proofs.Listed.{IsBranchOf, is_branch_of, branch_node}
+use Rattle.crp_tree.proofs.Listed.{IsBranchOf, branch_of, branch_node}
 
 -- a tree that has its shape at the empty path is a part there
 pub part_at_root : (p : Problem) (name : List ℕ) (tree : Tree) → name ≡ [] → IsProblem p → HasShape [] (settled (start p)) tree → IsPart p (record { name = name; tree = tree })
@@ -59,23 +59,23 @@ one_row tiers ordered p a a' e x = e ∙ ap (λ l. stated tiers ordered (l ∷ [
 abbrev pub ShapeAndFloor : ℕ → Tree → Problem → Type 0
 ShapeAndFloor floor tree p = HasShape [] (settled (start p)) tree × (floor ≡ least_value (cap p) (nodes [] (settled (start p)) tree))
 
-branch_shows : (p : Problem) (floor : ℕ) (trees : Vec Tree Global) (list : List Tree) → let s = settled (start p) in
-    trees.items ≡ list → s.next ≤ s.ordered → AreFit s (targets s) list → All IsInPlace (nodes_below [] s (targets s) list) → floor ≡ least_value (cap p) (nodes_below [] s (targets s) list) → ShapeAndFloor floor (Branch trees) p
+branch_shows : (p : Problem) (floor : ℕ) (trees : List Tree) (list : List Tree) → let s = settled (start p) in
+    trees ≡ list → s.next ≤ s.ordered → AreFit s (targets s) list → All IsInPlace (nodes_below [] s (targets s) list) → floor ≡ least_value (cap p) (nodes_below [] s (targets s) list) → ShapeAndFloor floor (Branch (row trees)) p
 branch_shows p floor trees list e le fit in_place is =
     let s : Position = settled (start p) in
-    let branch : IsBranchOf (Branch trees) list = is_branch_of (Branch trees) trees list refl (sym e) in (
+    let branch : IsBranchOf (Branch (row trees)) list = subst (IsBranchOf (Branch (row trees))) e (branch_of trees) in (
       record {
         fits = branch.fits s fit;
-        in_place = All-same IsInPlace (nodes [] s (Branch trees)) (branch_node [] s ∷ nodes_below [] s (targets s) list) (branch.nodes_are [] s) (All-cons IsInPlace (branch_node [] s) (nodes_below [] s (targets s) list) le in_place);
+        in_place = All-same IsInPlace (nodes [] s (Branch (row trees))) (branch_node [] s ∷ nodes_below [] s (targets s) list) (branch.nodes_are [] s) (All-cons IsInPlace (branch_node [] s) (nodes_below [] s (targets s) list) le in_place);
         not_given = λ n. n;
       },
       is ∙ ap (least_value (cap p)) (sym (branch.nodes_are [] s)),
     )
 
 -- cut by the look-ahead bound below row 2 and by the blocking bound below row 3, the six show 3
-pub six_show : (p : Problem) (trees : Vec Tree Global) → p ≡ six → trees.items ≡ CutL ∷ CutB ∷ [] → ShapeAndFloor 3 (Branch trees) p
+pub six_show : (p : Problem) (trees : List Tree) → p ≡ six → trees ≡ CutL ∷ CutB ∷ [] → ShapeAndFloor 3 (Branch (row trees)) p
 six_show p trees is e =
-    subst (ShapeAndFloor 3 (Branch trees)) (sym is) (branch_shows six 3 trees (CutL ∷ CutB ∷ []) e (omega arith) (tt, (tt, tt)) (All-from_recursion IsInPlace (nodes_below [] first (targets first) (CutL ∷ CutB ∷ [])) (tt, (tt, tt))) refl)
+    subst (ShapeAndFloor 3 (Branch (row trees))) (sym is) (branch_shows six 3 trees (CutL ∷ CutB ∷ []) e (omega arith) (tt, (tt, tt)) (All-from_recursion IsInPlace (nodes_below [] first (targets first) (CutL ∷ CutB ∷ [])) (tt, (tt, tt))) refl)
   where
     first : Position
     first = settled (start six)
@@ -89,10 +89,10 @@ pub four_show : (p : Problem) → p ≡ four → ShapeAndFloor 2 CutL p
 four_show p is = subst (ShapeAndFloor 2 CutL) (sym is) (record { fits = tt; in_place = All-from_recursion IsInPlace (nodes [] (settled (start four)) CutL) (tt, tt); not_given = λ n. n }, refl)
 
 -- with branches at the empty path and below row 2, and cuts by the blocking bound below these, the four show 2
-pub four_branch : (p : Problem) (trees inner : Vec Tree Global) → p ≡ four → trees.items ≡ Branch inner ∷ CutB ∷ [] → inner.items ≡ CutB ∷ CutB ∷ [] → ShapeAndFloor 2 (Branch trees) p
+pub four_branch : (p : Problem) (trees inner : List Tree) → p ≡ four → trees ≡ Branch (row inner) ∷ CutB ∷ [] → inner ≡ CutB ∷ CutB ∷ [] → ShapeAndFloor 2 (Branch (row trees)) p
 four_branch p trees inner is e below =
-    subst (ShapeAndFloor 2 (Branch trees)) (sym is)
-    (branch_shows four 2 trees (Branch inner ∷ CutB ∷ []) e (omega arith) (branch.fits second (tt, (tt, tt)), (tt, tt))
+    subst (ShapeAndFloor 2 (Branch (row trees))) (sym is)
+    (branch_shows four 2 trees (Branch (row inner) ∷ CutB ∷ []) e (omega arith) (branch.fits second (tt, (tt, tt)), (tt, tt))
     (subst (All IsInPlace) (sym listed) (All-from_recursion IsInPlace list (omega arith, (tt, (tt, (tt, tt))))))
     (ap (least_value (cap four)) (sym listed)))
   where
@@ -102,13 +102,13 @@ four_branch p trees inner is e below =
     second : Position
     second = child first 2
 
-    branch : IsBranchOf (Branch inner) (CutB ∷ CutB ∷ [])
-    branch = is_branch_of (Branch inner) inner (CutB ∷ CutB ∷ []) refl (sym below)
+    branch : IsBranchOf (Branch (row inner)) (CutB ∷ CutB ∷ [])
+    branch = subst (IsBranchOf (Branch (row inner))) below (branch_of inner)
 
     list : List Node
     list = (branch_node (2 ∷ []) second ∷ nodes_below (2 ∷ []) second (targets second) (CutB ∷ CutB ∷ [])) ++ nodes_below [] first (3 ∷ []) (CutB ∷ [])
 
-    listed : nodes_below [] first (targets first) (Branch inner ∷ CutB ∷ []) ≡ list
+    listed : nodes_below [] first (targets first) (Branch (row inner) ∷ CutB ∷ []) ≡ list
     listed = ap (λ l. l ++ nodes_below [] first (3 ∷ []) (CutB ∷ [])) (branch.nodes_are (2 ∷ []) second)
 
 -- under unequal heights too
@@ -116,11 +116,11 @@ pub unequal_show : (p : Problem) → p ≡ unequal → ShapeAndFloor 2 CutL p
 unequal_show p is = subst (ShapeAndFloor 2 CutL) (sym is) (record { fits = tt; in_place = All-from_recursion IsInPlace (nodes [] (settled (start unequal)) CutL) (tt, tt); not_given = λ n. n }, refl)
 
 -- a branch without trees shows the cap, where no row is legal
-pub buried_shows : (p : Problem) (trees : Vec Tree Global) → p ≡ buried → trees.items ≡ [] → ShapeAndFloor 5 (Branch trees) p
-buried_shows p trees is e = subst (ShapeAndFloor 5 (Branch trees)) (sym is) (branch_shows buried 5 trees [] e (omega arith) tt (All-nil IsInPlace) refl)
+pub buried_shows : (p : Problem) (trees : List Tree) → p ≡ buried → trees ≡ [] → ShapeAndFloor 5 (Branch (row trees)) p
+buried_shows p trees is e = subst (ShapeAndFloor 5 (Branch (row trees))) (sym is) (branch_shows buried 5 trees [] e (omega arith) tt (All-nil IsInPlace) refl)
 
-pub narrow_shows : (p : Problem) (trees : Vec Tree Global) → p ≡ narrow → trees.items ≡ [] → ShapeAndFloor 4 (Branch trees) p
-narrow_shows p trees is e = subst (ShapeAndFloor 4 (Branch trees)) (sym is) (branch_shows narrow 4 trees [] e (omega arith) tt (All-nil IsInPlace) refl)
+pub narrow_shows : (p : Problem) (trees : List Tree) → p ≡ narrow → trees ≡ [] → ShapeAndFloor 4 (Branch (row trees)) p
+narrow_shows p trees is e = subst (ShapeAndFloor 4 (Branch (row trees))) (sym is) (branch_shows narrow 4 trees [] e (omega arith) tt (All-nil IsInPlace) refl)
 
 -- of one name there are no two
 alone : (R : List ℕ → List ℕ → Type 0) (name : List ℕ) → AllPairs R (name ∷ [])

@@ -4,7 +4,7 @@ use Rattle.std.specs.Prelude.{codes}
 use Rattle.std.proofs.lemmas.Fmt.{decimal_digit}
 use Rattle.crp_plan.specs.Bay.{Position, start}
 use Rattle.crp_bay.specs.Positions.{settled, targets}
-use Rattle.crp_tree.specs.declared.tree.Tree.{CutB, CutL, Given, end_of-Tree, more_of-Tree}
+use Rattle.crp_tree.specs.Tree.{CutB, CutL, Given, no_trees, one_and}
 use Rattle.crp_tree.specs.Names.{name_text}
 use Rattle.crp_cert.specs.Script.{symbols_of_each, symbols_line, end_line}
 use Rattle.crp_cert.specs.ScriptFaults.{AreSymbols}
@@ -33,18 +33,18 @@ end_of_six : end_line 1 ≡ codes "end 1" ++ 10 ∷ []
 end_of_six = rw (decimal_digit 1 (omega arith)) refl
 
 -- below its branch stand a cut by the look-ahead bound and one by the blocking bound
-trees_of_six : symbols_of_each (more_of-Tree CutL (more_of-Tree CutB end_of-Tree)) ≡ codes "LB"
+trees_of_six : symbols_of_each (one_and CutL (one_and CutB no_trees)) ≡ codes "LB"
 trees_of_six = refl
 
 -- there are two trees, since the legal rows are 2 and 3
-two_match : FitsEach before (targets before) (more_of-Tree CutL (more_of-Tree CutB end_of-Tree))
+two_match : FitsEach before (targets before) (one_and CutL (one_and CutB no_trees))
 two_match = (tt, (tt, tt))
 
-one_does_not : FitsEach before (targets before) (more_of-Tree CutL end_of-Tree) → ⊥
+one_does_not : FitsEach before (targets before) (one_and CutL no_trees) → ⊥
 one_does_not m = m.1
 
 -- both may be given to other parts
-given_match : FitsEach before (targets before) (more_of-Tree Given (more_of-Tree Given end_of-Tree))
+given_match : FitsEach before (targets before) (one_and Given (one_and Given no_trees))
 given_match = (tt, (tt, tt))
 
 -- but not the branch itself
@@ -52,5 +52,5 @@ not_as_a_whole : AreSymbols (codes "G") → ⊥
 not_as_a_whole are = are.not_first [] refl
 
 -- no trees stand where all have left
-none_match : FitsEach done (targets done) end_of-Tree
+none_match : FitsEach done (targets done) no_trees
 none_match = tt

@@ -2,7 +2,7 @@
 use Rattle.std.specs.Prelude.{◌≡◌, ℕ, ◌≤◌, List, [], ◌∷◌, ◌++◌, length, All, AllPairs, codes}
 use Rattle.std.specs.List.{flat_map}
 use Rattle.crp_plan.specs.Bay.{Problem, Position, IsAt}
-use Rattle.crp_tree.specs.declared.tree.Tree.{Tree, CutB, CutL, Branch', Given, Row_of-Tree, end_of-Tree, more_of-Tree}
+use Rattle.crp_tree.specs.Tree.{Tree, CutB, CutL, Branch, Given, Trees, no_trees, one_and}
 use Rattle.crp_tree.specs.Names.{Precedes, name_text}
 use Rattle.crp_tree.specs.Trees.{Fits, IsGivenAway}
 use Rattle.crp_tree.specs.Claims.{Part, Claimed, names}
@@ -15,13 +15,13 @@ abbrev mutual
   pub symbols_of : Tree → List ℕ
   symbols_of CutB = codes "B"
   symbols_of CutL = codes "L"
-  symbols_of (Branch' shape all) = codes "X" ++ symbols_of_each all
+  symbols_of (Branch all) = codes "X" ++ symbols_of_each all
   symbols_of Given = codes "G"
 
   -- the symbols of the trees of a branch, one tree after the other
-  pub symbols_of_each : {m : _} → Row_of-Tree m → List ℕ
-  symbols_of_each end_of-Tree = []
-  symbols_of_each (more_of-Tree tree trees) = symbols_of tree ++ symbols_of_each trees
+  pub symbols_of_each : Trees → List ℕ
+  symbols_of_each no_trees = []
+  symbols_of_each (one_and tree trees) = symbols_of tree ++ symbols_of_each trees
 
 -- a part line with this name and these symbols
 abbrev pub symbols_line : List ℕ → List ℕ → List ℕ

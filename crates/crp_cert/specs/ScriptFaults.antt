@@ -2,7 +2,7 @@
 use Rattle.std.specs.Prelude.{◌≡◌, ◌≢◌, ◌≤◌, ◌⊎◌, ℕ, suc, ◌+◌, List, ◌∷◌, ◌++◌, length, All, AllPairs, Contains, codes}
 use Rattle.std.specs.List.{flat_map}
 use Rattle.crp_plan.specs.Bay.{Problem, Position, IsAt}
-use Rattle.crp_tree.specs.declared.tree.Tree.{Tree}
+use Rattle.crp_tree.specs.Tree.{Tree}
 use Rattle.crp_tree.specs.Names.{Precedes}
 use Rattle.crp_tree.specs.Claims.{Part, names}
 use Rattle.crp_cert.specs.declared.head.Head.{Head}

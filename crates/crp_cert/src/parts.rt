@@ -10,12 +10,12 @@ pub struct PartLine {
 
 impl Model for PartLine {
     ghost use Rattle.std.specs.Coded.{codes};
-    ghost use Rattle.crp_tree.specs.contracts.tree.Tree as trees;
+    ghost use Rattle.crp_tree.specs.Symbols.{tree_code};
     ghost use Rattle.crp_tree.specs.Claims.{Part};
 
     ghost Value = { Part };
 
-    ghost coded = { Prim.hlevel (codes, trees.the_row.coded) };
+    ghost coded = { Prim.hlevel (codes, tree_code) };
 
     ghost view = { λ part. record { name = part.name; tree = part.tree } };
 }
@@ -54,12 +54,12 @@ pub struct Parts {
 impl Model for Parts {
     ghost use Rattle.std.specs.Prelude.{List};
     ghost use Rattle.std.specs.Coded.{codes};
-    ghost use Rattle.crp_tree.specs.contracts.tree.Tree as trees;
+    ghost use Rattle.crp_tree.specs.Symbols.{tree_code};
     ghost use Rattle.crp_tree.specs.Claims.{Part};
 
     ghost Value = { List Part };
 
-    ghost coded = { Prim.hlevel (codes, trees.the_row.coded) };
+    ghost coded = { Prim.hlevel (codes, tree_code) };
 
     ghost view = { λ a. a.parts.items };
 }

@@ -2,11 +2,13 @@
 ghost use Rattle.std.specs.Prelude.{◌≡◌, ◌++◌, Contains, codes, IsTrue, ◌↔◌, IfOk, IfSome, IfNone};
 ghost use Rattle.crp_cert.specs.Script.{symbols_of};
 ghost use Rattle.crp_cert.specs.ScriptFaults.{AreSymbols, BeginsWithTree};
+ghost use Rattle.crp_tree.specs.Tree.{Tree as Shape};
+ghost use Rattle.crp_tree.specs.Symbols.{symbols};
 ghost use Rattle.crp_tree.specs.Trees.{Fits};
 
 use crate::fields::after_tag;
 use crp_bay::Position;
-use crp_tree::Tree;
+use crp_tree::{Symbol, Tree};
 use std::alloc::{AllocError, Global};
 
 /// Whether a byte is a symbol.
@@ -38,30 +40,50 @@ pub fn read_tree<'a>(
     ensures back { IfOk result (λ found. IfSome found (λ x. place.new ≡ place.old)) }
     ensures none { IfOk result (λ found. IfNone found (¬ BeginsWithTree place.old.place bytes.now)) }
 {
+    let mut list = Vec::new(alloc);
+    let Some(rest) = read_symbols(&mut list, place, bytes)? else {
+        return Ok(None);
+    };
+    Ok(Some((Tree::from_symbols(list), rest)))
+}
+
+/// Adds the symbols of the tree that the bytes begin with, and answers what follows them. Where there is one the position is what it was.
+
+fn read_symbols<'a>(
+    list: &mut Vec<Symbol>,
+    place: &mut Position,
+    bytes: &'a [u8],
+) -> Result<Option<&'a [u8]>, AllocError>
+    ensures found { IfOk result (λ found. IfSome found (λ rest. (tree : Shape) × (list.new.items ≡ list.old.items ++ symbols tree) × Fits place.old.place tree × (bytes.now ≡ symbols_of tree ++ rest.now))) }
+    ensures back { IfOk result (λ found. IfSome found (λ rest. place.new ≡ place.old)) }
+    ensures none { IfOk result (λ found. IfNone found (¬ BeginsWithTree place.old.place bytes.now)) }
+{
     if let Some(rest) = after_tag(b"B", bytes) {
-        return Ok(Some((Tree::CutB, rest)));
+        list.push(Symbol::CutB)?;
+        return Ok(Some(rest));
     }
     if let Some(rest) = after_tag(b"L", bytes) {
-        return Ok(Some((Tree::CutL, rest)));
+        list.push(Symbol::CutL)?;
+        return Ok(Some(rest));
     }
     if let Some(rest) = after_tag(b"G", bytes) {
-        return Ok(Some((Tree::Given, rest)));
+        list.push(Symbol::Given)?;
+        return Ok(Some(rest));
     }
     let Some(mut rest) = after_tag(b"X", bytes) else {
         return Ok(None);
     };
     let targets = place.targets();
-    let mut trees = Vec::new(alloc);
+    list.push(Symbol::Branch(targets.len() as u8))?;
     for row in targets.as_slice() {
         if !place.push(*row) {
             return Ok(None);
         }
-        let Some((tree, after)) = read_tree(alloc, place, rest)? else {
+        let Some(after) = read_symbols(list, place, rest)? else {
             return Ok(None);
         };
         let _popped = place.pop();
-        trees.push(tree)?;
         rest = after;
     }
-    Ok(Some((Tree::Branch(trees), rest)))
+    Ok(Some(rest))
 }

@@ -9,6 +9,7 @@ ghost use Rattle.crp_tree.specs.Parts.{part_of};
 ghost use Rattle.crp_cert.specs.Text.{numbers_line, title_line, bay_line, size_line, stated_heights, size_of, row_line, claim_line, plan_line, head_text};
 ghost use Rattle.crp_tree.specs.Names.{name_text};
 ghost use Rattle.crp_cert.specs.Script.{symbols_of, part_line};
+ghost use Rattle.crp_cert.specs.Letters.{letter_of_symbol};
 ghost use Rattle.crp_cert.specs.Writing.{are_equal, version_for, version_under, head_for, text_under, certificate_text, first_certificate_text};
 ghost use Rattle.crp_cert.specs.declared.writing.WriteFault.TheVariants.{Failed, Memory};
 
@@ -16,7 +17,7 @@ use crate::claim::Claim;
 use crate::version::Version;
 use arrayvec::ArrayVec;
 use crp_plan::{BayName, MAX_ROWS, Plan, Problem, Sink, WriteFailed, tallest, write_all};
-use crp_tree::{Cert, Name, Part, Tree};
+use crp_tree::{Cert, Name, Part, Symbol, Tree};
 use itoa::{Buffer, Integer};
 use std::alloc::{AllocError, Global};
 use thiserror::Error;
@@ -228,30 +229,24 @@ fn push_head(
     push_plan(text, plan)
 }
 
-/// Adds the symbols of a tree, a branch before its trees.
-#[cycle(spelling)]
+/// The letter of a symbol.
+fn letter(symbol: Symbol) -> u8
+    ensures { result ≡ letter_of_symbol symbol }
+{
+    match symbol {
+        Symbol::CutB => b'B',
+        Symbol::CutL => b'L',
+        Symbol::Branch(_) => b'X',
+        Symbol::Given => b'G',
+    }
+}
+
+/// Adds the symbols of a tree.
 fn push_tree(text: &mut Vec<u8>, tree: &Tree) -> Result<(), AllocError>
     ensures { OnOk result (text.new.items ≡ text.old.items ++ symbols_of tree.now) }
 {
-    match tree {
-        Tree::CutB => text.push(b'B')?,
-        Tree::CutL => text.push(b'L')?,
-        Tree::Given => text.push(b'G')?,
-        Tree::Branch(trees) => {
-            text.push(b'X')?;
-            push_trees(text, trees)?;
-        }
-    }
-    Ok(())
-}
-
-/// Adds the symbols of trees, one tree after the other.
-#[cycle(spelling)]
-fn push_trees(text: &mut Vec<u8>, trees: &[Tree]) -> Result<(), AllocError>
-    ensures { OnOk result (text.new.items ≡ text.old.items ++ flat_map symbols_of trees.now) }
-{
-    for tree in trees {
-        push_tree(text, tree)?;
+    for symbol in tree.symbols() {
+        text.push(letter(*symbol))?;
     }
     Ok(())
 }

@@ -6,7 +6,7 @@ use Rattle.std.proofs.lemmas.List.Elements.{All-from_recursion, recursion_from_A
 use Rattle.std.proofs.lemmas.List.Sums.{fold-append}
 use Rattle.crp_bay.specs.Back.{PlaceAndTrail}
 use Rattle.crp_bay.proofs.Members.{in_cons_cases, not_in_nil}
-use Rattle.crp_tree.specs.declared.tree.Tree.{Tree}
+use Rattle.crp_tree.specs.Tree.{Tree}
 use Rattle.crp_tree.specs.Trees.{Mark, B, L, X, G, nodes, letter, given_names, Fits}
 use Rattle.crp_cert.specs.Script.{symbols_of}
 use Rattle.crp_cert.specs.ScriptFaults.{AreSymbols, BeginsWithTree, GoesOnBehindTree}

@@ -7,7 +7,7 @@ use Rattle.std.proofs.lemmas.List.{map-append, length-map}
 use Rattle.crp_plan.specs.Bay.{Position}
 use Rattle.crp_bay.specs.Positions.{targets}
 use Rattle.crp_bounds.specs.Bounds.{blocking, look_ahead}
-use Rattle.crp_tree.specs.declared.tree.Tree.{Tree, CutB, CutL, Branch', Given}
+use Rattle.crp_tree.specs.Tree.{Tree, CutB, CutL, Branch, Given}
 use Rattle.crp_tree.specs.Trees.{Mark, B, L, X, G, Node, nodes, letter, given_names, is_cut}
 use Rattle.crp_tree.proofs.Nodes.{given_names-append}
 use Rattle.crp_cert.specs.Script.{symbols_of}
@@ -173,7 +173,7 @@ whole need top symbols walked way e = subst (λ o. IsCompleted top symbols way.l
 pub some_symbol : (tree : Tree) (rest : List ℕ) → [] ≡ symbols_of tree ++ rest → ⊥
 some_symbol CutB rest e = cc
 some_symbol CutL rest e = cc
-some_symbol (Branch' shape all) rest e = cc
+some_symbol (Branch all) rest e = cc
 some_symbol Given rest e = cc
 
 -- while a tree is owed the symbols begin with no whole one

@@ -7,32 +7,15 @@ use Rattle.std.proofs.lemmas.List.Concat.{flat_map-append}
 use denote.RawPtr.{null_ptr}
 use Rattle.crp_plan.specs.Bay.{Position}
 use Rattle.crp_bay.specs.Positions.{can_shift, child, counted, targets}
-use Rattle.crp_tree.specs.declared.tree.Tree.{Tree, CutB, CutL, Branch', Given, Branch, Row_of-Tree, end_of-Tree, more_of-Tree, items-the_row-Tree}
+use Rattle.crp_tree.specs.Tree.{Tree, CutB, CutL, Branch, Given, Trees, no_trees, one_and, items, row}
 use Rattle.crp_tree.specs.Trees.{Mark, B, L, X, G, nodes, letter, Fits}
 use Rattle.crp_tree.specs.Listed.{nodes_below, AreFit}
-use Rattle.crp_tree.proofs.Listed.{branch_nodes, list_fits}
+use Rattle.crp_tree.proofs.Listed.{IsBranchOf, branch_of, list_fits}
 use Rattle.crp_cert.specs.Script.{symbols_of, symbols_of_each}
 use Rattle.crp_cert.proofs.Symbols.{branch_read}
 use Rattle.crp_checker.specs.Owed.{Spot, node_at, spots_below, owed_behind, Pay, nodes_of_all}
 
 -- ---- trees that a branch keeps
-
--- these trees as a branch keeps them
-kept : (trees : List Tree) → length trees ≤ 12 → Vec Tree Global
-kept trees few = record {
-  items = trees;
-  len = length trees;
-  cap = length trees;
-  ok = (refl, omega arith);
-  small = omega arith;
-  ptr = null_ptr;
-  alloc = record { memory = record { seal = tt } };
-}
-
--- and they are the trees that it keeps
-kept_items : (trees : List Tree) (few : length trees ≤ 12) → (kept trees few).items ≡ trees
-unfolding kept
-kept_items trees few = refl
 
 -- there are no more legal rows than rows
 few_targets : (s : Position) → length (targets s) ≤ length s.heights
@@ -107,9 +90,9 @@ each_pays path s [] (tree ∷ trees) fit = absurd fit
 each_pays path s (row ∷ rows) [] fit = absurd fit
 each_pays path s (row ∷ rows) (tree ∷ trees) fit = (fit.0, each_pays path s rows trees fit.1)
 
-each_symbols : {m : _} (all : Row_of-Tree m) → symbols_of_each all ≡ flat_map symbols_of (items-the_row-Tree m all)
-each_symbols end_of-Tree = refl
-each_symbols (more_of-Tree tree trees) = ap (λ l. symbols_of tree ++ l) (each_symbols trees)
+each_symbols : (all : Trees) → symbols_of_each all ≡ flat_map symbols_of (items all)
+each_symbols no_trees = refl
+each_symbols (one_and tree trees) = ap (λ l. symbols_of tree ++ l) (each_symbols trees)
 
 -- ---- one symbol
 
@@ -125,19 +108,17 @@ pub record IsPaid (mark : Mark) (spot : Spot) (owed : List Spot) (trees : List T
 branch_paid : (spot : Spot) (owed : List Spot) (trees : List Tree) → length spot.place.heights ≤ 12 → Split (spots_below spot.path spot.place (targets spot.place)) owed trees → IsPaid X spot owed trees
 branch_paid spot owed trees few r =
     let below : List Spot = spots_below spot.path spot.place (targets spot.place) in
-    let low : length r.first ≤ 12 = omega (arith, as_many spot.path spot.place (targets spot.place) r.first r.pays, few_targets spot.place) in
-    let kids : Vec Tree Global = kept r.first low in
-    let same : kids.items ≡ r.first = kept_items r.first low in
-    let made = branch_read spot.place (88 ∷ flat_map symbols_of r.first) kids [] (subst (AreFit spot.place (targets spot.place)) (sym same) (rows_fit spot.path spot.place (targets spot.place) r.first r.pays))
-    (ap (λ l. 88 ∷ flat_map symbols_of l) (sym same) ∙ sym (append-nil (codes "X" ++ flat_map symbols_of kids.items))) in
-    let text : symbols_of (Branch kids) ≡ 88 ∷ flat_map symbols_of r.first = sym (append-nil (symbols_of (Branch kids))) ∙ sym made.1 in
+    let made = branch_read spot.place (88 ∷ flat_map symbols_of r.first) r.first [] (rows_fit spot.path spot.place (targets spot.place) r.first r.pays)
+    (sym (append-nil (codes "X" ++ flat_map symbols_of r.first))) in
+    let text : symbols_of (Branch (row r.first)) ≡ 88 ∷ flat_map symbols_of r.first = sym (append-nil (symbols_of (Branch (row r.first)))) ∙ sym made.1 in
+    let shown = branch_of r.first in
     record {
-      first = Branch kids;
+      first = Branch (row r.first);
       others = r.second;
       pays = (made.0, r.pays_more);
       symbols_are = ap (λ l. l ++ flat_map symbols_of r.second) text ∙ ap (λ l. 88 ∷ l) (sym (flat_map-append symbols_of r.first r.second) ∙ ap (flat_map symbols_of) (sym r.are));
       nodes_are =
-          ap (λ l. l ++ nodes_of_all owed r.second) (branch_nodes spot.path spot.place (Branch kids) kids r.first refl (sym same))
+          ap (λ l. l ++ nodes_of_all owed r.second) (shown.nodes_are spot.path spot.place)
           ∙ ap (λ l. node_at spot X ∷ l) (ap (λ l. l ++ nodes_of_all owed r.second) (nodes_of_rows spot.path spot.place (targets spot.place) r.first)
           ∙ sym (nodes_joined below owed r.first r.second r.pays) ∙ ap (nodes_of_all (below ++ owed)) (sym r.are));
     }
@@ -170,16 +151,16 @@ pub behind : (mark : Mark) (spot : Spot) (owed : List Spot) (tree : Tree) (trees
     letter mark ∷ more ≡ (symbols_of tree ++ flat_map symbols_of trees) ++ rest → Behind mark spot owed more rest
 behind B spot owed CutB trees more rest m pays e = (trees, pays, tails 66 66 more (flat_map symbols_of trees ++ rest) e)
 behind B spot owed CutL trees more rest m pays e = absurd (unlike 66 76 more (flat_map symbols_of trees ++ rest) (λ h. omega arith) e)
-behind B spot owed (Branch' shape all) trees more rest m pays e = absurd (unlike 66 88 more ((symbols_of_each all ++ flat_map symbols_of trees) ++ rest) (λ h. omega arith) e)
+behind B spot owed (Branch all) trees more rest m pays e = absurd (unlike 66 88 more ((symbols_of_each all ++ flat_map symbols_of trees) ++ rest) (λ h. omega arith) e)
 behind B spot owed Given trees more rest m pays e = absurd (unlike 66 71 more (flat_map symbols_of trees ++ rest) (λ h. omega arith) e)
 behind L spot owed CutB trees more rest m pays e = absurd (unlike 76 66 more (flat_map symbols_of trees ++ rest) (λ h. omega arith) e)
 behind L spot owed CutL trees more rest m pays e = (trees, pays, tails 76 76 more (flat_map symbols_of trees ++ rest) e)
-behind L spot owed (Branch' shape all) trees more rest m pays e = absurd (unlike 76 88 more ((symbols_of_each all ++ flat_map symbols_of trees) ++ rest) (λ h. omega arith) e)
+behind L spot owed (Branch all) trees more rest m pays e = absurd (unlike 76 88 more ((symbols_of_each all ++ flat_map symbols_of trees) ++ rest) (λ h. omega arith) e)
 behind L spot owed Given trees more rest m pays e = absurd (unlike 76 71 more (flat_map symbols_of trees ++ rest) (λ h. omega arith) e)
 behind X spot owed CutB trees more rest m pays e = absurd (unlike 88 66 more (flat_map symbols_of trees ++ rest) (λ h. omega arith) e)
 behind X spot owed CutL trees more rest m pays e = absurd (unlike 88 76 more (flat_map symbols_of trees ++ rest) (λ h. omega arith) e)
-behind X spot owed (Branch' shape all) trees more rest m pays e =
-    let below : List Tree = items-the_row-Tree _ all in (
+behind X spot owed (Branch all) trees more rest m pays e =
+    let below : List Tree = items all in (
       below ++ trees,
       joined (spots_below spot.path spot.place (targets spot.place)) owed below trees (each_pays spot.path spot.place (targets spot.place) below (list_fits spot.place (targets spot.place) all m)) pays,
       tails 88 88 more ((symbols_of_each all ++ flat_map symbols_of trees) ++ rest) e
@@ -188,5 +169,5 @@ behind X spot owed (Branch' shape all) trees more rest m pays e =
 behind X spot owed Given trees more rest m pays e = absurd (unlike 88 71 more (flat_map symbols_of trees ++ rest) (λ h. omega arith) e)
 behind G spot owed CutB trees more rest m pays e = absurd (unlike 71 66 more (flat_map symbols_of trees ++ rest) (λ h. omega arith) e)
 behind G spot owed CutL trees more rest m pays e = absurd (unlike 71 76 more (flat_map symbols_of trees ++ rest) (λ h. omega arith) e)
-behind G spot owed (Branch' shape all) trees more rest m pays e = absurd (unlike 71 88 more ((symbols_of_each all ++ flat_map symbols_of trees) ++ rest) (λ h. omega arith) e)
+behind G spot owed (Branch all) trees more rest m pays e = absurd (unlike 71 88 more ((symbols_of_each all ++ flat_map symbols_of trees) ++ rest) (λ h. omega arith) e)
 behind G spot owed Given trees more rest m pays e = (trees, pays, tails 71 71 more (flat_map symbols_of trees ++ rest) e)

@@ -3,7 +3,7 @@ use Rattle.std.proofs.Common.{◌≡◌, ◌≢◌, ℕ, inl, inr, List, [], ◌
 use Rattle.std.proofs.lemmas.List.Elements.{All-from_recursion}
 use Rattle.crp_plan.specs.Bay.{Problem, Position, start, cap}
 use Rattle.crp_bay.specs.Positions.{settled, targets}
-use Rattle.crp_tree.specs.declared.tree.Tree.{CutB, CutL, end_of-Tree, more_of-Tree}
+use Rattle.crp_tree.specs.Tree.{CutB, CutL, no_trees, one_and}
 use Rattle.crp_checker.specs.declared.verdict.Verdict.TheVariants.{Optimal, NoPlan, Bounds}
 use Rattle.crp_tree.specs.Trees.{Node, nodes_of_each}
 use Rattle.crp_checker.specs.Nodes.{IsLow, IsFirstWrong}
@@ -19,7 +19,7 @@ before = settled (start six)
 
 -- below the root: a cut by the blocking bound at row 2, one by the look-ahead bound at row 3
 abbrev blocking_first : List Node
-blocking_first = nodes_of_each [] before (targets before) (more_of-Tree CutB (more_of-Tree CutL end_of-Tree))
+blocking_first = nodes_of_each [] before (targets before) (one_and CutB (one_and CutL no_trees))
 
 -- where at least 3 is claimed, the first of them is the first that is wrong; the branch above is symbol 1, so it is symbol 2 of the part
 first_is_low : IsFirstWrong (λ path. 3) (IsLow (λ path. 3)) blocking_first 1

@@ -2,7 +2,7 @@
 use Rattle.std.specs.Prelude.{ℕ, List, [], ◌∷◌, ◌++◌, ⊤}
 use Rattle.crp_plan.specs.Bay.{Position}
 use Rattle.crp_bay.specs.Positions.{targets, child}
-use Rattle.crp_tree.specs.declared.tree.Tree.{Tree}
+use Rattle.crp_tree.specs.Tree.{Tree}
 use Rattle.crp_tree.specs.Trees.{Mark, B, L, X, G, Node, nodes, Fits}
 
 -- where a tree is owed: the path that it is to stand at, and the position there

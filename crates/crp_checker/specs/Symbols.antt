@@ -3,7 +3,7 @@ use Rattle.std.specs.Prelude.{◌≡◌, ℕ, suc, ◌+◌, ◌≤◌, Bool, tru
 use Rattle.std.specs.List.{AllByRecursion, flat_map}
 use Rattle.std.specs.Option.{option_or}
 use Rattle.crp_bounds.specs.Bounds.{blocking, look_ahead}
-use Rattle.crp_tree.specs.declared.tree.Tree.{Tree}
+use Rattle.crp_tree.specs.Tree.{Tree}
 use Rattle.crp_tree.specs.Trees.{Mark, B, L, X, G, Node, nodes, letter, given_names, Fits, IsGivenAway}
 use Rattle.crp_cert.specs.Script.{symbols_of}
 use Rattle.crp_cert.specs.ScriptFaults.{AreSymbols, BeginsWithTree, GoesOnBehindTree}

@@ -5,20 +5,20 @@ use Rattle.std.proofs.lemmas.List.{take_all, get_or-map, get_or-take, get_or_def
 use Rattle.std.proofs.lemmas.List.Elements.{All-nil, All-push, All-contains, Contains-append_left, Contains-append_right, Contains-append_cases}
 use Rattle.std.proofs.lemmas.List.Quantifiers.{all_pairs_push}
 use Rattle.std.proofs.lemmas.List.Sums.{sum_by-cons, sum_by-append}
-use Rattle.crp_plan.specs.Bay.{Problem, IsProblem, Position, IsAt}
+use Rattle.crp_plan.specs.Bay.{Problem, IsProblem, Position, IsAt, cap}
 use Rattle.crp_plan.proofs.Paths.{same_at}
 use Rattle.crp_bay.proofs.Members.{not_in_nil, in_head, in_tail, in_cons_cases}
-use Rattle.crp_tree.specs.declared.tree.Tree.{Tree}
+use Rattle.crp_tree.specs.Tree.{Tree}
 use Rattle.crp_tree.specs.Names.{Precedes}
-use Rattle.crp_tree.specs.Trees.{G, B, L, is_given, Node, nodes}
-use Rattle.crp_tree.specs.Claims.{IsNeeded, given_by}
+use Rattle.crp_tree.specs.Trees.{G, B, L, is_given, Node, nodes, IsInPlace, IsGivenAway, least_value}
+use Rattle.crp_tree.specs.Claims.{IsNeeded, given_by, IsPart, nodes_in}
 use Rattle.crp_tree.specs.Parts.{ProblemPart, part_of, nodes_of, given_of, branches_in, names_of, IsKeptPart, Certificate, IsCertificate, IsAbout}
 use Rattle.crp_tree.proofs.Lists.{in_map, from_map, in_flat_map}
 use Rattle.crp_tree.proofs.Nodes.{from_given, in_given}
 use Rattle.crp_tree.proofs.Kept.{nodes_at_name, part_nodes}
 use Rattle.crp_tree.proofs.Accepted.{nodes_are}
 use Rattle.crp_gather.specs.Settled.{IsPast, IsClosedBy, AreSettled, IsPastPart, IsSettledPart, branches_in_all, IsSettled, IsSettledTo}
-use Rattle.crp_gather.proofs.TreesSettled.{all_past}
+use Rattle.crp_gather.proofs.TreesSettled.{all_past, IsMade}
 use Rattle.crp_gather.proofs.Wholes.{given_flat}
 use Rattle.crp_tree.proofs.InLine.{from_members}
 
@@ -37,6 +37,32 @@ part_settled old new plan p name path slice s before tree floor p_is name_is pat
       name_is = ap (λ (x : ProblemPart). x.name) e ∙ name_is;
       not_past = λ past. out (subst (λ l. IsPast plan l s) (sym (slice_is ∙ path_is)) (subst (IsPast plan old.name) (same_at old.problem old.name past.0 s kept.is_problem past.1 a) past.2));
       nodes_are = subst (AreSettled plan (nodes_of old)) news (subst (λ l. AreSettled plan l (nodes path s tree)) olds to.settled);
+    }
+
+-- its name and that tree are those of a part, which shows the floor
+pub record IsNewPart (p : Problem) (name : List ℕ) (tree : Tree) (floor : ℕ) : Type 0 where
+  pub is_part : IsPart p (record { name = name; tree = tree })
+  pub floor_is : floor ≡ least_value (cap p) (nodes_in p (record { name = name; tree = tree }))
+
+pub new_part : (old : ProblemPart) (plan : List ℕ) (p : Problem) (name path : List ℕ) (s : Position) (before tree : Tree) (floor : ℕ) → p ≡ old.problem → name ≡ old.name → path ≡ old.name → before ≡ old.tree → IsKeptPart old → IsAt old.problem old.name s →
+    IsMade p plan path s before tree floor → IsNewPart p name tree floor
+new_part old plan p name path s before tree floor p_is name_is path_is before_is kept a m =
+    let same : path ≡ name = path_is ∙ sym name_is in
+    let here : IsAt p name s = subst (λ q. IsAt q name s) (sym p_is) (subst (λ l. IsAt old.problem l s) (sym name_is) a) in
+    let ok : IsProblem p = subst IsProblem (sym p_is) kept.is_problem in
+    let is = m.is in
+    record {
+      is_part = record {
+        short = subst (λ l. length l ≤ 8) (sym name_is) kept.is_part.short;
+        place = s;
+        is_at = here;
+        shape = record {
+          fits = is.fits;
+          in_place = subst (λ l. All IsInPlace (nodes l s tree)) same is.in_place;
+          not_given = λ given. kept.is_part.shape.not_given (subst IsGivenAway before_is (m.own given));
+        };
+      };
+      floor_is = is.floor_is ∙ ap (λ l. least_value (cap p) (nodes l s tree)) same ∙ ap (least_value (cap p)) (sym (nodes_are p (record { name = name; tree = tree }) s ok here));
     }
 
 -- ---- part after part

@@ -1,20 +1,25 @@
 -- Trees are settled on a plan.
-use Rattle.std.proofs.Common.{◌≡◌, ℕ, suc, ◌+◌, ◌<◌, ◌≤◌, min, inl, inr, ⊎_elim, List, [], ◌∷◌, ◌++◌, length, take, get_or, Contains, All, Vec, Global, refl, sym, ap, ◌∙◌, subst, arith, append-nil, length-append, add-one}
+use Rattle.std.proofs.Common.{◌≡◌, ℕ, suc, ◌+◌, ◌<◌, ◌≤◌, min, inl, inr, ⊎_elim, List, [], ◌∷◌, ◌++◌, length, take, get_or, Contains, All, refl, sym, ap, ◌∙◌, subst, arith, append_assoc, append-nil, length-append, add-one}
 use Rattle.std.proofs.lemmas.List.{take_all}
 use Rattle.std.proofs.lemmas.List.Elements.{All-nil, All-cons, All-append, All-same, All-contains, Contains-append_left, Contains-append_right, Contains-append_cases}
 use Rattle.crp_plan.specs.Bay.{Problem, IsProblem, Position, IsAt, cap}
 use Rattle.crp_bay.specs.Positions.{targets, child}
 use Rattle.crp_bay.proofs.Members.{not_in_nil, in_head, in_cons_cases}
 use Rattle.crp_bounds.specs.Bounds.{blocking, look_ahead}
-use Rattle.crp_tree.specs.declared.tree.Tree.{Tree, CutB, CutL, Given, Branch}
+use Rattle.crp_tree.specs.declared.symbol.Symbol.{Symbol}
+use Rattle.crp_tree.specs.declared.symbol.Symbol.TheVariants as symbol
+use Rattle.crp_tree.specs.Tree.{Tree, CutB, CutL, Given, Branch, items, row}
+use Rattle.crp_tree.specs.Symbols.{symbols, symbols_of_each, tree_of, tree_back, items_row, all_symbols, some_trees, IsLeaf, leaf, leaf_symbols, ComesFirst}
 use Rattle.crp_tree.specs.Names.{Precedes}
-use Rattle.crp_tree.specs.Trees.{B, L, G, Node, nodes, branches, Fits, IsInPlace, least_value, Begins}
+use Rattle.crp_tree.specs.Trees.{B, L, G, Node, nodes, branches, Fits, IsInPlace, IsGivenAway, least_value, Begins}
 use Rattle.crp_tree.specs.Listed.{nodes_below, AreFit}
 use Rattle.crp_tree.proofs.Ordered.{goes_further}
 use Rattle.crp_tree.proofs.Nodes.{At, StandsAt, nodes_stand, nodes_begin}
 use Rattle.crp_tree.proofs.Listed.{IsBranchOf, Meets, branch_of, branch_node, nodes_push, fit_push, fit_lengths, nodes_all, met_nodes}
+use Rattle.crp_tree.proofs.Paying.{row_symbols, symbols_joined}
+use Rattle.crp_tree.proofs.Parsed.{leaf_first, below, nodes_here}
 use Rattle.crp_tree.proofs.Joined.{branches-append, least_value-append}
-use Rattle.crp_gather.specs.Settled.{IsPast, IsClosedBy, AreSettled, IsSettledTo}
+use Rattle.crp_gather.specs.Settled.{IsPast, IsClosedBy, AreSettled, IsSettledTo, IsWritten}
 
 -- the node is past the plan
 abbrev pub IsPastNode : List ℕ → Node → Type 0
@@ -150,23 +155,87 @@ one_settled p plan path here s next rows old new more i row floor low least befo
     rw (more_is, least_is, add-one) all
 
 -- all of them
-pub all_settled : (p : Problem) (plan path : List ℕ) (s : Position) (rows : List ℕ) (old : List Tree) (i : ℕ) (new : Vec Tree Global) (floor : ℕ) → rows ≡ targets s → AreFit s (targets s) old → length old ≤ i →
-    All IsInPlace (branch_node path s ∷ nodes_below path s (targets s) old) → (IsPast plan path s → ⊥) → BelowSettled p plan path s rows old i new.items floor →
-    IsSettledTo p plan path s (branch_node path s ∷ nodes_below path s (targets s) old) (Branch new) floor
+pub all_settled : (p : Problem) (plan path : List ℕ) (s : Position) (rows : List ℕ) (old : List Tree) (i : ℕ) (new : List Tree) (floor : ℕ) → rows ≡ targets s → AreFit s (targets s) old → length old ≤ i →
+    All IsInPlace (branch_node path s ∷ nodes_below path s (targets s) old) → (IsPast plan path s → ⊥) → BelowSettled p plan path s rows old i new floor →
+    IsSettledTo p plan path s (branch_node path s ∷ nodes_below path s (targets s) old) (Branch (row new)) floor
 all_settled p plan path s rows old i new floor same fit done in_place out b =
-    let branch : IsBranchOf (Branch new) new.items = branch_of new in
+    let branch : IsBranchOf (Branch (row new)) new = branch_of new in
     let lengths = fit_lengths s (targets s) old fit in
     let whole : take i rows ≡ targets s = take_all i rows (omega (arith, ap length same)) ∙ same in
-    let below : List Node = nodes_below path s (targets s) new.items in
-    let are : nodes path s (Branch new) ≡ branch_node path s ∷ below = branch.nodes_are path s in
-    let list : nodes_below path s (take i rows) new.items ≡ below = ap (λ l. nodes_below path s l new.items) whole in
+    let below : List Node = nodes_below path s (targets s) new in
+    let are : nodes path s (Branch (row new)) ≡ branch_node path s ∷ below = branch.nodes_are path s in
+    let list : nodes_below path s (take i rows) new ≡ below = ap (λ l. nodes_below path s l new) whole in
     let olds : nodes_below path s (take i rows) (take i old) ≡ nodes_below path s (targets s) old = ap (λ l. nodes_below path s (take i l) (take i old)) same ∙ nodes_all path s (targets s) old i (inr done) in
     let own : IsInPlace (branch_node path s) = All-contains IsInPlace (branch_node path s ∷ nodes_below path s (targets s) old) (branch_node path s) in_place (in_head (branch_node path s) (nodes_below path s (targets s) old)) in
-    let settled : AreSettled plan (nodes_below path s (targets s) old) below = subst (AreSettled plan (nodes_below path s (targets s) old)) list (subst (λ l. AreSettled plan l (nodes_below path s (take i rows) new.items)) olds b.settled) in
+    let settled : AreSettled plan (nodes_below path s (targets s) old) below = subst (AreSettled plan (nodes_below path s (targets s) old)) list (subst (λ l. AreSettled plan l (nodes_below path s (take i rows) new)) olds b.settled) in
     record {
-      fits = branch.fits s (subst (λ l. AreFit s l new.items) whole b.fits);
+      fits = branch.fits s (subst (λ l. AreFit s l new) whole b.fits);
       in_place = All-same IsInPlace _ _ are (All-cons IsInPlace (branch_node path s) below own (subst (All IsInPlace) list b.in_place));
       floor_is = b.floor_is ∙ ap (least_value (cap p)) list ∙ sym (ap (least_value (cap p)) are);
       settled = subst (AreSettled plan (branch_node path s ∷ nodes_below path s (targets s) old)) (sym are)
           (settled_append plan (branch_node path s ∷ []) (branch_node path s ∷ []) (nodes_below path s (targets s) old) below (one_stays plan (branch_node path s) out) settled);
     }
+
+-- ---- their symbols
+
+-- a symbol that is a whole tree is written where the plan closes the tree
+pub closed_written : (p : Problem) (plan path : List ℕ) (s : Position) (old : Tree) (before after : List Symbol) (one : Symbol) (floor : ℕ) → after ≡ before ++ one ∷ [] → IsLeaf one → (IsGivenAway (leaf one) → ⊥) →
+    IsSettledTo p plan path s (nodes path s old) (leaf one) floor → IsWritten p plan path s old before after floor
+closed_written p plan path s old before after one floor more is_leaf own is = record { tree = leaf one; written = more ∙ ap (λ l. before ++ l) (leaf_symbols one is_leaf); is = is; own = λ given. absurd (own given) }
+
+-- and where it stays
+pub stay_written : (p : Problem) (plan path : List ℕ) (s : Position) (here behind before after : List Symbol) (one : Symbol) (floor : ℕ) → here ≡ one ∷ behind → after ≡ before ++ one ∷ [] → IsLeaf one →
+    IsSettledTo p plan path s (nodes path s (tree_of here)) (leaf one) floor → IsWritten p plan path s (tree_of here) before after floor
+stay_written p plan path s here behind before after one floor here_is more is_leaf is = record {
+  tree = leaf one;
+  written = more ∙ ap (λ l. before ++ l) (leaf_symbols one is_leaf);
+  is = is;
+  own = λ given. subst IsGivenAway (sym (leaf_first one here behind here_is is_leaf).is) given;
+}
+
+-- behind symbols those of the first i trees of a branch are written that old ones become
+pub record BelowWritten (p : Problem) (plan path : List ℕ) (s : Position) (rows : List ℕ) (old : List Tree) (i : ℕ) (before after : List Symbol) (floor : ℕ) : Type 0 where
+  pub new : List Tree
+  pub written : after ≡ before ++ all_symbols new
+  pub below : BelowSettled p plan path s rows old i new floor
+
+pub none_written : (p : Problem) (plan path : List ℕ) (s : Position) (rows : List ℕ) (old : List Tree) (before after : List Symbol) (floor : ℕ) → after ≡ before → floor ≡ cap p → BelowWritten p plan path s rows old 0 before after floor
+none_written p plan path s rows old before after floor same most = record { new = []; written = same ∙ sym (append-nil before); below = none_settled p plan path s rows old [] floor refl most }
+
+pub one_written : (p : Problem) (plan path here : List ℕ) (s next : Position) (rows : List ℕ) (old : List Tree) (before half more : List Symbol) (i row floor low least : ℕ) (was : Tree) → Meets path here s next rows old i row was →
+    BelowWritten p plan path s rows old i before half floor → IsWritten p plan here next was half more low → least ≡ min floor low → BelowWritten p plan path s rows old (i + 1) before more least
+one_written p plan path here s next rows old before half more i row floor low least was m b w least_is =
+    let all : all_symbols (b.new ++ w.tree ∷ []) ≡ all_symbols b.new ++ symbols w.tree = symbols_joined b.new (w.tree ∷ []) ∙ ap (λ l. all_symbols b.new ++ l) (append-nil (symbols w.tree)) in
+    record {
+      new = b.new ++ w.tree ∷ [];
+      written = w.written ∙ ap (λ l. l ++ symbols w.tree) b.written ∙ append_assoc before (all_symbols b.new) (symbols w.tree) ∙ ap (λ l. before ++ l) (sym all);
+      below = one_settled p plan path here s next rows old b.new (b.new ++ w.tree ∷ []) i row floor low least was w.tree m b.below w.is refl least_is;
+    }
+
+pub all_written : (p : Problem) (plan path : List ℕ) (s : Position) (rows : List ℕ) (n : ℕ) (list rest : List Symbol) (i : ℕ) (before after : List Symbol) (floor : ℕ) → rows ≡ targets s → ComesFirst (symbol.Branch n ∷ list) rest →
+    Fits s (tree_of (symbol.Branch n ∷ list)) → All IsInPlace (nodes path s (tree_of (symbol.Branch n ∷ list))) → (IsPast plan path s → ⊥) → length rows ≤ i → BelowWritten p plan path s rows (some_trees n list) i (before ++ symbol.Branch n ∷ []) after floor →
+    IsWritten p plan path s (tree_of (symbol.Branch n ∷ list)) before after floor
+all_written p plan path s rows n list rest i before after floor same first fits in_place out done w =
+    let here = below path s (symbol.Branch n) (symbol.Branch n ∷ list) list rest n refl refl first fits in_place in
+    let many = here.first.many in
+    let lengths = fit_lengths s (targets s) (some_trees n list) here.fit in
+    let news = fit_lengths s (take i rows) w.new w.below.fits in
+    let count : n ≡ length (items (row w.new)) = omega (arith, many, lengths, news, ap length same, ap length (take_all i rows done), ap length (items_row w.new)) in
+    record {
+      tree = Branch (row w.new);
+      written = w.written ∙ append_assoc before (symbol.Branch n ∷ []) (all_symbols w.new)
+          ∙ ap (λ l. before ++ symbol.Branch n ∷ l) (sym (row_symbols w.new)) ∙ ap (λ m. before ++ symbol.Branch m ∷ symbols_of_each (row w.new)) count;
+      is = subst (λ l. IsSettledTo p plan path s l (Branch (row w.new)) floor) (sym (nodes_here path s (symbol.Branch n) (symbol.Branch n ∷ list) list n refl refl))
+          (all_settled p plan path s rows (some_trees n list) i w.new floor same here.fit (omega (arith, lengths, done, ap length same)) here.in_place out w.below);
+      own = λ given. absurd given;
+    }
+
+-- what is made of symbols that were written behind none
+pub record IsMade (p : Problem) (plan path : List ℕ) (s : Position) (old tree : Tree) (floor : ℕ) : Type 0 where
+  pub is : IsSettledTo p plan path s (nodes path s old) tree floor
+  pub own : IsGivenAway tree → IsGivenAway old
+
+pub made : (p : Problem) (plan path : List ℕ) (s : Position) (old tree : Tree) (before list : List Symbol) (floor : ℕ) → before ≡ [] → list ≡ symbols tree → IsWritten p plan path s old before list floor → IsMade p plan path s old tree floor
+made p plan path s old tree before list floor none is w =
+    let same : w.tree ≡ tree = sym (tree_back w.tree) ∙ ap (λ l. tree_of l) (sym (w.written ∙ ap (λ l. l ++ symbols w.tree) none) ∙ is) ∙ tree_back tree in
+    record { is = subst (λ t. IsSettledTo p plan path s (nodes path s old) t floor) same w.is; own = λ given. w.own (subst IsGivenAway (sym same) given) }

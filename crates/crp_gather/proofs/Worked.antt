@@ -1,15 +1,15 @@
 -- A branch that gives all of its subtrees away.
-use Rattle.std.proofs.Common.{◌≡◌, ℕ, zero, suc, ◌+◌, ◌<◌, ◌≤◌, List, [], ◌∷◌, ◌++◌, length, map, replicate, All, Vec, Global, refl, sym, ap, ◌∙◌, subst, arith, length-append}
+use Rattle.std.proofs.Common.{◌≡◌, ℕ, zero, suc, ◌+◌, ◌<◌, ◌≤◌, List, [], ◌∷◌, ◌++◌, length, map, replicate, All, refl, sym, ap, ◌∙◌, subst, arith, length-append}
 use Rattle.std.proofs.lemmas.List.Elements.{All-nil, All-cons, All-same}
 use Rattle.crp_plan.specs.Bay.{Problem, IsProblem, Position, start, cap}
 use Rattle.crp_bay.specs.Positions.{settled, targets, child}
 use Rattle.crp_bay.proofs.Walked.{begins_at}
-use Rattle.crp_tree.specs.declared.tree.Tree.{Tree, Branch, Given}
+use Rattle.crp_tree.specs.Tree.{Tree, Branch, Given, row}
 use Rattle.crp_tree.specs.Trees.{G, Node, nodes, cuts, value, IsInPlace, least, least_value}
 use Rattle.crp_tree.specs.Listed.{nodes_below, AreFit}
 use Rattle.crp_tree.specs.Claims.{IsPart, nodes_in}
 use Rattle.crp_tree.proofs.Accepted.{nodes_are}
-use Rattle.crp_tree.proofs.Listed.{IsBranchOf, is_branch_of, branch_node}
+use Rattle.crp_tree.proofs.Listed.{IsBranchOf, branch_of, branch_node}
 
 -- given subtrees fit
 all_fit : (s : Position) (rows : List ℕ) → AreFit s rows (replicate (length rows) Given)
@@ -40,21 +40,21 @@ pub record GivesAll (p : Problem) (name : List ℕ) (tree : Tree) (floor : ℕ) 
   pub is_part : IsPart p (record { name = name; tree = tree })
   pub floor_is : floor ≡ least_value (cap p) (nodes_in p (record { name = name; tree = tree }))
 
-pub gives_all : (p : Problem) (name : List ℕ) (trees : Vec Tree Global) (s : Position) (rows : List ℕ) (floor : ℕ) → IsProblem p → name ≡ [] → s ≡ settled (start p) → s.next ≤ s.ordered → rows ≡ targets s
-    → trees.items ≡ replicate (length rows) Given → floor ≡ cap p → GivesAll p name (Branch trees) floor
-gives_all p name trees s rows floor ok root at goes are all is = subst (λ n. GivesAll p n (Branch trees) floor) (sym root) (record {
+pub gives_all : (p : Problem) (name : List ℕ) (trees : List Tree) (s : Position) (rows : List ℕ) (floor : ℕ) → IsProblem p → name ≡ [] → s ≡ settled (start p) → s.next ≤ s.ordered → rows ≡ targets s
+    → trees ≡ replicate (length rows) Given → floor ≡ cap p → GivesAll p name (Branch (row trees)) floor
+gives_all p name trees s rows floor ok root at goes are all is = subst (λ n. GivesAll p n (Branch (row trees)) floor) (sym root) (record {
   is_part = record {
     short = omega arith;
     place = s0;
     is_at = begins_at p ok;
     shape = record {
       fits = branch.fits s0 (all_fit s0 (targets s0));
-      in_place = All-same IsInPlace (nodes [] s0 (Branch trees)) (branch_node [] s0 ∷ below) (branch.nodes_are [] s0)
+      in_place = All-same IsInPlace (nodes [] s0 (Branch (row trees))) (branch_node [] s0 ∷ below) (branch.nodes_are [] s0)
           (All-cons IsInPlace (branch_node [] s0) below (subst (λ (v : Position). v.next ≤ v.ordered) at goes) (all_in_place [] s0 (targets s0) (omega arith)));
       not_given = λ n. n;
     };
   };
-  floor_is = is ∙ sym (ap (least_value (cap p)) (nodes_are p (record { name = []; tree = Branch trees }) s0 ok (begins_at p ok) ∙ branch.nodes_are [] s0) ∙ ap (λ l. least (cap p) (map value l)) (no_cuts [] s0 (targets s0)));
+  floor_is = is ∙ sym (ap (least_value (cap p)) (nodes_are p (record { name = []; tree = Branch (row trees) }) s0 ok (begins_at p ok) ∙ branch.nodes_are [] s0) ∙ ap (λ l. least (cap p) (map value l)) (no_cuts [] s0 (targets s0)));
 })
   where
     s0 : Position
@@ -63,5 +63,5 @@ gives_all p name trees s rows floor ok root at goes are all is = subst (λ n. Gi
     below : List Node
     below = nodes_below [] s0 (targets s0) (replicate (length (targets s0)) Given)
 
-    branch : IsBranchOf (Branch trees) (replicate (length (targets s0)) Given)
-    branch = is_branch_of (Branch trees) trees (replicate (length (targets s0)) Given) refl (sym (all ∙ ap (λ l. replicate (length l) Given) (are ∙ ap targets at)))
+    branch : IsBranchOf (Branch (row trees)) (replicate (length (targets s0)) Given)
+    branch = subst (IsBranchOf (Branch (row trees))) (all ∙ ap (λ l. replicate (length l) Given) (are ∙ ap targets at)) (branch_of trees)

@@ -1,11 +1,13 @@
 -- A certificate settled on a plan: what comes after the plan is closed as soon as a bound reaches the plan's relocations.
-use Rattle.std.specs.Prelude.{◌≡◌, ℕ, ◌+◌, ◌<◌, ◌≤◌, ◌⊎◌, ◌↔◌, List, length, Contains, All}
+use Rattle.std.specs.Prelude.{◌≡◌, ℕ, ◌+◌, ◌<◌, ◌≤◌, ◌⊎◌, ◌↔◌, List, ◌++◌, length, Contains, All}
 use Rattle.std.specs.List.{sum_by}
 use Rattle.crp_plan.specs.Bay.{Problem, Position, IsAt, cap}
 use Rattle.crp_bounds.specs.Bounds.{blocking, look_ahead}
-use Rattle.crp_tree.specs.declared.tree.Tree.{Tree}
+use Rattle.crp_tree.specs.declared.symbol.Symbol.{Symbol}
+use Rattle.crp_tree.specs.Tree.{Tree}
+use Rattle.crp_tree.specs.Symbols.{symbols}
 use Rattle.crp_tree.specs.Names.{Precedes}
-use Rattle.crp_tree.specs.Trees.{B, L, Node, nodes, branches, Fits, IsInPlace, least_value}
+use Rattle.crp_tree.specs.Trees.{B, L, Node, nodes, branches, Fits, IsInPlace, IsGivenAway, least_value}
 use Rattle.crp_tree.specs.Parts.{ProblemPart, nodes_of, branches_in, Certificate}
 
 -- a path is past the plan: it comes after the plan's, and the look-ahead bound of the position there reaches the plan's relocations
@@ -51,3 +53,10 @@ pub record IsSettledTo (p : Problem) (plan path : List ℕ) (s : Position) (old 
   pub in_place : All IsInPlace (nodes path s tree)
   pub floor_is : floor ≡ least_value (cap p) (nodes path s tree)
   pub settled : AreSettled plan old (nodes path s tree)
+
+-- behind symbols those of a tree are written that an old one becomes at a path that leads to s; it is not given away, where that is not
+pub record IsWritten (p : Problem) (plan path : List ℕ) (s : Position) (old : Tree) (before after : List Symbol) (floor : ℕ) : Type 0 where
+  pub tree : Tree
+  pub written : after ≡ before ++ symbols tree
+  pub is : IsSettledTo p plan path s (nodes path s old) tree floor
+  pub own : IsGivenAway tree → IsGivenAway old

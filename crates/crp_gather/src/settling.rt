@@ -1,28 +1,28 @@
 //! A certificate settled on a plan.
-ghost use Rattle.std.specs.Prelude.{◌≡◌, ℕ, ◌+◌, ◌≤◌, ◌∷◌, length, All, IfOk, OnOk, IfSome, IfNone, IsTrue, ◌↔◌};
+ghost use Rattle.std.specs.Prelude.{◌≡◌, ℕ, ◌+◌, ◌≤◌, List, ◌∷◌, length, All, IfOk, OnOk, IfSome, IfNone, IsTrue, ◌↔◌};
 ghost use Rattle.crp_plan.specs.Bay.{IsAt};
-ghost use Rattle.crp_bay.specs.Positions.{targets};
 ghost use Rattle.crp_bounds.specs.Bounds.{blocking as blocking_bound, look_ahead as look_ahead_bound};
 ghost use Rattle.crp_tree.specs.Names.{Precedes};
-ghost use Rattle.crp_tree.specs.Trees.{X, nodes, Fits, IsInPlace, IsGivenAway};
-ghost use Rattle.crp_tree.specs.Listed.{AreFit, nodes_below};
+ghost use Rattle.crp_tree.specs.Trees.{nodes, Fits, IsInPlace, IsGivenAway};
+ghost use Rattle.crp_tree.specs.Tree.{Tree};
+ghost use Rattle.crp_tree.specs.Symbols.{tree_of, IsLeaf, leaf, ComesFirst};
 ghost use Rattle.crp_tree.specs.Parts.{IsKeptPart, IsAbout};
 ghost use Rattle.crp_tree.specs.First.{MeetNeeds};
-ghost use Rattle.crp_gather.specs.Settled.{IsPast, IsPastPart, IsSettledPart, IsSettled, IsSettledTo};
+ghost use Rattle.crp_gather.specs.Settled.{IsPast, IsPastPart, IsSettledPart, IsSettled, IsSettledTo, IsWritten};
 
 use arrayvec::ArrayVec;
 use crp_bounds::Bounded;
 use crp_plan::{MAX_RELOCATIONS, Plan, Problem};
-use crp_tree::{Cert, Part, Parts, Tree};
+use crp_tree::{Cert, Part, Parts, Symbol, Tree, behind_trees};
 use std::alloc::{AllocError, Global};
 
 /// Destination rows, from the first relocation on.
 type Path = ArrayVec<u8, MAX_RELOCATIONS>;
 
-/// A tree, and the least value of its cuts, or the problem's cap where none is below that.
+/// What is settled where a node is closed: its symbol, and the value of the cut, or the problem's cap where that is not above it.
 #[derive(Drop)]
-struct Settled {
-    tree: Tree,
+struct Closed {
+    symbol: Symbol,
     floor: u32,
 }
 
@@ -54,12 +54,13 @@ fn comes_after(path: &[u8], plan: &Plan) -> bool
 }
 
 /// Closes the node at the path where that is past the plan.
-fn close_past(problem: &Problem, place: &Bounded, path: &[u8], plan: &Plan) -> Option<Settled>
+fn close_past(problem: &Problem, place: &Bounded, path: &[u8], plan: &Plan) -> Option<Closed>
     requires path { IsAt problem.now path.now place.now.place }
-    ensures past { IfSome result (λ settled. IsPast plan.now.path path.now place.now.place) }
-    ensures settled { IfSome result (λ settled. (old : Tree)
-        → IsSettledTo problem.now plan.now.path path.now place.now.place (nodes path.now place.now.place old) settled.tree settled.floor) }
-    ensures own { IfSome result (λ settled. IsGivenAway settled.tree → ⊥) }
+    ensures past { IfSome result (λ closed. IsPast plan.now.path path.now place.now.place) }
+    ensures settled { IfSome result (λ closed. (old : Tree)
+        → IsSettledTo problem.now plan.now.path path.now place.now.place (nodes path.now place.now.place old) (leaf closed.symbol) closed.floor) }
+    ensures leaf { IfSome result (λ closed. IsLeaf closed.symbol) }
+    ensures own { IfSome result (λ closed. IsGivenAway (leaf closed.symbol) → ⊥) }
     ensures open { IfNone result (IsPast plan.now.path path.now place.now.place → ⊥) }
 {
     if !comes_after(path, plan) {
@@ -68,97 +69,104 @@ fn close_past(problem: &Problem, place: &Bounded, path: &[u8], plan: &Plan) -> O
     let most = problem.cap();
     let low = low_at(problem, place, path);
     if low >= plan.count() {
-        return Some(Settled {
-            tree: Tree::CutB,
+        return Some(Closed {
+            symbol: Symbol::CutB,
             floor: low.min(most),
         });
     }
     let high = high_at(problem, place, path);
     if high >= plan.count() {
-        return Some(Settled {
-            tree: Tree::CutL,
+        return Some(Closed {
+            symbol: Symbol::CutL,
             floor: high.min(most),
         });
     }
     None
 }
 
-/// Settles a tree at a path on the plan.
+/// Settles the tree at a path, whose symbols come first, on the plan: adds the symbols of what it becomes. Answers what is
+/// behind the tree, and the least value of the new cuts, or the problem's cap where none is below that.
 #[cycle(settling)]
-fn settle_tree(
-    alloc: Global,
+fn settle_tree<'a>(
     problem: &Problem,
-    tree: &Tree,
+    list: &'a [Symbol],
     place: &mut Bounded,
     path: &mut Path,
     plan: &Plan,
-) -> Result<Settled, AllocError>
+    settled: &mut Vec<Symbol>,
+) -> Result<(&'a [Symbol], u32), AllocError>
     requires path { IsAt problem.now path.old.items place.old.place }
-    requires fits { Fits place.old.place tree.now }
-    requires in_place { All IsInPlace (nodes path.old.items place.old.place tree.now) }
-    ensures settled { IfOk result
-        (λ settled. IsSettledTo problem.now plan.now.path path.old.items place.old.place (nodes path.old.items place.old.place tree.now) settled.tree settled.floor) }
-    ensures own { IfOk result (λ settled. IsGivenAway settled.tree → IsGivenAway tree.now) }
+    requires whole { (rest : List Symbol) × ComesFirst list.now rest }
+    requires fits { Fits place.old.place (tree_of list.now) }
+    requires in_place { All IsInPlace (nodes path.old.items place.old.place (tree_of list.now)) }
+    ensures settled { IfOk result (λ found. IsWritten problem.now plan.now.path path.old.items place.old.place (tree_of list.now) settled.old.items settled.new.items found.1) }
+    ensures behind { IfOk result (λ found. ComesFirst list.now found.0.now) }
     ensures back { OnOk result ((place.new ≡ place.old) × (path.new.items ≡ path.old.items)) }
 {
-    if let Some(settled) = close_past(problem, place, path.as_slice(), plan) {
-        return Ok(settled);
+    if let Some(closed) = close_past(problem, place, path.as_slice(), plan) {
+        settled.push(closed.symbol)?;
+        return Ok((behind_trees(list, 1), closed.floor));
     }
     let most = problem.cap();
-    match tree {
-        Tree::CutB => Ok(Settled {
-            tree: Tree::CutB,
-            floor: low_at(problem, place, path.as_slice()).min(most),
-        }),
-        Tree::CutL => Ok(Settled {
-            tree: Tree::CutL,
-            floor: high_at(problem, place, path.as_slice()).min(most),
-        }),
-        Tree::Given => Ok(Settled {
-            tree: Tree::Given,
-            floor: most,
-        }),
-        Tree::Branch(trees) => settle_below(alloc, problem, trees, place, path, plan),
+    let Some((first, behind)) = list.split_first() else {
+        unreachable!()
+    };
+    match first {
+        Symbol::CutB => {
+            settled.push(Symbol::CutB)?;
+            let low = low_at(problem, place, path.as_slice());
+            Ok((behind, low.min(most)))
+        }
+        Symbol::CutL => {
+            settled.push(Symbol::CutL)?;
+            let high = high_at(problem, place, path.as_slice());
+            Ok((behind, high.min(most)))
+        }
+        Symbol::Given => {
+            settled.push(Symbol::Given)?;
+            Ok((behind, most))
+        }
+        Symbol::Branch(count) => {
+            settle_below(problem, behind, *count, place, path, plan, settled)
+        }
     }
 }
 
-/// Settles the branch of these trees, one for each legal row, at a path that is not past the plan.
+/// The same for a branch, whose trees these symbols begin with, at a path that is not past the plan.
 #[cycle(settling)]
-fn settle_below(
-    alloc: Global,
+fn settle_below<'a>(
     problem: &Problem,
-    trees: &[Tree],
+    list: &'a [Symbol],
+    count: u8,
     place: &mut Bounded,
     path: &mut Path,
     plan: &Plan,
-) -> Result<Settled, AllocError>
+    settled: &mut Vec<Symbol>,
+) -> Result<(&'a [Symbol], u32), AllocError>
     requires path { IsAt problem.now path.old.items place.old.place }
     requires open { IsPast plan.now.path path.old.items place.old.place → ⊥ }
-    requires fit { AreFit place.old.place (targets place.old.place) trees.now }
-    requires in_place { All IsInPlace (record { path = path.old.items; place = place.old.place; mark = X } ∷ nodes_below path.old.items place.old.place (targets place.old.place) trees.now) }
-    ensures settled { IfOk result (λ settled. IsSettledTo problem.now plan.now.path path.old.items place.old.place
-        (record { path = path.old.items; place = place.old.place; mark = X } ∷ nodes_below path.old.items place.old.place (targets place.old.place) trees.now) settled.tree settled.floor) }
-    ensures own { IfOk result (λ settled. IsGivenAway settled.tree → ⊥) }
+    requires whole { (rest : List Symbol) × ComesFirst (Symbol.Branch count ∷ list.now) rest }
+    requires fits { Fits place.old.place (tree_of (Symbol.Branch count ∷ list.now)) }
+    requires in_place { All IsInPlace (nodes path.old.items place.old.place (tree_of (Symbol.Branch count ∷ list.now))) }
+    ensures settled { IfOk result (λ found. IsWritten problem.now plan.now.path path.old.items place.old.place (tree_of (Symbol.Branch count ∷ list.now)) settled.old.items settled.new.items found.1) }
+    ensures behind { IfOk result (λ found. ComesFirst (Symbol.Branch count ∷ list.now) found.0.now) }
     ensures back { OnOk result ((place.new ≡ place.old) × (path.new.items ≡ path.old.items)) }
 {
+    settled.push(Symbol::Branch(count))?;
     let targets = place.position().targets();
     let rows = targets.as_slice();
-    let mut settled = Vec::with_capacity(alloc, trees.len())?;
+    let mut rest = list;
     let mut floor = problem.cap();
-    for (i, tree) in trees.iter().enumerate() {
-        let row = rows[i];
-        path.push(row);
-        let _pushed = place.push(row);
-        let below = settle_tree(alloc, problem, tree, place, path, plan)?;
+    for row in rows {
+        path.push(*row);
+        let _pushed = place.push(*row);
+        let (behind, least) = settle_tree(problem, rest, place, path, plan, settled)?;
         let _popped = place.pop();
         let _row = path.pop();
-        floor = floor.min(below.floor);
-        settled.push(below.tree)?;
+        rest = behind;
+        floor = floor.min(least);
     }
-    Ok(Settled {
-        tree: Tree::Branch(settled),
-        floor,
-    })
+    Ok((rest, floor))
 }
 
 /// Settles a part on the plan. `None` exactly where its name is past the plan.
@@ -178,9 +186,17 @@ fn settle_part(alloc: Global, part: &Part, plan: &Plan) -> Result<Option<Part>, 
     if let Some(_closed) = close_past(problem, &place, path.as_slice(), plan) {
         return Ok(None);
     }
-    let settled = settle_tree(alloc, problem, part.tree(), &mut place, &mut path, plan)?;
+    let mut settled = Vec::new(alloc);
+    let (_behind, floor) = settle_tree(
+        problem,
+        part.tree().symbols(),
+        &mut place,
+        &mut path,
+        plan,
+        &mut settled,
+    )?;
     let name = part.name().copy();
-    let part = Part::new(problem, name, settled.tree, settled.floor);
+    let part = Part::new(problem, name, Tree::from_symbols(settled), floor);
     // For its contract alone: the floor is what the part shows.
     let _floor = part.floor();
     Ok(Some(part))

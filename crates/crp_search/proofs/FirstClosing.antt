@@ -7,7 +7,7 @@ use Rattle.crp_plan.specs.Plans.{ProblemPath}
 use Rattle.crp_plan.specs.declared.running.View.{View}
 use Rattle.crp_plan.proofs.Covered.{relocations-path}
 use Rattle.crp_bounds.specs.Bounds.{blocking, look_ahead}
-use Rattle.crp_tree.specs.declared.tree.Tree.{Tree, CutB, CutL, Given}
+use Rattle.crp_tree.specs.Tree.{Tree, CutB, CutL, Given}
 use Rattle.crp_tree.specs.Trees.{B, L, G, Node, value, IsInPlace}
 use Rattle.crp_search.specs.Searched.{IsClosed, NeedsLookAhead, IsBelow, IsShort}
 use Rattle.crp_search.specs.Firsts.{IsLowerBound}

@@ -7,7 +7,7 @@ use Rattle.crp_plan.specs.Plans.{ProblemPath}
 use Rattle.crp_plan.specs.declared.running.View.{View}
 use Rattle.crp_plan.proofs.Covered.{relocations-path}
 use Rattle.crp_bay.proofs.Members.{not_in_nil, in_head, in_cons_cases, from_filter}
-use Rattle.crp_tree.specs.declared.tree.Tree.{Tree}
+use Rattle.crp_tree.specs.Tree.{Tree}
 use Rattle.crp_tree.specs.Names.{Precedes}
 use Rattle.crp_tree.specs.Trees.{G, X, Mark, Node, nodes, is_cut, is_given, cuts, value, given_names, IsInPlace, Fits, Begins}
 use Rattle.crp_tree.specs.Parts.{ProblemPart, nodes_of, given_of, cuts_in}

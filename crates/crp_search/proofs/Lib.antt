@@ -2,10 +2,9 @@ pub mod Rule
 pub mod Choice
 pub mod Greedily
 pub mod Steps
-pub mod Branching
-pub mod Halfway
+pub mod SoFar
+pub mod UnderWay
 pub mod Owing
 pub mod FirstHeld
 pub mod FirstClosing
-pub mod FirstHalfway
 pub mod FirstMet

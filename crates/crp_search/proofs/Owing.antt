@@ -3,14 +3,14 @@ use Rattle.std.proofs.Common.{◌≡◌, ℕ, zero, suc, ◌+◌, ◌-◌, ◌*�
 use Rattle.std.proofs.Math.Nat.{pow-succ', pow-zero}
 use Rattle.crp_search.specs.declared.frames.Frame.{Frame}
 
--- the rows of a frame that have no tree yet
+-- the rows of a frame that had no turn yet
 abbrev pub left : Frame → ℕ
-left f = length f.rows.items - length f.trees.items
+left f = length f.rows.items - f.done
 
--- what frames above a node still owe after their child: each row as many steps as a node of that depth can take
+-- what frames above a node still owe: each row as many steps as a node of that depth can take
 abbrev pub owed_above : ℕ → List Frame → ℕ
 owed_above k [] = 0
-owed_above k (f ∷ above) = 1 + (left f - 1) * 13 ^ k + owed_above (suc k) above
+owed_above k (f ∷ above) = 1 + left f * 13 ^ k + owed_above (suc k) above
 
 -- what a search owes at a path of so many rows
 abbrev pub owed : ℕ → Frame → List Frame → ℕ
@@ -36,18 +36,17 @@ two_powers zero some = absurd (omega arith)
 two_powers (suc k) some = omega (arith, pow-succ' 13 k, some_power k)
 
 -- the frame of a child owes less than the row
-pub owes_below : (rows longer : ℕ) (f fresh : Frame) (above : List Frame) → longer ≡ suc rows → longer ≤ 672 → 1 ≤ left f → left fresh ≤ 12 → owed longer fresh (f ∷ above) < owed rows f above
-owes_below rows longer f fresh above e few some low =
+pub owes_below : (rows longer : ℕ) (f g fresh : Frame) (above : List Frame) → longer ≡ suc rows → longer ≤ 672 → left f ≡ suc (left g) → left fresh ≤ 12 → owed longer fresh (g ∷ above) < owed rows f above
+owes_below rows longer f g fresh above e few one low =
     let k : ℕ = 674 - longer in
     let deep : 674 - rows ≡ suc k = omega arith in
-    let one : left f ≡ suc (left f - 1) = omega arith in
     let power : 13 ^ suc k ≡ 13 * 13 ^ k = pow-succ' 13 k in
-    rw deep (rw power (subst (λ n. left fresh * 13 ^ k + (1 + (left f - 1) * (13 * 13 ^ k) + owed_above (suc (suc k)) above) < n * (13 * 13 ^ k) + owed_above (suc (suc k)) above) (sym one)
-    (below_row (left fresh) (left f - 1) (13 ^ k) (owed_above (suc (suc k)) above) low (two_powers k (omega arith)))))
+    rw deep (rw power (subst (λ n. left fresh * 13 ^ k + (1 + left g * (13 * 13 ^ k) + owed_above (suc (suc k)) above) < n * (13 * 13 ^ k) + owed_above (suc (suc k)) above) (sym one)
+    (below_row (left fresh) (left g) (13 ^ k) (owed_above (suc (suc k)) above) low (two_powers k (omega arith)))))
 
 -- a frame that is left owed its step
-pub owes_above : (rows shorter : ℕ) (f g more : Frame) (above : List Frame) → rows ≡ suc shorter → rows ≤ 672 → left more ≡ left g - 1 → owed shorter more above < owed rows f (g ∷ above)
-owes_above rows shorter f g more above e few less =
+pub owes_above : (rows shorter : ℕ) (f g : Frame) (above : List Frame) → rows ≡ suc shorter → rows ≤ 672 → owed shorter g above < owed rows f (g ∷ above)
+owes_above rows shorter f g above e few =
     let k : ℕ = 674 - rows in
     let up : 674 - shorter ≡ suc k = omega arith in
-    rw (up, less) (omega arith)
+    rw up (omega arith)

@@ -4,7 +4,7 @@ use Rattle.std.proofs.lemmas.Bool.{cases_lt}
 use Rattle.std.proofs.lemmas.List.Elements.{All-weaker}
 use Rattle.crp_plan.specs.Bay.{Problem, Position}
 use Rattle.crp_plan.specs.declared.running.View.{View}
-use Rattle.crp_tree.specs.declared.tree.Tree.{Tree}
+use Rattle.crp_tree.specs.Tree.{Tree}
 use Rattle.crp_tree.specs.Trees.{nodes, branches, given_names}
 use Rattle.crp_search.specs.Limits.{SeesLimit, TriesClaim, ClaimsExpansion, Advances}
 use Rattle.crp_search.specs.Searched.{IsBelow, IsFound, IsGranted}

@@ -4,7 +4,7 @@ use Rattle.crp_plan.specs.Bay.{Problem, Position}
 use Rattle.crp_plan.specs.Faults.{IsPlanPath}
 use Rattle.crp_plan.specs.Plans.{ProblemPath}
 use Rattle.crp_plan.specs.declared.running.View.{View}
-use Rattle.crp_tree.specs.declared.tree.Tree.{Tree}
+use Rattle.crp_tree.specs.Tree.{Tree}
 use Rattle.crp_tree.specs.Trees.{X, Node, nodes, cuts, value}
 use Rattle.crp_search.specs.Searched.{IsBelow, IsFound}
 

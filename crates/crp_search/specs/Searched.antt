@@ -3,7 +3,7 @@ use Rattle.std.specs.Prelude.{◌≡◌, ℕ, ◌+◌, ◌<◌, ◌≤◌, ◌�
 use Rattle.crp_plan.specs.Bay.{Problem, Position, cap}
 use Rattle.crp_plan.specs.declared.running.View.{View}
 use Rattle.crp_bounds.specs.Bounds.{blocking, look_ahead}
-use Rattle.crp_tree.specs.declared.tree.Tree.{Tree}
+use Rattle.crp_tree.specs.Tree.{Tree}
 use Rattle.crp_tree.specs.Trees.{L, X, Node, nodes, Fits, IsInPlace, cuts, branches, given_names, value, least_through, least_value}
 
 -- a cut is closed for a worker: its value is at least what the worker saw last; or the worker was refused a claim, and the value is at least length

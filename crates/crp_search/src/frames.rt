@@ -1,13 +1,11 @@
 //! The branches that a search is in.
-ghost use Rattle.std.specs.Prelude.{◌≡◌, ◌<◌, ◌≤◌, ◌++◌, [], ◌∷◌, length, min, slice_index, IfOk, OnOk, IfSome, IfNone};
-ghost use Rattle.crp_plan.specs.Bay.{IsProblem, cap};
+ghost use Rattle.std.specs.Prelude.{◌≡◌, ◌+◌, ◌<◌, ◌≤◌, length, slice_index, IfSome, IfNone};
 ghost use Rattle.crp_bay.specs.Positions.{targets};
 
 use arrayvec::ArrayVec;
 use crp_bay::Position;
-use crp_plan::{MAX_ROWS, Problem};
-use crp_tree::Tree;
-use std::alloc::{AllocError, Global};
+use crp_plan::MAX_ROWS;
+use crp_tree::{Symbol, Tree};
 
 /// A tree, and the least value of its cuts, or the problem's cap where none is below that.
 #[derive(Drop)]
@@ -16,57 +14,51 @@ pub struct Found {
     pub floor: u32,
 }
 
-/// A branch whose legal rows are searched in turn: the rows, rising, and the trees of the first of them.
+/// What is found where a node is not a branch: its symbol, and the value of the cut, or the problem's cap where that is not above it.
+#[derive(Drop)]
+pub struct Closed {
+    pub symbol: Symbol,
+    pub floor: u32,
+}
+
+/// A branch whose legal rows are searched in turn: the rows, rising, and how many of them had their turn.
 #[derive(Drop)]
 pub struct Frame {
     rows: ArrayVec<u8, MAX_ROWS>,
-    trees: Vec<Tree>,
-    // The least value of the cuts of the trees, or the problem's cap where none is below that.
-    floor: u32,
+    done: usize,
 }
 
 impl Frame {
-    /// The branch at a position before its first row, with room for a tree of each row.
-    pub fn at(alloc: Global, problem: &Problem, position: &Position) -> Result<Frame, AllocError>
-        ensures rows { IfOk result (λ frame. frame.rows.items ≡ targets position.now.place) }
-        ensures few { IfOk result (λ frame. length frame.rows.items ≤ 12) }
-        ensures trees { IfOk result (λ frame. frame.trees.items ≡ []) }
-        ensures floor { IfOk result (λ frame. frame.floor ≡ cap problem.now) }
-        ensures problem { IsProblem problem.now }
+    /// The branch at a position before its first row.
+    pub fn at(position: &Position) -> Frame
+        ensures rows { result.rows.items ≡ targets position.now.place }
+        ensures few { length result.rows.items ≤ 12 }
+        ensures done { result.done ≡ 0 }
     {
-        let floor = problem.cap();
-        let rows = position.targets();
-        let trees = Vec::with_capacity(alloc, rows.len())?;
-        Ok(Frame { rows, trees, floor })
-    }
-
-    /// The row whose turn it is. `None` where each row has its tree.
-    pub fn turn(&self) -> Option<u8>
-        ensures left { IfSome result (λ row. length self.now.trees.items < length self.now.rows.items) }
-        ensures row { IfSome result (λ row. row ≡ slice_index self.now.rows.items (length self.now.trees.items)) }
-        ensures none { IfNone result (length self.now.rows.items ≤ length self.now.trees.items) }
-    {
-        self.rows.get(self.trees.len()).copied()
-    }
-
-    /// Adds what is found at the row whose turn it is.
-    pub fn add(&mut self, found: Found) -> Result<(), AllocError>
-        ensures rows { OnOk result (self.new.rows.items ≡ self.old.rows.items) }
-        ensures trees { OnOk result (self.new.trees.items ≡ self.old.trees.items ++ found.tree ∷ []) }
-        ensures floor { OnOk result (self.new.floor ≡ min self.old.floor found.floor) }
-    {
-        self.floor = self.floor.min(found.floor);
-        self.trees.push(found.tree)?;
-        Ok(())
-    }
-
-    /// The branch of all its trees.
-    pub fn close(self) -> Found
-        ensures { result ≡ record { tree = Tree.Branch self.trees; floor = self.floor } }
-    {
-        Found {
-            tree: Tree::Branch(self.trees),
-            floor: self.floor,
+        Frame {
+            rows: position.targets(),
+            done: 0,
         }
+    }
+
+    /// The symbol of the branch.
+    pub fn symbol(&self) -> Symbol
+        ensures { result ≡ Symbol.Branch (length self.now.rows.items) }
+    {
+        Symbol::Branch(self.rows.len() as u8)
+    }
+
+    /// The row whose turn it is. `None` where each row had its turn.
+    pub fn turn(&mut self) -> Option<u8>
+        ensures left { IfSome result (λ row. self.old.done < length self.old.rows.items) }
+        ensures row { IfSome result (λ row. row ≡ slice_index self.old.rows.items self.old.done) }
+        ensures done { IfSome result (λ row. self.new.done ≡ self.old.done + 1) }
+        ensures rows { IfSome result (λ row. self.new.rows.items ≡ self.old.rows.items) }
+        ensures none { IfNone result (length self.old.rows.items ≤ self.old.done) }
+        ensures same { IfNone result (self.new ≡ self.old) }
+    {
+        let row = self.rows.get(self.done).copied()?;
+        self.done += 1;
+        Some(row)
     }
 }

@@ -2,18 +2,19 @@
 ghost use Rattle.std.specs.Prelude.{◌≡◌, ℕ, ◌+◌, ◌<◌, ◌≤◌, List, [], ◌∷◌, ◌++◌, length, min, All, IfOk, OnOk, IfSome, IfNone, IsTrue, IsFalse, Contains};
 ghost use Rattle.crp_plan.specs.Bay.{IsProblem, IsAt, IsFinished, Position as Place, cap};
 ghost use Rattle.crp_bay.specs.Positions.{child, targets};
-ghost use Rattle.crp_bounds.specs.Bounds.{blocking as blocking_bound};
+ghost use Rattle.crp_bounds.specs.Bounds.{blocking as blocking_bound, look_ahead as look_ahead_bound};
+ghost use Rattle.crp_tree.specs.Symbols.{IsLeaf, leaf};
 ghost use Rattle.crp_tree.specs.Trees.{IsGivenAway};
 ghost use Rattle.crp_tree.specs.Parts.{IsKeptPart, given_of, cuts_in, branches_in};
 ghost use Rattle.crp_search.specs.Limits.{Advances, SeesLimit};
 ghost use Rattle.crp_search.specs.Searched.{IsClosed, NeedsLookAhead, IsBelow, IsShort, IsFound, IsGranted, PutsMore};
 
-use crate::frames::{Found, Frame};
+use crate::frames::{Closed, Found, Frame};
 use crate::limit::Limit;
 use arrayvec::ArrayVec;
 use crp_bounds::Bounded;
 use crp_plan::{MAX_RELOCATIONS, Plan, Problem};
-use crp_tree::{MAX_NAME, Name, Part, Tree};
+use crp_tree::{MAX_NAME, Name, Part, Symbol, Tree};
 use std::alloc::{AllocError, Global};
 use std::mem;
 
@@ -36,13 +37,28 @@ fn offer_path<L: Limit>(problem: &Problem, path: &[u8], limit: &mut L)
 }
 
 /// What is found where a node is closed by a cut of the value. No floor is above `most`.
-pub fn cut(tree: Tree, value: u32, most: u32) -> Found
-    ensures { result ≡ record { tree = tree; floor = min value most } }
+pub fn cut(symbol: Symbol, value: u32, most: u32) -> Closed
+    ensures { result ≡ record { symbol = symbol; floor = min value most } }
 {
-    Found {
-        tree,
+    Closed {
+        symbol,
         floor: value.min(most),
     }
+}
+
+/// The length of the path plus the look-ahead bound, where that reaches the limit.
+pub fn reaching(place: &Bounded, path: &[u8], limit: u64) -> Option<u32>
+    requires { length path.now ≤ 672 }
+    ensures value { IfSome result (λ high. high ≡ length path.now + look_ahead_bound place.now.place) }
+    ensures reached { IfSome result (λ high. limit ≤ high) }
+    ensures below { IfNone result (length path.now + look_ahead_bound place.now.place < limit) }
+{
+    let length = path.len() as u32;
+    let need = limit
+        .saturating_sub(u64::from(length))
+        .min(u64::from(u32::MAX)) as u32;
+    let bound = place.look_ahead_reaching(need)?;
+    Some(length + bound)
 }
 
 /// Sees the limit at a node whose path plus blocking bound is `low`. `None` exactly where that reaches what was seen.
@@ -70,14 +86,15 @@ fn close_below<L: Limit>(
     low: u32,
     seen: u64,
     limit: &mut L,
-) -> Option<Found>
+) -> Option<Closed>
     requires problem { problem.now ≡ L.problem limit.old }
     requires path { IsAt problem.now path.now place.now.place }
     requires low { low ≡ length path.now + blocking_bound place.now.place }
     requires seen { (low < seen) × (seen ≡ (L.view limit.old).seen) }
     ensures found { IfSome result (λ found. (split : ℕ)
-        → IsFound problem.now split path.now place.now.place (L.view limit.old) (L.view limit.new) (L.puts limit.old) (L.puts limit.new) found.tree found.floor) }
-    ensures own { IfSome result (λ found. IsGivenAway found.tree → ⊥) }
+        → IsFound problem.now split path.now place.now.place (L.view limit.old) (L.view limit.new) (L.puts limit.old) (L.puts limit.new) (leaf found.symbol) found.floor) }
+    ensures leaf { IfSome result (λ found. IsLeaf found.symbol) }
+    ensures own { IfSome result (λ found. IsGivenAway (leaf found.symbol) → ⊥) }
     ensures granted { IfNone result (IsGranted path.now place.now.place (L.view limit.old) (L.view limit.new)) }
     ensures advances { Advances problem.now (L.view limit.old) (L.view limit.new) }
     ensures same { (L.problem limit.new ≡ L.problem limit.old) × (L.budget limit.new ≡ L.budget limit.old) × (L.puts limit.new ≡ L.puts limit.old) }
@@ -85,29 +102,30 @@ fn close_below<L: Limit>(
     let most = problem.cap();
     if place.position().is_done() {
         offer_path(problem, path, limit);
-        return Some(cut(Tree::CutB, low, most));
+        return Some(cut(Symbol::CutB, low, most));
     }
-    let high = path.len() as u32 + place.look_ahead();
-    if u64::from(high) >= seen {
-        return Some(cut(Tree::CutL, high, most));
+    if let Some(high) = reaching(place, path, seen) {
+        return Some(cut(Symbol::CutL, high, most));
     }
     if limit.claim() {
         return None;
     }
+    let high = path.len() as u32 + place.look_ahead();
     if low == high {
-        Some(cut(Tree::CutB, low, most))
+        Some(cut(Symbol::CutB, low, most))
     } else {
-        Some(cut(Tree::CutL, high, most))
+        Some(cut(Symbol::CutL, high, most))
     }
 }
 
 /// The same where nothing is known of the limit: it is seen, and the node is closed where `low` reaches it.
-fn close<L: Limit>(problem: &Problem, place: &Bounded, path: &[u8], limit: &mut L) -> Option<Found>
+fn close<L: Limit>(problem: &Problem, place: &Bounded, path: &[u8], limit: &mut L) -> Option<Closed>
     requires problem { problem.now ≡ L.problem limit.old }
     requires path { IsAt problem.now path.now place.now.place }
     ensures found { IfSome result (λ found. (split : ℕ)
-        → IsFound problem.now split path.now place.now.place (L.view limit.old) (L.view limit.new) (L.puts limit.old) (L.puts limit.new) found.tree found.floor) }
-    ensures own { IfSome result (λ found. IsGivenAway found.tree → ⊥) }
+        → IsFound problem.now split path.now place.now.place (L.view limit.old) (L.view limit.new) (L.puts limit.old) (L.puts limit.new) (leaf found.symbol) found.floor) }
+    ensures leaf { IfSome result (λ found. IsLeaf found.symbol) }
+    ensures own { IfSome result (λ found. IsGivenAway (leaf found.symbol) → ⊥) }
     ensures granted { IfNone result (IsGranted path.now place.now.place (L.view limit.old) (L.view limit.new)) }
     ensures advances { Advances problem.now (L.view limit.old) (L.view limit.new) }
     ensures same { (L.problem limit.new ≡ L.problem limit.old) × (L.budget limit.new ≡ L.budget limit.old) × (L.puts limit.new ≡ L.puts limit.old) }
@@ -115,7 +133,7 @@ fn close<L: Limit>(problem: &Problem, place: &Bounded, path: &[u8], limit: &mut 
     let most = problem.cap();
     let low = path.len() as u32 + place.blocking();
     let Some(seen) = see_above(low, limit) else {
-        return Some(cut(Tree::CutB, low, most));
+        return Some(cut(Symbol::CutB, low, most));
     };
     close_below(problem, place, path, low, seen, limit)
 }
@@ -149,13 +167,14 @@ fn search_child<L: Limit>(
     row: u8,
     limit: &mut L,
     split: u8,
-) -> Option<Found>
+) -> Option<Closed>
     requires problem { problem.now ≡ L.problem limit.old }
     requires path { IsAt problem.now path.now (child place.old.place row) }
     requires row { Contains (targets place.old.place) row }
     requires split { split ≤ 8 }
     ensures found { IfSome result
-        (λ found. IsFound problem.now split path.now (child place.old.place row) (L.view limit.old) (L.view limit.new) (L.puts limit.old) (L.puts limit.new) found.tree found.floor) }
+        (λ found. IsFound problem.now split path.now (child place.old.place row) (L.view limit.old) (L.view limit.new) (L.puts limit.old) (L.puts limit.new) (leaf found.symbol) found.floor) }
+    ensures leaf { IfSome result (λ found. IsLeaf found.symbol) }
     ensures back { IfSome result (λ found. place.new ≡ place.old) }
     ensures granted { IfNone result (IsGranted path.now (child place.old.place row) (L.view limit.old) (L.view limit.new)) }
     ensures down { IfNone result (place.new ≡ record { place = child place.old.place row; trail = place.old.place ∷ place.old.trail }) }
@@ -166,14 +185,14 @@ fn search_child<L: Limit>(
 {
     let most = problem.cap();
     if give(path, split, limit) {
-        return Some(Found {
-            tree: Tree::Given,
+        return Some(Closed {
+            symbol: Symbol::Given,
             floor: most,
         });
     }
     let low = path.len() as u32 + place.blocking_after(row);
     let Some(seen) = see_above(low, limit) else {
-        return Some(cut(Tree::CutB, low, most));
+        return Some(cut(Symbol::CutB, low, most));
     };
     let _pushed = place.push(row);
     let found = close_below(problem, place, path, low, seen, limit)?;
@@ -201,30 +220,41 @@ fn search_from<L: Limit>(
     ensures same { (L.problem limit.new ≡ L.problem limit.old) × (L.budget limit.new ≡ L.budget limit.old) }
     ensures puts { PutsMore (L.puts limit.old) (L.puts limit.new) }
 {
-    if let Some(found) = close(problem, place, path.as_slice(), limit) {
-        return Ok(found);
+    let mut list = Vec::new(alloc);
+    if let Some(closed) = close(problem, place, path.as_slice(), limit) {
+        list.push(closed.symbol)?;
+        return Ok(Found {
+            tree: Tree::from_symbols(list),
+            floor: closed.floor,
+        });
     }
+    let mut floor = problem.cap();
     let mut above = Vec::new(alloc);
-    let mut frame = Frame::at(alloc, problem, place.position())?;
+    let mut frame = Frame::at(place.position());
+    list.push(frame.symbol())?;
     loop {
         let Some(row) = frame.turn() else {
             let Some(upper) = above.pop() else {
-                return Ok(frame.close());
+                return Ok(Found {
+                    tree: Tree::from_symbols(list),
+                    floor,
+                });
             };
-            let found = mem::replace(&mut frame, upper).close();
+            frame = upper;
             let _row = path.pop();
             let _popped = place.pop();
-            frame.add(found)?;
             continue;
         };
         path.push(row);
-        let Some(found) = search_child(problem, place, path.as_slice(), row, limit, split) else {
-            let below = Frame::at(alloc, problem, place.position())?;
+        let Some(closed) = search_child(problem, place, path.as_slice(), row, limit, split) else {
+            let below = Frame::at(place.position());
+            list.push(below.symbol())?;
             above.push(mem::replace(&mut frame, below))?;
             continue;
         };
         let _row = path.pop();
-        frame.add(found)?;
+        list.push(closed.symbol)?;
+        floor = floor.min(closed.floor);
     }
 }
 

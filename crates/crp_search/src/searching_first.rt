@@ -4,6 +4,7 @@ ghost use Rattle.crp_plan.specs.Bay.{IsAt, Position as Place};
 ghost use Rattle.crp_plan.specs.declared.running.View.{View};
 ghost use Rattle.crp_bay.specs.Positions.{child, targets};
 ghost use Rattle.crp_bounds.specs.Bounds.{blocking as blocking_bound};
+ghost use Rattle.crp_tree.specs.Symbols.{IsLeaf, leaf};
 ghost use Rattle.crp_tree.specs.Trees.{IsGivenAway, branches};
 ghost use Rattle.crp_tree.specs.Parts.{IsKeptPart, given_of, cuts_in, branches_in};
 ghost use Rattle.crp_search.specs.Searched.{NeedsLookAhead, IsBelow, IsShort, PutsMore};
@@ -11,12 +12,12 @@ ghost use Rattle.crp_search.specs.Firsts.{IsLowerBound, IsFirstHere, IsNoneHere,
 ghost use Rattle.crp_search.specs.FirstsFound.{need, IsFirstFound, IsOpen};
 
 use crate::first_part::{FirstEnd, FirstPart};
-use crate::frames::{Found, Frame};
+use crate::frames::{Closed, Found, Frame};
 use crate::limit::Limit;
-use crate::searching::{Path, cut, give};
+use crate::searching::{Path, cut, give, reaching};
 use crp_bounds::Bounded;
 use crp_plan::{Plan, Problem};
-use crp_tree::{MAX_NAME, Name, Part, Tree};
+use crp_tree::{MAX_NAME, Name, Part, Symbol, Tree};
 use std::alloc::Global;
 use std::mem;
 
@@ -63,14 +64,15 @@ fn close_finished(
     low: u32,
     count: u32,
     plan: &mut Option<Plan>,
-) -> Option<Found>
+) -> Option<Closed>
     requires path { IsAt problem.now path.now place.now.place }
     requires least { IsLowerBound problem.now count }
     requires low { low ≡ length path.now + blocking_bound place.now.place }
     requires short { low < need count plan.old }
     ensures found { IfSome result (λ found. (split : ℕ) (v : View) (puts : List (List ℕ))
-        → IsFirstFound problem.now count split path.now place.now.place v v plan.old plan.new puts puts found.tree found.floor) }
-    ensures own { IfSome result (λ found. IsGivenAway found.tree → ⊥) }
+        → IsFirstFound problem.now count split path.now place.now.place v v plan.old plan.new puts puts (leaf found.symbol) found.floor) }
+    ensures leaf { IfSome result (λ found. IsLeaf found.symbol) }
+    ensures own { IfSome result (λ found. IsGivenAway (leaf found.symbol) → ⊥) }
     ensures open { IfNone result (IsOpen count plan.old path.now place.now.place) }
     ensures kept { IfNone result (plan.new ≡ plan.old) }
 {
@@ -80,11 +82,10 @@ fn close_finished(
             unreachable!()
         };
         *plan = Some(met);
-        return Some(cut(Tree::CutB, low, most));
+        return Some(cut(Symbol::CutB, low, most));
     }
-    let high = path.len() as u32 + place.look_ahead();
-    if u64::from(high) >= enough(count, plan) {
-        return Some(cut(Tree::CutL, high, most));
+    if let Some(high) = reaching(place, path, enough(count, plan)) {
+        return Some(cut(Symbol::CutL, high, most));
     }
     None
 }
@@ -96,19 +97,20 @@ fn close_first(
     path: &[u8],
     count: u32,
     plan: &mut Option<Plan>,
-) -> Option<Found>
+) -> Option<Closed>
     requires path { IsAt problem.now path.now place.now.place }
     requires least { IsLowerBound problem.now count }
     ensures found { IfSome result (λ found. (split : ℕ) (v : View) (puts : List (List ℕ))
-        → IsFirstFound problem.now count split path.now place.now.place v v plan.old plan.new puts puts found.tree found.floor) }
-    ensures own { IfSome result (λ found. IsGivenAway found.tree → ⊥) }
+        → IsFirstFound problem.now count split path.now place.now.place v v plan.old plan.new puts puts (leaf found.symbol) found.floor) }
+    ensures leaf { IfSome result (λ found. IsLeaf found.symbol) }
+    ensures own { IfSome result (λ found. IsGivenAway (leaf found.symbol) → ⊥) }
     ensures open { IfNone result (IsOpen count plan.old path.now place.now.place) }
     ensures kept { IfNone result (plan.new ≡ plan.old) }
 {
     let most = problem.cap();
     let low = path.len() as u32 + place.blocking();
     if u64::from(low) >= enough(count, plan) {
-        return Some(cut(Tree::CutB, low, most));
+        return Some(cut(Symbol::CutB, low, most));
     }
     close_finished(problem, place, path, low, count, plan)
 }
@@ -126,7 +128,7 @@ fn first_child<L: Limit>(
     aim: Aim,
     plan: &mut Option<Plan>,
     limit: &mut L,
-) -> Result<Option<Found>, FirstEnd>
+) -> Result<Option<Closed>, FirstEnd>
     requires problem { problem.now ≡ L.problem limit.old }
     requires path { IsAt problem.now path.now (child place.old.place row) }
     requires row { Contains (targets place.old.place) row }
@@ -134,7 +136,8 @@ fn first_child<L: Limit>(
     requires split { aim.split ≤ 8 }
     ensures found { IfOk result (λ found. IfSome found
         (λ found. IsFirstFound problem.now aim.count aim.split path.now (child place.old.place row) (L.view limit.old) (L.view limit.new) plan.old plan.new
-        (L.puts limit.old) (L.puts limit.new) found.tree found.floor)) }
+        (L.puts limit.old) (L.puts limit.new) (leaf found.symbol) found.floor)) }
+    ensures leaf { IfOk result (λ found. IfSome found (λ found. IsLeaf found.symbol)) }
     ensures back { IfOk result (λ found. IfSome found (λ found. place.new ≡ place.old)) }
     ensures open { IfOk result (λ found. IfNone found (IsOpen aim.count plan.old path.now (child place.old.place row))) }
     ensures granted { IfOk result (λ found. IfNone found ((L.view limit.new).granted ≡ (L.view limit.old).granted + 1)) }
@@ -148,14 +151,14 @@ fn first_child<L: Limit>(
 {
     let most = problem.cap();
     if give(path, aim.split, limit) {
-        return Ok(Some(Found {
-            tree: Tree::Given,
+        return Ok(Some(Closed {
+            symbol: Symbol::Given,
             floor: most,
         }));
     }
     let low = path.len() as u32 + place.blocking_after(row);
     if u64::from(low) >= enough(aim.count, plan) {
-        return Ok(Some(cut(Tree::CutB, low, most)));
+        return Ok(Some(cut(Symbol::CutB, low, most)));
     }
     let _pushed = place.push(row);
     let Some(found) = close_finished(problem, place, path, low, aim.count, plan) else {
@@ -190,32 +193,43 @@ fn first_from<L: Limit>(
     ensures same { (L.problem limit.new ≡ L.problem limit.old) × (L.budget limit.new ≡ L.budget limit.old) }
     ensures puts { PutsMore (L.puts limit.old) (L.puts limit.new) }
 {
-    if let Some(found) = close_first(problem, place, path.as_slice(), aim.count, plan) {
-        return Ok(found);
+    let mut list = Vec::new(alloc);
+    if let Some(closed) = close_first(problem, place, path.as_slice(), aim.count, plan) {
+        list.push(closed.symbol)?;
+        return Ok(Found {
+            tree: Tree::from_symbols(list),
+            floor: closed.floor,
+        });
     }
     expand(limit)?;
+    let mut floor = problem.cap();
     let mut above = Vec::new(alloc);
-    let mut frame = Frame::at(alloc, problem, place.position())?;
+    let mut frame = Frame::at(place.position());
+    list.push(frame.symbol())?;
     loop {
         let Some(row) = frame.turn() else {
             let Some(upper) = above.pop() else {
-                return Ok(frame.close());
+                return Ok(Found {
+                    tree: Tree::from_symbols(list),
+                    floor,
+                });
             };
-            let found = mem::replace(&mut frame, upper).close();
+            frame = upper;
             let _row = path.pop();
             let _popped = place.pop();
-            frame.add(found)?;
             continue;
         };
         path.push(row);
-        let Some(found) = first_child(problem, place, path.as_slice(), row, aim, plan, limit)?
+        let Some(closed) = first_child(problem, place, path.as_slice(), row, aim, plan, limit)?
         else {
-            let below = Frame::at(alloc, problem, place.position())?;
+            let below = Frame::at(place.position());
+            list.push(below.symbol())?;
             above.push(mem::replace(&mut frame, below))?;
             continue;
         };
         let _row = path.pop();
-        frame.add(found)?;
+        list.push(closed.symbol)?;
+        floor = floor.min(closed.floor);
     }
 }
 

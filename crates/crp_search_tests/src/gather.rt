@@ -5,7 +5,7 @@ use crp_bay::Position;
 use crp_bounds::{blocking, look_ahead};
 use crp_gather::{GatherFault, gather};
 use crp_plan::Problem;
-use crp_tree::{Cert, Name, Part, Tree};
+use crp_tree::{Cert, Name, Part, Symbol, Tree};
 use std::alloc::{AllocError, Global};
 use std::test::Fail;
 
@@ -31,40 +31,55 @@ fn give_all(alloc: Global, problem: &Problem) -> Result<Option<Part>, AllocError
         return Ok(None);
     }
     let targets = place.targets();
-    let mut trees = Vec::new(alloc);
+    let mut list = Vec::new(alloc);
+    list.push(Symbol::Branch(targets.len() as u8))?;
     for _ in 0..targets.len() {
-        trees.push(Tree::Given)?;
+        list.push(Symbol::Given)?;
     }
-    let tree = Tree::Branch(trees);
+    let tree = Tree::from_symbols(list);
     let part = Part::new(problem, Name::root(), tree, problem.cap());
     Ok(Some(part))
 }
 
 /// The part at these rows that is cut by the look-ahead bound.
-fn cut_ahead(problem: &Problem, rows: &[u8]) -> Option<Part> {
-    let name = Name::from_rows(rows)?;
-    let place = name.position(problem)?;
+fn cut_ahead(alloc: Global, problem: &Problem, rows: &[u8]) -> Result<Option<Part>, AllocError> {
+    let Some(name) = Name::from_rows(rows) else {
+        return Ok(None);
+    };
+    let Some(place) = name.position(problem) else {
+        return Ok(None);
+    };
     let value = name.rows().len() as u32 + look_ahead(&place);
     let floor = value.min(problem.cap());
-    Some(Part::new(problem, name, Tree::CutL, floor))
+    let mut list = Vec::new(alloc);
+    list.push(Symbol::CutL)?;
+    let tree = Tree::from_symbols(list);
+    Ok(Some(Part::new(problem, name, tree, floor)))
 }
 
 /// The part at these rows that is cut by the blocking bound.
-fn cut_blocking(problem: &Problem, rows: &[u8]) -> Option<Part> {
-    let name = Name::from_rows(rows)?;
-    let place = name.position(problem)?;
+fn cut_blocking(alloc: Global, problem: &Problem, rows: &[u8]) -> Result<Option<Part>, AllocError> {
+    let Some(name) = Name::from_rows(rows) else {
+        return Ok(None);
+    };
+    let Some(place) = name.position(problem) else {
+        return Ok(None);
+    };
     let value = name.rows().len() as u32 + blocking(&place);
     let floor = value.min(problem.cap());
-    Some(Part::new(problem, name, Tree::CutB, floor))
+    let mut list = Vec::new(alloc);
+    list.push(Symbol::CutB)?;
+    let tree = Tree::from_symbols(list);
+    Ok(Some(Part::new(problem, name, tree, floor)))
 }
 
 fn part_of(alloc: Global, piece: Piece, problem: &Problem) -> Result<Option<Part>, Fail> {
     match piece {
         Piece::Root => Ok(give_all(alloc, problem)?),
-        Piece::Second => Ok(cut_ahead(problem, &[2])),
-        Piece::Third => Ok(cut_blocking(problem, &[3])),
-        Piece::Below => Ok(cut_blocking(problem, &[3, 2])),
-        Piece::Foreign => Ok(cut_ahead(&problem_of(alloc, &FOUR)?, &[2])),
+        Piece::Second => Ok(cut_ahead(alloc, problem, &[2])?),
+        Piece::Third => Ok(cut_blocking(alloc, problem, &[3])?),
+        Piece::Below => Ok(cut_blocking(alloc, problem, &[3, 2])?),
+        Piece::Foreign => Ok(cut_ahead(alloc, &problem_of(alloc, &FOUR)?, &[2])?),
     }
 }
 

@@ -8,7 +8,7 @@ use Rattle.crp_plan.specs.declared.running.View.{View}
 use Rattle.crp_plan.proofs.Covered.{relocations-path}
 use Rattle.crp_bounds.specs.Bounds.{look_ahead}
 use Rattle.crp_bounds.proofs.Floors.{cut_floor}
-use Rattle.crp_tree.specs.declared.tree.Tree.{Tree, CutB, CutL, Branch', Given}
+use Rattle.crp_tree.specs.Tree.{Tree, CutB, CutL, Branch, Given}
 use Rattle.crp_tree.specs.Trees.{Node, nodes, is_cut, branches, value, least_through}
 use Rattle.crp_tree.specs.Claims.{IsAccepted}
 use Rattle.crp_tree.specs.Parts.{ProblemPart, nodes_of, cuts_in, branches_in, IsKeptPart, Certificate, claimed}
@@ -140,7 +140,7 @@ no_branches x k cut = let is = k.is_part in ap branches (nodes_at_name x is.plac
     of_cut : (path : List ℕ) (s : Position) (tree : Tree) → IsCut tree → branches (nodes path s tree) ≡ []
     of_cut path s CutB cut = refl
     of_cut path s CutL cut = refl
-    of_cut path s (Branch' shape all) cut = absurd cut
+    of_cut path s (Branch all) cut = absurd cut
     of_cut path s Given cut = absurd cut
 
 -- the look-ahead bound of the first position is what is answered where memory ran out

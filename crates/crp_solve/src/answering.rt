@@ -12,7 +12,7 @@ use crate::answer::{Answer, Cause, Second, Solved};
 use crp_bay::Position;
 use crp_bounds::look_ahead;
 use crp_plan::{Plan, Problem};
-use crp_tree::{Cert, Name, Part, Tree};
+use crp_tree::{Cert, Name, Part, Symbol, Tree};
 use std::alloc::{AllocError, Global};
 
 /// The relocations of the plan; where there is none, the cap.
@@ -50,19 +50,22 @@ pub fn answer_of_ended(problem: &Problem, cert: Cert, best: Option<Plan>) -> Ans
 }
 
 /// The part that is one cut at the empty path, by the look-ahead bound.
-fn root_cut(problem: &Problem) -> Part
-    ensures problem { result.problem ≡ problem.now }
-    ensures root { result.name ≡ [] }
-    ensures cut { IsCut result.tree }
-    ensures floor { result.floor ≡ min (cap problem.now) (look_ahead_bound (settled (start problem.now))) }
-    ensures alone { given_of result ≡ [] }
-    ensures kept { IsKeptPart result }
+fn root_cut(alloc: Global, problem: &Problem) -> Result<Part, AllocError>
+    ensures problem { IfOk result (λ part. part.problem ≡ problem.now) }
+    ensures root { IfOk result (λ part. part.name ≡ []) }
+    ensures cut { IfOk result (λ part. IsCut part.tree) }
+    ensures floor { IfOk result (λ part. part.floor ≡ min (cap problem.now) (look_ahead_bound (settled (start problem.now)))) }
+    ensures alone { IfOk result (λ part. given_of part ≡ []) }
+    ensures kept { IfOk result IsKeptPart }
 {
     let ahead = look_ahead(&Position::start(problem));
-    let part = Part::new(problem, Name::root(), Tree::CutL, ahead.min(problem.cap()));
+    let mut list = Vec::new(alloc);
+    list.push(Symbol::CutL)?;
+    let tree = Tree::from_symbols(list);
+    let part = Part::new(problem, Name::root(), tree, ahead.min(problem.cap()));
     // For its contract alone: the floor is what the part shows.
     let _floor = part.floor();
-    part
+    Ok(part)
 }
 
 /// The answer where memory ran out, and this is the best plan that was met.
@@ -76,7 +79,8 @@ pub fn answer_without_memory(
     ensures true_answer { IfOk result
         (λ answer. (budget first expanded : ℕ) → IsBestMet problem.now first best → expanded ≤ budget → IsTrueAnswer problem.now budget answer expanded) }
 {
-    let cert = Cert::whole(alloc, root_cut(problem))?;
+    let part = root_cut(alloc, problem)?;
+    let cert = Cert::whole(alloc, part)?;
     Ok(Answer::Between {
         lower: cert.lower(),
         cert,

@@ -6,7 +6,7 @@ use Rattle.std.proofs.lemmas.Bool.{cases_lt}
 use Rattle.crp_plan.specs.Bay.{Problem, IsProblem, Position, IsAt, cap}
 use Rattle.crp_plan.proofs.Paths.{same_at}
 use Rattle.crp_bounds.specs.Bounds.{look_ahead}
-use Rattle.crp_tree.specs.declared.tree.Tree.{Tree}
+use Rattle.crp_tree.specs.Tree.{Tree}
 use Rattle.crp_tree.specs.Trees.{nodes, given_names, least_through, least_value, HasShape, Shows}
 use Rattle.crp_tree.specs.Claims.{IsPart, nodes_in}
 use Rattle.crp_tree.specs.Parts.{ProblemPart, nodes_of, part_of, IsKeptPart, IsLeast, floors_of}

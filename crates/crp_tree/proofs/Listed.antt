@@ -1,45 +1,46 @@
 -- The trees of a branch as a list, one for each row.
-use Rattle.std.proofs.Common.{◌≡◌, ℕ, zero, suc, ◌≤◌, ◌<◌, ◌⊎◌, ⊎_elim, List, [], ◌∷◌, ◌++◌, length, take, drop, get_or, Vec, Global, refl, sym, ap, ◌∙◌, subst, arith, append_assoc, append-nil, Contains, All}
+use Rattle.std.proofs.Common.{◌≡◌, ℕ, zero, suc, ◌≤◌, ◌<◌, ◌⊎◌, ⊎_elim, List, [], ◌∷◌, ◌++◌, length, take, drop, get_or, refl, sym, ap, ◌∙◌, subst, arith, append_assoc, append-nil, Contains, All}
 use Rattle.std.proofs.lemmas.List.{drop_all}
 use Rattle.std.proofs.lemmas.List.Elements.{All-contains, Contains-append_left, Contains-append_right}
-use Rattle.crp_tree.specs.declared.tree.Tree.{Tree, CutB, CutL, Branch', Given, Branch, Row_of-Tree, end_of-Tree, more_of-Tree, items-the_row-Tree, items_hidden-the_row-Tree-0}
+use Rattle.crp_tree.specs.Tree.{Tree, CutB, CutL, Branch, Given, Trees, no_trees, one_and, items, row}
 use Rattle.crp_plan.specs.Bay.{Position}
 use Rattle.crp_bay.specs.Positions.{targets, child}
 use Rattle.crp_tree.specs.Trees.{Node, X, nodes, nodes_of_each, Fits, FitsEach}
 use Rattle.crp_tree.specs.Listed.{nodes_below, AreFit}
+use Rattle.crp_tree.specs.Symbols.{items_row}
 use Rattle.crp_tree.proofs.InLine.{from_members}
 
 -- it is a branch
 abbrev pub IsBranch : Tree → Type 0
 IsBranch CutB = ⊥
 IsBranch CutL = ⊥
-IsBranch (Branch' shape all) = Unit {0}
+IsBranch (Branch all) = Unit {0}
 IsBranch Given = ⊥
 
 -- the trees of a branch
 abbrev pub trees_of : Tree → List Tree
 trees_of CutB = []
 trees_of CutL = []
-trees_of (Branch' shape all) = items-the_row-Tree _ all
+trees_of (Branch all) = items all
 trees_of Given = []
 
-pub list_fits : (s : Position) (rows : List ℕ) {m : _} (all : Row_of-Tree m) → FitsEach s rows all → AreFit s rows (items-the_row-Tree m all)
-list_fits s [] end_of-Tree h = tt
-list_fits s [] (more_of-Tree tree trees) h = absurd h
-list_fits s (row ∷ rows) end_of-Tree h = absurd h
-list_fits s (row ∷ rows) (more_of-Tree tree trees) h = (h.0, list_fits s rows trees h.1)
+pub list_fits : (s : Position) (rows : List ℕ) (all : Trees) → FitsEach s rows all → AreFit s rows (items all)
+list_fits s [] no_trees h = tt
+list_fits s [] (one_and tree trees) h = absurd h
+list_fits s (row ∷ rows) no_trees h = absurd h
+list_fits s (row ∷ rows) (one_and tree trees) h = (h.0, list_fits s rows trees h.1)
 
-fits_list : (s : Position) (rows : List ℕ) {m : _} (all : Row_of-Tree m) → AreFit s rows (items-the_row-Tree m all) → FitsEach s rows all
-fits_list s [] end_of-Tree h = tt
-fits_list s [] (more_of-Tree tree trees) h = absurd h
-fits_list s (row ∷ rows) end_of-Tree h = absurd h
-fits_list s (row ∷ rows) (more_of-Tree tree trees) h = (h.0, fits_list s rows trees h.1)
+fits_list : (s : Position) (rows : List ℕ) (all : Trees) → AreFit s rows (items all) → FitsEach s rows all
+fits_list s [] no_trees h = tt
+fits_list s [] (one_and tree trees) h = absurd h
+fits_list s (row ∷ rows) no_trees h = absurd h
+fits_list s (row ∷ rows) (one_and tree trees) h = (h.0, fits_list s rows trees h.1)
 
-pub list_nodes : (path : List ℕ) (s : Position) (rows : List ℕ) {m : _} (all : Row_of-Tree m) → nodes_of_each path s rows all ≡ nodes_below path s rows (items-the_row-Tree m all)
-list_nodes path s [] end_of-Tree = refl
-list_nodes path s [] (more_of-Tree tree trees) = refl
-list_nodes path s (row ∷ rows) end_of-Tree = refl
-list_nodes path s (row ∷ rows) (more_of-Tree tree trees) = ap (λ l. nodes (path ++ row ∷ []) (child s row) tree ++ l) (list_nodes path s rows trees)
+pub list_nodes : (path : List ℕ) (s : Position) (rows : List ℕ) (all : Trees) → nodes_of_each path s rows all ≡ nodes_below path s rows (items all)
+list_nodes path s [] no_trees = refl
+list_nodes path s [] (one_and tree trees) = refl
+list_nodes path s (row ∷ rows) no_trees = refl
+list_nodes path s (row ∷ rows) (one_and tree trees) = ap (λ l. nodes (path ++ row ∷ []) (child s row) tree ++ l) (list_nodes path s rows trees)
 
 -- the node of a branch
 abbrev pub branch_node : List ℕ → Position → Node
@@ -55,22 +56,14 @@ by_trees : (tree : Tree) → IsBranch tree → IsBranchOf tree (trees_of tree)
 by_trees CutB is = absurd is
 by_trees CutL is = absurd is
 by_trees Given is = absurd is
-by_trees (Branch' shape all) is = record {
+by_trees (Branch all) is = record {
   fits = λ s h. fits_list s (targets s) all h;
   fitting = λ s h. list_fits s (targets s) all h;
   nodes_are = λ path s. ap (λ l. branch_node path s ∷ l) (list_nodes path s (targets s) all);
 }
 
-pub branch_of : (trees : Vec Tree Global) → IsBranchOf (Branch trees) trees.items
-branch_of trees = subst (IsBranchOf (Branch trees)) (items_hidden-the_row-Tree-0 trees) (by_trees (Branch trees) tt)
-
--- the same of a tree that is a branch, and the list of its trees
-pub is_branch_of : (tree : Tree) (trees : Vec Tree Global) (list : List Tree) → tree ≡ Branch trees → list ≡ trees.items → IsBranchOf tree list
-is_branch_of tree trees list is same = subst (λ t. IsBranchOf t list) (sym is) (subst (IsBranchOf (Branch trees)) (sym same) (branch_of trees))
-
--- its nodes
-pub branch_nodes : (path : List ℕ) (s : Position) (tree : Tree) (trees : Vec Tree Global) (list : List Tree) → tree ≡ Branch trees → list ≡ trees.items → nodes path s tree ≡ branch_node path s ∷ nodes_below path s (targets s) list
-branch_nodes path s tree trees list is same = let branch = is_branch_of tree trees list is same in branch.nodes_are path s
+pub branch_of : (trees : List Tree) → IsBranchOf (Branch (row trees)) trees
+branch_of trees = subst (IsBranchOf (Branch (row trees))) (items_row trees) (by_trees (Branch (row trees)) tt)
 
 -- ---- tree after tree
 

@@ -11,7 +11,7 @@ use Rattle.crp_bay.proofs.Reaching.{targets_legal}
 use Rattle.crp_bay.proofs.Members.{not_in_nil, in_head, in_tail, in_cons_cases, in_filter, from_filter}
 use Rattle.crp_bounds.specs.Bounds.{look_ahead}
 use Rattle.crp_bounds.proofs.Bounding.{ahead_path}
-use Rattle.crp_tree.specs.declared.tree.Tree.{Tree, CutB, CutL, Branch', Given, Row_of-Tree, end_of-Tree, more_of-Tree, items-the_row-Tree}
+use Rattle.crp_tree.specs.Tree.{Tree, CutB, CutL, Branch, Given, Trees, no_trees, one_and, items}
 use Rattle.crp_tree.specs.Names.{GoesOn, Precedes}
 use Rattle.crp_tree.specs.Trees.{Mark, B, L, X, G, Node, nodes, nodes_of_each, Fits, FitsEach, is_branch, is_given, given_names, MayStand, IsInPlace, IsGivenAway, Begins}
 use Rattle.crp_tree.specs.Listed.{nodes_below}
@@ -37,15 +37,15 @@ mutual
   at_nodes Q on path s CutB q = All-cons (At Q) (record { path = path; place = s; mark = B }) [] q (All-nil (At Q))
   at_nodes Q on path s CutL q = All-cons (At Q) (record { path = path; place = s; mark = L }) [] q (All-nil (At Q))
   at_nodes Q on path s Given q = All-cons (At Q) (record { path = path; place = s; mark = G }) [] q (All-nil (At Q))
-  at_nodes Q on path s (Branch' shape all) q =
+  at_nodes Q on path s (Branch all) q =
       All-cons (At Q) (record { path = path; place = s; mark = X }) (nodes_of_each path s (targets s) all) q (at_each Q on path s (targets s) (λ r k. k) all q)
 
-  pub at_each : (Q : List ℕ → Position → Type 0) → GoesOnBy Q → (path : List ℕ) (s : Position) (rows : List ℕ) → ((r : ℕ) → Contains rows r → Contains (targets s) r) → {m : _} (all : Row_of-Tree m) → Q path s →
+  pub at_each : (Q : List ℕ → Position → Type 0) → GoesOnBy Q → (path : List ℕ) (s : Position) (rows : List ℕ) → ((r : ℕ) → Contains rows r → Contains (targets s) r) → (all : Trees) → Q path s →
       All (At Q) (nodes_of_each path s rows all)
-  at_each Q on path s [] sub end_of-Tree q = All-nil (At Q)
-  at_each Q on path s [] sub (more_of-Tree tree trees) q = All-nil (At Q)
-  at_each Q on path s (row ∷ rows) sub end_of-Tree q = All-nil (At Q)
-  at_each Q on path s (row ∷ rows) sub (more_of-Tree tree trees) q =
+  at_each Q on path s [] sub no_trees q = All-nil (At Q)
+  at_each Q on path s [] sub (one_and tree trees) q = All-nil (At Q)
+  at_each Q on path s (row ∷ rows) sub no_trees q = All-nil (At Q)
+  at_each Q on path s (row ∷ rows) sub (one_and tree trees) q =
       All-append (At Q) (nodes (path ++ row ∷ []) (child s row) tree) (nodes_of_each path s rows trees)
       (at_nodes Q on (path ++ row ∷ []) (child s row) tree (on path s row q (sub row (in_head row rows))))
       (at_each Q on path s rows (λ r k. sub r (in_tail row rows r k)) trees q)
@@ -91,9 +91,9 @@ below_goes path s (row ∷ rows) (tree ∷ trees) =
 node_begins : (path : List ℕ) (s : Position) (tree : Tree) (n : Node) → Contains (nodes path s tree) n → Begins n.path path
 node_begins path s tree n c = All-contains (λ (k : Node). Begins k.path path) (nodes path s tree) n (nodes_begin path s tree) c
 
-node_goes : (path : List ℕ) (s : Position) (rows : List ℕ) {m : _} (all : Row_of-Tree m) (n : Node) → Contains (nodes_of_each path s rows all) n → GoesBy path rows n.path
+node_goes : (path : List ℕ) (s : Position) (rows : List ℕ) (all : Trees) (n : Node) → Contains (nodes_of_each path s rows all) n → GoesBy path rows n.path
 node_goes path s rows all n c =
-    All-contains (λ (k : Node). GoesBy path rows k.path) (nodes_below path s rows (items-the_row-Tree _ all)) n (below_goes path s rows (items-the_row-Tree _ all)) (subst (λ l. Contains l n) (list_nodes path s rows all) c)
+    All-contains (λ (k : Node). GoesBy path rows k.path) (nodes_below path s rows (items all)) n (below_goes path s rows (items all)) (subst (λ l. Contains l n) (list_nodes path s rows all) c)
 
 -- ---- their order
 
@@ -124,14 +124,14 @@ mutual
   nodes_in_order path s CutB = (λ n c. absurd (not_in_nil n c), tt)
   nodes_in_order path s CutL = (λ n c. absurd (not_in_nil n c), tt)
   nodes_in_order path s Given = (λ n c. absurd (not_in_nil n c), tt)
-  nodes_in_order path s (Branch' shape all) =
+  nodes_in_order path s (Branch all) =
       (λ n c. let g = node_goes path s (targets s) all n c in inl (goes_first path n.path g.0 g.2), each_in_order path s (targets s) (targets_in_order s) all)
 
-  each_in_order : (path : List ℕ) (s : Position) (rows : List ℕ) → InOrder ◌<◌ rows → {m : _} (all : Row_of-Tree m) → InOrder Rises (nodes_of_each path s rows all)
-  each_in_order path s [] up end_of-Tree = tt
-  each_in_order path s [] up (more_of-Tree tree trees) = tt
-  each_in_order path s (row ∷ rows) up end_of-Tree = tt
-  each_in_order path s (row ∷ rows) up (more_of-Tree tree trees) =
+  each_in_order : (path : List ℕ) (s : Position) (rows : List ℕ) → InOrder ◌<◌ rows → (all : Trees) → InOrder Rises (nodes_of_each path s rows all)
+  each_in_order path s [] up no_trees = tt
+  each_in_order path s [] up (one_and tree trees) = tt
+  each_in_order path s (row ∷ rows) up no_trees = tt
+  each_in_order path s (row ∷ rows) up (one_and tree trees) =
       in_order_append Rises (nodes (path ++ row ∷ []) (child s row) tree) (nodes_of_each path s rows trees)
       (nodes_in_order (path ++ row ∷ []) (child s row) tree) (each_in_order path s rows up.1 trees)
       (λ m n c d. let v = node_goes path s rows trees n d in lower_first path m.path n.path row v.0 (node_begins (path ++ row ∷ []) (child s row) tree m c) v.2 (up.0 v.0 v.1))
@@ -158,18 +158,18 @@ pub own_node : (path : List ℕ) (s : Position) (tree : Tree) → HasPath (nodes
 own_node path s CutB = (_, in_head _ [], refl)
 own_node path s CutL = (_, in_head _ [], refl)
 own_node path s Given = (_, in_head _ [], refl)
-own_node path s (Branch' shape all) = (_, in_head _ (nodes_of_each path s (targets s) all), refl)
+own_node path s (Branch all) = (_, in_head _ (nodes_of_each path s (targets s) all), refl)
 
 -- one list's node is the other's
 among : (xs ys : List Node) (g : List ℕ) → ((n : Node) → Contains xs n → Contains ys n) → HasPath xs g → HasPath ys g
 among xs ys g sub h = (h.0, sub h.0 h.1, h.2)
 
 -- trees that fit have one below each of the rows
-below_rows : (path : List ℕ) (s : Position) (rows : List ℕ) {m : _} (all : Row_of-Tree m) (row : ℕ) → FitsEach s rows all → Contains rows row → HasPath (nodes_of_each path s rows all) (path ++ row ∷ [])
-below_rows path s [] end_of-Tree row fits c = absurd (not_in_nil row c)
-below_rows path s [] (more_of-Tree tree trees) row fits c = absurd fits
-below_rows path s (r ∷ rows) end_of-Tree row fits c = absurd fits
-below_rows path s (r ∷ rows) (more_of-Tree tree trees) row fits c = ⊎_elim
+below_rows : (path : List ℕ) (s : Position) (rows : List ℕ) (all : Trees) (row : ℕ) → FitsEach s rows all → Contains rows row → HasPath (nodes_of_each path s rows all) (path ++ row ∷ [])
+below_rows path s [] no_trees row fits c = absurd (not_in_nil row c)
+below_rows path s [] (one_and tree trees) row fits c = absurd fits
+below_rows path s (r ∷ rows) no_trees row fits c = absurd fits
+below_rows path s (r ∷ rows) (one_and tree trees) row fits c = ⊎_elim
     (λ e. subst (λ x. HasPath (nodes (path ++ r ∷ []) (child s r) tree ++ nodes_of_each path s rows trees) (path ++ x ∷ [])) e
     (among (nodes (path ++ r ∷ []) (child s r) tree) _ (path ++ r ∷ []) (λ n k. Contains-append_left _ _ n k) (own_node (path ++ r ∷ []) (child s r) tree)))
     (λ c'. among (nodes_of_each path s rows trees) _ (path ++ row ∷ []) (λ n k. Contains-append_right _ _ n k) (below_rows path s rows trees row fits.1 c'))
@@ -188,19 +188,19 @@ mutual
   child_node path s CutB n row fits c is r = absurd (not_branch B n path s refl c is)
   child_node path s CutL n row fits c is r = absurd (not_branch L n path s refl c is)
   child_node path s Given n row fits c is r = absurd (not_branch G n path s refl c is)
-  child_node path s (Branch' shape all) n row fits c is r = ⊎_elim
-      (λ e. subst (λ (k : Node). HasPath (nodes path s (Branch' shape all)) (k.path ++ row ∷ [])) e
-      (among (nodes_of_each path s (targets s) all) (nodes path s (Branch' shape all)) (path ++ row ∷ []) (λ k h. in_tail _ _ k h)
+  child_node path s (Branch all) n row fits c is r = ⊎_elim
+      (λ e. subst (λ (k : Node). HasPath (nodes path s (Branch all)) (k.path ++ row ∷ [])) e
+      (among (nodes_of_each path s (targets s) all) (nodes path s (Branch all)) (path ++ row ∷ []) (λ k h. in_tail _ _ k h)
       (below_rows path s (targets s) all row fits (subst (λ (k : Node). Contains (targets k.place) row) (sym e) r))))
-      (λ c'. among (nodes_of_each path s (targets s) all) (nodes path s (Branch' shape all)) (n.path ++ row ∷ []) (λ k h. in_tail _ _ k h) (child_of_each path s (targets s) all n row fits c' is r))
+      (λ c'. among (nodes_of_each path s (targets s) all) (nodes path s (Branch all)) (n.path ++ row ∷ []) (λ k h. in_tail _ _ k h) (child_of_each path s (targets s) all n row fits c' is r))
       (in_cons_cases (record { path = path; place = s; mark = X }) (nodes_of_each path s (targets s) all) n c)
 
-  child_of_each : (path : List ℕ) (s : Position) (rows : List ℕ) {m : _} (all : Row_of-Tree m) (n : Node) (row : ℕ) → FitsEach s rows all → Contains (nodes_of_each path s rows all) n → n.mark ≡ X → Contains (targets n.place) row →
+  child_of_each : (path : List ℕ) (s : Position) (rows : List ℕ) (all : Trees) (n : Node) (row : ℕ) → FitsEach s rows all → Contains (nodes_of_each path s rows all) n → n.mark ≡ X → Contains (targets n.place) row →
       HasPath (nodes_of_each path s rows all) (n.path ++ row ∷ [])
-  child_of_each path s [] end_of-Tree n row fits c is r = absurd (not_in_nil n c)
-  child_of_each path s [] (more_of-Tree tree trees) n row fits c is r = absurd fits
-  child_of_each path s (q ∷ rows) end_of-Tree n row fits c is r = absurd fits
-  child_of_each path s (q ∷ rows) (more_of-Tree tree trees) n row fits c is r = ⊎_elim
+  child_of_each path s [] no_trees n row fits c is r = absurd (not_in_nil n c)
+  child_of_each path s [] (one_and tree trees) n row fits c is r = absurd fits
+  child_of_each path s (q ∷ rows) no_trees n row fits c is r = absurd fits
+  child_of_each path s (q ∷ rows) (one_and tree trees) n row fits c is r = ⊎_elim
       (λ h. among (nodes (path ++ q ∷ []) (child s q) tree) _ (n.path ++ row ∷ []) (λ k. Contains-append_left _ _ k) (child_node (path ++ q ∷ []) (child s q) tree n row fits.0 h is r))
       (λ h. among (nodes_of_each path s rows trees) _ (n.path ++ row ∷ []) (λ k. Contains-append_right _ _ k) (child_of_each path s rows trees n row fits.1 h is r))
       (Contains-append_cases _ _ n c)
@@ -236,7 +236,7 @@ mutual
   apart path s CutB m n c d leaf b = one_path _ m n c d
   apart path s CutL m n c d leaf b = one_path _ m n c d
   apart path s Given m n c d leaf b = one_path _ m n c d
-  apart path s (Branch' shape all) m n c d leaf b = ⊎_elim
+  apart path s (Branch all) m n c d leaf b = ⊎_elim
       (λ e. absurd (leaf (sym (ap (λ (k : Node). k.mark) e))))
       (λ c'. ⊎_elim
       (λ e. absurd (
@@ -247,12 +247,12 @@ mutual
       (in_cons_cases (record { path = path; place = s; mark = X }) (nodes_of_each path s (targets s) all) n d))
       (in_cons_cases (record { path = path; place = s; mark = X }) (nodes_of_each path s (targets s) all) m c)
 
-  each_apart : (path : List ℕ) (s : Position) (rows : List ℕ) → InOrder ◌<◌ rows → {k : _} (all : Row_of-Tree k) (m n : Node) → Contains (nodes_of_each path s rows all) m → Contains (nodes_of_each path s rows all) n →
+  each_apart : (path : List ℕ) (s : Position) (rows : List ℕ) → InOrder ◌<◌ rows → (all : Trees) (m n : Node) → Contains (nodes_of_each path s rows all) m → Contains (nodes_of_each path s rows all) n →
       (m.mark ≡ X → ⊥) → Begins n.path m.path → n.path ≡ m.path
-  each_apart path s [] up end_of-Tree m n c d leaf b = absurd (not_in_nil m c)
-  each_apart path s [] up (more_of-Tree tree trees) m n c d leaf b = absurd (not_in_nil m c)
-  each_apart path s (row ∷ rows) up end_of-Tree m n c d leaf b = absurd (not_in_nil m c)
-  each_apart path s (row ∷ rows) up (more_of-Tree tree trees) m n c d leaf b = ⊎_elim
+  each_apart path s [] up no_trees m n c d leaf b = absurd (not_in_nil m c)
+  each_apart path s [] up (one_and tree trees) m n c d leaf b = absurd (not_in_nil m c)
+  each_apart path s (row ∷ rows) up no_trees m n c d leaf b = absurd (not_in_nil m c)
+  each_apart path s (row ∷ rows) up (one_and tree trees) m n c d leaf b = ⊎_elim
       (λ c1. ⊎_elim
       (λ d1. apart (path ++ row ∷ []) (child s row) tree m n c1 d1 leaf b)
       (λ d2. absurd (
@@ -303,7 +303,7 @@ pub given_goes_on : (path : List ℕ) (s : Position) (tree : Tree) (g : List ℕ
 given_goes_on path s CutB g not c = absurd (not_in_nil g c)
 given_goes_on path s CutL g not c = absurd (not_in_nil g c)
 given_goes_on path s Given g not c = absurd (not tt)
-given_goes_on path s (Branch' shape all) g not c =
+given_goes_on path s (Branch all) g not c =
     let r = from_given (nodes_of_each path s (targets s) all) g c in
     let b = node_goes path s (targets s) all r.0 r.1 in
     goes_first path g b.0 (subst (λ l. Begins l (path ++ b.0 ∷ [])) r.3 b.2)

@@ -1,7 +1,7 @@
 -- A tree shows each floor that its cuts have.
 use Rattle.std.proofs.Common.{◌≡◌, ℕ, ◌≤◌, ◌⊎◌, inl, inr, ⊎_elim, true, List, [], ◌∷◌, ◌++◌, map, Contains, All, refl, sym, ap, ◌∙◌, arith, append_assoc}
 use Rattle.std.proofs.lemmas.List.Elements.{All-nil, All-cons, All-head, All-tail, All-contains, Contains-append_left, Contains-append_right}
-use Rattle.crp_tree.specs.declared.tree.Tree.{Tree, CutB, CutL, Branch', Given, Row_of-Tree, end_of-Tree, more_of-Tree}
+use Rattle.crp_tree.specs.Tree.{Tree, CutB, CutL, Branch, Given, Trees, no_trees, one_and}
 use Rattle.crp_plan.specs.declared.moves.Move.{Move}
 use Rattle.crp_plan.specs.Bay.{Problem, IsProblem, Position, IsPlan, IsAt, relocations, path_of, cap}
 use Rattle.crp_bay.specs.Positions.{targets, child}
@@ -38,7 +38,7 @@ mutual
   left p list path more s moves is in_place a plan e CutL fits sub =
       inl (_, cut_in list _ (sub _ (in_head _ [])) refl, record { begins = (more, e); enough = (cut_floor p path more s moves is a plan e).0 })
   left p list path more s moves is in_place a plan e Given fits sub = inr (path, in_given list _ (sub _ (in_head _ [])) refl, (more, e))
-  left p list path more s moves is in_place a plan e (Branch' shape all) fits sub =
+  left p list path more s moves is in_place a plan e (Branch all) fits sub =
       let b = branch p path more s moves is a (in_place _ (sub _ (in_head _ (nodes_of_each path s (targets s) all)))) plan e in
       let t = b.3 in
       let c = (every_target p path s b.0 t.0 is a t.1).0 in
@@ -47,11 +47,11 @@ mutual
   -- the same for the trees of some rows, one of which the plan goes by
   left_each : (p : Problem) (list : List Node) (path : List ℕ) (s : Position) (moves : List Move) → IsProblem p → ((n : Node) → Contains list n → IsInPlace n) → IsAt p path s → IsPlan p moves →
       (rows : List ℕ) → ((r : ℕ) → Contains rows r → Contains (targets s) r) → (row : ℕ) (after : List ℕ) → path_of moves ≡ path ++ row ∷ after → Contains rows row →
-      {m : _} (all : Row_of-Tree m) → FitsEach s rows all → ((n : Node) → Contains (nodes_of_each path s rows all) n → Contains list n) → Leaves moves list
-  left_each p list path s moves is in_place a plan [] legal row after e c end_of-Tree fits sub = absurd (not_in_nil row c)
-  left_each p list path s moves is in_place a plan [] legal row after e c (more_of-Tree tree trees) fits sub = absurd fits
-  left_each p list path s moves is in_place a plan (r ∷ rows) legal row after e c end_of-Tree fits sub = absurd fits
-  left_each p list path s moves is in_place a plan (r ∷ rows) legal row after e c (more_of-Tree tree trees) fits sub =
+      (all : Trees) → FitsEach s rows all → ((n : Node) → Contains (nodes_of_each path s rows all) n → Contains list n) → Leaves moves list
+  left_each p list path s moves is in_place a plan [] legal row after e c no_trees fits sub = absurd (not_in_nil row c)
+  left_each p list path s moves is in_place a plan [] legal row after e c (one_and tree trees) fits sub = absurd fits
+  left_each p list path s moves is in_place a plan (r ∷ rows) legal row after e c no_trees fits sub = absurd fits
+  left_each p list path s moves is in_place a plan (r ∷ rows) legal row after e c (one_and tree trees) fits sub =
       ⊎_elim
       (λ same. left p list (path ++ r ∷ []) after (child s r) moves is in_place (target_goes_on p path s r is a (legal r (in_head r rows))) plan
       (e ∙ ap (λ x. path ++ x ∷ after) (sym same) ∙ sym (append_assoc path (r ∷ []) after)) tree fits.0 (λ n k. sub n (Contains-append_left _ _ n k)))

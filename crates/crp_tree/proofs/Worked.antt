@@ -2,7 +2,7 @@
 use Rattle.std.proofs.Common.{◌≡◌, List, [], ◌∷◌, map, codes, refl}
 use Rattle.crp_plan.specs.Bay.{Problem, Position, start, cap}
 use Rattle.crp_bay.specs.Positions.{settled, targets}
-use Rattle.crp_tree.specs.declared.tree.Tree.{CutB, CutL, Given, Row_of-Tree, end_of-Tree, more_of-Tree}
+use Rattle.crp_tree.specs.Tree.{CutB, CutL, Given, Trees, no_trees, one_and}
 use Rattle.crp_tree.specs.Names.{Precedes}
 use Rattle.crp_tree.specs.Trees.{Node, nodes_of_each, FitsEach, letter, cuts, given_names, value, least_value}
 use Rattle.crp_tree.proofs.Ordered.{less_means}
@@ -19,38 +19,38 @@ abbrev buried : Problem
 buried = record { heights = 3 ∷ []; ordered = 2; stacks = (1 ∷ 2 ∷ []) ∷ [] }
 
 -- a branch at the root has two trees, since its legal rows are 2 and 3
-two_trees_fit : FitsEach before (targets before) (more_of-Tree CutL (more_of-Tree CutB end_of-Tree))
+two_trees_fit : FitsEach before (targets before) (one_and CutL (one_and CutB no_trees))
 two_trees_fit = (tt, (tt, tt))
 
 -- three do not fit
-three_do_not : FitsEach before (targets before) (more_of-Tree CutL (more_of-Tree CutB (more_of-Tree CutB end_of-Tree))) → ⊥
+three_do_not : FitsEach before (targets before) (one_and CutL (one_and CutB (one_and CutB no_trees))) → ⊥
 three_do_not f = (f.1).1
 
 -- nor does one
-one_does_not : FitsEach before (targets before) (more_of-Tree CutL end_of-Tree) → ⊥
+one_does_not : FitsEach before (targets before) (one_and CutL no_trees) → ⊥
 one_does_not f = f.1
 
 -- the nodes below the root
-abbrev below_root : {m : _} → Row_of-Tree m → List Node
+abbrev below_root : Trees → List Node
 below_root all = nodes_of_each [] before (targets before) all
 
 -- cut by the look-ahead bound below row 2 and by the blocking bound below row 3, it shows 3, and their letters are L and B
-cuts_of_three : map value (cuts (below_root (more_of-Tree CutL (more_of-Tree CutB end_of-Tree)))) ≡ 3 ∷ 3 ∷ []
+cuts_of_three : map value (cuts (below_root (one_and CutL (one_and CutB no_trees)))) ≡ 3 ∷ 3 ∷ []
 cuts_of_three = refl
 
-letters_of_two : map (λ node. letter node.mark) (below_root (more_of-Tree CutL (more_of-Tree CutB end_of-Tree))) ≡ codes "LB"
+letters_of_two : map (λ node. letter node.mark) (below_root (one_and CutL (one_and CutB no_trees))) ≡ codes "LB"
 letters_of_two = refl
 
 -- the blocking bound below row 2 gives 2 only
-cut_of_two : least_value (cap six) (below_root (more_of-Tree CutB (more_of-Tree CutL end_of-Tree))) ≡ 2
+cut_of_two : least_value (cap six) (below_root (one_and CutB (one_and CutL no_trees))) ≡ 2
 cut_of_two = refl
 
 -- with both subtrees given away, the given names are 2 and 3
-two_given : given_names (below_root (more_of-Tree Given (more_of-Tree Given end_of-Tree))) ≡ (2 ∷ []) ∷ (3 ∷ []) ∷ []
+two_given : given_names (below_root (one_and Given (one_and Given no_trees))) ≡ (2 ∷ []) ∷ (3 ∷ []) ∷ []
 two_given = refl
 
 -- a branch at a dead end has no trees, and no cut, so it shows the cap
-dead_end_shows_cap : least_value (cap buried) (nodes_of_each [] (settled (start buried)) (targets (settled (start buried))) end_of-Tree) ≡ 5
+dead_end_shows_cap : least_value (cap buried) (nodes_of_each [] (settled (start buried)) (targets (settled (start buried))) no_trees) ≡ 5
 dead_end_shows_cap = refl
 
 -- the root comes first, 2 before 3, 3 before 3.2, and 3.2 before 12

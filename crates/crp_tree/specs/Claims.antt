@@ -4,7 +4,7 @@ use Rattle.crp_plan.specs.Bay.{Problem, IsProblem, Position, IsAt, cap}
 use Rattle.crp_plan.specs.Plans.{ProblemPath}
 use Rattle.crp_plan.specs.Faults.{IsPlanPath}
 use Rattle.crp_bay.specs.Positions.{at}
-use Rattle.crp_tree.specs.declared.tree.Tree.{Tree}
+use Rattle.crp_tree.specs.Tree.{Tree}
 use Rattle.crp_tree.specs.Trees.{Node, nodes, given_names, HasShape, HasAtLeast}
 
 -- a part of a search: a tree, and the name of the path that it stands at

@@ -4,7 +4,10 @@ pub use Rattle.crp_plan.specs.Faults
 pub use Rattle.crp_bay.specs.Positions
 pub use Rattle.crp_bounds.specs.Bounds
 pub mod Names
+pub mod Tree
+pub mod Symbols
 pub mod Trees
+pub mod Spots
 pub mod Listed
 pub mod Claims
 pub mod Parts

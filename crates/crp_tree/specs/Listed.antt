@@ -1,6 +1,6 @@
 -- The trees of a branch as a list, one for each row.
 use Rattle.std.specs.Prelude.{ℕ, List, [], ◌∷◌, ◌++◌, ⊤}
-use Rattle.crp_tree.specs.declared.tree.Tree.{Tree}
+use Rattle.crp_tree.specs.Tree.{Tree}
 use Rattle.crp_plan.specs.Bay.{Position}
 use Rattle.crp_bay.specs.Positions.{child}
 use Rattle.crp_tree.specs.Trees.{Node, nodes, Fits}

@@ -1,7 +1,7 @@
 -- Parts of the search of a problem with the floors that they show, and the certificates that they make.
 use Rattle.std.specs.Prelude.{◌≡◌, ℕ, ◌≤◌, ◌↔◌, List, map, All, AllPairs, Contains, Option}
 use Rattle.crp_plan.specs.Bay.{Problem, IsProblem, cap}
-use Rattle.crp_tree.specs.declared.tree.Tree.{Tree}
+use Rattle.crp_tree.specs.Tree.{Tree}
 use Rattle.crp_tree.specs.Names.{Precedes}
 use Rattle.crp_tree.specs.Trees.{Node, cuts, branches, least_value, Shows}
 use Rattle.crp_tree.specs.Claims.{Part, IsPart, IsNeeded, Claimed, nodes_in, given_by}

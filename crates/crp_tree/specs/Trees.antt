@@ -1,6 +1,6 @@
 -- Search trees over the paths of a problem: their nodes, when a tree fits, and the floors that cuts show.
 use Rattle.std.specs.Prelude.{◌≡◌, ℕ, ◌+◌, ◌≤◌, min, Bool, true, false, List, [], ◌∷◌, ◌++◌, length, map, filter, Contains, All, ⊤}
-use Rattle.crp_tree.specs.declared.tree.Tree.{Tree, CutB, CutL, Branch', Given, Row_of-Tree, end_of-Tree, more_of-Tree}
+use Rattle.crp_tree.specs.Tree.{Tree, CutB, CutL, Branch, Given, Trees, no_trees, one_and}
 use Rattle.crp_plan.specs.declared.moves.Move.{Move}
 use Rattle.crp_plan.specs.Bay.{Problem, Position, IsPlan, relocations, path_of}
 use Rattle.crp_bounds.specs.Bounds.{blocking, look_ahead}
@@ -24,30 +24,30 @@ abbrev mutual
   pub nodes : List ℕ → Position → Tree → List Node
   nodes path s CutB = record { path = path; place = s; mark = B } ∷ []
   nodes path s CutL = record { path = path; place = s; mark = L } ∷ []
-  nodes path s (Branch' shape all) = record { path = path; place = s; mark = X } ∷ nodes_of_each path s (targets s) all
+  nodes path s (Branch all) = record { path = path; place = s; mark = X } ∷ nodes_of_each path s (targets s) all
   nodes path s Given = record { path = path; place = s; mark = G } ∷ []
 
   -- the nodes of the trees below each of the rows
-  pub nodes_of_each : List ℕ → Position → List ℕ → {m : _} → Row_of-Tree m → List Node
-  nodes_of_each path s [] end_of-Tree = []
-  nodes_of_each path s [] (more_of-Tree tree trees) = []
-  nodes_of_each path s (row ∷ rows) end_of-Tree = []
-  nodes_of_each path s (row ∷ rows) (more_of-Tree tree trees) = nodes (path ++ row ∷ []) (child s row) tree ++ nodes_of_each path s rows trees
+  pub nodes_of_each : List ℕ → Position → List ℕ → Trees → List Node
+  nodes_of_each path s [] no_trees = []
+  nodes_of_each path s [] (one_and tree trees) = []
+  nodes_of_each path s (row ∷ rows) no_trees = []
+  nodes_of_each path s (row ∷ rows) (one_and tree trees) = nodes (path ++ row ∷ []) (child s row) tree ++ nodes_of_each path s rows trees
 
 -- the tree fits at s: each branch has one tree for each legal row, rising; so none where the position is finished or dead
 abbrev mutual
   pub Fits : Position → Tree → Type 0
   Fits s CutB = ⊤
   Fits s CutL = ⊤
-  Fits s (Branch' shape all) = FitsEach s (targets s) all
+  Fits s (Branch all) = FitsEach s (targets s) all
   Fits s Given = ⊤
 
   -- one tree for each of the rows, in their order, which fits at the position that the row leads to
-  pub FitsEach : Position → List ℕ → {m : _} → Row_of-Tree m → Type 0
-  FitsEach s [] end_of-Tree = ⊤
-  FitsEach s [] (more_of-Tree tree trees) = ⊥
-  FitsEach s (row ∷ rows) end_of-Tree = ⊥
-  FitsEach s (row ∷ rows) (more_of-Tree tree trees) = Fits (child s row) tree × FitsEach s rows trees
+  pub FitsEach : Position → List ℕ → Trees → Type 0
+  FitsEach s [] no_trees = ⊤
+  FitsEach s [] (one_and tree trees) = ⊥
+  FitsEach s (row ∷ rows) no_trees = ⊥
+  FitsEach s (row ∷ rows) (one_and tree trees) = Fits (child s row) tree × FitsEach s rows trees
 
 -- the letter of a mark
 abbrev pub letter : Mark → ℕ
@@ -119,7 +119,7 @@ IsInPlace node = MayStand node.mark node.path node.place
 abbrev pub IsGivenAway : Tree → Type 0
 IsGivenAway CutB = ⊥
 IsGivenAway CutL = ⊥
-IsGivenAway (Branch' shape all) = ⊥
+IsGivenAway (Branch all) = ⊥
 IsGivenAway Given = ⊤
 
 -- the shape of a part's tree at its name, which leads to s: it fits there, each of its nodes may stand where it stands, and it is not given away as a whole

@@ -16,12 +16,12 @@ pub struct Cert {
 
 impl Model for Cert {
     ghost use Rattle.crp_tree.specs.Parts.{Certificate, IsCertificate};
-    ghost use Rattle.crp_tree.specs.contracts.tree.Tree as trees;
+    ghost use Rattle.crp_tree.specs.Symbols.{tree_code};
     ghost use Rattle.std.specs.Coded.{codes};
 
     ghost Value = { Certificate };
 
-    ghost coded = { Prim.hlevel (codes, trees.the_row.coded) };
+    ghost coded = { Prim.hlevel (codes, tree_code) };
 
     ghost view = { λ c. record { parts = c.parts; lower = c.lower } };
 

@@ -9,7 +9,7 @@ ghost use Rattle.crp_plan.specs.Faults.{IsPlanPath};
 ghost use Rattle.crp_tree.specs.Names.{GoesOn, Precedes};
 ghost use Rattle.crp_tree.specs.Claims.{Part, Claimed, IsAccepted, IsNeeded, names, times, given_by, IsPart};
 ghost use Rattle.crp_bounds.specs.Bounds.{look_ahead};
-ghost use Rattle.crp_tree.specs.declared.tree.Tree.{Tree};
+ghost use Rattle.crp_tree.specs.Tree.{Tree};
 ghost use Rattle.crp_tree.specs.Parts.{ProblemPart, nodes_of, given_of, IsKeptPart, Certificate, IsAbout, claimed};
 ghost use Rattle.crp_tree.specs.First.{IsFirstBest, IsFirstAccepted, MeetsNeed, MeetNeeds, need_at};
 ghost use Rattle.crp_tree.specs.Trees.{Node, X, nodes, Fits, Begins, Shows, HasShape, HasAtLeast, given_names, value, least_through, least_value};

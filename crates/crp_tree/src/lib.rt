@@ -8,6 +8,7 @@ mod name_list;
 mod part;
 mod part_list;
 mod path_text;
+mod symbol;
 mod tree;
 
 pub use cert::Cert;
@@ -21,4 +22,5 @@ pub use name_list::Names;
 pub use part::Part;
 pub use part_list::Parts;
 pub use path_text::PathText;
-pub use tree::Tree;
+pub use symbol::Symbol;
+pub use tree::{Tree, behind_trees};

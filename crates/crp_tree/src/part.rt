@@ -1,15 +1,17 @@
-ghost use Rattle.std.specs.Prelude.{◌≡◌, ◌++◌, All, AllPairs, IfOk, OnOk};
+ghost use Rattle.std.specs.Prelude.{◌≡◌, List, ◌++◌, All, AllPairs, IfOk, OnOk};
 ghost use Rattle.crp_plan.specs.Bay.{IsProblem, cap, Position as Place};
 ghost use Rattle.crp_bay.specs.Positions.{targets};
 ghost use Rattle.crp_tree.specs.Names.{Precedes};
 ghost use Rattle.crp_tree.specs.Trees.{nodes, Fits, IsInPlace, given_names, least_value};
 ghost use Rattle.crp_tree.specs.Listed.{AreFit, nodes_below};
+ghost use Rattle.crp_tree.specs.Symbols.{tree_of, some_trees, ComesFirst, ComeFirst};
 ghost use Rattle.crp_tree.specs.Claims.{IsPart, nodes_in};
 ghost use Rattle.crp_tree.specs.Parts.{given_of, IsKeptPart};
 
 use crate::name::{MAX_NAME, Name};
 use crate::name_list::Names;
-use crate::tree::Tree;
+use crate::symbol::Symbol;
+use crate::tree::{Tree, behind_trees};
 use crp_bay::Position;
 use crp_plan::Problem;
 use std::alloc::{AllocError, Global};
@@ -29,12 +31,12 @@ pub struct Part {
 
 impl Model for Part {
     ghost use Rattle.crp_tree.specs.Parts.{ProblemPart, IsKeptPart};
-    ghost use Rattle.crp_tree.specs.contracts.tree.Tree as trees;
+    ghost use Rattle.crp_tree.specs.Symbols.{tree_code};
     ghost use Rattle.std.specs.Coded.{codes};
 
     ghost Value = { ProblemPart };
 
-    ghost coded = { Prim.hlevel (codes, trees.the_row.coded) };
+    ghost coded = { Prim.hlevel (codes, tree_code) };
 
     ghost view = { λ x. record { problem = x.problem; name = x.name; tree = x.tree; floor = x.floor } };
 
@@ -88,7 +90,6 @@ impl Part {
     {
         self.floor
     }
-
     /// The names that it gives to other parts, rising.
     pub fn given_names(&self, alloc: Global) -> Result<Names, AllocError>
         ensures names { IfOk result (λ names. names ≡ given_of self.now) }
@@ -98,59 +99,67 @@ impl Part {
         let Some(place) = self.name.position(&self.problem) else {
             unreachable!()
         };
-        collect(&self.tree, &self.name, &place, &mut names)?;
+        let _behind = collect(self.tree.symbols(), &self.name, &place, &mut names)?;
         Ok(Names::from_vec(names))
     }
 }
 
-/// Adds the names that a tree gives at a path. None has more than 8 rows.
+/// Adds the names that the tree whose symbols come first gives at a path, and answers what is behind it. None has more than 8 rows.
 #[cycle(collecting)]
-fn collect(
-    tree: &Tree,
+fn collect<'a>(
+    list: &'a [Symbol],
     name: &Name,
     place: &Position,
     names: &mut Vec<Name>,
-) -> Result<(), AllocError>
-    requires fits { Fits place.now.place tree.now }
-    requires in_place { All IsInPlace (nodes name.now place.now.place tree.now) }
-    ensures { OnOk result (names.new.items ≡ names.old.items ++ given_names (nodes name.now place.now.place tree.now)) }
+) -> Result<&'a [Symbol], AllocError>
+    requires whole { (rest : List Symbol) × ComesFirst list.now rest }
+    requires fits { Fits place.now.place (tree_of list.now) }
+    requires in_place { All IsInPlace (nodes name.now place.now.place (tree_of list.now)) }
+    ensures names { OnOk result (names.new.items ≡ names.old.items ++ given_names (nodes name.now place.now.place (tree_of list.now))) }
+    ensures behind { IfOk result (λ behind. ComesFirst list.now behind.now) }
 {
-    match tree {
-        Tree::CutB | Tree::CutL => Ok(()),
-        Tree::Given => {
+    let Some((first, behind)) = list.split_first() else {
+        unreachable!()
+    };
+    match first {
+        Symbol::CutB | Symbol::CutL => Ok(behind),
+        Symbol::Given => {
             names.push(name.copy())?;
-            Ok(())
+            Ok(behind)
         }
-        Tree::Branch(trees) => collect_below(trees, name, place, names),
+        Symbol::Branch(count) => collect_below(behind, *count as usize, name, place, names),
     }
 }
 
-/// Adds the names that the trees of a branch give, one tree for each legal row.
+/// The same for the trees of a branch, one for each legal row.
 #[cycle(collecting)]
-fn collect_below(
-    trees: &[Tree],
+fn collect_below<'a>(
+    list: &'a [Symbol],
+    count: usize,
     name: &Name,
     place: &Position,
     names: &mut Vec<Name>,
-) -> Result<(), AllocError>
-    requires fit { AreFit place.now.place (targets place.now.place) trees.now }
-    requires in_place { All IsInPlace (nodes_below name.now place.now.place (targets place.now.place) trees.now) }
-    ensures { OnOk result (names.new.items ≡ names.old.items ++ given_names (nodes_below name.now place.now.place (targets place.now.place) trees.now)) }
+) -> Result<&'a [Symbol], AllocError>
+    requires whole { (rest : List Symbol) × ComeFirst count list.now rest }
+    requires fit { AreFit place.now.place (targets place.now.place) (some_trees count list.now) }
+    requires in_place { All IsInPlace (nodes_below name.now place.now.place (targets place.now.place) (some_trees count list.now)) }
+    ensures names { OnOk result (names.new.items ≡ names.old.items ++ given_names (nodes_below name.now place.now.place (targets place.now.place) (some_trees count list.now))) }
+    ensures behind { IfOk result (λ behind. ComeFirst count list.now behind.now) }
 {
     if name.rows().len() == MAX_NAME {
-        return Ok(());
+        return Ok(behind_trees(list, count));
     }
+    let mut rest = list;
     let targets = place.targets();
     let rows = targets.as_slice();
-    for (i, tree) in trees.iter().enumerate() {
-        let row = rows[i];
-        let Some(longer) = name.child(row) else {
+    for row in rows {
+        let Some(longer) = name.child(*row) else {
             unreachable!()
         };
-        let Some(next) = place.child(row) else {
+        let Some(next) = place.child(*row) else {
             unreachable!()
         };
-        collect(tree, &longer, &next, names)?;
+        rest = collect(rest, &longer, &next, names)?;
     }
-    Ok(())
+    Ok(rest)
 }

@@ -12,12 +12,12 @@ pub struct Parts {
 impl Model for Parts {
     ghost use Rattle.std.specs.Prelude.{List};
     ghost use Rattle.crp_tree.specs.Parts.{ProblemPart};
-    ghost use Rattle.crp_tree.specs.contracts.tree.Tree as trees;
+    ghost use Rattle.crp_tree.specs.Symbols.{tree_code};
     ghost use Rattle.std.specs.Coded.{codes};
 
     ghost Value = { List ProblemPart };
 
-    ghost coded = { Prim.hlevel (codes, trees.the_row.coded) };
+    ghost coded = { Prim.hlevel (codes, tree_code) };
 
     ghost view = { λ parts. parts.list.items };
 }

@@ -2,7 +2,7 @@ use super::{SAID_OF_SIX, SIX_CONTAINERS, Said, assert_fault, assert_head, joined
 use crate::calls::read_cert;
 use crate::compare::{assert_same, assert_same_at};
 use crp_cert::{CertFault, Parts, Script};
-use crp_tree::Tree;
+use crp_tree::{Symbol, Tree};
 use std::alloc::{AllocError, Global};
 use std::process::Abort;
 use std::test::Fail;
@@ -45,18 +45,17 @@ fn assert_refused(
     Ok(())
 }
 
-/// Adds what a tree is, branches in parentheses.
+/// Adds what a tree is, for a branch how many trees follow.
 fn push_tree(text: &mut Vec<u8>, tree: &Tree) -> Result<(), AllocError> {
-    match tree {
-        Tree::CutB => text.push(b'b')?,
-        Tree::CutL => text.push(b'l')?,
-        Tree::Given => text.push(b'g')?,
-        Tree::Branch(trees) => {
-            text.push(b'(')?;
-            for tree in trees {
-                push_tree(text, tree)?;
+    for symbol in tree.symbols() {
+        match symbol {
+            Symbol::CutB => text.push(b'b')?,
+            Symbol::CutL => text.push(b'l')?,
+            Symbol::Given => text.push(b'g')?,
+            Symbol::Branch(count) => {
+                text.push(b'x')?;
+                text.push(*count)?;
             }
-            text.push(b')')?;
         }
     }
     Ok(())
@@ -124,7 +123,7 @@ fn assert_script(
 #[test]
 fn six_containers_three_relocations(rt: HostRuntime) -> Result<(), Fail> {
     let text = text_of(rt.alloc(), &SIX_CONTAINERS, b"part /: XLB\nend 1\n")?;
-    assert_script(&rt, &text, &SAID_OF_SIX, b"(lb)")
+    assert_script(&rt, &text, &SAID_OF_SIX, b"x\x02lb")
 }
 
 #[test]
@@ -132,26 +131,29 @@ fn parts_that_are_read(rt: HostRuntime) -> Result<(), Fail> {
     let texts: [(&[u8], &[u8]); 11] = [
         (b"end 0\n", b""),
         (b"part /: B\nend 1\n", b"b"),
-        (b"part /: XLL\nend 1\n", b"(ll)"),
-        (b"part /: XBL\nend 1\n", b"(bl)"),
-        (b"part /: XXBBB\nend 1\n", b"((bb)b)"),
+        (b"part /: XLL\nend 1\n", b"x\x02ll"),
+        (b"part /: XBL\nend 1\n", b"x\x02bl"),
+        (b"part /: XXBBB\nend 1\n", b"x\x02x\x02bbb"),
         (
             b"part /: XLB\npart 2: L\npart 3: B\nend 3\n",
-            b"(lb)\x02l\x03b",
+            b"x\x02lb\x02l\x03b",
         ),
         (
             b"part /: XLB\npart 2: L\npart 3: B\npart 3.2: B\nend 4\n",
-            b"(lb)\x02l\x03b\x03\x02b",
+            b"x\x02lb\x02l\x03b\x03\x02b",
         ),
         // Subtrees that are given to parts of their own.
         (
             b"part /: XGG\npart 2: L\npart 3: B\nend 3\n",
-            b"(gg)\x02l\x03b",
+            b"x\x02gg\x02l\x03b",
         ),
-        (b"part /: XGB\npart 2: XXBBB\nend 2\n", b"(gb)\x02((bb)b)"),
-        (b"part /: XLXG\nend 1\n", b"(l(g))"),
+        (
+            b"part /: XGB\npart 2: XXBBB\nend 2\n",
+            b"x\x02gb\x02x\x02x\x02bbb",
+        ),
+        (b"part /: XLXG\nend 1\n", b"x\x02lx\x01g"),
         // After the relocations of a plan no container is left.
-        (b"part 2.2.1: X\nend 1\n", b"\x02\x02\x01()"),
+        (b"part 2.2.1: X\nend 1\n", b"\x02\x02\x01x\x00"),
     ];
     for (rest, parts) in texts {
         assert_parts(&rt, &SIX_CONTAINERS, rest, parts)?;
@@ -166,7 +168,7 @@ fn a_subtree_given_at_nine_rows_is_read(rt: HostRuntime) -> Result<(), Fail> {
         &rt,
         &LONG_PATHS,
         deep,
-        b"\x03\x03\x01\x02\x01\x01\x02\x02(gb)",
+        b"\x03\x03\x01\x02\x01\x01\x02\x02x\x02gb",
     )
 }
 

@@ -9,7 +9,7 @@ use crate::calls::write_cert;
 use crate::compare::assert_same;
 use crp_cert::WriteFault;
 use crp_plan::{BayName, Failure, Problem, Received, Sink};
-use crp_tree::{Cert, Name, Part, Tree};
+use crp_tree::{Cert, Name, Part, Symbol, Tree};
 use std::alloc::{AllocError, Global};
 use std::process::Abort;
 use std::test::Fail;
@@ -42,9 +42,14 @@ pub(super) fn branched_twice(
         vec![in alloc; 3]?,
     ];
     let problem = problem_of(rt, 3, 4, &stacks);
-    let inner = vec![in alloc; Tree::CutB, Tree::CutB]?;
-    let trees = vec![in alloc; Tree::Branch(inner), Tree::CutB]?;
-    let cert = whole(alloc, &problem, Tree::Branch(trees), 2)?;
+    let list = vec![in alloc;
+        Symbol::Branch(2),
+        Symbol::Branch(2),
+        Symbol::CutB,
+        Symbol::CutB,
+        Symbol::CutB,
+    ]?;
+    let cert = whole(alloc, &problem, Tree::from_symbols(list), 2)?;
     Ok((problem, cert))
 }
 
@@ -52,7 +57,8 @@ pub(super) fn branched_twice(
 fn dead_end(rt: &impl Abort, alloc: Global) -> Result<(Problem, Cert), AllocError> {
     let stacks = [vec![in alloc; 1, 2]?];
     let problem = problem_of(rt, 3, 2, &stacks);
-    let cert = whole(alloc, &problem, Tree::Branch(Vec::new(alloc)), 5)?;
+    let list = vec![in alloc; Symbol::Branch(0)]?;
+    let cert = whole(alloc, &problem, Tree::from_symbols(list), 5)?;
     Ok((problem, cert))
 }
 

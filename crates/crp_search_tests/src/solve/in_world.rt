@@ -7,7 +7,7 @@ use crp_plan::{Plan, Problem, Words};
 use crp_search::{Limit, first_plan, search};
 use crp_solve::{Answer, Settings, solve_alone};
 use crp_steps::{Event, Kind, World};
-use crp_tree::{Name, Tree};
+use crp_tree::{Name, Symbol, Tree};
 use std::alloc::{AllocError, Global};
 use std::process::Abort;
 use std::test::Fail;
@@ -50,14 +50,11 @@ fn close(world: &mut World, looks: &[bool], number: usize) -> bool {
 
 // Of each cut of a tree, in the order of the search, whether it is by the look-ahead bound.
 fn push_looks(looks: &mut Vec<bool>, tree: &Tree) -> Result<(), AllocError> {
-    match tree {
-        Tree::CutB => looks.push(false)?,
-        Tree::CutL => looks.push(true)?,
-        Tree::Given => {}
-        Tree::Branch(trees) => {
-            for tree in trees {
-                push_looks(looks, tree)?;
-            }
+    for symbol in tree.symbols() {
+        match symbol {
+            Symbol::CutB => looks.push(false)?,
+            Symbol::CutL => looks.push(true)?,
+            Symbol::Given | Symbol::Branch(_) => {}
         }
     }
     Ok(())

@@ -15,8 +15,8 @@ loop-row-preserved c = record {
   long = omega (arith, c.mark.auto.leasts, c.loop-row.invariant.long);
 }
 
-pub returns : goal.returns
-returns c = record {
+pub returns-clause-known : goal.returns-clause-known
+returns-clause-known c = record {
   known = λ r i stack e lt. c.loop-row.invariant.known r i stack (omega (arith, slice_get_within c.args.position.now.place.stacks r stack e, reached_same_rows c.args.position.now.place c.rows-row-end.ensures.reached, c.rows-row-end.ensures.value)) e lt;
   all_ranks = c.loop-row.invariant.long;
 }

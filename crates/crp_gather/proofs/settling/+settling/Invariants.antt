@@ -1,5 +1,7 @@
-use Rattle.std.proofs.Common.{◌≡◌, ◌+◌, ◌-◌, ◌*◌, length}
-use Rattle.crp_gather.proofs.TreesSettled.{BelowSettled}
+use Rattle.std.proofs.Common.{◌≡◌, ◌+◌, ◌-◌, ◌*◌, [], ◌∷◌, ◌++◌, length, take}
+use Rattle.crp_tree.specs.declared.symbol.Symbol.TheVariants as symbol
+use Rattle.crp_tree.specs.Symbols.{all_symbols, some_trees}
+use Rattle.crp_gather.proofs.TreesSettled.{BelowWritten}
 use Rattle.crp_gather.proofs.settling.+settling.Given as goal
 
 -- a path of a problem has at most 672 rows
@@ -9,9 +11,10 @@ decreases-settle_tree l = 2 * (673 - length l.path.now.items) + 1
 abbrev pub decreases-settle_below : goal.decreases-settle_below
 decreases-settle_below l = 2 * (673 - length l.path.now.items)
 
-abbrev pub invariant-settle_below-loop-i : goal.invariant-settle_below-loop-i
-invariant-settle_below-loop-i l = record {
+abbrev pub invariant-settle_below-loop-row : goal.invariant-settle_below-loop-row
+invariant-settle_below-loop-row l = record {
   path : l.path.items ≡ l.fn.path.items;
   place : l.place ≡ l.fn.place;
-  below : BelowSettled l.problem l.plan.path l.fn.path.items l.fn.place.place l.rows l.trees l.i l.settled.items l.floor;
+  half : l.list ≡ all_symbols (take l.row-index (some_trees l.count l.list)) ++ l.rest;
+  below : BelowWritten l.problem l.plan.path l.fn.path.items l.fn.place.place l.rows (some_trees l.count l.list) l.row-index (l.fn.settled.items ++ symbol.Branch l.count ∷ []) l.settled.items l.floor;
 }

@@ -12,7 +12,7 @@ returns-then-claim-clause-granted g c =
     let claimed = claim_grants _ _ _ _ c.if-claim.true c.claim.ensures.step in
     record {
       unfinished = unfinished c.args.problem.now c.args.path.now c.args.place.now.place c.cap-most.ensures.problem c.requires.path (λ end. let yes = c.is_done.ensures.done.1 (subst (λ (v : PlaceAndTrail). IsFinished v.place) (sym c.position.ensures) end) in let test = c.if-is_done.false in cc);
-      below = let a = c.requires.seen.1 in let b = c.if-from-seen.false in let e = c.from.ensures in let h = c.look_ahead.ensures.value in omega arith;
+      below = let a = c.requires.seen.1 in let b = c.in_default.ensures.below in omega arith;
       one_more = ap (λ (v : View). v.granted) claimed;
     }
 
@@ -21,3 +21,6 @@ overflow_cast-high g c = let few = short_path c.args.problem.now c.args.path.now
 
 pub overflow_add-high : goal.overflow_add-high
 overflow_add-high g c = let few = short_path c.args.problem.now c.args.path.now c.args.place.now.place c.cap-most.ensures.problem c.requires.path in let b = c.look_ahead.ensures.few in omega arith
+
+pub reaching-requires : goal.reaching-requires
+reaching-requires g c = short_path c.args.problem.now c.args.path.now c.args.place.now.place c.cap-most.ensures.problem c.requires.path

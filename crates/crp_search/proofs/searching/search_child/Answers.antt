@@ -6,6 +6,7 @@ use Rattle.crp_bay.specs.Reached.{IsReached}
 use Rattle.crp_bounds.proofs.Leasts.{few_blocked}
 use Rattle.crp_search.specs.Limits.{SeesLimit}
 use Rattle.crp_search.specs.Searched.{IsFound}
+use Rattle.crp_tree.specs.Symbols.{leaf}
 use Rattle.crp_tree.proofs.Followed.{legal_push}
 use Rattle.crp_search.proofs.Steps.{seen_found}
 use Rattle.crp_bay.specs.Positions.{child}
@@ -31,6 +32,6 @@ returns-clause-found g c =
     let same : g.L.Limit.puts c.see_above.new.limit ≡ g.L.Limit.puts c.args.limit.now = see.same.2 ∙ given.kept c.if-give.false in
     let placed : c.push-pushed.new.self ≡ record { place = child c.args.place.now.place c.args.row; trail = c.args.place.now.place ∷ c.args.place.now.trail } = legal_push c.args.place.now c.args.row c.push-pushed.new.self c.push-pushed.result (record { target = c.push-pushed.ensures.target; pushed = c.push-pushed.ensures.pushed }) c.requires.row in
     let found = c.in_ok-found.ensures.found c.args.split in
-    let here = subst (λ (v : PlaceAndTrail). IsFound c.args.problem.now c.args.split c.args.path.now v.place (g.L.Limit.view c.see_above.new.limit) (g.L.Limit.view c.close_below.new.limit) (g.L.Limit.puts c.see_above.new.limit) (g.L.Limit.puts c.close_below.new.limit) c.in_ok-found.found.tree c.in_ok-found.found.floor) placed found in
-    seen_found c.args.problem.now c.args.split c.args.path.now (child c.args.place.now.place c.args.row) (g.L.Limit.view c.args.limit.now) (g.L.Limit.view c.see_above.new.limit) (g.L.Limit.view c.close_below.new.limit) _ (g.L.Limit.puts c.args.limit.now) (g.L.Limit.puts c.see_above.new.limit) (g.L.Limit.puts c.close_below.new.limit) c.in_ok-found.found.tree c.in_ok-found.found.floor
+    let here = subst (λ (v : PlaceAndTrail). IsFound c.args.problem.now c.args.split c.args.path.now v.place (g.L.Limit.view c.see_above.new.limit) (g.L.Limit.view c.close_below.new.limit) (g.L.Limit.puts c.see_above.new.limit) (g.L.Limit.puts c.close_below.new.limit) (leaf c.in_ok-found.found.symbol) c.in_ok-found.found.floor) placed found in
+    seen_found c.args.problem.now c.args.split c.args.path.now (child c.args.place.now.place c.args.row) (g.L.Limit.view c.args.limit.now) (g.L.Limit.view c.see_above.new.limit) (g.L.Limit.view c.close_below.new.limit) _ (g.L.Limit.puts c.args.limit.now) (g.L.Limit.puts c.see_above.new.limit) (g.L.Limit.puts c.close_below.new.limit) (leaf c.in_ok-found.found.symbol) c.in_ok-found.found.floor
     see_step same here

@@ -1,141 +1,205 @@
-use Rattle.std.proofs.Common.{◌≡◌, suc, ◌<◌, ◌≤◌, List, [], ◌∷◌, ◌++◌, length, refl, sym, ap, ◌∙◌, subst, arith, lit<, length-append}
+use Rattle.std.proofs.Common.{◌≡◌, suc, ◌<◌, ◌≤◌, min, List, [], ◌∷◌, ◌++◌, length, refl, sym, ap, ◌∙◌, subst, arith, lit<, length-append}
 use Rattle.std.specs.Prelude.{reverse}
 use Rattle.std.proofs.lemmas.List.{nil_from_length}
 use Rattle.crp_plan.specs.Bay.{IsAt}
 use Rattle.crp_plan.proofs.Steps.{short_path}
 use Rattle.crp_bay.specs.Positions.{targets, child}
 use Rattle.crp_bay.specs.Back.{PlaceAndTrail}
-use Rattle.crp_tree.specs.declared.tree.Tree.{Branch}
-use Rattle.crp_search.specs.declared.frames.Found.{Found}
-use Rattle.crp_search.specs.declared.frames.Frame.{Frame}
-use Rattle.crp_search.specs.Searched.{IsFound}
+use Rattle.crp_tree.specs.declared.symbol.Symbol.{Symbol}
+use Rattle.crp_tree.specs.declared.symbol.Symbol.TheVariants as symbol
+use Rattle.crp_tree.specs.Tree.{Tree}
+use Rattle.crp_tree.specs.Symbols.{leaf, leaf_symbols}
+use Rattle.crp_tree.specs.Trees.{X, Node, nodes, IsGivenAway}
+use Rattle.crp_tree.specs.Spots.{node_at}
 use Rattle.crp_tree.proofs.Followed.{pop_back, back_again}
-use Rattle.crp_search.proofs.Branching.{on_and_on, more_again}
-use Rattle.crp_search.proofs.Halfway.{Mark, mark, turn, IsNext, AreHalf, IsOneMore, IsFresh, goes_up, ends, half_at, half_advances, half_puts, reverse_push, legal_turn, turn_leads, goes_to_child, stays_met, takes_branch, one_less_left}
+use Rattle.crp_search.specs.declared.frames.Frame.{Frame}
+use Rattle.crp_search.specs.Searched.{IsFound, IsGranted}
+use Rattle.crp_search.proofs.SoFar.{on_and_on, more_again, one_branch, branch_more, joined, of_found, is_found, so_far_puts}
+use Rattle.crp_search.proofs.UnderWay.{Stand, standing, spot_at, IsChild, TakesTurn, IsUnderWay, frame_at, sets_out, legal_turn, turn_leads, stays, goes_down, GoesBack, goes_up, Ended, ends, leaf_tree, same_tree, reverse_push, one_less_left}
 use Rattle.crp_search.proofs.Owing.{left, owed, owes_less, owes_below, owes_above}
 use Rattle.crp_search.proofs.searching.search_from.Goals as goal
 
+pub from_symbols-requires : goal.from_symbols-requires
+from_symbols-requires g c =
+    (leaf c.in-Some.closed.symbol, c.in_ok-push.ensures.items ∙ ap (λ l. l ++ c.in-Some.closed.symbol ∷ []) c.new-list.ensures.items ∙ leaf_symbols c.in-Some.closed.symbol c.in-Some.ensures.leaf)
+
 pub returns-in-Some-clause-found : goal.returns-in-Some-clause-found
 returns-in-Some-clause-found g c =
-    subst (λ l. IsFound c.args.problem.now c.args.split l c.args.place.now.place (g.L.Limit.view c.args.limit.now) (g.L.Limit.view c.close.new.limit) (g.L.Limit.puts c.args.limit.now) (g.L.Limit.puts c.close.new.limit) c.in-Some.found.tree c.in-Some.found.floor)
-    c.as_slice.ensures.value (c.in-Some.ensures.found c.args.split)
+    let same = leaf_tree c.new-list.result.items c.push.new.self.items c.from_symbols.result c.in-Some.closed.symbol c.new-list.ensures.items c.in_ok-push.ensures.items c.from_symbols.ensures in
+    let here = subst (λ l. IsFound c.args.problem.now c.args.split l c.args.place.now.place (g.L.Limit.view c.args.limit.now) (g.L.Limit.view c.close.new.limit) (g.L.Limit.puts c.args.limit.now) (g.L.Limit.puts c.close.new.limit) (leaf c.in-Some.closed.symbol) c.in-Some.closed.floor)
+    c.as_slice.ensures.value (c.in-Some.ensures.found c.args.split) in
+    subst (λ t. IsFound c.args.problem.now c.args.split c.args.path.now.items c.args.place.now.place (g.L.Limit.view c.args.limit.now) (g.L.Limit.view c.close.new.limit) (g.L.Limit.puts c.args.limit.now) (g.L.Limit.puts c.close.new.limit) t c.in-Some.closed.floor) same here
+
+pub returns-in-Some-clause-own : goal.returns-in-Some-clause-own
+returns-in-Some-clause-own g c =
+    let same = leaf_tree c.new-list.result.items c.push.new.self.items c.from_symbols.result c.in-Some.closed.symbol c.new-list.ensures.items c.in_ok-push.ensures.items c.from_symbols.ensures in
+    subst (λ t. IsGivenAway t → ⊥) same c.in-Some.ensures.own
+
+pub loop-row-init : goal.loop-row-init
+loop-row-init g c =
+    let many = length c.at-frame.result.rows.items in
+    let own : Node = node_at (spot_at (standing c.args.path.now.items c.args.place.now)) X in
+    let rows : c.at-frame.result.rows.items ≡ targets c.args.place.now.place = c.at-frame.ensures.rows ∙ ap (λ (v : PlaceAndTrail). targets v.place) c.position.ensures in
+    let list_is : c.push-2.new.self.items ≡ symbol.Branch many ∷ [] = c.in_ok-push-2.ensures.items ∙ ap (λ l. l ++ c.symbol.result ∷ []) c.new-list.ensures.items ∙ ap (λ (x : Symbol). x ∷ []) c.symbol.ensures in
+    let begun = sets_out c.args.problem.now (standing c.args.path.now.items c.args.place.now) c.at-frame.result many c.requires.path rows c.at-frame.ensures.done refl in
+    let listed = subst (λ l. IsUnderWay c.args.problem.now (standing c.args.path.now.items c.args.place.now) (standing c.args.path.now.items c.args.place.now) c.at-frame.result [] l (own ∷ [])) (sym list_is) begun in
+    record {
+      is_problem = c.cap-floor.ensures.problem;
+      same = (c.in_default.ensures.same.0, c.in_default.ensures.same.1);
+      met = own ∷ [];
+      under_way = subst (λ (l : List Frame). IsUnderWay c.args.problem.now (standing c.args.path.now.items c.args.place.now) (standing c.args.path.now.items c.args.place.now) c.at-frame.result (reverse l) c.push-2.new.self.items (own ∷ [])) (sym c.new-above.ensures.items) listed;
+      so_far = one_branch c.args.problem.now c.args.split c.args.path.now.items c.args.place.now.place (g.L.Limit.view c.args.limit.now) (g.L.Limit.view c.close.new.limit) (g.L.Limit.puts c.args.limit.now) (g.L.Limit.puts c.close.new.limit) c.cap-floor.result c.cap-floor.ensures.value
+          (subst (λ l. IsGranted l c.args.place.now.place (g.L.Limit.view c.args.limit.now) (g.L.Limit.view c.close.new.limit)) c.as_slice.ensures.value c.in_default.ensures.granted) c.close.ensures.advances c.close.ensures.same.2;
+    }
+
+pub from_symbols-requires-in_default-pop : goal.from_symbols-requires-in_default-pop
+from_symbols-requires-in_default-pop g c =
+    let empty : c.loop-row.above.items ≡ [] = nil_from_length c.loop-row.above.items (let e = c.loop-row.above.ok.0 in let z = c.in_default-pop.ensures.cases.0 in omega arith) in
+    let h = subst (λ (l : List Frame). IsUnderWay c.args.problem.now (standing c.args.path.now.items c.args.place.now) (standing c.loop-row.path.items c.loop-row.place) c.loop-row.frame (reverse l) c.loop-row.list.items c.loop-row.invariant.met) empty c.loop-row.invariant.under_way in
+    let end : Ended (standing c.args.path.now.items c.args.place.now) c.loop-row.list.items c.loop-row.invariant.met = ends c.args.problem.now (standing c.args.path.now.items c.args.place.now) (standing c.loop-row.path.items c.loop-row.place) c.loop-row.frame c.loop-row.list.items c.loop-row.invariant.met h c.in_default-turn.ensures.none in
+    let whole = end.whole in
+    (whole.tree, whole.symbols_are)
 
 pub returns-in_default-pop-clause-found : goal.returns-in_default-pop-clause-found
 returns-in_default-pop-clause-found g c =
     let empty : c.loop-row.above.items ≡ [] = nil_from_length c.loop-row.above.items (let e = c.loop-row.above.ok.0 in let z = c.in_default-pop.ensures.cases.0 in omega arith) in
-    let h = subst (λ (l : List Frame). AreHalf c.args.problem.now c.args.split (mark c.args.path.now.items c.args.place.now (g.L.Limit.view c.args.limit.now) (g.L.Limit.puts c.args.limit.now)) (mark c.loop-row.path.items c.loop-row.place (g.L.Limit.view c.loop-row.limit) (g.L.Limit.puts c.loop-row.limit)) c.loop-row.frame (reverse l)) empty c.loop-row.invariant.half in
-    subst (λ (v : Found). IsFound c.args.problem.now c.args.split c.args.path.now.items c.args.place.now.place (g.L.Limit.view c.args.limit.now) (g.L.Limit.view c.loop-row.limit) (g.L.Limit.puts c.args.limit.now) (g.L.Limit.puts c.loop-row.limit) v.tree v.floor) (sym c.close-in_default-pop.ensures)
-    (ends c.args.problem.now c.args.split (mark c.args.path.now.items c.args.place.now (g.L.Limit.view c.args.limit.now) (g.L.Limit.puts c.args.limit.now)) (mark c.loop-row.path.items c.loop-row.place (g.L.Limit.view c.loop-row.limit) (g.L.Limit.puts c.loop-row.limit)) c.loop-row.frame h c.in_default-turn.ensures.none)
+    let h = subst (λ (l : List Frame). IsUnderWay c.args.problem.now (standing c.args.path.now.items c.args.place.now) (standing c.loop-row.path.items c.loop-row.place) c.loop-row.frame (reverse l) c.loop-row.list.items c.loop-row.invariant.met) empty c.loop-row.invariant.under_way in
+    let end : Ended (standing c.args.path.now.items c.args.place.now) c.loop-row.list.items c.loop-row.invariant.met = ends c.args.problem.now (standing c.args.path.now.items c.args.place.now) (standing c.loop-row.path.items c.loop-row.place) c.loop-row.frame c.loop-row.list.items c.loop-row.invariant.met h c.in_default-turn.ensures.none in
+    let whole = end.whole in
+    let same = same_tree c.loop-row.list.items whole.tree c.from_symbols-in_default-pop.result whole.symbols_are c.from_symbols-in_default-pop.ensures in
+    subst (λ t. IsFound c.args.problem.now c.args.split c.args.path.now.items c.args.place.now.place (g.L.Limit.view c.args.limit.now) (g.L.Limit.view c.loop-row.limit) (g.L.Limit.puts c.args.limit.now) (g.L.Limit.puts c.loop-row.limit) t c.loop-row.floor) same
+    (is_found c.args.problem.now c.args.split c.args.path.now.items c.args.place.now.place (g.L.Limit.view c.args.limit.now) (g.L.Limit.view c.loop-row.limit) (g.L.Limit.puts c.args.limit.now) (g.L.Limit.puts c.loop-row.limit) c.loop-row.invariant.met whole.tree c.loop-row.floor whole.fits whole.nodes_are c.loop-row.invariant.so_far)
 
-pub returns-in_err-add-clause-advances : goal.returns-in_err-add-clause-advances
-returns-in_err-add-clause-advances g c = half_advances c.args.problem.now c.args.split (mark c.args.path.now.items c.args.place.now (g.L.Limit.view c.args.limit.now) (g.L.Limit.puts c.args.limit.now)) (mark c.loop-row.path.items c.loop-row.place (g.L.Limit.view c.loop-row.limit) (g.L.Limit.puts c.loop-row.limit)) c.loop-row.frame (reverse c.loop-row.above.items) c.loop-row.invariant.half
+pub returns-in_default-pop-clause-own : goal.returns-in_default-pop-clause-own
+returns-in_default-pop-clause-own g c =
+    let empty : c.loop-row.above.items ≡ [] = nil_from_length c.loop-row.above.items (let e = c.loop-row.above.ok.0 in let z = c.in_default-pop.ensures.cases.0 in omega arith) in
+    let h = subst (λ (l : List Frame). IsUnderWay c.args.problem.now (standing c.args.path.now.items c.args.place.now) (standing c.loop-row.path.items c.loop-row.place) c.loop-row.frame (reverse l) c.loop-row.list.items c.loop-row.invariant.met) empty c.loop-row.invariant.under_way in
+    let end : Ended (standing c.args.path.now.items c.args.place.now) c.loop-row.list.items c.loop-row.invariant.met = ends c.args.problem.now (standing c.args.path.now.items c.args.place.now) (standing c.loop-row.path.items c.loop-row.place) c.loop-row.frame c.loop-row.list.items c.loop-row.invariant.met h c.in_default-turn.ensures.none in
+    let whole = end.whole in
+    subst (λ t. IsGivenAway t → ⊥) (same_tree c.loop-row.list.items whole.tree c.from_symbols-in_default-pop.result whole.symbols_are c.from_symbols-in_default-pop.ensures) end.own
 
-pub returns-in_err-add-clause-puts : goal.returns-in_err-add-clause-puts
-returns-in_err-add-clause-puts g c = half_puts c.args.problem.now c.args.split (mark c.args.path.now.items c.args.place.now (g.L.Limit.view c.args.limit.now) (g.L.Limit.puts c.args.limit.now)) (mark c.loop-row.path.items c.loop-row.place (g.L.Limit.view c.loop-row.limit) (g.L.Limit.puts c.loop-row.limit)) c.loop-row.frame (reverse c.loop-row.above.items) c.loop-row.invariant.half
+pub returns-in_default-pop-clause-advances : goal.returns-in_default-pop-clause-advances
+returns-in_default-pop-clause-advances g c = let so_far = c.loop-row.invariant.so_far in so_far.advances
+
+pub returns-in_default-pop-clause-puts : goal.returns-in_default-pop-clause-puts
+returns-in_default-pop-clause-puts g c = so_far_puts c.args.problem.now c.args.split (g.L.Limit.view c.args.limit.now) (g.L.Limit.view c.loop-row.limit) (g.L.Limit.puts c.args.limit.now) (g.L.Limit.puts c.loop-row.limit) c.loop-row.invariant.met c.loop-row.floor c.loop-row.invariant.so_far
 
 pub loop-row-smaller-in_default-turn : goal.loop-row-smaller-in_default-turn
 loop-row-smaller-in_default-turn g c =
     let rev : reverse c.loop-row.above.items ≡ c.in-Some-pop.upper ∷ reverse c.pop.new.self.items = ap reverse c.in-Some-pop.ensures.items ∙ reverse_push c.pop.new.self.items c.in-Some-pop.upper in
-    let h = subst (AreHalf c.args.problem.now c.args.split (mark c.args.path.now.items c.args.place.now (g.L.Limit.view c.args.limit.now) (g.L.Limit.puts c.args.limit.now)) (mark c.loop-row.path.items c.loop-row.place (g.L.Limit.view c.loop-row.limit) (g.L.Limit.puts c.loop-row.limit)) c.loop-row.frame) rev c.loop-row.invariant.half in
-    let before : Mark = h.0 in
-    let next : IsNext before (mark c.loop-row.path.items c.loop-row.place (g.L.Limit.view c.loop-row.limit) (g.L.Limit.puts c.loop-row.limit)) c.in-Some-pop.upper = h.1 in
-    let popped : c.pop-row.new.self.items ≡ before.path = back_again c.pop-row.new.self.items c.loop-row.path.items before.path _ (turn c.in-Some-pop.upper) refl next.path c.pop-row.ensures.rest in
-    let one : IsOneMore c.in-Some-pop.upper (Branch c.loop-row.frame.trees) c.loop-row.frame.floor c.add.new.self = takes_branch c.loop-row.frame c.in-Some-pop.upper c.replace.result c.replace.new.dest c.add.new.self c.close-found.result c.replace.ensures.value c.replace.ensures.after c.close-found.ensures
-    (record { rows = c.in_ok-add.ensures.rows; trees = c.in_ok-add.ensures.trees; floor_is = c.in_ok-add.ensures.floor }) in
-    let few = short_path c.args.problem.now c.loop-row.path.items c.loop-row.place.place c.loop-row.invariant.is_problem (half_at c.args.problem.now c.args.split (mark c.args.path.now.items c.args.place.now (g.L.Limit.view c.args.limit.now) (g.L.Limit.puts c.args.limit.now)) (mark c.loop-row.path.items c.loop-row.place (g.L.Limit.view c.loop-row.limit) (g.L.Limit.puts c.loop-row.limit)) c.loop-row.frame (reverse c.loop-row.above.items) c.loop-row.invariant.half) in
-    let rows : length c.loop-row.path.items ≡ suc (length c.pop-row.new.self.items) = omega (arith, ap length next.path, ap length popped, length-append before.path (turn c.in-Some-pop.upper ∷ [])) in
-    subst (λ l. owed (length c.pop-row.new.self.items) c.add.new.self (reverse c.pop.new.self.items) < owed (length c.loop-row.path.items) c.loop-row.frame l) (sym rev)
-    (owes_above (length c.loop-row.path.items) (length c.pop-row.new.self.items) c.loop-row.frame c.in-Some-pop.upper c.add.new.self (reverse c.pop.new.self.items) rows few (one_less_left c.in-Some-pop.upper c.add.new.self (Branch c.loop-row.frame.trees) c.loop-row.frame.floor one))
+    let h = subst (λ (l : List Frame). IsUnderWay c.args.problem.now (standing c.args.path.now.items c.args.place.now) (standing c.loop-row.path.items c.loop-row.place) c.loop-row.frame l c.loop-row.list.items c.loop-row.invariant.met) rev c.loop-row.invariant.under_way in
+    let back : GoesBack c.args.problem.now (standing c.args.path.now.items c.args.place.now) (standing c.loop-row.path.items c.loop-row.place) c.in-Some-pop.upper (reverse c.pop.new.self.items) c.loop-row.list.items c.loop-row.invariant.met = goes_up c.args.problem.now (standing c.args.path.now.items c.args.place.now) (standing c.loop-row.path.items c.loop-row.place) c.loop-row.frame c.in-Some-pop.upper (reverse c.pop.new.self.items) c.loop-row.list.items c.loop-row.invariant.met h c.in_default-turn.ensures.none in
+    let before : Stand = back.before in
+    let one : IsChild before (standing c.loop-row.path.items c.loop-row.place) = back.is_child in
+    let popped : c.pop-row.new.self.items ≡ before.path = back_again c.pop-row.new.self.items c.loop-row.path.items before.path _ one.row refl one.path c.pop-row.ensures.rest in
+    let under = c.loop-row.invariant.under_way in
+    let at = frame_at c.args.problem.now (standing c.args.path.now.items c.args.place.now) (standing c.loop-row.path.items c.loop-row.place) c.loop-row.frame (reverse c.loop-row.above.items) under.owed under.frames in
+    let few = short_path c.args.problem.now c.loop-row.path.items c.loop-row.place.place c.loop-row.invariant.is_problem at.at in
+    let rows : length c.loop-row.path.items ≡ suc (length c.pop-row.new.self.items) = omega (arith, ap length one.path, ap length popped, length-append before.path (one.row ∷ [])) in
+    subst (λ l. owed (length c.pop-row.new.self.items) c.in-Some-pop.upper (reverse c.pop.new.self.items) < owed (length c.loop-row.path.items) c.loop-row.frame l) (sym rev)
+    (owes_above (length c.loop-row.path.items) (length c.pop-row.new.self.items) c.loop-row.frame c.in-Some-pop.upper (reverse c.pop.new.self.items) rows few)
 
 pub loop-row-preserved-in_default-turn : goal.loop-row-preserved-in_default-turn
 loop-row-preserved-in_default-turn g c =
     let rev : reverse c.loop-row.above.items ≡ c.in-Some-pop.upper ∷ reverse c.pop.new.self.items = ap reverse c.in-Some-pop.ensures.items ∙ reverse_push c.pop.new.self.items c.in-Some-pop.upper in
-    let h = subst (AreHalf c.args.problem.now c.args.split (mark c.args.path.now.items c.args.place.now (g.L.Limit.view c.args.limit.now) (g.L.Limit.puts c.args.limit.now)) (mark c.loop-row.path.items c.loop-row.place (g.L.Limit.view c.loop-row.limit) (g.L.Limit.puts c.loop-row.limit)) c.loop-row.frame) rev c.loop-row.invariant.half in
-    let before : Mark = h.0 in
-    let next : IsNext before (mark c.loop-row.path.items c.loop-row.place (g.L.Limit.view c.loop-row.limit) (g.L.Limit.puts c.loop-row.limit)) c.in-Some-pop.upper = h.1 in
-    let popped : c.pop-row.new.self.items ≡ before.path = back_again c.pop-row.new.self.items c.loop-row.path.items before.path _ (turn c.in-Some-pop.upper) refl next.path c.pop-row.ensures.rest in
-    let one : IsOneMore c.in-Some-pop.upper (Branch c.loop-row.frame.trees) c.loop-row.frame.floor c.add.new.self = takes_branch c.loop-row.frame c.in-Some-pop.upper c.replace.result c.replace.new.dest c.add.new.self c.close-found.result c.replace.ensures.value c.replace.ensures.after c.close-found.ensures
-    (record { rows = c.in_ok-add.ensures.rows; trees = c.in_ok-add.ensures.trees; floor_is = c.in_ok-add.ensures.floor }) in
-    let back : c.pop-popped.new.self ≡ before.stand = pop_back before.stand c.loop-row.place c.pop-popped.new.self (turn c.in-Some-pop.upper) c.pop-popped.result next.stand (record { popped = c.pop-popped.ensures.popped; none = c.pop-popped.ensures.none }) in
+    let h = subst (λ (l : List Frame). IsUnderWay c.args.problem.now (standing c.args.path.now.items c.args.place.now) (standing c.loop-row.path.items c.loop-row.place) c.loop-row.frame l c.loop-row.list.items c.loop-row.invariant.met) rev c.loop-row.invariant.under_way in
+    let back : GoesBack c.args.problem.now (standing c.args.path.now.items c.args.place.now) (standing c.loop-row.path.items c.loop-row.place) c.in-Some-pop.upper (reverse c.pop.new.self.items) c.loop-row.list.items c.loop-row.invariant.met = goes_up c.args.problem.now (standing c.args.path.now.items c.args.place.now) (standing c.loop-row.path.items c.loop-row.place) c.loop-row.frame c.in-Some-pop.upper (reverse c.pop.new.self.items) c.loop-row.list.items c.loop-row.invariant.met h c.in_default-turn.ensures.none in
+    let before : Stand = back.before in
+    let one : IsChild before (standing c.loop-row.path.items c.loop-row.place) = back.is_child in
+    let popped : c.pop-row.new.self.items ≡ before.path = back_again c.pop-row.new.self.items c.loop-row.path.items before.path _ one.row refl one.path c.pop-row.ensures.rest in
+    let stood : c.pop-popped.new.self ≡ before.stand = pop_back before.stand c.loop-row.place c.pop-popped.new.self one.row c.pop-popped.result one.stand (record { popped = c.pop-popped.ensures.popped; none = c.pop-popped.ensures.none }) in
     record {
       is_problem = c.loop-row.invariant.is_problem;
       same = c.loop-row.invariant.same;
-      half = goes_up c.args.problem.now c.args.split (mark c.args.path.now.items c.args.place.now (g.L.Limit.view c.args.limit.now) (g.L.Limit.puts c.args.limit.now)) (mark c.loop-row.path.items c.loop-row.place (g.L.Limit.view c.loop-row.limit) (g.L.Limit.puts c.loop-row.limit)) c.pop-row.new.self.items c.pop-popped.new.self c.loop-row.frame c.in-Some-pop.upper c.add.new.self (reverse c.pop.new.self.items) h c.in_default-turn.ensures.none popped back one;
+      met = c.loop-row.invariant.met;
+      under_way = subst (λ l. IsUnderWay c.args.problem.now (standing c.args.path.now.items c.args.place.now) (standing l c.pop-popped.new.self) c.in-Some-pop.upper (reverse c.pop.new.self.items) c.loop-row.list.items c.loop-row.invariant.met) (sym popped)
+          (subst (λ t. IsUnderWay c.args.problem.now (standing c.args.path.now.items c.args.place.now) (standing before.path t) c.in-Some-pop.upper (reverse c.pop.new.self.items) c.loop-row.list.items c.loop-row.invariant.met) (sym stood) back.under_way);
+      so_far = c.loop-row.invariant.so_far;
     }
 
-pub push-requires : goal.push-requires
-push-requires g c =
-    let few = short_path c.args.problem.now (c.loop-row.path.items ++ c.in-Some-turn.row ∷ []) (child c.loop-row.place.place c.in-Some-turn.row) c.loop-row.invariant.is_problem (turn_leads c.args.problem.now c.args.split (mark c.args.path.now.items c.args.place.now (g.L.Limit.view c.args.limit.now) (g.L.Limit.puts c.args.limit.now)) (mark c.loop-row.path.items c.loop-row.place (g.L.Limit.view c.loop-row.limit) (g.L.Limit.puts c.loop-row.limit)) c.loop-row.frame (reverse c.loop-row.above.items) c.in-Some-turn.row c.loop-row.invariant.is_problem c.loop-row.invariant.half c.in-Some-turn.ensures.left c.in-Some-turn.ensures.row) in
+pub push-requires-in-loop-row : goal.push-requires-in-loop-row
+push-requires-in-loop-row g c =
+    let few = short_path c.args.problem.now (c.loop-row.path.items ++ c.in-Some-turn.row ∷ []) (child c.loop-row.place.place c.in-Some-turn.row) c.loop-row.invariant.is_problem (turn_leads c.args.problem.now (standing c.args.path.now.items c.args.place.now) (standing c.loop-row.path.items c.loop-row.place) c.loop-row.frame c.turn.new.self (reverse c.loop-row.above.items) c.loop-row.list.items c.loop-row.invariant.met c.in-Some-turn.row c.loop-row.invariant.is_problem c.loop-row.invariant.under_way (record { left = c.in-Some-turn.ensures.left; row_is = c.in-Some-turn.ensures.row; done = c.in-Some-turn.ensures.done; rows = c.in-Some-turn.ensures.rows })) in
     (lit< tt, omega (arith, length-append c.loop-row.path.items (c.in-Some-turn.row ∷ [])))
 
 pub search_child-requires-clause-path : goal.search_child-requires-clause-path
 search_child-requires-clause-path g c =
-    subst (λ l. IsAt c.args.problem.now l (child c.loop-row.place.place c.in-Some-turn.row)) (sym (c.as_slice-in-loop-row.ensures.value ∙ c.push.ensures.items)) (turn_leads c.args.problem.now c.args.split (mark c.args.path.now.items c.args.place.now (g.L.Limit.view c.args.limit.now) (g.L.Limit.puts c.args.limit.now)) (mark c.loop-row.path.items c.loop-row.place (g.L.Limit.view c.loop-row.limit) (g.L.Limit.puts c.loop-row.limit)) c.loop-row.frame (reverse c.loop-row.above.items) c.in-Some-turn.row c.loop-row.invariant.is_problem c.loop-row.invariant.half c.in-Some-turn.ensures.left c.in-Some-turn.ensures.row)
+    subst (λ l. IsAt c.args.problem.now l (child c.loop-row.place.place c.in-Some-turn.row)) (sym (c.as_slice-in-loop-row.ensures.value ∙ c.push-in-loop-row.ensures.items)) (turn_leads c.args.problem.now (standing c.args.path.now.items c.args.place.now) (standing c.loop-row.path.items c.loop-row.place) c.loop-row.frame c.turn.new.self (reverse c.loop-row.above.items) c.loop-row.list.items c.loop-row.invariant.met c.in-Some-turn.row c.loop-row.invariant.is_problem c.loop-row.invariant.under_way (record { left = c.in-Some-turn.ensures.left; row_is = c.in-Some-turn.ensures.row; done = c.in-Some-turn.ensures.done; rows = c.in-Some-turn.ensures.rows }))
 
 pub search_child-requires-clause-row : goal.search_child-requires-clause-row
-search_child-requires-clause-row g c = legal_turn c.args.problem.now c.args.split (mark c.args.path.now.items c.args.place.now (g.L.Limit.view c.args.limit.now) (g.L.Limit.puts c.args.limit.now)) (mark c.loop-row.path.items c.loop-row.place (g.L.Limit.view c.loop-row.limit) (g.L.Limit.puts c.loop-row.limit)) c.loop-row.frame (reverse c.loop-row.above.items) c.in-Some-turn.row c.loop-row.invariant.half c.in-Some-turn.ensures.left c.in-Some-turn.ensures.row
+search_child-requires-clause-row g c = legal_turn c.args.problem.now (standing c.args.path.now.items c.args.place.now) (standing c.loop-row.path.items c.loop-row.place) c.loop-row.frame c.turn.new.self (reverse c.loop-row.above.items) c.loop-row.list.items c.loop-row.invariant.met c.in-Some-turn.row c.loop-row.invariant.under_way (record { left = c.in-Some-turn.ensures.left; row_is = c.in-Some-turn.ensures.row; done = c.in-Some-turn.ensures.done; rows = c.in-Some-turn.ensures.rows })
 
-pub returns-in_err-below-clause-advances : goal.returns-in_err-below-clause-advances
-returns-in_err-below-clause-advances g c = on_and_on c.args.problem.now (g.L.Limit.view c.args.limit.now) (g.L.Limit.view c.loop-row.limit) (g.L.Limit.view c.search_child.new.limit) (half_advances c.args.problem.now c.args.split (mark c.args.path.now.items c.args.place.now (g.L.Limit.view c.args.limit.now) (g.L.Limit.puts c.args.limit.now)) (mark c.loop-row.path.items c.loop-row.place (g.L.Limit.view c.loop-row.limit) (g.L.Limit.puts c.loop-row.limit)) c.loop-row.frame (reverse c.loop-row.above.items) c.loop-row.invariant.half) c.search_child.ensures.advances
+pub returns-in_err-push-3-clause-advances : goal.returns-in_err-push-3-clause-advances
+returns-in_err-push-3-clause-advances g c = let so_far = c.loop-row.invariant.so_far in on_and_on c.args.problem.now (g.L.Limit.view c.args.limit.now) (g.L.Limit.view c.loop-row.limit) (g.L.Limit.view c.search_child.new.limit) so_far.advances c.search_child.ensures.advances
 
-pub returns-in_err-below-clause-puts : goal.returns-in_err-below-clause-puts
-returns-in_err-below-clause-puts g c = more_again (g.L.Limit.puts c.args.limit.now) (g.L.Limit.puts c.loop-row.limit) (g.L.Limit.puts c.search_child.new.limit) (half_puts c.args.problem.now c.args.split (mark c.args.path.now.items c.args.place.now (g.L.Limit.view c.args.limit.now) (g.L.Limit.puts c.args.limit.now)) (mark c.loop-row.path.items c.loop-row.place (g.L.Limit.view c.loop-row.limit) (g.L.Limit.puts c.loop-row.limit)) c.loop-row.frame (reverse c.loop-row.above.items) c.loop-row.invariant.half) c.search_child.ensures.puts
+pub returns-in_err-push-3-clause-puts : goal.returns-in_err-push-3-clause-puts
+returns-in_err-push-3-clause-puts g c = more_again (g.L.Limit.puts c.args.limit.now) (g.L.Limit.puts c.loop-row.limit) (g.L.Limit.puts c.search_child.new.limit) (so_far_puts c.args.problem.now c.args.split (g.L.Limit.view c.args.limit.now) (g.L.Limit.view c.loop-row.limit) (g.L.Limit.puts c.args.limit.now) (g.L.Limit.puts c.loop-row.limit) c.loop-row.invariant.met c.loop-row.floor c.loop-row.invariant.so_far) c.search_child.ensures.puts
 
-pub returns-in_err-push-clause-advances : goal.returns-in_err-push-clause-advances
-returns-in_err-push-clause-advances g c = on_and_on c.args.problem.now (g.L.Limit.view c.args.limit.now) (g.L.Limit.view c.loop-row.limit) (g.L.Limit.view c.search_child.new.limit) (half_advances c.args.problem.now c.args.split (mark c.args.path.now.items c.args.place.now (g.L.Limit.view c.args.limit.now) (g.L.Limit.puts c.args.limit.now)) (mark c.loop-row.path.items c.loop-row.place (g.L.Limit.view c.loop-row.limit) (g.L.Limit.puts c.loop-row.limit)) c.loop-row.frame (reverse c.loop-row.above.items) c.loop-row.invariant.half) c.search_child.ensures.advances
+pub returns-in_err-push-4-clause-advances : goal.returns-in_err-push-4-clause-advances
+returns-in_err-push-4-clause-advances g c = let so_far = c.loop-row.invariant.so_far in on_and_on c.args.problem.now (g.L.Limit.view c.args.limit.now) (g.L.Limit.view c.loop-row.limit) (g.L.Limit.view c.search_child.new.limit) so_far.advances c.search_child.ensures.advances
 
-pub returns-in_err-push-clause-puts : goal.returns-in_err-push-clause-puts
-returns-in_err-push-clause-puts g c = more_again (g.L.Limit.puts c.args.limit.now) (g.L.Limit.puts c.loop-row.limit) (g.L.Limit.puts c.search_child.new.limit) (half_puts c.args.problem.now c.args.split (mark c.args.path.now.items c.args.place.now (g.L.Limit.view c.args.limit.now) (g.L.Limit.puts c.args.limit.now)) (mark c.loop-row.path.items c.loop-row.place (g.L.Limit.view c.loop-row.limit) (g.L.Limit.puts c.loop-row.limit)) c.loop-row.frame (reverse c.loop-row.above.items) c.loop-row.invariant.half) c.search_child.ensures.puts
+pub returns-in_err-push-4-clause-puts : goal.returns-in_err-push-4-clause-puts
+returns-in_err-push-4-clause-puts g c = more_again (g.L.Limit.puts c.args.limit.now) (g.L.Limit.puts c.loop-row.limit) (g.L.Limit.puts c.search_child.new.limit) (so_far_puts c.args.problem.now c.args.split (g.L.Limit.view c.args.limit.now) (g.L.Limit.view c.loop-row.limit) (g.L.Limit.puts c.args.limit.now) (g.L.Limit.puts c.loop-row.limit) c.loop-row.invariant.met c.loop-row.floor c.loop-row.invariant.so_far) c.search_child.ensures.puts
+
+pub returns-in_err-push-5-clause-advances : goal.returns-in_err-push-5-clause-advances
+returns-in_err-push-5-clause-advances g c = let so_far = c.loop-row.invariant.so_far in on_and_on c.args.problem.now (g.L.Limit.view c.args.limit.now) (g.L.Limit.view c.loop-row.limit) (g.L.Limit.view c.search_child.new.limit) so_far.advances c.search_child.ensures.advances
+
+pub returns-in_err-push-5-clause-puts : goal.returns-in_err-push-5-clause-puts
+returns-in_err-push-5-clause-puts g c = more_again (g.L.Limit.puts c.args.limit.now) (g.L.Limit.puts c.loop-row.limit) (g.L.Limit.puts c.search_child.new.limit) (so_far_puts c.args.problem.now c.args.split (g.L.Limit.view c.args.limit.now) (g.L.Limit.view c.loop-row.limit) (g.L.Limit.puts c.args.limit.now) (g.L.Limit.puts c.loop-row.limit) c.loop-row.invariant.met c.loop-row.floor c.loop-row.invariant.so_far) c.search_child.ensures.puts
 
 pub loop-row-smaller-in_default-search_child : goal.loop-row-smaller-in_default-search_child
 loop-row-smaller-in_default-search_child g c =
-    let rev : reverse c.push-in_default-search_child.new.self.items ≡ c.loop-row.frame ∷ reverse c.loop-row.above.items = ap reverse (c.in_ok-push.ensures.items ∙ ap (λ (f : Frame). c.loop-row.above.items ++ f ∷ []) c.replace-in_default-search_child.ensures.value) ∙ reverse_push c.loop-row.above.items c.loop-row.frame in
-    let few = short_path c.args.problem.now (c.loop-row.path.items ++ c.in-Some-turn.row ∷ []) (child c.loop-row.place.place c.in-Some-turn.row) c.loop-row.invariant.is_problem (turn_leads c.args.problem.now c.args.split (mark c.args.path.now.items c.args.place.now (g.L.Limit.view c.args.limit.now) (g.L.Limit.puts c.args.limit.now)) (mark c.loop-row.path.items c.loop-row.place (g.L.Limit.view c.loop-row.limit) (g.L.Limit.puts c.loop-row.limit)) c.loop-row.frame (reverse c.loop-row.above.items) c.in-Some-turn.row c.loop-row.invariant.is_problem c.loop-row.invariant.half c.in-Some-turn.ensures.left c.in-Some-turn.ensures.row) in
-    let rows : length c.push.new.self.items ≡ suc (length c.loop-row.path.items) = omega (arith, ap length c.push.ensures.items, length-append c.loop-row.path.items (c.in-Some-turn.row ∷ [])) in
-    let some : 1 ≤ left c.loop-row.frame = let lt = c.in-Some-turn.ensures.left in omega arith in
-    let low : left c.replace-in_default-search_child.new.dest ≤ 12 = subst (λ (f : Frame). left f ≤ 12) (sym c.replace-in_default-search_child.ensures.after) (let le = c.in_ok-below.ensures.few in omega arith) in
-    subst (λ l. owed (length c.push.new.self.items) c.replace-in_default-search_child.new.dest l < owed (length c.loop-row.path.items) c.loop-row.frame (reverse c.loop-row.above.items)) (sym rev)
-    (owes_below (length c.loop-row.path.items) (length c.push.new.self.items) c.loop-row.frame c.replace-in_default-search_child.new.dest (reverse c.loop-row.above.items) rows (omega (arith, ap length c.push.ensures.items)) some low)
+    let rev : reverse c.push-in_default-search_child-2.new.self.items ≡ c.turn.new.self ∷ reverse c.loop-row.above.items = ap reverse (c.in_ok-push-4.ensures.items ∙ ap (λ (f : Frame). c.loop-row.above.items ++ f ∷ []) c.replace.ensures.value) ∙ reverse_push c.loop-row.above.items c.turn.new.self in
+    let few = short_path c.args.problem.now (c.loop-row.path.items ++ c.in-Some-turn.row ∷ []) (child c.loop-row.place.place c.in-Some-turn.row) c.loop-row.invariant.is_problem (turn_leads c.args.problem.now (standing c.args.path.now.items c.args.place.now) (standing c.loop-row.path.items c.loop-row.place) c.loop-row.frame c.turn.new.self (reverse c.loop-row.above.items) c.loop-row.list.items c.loop-row.invariant.met c.in-Some-turn.row c.loop-row.invariant.is_problem c.loop-row.invariant.under_way (record { left = c.in-Some-turn.ensures.left; row_is = c.in-Some-turn.ensures.row; done = c.in-Some-turn.ensures.done; rows = c.in-Some-turn.ensures.rows })) in
+    let rows : length c.push-in-loop-row.new.self.items ≡ suc (length c.loop-row.path.items) = omega (arith, ap length c.push-in-loop-row.ensures.items, length-append c.loop-row.path.items (c.in-Some-turn.row ∷ [])) in
+    let one : left c.loop-row.frame ≡ suc (left c.turn.new.self) = one_less_left c.loop-row.frame c.turn.new.self c.in-Some-turn.row (record { left = c.in-Some-turn.ensures.left; row_is = c.in-Some-turn.ensures.row; done = c.in-Some-turn.ensures.done; rows = c.in-Some-turn.ensures.rows }) in
+    let low : left c.replace.new.dest ≤ 12 = subst (λ (f : Frame). left f ≤ 12) (sym c.replace.ensures.after) (let le = c.at-below.ensures.few in omega arith) in
+    subst (λ l. owed (length c.push-in-loop-row.new.self.items) c.replace.new.dest l < owed (length c.loop-row.path.items) c.loop-row.frame (reverse c.loop-row.above.items)) (sym rev)
+    (owes_below (length c.loop-row.path.items) (length c.push-in-loop-row.new.self.items) c.loop-row.frame c.turn.new.self c.replace.new.dest (reverse c.loop-row.above.items) rows (omega (arith, ap length c.push-in-loop-row.ensures.items)) one low)
 
 pub loop-row-preserved-in_default-search_child : goal.loop-row-preserved-in_default-search_child
 loop-row-preserved-in_default-search_child g c =
-    let rev : reverse c.push-in_default-search_child.new.self.items ≡ c.loop-row.frame ∷ reverse c.loop-row.above.items = ap reverse (c.in_ok-push.ensures.items ∙ ap (λ (f : Frame). c.loop-row.above.items ++ f ∷ []) c.replace-in_default-search_child.ensures.value) ∙ reverse_push c.loop-row.above.items c.loop-row.frame in
-    let position : c.position-in_default-search_child.result.now.place ≡ c.search_child.new.place.place = ap (λ (v : PlaceAndTrail). v.place) c.position-in_default-search_child.ensures in
-    let fresh : IsFresh c.args.problem.now c.search_child.new.place.place c.replace-in_default-search_child.new.dest = subst (IsFresh c.args.problem.now c.search_child.new.place.place) (sym c.replace-in_default-search_child.ensures.after)
-    (record { rows = c.in_ok-below.ensures.rows ∙ ap targets position; trees = c.in_ok-below.ensures.trees; floor_is = c.in_ok-below.ensures.floor }) in
+    let rev : reverse c.push-in_default-search_child-2.new.self.items ≡ c.turn.new.self ∷ reverse c.loop-row.above.items = ap reverse (c.in_ok-push-4.ensures.items ∙ ap (λ (f : Frame). c.loop-row.above.items ++ f ∷ []) c.replace.ensures.value) ∙ reverse_push c.loop-row.above.items c.turn.new.self in
+    let here : Stand = standing c.push-in-loop-row.new.self.items c.search_child.new.place in
+    let many = length c.at-below.result.rows.items in
+    let rows : c.at-below.result.rows.items ≡ targets c.search_child.new.place.place = c.at-below.ensures.rows ∙ ap (λ (v : PlaceAndTrail). targets v.place) c.position-in_default-search_child.ensures in
+    let list_is : c.push-in_default-search_child.new.self.items ≡ c.loop-row.list.items ++ symbol.Branch many ∷ [] = c.in_ok-push-3.ensures.items ∙ ap (λ (x : Symbol). c.loop-row.list.items ++ x ∷ []) c.symbol-in_default-search_child.ensures in
+    let own : Node = node_at (spot_at here) X in
+    let down = goes_down c.args.problem.now (standing c.args.path.now.items c.args.place.now) (standing c.loop-row.path.items c.loop-row.place) here c.loop-row.frame c.turn.new.self c.at-below.result (reverse c.loop-row.above.items) c.loop-row.list.items c.loop-row.invariant.met c.in-Some-turn.row many c.loop-row.invariant.is_problem c.loop-row.invariant.under_way (record { left = c.in-Some-turn.ensures.left; row_is = c.in-Some-turn.ensures.row; done = c.in-Some-turn.ensures.done; rows = c.in-Some-turn.ensures.rows }) c.push-in-loop-row.ensures.items c.in_default-search_child.ensures.down rows c.at-below.ensures.done refl in
+    let listed = subst (λ l. IsUnderWay c.args.problem.now (standing c.args.path.now.items c.args.place.now) here c.at-below.result (c.turn.new.self ∷ (reverse c.loop-row.above.items)) l (c.loop-row.invariant.met ++ own ∷ [])) (sym list_is) down in
+    let framed = subst (λ (d : Frame). IsUnderWay c.args.problem.now (standing c.args.path.now.items c.args.place.now) here d (c.turn.new.self ∷ (reverse c.loop-row.above.items)) c.push-in_default-search_child.new.self.items (c.loop-row.invariant.met ++ own ∷ [])) (sym c.replace.ensures.after) listed in
+    let place : c.search_child.new.place.place ≡ child c.loop-row.place.place c.in-Some-turn.row = ap (λ (v : PlaceAndTrail). v.place) c.in_default-search_child.ensures.down in
+    let granted_there = subst (λ l. IsGranted l (child c.loop-row.place.place c.in-Some-turn.row) (g.L.Limit.view c.loop-row.limit) (g.L.Limit.view c.search_child.new.limit)) c.as_slice-in-loop-row.ensures.value c.in_default-search_child.ensures.granted in
+    let granted = subst (λ s. IsGranted c.push-in-loop-row.new.self.items s (g.L.Limit.view c.loop-row.limit) (g.L.Limit.view c.search_child.new.limit)) (sym place) granted_there in
     record {
       is_problem = c.loop-row.invariant.is_problem;
       same = (c.search_child.ensures.same.0 ∙ c.loop-row.invariant.same.0, c.search_child.ensures.same.1 ∙ c.loop-row.invariant.same.1);
-      half = subst (AreHalf c.args.problem.now c.args.split (mark c.args.path.now.items c.args.place.now (g.L.Limit.view c.args.limit.now) (g.L.Limit.puts c.args.limit.now)) (mark c.push.new.self.items c.search_child.new.place (g.L.Limit.view c.search_child.new.limit) (g.L.Limit.puts c.search_child.new.limit)) c.replace-in_default-search_child.new.dest) (sym rev)
-          (goes_to_child c.args.problem.now c.args.split (mark c.args.path.now.items c.args.place.now (g.L.Limit.view c.args.limit.now) (g.L.Limit.puts c.args.limit.now)) (mark c.loop-row.path.items c.loop-row.place (g.L.Limit.view c.loop-row.limit) (g.L.Limit.puts c.loop-row.limit)) c.loop-row.frame c.replace-in_default-search_child.new.dest (reverse c.loop-row.above.items) c.in-Some-turn.row c.push.new.self.items c.as_slice-in-loop-row.result.now c.search_child.new.place (g.L.Limit.view c.search_child.new.limit) (g.L.Limit.puts c.search_child.new.limit)
-          c.loop-row.invariant.is_problem c.loop-row.invariant.half c.in-Some-turn.ensures.left c.in-Some-turn.ensures.row c.push.ensures.items c.as_slice-in-loop-row.ensures.value c.in_default-search_child.ensures.down
-          c.in_default-search_child.ensures.granted c.search_child.ensures.advances c.in_default-search_child.ensures.kept fresh);
+      met = c.loop-row.invariant.met ++ own ∷ [];
+      under_way = subst (λ (l : List Frame). IsUnderWay c.args.problem.now (standing c.args.path.now.items c.args.place.now) here c.replace.new.dest l c.push-in_default-search_child.new.self.items (c.loop-row.invariant.met ++ own ∷ [])) (sym rev) framed;
+      so_far = branch_more c.args.problem.now c.args.split c.push-in-loop-row.new.self.items c.search_child.new.place.place (g.L.Limit.view c.args.limit.now) (g.L.Limit.view c.loop-row.limit) (g.L.Limit.view c.search_child.new.limit) (g.L.Limit.puts c.args.limit.now) (g.L.Limit.puts c.loop-row.limit) (g.L.Limit.puts c.search_child.new.limit) c.loop-row.invariant.met c.loop-row.floor c.loop-row.invariant.so_far granted c.search_child.ensures.advances c.in_default-search_child.ensures.kept;
     }
 
 pub loop-row-smaller : goal.loop-row-smaller
 loop-row-smaller g c =
-    let popped : c.pop-row-in-loop-row.new.self.items ≡ c.loop-row.path.items = back_again c.pop-row-in-loop-row.new.self.items c.push.new.self.items c.loop-row.path.items _ c.in-Some-turn.row refl c.push.ensures.items c.pop-row-in-loop-row.ensures.rest in
-    let one : IsOneMore c.loop-row.frame c.in-Some-search_child.found.tree c.in-Some-search_child.found.floor c.add-in-loop-row.new.self = record { rows = c.in_ok-add-2.ensures.rows; trees = c.in_ok-add-2.ensures.trees; floor_is = c.in_ok-add-2.ensures.floor } in
-    let less = one_less_left c.loop-row.frame c.add-in-loop-row.new.self c.in-Some-search_child.found.tree c.in-Some-search_child.found.floor one in
-    let lt = c.in-Some-turn.ensures.left in
-    let some : 1 ≤ left c.loop-row.frame = omega arith in
-    subst (λ n. owed n c.add-in-loop-row.new.self (reverse c.loop-row.above.items) < owed (length c.loop-row.path.items) c.loop-row.frame (reverse c.loop-row.above.items)) (sym (ap length popped))
-    (owes_less (length c.loop-row.path.items) c.loop-row.frame c.add-in-loop-row.new.self (reverse c.loop-row.above.items) some (omega arith))
+    let popped : c.pop-row-in-loop-row.new.self.items ≡ c.loop-row.path.items = back_again c.pop-row-in-loop-row.new.self.items c.push-in-loop-row.new.self.items c.loop-row.path.items _ c.in-Some-turn.row refl c.push-in-loop-row.ensures.items c.pop-row-in-loop-row.ensures.rest in
+    let one : left c.loop-row.frame ≡ suc (left c.turn.new.self) = one_less_left c.loop-row.frame c.turn.new.self c.in-Some-turn.row (record { left = c.in-Some-turn.ensures.left; row_is = c.in-Some-turn.ensures.row; done = c.in-Some-turn.ensures.done; rows = c.in-Some-turn.ensures.rows }) in
+    subst (λ n. owed n c.turn.new.self (reverse c.loop-row.above.items) < owed (length c.loop-row.path.items) c.loop-row.frame (reverse c.loop-row.above.items)) (sym (ap length popped))
+    (owes_less (length c.loop-row.path.items) c.loop-row.frame c.turn.new.self (reverse c.loop-row.above.items) (omega arith) one)
 
 pub loop-row-preserved : goal.loop-row-preserved
 loop-row-preserved g c =
-    let popped : c.pop-row-in-loop-row.new.self.items ≡ c.loop-row.path.items = back_again c.pop-row-in-loop-row.new.self.items c.push.new.self.items c.loop-row.path.items _ c.in-Some-turn.row refl c.push.ensures.items c.pop-row-in-loop-row.ensures.rest in
-    let one : IsOneMore c.loop-row.frame c.in-Some-search_child.found.tree c.in-Some-search_child.found.floor c.add-in-loop-row.new.self = record { rows = c.in_ok-add-2.ensures.rows; trees = c.in_ok-add-2.ensures.trees; floor_is = c.in_ok-add-2.ensures.floor } in
+    let popped : c.pop-row-in-loop-row.new.self.items ≡ c.loop-row.path.items = back_again c.pop-row-in-loop-row.new.self.items c.push-in-loop-row.new.self.items c.loop-row.path.items _ c.in-Some-turn.row refl c.push-in-loop-row.ensures.items c.pop-row-in-loop-row.ensures.rest in
+    let next = child c.loop-row.place.place c.in-Some-turn.row in
+    let own : List Node = nodes (c.loop-row.path.items ++ c.in-Some-turn.row ∷ []) next (leaf c.in-Some-search_child.closed.symbol) in
+    let stayed = stays c.args.problem.now (standing c.args.path.now.items c.args.place.now) (standing c.loop-row.path.items c.loop-row.place) c.loop-row.frame c.turn.new.self (reverse c.loop-row.above.items) c.loop-row.list.items c.loop-row.invariant.met c.in-Some-turn.row c.in-Some-search_child.closed.symbol c.loop-row.invariant.under_way (record { left = c.in-Some-turn.ensures.left; row_is = c.in-Some-turn.ensures.row; done = c.in-Some-turn.ensures.done; rows = c.in-Some-turn.ensures.rows }) c.in-Some-search_child.ensures.leaf in
+    let listed = subst (λ l. IsUnderWay c.args.problem.now (standing c.args.path.now.items c.args.place.now) (standing c.loop-row.path.items c.loop-row.place) c.turn.new.self (reverse c.loop-row.above.items) l (c.loop-row.invariant.met ++ own)) (sym c.in_ok-push-5.ensures.items) stayed in
+    let placed = subst (λ t. IsUnderWay c.args.problem.now (standing c.args.path.now.items c.args.place.now) (standing c.loop-row.path.items t) c.turn.new.self (reverse c.loop-row.above.items) c.push-in-loop-row-2.new.self.items (c.loop-row.invariant.met ++ own)) (sym c.in-Some-search_child.ensures.back) listed in
+    let at_path = subst (λ l. IsFound c.args.problem.now c.args.split l next (g.L.Limit.view c.loop-row.limit) (g.L.Limit.view c.search_child.new.limit) (g.L.Limit.puts c.loop-row.limit) (g.L.Limit.puts c.search_child.new.limit) (leaf c.in-Some-search_child.closed.symbol) c.in-Some-search_child.closed.floor) (c.as_slice-in-loop-row.ensures.value ∙ c.push-in-loop-row.ensures.items) c.in-Some-search_child.ensures.found in
     record {
       is_problem = c.loop-row.invariant.is_problem;
       same = (c.search_child.ensures.same.0 ∙ c.loop-row.invariant.same.0, c.search_child.ensures.same.1 ∙ c.loop-row.invariant.same.1);
-      half = stays_met c.args.problem.now c.args.split (mark c.args.path.now.items c.args.place.now (g.L.Limit.view c.args.limit.now) (g.L.Limit.puts c.args.limit.now)) (mark c.loop-row.path.items c.loop-row.place (g.L.Limit.view c.loop-row.limit) (g.L.Limit.puts c.loop-row.limit)) c.loop-row.frame c.add-in-loop-row.new.self (reverse c.loop-row.above.items) c.in-Some-turn.row c.push.new.self.items c.as_slice-in-loop-row.result.now c.pop-row-in-loop-row.new.self.items c.search_child.new.place
-          (g.L.Limit.view c.search_child.new.limit) (g.L.Limit.puts c.search_child.new.limit) c.in-Some-search_child.found.tree c.in-Some-search_child.found.floor
-          c.loop-row.invariant.half c.in-Some-turn.ensures.left c.in-Some-turn.ensures.row c.push.ensures.items c.as_slice-in-loop-row.ensures.value popped c.in-Some-search_child.ensures.back one c.in-Some-search_child.ensures.found c.search_child.ensures.advances;
+      met = c.loop-row.invariant.met ++ own;
+      under_way = subst (λ l. IsUnderWay c.args.problem.now (standing c.args.path.now.items c.args.place.now) (standing l c.search_child.new.place) c.turn.new.self (reverse c.loop-row.above.items) c.push-in-loop-row-2.new.self.items (c.loop-row.invariant.met ++ own)) (sym popped) placed;
+      so_far = joined c.args.problem.now c.args.split (g.L.Limit.view c.args.limit.now) (g.L.Limit.view c.loop-row.limit) (g.L.Limit.view c.search_child.new.limit) (g.L.Limit.puts c.args.limit.now) (g.L.Limit.puts c.loop-row.limit) (g.L.Limit.puts c.search_child.new.limit) c.loop-row.invariant.met own c.loop-row.floor c.in-Some-search_child.closed.floor c.min-floor.result c.min-floor.ensures c.loop-row.invariant.so_far
+          (of_found c.args.problem.now c.args.split (c.loop-row.path.items ++ c.in-Some-turn.row ∷ []) next (g.L.Limit.view c.loop-row.limit) (g.L.Limit.view c.search_child.new.limit) (g.L.Limit.puts c.loop-row.limit) (g.L.Limit.puts c.search_child.new.limit) (leaf c.in-Some-search_child.closed.symbol) c.in-Some-search_child.closed.floor at_path c.search_child.ensures.advances);
     }
-
-pub returns-in_err-add-2-clause-advances : goal.returns-in_err-add-2-clause-advances
-returns-in_err-add-2-clause-advances g c = on_and_on c.args.problem.now (g.L.Limit.view c.args.limit.now) (g.L.Limit.view c.loop-row.limit) (g.L.Limit.view c.search_child.new.limit) (half_advances c.args.problem.now c.args.split (mark c.args.path.now.items c.args.place.now (g.L.Limit.view c.args.limit.now) (g.L.Limit.puts c.args.limit.now)) (mark c.loop-row.path.items c.loop-row.place (g.L.Limit.view c.loop-row.limit) (g.L.Limit.puts c.loop-row.limit)) c.loop-row.frame (reverse c.loop-row.above.items) c.loop-row.invariant.half) c.search_child.ensures.advances
-
-pub returns-in_err-add-2-clause-puts : goal.returns-in_err-add-2-clause-puts
-returns-in_err-add-2-clause-puts g c = more_again (g.L.Limit.puts c.args.limit.now) (g.L.Limit.puts c.loop-row.limit) (g.L.Limit.puts c.search_child.new.limit) (half_puts c.args.problem.now c.args.split (mark c.args.path.now.items c.args.place.now (g.L.Limit.view c.args.limit.now) (g.L.Limit.puts c.args.limit.now)) (mark c.loop-row.path.items c.loop-row.place (g.L.Limit.view c.loop-row.limit) (g.L.Limit.puts c.loop-row.limit)) c.loop-row.frame (reverse c.loop-row.above.items) c.loop-row.invariant.half) c.search_child.ensures.puts

@@ -1,7 +1,9 @@
-use Rattle.std.proofs.Common.{◌≡◌, length}
+use Rattle.std.proofs.Common.{◌≡◌, List, length}
 use Rattle.std.specs.Prelude.{reverse}
 use Rattle.crp_plan.specs.Bay.{IsProblem}
-use Rattle.crp_search.proofs.Halfway.{mark, AreHalf}
+use Rattle.crp_tree.specs.Trees.{Node}
+use Rattle.crp_search.proofs.SoFar.{IsSoFar}
+use Rattle.crp_search.proofs.UnderWay.{standing, IsUnderWay}
 use Rattle.crp_search.proofs.Owing.{owed}
 use Rattle.crp_search.proofs.searching.search_from.Given as goal
 
@@ -9,7 +11,9 @@ abbrev pub invariant-loop-row : goal.invariant-loop-row
 invariant-loop-row g l = record {
   is_problem : IsProblem l.problem;
   same : (g.L.Limit.problem l.limit ≡ g.L.Limit.problem l.fn.limit) × (g.L.Limit.budget l.limit ≡ g.L.Limit.budget l.fn.limit);
-  half : AreHalf l.problem l.split (mark l.fn.path.items l.fn.place (g.L.Limit.view l.fn.limit) (g.L.Limit.puts l.fn.limit)) (mark l.path.items l.place (g.L.Limit.view l.limit) (g.L.Limit.puts l.limit)) l.frame (reverse l.above.items);
+  met : List Node;
+  under_way : IsUnderWay l.problem (standing l.fn.path.items l.fn.place) (standing l.path.items l.place) l.frame (reverse l.above.items) l.list.items met;
+  so_far : IsSoFar l.problem l.split (g.L.Limit.view l.fn.limit) (g.L.Limit.view l.limit) (g.L.Limit.puts l.fn.limit) (g.L.Limit.puts l.limit) met l.floor;
 }
 
 abbrev pub decreases-loop-row : goal.decreases-loop-row

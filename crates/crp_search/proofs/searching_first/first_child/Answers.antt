@@ -5,6 +5,7 @@ use Rattle.crp_bay.specs.Back.{PlaceAndTrail}
 use Rattle.crp_bay.specs.Reached.{IsReached}
 use Rattle.crp_bay.specs.Positions.{child}
 use Rattle.crp_bounds.proofs.Leasts.{few_blocked}
+use Rattle.crp_tree.specs.Symbols.{leaf}
 use Rattle.crp_tree.proofs.Followed.{legal_push}
 use Rattle.crp_search.specs.FirstsFound.{IsFirstFound}
 use Rattle.crp_search.proofs.searching_first.first_child.Goals as goal
@@ -25,7 +26,7 @@ returns-clause-found g c =
     let given = c.give.ensures in
     let placed : c.push-pushed.new.self ≡ record { place = child c.args.place.now.place c.args.row; trail = c.args.place.now.place ∷ c.args.place.now.trail } = legal_push c.args.place.now c.args.row c.push-pushed.new.self c.push-pushed.result (record { target = c.push-pushed.ensures.target; pushed = c.push-pushed.ensures.pushed }) c.requires.row in
     let found = c.in-Some.ensures.found c.args.aim.split (g.L.Limit.view c.args.limit.now) (g.L.Limit.puts c.args.limit.now) in
-    let here = subst (λ (w : PlaceAndTrail). IsFirstFound c.args.problem.now c.args.aim.count c.args.aim.split c.args.path.now w.place (g.L.Limit.view c.args.limit.now) (g.L.Limit.view c.args.limit.now) c.args.plan.now c.close_finished.new.plan (g.L.Limit.puts c.args.limit.now) (g.L.Limit.puts c.args.limit.now) c.in-Some.found.tree c.in-Some.found.floor) placed found in
-    let seen = subst (λ v. IsFirstFound c.args.problem.now c.args.aim.count c.args.aim.split c.args.path.now (child c.args.place.now.place c.args.row) (g.L.Limit.view c.args.limit.now) v c.args.plan.now c.close_finished.new.plan (g.L.Limit.puts c.args.limit.now) (g.L.Limit.puts c.args.limit.now) c.in-Some.found.tree c.in-Some.found.floor) (sym given.same.2) here in
-    subst (λ q. IsFirstFound c.args.problem.now c.args.aim.count c.args.aim.split c.args.path.now (child c.args.place.now.place c.args.row) (g.L.Limit.view c.args.limit.now) (g.L.Limit.view c.give.new.limit) c.args.plan.now c.close_finished.new.plan (g.L.Limit.puts c.args.limit.now) q c.in-Some.found.tree c.in-Some.found.floor)
+    let here = subst (λ (w : PlaceAndTrail). IsFirstFound c.args.problem.now c.args.aim.count c.args.aim.split c.args.path.now w.place (g.L.Limit.view c.args.limit.now) (g.L.Limit.view c.args.limit.now) c.args.plan.now c.close_finished.new.plan (g.L.Limit.puts c.args.limit.now) (g.L.Limit.puts c.args.limit.now) (leaf c.in-Some.found.symbol) c.in-Some.found.floor) placed found in
+    let seen = subst (λ v. IsFirstFound c.args.problem.now c.args.aim.count c.args.aim.split c.args.path.now (child c.args.place.now.place c.args.row) (g.L.Limit.view c.args.limit.now) v c.args.plan.now c.close_finished.new.plan (g.L.Limit.puts c.args.limit.now) (g.L.Limit.puts c.args.limit.now) (leaf c.in-Some.found.symbol) c.in-Some.found.floor) (sym given.same.2) here in
+    subst (λ q. IsFirstFound c.args.problem.now c.args.aim.count c.args.aim.split c.args.path.now (child c.args.place.now.place c.args.row) (g.L.Limit.view c.args.limit.now) (g.L.Limit.view c.give.new.limit) c.args.plan.now c.close_finished.new.plan (g.L.Limit.puts c.args.limit.now) q (leaf c.in-Some.found.symbol) c.in-Some.found.floor)
     (sym (given.kept c.if-give.false)) seen

@@ -1,8 +1,11 @@
-use Rattle.std.proofs.Common.{◌≡◌, length}
+use Rattle.std.proofs.Common.{◌≡◌, List, length}
 use Rattle.std.specs.Prelude.{reverse}
 use Rattle.crp_plan.specs.Bay.{IsProblem}
+use Rattle.crp_tree.specs.Trees.{Node, cuts}
 use Rattle.crp_search.specs.Firsts.{OnlyClaims}
-use Rattle.crp_search.proofs.FirstHalfway.{stage, AreFirst}
+use Rattle.crp_search.specs.FirstsFound.{aimed, AreHeld}
+use Rattle.crp_search.proofs.SoFar.{IsSoFar}
+use Rattle.crp_search.proofs.UnderWay.{standing, IsUnderWay}
 use Rattle.crp_search.proofs.Owing.{owed}
 use Rattle.crp_search.proofs.searching_first.first_from.Given as goal
 
@@ -12,7 +15,10 @@ invariant-loop-row g l = record {
   same : (g.L.Limit.problem l.limit ≡ g.L.Limit.problem l.fn.limit) × (g.L.Limit.budget l.limit ≡ g.L.Limit.budget l.fn.limit);
   not_refused : (g.L.Limit.view l.limit).refused ≡ (g.L.Limit.view l.fn.limit).refused;
   claims : OnlyClaims (g.L.Limit.view l.fn.limit) (g.L.Limit.view l.limit);
-  half : AreFirst l.problem l.aim.count l.aim.split (stage l.fn.path.items l.fn.place (g.L.Limit.view l.fn.limit) l.fn.plan (g.L.Limit.puts l.fn.limit)) (stage l.path.items l.place (g.L.Limit.view l.limit) l.plan (g.L.Limit.puts l.limit)) l.frame (reverse l.above.items);
+  met : List Node;
+  under_way : IsUnderWay l.problem (standing l.fn.path.items l.fn.place) (standing l.path.items l.place) l.frame (reverse l.above.items) l.list.items met;
+  so_far : IsSoFar l.problem l.aim.split (aimed l.aim.count l.fn.plan (g.L.Limit.view l.fn.limit)) (aimed l.aim.count l.plan (g.L.Limit.view l.limit)) (g.L.Limit.puts l.fn.limit) (g.L.Limit.puts l.limit) met l.floor;
+  held : AreHeld l.problem l.aim.count l.fn.plan l.plan (cuts met);
 }
 
 abbrev pub decreases-loop-row : goal.decreases-loop-row

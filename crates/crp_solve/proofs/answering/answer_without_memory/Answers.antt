@@ -9,5 +9,5 @@ use Rattle.crp_solve.proofs.answering.answer_without_memory.Goals as goal
 pub returns-clause-true_answer : goal.returns-clause-true_answer
 returns-clause-true_answer c budget first expanded t within =
     subst (λ n. IsTrueAnswer c.args.problem.now budget (Between n c.in_ok-cert.cert c.args.best Memory) expanded) (sym c.lower.ensures.value)
-    (root_is_true c.args.problem.now c.root_cut.result c.in_ok-cert.cert c.args.best budget first expanded (subst IsProblem c.root_cut.ensures.problem (let kept = c.root_cut.ensures.kept in kept.is_problem)) c.in_ok-cert.ensures.value c.lower.ensures.certificate
-    c.root_cut.ensures.problem c.root_cut.ensures.kept c.root_cut.ensures.root c.root_cut.ensures.alone c.root_cut.ensures.cut c.root_cut.ensures.floor t within)
+    (root_is_true c.args.problem.now c.in_ok-part.part c.in_ok-cert.cert c.args.best budget first expanded (subst IsProblem c.in_ok-part.ensures.problem (let kept = c.in_ok-part.ensures.kept in kept.is_problem)) c.in_ok-cert.ensures.value c.lower.ensures.certificate
+    c.in_ok-part.ensures.problem c.in_ok-part.ensures.kept c.in_ok-part.ensures.root c.in_ok-part.ensures.alone c.in_ok-part.ensures.cut c.in_ok-part.ensures.floor t within)

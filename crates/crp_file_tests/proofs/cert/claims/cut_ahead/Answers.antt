@@ -1,26 +1,37 @@
 use Rattle.std.proofs.Common.{◌≡◌, [], ◌∷◌, None, refl, sym, ap, ◌∙◌, subst}
 use Rattle.crp_plan.specs.Bay.{cap}
-use Rattle.crp_tree.specs.declared.tree.Tree.{CutL}
+use Rattle.crp_tree.specs.Tree.{CutL}
 use Rattle.crp_tree.specs.Trees.{least_value}
 use Rattle.crp_tree.specs.Claims.{nodes_in}
 use Rattle.crp_tree.specs.Parts.{ProblemPart, claimed}
+use Rattle.crp_tree.proofs.Parsed.{alone}
 use Rattle.crp_cert.specs.Writing.{CanBeSpelled}
-use Rattle.crp_cert.proofs.Worked.{four, four_show, three_rows, part_at_root, spelled_at_root}
+use Rattle.crp_cert.proofs.Worked.{ShapeAndFloor, four, four_show, three_rows, part_at_root, spelled_at_root}
 use Rattle.crp_file_tests.proofs.cert.claims.cut_ahead.Goals as goal
+
+pub from_symbols-tree-requires : goal.from_symbols-tree-requires
+from_symbols-tree-requires g c = (CutL, c.in_ok-list.ensures.items)
 
 pub new-part-requires-clause-part : goal.new-part-requires-clause-part
 new-part-requires-clause-part g c =
     let is : c.four-problem.result ≡ four = three_rows 3 4 c.four-problem.result _ _ _ _ _ _ c.four-problem.ensures.value c.in_ok-vec.ensures.items c.in_ok-vec-2.ensures.items c.in_ok-vec-3.ensures.items in
-    part_at_root c.four-problem.result c.root.result CutL c.root.ensures c.four-problem.ensures.problem (four_show c.four-problem.result is).0
+    let same : CutL ≡ c.from_symbols-tree.result = sym (alone CutL c.in_ok-list.list.items c.in_ok-list.ensures.items).is ∙ (alone c.from_symbols-tree.result c.in_ok-list.list.items c.from_symbols-tree.ensures).is in
+    let shows = subst (λ t. ShapeAndFloor 2 t c.four-problem.result) same (four_show c.four-problem.result is) in
+    part_at_root c.four-problem.result c.root.result c.from_symbols-tree.result c.root.ensures c.four-problem.ensures.problem shows.0
 
 pub new-part-requires-clause-floor : goal.new-part-requires-clause-floor
 new-part-requires-clause-floor g c =
     let is : c.four-problem.result ≡ four = three_rows 3 4 c.four-problem.result _ _ _ _ _ _ c.four-problem.ensures.value c.in_ok-vec.ensures.items c.in_ok-vec-2.ensures.items c.in_ok-vec-3.ensures.items in
-    subst (λ name. 2 ≡ least_value (cap c.four-problem.result) (nodes_in c.four-problem.result (record { name = name; tree = CutL }))) (sym c.root.ensures) (four_show c.four-problem.result is).1
+    let same : CutL ≡ c.from_symbols-tree.result = sym (alone CutL c.in_ok-list.list.items c.in_ok-list.ensures.items).is ∙ (alone c.from_symbols-tree.result c.in_ok-list.list.items c.from_symbols-tree.ensures).is in
+    let shows = subst (λ t. ShapeAndFloor 2 t c.four-problem.result) same (four_show c.four-problem.result is) in
+    subst (λ name. 2 ≡ least_value (cap c.four-problem.result) (nodes_in c.four-problem.result (record { name = name; tree = c.from_symbols-tree.result }))) (sym c.root.ensures) shows.1
 
 pub returns : goal.returns
 returns g c =
     let is : c.four-problem.result ≡ four = three_rows 3 4 c.four-problem.result _ _ _ _ _ _ c.four-problem.ensures.value c.in_ok-vec.ensures.items c.in_ok-vec-2.ensures.items c.in_ok-vec-3.ensures.items in
-    let cert = c.in_ok-cert.ensures.value ∙ ap (λ (x : ProblemPart). record { parts = x ∷ []; lower = x.floor }) (c.new-part.ensures.value ∙ ap (λ name. record { problem = c.four-problem.result; name = name; tree = CutL; floor = 2 }) c.root.ensures) in
+    let same : c.from_symbols-tree.result ≡ CutL = sym (alone c.from_symbols-tree.result c.in_ok-list.list.items c.from_symbols-tree.ensures).is ∙ (alone CutL c.in_ok-list.list.items c.in_ok-list.ensures.items).is in
+    let cert =
+    c.in_ok-cert.ensures.value ∙ ap (λ (x : ProblemPart). record { parts = x ∷ []; lower = x.floor }) (c.new-part.ensures.value ∙ ap (λ name. record { problem = c.four-problem.result; name = name; tree = c.from_symbols-tree.result; floor = 2 }) c.root.ensures
+    ∙ ap (λ tree. record { problem = c.four-problem.result; name = []; tree = tree; floor = 2 }) same) in
     subst (λ l. CanBeSpelled (claimed c.four-problem.result l None)) (sym cert)
     (spelled_at_root c.four-problem.result CutL 2 c.four-problem.ensures.problem (four_show c.four-problem.result is) refl)
