@@ -1,10 +1,9 @@
 pub mod Rule
 pub mod Choice
 pub mod Greedily
-pub mod Steps
 pub mod SoFar
+pub mod Closing
 pub mod UnderWay
 pub mod Owing
 pub mod FirstHeld
-pub mod FirstClosing
 pub mod FirstMet

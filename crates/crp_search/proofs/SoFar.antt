@@ -1,128 +1,214 @@
--- What a search has found so far: nodes in the order in which they were met.
-use Rattle.std.proofs.Common.{◌≡◌, ℕ, ◌+◌, ◌<◌, ◌≤◌, min, inl, inr, ⊎_elim, List, [], ◌∷◌, ◌++◌, length, map, All, sym, ap, ◌∙◌, subst, refl, arith, append_assoc, append-nil, length-append}
-use Rattle.std.proofs.lemmas.List.Elements.{All-nil, All-cons, All-append, All-weaker, All-same}
-use Rattle.crp_plan.specs.Bay.{Problem, Position, cap}
+-- What a search for the fewest relocations has met so far: nodes, one after the other.
+use Rattle.std.proofs.Common.{◌≡◌, ℕ, ◌+◌, ◌<◌, ◌≤◌, inl, inr, ⊎_elim, true, false, Bool, if◌then◌else◌, List, [], ◌∷◌, ◌++◌, length, All, filter, min, sym, ap, ◌∙◌, subst, refl, arith, append_assoc, append-nil, length-append}
+use Rattle.std.proofs.lemmas.Bool.{cases_lt}
+use Rattle.std.proofs.lemmas.List.Elements.{All-nil, All-cons, All-append, All-weaker, All-same, All-contains}
+use Rattle.crp_plan.specs.Bay.{Problem, Position}
+use Rattle.crp_plan.specs.Faults.{IsPlanPath}
 use Rattle.crp_plan.specs.declared.running.View.{View}
-use Rattle.crp_tree.specs.Tree.{Tree}
-use Rattle.crp_tree.specs.Trees.{X, Node, nodes, Fits, IsInPlace, value, cuts, branches, given_names, least, least_value}
-use Rattle.crp_tree.proofs.Listed.{branch_node}
+use Rattle.crp_bounds.specs.Bounds.{blocking}
+use Rattle.crp_tree.specs.Trees.{B, L, X, G, Mark, Node, is_cut, is_branch, cuts, branches, given_names, bound_by, value, least_through, IsInPlace}
+use Rattle.crp_bay.proofs.Members.{from_filter}
+use Rattle.crp_tree.proofs.InLine.{from_members}
 use Rattle.crp_tree.proofs.Nodes.{given_names-append}
-use Rattle.crp_tree.proofs.Shown.{least_most}
-use Rattle.crp_tree.proofs.Joined.{cuts-append, branches-append, least_value-append}
-use Rattle.crp_search.specs.Limits.{Advances}
-use Rattle.crp_search.specs.Searched.{IsClosed, NeedsLookAhead, IsBelow, IsShort, IsFound, IsGranted, PutsMore}
+use Rattle.crp_tree.proofs.Joined.{cuts-append, branches-append}
+use Rattle.crp_search.specs.Limits.{SeesLimit, OffersPlan, TriesClaim, ClaimsExpansion, Advances, Dealings, OnlyGrants}
+use Rattle.crp_search.specs.Meeting.{along_falls}
+use Rattle.crp_search.specs.Searched.{Suffices, IsClosed, NeedsLookAhead, IsBelow, IsHeld, AreHeldAlong, IsShort, PutsMore, IsMet, IsSearchedSoFar}
 
--- nodes that a search met, one after the other, and what its worker took from the limit and left there meanwhile
-pub record IsSoFar (p : Problem) (split : ℕ) (old new : View) (old_puts new_puts : List (List ℕ)) (met : List Node) (floor : ℕ) : Type 0 where
-  pub in_place : All IsInPlace met
-  pub floor_is : floor ≡ least_value (cap p) met
-  pub grants : new.granted ≡ old.granted + length (branches met)
-  pub puts : new_puts ≡ old_puts ++ given_names met
-  pub short : All (IsShort split) (given_names met)
-  pub closed : All (IsClosed new) (cuts met)
-  pub needed : All NeedsLookAhead (cuts met)
-  pub below : All (IsBelow old.seen) (branches met)
-  pub advances : Advances p old new
+-- ---- what was met
 
--- what goes on goes on
-pub on_and_on : (p : Problem) (old mid new : View) → Advances p old mid → Advances p mid new → Advances p old new
-on_and_on p old mid new a b = record {
-  seen = let x = a.seen in let y = b.seen in omega arith;
-  mine = let x = a.mine in let y = b.mine in omega arith;
-  offered = ⊎_elim
-      (λ same. ⊎_elim (λ also. inl (same ∙ also)) (λ offer. inr (offer.0, offer.1, offer.2 ∙ sym same)) a.offered)
-      (λ offer. inr offer)
-      b.offered;
-  granted = let x = a.granted in let y = b.granted in omega arith;
-  refused = let x = a.refused in let y = b.refused in omega arith;
-  share = b.share ∙ a.share;
-}
-
--- a closed cut stays closed
-pub stays_closed : (p : Problem) (old new : View) (cut : Node) → Advances p old new → IsClosed old cut → IsClosed new cut
-stays_closed p old new cut on c =
-    let s = on.seen in let r = on.refused in
-    ⊎_elim (λ seen. inl (omega arith)) (λ refused. let a = refused.0 in inr (omega arith, refused.1)) c
-
--- some nodes and then others
-pub joined : (p : Problem) (split : ℕ) (old mid new : View) (old_puts mid_puts new_puts : List (List ℕ)) (met own : List Node) (floor lower least : ℕ) → least ≡ min floor lower →
-    IsSoFar p split old mid old_puts mid_puts met floor → IsSoFar p split mid new mid_puts new_puts own lower → IsSoFar p split old new old_puts new_puts (met ++ own) least
-joined p split old mid new old_puts mid_puts new_puts met own floor lower least least_is f one =
-    let before = f.advances in
-    let more_cuts = cuts-append met own in
-    let more_branches = branches-append met own in
-    let more_names = given_names-append met own in
-    record {
-      in_place = All-append IsInPlace met own f.in_place one.in_place;
-      floor_is = least_is ∙ ap (λ m. min m lower) f.floor_is ∙ ap (λ m. min (least_value (cap p) met) m) one.floor_is ∙ sym (least_value-append (cap p) met own);
-      grants = let a = f.grants in let b = one.grants in omega (arith, ap length more_branches, length-append (branches met) (branches own));
-      puts = one.puts ∙ ap (λ l. l ++ given_names own) f.puts ∙ append_assoc old_puts _ _ ∙ ap (λ l. old_puts ++ l) (sym more_names);
-      short = All-same (IsShort split) _ _ more_names (All-append (IsShort split) _ _ f.short one.short);
-      closed = All-same (IsClosed new) _ _ more_cuts (All-append (IsClosed new) _ _
-          (All-weaker (IsClosed mid) (IsClosed new) (λ c k. stays_closed p mid new c one.advances k) _ f.closed) one.closed);
-      needed = All-same NeedsLookAhead _ _ more_cuts (All-append NeedsLookAhead _ _ f.needed one.needed);
-      below = All-same (IsBelow old.seen) _ _ more_branches (All-append (IsBelow old.seen) _ _ f.below
-          (All-weaker (IsBelow mid.seen) (IsBelow old.seen) (λ n k. let x = before.seen in omega arith) _ one.below));
-      advances = on_and_on p old mid new before one.advances;
-    }
-
--- a node for which an expansion was granted
-pub one_branch : (p : Problem) (split : ℕ) (path : List ℕ) (s : Position) (old new : View) (old_puts new_puts : List (List ℕ)) (floor : ℕ) → floor ≡ cap p → IsGranted path s old new → Advances p old new → new_puts ≡ old_puts →
-    IsSoFar p split old new old_puts new_puts (branch_node path s ∷ []) floor
-one_branch p split path s old new old_puts new_puts floor most granted on same = record {
-  in_place = All-cons IsInPlace (branch_node path s) [] granted.unfinished (All-nil IsInPlace);
-  floor_is = most;
-  grants = granted.one_more;
-  puts = same ∙ sym (append-nil old_puts);
+-- a cut is met while nothing is granted or put
+cut_at : (split : ℕ) (d e : Dealings) (path : List ℕ) (s : Position) (mark : Mark) → is_cut mark ≡ true → e.view.granted ≡ d.view.granted → e.puts ≡ d.puts → IsMet split d e (record { path = path; place = s; mark = mark } ∷ [])
+cut_at split d e path s B cut granted puts = record {
+  in_place = All-cons IsInPlace (record { path = path; place = s; mark = B }) [] tt (All-nil IsInPlace);
+  grants = omega (arith, granted);
+  puts = puts ∙ sym (append-nil d.puts);
   short = All-nil (IsShort split);
-  closed = All-nil (IsClosed new);
-  needed = All-nil NeedsLookAhead;
-  below = All-cons (IsBelow old.seen) (branch_node path s) [] granted.below (All-nil (IsBelow old.seen));
-  advances = on;
+}
+cut_at split d e path s L cut granted puts = record {
+  in_place = All-cons IsInPlace (record { path = path; place = s; mark = L }) [] tt (All-nil IsInPlace);
+  grants = omega (arith, granted);
+  puts = puts ∙ sym (append-nil d.puts);
+  short = All-nil (IsShort split);
+}
+cut_at split d e path s X cut granted puts = absurd (cc)
+cut_at split d e path s G cut granted puts = absurd (cc)
+
+pub met_cut : (split : ℕ) (d e : Dealings) (node : Node) → is_cut node.mark ≡ true → e.view.granted ≡ d.view.granted → e.puts ≡ d.puts → IsMet split d e (node ∷ [])
+met_cut split d e node cut granted puts = cut_at split d e node.path node.place node.mark cut granted puts
+
+-- a branch while one claim is granted
+pub met_branch : (split : ℕ) (d e : Dealings) (path : List ℕ) (s : Position) → s.next ≤ s.ordered → e.view.granted ≡ d.view.granted + 1 → e.puts ≡ d.puts → IsMet split d e (record { path = path; place = s; mark = X } ∷ [])
+met_branch split d e path s unfinished granted puts = record {
+  in_place = All-cons IsInPlace (record { path = path; place = s; mark = X }) [] unfinished (All-nil IsInPlace);
+  grants = granted;
+  puts = puts ∙ sym (append-nil d.puts);
+  short = All-nil (IsShort split);
 }
 
--- one more of those
-pub branch_more : (p : Problem) (split : ℕ) (path : List ℕ) (s : Position) (old mid new : View) (old_puts mid_puts new_puts : List (List ℕ)) (met : List Node) (floor : ℕ) →
-    IsSoFar p split old mid old_puts mid_puts met floor → IsGranted path s mid new → Advances p mid new → new_puts ≡ mid_puts → IsSoFar p split old new old_puts new_puts (met ++ branch_node path s ∷ []) floor
-branch_more p split path s old mid new old_puts mid_puts new_puts met floor f granted on same =
-    let low : floor ≤ cap p = omega (arith, f.floor_is, least_most (cap p) (map value (cuts met))) in
-    joined p split old mid new old_puts mid_puts new_puts met (branch_node path s ∷ []) floor (cap p) floor (omega arith) f (one_branch p split path s mid new mid_puts new_puts (cap p) refl granted on same)
-
--- what is found at a path
-pub of_found : (p : Problem) (split : ℕ) (path : List ℕ) (s : Position) (old new : View) (old_puts new_puts : List (List ℕ)) (tree : Tree) (floor : ℕ) → IsFound p split path s old new old_puts new_puts tree floor → Advances p old new →
-    IsSoFar p split old new old_puts new_puts (nodes path s tree) floor
-of_found p split path s old new old_puts new_puts tree floor f on = record {
-  in_place = f.in_place;
-  floor_is = f.floor_is;
-  grants = f.grants;
-  puts = f.puts;
-  short = f.short;
-  closed = f.closed;
-  needed = f.needed;
-  below = f.below;
-  advances = on;
+-- and a subtree that is given away while its name is put
+pub met_given : (split : ℕ) (d e : Dealings) (path : List ℕ) (s : Position) → length path ≤ split → split ≤ 8 → e.view.granted ≡ d.view.granted → e.puts ≡ d.puts ++ path ∷ [] → IsMet split d e (record { path = path; place = s; mark = G } ∷ [])
+met_given split d e path s few short granted puts = record {
+  in_place = All-cons IsInPlace (record { path = path; place = s; mark = G }) [] (omega arith) (All-nil IsInPlace);
+  grants = omega (arith, granted);
+  puts = puts;
+  short = All-cons (IsShort split) path [] few (All-nil (IsShort split));
 }
 
--- and the other way round, where the nodes are those of a tree that fits there
-pub is_found : (p : Problem) (split : ℕ) (path : List ℕ) (s : Position) (old new : View) (old_puts new_puts : List (List ℕ)) (met : List Node) (tree : Tree) (floor : ℕ) → Fits s tree → nodes path s tree ≡ met →
-    IsSoFar p split old new old_puts new_puts met floor → IsFound p split path s old new old_puts new_puts tree floor
-is_found p split path s old new old_puts new_puts met tree floor fits are f =
-    let own = subst (λ l. IsSoFar p split old new old_puts new_puts l floor) (sym are) f in
+-- so the names that were put are more
+pub met_puts : (split : ℕ) (d e : Dealings) (met : List Node) → IsMet split d e met → PutsMore d.puts e.puts
+met_puts split d e met m = (given_names met, m.puts)
+
+-- ---- what sufficed meanwhile
+
+-- each node was met while so much sufficed
+abbrev IsHeldBetween : ℕ → ℕ → ℕ → Node → Type 0
+IsHeldBetween refused from to n = (bar : ℕ) × (bar ≤ from) × (to ≤ bar) × IsHeld refused bar n
+
+along_each : (refused from to : ℕ) (met : List Node) → AreHeldAlong refused from to met → All (IsHeldBetween refused from to) met
+along_each refused from to [] h = All-nil (IsHeldBetween refused from to)
+along_each refused from to (node ∷ met) h =
+    All-cons (IsHeldBetween refused from to) node met (h.0, h.1, along_falls refused h.0 to met h.3, h.2)
+    (All-weaker (IsHeldBetween refused h.0 to) (IsHeldBetween refused from to) (λ n k. (k.0, (let a = k.1 in let b = h.1 in omega arith), k.2, k.3)) met (along_each refused h.0 to met h.3))
+
+-- what follows for those of one kind
+pub kind_of : (Holds Follows : Node → Type 0) (test : Node → Bool) (met : List Node) → ((n : Node) → test n ≡ true → Holds n → Follows n) → All Holds met → All Follows (filter test met)
+kind_of Holds Follows test met follows all =
+    from_members Follows (filter test met) (λ n c. let k = from_filter test met n c in follows n k.0 (All-contains Holds met n all k.1))
+
+pub branch_is : (mark : Mark) → is_branch mark ≡ true → mark ≡ X
+branch_is B is = absurd (cc)
+branch_is L is = absurd (cc)
+branch_is X is = refl
+branch_is G is = absurd (cc)
+
+-- so each cut suffices for the last
+pub cuts_close : (refused from to : ℕ) (met : List Node) → AreHeldAlong refused from to met → All (Suffices refused to) (cuts met)
+cuts_close refused from to met h =
+    kind_of (IsHeldBetween refused from to) (Suffices refused to) (λ n. is_cut n.mark) met
+    (λ n cut k. ⊎_elim (λ (seen : k.0 ≤ value n). let low = k.2 in inl (omega arith)) (λ in_vain. inr in_vain) ((k.3).closed cut))
+    (along_each refused from to met h)
+
+-- and stands on the look-ahead bound where it must, by the first
+pub cuts_need : (refused from to : ℕ) (met : List Node) → AreHeldAlong refused from to met → All (NeedsLookAhead from) (cuts met)
+cuts_need refused from to met h =
+    kind_of (IsHeldBetween refused from to) (NeedsLookAhead from) (λ n. is_cut n.mark) met
+    (λ n cut k ahead. let needed = (k.3).needed ahead in let high = k.1 in (omega (arith, needed.0), needed.1))
+    (along_each refused from to met h)
+
+-- and each branch is below the first
+pub branches_below : (refused from to : ℕ) (met : List Node) → AreHeldAlong refused from to met → All (IsBelow from) (branches met)
+branches_below refused from to met h =
+    kind_of (IsHeldBetween refused from to) (IsBelow from) (λ n. is_branch n.mark) met
+    (λ n branch k. let below = (k.3).below (branch_is n.mark branch) in let high = k.1 in omega arith)
+    (along_each refused from to met h)
+
+-- ---- steps of a worker
+
+try_grants : (budget : ℕ) (v w : View) → TriesClaim budget v true w → w ≡ record v { granted = v.granted + 1 }
+try_grants budget v w t =
+    t.after ∙ ap (λ b. if b then record v { granted = v.granted + 1 } else record v { refused = v.refused + 1 }) (sym t.answer_is)
+
+try_refuses : (budget : ℕ) (v w : View) → TriesClaim budget v false w → w ≡ record v { refused = v.refused + 1 }
+try_refuses budget v w t =
+    t.after ∙ ap (λ b. if b then record v { granted = v.granted + 1 } else record v { refused = v.refused + 1 }) (sym t.answer_is)
+
+-- a claim that is granted adds one to those granted, and does nothing else
+pub claim_grants : (budget : ℕ) (v w : View) (answer : Bool) → answer ≡ true → ClaimsExpansion budget v answer w → w ≡ record v { granted = v.granted + 1 }
+claim_grants budget v w answer holds k =
+    let c : ClaimsExpansion budget v true w = subst (λ b. ClaimsExpansion budget v b w) holds k in
+    ⊎_elim
+    (λ lt. let r = c.was_refused lt in let no = r.0 in absurd (cc))
+    (λ le. try_grants budget v w (c.tries (omega arith)))
+    (cases_lt 0 v.refused)
+
+-- one that is refused is counted, unless one was refused before, and does nothing else
+pub record IsRefused (v w : View) : Type 0 where
+  pub some : 0 < w.refused
+  pub no_less : v.refused ≤ w.refused
+  pub one_more : w.refused ≤ v.refused + 1
+  pub only : w ≡ record v { refused = w.refused }
+
+pub claim_refuses : (budget : ℕ) (v w : View) (answer : Bool) → answer ≡ false → ClaimsExpansion budget v answer w → IsRefused v w
+claim_refuses budget v w answer holds k =
+    let c : ClaimsExpansion budget v false w = subst (λ b. ClaimsExpansion budget v b w) holds k in
+    ⊎_elim
+    (λ lt.
+    let same : w ≡ v = (c.was_refused lt).1 in
+    let count : w.refused ≡ v.refused = ap (λ (x : View). x.refused) same in
+    record { some = omega arith; no_less = omega arith; one_more = omega arith; only = same ∙ ap (λ n. record v { refused = n }) (sym count) })
+    (λ le.
+    let is : w ≡ record v { refused = v.refused + 1 } = try_refuses budget v w (c.tries (omega arith)) in
+    let count : w.refused ≡ v.refused + 1 = ap (λ (x : View). x.refused) is in
+    record { some = omega arith; no_less = omega arith; one_more = omega arith; only = is ∙ ap (λ n. record v { refused = n }) (sym count) })
+    (cases_lt 0 v.refused)
+
+-- ---- as the search holds it
+
+-- the limit is seen
+pub sees_met : (p : Problem) (split : ℕ) (d e : Dealings) (answer : ℕ) → SeesLimit d.view answer e.view → e.puts ≡ d.puts → IsSearchedSoFar p split d e []
+sees_met p split d e answer k puts =
+    let seen : e.view.seen ≡ answer = ap (λ (v : View). v.seen) k.after in
+    let mine : e.view.mine ≡ d.view.mine = ap (λ (v : View). v.mine) k.after in
+    let granted : e.view.granted ≡ d.view.granted = ap (λ (v : View). v.granted) k.after in
+    let refused : e.view.refused ≡ d.view.refused = ap (λ (v : View). v.refused) k.after in
+    let low = k.not_above_seen in
     record {
-      fits = fits;
-      in_place = own.in_place;
-      floor_is = own.floor_is;
-      grants = own.grants;
-      puts = own.puts;
-      short = own.short;
-      closed = own.closed;
-      needed = own.needed;
-      below = own.below;
+      dealings = record { in_place = All-nil IsInPlace; grants = omega arith; puts = puts ∙ sym (append-nil d.puts); short = All-nil (IsShort split) };
+      advances = record { seen = omega arith; mine = omega arith; offered = inl mine; granted = omega arith; refused = omega arith; share = ap (λ (v : View). v.share) k.after };
+      along = omega arith;
     }
 
--- what is put after more was put is more
-pub more_again : (old mid new : List (List ℕ)) → PutsMore old mid → PutsMore mid new → PutsMore old new
-more_again old mid new a b = (a.0 ++ b.0, b.1 ∙ ap (λ l. l ++ b.0) a.1 ∙ append_assoc old a.0 b.0)
+-- a finished path's plan is offered
+pub offer_met : (p : Problem) (split : ℕ) (d e : Dealings) (path : List ℕ) (node : Node) → OffersPlan (length path) d.view e.view → e.puts ≡ d.puts → IsPlanPath p path → length path < d.view.seen → node.path ≡ path → node.mark ≡ B →
+    IsSearchedSoFar p split d e (node ∷ [])
+offer_met p split d e path node k puts whole less here mark =
+    let seen : e.view.seen ≡ min k.limit (length path) = ap (λ (v : View). v.seen) k.after in
+    let mine : e.view.mine ≡ min d.view.mine (length path) = ap (λ (v : View). v.mine) k.after in
+    let granted : e.view.granted ≡ d.view.granted = ap (λ (v : View). v.granted) k.after in
+    let refused : e.view.refused ≡ d.view.refused = ap (λ (v : View). v.refused) k.after in
+    let own : value node ≡ length path + blocking node.place = ap (λ m. length node.path + bound_by m node.place) mark ∙ ap (λ l. length l + blocking node.place) here in
+    record {
+      dealings = met_cut split d e node (ap is_cut mark) granted puts;
+      advances = record {
+        seen = omega arith;
+        mine = omega arith;
+        offered = ⊎_elim (λ (lt : length path < d.view.mine). inr (path, whole, omega arith)) (λ (le : d.view.mine ≤ length path). inl (omega arith)) (cases_lt (length path) d.view.mine);
+        granted = omega arith;
+        refused = omega arith;
+        share = ap (λ (v : View). v.share) k.after;
+      };
+      along = (
+        e.view.seen,
+        omega arith,
+        record {
+          closed = λ cut. inl (omega arith);
+          needed = λ ahead. absurd (let no : B ≡ L = sym mark ∙ ahead in cc);
+          below = λ branch. absurd (let no : B ≡ X = sym mark ∙ branch in cc);
+        },
+        omega arith,
+      );
+    }
 
-pub so_far_puts : (p : Problem) (split : ℕ) (old new : View) (old_puts new_puts : List (List ℕ)) (met : List Node) (floor : ℕ) → IsSoFar p split old new old_puts new_puts met floor → PutsMore old_puts new_puts
-so_far_puts p split old new old_puts new_puts met floor f = (given_names met, f.puts)
+-- a claim is refused
+pub refusal_met : (p : Problem) (split : ℕ) (d e : Dealings) (node : Node) → IsRefused d.view e.view → e.puts ≡ d.puts → is_cut node.mark ≡ true → least_through node ≤ value node → node.place.next ≤ node.place.ordered → NeedsLookAhead d.view.seen node →
+    IsSearchedSoFar p split d e (node ∷ [])
+refusal_met p split d e node k puts cut high unfinished needed =
+    let seen : e.view.seen ≡ d.view.seen = ap (λ (v : View). v.seen) k.only in
+    let mine : e.view.mine ≡ d.view.mine = ap (λ (v : View). v.mine) k.only in
+    let granted : e.view.granted ≡ d.view.granted = ap (λ (v : View). v.granted) k.only in
+    let no_less = k.no_less in
+    record {
+      dealings = met_cut split d e node cut granted puts;
+      advances = record { seen = omega arith; mine = omega arith; offered = inl mine; granted = omega arith; refused = no_less; share = ap (λ (v : View). v.share) k.only };
+      along = (
+        d.view.seen,
+        omega arith,
+        record {
+          closed = λ is. inr (k.some, high, unfinished);
+          needed = needed;
+          below = λ branch. absurd (let no : is_cut X ≡ true = ap is_cut (sym branch) ∙ cut in cc);
+        },
+        omega arith,
+      );
+    }

@@ -15,6 +15,7 @@ use Rattle.crp_tree.specs.Spots.{Spot, node_at, spot_below, spots_below, owed_be
 use Rattle.crp_tree.proofs.Joined.{branches-append}
 use Rattle.crp_tree.proofs.Paying.{IsWalked, walk_begins, walk_more, walk_leaf, IsTreeAt, walk_ends}
 use Rattle.crp_search.specs.declared.frames.Frame.{Frame}
+use Rattle.crp_search.specs.Searched.{AreFirstNodes}
 use Rattle.crp_search.proofs.Choice.{looked_at}
 use Rattle.crp_search.proofs.Owing.{left as rows_left}
 
@@ -211,6 +212,16 @@ ends p first now f list met h full =
     let frames = h.frames in
     let tree = walk_ends (spot_at first) list met (subst (IsWalked (spot_at first) list met) (frames.2 ∙ owed_none now f full) h.walked) in
     record { whole = tree; own = own_branch first.path first.stand.place tree.tree met tree.nodes_are h.some }
+
+-- whatever is owed, the nodes met are the first of a tree's
+pub first_nodes : (x : Stand) (list : List Symbol) (met : List Node) (owed : List Spot) → IsWalked (spot_at x) list met owed → AreFirstNodes x.path x.stand.place met
+first_nodes x list met [] w =
+    let whole = walk_ends (spot_at x) list met w in
+    record { tree = whole.tree; fits = whole.fits; rest = []; is = whole.nodes_are ∙ sym (append-nil met) }
+first_nodes x list met (spot ∷ owed) w =
+    let one : List Node = nodes spot.path spot.place CutB in
+    let more = first_nodes x (list ++ symbol.CutB ∷ []) (met ++ one) owed (walk_leaf (spot_at x) list met spot owed symbol.CutB w tt) in
+    record { tree = more.tree; fits = more.fits; rest = one ++ more.rest; is = more.is ∙ append_assoc met one more.rest }
 
 -- ---- as the loop meets it
 

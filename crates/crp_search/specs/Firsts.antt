@@ -36,6 +36,11 @@ abbrev pub MeetsOwn : ℕ → Option ProblemPath → Node → Type 0
 MeetsOwn k None cut = k + 1 ≤ value cut
 MeetsOwn k (Some plan) cut = MeetsNeed k plan.path cut
 
+-- what holds of a node by the plan that a task met, if any: so it is where one more than k suffices, and, if it comes after the plan, where k does
+abbrev pub HoldsByOwn : (ℕ → Node → Type 0) → ℕ → Option ProblemPath → Node → Type 0
+HoldsByOwn Holds k None node = Holds (k + 1) node
+HoldsByOwn Holds k (Some plan) node = Holds (k + 1) node × (Precedes plan.path node.path → Holds k node)
+
 -- a worker only claims: what it saw, what it offered and its share stay, and its claims only add up
 pub record OnlyClaims (old new : View) : Type 0 where
   pub seen : new.seen ≡ old.seen
@@ -44,7 +49,7 @@ pub record OnlyClaims (old new : View) : Type 0 where
   pub granted : old.granted ≤ new.granted
   pub refused : old.refused ≤ new.refused
 
--- why a search ended before its time: the worker was refused a claim; or memory was short, and no claim was refused meanwhile
+-- why a search ended before its time: one claim of the worker was refused, now or before; or memory was short, and no claim was refused meanwhile
 abbrev pub EndsAs : View → View → FirstEnd → Type 0
-EndsAs old new Refused = 0 < new.refused
+EndsAs old new Refused = (0 < new.refused) × (new.refused ≤ old.refused + 1)
 EndsAs old new Memory = new.refused ≡ old.refused

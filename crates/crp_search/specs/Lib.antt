@@ -14,3 +14,6 @@ pub mod Limits
 pub mod Searched
 pub mod Firsts
 pub mod FirstsFound
+pub mod Walked
+pub mod Meeting
+pub mod FirstMeeting

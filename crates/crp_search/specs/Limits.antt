@@ -38,3 +38,15 @@ pub record Advances (p : Problem) (old new : View) : Type 0 where
   pub granted : old.granted ≤ new.granted
   pub refused : old.refused ≤ new.refused
   pub share : new.share ≡ old.share
+
+-- what a limit has of one worker: its view, and the names that it put
+pub record Dealings : Type 0 where
+  pub view : View
+  pub puts : List (List ℕ)
+
+abbrev pub dealt : View → List (List ℕ) → Dealings
+dealt view puts = record { view = view; puts = puts }
+
+-- nothing but claims that were granted
+abbrev pub OnlyGrants : View → View → Type 0
+OnlyGrants old new = new ≡ record old { granted = new.granted }

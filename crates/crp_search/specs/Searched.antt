@@ -1,23 +1,39 @@
--- What a search of one part finds.
-use Rattle.std.specs.Prelude.{◌≡◌, ℕ, ◌+◌, ◌<◌, ◌≤◌, ◌⊎◌, List, ◌++◌, length, All}
+-- What a search of one part finds: what holds of the nodes that it meets, in the order in which it meets them.
+use Rattle.std.specs.Prelude.{◌≡◌, ℕ, ◌+◌, ◌<◌, ◌≤◌, ◌⊎◌, true, List, [], ◌∷◌, ◌++◌, length, All}
 use Rattle.crp_plan.specs.Bay.{Problem, Position, cap}
 use Rattle.crp_plan.specs.declared.running.View.{View}
 use Rattle.crp_bounds.specs.Bounds.{blocking, look_ahead}
 use Rattle.crp_tree.specs.Tree.{Tree}
-use Rattle.crp_tree.specs.Trees.{L, X, Node, nodes, Fits, IsInPlace, cuts, branches, given_names, value, least_through, least_value}
+use Rattle.crp_tree.specs.Trees.{L, X, Node, nodes, Fits, IsInPlace, is_cut, cuts, branches, given_names, value, least_through}
+use Rattle.crp_search.specs.Limits.{Dealings, Advances}
 
--- a cut is closed for a worker: its value is at least what the worker saw last; or the worker was refused a claim, and the value is at least length
--- plus look-ahead
+-- a cut suffices where so much does, for a worker that was refused so many claims: its value is at least that; or a claim was refused, its node is not
+-- finished, and its value is at least length plus look-ahead
+abbrev pub Suffices : ℕ → ℕ → Node → Type 0
+Suffices refused bar cut = (bar ≤ value cut) ⊎ ((0 < refused) × (least_through cut ≤ value cut) × (cut.place.next ≤ cut.place.ordered))
+
+-- a cut is closed for a worker: it suffices for what the worker saw last
 abbrev pub IsClosed : View → Node → Type 0
-IsClosed view cut = (view.seen ≤ value cut) ⊎ ((0 < view.refused) × (least_through cut ≤ value cut))
+IsClosed view cut = Suffices view.refused view.seen cut
 
--- a cut by the look-ahead bound stands only where the blocking bound is lower
-abbrev pub NeedsLookAhead : Node → Type 0
-NeedsLookAhead cut = cut.mark ≡ L → blocking cut.place < look_ahead cut.place
+-- a cut by the look-ahead bound stands only where length plus the blocking bound does not suffice, and the blocking bound is lower
+abbrev pub NeedsLookAhead : ℕ → Node → Type 0
+NeedsLookAhead bar cut = cut.mark ≡ L → (length cut.path + blocking cut.place < bar) × (blocking cut.place < look_ahead cut.place)
 
--- a branch stands below the limit: there length plus look-ahead is less
+-- a branch stands below what suffices: there length plus look-ahead is less
 abbrev pub IsBelow : ℕ → Node → Type 0
-IsBelow limit node = least_through node < limit
+IsBelow bar node = least_through node < bar
+
+-- what holds of a node where so much suffices, for a worker that was refused so many claims
+pub record IsHeld (refused bar : ℕ) (node : Node) : Type 0 where
+  pub closed : is_cut node.mark ≡ true → Suffices refused bar node
+  pub needed : NeedsLookAhead bar node
+  pub below : node.mark ≡ X → IsBelow bar node
+
+-- so it holds of each of these nodes, which were met one after the other, while what suffices fell from so much to so much
+abbrev pub AreHeldAlong : ℕ → ℕ → ℕ → List Node → Type 0
+AreHeldAlong refused from to [] = to ≤ from
+AreHeldAlong refused from to (node ∷ met) = (bar : ℕ) × (bar ≤ from) × IsHeld refused bar node × AreHeldAlong refused bar to met
 
 -- a name of at most so many rows
 abbrev pub IsShort : ℕ → List ℕ → Type 0
@@ -27,22 +43,23 @@ IsShort split name = length name ≤ split
 abbrev pub PutsMore : List (List ℕ) → List (List ℕ) → Type 0
 PutsMore old new = (more : List (List ℕ)) × (new ≡ old ++ more)
 
--- what is found at a path: a tree that fits there with its least cut; as many branches as claims were granted, the accepted puts as its given names,
--- each of at most `split` rows; each cut closed for the worker as it is then, and by the look-ahead bound only where that is higher; each branch below what
--- it had seen at the beginning
-pub record IsFound (p : Problem) (split : ℕ) (path : List ℕ) (s : Position) (old new : View) (old_puts new_puts : List (List ℕ)) (tree : Tree) (floor : ℕ) : Type 0 where
-  pub fits : Fits s tree
-  pub in_place : All IsInPlace (nodes path s tree)
-  pub floor_is : floor ≡ least_value (cap p) (nodes path s tree)
-  pub grants : new.granted ≡ old.granted + length (branches (nodes path s tree))
-  pub puts : new_puts ≡ old_puts ++ given_names (nodes path s tree)
-  pub short : All (IsShort split) (given_names (nodes path s tree))
-  pub closed : All (IsClosed new) (cuts (nodes path s tree))
-  pub needed : All NeedsLookAhead (cuts (nodes path s tree))
-  pub below : All (IsBelow old.seen) (branches (nodes path s tree))
+-- nodes that were met while a worker dealt with the limit: each may stand where it does, there are as many branches as claims that were granted, and the
+-- accepted puts are the given names, each of at most `split` rows
+pub record IsMet (split : ℕ) (old new : Dealings) (met : List Node) : Type 0 where
+  pub in_place : All IsInPlace met
+  pub grants : new.view.granted ≡ old.view.granted + length (branches met)
+  pub puts : new.puts ≡ old.puts ++ given_names met
+  pub short : All (IsShort split) (given_names met)
 
--- a claim was granted for the node at the path, which is not finished and lies below the limit
-pub record IsGranted (path : List ℕ) (s : Position) (old new : View) : Type 0 where
-  pub unfinished : s.next ≤ s.ordered
-  pub below : IsBelow old.seen (record { path = path; place = s; mark = X })
-  pub one_more : new.granted ≡ old.granted + 1
+-- the nodes are the first of those of a tree that fits at the path
+pub record AreFirstNodes (path : List ℕ) (s : Position) (met : List Node) : Type 0 where
+  pub tree : Tree
+  pub fits : Fits s tree
+  pub rest : List Node
+  pub is : nodes path s tree ≡ met ++ rest
+
+-- what a search for the fewest relocations holds of the nodes that it met
+pub record IsSearchedSoFar (p : Problem) (split : ℕ) (old new : Dealings) (met : List Node) : Type 0 where
+  pub dealings : IsMet split old new met
+  pub advances : Advances p old.view new.view
+  pub along : AreHeldAlong new.view.refused old.view.seen new.view.seen met

@@ -7,6 +7,8 @@ mod greedy;
 mod limit;
 mod searching;
 mod searching_first;
+mod seeking;
+mod walking;
 
 pub use first_part::{FirstEnd, FirstPart};
 pub use greedy::{blocker_moves, first_plan, one_greedy_plan};

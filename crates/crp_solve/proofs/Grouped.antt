@@ -46,7 +46,7 @@ searched_later p first old new parts seen refused all =
       of_problem = s.of_problem;
       kept = s.kept;
       closed = All-weaker (IsClosed old) (IsClosed new)
-          (λ cut c. ⊎_elim (λ (low : old.seen ≤ value cut). inl (omega arith)) (λ (r : (0 < old.refused) × _). inr (omega arith, r.1)) c)
+          (λ cut c. ⊎_elim (λ (low : old.seen ≤ value cut). inl (omega arith)) (λ in_vain. let some = in_vain.0 in inr (omega arith, in_vain.1, in_vain.2)) c)
           (cuts_in part) s.closed;
       below = s.below;
     })

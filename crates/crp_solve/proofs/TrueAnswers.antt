@@ -45,7 +45,7 @@ reaches p budget first view cert plan w none =
     lower_over p cert (count_of p (path_in plan)) a (count_low p plan a.is_problem t.plan_is)
     (λ k d lt. let s = w.searched k d lt in
     All-weaker (IsClosed view) (λ cut. count_of p (path_in plan) ≤ value cut)
-    (λ cut worth. ⊎_elim (λ (seen : view.seen ≤ value cut). omega (arith, w.met, seen)) (λ (r : (0 < view.refused) × (least_through cut ≤ value cut)). absurd (omega (arith, r.0, none))) worth)
+    (λ cut worth. ⊎_elim (λ (seen : view.seen ≤ value cut). omega (arith, w.met, seen)) (λ in_vain. absurd (omega (arith, in_vain.0, none))) worth)
     (cuts_in (get_or cert.parts k d)) s.closed)
 
 -- the look-ahead bound of the first position is at most a plan's relocations
@@ -68,7 +68,7 @@ looks_ahead p budget first view cert plan s w at =
     let cut : Node = get_or (cuts_in x) i e in
     let here : IsAt p cut.path cut.place = subst (λ q. IsAt q cut.path cut.place) sr.of_problem (All-filter (λ (n : Node). is_cut n.mark) (λ (n : Node). IsAt x.problem n.path n.place) (nodes_of x) (part_nodes x sr.kept) i e lti) in
     ⊎_elim (λ (seen : view.seen ≤ value cut). omega (arith, w.met, seen, over))
-    (λ (r : (0 < view.refused) × (least_through cut ≤ value cut)). omega (arith, r.1, ahead_of_root p cut.path s cut.place a.is_problem at here))
+    (λ in_vain. omega (arith, in_vain.1, ahead_of_root p cut.path s cut.place a.is_problem at here))
     (sr.closed i e lti))
 
 -- each branch stands below the first limit

@@ -50,6 +50,7 @@ impl Part {
         requires part { IsPart problem.now (record { name = name; tree = tree }) }
         requires floor { floor ≡ least_value (cap problem.now) (nodes_in problem.now (record { name = name; tree = tree })) }
         ensures value { result ≡ record { problem = problem.now; name = name; tree = tree; floor = floor } }
+        ensures part { IsKeptPart result }
     {
         Part {
             problem: problem.copy(),
@@ -90,6 +91,7 @@ impl Part {
     {
         self.floor
     }
+
     /// The names that it gives to other parts, rising.
     pub fn given_names(&self, alloc: Global) -> Result<Names, AllocError>
         ensures names { IfOk result (λ names. names ≡ given_of self.now) }

@@ -1,21 +1,37 @@
-use Rattle.std.proofs.Common.{◌≡◌, ◌++◌, ap, ◌∙◌}
 use Rattle.crp_search.proofs.FirstMet.{first_met}
 use Rattle.crp_search.proofs.searching_first.search_first.Goals as goal
 
 pub returns-clause-cuts : goal.returns-clause-cuts
 returns-clause-cuts g c =
-    let same : c.try_extend_from_slice.new.self.items ≡ c.args.name = c.in-Ok.ensures.ok ∙ ap (λ l. l ++ c.rows.result.now) c.new-path.ensures ∙ c.rows.ensures.value in
-    (first_met c.args.problem.now c.args.count c.min.result c.args.name c.try_extend_from_slice.new.self.items c.in-Some.place.place (g.L.Limit.view c.args.limit.now) (g.L.Limit.view c.first_from.new.limit) c.first_from.new.plan
-    (g.L.Limit.puts c.args.limit.now) (g.L.Limit.puts c.first_from.new.limit) c.in_ok-found.found.tree c.in_ok-found.found.floor c.new-part.result c.bounded.ensures.problem c.in-Some.ensures.at same c.in_ok-found.ensures.found c.new-part.ensures.value).cuts
+    let met = c.in_ok-part.ensures.met in
+    let so_far = met.1 in
+    let first = first_met c.args.problem.now c.args.count c.args.name c.walk.new.seek.plan c.in_ok-part.part c.in_ok-part.ensures.problem c.in_ok-part.ensures.name c.in_ok-part.ensures.part so_far.held in
+    first.own.meet
+
+pub returns-clause-look_ahead : goal.returns-clause-look_ahead
+returns-clause-look_ahead g c =
+    let met = c.in_ok-part.ensures.met in
+    let so_far = met.1 in
+    let first = first_met c.args.problem.now c.args.count c.args.name c.walk.new.seek.plan c.in_ok-part.part c.in_ok-part.ensures.problem c.in_ok-part.ensures.name c.in_ok-part.ensures.part so_far.held in
+    first.own.look_ahead
+
+pub returns-clause-branches : goal.returns-clause-branches
+returns-clause-branches g c =
+    let met = c.in_ok-part.ensures.met in
+    let so_far = met.1 in
+    let first = first_met c.args.problem.now c.args.count c.args.name c.walk.new.seek.plan c.in_ok-part.part c.in_ok-part.ensures.problem c.in_ok-part.ensures.name c.in_ok-part.ensures.part so_far.held in
+    first.own.below
 
 pub returns-clause-first : goal.returns-clause-first
 returns-clause-first g c =
-    let same : c.try_extend_from_slice.new.self.items ≡ c.args.name = c.in-Ok.ensures.ok ∙ ap (λ l. l ++ c.rows.result.now) c.new-path.ensures ∙ c.rows.ensures.value in
-    (first_met c.args.problem.now c.args.count c.min.result c.args.name c.try_extend_from_slice.new.self.items c.in-Some.place.place (g.L.Limit.view c.args.limit.now) (g.L.Limit.view c.first_from.new.limit) c.first_from.new.plan
-    (g.L.Limit.puts c.args.limit.now) (g.L.Limit.puts c.first_from.new.limit) c.in_ok-found.found.tree c.in_ok-found.found.floor c.new-part.result c.bounded.ensures.problem c.in-Some.ensures.at same c.in_ok-found.ensures.found c.new-part.ensures.value).first
+    let met = c.in_ok-part.ensures.met in
+    let so_far = met.1 in
+    let first = first_met c.args.problem.now c.args.count c.args.name c.walk.new.seek.plan c.in_ok-part.part c.in_ok-part.ensures.problem c.in_ok-part.ensures.name c.in_ok-part.ensures.part so_far.held in
+    first.first
 
 pub returns-clause-none : goal.returns-clause-none
 returns-clause-none g c =
-    let same : c.try_extend_from_slice.new.self.items ≡ c.args.name = c.in-Ok.ensures.ok ∙ ap (λ l. l ++ c.rows.result.now) c.new-path.ensures ∙ c.rows.ensures.value in
-    (first_met c.args.problem.now c.args.count c.min.result c.args.name c.try_extend_from_slice.new.self.items c.in-Some.place.place (g.L.Limit.view c.args.limit.now) (g.L.Limit.view c.first_from.new.limit) c.first_from.new.plan
-    (g.L.Limit.puts c.args.limit.now) (g.L.Limit.puts c.first_from.new.limit) c.in_ok-found.found.tree c.in_ok-found.found.floor c.new-part.result c.bounded.ensures.problem c.in-Some.ensures.at same c.in_ok-found.ensures.found c.new-part.ensures.value).none
+    let met = c.in_ok-part.ensures.met in
+    let so_far = met.1 in
+    let first = first_met c.args.problem.now c.args.count c.args.name c.walk.new.seek.plan c.in_ok-part.part c.in_ok-part.ensures.problem c.in_ok-part.ensures.name c.in_ok-part.ensures.part so_far.held in
+    first.none

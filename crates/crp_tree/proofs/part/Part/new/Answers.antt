@@ -3,3 +3,6 @@ use Rattle.crp_tree.proofs.part.Part.new.Goals as goal
 
 pub invariant_of-result : goal.invariant_of-result
 invariant_of-result c = kept c.args.problem.now c.copy.result c.args.name c.args.tree c.args.floor c.copy.ensures.same c.copy.ensures.problem c.requires.part c.requires.floor
+
+pub returns-clause-part : goal.returns-clause-part
+returns-clause-part c = kept c.args.problem.now c.copy.result c.args.name c.args.tree c.args.floor c.copy.ensures.same c.copy.ensures.problem c.requires.part c.requires.floor

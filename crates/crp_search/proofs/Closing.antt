@@ -1,0 +1,29 @@
+-- What holds of a node where so much suffices, by its mark.
+use Rattle.std.proofs.Common.{◌≡◌, ℕ, ◌+◌, ◌<◌, ◌≤◌, min, inl, List, [], ◌∷◌, ◌++◌, length, map, sym, ap, ◌∙◌, arith}
+use Rattle.crp_plan.specs.Bay.{Position}
+use Rattle.crp_bounds.specs.Bounds.{blocking, look_ahead}
+use Rattle.crp_tree.specs.Trees.{B, L, X, G, Node, cuts, value, least_value}
+use Rattle.crp_tree.proofs.Shown.{least_most}
+use Rattle.crp_tree.proofs.Joined.{least_value-append}
+use Rattle.crp_search.specs.Searched.{IsHeld}
+
+pub held_b : (bar : ℕ) (path : List ℕ) (s : Position) → bar ≤ length path + blocking s → IsHeld 0 bar (record { path = path; place = s; mark = B })
+held_b bar path s le = record { closed = λ cut. inl le; needed = λ ahead. absurd (cc); below = λ branch. absurd (cc) }
+
+pub held_l : (bar : ℕ) (path : List ℕ) (s : Position) → length path + blocking s < bar → bar ≤ length path + look_ahead s → IsHeld 0 bar (record { path = path; place = s; mark = L })
+held_l bar path s low le = record { closed = λ cut. inl le; needed = λ ahead. (low, omega (arith, low, le)); below = λ branch. absurd (cc) }
+
+pub held_x : (bar : ℕ) (path : List ℕ) (s : Position) → length path + look_ahead s < bar → IsHeld 0 bar (record { path = path; place = s; mark = X })
+held_x bar path s low = record { closed = λ cut. absurd (cc); needed = λ ahead. absurd (cc); below = λ branch. low }
+
+pub held_g : (bar : ℕ) (path : List ℕ) (s : Position) → IsHeld 0 bar (record { path = path; place = s; mark = G })
+held_g bar path s = record { closed = λ cut. absurd (cc); needed = λ ahead. absurd (cc); below = λ branch. absurd (cc) }
+
+-- the floor stays where a branch is met, and falls to the value of a cut
+pub floor_branch : (most floor : ℕ) (met : List Node) (path : List ℕ) (s : Position) → floor ≡ least_value most met → floor ≡ least_value most (met ++ record { path = path; place = s; mark = X } ∷ [])
+floor_branch most floor met path s is =
+    let node : Node = record { path = path; place = s; mark = X } in
+    omega (arith, is, least_value-append most met (node ∷ []), least_most most (map value (cuts met)))
+
+pub floor_more : (most floor lower low : ℕ) (met own : List Node) → floor ≡ least_value most met → lower ≡ least_value most own → low ≡ min floor lower → low ≡ least_value most (met ++ own)
+floor_more most floor lower low met own is also least_is = least_is ∙ ap (λ m. min m lower) is ∙ ap (λ m. min (least_value most met) m) also ∙ sym (least_value-append most met own)

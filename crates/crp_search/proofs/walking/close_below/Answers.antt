@@ -1,0 +1,48 @@
+use Rattle.std.proofs.Common.{◌≡◌, ◌+◌, ◌<◌, ◌≤◌, ⊎_elim, length, sym, ap, ◌∙◌, subst, refl, arith}
+use Rattle.std.proofs.lemmas.Bool.{cases_lt}
+use Rattle.crp_plan.specs.Bay.{IsFinished}
+use Rattle.crp_plan.specs.Plans.{ProblemPath}
+use Rattle.crp_plan.proofs.Steps.{short_path}
+use Rattle.crp_bay.specs.Back.{PlaceAndTrail}
+use Rattle.crp_bounds.specs.Bounds.{blocking, look_ahead}
+use Rattle.crp_tree.specs.Trees.{B, L, X, Node}
+use Rattle.crp_search.specs.Limits.{dealt}
+use Rattle.crp_search.proofs.Greedily.{unfinished}
+use Rattle.crp_search.proofs.SoFar.{met_cut, met_branch}
+use Rattle.crp_search.proofs.Closing.{held_l, held_x}
+use Rattle.crp_search.proofs.walking.close_below.Goals as goal
+
+pub returns-then-is_done-clause-met : goal.returns-then-is_done-clause-met
+returns-then-is_done-clause-met g c = λ split.
+    let node : Node = record { path = c.args.path.now; place = c.args.place.now.place; mark = B } in
+    rw (c.cut.ensures, c.requires.problem) (c.finish.ensures.met split node (ap (λ (r : ProblemPath). r.path) (sym c.in-Ok.ensures.value)) refl)
+
+pub reaching-requires : goal.reaching-requires
+reaching-requires g c = short_path c.args.problem.now c.args.path.now c.args.place.now.place c.cap-most.ensures.problem c.requires.path
+
+pub returns-then-granted-clause-met : goal.returns-then-granted-clause-met
+returns-then-granted-clause-met g c = λ split.
+    let old = dealt (g.L.Limit.view c.args.limit.now) (g.L.Limit.puts c.args.limit.now) in
+    let new = dealt (g.L.Limit.view c.expand.new.limit) (g.L.Limit.puts c.expand.new.limit) in
+    let place = c.args.place.now.place in
+    let granted = c.in_ok-granted.ensures.granted c.if-granted.true in
+    let kept : c.expand.new.self ≡ c.args.seek.now = granted.0 in
+    let open' = unfinished c.args.problem.now c.args.path.now place c.cap-most.ensures.problem c.requires.path (λ end. let is = c.is_done.ensures.done.1 (subst (λ (v : PlaceAndTrail). IsFinished v.place) (sym c.position.ensures) end) in let test = c.if-is_done.false in cc) in
+    let below = c.in_default-reaching.ensures.below in
+    rw kept (g.met.S.Seek.one c.args.problem.now split c.args.seek.now old new (record { path = c.args.path.now; place = place; mark = X })
+    (met_branch split old new c.args.path.now place open' granted.2 c.expand.ensures.same.2) granted.1 (held_x _ c.args.path.now place (omega arith)))
+
+pub refused_cut-requires-clause-length : goal.refused_cut-requires-clause-length
+refused_cut-requires-clause-length g c = short_path c.args.problem.now c.args.path.now c.args.place.now.place c.cap-most.ensures.problem c.requires.path
+
+pub returns-clause-met : goal.returns-clause-met
+returns-clause-met g c = λ split.
+    let place = c.args.place.now.place in
+    let refused = c.in_ok-granted.ensures.refused c.if-granted.false split in
+    let open' = unfinished c.args.problem.now c.args.path.now place c.cap-most.ensures.problem c.requires.path (λ end. let is = c.is_done.ensures.done.1 (subst (λ (v : PlaceAndTrail). IsFinished v.place) (sym c.position.ensures) end) in let test = c.if-is_done.false in cc) in
+    ⊎_elim
+    (λ (lt : blocking place < look_ahead place). rw (c.refused_cut.ensures.higher (λ e. omega arith), c.requires.problem)
+    (refused (record { path = c.args.path.now; place = place; mark = L }) refl (omega arith) open' (λ ahead. (omega arith, lt))))
+    (λ (le : look_ahead place ≤ blocking place). rw (c.refused_cut.ensures.equal (omega arith), c.requires.problem)
+    (refused (record { path = c.args.path.now; place = place; mark = B }) refl (omega arith) open' (λ ahead. absurd (cc))))
+    (cases_lt (blocking place) (look_ahead place))

@@ -1,0 +1,339 @@
+//! The walk over a part: branch and bound over the paths of a problem.
+ghost use Rattle.std.specs.Prelude.{◌≡◌, ℕ, ◌+◌, ◌<◌, ◌≤◌, List, [], ◌∷◌, ◌++◌, length, min, IfOk, IfErr, OnOk, IfSome, IfNone, IsTrue, IsFalse, Contains};
+ghost use Rattle.crp_plan.specs.Bay.{IsAt, IsProblem, Position as Place, cap};
+ghost use Rattle.crp_bay.specs.Positions.{child, targets};
+ghost use Rattle.crp_bounds.specs.Bounds.{blocking as blocking_bound, look_ahead as look_ahead_bound};
+ghost use Rattle.crp_tree.specs.Symbols.{leaf};
+ghost use Rattle.crp_tree.specs.Trees.{IsGivenAway, Fits, Node, nodes, least_value};
+ghost use Rattle.crp_tree.specs.Parts.{IsKeptPart, nodes_of};
+ghost use Rattle.crp_search.specs.Limits.{dealt};
+ghost use Rattle.crp_search.specs.Searched.{AreFirstNodes};
+ghost use Rattle.crp_search.specs.Walked.{met_at, IsLeafAt};
+
+use crate::first_part::FirstEnd;
+use crate::frames::{Closed, Found, Frame};
+use crate::limit::Limit;
+use crate::seeking::Seek;
+use arrayvec::ArrayVec;
+use crp_bounds::Bounded;
+use crp_plan::{MAX_RELOCATIONS, Plan, Problem};
+use crp_tree::{MAX_NAME, Name, Part, Symbol, Tree};
+use std::alloc::Global;
+use std::mem;
+
+/// Destination rows, from the first relocation on.
+pub type Path = ArrayVec<u8, MAX_RELOCATIONS>;
+
+/// A node that is closed by a cut of the value. No floor is above `most`.
+fn cut(symbol: Symbol, value: u32, most: u32) -> Closed
+    ensures { result ≡ record { symbol = symbol; floor = min value most } }
+{
+    Closed {
+        symbol,
+        floor: value.min(most),
+    }
+}
+
+/// The length of the path plus the look-ahead bound, where that suffices.
+fn reaching(place: &Bounded, path: &[u8], bar: u64) -> Option<u32>
+    requires { length path.now ≤ 672 }
+    ensures value { IfSome result (λ high. high ≡ length path.now + look_ahead_bound place.now.place) }
+    ensures reached { IfSome result (λ high. bar ≤ high) }
+    ensures below { IfNone result (length path.now + look_ahead_bound place.now.place < bar) }
+{
+    let length = path.len() as u32;
+    let need = bar
+        .saturating_sub(u64::from(length))
+        .min(u64::from(u32::MAX)) as u32;
+    let bound = place.look_ahead_reaching(need)?;
+    Some(length + bound)
+}
+
+/// The cut where a claim was refused: by the blocking bound where the look-ahead bound is no higher.
+fn refused_cut(place: &Bounded, length: u32, low: u32, most: u32) -> Closed
+    requires length { length ≤ 672 }
+    requires low { low ≡ length + blocking_bound place.now.place }
+    ensures equal { low ≡ length + look_ahead_bound place.now.place → result ≡ record { symbol = Symbol.CutB; floor = min low most } }
+    ensures higher { (low ≡ length + look_ahead_bound place.now.place → ⊥)
+        → result ≡ record { symbol = Symbol.CutL; floor = min (length + look_ahead_bound place.now.place) most } }
+{
+    let high = length + place.look_ahead();
+    if low == high {
+        cut(Symbol::CutB, low, most)
+    } else {
+        cut(Symbol::CutL, high, most)
+    }
+}
+
+/// Closes the node at the path, or is granted an expansion for it: `None` exactly then. Length plus blocking bound, `low`, does
+/// not suffice.
+///
+/// A finished node is a cut by the blocking bound, once its plan is taken; another is one by the look-ahead bound, where length plus
+/// that bound suffices or where the expansion is refused, unless the blocking bound is as high.
+fn close_below<S: Seek, L: Limit>(
+    problem: &Problem,
+    place: &Bounded,
+    path: &[u8],
+    low: u32,
+    bar: u64,
+    seek: &mut S,
+    limit: &mut L,
+) -> Result<Option<Closed>, FirstEnd>
+    requires problem { problem.now ≡ L.problem limit.old }
+    requires ready { S.ready problem.now seek.old }
+    requires path { IsAt problem.now path.now place.now.place }
+    requires low { low ≡ length path.now + blocking_bound place.now.place }
+    requires bar { (low < bar) × (bar ≡ S.bar seek.old (L.view limit.old)) }
+    ensures met { IfOk result (λ found. (split : ℕ) → S.meets problem.now split seek.old (dealt (L.view limit.old) (L.puts limit.old)) seek.new (dealt (L.view limit.new) (L.puts limit.new))
+        (met_at path.now place.now.place found)) }
+    ensures leaf { IfOk result (λ found. IfSome found (IsLeafAt problem.now path.now place.now.place)) }
+    ensures own { IfOk result (λ found. IfSome found (λ closed. IsGivenAway (leaf closed.symbol) → ⊥)) }
+    ensures end { IfErr result (λ end. (split : ℕ) → S.ends problem.now split seek.old (dealt (L.view limit.old) (L.puts limit.old)) seek.new (dealt (L.view limit.new) (L.puts limit.new)) [] end) }
+    ensures same { (L.problem limit.new ≡ L.problem limit.old) × (L.budget limit.new ≡ L.budget limit.old) }
+{
+    let most = problem.cap();
+    if place.position().is_done() {
+        let Ok(plan) = Plan::from_rows(problem, path) else {
+            unreachable!()
+        };
+        seek.finish(plan, limit);
+        return Ok(Some(cut(Symbol::CutB, low, most)));
+    }
+    if let Some(high) = reaching(place, path, bar) {
+        return Ok(Some(cut(Symbol::CutL, high, most)));
+    }
+    let granted = seek.expand(limit)?;
+    if granted {
+        return Ok(None);
+    }
+    Ok(Some(refused_cut(place, path.len() as u32, low, most)))
+}
+
+/// The same where nothing is known of the node: it is closed as well where length plus blocking bound suffices.
+fn close<S: Seek, L: Limit>(
+    problem: &Problem,
+    place: &Bounded,
+    path: &[u8],
+    seek: &mut S,
+    limit: &mut L,
+) -> Result<Option<Closed>, FirstEnd>
+    requires problem { problem.now ≡ L.problem limit.old }
+    requires ready { S.ready problem.now seek.old }
+    requires path { IsAt problem.now path.now place.now.place }
+    ensures met { IfOk result (λ found. (split : ℕ) → S.meets problem.now split seek.old (dealt (L.view limit.old) (L.puts limit.old)) seek.new (dealt (L.view limit.new) (L.puts limit.new))
+        (met_at path.now place.now.place found)) }
+    ensures leaf { IfOk result (λ found. IfSome found (IsLeafAt problem.now path.now place.now.place)) }
+    ensures own { IfOk result (λ found. IfSome found (λ closed. IsGivenAway (leaf closed.symbol) → ⊥)) }
+    ensures end { IfErr result (λ end. (split : ℕ) → S.ends problem.now split seek.old (dealt (L.view limit.old) (L.puts limit.old)) seek.new (dealt (L.view limit.new) (L.puts limit.new)) [] end) }
+    ensures same { (L.problem limit.new ≡ L.problem limit.old) × (L.budget limit.new ≡ L.budget limit.old) }
+{
+    let most = problem.cap();
+    let low = path.len() as u32 + place.blocking();
+    let bar = seek.enough(limit);
+    if u64::from(low) >= bar {
+        return Ok(Some(cut(Symbol::CutB, low, most)));
+    }
+    close_below(problem, place, path, low, bar, seek, limit)
+}
+
+/// Puts the name of the path where it has at most `split` rows, and answers whether it was accepted.
+fn give<L: Limit>(path: &[u8], split: u8, limit: &mut L) -> bool
+    requires { split ≤ 8 }
+    ensures short { IsTrue result → length path.now ≤ split }
+    ensures given { IsTrue result → L.puts limit.new ≡ L.puts limit.old ++ path.now ∷ [] }
+    ensures kept { IsFalse result → L.puts limit.new ≡ L.puts limit.old }
+    ensures same { (L.problem limit.new ≡ L.problem limit.old) × (L.budget limit.new ≡ L.budget limit.old) × (L.view limit.new ≡ L.view limit.old) }
+{
+    if path.len() > split as usize {
+        return false;
+    }
+    let Some(name) = Name::from_rows(path) else {
+        unreachable!()
+    };
+    limit.put(name).is_ok()
+}
+
+/// Closes the child at a legal row, whose path this is. `None` exactly where an expansion was granted for it: then the relocation
+/// to the row is made.
+///
+/// A child for which the blocking bound suffices is closed before the relocation: a finished one has no blocking, so its plan is
+/// not one that is looked for.
+fn close_child<S: Seek, L: Limit>(
+    problem: &Problem,
+    place: &mut Bounded,
+    path: &[u8],
+    row: u8,
+    seek: &mut S,
+    limit: &mut L,
+) -> Result<Option<Closed>, FirstEnd>
+    requires problem { problem.now ≡ L.problem limit.old }
+    requires ready { S.ready problem.now seek.old }
+    requires path { IsAt problem.now path.now (child place.old.place row) }
+    requires row { Contains (targets place.old.place) row }
+    ensures met { IfOk result (λ found. (split : ℕ) → S.meets problem.now split seek.old (dealt (L.view limit.old) (L.puts limit.old)) seek.new (dealt (L.view limit.new) (L.puts limit.new))
+        (met_at path.now (child place.old.place row) found)) }
+    ensures leaf { IfOk result (λ found. IfSome found (IsLeafAt problem.now path.now (child place.old.place row))) }
+    ensures back { IfOk result (λ found. IfSome found (λ closed. place.new ≡ place.old)) }
+    ensures down { IfOk result (λ found. IfNone found (place.new ≡ record { place = child place.old.place row; trail = place.old.place ∷ place.old.trail })) }
+    ensures end { IfErr result (λ end. (split : ℕ) → S.ends problem.now split seek.old (dealt (L.view limit.old) (L.puts limit.old)) seek.new (dealt (L.view limit.new) (L.puts limit.new)) [] end) }
+    ensures same { (L.problem limit.new ≡ L.problem limit.old) × (L.budget limit.new ≡ L.budget limit.old) }
+{
+    let most = problem.cap();
+    let below = path.len() as u32 + place.blocking_after(row);
+    let bar = seek.enough(limit);
+    if u64::from(below) >= bar {
+        return Ok(Some(cut(Symbol::CutB, below, most)));
+    }
+    let _pushed = place.push(row);
+    let found = close_below(problem, place, path, below, bar, seek, limit)?;
+    if found.is_some() {
+        let _popped = place.pop();
+    }
+    Ok(found)
+}
+
+/// Gives away or closes the child at a legal row, whose path this is: gives it away where its path has at most `split` rows and its
+/// name is accepted.
+fn walk_child<S: Seek, L: Limit>(
+    problem: &Problem,
+    place: &mut Bounded,
+    path: &[u8],
+    row: u8,
+    seek: &mut S,
+    limit: &mut L,
+    split: u8,
+) -> Result<Option<Closed>, FirstEnd>
+    requires problem { problem.now ≡ L.problem limit.old }
+    requires ready { S.ready problem.now seek.old }
+    requires path { IsAt problem.now path.now (child place.old.place row) }
+    requires row { Contains (targets place.old.place) row }
+    requires split { split ≤ 8 }
+    ensures met { IfOk result (λ found. S.meets problem.now split seek.old (dealt (L.view limit.old) (L.puts limit.old)) seek.new (dealt (L.view limit.new) (L.puts limit.new))
+        (met_at path.now (child place.old.place row) found)) }
+    ensures leaf { IfOk result (λ found. IfSome found (IsLeafAt problem.now path.now (child place.old.place row))) }
+    ensures back { IfOk result (λ found. IfSome found (λ closed. place.new ≡ place.old)) }
+    ensures down { IfOk result (λ found. IfNone found (place.new ≡ record { place = child place.old.place row; trail = place.old.place ∷ place.old.trail })) }
+    ensures end { IfErr result (λ end. S.ends problem.now split seek.old (dealt (L.view limit.old) (L.puts limit.old)) seek.new (dealt (L.view limit.new) (L.puts limit.new)) [] end) }
+    ensures same { (L.problem limit.new ≡ L.problem limit.old) × (L.budget limit.new ≡ L.budget limit.old) }
+{
+    if give(path, split, limit) {
+        return Ok(Some(Closed {
+            symbol: Symbol::Given,
+            floor: problem.cap(),
+        }));
+    }
+    close_child(problem, place, path, row, seek, limit)
+}
+
+/// Walks over the node at the path: closes it, or branches over its legal rows, rising. Where it ends before its time, position
+/// and path are those of some node below.
+fn walk_from<S: Seek, L: Limit>(
+    alloc: Global,
+    problem: &Problem,
+    place: &mut Bounded,
+    path: &mut Path,
+    seek: &mut S,
+    limit: &mut L,
+    split: u8,
+) -> Result<Found, FirstEnd>
+    requires problem { problem.now ≡ L.problem limit.old }
+    requires ready { S.ready problem.now seek.old }
+    requires path { IsAt problem.now path.old.items place.old.place }
+    requires split { split ≤ 8 }
+    ensures fits { IfOk result (λ found. Fits place.old.place found.tree) }
+    ensures own { IfOk result (λ found. IsGivenAway found.tree → ⊥) }
+    ensures floor { IfOk result (λ found. found.floor ≡ least_value (cap problem.now) (nodes path.old.items place.old.place found.tree)) }
+    ensures met { IfOk result (λ found. S.meets problem.now split seek.old (dealt (L.view limit.old) (L.puts limit.old)) seek.new (dealt (L.view limit.new) (L.puts limit.new))
+        (nodes path.old.items place.old.place found.tree)) }
+    ensures end { IfErr result (λ end. (met : List Node) × AreFirstNodes path.old.items place.old.place met
+        × S.ends problem.now split seek.old (dealt (L.view limit.old) (L.puts limit.old)) seek.new (dealt (L.view limit.new) (L.puts limit.new)) met end) }
+    ensures same { (L.problem limit.new ≡ L.problem limit.old) × (L.budget limit.new ≡ L.budget limit.old) }
+{
+    let mut list = Vec::new(alloc);
+    list.reserve(1)?;
+    let first = close(problem, place, path.as_slice(), seek, limit)?;
+    if let Some(closed) = first {
+        list.push_reserved(closed.symbol);
+        return Ok(Found {
+            tree: Tree::from_symbols(list),
+            floor: closed.floor,
+        });
+    }
+    let mut floor = problem.cap();
+    let mut above = Vec::new(alloc);
+    let mut frame = Frame::at(place.position());
+    list.push_reserved(frame.symbol());
+    loop {
+        let Some(row) = frame.turn() else {
+            let Some(upper) = above.pop() else {
+                return Ok(Found {
+                    tree: Tree::from_symbols(list),
+                    floor,
+                });
+            };
+            frame = upper;
+            let _row = path.pop();
+            let _popped = place.pop();
+            continue;
+        };
+        list.reserve(1)?;
+        above.reserve(1)?;
+        path.push(row);
+        let found = walk_child(problem, place, path.as_slice(), row, seek, limit, split)?;
+        let Some(closed) = found else {
+            let below = Frame::at(place.position());
+            list.push_reserved(below.symbol());
+            above.push_reserved(mem::replace(&mut frame, below));
+            continue;
+        };
+        let _row = path.pop();
+        list.push_reserved(closed.symbol);
+        floor = floor.min(closed.floor);
+    }
+}
+
+/// Walks over the part of this name, which must be a path of the problem; the limit must be of the problem.
+///
+/// At a path a cut by the blocking bound stands where length plus that bound suffices. A finished path of fewer relocations is
+/// taken, and is such a cut too. Else the node is a cut by the look-ahead bound where length plus that one suffices. Else it asks
+/// for an expansion. If that is granted the node branches, rows rising; where the path has fewer than `split` rows, and fewer
+/// than 8, each child is put and given away, and one whose put is refused is walked over at once.
+pub fn walk<S: Seek, L: Limit>(
+    alloc: Global,
+    problem: &Problem,
+    name: Name,
+    seek: &mut S,
+    limit: &mut L,
+    split: u8,
+) -> Result<Part, FirstEnd>
+    requires problem { problem.now ≡ L.problem limit.old }
+    requires ready { S.ready problem.now seek.old }
+    requires path { (s : Place) × IsAt problem.now name s }
+    ensures is_problem { IsProblem problem.now }
+    ensures problem { IfOk result (λ part. part.problem ≡ problem.now) }
+    ensures name { IfOk result (λ part. part.name ≡ name) }
+    ensures part { IfOk result IsKeptPart }
+    ensures met { IfOk result (λ part. S.meets problem.now (min split 8) seek.old (dealt (L.view limit.old) (L.puts limit.old)) seek.new (dealt (L.view limit.new) (L.puts limit.new))
+        (nodes_of part)) }
+    ensures end { IfErr result (λ end. (s : Place) × IsAt problem.now name s × ((met : List Node) × AreFirstNodes name s met
+        × S.ends problem.now (min split 8) seek.old (dealt (L.view limit.old) (L.puts limit.old)) seek.new (dealt (L.view limit.new) (L.puts limit.new)) met end)) }
+    ensures same { (L.problem limit.new ≡ L.problem limit.old) × (L.budget limit.new ≡ L.budget limit.old) }
+{
+    let Some(mut place) = name.bounded(problem) else {
+        unreachable!()
+    };
+    let mut path = Path::new();
+    let Ok(()) = path.try_extend_from_slice(name.rows()) else {
+        unreachable!()
+    };
+    let found = walk_from(
+        alloc,
+        problem,
+        &mut place,
+        &mut path,
+        seek,
+        limit,
+        split.min(MAX_NAME as u8),
+    )?;
+    Ok(Part::new(problem, name, found.tree, found.floor))
+}
