@@ -1,5 +1,5 @@
 //! Branch and bound for one bay in plain Rust, with nothing proved: it goes through the tree that `crp prove` goes through
-//! with one worker, without building it. The yardstick for speed.
+//! with one worker, and keeps its symbols in a row. The yardstick for speed.
 //!
 //! usage: plain BUDGET < HEAD, where HEAD is a bay as `crp prove` reads it
 //! It prints the answer, the expansions and the nodes.
@@ -110,7 +110,13 @@ impl Bay {
         self.put(undo.from, rank);
     }
 
-    fn look_ahead(&self) -> u32 {
+    /// The look-ahead bound, where it reaches `need`. Each container counts once more at most, and only one that blocks.
+    fn look_ahead_reaching(&self, need: u32) -> Option<u32> {
+        let need = need.saturating_sub(self.blocking);
+        let mut still = self.blocking;
+        if still < need {
+            return None;
+        }
         let mut heights = [0; 12];
         for row in 0..self.rows {
             heights[row] = self.stacks[row].height;
@@ -118,20 +124,31 @@ impl Bay {
         let mut again = 0;
         for rank in self.next..=self.ordered {
             let row = self.row_of[rank as usize];
-            let Some(at) = self.stacks[row].cells[..heights[row]].iter().position(|c| c.rank == rank) else {
+            let stack = &self.stacks[row];
+            if heights[row] == 0 || stack.cells[heights[row] - 1].least != rank {
                 continue;
-            };
-            if at + 1 < heights[row] {
+            }
+            let mut at = heights[row] - 1;
+            if stack.cells[at].rank != rank {
                 let widest = (0..self.rows)
                     .filter(|other| *other != row && heights[*other] < self.tiers)
                     .map(|other| heights[other].checked_sub(1).map_or(NONE, |top| self.stacks[other].cells[top].least))
                     .max();
-                let above = self.stacks[row].cells[at + 1..heights[row]].iter();
-                again += above.filter(|c| widest.is_none_or(|widest| widest < c.rank)).count() as u32;
+                if widest == Some(NONE) {
+                    break;
+                }
+                while stack.cells[at].rank != rank {
+                    again += u32::from(widest.is_none_or(|widest| widest < stack.cells[at].rank));
+                    still -= 1;
+                    at -= 1;
+                }
+                if again + still < need {
+                    return None;
+                }
             }
             heights[row] = at;
         }
-        self.blocking + again
+        (again >= need).then_some(self.blocking + again)
     }
 
     /// How many relocations the greedy plan has, if the rule leads to one.
@@ -163,29 +180,31 @@ struct Search {
     lower: u32,
     left: u64,
     expanded: u64,
-    nodes: u64,
+    symbols: Vec<u8>,
 }
 
 impl Search {
-    fn cut(&mut self, value: u32) {
+    fn cut(&mut self, symbol: u8, value: u32) {
+        self.symbols.push(symbol);
         self.lower = self.lower.min(value);
     }
 
     /// Searches the node that so many relocations lead to.
     fn search(&mut self, length: u32) {
-        self.nodes += 1;
         if self.bay.is_done() {
             self.limit = self.limit.min(length);
-            return self.cut(length);
+            return self.cut(b'B', length);
         }
         let low = length + self.bay.blocking;
         if low >= self.limit {
-            return self.cut(low);
+            return self.cut(b'B', low);
         }
-        let high = length + self.bay.look_ahead();
-        if high >= self.limit || self.left == 0 {
-            return self.cut(high);
+        let need = if self.left == 0 { 0 } else { self.limit - length };
+        if let Some(bound) = self.bay.look_ahead_reaching(need) {
+            let high = length + bound;
+            return self.cut(if high == low { b'B' } else { b'L' }, high);
         }
+        self.symbols.push(b'X');
         self.left -= 1;
         self.expanded += 1;
         for row in 0..self.bay.rows {
@@ -218,8 +237,8 @@ fn main() {
     }
     bay.settle();
     let limit = bay.first_plan().unwrap_or(cap);
-    let mut search = Search { bay, limit, lower: cap, left: budget, expanded: 0, nodes: 0 };
+    let mut search = Search { bay, limit, lower: cap, left: budget, expanded: 0, symbols: Vec::new() };
     search.search(0);
     let lower = search.lower.min(search.limit);
-    println!("{lower} to {} expanded {} nodes {}", search.limit, search.expanded, search.nodes);
+    println!("{lower} to {} expanded {} nodes {}", search.limit, search.expanded, search.symbols.len());
 }

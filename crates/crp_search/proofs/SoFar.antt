@@ -160,27 +160,16 @@ sees_met p split d e answer k puts =
     }
 
 -- a finished path's plan is offered
-pub offer_met : (p : Problem) (split : ℕ) (d e : Dealings) (path : List ℕ) (node : Node) → OffersPlan (length path) d.view e.view → e.puts ≡ d.puts → IsPlanPath p path → length path < d.view.seen → node.path ≡ path → node.mark ≡ B →
-    IsSearchedSoFar p split d e (node ∷ [])
-offer_met p split d e path node k puts whole less here mark =
-    let seen : e.view.seen ≡ min k.limit (length path) = ap (λ (v : View). v.seen) k.after in
-    let mine : e.view.mine ≡ min d.view.mine (length path) = ap (λ (v : View). v.mine) k.after in
-    let granted : e.view.granted ≡ d.view.granted = ap (λ (v : View). v.granted) k.after in
-    let refused : e.view.refused ≡ d.view.refused = ap (λ (v : View). v.refused) k.after in
+pub offer_met : (p : Problem) (split : ℕ) (d e : Dealings) (path : List ℕ) (node : Node) → e.view.seen ≤ length path → Advances p d.view e.view → e.view.granted ≡ d.view.granted → e.puts ≡ d.puts → node.path ≡ path → node.mark ≡ B → IsSearchedSoFar p split d e (node ∷ [])
+offer_met p split d e path node seen on granted puts here mark =
+    let low = on.seen in
     let own : value node ≡ length path + blocking node.place = ap (λ m. length node.path + bound_by m node.place) mark ∙ ap (λ l. length l + blocking node.place) here in
     record {
       dealings = met_cut split d e node (ap is_cut mark) granted puts;
-      advances = record {
-        seen = omega arith;
-        mine = omega arith;
-        offered = ⊎_elim (λ (lt : length path < d.view.mine). inr (path, whole, omega arith)) (λ (le : d.view.mine ≤ length path). inl (omega arith)) (cases_lt (length path) d.view.mine);
-        granted = omega arith;
-        refused = omega arith;
-        share = ap (λ (v : View). v.share) k.after;
-      };
+      advances = on;
       along = (
         e.view.seen,
-        omega arith,
+        low,
         record {
           closed = λ cut. inl (omega arith);
           needed = λ ahead. absurd (let no : B ≡ L = sym mark ∙ ahead in cc);

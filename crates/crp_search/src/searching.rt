@@ -1,6 +1,7 @@
 //! Search for the fewest relocations.
-ghost use Rattle.std.specs.Prelude.{◌≡◌, ℕ, ◌+◌, ◌++◌, length, All, IfOk, refl};
+ghost use Rattle.std.specs.Prelude.{◌≡◌, ℕ, ◌+◌, ◌≤◌, ◌++◌, length, All, IfOk, refl};
 ghost use Rattle.crp_plan.specs.Bay.{IsAt, Position as Place};
+ghost use Rattle.crp_plan.specs.Faults.{IsPlanPath};
 ghost use Rattle.crp_tree.specs.Parts.{IsKeptPart, given_of, cuts_in, branches_in, nodes_of};
 ghost use Rattle.crp_search.specs.Limits.{Advances};
 ghost use Rattle.crp_search.specs.Searched.{IsClosed, NeedsLookAhead, IsBelow, AreHeldAlong, IsShort, PutsMore};
@@ -12,6 +13,18 @@ use crate::walking::walk;
 use crp_plan::{Plan, Problem};
 use crp_tree::{Name, Part};
 use std::alloc::{AllocError, Global};
+
+/// Offers the plan.
+fn offer_plan<L: Limit>(plan: &Plan, limit: &mut L)
+    requires problem { plan.now.problem ≡ L.problem limit.old }
+    requires whole { IsPlanPath (L.problem limit.old) plan.now.path }
+    ensures seen { (L.view limit.new).seen ≤ length plan.now.path }
+    ensures advances { Advances (L.problem limit.old) (L.view limit.old) (L.view limit.new) }
+    ensures claims { ((L.view limit.new).granted ≡ (L.view limit.old).granted) × ((L.view limit.new).refused ≡ (L.view limit.old).refused) }
+    ensures same { (L.problem limit.new ≡ L.problem limit.old) × (L.budget limit.new ≡ L.budget limit.old) × (L.puts limit.new ≡ L.puts limit.old) }
+{
+    limit.offer(plan);
+}
 
 /// Looks for plans of fewer relocations than the limit says, which falls as they are offered.
 #[derive(Drop)]
@@ -35,7 +48,7 @@ impl Seek for SeekFewest {
     }
 
     fn finish<L: Limit>(&mut self, plan: Plan, limit: &mut L) {
-        limit.offer(&plan);
+        offer_plan(&plan, limit);
     }
 
     fn expand<L: Limit>(&mut self, limit: &mut L) -> Result<bool, FirstEnd> {
