@@ -1,17 +1,16 @@
 -- A search for the first plan meets one.
-use Rattle.std.proofs.Common.{◌≡◌, ℕ, ◌+◌, ◌<◌, ◌≤◌, inl, inr, ⊎_elim, List, [], ◌∷◌, ◌++◌, length, All, Option, Some, None, refl, sym, ap, ◌∙◌, subst, arith, append_assoc}
-use Rattle.std.proofs.lemmas.List.Elements.{All-nil, All-cons, All-append}
+use Rattle.std.proofs.Common.{◌≡◌, ℕ, ◌+◌, ◌<◌, ◌≤◌, inl, List, [], ◌∷◌, length, Option, Some, None, refl, sym, ap, ◌∙◌, arith}
+use Rattle.std.proofs.lemmas.List.Elements.{All-nil, All-cons}
 use Rattle.crp_plan.specs.Bay.{Problem}
 use Rattle.crp_plan.specs.Faults.{IsPlanPath}
 use Rattle.crp_plan.specs.Plans.{ProblemPath}
-use Rattle.crp_plan.specs.declared.running.View.{View}
 use Rattle.crp_plan.proofs.Covered.{relocations-path}
 use Rattle.crp_bounds.specs.Bounds.{blocking}
 use Rattle.crp_tree.specs.Trees.{B, L, X, Node, is_cut, bound_by, value}
-use Rattle.crp_search.specs.Limits.{Dealings, dealt, OnlyGrants}
-use Rattle.crp_search.specs.Searched.{IsHeld, IsMet}
-use Rattle.crp_search.specs.Firsts.{IsLowerBound, OnlyClaims, EndsAs}
-use Rattle.crp_search.specs.FirstsFound.{need, IsMetAmong, AreHeld, IsFirstSoFar}
+use Rattle.crp_search.specs.Limits.{Dealings}
+use Rattle.crp_search.specs.Searched.{IsHeld}
+use Rattle.crp_search.specs.Firsts.{IsLowerBound}
+use Rattle.crp_search.specs.FirstsFound.{need, AreHeld, IsFirstSoFar}
 use Rattle.crp_search.specs.FirstMeeting.{claims_none}
 use Rattle.crp_search.proofs.SoFar.{met_cut}
 

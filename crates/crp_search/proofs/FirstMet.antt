@@ -1,14 +1,14 @@
 -- What is met in a part is the first plan that belongs to it.
-use Rattle.std.proofs.Common.{◌≡◌, ℕ, ◌+◌, ◌<◌, ◌≤◌, ◌⊎◌, inl, inr, ⊎_elim, true, Bool, List, [], ◌∷◌, ◌++◌, length, filter, Contains, All, Option, Some, None, IfSome, IfNone, sym, ap, ◌∙◌, subst, arith}
+use Rattle.std.proofs.Common.{◌≡◌, ℕ, ◌+◌, ◌≤◌, ◌⊎◌, inl, inr, ⊎_elim, true, List, [], ◌∷◌, ◌++◌, length, Contains, All, Option, Some, None, IfSome, IfNone, sym, ap, ◌∙◌, subst, arith}
 use Rattle.std.proofs.lemmas.List.Elements.{All-contains, Contains-append_right, Contains-append_cases}
 use Rattle.crp_plan.specs.Bay.{Problem, IsProblem, Position, IsAt}
 use Rattle.crp_plan.specs.Plans.{ProblemPath}
 use Rattle.crp_plan.proofs.Covered.{relocations-path}
-use Rattle.crp_bay.proofs.Members.{not_in_nil, in_head, in_tail, in_cons_cases}
+use Rattle.crp_bay.proofs.Members.{not_in_nil, in_head, in_cons_cases}
 use Rattle.crp_tree.specs.Tree.{Tree}
 use Rattle.crp_tree.specs.Names.{Precedes}
 use Rattle.crp_tree.specs.Trees.{B, G, X, Mark, Node, nodes, is_cut, is_branch, is_given, cuts, branches, value, given_names, IsInPlace, Fits, Begins}
-use Rattle.crp_tree.specs.Parts.{ProblemPart, nodes_of, given_of, cuts_in, branches_in, IsKeptPart}
+use Rattle.crp_tree.specs.Parts.{ProblemPart, nodes_of, given_of, IsKeptPart}
 use Rattle.crp_tree.specs.First.{MeetsNeed}
 use Rattle.crp_tree.proofs.InLine.{InOrder, in_order, from_members}
 use Rattle.crp_tree.proofs.Ordered.{not_itself, goes_further}

@@ -1,5 +1,5 @@
 -- A search on its way over the tree: the symbols of the nodes that it has met, and a frame for each branch between its first node and the one that it has come to.
-use Rattle.std.proofs.Common.{◌≡◌, ℕ, suc, ◌+◌, ◌-◌, ◌<◌, ◌≤◌, List, [], ◌∷◌, ◌++◌, length, drop, get_or, Contains, refl, sym, ap, ◌∙◌, subst, arith, append_assoc, append-nil, length-append, drop-cons, add-one}
+use Rattle.std.proofs.Common.{◌≡◌, ℕ, suc, ◌+◌, ◌<◌, ◌≤◌, List, [], ◌∷◌, ◌++◌, length, drop, get_or, Contains, refl, sym, ap, ◌∙◌, subst, arith, append_assoc, append-nil, length-append, drop-cons}
 use Rattle.std.specs.Prelude.{reverse}
 use Rattle.std.proofs.lemmas.List.{reverse-append, drop_all}
 use Rattle.crp_plan.specs.Bay.{Problem, IsProblem, Position, IsAt}
@@ -11,7 +11,7 @@ use Rattle.crp_tree.specs.declared.symbol.Symbol.TheVariants as symbol
 use Rattle.crp_tree.specs.Tree.{Tree, CutB, CutL, Branch, Given}
 use Rattle.crp_tree.specs.Symbols.{symbols, tree_of, tree_back, IsLeaf, leaf}
 use Rattle.crp_tree.specs.Trees.{X, Node, nodes, branches, IsGivenAway}
-use Rattle.crp_tree.specs.Spots.{Spot, node_at, spot_below, spots_below, owed_behind}
+use Rattle.crp_tree.specs.Spots.{Spot, node_at, spot_below, spots_below}
 use Rattle.crp_tree.proofs.Joined.{branches-append}
 use Rattle.crp_tree.proofs.Paying.{IsWalked, walk_begins, walk_more, walk_leaf, IsTreeAt, walk_ends}
 use Rattle.crp_search.specs.declared.frames.Frame.{Frame}

@@ -1,4 +1,4 @@
-use Rattle.std.proofs.Common.{◌≡◌, ◌≤◌, [], ◌∷◌, sym, subst, refl, arith}
+use Rattle.std.proofs.Common.{[], ◌∷◌, sym, subst, refl, arith}
 use Rattle.std.proofs.lemmas.Result.{IfOk-weaker, IfErr-weaker}
 use Rattle.crp_plan.proofs.Steps.{short_path}
 use Rattle.crp_tree.specs.Trees.{B, Node}

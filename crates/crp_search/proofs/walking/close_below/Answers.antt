@@ -1,4 +1,4 @@
-use Rattle.std.proofs.Common.{◌≡◌, ◌+◌, ◌<◌, ◌≤◌, ⊎_elim, length, sym, ap, ◌∙◌, subst, refl, arith}
+use Rattle.std.proofs.Common.{◌≡◌, ◌<◌, ◌≤◌, ⊎_elim, sym, ap, subst, refl, arith}
 use Rattle.std.proofs.lemmas.Bool.{cases_lt}
 use Rattle.crp_plan.specs.Bay.{IsFinished}
 use Rattle.crp_plan.specs.Plans.{ProblemPath}
@@ -8,8 +8,8 @@ use Rattle.crp_bounds.specs.Bounds.{blocking, look_ahead}
 use Rattle.crp_tree.specs.Trees.{B, L, X, Node}
 use Rattle.crp_search.specs.Limits.{dealt}
 use Rattle.crp_search.proofs.Greedily.{unfinished}
-use Rattle.crp_search.proofs.SoFar.{met_cut, met_branch}
-use Rattle.crp_search.proofs.Closing.{held_l, held_x}
+use Rattle.crp_search.proofs.SoFar.{met_branch}
+use Rattle.crp_search.proofs.Closing.{held_x}
 use Rattle.crp_search.proofs.walking.close_below.Goals as goal
 
 pub returns-then-is_done-clause-met : goal.returns-then-is_done-clause-met

@@ -1,4 +1,4 @@
-use Rattle.std.proofs.Common.{◌≡◌, ℕ, suc, ◌+◌, ◌<◌, ◌≤◌, min, List, [], ◌∷◌, ◌++◌, length, refl, sym, ap, ◌∙◌, subst, arith, lit<, length-append, append-nil, rules}
+use Rattle.std.proofs.Common.{◌≡◌, ℕ, suc, ◌<◌, ◌≤◌, List, [], ◌∷◌, ◌++◌, length, refl, sym, ap, ◌∙◌, subst, arith, lit<, length-append, append-nil, rules}
 use Rattle.std.specs.Prelude.{reverse, IfErr}
 use Rattle.std.proofs.lemmas.List.{nil_from_length}
 use Rattle.std.proofs.lemmas.Result.{IfErr-weaker}
@@ -8,7 +8,6 @@ use Rattle.crp_bay.specs.Positions.{targets, child}
 use Rattle.crp_bay.specs.Back.{PlaceAndTrail}
 use Rattle.crp_tree.specs.declared.symbol.Symbol.{Symbol}
 use Rattle.crp_tree.specs.declared.symbol.Symbol.TheVariants as symbol
-use Rattle.crp_tree.specs.Tree.{Tree}
 use Rattle.crp_tree.specs.Symbols.{leaf, leaf_symbols}
 use Rattle.crp_tree.specs.Trees.{X, Node, nodes, Fits, IsGivenAway, least_value}
 use Rattle.crp_tree.specs.Spots.{node_at}
