@@ -197,8 +197,6 @@ fn settle_part(alloc: Global, part: &Part, plan: &Plan) -> Result<Option<Part>, 
     )?;
     let name = part.name().copy();
     let part = Part::new(problem, name, Tree::from_symbols(settled), floor);
-    // For its contract alone: the floor is what the part shows.
-    let _floor = part.floor();
     Ok(Some(part))
 }
 

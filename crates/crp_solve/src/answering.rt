@@ -63,8 +63,6 @@ fn root_cut(alloc: Global, problem: &Problem) -> Result<Part, AllocError>
     list.push(Symbol::CutL)?;
     let tree = Tree::from_symbols(list);
     let part = Part::new(problem, Name::root(), tree, ahead.min(problem.cap()));
-    // For its contract alone: the floor is what the part shows.
-    let _floor = part.floor();
     Ok(part)
 }
 
