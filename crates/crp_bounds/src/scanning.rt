@@ -22,21 +22,15 @@ fn offer_of(ordered: u8, leasts: &[u8; 97], height: u8, stack: &[u8]) -> u8
     least_of(ordered, leasts, stack)
 }
 
-/// How many containers stand in each row, from 0, and the greatest of what all rows offer.
-struct Beginning {
-    left: [u8; 16],
-    most: u8,
-}
-
-/// What the count begins with.
+/// Writes how many containers stand in each row, from 0, and answers the greatest of what all rows offer.
 #[inline]
-fn begun(position: &Position, leasts: &[u8; 97]) -> Beginning
-    requires { KnowsLeasts leasts.now position.now.place }
-    ensures left { (r : ℕ) → slice_index result.left r ≡ length (slice_index_or position.now.place.stacks r []) }
-    ensures long { length result.left ≡ 16 }
-    ensures most { result.most ≡ greatest (offers position.now.place.ordered position.now.place.heights position.now.place.stacks) }
+fn begun(position: &Position, leasts: &[u8; 97], left: &mut [u8; 16]) -> u8
+    requires known { KnowsLeasts leasts.now position.now.place }
+    requires empty { (r : ℕ) → slice_index left.old r ≡ 0 }
+    ensures left { (r : ℕ) → slice_index left.new r ≡ length (slice_index_or position.now.place.stacks r []) }
+    ensures long { length left.new ≡ 16 }
+    ensures most { result ≡ greatest (offers position.now.place.ordered position.now.place.heights position.now.place.stacks) }
 {
-    let mut left = [0u8; 16];
     let mut most: u8 = 0;
     for row in 1..position.rows() + 1 {
         let height = position.height(row);
@@ -44,7 +38,7 @@ fn begun(position: &Position, leasts: &[u8; 97]) -> Beginning
         left[row as usize - 1] = stack.len() as u8;
         most = most.max(offer_of(position.ordered(), leasts, height, stack));
     }
-    Beginning { left, most }
+    most
 }
 
 /// Of the containers above a rank how many are greater than the greatest offer, and how many stand below the rank.
@@ -107,7 +101,8 @@ pub fn again_reaching(
     if blocking < need {
         return None;
     }
-    let Beginning { mut left, mut most } = begun(position, leasts);
+    let mut left = [0u8; 16];
+    let mut most = begun(position, leasts, &mut left);
     let mut again: u32 = 0;
     let mut still = blocking;
     for rank in position.next()..ordered + 1 {

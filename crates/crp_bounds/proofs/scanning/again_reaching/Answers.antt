@@ -22,7 +22,7 @@ overflow_add-rank-end c = omega (arith, c.ordered-ordered.ensures.value, reached
 
 pub loop-rank-init : goal.loop-rank-init
 loop-rank-init c =
-    remains_begins c.args.position.now.place c.begun-most.result.left c.begun-most.result.most c.next-rank.result c.args.blocking c.ordered-ordered.ensures.reached c.begun-most.ensures.left c.begun-most.ensures.most c.begun-most.ensures.long c.next-rank.ensures.value c.requires.blocking
+    remains_begins c.args.position.now.place c.begun-most.new.left c.begun-most.result c.next-rank.result c.args.blocking c.ordered-ordered.ensures.reached c.begun-most.ensures.left c.begun-most.ensures.most c.begun-most.ensures.long c.next-rank.ensures.value c.requires.blocking
 
 pub bounds-left-index : goal.bounds-left-index
 bounds-left-index c = omega (arith, c.row_of-row.ensures.there, (reached_rows c.args.position.now.place c.ordered-ordered.ensures.reached).1)
