@@ -114,6 +114,12 @@ impl Position {
 
     /// Relocates to the row and makes every retrieval that is legal then, where the relocation is legal; else it changes nothing.
     pub fn push(&mut self, row: u8) -> bool
+        ensures legal { (p : Statement) (path : List ℕ) → IsProblem p → IsAt p path self.old.place
+            → (IsTrue result ↔ IsLegalRow p path row) }
+        ensures at { OnTrue result ((p : Statement) (path : List ℕ) → IsProblem p
+            → IsAt p path self.old.place → IsAt p (path ++ row ∷ []) self.new.place) }
+
+        // What the definitions compute.
         ensures target { IsTrue result ↔ Contains (targets self.old.place) row }
         ensures pushed { OnTrue result (self.new ≡ record { place = child self.old.place row; trail = self.old.place ∷ self.old.trail }) }
         ensures refused { OnFalse result (self.new ≡ self.old) }
