@@ -7,9 +7,9 @@ ghost use Rattle.crp_bay.specs.Reached.{IsReached, HasRoom};
 
 use crate::moving::{go_back, land, lift, settle};
 use crate::push::Push;
-use crate::starting::{heights_again, heights_of, rows_of, stacks_again, stacks_of};
+use crate::starting::rows_of;
 use arrayvec::ArrayVec;
-use crp_plan::{MAX_RELOCATIONS, MAX_ROWS, Problem, Stack, Walk};
+use crp_plan::{MAX_RELOCATIONS, MAX_ROWS, Problem, Stack, heights_again, stacks_again};
 use std::marker::Model;
 
 /// A position of a bay in which every retrieval that is legal has been made. It is changed in place, and no call takes memory.
@@ -50,9 +50,8 @@ impl Position {
         ensures problem { IsProblem problem.now }
     {
         let ordered = problem.ordered();
-        let walk = Walk::before(problem);
-        let heights = heights_of(&walk);
-        let mut stacks = stacks_of(&walk);
+        let heights = heights_again(problem.heights());
+        let mut stacks = stacks_again(problem.stacks());
         let row_of = rows_of(stacks.as_slice());
         let next = settle(
             heights.as_slice(),
