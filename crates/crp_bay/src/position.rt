@@ -112,6 +112,7 @@ impl Position {
     }
 
     /// Relocates to the row and makes every retrieval that is legal then, where the relocation is legal; else it changes nothing.
+    #[inline]
     pub fn push(&mut self, row: u8) -> bool
         ensures legal { (p : Statement) (path : List ℕ) → IsProblem p → IsAt p path self.old.place
             → (IsTrue result ↔ IsLegalRow p path row) }
@@ -146,6 +147,7 @@ impl Position {
     }
 
     /// Undoes the last push that is not undone. Where there is none it changes nothing.
+    #[inline]
     pub fn pop(&mut self) -> bool
         ensures popped { OnTrue result (self.old.trail ≡ self.new.place ∷ self.new.trail) }
         ensures none { OnFalse result (self.old.trail ≡ []) }
@@ -265,6 +267,7 @@ impl Position {
     }
 
     /// The rows to which a relocation is legal, rising; none where the position is finished or dead.
+    #[inline]
     pub fn targets(&self) -> ArrayVec<u8, MAX_ROWS>
         ensures legal { (p : Statement) (path : List ℕ) (row : ℕ) → IsProblem p → IsAt p path self.now.place
             → (Contains result.items row ↔ IsLegalRow p path row) }

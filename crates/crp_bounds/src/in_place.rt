@@ -101,6 +101,7 @@ impl Bounded {
     }
 
     /// Relocates to the row and makes every retrieval that is legal then, where the relocation is legal; else it changes nothing.
+    #[inline]
     pub fn push(&mut self, row: u8) -> bool
         ensures legal { (p : Statement) (path : List ℕ) → IsProblem p → IsAt p path self.old.place
             → (IsTrue result ↔ IsLegalRow p path row) }
@@ -131,6 +132,7 @@ impl Bounded {
     }
 
     /// Undoes the last push that is not undone. Where there is none it changes nothing.
+    #[inline]
     pub fn pop(&mut self) -> bool
         ensures popped { OnTrue result (self.old.trail ≡ self.new.place ∷ self.new.trail) }
         ensures none { OnFalse result (self.old.trail ≡ []) }
@@ -176,6 +178,7 @@ impl Bounded {
     }
 
     /// The look-ahead bound of the position, where it reaches `need`. It stops counting as soon as it cannot.
+    #[inline]
     pub fn look_ahead_reaching(&self, need: u32) -> Option<u32>
         ensures value { IfSome result (λ bound. bound ≡ look_ahead_bound self.now.place) }
         ensures reached { IfSome result (λ bound. need ≤ bound) }
