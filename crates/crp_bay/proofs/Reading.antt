@@ -50,6 +50,17 @@ short_trail pushes rows s kept =
     omega (arith, trail_length (reverse pushes) rows s, length-reverse pushes, short_path kept.reached.problem kept.reached.path s kept.reached.is_problem kept.reached.is_at)
 
 -- whether the row is legal, by what a push to it answered
+pub legal_by : (now : Position) (row : ℕ) (b : Bool) → ((IsTrue b → Contains (targets now) row) × (Contains (targets now) row → IsTrue b)) →
+    (p : Problem) (path : List ℕ) → IsProblem p → IsAt p path now → (IsTrue b → IsLegalRow p path row) × (IsLegalRow p path row → IsTrue b)
+legal_by now row b t p path is a =
+    let legal = targets_legal now p path row is a in
+    (λ yes. legal.0 (t.0 yes), λ l. t.1 (legal.1 l))
+
+-- and where it leads
+pub leads_to : (now next : Position) (row : ℕ) → next ≡ child now row → Contains (targets now) row → (p : Problem) (path : List ℕ) → IsProblem p → IsAt p path now → IsAt p (path ++ row ∷ []) next
+leads_to now next row e c p path is a = subst (IsAt p (path ++ row ∷ [])) (sym e) (target_goes_on p path now row is a c)
+
+-- the same over a copy
 pub push_legal : (now : Position) (s : PlaceAndTrail) (row : ℕ) (b b' : Bool) → s ≡ record { place = now; trail = [] } → b ≡ b' → ((IsTrue b → Contains (targets s.place) row) × (Contains (targets s.place) row → IsTrue b)) →
     (p : Problem) (path : List ℕ) → IsProblem p → IsAt p path now → (IsTrue b' → IsLegalRow p path row) × (IsLegalRow p path row → IsTrue b')
 push_legal now s row b b' e eb t p path is a =

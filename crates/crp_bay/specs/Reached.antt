@@ -1,5 +1,5 @@
 -- Positions that the paths of a problem lead to.
-use Rattle.std.specs.Prelude.{ℕ, ◌-◌, ◌<◌, ◌≤◌, List, [], ◌∷◌, ◌++◌, length, slice_index, slice_index_or}
+use Rattle.std.specs.Prelude.{ℕ, ◌-◌, ◌<◌, ◌≤◌, List, [], length, slice_index, slice_index_or}
 use Rattle.crp_plan.specs.Bay.{Problem, IsProblem, Position, IsAt}
 
 -- a problem has a path to the position

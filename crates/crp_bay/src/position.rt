@@ -7,9 +7,9 @@ ghost use Rattle.crp_bay.specs.Reached.{IsReached, HasRoom};
 
 use crate::moving::{go_back, land, lift, settle};
 use crate::push::Push;
-use crate::starting::{heights_again, heights_of, rows_of, stacks_again, stacks_of};
+use crate::starting::rows_of;
 use arrayvec::ArrayVec;
-use crp_plan::{MAX_RELOCATIONS, MAX_ROWS, Problem, Stack, Walk};
+use crp_plan::{MAX_RELOCATIONS, MAX_ROWS, Problem, Stack, heights_again, stacks_again};
 use std::marker::Model;
 
 /// A position of a bay in which every retrieval that is legal has been made. It is changed in place, and no call takes memory.
@@ -50,9 +50,8 @@ impl Position {
         ensures problem { IsProblem problem.now }
     {
         let ordered = problem.ordered();
-        let walk = Walk::before(problem);
-        let heights = heights_of(&walk);
-        let mut stacks = stacks_of(&walk);
+        let heights = heights_again(problem.heights());
+        let mut stacks = stacks_again(problem.stacks());
         let row_of = rows_of(stacks.as_slice());
         let next = settle(
             heights.as_slice(),
@@ -113,7 +112,14 @@ impl Position {
     }
 
     /// Relocates to the row and makes every retrieval that is legal then, where the relocation is legal; else it changes nothing.
+    #[inline]
     pub fn push(&mut self, row: u8) -> bool
+        ensures legal { (p : Statement) (path : List ℕ) → IsProblem p → IsAt p path self.old.place
+            → (IsTrue result ↔ IsLegalRow p path row) }
+        ensures at { OnTrue result ((p : Statement) (path : List ℕ) → IsProblem p
+            → IsAt p path self.old.place → IsAt p (path ++ row ∷ []) self.new.place) }
+
+        // What the definitions compute.
         ensures target { IsTrue result ↔ Contains (targets self.old.place) row }
         ensures pushed { OnTrue result (self.new ≡ record { place = child self.old.place row; trail = self.old.place ∷ self.old.trail }) }
         ensures refused { OnFalse result (self.new ≡ self.old) }
@@ -141,6 +147,7 @@ impl Position {
     }
 
     /// Undoes the last push that is not undone. Where there is none it changes nothing.
+    #[inline]
     pub fn pop(&mut self) -> bool
         ensures popped { OnTrue result (self.old.trail ≡ self.new.place ∷ self.new.trail) }
         ensures none { OnFalse result (self.old.trail ≡ []) }
@@ -260,6 +267,7 @@ impl Position {
     }
 
     /// The rows to which a relocation is legal, rising; none where the position is finished or dead.
+    #[inline]
     pub fn targets(&self) -> ArrayVec<u8, MAX_ROWS>
         ensures legal { (p : Statement) (path : List ℕ) (row : ℕ) → IsProblem p → IsAt p path self.now.place
             → (Contains result.items row ↔ IsLegalRow p path row) }

@@ -1,32 +1,9 @@
-//! What a position keeps, from a walk or from another position.
+//! What a position keeps of where each rank stands.
 ghost use Rattle.std.specs.Prelude.{ℕ, ◌≡◌, ◌-◌, ◌≤◌, ◌<◌, true, false, List, length, slice_get, slice_index, Some};
 ghost use Rattle.crp_plan.specs.Rows.{holds, occurrences};
 ghost use Rattle.crp_bay.specs.Located.{AreRowsOf};
 
-use arrayvec::ArrayVec;
-use crp_plan::{MAX_ROWS, Stack, Walk};
-
-pub fn heights_of(walk: &Walk) -> ArrayVec<u8, MAX_ROWS>
-    requires { length walk.now.heights ≤ 12 }
-    ensures { result.items ≡ walk.now.heights }
-{
-    let mut heights = ArrayVec::new();
-    for row in 1..walk.rows() + 1 {
-        heights.push(walk.height(row));
-    }
-    heights
-}
-
-pub fn stacks_of(walk: &Walk) -> ArrayVec<Stack, MAX_ROWS>
-    requires { length walk.now.heights ≤ 12 }
-    ensures { result.items ≡ walk.now.stacks }
-{
-    let mut stacks = ArrayVec::new();
-    for row in 1..walk.rows() + 1 {
-        stacks.push(Stack::of(walk.stack(row)));
-    }
-    stacks
-}
+use crp_plan::Stack;
 
 /// Writes the row, from 0, of each rank of a stack.
 fn mark(row: u8, ranks: &[u8], row_of: &mut [u8])
@@ -52,28 +29,4 @@ pub fn rows_of(stacks: &[Stack]) -> [u8; 97]
         mark(row as u8, stack.ranks(), &mut row_of);
     }
     row_of
-}
-
-/// The same heights once more.
-pub fn heights_again(heights: &[u8]) -> ArrayVec<u8, MAX_ROWS>
-    requires { length heights.now ≤ 12 }
-    ensures { result.items ≡ heights.now }
-{
-    let mut copy = ArrayVec::new();
-    for height in heights {
-        copy.push(*height);
-    }
-    copy
-}
-
-/// The same stacks once more.
-pub fn stacks_again(stacks: &[Stack]) -> ArrayVec<Stack, MAX_ROWS>
-    requires { length stacks.now ≤ 12 }
-    ensures { result.items ≡ stacks.now }
-{
-    let mut copy = ArrayVec::new();
-    for stack in stacks {
-        copy.push(Stack::of(stack.ranks()));
-    }
-    copy
 }

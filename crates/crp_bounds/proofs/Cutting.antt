@@ -197,12 +197,18 @@ offers_set ordered (h ∷ hs) [] r stack = refl
 offers_set ordered (h ∷ hs) (x ∷ xs) zero stack = refl
 offers_set ordered (h ∷ hs) (x ∷ xs) (suc r) stack = ap (λ l. offer ordered h x ∷ l) (offers_set ordered hs xs r stack)
 
--- the greatest does not see zeros at the end
-pub same_greatest : (xs ys : List ℕ) → ((r : ℕ) → get_or xs r 0 ≡ get_or ys r 0) → greatest xs ≡ greatest ys
-same_greatest [] [] same = refl
-same_greatest [] (y ∷ ys) same = let e = same 0 in let ih = same_greatest [] ys (λ r. same (suc r)) in omega arith
-same_greatest (x ∷ xs) [] same = let e = same 0 in let ih = same_greatest xs [] (λ r. same (suc r)) in omega arith
-same_greatest (x ∷ xs) (y ∷ ys) same = let e = same 0 in let ih = same_greatest xs ys (λ r. same (suc r)) in omega arith
+-- the greatest of all where one of them rises
+pub greatest_set : (xs : List ℕ) (r x : ℕ) → r < length xs → get_or xs r 0 ≤ x → greatest (set xs r x) ≡ max (greatest xs) x
+greatest_set [] r x lt le = absurd (omega arith)
+greatest_set (y ∷ ys) zero x lt le = omega arith
+greatest_set (y ∷ ys) (suc r) x lt le = let ih = greatest_set ys r x (omega arith) le in omega arith
+
+-- a row offers no more than the least of its stack
+pub offer_low : (ordered : ℕ) (heights : List ℕ) (stacks : List (List ℕ)) (r : ℕ) → get_or (offers ordered heights stacks) r 0 ≤ least_ordered ordered (get_or stacks r [])
+offer_low ordered [] stacks r = omega arith
+offer_low ordered (h ∷ hs) [] r = omega arith
+offer_low ordered (h ∷ hs) (x ∷ xs) zero = ⊎_elim (λ full. rw full (omega arith)) (λ room. rw room (omega arith)) (cases_Bool (nat_le h (length x)))
+offer_low ordered (h ∷ hs) (x ∷ xs) (suc r) = offer_low ordered hs xs r
 
 -- a row with room and without ordered containers
 abbrev pub IsOpen : ℕ → List ℕ → List (List ℕ) → Type 0

@@ -13,3 +13,4 @@ pub mod Cutting
 pub mod Tallying
 pub mod Scanned
 pub mod Remaining
+pub mod Turns

@@ -1,5 +1,5 @@
 -- How many containers can still count in the look-ahead: those that block, each once.
-use Rattle.std.proofs.Common.{◌≡◌, ℕ, zero, suc, ◌+◌, ◌-◌, ◌<◌, ◌≤◌, Bool, true, false, ◌==◌, List, [], ◌∷◌, ◌++◌, length, map, take, get_or, set, sum_by, refl, sym, ap, ◌∙◌, subst, ⊎_elim, arith, length-append, append_assoc, append-nil}
+use Rattle.std.proofs.Common.{◌≡◌, ℕ, zero, suc, ◌+◌, ◌-◌, ◌<◌, ◌≤◌, max, Bool, true, false, ◌==◌, List, [], ◌∷◌, ◌++◌, length, map, take, get_or, set, sum_by, refl, sym, ap, ◌∙◌, subst, ⊎_elim, arith, length-append, append_assoc, append-nil}
 use Rattle.std.proofs.lemmas.Bool.{cases_Bool, cases_lt, or_left, or_right, eq-eqb}
 use Rattle.std.proofs.lemmas.List.{length-take-le}
 use Rattle.std.proofs.lemmas.List.Sums.{sum_by-cons, count_by-le-length, get_or-le-sum_by}
@@ -11,7 +11,7 @@ use Rattle.crp_bay.specs.Positions.{place}
 use Rattle.crp_bay.specs.Reached.{IsReached}
 use Rattle.crp_bay.proofs.Reaching.{reached_sound}
 use Rattle.crp_bounds.specs.Bounds.{holds_lower, blocked_in, blocking, has_no_place, stuck_from, stuck_now}
-use Rattle.crp_bounds.specs.Offers.{cut, offers}
+use Rattle.crp_bounds.specs.Offers.{cut, offers, greatest}
 use Rattle.crp_bounds.proofs.Leasts.{few_blocked}
 use Rattle.crp_bounds.proofs.Scanned.{bay_of, ahead_begins, Reads}
 use Rattle.crp_bounds.proofs.Blocked.{lower_from_held}
@@ -92,24 +92,24 @@ stuck_few ordered heights (suc more) stacks k le once gone =
     )
 
 -- how far the count has come, and how many at most still block
-pub record Remains (ordered next : ℕ) (heights : List ℕ) (stacks : List (List ℕ)) (k : ℕ) (left offering : List ℕ) (again still : ℕ) : Type 0 where
-  pub ahead : Ahead ordered next heights stacks k left offering again
+pub record Remains (ordered next : ℕ) (heights : List ℕ) (stacks : List (List ℕ)) (k : ℕ) (left : List ℕ) (most again still : ℕ) : Type 0 where
+  pub ahead : Ahead ordered next heights stacks k left most again
   pub blocks : blocked ordered (cut left stacks) ≤ still
   pub few : still ≤ 96
 
 -- no more will have counted
-pub remains_most : (ordered next : ℕ) (heights : List ℕ) (stacks : List (List ℕ)) (k : ℕ) (left offering : List ℕ) (again still : ℕ) → Remains ordered next heights stacks k left offering again still → Bay ordered heights stacks → k ≤ suc ordered →
+pub remains_most : (ordered next : ℕ) (heights : List ℕ) (stacks : List (List ℕ)) (k : ℕ) (left : List ℕ) (most again still : ℕ) → Remains ordered next heights stacks k left most again still → Bay ordered heights stacks → k ≤ suc ordered →
     stuck_from ordered heights (suc ordered - next) stacks next ≤ again + still
-remains_most ordered next heights stacks k left offering again still r b le =
+remains_most ordered next heights stacks k left most again still r b le =
     let blocks = r.blocks in
     let a = r.ahead in
     omega (arith, a.tallied, stuck_few ordered heights (suc ordered - k) (cut left stacks) k (omega arith) (λ d. omega (arith, occurrences_cut d left stacks, b.once d)) a.gone)
 
 -- what a rank that is met takes off those that block
-pub met_blocks : (ordered next : ℕ) (heights : List ℕ) (stacks : List (List ℕ)) (k : ℕ) (left offering : List ℕ) (again still r kept more offered : ℕ) → Remains ordered next heights stacks k left offering again still → Bay ordered heights stacks → k ≤ ordered →
-    Met ordered heights stacks k left offering r kept more offered →
+pub met_blocks : (ordered next : ℕ) (heights : List ℕ) (stacks : List (List ℕ)) (k : ℕ) (left : List ℕ) (most again still r kept more offered : ℕ) → Remains ordered next heights stacks k left most again still → Bay ordered heights stacks → k ≤ ordered →
+    Met ordered heights stacks k left most r kept more offered →
     length (take (get_or left r 0) (get_or stacks r [])) - 1 - kept + blocked ordered (cut (set left r kept) stacks) ≤ still
-met_blocks ordered next heights stacks k left offering again still r kept more offered m b le t =
+met_blocks ordered next heights stacks k left most again still r kept more offered m b le t =
     let w : List ℕ = take (get_or left r 0) (get_or stacks r []) in
     let W : List (List ℕ) = cut left stacks in
     let a = m.ahead in let blocks = m.blocks in let lower = t.lower in
@@ -123,50 +123,50 @@ met_blocks ordered next heights stacks k left offering again still r kept more o
       ap (λ l. length (above k l)) (cut_at left stacks r),
       get_or-le-sum_by (λ stack. length (above k stack)) W r [] there,
       cut_blocks ordered k W le (omega (arith, occurrences_cut k left stacks, b.once k)) a.gone,
-      ap (blocked ordered) (met_cut ordered next heights stacks k left offering again r kept more offered a b t),
+      ap (blocked ordered) (met_cut ordered next heights stacks k left most again r kept more offered a b t),
     )
 
 -- a rank that is left
-pub remains_met : (ordered next : ℕ) (heights : List ℕ) (stacks : List (List ℕ)) (k : ℕ) (left offering : List ℕ) (again still r kept more offered : ℕ) → Remains ordered next heights stacks k left offering again still → Bay ordered heights stacks → k ≤ ordered →
-    Met ordered heights stacks k left offering r kept more offered →
-    Remains ordered next heights stacks (k + 1) (set left r kept) (set offering r offered) (again + more) (still - (length (take (get_or left r 0) (get_or stacks r [])) - 1 - kept))
-remains_met ordered next heights stacks k left offering again still r kept more offered m b le t =
+pub remains_met : (ordered next : ℕ) (heights : List ℕ) (stacks : List (List ℕ)) (k : ℕ) (left : List ℕ) (most again still r kept more offered : ℕ) → Remains ordered next heights stacks k left most again still → Bay ordered heights stacks → k ≤ ordered →
+    Met ordered heights stacks k left most r kept more offered →
+    Remains ordered next heights stacks (k + 1) (set left r kept) (max most offered) (again + more) (still - (length (take (get_or left r 0) (get_or stacks r [])) - 1 - kept))
+remains_met ordered next heights stacks k left most again still r kept more offered m b le t =
     let few = m.few in
     record {
-      ahead = ahead_met ordered next heights stacks k left offering again r kept more offered m.ahead b le t;
-      blocks = omega (arith, met_blocks ordered next heights stacks k left offering again still r kept more offered m b le t);
+      ahead = ahead_met ordered next heights stacks k left most again r kept more offered m.ahead b le t;
+      blocks = omega (arith, met_blocks ordered next heights stacks k left most again still r kept more offered m b le t);
       few = omega arith;
     }
 
 -- a rank that is cut off already
-pub remains_absent : (ordered next : ℕ) (heights : List ℕ) (stacks : List (List ℕ)) (k : ℕ) (left offering : List ℕ) (again still : ℕ) → Remains ordered next heights stacks k left offering again still → occurrences k stacks ≤ 1 → k ≤ ordered →
-    holds k (take (get_or left (place k stacks) 0) (get_or stacks (place k stacks) [])) ≡ false → Remains ordered next heights stacks (k + 1) left offering again still
-remains_absent ordered next heights stacks k left offering again still m once le free = record {
-  ahead = ahead_absent ordered next heights stacks k left offering again m.ahead once le free;
+pub remains_absent : (ordered next : ℕ) (heights : List ℕ) (stacks : List (List ℕ)) (k : ℕ) (left : List ℕ) (most again still : ℕ) → Remains ordered next heights stacks k left most again still → occurrences k stacks ≤ 1 → k ≤ ordered →
+    holds k (take (get_or left (place k stacks) 0) (get_or stacks (place k stacks) [])) ≡ false → Remains ordered next heights stacks (k + 1) left most again still
+remains_absent ordered next heights stacks k left most again still m once le free = record {
+  ahead = ahead_absent ordered next heights stacks k left most again m.ahead once le free;
   blocks = m.blocks;
   few = m.few;
 }
 
 -- a rank that is left, as its stack is read
-pub record Turned (s : Position) (k row : ℕ) (stack left offering : List ℕ) (again still kept more offered : ℕ) : Type 0 where
+pub record Turned (s : Position) (k row : ℕ) (stack left : List ℕ) (most again still kept more offered : ℕ) : Type 0 where
   pub within : length (take (get_or left (row - 1) 0) stack) - 1 - kept ≤ still
-  pub remains : Remains s.ordered s.next s.heights s.stacks (k + 1) (set left (row - 1) kept) (set offering (row - 1) offered) (again + more) (still - (length (take (get_or left (row - 1) 0) stack) - 1 - kept))
+  pub remains : Remains s.ordered s.next s.heights s.stacks (k + 1) (set left (row - 1) kept) (max most offered) (again + more) (still - (length (take (get_or left (row - 1) 0) stack) - 1 - kept))
 
-pub turned : (s : Position) (k row : ℕ) (stack left offering : List ℕ) (again still kept more offered : ℕ) → Remains s.ordered s.next s.heights s.stacks k left offering again still → IsReached s → k ≤ s.ordered → Reads s k row stack left →
-    Met s.ordered s.heights s.stacks k left offering (row - 1) kept more offered → Turned s k row stack left offering again still kept more offered
-turned s k row stack left offering again still kept more offered m reached le r t =
+pub turned : (s : Position) (k row : ℕ) (stack left : List ℕ) (most again still kept more offered : ℕ) → Remains s.ordered s.next s.heights s.stacks k left most again still → IsReached s → k ≤ s.ordered → Reads s k row stack left →
+    Met s.ordered s.heights s.stacks k left most (row - 1) kept more offered → Turned s k row stack left most again still kept more offered
+turned s k row stack left most again still kept more offered m reached le r t =
     let here : length (take (get_or left (row - 1) 0) stack) ≡ length (take (get_or left (row - 1) 0) (get_or s.stacks (row - 1) [])) = ap (λ l. length (take (get_or left (row - 1) 0) l)) (sym r.stack_is) in
     record {
-      within = omega (arith, met_blocks s.ordered s.next s.heights s.stacks k left offering again still (row - 1) kept more offered m (bay_of s reached) le t, here);
-      remains = subst (λ n. Remains s.ordered s.next s.heights s.stacks (k + 1) (set left (row - 1) kept) (set offering (row - 1) offered) (again + more) (still - (n - 1 - kept))) (sym here)
-          (remains_met s.ordered s.next s.heights s.stacks k left offering again still (row - 1) kept more offered m (bay_of s reached) le t);
+      within = omega (arith, met_blocks s.ordered s.next s.heights s.stacks k left most again still (row - 1) kept more offered m (bay_of s reached) le t, here);
+      remains = subst (λ n. Remains s.ordered s.next s.heights s.stacks (k + 1) (set left (row - 1) kept) (max most offered) (again + more) (still - (n - 1 - kept))) (sym here)
+          (remains_met s.ordered s.next s.heights s.stacks k left most again still (row - 1) kept more offered m (bay_of s reached) le t);
     }
 
 -- how it begins
-pub remains_begins : (s : Position) (left offering : List ℕ) (next still : ℕ) → IsReached s → ((r : ℕ) → get_or left r 0 ≡ length (get_or s.stacks r [])) → ((r : ℕ) → get_or offering r 0 ≡ get_or (offers s.ordered s.heights s.stacks) r 0) →
-    length left ≡ 16 → length offering ≡ 16 → next ≡ s.next → still ≡ blocking s → Remains s.ordered s.next s.heights s.stacks next left offering 0 still
-remains_begins s left offering next still r all offered long long' e is = record {
-  ahead = ahead_begins s left offering next r all offered long long' e;
+pub remains_begins : (s : Position) (left : List ℕ) (most next still : ℕ) → IsReached s → ((r : ℕ) → get_or left r 0 ≡ length (get_or s.stacks r [])) → most ≡ greatest (offers s.ordered s.heights s.stacks) →
+    length left ≡ 16 → next ≡ s.next → still ≡ blocking s → Remains s.ordered s.next s.heights s.stacks next left most 0 still
+remains_begins s left most next still r all offered long e is = record {
+  ahead = ahead_begins s left most next r all offered long e;
   blocks = omega (arith, ap (blocked s.ordered) (cut_all left s.stacks all), is);
   few = omega (arith, is, few_blocked s r);
 }

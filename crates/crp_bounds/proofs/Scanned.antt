@@ -1,5 +1,6 @@
 -- What the count of the look-ahead bound reads of a position.
-use Rattle.std.proofs.Common.{◌≡◌, ◌≢◌, ℕ, zero, suc, ◌+◌, ◌-◌, ◌<◌, ◌≤◌, true, false, ◌==◌, List, [], ◌∷◌, length, take, get_or, set, Some, slice_get, count_by, nat_lt, refl, sym, ap, ◌∙◌, subst, ⊎_elim, arith, All}
+use Rattle.std.proofs.Common.{◌≡◌, ◌≢◌, ℕ, zero, suc, ◌+◌, ◌-◌, ◌<◌, ◌≤◌, true, false, ◌==◌, max, List, [], ◌∷◌, length, take, drop, get_or, set, Some, slice_get, count_by, nat_lt, refl, sym, ap, ◌∙◌, subst, ⊎_elim, arith, All}
+use Rattle.std.proofs.Math.Seq.{drop-cons}
 use Rattle.std.proofs.lemmas.Bool.{cases_Bool, cases_lt, eqb-true, or_cases}
 use Rattle.std.proofs.lemmas.List.{take-take, get_or-take, length-take, get_or-set_same, get_or-set_other}
 use Rattle.std.proofs.lemmas.Option.{get_or_from_slice_get, same_Some}
@@ -50,20 +51,19 @@ few_held (y ∷ ys) x all h = ⊎_elim
     (or_cases (y == x) (holds x ys) h)
 
 -- how it begins
-pub ahead_begins : (s : Position) (left offering : List ℕ) (next : ℕ) → IsReached s → ((r : ℕ) → get_or left r 0 ≡ length (get_or s.stacks r [])) → ((r : ℕ) → get_or offering r 0 ≡ get_or (offers s.ordered s.heights s.stacks) r 0) →
-    length left ≡ 16 → length offering ≡ 16 → next ≡ s.next → Ahead s.ordered s.next s.heights s.stacks next left offering 0
-ahead_begins s left offering next r all offered long long' e =
+pub ahead_begins : (s : Position) (left : List ℕ) (most next : ℕ) → IsReached s → ((r : ℕ) → get_or left r 0 ≡ length (get_or s.stacks r [])) → most ≡ greatest (offers s.ordered s.heights s.stacks) →
+    length left ≡ 16 → next ≡ s.next → Ahead s.ordered s.next s.heights s.stacks next left most 0
+ahead_begins s left most next r all is long e =
     let sound = reached_sound s r in
     let same : cut left s.stacks ≡ s.stacks = cut_all left s.stacks all in
     record {
       gone = λ d lt. ap (occurrences d) same ∙ sound.gone d (omega arith);
       within = λ i. omega (arith, all i);
-      offered = λ i. offered i ∙ ap (λ l. get_or (offers s.ordered s.heights l) i 0) (sym same);
+      greatest_is = is ∙ ap (λ l. greatest (offers s.ordered s.heights l)) (sym same);
       tallied = ap (λ l. 0 + stuck_from s.ordered s.heights (suc s.ordered - next) l next) same ∙ (let z : 0 + stuck_from s.ordered s.heights (suc s.ordered - next) s.stacks next ≡ stuck_from s.ordered s.heights (suc s.ordered - next) s.stacks next = omega arith in z)
           ∙ ap (λ n. stuck_from s.ordered s.heights (suc s.ordered - n) s.stacks n) e;
       few = omega arith;
       left_long = long;
-      offering_long = long';
     }
 
 -- the stack of a rank that waits, as it is read
@@ -91,10 +91,10 @@ part_few n stack few k d lt =
     omega (arith, e, few k d (omega (arith, length-take n stack)))
 
 -- the least of what is left is the rank exactly where it is left
-pub held_test : (s : Position) (k row : ℕ) (stack left offering : List ℕ) (again : ℕ) → IsReached s → Reads s k row stack left → Ahead s.ordered s.next s.heights s.stacks k left offering again → k ≤ s.ordered →
+pub held_test : (s : Position) (k row : ℕ) (stack left : List ℕ) (most again : ℕ) → IsReached s → Reads s k row stack left → Ahead s.ordered s.next s.heights s.stacks k left most again → k ≤ s.ordered →
     (least_ordered s.ordered (take (get_or left (row - 1) 0) stack) ≡ k → holds k (take (get_or left (row - 1) 0) stack) ≡ true)
     × (least_ordered s.ordered (take (get_or left (row - 1) 0) stack) ≢ k → holds k (take (get_or left (row - 1) 0) stack) ≡ false)
-held_test s k row stack left offering again r w a le =
+held_test s k row stack left most again r w a le =
     let few = reached_ordered s r in
     let part : List ℕ = take (get_or left (row - 1) 0) stack in
     let here : get_or (cut left s.stacks) (row - 1) [] ≡ part = cut_at left s.stacks (row - 1) ∙ ap (take (get_or left (row - 1) 0)) w.stack_is in
@@ -114,21 +114,25 @@ offers_at ordered (h ∷ hs) (x ∷ xs) zero height stack e f = ap (λ n. offer 
 offers_at ordered (h ∷ hs) (x ∷ xs) (suc r) height stack e f = offers_at ordered hs xs r height stack e f
 
 -- one row more is written
-pub offer_more : (xs ys : List ℕ) (row x : ℕ) → 1 ≤ row → row - 1 < length xs → ((r : ℕ) → r < row - 1 → get_or xs r 0 ≡ get_or ys r 0) → ((r : ℕ) → row - 1 ≤ r → get_or xs r 0 ≡ 0) → get_or ys (row - 1) 0 ≡ x →
-    ((r : ℕ) → r < row + 1 - 1 → get_or (set xs (row - 1) x) r 0 ≡ get_or ys r 0) × ((r : ℕ) → row + 1 - 1 ≤ r → get_or (set xs (row - 1) x) r 0 ≡ 0)
-offer_more xs ys row x lo lt done rest is = (
+pub one_more : (xs : List ℕ) (f : ℕ → ℕ) (row x : ℕ) → 1 ≤ row → row - 1 < length xs → ((r : ℕ) → r < row - 1 → get_or xs r 0 ≡ f r) → ((r : ℕ) → row - 1 ≤ r → get_or xs r 0 ≡ 0) → f (row - 1) ≡ x →
+    ((r : ℕ) → r < row + 1 - 1 → get_or (set xs (row - 1) x) r 0 ≡ f r) × ((r : ℕ) → row + 1 - 1 ≤ r → get_or (set xs (row - 1) x) r 0 ≡ 0)
+one_more xs f row x lo lt done rest is = (
   λ r less. ⊎_elim
       (λ below. let ne : r ≢ row - 1 = λ q. absurd (omega arith) in get_or-set_other xs (row - 1) r x 0 ne ∙ done r below)
-      (λ at. let q : r ≡ row - 1 = omega arith in ap (λ j. get_or (set xs (row - 1) x) j 0) q ∙ get_or-set_same xs (row - 1) x 0 lt ∙ sym is ∙ ap (λ j. get_or ys j 0) (sym q))
+      (λ at. let q : r ≡ row - 1 = omega arith in ap (λ j. get_or (set xs (row - 1) x) j 0) q ∙ get_or-set_same xs (row - 1) x 0 lt ∙ sym is ∙ ap f (sym q))
       (cases_lt r (row - 1)),
   λ r ge. let ne : r ≢ row - 1 = λ q. absurd (omega arith) in get_or-set_other xs (row - 1) r x 0 ne ∙ rest r (omega arith),
 )
 
+-- what is the greatest from a row on
+pub greatest_drop : (xs : List ℕ) (i : ℕ) → i < length xs → greatest (drop i xs) ≡ max (get_or xs i 0) (greatest (drop (suc i) xs))
+greatest_drop xs i lt = ap greatest (drop-cons xs i 0 lt)
+
 -- what is found of a rank that is left, from its stack as it is read
-pub met_here : (s : Position) (k row : ℕ) (stack left offering : List ℕ) (kept more offered : ℕ) → Reads s k row stack left → All (λ rank. rank ≤ 96) stack → holds k (take (get_or left (row - 1) 0) stack) ≡ true →
-    take kept (take (get_or left (row - 1) 0) stack) ≡ below k (take (get_or left (row - 1) 0) stack) → kept < length (take (get_or left (row - 1) 0) stack) → more ≡ count_by (nat_lt (greatest offering)) (above k (take (get_or left (row - 1) 0) stack)) → more ≤ 8 →
-    offered ≡ least_ordered s.ordered (take kept (take (get_or left (row - 1) 0) stack)) → Met s.ordered s.heights s.stacks k left offering (row - 1) kept more offered
-met_here s k row stack left offering kept more offered r ranks held cut lower counts few is =
+pub met_here : (s : Position) (k row : ℕ) (stack left : List ℕ) (most kept more offered : ℕ) → Reads s k row stack left → All (λ rank. rank ≤ 96) stack → holds k (take (get_or left (row - 1) 0) stack) ≡ true →
+    take kept (take (get_or left (row - 1) 0) stack) ≡ below k (take (get_or left (row - 1) 0) stack) → kept < length (take (get_or left (row - 1) 0) stack) → more ≡ count_by (nat_lt most) (above k (take (get_or left (row - 1) 0) stack)) → more ≤ 8 →
+    offered ≡ least_ordered s.ordered (take kept (take (get_or left (row - 1) 0) stack)) → Met s.ordered s.heights s.stacks k left most (row - 1) kept more offered
+met_here s k row stack left most kept more offered r ranks held cut lower counts few is =
     let here : take (get_or left (row - 1) 0) stack ≡ take (get_or left (row - 1) 0) (get_or s.stacks (row - 1) []) = ap (take (get_or left (row - 1) 0)) (sym r.stack_is) in
     record {
       is_row = r.index;
@@ -137,7 +141,7 @@ met_here s k row stack left offering kept more offered r ranks held cut lower co
       held = ap (holds k) (sym here) ∙ held;
       below_it = subst (λ l. take kept l ≡ below k l) here cut;
       lower = subst (λ l. kept < length l) here lower;
-      counts = counts ∙ ap (λ l. count_by (nat_lt (greatest offering)) (above k l)) here;
+      counts = counts ∙ ap (λ l. count_by (nat_lt most) (above k l)) here;
       few = few;
       offer_is = is ∙ ap (λ l. least_ordered s.ordered (take kept l)) here;
     }

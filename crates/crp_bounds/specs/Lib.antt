@@ -6,3 +6,4 @@ pub use Rattle.crp_bay.specs.Back
 pub mod Leasts
 pub mod Undoing
 pub mod Offers
+pub mod Turns

@@ -1,7 +1,8 @@
 //! A position that is changed in place, with its bounds.
-ghost use Rattle.std.specs.Prelude.{◌≡◌, ◌+◌, ◌-◌, ◌*◌, ◌<◌, ◌≤◌, ◌↔◌, [], ◌∷◌, IsTrue, IfSome, IfNone, Contains};
+ghost use Rattle.std.specs.Prelude.{◌≡◌, ◌+◌, ◌-◌, ◌*◌, ◌<◌, ◌≤◌, ◌↔◌, ℕ, List, [], ◌∷◌, ◌++◌, IsTrue, IfSome, IfNone, Contains};
 ghost use Rattle.std.specs.Bool.{OnTrue, OnFalse};
-ghost use Rattle.crp_plan.specs.Bay.{start, IsProblem};
+ghost use Rattle.crp_plan.specs.declared.moves.Move.{Move};
+ghost use Rattle.crp_plan.specs.Bay.{Problem as Statement, start, IsProblem, IsAt, IsLegalRow, Completes, relocations};
 ghost use Rattle.crp_bay.specs.Positions.{settled, child, targets, can_shift, stack_at};
 ghost use Rattle.crp_bay.specs.Located.{moved};
 ghost use Rattle.crp_bounds.specs.Bounds.{blocking as blocking_bound, look_ahead as look_ahead_bound};
@@ -61,6 +62,7 @@ fn blocking_with(blocking: u8, rank: u8, onto: u8) -> u8
 impl Bounded {
     /// The position before the first relocation, with nothing to undo.
     pub fn start(problem: &Problem) -> Bounded
+        ensures at { IsAt problem.now [] result.place }
         ensures value { result ≡ record { place = settled (start problem.now); trail = [] } }
         ensures problem { IsProblem problem.now }
     {
@@ -99,7 +101,14 @@ impl Bounded {
     }
 
     /// Relocates to the row and makes every retrieval that is legal then, where the relocation is legal; else it changes nothing.
+    #[inline]
     pub fn push(&mut self, row: u8) -> bool
+        ensures legal { (p : Statement) (path : List ℕ) → IsProblem p → IsAt p path self.old.place
+            → (IsTrue result ↔ IsLegalRow p path row) }
+        ensures at { OnTrue result ((p : Statement) (path : List ℕ) → IsProblem p
+            → IsAt p path self.old.place → IsAt p (path ++ row ∷ []) self.new.place) }
+
+        // What the definitions compute.
         ensures target { IsTrue result ↔ Contains (targets self.old.place) row }
         ensures pushed { OnTrue result (self.new ≡ record { place = child self.old.place row; trail = self.old.place ∷ self.old.trail }) }
         ensures refused { OnFalse result (self.new ≡ self.old) }
@@ -123,6 +132,7 @@ impl Bounded {
     }
 
     /// Undoes the last push that is not undone. Where there is none it changes nothing.
+    #[inline]
     pub fn pop(&mut self) -> bool
         ensures popped { OnTrue result (self.old.trail ≡ self.new.place ∷ self.new.trail) }
         ensures none { OnFalse result (self.old.trail ≡ []) }
@@ -141,6 +151,7 @@ impl Bounded {
     #[inline]
     pub fn blocking(&self) -> u32
         ensures value { result ≡ blocking_bound self.now.place }
+        ensures below_every_run { (moves : List Move) → Completes self.now.place moves → result ≤ relocations moves }
         ensures few { result ≤ 96 }
     {
         u32::from(self.blocking)
@@ -159,6 +170,7 @@ impl Bounded {
     /// The look-ahead bound of the position.
     pub fn look_ahead(&self) -> u32
         ensures value { result ≡ look_ahead_bound self.now.place }
+        ensures below_every_run { (moves : List Move) → Completes self.now.place moves → result ≤ relocations moves }
         ensures few { result ≤ 96 + 96 * 96 }
     {
         let blocking = self.blocking();
@@ -166,6 +178,7 @@ impl Bounded {
     }
 
     /// The look-ahead bound of the position, where it reaches `need`. It stops counting as soon as it cannot.
+    #[inline]
     pub fn look_ahead_reaching(&self, need: u32) -> Option<u32>
         ensures value { IfSome result (λ bound. bound ≡ look_ahead_bound self.now.place) }
         ensures reached { IfSome result (λ bound. need ≤ bound) }

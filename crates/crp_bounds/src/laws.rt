@@ -1,10 +1,12 @@
 //! Laws of the bounds, for the crates above.
-ghost use Rattle.std.specs.Prelude.{◌≡◌, ℕ, ◌≤◌, ◌+◌, List, [], ◌∷◌, ◌++◌, length, IsTrue, IsFalse, ◌↔◌, Some, slice_get, sum_by};
+ghost use Rattle.std.specs.Prelude.{◌≡◌, ℕ, ◌≤◌, ◌+◌, ◌-◌, suc, List, [], ◌∷◌, ◌++◌, length, map, IsTrue, IsFalse, ◌↔◌, Some, slice_get, sum_by};
 ghost use Rattle.std.specs.List.{AllZip};
 ghost use Rattle.crp_plan.specs.declared.moves.Move.{Move};
 ghost use Rattle.crp_plan.specs.Rows.{holds, occurrences, above, below};
 ghost use Rattle.crp_plan.specs.Bay.{Problem, IsProblem, Position, IsSound, Legal, Completes, IsPlan, relocations, path_of, IsAt};
-ghost use Rattle.crp_bounds.specs.Bounds.{blocking, look_ahead, has_no_place, HasNoPlace};
+ghost use Rattle.crp_bay.specs.Positions.{counted};
+ghost use Rattle.crp_bounds.specs.Bounds.{blocking, look_ahead, stuck_above, has_no_place, HasNoPlace};
+ghost use Rattle.crp_bounds.specs.Turns.{left_at};
 ghost use Rattle.crp_bounds.specs.BlockingPlaces.{AreBlockers};
 
 /// The blocking bound is at most the relocations of any way to the end.
@@ -49,13 +51,17 @@ pub fn plans_pass()
 {}
 
 /// What the bounds count, said by places: the blocking bound counts the containers that stand, in their stack, above an ordered one
-/// of a lower rank. And what the tests of the look-ahead bound say: of the stacks other than the rank's own, and of a stack cut at
-/// the rank.
+/// of a lower rank. The look-ahead bound adds a sum over the ranks from the next to the last: for each, of what is left of the
+/// stacks, the containers above it that have no place. And what the parts of that say: of the stacks other than the rank's own,
+/// of a stack cut at the rank, and of one that does not hold it.
 pub fn words_mean()
     ensures blocking { (s : Position)
         → ((blockers : List (List ℕ)) × AllZip (AreBlockers s.ordered) s.stacks blockers × (blocking s ≡ sum_by length blockers)) }
+    ensures look_ahead { (s : Position)
+        → look_ahead s ≡ blocking s + sum_by (λ k. stuck_above s.ordered s.heights (map (left_at s.next k) s.stacks) k) (counted s.next (suc s.ordered - s.next)) }
     ensures no_place { (ordered k own : ℕ) (heights : List ℕ) (stacks : List (List ℕ)) (stack : List ℕ) (c : ℕ) → slice_get stacks own ≡ Some stack
         → IsTrue (holds k stack) → occurrences k stacks ≤ 1
         → (IsTrue (has_no_place ordered k heights stacks c) ↔ HasNoPlace ordered own heights stacks c) }
     ensures cut { (k : ℕ) (low high : List ℕ) → IsFalse (holds k low) → (above k (low ++ k ∷ high) ≡ high) × (below k (low ++ k ∷ high) ≡ low) }
+    ensures absent { (k : ℕ) (stack : List ℕ) → IsFalse (holds k stack) → (above k stack ≡ []) × (below k stack ≡ stack) }
 {}

@@ -1,24 +1,12 @@
-//! The count of the look-ahead bound with no stack copied or cut: how much is left of each, and what each row offers.
+//! The count of the look-ahead bound with no stack copied or cut: how much is left of each, and the greatest offer of all rows.
 ghost use Rattle.std.specs.Prelude.{◌≡◌, ℕ, ◌+◌, ◌-◌, ◌*◌, ◌<◌, ◌≤◌, suc, true, List, [], All, length, take, count_by, ◌==◌, nat_lt, slice_index, slice_index_or, IfSome, IfNone};
 ghost use Rattle.crp_plan.specs.Rows.{holds, above, below};
 ghost use Rattle.crp_bounds.specs.Bounds.{blocking as blocking_bound, stuck_from, stuck_now};
 ghost use Rattle.crp_bounds.specs.Leasts.{least_ordered, KnowsLeasts};
-ghost use Rattle.crp_bounds.specs.Offers.{greatest as greatest_of, offer, offers};
+ghost use Rattle.crp_bounds.specs.Offers.{greatest, offer, offers};
 
 use crate::known::least_of;
 use crp_bay::Position;
-
-/// How many containers stand in each row, from 0.
-fn heights_now(position: &Position) -> [u8; 16]
-    ensures value { (r : ℕ) → slice_index result r ≡ length (slice_index_or position.now.place.stacks r []) }
-    ensures long { length result ≡ 16 }
-{
-    let mut left = [0u8; 16];
-    for row in 1..position.rows() + 1 {
-        left[row as usize - 1] = position.stack(row).len() as u8;
-    }
-    left
-}
 
 /// What a row of a height with this stack offers.
 #[inline]
@@ -34,32 +22,23 @@ fn offer_of(ordered: u8, leasts: &[u8; 97], height: u8, stack: &[u8]) -> u8
     least_of(ordered, leasts, stack)
 }
 
-/// What each row offers, from 0.
-fn offers_now(position: &Position, leasts: &[u8; 97]) -> [u8; 16]
-    requires { KnowsLeasts leasts.now position.now.place }
-    ensures value { (r : ℕ)
-        → slice_index result r ≡ slice_index (offers position.now.place.ordered position.now.place.heights position.now.place.stacks) r }
-    ensures long { length result ≡ 16 }
+/// Writes how many containers stand in each row, from 0, and answers the greatest of what all rows offer.
+#[inline]
+fn begun(position: &Position, leasts: &[u8; 97], left: &mut [u8; 16]) -> u8
+    requires known { KnowsLeasts leasts.now position.now.place }
+    requires empty { (r : ℕ) → slice_index left.old r ≡ 0 }
+    ensures left { (r : ℕ) → slice_index left.new r ≡ length (slice_index_or position.now.place.stacks r []) }
+    ensures long { length left.new ≡ 16 }
+    ensures most { result ≡ greatest (offers position.now.place.ordered position.now.place.heights position.now.place.stacks) }
 {
-    let mut offers = [0u8; 16];
+    let mut most: u8 = 0;
     for row in 1..position.rows() + 1 {
         let height = position.height(row);
         let stack = position.stack(row);
-        offers[row as usize - 1] = offer_of(position.ordered(), leasts, height, stack);
+        left[row as usize - 1] = stack.len() as u8;
+        most = most.max(offer_of(position.ordered(), leasts, height, stack));
     }
-    offers
-}
-
-/// The greatest of all offers.
-#[inline]
-fn greatest(offers: &[u8; 16]) -> u8
-    ensures { result ≡ greatest_of offers.now }
-{
-    let mut greatest: u8 = 0;
-    for offer in offers {
-        greatest = greatest.max(*offer);
-    }
-    greatest
+    most
 }
 
 /// Of the containers above a rank how many are greater than the greatest offer, and how many stand below the rank.
@@ -122,8 +101,8 @@ pub fn again_reaching(
     if blocking < need {
         return None;
     }
-    let mut left = heights_now(position);
-    let mut offers = offers_now(position, leasts);
+    let mut left = [0u8; 16];
+    let mut most = begun(position, leasts, &mut left);
     let mut again: u32 = 0;
     let mut still = blocking;
     for rank in position.next()..ordered + 1 {
@@ -131,7 +110,6 @@ pub fn again_reaching(
         let index = row as usize - 1;
         let stack = &position.stack(row)[..left[index] as usize];
         if least_of(ordered, leasts, stack) == rank {
-            let most = greatest(&offers);
             if most == 255 {
                 return if_reached(again, need);
             }
@@ -142,7 +120,7 @@ pub fn again_reaching(
                 return None;
             }
             left[index] = kept as u8;
-            offers[index] = least_of(ordered, leasts, &stack[..kept]);
+            most = most.max(least_of(ordered, leasts, &stack[..kept]));
         }
     }
     if_reached(again, need)

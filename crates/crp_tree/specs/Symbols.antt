@@ -1,5 +1,5 @@
 -- A tree as its symbols in a row, a branch before its trees; and the tree that symbols are those of.
-use Rattle.std.specs.Prelude.{◌≡◌, ℕ, List, [], ◌∷◌, ◌++◌, length, take, drop}
+use Rattle.std.specs.Prelude.{◌≡◌, ℕ, Bool, true, false, List, [], ◌∷◌, ◌++◌, length, take, drop}
 use Rattle.std.proofs.Common.{refl, ap, sym, ◌∙◌, append_assoc, append-nil}
 use Rattle.std.proofs.Math.Seq.{take-append_seam, drop-append_seam}
 use Rattle.std.specs.Coded.{Coded, code_by, coded_list}
@@ -20,6 +20,13 @@ abbrev mutual
   pub symbols_of_each : Trees → List Symbol
   symbols_of_each no_trees = []
   symbols_of_each (one_and tree trees) = symbols tree ++ symbols_of_each trees
+
+-- the symbol of a subtree that is given away
+abbrev pub gives_away : Symbol → Bool
+gives_away symbol.CutB = false
+gives_away symbol.CutL = false
+gives_away (symbol.Branch n) = false
+gives_away symbol.Given = true
 
 -- the trees whose symbols these are, one after the other
 abbrev pub trees_of : List Symbol → List Tree

@@ -1,10 +1,11 @@
+ghost use Rattle.std.specs.List.{list_any};
 ghost use Rattle.std.specs.Prelude.{◌≡◌, List, ◌++◌, All, AllPairs, IfOk, OnOk};
 ghost use Rattle.crp_plan.specs.Bay.{IsProblem, cap, Position as Place};
 ghost use Rattle.crp_bay.specs.Positions.{targets};
 ghost use Rattle.crp_tree.specs.Names.{Precedes};
 ghost use Rattle.crp_tree.specs.Trees.{nodes, Fits, IsInPlace, given_names, least_value};
 ghost use Rattle.crp_tree.specs.Listed.{AreFit, nodes_below};
-ghost use Rattle.crp_tree.specs.Symbols.{tree_of, some_trees, ComesFirst, ComeFirst};
+ghost use Rattle.crp_tree.specs.Symbols.{tree_of, some_trees, gives_away, ComesFirst, ComeFirst};
 ghost use Rattle.crp_tree.specs.Claims.{IsPart, nodes_in};
 ghost use Rattle.crp_tree.specs.Parts.{given_of, IsKeptPart};
 
@@ -101,9 +102,23 @@ impl Part {
         let Some(place) = self.name.position(&self.problem) else {
             unreachable!()
         };
-        let _behind = collect(self.tree.symbols(), &self.name, &place, &mut names)?;
+        let list = self.tree.symbols();
+        if !gives(list) {
+            return Ok(Names::from_vec(names));
+        }
+        let _behind = collect(list, &self.name, &place, &mut names)?;
         Ok(Names::from_vec(names))
     }
+}
+
+/// Whether one of the symbols gives a subtree away.
+fn gives(list: &[Symbol]) -> bool
+    ensures { result ≡ list_any gives_away list.now }
+{
+    list.iter().any(|symbol| match symbol {
+        Symbol::CutB | Symbol::CutL | Symbol::Branch(_) => false,
+        Symbol::Given => true,
+    })
 }
 
 /// Adds the names that the tree whose symbols come first gives at a path, and answers what is behind it. None has more than 8 rows.

@@ -1,7 +1,7 @@
-use Rattle.std.proofs.Common.{◌≡◌, ℕ, ◌+◌, ◌-◌, ◌<◌, ◌≤◌, true, false, List, [], length, take, get_or, set, count_by, nat_lt, refl, sym, ap, ◌∙◌, subst, arith}
+use Rattle.std.proofs.Common.{◌≡◌, ℕ, ◌+◌, ◌-◌, ◌<◌, ◌≤◌, max, true, false, List, [], length, take, get_or, set, refl, sym, ap, ◌∙◌, subst, arith}
 use Rattle.std.specs.Prelude.{IfSome, IfNone}
 use Rattle.std.proofs.lemmas.List.{length-take-le}
-use Rattle.crp_plan.specs.Rows.{holds, above}
+use Rattle.crp_plan.specs.Rows.{holds}
 use Rattle.crp_plan.specs.Bay.{Position}
 use Rattle.crp_plan.proofs.Lists.{times}
 use Rattle.crp_bay.proofs.Reaching.{reached_sound, reached_rows, reached_ordered}
@@ -22,7 +22,7 @@ overflow_add-rank-end c = omega (arith, c.ordered-ordered.ensures.value, reached
 
 pub loop-rank-init : goal.loop-rank-init
 loop-rank-init c =
-    remains_begins c.args.position.now.place c.heights_now-left.result c.offers_now-offers.result c.next-rank.result c.args.blocking c.ordered-ordered.ensures.reached c.heights_now-left.ensures.value c.offers_now-offers.ensures.value c.heights_now-left.ensures.long c.offers_now-offers.ensures.long c.next-rank.ensures.value c.requires.blocking
+    remains_begins c.args.position.now.place c.begun-most.new.left c.begun-most.result c.next-rank.result c.args.blocking c.ordered-ordered.ensures.reached c.begun-most.ensures.left c.begun-most.ensures.most c.begun-most.ensures.long c.next-rank.ensures.value c.requires.blocking
 
 pub bounds-left-index : goal.bounds-left-index
 bounds-left-index c = omega (arith, c.row_of-row.ensures.there, (reached_rows c.args.position.now.place c.ordered-ordered.ensures.reached).1)
@@ -36,21 +36,21 @@ pub returns-then-most-clause-value : goal.returns-then-most-clause-value
 returns-then-most-clause-value c =
     let s : Position = c.args.position.now.place in
     subst (λ n. IfSome c.if_reached.result (λ again. again ≡ n))
-    (ahead_ends s.ordered s.next s.heights s.stacks c.loop-rank.rank c.loop-rank.left c.loop-rank.offers c.loop-rank.again c.loop-rank.invariant.ahead (omega (arith, c.ordered-ordered.ensures.value)) (reached_ordered s c.ordered-ordered.ensures.reached) (sym c.greatest-most.ensures ∙ c.if-most.true))
+    (ahead_ends s.ordered s.next s.heights s.stacks c.loop-rank.rank c.loop-rank.left c.loop-rank.most c.loop-rank.again c.loop-rank.invariant.ahead (omega (arith, c.ordered-ordered.ensures.value)) (reached_ordered s c.ordered-ordered.ensures.reached) c.if-most.true)
     c.if_reached.ensures.value
 
 pub returns-then-most-clause-short : goal.returns-then-most-clause-short
 returns-then-most-clause-short c =
     let s : Position = c.args.position.now.place in
     subst (λ n. IfNone c.if_reached.result (n < c.args.need))
-    (ahead_ends s.ordered s.next s.heights s.stacks c.loop-rank.rank c.loop-rank.left c.loop-rank.offers c.loop-rank.again c.loop-rank.invariant.ahead (omega (arith, c.ordered-ordered.ensures.value)) (reached_ordered s c.ordered-ordered.ensures.reached) (sym c.greatest-most.ensures ∙ c.if-most.true))
+    (ahead_ends s.ordered s.next s.heights s.stacks c.loop-rank.rank c.loop-rank.left c.loop-rank.most c.loop-rank.again c.loop-rank.invariant.ahead (omega (arith, c.ordered-ordered.ensures.value)) (reached_ordered s c.ordered-ordered.ensures.reached) c.if-most.true)
     c.if_reached.ensures.short
 
 pub cut_at_rank-more-requires-clause-held : goal.cut_at_rank-more-requires-clause-held
 cut_at_rank-more-requires-clause-held c =
     let s : Position = c.args.position.now.place in
     let r : Reads s c.loop-rank.rank c.row_of-row.result c.stack.result.now c.loop-rank.left = reads s c.loop-rank.rank c.row_of-row.result c.stack.result.now c.loop-rank.left c.ordered-ordered.ensures.reached c.row_of-row.ensures.value c.row_of-row.ensures.there c.stack.ensures.value c.loop-rank.invariant.ahead.within in
-    (held_test s c.loop-rank.rank c.row_of-row.result c.stack.result.now c.loop-rank.left c.loop-rank.offers c.loop-rank.again c.ordered-ordered.ensures.reached r c.loop-rank.invariant.ahead (omega (arith, c.ordered-ordered.ensures.value))).0
+    (held_test s c.loop-rank.rank c.row_of-row.result c.stack.result.now c.loop-rank.left c.loop-rank.most c.loop-rank.again c.ordered-ordered.ensures.reached r c.loop-rank.invariant.ahead (omega (arith, c.ordered-ordered.ensures.value))).0
     (ap (λ o. least_ordered o (take (get_or c.loop-rank.left (c.row_of-row.result - 1) 0) c.stack.result.now)) (sym c.ordered-ordered.ensures.value) ∙ sym c.least_of.ensures ∙ c.if-least_of-rank.true)
 
 pub cut_at_rank-more-requires-clause-once : goal.cut_at_rank-more-requires-clause-once
@@ -69,14 +69,14 @@ overflow_sub-still-then-least_of-rank-2 c =
     let r : Reads s k row c.stack.result.now c.loop-rank.left = reads s k row c.stack.result.now c.loop-rank.left c.ordered-ordered.ensures.reached c.row_of-row.ensures.value c.row_of-row.ensures.there c.stack.ensures.value c.loop-rank.invariant.ahead.within in
     let part : List ℕ = take (get_or c.loop-rank.left (row - 1) 0) c.stack.result.now in
     let least_is : c.least_of.result ≡ least_ordered s.ordered part = c.least_of.ensures ∙ ap (λ o. least_ordered o part) c.ordered-ordered.ensures.value in
-    let test = held_test s k row c.stack.result.now c.loop-rank.left c.loop-rank.offers c.loop-rank.again c.ordered-ordered.ensures.reached r c.loop-rank.invariant.ahead le in
+    let test = held_test s k row c.stack.result.now c.loop-rank.left c.loop-rank.most c.loop-rank.again c.ordered-ordered.ensures.reached r c.loop-rank.invariant.ahead le in
     let held : holds k part ≡ true = test.0 (sym least_is ∙ c.if-least_of-rank.true) in
     let cut = c.cut_at_rank-more in
-    let m : Met s.ordered s.heights s.stacks k c.loop-rank.left c.loop-rank.offers (row - 1) cut.result.kept cut.result.more (least_ordered s.ordered (take c.cut_at_rank-more.result.kept part)) =
-    met_here s k row c.stack.result.now c.loop-rank.left c.loop-rank.offers cut.result.kept cut.result.more (least_ordered s.ordered (take c.cut_at_rank-more.result.kept part)) r c.stack.ensures.ranks held cut.ensures.below cut.ensures.lower
-    (cut.ensures.more ∙ ap (λ g. count_by (nat_lt g) (above k part)) c.greatest-most.ensures) cut.ensures.few (refl) in
-    let t : Turned s k row c.stack.result.now c.loop-rank.left c.loop-rank.offers c.loop-rank.again c.loop-rank.still cut.result.kept cut.result.more (least_ordered s.ordered (take c.cut_at_rank-more.result.kept part)) =
-    turned s k row c.stack.result.now c.loop-rank.left c.loop-rank.offers c.loop-rank.again c.loop-rank.still cut.result.kept cut.result.more (least_ordered s.ordered (take c.cut_at_rank-more.result.kept part)) c.loop-rank.invariant c.ordered-ordered.ensures.reached le r m in
+    let m : Met s.ordered s.heights s.stacks k c.loop-rank.left c.loop-rank.most (row - 1) cut.result.kept cut.result.more (least_ordered s.ordered (take c.cut_at_rank-more.result.kept part)) =
+    met_here s k row c.stack.result.now c.loop-rank.left c.loop-rank.most cut.result.kept cut.result.more (least_ordered s.ordered (take c.cut_at_rank-more.result.kept part)) r c.stack.ensures.ranks held cut.ensures.below cut.ensures.lower
+    cut.ensures.more cut.ensures.few (refl) in
+    let t : Turned s k row c.stack.result.now c.loop-rank.left c.loop-rank.most c.loop-rank.again c.loop-rank.still cut.result.kept cut.result.more (least_ordered s.ordered (take c.cut_at_rank-more.result.kept part)) =
+    turned s k row c.stack.result.now c.loop-rank.left c.loop-rank.most c.loop-rank.again c.loop-rank.still cut.result.kept cut.result.more (least_ordered s.ordered (take c.cut_at_rank-more.result.kept part)) c.loop-rank.invariant c.ordered-ordered.ensures.reached le r m in
     t.within
 
 pub returns-then-again-still-clause-short : goal.returns-then-again-still-clause-short
@@ -88,15 +88,15 @@ returns-then-again-still-clause-short c =
     let r : Reads s k row c.stack.result.now c.loop-rank.left = reads s k row c.stack.result.now c.loop-rank.left c.ordered-ordered.ensures.reached c.row_of-row.ensures.value c.row_of-row.ensures.there c.stack.ensures.value c.loop-rank.invariant.ahead.within in
     let part : List ℕ = take (get_or c.loop-rank.left (row - 1) 0) c.stack.result.now in
     let least_is : c.least_of.result ≡ least_ordered s.ordered part = c.least_of.ensures ∙ ap (λ o. least_ordered o part) c.ordered-ordered.ensures.value in
-    let test = held_test s k row c.stack.result.now c.loop-rank.left c.loop-rank.offers c.loop-rank.again c.ordered-ordered.ensures.reached r c.loop-rank.invariant.ahead le in
+    let test = held_test s k row c.stack.result.now c.loop-rank.left c.loop-rank.most c.loop-rank.again c.ordered-ordered.ensures.reached r c.loop-rank.invariant.ahead le in
     let held : holds k part ≡ true = test.0 (sym least_is ∙ c.if-least_of-rank.true) in
     let cut = c.cut_at_rank-more in
-    let m : Met s.ordered s.heights s.stacks k c.loop-rank.left c.loop-rank.offers (row - 1) cut.result.kept cut.result.more (least_ordered s.ordered (take c.cut_at_rank-more.result.kept part)) =
-    met_here s k row c.stack.result.now c.loop-rank.left c.loop-rank.offers cut.result.kept cut.result.more (least_ordered s.ordered (take c.cut_at_rank-more.result.kept part)) r c.stack.ensures.ranks held cut.ensures.below cut.ensures.lower
-    (cut.ensures.more ∙ ap (λ g. count_by (nat_lt g) (above k part)) c.greatest-most.ensures) cut.ensures.few (refl) in
-    let t : Turned s k row c.stack.result.now c.loop-rank.left c.loop-rank.offers c.loop-rank.again c.loop-rank.still cut.result.kept cut.result.more (least_ordered s.ordered (take c.cut_at_rank-more.result.kept part)) =
-    turned s k row c.stack.result.now c.loop-rank.left c.loop-rank.offers c.loop-rank.again c.loop-rank.still cut.result.kept cut.result.more (least_ordered s.ordered (take c.cut_at_rank-more.result.kept part)) c.loop-rank.invariant c.ordered-ordered.ensures.reached le r m in
-    omega (arith, remains_most s.ordered s.next s.heights s.stacks (k + 1) (set c.loop-rank.left (row - 1) cut.result.kept) (set c.loop-rank.offers (row - 1) (least_ordered s.ordered (take c.cut_at_rank-more.result.kept part))) (c.loop-rank.again + cut.result.more) (c.loop-rank.still - (length part - 1 - cut.result.kept)) t.remains (bay_of s c.ordered-ordered.ensures.reached) (omega arith), c.if-again-still.true)
+    let m : Met s.ordered s.heights s.stacks k c.loop-rank.left c.loop-rank.most (row - 1) cut.result.kept cut.result.more (least_ordered s.ordered (take c.cut_at_rank-more.result.kept part)) =
+    met_here s k row c.stack.result.now c.loop-rank.left c.loop-rank.most cut.result.kept cut.result.more (least_ordered s.ordered (take c.cut_at_rank-more.result.kept part)) r c.stack.ensures.ranks held cut.ensures.below cut.ensures.lower
+    cut.ensures.more cut.ensures.few (refl) in
+    let t : Turned s k row c.stack.result.now c.loop-rank.left c.loop-rank.most c.loop-rank.again c.loop-rank.still cut.result.kept cut.result.more (least_ordered s.ordered (take c.cut_at_rank-more.result.kept part)) =
+    turned s k row c.stack.result.now c.loop-rank.left c.loop-rank.most c.loop-rank.again c.loop-rank.still cut.result.kept cut.result.more (least_ordered s.ordered (take c.cut_at_rank-more.result.kept part)) c.loop-rank.invariant c.ordered-ordered.ensures.reached le r m in
+    omega (arith, remains_most s.ordered s.next s.heights s.stacks (k + 1) (set c.loop-rank.left (row - 1) cut.result.kept) (max c.loop-rank.most (least_ordered s.ordered (take c.cut_at_rank-more.result.kept part))) (c.loop-rank.again + cut.result.more) (c.loop-rank.still - (length part - 1 - cut.result.kept)) t.remains (bay_of s c.ordered-ordered.ensures.reached) (omega arith), c.if-again-still.true)
 
 pub least_of-requires-then-least_of-rank-clause-ranks : goal.least_of-requires-then-least_of-rank-clause-ranks
 least_of-requires-then-least_of-rank-clause-ranks c =
@@ -111,28 +111,28 @@ loop-rank-preserved c =
     let r : Reads s k row c.stack.result.now c.loop-rank.left = reads s k row c.stack.result.now c.loop-rank.left c.ordered-ordered.ensures.reached c.row_of-row.ensures.value c.row_of-row.ensures.there c.stack.ensures.value c.loop-rank.invariant.ahead.within in
     let part : List ℕ = take (get_or c.loop-rank.left (row - 1) 0) c.stack.result.now in
     let least_is : c.least_of.result ≡ least_ordered s.ordered part = c.least_of.ensures ∙ ap (λ o. least_ordered o part) c.ordered-ordered.ensures.value in
-    let test = held_test s k row c.stack.result.now c.loop-rank.left c.loop-rank.offers c.loop-rank.again c.ordered-ordered.ensures.reached r c.loop-rank.invariant.ahead le in
-    let goes : List ℕ → List ℕ → ℕ → ℕ → Type 0 = λ left offering again still. Remains s.ordered s.next s.heights s.stacks (k + 1) left offering again still in
+    let test = held_test s k row c.stack.result.now c.loop-rank.left c.loop-rank.most c.loop-rank.again c.ordered-ordered.ensures.reached r c.loop-rank.invariant.ahead le in
+    let goes : List ℕ → ℕ → ℕ → ℕ → Type 0 = λ left most again still. Remains s.ordered s.next s.heights s.stacks (k + 1) left most again still in
     elim c.if-least_of-rank.branch [
       | then-least_of-rank+else-most+else-again-still w ↦
           let held : holds k part ≡ true = test.0 (sym least_is ∙ w.if-least_of-rank.true) in
           let cut = w.cut_at_rank-more in
-          let m : Met s.ordered s.heights s.stacks k c.loop-rank.left c.loop-rank.offers (row - 1) cut.result.kept cut.result.more (w.least_of-then-least_of-rank.result) =
-          met_here s k row c.stack.result.now c.loop-rank.left c.loop-rank.offers cut.result.kept cut.result.more (w.least_of-then-least_of-rank.result) r c.stack.ensures.ranks held cut.ensures.below cut.ensures.lower
-          (cut.ensures.more ∙ ap (λ g. count_by (nat_lt g) (above k part)) w.greatest-most.ensures) cut.ensures.few (w.least_of-then-least_of-rank.ensures ∙ ap (λ o. least_ordered o (take cut.result.kept part)) c.ordered-ordered.ensures.value) in
-          let t : Turned s k row c.stack.result.now c.loop-rank.left c.loop-rank.offers c.loop-rank.again c.loop-rank.still cut.result.kept cut.result.more (w.least_of-then-least_of-rank.result) =
-          turned s k row c.stack.result.now c.loop-rank.left c.loop-rank.offers c.loop-rank.again c.loop-rank.still cut.result.kept cut.result.more (w.least_of-then-least_of-rank.result) c.loop-rank.invariant c.ordered-ordered.ensures.reached le r m in
-          subst (λ l. goes l c.if-least_of-rank.offers c.if-least_of-rank.again c.if-least_of-rank.still) (sym w.left-is)
-          (subst (λ o. goes (set c.loop-rank.left (row - 1) cut.result.kept) o c.if-least_of-rank.again c.if-least_of-rank.still) (sym w.offers-is)
-          (subst (λ n. goes (set c.loop-rank.left (row - 1) cut.result.kept) (set c.loop-rank.offers (row - 1) w.least_of-then-least_of-rank.result) n c.if-least_of-rank.still) (sym w.again-is)
-          (subst (λ n. goes (set c.loop-rank.left (row - 1) cut.result.kept) (set c.loop-rank.offers (row - 1) w.least_of-then-least_of-rank.result) (c.loop-rank.again + cut.result.more) n) (sym w.still-is) t.remains)))
+          let m : Met s.ordered s.heights s.stacks k c.loop-rank.left c.loop-rank.most (row - 1) cut.result.kept cut.result.more (w.least_of-then-least_of-rank.result) =
+          met_here s k row c.stack.result.now c.loop-rank.left c.loop-rank.most cut.result.kept cut.result.more (w.least_of-then-least_of-rank.result) r c.stack.ensures.ranks held cut.ensures.below cut.ensures.lower
+          cut.ensures.more cut.ensures.few (w.least_of-then-least_of-rank.ensures ∙ ap (λ o. least_ordered o (take cut.result.kept part)) c.ordered-ordered.ensures.value) in
+          let t : Turned s k row c.stack.result.now c.loop-rank.left c.loop-rank.most c.loop-rank.again c.loop-rank.still cut.result.kept cut.result.more (w.least_of-then-least_of-rank.result) =
+          turned s k row c.stack.result.now c.loop-rank.left c.loop-rank.most c.loop-rank.again c.loop-rank.still cut.result.kept cut.result.more (w.least_of-then-least_of-rank.result) c.loop-rank.invariant c.ordered-ordered.ensures.reached le r m in
+          subst (λ l. goes l c.if-least_of-rank.most c.if-least_of-rank.again c.if-least_of-rank.still) (sym w.left-is)
+          (subst (λ o. goes (set c.loop-rank.left (row - 1) cut.result.kept) o c.if-least_of-rank.again c.if-least_of-rank.still) (sym (w.most-is ∙ w.max-most.ensures))
+          (subst (λ n. goes (set c.loop-rank.left (row - 1) cut.result.kept) (max c.loop-rank.most w.least_of-then-least_of-rank.result) n c.if-least_of-rank.still) (sym w.again-is)
+          (subst (λ n. goes (set c.loop-rank.left (row - 1) cut.result.kept) (max c.loop-rank.most w.least_of-then-least_of-rank.result) (c.loop-rank.again + cut.result.more) n) (sym w.still-is) t.remains)))
       | else-least_of-rank w ↦
           let free : holds k part ≡ false = test.1 (λ e. w.if-least_of-rank.false (least_is ∙ e)) in
           let sound = reached_sound s c.ordered-ordered.ensures.reached in
-          subst (λ l. goes l c.if-least_of-rank.offers c.if-least_of-rank.again c.if-least_of-rank.still) (sym w.left-is)
-          (subst (λ o. goes c.loop-rank.left o c.if-least_of-rank.again c.if-least_of-rank.still) (sym w.offers-is)
-          (subst (λ n. goes c.loop-rank.left c.loop-rank.offers n c.if-least_of-rank.still) (sym w.again-is)
-          (subst (λ n. goes c.loop-rank.left c.loop-rank.offers c.loop-rank.again n) (sym w.still-is)
-          (remains_absent s.ordered s.next s.heights s.stacks k c.loop-rank.left c.loop-rank.offers c.loop-rank.again c.loop-rank.still c.loop-rank.invariant (sound.once k) le
+          subst (λ l. goes l c.if-least_of-rank.most c.if-least_of-rank.again c.if-least_of-rank.still) (sym w.left-is)
+          (subst (λ o. goes c.loop-rank.left o c.if-least_of-rank.again c.if-least_of-rank.still) (sym w.most-is)
+          (subst (λ n. goes c.loop-rank.left c.loop-rank.most n c.if-least_of-rank.still) (sym w.again-is)
+          (subst (λ n. goes c.loop-rank.left c.loop-rank.most c.loop-rank.again n) (sym w.still-is)
+          (remains_absent s.ordered s.next s.heights s.stacks k c.loop-rank.left c.loop-rank.most c.loop-rank.again c.loop-rank.still c.loop-rank.invariant (sound.once k) le
           (subst (λ j. holds k (take (get_or c.loop-rank.left j 0) (get_or s.stacks j [])) ≡ false) r.index (ap (λ l. holds k (take (get_or c.loop-rank.left (row - 1) 0) l)) r.stack_is ∙ free))))))
     ]

@@ -2,7 +2,7 @@ use Rattle.std.proofs.Common.{◌≡◌, ◌-◌, ◌≤◌, [], length, get_or,
 use Rattle.crp_bay.specs.Positions.{top}
 use Rattle.crp_bay.proofs.Reaching.{reached_ordered}
 use Rattle.crp_bay.specs.Back.{PlaceAndTrail, place_of}
-use Rattle.crp_bay.proofs.Reading.{short_trail}
+use Rattle.crp_bay.proofs.Reading.{short_trail, legal_by, leads_to}
 use Rattle.crp_bay.proofs.Pushing.{started, located_landed, ended_at, seen_after, to_there, to_room, push_room, found}
 use Rattle.crp_bay.proofs.position.Position.push.Goals as goal
 
@@ -80,3 +80,12 @@ returns-then-not-is_target-clause-few c = subst (λ (v : PlaceAndTrail). length 
 
 pub returns-clause-few : goal.returns-clause-few
 returns-clause-few c = short_trail _ _ _ (invariant_of-self c)
+
+pub returns-then-not-is_target-clause-legal : goal.returns-then-not-is_target-clause-legal
+returns-then-not-is_target-clause-legal c = legal_by c.args.self.now.place c.args.row _ (returns-then-not-is_target-clause-target c)
+
+pub returns-clause-legal : goal.returns-clause-legal
+returns-clause-legal c = legal_by c.args.self.now.place c.args.row _ (returns-clause-target c)
+
+pub returns-clause-at : goal.returns-clause-at
+returns-clause-at c = leads_to c.args.self.now.place _ c.args.row (ap (λ (v : PlaceAndTrail). v.place) (returns-clause-pushed c)) ((returns-clause-target c).0 refl)

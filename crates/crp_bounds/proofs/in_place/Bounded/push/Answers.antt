@@ -6,6 +6,7 @@ use Rattle.crp_bay.specs.Back.{PlaceAndTrail}
 use Rattle.crp_bay.specs.Located.{moved}
 use Rattle.crp_bay.proofs.Walked.{row_is_target}
 use Rattle.crp_bay.proofs.Pushing.{found}
+use Rattle.crp_bay.proofs.Reading.{legal_by, leads_to}
 use Rattle.crp_bounds.specs.Leasts.{least_ordered, KnowsBounds}
 use Rattle.crp_bounds.specs.declared.undo.Undo.{Undo}
 use Rattle.crp_bounds.proofs.Undone.{known_now, kept_length, on_true, counted, Changes, kept_pushed}
@@ -58,3 +59,12 @@ pub returns-clause-pushed : goal.returns-clause-pushed
 returns-clause-pushed c =
     on_true c.push-pushed.result (c.push-pushed.ensures.target.1 (row_is_target c.self.inside.position.place c.args.row (sym c.is_target.ensures ∙ c.if-not-is_target.false))) c.push-pushed.ensures.pushed
     ∙ ap (λ (v : PlaceAndTrail). record { place = child v.place c.args.row; trail = v.place ∷ v.trail }) c.self.view_is
+
+pub returns-then-not-is_target-clause-legal : goal.returns-then-not-is_target-clause-legal
+returns-then-not-is_target-clause-legal c = legal_by c.args.self.now.place c.args.row _ (returns-then-not-is_target-clause-target c)
+
+pub returns-clause-legal : goal.returns-clause-legal
+returns-clause-legal c = legal_by c.args.self.now.place c.args.row _ (returns-clause-target c)
+
+pub returns-clause-at : goal.returns-clause-at
+returns-clause-at c = leads_to c.args.self.now.place _ c.args.row (ap (λ (v : PlaceAndTrail). v.place) (returns-clause-pushed c)) ((returns-clause-target c).0 refl)

@@ -1,9 +1,0 @@
-use Rattle.std.proofs.Common.{◌≡◌, ℕ, ◌-◌, ◌<◌, ◌≤◌, [], length, get_or}
-use Rattle.crp_bounds.proofs.scanning.heights_now.Given as goal
-
-abbrev pub invariant-loop-row : goal.invariant-loop-row
-invariant-loop-row l = record {
-  done : (r : ℕ) → r < l.row - 1 → get_or l.left r 0 ≡ length (get_or l.position.place.stacks r []);
-  rest : (r : ℕ) → l.row - 1 ≤ r → get_or l.left r 0 ≡ 0;
-  long : length l.left ≡ 16;
-}
