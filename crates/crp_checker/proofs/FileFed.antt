@@ -1,5 +1,5 @@
 -- A file of certificates that comes in pieces.
-use Rattle.std.proofs.Common.{◌≡◌, ◌≢◌, ℕ, ◌+◌, ◌⊎◌, inl, inr, List, [], ◌∷◌, ◌++◌, length, take, drop, None, refl, sym, ap, ◌∙◌, append_assoc}
+use Rattle.std.proofs.Common.{◌≡◌, ◌≢◌, ℕ, ◌+◌, ◌⊎◌, inl, inr, List, [], ◌∷◌, ◌++◌, length, take, drop, None, refl, sym, ap, ◌∙◌, subst, arith, append_assoc}
 use Rattle.std.specs.List.{AllByRecursion}
 use Rattle.std.proofs.lemmas.List.{append-nil, take-append-drop}
 use Rattle.std.proofs.lemmas.Grind.{flat_map-append}
@@ -10,10 +10,16 @@ use Rattle.crp_checker.specs.declared.refused.Refused.{Refused}
 use Rattle.crp_checker.specs.declared.watch.Watch.{Watch}
 use Rattle.crp_checker.specs.Shown.{TextShowsFor}
 use Rattle.crp_checker.specs.Refusals.{IsRefusal}
-use Rattle.crp_checker.specs.Files.{IsEnded, HasNoEndLine, joined_lines, BeginsWithTexts, FileShows, IsFileRefusal}
+use Rattle.crp_checker.specs.Files.{IsEnded, HasNoEndLine, joined_lines, BeginsWithTexts, ShowEach, FileShows, IsFileRefusal}
 use Rattle.crp_checker.specs.Watches.{IsUnended}
 use Rattle.crp_checker.specs.FedFiles.{IsEndedFront}
-use Rattle.crp_checker.proofs.Cuts.{texts_more, shown_more, as_many}
+use Rattle.crp_checker.specs.declared.refused.Refused.TheVariants.{Memory}
+use Rattle.crp_checker.proofs.Cuts.{stands_first, texts_more, shown_more, as_many}
+
+-- a list without elements
+pub no_elements : (xs : List ℕ) → length xs ≡ 0 → xs ≡ []
+no_elements [] e = refl
+no_elements (x ∷ xs) e = absurd (omega arith)
 
 -- more bytes
 pub front_on : (file : List ℕ) (verdicts : List (YardBay × Verdict)) (rest more : List ℕ) → IsEndedFront file verdicts rest → IsEndedFront (file ++ more) verdicts (rest ++ more)
@@ -49,7 +55,7 @@ open_text text watch some un = record { lines = un.lines; rest = un.begun; other
 
 -- one more is refused
 pub refused_next : (file : List ℕ) (verdicts : List (YardBay × Verdict)) (rest text after : List ℕ) (r : Refused) → (front : IsEndedFront file verdicts rest) → rest ≡ text ++ after →
-    IsEnded text ⊎ (HasNoEndLine text × (after ≡ [])) → IsRefusal None text r → IsFileRefusal file verdicts (length verdicts + 1) r
+    IsEnded text ⊎ (HasNoEndLine text × (after ≡ [])) → (r ≡ Memory) ⊎ IsRefusal None text r → IsFileRefusal file verdicts (length verdicts + 1) r
 refused_next file verdicts rest text after r front is ended why = record {
   texts = front.texts;
   text = text;
@@ -57,8 +63,34 @@ refused_next file verdicts rest text after r front is ended why = record {
   begins = texts_more file front.texts rest text after (begins file verdicts rest front) is ended;
   shown = front.shown;
   number_is = ap (λ n. n + 1) (sym (as_many front.texts verdicts front.shown));
-  why = inr why;
+  why = why;
 }
+
+-- where there are more bytes memory may have run out at one more
+pub memory_next : (file : List ℕ) (verdicts : List (YardBay × Verdict)) (rest : List ℕ) → IsEndedFront file verdicts rest → rest ≢ [] → IsFileRefusal file verdicts (length verdicts + 1) Memory
+memory_next file verdicts rest front some = let first = stands_first rest some in refused_next file verdicts rest first.text first.after Memory front first.is first.ended (inl refl)
+
+-- so it may have at the last of those that are shown
+pub memory_last : (file : List ℕ) (verdicts : List (YardBay × Verdict)) (last : YardBay × Verdict) → FileShows file (verdicts ++ last ∷ []) → IsFileRefusal file verdicts (length verdicts + 1) Memory
+memory_last file verdicts last shows =
+    let cut = split shows.0 verdicts shows.2 in
+    record {
+      texts = cut.0;
+      text = cut.1;
+      after = [];
+      begins = subst (λ l. BeginsWithTexts file l []) cut.2 shows.1;
+      shown = cut.3;
+      number_is = ap (λ n. n + 1) (sym (as_many cut.0 verdicts cut.3));
+      why = inl refl;
+    }
+  where
+    split : (texts : List (List ℕ)) (verdicts : List (YardBay × Verdict)) → ShowEach texts (verdicts ++ last ∷ []) →
+        (front : List (List ℕ)) × (text : List ℕ) × (texts ≡ front ++ text ∷ []) × ShowEach front verdicts
+    split [] [] s = absurd s
+    split [] (v ∷ verdicts) s = absurd s
+    split (text ∷ []) [] s = ([], text, refl, tt)
+    split (text ∷ other ∷ texts) [] s = absurd s.1
+    split (text ∷ texts) (v ∷ verdicts) s = let rest = split texts verdicts s.1 in (text ∷ rest.0, rest.1, ap (λ l. text ∷ l) rest.2, (s.0, rest.3))
 
 -- one more is the last
 pub shown_last : (file : List ℕ) (verdicts : List (YardBay × Verdict)) (text : List ℕ) (last : YardBay × Verdict) → IsEndedFront file verdicts text → HasNoEndLine text → TextShowsFor text last.0 last.1 → FileShows file (verdicts ++ last ∷ [])

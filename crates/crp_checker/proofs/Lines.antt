@@ -285,13 +285,13 @@ ends_walk need top bytes line few e u t =
     subst (λ b. Ends need top bytes line.walked b false) t (subst (Ends need top bytes line.walked line.trailing) u (known need top bytes line few e))
 
 -- where a tree is owed it is not whole
-pub still_owed : (need : List ℕ → ℕ) (top : Spot) (bytes : List ℕ) (owes : Bool) (path : List ℕ) (s : PlaceAndTrail) (levels : List Level) (wrong : Option Wrong) (given : List (List ℕ)) →
-    EndsWalk need top bytes (owed_by owes path s levels) wrong given → owes ≡ true → ¬ BeginsWithTree top.place bytes
-still_owed need top bytes false path s levels wrong given e owes = absurd cc
-still_owed need top bytes true path s levels wrong given e owes = e
+pub still_owed : (need : List ℕ → ℕ) (top : Spot) (bytes : List ℕ) (owes : Bool) (row : Option ℕ) (path : List ℕ) (s : PlaceAndTrail) (levels : List Level) (wrong : Option Wrong) (given : List (List ℕ)) →
+    EndsWalk need top bytes (owed_by owes row path s levels) wrong given → owes ≡ true → ¬ BeginsWithTree top.place bytes
+still_owed need top bytes false row path s levels wrong given e owes = absurd cc
+still_owed need top bytes true row path s levels wrong given e owes = e
 
 -- and where none is it is
-pub all_paid : (need : List ℕ → ℕ) (top : Spot) (bytes : List ℕ) (owes : Bool) (path : List ℕ) (s : PlaceAndTrail) (levels : List Level) (wrong : Option Wrong) (given : List (List ℕ)) →
-    EndsWalk need top bytes (owed_by owes path s levels) wrong given → owes ≡ false → IsOneWholeTree need top bytes wrong given
-all_paid need top bytes false path s levels wrong given e owes = e
-all_paid need top bytes true path s levels wrong given e owes = absurd cc
+pub all_paid : (need : List ℕ → ℕ) (top : Spot) (bytes : List ℕ) (owes : Bool) (row : Option ℕ) (path : List ℕ) (s : PlaceAndTrail) (levels : List Level) (wrong : Option Wrong) (given : List (List ℕ)) →
+    EndsWalk need top bytes (owed_by owes row path s levels) wrong given → owes ≡ false → IsOneWholeTree need top bytes wrong given
+all_paid need top bytes false row path s levels wrong given e owes = e
+all_paid need top bytes true row path s levels wrong given e owes = absurd cc

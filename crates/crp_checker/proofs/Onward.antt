@@ -1,13 +1,11 @@
 -- From a branch to the next tree that is owed.
-use Rattle.std.proofs.Common.{◌≡◌, ℕ, suc, ◌+◌, ◌-◌, ◌<◌, ⊎_elim, Bool, true, List, [], ◌∷◌, ◌++◌, length, filter, Contains, refl, sym, ap, ◌∙◌, arith, length-append}
+use Rattle.std.proofs.Common.{◌≡◌, ℕ, suc, ◌+◌, ◌-◌, ◌<◌, ⊎_elim, Bool, true, false, List, [], ◌∷◌, ◌++◌, length, filter, Some, refl, sym, ap, ◌∙◌, arith, length-append}
 use Rattle.std.specs.Prelude.{reverse}
 use Rattle.std.proofs.lemmas.Bool.{cases_Bool}
 use Rattle.std.proofs.lemmas.List.{take_at, reverse-append}
 use Rattle.crp_plan.specs.Bay.{Position}
 use Rattle.crp_bay.specs.Positions.{can_shift, child, counted, targets}
 use Rattle.crp_bay.specs.Back.{PlaceAndTrail}
-use Rattle.crp_bay.proofs.Reaching.{can_from_target}
-use Rattle.crp_cert.proofs.PartNames.{not_legal}
 use Rattle.crp_checker.specs.declared.level.Level.{Level}
 use Rattle.crp_checker.specs.Owed.{Spot, spots_below}
 use Rattle.crp_checker.specs.Kept.{left, up, back, pending, owed_by}
@@ -28,18 +26,16 @@ abbrev owed_in : List ℕ → PlaceAndTrail → List Level → List ℕ → List
 owed_in path s levels rows = spots_below path s.place (filter (can_shift s.place) rows) ++ pending (up path) (back s) levels
 
 -- a legal row
-pub goes_down : (path longer : List ℕ) (s below : PlaceAndTrail) (old new : Level) (levels : List Level) (row : ℕ) → left old ≡ row ∷ left new → Contains (targets s.place) row → longer ≡ path ++ row ∷ [] →
-    below ≡ record { place = child s.place row; trail = s.place ∷ s.trail } → owed_by true longer below (new ∷ levels) ≡ pending path s (old ∷ levels)
-goes_down path longer s below old new levels row rows legal there stands =
-    let can = can_from_target s.place row legal in
-    ap (λ (l : List ℕ). owed_by true l below (new ∷ levels)) there ∙ ap (λ (t : PlaceAndTrail). owed_by true (path ++ row ∷ []) t (new ∷ levels)) stands
+pub goes_down : (path longer : List ℕ) (s : PlaceAndTrail) (old new : Level) (levels : List Level) (row : ℕ) → left old ≡ row ∷ left new → can_shift s.place row ≡ true → longer ≡ path ++ row ∷ [] →
+    owed_by true (Some row) longer s (new ∷ levels) ≡ pending path s (old ∷ levels)
+goes_down path longer s old new levels row rows can there =
+    ap (λ (l : List ℕ). owed_by true (Some row) l s (new ∷ levels)) there
     ∙ ap (λ (l : List ℕ). record { path = path ++ row ∷ []; place = child s.place row } ∷ pending l s (new ∷ levels)) (up_again path row)
     ∙ sym (ap (owed_in path s levels) rows ∙ rw can refl)
 
 -- a row that is not legal
-pub passes_over : (path : List ℕ) (s : PlaceAndTrail) (old new : Level) (levels : List Level) (row : ℕ) → left old ≡ row ∷ left new → (Contains (targets s.place) row → ⊥) → pending path s (new ∷ levels) ≡ pending path s (old ∷ levels)
-passes_over path s old new levels row rows illegal =
-    let cannot = not_legal s.place row illegal in
+pub passes_over : (path : List ℕ) (s : PlaceAndTrail) (old new : Level) (levels : List Level) (row : ℕ) → left old ≡ row ∷ left new → can_shift s.place row ≡ false → pending path s (new ∷ levels) ≡ pending path s (old ∷ levels)
+passes_over path s old new levels row rows cannot =
     sym (ap (owed_in path s levels) rows ∙ rw cannot refl)
 
 -- a branch that owes no more

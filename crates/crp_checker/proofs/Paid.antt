@@ -1,16 +1,15 @@
 -- What a symbol pays of what is owed.
-use Rattle.std.proofs.Common.{◌≡◌, ℕ, zero, suc, ◌≤◌, ⊎_elim, Bool, List, [], ◌∷◌, ◌++◌, length, filter, Vec, Global, refl, sym, ap, ◌∙◌, subst, arith, append_assoc, append-nil}
+use Rattle.std.proofs.Common.{◌≡◌, ℕ, zero, suc, ◌≤◌, ⊎_elim, Bool, List, [], ◌∷◌, ◌++◌, length, filter, refl, sym, ap, ◌∙◌, arith, append_assoc, append-nil}
 use Rattle.std.specs.Prelude.{codes}
 use Rattle.std.specs.List.{flat_map}
 use Rattle.std.proofs.lemmas.Bool.{cases_Bool}
 use Rattle.std.proofs.lemmas.List.Concat.{flat_map-append}
-use denote.RawPtr.{null_ptr}
 use Rattle.crp_plan.specs.Bay.{Position}
 use Rattle.crp_bay.specs.Positions.{can_shift, child, counted, targets}
 use Rattle.crp_tree.specs.Tree.{Tree, CutB, CutL, Branch, Given, Trees, no_trees, one_and, items, row}
 use Rattle.crp_tree.specs.Trees.{Mark, B, L, X, G, nodes, letter, Fits}
 use Rattle.crp_tree.specs.Listed.{nodes_below, AreFit}
-use Rattle.crp_tree.proofs.Listed.{IsBranchOf, branch_of, list_fits}
+use Rattle.crp_tree.proofs.Listed.{branch_of, list_fits}
 use Rattle.crp_cert.specs.Script.{symbols_of, symbols_of_each}
 use Rattle.crp_cert.proofs.Symbols.{branch_read}
 use Rattle.crp_checker.specs.Owed.{Spot, node_at, spots_below, owed_behind, Pay, nodes_of_all}

@@ -1,8 +1,10 @@
 -- What a checker of a file has read.
-use Rattle.std.specs.Prelude.{◌≡◌, ◌≢◌, ℕ, ◌≤◌, List, [], ◌∷◌, ◌++◌, length, take, true, false, Option, Some, None}
+use Rattle.std.specs.Prelude.{◌≡◌, ◌≢◌, ℕ, ◌≤◌, List, [], ◌∷◌, ◌++◌, length, take, true, false, Option, Some, None, ◌⊎◌}
 use Rattle.std.specs.List.{AllByRecursion}
 use Rattle.crp_plan.specs.BayNames.{YardBay}
 use Rattle.crp_checker.specs.declared.verdict.Verdict.{Verdict}
+use Rattle.crp_checker.specs.declared.refused.Refused.{Refused}
+use Rattle.crp_checker.specs.declared.refused.Refused.TheVariants.{Memory}
 use Rattle.crp_checker.specs.declared.file_checker.FileChecker.{FileChecker}
 use Rattle.crp_checker.specs.declared.file_checker.Fed.{Fed}
 use Rattle.crp_checker.specs.declared.file_checker.Fed.TheVariants.{Open, Ended}
@@ -17,7 +19,7 @@ pub record IsEndedFront (file : List ℕ) (verdicts : List (YardBay × Verdict))
   pub is : file ≡ joined_lines texts ++ rest
   pub shown : ShowEach texts verdicts
 
--- the checker was fed the file, of which the certificates that have ended show this
+-- the checker was fed the file, of which the certificates that have ended show this; none was refused
 pub record HasReadFile (file : List ℕ) (verdicts : List (YardBay × Verdict)) (checker : FileChecker) : Type 0 where
   pub text : List ℕ
   pub front : IsEndedFront file verdicts text
@@ -25,6 +27,11 @@ pub record HasReadFile (file : List ℕ) (verdicts : List (YardBay × Verdict)) 
   pub unended : IsUnended text checker.watch
   pub none_begun : checker.has_begun ≡ false → text ≡ []
   pub some_begun : checker.has_begun ≡ true → text ≢ []
+  pub none_refused : checker.refused ≡ None
+
+-- the checker has refused a certificate for this, or has no memory left to say so
+abbrev pub HasRefused : Refused → FileChecker → Type 0
+HasRefused refused checker = (checker.refused ≡ Some refused) ⊎ (checker.refused ≡ Some Memory)
 
 -- a piece leads to this: no certificate has ended, or one has, after so many bytes
 abbrev pub LeadsOn : List ℕ → List ℕ → List (YardBay × Verdict) → FileChecker → Fed → Type 0

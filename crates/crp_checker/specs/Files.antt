@@ -73,7 +73,3 @@ pub record IsFileRefusal (file : List ℕ) (before : List (YardBay × Verdict)) 
   pub shown : ShowEach texts before
   pub number_is : number ≡ length texts + 1
   pub why : (refused ≡ Memory) ⊎ IsRefusal None text refused
-
--- the list has grown by what this text shows
-abbrev pub AddsShown : List ℕ → List (YardBay × Verdict) → List (YardBay × Verdict) → Type 0
-AddsShown text old new = (shown : YardBay × Verdict) × TextShowsFor text shown.0 shown.1 × (new ≡ old ++ shown ∷ [])

@@ -1,5 +1,5 @@
 -- What a checker that is fed has read, by the stage that it is at.
-use Rattle.std.specs.Prelude.{◌≡◌, ◌≢◌, ℕ, ◌+◌, ◌≤◌, List, [], ◌++◌, length, Option, Some, None, flat_map, ⊤}
+use Rattle.std.specs.Prelude.{◌≡◌, ◌≢◌, ℕ, ◌+◌, ◌≤◌, List, [], ◌++◌, length, Option, Some, None, flat_map}
 use Rattle.std.specs.List.{AllByRecursion}
 use Rattle.crp_plan.specs.BayNames.{YardBay}
 use Rattle.crp_plan.specs.Bay.{Problem, Position, IsAt}
@@ -16,7 +16,7 @@ use Rattle.crp_checker.specs.declared.refused.Refused.TheVariants as refused
 use Rattle.crp_checker.specs.declared.findings.Findings.{Findings}
 use Rattle.crp_checker.specs.declared.line.SymbolLine.{SymbolLine}
 use Rattle.crp_checker.specs.declared.stage.Stage.{Stage}
-use Rattle.crp_checker.specs.declared.stage.Stage.TheVariants.{Head as Head', Line, Part, Ended, Faulty, Spent}
+use Rattle.crp_checker.specs.declared.stage.Stage.TheVariants.{Head as Head', Line, Part, Ended, Faulty}
 use Rattle.crp_checker.specs.declared.wrong.Wrong.{Wrong}
 use Rattle.crp_checker.specs.declared.wrong.Wrong.TheVariants as wrong
 use Rattle.crp_checker.specs.Symbols.{line_after}
@@ -115,4 +115,3 @@ HasCome wanted bytes (Line findings begun) = IsAtLine wanted bytes findings begu
 HasCome wanted bytes (Part findings name kept) = IsAtPart wanted bytes findings name kept
 HasCome wanted bytes (Ended findings) = HasEnded wanted bytes findings
 HasCome wanted bytes (Faulty bay fault) = IsFaulty bytes bay fault
-HasCome wanted bytes Spent = ⊤

@@ -23,12 +23,11 @@ use std::mem;
 /// and the path to the symbol that comes next.
 #[derive(Drop)]
 pub struct Checker {
-    /// The allocator.
-    pub alloc: Global,
+    alloc: Global,
     /// The problem that is asked for, if one is.
-    pub wanted: Option<Problem>,
-    /// How far it has come.
-    pub stage: Stage,
+    wanted: Option<Problem>,
+    /// How far it has come; nothing, where no memory was left for that.
+    stage: Option<Stage>,
 }
 
 /// Reads on from a stage: what that leads to, and how many of the bytes were taken.
@@ -57,8 +56,27 @@ fn read_on(
             Ok((findings.faulty(CertFault::End { line }), bytes.len()))
         }
         Stage::Faulty { bay, fault } => Ok((Stage::Faulty { bay, fault }, bytes.len())),
-        Stage::Spent => Err(AllocError),
     }
+}
+
+/// Reads a piece from a stage on. What that leads to.
+fn read_piece(
+    alloc: Global,
+    wanted: Option<&Problem>,
+    stage: Stage,
+    piece: &[u8],
+) -> Result<Stage, AllocError>
+    ensures { IfOk result (λ next. (before : List ℕ) → HasCome (option_copied wanted.entry) before stage
+        → HasCome (option_copied wanted.entry) (before ++ piece.now) next) }
+{
+    let mut stage = stage;
+    let mut rest = piece;
+    while !rest.is_empty() {
+        let (next, taken) = read_on(alloc, wanted, stage, rest)?;
+        stage = next;
+        rest = &rest[taken..];
+    }
+    Ok(stage)
 }
 
 /// The same bay once more.
@@ -78,68 +96,84 @@ fn same_bay_if(bay: &Option<BayName>) -> Option<BayName>
     }
 }
 
+/// The bay that a certificate names of which so much was read.
+fn bay_at(stage: &Stage) -> Option<BayName>
+    ensures { (wanted : Option Statement) (bytes : List ℕ) → HasCome wanted bytes stage.now → IsBayIn bytes result }
+{
+    match stage {
+        Stage::Head { text } => read_bay(text),
+        Stage::Line { findings, .. } => same_bay(&findings.bay),
+        Stage::Part { findings, .. } => same_bay(&findings.bay),
+        Stage::Ended { findings } => same_bay(&findings.bay),
+        Stage::Faulty { bay, .. } => same_bay_if(bay),
+    }
+}
+
+/// Whose a certificate is, and what it shows, of which this stage is the end.
+fn finish_at(alloc: Global, stage: Stage) -> Result<(BayName, Verdict), Refused>
+    ensures shown { IfOk result (λ found. (wanted : Option Statement) (bytes : List ℕ) → HasCome wanted bytes stage
+        → TextShows wanted bytes found.1) }
+    ensures bay { IfOk result (λ found. (bytes : List ℕ) → HasCome None bytes stage
+        → TextShowsFor bytes found.0 found.1) }
+    ensures refused { IfErr result (λ refused. (refused ≡ Refused.Memory)
+        ⊎ ((wanted : Option Statement) (bytes : List ℕ) → HasCome wanted bytes stage → IsRefusal wanted bytes refused)) }
+{
+    match stage {
+        Stage::Head { text } => {
+            let fault = head_fault(alloc, &text)?;
+            Err(Refused::Cert(fault))
+        }
+        Stage::Line { findings, begun } => {
+            let fault = in_line::open_fault(findings.line, &begun);
+            Err(Refused::Cert(fault))
+        }
+        Stage::Part { findings, .. } => Err(Refused::Cert(CertFault::Part {
+            line: findings.line,
+        })),
+        Stage::Ended { findings } => conclude(alloc, findings),
+        Stage::Faulty { fault, .. } => Err(Refused::Cert(fault)),
+    }
+}
+
 impl Checker {
     /// A checker that was fed nothing. Where a problem is asked for, a certificate that states
     /// another is refused for that.
     pub fn new(alloc: Global, wanted: Option<&Problem>) -> Checker
         ensures { HasRead (option_copied wanted.entry) [] result }
     {
+        let text = Vec::new(alloc);
         Checker {
             alloc,
             wanted: wanted.map(Problem::copy),
-            stage: Stage::Head {
-                text: Vec::new(alloc),
-            },
+            stage: Some(Stage::Head { text }),
         }
-    }
-
-    /// Reads some bytes of a piece, and says how many.
-    fn step(&mut self, bytes: &[u8]) -> Result<usize, AllocError>
-        requires { 1 ≤ length bytes.now }
-        ensures some { IfOk result (λ n. 1 ≤ n) }
-        ensures within { IfOk result (λ n. n ≤ length bytes.now) }
-        ensures wanted { OnOk result (self.new.wanted ≡ self.old.wanted) }
-        ensures come { IfOk result (λ n. (before : List ℕ) → HasCome self.old.wanted before self.old.stage
-            → HasCome self.old.wanted (before ++ take n bytes.now) self.new.stage) }
-        ensures spent { OnErr result (IsOutOfMemory self.new) }
-    {
-        let stage = mem::replace(&mut self.stage, Stage::Spent);
-        let (stage, taken) = read_on(self.alloc, self.wanted.as_ref(), stage, bytes)?;
-        self.stage = stage;
-        Ok(taken)
     }
 
     /// Reads a piece. The error says that no memory was left, now or before; from then on every call says so.
     pub fn feed(&mut self, piece: &[u8]) -> Result<(), AllocError>
         ensures read { OnOk result ((wanted : Option Statement) (bytes : List ℕ) → HasRead wanted bytes self.old
             → HasRead wanted (bytes ++ piece.now) self.new) }
+        ensures going { OnOk result (IsOutOfMemory self.new → ⊥) }
         ensures spent { OnErr result (IsOutOfMemory self.new) }
         ensures stays { IsOutOfMemory self.old → (result ≡ Err (record {})) }
     {
-        if let Stage::Spent = self.stage {
+        let Some(stage) = mem::replace(&mut self.stage, None) else {
             return Err(AllocError);
-        }
-        let mut rest = piece;
-        while !rest.is_empty() {
-            let taken = self.step(rest)?;
-            rest = &rest[taken..];
-        }
+        };
+        let stage = read_piece(self.alloc, self.wanted.as_ref(), stage, piece)?;
+        self.stage = Some(stage);
         Ok(())
     }
 
-    /// The bay that the certificate names. `None` as long as its first two lines are not accepted.
+    /// The bay that the certificate names. `None` as long as its first two lines are not accepted, and where no memory was left.
     pub fn bay(&self) -> Option<BayName>
-        ensures { (wanted : Option Statement) (bytes : List ℕ) → HasRead wanted bytes self.now
-            → IsOutOfMemory self.now ⊎ IsBayIn bytes result }
+        ensures exact { (wanted : Option Statement) (bytes : List ℕ) → HasRead wanted bytes self.now → IsBayIn bytes result }
+        ensures spent { IsOutOfMemory self.now → result ≡ None }
     {
-        match &self.stage {
-            Stage::Head { text } => read_bay(text),
-            Stage::Line { findings, .. } => same_bay(&findings.bay),
-            Stage::Part { findings, .. } => same_bay(&findings.bay),
-            Stage::Ended { findings } => same_bay(&findings.bay),
-            Stage::Faulty { bay, .. } => same_bay_if(bay),
-            Stage::Spent => None,
-        }
+        let Some(stage) = &self.stage else {
+            return None;
+        };
+        bay_at(stage)
     }
 
     /// Whose the certificate is, and what it shows.
@@ -158,20 +192,8 @@ impl Checker {
             stage,
         } = self;
         match stage {
-            Stage::Head { text } => {
-                let fault = head_fault(alloc, &text)?;
-                Err(Refused::Cert(fault))
-            }
-            Stage::Line { findings, begun } => {
-                let fault = in_line::open_fault(findings.line, &begun);
-                Err(Refused::Cert(fault))
-            }
-            Stage::Part { findings, .. } => Err(Refused::Cert(CertFault::Part {
-                line: findings.line,
-            })),
-            Stage::Ended { findings } => conclude(alloc, findings),
-            Stage::Faulty { fault, .. } => Err(Refused::Cert(fault)),
-            Stage::Spent => Err(Refused::Memory),
+            Some(stage) => finish_at(alloc, stage),
+            None => Err(Refused::Memory),
         }
     }
 

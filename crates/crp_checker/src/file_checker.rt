@@ -1,9 +1,10 @@
 //! A checker of files of certificates that is fed in pieces.
-ghost use Rattle.std.specs.Prelude.{◌≡◌, ◌≢◌, ◌⊎◌, ◌+◌, ◌++◌, [], true, false, List, ℕ, IfOk, IfErr, length};
+ghost use Rattle.std.specs.Prelude.{◌≡◌, ◌≢◌, ◌⊎◌, ◌+◌, ◌++◌, [], true, false, List, ℕ, Some, Err, IfOk, IfErr, length};
 ghost use Rattle.crp_plan.specs.BayNames.{YardBay};
 ghost use Rattle.crp_checker.specs.declared.verdict.Verdict.{Verdict as Shown};
+ghost use Rattle.crp_checker.specs.declared.refused.Refused.{Refused as Reason};
 ghost use Rattle.crp_checker.specs.Files.{IsFileRefusal};
-ghost use Rattle.crp_checker.specs.FedFiles.{HasReadFile, LeadsOn, ShowsLast};
+ghost use Rattle.crp_checker.specs.FedFiles.{HasReadFile, HasRefused, LeadsOn, ShowsLast};
 
 use crate::checker::Checker;
 use crate::refused::Refused;
@@ -17,14 +18,15 @@ use std::mem;
 /// that have ended it keeps nothing.
 #[derive(Drop)]
 pub struct FileChecker {
-    /// The allocator.
-    pub alloc: Global,
+    alloc: Global,
     /// The checker of the certificate that has not ended.
-    pub checker: Checker,
+    checker: Checker,
     /// The line of it that it stands in.
-    pub watch: Watch,
+    watch: Watch,
     /// Whether a byte of it came.
-    pub has_begun: bool,
+    has_begun: bool,
+    /// Why a certificate was refused, if one was.
+    refused: Option<Refused>,
 }
 
 /// What a piece of a file leads to.
@@ -61,12 +63,21 @@ impl FileChecker {
             checker: Checker::new(alloc, None),
             watch: Watch::Begun,
             has_begun: false,
+            refused: None,
         }
     }
 
-    /// Reads a piece, down to the end of a certificate, if one ends there. The error says why that one
-    /// is refused.
-    pub fn feed(&mut self, piece: &[u8]) -> Result<Fed, Refused>
+    /// Notes why a certificate is refused, and says it.
+    fn stop(&mut self, refused: Refused) -> Refused
+        ensures same { result ≡ refused }
+        ensures noted { HasRefused refused self.new }
+    {
+        self.refused = Some(refused.again(self.alloc));
+        refused
+    }
+
+    /// Reads a piece, where no certificate was refused.
+    fn read(&mut self, piece: &[u8]) -> Result<Fed, Refused>
         ensures on { IfOk result (λ fed. (file : List ℕ) (verdicts : List (YardBay × Shown)) → HasReadFile file verdicts self.old
             → LeadsOn file piece.now verdicts self.new fed) }
         ensures refused { IfErr result (λ refused. (refused ≡ Refused.Memory)
@@ -89,19 +100,49 @@ impl FileChecker {
         })
     }
 
+    /// Reads a piece, down to the end of a certificate, if one ends there. The error says why that one
+    /// is refused; from then on every call says so, or that no memory is left.
+    pub fn feed(&mut self, piece: &[u8]) -> Result<Fed, Refused>
+        ensures on { IfOk result (λ fed. (file : List ℕ) (verdicts : List (YardBay × Shown)) → HasReadFile file verdicts self.old
+            → LeadsOn file piece.now verdicts self.new fed) }
+        ensures refused { IfErr result (λ refused. (refused ≡ Refused.Memory)
+            ⊎ ((file : List ℕ) (verdicts : List (YardBay × Shown)) (more : List ℕ) → HasReadFile file verdicts self.old
+            → IsFileRefusal (file ++ (piece.now ++ more)) verdicts (length verdicts + 1) refused)) }
+        ensures stops { IfErr result (λ refused. HasRefused refused self.new) }
+        ensures stays { (refused : Reason) → HasRefused refused self.old → (result ≡ Err refused) ⊎ (result ≡ Err Refused.Memory) }
+    {
+        if let Some(refused) = mem::replace(&mut self.refused, None) {
+            return Err(self.stop(refused));
+        }
+        match self.read(piece) {
+            Ok(fed) => Ok(fed),
+            Err(refused) => Err(self.stop(refused)),
+        }
+    }
+
     /// What the last certificate shows, which does not end with its last line but with the file: `None` where
     /// nothing stands after the others. The error says why it is refused.
     pub fn finish(self) -> Result<Option<(BayName, Verdict)>, Refused>
         ensures last { IfOk result (λ last. (file : List ℕ) (verdicts : List (YardBay × Shown)) → HasReadFile file verdicts self
             → ShowsLast file verdicts last) }
-        ensures refused { IfErr result (λ refused. (refused ≡ Refused.Memory)
-            ⊎ ((file : List ℕ) (verdicts : List (YardBay × Shown)) → HasReadFile file verdicts self
-            → IsFileRefusal file verdicts (length verdicts + 1) refused)) }
+        ensures refused { IfErr result (λ refused. (file : List ℕ) (verdicts : List (YardBay × Shown)) → HasReadFile file verdicts self
+            → IsFileRefusal file verdicts (length verdicts + 1) refused) }
+        ensures stays { (refused : Reason) → HasRefused refused self → (result ≡ Err refused) ⊎ (result ≡ Err Refused.Memory) }
     {
-        if !self.has_begun {
+        let FileChecker {
+            alloc: _,
+            checker,
+            watch: _,
+            has_begun,
+            refused,
+        } = self;
+        if let Some(refused) = refused {
+            return Err(refused);
+        }
+        if !has_begun {
             return Ok(None);
         }
-        let last = self.checker.finish_for()?;
+        let last = checker.finish_for()?;
         Ok(Some(last))
     }
 }

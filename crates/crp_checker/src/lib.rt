@@ -4,7 +4,6 @@
 mod checker;
 mod checking;
 mod claim;
-mod cutting;
 mod file;
 mod file_checker;
 mod findings;

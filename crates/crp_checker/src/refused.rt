@@ -1,9 +1,9 @@
-ghost use Rattle.std.specs.Prelude.{◌≡◌};
+ghost use Rattle.std.specs.Prelude.{◌≡◌, ◌⊎◌, IfOk};
 
 use crate::path::Path;
 use crp_cert::CertFault;
 use crp_plan::PlanFault;
-use std::alloc::AllocError;
+use std::alloc::{AllocError, Global};
 use thiserror::Error;
 
 /// Why a certificate is refused: the first fault, in this order. Symbols of a part count from 1.
@@ -47,5 +47,52 @@ impl From<AllocError> for Refused {
 
     fn from(_error: AllocError) -> Refused {
         Refused::Memory
+    }
+}
+
+impl Refused {
+    /// The same, in memory of its own.
+    fn copied(&self, alloc: Global) -> Result<Refused, AllocError>
+        ensures { IfOk result (λ refused. refused ≡ self.now) }
+    {
+        match self {
+            Refused::Cert(fault) => Ok(Refused::Cert(*fault)),
+            Refused::OtherProblem => Ok(Refused::OtherProblem),
+            Refused::Plan(fault) => Ok(Refused::Plan(*fault)),
+            Refused::NoFirstPlan => Ok(Refused::NoFirstPlan),
+            Refused::Low { part, symbol } => {
+                let part = Path::from_rows(alloc, part.rows())?;
+                Ok(Refused::Low {
+                    part,
+                    symbol: *symbol,
+                })
+            }
+            Refused::Finished { part, symbol } => {
+                let part = Path::from_rows(alloc, part.rows())?;
+                Ok(Refused::Finished {
+                    part,
+                    symbol: *symbol,
+                })
+            }
+            Refused::Missing { name } => {
+                let name = Path::from_rows(alloc, name.rows())?;
+                Ok(Refused::Missing { name })
+            }
+            Refused::Unneeded { name } => {
+                let name = Path::from_rows(alloc, name.rows())?;
+                Ok(Refused::Unneeded { name })
+            }
+            Refused::Memory => Ok(Refused::Memory),
+        }
+    }
+
+    /// The same once more; or that no memory is left, where there is none for it.
+    pub(crate) fn again(&self, alloc: Global) -> Refused
+        ensures { (result ≡ self.now) ⊎ (result ≡ Refused.Memory) }
+    {
+        match self.copied(alloc) {
+            Ok(refused) => refused,
+            Err(_) => Refused::Memory,
+        }
     }
 }

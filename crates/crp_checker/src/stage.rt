@@ -31,6 +31,4 @@ pub enum Stage {
         bay: Option<BayName>,
         fault: CertFault,
     },
-    /// No memory was left.
-    Spent,
 }

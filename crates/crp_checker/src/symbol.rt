@@ -1,5 +1,6 @@
 //! Single symbols, and what is wrong with the nodes that they stand for.
-ghost use Rattle.std.specs.Prelude.{◌≡◌, ◌+◌, length, nat_lt, if◌then◌else◌, Some, None, option_map};
+ghost use Rattle.std.specs.Prelude.{◌≡◌, ◌+◌, ℕ, List, length, nat_lt, if◌then◌else◌, Some, None, option_map};
+ghost use Rattle.crp_tree.specs.Trees.{L, X};
 ghost use Rattle.crp_checker.specs.Symbols.{symbol_at, wrong_at};
 ghost use Rattle.crp_checker.specs.Kept.{mark_of_symbol, need_by};
 
@@ -33,8 +34,8 @@ pub fn symbol_of(count: u64, byte: u8) -> Option<Symbol>
     }
 }
 
-/// Whether a cut at a path has a value below what it needs.
-fn low_at(need: &Need, number: u64, path: &[u8], bound: u32) -> Option<Wrong>
+/// What is wrong with a cut at a path, whose symbol has this number: its value is below what it needs.
+pub fn is_low(need: &Need, number: u64, path: &[u8], bound: u32) -> Option<Wrong>
     ensures { result ≡ (if nat_lt (length path.now + bound) (need_by need.now path.now) then Some (Wrong.Low number) else None) }
 {
     if (bound as usize) < need.at(path).saturating_sub(path.len()) {
@@ -43,20 +44,25 @@ fn low_at(need: &Need, number: u64, path: &[u8], bound: u32) -> Option<Wrong>
     None
 }
 
-/// What is wrong with the node at a path, which leads to this position, that the symbol with this number stands for.
-pub fn wrong_of(
-    need: &Need,
-    number: u64,
-    symbol: Symbol,
-    path: &[u8],
-    place: &Bounded,
-) -> Option<Wrong>
-    ensures { result ≡ wrong_at (need_by need.now) number (mark_of_symbol symbol) (record { path = path.now; place = place.now.place }) }
+/// The same of a cut by the look-ahead bound, which is counted only as far as the cut needs it.
+pub fn low_ahead(need: &Need, number: u64, path: &[u8], place: &Bounded) -> Option<Wrong>
+    ensures { result ≡ wrong_at (need_by need.now) number L (record { path = path.now; place = place.now.place }) }
 {
-    match symbol {
-        Symbol::B => low_at(need, number, path, place.blocking()),
-        Symbol::L => low_at(need, number, path, place.look_ahead()),
-        Symbol::X if place.position().is_done() => Some(Wrong::AtEnd { symbol: number }),
-        Symbol::X | Symbol::G => None,
+    let short = need.at(path).saturating_sub(path.len());
+    let short = short.min(u32::MAX as usize) as u32;
+    match place.look_ahead_reaching(short) {
+        Some(_) => None,
+        None => Some(Wrong::Low { symbol: number }),
     }
+}
+
+/// What is wrong with a branch at a position, whose symbol has this number: the position is finished.
+pub fn at_end(number: u64, place: &Bounded) -> Option<Wrong>
+    ensures { (need : List ℕ → ℕ) (path : List ℕ)
+        → result ≡ wrong_at need number X (record { path = path; place = place.now.place }) }
+{
+    if place.position().is_done() {
+        return Some(Wrong::AtEnd { symbol: number });
+    }
+    None
 }

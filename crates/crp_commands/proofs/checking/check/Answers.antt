@@ -1,4 +1,4 @@
-use Rattle.std.proofs.Common.{rules, ◌∷◌, [], ◌++◌, refl, subst, arith}
+use Rattle.std.proofs.Common.{rules, ◌∷◌, [], ◌++◌, inr, refl, subst, arith}
 use Rattle.std.proofs.lemmas.Result.{err_from_is_err_and}
 use Rattle.crp_plan.specs.BayNames.{YardBay}
 use Rattle.crp_checker.specs.declared.verdict.Verdict.{Verdict}
@@ -75,4 +75,4 @@ returns-in-Err g c =
     let sink = g.W.Sink.failures c.args.writer.now in
     let last = g.W.Sink.failures c.check_next.new.writer in
     let seen = seen_by given held holds source after sink last in
-    (last_refused MOST_BYTES seen all.file all.verdicts c.check_next.new.files c.check_next.new.number c.in-Err.refused c.refused_at.result all.text all.read all.checked c.refused_at.ensures c.in-Err.ensures.refused, search rules)
+    (last_refused MOST_BYTES seen all.file all.verdicts c.check_next.new.files c.check_next.new.number c.in-Err.refused c.refused_at.result all.text all.read all.checked c.refused_at.ensures (inr c.in-Err.ensures.refused), search rules)

@@ -1,27 +1,15 @@
-use Rattle.std.proofs.Common.{◌≡◌, List, ℕ, ◌⊎◌, inl, inr, sym, ◌∙◌, subst}
-use Rattle.crp_cert.specs.declared.fault.CertFault.TheVariants as faults
-use Rattle.crp_checker.specs.Openings.{IsBegunWith, part_word}
-use Rattle.crp_cert.specs.Faults.{IsFirstFault}
-use Rattle.crp_checker.specs.Stages.{HasNoHead, HasCome}
-use Rattle.crp_checker.proofs.Concluded.{ends_in_line, ends_in_part, faulty_now}
+use Rattle.std.proofs.Common.{subst, ⊎_elim, inl, inr}
+use Rattle.std.proofs.lemmas.Result.{IfOk-weaker, IfErr-weaker}
+use Rattle.crp_checker.specs.Fed.{HasComeIf}
 use Rattle.crp_checker.proofs.checker.Checker.finish_for.Goals as goal
 
-pub returns-in-Head-clause-refused : goal.returns-in-Head-clause-refused
-returns-in-Head-clause-refused c =
-    inr (λ wanted bytes read.
-    let here = subst (HasCome wanted bytes) c.in-Head.is read.1 in
-    let same = c.deref.ensures.value ∙ here.0 in
-    inl (subst (λ l. IsFirstFault l c.in_ok-fault-in-Head.fault) same (c.in_ok-fault-in-Head.ensures (subst HasNoHead (sym same) here.1))))
+pub returns-in-Some-clause-shown : goal.returns-in-Some-clause-shown
+returns-in-Some-clause-shown c =
+    IfOk-weaker c.finish_at.result _ _ (λ found shown wanted bytes read. shown wanted bytes (subst (HasComeIf wanted bytes) c.in-Some.is read.1)) c.finish_at.ensures.shown
 
-pub returns-in-Line-clause-refused : goal.returns-in-Line-clause-refused
-returns-in-Line-clause-refused c =
-    inr (λ wanted bytes read. ends_in_line wanted bytes c.in-Line.findings c.in-Line.begun.items c.open_fault-fault.result (subst (HasCome wanted bytes) c.in-Line.is read.1)
-    (subst (λ (l : List ℕ). (IsBegunWith l part_word × (c.open_fault-fault.result ≡ faults.Part c.in-Line.findings.line)) ⊎ ((IsBegunWith l part_word → ⊥) × (c.open_fault-fault.result ≡ faults.End c.in-Line.findings.line)))
-    c.deref-in-Line.ensures.value c.open_fault-fault.ensures))
+pub returns-in-Some-clause-bay : goal.returns-in-Some-clause-bay
+returns-in-Some-clause-bay c = IfOk-weaker c.finish_at.result _ _ (λ found shown bytes read. shown bytes (subst (HasComeIf _ bytes) c.in-Some.is read.1)) c.finish_at.ensures.bay
 
-pub returns-in-Part-clause-refused : goal.returns-in-Part-clause-refused
-returns-in-Part-clause-refused c =
-    inr (λ wanted bytes read. ends_in_part wanted bytes c.in-Part.findings c.in-Part.name c.in-Part.line (subst (HasCome wanted bytes) c.in-Part.is read.1))
-
-pub returns-in-Faulty-clause-refused : goal.returns-in-Faulty-clause-refused
-returns-in-Faulty-clause-refused c = inr (λ wanted bytes read. faulty_now bytes _ c.in-Faulty.fault (subst (HasCome wanted bytes) c.in-Faulty.is read.1))
+pub returns-in-Some-clause-refused : goal.returns-in-Some-clause-refused
+returns-in-Some-clause-refused c =
+    IfErr-weaker c.finish_at.result _ _ (λ r why. ⊎_elim (λ memory. inl memory) (λ k. inr (λ wanted bytes read. k wanted bytes (subst (HasComeIf wanted bytes) c.in-Some.is read.1))) why) c.finish_at.ensures.refused

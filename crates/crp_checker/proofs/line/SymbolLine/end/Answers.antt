@@ -11,9 +11,9 @@ returns-then-self-2 c = λ need top bytes few e. ends_trailing need top bytes (l
 pub returns-then-self-3 : goal.returns-then-self-3
 returns-then-self-3 c = λ need top bytes few e.
     let w = ends_walk need top bytes (line_of c.args.self) few e c.if-self.false c.if-self-2.false in
-    (w.0, still_owed need top bytes c.args.self.following.owes _ _ _ _ _ w.1 c.if-self-3.true)
+    (w.0, still_owed need top bytes c.args.self.following.owes _ _ _ _ _ _ w.1 c.if-self-3.true)
 
 pub returns : goal.returns
 returns c = λ need top bytes few e.
     let w = ends_walk need top bytes (line_of c.args.self) few e c.if-self.false c.if-self-2.false in
-    (w.0, all_paid need top bytes c.args.self.following.owes _ _ _ _ _ w.1 c.if-self-3.false)
+    (w.0, all_paid need top bytes c.args.self.following.owes _ _ _ _ _ _ w.1 c.if-self-3.false)

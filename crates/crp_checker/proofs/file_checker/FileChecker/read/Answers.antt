@@ -4,7 +4,7 @@ use Rattle.crp_checker.specs.Fed.{HasRead}
 use Rattle.crp_checker.specs.Watches.{IsUnended}
 use Rattle.crp_checker.proofs.Watching.{nothing_unended}
 use Rattle.crp_checker.proofs.FileFed.{front_on, front_more, refused_next, cut_piece}
-use Rattle.crp_checker.proofs.file_checker.FileChecker.feed.Goals as goal
+use Rattle.crp_checker.proofs.file_checker.FileChecker.read.Goals as goal
 
 -- two lists without an element between them
 none_of_both : (xs ys : List ℕ) → xs ≡ [] → ys ≡ [] → xs ++ ys ≡ []
@@ -28,6 +28,7 @@ returns-in_default-clause-on c file verdicts at =
       unended = c.in_default.ensures.on at.text at.unended;
       none_begun = λ e. let none = c.has_bytes-self.ensures.none e in none_of_both at.text piece (at.none_begun none.0) none.1;
       some_begun = λ e. some_of_both at.text piece (⊎_elim (λ before. inl (at.some_begun before)) (λ now'. inr now') (c.has_bytes-self.ensures.some e));
+      none_refused = at.none_refused;
     }
 
 pub returns-in_err-bay-clause-refused : goal.returns-in_err-bay-clause-refused
@@ -40,7 +41,7 @@ returns-in_err-bay-clause-refused c =
     (λ why. inr (λ file verdicts more at.
     refused_next (file ++ (piece ++ more)) verdicts (at.text ++ (piece ++ more)) (at.text ++ take n piece) (drop n piece ++ more) c.in_err-bay.field-0.0
     (front_on file verdicts at.text (piece ++ more) at.front) (cut_piece at.text piece more n) (inl (c.in-Some.ensures.ended at.text at.unended))
-    (why None (at.text ++ take n piece) (subst (HasRead None (at.text ++ take n piece)) (sym c.replace-checker.ensures.value) (c.in_ok-feed-2.ensures.read None at.text at.read)))))
+    (inr (why None (at.text ++ take n piece) (subst (HasRead None (at.text ++ take n piece)) (sym c.replace-checker.ensures.value) (c.in_ok-feed-2.ensures.read None at.text at.read))))))
     c.in_err-bay.ensures.refused)
 
 pub returns-clause-on : goal.returns-clause-on
@@ -58,5 +59,6 @@ returns-clause-on c file verdicts at =
         unended = subst (IsUnended []) (sym c.in-Some.ensures.begun) nothing_unended;
         none_begun = λ e. refl;
         some_begun = λ e. not_begun e;
+        none_refused = at.none_refused;
       },
     )
