@@ -1,10 +1,11 @@
 //! The walk over a part: branch and bound over the paths of a problem.
-ghost use Rattle.std.specs.Prelude.{◌≡◌, ℕ, ◌+◌, ◌<◌, ◌≤◌, List, [], ◌∷◌, ◌++◌, length, min, IfOk, IfErr, OnOk, IfSome, IfNone, IsTrue, IsFalse, Contains};
+ghost use Rattle.std.specs.Prelude.{◌≡◌, ℕ, ◌+◌, ◌<◌, ◌≤◌, List, [], ◌∷◌, ◌++◌, length, min, IfOk, IfErr, OnOk, IfSome, IfNone, IsTrue, IsFalse, Contains, vec_len, vec_capacity};
 ghost use Rattle.crp_plan.specs.Bay.{IsAt, IsProblem, Position as Place, cap};
+ghost use Rattle.crp_plan.specs.Faults.{IsPlanPath};
 ghost use Rattle.crp_bay.specs.Positions.{child, targets};
 ghost use Rattle.crp_bounds.specs.Bounds.{blocking as blocking_bound, look_ahead as look_ahead_bound};
 ghost use Rattle.crp_tree.specs.Symbols.{leaf};
-ghost use Rattle.crp_tree.specs.Trees.{IsGivenAway, Fits, Node, nodes, least_value};
+ghost use Rattle.crp_tree.specs.Trees.{B, IsGivenAway, Fits, Node, nodes, least_value};
 ghost use Rattle.crp_tree.specs.Parts.{IsKeptPart, nodes_of};
 ghost use Rattle.crp_search.specs.Limits.{dealt};
 ghost use Rattle.crp_search.specs.Searched.{AreFirstNodes};
@@ -18,7 +19,7 @@ use arrayvec::ArrayVec;
 use crp_bounds::Bounded;
 use crp_plan::{MAX_RELOCATIONS, Plan, Problem};
 use crp_tree::{MAX_NAME, Name, Part, Symbol, Tree};
-use std::alloc::Global;
+use std::alloc::{AllocError, Global};
 use std::mem;
 
 /// Destination rows, from the first relocation on.
@@ -65,6 +66,23 @@ fn refused_cut(place: &Bounded, length: u32, low: u32, most: u32) -> Closed
     }
 }
 
+/// Takes the plan whose path this is. It stands apart from the other steps, which have no room for a plan to set up.
+#[inline(never)]
+fn take_plan<S: Seek, L: Limit>(problem: &Problem, path: &[u8], seek: &mut S, limit: &mut L)
+    requires problem { problem.now ≡ L.problem limit.old }
+    requires ready { S.ready problem.now seek.old }
+    requires plan { IsPlanPath problem.now path.now }
+    requires below { length path.now < S.bar seek.old (L.view limit.old) }
+    ensures met { (split : ℕ) (s : Place) → S.meets problem.now split seek.old (dealt (L.view limit.old) (L.puts limit.old)) seek.new (dealt (L.view limit.new) (L.puts limit.new))
+        (record { path = path.now; place = s; mark = B } ∷ []) }
+    ensures same { (L.problem limit.new ≡ L.problem limit.old) × (L.budget limit.new ≡ L.budget limit.old) }
+{
+    let Ok(plan) = Plan::from_rows(problem, path) else {
+        unreachable!()
+    };
+    seek.finish(plan, limit);
+}
+
 /// Closes the node at the path, or is granted an expansion for it: `None` exactly then. Length plus blocking bound, `low`, does
 /// not suffice.
 ///
@@ -93,10 +111,7 @@ fn close_below<S: Seek, L: Limit>(
 {
     let most = problem.cap();
     if place.position().is_done() {
-        let Ok(plan) = Plan::from_rows(problem, path) else {
-            unreachable!()
-        };
-        seek.finish(plan, limit);
+        take_plan(problem, path, seek, limit);
         return Ok(Some(cut(Symbol::CutB, low, most)));
     }
     if let Some(high) = reaching(place, path, bar) {
@@ -225,6 +240,18 @@ fn walk_child<S: Seek, L: Limit>(
     close_child(problem, place, path, row, seek, limit)
 }
 
+/// Makes room for one more, where there is none.
+#[inline]
+fn make_room<T: Drop>(list: &mut Vec<T>) -> Result<(), AllocError>
+    ensures items { list.new.items ≡ list.old.items }
+    ensures room { OnOk result (vec_len list.new < vec_capacity list.new) }
+{
+    if list.len() < list.capacity() {
+        return Ok(());
+    }
+    list.reserve(1)
+}
+
 /// Walks over the node at the path: closes it, or branches over its legal rows, rising. Where it ends before its time, position
 /// and path are those of some node below.
 fn walk_from<S: Seek, L: Limit>(
@@ -250,7 +277,7 @@ fn walk_from<S: Seek, L: Limit>(
     ensures same { (L.problem limit.new ≡ L.problem limit.old) × (L.budget limit.new ≡ L.budget limit.old) }
 {
     let mut list = Vec::new(alloc);
-    list.reserve(1)?;
+    make_room(&mut list)?;
     let first = close(problem, place, path.as_slice(), seek, limit)?;
     if let Some(closed) = first {
         list.push_reserved(closed.symbol);
@@ -276,8 +303,8 @@ fn walk_from<S: Seek, L: Limit>(
             let _popped = place.pop();
             continue;
         };
-        list.reserve(1)?;
-        above.reserve(1)?;
+        make_room(&mut list)?;
+        make_room(&mut above)?;
         path.push(row);
         let found = walk_child(problem, place, path.as_slice(), row, seek, limit, split)?;
         let Some(closed) = found else {

@@ -7,15 +7,16 @@ use Rattle.crp_bay.specs.Back.{PlaceAndTrail}
 use Rattle.crp_bounds.specs.Bounds.{blocking, look_ahead}
 use Rattle.crp_tree.specs.Trees.{B, L, X, Node}
 use Rattle.crp_search.specs.Limits.{dealt}
-use Rattle.crp_search.proofs.Greedily.{unfinished}
+use Rattle.crp_search.proofs.Greedily.{complete, unfinished}
 use Rattle.crp_search.proofs.SoFar.{met_branch}
 use Rattle.crp_search.proofs.Closing.{held_x}
 use Rattle.crp_search.proofs.walking.close_below.Goals as goal
 
+pub take_plan-requires-clause-plan : goal.take_plan-requires-clause-plan
+take_plan-requires-clause-plan g c = complete c.args.problem.now c.args.path.now c.args.place.now.place c.requires.path (subst (λ (v : PlaceAndTrail). IsFinished v.place) c.position.ensures (c.is_done.ensures.done.0 c.if-is_done.true))
+
 pub returns-then-is_done-clause-met : goal.returns-then-is_done-clause-met
-returns-then-is_done-clause-met g c = λ split.
-    let node : Node = record { path = c.args.path.now; place = c.args.place.now.place; mark = B } in
-    rw (c.cut.ensures, c.requires.problem) (c.finish.ensures.met split node (ap (λ (r : ProblemPath). r.path) (sym c.in-Ok.ensures.value)) refl)
+returns-then-is_done-clause-met g c = λ split. rw c.cut.ensures (c.take_plan.ensures.met split c.args.place.now.place)
 
 pub reaching-requires : goal.reaching-requires
 reaching-requires g c = short_path c.args.problem.now c.args.path.now c.args.place.now.place c.cap-most.ensures.problem c.requires.path
@@ -28,7 +29,7 @@ returns-then-granted-clause-met g c = λ split.
     let granted = c.in_ok-granted.ensures.granted c.if-granted.true in
     let kept : c.expand.new.self ≡ c.args.seek.now = granted.0 in
     let open' = unfinished c.args.problem.now c.args.path.now place c.cap-most.ensures.problem c.requires.path (λ end. let is = c.is_done.ensures.done.1 (subst (λ (v : PlaceAndTrail). IsFinished v.place) (sym c.position.ensures) end) in let test = c.if-is_done.false in cc) in
-    let below = c.in_default-reaching.ensures.below in
+    let below = c.in_default.ensures.below in
     rw kept (g.met.S.Seek.one c.args.problem.now split c.args.seek.now old new (record { path = c.args.path.now; place = place; mark = X })
     (met_branch split old new c.args.path.now place open' granted.2 c.expand.ensures.same.2) granted.1 (held_x _ c.args.path.now place (omega arith)))
 

@@ -21,8 +21,8 @@ use Rattle.crp_search.proofs.UnderWay.{Stand, standing, spot_at, IsChild, IsUnde
 use Rattle.crp_search.proofs.Owing.{left, owed, owes_less, owes_below, owes_above}
 use Rattle.crp_search.proofs.walking.walk_from.Goals as goal
 
-pub returns-in_err-reserve-clause-end : goal.returns-in_err-reserve-clause-end
-returns-in_err-reserve-clause-end g c =
+pub returns-in_err-make_room-clause-end : goal.returns-in_err-make_room-clause-end
+returns-in_err-make_room-clause-end g c =
     let begun = first_nodes (standing c.args.path.now.items c.args.place.now) [] [] (spot_at (standing c.args.path.now.items c.args.place.now) ∷ []) (walk_begins (spot_at (standing c.args.path.now.items c.args.place.now))) in
     let none = g.met.S.Seek.short c.args.problem.now c.args.split c.args.seek.now c.args.seek.now (dealt (g.L.Limit.view c.args.limit.now) (g.L.Limit.puts c.args.limit.now)) (dealt (g.L.Limit.view c.args.limit.now) (g.L.Limit.puts c.args.limit.now)) [] (g.met.S.Seek.none c.args.problem.now c.args.split c.args.seek.now (dealt (g.L.Limit.view c.args.limit.now) (g.L.Limit.puts c.args.limit.now))) in
     let is : IfErr c.from_residual.result (λ end. end ≡ Memory) = search rules in
@@ -36,11 +36,11 @@ returns-in_err-first-clause-end g c =
 
 pub from_symbols-requires : goal.from_symbols-requires
 from_symbols-requires g c =
-    (leaf c.in-Some.closed.symbol, c.push_reserved.ensures.items ∙ ap (λ l. l ++ c.in-Some.closed.symbol ∷ []) (c.reserve.ensures.items ∙ c.new-list.ensures.items) ∙ leaf_symbols c.in-Some.closed.symbol (rw c.in-Some.is at c.in_ok-first.ensures.leaf).leaf_is)
+    (leaf c.in-Some.closed.symbol, c.push_reserved.ensures.items ∙ ap (λ l. l ++ c.in-Some.closed.symbol ∷ []) (c.make_room.ensures.items ∙ c.new-list.ensures.items) ∙ leaf_symbols c.in-Some.closed.symbol (rw c.in-Some.is at c.in_ok-first.ensures.leaf).leaf_is)
 
 pub returns-in-Some-clause-own : goal.returns-in-Some-clause-own
 returns-in-Some-clause-own g c =
-    let same = leaf_tree c.reserve.new.self.items c.push_reserved.new.self.items c.from_symbols.result c.in-Some.closed.symbol (c.reserve.ensures.items ∙ c.new-list.ensures.items) c.push_reserved.ensures.items c.from_symbols.ensures in
+    let same = leaf_tree c.make_room.new.list.items c.push_reserved.new.self.items c.from_symbols.result c.in-Some.closed.symbol (c.make_room.ensures.items ∙ c.new-list.ensures.items) c.push_reserved.ensures.items c.from_symbols.ensures in
     let own = rw c.in-Some.is at c.in_ok-first.ensures.own in
     subst (λ t. IsGivenAway t → ⊥) same own
 
@@ -49,7 +49,7 @@ loop-row-init g c =
     let many = length c.at-frame.result.rows.items in
     let own : Node = node_at (spot_at (standing c.args.path.now.items c.args.place.now)) X in
     let rows : c.at-frame.result.rows.items ≡ targets c.args.place.now.place = c.at-frame.ensures.rows ∙ ap (λ (v : PlaceAndTrail). targets v.place) c.position.ensures in
-    let list_is : c.push_reserved-2.new.self.items ≡ symbol.Branch many ∷ [] = c.push_reserved-2.ensures.items ∙ ap (λ l. l ++ c.symbol.result ∷ []) (c.reserve.ensures.items ∙ c.new-list.ensures.items) ∙ ap (λ (x : Symbol). x ∷ []) c.symbol.ensures in
+    let list_is : c.push_reserved-2.new.self.items ≡ symbol.Branch many ∷ [] = c.push_reserved-2.ensures.items ∙ ap (λ l. l ++ c.symbol.result ∷ []) (c.make_room.ensures.items ∙ c.new-list.ensures.items) ∙ ap (λ (x : Symbol). x ∷ []) c.symbol.ensures in
     let begun = sets_out c.args.problem.now (standing c.args.path.now.items c.args.place.now) c.at-frame.result many c.requires.path rows c.at-frame.ensures.done refl in
     let listed = subst (λ l. IsUnderWay c.args.problem.now (standing c.args.path.now.items c.args.place.now) (standing c.args.path.now.items c.args.place.now) c.at-frame.result [] l (own ∷ [])) (sym list_is) begun in
     let branched = rw c.in_default.is at (c.in_ok-first.ensures.met c.args.split) in
@@ -145,21 +145,21 @@ loop-row-preserved-in_default-turn g c =
       floor_is = c.loop-row.invariant.floor_is;
     }
 
-pub returns-in_err-reserve-2-clause-end : goal.returns-in_err-reserve-2-clause-end
-returns-in_err-reserve-2-clause-end g c =
+pub returns-in_err-make_room-2-clause-end : goal.returns-in_err-make_room-2-clause-end
+returns-in_err-make_room-2-clause-end g c =
     let under = c.loop-row.invariant.under_way in
     let so_far = first_nodes (standing c.args.path.now.items c.args.place.now) c.loop-row.list.items c.loop-row.invariant.met under.owed under.walked in
     let short = g.met.S.Seek.short c.args.problem.now c.args.split c.args.seek.now c.loop-row.seek (dealt (g.L.Limit.view c.args.limit.now) (g.L.Limit.puts c.args.limit.now)) (dealt (g.L.Limit.view c.loop-row.limit) (g.L.Limit.puts c.loop-row.limit)) c.loop-row.invariant.met c.loop-row.invariant.meets in
-    let is : IfErr c.from_residual-in_err-reserve-2.result (λ end. end ≡ Memory) = search rules in
-    IfErr-weaker c.from_residual-in_err-reserve-2.result _ _ (λ end e. (c.loop-row.invariant.met, so_far, subst (λ w. g.S.Seek.ends c.args.problem.now c.args.split c.args.seek.now (dealt (g.L.Limit.view c.args.limit.now) (g.L.Limit.puts c.args.limit.now)) c.loop-row.seek (dealt (g.L.Limit.view c.loop-row.limit) (g.L.Limit.puts c.loop-row.limit)) c.loop-row.invariant.met w) (sym e) short)) is
+    let is : IfErr c.from_residual-in_err-make_room-2.result (λ end. end ≡ Memory) = search rules in
+    IfErr-weaker c.from_residual-in_err-make_room-2.result _ _ (λ end e. (c.loop-row.invariant.met, so_far, subst (λ w. g.S.Seek.ends c.args.problem.now c.args.split c.args.seek.now (dealt (g.L.Limit.view c.args.limit.now) (g.L.Limit.puts c.args.limit.now)) c.loop-row.seek (dealt (g.L.Limit.view c.loop-row.limit) (g.L.Limit.puts c.loop-row.limit)) c.loop-row.invariant.met w) (sym e) short)) is
 
-pub returns-in_err-reserve-3-clause-end : goal.returns-in_err-reserve-3-clause-end
-returns-in_err-reserve-3-clause-end g c =
+pub returns-in_err-make_room-3-clause-end : goal.returns-in_err-make_room-3-clause-end
+returns-in_err-make_room-3-clause-end g c =
     let under = c.loop-row.invariant.under_way in
     let so_far = first_nodes (standing c.args.path.now.items c.args.place.now) c.loop-row.list.items c.loop-row.invariant.met under.owed under.walked in
     let short = g.met.S.Seek.short c.args.problem.now c.args.split c.args.seek.now c.loop-row.seek (dealt (g.L.Limit.view c.args.limit.now) (g.L.Limit.puts c.args.limit.now)) (dealt (g.L.Limit.view c.loop-row.limit) (g.L.Limit.puts c.loop-row.limit)) c.loop-row.invariant.met c.loop-row.invariant.meets in
-    let is : IfErr c.from_residual-in_err-reserve-3.result (λ end. end ≡ Memory) = search rules in
-    IfErr-weaker c.from_residual-in_err-reserve-3.result _ _ (λ end e. (c.loop-row.invariant.met, so_far, subst (λ w. g.S.Seek.ends c.args.problem.now c.args.split c.args.seek.now (dealt (g.L.Limit.view c.args.limit.now) (g.L.Limit.puts c.args.limit.now)) c.loop-row.seek (dealt (g.L.Limit.view c.loop-row.limit) (g.L.Limit.puts c.loop-row.limit)) c.loop-row.invariant.met w) (sym e) short)) is
+    let is : IfErr c.from_residual-in_err-make_room-3.result (λ end. end ≡ Memory) = search rules in
+    IfErr-weaker c.from_residual-in_err-make_room-3.result _ _ (λ end e. (c.loop-row.invariant.met, so_far, subst (λ w. g.S.Seek.ends c.args.problem.now c.args.split c.args.seek.now (dealt (g.L.Limit.view c.args.limit.now) (g.L.Limit.puts c.args.limit.now)) c.loop-row.seek (dealt (g.L.Limit.view c.loop-row.limit) (g.L.Limit.puts c.loop-row.limit)) c.loop-row.invariant.met w) (sym e) short)) is
 
 pub push-requires : goal.push-requires
 push-requires g c =
@@ -188,7 +188,7 @@ returns-in_err-found-clause-end g c =
 
 pub loop-row-smaller-in_default-found : goal.loop-row-smaller-in_default-found
 loop-row-smaller-in_default-found g c =
-    let rev : reverse c.push_reserved-in_default-found-2.new.self.items ≡ c.turn.new.self ∷ reverse c.loop-row.above.items = ap reverse (c.push_reserved-in_default-found-2.ensures.items ∙ ap (λ (f : Frame). c.reserve-in-loop-row-2.new.self.items ++ f ∷ []) c.replace.ensures.value ∙ ap (λ (l : List Frame). l ++ c.turn.new.self ∷ []) c.reserve-in-loop-row-2.ensures.items) ∙ reverse_push c.loop-row.above.items c.turn.new.self in
+    let rev : reverse c.push_reserved-in_default-found-2.new.self.items ≡ c.turn.new.self ∷ reverse c.loop-row.above.items = ap reverse (c.push_reserved-in_default-found-2.ensures.items ∙ ap (λ (f : Frame). c.make_room-in-loop-row-2.new.list.items ++ f ∷ []) c.replace.ensures.value ∙ ap (λ (l : List Frame). l ++ c.turn.new.self ∷ []) c.make_room-in-loop-row-2.ensures.items) ∙ reverse_push c.loop-row.above.items c.turn.new.self in
     let few = short_path c.args.problem.now (c.loop-row.path.items ++ c.in-Some-turn.row ∷ []) (child c.loop-row.place.place c.in-Some-turn.row) c.loop-row.invariant.is_problem (turn_leads c.args.problem.now (standing c.args.path.now.items c.args.place.now) (standing c.loop-row.path.items c.loop-row.place) c.loop-row.frame c.turn.new.self (reverse c.loop-row.above.items) c.loop-row.list.items c.loop-row.invariant.met c.in-Some-turn.row c.loop-row.invariant.is_problem c.loop-row.invariant.under_way (record { left = c.in-Some-turn.ensures.left; row_is = c.in-Some-turn.ensures.row; done = c.in-Some-turn.ensures.done; rows = c.in-Some-turn.ensures.rows })) in
     let rows : length c.push.new.self.items ≡ suc (length c.loop-row.path.items) = omega (arith, ap length c.push.ensures.items, length-append c.loop-row.path.items (c.in-Some-turn.row ∷ [])) in
     let one : left c.loop-row.frame ≡ suc (left c.turn.new.self) = one_less_left c.loop-row.frame c.turn.new.self c.in-Some-turn.row (record { left = c.in-Some-turn.ensures.left; row_is = c.in-Some-turn.ensures.row; done = c.in-Some-turn.ensures.done; rows = c.in-Some-turn.ensures.rows }) in
@@ -198,13 +198,13 @@ loop-row-smaller-in_default-found g c =
 
 pub loop-row-preserved-in_default-found : goal.loop-row-preserved-in_default-found
 loop-row-preserved-in_default-found g c =
-    let rev : reverse c.push_reserved-in_default-found-2.new.self.items ≡ c.turn.new.self ∷ reverse c.loop-row.above.items = ap reverse (c.push_reserved-in_default-found-2.ensures.items ∙ ap (λ (f : Frame). c.reserve-in-loop-row-2.new.self.items ++ f ∷ []) c.replace.ensures.value ∙ ap (λ (l : List Frame). l ++ c.turn.new.self ∷ []) c.reserve-in-loop-row-2.ensures.items) ∙ reverse_push c.loop-row.above.items c.turn.new.self in
+    let rev : reverse c.push_reserved-in_default-found-2.new.self.items ≡ c.turn.new.self ∷ reverse c.loop-row.above.items = ap reverse (c.push_reserved-in_default-found-2.ensures.items ∙ ap (λ (f : Frame). c.make_room-in-loop-row-2.new.list.items ++ f ∷ []) c.replace.ensures.value ∙ ap (λ (l : List Frame). l ++ c.turn.new.self ∷ []) c.make_room-in-loop-row-2.ensures.items) ∙ reverse_push c.loop-row.above.items c.turn.new.self in
     let here : Stand = standing c.push.new.self.items c.walk_child.new.place in
     let many = length c.at-below.result.rows.items in
     let down = rw c.in_default-found.is at c.in_ok-found.ensures.down in
     let branched = rw c.in_default-found.is at c.in_ok-found.ensures.met in
     let rows : c.at-below.result.rows.items ≡ targets c.walk_child.new.place.place = c.at-below.ensures.rows ∙ ap (λ (v : PlaceAndTrail). targets v.place) c.position-in_default-found.ensures in
-    let list_is : c.push_reserved-in_default-found.new.self.items ≡ c.loop-row.list.items ++ symbol.Branch many ∷ [] = c.push_reserved-in_default-found.ensures.items ∙ ap (λ l. l ++ c.symbol-in_default-found.result ∷ []) c.reserve-in-loop-row.ensures.items ∙ ap (λ (x : Symbol). c.loop-row.list.items ++ x ∷ []) c.symbol-in_default-found.ensures in
+    let list_is : c.push_reserved-in_default-found.new.self.items ≡ c.loop-row.list.items ++ symbol.Branch many ∷ [] = c.push_reserved-in_default-found.ensures.items ∙ ap (λ l. l ++ c.symbol-in_default-found.result ∷ []) c.make_room-in-loop-row.ensures.items ∙ ap (λ (x : Symbol). c.loop-row.list.items ++ x ∷ []) c.symbol-in_default-found.ensures in
     let own : Node = node_at (spot_at here) X in
     let gone = goes_down c.args.problem.now (standing c.args.path.now.items c.args.place.now) (standing c.loop-row.path.items c.loop-row.place) here c.loop-row.frame c.turn.new.self c.at-below.result (reverse c.loop-row.above.items) c.loop-row.list.items c.loop-row.invariant.met c.in-Some-turn.row many c.loop-row.invariant.is_problem c.loop-row.invariant.under_way (record { left = c.in-Some-turn.ensures.left; row_is = c.in-Some-turn.ensures.row; done = c.in-Some-turn.ensures.done; rows = c.in-Some-turn.ensures.rows }) c.push.ensures.items down rows c.at-below.ensures.done refl in
     let listed = subst (λ l. IsUnderWay c.args.problem.now (standing c.args.path.now.items c.args.place.now) here c.at-below.result (c.turn.new.self ∷ (reverse c.loop-row.above.items)) l (c.loop-row.invariant.met ++ own ∷ [])) (sym list_is) gone in
@@ -227,7 +227,7 @@ pub loop-row-smaller : goal.loop-row-smaller
 loop-row-smaller g c =
     let popped : c.pop-row-in-loop-row.new.self.items ≡ c.loop-row.path.items = back_again c.pop-row-in-loop-row.new.self.items c.push.new.self.items c.loop-row.path.items _ c.in-Some-turn.row refl c.push.ensures.items c.pop-row-in-loop-row.ensures.rest in
     let one : left c.loop-row.frame ≡ suc (left c.turn.new.self) = one_less_left c.loop-row.frame c.turn.new.self c.in-Some-turn.row (record { left = c.in-Some-turn.ensures.left; row_is = c.in-Some-turn.ensures.row; done = c.in-Some-turn.ensures.done; rows = c.in-Some-turn.ensures.rows }) in
-    subst (λ (l : List Frame). owed (length c.pop-row-in-loop-row.new.self.items) c.turn.new.self (reverse l) < owed (length c.loop-row.path.items) c.loop-row.frame (reverse c.loop-row.above.items)) (sym c.reserve-in-loop-row-2.ensures.items)
+    subst (λ (l : List Frame). owed (length c.pop-row-in-loop-row.new.self.items) c.turn.new.self (reverse l) < owed (length c.loop-row.path.items) c.loop-row.frame (reverse c.loop-row.above.items)) (sym c.make_room-in-loop-row-2.ensures.items)
     (subst (λ n. owed n c.turn.new.self (reverse c.loop-row.above.items) < owed (length c.loop-row.path.items) c.loop-row.frame (reverse c.loop-row.above.items)) (sym (ap length popped))
     (owes_less (length c.loop-row.path.items) c.loop-row.frame c.turn.new.self (reverse c.loop-row.above.items) (omega arith) one))
 
@@ -240,11 +240,11 @@ loop-row-preserved g c =
     let own_met = rw c.in-Some-found.is at c.in_ok-found.ensures.met in
     let own : List Node = nodes (c.loop-row.path.items ++ c.in-Some-turn.row ∷ []) next (leaf c.in-Some-found.closed.symbol) in
     let path : c.as_slice-in-loop-row.result.now ≡ c.loop-row.path.items ++ c.in-Some-turn.row ∷ [] = c.as_slice-in-loop-row.ensures.value ∙ c.push.ensures.items in
-    let list_is : c.push_reserved-in-loop-row.new.self.items ≡ c.loop-row.list.items ++ c.in-Some-found.closed.symbol ∷ [] = c.push_reserved-in-loop-row.ensures.items ∙ ap (λ l. l ++ c.in-Some-found.closed.symbol ∷ []) c.reserve-in-loop-row.ensures.items in
+    let list_is : c.push_reserved-in-loop-row.new.self.items ≡ c.loop-row.list.items ++ c.in-Some-found.closed.symbol ∷ [] = c.push_reserved-in-loop-row.ensures.items ∙ ap (λ l. l ++ c.in-Some-found.closed.symbol ∷ []) c.make_room-in-loop-row.ensures.items in
     let stayed = stays c.args.problem.now (standing c.args.path.now.items c.args.place.now) (standing c.loop-row.path.items c.loop-row.place) c.loop-row.frame c.turn.new.self (reverse c.loop-row.above.items) c.loop-row.list.items c.loop-row.invariant.met c.in-Some-turn.row c.in-Some-found.closed.symbol c.loop-row.invariant.under_way (record { left = c.in-Some-turn.ensures.left; row_is = c.in-Some-turn.ensures.row; done = c.in-Some-turn.ensures.done; rows = c.in-Some-turn.ensures.rows }) closed.leaf_is in
     let listed = subst (λ l. IsUnderWay c.args.problem.now (standing c.args.path.now.items c.args.place.now) (standing c.loop-row.path.items c.loop-row.place) c.turn.new.self (reverse c.loop-row.above.items) l (c.loop-row.invariant.met ++ own)) (sym list_is) stayed in
     let placed = subst (λ t. IsUnderWay c.args.problem.now (standing c.args.path.now.items c.args.place.now) (standing c.loop-row.path.items t) c.turn.new.self (reverse c.loop-row.above.items) c.push_reserved-in-loop-row.new.self.items (c.loop-row.invariant.met ++ own)) (sym back) listed in
-    let above = subst (λ (l : List Frame). IsUnderWay c.args.problem.now (standing c.args.path.now.items c.args.place.now) (standing c.loop-row.path.items c.walk_child.new.place) c.turn.new.self (reverse l) c.push_reserved-in-loop-row.new.self.items (c.loop-row.invariant.met ++ own)) (sym c.reserve-in-loop-row-2.ensures.items) placed in
+    let above = subst (λ (l : List Frame). IsUnderWay c.args.problem.now (standing c.args.path.now.items c.args.place.now) (standing c.loop-row.path.items c.walk_child.new.place) c.turn.new.self (reverse l) c.push_reserved-in-loop-row.new.self.items (c.loop-row.invariant.met ++ own)) (sym c.make_room-in-loop-row-2.ensures.items) placed in
     let at_path = subst (λ l. g.S.Seek.meets c.args.problem.now c.args.split c.loop-row.seek (dealt (g.L.Limit.view c.loop-row.limit) (g.L.Limit.puts c.loop-row.limit)) c.walk_child.new.seek (dealt (g.L.Limit.view c.walk_child.new.limit) (g.L.Limit.puts c.walk_child.new.limit)) (nodes l next (leaf c.in-Some-found.closed.symbol))) path own_met in
     let low = subst (λ l. c.in-Some-found.closed.floor ≡ least_value (cap c.args.problem.now) (nodes l next (leaf c.in-Some-found.closed.symbol))) path closed.floor_is in
     record {
@@ -252,7 +252,7 @@ loop-row-preserved g c =
       same = (c.walk_child.ensures.same.0 ∙ c.loop-row.invariant.same.0, c.walk_child.ensures.same.1 ∙ c.loop-row.invariant.same.1);
       ready = g.met.S.Seek.still c.args.problem.now c.args.split c.loop-row.seek c.walk_child.new.seek (dealt (g.L.Limit.view c.loop-row.limit) (g.L.Limit.puts c.loop-row.limit)) (dealt (g.L.Limit.view c.walk_child.new.limit) (g.L.Limit.puts c.walk_child.new.limit)) own at_path c.loop-row.invariant.ready;
       met = c.loop-row.invariant.met ++ own;
-      under_way = subst (λ l. IsUnderWay c.args.problem.now (standing c.args.path.now.items c.args.place.now) (standing l c.walk_child.new.place) c.turn.new.self (reverse c.reserve-in-loop-row-2.new.self.items) c.push_reserved-in-loop-row.new.self.items (c.loop-row.invariant.met ++ own)) (sym popped) above;
+      under_way = subst (λ l. IsUnderWay c.args.problem.now (standing c.args.path.now.items c.args.place.now) (standing l c.walk_child.new.place) c.turn.new.self (reverse c.make_room-in-loop-row-2.new.list.items) c.push_reserved-in-loop-row.new.self.items (c.loop-row.invariant.met ++ own)) (sym popped) above;
       meets = g.met.S.Seek.onward c.args.problem.now c.args.split c.args.seek.now c.loop-row.seek c.walk_child.new.seek (dealt (g.L.Limit.view c.args.limit.now) (g.L.Limit.puts c.args.limit.now)) (dealt (g.L.Limit.view c.loop-row.limit) (g.L.Limit.puts c.loop-row.limit)) (dealt (g.L.Limit.view c.walk_child.new.limit) (g.L.Limit.puts c.walk_child.new.limit)) c.loop-row.invariant.met own c.loop-row.invariant.meets at_path;
       floor_is = floor_more (cap c.args.problem.now) c.loop-row.floor c.in-Some-found.closed.floor c.min-floor.result c.loop-row.invariant.met own c.loop-row.invariant.floor_is low c.min-floor.ensures;
     }
