@@ -1,5 +1,5 @@
 -- How many containers can still count in the look-ahead: those that block, each once.
-use Rattle.std.proofs.Common.{◌≡◌, ℕ, zero, suc, ◌+◌, ◌-◌, ◌<◌, ◌≤◌, max, Bool, true, false, ◌==◌, List, [], ◌∷◌, ◌++◌, length, map, take, get_or, set, sum_by, refl, sym, ap, ◌∙◌, subst, ⊎_elim, arith, length-append, append_assoc, append-nil}
+use Rattle.std.proofs.Common.{◌≡◌, ℕ, zero, suc, ◌+◌, ◌-◌, ◌<◌, ◌≤◌, max, Bool, true, false, ◌==◌, List, [], ◌∷◌, ◌++◌, All, length, map, take, get_or, set, sum_by, count_by, nat_lt, refl, sym, ap, ◌∙◌, subst, ⊎_elim, arith, length-append, append_assoc, append-nil}
 use Rattle.std.proofs.lemmas.Bool.{cases_Bool, cases_lt, or_left, or_right, eq-eqb}
 use Rattle.std.proofs.lemmas.List.{length-take-le}
 use Rattle.std.proofs.lemmas.List.Sums.{sum_by-cons, count_by-le-length, get_or-le-sum_by}
@@ -11,9 +11,10 @@ use Rattle.crp_bay.specs.Positions.{place}
 use Rattle.crp_bay.specs.Reached.{IsReached}
 use Rattle.crp_bay.proofs.Reaching.{reached_sound}
 use Rattle.crp_bounds.specs.Bounds.{holds_lower, blocked_in, blocking, has_no_place, stuck_from, stuck_now}
+use Rattle.crp_bounds.specs.Leasts.{least_ordered}
 use Rattle.crp_bounds.specs.Offers.{cut, offers, greatest}
 use Rattle.crp_bounds.proofs.Leasts.{few_blocked}
-use Rattle.crp_bounds.proofs.Scanned.{bay_of, ahead_begins, Reads}
+use Rattle.crp_bounds.proofs.Scanned.{bay_of, ahead_begins, Reads, held_test, met_here}
 use Rattle.crp_bounds.proofs.Blocked.{lower_from_held}
 use Rattle.crp_bounds.proofs.Stuck.{any_prefix, counted, counted-cons}
 use Rattle.crp_bounds.proofs.Cutting.{occurrences_cut, cut_at, cut_all, splits_at, above_greater, gone_below, gone_own}
@@ -147,19 +148,26 @@ remains_absent ordered next heights stacks k left most again still m once le fre
   few = m.few;
 }
 
--- a rank that is left, as its stack is read
-pub record Turned (s : Position) (k row : ℕ) (stack left : List ℕ) (most again still kept more offered : ℕ) : Type 0 where
+-- a rank that is left, as its stack is read, of which so many are kept
+pub record Turned (s : Position) (k row : ℕ) (stack left : List ℕ) (most again still kept more : ℕ) : Type 0 where
   pub within : length (take (get_or left (row - 1) 0) stack) - 1 - kept ≤ still
-  pub remains : Remains s.ordered s.next s.heights s.stacks (k + 1) (set left (row - 1) kept) (max most offered) (again + more) (still - (length (take (get_or left (row - 1) 0) stack) - 1 - kept))
+  pub counted_most : again + more ≤ stuck_now s
+  pub remains : Remains s.ordered s.next s.heights s.stacks (k + 1) (set left (row - 1) kept) (max most (least_ordered s.ordered (take kept (take (get_or left (row - 1) 0) stack)))) (again + more) (still - (length (take (get_or left (row - 1) 0) stack) - 1 - kept))
 
-pub turned : (s : Position) (k row : ℕ) (stack left : List ℕ) (most again still kept more offered : ℕ) → Remains s.ordered s.next s.heights s.stacks k left most again still → IsReached s → k ≤ s.ordered → Reads s k row stack left →
-    Met s.ordered s.heights s.stacks k left most (row - 1) kept more offered → Turned s k row stack left most again still kept more offered
-turned s k row stack left most again still kept more offered m reached le r t =
+pub turned : (s : Position) (k row : ℕ) (stack left : List ℕ) (most again still kept more : ℕ) → Remains s.ordered s.next s.heights s.stacks k left most again still → IsReached s → k ≤ s.ordered → Reads s k row stack left →
+    All (λ rank. rank ≤ 96) stack → least_ordered s.ordered (take (get_or left (row - 1) 0) stack) ≡ k → take kept (take (get_or left (row - 1) 0) stack) ≡ below k (take (get_or left (row - 1) 0) stack) → kept < length (take (get_or left (row - 1) 0) stack) →
+    more ≡ count_by (nat_lt most) (above k (take (get_or left (row - 1) 0) stack)) → more ≤ 8 → Turned s k row stack left most again still kept more
+turned s k row stack left most again still kept more m reached le r ranks least_is cut lower counts few =
+    let offered : ℕ = least_ordered s.ordered (take kept (take (get_or left (row - 1) 0) stack)) in
+    let t : Met s.ordered s.heights s.stacks k left most (row - 1) kept more offered =
+    met_here s k row stack left most kept more offered r ranks ((held_test s k row stack left most again reached r m.ahead le).0 least_is) cut lower counts few refl in
     let here : length (take (get_or left (row - 1) 0) stack) ≡ length (take (get_or left (row - 1) 0) (get_or s.stacks (row - 1) [])) = ap (λ l. length (take (get_or left (row - 1) 0) l)) (sym r.stack_is) in
+    let next = remains_met s.ordered s.next s.heights s.stacks k left most again still (row - 1) kept more offered m (bay_of s reached) le t in
+    let next_ahead = next.ahead in
     record {
       within = omega (arith, met_blocks s.ordered s.next s.heights s.stacks k left most again still (row - 1) kept more offered m (bay_of s reached) le t, here);
-      remains = subst (λ n. Remains s.ordered s.next s.heights s.stacks (k + 1) (set left (row - 1) kept) (max most offered) (again + more) (still - (n - 1 - kept))) (sym here)
-          (remains_met s.ordered s.next s.heights s.stacks k left most again still (row - 1) kept more offered m (bay_of s reached) le t);
+      counted_most = omega (arith, next_ahead.tallied);
+      remains = subst (λ n. Remains s.ordered s.next s.heights s.stacks (k + 1) (set left (row - 1) kept) (max most offered) (again + more) (still - (n - 1 - kept))) (sym here) next;
     }
 
 -- how it begins

@@ -177,10 +177,12 @@ impl Bounded {
         blocking + again_from(&self.position, &self.leasts, blocking)
     }
 
-    /// The look-ahead bound of the position, where it reaches `need`. It stops counting as soon as it cannot.
+    /// The look-ahead bound of the position, or as much of it as is `enough`, where it reaches `need`. It stops counting as soon as
+    /// it is known which.
     #[inline]
-    pub fn look_ahead_reaching(&self, need: u32) -> Option<u32>
-        ensures value { IfSome result (λ bound. bound ≡ look_ahead_bound self.now.place) }
+    pub fn look_ahead_reaching(&self, need: u32, enough: u32) -> Option<u32>
+        ensures most { IfSome result (λ bound. bound ≤ look_ahead_bound self.now.place) }
+        ensures all { IfSome result (λ bound. bound < enough → bound ≡ look_ahead_bound self.now.place) }
         ensures reached { IfSome result (λ bound. need ≤ bound) }
         ensures below { IfNone result (look_ahead_bound self.now.place < need) }
         ensures few { IfSome result (λ bound. bound ≤ 96 + 96 * 96) }
@@ -191,6 +193,7 @@ impl Bounded {
             &self.leasts,
             blocking,
             need.saturating_sub(blocking),
+            enough.max(need).saturating_sub(blocking),
         )?;
         Some(blocking + again)
     }

@@ -79,8 +79,8 @@ fn if_reached(count: u32, need: u32) -> Option<u32>
     if count < need { None } else { Some(count) }
 }
 
-/// How many containers would block again, rank by rank, where those that block now are so many; `None` exactly where they
-/// are fewer than `need`.
+/// How many containers would block again, rank by rank, where those that block now are so many, or as many of them as are
+/// `enough`; `None` exactly where they are fewer than `need`.
 ///
 /// Each counts once at most, and only one that blocks: what stands above the next rank in its stack all blocks, and is gone
 /// once the stack is cut off. So there are never more than have counted and still block.
@@ -89,10 +89,13 @@ pub fn again_reaching(
     leasts: &[u8; 97],
     blocking: u32,
     need: u32,
+    enough: u32,
 ) -> Option<u32>
     requires known { KnowsLeasts leasts.now position.now.place }
     requires blocking { blocking ≡ blocking_bound position.now.place }
-    ensures value { IfSome result (λ again. again ≡ stuck_now position.now.place) }
+    requires enough { need ≤ enough }
+    ensures most { IfSome result (λ again. again ≤ stuck_now position.now.place) }
+    ensures all { IfSome result (λ again. again < enough → again ≡ stuck_now position.now.place) }
     ensures reached { IfSome result (λ again. need ≤ again) }
     ensures short { IfNone result (stuck_now position.now.place < need) }
     ensures few { IfSome result (λ again. again ≤ 96 * 96) }
@@ -115,6 +118,9 @@ pub fn again_reaching(
             }
             let Cut { more, kept } = cut_at_rank(rank, most, stack);
             again += more;
+            if enough <= again {
+                return Some(again);
+            }
             still -= (stack.len() - 1 - kept) as u32;
             if again + still < need {
                 return None;
@@ -133,7 +139,7 @@ pub fn again_from(position: &Position, leasts: &[u8; 97], blocking: u32) -> u32
     ensures value { result ≡ stuck_now position.now.place }
     ensures few { result ≤ 96 * 96 }
 {
-    let Some(again) = again_reaching(position, leasts, blocking, 0) else {
+    let Some(again) = again_reaching(position, leasts, blocking, 0, u32::MAX) else {
         unreachable!()
     };
     again

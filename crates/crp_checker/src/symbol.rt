@@ -50,7 +50,7 @@ pub fn low_ahead(need: &Need, number: u64, path: &[u8], place: &Bounded) -> Opti
 {
     let short = need.at(path).saturating_sub(path.len());
     let short = short.min(u32::MAX as usize) as u32;
-    match place.look_ahead_reaching(short) {
+    match place.look_ahead_reaching(short, short) {
         Some(_) => None,
         None => Some(Wrong::Low { symbol: number }),
     }

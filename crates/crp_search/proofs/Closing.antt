@@ -2,7 +2,7 @@
 use Rattle.std.proofs.Common.{◌≡◌, ℕ, ◌+◌, ◌<◌, ◌≤◌, min, inl, List, [], ◌∷◌, ◌++◌, length, map, sym, ap, ◌∙◌, arith}
 use Rattle.crp_plan.specs.Bay.{Position}
 use Rattle.crp_bounds.specs.Bounds.{blocking, look_ahead}
-use Rattle.crp_tree.specs.Trees.{B, L, X, G, Node, cuts, value, least_value}
+use Rattle.crp_tree.specs.Trees.{B, L, X, G, Node, cuts, value, least, least_value}
 use Rattle.crp_tree.proofs.Shown.{least_most}
 use Rattle.crp_tree.proofs.Joined.{least_value-append}
 use Rattle.crp_search.specs.Searched.{IsHeld}
@@ -25,5 +25,10 @@ floor_branch most floor met path s is =
     let node : Node = record { path = path; place = s; mark = X } in
     omega (arith, is, least_value-append most met (node ∷ []), least_most most (map value (cuts met)))
 
-pub floor_more : (most floor lower low : ℕ) (met own : List Node) → floor ≡ least_value most met → lower ≡ least_value most own → low ≡ min floor lower → low ≡ least_value most (met ++ own)
-floor_more most floor lower low met own is also least_is = least_is ∙ ap (λ m. min m lower) is ∙ ap (λ m. min (least_value most met) m) also ∙ sym (least_value-append most met own)
+least_lower : (floor most : ℕ) (values : List ℕ) → floor ≤ most → least floor values ≡ min floor (least most values)
+least_lower floor most [] le = omega (arith, le)
+least_lower floor most (v ∷ values) le = omega (arith, least_lower floor most values le)
+
+pub floor_more : (most floor low : ℕ) (met own : List Node) → floor ≡ least_value most met → low ≡ least_value floor own → low ≡ least_value most (met ++ own)
+floor_more most floor low met own is lower =
+    omega (arith, is, lower, least_value-append most met own, least_lower floor most (map value (cuts own)) (omega (arith, is, least_most most (map value (cuts met)))))

@@ -14,7 +14,7 @@ pub struct Found {
     pub floor: u32,
 }
 
-/// What is found where a node is not a branch: its symbol, and the value of the cut, or the problem's cap where that is not above it.
+/// What is found where a node is not a branch: its symbol, and the floor of the walk with it, which the value of a cut may lower.
 #[derive(Drop)]
 pub struct Closed {
     pub symbol: Symbol,

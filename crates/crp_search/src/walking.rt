@@ -25,44 +25,44 @@ use std::mem;
 /// Destination rows, from the first relocation on.
 pub type Path = ArrayVec<u8, MAX_RELOCATIONS>;
 
-/// A node that is closed by a cut of the value. No floor is above `most`.
-fn cut(symbol: Symbol, value: u32, most: u32) -> Closed
-    ensures { result ≡ record { symbol = symbol; floor = min value most } }
+/// A node that is closed by a cut of the value, below a floor.
+fn cut(symbol: Symbol, value: u32, floor: u32) -> Closed
+    ensures { result ≡ record { symbol = symbol; floor = min value floor } }
 {
     Closed {
         symbol,
-        floor: value.min(most),
+        floor: value.min(floor),
     }
 }
 
-/// The length of the path plus the look-ahead bound, where that suffices.
-fn reaching(place: &Bounded, path: &[u8], bar: u64) -> Option<u32>
+/// The cut by the look-ahead bound, where length plus that bound suffices. It counts no further than the floor.
+fn reaching_cut(place: &Bounded, path: &[u8], bar: u64, floor: u32) -> Option<Closed>
     requires { length path.now ≤ 672 }
-    ensures value { IfSome result (λ high. high ≡ length path.now + look_ahead_bound place.now.place) }
-    ensures reached { IfSome result (λ high. bar ≤ high) }
+    ensures value { IfSome result (λ closed. closed ≡ record { symbol = Symbol.CutL; floor = min (length path.now + look_ahead_bound place.now.place) floor }) }
+    ensures reached { IfSome result (λ closed. bar ≤ length path.now + look_ahead_bound place.now.place) }
     ensures below { IfNone result (length path.now + look_ahead_bound place.now.place < bar) }
 {
     let length = path.len() as u32;
     let need = bar
         .saturating_sub(u64::from(length))
         .min(u64::from(u32::MAX)) as u32;
-    let bound = place.look_ahead_reaching(need)?;
-    Some(length + bound)
+    let bound = place.look_ahead_reaching(need, floor.saturating_sub(length))?;
+    Some(cut(Symbol::CutL, length + bound, floor))
 }
 
 /// The cut where a claim was refused: by the blocking bound where the look-ahead bound is no higher.
-fn refused_cut(place: &Bounded, length: u32, low: u32, most: u32) -> Closed
+fn refused_cut(place: &Bounded, length: u32, low: u32, floor: u32) -> Closed
     requires length { length ≤ 672 }
     requires low { low ≡ length + blocking_bound place.now.place }
-    ensures equal { low ≡ length + look_ahead_bound place.now.place → result ≡ record { symbol = Symbol.CutB; floor = min low most } }
+    ensures equal { low ≡ length + look_ahead_bound place.now.place → result ≡ record { symbol = Symbol.CutB; floor = min low floor } }
     ensures higher { (low ≡ length + look_ahead_bound place.now.place → ⊥)
-        → result ≡ record { symbol = Symbol.CutL; floor = min (length + look_ahead_bound place.now.place) most } }
+        → result ≡ record { symbol = Symbol.CutL; floor = min (length + look_ahead_bound place.now.place) floor } }
 {
     let high = length + place.look_ahead();
     if low == high {
-        cut(Symbol::CutB, low, most)
+        cut(Symbol::CutB, low, floor)
     } else {
-        cut(Symbol::CutL, high, most)
+        cut(Symbol::CutL, high, floor)
     }
 }
 
@@ -94,34 +94,35 @@ fn close_below<S: Seek, L: Limit>(
     path: &[u8],
     low: u32,
     bar: u64,
+    floor: u32,
     seek: &mut S,
     limit: &mut L,
 ) -> Result<Option<Closed>, FirstEnd>
     requires problem { problem.now ≡ L.problem limit.old }
+    requires is_problem { IsProblem problem.now }
     requires ready { S.ready problem.now seek.old }
     requires path { IsAt problem.now path.now place.now.place }
     requires low { low ≡ length path.now + blocking_bound place.now.place }
     requires bar { (low < bar) × (bar ≡ S.bar seek.old (L.view limit.old)) }
     ensures met { IfOk result (λ found. (split : ℕ) → S.meets problem.now split seek.old (dealt (L.view limit.old) (L.puts limit.old)) seek.new (dealt (L.view limit.new) (L.puts limit.new))
         (met_at path.now place.now.place found)) }
-    ensures leaf { IfOk result (λ found. IfSome found (IsLeafAt problem.now path.now place.now.place)) }
+    ensures leaf { IfOk result (λ found. IfSome found (IsLeafAt floor path.now place.now.place)) }
     ensures own { IfOk result (λ found. IfSome found (λ closed. IsGivenAway (leaf closed.symbol) → ⊥)) }
     ensures end { IfErr result (λ end. (split : ℕ) → S.ends problem.now split seek.old (dealt (L.view limit.old) (L.puts limit.old)) seek.new (dealt (L.view limit.new) (L.puts limit.new)) [] end) }
     ensures same { (L.problem limit.new ≡ L.problem limit.old) × (L.budget limit.new ≡ L.budget limit.old) }
 {
-    let most = problem.cap();
     if place.position().is_done() {
         take_plan(problem, path, seek, limit);
-        return Ok(Some(cut(Symbol::CutB, low, most)));
+        return Ok(Some(cut(Symbol::CutB, low, floor)));
     }
-    if let Some(high) = reaching(place, path, bar) {
-        return Ok(Some(cut(Symbol::CutL, high, most)));
+    if let Some(closed) = reaching_cut(place, path, bar, floor) {
+        return Ok(Some(closed));
     }
     let granted = seek.expand(limit)?;
     if granted {
         return Ok(None);
     }
-    Ok(Some(refused_cut(place, path.len() as u32, low, most)))
+    Ok(Some(refused_cut(place, path.len() as u32, low, floor)))
 }
 
 /// The same where nothing is known of the node: it is closed as well where length plus blocking bound suffices.
@@ -129,26 +130,27 @@ fn close<S: Seek, L: Limit>(
     problem: &Problem,
     place: &Bounded,
     path: &[u8],
+    floor: u32,
     seek: &mut S,
     limit: &mut L,
 ) -> Result<Option<Closed>, FirstEnd>
     requires problem { problem.now ≡ L.problem limit.old }
+    requires is_problem { IsProblem problem.now }
     requires ready { S.ready problem.now seek.old }
     requires path { IsAt problem.now path.now place.now.place }
     ensures met { IfOk result (λ found. (split : ℕ) → S.meets problem.now split seek.old (dealt (L.view limit.old) (L.puts limit.old)) seek.new (dealt (L.view limit.new) (L.puts limit.new))
         (met_at path.now place.now.place found)) }
-    ensures leaf { IfOk result (λ found. IfSome found (IsLeafAt problem.now path.now place.now.place)) }
+    ensures leaf { IfOk result (λ found. IfSome found (IsLeafAt floor path.now place.now.place)) }
     ensures own { IfOk result (λ found. IfSome found (λ closed. IsGivenAway (leaf closed.symbol) → ⊥)) }
     ensures end { IfErr result (λ end. (split : ℕ) → S.ends problem.now split seek.old (dealt (L.view limit.old) (L.puts limit.old)) seek.new (dealt (L.view limit.new) (L.puts limit.new)) [] end) }
     ensures same { (L.problem limit.new ≡ L.problem limit.old) × (L.budget limit.new ≡ L.budget limit.old) }
 {
-    let most = problem.cap();
     let low = path.len() as u32 + place.blocking();
     let bar = seek.enough(limit);
     if u64::from(low) >= bar {
-        return Ok(Some(cut(Symbol::CutB, low, most)));
+        return Ok(Some(cut(Symbol::CutB, low, floor)));
     }
-    close_below(problem, place, path, low, bar, seek, limit)
+    close_below(problem, place, path, low, bar, floor, seek, limit)
 }
 
 /// Puts the name of the path where it has at most `split` rows, and answers whether it was accepted.
@@ -178,29 +180,30 @@ fn close_child<S: Seek, L: Limit>(
     place: &mut Bounded,
     path: &[u8],
     row: u8,
+    floor: u32,
     seek: &mut S,
     limit: &mut L,
 ) -> Result<Option<Closed>, FirstEnd>
     requires problem { problem.now ≡ L.problem limit.old }
+    requires is_problem { IsProblem problem.now }
     requires ready { S.ready problem.now seek.old }
     requires path { IsAt problem.now path.now (child place.old.place row) }
     requires row { Contains (targets place.old.place) row }
     ensures met { IfOk result (λ found. (split : ℕ) → S.meets problem.now split seek.old (dealt (L.view limit.old) (L.puts limit.old)) seek.new (dealt (L.view limit.new) (L.puts limit.new))
         (met_at path.now (child place.old.place row) found)) }
-    ensures leaf { IfOk result (λ found. IfSome found (IsLeafAt problem.now path.now (child place.old.place row))) }
+    ensures leaf { IfOk result (λ found. IfSome found (IsLeafAt floor path.now (child place.old.place row))) }
     ensures back { IfOk result (λ found. IfSome found (λ closed. place.new ≡ place.old)) }
     ensures down { IfOk result (λ found. IfNone found (place.new ≡ record { place = child place.old.place row; trail = place.old.place ∷ place.old.trail })) }
     ensures end { IfErr result (λ end. (split : ℕ) → S.ends problem.now split seek.old (dealt (L.view limit.old) (L.puts limit.old)) seek.new (dealt (L.view limit.new) (L.puts limit.new)) [] end) }
     ensures same { (L.problem limit.new ≡ L.problem limit.old) × (L.budget limit.new ≡ L.budget limit.old) }
 {
-    let most = problem.cap();
     let below = path.len() as u32 + place.blocking_after(row);
     let bar = seek.enough(limit);
     if u64::from(below) >= bar {
-        return Ok(Some(cut(Symbol::CutB, below, most)));
+        return Ok(Some(cut(Symbol::CutB, below, floor)));
     }
     let _pushed = place.push(row);
-    let found = close_below(problem, place, path, below, bar, seek, limit)?;
+    let found = close_below(problem, place, path, below, bar, floor, seek, limit)?;
     if found.is_some() {
         let _popped = place.pop();
     }
@@ -214,18 +217,20 @@ fn walk_child<S: Seek, L: Limit>(
     place: &mut Bounded,
     path: &[u8],
     row: u8,
+    floor: u32,
     seek: &mut S,
     limit: &mut L,
     split: u8,
 ) -> Result<Option<Closed>, FirstEnd>
     requires problem { problem.now ≡ L.problem limit.old }
+    requires is_problem { IsProblem problem.now }
     requires ready { S.ready problem.now seek.old }
     requires path { IsAt problem.now path.now (child place.old.place row) }
     requires row { Contains (targets place.old.place) row }
     requires split { split ≤ 8 }
     ensures met { IfOk result (λ found. S.meets problem.now split seek.old (dealt (L.view limit.old) (L.puts limit.old)) seek.new (dealt (L.view limit.new) (L.puts limit.new))
         (met_at path.now (child place.old.place row) found)) }
-    ensures leaf { IfOk result (λ found. IfSome found (IsLeafAt problem.now path.now (child place.old.place row))) }
+    ensures leaf { IfOk result (λ found. IfSome found (IsLeafAt floor path.now (child place.old.place row))) }
     ensures back { IfOk result (λ found. IfSome found (λ closed. place.new ≡ place.old)) }
     ensures down { IfOk result (λ found. IfNone found (place.new ≡ record { place = child place.old.place row; trail = place.old.place ∷ place.old.trail })) }
     ensures end { IfErr result (λ end. S.ends problem.now split seek.old (dealt (L.view limit.old) (L.puts limit.old)) seek.new (dealt (L.view limit.new) (L.puts limit.new)) [] end) }
@@ -234,10 +239,10 @@ fn walk_child<S: Seek, L: Limit>(
     if give(path, split, limit) {
         return Ok(Some(Closed {
             symbol: Symbol::Given,
-            floor: problem.cap(),
+            floor,
         }));
     }
-    close_child(problem, place, path, row, seek, limit)
+    close_child(problem, place, path, row, floor, seek, limit)
 }
 
 /// Makes room for one more, where there is none.
@@ -276,9 +281,10 @@ fn walk_from<S: Seek, L: Limit>(
         × S.ends problem.now split seek.old (dealt (L.view limit.old) (L.puts limit.old)) seek.new (dealt (L.view limit.new) (L.puts limit.new)) met end) }
     ensures same { (L.problem limit.new ≡ L.problem limit.old) × (L.budget limit.new ≡ L.budget limit.old) }
 {
+    let mut floor = problem.cap();
     let mut list = Vec::new(alloc);
     make_room(&mut list)?;
-    let first = close(problem, place, path.as_slice(), seek, limit)?;
+    let first = close(problem, place, path.as_slice(), floor, seek, limit)?;
     if let Some(closed) = first {
         list.push_reserved(closed.symbol);
         return Ok(Found {
@@ -286,7 +292,6 @@ fn walk_from<S: Seek, L: Limit>(
             floor: closed.floor,
         });
     }
-    let mut floor = problem.cap();
     let mut above = Vec::new(alloc);
     let mut frame = Frame::at(place.position());
     list.push_reserved(frame.symbol());
@@ -306,7 +311,16 @@ fn walk_from<S: Seek, L: Limit>(
         make_room(&mut list)?;
         make_room(&mut above)?;
         path.push(row);
-        let found = walk_child(problem, place, path.as_slice(), row, seek, limit, split)?;
+        let found = walk_child(
+            problem,
+            place,
+            path.as_slice(),
+            row,
+            floor,
+            seek,
+            limit,
+            split,
+        )?;
         let Some(closed) = found else {
             let below = Frame::at(place.position());
             list.push_reserved(below.symbol());
@@ -315,7 +329,7 @@ fn walk_from<S: Seek, L: Limit>(
         };
         let _row = path.pop();
         list.push_reserved(closed.symbol);
-        floor = floor.min(closed.floor);
+        floor = closed.floor;
     }
 }
 

@@ -1,18 +1,20 @@
-use Rattle.std.proofs.Common.{◌≡◌, ℕ, ◌+◌, ◌-◌, ◌<◌, ◌≤◌, max, true, false, List, [], length, take, get_or, set, refl, sym, ap, ◌∙◌, subst, arith}
-use Rattle.std.specs.Prelude.{IfSome, IfNone}
+use Rattle.std.proofs.Common.{◌≡◌, ℕ, ◌+◌, ◌-◌, ◌<◌, ◌≤◌, max, false, List, [], length, take, get_or, set, sym, ap, ◌∙◌, subst, arith}
+use Rattle.std.specs.Prelude.{IfNone}
+use Rattle.std.proofs.lemmas.Option.{IfSome_then}
 use Rattle.std.proofs.lemmas.List.{length-take-le}
 use Rattle.crp_plan.specs.Rows.{holds}
 use Rattle.crp_plan.specs.Bay.{Position}
 use Rattle.crp_plan.proofs.Lists.{times}
 use Rattle.crp_bay.proofs.Reaching.{reached_sound, reached_rows, reached_ordered}
+use Rattle.crp_bounds.specs.Bounds.{stuck_now}
 use Rattle.crp_bounds.specs.Leasts.{least_ordered}
 use Rattle.crp_bounds.proofs.Marking.{once_in}
 use Rattle.crp_bounds.proofs.Cutting.{times_take}
-use Rattle.crp_bounds.proofs.Tallying.{Met, ahead_ends}
-use Rattle.crp_bounds.proofs.Scanned.{bay_of, Reads, reads, part_few, held_test, met_here}
+use Rattle.crp_bounds.proofs.Tallying.{ahead_ends}
+use Rattle.crp_bounds.proofs.Scanned.{bay_of, Reads, reads, part_few, held_test}
 use Rattle.crp_bounds.proofs.Remaining.{Remains, Turned, turned, remains_begins, remains_most, remains_absent, stuck_most}
 use Rattle.crp_bounds.proofs.scanning.again_reaching.Goals as goal
-use Rattle.crp_bounds.proofs.scanning.again_reaching.Goals.{then-least_of-rank+else-most+else-again-still, else-least_of-rank}
+use Rattle.crp_bounds.proofs.scanning.again_reaching.Goals.{then-least_of-rank+else-most+else-enough-again+else-again-still, else-least_of-rank}
 
 pub returns-then-blocking-need-clause-short : goal.returns-then-blocking-need-clause-short
 returns-then-blocking-need-clause-short c = let most = stuck_most c.args.position.now.place c.ordered-ordered.ensures.reached in omega (arith, most, c.requires.blocking)
@@ -32,12 +34,17 @@ slice_bounds-stack-end c =
     let r : Reads c.args.position.now.place c.loop-rank.rank c.row_of-row.result c.stack.result.now c.loop-rank.left = reads c.args.position.now.place c.loop-rank.rank c.row_of-row.result c.stack.result.now c.loop-rank.left c.ordered-ordered.ensures.reached c.row_of-row.ensures.value c.row_of-row.ensures.there c.stack.ensures.value c.loop-rank.invariant.ahead.within in
     sym (length-take-le (get_or c.loop-rank.left (c.row_of-row.result - 1) 0) c.stack.result.now r.within)
 
-pub returns-then-most-clause-value : goal.returns-then-most-clause-value
-returns-then-most-clause-value c =
+pub returns-then-most-clause-most : goal.returns-then-most-clause-most
+returns-then-most-clause-most c =
     let s : Position = c.args.position.now.place in
-    subst (λ n. IfSome c.if_reached.result (λ again. again ≡ n))
-    (ahead_ends s.ordered s.next s.heights s.stacks c.loop-rank.rank c.loop-rank.left c.loop-rank.most c.loop-rank.again c.loop-rank.invariant.ahead (omega (arith, c.ordered-ordered.ensures.value)) (reached_ordered s c.ordered-ordered.ensures.reached) c.if-most.true)
-    c.if_reached.ensures.value
+    let all : c.loop-rank.again ≡ stuck_now s = ahead_ends s.ordered s.next s.heights s.stacks c.loop-rank.rank c.loop-rank.left c.loop-rank.most c.loop-rank.again c.loop-rank.invariant.ahead (omega (arith, c.ordered-ordered.ensures.value)) (reached_ordered s c.ordered-ordered.ensures.reached) c.if-most.true in
+    IfSome_then c.if_reached.result c.if_reached.ensures.value (λ again e. omega (arith, e, all))
+
+pub returns-then-most-clause-all : goal.returns-then-most-clause-all
+returns-then-most-clause-all c =
+    let s : Position = c.args.position.now.place in
+    let all : c.loop-rank.again ≡ stuck_now s = ahead_ends s.ordered s.next s.heights s.stacks c.loop-rank.rank c.loop-rank.left c.loop-rank.most c.loop-rank.again c.loop-rank.invariant.ahead (omega (arith, c.ordered-ordered.ensures.value)) (reached_ordered s c.ordered-ordered.ensures.reached) c.if-most.true in
+    IfSome_then c.if_reached.result c.if_reached.ensures.value (λ again e. λ lt. e ∙ all)
 
 pub returns-then-most-clause-short : goal.returns-then-most-clause-short
 returns-then-most-clause-short c =
@@ -49,9 +56,13 @@ returns-then-most-clause-short c =
 pub cut_at_rank-more-requires-clause-held : goal.cut_at_rank-more-requires-clause-held
 cut_at_rank-more-requires-clause-held c =
     let s : Position = c.args.position.now.place in
-    let r : Reads s c.loop-rank.rank c.row_of-row.result c.stack.result.now c.loop-rank.left = reads s c.loop-rank.rank c.row_of-row.result c.stack.result.now c.loop-rank.left c.ordered-ordered.ensures.reached c.row_of-row.ensures.value c.row_of-row.ensures.there c.stack.ensures.value c.loop-rank.invariant.ahead.within in
-    (held_test s c.loop-rank.rank c.row_of-row.result c.stack.result.now c.loop-rank.left c.loop-rank.most c.loop-rank.again c.ordered-ordered.ensures.reached r c.loop-rank.invariant.ahead (omega (arith, c.ordered-ordered.ensures.value))).0
-    (ap (λ o. least_ordered o (take (get_or c.loop-rank.left (c.row_of-row.result - 1) 0) c.stack.result.now)) (sym c.ordered-ordered.ensures.value) ∙ sym c.least_of.ensures ∙ c.if-least_of-rank.true)
+    let k : ℕ = c.loop-rank.rank in
+    let row : ℕ = c.row_of-row.result in
+    let le : k ≤ s.ordered = omega (arith, c.ordered-ordered.ensures.value) in
+    let r : Reads s k row c.stack.result.now c.loop-rank.left = reads s k row c.stack.result.now c.loop-rank.left c.ordered-ordered.ensures.reached c.row_of-row.ensures.value c.row_of-row.ensures.there c.stack.ensures.value c.loop-rank.invariant.ahead.within in
+    let part : List ℕ = take (get_or c.loop-rank.left (row - 1) 0) c.stack.result.now in
+    let least_is : least_ordered s.ordered part ≡ k = ap (λ o. least_ordered o part) (sym c.ordered-ordered.ensures.value) ∙ sym c.least_of.ensures ∙ c.if-least_of-rank.true in
+    (held_test s k row c.stack.result.now c.loop-rank.left c.loop-rank.most c.loop-rank.again c.ordered-ordered.ensures.reached r c.loop-rank.invariant.ahead le).0 least_is
 
 pub cut_at_rank-more-requires-clause-once : goal.cut_at_rank-more-requires-clause-once
 cut_at_rank-more-requires-clause-once c =
@@ -59,6 +70,20 @@ cut_at_rank-more-requires-clause-once c =
     let once : times c.loop-rank.rank (take (get_or c.loop-rank.left (c.row_of-row.result - 1) 0) c.stack.result.now) ≤ 1 =
     omega (arith, times_take c.loop-rank.rank (get_or c.loop-rank.left (c.row_of-row.result - 1) 0) c.stack.result.now, once_in s (c.row_of-row.result - 1) c.stack.result.now (reached_sound s c.ordered-ordered.ensures.reached) c.stack.ensures.value c.loop-rank.rank) in
     once
+
+pub returns-then-enough-again-clause-most : goal.returns-then-enough-again-clause-most
+returns-then-enough-again-clause-most c =
+    let s : Position = c.args.position.now.place in
+    let k : ℕ = c.loop-rank.rank in
+    let row : ℕ = c.row_of-row.result in
+    let le : k ≤ s.ordered = omega (arith, c.ordered-ordered.ensures.value) in
+    let r : Reads s k row c.stack.result.now c.loop-rank.left = reads s k row c.stack.result.now c.loop-rank.left c.ordered-ordered.ensures.reached c.row_of-row.ensures.value c.row_of-row.ensures.there c.stack.ensures.value c.loop-rank.invariant.ahead.within in
+    let part : List ℕ = take (get_or c.loop-rank.left (row - 1) 0) c.stack.result.now in
+    let least_is : least_ordered s.ordered part ≡ k = ap (λ o. least_ordered o part) (sym c.ordered-ordered.ensures.value) ∙ sym c.least_of.ensures ∙ c.if-least_of-rank.true in
+    let cut = c.cut_at_rank-more in
+    let t : Turned s k row c.stack.result.now c.loop-rank.left c.loop-rank.most c.loop-rank.again c.loop-rank.still cut.result.kept cut.result.more =
+    turned s k row c.stack.result.now c.loop-rank.left c.loop-rank.most c.loop-rank.again c.loop-rank.still cut.result.kept cut.result.more c.loop-rank.invariant c.ordered-ordered.ensures.reached le r c.stack.ensures.ranks least_is cut.ensures.below cut.ensures.lower cut.ensures.more cut.ensures.few in
+    t.counted_most
 
 pub overflow_sub-still-then-least_of-rank-2 : goal.overflow_sub-still-then-least_of-rank-2
 overflow_sub-still-then-least_of-rank-2 c =
@@ -68,15 +93,10 @@ overflow_sub-still-then-least_of-rank-2 c =
     let le : k ≤ s.ordered = omega (arith, c.ordered-ordered.ensures.value) in
     let r : Reads s k row c.stack.result.now c.loop-rank.left = reads s k row c.stack.result.now c.loop-rank.left c.ordered-ordered.ensures.reached c.row_of-row.ensures.value c.row_of-row.ensures.there c.stack.ensures.value c.loop-rank.invariant.ahead.within in
     let part : List ℕ = take (get_or c.loop-rank.left (row - 1) 0) c.stack.result.now in
-    let least_is : c.least_of.result ≡ least_ordered s.ordered part = c.least_of.ensures ∙ ap (λ o. least_ordered o part) c.ordered-ordered.ensures.value in
-    let test = held_test s k row c.stack.result.now c.loop-rank.left c.loop-rank.most c.loop-rank.again c.ordered-ordered.ensures.reached r c.loop-rank.invariant.ahead le in
-    let held : holds k part ≡ true = test.0 (sym least_is ∙ c.if-least_of-rank.true) in
+    let least_is : least_ordered s.ordered part ≡ k = ap (λ o. least_ordered o part) (sym c.ordered-ordered.ensures.value) ∙ sym c.least_of.ensures ∙ c.if-least_of-rank.true in
     let cut = c.cut_at_rank-more in
-    let m : Met s.ordered s.heights s.stacks k c.loop-rank.left c.loop-rank.most (row - 1) cut.result.kept cut.result.more (least_ordered s.ordered (take c.cut_at_rank-more.result.kept part)) =
-    met_here s k row c.stack.result.now c.loop-rank.left c.loop-rank.most cut.result.kept cut.result.more (least_ordered s.ordered (take c.cut_at_rank-more.result.kept part)) r c.stack.ensures.ranks held cut.ensures.below cut.ensures.lower
-    cut.ensures.more cut.ensures.few (refl) in
-    let t : Turned s k row c.stack.result.now c.loop-rank.left c.loop-rank.most c.loop-rank.again c.loop-rank.still cut.result.kept cut.result.more (least_ordered s.ordered (take c.cut_at_rank-more.result.kept part)) =
-    turned s k row c.stack.result.now c.loop-rank.left c.loop-rank.most c.loop-rank.again c.loop-rank.still cut.result.kept cut.result.more (least_ordered s.ordered (take c.cut_at_rank-more.result.kept part)) c.loop-rank.invariant c.ordered-ordered.ensures.reached le r m in
+    let t : Turned s k row c.stack.result.now c.loop-rank.left c.loop-rank.most c.loop-rank.again c.loop-rank.still cut.result.kept cut.result.more =
+    turned s k row c.stack.result.now c.loop-rank.left c.loop-rank.most c.loop-rank.again c.loop-rank.still cut.result.kept cut.result.more c.loop-rank.invariant c.ordered-ordered.ensures.reached le r c.stack.ensures.ranks least_is cut.ensures.below cut.ensures.lower cut.ensures.more cut.ensures.few in
     t.within
 
 pub returns-then-again-still-clause-short : goal.returns-then-again-still-clause-short
@@ -87,16 +107,11 @@ returns-then-again-still-clause-short c =
     let le : k ≤ s.ordered = omega (arith, c.ordered-ordered.ensures.value) in
     let r : Reads s k row c.stack.result.now c.loop-rank.left = reads s k row c.stack.result.now c.loop-rank.left c.ordered-ordered.ensures.reached c.row_of-row.ensures.value c.row_of-row.ensures.there c.stack.ensures.value c.loop-rank.invariant.ahead.within in
     let part : List ℕ = take (get_or c.loop-rank.left (row - 1) 0) c.stack.result.now in
-    let least_is : c.least_of.result ≡ least_ordered s.ordered part = c.least_of.ensures ∙ ap (λ o. least_ordered o part) c.ordered-ordered.ensures.value in
-    let test = held_test s k row c.stack.result.now c.loop-rank.left c.loop-rank.most c.loop-rank.again c.ordered-ordered.ensures.reached r c.loop-rank.invariant.ahead le in
-    let held : holds k part ≡ true = test.0 (sym least_is ∙ c.if-least_of-rank.true) in
+    let least_is : least_ordered s.ordered part ≡ k = ap (λ o. least_ordered o part) (sym c.ordered-ordered.ensures.value) ∙ sym c.least_of.ensures ∙ c.if-least_of-rank.true in
     let cut = c.cut_at_rank-more in
-    let m : Met s.ordered s.heights s.stacks k c.loop-rank.left c.loop-rank.most (row - 1) cut.result.kept cut.result.more (least_ordered s.ordered (take c.cut_at_rank-more.result.kept part)) =
-    met_here s k row c.stack.result.now c.loop-rank.left c.loop-rank.most cut.result.kept cut.result.more (least_ordered s.ordered (take c.cut_at_rank-more.result.kept part)) r c.stack.ensures.ranks held cut.ensures.below cut.ensures.lower
-    cut.ensures.more cut.ensures.few (refl) in
-    let t : Turned s k row c.stack.result.now c.loop-rank.left c.loop-rank.most c.loop-rank.again c.loop-rank.still cut.result.kept cut.result.more (least_ordered s.ordered (take c.cut_at_rank-more.result.kept part)) =
-    turned s k row c.stack.result.now c.loop-rank.left c.loop-rank.most c.loop-rank.again c.loop-rank.still cut.result.kept cut.result.more (least_ordered s.ordered (take c.cut_at_rank-more.result.kept part)) c.loop-rank.invariant c.ordered-ordered.ensures.reached le r m in
-    omega (arith, remains_most s.ordered s.next s.heights s.stacks (k + 1) (set c.loop-rank.left (row - 1) cut.result.kept) (max c.loop-rank.most (least_ordered s.ordered (take c.cut_at_rank-more.result.kept part))) (c.loop-rank.again + cut.result.more) (c.loop-rank.still - (length part - 1 - cut.result.kept)) t.remains (bay_of s c.ordered-ordered.ensures.reached) (omega arith), c.if-again-still.true)
+    let t : Turned s k row c.stack.result.now c.loop-rank.left c.loop-rank.most c.loop-rank.again c.loop-rank.still cut.result.kept cut.result.more =
+    turned s k row c.stack.result.now c.loop-rank.left c.loop-rank.most c.loop-rank.again c.loop-rank.still cut.result.kept cut.result.more c.loop-rank.invariant c.ordered-ordered.ensures.reached le r c.stack.ensures.ranks least_is cut.ensures.below cut.ensures.lower cut.ensures.more cut.ensures.few in
+    omega (arith, remains_most s.ordered s.next s.heights s.stacks (k + 1) (set c.loop-rank.left (row - 1) cut.result.kept) (max c.loop-rank.most (least_ordered s.ordered (take cut.result.kept part))) (c.loop-rank.again + cut.result.more) (c.loop-rank.still - (length part - 1 - cut.result.kept)) t.remains (bay_of s c.ordered-ordered.ensures.reached) (omega arith), c.if-again-still.true)
 
 pub least_of-requires-then-least_of-rank-clause-ranks : goal.least_of-requires-then-least_of-rank-clause-ranks
 least_of-requires-then-least_of-rank-clause-ranks c =
@@ -110,24 +125,20 @@ loop-rank-preserved c =
     let le : k ≤ s.ordered = omega (arith, c.ordered-ordered.ensures.value) in
     let r : Reads s k row c.stack.result.now c.loop-rank.left = reads s k row c.stack.result.now c.loop-rank.left c.ordered-ordered.ensures.reached c.row_of-row.ensures.value c.row_of-row.ensures.there c.stack.ensures.value c.loop-rank.invariant.ahead.within in
     let part : List ℕ = take (get_or c.loop-rank.left (row - 1) 0) c.stack.result.now in
-    let least_is : c.least_of.result ≡ least_ordered s.ordered part = c.least_of.ensures ∙ ap (λ o. least_ordered o part) c.ordered-ordered.ensures.value in
-    let test = held_test s k row c.stack.result.now c.loop-rank.left c.loop-rank.most c.loop-rank.again c.ordered-ordered.ensures.reached r c.loop-rank.invariant.ahead le in
     let goes : List ℕ → ℕ → ℕ → ℕ → Type 0 = λ left most again still. Remains s.ordered s.next s.heights s.stacks (k + 1) left most again still in
     elim c.if-least_of-rank.branch [
-      | then-least_of-rank+else-most+else-again-still w ↦
-          let held : holds k part ≡ true = test.0 (sym least_is ∙ w.if-least_of-rank.true) in
+      | then-least_of-rank+else-most+else-enough-again+else-again-still w ↦
+          let least_is : least_ordered s.ordered part ≡ k = ap (λ o. least_ordered o part) (sym c.ordered-ordered.ensures.value) ∙ sym c.least_of.ensures ∙ w.if-least_of-rank.true in
           let cut = w.cut_at_rank-more in
-          let m : Met s.ordered s.heights s.stacks k c.loop-rank.left c.loop-rank.most (row - 1) cut.result.kept cut.result.more (w.least_of-then-least_of-rank.result) =
-          met_here s k row c.stack.result.now c.loop-rank.left c.loop-rank.most cut.result.kept cut.result.more (w.least_of-then-least_of-rank.result) r c.stack.ensures.ranks held cut.ensures.below cut.ensures.lower
-          cut.ensures.more cut.ensures.few (w.least_of-then-least_of-rank.ensures ∙ ap (λ o. least_ordered o (take cut.result.kept part)) c.ordered-ordered.ensures.value) in
-          let t : Turned s k row c.stack.result.now c.loop-rank.left c.loop-rank.most c.loop-rank.again c.loop-rank.still cut.result.kept cut.result.more (w.least_of-then-least_of-rank.result) =
-          turned s k row c.stack.result.now c.loop-rank.left c.loop-rank.most c.loop-rank.again c.loop-rank.still cut.result.kept cut.result.more (w.least_of-then-least_of-rank.result) c.loop-rank.invariant c.ordered-ordered.ensures.reached le r m in
+          let t : Turned s k row c.stack.result.now c.loop-rank.left c.loop-rank.most c.loop-rank.again c.loop-rank.still cut.result.kept cut.result.more =
+          turned s k row c.stack.result.now c.loop-rank.left c.loop-rank.most c.loop-rank.again c.loop-rank.still cut.result.kept cut.result.more c.loop-rank.invariant c.ordered-ordered.ensures.reached le r c.stack.ensures.ranks least_is cut.ensures.below cut.ensures.lower cut.ensures.more cut.ensures.few in
+          let least : w.least_of-then-least_of-rank.result ≡ least_ordered s.ordered (take cut.result.kept part) = w.least_of-then-least_of-rank.ensures ∙ ap (λ o. least_ordered o (take cut.result.kept part)) c.ordered-ordered.ensures.value in
           subst (λ l. goes l c.if-least_of-rank.most c.if-least_of-rank.again c.if-least_of-rank.still) (sym w.left-is)
-          (subst (λ o. goes (set c.loop-rank.left (row - 1) cut.result.kept) o c.if-least_of-rank.again c.if-least_of-rank.still) (sym (w.most-is ∙ w.max-most.ensures))
-          (subst (λ n. goes (set c.loop-rank.left (row - 1) cut.result.kept) (max c.loop-rank.most w.least_of-then-least_of-rank.result) n c.if-least_of-rank.still) (sym w.again-is)
-          (subst (λ n. goes (set c.loop-rank.left (row - 1) cut.result.kept) (max c.loop-rank.most w.least_of-then-least_of-rank.result) (c.loop-rank.again + cut.result.more) n) (sym w.still-is) t.remains)))
+          (subst (λ o. goes (set c.loop-rank.left (row - 1) cut.result.kept) o c.if-least_of-rank.again c.if-least_of-rank.still) (sym (w.most-is ∙ w.max-most.ensures ∙ ap (max c.loop-rank.most) least))
+          (subst (λ n. goes (set c.loop-rank.left (row - 1) cut.result.kept) (max c.loop-rank.most (least_ordered s.ordered (take cut.result.kept part))) n c.if-least_of-rank.still) (sym w.again-is)
+          (subst (λ n. goes (set c.loop-rank.left (row - 1) cut.result.kept) (max c.loop-rank.most (least_ordered s.ordered (take cut.result.kept part))) (c.loop-rank.again + cut.result.more) n) (sym w.still-is) t.remains)))
       | else-least_of-rank w ↦
-          let free : holds k part ≡ false = test.1 (λ e. w.if-least_of-rank.false (least_is ∙ e)) in
+          let free : holds k part ≡ false = (held_test s k row c.stack.result.now c.loop-rank.left c.loop-rank.most c.loop-rank.again c.ordered-ordered.ensures.reached r c.loop-rank.invariant.ahead le).1 (λ e. w.if-least_of-rank.false (c.least_of.ensures ∙ ap (λ o. least_ordered o part) c.ordered-ordered.ensures.value ∙ e)) in
           let sound = reached_sound s c.ordered-ordered.ensures.reached in
           subst (λ l. goes l c.if-least_of-rank.most c.if-least_of-rank.again c.if-least_of-rank.still) (sym w.left-is)
           (subst (λ o. goes c.loop-rank.left o c.if-least_of-rank.again c.if-least_of-rank.still) (sym w.most-is)

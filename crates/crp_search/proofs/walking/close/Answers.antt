@@ -9,10 +9,10 @@ use Rattle.crp_search.proofs.Closing.{held_b}
 use Rattle.crp_search.proofs.walking.close.Goals as goal
 
 pub overflow_cast-low : goal.overflow_cast-low
-overflow_cast-low g c = let few = short_path c.args.problem.now c.args.path.now c.args.place.now.place c.cap-most.ensures.problem c.requires.path in omega arith
+overflow_cast-low g c = let few = short_path c.args.problem.now c.args.path.now c.args.place.now.place c.requires.is_problem c.requires.path in omega arith
 
 pub overflow_add-low : goal.overflow_add-low
-overflow_add-low g c = let few = short_path c.args.problem.now c.args.path.now c.args.place.now.place c.cap-most.ensures.problem c.requires.path in let b = c.blocking.ensures.few in omega arith
+overflow_add-low g c = let few = short_path c.args.problem.now c.args.path.now c.args.place.now.place c.requires.is_problem c.requires.path in let b = c.blocking.ensures.few in omega arith
 
 pub returns-then-from-bar-clause-met : goal.returns-then-from-bar-clause-met
 returns-then-from-bar-clause-met g c = λ split.

@@ -18,8 +18,8 @@ take_plan-requires-clause-plan g c = complete c.args.problem.now c.args.path.now
 pub returns-then-is_done-clause-met : goal.returns-then-is_done-clause-met
 returns-then-is_done-clause-met g c = λ split. rw c.cut.ensures (c.take_plan.ensures.met split c.args.place.now.place)
 
-pub reaching-requires : goal.reaching-requires
-reaching-requires g c = short_path c.args.problem.now c.args.path.now c.args.place.now.place c.cap-most.ensures.problem c.requires.path
+pub reaching_cut-requires : goal.reaching_cut-requires
+reaching_cut-requires g c = short_path c.args.problem.now c.args.path.now c.args.place.now.place c.requires.is_problem c.requires.path
 
 pub returns-then-granted-clause-met : goal.returns-then-granted-clause-met
 returns-then-granted-clause-met g c = λ split.
@@ -28,19 +28,19 @@ returns-then-granted-clause-met g c = λ split.
     let place = c.args.place.now.place in
     let granted = c.in_ok-granted.ensures.granted c.if-granted.true in
     let kept : c.expand.new.self ≡ c.args.seek.now = granted.0 in
-    let open' = unfinished c.args.problem.now c.args.path.now place c.cap-most.ensures.problem c.requires.path (λ end. let is = c.is_done.ensures.done.1 (subst (λ (v : PlaceAndTrail). IsFinished v.place) (sym c.position.ensures) end) in let test = c.if-is_done.false in cc) in
+    let open' = unfinished c.args.problem.now c.args.path.now place c.requires.is_problem c.requires.path (λ end. let is = c.is_done.ensures.done.1 (subst (λ (v : PlaceAndTrail). IsFinished v.place) (sym c.position.ensures) end) in let test = c.if-is_done.false in cc) in
     let below = c.in_default.ensures.below in
     rw kept (g.met.S.Seek.one c.args.problem.now split c.args.seek.now old new (record { path = c.args.path.now; place = place; mark = X })
     (met_branch split old new c.args.path.now place open' granted.2 c.expand.ensures.same.2) granted.1 (held_x _ c.args.path.now place (omega arith)))
 
 pub refused_cut-requires-clause-length : goal.refused_cut-requires-clause-length
-refused_cut-requires-clause-length g c = short_path c.args.problem.now c.args.path.now c.args.place.now.place c.cap-most.ensures.problem c.requires.path
+refused_cut-requires-clause-length g c = short_path c.args.problem.now c.args.path.now c.args.place.now.place c.requires.is_problem c.requires.path
 
 pub returns-clause-met : goal.returns-clause-met
 returns-clause-met g c = λ split.
     let place = c.args.place.now.place in
     let refused = c.in_ok-granted.ensures.refused c.if-granted.false split in
-    let open' = unfinished c.args.problem.now c.args.path.now place c.cap-most.ensures.problem c.requires.path (λ end. let is = c.is_done.ensures.done.1 (subst (λ (v : PlaceAndTrail). IsFinished v.place) (sym c.position.ensures) end) in let test = c.if-is_done.false in cc) in
+    let open' = unfinished c.args.problem.now c.args.path.now place c.requires.is_problem c.requires.path (λ end. let is = c.is_done.ensures.done.1 (subst (λ (v : PlaceAndTrail). IsFinished v.place) (sym c.position.ensures) end) in let test = c.if-is_done.false in cc) in
     ⊎_elim
     (λ (lt : blocking place < look_ahead place). rw (c.refused_cut.ensures.higher (λ e. omega arith), c.requires.problem)
     (refused (record { path = c.args.path.now; place = place; mark = L }) refl (omega arith) open' (λ ahead. (omega arith, lt))))

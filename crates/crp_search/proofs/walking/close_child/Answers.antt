@@ -16,14 +16,14 @@ use Rattle.crp_search.proofs.Closing.{held_b}
 use Rattle.crp_search.proofs.walking.close_child.Goals as goal
 
 pub overflow_cast-below : goal.overflow_cast-below
-overflow_cast-below g c = let few = short_path c.args.problem.now c.args.path.now (child c.args.place.now.place c.args.row) c.cap-most.ensures.problem c.requires.path in omega arith
+overflow_cast-below g c = let few = short_path c.args.problem.now c.args.path.now (child c.args.place.now.place c.args.row) c.requires.is_problem c.requires.path in omega arith
 
 pub blocking_after-requires : goal.blocking_after-requires
 blocking_after-requires g c = can_from_target c.args.place.now.place c.args.row c.requires.row
 
 pub overflow_add-below : goal.overflow_add-below
-overflow_add-below g c = let few = short_path c.args.problem.now c.args.path.now (child c.args.place.now.place c.args.row) c.cap-most.ensures.problem c.requires.path in
-    let is : IsReached (child c.args.place.now.place c.args.row) = record { problem = c.args.problem.now; path = c.args.path.now; is_problem = c.cap-most.ensures.problem; is_at = c.requires.path } in
+overflow_add-below g c = let few = short_path c.args.problem.now c.args.path.now (child c.args.place.now.place c.args.row) c.requires.is_problem c.requires.path in
+    let is : IsReached (child c.args.place.now.place c.args.row) = record { problem = c.args.problem.now; path = c.args.path.now; is_problem = c.requires.is_problem; is_at = c.requires.path } in
     let low = few_blocked (child c.args.place.now.place c.args.row) is in let e = c.blocking_after.ensures in omega arith
 
 pub returns-then-from-bar-clause-met : goal.returns-then-from-bar-clause-met

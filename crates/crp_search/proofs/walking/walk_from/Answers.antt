@@ -246,7 +246,7 @@ loop-row-preserved g c =
     let placed = subst (λ t. IsUnderWay c.args.problem.now (standing c.args.path.now.items c.args.place.now) (standing c.loop-row.path.items t) c.turn.new.self (reverse c.loop-row.above.items) c.push_reserved-in-loop-row.new.self.items (c.loop-row.invariant.met ++ own)) (sym back) listed in
     let above = subst (λ (l : List Frame). IsUnderWay c.args.problem.now (standing c.args.path.now.items c.args.place.now) (standing c.loop-row.path.items c.walk_child.new.place) c.turn.new.self (reverse l) c.push_reserved-in-loop-row.new.self.items (c.loop-row.invariant.met ++ own)) (sym c.make_room-in-loop-row-2.ensures.items) placed in
     let at_path = subst (λ l. g.S.Seek.meets c.args.problem.now c.args.split c.loop-row.seek (dealt (g.L.Limit.view c.loop-row.limit) (g.L.Limit.puts c.loop-row.limit)) c.walk_child.new.seek (dealt (g.L.Limit.view c.walk_child.new.limit) (g.L.Limit.puts c.walk_child.new.limit)) (nodes l next (leaf c.in-Some-found.closed.symbol))) path own_met in
-    let low = subst (λ l. c.in-Some-found.closed.floor ≡ least_value (cap c.args.problem.now) (nodes l next (leaf c.in-Some-found.closed.symbol))) path closed.floor_is in
+    let low = subst (λ l. c.in-Some-found.closed.floor ≡ least_value c.loop-row.floor (nodes l next (leaf c.in-Some-found.closed.symbol))) path closed.floor_is in
     record {
       is_problem = c.loop-row.invariant.is_problem;
       same = (c.walk_child.ensures.same.0 ∙ c.loop-row.invariant.same.0, c.walk_child.ensures.same.1 ∙ c.loop-row.invariant.same.1);
@@ -254,5 +254,5 @@ loop-row-preserved g c =
       met = c.loop-row.invariant.met ++ own;
       under_way = subst (λ l. IsUnderWay c.args.problem.now (standing c.args.path.now.items c.args.place.now) (standing l c.walk_child.new.place) c.turn.new.self (reverse c.make_room-in-loop-row-2.new.list.items) c.push_reserved-in-loop-row.new.self.items (c.loop-row.invariant.met ++ own)) (sym popped) above;
       meets = g.met.S.Seek.onward c.args.problem.now c.args.split c.args.seek.now c.loop-row.seek c.walk_child.new.seek (dealt (g.L.Limit.view c.args.limit.now) (g.L.Limit.puts c.args.limit.now)) (dealt (g.L.Limit.view c.loop-row.limit) (g.L.Limit.puts c.loop-row.limit)) (dealt (g.L.Limit.view c.walk_child.new.limit) (g.L.Limit.puts c.walk_child.new.limit)) c.loop-row.invariant.met own c.loop-row.invariant.meets at_path;
-      floor_is = floor_more (cap c.args.problem.now) c.loop-row.floor c.in-Some-found.closed.floor c.min-floor.result c.loop-row.invariant.met own c.loop-row.invariant.floor_is low c.min-floor.ensures;
+      floor_is = floor_more (cap c.args.problem.now) c.loop-row.floor c.in-Some-found.closed.floor c.loop-row.invariant.met own c.loop-row.invariant.floor_is low;
     }
