@@ -90,7 +90,7 @@ impl Shared {
         ensures seat { result.1 ≡ with_view seat (after_see (words result.0 0 seat.view)).view }
         ensures found { FindsLimit seat result.0 }
     {
-        let limit = self.table.shared.load::<Sees>(&mut seat.token, LIMIT);
+        let limit = seat.see(self);
         (limit, seat)
     }
 
@@ -100,10 +100,7 @@ impl Shared {
         requires problem { plan.now.problem ≡ self.now.key.problem }
         ensures { OffersCount seat (length plan.now.path) result }
     {
-        let count = u64::from(plan.count());
-        self.table
-            .shared
-            .fetch_min::<Offers>(&mut seat.token, LIMIT, count);
+        seat.offer(self, plan);
         seat
     }
 
@@ -113,17 +110,7 @@ impl Shared {
         ensures step { seat.view.refused ≡ 0 → ClaimsOne seat result.0 result.1 }
         ensures refused { 0 < seat.view.refused → (result.0 ≡ false) × (result.1 ≡ seat) }
     {
-        if seat.refused > 0 {
-            return (false, seat);
-        }
-        let spent = self
-            .table
-            .shared
-            .fetch_add::<Claims>(&mut seat.token, SPENT, 1);
-        let granted = spent < self.budget;
-        if !granted {
-            seat.refused = 1;
-        }
+        let granted = seat.claim(self);
         (granted, seat)
     }
 
@@ -197,5 +184,52 @@ impl Shared {
         let spent = closed.word(SPENT);
         closed.free();
         Totals { limit, spent }
+    }
+}
+
+impl Seat {
+    /// The limit of the words that this seat is at, as `Shared::see` gives it.
+    #[inline]
+    pub fn see(&mut self, shared: &Shared) -> u64
+        requires { self.old.of ≡ shared.now }
+        ensures seen { result ≡ self.new.view.seen }
+        ensures seat { self.new ≡ with_view self.old (after_see (words result 0 self.old.view)).view }
+        ensures found { FindsLimit self.old result }
+    {
+        shared.table.shared.load::<Sees>(&mut self.token, LIMIT)
+    }
+
+    /// Offers a plan, as `Shared::offer` does.
+    pub fn offer(&mut self, shared: &Shared, plan: &Plan)
+        requires shared { self.old.of ≡ shared.now }
+        requires problem { plan.now.problem ≡ shared.now.key.problem }
+        ensures { OffersCount self.old (length plan.now.path) self.new }
+    {
+        let count = u64::from(plan.count());
+        shared
+            .table
+            .shared
+            .fetch_min::<Offers>(&mut self.token, LIMIT, count);
+    }
+
+    /// Claims one expansion, as `Shared::claim` does.
+    #[inline]
+    pub fn claim(&mut self, shared: &Shared) -> bool
+        requires { self.old.of ≡ shared.now }
+        ensures step { self.old.view.refused ≡ 0 → ClaimsOne self.old result self.new }
+        ensures refused { 0 < self.old.view.refused → (result ≡ false) × (self.new ≡ self.old) }
+    {
+        if self.refused > 0 {
+            return false;
+        }
+        let spent = shared
+            .table
+            .shared
+            .fetch_add::<Claims>(&mut self.token, SPENT, 1);
+        let granted = spent < shared.budget;
+        if !granted {
+            self.refused = 1;
+        }
+        granted
     }
 }

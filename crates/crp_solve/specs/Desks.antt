@@ -36,11 +36,6 @@ pub record KeepsPlan (of : Shared) (view : View) (plan : Option ProblemPath) : T
   pub low : view.mine ≤ of.key.start
   pub seen : view.seen ≤ of.key.start
 
--- a desk always has its seat between calls, which is one at its words
-abbrev pub seat_in : Shared → Option Seat → Seat
-seat_in of (Some seat) = seat
-seat_in of None = record { of = of; view = record { seen = 0; mine = 0; granted = 0; refused = 0; share = 0 } }
-
 -- what stays of a place while a part is searched: which it is, and what was taken there
 pub record Fixed : Type 0 where
   pub number : ℕ
@@ -52,13 +47,12 @@ abbrev pub fixed_at : Option PoolSeat → Option Fixed
 fixed_at place = option_map (λ x. record { number = x.number; pool = x.pool; deque = x.deque; takes = x.takes }) place
 
 -- what a desk keeps; `named` and `begun` are the words and the place that it was opened with
-pub record IsDesk (named of : Shared) (begun place : Option PoolSeat) (seat : Option Seat) (first : ℕ) (plan : Option ProblemPath) : Type 0 where
+pub record IsDesk (named of : Shared) (begun place : Option PoolSeat) (seat : Seat) (first : ℕ) (plan : Option ProblemPath) : Type 0 where
   pub words : of ≡ named
   pub fixed : fixed_at place ≡ fixed_at begun
-  pub seated : seat ≡ Some (seat_in of seat)
-  pub at_words : (seat_in of seat).of ≡ of
+  pub at_words : seat.of ≡ of
   pub first_is : first ≡ of.key.start
-  pub plan_kept : KeepsPlan of (seat_in of seat).view plan
+  pub plan_kept : KeepsPlan of seat.view plan
 
 -- the words of no search
 abbrev pub no_words : Shared

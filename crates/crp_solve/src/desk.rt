@@ -45,18 +45,18 @@ struct Desk<'a, R, K: Opened> {
     shared: &'a Shared,
     open: &'a AtomicU64,
     first: u32,
-    seat: Option<Seat>,
+    seat: Seat,
     best: Option<Plan>,
     place: Option<PoolSeat>,
     opened: PhantomData<K>,
 }
 
 impl<'a, R, K: Opened> Model for Desk<'a, R, K> {
-    ghost use Rattle.crp_solve.specs.Desks.{Post, seat_in, IsDesk};
+    ghost use Rattle.crp_solve.specs.Desks.{Post, IsDesk};
 
     ghost Value = { Post };
 
-    ghost view = { λ d. record { of = d.shared.now; view = (seat_in d.shared.now d.seat).view; plan = d.best; place = d.place } };
+    ghost view = { λ d. record { of = d.shared.now; view = d.seat.view; plan = d.best; place = d.place } };
 
     ghost invariant = { λ d. IsDesk K.words d.shared.now K.place d.place d.seat d.first d.best };
 }
@@ -87,24 +87,17 @@ impl<'a, R: Wait, K: Opened> Limit for Desk<'a, R, K> {
     ghost puts = { λ d. puts_at d.place };
 
     fn see(&mut self) -> u64 {
-        let seat = self.seat.take().unwrap();
-        let (limit, seat) = self.shared.see(seat);
-        self.seat = Some(seat);
-        limit
+        self.seat.see(self.shared)
     }
 
     fn offer(&mut self, plan: &Plan) {
         keep_shorter(self.first, &mut self.best, plan);
-        let seat = self.seat.take().unwrap();
-        self.seat = Some(self.shared.offer(seat, plan));
+        self.seat.offer(self.shared, plan);
         self.board.post(self.rt, plan);
     }
 
     fn claim(&mut self) -> bool {
-        let seat = self.seat.take().unwrap();
-        let (granted, seat) = self.shared.claim(seat);
-        self.seat = Some(seat);
-        granted
+        self.seat.claim(self.shared)
     }
 
     fn put(&mut self, name: Name) -> Result<(), Name> {
@@ -149,7 +142,7 @@ fn at_desk<R: Wait, G: Gate, K: Opened>(
         shared: &common.shared,
         open: &common.open,
         first: common.first,
-        seat: Some(seat),
+        seat,
         best,
         place,
         opened: PhantomData,
@@ -172,7 +165,7 @@ fn at_desk<R: Wait, G: Gate, K: Opened>(
     } = desk;
     Searched {
         part,
-        seat: seat.unwrap(),
+        seat,
         best,
         place,
     }
@@ -229,7 +222,7 @@ fn first_at<R: Wait, G: Gate, K: Opened>(
         shared: &common.shared,
         open: &common.open,
         first: common.first,
-        seat: Some(seat),
+        seat,
         best: None,
         place,
         opened: PhantomData,
@@ -258,7 +251,7 @@ fn first_at<R: Wait, G: Gate, K: Opened>(
         place,
         opened: _,
     } = desk;
-    (found, seat.unwrap(), place)
+    (found, seat, place)
 }
 
 /// The same with this seat, at which nothing was offered, and a place where names may be put.
