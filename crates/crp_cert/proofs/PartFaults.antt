@@ -120,10 +120,6 @@ pub end_reads : (count : ℕ) (bytes rest digits after : List ℕ) → tag_at (c
 end_reads count bytes rest digits after e is some =
     end_pieces count bytes ∙ ap (λ o. o >>= λ r. (tag_at (decimal count) r >>= newline_at)) e ∙ ap (λ d. tag_at d rest >>= newline_at) (sym is) ∙ ap (λ o. o >>= newline_at) some
 
--- not even the first word
-pub no_end : (count : ℕ) (bytes : List ℕ) → tag_at (codes "end ") bytes ≡ None → tag_at (end_line count) bytes ≡ None
-no_end count bytes e = end_pieces count bytes ∙ ap (λ o. o >>= λ r. (tag_at (decimal count) r >>= newline_at)) e
-
 -- the fault of a line, stated of the same line
 pub same_line : (p : Problem) (parts parts' : List Part) (n n' : ℕ) (bytes bytes' : List ℕ) (fault : CertFault) → parts ≡ parts' → n ≡ n' → bytes ≡ bytes' → IsLineFault p parts n bytes fault → IsLineFault p parts' n' bytes' fault
 same_line p parts parts' n n' bytes bytes' fault e f g is =

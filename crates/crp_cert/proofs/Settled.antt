@@ -256,10 +256,6 @@ rows_short size heights before (stack ∷ more) is are first =
     next_of [] on = subst (AreFirstStacks size heights) (append-nil (before ++ stack ∷ [])) on
     next_of (other ∷ more) on = fewer size heights (before ++ stack ∷ []) (other ∷ more) (omega arith) on
 
--- more lines and less room: what is left behind a line that is no longer than it may be
-behind : (a b most room : ℕ) → a ≤ most → most + room ≤ a + b → room ≤ b
-behind a b most room le all = omega arith
-
 -- a title
 title_length : (version : Version) → length (title_line version) ≡ 11
 title_length One = refl

@@ -1,18 +1,15 @@
 -- Whether symbols begin with those of a tree is decided, by reading them.
-use Rattle.std.proofs.Common.{◌≡◌, ℕ, zero, suc, ◌≤◌, ⊎_elim, Bool, cond, ◌==◌, List, [], ◌∷◌, ◌++◌, length, filter, Option, Some, None, Vec, Global, refl, sym, ap, ◌∙◌, subst, arith, append_assoc, length-append}
-use Rattle.std.specs.Prelude.{codes}
-use Rattle.std.proofs.lemmas.Bool.{cases_Bool, eqb-true}
+use Rattle.std.proofs.Common.{◌≡◌, ℕ, zero, suc, ◌≤◌, ⊎_elim, cond, ◌==◌, List, [], ◌∷◌, ◌++◌, length, Option, Some, None, refl, sym, ap, ◌∙◌, arith, append_assoc, length-append}
+use Rattle.std.proofs.lemmas.Bool.{eqb-true}
 use Rattle.std.proofs.lemmas.Option.{same_Some, none-some}
-use denote.RawPtr.{null_ptr}
 use Rattle.crp_plan.specs.Bay.{Position}
-use Rattle.crp_bay.specs.Positions.{can_shift, child, counted, targets}
+use Rattle.crp_bay.specs.Positions.{child, targets}
 use Rattle.crp_tree.specs.Tree.{Tree, CutB, CutL, Branch, Given, Trees, no_trees, one_and, row}
 use Rattle.crp_cert.specs.Script.{symbols_of, symbols_of_each}
 use Rattle.crp_cert.specs.Reading.{◌>>=◌}
 use Rattle.crp_cert.proofs.Numbers.{bind_some, chosen}
 use Rattle.crp_cert.proofs.PartNames.{child_rows}
 use Rattle.std.specs.List.{flat_map}
-use Rattle.crp_tree.proofs.Listed.{fit_lengths}
 use Rattle.crp_cert.proofs.Symbols.{branch_read}
 use Rattle.crp_tree.specs.Trees.{Fits, FitsEach}
 use Rattle.crp_tree.specs.Listed.{AreFit}
@@ -55,21 +52,6 @@ mutual
       ∙ each_again levels s rows trees rest (omega arith) m.1
 
 -- ---- the tree
-
--- there are no more legal rows than rows
-few_targets : (s : Position) → length (targets s) ≤ length s.heights
-few_targets s = omega (arith, fewer (can_shift s) (counted 1 (length s.heights)), as_many 1 (length s.heights))
-  where
-    as_many : (from more : ℕ) → length (counted from more) ≡ more
-    as_many from zero = refl
-    as_many from (suc more) = ap suc (as_many (suc from) more)
-
-    fewer : (p : ℕ → Bool) (xs : List ℕ) → length (filter p xs) ≤ length xs
-    fewer p [] = omega arith
-    fewer p (x ∷ xs) = ⊎_elim
-        (λ t. rw t (let h = fewer p xs in omega arith))
-        (λ f. rw f (let h = fewer p xs in omega arith))
-        (cases_Bool (p x))
 
 -- trees before the rest
 each_takes : (behind : Position → List ℕ → Option (List ℕ)) (s : Position) → ((row : ℕ) (bytes rest : List ℕ) → behind (child s row) bytes ≡ Some rest → (tree : Tree) × Fits (child s row) tree × (bytes ≡ symbols_of tree ++ rest)) →

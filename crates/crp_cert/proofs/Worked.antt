@@ -1,8 +1,8 @@
--- Worked certificates: trees at the empty paths of three problems, and what they show.
+-- Worked certificates: trees at the empty path of a problem, and what they show.
 use Rattle.std.proofs.Common.{◌≡◌, ◌≢◌, ℕ, ◌≤◌, inl, ⊎_elim, List, [], ◌∷◌, ◌++◌, map, Contains, All, AllPairs, None, refl, sym, ap, ◌∙◌, subst, arith}
-use Rattle.std.proofs.lemmas.List.Elements.{All-nil, All-cons, All-same, All-from_recursion}
+use Rattle.std.proofs.lemmas.List.Elements.{All-cons, All-same, All-from_recursion}
 use Rattle.crp_plan.specs.Bay.{Problem, IsProblem, Position, start, cap}
-use Rattle.crp_plan.specs.Faults.{stated, stated_with}
+use Rattle.crp_plan.specs.Faults.{stated}
 use Rattle.crp_bay.specs.Positions.{settled, child, targets}
 use Rattle.crp_bay.proofs.Walked.{begins_at}
 use Rattle.crp_tree.specs.Tree.{Tree, CutB, CutL, Branch, row}
@@ -20,40 +20,13 @@ use Rattle.crp_tree.proofs.Listed.{IsBranchOf, branch_of, branch_node}
 pub part_at_root : (p : Problem) (name : List ℕ) (tree : Tree) → name ≡ [] → IsProblem p → HasShape [] (settled (start p)) tree → IsPart p (record { name = name; tree = tree })
 part_at_root p name tree e ok shape = subst (λ n. IsPart p (record { name = n; tree = tree })) (sym e) (record { short = omega arith; place = settled (start p); is_at = begins_at p ok; shape = shape })
 
--- six containers in three rows of three tiers, all of which are to leave
-abbrev pub six : Problem
-six = record { heights = 3 ∷ 3 ∷ 3 ∷ []; ordered = 6; stacks = (1 ∷ 5 ∷ 4 ∷ []) ∷ (6 ∷ []) ∷ (3 ∷ 2 ∷ []) ∷ [] }
-
 -- four containers in three rows of three tiers
 abbrev pub four : Problem
 four = record { heights = 3 ∷ 3 ∷ 3 ∷ []; ordered = 4; stacks = (1 ∷ 4 ∷ []) ∷ (2 ∷ []) ∷ (3 ∷ []) ∷ [] }
 
--- one row of three tiers, where the container that is to leave first is buried
-abbrev pub buried : Problem
-buried = record { heights = 3 ∷ []; ordered = 2; stacks = (1 ∷ 2 ∷ []) ∷ [] }
-
--- four containers in three rows of heights 3, 1 and 3
-abbrev pub unequal : Problem
-unequal = record { heights = 3 ∷ 1 ∷ 3 ∷ []; ordered = 4; stacks = (1 ∷ 4 ∷ []) ∷ (2 ∷ []) ∷ (3 ∷ []) ∷ [] }
-
--- three containers in rows of heights 2 and 1, which are full
-abbrev pub narrow : Problem
-narrow = record { heights = 2 ∷ 1 ∷ []; ordered = 3; stacks = (1 ∷ 2 ∷ []) ∷ (3 ∷ []) ∷ [] }
-
--- what is stated by a height for each of three rows, and of two
-pub three_rows_with : (heights : List ℕ) (ordered : ℕ) (p : Problem) (a b c a' b' c' : List ℕ) → p ≡ stated_with heights ordered (a ∷ b ∷ c ∷ []) → a ≡ a' → b ≡ b' → c ≡ c' → p ≡ stated_with heights ordered (a' ∷ b' ∷ c' ∷ [])
-three_rows_with heights ordered p a b c a' b' c' e x y z =
-    e ∙ ap (λ l. stated_with heights ordered (l ∷ b ∷ c ∷ [])) x ∙ ap (λ l. stated_with heights ordered (a' ∷ l ∷ c ∷ [])) y ∙ ap (λ l. stated_with heights ordered (a' ∷ b' ∷ l ∷ [])) z
-
-pub two_rows_with : (heights : List ℕ) (ordered : ℕ) (p : Problem) (a b a' b' : List ℕ) → p ≡ stated_with heights ordered (a ∷ b ∷ []) → a ≡ a' → b ≡ b' → p ≡ stated_with heights ordered (a' ∷ b' ∷ [])
-two_rows_with heights ordered p a b a' b' e x y = e ∙ ap (λ l. stated_with heights ordered (l ∷ b ∷ [])) x ∙ ap (λ l. stated_with heights ordered (a' ∷ l ∷ [])) y
-
--- what is stated by three rows, and by one
+-- what is stated by three rows
 pub three_rows : (tiers ordered : ℕ) (p : Problem) (a b c a' b' c' : List ℕ) → p ≡ stated tiers ordered (a ∷ b ∷ c ∷ []) → a ≡ a' → b ≡ b' → c ≡ c' → p ≡ stated tiers ordered (a' ∷ b' ∷ c' ∷ [])
-three_rows tiers ordered = three_rows_with (tiers ∷ tiers ∷ tiers ∷ []) ordered
-
-pub one_row : (tiers ordered : ℕ) (p : Problem) (a a' : List ℕ) → p ≡ stated tiers ordered (a ∷ []) → a ≡ a' → p ≡ stated tiers ordered (a' ∷ [])
-one_row tiers ordered p a a' e x = e ∙ ap (λ l. stated tiers ordered (l ∷ [])) x
+three_rows tiers ordered p a b c a' b' c' e x y z = e ∙ (λ i. stated tiers ordered (x i ∷ y i ∷ z i ∷ []))
 
 -- a tree has its shape at the empty path, and shows the floor there
 abbrev pub ShapeAndFloor : ℕ → Tree → Problem → Type 0
@@ -71,18 +44,6 @@ branch_shows p floor trees list e le fit in_place is =
       },
       is ∙ ap (least_value (cap p)) (sym (branch.nodes_are [] s)),
     )
-
--- cut by the look-ahead bound below row 2 and by the blocking bound below row 3, the six show 3
-pub six_show : (p : Problem) (trees : List Tree) → p ≡ six → trees ≡ CutL ∷ CutB ∷ [] → ShapeAndFloor 3 (Branch (row trees)) p
-six_show p trees is e =
-    subst (ShapeAndFloor 3 (Branch (row trees))) (sym is) (branch_shows six 3 trees (CutL ∷ CutB ∷ []) e (omega arith) (tt, (tt, tt)) (All-from_recursion IsInPlace (nodes_below [] first (targets first) (CutL ∷ CutB ∷ [])) (tt, (tt, tt))) refl)
-  where
-    first : Position
-    first = settled (start six)
-
--- at once by the blocking bound they show 2
-pub six_cut : (p : Problem) → p ≡ six → ShapeAndFloor 2 CutB p
-six_cut p is = subst (ShapeAndFloor 2 CutB) (sym is) (record { fits = tt; in_place = All-from_recursion IsInPlace (nodes [] (settled (start six)) CutB) (tt, tt); not_given = λ n. n }, refl)
 
 -- by the look-ahead bound the four show 2
 pub four_show : (p : Problem) → p ≡ four → ShapeAndFloor 2 CutL p
@@ -110,17 +71,6 @@ four_branch p trees inner is e below =
 
     listed : nodes_below [] first (targets first) (Branch (row inner) ∷ CutB ∷ []) ≡ list
     listed = ap (λ l. l ++ nodes_below [] first (3 ∷ []) (CutB ∷ [])) (branch.nodes_are (2 ∷ []) second)
-
--- under unequal heights too
-pub unequal_show : (p : Problem) → p ≡ unequal → ShapeAndFloor 2 CutL p
-unequal_show p is = subst (ShapeAndFloor 2 CutL) (sym is) (record { fits = tt; in_place = All-from_recursion IsInPlace (nodes [] (settled (start unequal)) CutL) (tt, tt); not_given = λ n. n }, refl)
-
--- a branch without trees shows the cap, where no row is legal
-pub buried_shows : (p : Problem) (trees : List Tree) → p ≡ buried → trees ≡ [] → ShapeAndFloor 5 (Branch (row trees)) p
-buried_shows p trees is e = subst (ShapeAndFloor 5 (Branch (row trees))) (sym is) (branch_shows buried 5 trees [] e (omega arith) tt (All-nil IsInPlace) refl)
-
-pub narrow_shows : (p : Problem) (trees : List Tree) → p ≡ narrow → trees ≡ [] → ShapeAndFloor 4 (Branch (row trees)) p
-narrow_shows p trees is e = subst (ShapeAndFloor 4 (Branch (row trees))) (sym is) (branch_shows narrow 4 trees [] e (omega arith) tt (All-nil IsInPlace) refl)
 
 -- of one name there are no two
 alone : (R : List ℕ → List ℕ → Type 0) (name : List ℕ) → AllPairs R (name ∷ [])

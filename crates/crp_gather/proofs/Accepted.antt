@@ -46,10 +46,6 @@ stranger_first p xs i part sorted before lt is strange = record {
 pub none_double : (xs : List ProblemPart) (ns : List (List ℕ)) → ns ≡ names_of xs → ((n : List ℕ) → times n ns ≤ 1) → IsNever (IsDouble xs)
 none_double xs ns is once n more = omega (arith, once n, ap (times n) is)
 
--- the first double
-pub double_first : (xs : List ProblemPart) (ns : List (List ℕ)) (name : List ℕ) → ns ≡ names_of xs → IsFirst (λ n. 2 ≤ times n ns) name → IsFirst (IsDouble xs) name
-double_first xs ns name is f = subst (λ l. IsFirst (λ n. 2 ≤ times n l) name) is f
-
 -- no needed name is without a part
 pub none_missing : (xs : List ProblemPart) (ns needed : List (List ℕ)) → ns ≡ names_of xs → ((n : List ℕ) → Contains needed n ↔ Need xs n) → All (Contains ns) needed → IsNever (IsGap xs)
 none_missing xs ns needed is all held n m = m.1 (subst (λ l. Contains l n) is (All-contains (Contains ns) needed n held ((all n).1 m.0)))

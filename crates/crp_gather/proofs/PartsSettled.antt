@@ -25,9 +25,9 @@ use Rattle.crp_tree.proofs.InLine.{from_members}
 -- ---- one part
 
 -- what is made of a part whose tree is settled at its name
-pub part_settled : (old new : ProblemPart) (plan : List ℕ) (p : Problem) (name path slice : List ℕ) (s : Position) (before tree : Tree) (floor : ℕ) → p ≡ old.problem → name ≡ old.name → path ≡ old.name → slice ≡ path → before ≡ old.tree → IsKeptPart old →
-    IsAt old.problem old.name s → (IsPast plan slice s → ⊥) → IsSettledTo p plan path s (nodes path s before) tree floor → new ≡ record { problem = p; name = name; tree = tree; floor = floor } → IsSettledPart plan old new
-part_settled old new plan p name path slice s before tree floor p_is name_is path_is slice_is before_is kept a out to e =
+pub part_settled : (old new : ProblemPart) (plan : List ℕ) (p : Problem) (name path : List ℕ) (s : Position) (before tree : Tree) (floor : ℕ) → p ≡ old.problem → name ≡ old.name → path ≡ old.name → before ≡ old.tree → IsKeptPart old →
+    IsAt old.problem old.name s → (IsPast plan path s → ⊥) → IsSettledTo p plan path s (nodes path s before) tree floor → new ≡ record { problem = p; name = name; tree = tree; floor = floor } → IsSettledPart plan old new
+part_settled old new plan p name path s before tree floor p_is name_is path_is before_is kept a out to e =
     let olds : nodes path s before ≡ nodes_of old = ap (λ l. nodes l s before) path_is ∙ ap (nodes old.name s) before_is ∙ sym (nodes_at_name old s kept a) in
     let here : IsAt p name s = subst (λ q. IsAt q name s) (sym p_is) (subst (λ l. IsAt old.problem l s) (sym name_is) a) in
     let ok : IsProblem p = subst IsProblem (sym p_is) kept.is_problem in
@@ -35,7 +35,7 @@ part_settled old new plan p name path slice s before tree floor p_is name_is pat
     record {
       problem_is = ap (λ (x : ProblemPart). x.problem) e ∙ p_is;
       name_is = ap (λ (x : ProblemPart). x.name) e ∙ name_is;
-      not_past = λ past. out (subst (λ l. IsPast plan l s) (sym (slice_is ∙ path_is)) (subst (IsPast plan old.name) (same_at old.problem old.name past.0 s kept.is_problem past.1 a) past.2));
+      not_past = λ past. out (subst (λ l. IsPast plan l s) (sym path_is) (subst (IsPast plan old.name) (same_at old.problem old.name past.0 s kept.is_problem past.1 a) past.2));
       nodes_are = subst (AreSettled plan (nodes_of old)) news (subst (λ l. AreSettled plan l (nodes path s tree)) olds to.settled);
     }
 

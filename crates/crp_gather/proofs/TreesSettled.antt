@@ -102,12 +102,6 @@ stays_b p plan path s tree old floor old_is tree_is floor_is out =
     let node : Node = record { path = path; place = s; mark = B } in
     rw (old_is, tree_is) (record { fits = tt; in_place = All-cons IsInPlace node [] tt (All-nil IsInPlace); floor_is = floor_is; settled = one_stays plan node out })
 
-pub stays_l : (p : Problem) (plan path : List ℕ) (s : Position) (tree old : Tree) (floor : ℕ) → old ≡ CutL → tree ≡ CutL → floor ≡ min (length path + look_ahead s) (cap p) → (IsPast plan path s → ⊥) →
-    IsSettledTo p plan path s (nodes path s old) tree floor
-stays_l p plan path s tree old floor old_is tree_is floor_is out =
-    let node : Node = record { path = path; place = s; mark = L } in
-    rw (old_is, tree_is) (record { fits = tt; in_place = All-cons IsInPlace node [] tt (All-nil IsInPlace); floor_is = floor_is; settled = one_stays plan node out })
-
 pub stays_given : (p : Problem) (plan path : List ℕ) (s : Position) (tree old : Tree) (floor : ℕ) → old ≡ Given → tree ≡ Given → floor ≡ cap p → All IsInPlace (nodes path s old) → (IsPast plan path s → ⊥) →
     IsSettledTo p plan path s (nodes path s old) tree floor
 stays_given p plan path s tree old floor old_is tree_is floor_is in_place out =
@@ -122,16 +116,6 @@ pub record BelowSettled (p : Problem) (plan path : List ℕ) (s : Position) (row
   pub in_place : All IsInPlace (nodes_below path s (take i rows) new)
   pub floor_is : floor ≡ least_value (cap p) (nodes_below path s (take i rows) new)
   pub settled : AreSettled plan (nodes_below path s (take i rows) (take i old)) (nodes_below path s (take i rows) new)
-
--- none yet
-pub none_settled : (p : Problem) (plan path : List ℕ) (s : Position) (rows : List ℕ) (old new : List Tree) (floor : ℕ) → new ≡ [] → floor ≡ cap p → BelowSettled p plan path s rows old 0 new floor
-none_settled p plan path s rows old new floor none most = rw none (record {
-  count = refl;
-  fits = tt;
-  in_place = All-nil IsInPlace;
-  floor_is = most;
-  settled = settled_same plan [] (λ n c past. not_in_nil n c);
-})
 
 -- one more
 pub one_settled : (p : Problem) (plan path here : List ℕ) (s next : Position) (rows : List ℕ) (old new more : List Tree) (i row floor low least : ℕ) (before tree : Tree) → Meets path here s next rows old i row before →
@@ -178,11 +162,6 @@ all_settled p plan path s rows old i new floor same fit done in_place out b =
 
 -- ---- their symbols
 
--- a symbol that is a whole tree is written where the plan closes the tree
-pub closed_written : (p : Problem) (plan path : List ℕ) (s : Position) (old : Tree) (before after : List Symbol) (one : Symbol) (floor : ℕ) → after ≡ before ++ one ∷ [] → IsLeaf one → (IsGivenAway (leaf one) → ⊥) →
-    IsSettledTo p plan path s (nodes path s old) (leaf one) floor → IsWritten p plan path s old before after floor
-closed_written p plan path s old before after one floor more is_leaf own is = record { tree = leaf one; written = more ∙ ap (λ l. before ++ l) (leaf_symbols one is_leaf); is = is; own = λ given. absurd (own given) }
-
 -- and where it stays
 pub stay_written : (p : Problem) (plan path : List ℕ) (s : Position) (here behind before after : List Symbol) (one : Symbol) (floor : ℕ) → here ≡ one ∷ behind → after ≡ before ++ one ∷ [] → IsLeaf one →
     IsSettledTo p plan path s (nodes path s (tree_of here)) (leaf one) floor → IsWritten p plan path s (tree_of here) before after floor
@@ -198,9 +177,6 @@ pub record BelowWritten (p : Problem) (plan path : List ℕ) (s : Position) (row
   pub new : List Tree
   pub written : after ≡ before ++ all_symbols new
   pub below : BelowSettled p plan path s rows old i new floor
-
-pub none_written : (p : Problem) (plan path : List ℕ) (s : Position) (rows : List ℕ) (old : List Tree) (before after : List Symbol) (floor : ℕ) → after ≡ before → floor ≡ cap p → BelowWritten p plan path s rows old 0 before after floor
-none_written p plan path s rows old before after floor same most = record { new = []; written = same ∙ sym (append-nil before); below = none_settled p plan path s rows old [] floor refl most }
 
 pub one_written : (p : Problem) (plan path here : List ℕ) (s next : Position) (rows : List ℕ) (old : List Tree) (before half more : List Symbol) (i row floor low least : ℕ) (was : Tree) → Meets path here s next rows old i row was →
     BelowWritten p plan path s rows old i before half floor → IsWritten p plan here next was half more low → least ≡ min floor low → BelowWritten p plan path s rows old (i + 1) before more least

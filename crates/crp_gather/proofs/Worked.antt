@@ -1,5 +1,5 @@
 -- A branch that gives all of its subtrees away.
-use Rattle.std.proofs.Common.{◌≡◌, ℕ, zero, suc, ◌+◌, ◌<◌, ◌≤◌, List, [], ◌∷◌, ◌++◌, length, map, replicate, All, refl, sym, ap, ◌∙◌, subst, arith, length-append}
+use Rattle.std.proofs.Common.{◌≡◌, ℕ, ◌+◌, ◌<◌, ◌≤◌, List, [], ◌∷◌, ◌++◌, length, map, replicate, All, refl, sym, ap, ◌∙◌, subst, arith, length-append}
 use Rattle.std.proofs.lemmas.List.Elements.{All-nil, All-cons, All-same}
 use Rattle.crp_plan.specs.Bay.{Problem, IsProblem, Position, start, cap}
 use Rattle.crp_bay.specs.Positions.{settled, targets, child}
@@ -26,14 +26,6 @@ all_in_place path s (row ∷ rows) lt =
 no_cuts : (path : List ℕ) (s : Position) (rows : List ℕ) → cuts (nodes_below path s rows (replicate (length rows) Given)) ≡ []
 no_cuts path s [] = refl
 no_cuts path s (row ∷ rows) = no_cuts path s rows
-
--- one more is given
-pub one_more : (n : ℕ) (trees : List Tree) → trees ≡ replicate n Given → trees ++ Given ∷ [] ≡ replicate (n + 1) Given
-one_more n trees e = ap (λ l. l ++ Given ∷ []) e ∙ more n
-  where
-    more : (k : ℕ) → replicate k Given ++ Given ∷ [] ≡ replicate (k + 1) Given
-    more zero = refl
-    more (suc k) = let next : suc (k + 1) ≡ suc k + 1 = omega arith in ap (λ l. Given ∷ l) (more k) ∙ ap (λ m. replicate m Given) next
 
 -- a branch at the empty path that gives all of its subtrees away, and has the cap for its floor
 pub record GivesAll (p : Problem) (name : List ℕ) (tree : Tree) (floor : ℕ) : Type 0 where

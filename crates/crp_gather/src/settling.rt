@@ -27,54 +27,48 @@ struct Closed {
 }
 
 /// The length of the path plus the blocking bound.
-fn low_at(problem: &Problem, place: &Bounded, path: &[u8]) -> u32
-    requires { IsAt problem.now path.now place.now.place }
-    ensures { result ≡ length path.now + blocking_bound place.now.place }
+fn low_at(place: &Bounded, path: &Path) -> u32
+    ensures { result ≡ length path.now.items + blocking_bound place.now.place }
 {
-    // For its contract alone: there is a cap, and a path is shorter.
-    let _most = problem.cap();
     path.len() as u32 + place.blocking()
 }
 
 /// The length of the path plus the look-ahead bound.
-fn high_at(problem: &Problem, place: &Bounded, path: &[u8]) -> u32
-    requires { IsAt problem.now path.now place.now.place }
-    ensures { result ≡ length path.now + look_ahead_bound place.now.place }
+fn high_at(place: &Bounded, path: &Path) -> u32
+    ensures { result ≡ length path.now.items + look_ahead_bound place.now.place }
 {
-    // For its contract alone: there is a cap, and a path is shorter.
-    let _most = problem.cap();
     path.len() as u32 + place.look_ahead()
 }
 
 /// Whether the path comes after the plan's.
-fn comes_after(path: &[u8], plan: &Plan) -> bool
-    ensures { IsTrue result ↔ Precedes plan.now.path path.now }
+fn comes_after(path: &Path, plan: &Plan) -> bool
+    ensures { IsTrue result ↔ Precedes plan.now.path path.now.items }
 {
-    plan.rows().cmp(path).is_lt()
+    plan.rows().cmp(path.as_slice()).is_lt()
 }
 
 /// Closes the node at the path where that is past the plan.
-fn close_past(problem: &Problem, place: &Bounded, path: &[u8], plan: &Plan) -> Option<Closed>
-    requires path { IsAt problem.now path.now place.now.place }
-    ensures past { IfSome result (λ closed. IsPast plan.now.path path.now place.now.place) }
+fn close_past(problem: &Problem, place: &Bounded, path: &Path, plan: &Plan) -> Option<Closed>
+    requires path { IsAt problem.now path.now.items place.now.place }
+    ensures past { IfSome result (λ closed. IsPast plan.now.path path.now.items place.now.place) }
     ensures settled { IfSome result (λ closed. (old : Tree)
-        → IsSettledTo problem.now plan.now.path path.now place.now.place (nodes path.now place.now.place old) (leaf closed.symbol) closed.floor) }
+        → IsSettledTo problem.now plan.now.path path.now.items place.now.place (nodes path.now.items place.now.place old) (leaf closed.symbol) closed.floor) }
     ensures leaf { IfSome result (λ closed. IsLeaf closed.symbol) }
     ensures own { IfSome result (λ closed. IsGivenAway (leaf closed.symbol) → ⊥) }
-    ensures open { IfNone result (IsPast plan.now.path path.now place.now.place → ⊥) }
+    ensures open { IfNone result (IsPast plan.now.path path.now.items place.now.place → ⊥) }
 {
     if !comes_after(path, plan) {
         return None;
     }
     let most = problem.cap();
-    let low = low_at(problem, place, path);
+    let low = low_at(place, path);
     if low >= plan.count() {
         return Some(Closed {
             symbol: Symbol::CutB,
             floor: low.min(most),
         });
     }
-    let high = high_at(problem, place, path);
+    let high = high_at(place, path);
     if high >= plan.count() {
         return Some(Closed {
             symbol: Symbol::CutL,
@@ -103,7 +97,7 @@ fn settle_tree<'a>(
     ensures behind { IfOk result (λ found. ComesFirst list.now found.0.now) }
     ensures back { OnOk result ((place.new ≡ place.old) × (path.new.items ≡ path.old.items)) }
 {
-    if let Some(closed) = close_past(problem, place, path.as_slice(), plan) {
+    if let Some(closed) = close_past(problem, place, path, plan) {
         settled.push(closed.symbol)?;
         return Ok((behind_trees(list, 1), closed.floor));
     }
@@ -114,12 +108,12 @@ fn settle_tree<'a>(
     match first {
         Symbol::CutB => {
             settled.push(Symbol::CutB)?;
-            let low = low_at(problem, place, path.as_slice());
+            let low = low_at(place, path);
             Ok((behind, low.min(most)))
         }
         Symbol::CutL => {
             settled.push(Symbol::CutL)?;
-            let high = high_at(problem, place, path.as_slice());
+            let high = high_at(place, path);
             Ok((behind, high.min(most)))
         }
         Symbol::Given => {
@@ -183,7 +177,7 @@ fn settle_part(alloc: Global, part: &Part, plan: &Plan) -> Result<Option<Part>, 
     let Ok(()) = path.try_extend_from_slice(part.name().rows()) else {
         unreachable!()
     };
-    if let Some(_closed) = close_past(problem, &place, path.as_slice(), plan) {
+    if let Some(_closed) = close_past(problem, &place, &path, plan) {
         return Ok(None);
     }
     let mut settled = Vec::new(alloc);

@@ -1,5 +1,6 @@
 //! The best plan of a problem so far.
 ghost use Rattle.std.specs.Prelude.{◌≡◌, IfSome, Some, None};
+ghost use Rattle.crp_plan.specs.Faults.{IsPlanPath};
 ghost use Rattle.crp_incumbent.specs.Bests.{IsBetterPlan};
 
 use crp_plan::{Plan, Problem};
@@ -13,6 +14,7 @@ pub struct Best {
 }
 
 impl Model for Best {
+    ghost use Rattle.crp_plan.specs.Faults.{IsPlanPath};
     ghost use Rattle.crp_incumbent.specs.Bests.{Best as Kept, IsOwn};
 
     ghost Value = { Kept };
@@ -56,6 +58,7 @@ impl Best {
         ensures own { self.now.problem ≡ problem.now → result ≡ self.now.plan }
         ensures foreign { (self.now.problem ≡ problem.now → ⊥) → result ≡ None }
         ensures of_problem { IfSome result (λ plan. plan.problem ≡ problem.now) }
+        ensures complete { IfSome result (λ plan. IsPlanPath plan.problem plan.path) }
     {
         if !self.problem.is_same(problem) {
             return None;

@@ -1,6 +1,7 @@
 //! The one lock of a search, round its best plan.
 ghost use Rattle.std.specs.Prelude.{◌≡◌, IfSome};
 ghost use Rattle.crp_plan.specs.Bay.{IsProblem};
+ghost use Rattle.crp_plan.specs.Faults.{IsPlanPath};
 
 use crate::best::Best;
 use crp_plan::{Plan, Problem};
@@ -52,7 +53,8 @@ impl Board {
 
     /// The best plan that was posted, if one was. It may wait.
     pub fn show(&self, rt: &impl Wait) -> Option<Plan>
-        ensures { IfSome result (λ plan. plan.problem ≡ self.now) }
+        ensures of_problem { IfSome result (λ plan. plan.problem ≡ self.now) }
+        ensures complete { IfSome result (λ plan. IsPlanPath plan.problem plan.path) }
     {
         self.best.lock(rt).show(&self.problem)
     }

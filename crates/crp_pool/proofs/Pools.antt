@@ -88,8 +88,5 @@ new_seat number own ways pool n capacity fresh few count new =
 pub all_fresh : (owns : List Own) (n m capacity : ℕ) → n ≡ m → All (IsFresh (all_deque_shares - n) capacity) owns → All (IsFresh (all_deque_shares - m) capacity) owns
 all_fresh owns n m capacity e all = subst (λ (k : ℕ). All (IsFresh (all_deque_shares - k) capacity) owns) e all
 
-pub fresh_shares : (owns : List Own) (n capacity : ℕ) → All (IsFresh n capacity) owns → All (λ o. o.hand.shares ≡ n) owns
-fresh_shares owns n capacity all k d lt = ap (λ (v : Hand). v.shares) (all k d lt).0
-
 pub two_shares : (owns : List Own) (n : ℕ) → n < 64 → All (λ o. o.hand.shares + n ≡ all_deque_shares) owns → All (λ o. 1 < o.hand.shares) owns
 two_shares owns n few all k d lt = let p = all k d lt in omega arith

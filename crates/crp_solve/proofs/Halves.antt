@@ -1,14 +1,11 @@
 -- Groups of workers in two halves, and what they become together.
-use Rattle.std.proofs.Common.{◌≡◌, ◌<◌, zero, suc, ◌+◌, false, List, [], ◌∷◌, ◌++◌, length, length-append, map, All, append_assoc, sym, refl, ap, ◌∙◌, subst, arith}
+use Rattle.std.proofs.Common.{◌≡◌, ◌<◌, zero, suc, ◌+◌, false, List, [], ◌∷◌, ◌++◌, length, length-append, map, All, sym, refl, ap, ◌∙◌, subst, arith}
 use Rattle.std.proofs.lemmas.List.{map-append}
 use Rattle.crp_plan.specs.declared.running.View.{View}
 use Rattle.crp_incumbent.specs.Rule.{view_joined}
 use Rattle.crp_incumbent.specs.Seats.{Shared}
 use Rattle.crp_solve.specs.Groups.{Crew, keys, all_keys, place_key, shares, SameWorkers, AreTogether, AreReady}
-
-keys-append : (xs ys : List Crew) → all_keys (xs ++ ys) ≡ all_keys xs ++ all_keys ys
-keys-append [] ys = refl
-keys-append (x ∷ xs) ys = ap (λ l. keys x ++ l) (keys-append xs ys) ∙ sym (append_assoc (keys x) (all_keys xs) (all_keys ys))
+use Rattle.crp_solve.proofs.Opened.{keys-append}
 
 shares-append : (xs ys : List Crew) → shares (xs ++ ys) ≡ shares xs + shares ys
 shares-append [] ys = omega arith

@@ -11,7 +11,7 @@ use Rattle.crp_solve.specs.Groups.{Crew, keys, all_keys, place_key, shares, IsUn
 pub kept_new : (of : Shared) (left kept : Seat) → kept ≡ with_view left (view_kept left.view) → IsUnusedSeat of left → IsUnusedSeat of kept
 kept_new of left kept e n = subst (IsUnusedSeat of) (sym e) (record { words = n.words; is_problem = n.is_problem; none_granted = n.none_granted; none_refused = n.none_refused; mine = n.mine; seen = n.seen })
 
-keys-append : (xs ys : List Crew) → all_keys (xs ++ ys) ≡ all_keys xs ++ all_keys ys
+pub keys-append : (xs ys : List Crew) → all_keys (xs ++ ys) ≡ all_keys xs ++ all_keys ys
 keys-append [] ys = refl
 keys-append (x ∷ xs) ys = ap (λ l. keys x ++ l) (keys-append xs ys) ∙ sym (append_assoc (keys x) (all_keys xs) (all_keys ys))
 

@@ -10,15 +10,8 @@ use Rattle.crp_pool.specs.Seats.{PoolSeat}
 use Rattle.crp_pool.proofs.Hands.{weigh-append}
 use Rattle.crp_solve.specs.Desks.{fixed_at, IsCountedPart}
 use Rattle.crp_solve.specs.Groups.{Keeping}
-use Rattle.crp_solve.specs.Rests.{IsDoneUpTo, IsAllDone}
+use Rattle.crp_solve.specs.Rests.{IsDoneUpTo}
 use Rattle.crp_solve.proofs.Grouped.{given-append, names-append}
-
--- where nothing is left, all is done
-pub all_done : (keeps : Keeping) (of : Shared) (view : View) (plan : Option ProblemPath) (parts : List ProblemPart) (puts takes : List (List ℕ)) → IsDoneUpTo keeps of view plan parts puts takes → SameNames puts takes → IsAllDone view parts
-all_done keeps of view plan parts puts takes d same = record {
-  grants = d.grants;
-  names = λ h. (let a = d.taken h in let b = d.put h in let c = same h in omega arith);
-}
 
 -- a part that was searched where no name can be put gives none
 gives_none : (v w : View) (after : Option PoolSeat) (name : List ℕ) (x : ProblemPart) → fixed_at after ≡ None → IsCountedPart v w None after name x → given_of x ≡ []

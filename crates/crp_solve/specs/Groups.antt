@@ -1,14 +1,15 @@
 -- The state of one worker of a search or several, and what it keeps, so that one thread hands it to another.
-use Rattle.std.specs.Prelude.{◌≡◌, ℕ, ◌+◌, ◌<◌, ◌≤◌, length, Bool, false, ◌==◌, if◌then◌else◌, List, [], ◌∷◌, ◌++◌, map, flat_map, sum_by, All, Option, Some, None}
+use Rattle.std.specs.Prelude.{◌≡◌, ℕ, ◌+◌, ◌<◌, ◌≤◌, length, Bool, false, ◌==◌, if◌then◌else◌, List, [], ◌∷◌, ◌++◌, map, flat_map, All, Option, Some, None}
 use Rattle.crp_plan.specs.declared.running.View.{View}
 use Rattle.crp_plan.specs.Plans.{ProblemPath}
-use Rattle.crp_tree.specs.Parts.{ProblemPart, given_of, names_of, branches_in}
+use Rattle.crp_tree.specs.Parts.{ProblemPart, given_of, names_of}
 use Rattle.crp_plan.specs.Bay.{IsProblem}
 use Rattle.crp_incumbent.specs.Rule.{view_joined}
 use Rattle.crp_incumbent.specs.Seats.{Shared, Seat}
 use Rattle.crp_pool.specs.Weigh.{SameNames}
 use Rattle.crp_pool.specs.Deques.{DequeId}
 use Rattle.crp_pool.specs.Seats.{PoolSeat, all_puts, all_takes}
+use Rattle.crp_gather.specs.Settled.{branches_in_all}
 use Rattle.crp_solve.specs.Searches.{IsSearched}
 use Rattle.crp_solve.specs.Desks.{KeepsPlan}
 
@@ -34,13 +35,9 @@ roots (place ∷ places) = root_at place ++ roots places
 abbrev pub given_in : List ProblemPart → List (List ℕ)
 given_in parts = flat_map given_of parts
 
--- how many branches the parts have
-abbrev pub branches_in_parts : List ProblemPart → ℕ
-branches_in_parts parts = sum_by (λ part. length (branches_in part)) parts
-
 -- each claim that was granted is a branch of a part, each name that was taken is a part's, and each that was put is one that a part gives, or the root's
 pub record IsCounted (view : View) (parts : List ProblemPart) (places : List PoolSeat) : Type 0 where
-  pub grants : view.granted ≡ branches_in_parts parts
+  pub grants : view.granted ≡ branches_in_all parts
   pub takes : SameNames (all_takes places) (names_of parts)
   pub puts : SameNames (all_puts places) (roots places ++ given_in parts)
 

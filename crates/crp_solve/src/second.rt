@@ -58,7 +58,7 @@ pub(crate) fn first_alone(
     ensures given_up { IfErr result (λ end. IsGivenUp settings.budget end.cause end.expanded) }
     ensures one_part { IfOk result (λ first. length first.cert.parts ≡ 1) }
 {
-    let mut worker = Alone::knowing(problem, settings.budget(), known.copy());
+    let mut worker = Alone::new(problem, settings.budget(), Some(known.copy()));
     let count = known.count();
     let found = search_first(
         alloc,

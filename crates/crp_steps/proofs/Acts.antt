@@ -15,8 +15,8 @@ use Rattle.crp_steps.specs.declared.event.Kind.TheVariants.{See, Take, Steal, Cl
 use Rattle.crp_steps.specs.declared.event.Stopped.{Stopped}
 use Rattle.crp_steps.specs.declared.event.Stopped.TheVariants.{NotNow, Memory}
 use Rattle.crp_steps.specs.Worlds.{Worker, Leaf, World, IsWorker, with_worker}
-use Rattle.crp_steps.specs.Events.{words_of, after_words, children, closed_if_dead, Takes, Steals, branched, Claims, Puts, Closes, Offers, Finishes, MayClose, value_of, LeadsBy}
-use Rattle.crp_steps.specs.Own.{IsStopped, TakesOwn, PutsOwn, FinishesOwn, HoldsCurrent, BranchesAt}
+use Rattle.crp_steps.specs.Events.{words_of, after_words, children, closed_if_dead, Steps, Takes, Steals, branched, Claims, Puts, Closes, Offers, MayClose, value_of, LeadsBy}
+use Rattle.crp_steps.specs.Own.{IsStopped, HoldsCurrent, BranchesAt}
 use Rattle.crp_steps.proofs.One.{last_parts, same_worker, same_current}
 
 -- a worker is there where there are so many
@@ -32,35 +32,17 @@ worker_there w k lt = at_least w.workers k lt
 pub is_worker : (w : World) (items : List Worker) (k : ℕ) (v : Worker) → items ≡ w.workers → k < length w.workers → v ≡ get_or items k v → IsWorker w k v
 is_worker w items k v e lt read = ap (λ l. slice_get l k) (sym e) ∙ slice_get_read items (length w.workers) k v (sym (ap length e)) lt read
 
--- what stops a worker's own step stops the event
-pub takes_stopped : (w : World) (k : ℕ) (v : Worker) → IsWorker w k v → (why : Stopped) → IsStopped (TakesOwn v) why → IsStopped (Takes k w) why
-takes_stopped w k v was NotNow none = λ next r.
-    let e = same_worker w k r.worker v r.acts was in
-    none (record v { deque = r.others; hand = v.hand ++ r.name ∷ []; has_task = true })
-    (record { no_task = sym (ap (λ (x : Worker). x.has_task) e) ∙ r.no_task; others = r.others; name = r.name; is_last = sym (ap (λ (x : Worker). x.deque) e) ∙ r.is_last; after = refl })
-takes_stopped w k v was Memory some =
-    let r = some.1 in (
-      with_worker w k (record v { deque = r.others; hand = v.hand ++ r.name ∷ []; has_task = true }),
-      record { worker = v; acts = was; no_task = r.no_task; others = r.others; name = r.name; is_last = r.is_last; after = refl },
-    )
+-- a step that concerns the worker alone is allowed where the worker can take it
+pub steps_may : (step : Worker → Worker → Type 0) (w : World) (k : ℕ) (v : Worker) → IsWorker w k v → ((next : Worker) × step v next) → (next : World) × Steps step k w next
+steps_may step w k v was some = (with_worker w k some.0, record { worker = v; acts = was; changed = some.0; own = some.1; after = refl })
 
-pub puts_stopped : (w : World) (k index : ℕ) (v : Worker) → IsWorker w k v → (why : Stopped) → IsStopped (PutsOwn w.rules.split index v) why → IsStopped (Puts k index w) why
-puts_stopped w k index v was NotNow none = λ next r.
-    let e = same_worker w k r.worker v r.acts was in
-    none (record v { deque = v.deque ++ r.path ∷ []; hand = r.before ++ r.behind })
-    (record { before = r.before; path = r.path; behind = r.behind; in_hand = sym (ap (λ (x : Worker). x.hand) e) ∙ r.in_hand; at_index = r.at_index; short = r.short; after = refl })
-puts_stopped w k index v was Memory some =
-    let r = some.1 in (
-      with_worker w k (record v { deque = v.deque ++ r.path ∷ []; hand = r.before ++ r.behind }),
-      record { worker = v; acts = was; before = r.before; path = r.path; behind = r.behind; in_hand = r.in_hand; at_index = r.at_index; short = r.short; after = refl },
-    )
+pub steps_not : (step : Worker → Worker → Type 0) (w : World) (k : ℕ) (v : Worker) → IsWorker w k v → ((next : Worker) → step v next → ⊥) → (next : World) → Steps step k w next → ⊥
+steps_not step w k v was none next r = none r.changed (subst (λ x. step x r.changed) (same_worker w k r.worker v r.acts was) r.own)
 
-pub finishes_stopped : (w : World) (k : ℕ) (v : Worker) → IsWorker w k v → (why : Stopped) → IsStopped (FinishesOwn v) why → IsStopped (Finishes k w) why
-finishes_stopped w k v was NotNow none = λ next r.
-    let e = same_worker w k r.worker v r.acts was in
-    none (record v { has_task = false }) (record { has_task = sym (ap (λ (x : Worker). x.has_task) e) ∙ r.has_task; empty = sym (ap (λ (x : Worker). x.hand) e) ∙ r.empty; after = refl })
-finishes_stopped w k v was Memory some =
-    let r = some.1 in (with_worker w k (record v { has_task = false }), record { worker = v; acts = was; has_task = r.has_task; empty = r.empty; after = refl })
+-- and stops where the worker's own does
+pub steps_stopped : (step : Worker → Worker → Type 0) (w : World) (k : ℕ) (v : Worker) → IsWorker w k v → (why : Stopped) → IsStopped (step v) why → IsStopped (Steps step k w) why
+steps_stopped step w k v was NotNow none = steps_not step w k v was none
+steps_stopped step w k v was Memory some = steps_may step w k v was some
 
 -- a list that is not empty ends with its last
 pub ends_with : {X : Type 0} (xs : List X) → (length xs == 0) ≡ false → (others : List X) × (last : X) × (xs ≡ others ++ last ∷ [])
@@ -71,12 +53,12 @@ ends_with (x ∷ xs) some = from x xs
     from x [] = ([], x, refl)
     from x (y ∷ xs) = let t = from y xs in (x ∷ t.0, t.1, ap (λ l. x ∷ l) t.2)
 
-pub can_take : (v : Worker) → v.has_task ≡ false → (length v.deque == 0) ≡ false → (next : Worker) × TakesOwn v next
+pub can_take : (v : Worker) → v.has_task ≡ false → (length v.deque == 0) ≡ false → (next : Worker) × Takes v next
 can_take v idle some =
     let t = ends_with v.deque some in
     (record v { deque = t.0; hand = v.hand ++ t.1 ∷ []; has_task = true }, record { no_task = idle; others = t.0; name = t.1; is_last = t.2; after = refl })
 
-pub can_put : (split index : ℕ) (v : Worker) (path : List ℕ) → index < length v.hand → path ≡ get_or v.hand index path → length path ≤ split → (next : Worker) × PutsOwn split index v next
+pub can_put : (split index : ℕ) (v : Worker) (path : List ℕ) → index < length v.hand → path ≡ get_or v.hand index path → length path ≤ split → (next : Worker) × Puts split index v next
 can_put split index v path lt is short =
     let t = parted v.hand index path lt is in
     (record v { deque = v.deque ++ path ∷ []; hand = t.0 ++ t.1 }, record { before = t.0; path = path; behind = t.1; in_hand = t.2; at_index = t.3; short = short; after = refl })

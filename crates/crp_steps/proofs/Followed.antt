@@ -17,7 +17,7 @@ use Rattle.crp_steps.specs.declared.event.Kind.{Kind}
 use Rattle.crp_steps.specs.declared.event.Kind.TheVariants.{See, Take, Steal, Claim, Put, Leaf as CloseLeaf, Offer, Finish}
 use Rattle.crp_steps.specs.declared.event.Event.{Event}
 use Rattle.crp_steps.specs.Worlds.{Worker, Leaf, Offered, World, IsWorker, with_worker}
-use Rattle.crp_steps.specs.Events.{Sees, Takes, Steals, IsCurrent, children, closed_if_dead, Claims, Puts, value_of, Closes, Offers, Finishes, LeadsBy, Come}
+use Rattle.crp_steps.specs.Events.{Steps, Sees, Takes, Steals, IsCurrent, children, closed_if_dead, Claims, Puts, value_of, Closes, Offers, Finishes, LeadsBy, Come}
 use Rattle.crp_steps.specs.Covered.{Has, SomeRefused, LeadsSomewhere, IsKeptWorld}
 use Rattle.crp_steps.proofs.Changed.{in_one, in_pushed, changed, Rest, rest_of, kept_of, Change, rest_kept, covered_kept}
 
@@ -52,53 +52,53 @@ see_kept k w next h r =
     let v = r.worker in
     subst IsKeptWorld (sym r.after) (plain w k v (record v { view = record v.view { seen = w.limit } }) h r.acts (omega arith) refl refl (λ path has. has) (λ path has. has) (λ path has. inl has))
 
-take_kept : (k : ℕ) (w next : World) → IsKeptWorld w → Takes k w next → IsKeptWorld next
+take_kept : (k : ℕ) (w next : World) → IsKeptWorld w → Steps Takes k w next → IsKeptWorld next
 take_kept k w next h r =
     let v = r.worker in
-    subst IsKeptWorld (sym r.after) (plain w k v (record v { deque = r.others; hand = v.hand ++ r.name ∷ []; has_task = true }) h r.acts (h.seen k v r.acts) refl refl
+    subst IsKeptWorld (sym (r.after ∙ ap (with_worker w k) r.own.after)) (plain w k v (record v { deque = r.own.others; hand = v.hand ++ r.own.name ∷ []; has_task = true }) h r.acts (h.seen k v r.acts) refl refl
     (λ path has. ⊎_elim
-    (λ d. ⊎_elim (λ d'. inl d') (λ q. inr (subst (Contains (v.hand ++ r.name ∷ [])) q (Contains-push v.hand r.name))) (in_pushed r.others r.name path (subst (λ l. Contains l path) r.is_last d)))
-    (λ i. inr (Contains-append_left v.hand (r.name ∷ []) path i))
+    (λ d. ⊎_elim (λ d'. inl d') (λ q. inr (subst (Contains (v.hand ++ r.own.name ∷ [])) q (Contains-push v.hand r.own.name))) (in_pushed r.own.others r.own.name path (subst (λ l. Contains l path) r.own.is_last d)))
+    (λ i. inr (Contains-append_left v.hand (r.own.name ∷ []) path i))
     has)
     (λ path has. ⊎_elim
     (λ d. inl (back path d))
-    (λ i. ⊎_elim (λ i'. inr i') (λ q. inl (subst (λ l. Contains l path) (sym r.is_last) (subst (Contains (r.others ++ r.name ∷ [])) q (Contains-push r.others r.name)))) (in_pushed v.hand r.name path i))
+    (λ i. ⊎_elim (λ i'. inr i') (λ q. inl (subst (λ l. Contains l path) (sym r.own.is_last) (subst (Contains (r.own.others ++ r.own.name ∷ [])) q (Contains-push r.own.others r.own.name)))) (in_pushed v.hand r.own.name path i))
     has)
     (λ path d. inl (back path d)))
   where
-    back : (path : List ℕ) → Contains r.others path → Contains r.worker.deque path
-    back path d = subst (λ l. Contains l path) (sym r.is_last) (Contains-append_left r.others (r.name ∷ []) path d)
+    back : (path : List ℕ) → Contains r.own.others path → Contains r.worker.deque path
+    back path d = subst (λ l. Contains l path) (sym r.own.is_last) (Contains-append_left r.own.others (r.own.name ∷ []) path d)
 
-put_kept : (k index : ℕ) (w next : World) → IsKeptWorld w → Puts k index w next → IsKeptWorld next
+put_kept : (k index : ℕ) (w next : World) → IsKeptWorld w → Steps (Puts w.rules.split index) k w next → IsKeptWorld next
 put_kept k index w next h r =
     let v = r.worker in
-    subst IsKeptWorld (sym r.after) (plain w k v (record v { deque = v.deque ++ r.path ∷ []; hand = r.before ++ r.behind }) h r.acts (h.seen k v r.acts) refl refl
+    subst IsKeptWorld (sym (r.after ∙ ap (with_worker w k) r.own.after)) (plain w k v (record v { deque = v.deque ++ r.own.path ∷ []; hand = r.own.before ++ r.own.behind }) h r.acts (h.seen k v r.acts) refl refl
     (λ path has. ⊎_elim
-    (λ d. inl (Contains-append_left v.deque (r.path ∷ []) path d))
+    (λ d. inl (Contains-append_left v.deque (r.own.path ∷ []) path d))
     (λ i. ⊎_elim
-    (λ b. inr (Contains-append_left r.before r.behind path b))
+    (λ b. inr (Contains-append_left r.own.before r.own.behind path b))
     (λ rest. ⊎_elim
-    (λ q. inl (subst (Contains (v.deque ++ r.path ∷ [])) q (Contains-push v.deque r.path)))
-    (λ b. inr (Contains-append_right r.before r.behind path b))
-    (in_cons_cases r.path r.behind path rest))
-    (Contains-append_cases r.before (r.path ∷ r.behind) path (subst (λ l. Contains l path) r.in_hand i)))
+    (λ q. inl (subst (Contains (v.deque ++ r.own.path ∷ [])) q (Contains-push v.deque r.own.path)))
+    (λ b. inr (Contains-append_right r.own.before r.own.behind path b))
+    (in_cons_cases r.own.path r.own.behind path rest))
+    (Contains-append_cases r.own.before (r.own.path ∷ r.own.behind) path (subst (λ l. Contains l path) r.own.in_hand i)))
     has)
     (λ path has. ⊎_elim
-    (λ d. ⊎_elim (λ d'. inl d') (λ q. inr (subst (Contains v.hand) q (from r.path (Contains-append_right r.before (r.path ∷ r.behind) r.path (in_head r.path r.behind))))) (in_pushed v.deque r.path path d))
+    (λ d. ⊎_elim (λ d'. inl d') (λ q. inr (subst (Contains v.hand) q (from r.own.path (Contains-append_right r.own.before (r.own.path ∷ r.own.behind) r.own.path (in_head r.own.path r.own.behind))))) (in_pushed v.deque r.own.path path d))
     (λ i. ⊎_elim
-    (λ b. inr (from path (Contains-append_left r.before (r.path ∷ r.behind) path b)))
-    (λ b. inr (from path (Contains-append_right r.before (r.path ∷ r.behind) path (in_tail r.path r.behind path b))))
-    (Contains-append_cases r.before r.behind path i))
+    (λ b. inr (from path (Contains-append_left r.own.before (r.own.path ∷ r.own.behind) path b)))
+    (λ b. inr (from path (Contains-append_right r.own.before (r.own.path ∷ r.own.behind) path (in_tail r.own.path r.own.behind path b))))
+    (Contains-append_cases r.own.before r.own.behind path i))
     has)
-    (λ path d. ⊎_elim (λ d'. inl d') (λ q. inr (subst (λ (x : List ℕ). length x ≤ w.rules.split) q r.short)) (in_pushed v.deque r.path path d)))
+    (λ path d. ⊎_elim (λ d'. inl d') (λ q. inr (subst (λ (x : List ℕ). length x ≤ w.rules.split) q r.own.short)) (in_pushed v.deque r.own.path path d)))
   where
-    from : (path : List ℕ) → Contains (r.before ++ r.path ∷ r.behind) path → Contains r.worker.hand path
-    from path i = subst (λ l. Contains l path) (sym r.in_hand) i
+    from : (path : List ℕ) → Contains (r.own.before ++ r.own.path ∷ r.own.behind) path → Contains r.worker.hand path
+    from path i = subst (λ l. Contains l path) (sym r.own.in_hand) i
 
-finish_kept : (k : ℕ) (w next : World) → IsKeptWorld w → Finishes k w next → IsKeptWorld next
+finish_kept : (k : ℕ) (w next : World) → IsKeptWorld w → Steps Finishes k w next → IsKeptWorld next
 finish_kept k w next h r =
     let v = r.worker in
-    subst IsKeptWorld (sym r.after) (plain w k v (record v { has_task = false }) h r.acts (h.seen k v r.acts) refl refl (λ path has. has) (λ path has. has) (λ path has. inl has))
+    subst IsKeptWorld (sym (r.after ∙ ap (with_worker w k) r.own.after)) (plain w k v (record v { has_task = false }) h r.acts (h.seen k v r.acts) refl refl (λ path has. has) (λ path has. has) (λ path has. inl has))
 
 steal_kept : (k victim : ℕ) (w next : World) → IsKeptWorld w → Steals k victim w next → IsKeptWorld next
 steal_kept k victim w next h r =

@@ -1,5 +1,5 @@
 -- An event leads to one world at most.
-use Rattle.std.proofs.Common.{◌≡◌, ℕ, zero, suc, ◌+◌, ◌⊎◌, ⊎_elim, Bool, cond, List, [], ◌∷◌, ◌++◌, length, Some, refl, sym, ap, ◌∙◌, subst, arith, length-append}
+use Rattle.std.proofs.Common.{◌≡◌, ℕ, ◌+◌, ◌⊎◌, ⊎_elim, Bool, cond, List, [], ◌∷◌, ◌++◌, length, refl, sym, ap, ◌∙◌, subst, arith, length-append}
 use Rattle.std.proofs.lemmas.Option.{same_Some}
 use Rattle.crp_plan.specs.Bay.{Problem, IsProblem, Position, IsAt}
 use Rattle.crp_plan.specs.Running.{after_see, after_offer, after_claim, is_granted}
@@ -8,7 +8,7 @@ use Rattle.crp_steps.specs.declared.event.Kind.{Kind}
 use Rattle.crp_steps.specs.declared.event.Kind.TheVariants.{See, Take, Steal, Claim, Put, Leaf as CloseLeaf, Offer, Finish}
 use Rattle.crp_steps.specs.declared.event.Event.{Event}
 use Rattle.crp_steps.specs.Worlds.{Worker, World, IsWorker, with_worker}
-use Rattle.crp_steps.specs.Events.{words_of, after_words, Sees, Takes, Steals, IsCurrent, branched, Claims, Puts, value_of, Closes, Offers, Finishes, LeadsBy, Leads, Comes, Come}
+use Rattle.crp_steps.specs.Events.{words_of, after_words, Steps, Sees, Takes, Steals, IsCurrent, branched, Claims, Puts, value_of, Closes, Offers, Finishes, LeadsBy, Leads, Comes, Come}
 use Rattle.crp_steps.proofs.Followed.{same_rules}
 
 -- a list ends in one way
@@ -47,17 +47,15 @@ same_current p v v' others others' path path' s s' ok e a b =
 one_see : (k : ℕ) (w next other : World) → Sees k w next → Sees k w other → next ≡ other
 one_see k w next other a b = a.after ∙ ap (λ v. after_words w k v (after_see (words_of w v))) (same_worker w k a.worker b.worker a.acts b.acts) ∙ sym b.after
 
-one_finish : (k : ℕ) (w next other : World) → Finishes k w next → Finishes k w other → next ≡ other
-one_finish k w next other a b = a.after ∙ ap (λ (v : Worker). with_worker w k (record v { has_task = Rattle.std.proofs.Common.false })) (same_worker w k a.worker b.worker a.acts b.acts) ∙ sym b.after
-
-abbrev took : World → ℕ → Worker → List (List ℕ) → List ℕ → World
-took w k v others name = with_worker w k (record v { deque = others; hand = v.hand ++ name ∷ []; has_task = Rattle.std.proofs.Common.true })
-
-one_take : (k : ℕ) (w next other : World) → Takes k w next → Takes k w other → next ≡ other
-one_take k w next other a b =
+one_steps : (step : Worker → Worker → Type 0) → ((v next other : Worker) → step v next → step v other → next ≡ other) → (k : ℕ) (w next other : World) → Steps step k w next → Steps step k w other → next ≡ other
+one_steps step one k w next other a b =
     let e = same_worker w k a.worker b.worker a.acts b.acts in
-    let r = last_parts a.others b.others a.name b.name (sym a.is_last ∙ ap (λ (x : Worker). x.deque) e ∙ b.is_last) in
-    a.after ∙ ap (λ v. took w k v a.others a.name) e ∙ ap (λ o. took w k b.worker o a.name) r.0 ∙ ap (took w k b.worker b.others) r.1 ∙ sym b.after
+    a.after ∙ ap (with_worker w k) (one b.worker a.changed b.changed (subst (λ x. step x a.changed) e a.own) b.own) ∙ sym b.after
+
+one_take : (v next other : Worker) → Takes v next → Takes v other → next ≡ other
+one_take v next other a b =
+    let r = last_parts a.others b.others a.name b.name (sym a.is_last ∙ b.is_last) in
+    a.after ∙ (λ i. record v { deque = r.0 i; hand = v.hand ++ r.1 i ∷ []; has_task = Rattle.std.proofs.Common.true }) ∙ sym b.after
 
 abbrev stole : World → ℕ → ℕ → Worker → Worker → List (List ℕ) → List ℕ → World
 stole w k victim v u others name = with_worker (with_worker w victim (record u { deque = others })) k (record v { hand = v.hand ++ name ∷ []; has_task = Rattle.std.proofs.Common.true })
@@ -83,15 +81,10 @@ one_claim k w next other ok a b =
     a.after ∙ ap (λ v. claimed w k v a.others a.path a.place) e ∙ ap (λ o. claimed w k b.worker o a.path a.place) r.0
     ∙ ap (λ x. claimed w k b.worker b.others x a.place) r.1 ∙ ap (claimed w k b.worker b.others b.path) r.2 ∙ sym b.after
 
-abbrev put : World → ℕ → Worker → List (List ℕ) → List ℕ → List (List ℕ) → World
-put w k v before path behind = with_worker w k (record v { deque = v.deque ++ path ∷ []; hand = before ++ behind })
-
-one_put : (k index : ℕ) (w next other : World) → Puts k index w next → Puts k index w other → next ≡ other
-one_put k index w next other a b =
-    let e = same_worker w k a.worker b.worker a.acts b.acts in
-    let r = index_parts a.before b.before a.path b.path a.behind b.behind (a.at_index ∙ sym b.at_index) (sym a.in_hand ∙ ap (λ (x : Worker). x.hand) e ∙ b.in_hand) in
-    a.after ∙ ap (λ v. put w k v a.before a.path a.behind) e ∙ ap (λ o. put w k b.worker o a.path a.behind) r.0
-    ∙ ap (λ x. put w k b.worker b.before x a.behind) r.1 ∙ ap (put w k b.worker b.before b.path) r.2 ∙ sym b.after
+one_put : (split index : ℕ) (v next other : Worker) → Puts split index v next → Puts split index v other → next ≡ other
+one_put split index v next other a b =
+    let r = index_parts a.before b.before a.path b.path a.behind b.behind (a.at_index ∙ sym b.at_index) (sym a.in_hand ∙ b.in_hand) in
+    a.after ∙ (λ i. record v { deque = v.deque ++ r.1 i ∷ []; hand = r.0 i ++ r.2 i }) ∙ sym b.after
 
 abbrev closed : World → ℕ → Bool → Worker → List (List ℕ) → List ℕ → Position → World
 closed w k look v others path s = record (with_worker w k (record v { hand = others })) { leaves = w.leaves ++ (record { path = path; value = value_of look path s }) ∷ [] }
@@ -114,13 +107,13 @@ one_offer k w next other ok a b =
 
 one_by : (k : ℕ) (kind : Kind) (w next other : World) → IsProblem w.rules.problem → LeadsBy k kind w next → LeadsBy k kind w other → next ≡ other
 one_by k See w next other ok a b = one_see k w next other a b
-one_by k Take w next other ok a b = one_take k w next other a b
+one_by k Take w next other ok a b = one_steps Takes one_take k w next other a b
 one_by k (Steal victim) w next other ok a b = one_steal k victim w next other a b
 one_by k Claim w next other ok a b = one_claim k w next other ok a b
-one_by k (Put index) w next other ok a b = one_put k index w next other a b
+one_by k (Put index) w next other ok a b = one_steps (Puts w.rules.split index) (one_put w.rules.split index) k w next other a b
 one_by k (CloseLeaf look) w next other ok a b = one_leaf k look w next other ok a b
 one_by k Offer w next other ok a b = one_offer k w next other ok a b
-one_by k Finish w next other ok a b = one_finish k w next other a b
+one_by k Finish w next other ok a b = one_steps Finishes (λ v n o c d. c.after ∙ sym d.after) k w next other a b
 
 pub one_event : (event : Event) (w next other : World) → IsProblem w.rules.problem → Leads event w next → Leads event w other → next ≡ other
 one_event event w next other ok a b = one_by event.worker event.kind w next other ok a b

@@ -25,15 +25,21 @@ pub record Sees (k : ℕ) (w next : World) : Type 0 where
   pub acts : IsWorker w k worker
   pub after : next ≡ after_words w k worker (after_see (words_of w worker))
 
--- Take: a worker without a task takes the last name of its own deque into its hand
-pub record Takes (k : ℕ) (w next : World) : Type 0 where
+-- the worker of this number takes a step that concerns itself alone
+pub record Steps (step : Worker → Worker → Type 0) (k : ℕ) (w next : World) : Type 0 where
   pub worker : Worker
   pub acts : IsWorker w k worker
+  pub changed : Worker
+  pub own : step worker changed
+  pub after : next ≡ with_worker w k changed
+
+-- Take: a worker without a task takes the last name of its own deque into its hand
+pub record Takes (worker next : Worker) : Type 0 where
   pub no_task : worker.has_task ≡ false
   pub others : List (List ℕ)
   pub name : List ℕ
   pub is_last : worker.deque ≡ others ++ name ∷ []
-  pub after : next ≡ with_worker w k (record worker { deque = others; hand = worker.hand ++ name ∷ []; has_task = true })
+  pub after : next ≡ record worker { deque = others; hand = worker.hand ++ name ∷ []; has_task = true }
 
 -- Steal: a worker without a task takes the first name of another worker's deque into its hand
 pub record Steals (k victim : ℕ) (w next : World) : Type 0 where
@@ -84,16 +90,14 @@ pub record Claims (k : ℕ) (w next : World) : Type 0 where
       else after_words w k worker (after_claim w.rules.budget (words_of w worker)))
 
 -- Put: a path of the hand, at this index from 0 and of at most `split` rows, goes to the end of the worker's deque
-pub record Puts (k index : ℕ) (w next : World) : Type 0 where
-  pub worker : Worker
-  pub acts : IsWorker w k worker
+pub record Puts (split index : ℕ) (worker next : Worker) : Type 0 where
   pub before : List (List ℕ)
   pub path : List ℕ
   pub behind : List (List ℕ)
   pub in_hand : worker.hand ≡ before ++ path ∷ behind
   pub at_index : length before ≡ index
-  pub short : length path ≤ w.rules.split
-  pub after : next ≡ with_worker w k (record worker { deque = worker.deque ++ path ∷ []; hand = before ++ behind })
+  pub short : length path ≤ split
+  pub after : next ≡ record worker { deque = worker.deque ++ path ∷ []; hand = before ++ behind }
 
 -- the value of a leaf: the length of its path and a lower bound of the place that it leads to, by look-ahead or by blocking
 abbrev pub value_of : Bool → List ℕ → Position → ℕ
@@ -128,23 +132,21 @@ pub record Offers (k : ℕ) (w next : World) : Type 0 where
   pub after : next ≡ record (after_words w k worker (after_offer (length path) (words_of w worker))) { offered = w.offered ++ (record { worker = k; path = path }) ∷ [] }
 
 -- Finish: a task ends whose hand is empty
-pub record Finishes (k : ℕ) (w next : World) : Type 0 where
-  pub worker : Worker
-  pub acts : IsWorker w k worker
+pub record Finishes (worker next : Worker) : Type 0 where
   pub has_task : worker.has_task ≡ true
   pub empty : worker.hand ≡ []
-  pub after : next ≡ with_worker w k (record worker { has_task = false })
+  pub after : next ≡ record worker { has_task = false }
 
 -- what the worker of this number does leads from the world to the next
 abbrev pub LeadsBy : ℕ → Kind → World → World → Type 0
 LeadsBy k See w next = Sees k w next
-LeadsBy k Take w next = Takes k w next
+LeadsBy k Take w next = Steps Takes k w next
 LeadsBy k (Steal victim) w next = Steals k victim w next
 LeadsBy k Claim w next = Claims k w next
-LeadsBy k (Put index) w next = Puts k index w next
+LeadsBy k (Put index) w next = Steps (Puts w.rules.split index) k w next
 LeadsBy k (CloseLeaf look) w next = Closes k look w next
 LeadsBy k Offer w next = Offers k w next
-LeadsBy k Finish w next = Finishes k w next
+LeadsBy k Finish w next = Steps Finishes k w next
 
 -- the event leads from the world to the next
 abbrev pub Leads : Event → World → World → Type 0

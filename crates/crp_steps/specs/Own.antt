@@ -1,5 +1,5 @@
--- What an event does to the worker's own deque and hand.
-use Rattle.std.specs.Prelude.{◌≡◌, ℕ, ◌+◌, ◌^◌, ◌<◌, ◌≤◌, true, false, List, [], ◌∷◌, ◌++◌, length}
+-- What steps of the code do, and how they stop.
+use Rattle.std.specs.Prelude.{◌≡◌, ℕ, ◌+◌, ◌^◌, ◌<◌, ◌≤◌, List, [], ◌∷◌, ◌++◌, length}
 use Rattle.crp_plan.specs.Bay.{Position}
 use Rattle.crp_bay.specs.Positions.{targets}
 use Rattle.crp_steps.specs.declared.event.Stopped.{Stopped}
@@ -12,35 +12,6 @@ use Rattle.crp_steps.specs.Covered.{IsReachedWorld}
 abbrev pub IsStopped : {X : Type 0} → (X → Type 0) → Stopped → Type 0
 IsStopped {X} leads NotNow = (next : X) → leads next → ⊥
 IsStopped {X} leads Memory = (next : X) × leads next
-
--- a worker without a task takes the last name of its deque
-pub record TakesOwn (worker next : Worker) : Type 0 where
-  pub no_task : worker.has_task ≡ false
-  pub others : List (List ℕ)
-  pub name : List ℕ
-  pub is_last : worker.deque ≡ others ++ name ∷ []
-  pub after : next ≡ record worker { deque = others; hand = worker.hand ++ name ∷ []; has_task = true }
-
--- it puts a path of its hand into its deque
-pub record PutsOwn (split index : ℕ) (worker next : Worker) : Type 0 where
-  pub before : List (List ℕ)
-  pub path : List ℕ
-  pub behind : List (List ℕ)
-  pub in_hand : worker.hand ≡ before ++ path ∷ behind
-  pub at_index : length before ≡ index
-  pub short : length path ≤ split
-  pub after : next ≡ record worker { deque = worker.deque ++ path ∷ []; hand = before ++ behind }
-
--- it ends a task whose hand is empty
-pub record FinishesOwn (worker next : Worker) : Type 0 where
-  pub has_task : worker.has_task ≡ true
-  pub empty : worker.hand ≡ []
-  pub after : next ≡ record worker { has_task = false }
-
--- its hand ends with a path
-pub record EndsWith (worker : Worker) (path : List ℕ) : Type 0 where
-  pub others : List (List ℕ)
-  pub is_last : worker.hand ≡ others ++ path ∷ []
 
 -- the path is the current one of the worker of this number
 pub record HoldsCurrent (w : World) (k : ℕ) (path : List ℕ) (place : Position) : Type 0 where

@@ -4,7 +4,7 @@ ghost use Rattle.crp_plan.specs.Bay.{IsProblem, Position as Place};
 ghost use Rattle.crp_bay.specs.Positions.{targets};
 ghost use Rattle.crp_steps.specs.Worlds.{World as WorldValue, Worker as WorkerValue, IsWorker, with_worker};
 ghost use Rattle.crp_steps.specs.Events.{words_of, after_words, IsCurrent, MayClose, children, closed_if_dead, value_of};
-ghost use Rattle.crp_steps.specs.Events.{Sees, Takes, Steals, Claims, Puts, Closes, Offers, Finishes, Leads};
+ghost use Rattle.crp_steps.specs.Events.{Steps, Sees, Takes, Steals, Claims, Puts, Closes, Offers, Finishes, Leads};
 ghost use Rattle.crp_plan.specs.Bay.{cap};
 ghost use Rattle.crp_steps.specs.Worlds.{begin, least_leaf as least_leaf_of};
 ghost use Rattle.crp_steps.specs.Covered.{IsClosedWorld, SomeRefused};
@@ -174,8 +174,8 @@ impl State {
     /// The worker takes a name of its own deque.
     fn take(&mut self, k: usize) -> Result<(), Stopped>
         requires there { k < length self.old.workers }
-        ensures done { OnOk result (Takes k self.old self.new) }
-        ensures stopped { IfErr result (IsStopped (Takes k self.old)) }
+        ensures done { OnOk result (Steps Takes k self.old self.new) }
+        ensures stopped { IfErr result (IsStopped (Steps Takes k self.old)) }
         ensures same { OnErr result (self.new ≡ self.old) }
     {
         self.workers[k].take()
@@ -184,8 +184,8 @@ impl State {
     /// The worker puts a path of its hand into its deque.
     fn put(&mut self, k: usize, index: usize) -> Result<(), Stopped>
         requires there { k < length self.old.workers }
-        ensures done { OnOk result (Puts k index self.old self.new) }
-        ensures stopped { IfErr result (IsStopped (Puts k index self.old)) }
+        ensures done { OnOk result (Steps (Puts self.old.rules.split index) k self.old self.new) }
+        ensures stopped { IfErr result (IsStopped (Steps (Puts self.old.rules.split index) k self.old)) }
         ensures same { OnErr result (self.new ≡ self.old) }
     {
         self.workers[k].put(self.split, index)
@@ -194,8 +194,8 @@ impl State {
     /// The worker ends its task.
     fn finish(&mut self, k: usize) -> Result<(), Stopped>
         requires there { k < length self.old.workers }
-        ensures done { OnOk result (Finishes k self.old self.new) }
-        ensures stopped { IfErr result (IsStopped (Finishes k self.old)) }
+        ensures done { OnOk result (Steps Finishes k self.old self.new) }
+        ensures stopped { IfErr result (IsStopped (Steps Finishes k self.old)) }
         ensures same { OnErr result (self.new ≡ self.old) }
     {
         self.workers[k].finish()
@@ -206,10 +206,8 @@ impl State {
         requires there { k < length self.now.workers }
         ensures current { IfSome result (λ current. HoldsCurrent self.now k current.path current.place.place) }
         ensures none { IfNone result ((path : List ℕ) (place : Place) → HoldsCurrent self.now k path place → ⊥) }
-        ensures problem { IsProblem self.now.rules.problem }
+        ensures problem { IfSome result (λ current. IsProblem self.now.rules.problem) }
     {
-        // For its contract alone: there is a cap.
-        let _cap = self.problem.cap();
         let Some(path) = self.workers[k].current() else {
             return None;
         };

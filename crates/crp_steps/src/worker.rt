@@ -2,8 +2,8 @@
 ghost use Rattle.std.specs.Prelude.{◌≡◌, ℕ, [], ◌∷◌, ◌++◌, ◌<◌, ◌≤◌, length, List, IfOk, OnOk, OnErr, IfErr, IfSome, IfNone, IsTrue, IsFalse, ◌↔◌, true};
 ghost use Rattle.crp_plan.specs.declared.running.View.{View as Knowledge};
 ghost use Rattle.crp_steps.specs.Worlds.{Worker as WorkerValue, fresh};
-ghost use Rattle.crp_steps.specs.Events.{children};
-ghost use Rattle.crp_steps.specs.Own.{IsStopped, TakesOwn, PutsOwn, FinishesOwn};
+ghost use Rattle.crp_steps.specs.Events.{Takes, Puts, Finishes, children};
+ghost use Rattle.crp_steps.specs.Own.{IsStopped};
 
 use crate::event::Stopped;
 use crate::path::Path;
@@ -89,8 +89,8 @@ impl Worker {
 
     /// Takes the last name of its deque as its task.
     pub(crate) fn take(&mut self) -> Result<(), Stopped>
-        ensures done { OnOk result (TakesOwn self.old self.new) }
-        ensures stopped { IfErr result (IsStopped (TakesOwn self.old)) }
+        ensures done { OnOk result (Takes self.old self.new) }
+        ensures stopped { IfErr result (IsStopped (Takes self.old)) }
         ensures same { OnErr result (self.new ≡ self.old) }
     {
         if self.has_task || self.deque.is_empty() {
@@ -125,8 +125,8 @@ fn children_of(alloc: Global, path: &Path, rows: &[u8]) -> Result<Vec<Path>, All
 impl Worker {
     /// Puts a path of its hand, of at most so many rows, into its deque. The index counts from 0.
     pub(crate) fn put(&mut self, split: u8, index: usize) -> Result<(), Stopped>
-        ensures done { OnOk result (PutsOwn split index self.old self.new) }
-        ensures stopped { IfErr result (IsStopped (PutsOwn split index self.old)) }
+        ensures done { OnOk result (Puts split index self.old self.new) }
+        ensures stopped { IfErr result (IsStopped (Puts split index self.old)) }
         ensures same { OnErr result (self.new ≡ self.old) }
     {
         if index >= self.hand.len() || self.hand[index].length() > u32::from(split) {
@@ -143,8 +143,8 @@ impl Worker {
 
     /// Ends its task, whose hand is empty.
     pub(crate) fn finish(&mut self) -> Result<(), Stopped>
-        ensures done { OnOk result (FinishesOwn self.old self.new) }
-        ensures stopped { IfErr result (IsStopped (FinishesOwn self.old)) }
+        ensures done { OnOk result (Finishes self.old self.new) }
+        ensures stopped { IfErr result (IsStopped (Finishes self.old)) }
         ensures same { OnErr result (self.new ≡ self.old) }
     {
         if !self.has_task || !self.hand.is_empty() {

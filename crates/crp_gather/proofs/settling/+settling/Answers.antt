@@ -14,7 +14,6 @@ use Rattle.crp_tree.specs.Symbols.{tree_of, some_trees, ComesFirst}
 use Rattle.crp_tree.proofs.Followed.{Pushes, legal_push, pop_back, back_again}
 use Rattle.crp_tree.proofs.Listed.{Meets, branch_node, fit_lengths, met_fits, met_all}
 use Rattle.crp_tree.proofs.Parsed.{IsBelow, below, IsNext, next_tree, all_met, above_trees}
-use Rattle.crp_gather.specs.Settled.{IsPast}
 use Rattle.crp_gather.proofs.TreesSettled.{stays_b, stays_given, stay_written, one_written, all_written}
 use Rattle.crp_gather.proofs.settling.+settling.Goals as goal
 
@@ -110,13 +109,12 @@ settle_below-returns-clause-behind t c =
 
 pub settle_tree-settle_below-requires : goal.settle_tree-settle_below-requires
 settle_tree-settle_below-requires t c =
-    let out = subst (λ l. IsPast c.args.plan.now.path l c.args.place.now.place → ⊥) c.as_slice.ensures.value c.in_default.ensures.open in
     let same : c.args.list.now ≡ symbol.Branch c.in-Branch.count ∷ c.in-Some-split_first.behind.now = c.in-Some-split_first.ensures.cases.0 ∙ ap (λ o. o ∷ c.in-Some-split_first.behind.now) c.in-Branch.is in (
       omega arith,
       (
         c.requires.path,
         (
-          out,
+          c.in_default.ensures.open,
           (
             (c.requires.whole.0, subst (λ l. ComesFirst l c.requires.whole.0) same c.requires.whole.1),
             (
@@ -131,17 +129,14 @@ settle_tree-settle_below-requires t c =
 pub settle_tree-returns-in_ok-push-in-CutB-clause-settled :
     goal.settle_tree-returns-in_ok-push-in-CutB-clause-settled
 settle_tree-returns-in_ok-push-in-CutB-clause-settled t c =
-    let out = subst (λ l. IsPast c.args.plan.now.path l c.args.place.now.place → ⊥) c.as_slice.ensures.value c.in_default.ensures.open in
     let same : c.args.list.now ≡ symbol.CutB ∷ c.in-Some-split_first.behind.now = c.in-Some-split_first.ensures.cases.0 ∙ ap (λ o. o ∷ c.in-Some-split_first.behind.now) c.in-CutB.is in
-    let low : c.low_at-low.result ≡ length c.args.path.now.items + blocking c.args.place.now.place = c.low_at-low.ensures ∙ ap (λ l. length l + blocking c.args.place.now.place) c.as_slice-in-CutB.ensures.value in
     stay_written c.args.problem.now c.args.plan.now.path c.args.path.now.items c.args.place.now.place c.args.list.now c.in-Some-split_first.behind.now c.args.settled.now.items c.push-in-CutB.new.self.items symbol.CutB c.min.result same c.in_ok-push-in-CutB.ensures.items tt
     (stays_b c.args.problem.now c.args.plan.now.path c.args.path.now.items c.args.place.now.place CutB (tree_of c.args.list.now) c.min.result (ap (λ l. tree_of l) same) refl
-    (c.min.ensures ∙ ap (λ n. min n c.cap-most.result) low ∙ ap (λ n. min (length c.args.path.now.items + blocking c.args.place.now.place) n) c.cap-most.ensures.value) out)
+    (c.min.ensures ∙ ap (λ n. min n c.cap-most.result) c.low_at-low.ensures ∙ ap (λ n. min (length c.args.path.now.items + blocking c.args.place.now.place) n) c.cap-most.ensures.value) c.in_default.ensures.open)
 
 pub settle_tree-returns-in_ok-push-in-Given-clause-settled :
     goal.settle_tree-returns-in_ok-push-in-Given-clause-settled
 settle_tree-returns-in_ok-push-in-Given-clause-settled t c =
-    let out = subst (λ l. IsPast c.args.plan.now.path l c.args.place.now.place → ⊥) c.as_slice.ensures.value c.in_default.ensures.open in
     let same : c.args.list.now ≡ symbol.Given ∷ c.in-Some-split_first.behind.now = c.in-Some-split_first.ensures.cases.0 ∙ ap (λ o. o ∷ c.in-Some-split_first.behind.now) c.in-Given.is in
     stay_written c.args.problem.now c.args.plan.now.path c.args.path.now.items c.args.place.now.place c.args.list.now c.in-Some-split_first.behind.now c.args.settled.now.items c.push-in-Given.new.self.items symbol.Given c.cap-most.result same c.in_ok-push-in-Given.ensures.items tt
-    (stays_given c.args.problem.now c.args.plan.now.path c.args.path.now.items c.args.place.now.place Given (tree_of c.args.list.now) c.cap-most.result (ap (λ l. tree_of l) same) refl c.cap-most.ensures.value c.requires.in_place out)
+    (stays_given c.args.problem.now c.args.plan.now.path c.args.path.now.items c.args.place.now.place Given (tree_of c.args.list.now) c.cap-most.result (ap (λ l. tree_of l) same) refl c.cap-most.ensures.value c.requires.in_place c.in_default.ensures.open)

@@ -62,5 +62,5 @@ returns-clause-settled c =
     let m : IsMade c.problem-problem.result.now c.args.plan.now.path c.try_extend_from_slice.new.self.items c.in-Some.place.place (tree_of c.symbols.result.now) c.from_symbols.result c.in_ok-_behind.floor =
     made c.problem-problem.result.now c.args.plan.now.path c.try_extend_from_slice.new.self.items c.in-Some.place.place (tree_of c.symbols.result.now) c.from_symbols.result c.new-settled.result.items c.settle_tree.new.settled.items c.in_ok-_behind.floor
     c.new-settled.ensures.items c.from_symbols.ensures c.in_ok-_behind.ensures.settled in
-    part_settled c.args.part.now c.new-part.result c.args.plan.now.path c.problem-problem.result.now c.copy-name.result c.try_extend_from_slice.new.self.items c.as_slice.result.now c.in-Some.place.place (tree_of c.symbols.result.now) c.from_symbols.result c.in_ok-_behind.floor
-    c.problem-problem.ensures.value (c.copy-name.ensures ∙ c.name-3.ensures.value) path c.as_slice.ensures.value whole.is c.tree.ensures.part at c.in_default-close_past.ensures.open m.is c.new-part.ensures.value
+    part_settled c.args.part.now c.new-part.result c.args.plan.now.path c.problem-problem.result.now c.copy-name.result c.try_extend_from_slice.new.self.items c.in-Some.place.place (tree_of c.symbols.result.now) c.from_symbols.result c.in_ok-_behind.floor
+    c.problem-problem.ensures.value (c.copy-name.ensures ∙ c.name-3.ensures.value) path whole.is c.tree.ensures.part at c.in_default-close_past.ensures.open m.is c.new-part.ensures.value

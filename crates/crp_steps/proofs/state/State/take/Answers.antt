@@ -1,10 +1,11 @@
 use Rattle.std.proofs.Common.{ap}
 use Rattle.std.proofs.lemmas.Result.{IfErr-weaker}
 use Rattle.crp_steps.specs.Worlds.{World}
-use Rattle.crp_steps.proofs.Acts.{is_worker, takes_stopped}
+use Rattle.crp_steps.specs.Events.{Takes}
+use Rattle.crp_steps.proofs.Acts.{is_worker, steps_stopped}
 use Rattle.crp_steps.proofs.state.State.take.Goals as goal
 
 pub returns-clause-stopped : goal.returns-clause-stopped
 returns-clause-stopped c =
     let was = is_worker c.args.self.now c.self.inside.workers.items c.args.k c.index_mut.result.now (ap (λ (w : World). w.workers) c.self.view_is) c.requires.there c.index_mut.ensures.value in
-    IfErr-weaker c.take.result _ _ (takes_stopped c.args.self.now c.args.k c.index_mut.result.now was) c.take.ensures.stopped
+    IfErr-weaker c.take.result _ _ (steps_stopped Takes c.args.self.now c.args.k c.index_mut.result.now was) c.take.ensures.stopped
