@@ -20,11 +20,6 @@ use Rattle.crp_movins.specs.Faults.{is_in_group, first_of, own_faults, faults_at
 use Rattle.crp_movins.specs.Standings.{open_slot, is_group_filled, standing_before}
 use Rattle.crp_movins.proofs.Counting.{count_below-bound, count_below-same, count_below-without}
 
--- no segment has the number 0
-pub kind_at-none : (segments : List SegmentParts) → kind_at segments 0 ≡ Other
-unfolding kind_at kind_of
-kind_at-none segments = refl
-
 pub standing-start : (segments : List SegmentParts) (code : List ℕ) → record { is_closed = false; message = None; messages = 0; is_loading = false; group = None; is_filled = false; vacant = 0 } ≡ standing_before segments code 1
 unfolding kind_at kind_of vacant_before is_group_filled
 standing-start segments code = refl

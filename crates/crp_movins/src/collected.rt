@@ -5,8 +5,9 @@ ghost use Rattle.crp_movins.specs.Accepted.{max_orders, is_ordered, AreLoadOrder
 ghost use Rattle.crp_movins.specs.declared.fault.MovinsFault.TheVariants.{Memory};
 
 use crate::fault::MovinsFault;
-use crate::order::{Container, Order};
+use crate::order::Order;
 use crate::slot::Slot;
+use crp_plan::Container;
 use std::alloc::Global;
 use std::collections::HashSet;
 use std::marker::Model;

@@ -18,6 +18,6 @@ mod standing;
 
 pub use fault::MovinsFault;
 pub use laws::{first_fault_is_least, last_is_last, orders_by_places, vacant_by_places};
-pub use order::{Container, Order, Orders};
+pub use order::{Order, Orders};
 pub use reading::{MAX_ORDERS, load_orders};
 pub use slot::Slot;

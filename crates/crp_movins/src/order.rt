@@ -4,45 +4,8 @@ ghost use Rattle.std.specs.Prelude.{◌≡◌};
 ghost use Rattle.crp_movins.specs.Accepted.{AreLoadOrders};
 
 use crate::slot::Slot;
+use crp_plan::Container;
 use std::marker::Model;
-
-/// The name of a container, in bytes. Names are compared byte for byte.
-#[derive(Drop)]
-pub struct Container {
-    bytes: Vec<u8>,
-}
-
-impl Model for Container {
-    ghost use Rattle.std.specs.Prelude.{ℕ, List};
-
-    ghost Value = { List ℕ };
-
-    ghost view = { λ a. a.bytes.items };
-}
-
-impl Container {
-    /// The container with this name. Takes no memory.
-    pub fn from_vec(bytes: Vec<u8>) -> Container
-        ensures { result ≡ bytes.items }
-    {
-        Container { bytes }
-    }
-
-    /// The name. Takes no memory.
-    pub fn into_vec(self) -> Vec<u8>
-        ensures { result.items ≡ self }
-    {
-        let Container { bytes } = self;
-        bytes
-    }
-
-    /// The name.
-    pub fn bytes(&self) -> &[u8]
-        ensures { result.now ≡ self.now }
-    {
-        &self.bytes
-    }
-}
 
 /// A container is to be loaded into a slot.
 #[derive(Drop)]

@@ -1,5 +1,5 @@
 -- The number of the bay in which each container stands.
-use Rattle.std.proofs.Common.{◌≡◌, ◌<◌, ◌+◌, ◌==◌, ℕ, Bool, true, false, cond, List, [], length, take, get_or, Option, Some, None, IfSome, slice_get, refl, sym, ap, ◌∙◌, inl, inr, arith}
+use Rattle.std.proofs.Common.{◌≡◌, ◌<◌, ◌+◌, ◌==◌, ℕ, Bool, true, false, cond, List, length, take, get_or, Option, Some, None, IfSome, slice_get, refl, sym, ap, ◌∙◌, inl, inr, arith}
 use Rattle.std.specs.Prelude.{◌||◌}
 use Rattle.std.specs.Str.{bytes_eq}
 use denote.Ref.{Bor}
@@ -27,10 +27,6 @@ place-more old mid new stack i x n before within at put turn c =
     let more : is_among (take (i + 1) stack) c.now ≡ (is_among (take i stack) c.now || bytes_eq c.now (get_or stack i x)) = list_any_more (λ y. bytes_eq c.now y) stack i x within in
     let last : is_among (take (i + 1) stack) c.now ≡ (is_among (take i stack) c.now || bytes_eq c.now x) = more ∙ ap (λ y. is_among (take i stack) c.now || bytes_eq c.now y) (sym at) in
     rw (put c, before c, turn c.now, last) (both (is_among (take i stack) c.now) (bytes_eq c.now x) n (kept_of old c.now))
-
--- what is kept before any container
-pub placed-none : (bays : List StackedBay) → ArePlaced 0 bays []
-placed-none bays = record { standing_there = λ c j bay h e. absurd (omega arith); number_is_low = λ c. tt }
 
 low_step : (n : ℕ) (b : Bool) (old : Option ℕ) → IfSome old (λ i. i < n) → IfSome (cond b (Some n) old) (λ i. i < n + 1)
 low_step n true old h = omega arith

@@ -1,6 +1,7 @@
 -- The ranks of containers by their names.
 use Prim.Native.Nat.{zero}
 use Rattle.std.proofs.Common.{◌≡◌, ◌≤◌, ◌<◌, ◌+◌, ◌-◌, ◌==◌, ℕ, suc, Bool, true, false, cond, List, [], ◌∷◌, length, get_or, refl, sym, ap, ◌∙◌, arith}
+use Rattle.std.specs.Prelude.{slice_get, unwrap_or}
 use Rattle.std.specs.Str.{bytes_eq}
 use Rattle.std.proofs.lemmas.Bool.{ne_eqb}
 use Rattle.std.proofs.Math.Dec.{eqb-suc-suc}
@@ -30,11 +31,11 @@ pub name_of-rank : (names : List (List ℕ)) (c : List ℕ) → 1 ≤ times c na
 name_of-rank [] c some = absurd (omega arith)
 name_of-rank (n ∷ names) c some = by (bytes_eq c n) refl some (name_of-rank names c)
   where
-    later : (r : ℕ) → 1 ≤ r → get_or (n ∷ names) (suc r - 1) [] ≡ get_or names (r - 1) []
-    later r h = let e : suc r - 1 ≡ suc (r - 1) = omega arith in ap (λ k. get_or (n ∷ names) k []) e
+    later : (r : ℕ) → 1 ≤ r → unwrap_or (slice_get (n ∷ names) (suc r - 1)) [] ≡ unwrap_or (slice_get names (r - 1)) []
+    later r h = let e : suc r - 1 ≡ suc (r - 1) = omega arith in ap (λ k. unwrap_or (slice_get (n ∷ names) k) []) e
 
-    by : (b : Bool) → bytes_eq c n ≡ b → 1 ≤ one_if b + times c names → (1 ≤ times c names → get_or names (rank_in names c - 1) [] ≡ c)
-        → get_or (n ∷ names) (cond b 1 (suc (rank_in names c)) - 1) [] ≡ c
+    by : (b : Bool) → bytes_eq c n ≡ b → 1 ≤ one_if b + times c names → (1 ≤ times c names → unwrap_or (slice_get names (rank_in names c - 1)) [] ≡ c)
+        → unwrap_or (slice_get (n ∷ names) (cond b 1 (suc (rank_in names c)) - 1)) [] ≡ c
     by true e h rest = sym (same c n e)
     by false e h rest = later (rank_in names c) (rank_low names c) ∙ rest (omega (arith, h))
 

@@ -4,7 +4,8 @@ ghost use Rattle.std.specs.Prelude.{◌≡◌, ◌<◌, IfOk, OnOk, length};
 ghost use Rattle.crp_order.specs.BayProblems.{standing};
 ghost use Rattle.crp_order.specs.Groups.{stacks_numbered, pointed, ArePlaced, Places};
 
-use crp_yard::{Container, Yard};
+use crp_plan::Container;
+use crp_yard::Yard;
 use std::alloc::{AllocError, Global};
 use std::collections::HashMap;
 

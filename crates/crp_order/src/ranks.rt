@@ -6,7 +6,7 @@ ghost use Rattle.crp_yard.specs.Inventory.{is_among};
 ghost use Rattle.crp_order.specs.BayProblems.{rank_in, ranks_in};
 ghost use Rattle.crp_order.specs.Groups.{pointed, names_behind};
 
-use crp_yard::Container;
+use crp_plan::Container;
 use std::alloc::{AllocError, Global};
 
 fn is_one_of(containers: &[&[u8]], container: &[u8]) -> bool

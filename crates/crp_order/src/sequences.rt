@@ -2,7 +2,7 @@
 
 ghost use Rattle.std.specs.Prelude.{◌≡◌};
 
-use crp_movins::Container;
+use crp_plan::Container;
 use std::marker::Model;
 
 /// How the orders are put in sequence.

@@ -5,7 +5,8 @@ ghost use Rattle.crp_movins.specs.Accepted.{ordered_containers};
 ghost use Rattle.crp_order.specs.Sequences.{IsStowage, IsSequence};
 
 use crate::sequences::{Mode, Sequence};
-use crp_movins::{Container, Order, Orders};
+use crp_movins::{Order, Orders};
+use crp_plan::Container;
 use std::alloc::{AllocError, Global};
 
 /// The orders by tier, bay and row of their slots, and those of one slot as they are listed.

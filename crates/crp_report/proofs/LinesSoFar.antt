@@ -1,11 +1,10 @@
 -- Moves that are made, and the lines of those so far and of those that follow.
-use Rattle.std.proofs.Common.{◌≡◌, ℕ, ◌≤◌, ◌-◌, List, [], ◌∷◌, ◌++◌, length, Option, Some, None, IfSome, IfNone, slice_get, drop, get_or, ◌+◌, ◌<◌, drop-cons, add-one, refl, sym, ap, ◌∙◌, subst, arith, append_assoc, append-nil}
+use Rattle.std.proofs.Common.{◌≡◌, ℕ, ◌≤◌, ◌-◌, List, [], ◌∷◌, ◌++◌, length, Some, slice_get, drop, get_or, ◌+◌, ◌<◌, drop-cons, add-one, refl, sym, ap, ◌∙◌, subst, arith, append_assoc, append-nil}
 use Rattle.std.proofs.lemmas.Option.{slice_get_within}
 use Rattle.crp_plan.specs.declared.moves.Move.{Move}
-use Rattle.crp_plan.specs.Bay.{Position, IsSound, IsTaken, IsShifted, Legal, Runs}
-use Rattle.crp_plan.specs.Walks.{NoneToTake}
+use Rattle.crp_plan.specs.Bay.{Position, IsSound, Legal, Runs}
 use Rattle.crp_plan.proofs.Sound.{sound_legal}
-use Rattle.crp_plan.proofs.Determined.{one_take, one_source, legal_is}
+use Rattle.crp_plan.proofs.Determined.{legal_is}
 use Rattle.crp_report.specs.MoveLines.{move_line, AreMoveLines}
 
 -- the walk stands at a sound position, from which the rest of the moves runs, and the text is what the moves before it state
@@ -14,9 +13,6 @@ pub record AreLinesSoFar (names : List (List ℕ)) (first : Position) (moves : L
   pub end : Position
   pub runs : Runs here rest end
   pub whole : (more : List ℕ) → AreMoveLines names here rest more → AreMoveLines names first moves (text ++ more)
-
-pub none_written : (names : List (List ℕ)) (first end : Position) (moves : List Move) → IsSound first → Runs first moves end → AreLinesSoFar names first moves first moves []
-none_written names first end moves sound runs = record { sound = sound; end = end; runs = runs; whole = λ more tells. tells }
 
 pub more_written : (names : List (List ℕ)) (first here next : Position) (moves rest : List Move) (m : Move) (text new : List ℕ) → AreLinesSoFar names first moves here (m ∷ rest) text → Legal here m next →
     new ≡ text ++ move_line names here m → AreLinesSoFar names first moves next rest new
@@ -35,15 +31,6 @@ more_written names first here next moves rest m text new stated legal e =
 pub all_written : (names : List (List ℕ)) (first here : Position) (moves rest : List Move) (text : List ℕ) → rest ≡ [] → AreLinesSoFar names first moves here rest text → AreMoveLines names first moves text
 all_written names first here moves [] text e stated = subst (AreMoveLines names first moves) (append-nil text) (stated.whole [] refl)
 all_written names first here moves (m ∷ rest) text e stated = cc
-
--- what was taken is what could be, and so with a relocation
-pub take_made : (s t u : Position) (row : ℕ) (r : Option ℕ) → IsSound s → IsTaken s row t → IfSome r (λ x. IsTaken s x u) → IfNone r (NoneToTake s) → IsTaken s row u
-take_made s t u row None sound legal some none = absurd (none row t legal)
-take_made s t u row (Some x) sound legal some none = let P : ℕ → Type 0 = λ y. IsTaken s y u in subst P (one_take s x row u t sound some legal) some
-
-pub shift_made : (s t u : Position) (from to : ℕ) (r : Option ℕ) → IsSound s → IsShifted s from to t → IfSome r (λ x. IsShifted s x to u) → IfNone r ((x : ℕ) (v : Position) → IsShifted s x to v → ⊥) → IsShifted s from to u
-shift_made s t u from to None sound legal some none = absurd (none from t legal)
-shift_made s t u from to (Some x) sound legal some none = let P : ℕ → Type 0 = λ y. IsShifted s y to u in subst P (one_source s x to from to u t sound some legal) some
 
 -- the rows of a legal move are there
 pub row_there : (s : Position) (row : ℕ) (stack : List ℕ) → length s.stacks ≡ length s.heights → 1 ≤ row → slice_get s.stacks (row - 1) ≡ Some stack → row ≤ length s.heights

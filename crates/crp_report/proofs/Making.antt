@@ -1,5 +1,5 @@
 -- What is stated of the bays so far, and of one more.
-use Rattle.std.proofs.Common.{◌≡◌, ◌∙◌, suc, List, [], ◌∷◌, ◌++◌, length, Option, Some, None, refl, sym, ap, subst, arith}
+use Rattle.std.proofs.Common.{◌≡◌, ◌∙◌, suc, List, [], ◌∷◌, ◌++◌, length, Option, Some, None, refl, sym, ap, subst}
 use Rattle.std.specs.Prelude.{option_to_list}
 use Rattle.std.specs.List.{cons_option}
 use Rattle.std.proofs.lemmas.List.{map-append}
@@ -48,9 +48,6 @@ plans_more answered a = filter_map-append bay_plan_in answered (a ∷ []) ∙ ap
     alone : (o : Option BayPlan) → cons_option o [] ≡ option_to_list o
     alone None = refl
     alone (Some plan) = refl
-
-pub so_far_none : (chosen : Chosen) → AreSoFar chosen [] [] []
-so_far_none chosen = record { answered = []; true_answers = record { one_for_each = refl; each_true = λ k d within. absurd (omega (arith, within)) }; stated = tt; plans_are = refl }
 
 -- one more bay is answered and stated
 pub so_far_more : (chosen : Chosen) (before : List BayProblem) (bays more : List BayTexts) (plans with : List BayPlan) (a : Answered) (t : BayTexts) (plan : Option BayPlan) → AreSoFar chosen before bays plans

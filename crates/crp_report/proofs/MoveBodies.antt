@@ -6,7 +6,8 @@ use Rattle.std.specs.Fmt.{decimal}
 use Rattle.crp_plan.specs.declared.moves.Move.{Move}
 use Rattle.crp_plan.specs.declared.moves.Move.TheVariants.{Shift, Take}
 use Rattle.crp_plan.specs.Bay.{Position}
-use Rattle.crp_report.specs.MoveLines.{row_stack, top_of, name_of_rank, move_line}
+use Rattle.crp_yard.specs.Ranks.{name_of_rank}
+use Rattle.crp_report.specs.MoveLines.{row_stack, top_of, move_line}
 use Rattle.crp_report.proofs.Bytes.{IsPlain, plain_both, plain_words, plain_number}
 
 -- a place behind its space

@@ -8,9 +8,11 @@ use Rattle.std.proofs.lemmas.List.Elements.{recursion_from_All}
 use Rattle.crp_plan.specs.declared.moves.Move.{Move}
 use Rattle.crp_plan.specs.declared.moves.Move.TheVariants.{Shift, Take}
 use Rattle.crp_plan.specs.Bay.{Problem, start, Position, Runs, IsPlan}
-use Rattle.crp_report.specs.MoveLines.{row_stack, name_of_rank, move_line, AreMoveLines}
+use Rattle.crp_yard.specs.Ranks.{name_of_rank}
+use Rattle.crp_report.specs.MoveLines.{row_stack, move_line, AreMoveLines}
 use Rattle.crp_report.specs.TakeLines.{FitsLine, lines_in, behind_space, container_taken, taken_in}
-use Rattle.crp_report.proofs.Bytes.{IsPlain, IsDigit, all_both, all_weaker, are_digits}
+use Rattle.crp_cert.proofs.Joined.{all_both}
+use Rattle.crp_report.proofs.Bytes.{IsPlain, IsDigit, all_weaker, are_digits}
 use Rattle.crp_report.proofs.MoveBodies.{spot, body, body_then, plain_body}
 
 -- ---- one line

@@ -4,6 +4,7 @@ use Rattle.std.specs.Prelude.{◌≡◌, ℕ, zero, suc, ◌-◌, List, [], ◌�
 use Rattle.crp_plan.specs.declared.moves.Move.{Move}
 use Rattle.crp_plan.specs.declared.moves.Move.TheVariants.{Shift, Take}
 use Rattle.crp_plan.specs.Bay.{Position, Legal}
+use Rattle.crp_yard.specs.Ranks.{name_of_rank}
 
 -- what stands in a row, from bottom to top
 abbrev pub row_stack : Position → ℕ → List ℕ
@@ -12,10 +13,6 @@ row_stack s row = unwrap_or (slice_get s.stacks (row - 1)) []
 -- the rank of the container on top
 abbrev pub top_of : List ℕ → ℕ
 top_of stack = slice_index stack (length stack - 1)
-
--- the name of a rank, where names stand by rank from 1
-abbrev pub name_of_rank : List (List ℕ) → ℕ → List ℕ
-name_of_rank names rank = unwrap_or (slice_get names (rank - 1)) []
 
 -- each rank's number as its name
 abbrev pub rank_names : ℕ → List (List ℕ)

@@ -1,7 +1,8 @@
 //! The moves of a plan as lines of text.
 ghost use Rattle.std.specs.Prelude.{◌≡◌, ◌<◌, ◌+◌, ◌-◌, ◌++◌, IfOk, OnOk, map};
 ghost use Rattle.crp_plan.specs.Bay.{Position, IsSound, Legal, IsPlan, start};
-ghost use Rattle.crp_report.specs.MoveLines.{name_of_rank, rank_names, spaced_place, container, move_line, AreMoveLines};
+ghost use Rattle.crp_yard.specs.Ranks.{name_of_rank};
+ghost use Rattle.crp_report.specs.MoveLines.{rank_names, spaced_place, container, move_line, AreMoveLines};
 
 use crp_cert::push_decimal;
 use crp_plan::{Move, Plan, Walk};
@@ -75,22 +76,6 @@ fn push_line(
     }
 }
 
-// Makes a legal move.
-fn make(walk: &mut Walk, step: Move)
-    requires sound { IsSound walk.old }
-    requires legal { (t : Position) × Legal walk.old step t }
-    ensures { Legal walk.old step walk.new }
-{
-    match step {
-        Move::Shift { to, .. } => {
-            let _from = walk.shift(to);
-        }
-        Move::Take { .. } => {
-            let _row = walk.take_next();
-        }
-    }
-}
-
 /// The lines of all moves of a plan.
 pub fn lines_of(
     alloc: Global,
@@ -105,7 +90,7 @@ pub fn lines_of(
     let mut text = Vec::new(alloc);
     for step in moves {
         push_line(&mut text, names, &walk, *step)?;
-        make(&mut walk, *step);
+        walk.make(*step);
     }
     Ok(text)
 }

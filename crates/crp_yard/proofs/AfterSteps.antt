@@ -10,12 +10,11 @@ use Rattle.indexmap.specs.IndexMap.{IndexMap, insert_entry}
 use Rattle.indexmap.proofs.CallerLemmas.{insert_entry-new}
 use Rattle.crp_plan.specs.BayNames.{YardBay}
 use Rattle.crp_plan.specs.Rows.{tallest}
-use Rattle.crp_plan.specs.Bay.{IsProblem}
 use Rattle.crp_yard.specs.declared.bay_plan.BayPlan.{BayPlan}
 use Rattle.crp_yard.specs.Places.{same_bay}
 use Rattle.crp_yard.specs.Inventory.{Inventory, StackedBay, FitBay, IsYard, times, containers_of}
 use Rattle.crp_yard.specs.Ranks.{named}
-use Rattle.crp_yard.specs.PlansByBay.{plans_in, AreByBay, AreForProblems}
+use Rattle.crp_yard.specs.PlansByBay.{plans_in, AreByBay}
 use Rattle.crp_yard.specs.After.{IsPlanForBay, plan_for, stacks_at, LeavesNamed, IsBayAfter, AreBaysAfter, IsAfter}
 use Rattle.crp_yard.proofs.Lists.{all_of, each_of, each_push, each_at, found_in, not_before, not_yet, looked_up, looked}
 use Rattle.crp_yard.proofs.ListingSteps.{times-append, no_value}
@@ -23,11 +22,6 @@ use Rattle.crp_yard.proofs.BuildingSteps.{take_next}
 use Rattle.crp_yard.proofs.OnceSteps.{same_bay_is, same_bay_self}
 use Rattle.crp_yard.proofs.YardSteps.{same_bay_laws}
 use Rattle.crp_yard.proofs.LeftSteps.{IsLeft, left_fits}
-
--- the bays are as these plans leave them, each of which is for a problem
-pub record AreDone (plans : List BayPlan) (old new : List StackedBay) : Type 0 where
-  pub after : AreBaysAfter plans old new
-  pub problems : AllByRecursion (λ plan. IsProblem plan.plan.problem) plans
 
 module _ (plans : List BayPlan) where
   pub after_more : (olds news : List StackedBay) (old new : StackedBay) → AreBaysAfter plans olds news → IsBayAfter plans old new → AreBaysAfter plans (olds ++ old ∷ []) (news ++ new ∷ [])
@@ -68,15 +62,11 @@ plan_looked bay (e ∷ entries) keyed = rw keyed.0 (by (same_bay bay e.1.now.bay
 pub record ArePlansSoFar (plans : List BayPlan) (entries : List (YardBay × Bor BayPlan)) : Type 0 where
   pub all : plans_in entries ≡ plans
   pub keyed : AreByBay entries
-  pub problems : AreForProblems plans
-
-pub no_plans : ArePlansSoFar [] []
-no_plans = record { all = refl; keyed = tt; problems = tt }
 
 pub one_plan_more : {S : Type 0} (plans : List BayPlan) (i : ℕ) (m : IndexMap YardBay (Bor BayPlan) S) (new : List (YardBay × Bor BayPlan)) (key : YardBay) (plan : Bor BayPlan) → new ≡ insert_entry same_bay m.entries key plan
-    → key ≡ plan.now.bay → IsDistinct same_bay (map (λ plan. plan.bay) plans) → i < length plans → plan.now ≡ get_or plans i plan.now → IsProblem plan.now.plan.problem
+    → key ≡ plan.now.bay → IsDistinct same_bay (map (λ plan. plan.bay) plans) → i < length plans → plan.now ≡ get_or plans i plan.now
     → ArePlansSoFar (take i plans) m.entries → ArePlansSoFar (take (i + 1) plans) new
-one_plan_more plans i m new key plan put named once within at problem before =
+one_plan_more plans i m new key plan put named once within at before =
     let e : new ≡ insert_entry same_bay m.entries plan.now.bay plan = put ∙ ap (λ k. insert_entry same_bay m.entries k plan) named in
     let next : take (i + 1) plans ≡ take i plans ++ plan.now ∷ [] = take_more plans i plan.now within ∙ ap (λ p. take i plans ++ p ∷ []) (sym at) in
     let cut : drop i plans ≡ plan.now ∷ drop (i + 1) plans = rw add-one (drop-cons plans i plan.now within ∙ ap (λ p. p ∷ drop (suc i) plans) (sym at)) in
@@ -89,7 +79,6 @@ one_plan_more plans i m new key plan put named once within at problem before =
     record {
       all = rw (next, pushed, map-append (λ (entry : YardBay × Bor BayPlan). entry.1.now) m.entries ((plan.now.bay, plan) ∷ []), before.all) refl;
       keyed = rw pushed (each_push (λ (entry : YardBay × Bor BayPlan). entry.0 ≡ entry.1.now.bay) m.entries (plan.now.bay, plan) before.keyed refl);
-      problems = rw next (each_push (λ plan. IsProblem plan.plan.problem) (take i plans) plan.now before.problems problem);
     }
   where
     some_mapped : (o : Option (Bor BayPlan)) → is_some (option_map (λ (plan : Bor BayPlan). plan.now) o) ≡ is_some o
@@ -102,9 +91,9 @@ pub record AreKept (heights : List ℕ) (old new : List StackedBay) : Type 0 whe
   pub fits : AllByRecursion (λ (b : StackedBay). FitBay heights b.1) new
   pub fewer : (c : List ℕ) → times c (containers_of new) ≤ times c (containers_of old)
 
-one_kept : (yard : Inventory) (plans : List BayPlan) (old new : StackedBay) → AllByRecursion (IsPlanForBay yard) plans → AllByRecursion (λ plan. IsProblem plan.plan.problem) plans
+one_kept : (yard : Inventory) (plans : List BayPlan) (old new : StackedBay) → AllByRecursion (IsPlanForBay yard) plans
     → FitBay yard.heights old.1 → stacks_at yard.bays old.0 ≡ Some old.1 → IsBayAfter plans old new → IsLeft yard.heights old.1 new.1
-one_kept yard plans old new of is fit at h = by (plan_for plans old.0) refl h.1
+one_kept yard plans old new of fit at h = by (plan_for plans old.0) refl h.1
   where
     by : (o : Option BayPlan) → plan_for plans old.0 ≡ o → MatchOption (plan_for plans old.0) (new.1 ≡ old.1) (λ p. LeavesNamed p new.1) → IsLeft yard.heights old.1 new.1
     by None e k =
@@ -113,32 +102,31 @@ one_kept yard plans old new of is fit at h = by (plan_for plans old.0) refl h.1
     by (Some p) e k =
         let leaves : LeavesNamed p new.1 = rw e at k in
         let own = found_in (IsPlanForBay yard) (λ p. same_bay old.0 p.bay) plans p of e in
-        let problem = found_in (λ plan. IsProblem plan.plan.problem) (λ p. same_bay old.0 p.bay) plans p is e in
         let bay : old.0 ≡ p.bay = same_bay_is old.0 p.bay own.1 in
         let both : Some old.1 ≡ Some (named p.names p.plan.problem.stacks) = sym at ∙ ap (stacks_at yard.bays) bay ∙ own.0.stands in
         let before : old.1 ≡ named p.names p.plan.problem.stacks = cc both in
-        rw (before, leaves.2) (left_fits p.plan p.names leaves.0 yard.heights problem.0 own.0.heights leaves.1)
+        rw (before, leaves.2) (left_fits p.plan p.names leaves.0 yard.heights leaves.1.is_problem own.0.heights leaves.1)
 
-pub all_kept : (yard : Inventory) (plans : List BayPlan) (olds news : List StackedBay) → AllByRecursion (IsPlanForBay yard) plans → AllByRecursion (λ plan. IsProblem plan.plan.problem) plans
+pub all_kept : (yard : Inventory) (plans : List BayPlan) (olds news : List StackedBay) → AllByRecursion (IsPlanForBay yard) plans
     → AllByRecursion (λ (b : StackedBay). FitBay yard.heights b.1) olds → AllByRecursion (λ (b : StackedBay). stacks_at yard.bays b.0 ≡ Some b.1) olds
     → AreBaysAfter plans olds news → AreKept yard.heights olds news
-all_kept yard plans [] [] of is fits at h = record { names = refl; fits = tt; fewer = λ c. omega arith }
-all_kept yard plans [] (new ∷ news) of is fits at h = absurd h
-all_kept yard plans (old ∷ olds) [] of is fits at h = absurd h
-all_kept yard plans (old ∷ olds) (new ∷ news) of is fits at h =
-    let rest = all_kept yard plans olds news of is fits.1 at.1 h.1 in
-    let own = one_kept yard plans old new of is fits.0 at.0 h.0 in
+all_kept yard plans [] [] of fits at h = record { names = refl; fits = tt; fewer = λ c. omega arith }
+all_kept yard plans [] (new ∷ news) of fits at h = absurd h
+all_kept yard plans (old ∷ olds) [] of fits at h = absurd h
+all_kept yard plans (old ∷ olds) (new ∷ news) of fits at h =
+    let rest = all_kept yard plans olds news of fits.1 at.1 h.1 in
+    let own = one_kept yard plans old new of fits.0 at.0 h.0 in
     record {
       names = rw (h.0.0, rest.names) refl;
       fits = (own.fits, rest.fits);
       fewer = λ c. omega (arith, times-append c (flat_map (λ (s : List (List ℕ)). s) new.1) (containers_of news), times-append c (flat_map (λ (s : List (List ℕ)). s) old.1) (containers_of olds), own.fewer c, rest.fewer c);
     }
 
-pub after_is_yard : (yard : Inventory) (plans : List BayPlan) (news : List StackedBay) → IsYard yard → All (IsPlanForBay yard) plans → AreDone plans yard.bays news
+pub after_is_yard : (yard : Inventory) (plans : List BayPlan) (news : List StackedBay) → IsYard yard → All (IsPlanForBay yard) plans → AreBaysAfter plans yard.bays news
     → IsYard (record { heights = yard.heights; tiers = tallest yard.heights; bays = news })
 after_is_yard yard plans news sound of done =
     let at = each_at (λ (b : StackedBay). stacks_at yard.bays b.0 ≡ Some b.1) yard.bays (λ i b e. looked_up same_bay same_bay_laws yard.bays i b same_bay_self sound.bays_once e) in
-    let kept = all_kept yard plans yard.bays news (each_of (IsPlanForBay yard) plans of) done.problems (each_of (λ (b : StackedBay). FitBay yard.heights b.1) yard.bays sound.bays_fit) at done.after in
+    let kept = all_kept yard plans yard.bays news (each_of (IsPlanForBay yard) plans of) (each_of (λ (b : StackedBay). FitBay yard.heights b.1) yard.bays sound.bays_fit) at done in
     record {
       some_rows = sound.some_rows;
       few_rows = sound.few_rows;
@@ -149,10 +137,10 @@ after_is_yard yard plans news sound of done =
       containers_once = λ c. omega (arith, kept.fewer c, sound.containers_once c);
     }
 
-pub after_all : (yard after : Inventory) (plans : List BayPlan) (heights : List ℕ) (bays : List StackedBay) → heights ≡ yard.heights → IsYard yard → AreDone plans yard.bays bays
+pub after_all : (yard after : Inventory) (plans : List BayPlan) (heights : List ℕ) (bays : List StackedBay) → heights ≡ yard.heights → IsYard yard → AreBaysAfter plans yard.bays bays
     → after ≡ record { heights = heights; tiers = tallest heights; bays = bays } → IsAfter yard plans after
 after_all yard after plans heights bays same_heights is done e = record {
   same_heights = ap (λ y. y.heights) e ∙ same_heights;
   same_tiers = ap (λ y. y.tiers) e ∙ ap tallest same_heights ∙ sym is.tiers_are;
-  bays = subst (AreBaysAfter plans yard.bays) (sym (ap (λ y. y.bays) e)) done.after;
+  bays = subst (AreBaysAfter plans yard.bays) (sym (ap (λ y. y.bays) e)) done;
 }

@@ -1,26 +1,17 @@
 -- The moves of a plan, made one after the other.
-use Rattle.std.proofs.Common.{◌≡◌, ℕ, ◌+◌, ◌<◌, List, [], ◌∷◌, ◌++◌, map, take, drop, length, get_or, Option, Some, None, IfSome, IfNone, slice_get, drop-cons, add-one, refl, ap, subst}
+use Rattle.std.proofs.Common.{◌≡◌, ℕ, ◌+◌, ◌<◌, List, [], ◌∷◌, ◌++◌, map, take, drop, length, get_or, Some, slice_get, drop-cons, add-one, refl, ap, subst}
 use Rattle.std.proofs.lemmas.List.{map-append}
 use Rattle.crp_plan.specs.declared.moves.Move.{Move}
-use Rattle.crp_plan.specs.Bay.{Problem, Position, IsSound, IsProblem, IsPlan, IsFinished, IsTaken, IsShifted, Legal, Runs, start, path_of}
+use Rattle.crp_plan.specs.Bay.{Problem, Position, IsSound, IsProblem, IsPlan, IsFinished, Legal, Runs, start, path_of}
 use Rattle.crp_plan.specs.Plans.{ProblemPath}
-use Rattle.crp_plan.specs.Walks.{NoneToTake}
 use Rattle.crp_plan.proofs.Sound.{sound_legal, sound_start}
-use Rattle.crp_plan.proofs.Determined.{one_take, one_source, legal_is}
+use Rattle.crp_plan.proofs.Determined.{legal_is}
 use Rattle.crp_yard.specs.Ranks.{Leaves, named, name_of_rank}
 use Rattle.crp_yard.proofs.BuildingSteps.{take_next}
 
--- what was taken is what could be, and so with a relocation
-pub take_made : (s t u : Position) (row : ℕ) (r : Option ℕ) → IsSound s → IsTaken s row t → IfSome r (λ x. IsTaken s x u) → IfNone r (NoneToTake s) → IsTaken s row u
-take_made s t u row None sound legal some none = absurd (none row t legal)
-take_made s t u row (Some x) sound legal some none = let P : ℕ → Type 0 = λ y. IsTaken s y u in subst P (one_take s x row u t sound some legal) some
-
-pub shift_made : (s t u : Position) (from to : ℕ) (r : Option ℕ) → IsSound s → IsShifted s from to t → IfSome r (λ x. IsShifted s x to u) → IfNone r ((x : ℕ) (v : Position) → IsShifted s x to v → ⊥) → IsShifted s from to u
-shift_made s t u from to None sound legal some none = absurd (none from t legal)
-shift_made s t u from to (Some x) sound legal some none = let P : ℕ → Type 0 = λ y. IsShifted s y to u in subst P (one_source s x to from to u t sound some legal) some
-
 -- the moves lead on to a finished position
 pub record IsOnTheWay (problem : Problem) (moves : List Move) (here : Position) (rest : List Move) : Type 0 where
+  pub is_problem : IsProblem problem
   pub sound : IsSound here
   pub end : Position
   pub whole : Runs (start problem) moves end
@@ -28,13 +19,13 @@ pub record IsOnTheWay (problem : Problem) (moves : List Move) (here : Position) 
   pub runs : Runs here rest end
 
 pub way_begins : (problem : Problem) (moves : List Move) → IsProblem problem → IsPlan problem moves → IsOnTheWay problem moves (start problem) moves
-way_begins problem moves is plan = record { sound = sound_start problem is; end = plan.0; whole = plan.1; finished = plan.2; runs = plan.1 }
+way_begins problem moves is plan = record { is_problem = is; sound = sound_start problem is; end = plan.0; whole = plan.1; finished = plan.2; runs = plan.1 }
 
 pub way_goes_on : (problem : Problem) (moves rest : List Move) (here next : Position) (m : Move) → IsOnTheWay problem moves here (m ∷ rest) → Legal here m next → IsOnTheWay problem moves next rest
 way_goes_on problem moves rest here next m way legal =
     let same : way.runs.0 ≡ next = legal_is here m way.runs.0 next way.runs.1 legal in
     let P : Position → Type 0 = λ u. Runs u rest way.end in
-    record { sound = sound_legal here m next way.sound legal; end = way.end; whole = way.whole; finished = way.finished; runs = subst P same way.runs.2 }
+    record { is_problem = way.is_problem; sound = sound_legal here m next way.sound legal; end = way.end; whole = way.whole; finished = way.finished; runs = subst P same way.runs.2 }
 
 pub way_next : (problem : Problem) (moves : List Move) (i : ℕ) (d : Move) (here : Position) → i < length moves → IsOnTheWay problem moves here (drop i moves)
     → IsOnTheWay problem moves here (get_or moves i d ∷ drop (i + 1) moves)
@@ -44,6 +35,7 @@ way_next problem moves i d here within way =
 
 pub way_ends : (plan : ProblemPath) (moves rest : List Move) (here : Position) → rest ≡ [] → path_of moves ≡ plan.path → IsOnTheWay plan.problem moves here rest → Leaves plan here.stacks
 way_ends plan moves [] here e path way = record {
+  is_problem = way.is_problem;
   moves = moves;
   end = way.end;
   runs = way.whole;

@@ -19,9 +19,6 @@ pub any-map : {X Y : Type 0} (p : Y → Bool) (f : X → Y) (xs : List X) → li
 any-map p f [] = refl
 any-map p f (x ∷ xs) = ap (λ b. p (f x) || b) (any-map p f xs)
 
-pub one_if : Bool → ℕ
-one_if b = if b then 1 else 0
-
 pub times-push : (c : List ℕ) (xs : List (List ℕ)) (x : List ℕ) → times c (xs ++ x ∷ []) ≡ times c xs + (if bytes_eq c x then 1 else 0)
 times-push c [] x = omega arith
 times-push c (y ∷ xs) x = omega (arith, times-push c xs x)
@@ -119,9 +116,6 @@ place_listed [] names i place e at = absurd (cc)
 place_listed (p ∷ places) [] i place e at = absurd (omega arith)
 place_listed (p ∷ places) (name ∷ names) zero place e at = let same : p ≡ place = cc in (name.items, ap (λ q. Some (q, name.items)) same)
 place_listed (p ∷ places) (name ∷ names) (suc i) place e at = place_listed places names i place (omega arith) at
-
-pub listing-none : IsListing [] []
-listing-none = record { one_for_each = refl; once = λ c. omega arith; few = omega arith }
 
 -- one entry more
 pub listing-push : (places : List YardPlace) (names : List (Vec ℕ Global)) (place : YardPlace) (name : Vec ℕ Global)

@@ -4,15 +4,12 @@ use Rattle.std.specs.Prelude.{slice_get, if◌then◌else◌, ◌||◌}
 use Rattle.std.specs.Str.{bytes_eq}
 use Rattle.std.proofs.lemmas.List.Folds.{list_any-append, list_any_more}
 use Rattle.std.proofs.lemmas.List.Concat.{flat_map-append}
-use Rattle.std.proofs.lemmas.List.{append-nil, take_more}
+use Rattle.std.proofs.lemmas.List.{append-nil}
 use Rattle.std.proofs.lemmas.Slice.Eq.{bytes_eq-Decides}
 use Rattle.indexmap.specs.IndexSet.{insert_key}
 use Rattle.crp_yard.specs.Inventory.{StackedBay, is_among, containers_of}
 use Rattle.crp_yard.specs.Listings.{has, Adds, HasNames}
 use Rattle.crp_yard.proofs.BuildingSteps.{take_next}
-
-same_name : Vec ℕ Global → Vec ℕ Global → Bool
-same_name a b = bytes_eq a.items b.items
 
 or_assoc : (a b c : Bool) → ((a || b) || c) ≡ (a || (b || c))
 or_assoc true b c = refl
@@ -47,16 +44,6 @@ pub adds-more : (old mid new : List (Vec ℕ Global)) (stack : List (List ℕ)) 
 adds-more old mid new stack i name x adds within at is e c =
     rw (e, has-insert mid name c, adds c, list_any_more (λ other. bytes_eq c other) stack i x within, is, ← at)
     (or_assoc (has old c) (is_among (take i stack) c) (bytes_eq c x))
-
-pub adds-then : (old mid new : List (Vec ℕ Global)) (xs ys : List (List ℕ)) → Adds old mid xs → Adds mid new ys → Adds old new (xs ++ ys)
-adds-then old mid new xs ys first second c =
-    rw (second c, first c, list_any-append (λ other. bytes_eq c other) xs ys) (or_assoc (has old c) (is_among xs c) (is_among ys c))
-
-pub adds-stack : (old mid new : List (Vec ℕ Global)) (stacks : List (List (List ℕ))) (i : ℕ) (x : List (List ℕ)) → Adds old mid (flat_map (λ stack. stack) (take i stacks)) → i < length stacks
-    → x ≡ get_or stacks i x → Adds mid new x → Adds old new (flat_map (λ stack. stack) (take (i + 1) stacks))
-adds-stack old mid new stacks i x first within at second =
-    rw (take_more stacks i x within, ← at, flat_map-append (λ (s : List (List ℕ)). s) (take i stacks) (x ∷ []), append-nil x)
-    (adds-then old mid new (flat_map (λ stack. stack) (take i stacks)) x first second)
 
 pub names-more : (mid new : List (Vec ℕ Global)) (bays : List StackedBay) (i : ℕ) (bay : StackedBay) → HasNames (take i bays) mid → slice_get bays i ≡ Some bay
     → Adds mid new (flat_map (λ stack. stack) bay.1) → HasNames (take (i + 1) bays) new

@@ -3,7 +3,6 @@ use Rattle.std.specs.Prelude.{◌≡◌, List, map}
 use Rattle.std.specs.List.{AllByRecursion}
 use denote.Ref.{Bor}
 use Rattle.crp_plan.specs.BayNames.{YardBay}
-use Rattle.crp_plan.specs.Bay.{IsProblem}
 use Rattle.crp_yard.specs.declared.bay_plan.BayPlan.{BayPlan}
 
 -- the plans of the entries
@@ -13,7 +12,3 @@ plans_in entries = map (λ entry. entry.1.now) entries
 -- each plan is kept under the name of its bay
 abbrev pub AreByBay : List (YardBay × Bor BayPlan) → Type 0
 AreByBay entries = AllByRecursion (λ entry. entry.0 ≡ entry.1.now.bay) entries
-
--- each is a plan for a problem
-abbrev pub AreForProblems : List BayPlan → Type 0
-AreForProblems plans = AllByRecursion (λ plan. IsProblem plan.plan.problem) plans

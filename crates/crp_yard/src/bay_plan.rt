@@ -1,17 +1,17 @@
 //! The yard as plans leave it.
 
-ghost use Rattle.std.specs.Prelude.{◌≡◌, IfOk, OnOk, All, MatchOption, map};
+ghost use Rattle.std.specs.Prelude.{◌≡◌, IfOk, All, MatchOption, map};
 ghost use Rattle.std.specs.List.{IsDistinct};
 ghost use Rattle.crp_yard.specs.Places.{same_bay};
 ghost use Rattle.crp_yard.specs.After.{IsPlanForBay, plan_for, LeavesNamed, AreBaysAfter, IsAfter};
-ghost use Rattle.crp_yard.specs.PlansByBay.{plans_in, AreByBay, AreForProblems};
+ghost use Rattle.crp_yard.specs.PlansByBay.{plans_in, AreByBay};
 
-use crate::container::{Container, Containers};
+use crate::containers::Containers;
 use crate::leaving::stacks_left;
 use crate::place::Bay;
 use crate::stacks::Stacks;
 use crate::yard::Yard;
-use crp_plan::{BayName, Plan};
+use crp_plan::{BayName, Container, Plan};
 use indexmap::IndexMap;
 use std::alloc::{AllocError, Global};
 
@@ -51,12 +51,10 @@ fn by_bay<'a>(alloc: Global, plans: &'a [BayPlan]) -> Result<IndexMap<Bay, &'a B
     requires { IsDistinct same_bay (map (λ plan. plan.bay) plans.now) }
     ensures all { IfOk result (λ by_bay. plans_in by_bay.entries ≡ plans.now) }
     ensures keyed { IfOk result (λ by_bay. AreByBay by_bay.entries) }
-    ensures problems { OnOk result (AreForProblems plans.now) }
 {
     let mut by_bay = IndexMap::new(alloc);
     for plan in plans {
         by_bay.insert(Bay::copy_of(&plan.bay), plan)?;
-        let _problem = plan.plan.problem();
     }
     Ok(by_bay)
 }

@@ -3,10 +3,11 @@
 ghost use Rattle.std.specs.Prelude.{◌≡◌, ◌≤◌, IfOk, length, map};
 ghost use Rattle.crp_yard.specs.Inventory.{stack_up_to, stacks_up_to, stacked, bays_of};
 
-use crate::container::{Container, Containers};
+use crate::containers::Containers;
 use crate::listing::Listing;
 use crate::place::{Bay, Place};
 use crate::stacks::Stacks;
+use crp_plan::Container;
 use indexmap::IndexMap;
 use std::alloc::{AllocError, Global};
 

@@ -8,7 +8,7 @@
 
 mod bay_plan;
 mod building;
-mod container;
+mod containers;
 mod digits;
 mod fault;
 mod fields;
@@ -25,7 +25,7 @@ mod writing;
 mod yard;
 
 pub use bay_plan::{BayPlan, after};
-pub use container::{Container, Containers};
+pub use containers::Containers;
 pub use fault::YardFault;
 pub use laws::{
     each_stands_in_its_place, first_fault_is_least, inventory_by_places, text_reads_back,

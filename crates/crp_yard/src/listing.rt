@@ -45,7 +45,6 @@ impl Listing {
     pub fn len(&self) -> usize
         ensures value { result ≡ length self.now }
         ensures few { length self.now ≤ max_containers }
-        ensures once { (container : List ℕ) → times container (entry_names self.now) ≤ 1 }
     {
         self.names.len()
     }
@@ -104,7 +103,8 @@ impl Listing {
 
     /// The set of the containers.
     pub fn into_names(self) -> IndexSet<Vec<u8>>
-        ensures { map (λ name. name.items) result.keys ≡ entry_names self }
+        ensures names { map (λ name. name.items) result.keys ≡ entry_names self }
+        ensures once { (container : List ℕ) → times container (entry_names self) ≤ 1 }
     {
         let Listing { places: _, names } = self;
         names

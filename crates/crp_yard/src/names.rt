@@ -3,9 +3,10 @@
 ghost use Rattle.std.specs.Prelude.{IfOk, OnOk, flat_map};
 ghost use Rattle.crp_yard.specs.Listings.{Adds, HasNames};
 
-use crate::container::{Container, Containers};
+use crate::containers::Containers;
 use crate::place::Bay;
 use crate::stacks::Stacks;
+use crp_plan::Container;
 use indexmap::{IndexMap, IndexSet};
 use std::alloc::{AllocError, Global};
 

@@ -36,8 +36,6 @@ fn yard_with(alloc: Global, listing: Listing, heights: &[u8]) -> Result<Yard, Ya
         None => {}
     }
     let bays = bays_of(alloc, &listing, heights)?;
-    // For its contract alone: the list is within its limit.
-    let _containers = listing.len();
     let yard = Yard::with_names(alloc, heights, bays, listing.into_names())?;
     Ok(yard)
 }

@@ -2,7 +2,7 @@
 
 ghost use Rattle.std.specs.Prelude.{◌≡◌};
 
-use crate::container::Containers;
+use crate::containers::Containers;
 use std::marker::Model;
 
 /// The stacks of a bay, for each row from the first.

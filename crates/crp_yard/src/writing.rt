@@ -7,9 +7,9 @@ ghost use Rattle.crp_plan.specs.Devices.{AppendsFront, AppendsPart, CountsMore, 
 ghost use Rattle.crp_yard.specs.Written.{text_written_by, IsBetweenRecords, WritesRecords};
 ghost use Rattle.crp_yard.specs.Text.{fields_at, records_of_stack, records_of_rows, text_of_records, yard_text};
 
-use crate::container::{Container, Containers};
+use crate::containers::Containers;
 use crate::yard::Yard;
-use crp_plan::{BayName, Sink, write_all};
+use crp_plan::{BayName, Container, Sink, write_all};
 use csv::{Writer, WriterBuilder};
 use itoa::Buffer;
 use std::alloc::{AllocError, Global};

@@ -5,11 +5,11 @@ ghost use Rattle.crp_plan.specs.Rows.{tallest};
 ghost use Rattle.crp_yard.specs.Inventory.{name_at, stack_in_bay, stands, IsYard};
 ghost use Rattle.crp_yard.specs.Listings.{HasNames};
 
-use crate::container::{Container, Containers};
+use crate::containers::Containers;
 use crate::names::names_of;
 use crate::place::Bay;
 use crate::stacks::Stacks;
-use crp_plan::{BayName, tallest};
+use crp_plan::{BayName, Container, tallest};
 use indexmap::{IndexMap, IndexSet};
 use std::alloc::{AllocError, Global};
 use std::marker::Model;

@@ -1,5 +1,6 @@
 use crate::compare::assert_same;
-use crp_yard::{Container, Containers};
+use crp_plan::Container;
+use crp_yard::Containers;
 use std::alloc::{AllocError, Global};
 use std::process::Abort;
 use std::test::Fail;
