@@ -79,19 +79,12 @@ fn read_piece(
     Ok(stage)
 }
 
-/// The same bay once more.
-fn same_bay(bay: &BayName) -> Option<BayName>
-    ensures { result ≡ Some bay.now }
-{
-    BayName::new(bay.block(), bay.bay())
-}
-
 /// The same bay once more, if there is one.
 fn same_bay_if(bay: &Option<BayName>) -> Option<BayName>
     ensures { result ≡ bay.now }
 {
     match bay {
-        Some(bay) => same_bay(bay),
+        Some(bay) => Some(bay.copy()),
         None => None,
     }
 }
@@ -102,9 +95,9 @@ fn bay_at(stage: &Stage) -> Option<BayName>
 {
     match stage {
         Stage::Head { text } => read_bay(text),
-        Stage::Line { findings, .. } => same_bay(&findings.bay),
-        Stage::Part { findings, .. } => same_bay(&findings.bay),
-        Stage::Ended { findings } => same_bay(&findings.bay),
+        Stage::Line { findings, .. } => Some(findings.bay.copy()),
+        Stage::Part { findings, .. } => Some(findings.bay.copy()),
+        Stage::Ended { findings } => Some(findings.bay.copy()),
         Stage::Faulty { bay, .. } => same_bay_if(bay),
     }
 }

@@ -8,8 +8,7 @@ use Rattle.std.proofs.lemmas.List.Elements.{All-map, All-filter}
 use Rattle.std.proofs.lemmas.Map.Entries.{lookup_from_place}
 use Rattle.std.proofs.lemmas.Map.Made.{IsDistinct-keys_filter}
 use Rattle.std.proofs.lemmas.Option.{slice_get-get_or}
-use Rattle.crp_plan.specs.BayNames.{YardBay}
-use Rattle.crp_yard.specs.Places.{same_bay}
+use Rattle.crp_plan.specs.BayNames.{YardBay, same_bay}
 use Rattle.crp_yard.specs.Inventory.{Inventory, StackedBay, IsYard, times}
 use Rattle.crp_yard.specs.Ranks.{name_of_rank, named}
 use Rattle.crp_order.specs.declared.bay_problem.BayProblem.{BayProblem}

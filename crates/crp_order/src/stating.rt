@@ -2,7 +2,7 @@
 
 ghost use Rattle.std.specs.Prelude.{◌≡◌, ◌<◌, All, IfOk, length, map};
 ghost use Rattle.std.specs.List.{IsDistinct};
-ghost use Rattle.crp_yard.specs.Places.{same_bay};
+ghost use Rattle.crp_plan.specs.BayNames.{same_bay};
 ghost use Rattle.crp_order.specs.BayProblems.{problems_of, IsNamed};
 ghost use Rattle.crp_order.specs.Groups.{stacks_numbered, pointed, IsStated, CanLeave};
 
@@ -11,19 +11,9 @@ use crate::bays::stacks_of;
 use crate::groups::leaving_by_bay;
 use crate::ranks::{names_by_rank, stacks_by_rank};
 use crate::sequences::Sequence;
-use crp_plan::{BayName, Problem};
+use crp_plan::Problem;
 use crp_yard::{Containers, Yard};
 use std::alloc::{AllocError, Global};
-
-/// The same name once more.
-fn copy_of(name: &BayName) -> BayName
-    ensures { result ≡ name.now }
-{
-    match BayName::new(name.block(), name.bay()) {
-        Some(copy) => copy,
-        None => unreachable!(),
-    }
-}
 
 /// The problem of the bay with this number, from 0, which these containers leave in this order.
 fn problem_of(
@@ -42,7 +32,7 @@ fn problem_of(
     let ranks = stacks_by_rank(alloc, &names, &stacks)?;
     match Problem::with_heights(heights, leaving.len() as u8, &ranks) {
         Ok(problem) => Ok(BayProblem {
-            bay: copy_of(yard.name(bay)),
+            bay: yard.name(bay).copy(),
             problem,
             names: Containers::from_vec(names),
         }),

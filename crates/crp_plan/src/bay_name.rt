@@ -1,7 +1,11 @@
-ghost use Rattle.std.specs.Prelude.{◌≡◌, ◌≤◌, ◌↔◌, All, IsTrue, IsSome, IfSome};
+ghost use Rattle.std.specs.Prelude.{◌≡◌, ◌≤◌, ◌↔◌, ◌++◌, All, IsTrue, IsSome, IfSome};
+ghost use Rattle.std.proofs.Common.{rules};
+ghost use Rattle.std.specs.Cmp.Rules.{comparing, hashing};
+ghost use Rattle.std.specs.Hash as fed;
 ghost use Rattle.crp_plan.specs.BayNames.{IsYardBay};
 
 use arrayvec::ArrayVec;
+use std::hash::{Hash, Hasher};
 use std::marker::Model;
 
 /// The most bytes of a block's name.
@@ -51,6 +55,45 @@ impl BayName {
         ensures named { IsYardBay self.now }
     {
         self.bay
+    }
+
+    /// The same name once more. It takes no memory.
+    pub fn copy(&self) -> BayName
+        ensures { result ≡ self.now }
+    {
+        let mut block = ArrayVec::new();
+        let Ok(()) = block.try_extend_from_slice(&self.block) else {
+            unreachable!()
+        };
+        let bay = self.bay;
+        BayName { block, bay }
+    }
+}
+
+impl PartialEq for BayName {
+    ghost use Rattle.crp_plan.specs.BayNames.{same_bay};
+
+    ghost eq = { same_bay };
+
+    ghost laws = { Prim.search (comparing, rules) };
+
+    fn eq(&self, other: &BayName) -> bool {
+        self.block() == other.block() && self.bay() == other.bay()
+    }
+}
+
+impl Eq for BayName {
+    ghost laws = { Prim.search (comparing, rules) };
+}
+
+impl Hash for BayName {
+    ghost hash_input = { λ a. fed.slice fed.u8 a.block ++ fed.u16 a.bay };
+
+    ghost respects_eq = { Prim.search (hashing, rules) };
+
+    fn hash<H: Hasher>(&self, state: &mut H) {
+        self.block().hash(state);
+        self.bay().hash(state);
     }
 }
 

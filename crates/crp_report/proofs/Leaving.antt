@@ -4,9 +4,8 @@ use Rattle.std.specs.List.{IsDistinct, AllByRecursion, cons_option}
 use Rattle.std.specs.Option.{option_map}
 use Rattle.crp_yard.proofs.Lists.{all_of, each_of}
 use Rattle.crp_plan.specs.Bay.{Problem}
-use Rattle.crp_plan.specs.BayNames.{YardBay}
+use Rattle.crp_plan.specs.BayNames.{YardBay, same_bay}
 use Rattle.crp_plan.specs.Plans.{ProblemPath}
-use Rattle.crp_yard.specs.Places.{same_bay}
 use Rattle.crp_yard.specs.Inventory.{Inventory}
 use Rattle.crp_yard.specs.After.{IsPlanForBay}
 use Rattle.crp_yard.specs.declared.bay_plan.BayPlan.{BayPlan}

@@ -9,8 +9,8 @@ use Rattle.std.proofs.lemmas.Bool.{and_parts, leb-true, false≢true}
 use Rattle.std.proofs.lemmas.List.{get_or_default}
 use Rattle.std.proofs.lemmas.List.Concat.{flat_map-append}
 use Rattle.std.proofs.lemmas.List.Elements.{All-from_recursion, recursion_from_All, All-map}
-use Rattle.crp_plan.specs.BayNames.{YardBay, IsYardBay}
-use Rattle.crp_yard.specs.Places.{YardPlace, same_bay, same_place}
+use Rattle.crp_plan.specs.BayNames.{YardBay, IsYardBay, same_bay}
+use Rattle.crp_yard.specs.Places.{YardPlace, same_place}
 use Rattle.crp_yard.specs.Records.{Entry, is_block, is_container, is_number, number_of, is_well_formed, has_numbers, field_of, entry_of, entries_of, records_of, height_of}
 use Rattle.crp_yard.specs.Faults.{fault_of, fault_behind, fault_at, first_fault, first_fault_up_to, max_bytes}
 use Rattle.crp_yard.specs.Inventory.{Inventory, StackedBay, bays_of, with_bay, stacked, stack_up_to, stacks_up_to, container_at, is_among}

@@ -3,7 +3,7 @@ ghost use Rattle.std.specs.Prelude.{◌≡◌, ◌≤◌, List, All, map, IfOk, 
 ghost use Rattle.std.specs.List.{IsDistinct};
 ghost use Rattle.crp_plan.specs.Devices.{most_interruptions};
 ghost use Rattle.crp_yard.specs.Inventory.{IsYard, Inventory};
-ghost use Rattle.crp_yard.specs.Places.{same_bay};
+ghost use Rattle.crp_plan.specs.BayNames.{same_bay};
 ghost use Rattle.crp_yard.specs.After.{IsPlanForBay, IsAfter};
 ghost use Rattle.crp_yard.specs.Text.{yard_text as list_of};
 ghost use Rattle.crp_order.specs.BayProblems.{problems_of};

@@ -8,10 +8,9 @@ use Rattle.std.specs.Map.{lookup}
 use Rattle.std.proofs.lemmas.List.{map-append, take_more, take-append-drop}
 use Rattle.indexmap.specs.IndexMap.{IndexMap, insert_entry}
 use Rattle.indexmap.proofs.CallerLemmas.{insert_entry-new}
-use Rattle.crp_plan.specs.BayNames.{YardBay}
+use Rattle.crp_plan.specs.BayNames.{YardBay, same_bay}
 use Rattle.crp_plan.specs.Rows.{tallest}
 use Rattle.crp_yard.specs.declared.bay_plan.BayPlan.{BayPlan}
-use Rattle.crp_yard.specs.Places.{same_bay}
 use Rattle.crp_yard.specs.Inventory.{Inventory, StackedBay, FitBay, IsYard, times, containers_of}
 use Rattle.crp_yard.specs.Ranks.{named}
 use Rattle.crp_yard.specs.PlansByBay.{plans_in, AreByBay}

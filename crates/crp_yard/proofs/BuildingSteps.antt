@@ -6,8 +6,7 @@ use Rattle.std.specs.Map.{lookup}
 use Rattle.std.proofs.lemmas.List.{map-append}
 use Rattle.indexmap.specs.IndexMap.{IndexMap, get, insert_entry}
 use Rattle.indexmap.proofs.CallerLemmas.{insert_entry-new}
-use Rattle.crp_plan.specs.BayNames.{YardBay}
-use Rattle.crp_yard.specs.Places.{same_bay}
+use Rattle.crp_plan.specs.BayNames.{YardBay, same_bay}
 use Rattle.crp_yard.specs.Records.{Entry}
 use Rattle.crp_yard.specs.Inventory.{StackedBay, bays_of, with_bay, stacked, stacks_up_to}
 use Rattle.crp_yard.proofs.ListingSteps.{no_value}

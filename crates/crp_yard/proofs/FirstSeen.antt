@@ -5,8 +5,7 @@ use Rattle.std.specs.Prelude.{if◌then◌else◌}
 use Rattle.std.specs.List.{list_any}
 use Rattle.std.proofs.lemmas.Bool.{cases_eq, cases_lt, true≢false}
 use Rattle.std.proofs.lemmas.Option.{slice_get_within, slice_get-get_or}
-use Rattle.crp_plan.specs.BayNames.{YardBay}
-use Rattle.crp_yard.specs.Places.{same_bay}
+use Rattle.crp_plan.specs.BayNames.{YardBay, same_bay}
 use Rattle.crp_yard.specs.Records.{Entry}
 use Rattle.crp_yard.specs.Inventory.{with_bay, bays_of}
 use Rattle.crp_yard.specs.ByPlaces.{NamesFirst}

@@ -8,8 +8,8 @@ use Rattle.std.proofs.lemmas.Bool.{true≢false, eqb-true, eq-eqb}
 use Rattle.std.proofs.lemmas.Slice.Eq.{bytes_eq-Decides}
 use Rattle.std.proofs.lemmas.List.Concat.{flat_map-append}
 use Rattle.std.proofs.lemmas.List.{append-nil}
-use Rattle.crp_plan.specs.BayNames.{YardBay}
-use Rattle.crp_yard.specs.Places.{same_bay, same_place}
+use Rattle.crp_plan.specs.BayNames.{YardBay, same_bay}
+use Rattle.crp_yard.specs.Places.{same_place}
 use Rattle.crp_yard.specs.Records.{Entry, height_of}
 use Rattle.crp_yard.specs.Inventory.{container_at, stack_up_to, stacks_up_to, stacked, times, containers_of}
 use Rattle.crp_yard.specs.Listings.{entry_names}

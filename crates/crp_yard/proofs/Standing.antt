@@ -6,9 +6,9 @@ use Rattle.std.specs.List.{AllByRecursion}
 use Rattle.std.specs.Map.{lookup}
 use Rattle.std.proofs.lemmas.List.{length-map}
 use Rattle.std.proofs.lemmas.Bool.{cases_eq, false≢true, true≢false, leb-true, le-leb, eqb-true, eq-eqb}
-use Rattle.crp_plan.specs.BayNames.{YardBay}
+use Rattle.crp_plan.specs.BayNames.{YardBay, same_bay}
 use Rattle.crp_yard.specs.declared.fault.YardFault.{YardFault}
-use Rattle.crp_yard.specs.Places.{YardPlace, same_bay, same_place}
+use Rattle.crp_yard.specs.Places.{YardPlace, same_place}
 use Rattle.crp_yard.specs.Records.{Entry, entry_of, entries_of, place_named, height_of, is_within}
 use Rattle.crp_yard.specs.Inventory.{container_at, stack_up_to}
 use Rattle.crp_yard.specs.Faults.{faults_of, fault_of, fault_behind, fault_at, first_of, first_fault, first_fault_up_to, floating_before, floats, is_floating, is_taken}

@@ -10,8 +10,7 @@ use Rattle.std.proofs.lemmas.List.{take_all}
 use Rattle.std.proofs.lemmas.List.Elements.{All-map, All-get_or, All-from_recursion, recursion_from_All}
 use Rattle.std.proofs.lemmas.Map.Keys.{IsDistinct-push}
 use Rattle.std.proofs.lemmas.Option.{get_or_from_slice_get, slice_get_within}
-use Rattle.crp_plan.specs.BayNames.{YardBay}
-use Rattle.crp_yard.specs.Places.{same_bay}
+use Rattle.crp_plan.specs.BayNames.{YardBay, same_bay}
 use Rattle.crp_plan.specs.Faults.{HasTiers, AreHeights}
 use Rattle.crp_yard.specs.Records.{Entry, height_of}
 use Rattle.crp_yard.specs.Inventory.{Inventory, StackedBay, stack_in_bay, FitBay, IsYard, inventory_of, bays_of, first_seen, with_bay, stack_up_to, stacks_up_to, stacked, container_at, times}

@@ -4,10 +4,10 @@ use Rattle.std.specs.Prelude.{ℕ, suc, Bool, List, [], ◌∷◌, ◌++◌, map
 use Rattle.std.specs.List.{list_any, IsDistinct}
 use Rattle.std.specs.Str.{bytes_eq}
 use Rattle.std.specs.Map.{lookup}
-use Rattle.crp_plan.specs.BayNames.{YardBay}
+use Rattle.crp_plan.specs.BayNames.{YardBay, same_bay}
 use Rattle.crp_plan.specs.Rows.{tallest}
 use Rattle.crp_plan.specs.Faults.{AreHeights}
-use Rattle.crp_yard.specs.Places.{YardPlace, same_bay, same_place}
+use Rattle.crp_yard.specs.Places.{YardPlace, same_place}
 use Rattle.crp_yard.specs.Records.{Entry, height_of}
 
 -- a bay with its stacks: for each row from the first the containers from bottom to top

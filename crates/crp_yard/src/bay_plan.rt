@@ -2,13 +2,12 @@
 
 ghost use Rattle.std.specs.Prelude.{◌≡◌, IfOk, All, MatchOption, map};
 ghost use Rattle.std.specs.List.{IsDistinct};
-ghost use Rattle.crp_yard.specs.Places.{same_bay};
+ghost use Rattle.crp_plan.specs.BayNames.{same_bay};
 ghost use Rattle.crp_yard.specs.After.{IsPlanForBay, plan_for, LeavesNamed, AreBaysAfter, IsAfter};
 ghost use Rattle.crp_yard.specs.PlansByBay.{plans_in, AreByBay};
 
 use crate::containers::Containers;
 use crate::leaving::stacks_left;
-use crate::place::Bay;
 use crate::stacks::Stacks;
 use crate::yard::Yard;
 use crp_plan::{BayName, Container, Plan};
@@ -47,14 +46,17 @@ fn copied_stacks(alloc: Global, stacks: &[Containers]) -> Result<Stacks, AllocEr
 }
 
 /// The plans by the names of their bays.
-fn by_bay<'a>(alloc: Global, plans: &'a [BayPlan]) -> Result<IndexMap<Bay, &'a BayPlan>, AllocError>
+fn by_bay<'a>(
+    alloc: Global,
+    plans: &'a [BayPlan],
+) -> Result<IndexMap<BayName, &'a BayPlan>, AllocError>
     requires { IsDistinct same_bay (map (λ plan. plan.bay) plans.now) }
     ensures all { IfOk result (λ by_bay. plans_in by_bay.entries ≡ plans.now) }
     ensures keyed { IfOk result (λ by_bay. AreByBay by_bay.entries) }
 {
     let mut by_bay = IndexMap::new(alloc);
     for plan in plans {
-        by_bay.insert(Bay::copy_of(&plan.bay), plan)?;
+        by_bay.insert(plan.bay.copy(), plan)?;
     }
     Ok(by_bay)
 }
@@ -62,15 +64,14 @@ fn by_bay<'a>(alloc: Global, plans: &'a [BayPlan]) -> Result<IndexMap<Bay, &'a B
 /// The stacks of a bay as its plan leaves them, or as they are where it has none.
 fn stacks_after(
     alloc: Global,
-    plans: &IndexMap<Bay, &BayPlan>,
+    plans: &IndexMap<BayName, &BayPlan>,
     bay: &BayName,
     stacks: &[Containers],
 ) -> Result<Stacks, AllocError>
     requires { AreByBay plans.now.entries }
     ensures { IfOk result (λ left. MatchOption (plan_for (plans_in plans.now.entries) bay.now) (left ≡ stacks.now) (λ plan. LeavesNamed plan left)) }
 {
-    let key = Bay::copy_of(bay);
-    match plans.get(&key) {
+    match plans.get(bay) {
         Some(plan) => stacks_left(alloc, &plan.plan, &plan.names),
         None => copied_stacks(alloc, stacks),
     }
@@ -80,8 +81,8 @@ fn stacks_after(
 fn bays_after(
     alloc: Global,
     yard: &Yard,
-    plans: &IndexMap<Bay, &BayPlan>,
-) -> Result<IndexMap<Bay, Stacks>, AllocError>
+    plans: &IndexMap<BayName, &BayPlan>,
+) -> Result<IndexMap<BayName, Stacks>, AllocError>
     requires { AreByBay plans.now.entries }
     ensures { IfOk result (λ bays. AreBaysAfter (plans_in plans.now.entries) yard.now.bays bays.entries) }
 {
@@ -89,7 +90,7 @@ fn bays_after(
     for i in 0..yard.count() {
         let (name, stacks) = yard.bay(i);
         let left = stacks_after(alloc, plans, name, stacks)?;
-        bays.insert(Bay::copy_of(name), left)?;
+        bays.insert(name.copy(), left)?;
     }
     Ok(bays)
 }

@@ -5,16 +5,16 @@ ghost use Rattle.crp_yard.specs.Inventory.{stack_up_to, stacks_up_to, stacked, b
 
 use crate::containers::Containers;
 use crate::listing::Listing;
-use crate::place::{Bay, Place};
+use crate::place::Place;
 use crate::stacks::Stacks;
-use crp_plan::Container;
+use crp_plan::{BayName, Container};
 use indexmap::IndexMap;
 use std::alloc::{AllocError, Global};
 
 fn stack_of(
     alloc: Global,
     listing: &Listing,
-    bay: &Bay,
+    bay: &BayName,
     row: u8,
     tiers: u8,
 ) -> Result<Containers, AllocError>
@@ -33,7 +33,7 @@ fn stack_of(
 fn stacks_of(
     alloc: Global,
     listing: &Listing,
-    bay: &Bay,
+    bay: &BayName,
     heights: &[u8],
 ) -> Result<Stacks, AllocError>
     requires { length heights.now ≤ 12 }
@@ -51,7 +51,7 @@ pub(crate) fn bays_of(
     alloc: Global,
     listing: &Listing,
     heights: &[u8],
-) -> Result<IndexMap<Bay, Stacks>, AllocError>
+) -> Result<IndexMap<BayName, Stacks>, AllocError>
     requires { length heights.now ≤ 12 }
     ensures { IfOk result (λ bays. bays.entries ≡ map (stacked heights.now listing.now) (bays_of listing.now)) }
 {

@@ -7,7 +7,7 @@ ghost use Rattle.csv.specs.Records.{fields_of};
 ghost use Rattle.crp_yard.specs.Records.{field_of, is_header, is_block, is_container, is_well_formed, has_numbers, is_within, number_of, place_named};
 
 use crate::digits::{is_number, number_of};
-use crate::place::{Bay, Place};
+use crate::place::Place;
 use crp_plan::BayName;
 use csv::ByteRecord;
 
@@ -82,14 +82,14 @@ pub(crate) fn is_within(fields: &ByteRecord, heights: &[u8]) -> bool
 }
 
 /// The bay that the record names.
-fn bay_of(fields: &ByteRecord) -> Bay
+fn bay_of(fields: &ByteRecord) -> BayName
     requires formed { IsTrue (is_well_formed (fields_of fields.now)) }
     requires numbers { IsTrue (has_numbers (fields_of fields.now)) }
     ensures { result ≡ (place_named (fields_of fields.now)).bay }
 {
     let (block, number) = (field(fields, 0), number_of(field(fields, 1)));
     match BayName::new(block, number) {
-        Some(name) => Bay::new(name),
+        Some(name) => name,
         None => unreachable!(),
     }
 }

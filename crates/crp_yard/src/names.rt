@@ -4,9 +4,8 @@ ghost use Rattle.std.specs.Prelude.{IfOk, OnOk, flat_map};
 ghost use Rattle.crp_yard.specs.Listings.{Adds, HasNames};
 
 use crate::containers::Containers;
-use crate::place::Bay;
 use crate::stacks::Stacks;
-use crp_plan::Container;
+use crp_plan::{BayName, Container};
 use indexmap::{IndexMap, IndexSet};
 use std::alloc::{AllocError, Global};
 
@@ -35,7 +34,7 @@ fn add_all(
 /// The containers of the bays.
 pub(crate) fn names_of(
     alloc: Global,
-    bays: &IndexMap<Bay, Stacks>,
+    bays: &IndexMap<BayName, Stacks>,
 ) -> Result<IndexSet<Vec<u8>>, AllocError>
     ensures { IfOk result (λ names. HasNames bays.now.entries names.keys) }
 {

@@ -1,4 +1,4 @@
-//! Bays and places, as keys of maps.
+//! Places, as keys of maps.
 
 ghost use Rattle.std.specs.Prelude.{◌≡◌, ◌-◌, ◌++◌};
 ghost use Rattle.std.proofs.Common.{rules};
@@ -9,85 +9,10 @@ use crp_plan::BayName;
 use std::hash::{Hash, Hasher};
 use std::marker::Model;
 
-/// A bay of the yard, as a key.
-#[derive(Drop)]
-pub(crate) struct Bay {
-    name: BayName,
-}
-
-impl Model for Bay {
-    ghost use Rattle.crp_plan.specs.BayNames.{YardBay};
-
-    ghost Value = { YardBay };
-
-    ghost view = { λ a. a.name };
-}
-
-impl Bay {
-    pub fn new(name: BayName) -> Bay
-        ensures { result ≡ name }
-    {
-        Bay { name }
-    }
-
-    /// The name of the bay.
-    pub fn name(&self) -> &BayName
-        ensures { result.now ≡ self.now }
-    {
-        &self.name
-    }
-}
-
-impl PartialEq for Bay {
-    ghost use Rattle.crp_yard.specs.Places.{same_bay};
-
-    ghost eq = { same_bay };
-
-    ghost laws = { Prim.search (comparing, rules) };
-
-    fn eq(&self, other: &Bay) -> bool {
-        self.name.block() == other.name.block() && self.name.bay() == other.name.bay()
-    }
-}
-
-impl Eq for Bay {
-    ghost laws = { Prim.search (comparing, rules) };
-}
-
-impl Hash for Bay {
-    ghost hash_input = { λ a. fed.slice fed.u8 a.block ++ fed.u16 a.bay };
-
-    ghost respects_eq = { Prim.search (hashing, rules) };
-
-    fn hash<H: Hasher>(&self, state: &mut H) {
-        self.name.block().hash(state);
-        self.name.bay().hash(state);
-    }
-}
-
-impl Bay {
-    /// The bay with this name. Takes no memory.
-    pub fn copy_of(name: &BayName) -> Bay
-        ensures { result ≡ name.now }
-    {
-        match BayName::new(name.block(), name.bay()) {
-            Some(name) => Bay { name },
-            None => unreachable!(),
-        }
-    }
-
-    /// The same bay once more. Takes no memory.
-    pub fn copy(&self) -> Bay
-        ensures { result ≡ self.now }
-    {
-        Bay::copy_of(&self.name)
-    }
-}
-
 /// A place of the yard, as a key.
 #[derive(Drop)]
 pub(crate) struct Place {
-    bay: Bay,
+    bay: BayName,
     row: u8,
     tier: u8,
 }
@@ -102,13 +27,13 @@ impl Model for Place {
 
 impl Place {
     /// The row and tier of the bay, which count from 1.
-    pub fn new(bay: Bay, row: u8, tier: u8) -> Place
+    pub fn new(bay: BayName, row: u8, tier: u8) -> Place
         ensures { result ≡ record { bay = bay; row = row; tier = tier } }
     {
         Place { bay, row, tier }
     }
 
-    pub fn bay(&self) -> &Bay
+    pub fn bay(&self) -> &BayName
         ensures { result.now ≡ self.now.bay }
     {
         &self.bay

@@ -7,7 +7,6 @@ ghost use Rattle.crp_yard.specs.Listings.{HasNames};
 
 use crate::containers::Containers;
 use crate::names::names_of;
-use crate::place::Bay;
 use crate::stacks::Stacks;
 use crp_plan::{BayName, Container, tallest};
 use indexmap::{IndexMap, IndexSet};
@@ -20,7 +19,7 @@ use std::marker::Model;
 pub struct Yard {
     heights: Vec<u8>,
     tiers: u8,
-    bays: IndexMap<Bay, Stacks>,
+    bays: IndexMap<BayName, Stacks>,
     names: IndexSet<Vec<u8>>,
 }
 
@@ -40,7 +39,7 @@ impl Yard {
     pub(crate) fn new(
         alloc: Global,
         heights: &[u8],
-        bays: IndexMap<Bay, Stacks>,
+        bays: IndexMap<BayName, Stacks>,
     ) -> Result<Yard, AllocError>
         requires { IsYard (record { heights = heights.now; tiers = tallest heights.now; bays = bays.entries }) }
         ensures { IfOk result (λ yard. yard ≡ record { heights = heights.now; tiers = tallest heights.now; bays = bays.entries }) }
@@ -53,7 +52,7 @@ impl Yard {
     pub(crate) fn with_names(
         alloc: Global,
         heights: &[u8],
-        bays: IndexMap<Bay, Stacks>,
+        bays: IndexMap<BayName, Stacks>,
         names: IndexSet<Vec<u8>>,
     ) -> Result<Yard, AllocError>
         requires yard { IsYard (record { heights = heights.now; tiers = tallest heights.now; bays = bays.entries }) }
@@ -108,7 +107,7 @@ impl Yard {
         ensures { name_at self.now bay ≡ Some result.now }
     {
         match self.bays.get_index(bay) {
-            Some((key, _)) => key.name(),
+            Some((name, _)) => name,
             None => unreachable!(),
         }
     }
@@ -121,7 +120,7 @@ impl Yard {
         ensures tiers { All (λ stack. length stack ≤ 8) result.1.now }
     {
         match self.bays.get_index(bay) {
-            Some((key, stacks)) => (key.name(), stacks.rows()),
+            Some((name, stacks)) => (name, stacks.rows()),
             None => unreachable!(),
         }
     }

@@ -5,15 +5,15 @@ use Rattle.crp_checker.proofs.checker.bay_at.Goals as goal
 
 pub returns-in-Line : goal.returns-in-Line
 returns-in-Line c wanted bytes come =
-    subst (IsBayIn bytes) (sym c.same_bay.ensures) (bay_at_line wanted bytes c.in-Line.findings c.in-Line.begun.items (subst (HasCome wanted bytes) c.in-Line.is come))
+    rw (c.copy.ensures) (bay_at_line wanted bytes c.in-Line.findings c.in-Line.begun.items (subst (HasCome wanted bytes) c.in-Line.is come))
 
 pub returns-in-Part : goal.returns-in-Part
 returns-in-Part c wanted bytes come =
-    subst (IsBayIn bytes) (sym c.same_bay-in-Part.ensures) (bay_at_part wanted bytes c.in-Part.findings c.in-Part.name c.in-Part.line (subst (HasCome wanted bytes) c.in-Part.is come))
+    rw (c.copy-in-Part.ensures) (bay_at_part wanted bytes c.in-Part.findings c.in-Part.name c.in-Part.line (subst (HasCome wanted bytes) c.in-Part.is come))
 
 pub returns-in-Ended : goal.returns-in-Ended
 returns-in-Ended c wanted bytes come =
-    subst (IsBayIn bytes) (sym c.same_bay-in-Ended.ensures) (bay_at_end wanted bytes c.in-Ended.findings (subst (HasCome wanted bytes) c.in-Ended.is come))
+    rw (c.copy-in-Ended.ensures) (bay_at_end wanted bytes c.in-Ended.findings (subst (HasCome wanted bytes) c.in-Ended.is come))
 
 pub returns-in-Faulty : goal.returns-in-Faulty
 returns-in-Faulty c wanted bytes come =

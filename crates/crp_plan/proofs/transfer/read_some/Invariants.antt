@@ -1,5 +1,5 @@
 -- Nothing was read so far, and each failure was passed over.
-use Rattle.std.proofs.Common.{◌≡◌, ◌+◌, ◌-◌, ◌≤◌, length}
+use Rattle.std.proofs.Common.{◌≡◌, ◌-◌, ◌≤◌, length}
 use Rattle.std.specs.Io.KnownBytes.{Keeps}
 use Rattle.crp_plan.specs.Devices.{CountsMore, InterruptedMore, most_interruptions}
 use Rattle.crp_plan.proofs.transfer.read_some.Given as goal

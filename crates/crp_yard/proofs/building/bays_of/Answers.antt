@@ -1,7 +1,7 @@
 use Rattle.std.proofs.Common.{◌≡◌, true, false, is_some, sym, refl, ◌∙◌}
 use Rattle.std.specs.Map.{lookup}
 use Rattle.indexmap.specs.IndexMap.{insert_entry}
-use Rattle.crp_yard.specs.Places.{same_bay}
+use Rattle.crp_plan.specs.BayNames.{same_bay}
 use Rattle.crp_yard.specs.Records.{Entry}
 use Rattle.crp_yard.specs.Inventory.{StackedBay, stacks_up_to}
 use Rattle.std.specs.Prelude.{List, length}

@@ -1,4 +1,4 @@
-use Rattle.std.proofs.Common.{◌≡◌, length, sym, ap, ◌∙◌}
+use Rattle.std.proofs.Common.{length, sym, ap, ◌∙◌}
 use Rattle.crp_plan.specs.Bay.{Problem}
 use Rattle.crp_plan.proofs.Steps.{same_rows}
 use Rattle.crp_plan.proofs.problem.Problem.rows.Goals as goal
