@@ -1,18 +1,14 @@
 -- Whether symbols begin with those of a tree is decided, by reading them.
-use Rattle.std.proofs.Common.{◌≡◌, ℕ, zero, suc, ◌≤◌, ⊎_elim, Bool, cond, ◌==◌, List, [], ◌∷◌, ◌++◌, length, filter, Option, Some, None, Vec, Global, refl, sym, ap, ◌∙◌, subst, arith, append_assoc, length-append}
-use Rattle.std.specs.Prelude.{codes}
-use Rattle.std.proofs.lemmas.Bool.{cases_Bool, eqb-true}
+use Rattle.std.proofs.Common.{◌≡◌, ℕ, zero, suc, ◌≤◌, ⊎_elim, cond, ◌==◌, List, [], ◌∷◌, ◌++◌, length, Option, Some, None, refl, sym, ap, ◌∙◌, arith, append_assoc, length-append}
+use Rattle.std.proofs.lemmas.Bool.{eqb-true}
 use Rattle.std.proofs.lemmas.Option.{same_Some, none-some}
-use denote.RawPtr.{null_ptr}
 use Rattle.crp_plan.specs.Bay.{Position}
-use Rattle.crp_bay.specs.Positions.{can_shift, child, counted, targets}
+use Rattle.crp_bay.specs.Positions.{child, targets}
 use Rattle.crp_tree.specs.Tree.{Tree, CutB, CutL, Branch, Given, Trees, no_trees, one_and, row}
 use Rattle.crp_cert.specs.Script.{symbols_of, symbols_of_each}
 use Rattle.crp_cert.specs.Reading.{◌>>=◌}
 use Rattle.crp_cert.proofs.Numbers.{bind_some, chosen}
-use Rattle.crp_cert.proofs.PartNames.{child_rows}
 use Rattle.std.specs.List.{flat_map}
-use Rattle.crp_tree.proofs.Listed.{fit_lengths}
 use Rattle.crp_cert.proofs.Symbols.{branch_read}
 use Rattle.crp_tree.specs.Trees.{Fits, FitsEach}
 use Rattle.crp_tree.specs.Listed.{AreFit}
@@ -56,21 +52,6 @@ mutual
 
 -- ---- the tree
 
--- there are no more legal rows than rows
-few_targets : (s : Position) → length (targets s) ≤ length s.heights
-few_targets s = omega (arith, fewer (can_shift s) (counted 1 (length s.heights)), as_many 1 (length s.heights))
-  where
-    as_many : (from more : ℕ) → length (counted from more) ≡ more
-    as_many from zero = refl
-    as_many from (suc more) = ap suc (as_many (suc from) more)
-
-    fewer : (p : ℕ → Bool) (xs : List ℕ) → length (filter p xs) ≤ length xs
-    fewer p [] = omega arith
-    fewer p (x ∷ xs) = ⊎_elim
-        (λ t. rw t (let h = fewer p xs in omega arith))
-        (λ f. rw f (let h = fewer p xs in omega arith))
-        (cases_Bool (p x))
-
 -- trees before the rest
 each_takes : (behind : Position → List ℕ → Option (List ℕ)) (s : Position) → ((row : ℕ) (bytes rest : List ℕ) → behind (child s row) bytes ≡ Some rest → (tree : Tree) × Fits (child s row) tree × (bytes ≡ symbols_of tree ++ rest)) →
     (rows bytes rest : List ℕ) → behind_each behind s rows bytes ≡ Some rest → (trees : List Tree) × AreFit s rows trees × (bytes ≡ flat_map symbols_of trees ++ rest)
@@ -82,10 +63,10 @@ each_takes behind s takes (row ∷ rows) bytes rest e =
     (t.0 ∷ r.0, (t.1, r.1), t.2 ∙ ap (λ l. symbols_of t.0 ++ l) r.2 ∙ sym (append_assoc (symbols_of t.0) (flat_map symbols_of r.0) rest))
 
 -- what is read is a tree
-pub tree_takes : (levels : ℕ) (s : Position) (bytes rest : List ℕ) → length s.heights ≤ 12 → behind_tree levels s bytes ≡ Some rest → (tree : Tree) × Fits s tree × (bytes ≡ symbols_of tree ++ rest)
-tree_takes zero s bytes rest few e = absurd cc
-tree_takes (suc levels) s [] rest few e = absurd cc
-tree_takes (suc levels) s (b ∷ bytes) rest few e =
+pub tree_takes : (levels : ℕ) (s : Position) (bytes rest : List ℕ) → behind_tree levels s bytes ≡ Some rest → (tree : Tree) × Fits s tree × (bytes ≡ symbols_of tree ++ rest)
+tree_takes zero s bytes rest e = absurd cc
+tree_takes (suc levels) s [] rest e = absurd cc
+tree_takes (suc levels) s (b ∷ bytes) rest e =
     ⊎_elim
     (λ cut. let is : b ≡ 66 = eqb-true b 66 cut.0 in (CutB, tt, ap (λ x. x ∷ bytes) is ∙ ap (λ l. 66 ∷ l) (same_Some bytes rest cut.1)))
     (λ more. ⊎_elim
@@ -95,7 +76,7 @@ tree_takes (suc levels) s (b ∷ bytes) rest few e =
     (λ branch. ⊎_elim
     (λ trees.
     let is : b ≡ 88 = eqb-true b 88 trees.0 in
-    let r = each_takes (behind_tree levels) s (λ row l after f. tree_takes levels (child s row) l after (omega (arith, child_rows s row)) f) (targets s) bytes rest trees.1 in
+    let r = each_takes (behind_tree levels) s (λ row l after f. tree_takes levels (child s row) l after f) (targets s) bytes rest trees.1 in
     let made = branch_read s (b ∷ bytes) r.0 rest r.1 (ap (λ x. x ∷ bytes) is ∙ ap (λ l. 88 ∷ l) r.2) in
     (Branch (row r.0), made.0, made.1))
     (λ nothing. absurd (none-some rest nothing.1))
