@@ -7,7 +7,6 @@ use Rattle.std.proofs.lemmas.List.Elements.{recursion_from_All, All-from_recursi
 use Rattle.std.proofs.Math.Seq.{get_or-append_seam}
 use Rattle.crp_plan.specs.Bay.{Problem, IsProblem, Position, IsAt}
 use Rattle.crp_bay.specs.Positions.{at}
-use Rattle.crp_bay.proofs.Reaching.{reached_rows}
 use Rattle.crp_bay.proofs.Walked.{at_reads, at_means}
 use Rattle.crp_tree.specs.Tree.{Tree}
 use Rattle.crp_tree.specs.Names.{Precedes}
@@ -85,10 +84,6 @@ past_line most p first earlier bytes is part =
     ∙ ap (λ o. or_fault o (faults.Part (first + length earlier)) (λ x. line_fault p earlier (first + length earlier) x.0 (lines_fault most p first (earlier ++ x.0.0 ∷ []) x.1)))
     (part_again p part.name part.symbols part.after part.place is part.short (at_reads p part.name part.place is part.is_at) (recursion_from_All (λ b. b ≢ 10) part.symbols part.one_line))
 
--- there are at most 12 rows where a name leads
-pub few_rows : (p : Problem) (name : List ℕ) (s : Position) → IsProblem p → IsAt p name s → length s.heights ≤ 12
-few_rows p name s is is_at = (reached_rows s (record { problem = p; path = name; is_problem = is; is_at = is_at })).1
-
 -- what follows the tree at a name, from where the name leads
 left_is : (p : Problem) (name symbols : List ℕ) (s : Position) → IsProblem p → IsAt p name s → left_at p name symbols ≡ behind_tree (length symbols) s symbols
 unfolding left_at
@@ -100,7 +95,7 @@ no_tree p name symbols s is is_at never = left_is p name symbols s is is_at ∙ 
   where
     by_cases : (o : Option (List ℕ)) → behind_tree (length symbols) s symbols ≡ o → o ≡ None
     by_cases None e = refl
-    by_cases (Some rest) e = let t = tree_takes (length symbols) s symbols rest (few_rows p name s is is_at) e in absurd (never (t.0, t.1, (rest, t.2)))
+    by_cases (Some rest) e = let t = tree_takes (length symbols) s symbols rest e in absurd (never (t.0, t.1, (rest, t.2)))
 
 -- a tree, and what follows it
 some_tree : (p : Problem) (name symbols : List ℕ) (s : Position) (tree : Tree) (rest : List ℕ) → IsProblem p → IsAt p name s → Fits s tree → symbols ≡ symbols_of tree ++ rest → left_at p name symbols ≡ Some rest

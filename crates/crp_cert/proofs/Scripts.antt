@@ -23,7 +23,6 @@ use Rattle.crp_cert.proofs.PartLines.{behind_word, line_then, part_takes, part_a
 use Rattle.crp_cert.proofs.PartFaults.{no_parts, parts_push, part_line_some, parsed_line, no_last, no_further, tells_parts}
 use Rattle.crp_cert.proofs.PartTests.{after_test, comes_from, comes_to, symbols_test, symbols_to, symbols_from, none_given, tree_one_line}
 use Rattle.crp_cert.proofs.TreeReading.{behind_tree, tree_again, tree_takes}
-use Rattle.crp_cert.proofs.ScriptVerdicts.{few_rows}
 use Rattle.crp_tree.specs.Trees.{Fits}
 
 -- ---- one script
@@ -146,11 +145,11 @@ line_answer most bytes head behind parts after name symbols rest place is text a
           ),
         )
     by_test true f true g (Some []) h =
-        let t = tree_takes (length symbols) place symbols [] (few_rows head.problem name place is.problem is_at) h in
+        let t = tree_takes (length symbols) place symbols [] h in
         let r = read_part head.problem behind parts after name symbols rest place t.0 is.problem are is_at e (comes_to parts name f) (symbols_to symbols g) t.1 t.2 in
         next (parts ++ (record { name = name; tree = t.0 }) ∷ []) rest (omega (arith, r.1)) r.0
     by_test true f true g (Some (b ∷ left)) h =
-        let t = tree_takes (length symbols) place symbols (b ∷ left) (few_rows head.problem name place is.problem is_at) h in
+        let t = tree_takes (length symbols) place symbols (b ∷ left) h in
         faulty bytes head behind parts (codes "part " ++ after) (faults.Trailing (first_part head + length parts)) is text are
         (refl, (parsed_line head.problem after name symbols rest place is_at e, comes_to parts name f, symbols_to symbols g, (t.0, t.1, (b, left, t.2))))
 

@@ -1,10 +1,9 @@
 -- What is settled stays as it is, whatever follows; and the lines of a head are short.
-use Rattle.std.proofs.Common.{◌≡◌, ◌≢◌, ℕ, suc, ◌+◌, ◌*◌, ◌/◌, ◌%◌, ◌^◌, ◌<◌, ◌≤◌, ⊎_elim, inl, inr, List, [], ◌∷◌, ◌++◌, length, Option, Some, None, refl, sym, ap, ◌∙◌, subst, arith, append_assoc, length-append, lit≤}
+use Rattle.std.proofs.Common.{◌≡◌, ◌≢◌, ℕ, suc, ◌+◌, ◌*◌, ◌/◌, ◌%◌, ◌^◌, ◌<◌, ◌≤◌, ⊎_elim, List, [], ◌∷◌, ◌++◌, length, Option, Some, None, refl, sym, ap, ◌∙◌, subst, arith, append_assoc, length-append, lit≤}
 use Rattle.std.specs.Prelude.{codes, IfSome, Bool, true, false, not, ◌==◌, ◌&&◌}
 use Rattle.std.specs.List.{AllByRecursion, list_all, flat_map}
 use Rattle.std.specs.Fmt.{decimal}
 use Rattle.std.proofs.lemmas.Fmt.{length-decimal-le, decimal_by_steps}
-use Rattle.std.proofs.lemmas.List.{append-nil}
 use Rattle.std.proofs.lemmas.List.Elements.{recursion_from_All}
 use Rattle.crp_plan.specs.BayNames.{YardBay, IsYardBay}
 use Rattle.crp_plan.specs.Bay.{Problem, IsProblem, Position, start, IsAt}
@@ -16,14 +15,12 @@ use Rattle.crp_cert.specs.declared.claim.Claim.TheVariants.{AtLeast, First}
 use Rattle.crp_cert.specs.declared.size.Size.{Size}
 use Rattle.crp_cert.specs.declared.version.Version.{Version}
 use Rattle.crp_cert.specs.declared.version.Version.TheVariants.{One, Two}
-use Rattle.crp_cert.specs.Text.{title_line, spaced, numbers_line, bay_line, size_line, heights_line, stated_heights, row_line, bound, claim_line, plan_line, IsSize, AreRows}
-use Rattle.crp_cert.specs.Faults.{BeginsWith, AreHeightsOf, MayState, AreFirstStacks, IsNextStack, most_claimed, MayClaim, Frame, BeginsWithFrame, BeginsWithStacks, IsFirstFault}
-use Rattle.crp_cert.specs.declared.fault.CertFault.{CertFault}
-use Rattle.crp_cert.specs.declared.fault.CertFault.TheVariants as faults
+use Rattle.crp_cert.specs.Text.{title_line, spaced, numbers_line, bay_line, size_line, heights_line, row_line, bound, claim_line, plan_line, IsSize, AreRows}
+use Rattle.crp_cert.specs.Faults.{BeginsWith, AreHeightsOf, IsNextStack}
 use Rattle.crp_cert.proofs.Joined.{all_both}
-use Rattle.crp_cert.proofs.Stacks.{few_parsed, next_eight, next_small, fewer, few_claimed}
-use Rattle.crp_cert.proofs.Heights.{digits, heights_are}
-use Rattle.crp_cert.specs.Settled.{StopsWithin, CanBeJudged, longest_line, longest_head, IsName, spelled_name, longest_name, BeginsWithBay}
+use Rattle.crp_cert.proofs.Stacks.{few_parsed, next_eight, next_small}
+use Rattle.crp_cert.proofs.Heights.{digits}
+use Rattle.crp_cert.specs.Settled.{StopsWithin, CanBeJudged, longest_line, IsName, spelled_name, longest_name}
 
 -- ---- fronts
 
@@ -61,6 +58,17 @@ stays fits text stop most are bytes more settled none stands =
     settled in
     let r = front bytes more (text x) stands.2.0 stands.2.1 short in
     none (x, stands.1, (r.0, r.1))
+
+-- no stop stands in bytes without one
+pub no_stop : (stop : ℕ) (body rest : List ℕ) → AllByRecursion (λ b. b ≢ stop) (body ++ stop ∷ rest) → ⊥
+no_stop stop [] rest all = all.0 refl
+no_stop stop (b ∷ body) rest all = no_stop stop body rest all.1
+
+-- so no text that ends with it does
+pub not_yet : {A : Type 0} (fits : A → Type 0) (text : A → List ℕ) (stop most : ℕ) → ((x : A) → fits x → StopsWithin stop most (text x)) → (bytes : List ℕ) → AllByRecursion (λ b. b ≢ stop) bytes → ¬ BeginsWith fits text bytes
+not_yet fits text stop most are bytes all stands =
+    let own = are stands.0 stands.1 in
+    no_stop stop own.body stands.2.0 (subst (AllByRecursion (λ b. b ≢ stop)) (stands.2.1 ∙ ap (λ l. l ++ stands.2.0) own.is ∙ append_assoc own.body (stop ∷ []) stands.2.0) all)
 
 -- ---- lines with numbers
 
@@ -118,6 +126,10 @@ no_end (x ∷ xs) e =
     halves true y e = (refl, e)
     halves false y e = absurd cc
 
+pub title_short : (version : Version) → StopsWithin 10 longest_line (title_line version)
+title_short One = record { body = codes "CRP-CERT 1"; before = no_end (codes "CRP-CERT 1") refl; is = refl; short = lit≤ tt }
+title_short Two = record { body = codes "CRP-CERT 2"; before = no_end (codes "CRP-CERT 2") refl; is = refl; short = lit≤ tt }
+
 pub size_short : (size : Size) → IsSize size → StopsWithin 10 longest_line (size_line size)
 size_short size is =
     let few = is.few_rows in let low = is.few_tiers in let fit = is.ordered_fit in let total = few_parsed size is in
@@ -159,30 +171,8 @@ bay_short name is =
     printed (b ∷ block) all = (λ e. let le = all.0.0 in omega arith, printed block all.1)
 
 -- the line of a stack that may follow others
-row_is_short : (size : Size) (heights : List ℕ) (stacks : List (List ℕ)) (stack : List ℕ) → IsSize size → AreHeightsOf size heights → IsNextStack size heights stacks stack → StopsWithin 10 longest_line (row_line stack)
+pub row_is_short : (size : Size) (heights : List ℕ) (stacks : List (List ℕ)) (stack : List ℕ) → IsSize size → AreHeightsOf size heights → IsNextStack size heights stacks stack → StopsWithin 10 longest_line (row_line stack)
 row_is_short size heights stacks stack is are next = row_short stack (next_eight size heights stacks stack are next) (next_small size heights stacks stack is next)
-
--- ---- what an endless line can still be
-
-pub bay_stays : (bytes more : List ℕ) → CanBeJudged 10 longest_line bytes → ¬ BeginsWith IsYardBay bay_line bytes → ¬ BeginsWith IsYardBay bay_line (bytes ++ more)
-bay_stays = stays IsYardBay bay_line 10 longest_line bay_short
-
-pub size_stays : (bytes more : List ℕ) → CanBeJudged 10 longest_line bytes → ¬ BeginsWith IsSize size_line bytes → ¬ BeginsWith IsSize size_line (bytes ++ more)
-size_stays = stays IsSize size_line 10 longest_line size_short
-
-pub heights_stay : (size : Size) → IsSize size → (bytes more : List ℕ) → CanBeJudged 10 longest_line bytes → ¬ BeginsWith (AreHeightsOf size) heights_line bytes → ¬ BeginsWith (AreHeightsOf size) heights_line (bytes ++ more)
-heights_stay size is = stays (AreHeightsOf size) heights_line 10 longest_line (λ heights are. heights_short size heights is are)
-
-pub row_stays : (size : Size) (heights : List ℕ) (stacks : List (List ℕ)) → IsSize size → AreHeightsOf size heights → (bytes more : List ℕ) → CanBeJudged 10 longest_line bytes →
-    ¬ BeginsWith (IsNextStack size heights stacks) row_line bytes → ¬ BeginsWith (IsNextStack size heights stacks) row_line (bytes ++ more)
-row_stays size heights stacks is are = stays (IsNextStack size heights stacks) row_line 10 longest_line (λ stack next. row_is_short size heights stacks stack is are next)
-
-pub claim_stays : (version : Version) (size : Size) → IsSize size → (bytes more : List ℕ) → CanBeJudged 10 longest_line bytes →
-    ¬ BeginsWith (MayClaim version (most_claimed size)) claim_line bytes → ¬ BeginsWith (MayClaim version (most_claimed size)) claim_line (bytes ++ more)
-claim_stays version size is = stays (MayClaim version (most_claimed size)) claim_line 10 longest_line (λ claim may. claim_short (most_claimed size) claim (few_claimed size is) may.within)
-
-pub plan_stays : (bytes more : List ℕ) → CanBeJudged 10 longest_line bytes → ¬ BeginsWith (λ plan. IfSome plan AreRows) plan_line bytes → ¬ BeginsWith (λ plan. IfSome plan AreRows) plan_line (bytes ++ more)
-plan_stays = stays (λ plan. IfSome plan AreRows) plan_line 10 longest_line plan_short
 
 -- ---- names of parts
 
@@ -239,155 +229,3 @@ path_in_line p name s is a = name_in_line name (path_low p name s is a)
 
 pub name_stays : (p : Problem) → IsProblem p → (bytes more : List ℕ) → CanBeJudged 32 longest_name bytes → ¬ BeginsWith (IsName p) spelled_name bytes → ¬ BeginsWith (IsName p) spelled_name (bytes ++ more)
 name_stays p is = stays (IsName p) spelled_name 32 longest_name (λ name fits. name_short name fits.0 (path_low p name fits.1.0 is fits.1.1))
-
--- ---- heads
-
--- the lines of further stacks
-rows_short : (size : Size) (heights : List ℕ) (before more : List (List ℕ)) → IsSize size → AreHeightsOf size heights → AreFirstStacks size heights (before ++ more) → length (flat_map row_line more) ≤ longest_line * length more
-rows_short size heights before [] is are first = omega arith
-rows_short size heights before (stack ∷ more) is are first =
-    let again : before ++ stack ∷ more ≡ (before ++ stack ∷ []) ++ more = sym (append_assoc before (stack ∷ []) more) in
-    let on : AreFirstStacks size heights ((before ++ stack ∷ []) ++ more) = subst (AreFirstStacks size heights) again first in
-    let own = (row_is_short size heights before stack is are (next_of more on)).short in
-    let others = rows_short size heights (before ++ stack ∷ []) more is are on in
-    omega (arith, length-append (row_line stack) (flat_map row_line more))
-  where
-    next_of : (more : List (List ℕ)) → AreFirstStacks size heights ((before ++ stack ∷ []) ++ more) → IsNextStack size heights before stack
-    next_of [] on = subst (AreFirstStacks size heights) (append-nil (before ++ stack ∷ [])) on
-    next_of (other ∷ more) on = fewer size heights (before ++ stack ∷ []) (other ∷ more) (omega arith) on
-
--- a title
-title_length : (version : Version) → length (title_line version) ≡ 11
-title_length One = refl
-title_length Two = refl
-
--- what is stated of the heights
-stated_short : (version : Version) (size : Size) (heights : List ℕ) → IsSize size → MayState version size heights → length (stated_heights version heights) ≤ longest_line
-stated_short One size heights is same = omega arith
-stated_short Two size heights is are = (heights_short size heights is are).short
-
--- the lines above the rows
-frame_leaves : (bytes : List ℕ) (frame : Frame) (rest : List ℕ) → longest_head ≤ length bytes → BeginsWithFrame bytes frame rest → 14 * longest_line ≤ length rest
-frame_leaves bytes frame rest long t =
-    let bay = (bay_short t.name t.named).short in
-    let own = (size_short frame.size t.is_size).short in
-    let heights : List ℕ = stated_heights frame.version frame.heights in
-    omega (
-      arith,
-      ap length t.text,
-      title_length frame.version,
-      stated_short frame.version frame.size frame.heights t.is_size t.may_state,
-      length-append (title_line frame.version) (bay_line t.name ++ (size_line frame.size ++ (heights ++ rest))),
-      length-append (bay_line t.name) (size_line frame.size ++ (heights ++ rest)),
-      length-append (size_line frame.size) (heights ++ rest),
-      length-append heights rest,
-    )
-
--- the stacks too
-stacks_leave : (bytes : List ℕ) (frame : Frame) (stacks : List (List ℕ)) (rest : List ℕ) → longest_head ≤ length bytes → BeginsWithStacks bytes frame stacks rest → 2 * longest_line ≤ length rest
-stacks_leave bytes frame stacks rest long t =
-    let left = frame_leaves bytes frame (flat_map row_line stacks ++ rest) long t.tells in
-    let rows = rows_short frame.size frame.heights [] stacks t.tells.is_size (heights_are frame.version frame.size frame.heights t.tells.is_size t.tells.may_state) t.first in
-    let few = t.first.few in let twelve = t.tells.is_size.few_rows in
-    omega (arith, length-append (flat_map row_line stacks) rest)
-
--- what the bytes begin with they begin with, whatever follows
-frame_on : (bytes more : List ℕ) (frame : Frame) (rest : List ℕ) → BeginsWithFrame bytes frame rest → BeginsWithFrame (bytes ++ more) frame (rest ++ more)
-frame_on bytes more frame rest t = record {
-  name = t.name;
-  named = t.named;
-  is_size = t.is_size;
-  may_state = t.may_state;
-  text = ap (λ l. l ++ more) t.text ∙ regroup (title_line frame.version) (bay_line t.name) (size_line frame.size) (stated_heights frame.version frame.heights) rest more;
-}
-  where
-    regroup : (a b c d e more : List ℕ) → (a ++ (b ++ (c ++ (d ++ e)))) ++ more ≡ a ++ (b ++ (c ++ (d ++ (e ++ more))))
-    regroup a b c d e more = simp append_assoc
-
-stacks_on : (bytes more : List ℕ) (frame : Frame) (stacks : List (List ℕ)) (rest : List ℕ) → BeginsWithStacks bytes frame stacks rest → BeginsWithStacks (bytes ++ more) frame stacks (rest ++ more)
-stacks_on bytes more frame stacks rest t = record {
-  tells = subst (BeginsWithFrame (bytes ++ more) frame) (append_assoc (flat_map row_line stacks) rest more) (frame_on bytes more frame (flat_map row_line stacks ++ rest) t.tells);
-  first = t.first;
-}
-
--- three texts one after the other, and more
-regrouped : (a b c more : List ℕ) → (a ++ (b ++ c)) ++ more ≡ a ++ (b ++ (c ++ more))
-regrouped a b c more = simp append_assoc
-
--- bytes that are longer than any head, and have a fault, have it whatever follows
-pub fault_stays : (bytes more : List ℕ) (fault : CertFault) → longest_head ≤ length bytes → IsFirstFault bytes fault → IsFirstFault (bytes ++ more) fault
-fault_stays bytes more (faults.Opening line) long (inl first) =
-    inl (first.0, λ version rest e. let r = front bytes more (title_line version) rest e (omega (arith, title_length version)) in first.1 version r.0 r.1)
-fault_stays bytes more (faults.Opening line) long (inr second) =
-    let version : Version = second.1.0 in
-    let rest : List ℕ = second.1.1 in
-    let is = second.1.2 in
-    let left : longest_line ≤ length rest = omega (arith, ap length is, title_length version, length-append (title_line version) rest) in
-    inr (second.0, (version, rest ++ more, ap (λ l. l ++ more) is ∙ append_assoc (title_line version) rest more, bay_stays rest more (inr left) second.1.3))
-fault_stays bytes more (faults.Size line) long (inl f) =
-    let version : Version = f.1.0 in
-    let name : YardBay = f.1.1 in
-    let rest : List ℕ = f.1.2 in
-    let named = f.1.3 in
-    let is = f.1.4 in
-    let bay = (bay_short name named).short in
-    let left : longest_line ≤ length rest = omega (arith, ap length is, title_length version, length-append (title_line version) (bay_line name ++ rest), length-append (bay_line name) rest) in
-    inl (f.0, (version, name, rest ++ more, named, ap (λ l. l ++ more) is ∙ regrouped (title_line version) (bay_line name) rest more, size_stays rest more (inr left) f.1.5))
-fault_stays bytes more (faults.Size line) long (inr f) =
-    let name : YardBay = f.1.0 in
-    let size : Size = f.1.1 in
-    let rest : List ℕ = f.1.2 in
-    let named = f.1.3 in
-    let size_is = f.1.4 in
-    let is = f.1.5 in
-    let bay = (bay_short name named).short in
-    let own = (size_short size size_is).short in
-    let left : longest_line ≤ length rest =
-    omega (arith, ap length is, title_length Two, length-append (title_line Two) (bay_line name ++ (size_line size ++ rest)), length-append (bay_line name) (size_line size ++ rest), length-append (size_line size) rest) in
-    let text : bytes ++ more ≡ title_line Two ++ (bay_line name ++ (size_line size ++ (rest ++ more))) =
-    ap (λ l. l ++ more) is ∙ regrouped (title_line Two) (bay_line name) (size_line size ++ rest) more ∙ ap (λ l. title_line Two ++ (bay_line name ++ l)) (append_assoc (size_line size) rest more) in
-    inr (f.0, (name, size, rest ++ more, named, size_is, text, heights_stay size size_is rest more (inr left) f.1.6))
-fault_stays bytes more (faults.Row line) long f =
-    let frame : Frame = f.0 in
-    let stacks = f.1 in
-    let rest = f.2 in
-    let t = f.3 in
-    let left = stacks_leave bytes frame stacks rest long t in
-    let are = heights_are frame.version frame.size frame.heights t.tells.is_size t.tells.may_state in
-    (frame, stacks, rest ++ more, stacks_on bytes more frame stacks rest t, f.4, f.5, row_stays frame.size frame.heights stacks t.tells.is_size are rest more (inr (omega arith)) f.6)
-fault_stays bytes more (faults.Claim line) long f =
-    let frame : Frame = f.0 in
-    let stacks = f.1 in
-    let rest = f.2 in
-    let t = f.3 in
-    let left = stacks_leave bytes frame stacks rest long t in
-    (frame, stacks, rest ++ more, stacks_on bytes more frame stacks rest t, f.4, f.5, claim_stays frame.version frame.size t.tells.is_size rest more (inr (omega arith)) f.6)
-fault_stays bytes more (faults.Plan line) long f =
-    let frame : Frame = f.0 in
-    let stacks = f.1 in
-    let claim = f.2 in
-    let rest = f.3 in
-    let t = f.4 in
-    let low = f.6 in
-    let room = stacks_leave bytes frame stacks (claim_line claim ++ rest) long t in
-    let own = (claim_short (most_claimed frame.size) claim (few_claimed frame.size t.tells.is_size) low.within).short in
-    let left : longest_line ≤ length rest = omega (arith, length-append (claim_line claim) rest) in
-    let on : BeginsWithStacks (bytes ++ more) frame stacks (claim_line claim ++ (rest ++ more)) = subst (BeginsWithStacks (bytes ++ more) frame stacks) (append_assoc (claim_line claim) rest more) (stacks_on bytes more frame stacks (claim_line claim ++ rest) t) in
-    (frame, stacks, claim, rest ++ more, on, f.5, low, f.7, plan_stays rest more (inr left) f.8)
-fault_stays bytes more (faults.Part line) long f = absurd f
-fault_stays bytes more (faults.Order line) long f = absurd f
-fault_stays bytes more (faults.Symbol line) long f = absurd f
-fault_stays bytes more (faults.Unfinished line) long f = absurd f
-fault_stays bytes more (faults.Trailing line) long f = absurd f
-fault_stays bytes more (faults.End line) long f = absurd f
-fault_stays bytes more faults.Memory long f = absurd f
-
--- and where they do not begin with a bay they do not, whatever follows
-pub no_bay_stays : (bytes more : List ℕ) (name : YardBay) → longest_head ≤ length bytes → ((other : YardBay) → ¬ BeginsWithBay bytes other) → ¬ BeginsWithBay (bytes ++ more) name
-no_bay_stays bytes more name long none stands =
-    let version : Version = stands.1.0 in
-    let rest : List ℕ = stands.1.1 in
-    let own = (bay_short name stands.0).short in
-    let text : bytes ++ more ≡ (title_line version ++ bay_line name) ++ rest = stands.1.2 ∙ sym (append_assoc (title_line version) (bay_line name) rest) in
-    let r = front bytes more (title_line version ++ bay_line name) rest text (omega (arith, title_length version, length-append (title_line version) (bay_line name))) in
-    none name (stands.0, (version, r.0, r.1 ∙ append_assoc (title_line version) (bay_line name) r.0))

@@ -8,7 +8,6 @@ use Rattle.crp_tree.specs.Tree.{Tree, CutB, CutL, Branch, Given, Trees, no_trees
 use Rattle.crp_cert.specs.Script.{symbols_of, symbols_of_each}
 use Rattle.crp_cert.specs.Reading.{◌>>=◌}
 use Rattle.crp_cert.proofs.Numbers.{bind_some, chosen}
-use Rattle.crp_cert.proofs.PartNames.{child_rows}
 use Rattle.std.specs.List.{flat_map}
 use Rattle.crp_cert.proofs.Symbols.{branch_read}
 use Rattle.crp_tree.specs.Trees.{Fits, FitsEach}
@@ -64,10 +63,10 @@ each_takes behind s takes (row ∷ rows) bytes rest e =
     (t.0 ∷ r.0, (t.1, r.1), t.2 ∙ ap (λ l. symbols_of t.0 ++ l) r.2 ∙ sym (append_assoc (symbols_of t.0) (flat_map symbols_of r.0) rest))
 
 -- what is read is a tree
-pub tree_takes : (levels : ℕ) (s : Position) (bytes rest : List ℕ) → length s.heights ≤ 12 → behind_tree levels s bytes ≡ Some rest → (tree : Tree) × Fits s tree × (bytes ≡ symbols_of tree ++ rest)
-tree_takes zero s bytes rest few e = absurd cc
-tree_takes (suc levels) s [] rest few e = absurd cc
-tree_takes (suc levels) s (b ∷ bytes) rest few e =
+pub tree_takes : (levels : ℕ) (s : Position) (bytes rest : List ℕ) → behind_tree levels s bytes ≡ Some rest → (tree : Tree) × Fits s tree × (bytes ≡ symbols_of tree ++ rest)
+tree_takes zero s bytes rest e = absurd cc
+tree_takes (suc levels) s [] rest e = absurd cc
+tree_takes (suc levels) s (b ∷ bytes) rest e =
     ⊎_elim
     (λ cut. let is : b ≡ 66 = eqb-true b 66 cut.0 in (CutB, tt, ap (λ x. x ∷ bytes) is ∙ ap (λ l. 66 ∷ l) (same_Some bytes rest cut.1)))
     (λ more. ⊎_elim
@@ -77,7 +76,7 @@ tree_takes (suc levels) s (b ∷ bytes) rest few e =
     (λ branch. ⊎_elim
     (λ trees.
     let is : b ≡ 88 = eqb-true b 88 trees.0 in
-    let r = each_takes (behind_tree levels) s (λ row l after f. tree_takes levels (child s row) l after (omega (arith, child_rows s row)) f) (targets s) bytes rest trees.1 in
+    let r = each_takes (behind_tree levels) s (λ row l after f. tree_takes levels (child s row) l after f) (targets s) bytes rest trees.1 in
     let made = branch_read s (b ∷ bytes) r.0 rest r.1 (ap (λ x. x ∷ bytes) is ∙ ap (λ l. 88 ∷ l) r.2) in
     (Branch (row r.0), made.0, made.1))
     (λ nothing. absurd (none-some rest nothing.1))

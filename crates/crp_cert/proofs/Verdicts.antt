@@ -18,7 +18,7 @@ use Rattle.crp_cert.specs.declared.fault.CertFault.{CertFault}
 use Rattle.crp_cert.specs.declared.fault.CertFault.TheVariants as faults
 use Rattle.crp_cert.specs.Text.{title_line, bay_line, size_line, stated_heights, row_line, bound, claim_line, plan_line, head_text, first_row, size_of, IsSize, IsHead, IsHeadOf, AreRows}
 use Rattle.crp_cert.specs.Faults.{BeginsWith, MayState, AreFirstStacks, IsNextStack, most_claimed, MayClaim, Frame, BeginsWithFrame, BeginsWithStacks, IsFirstFault}
-use Rattle.crp_cert.specs.Reading.{◌>>=◌, title_at, size_at, heights_at, row_at, claim_at, plan_at, IsStackFault}
+use Rattle.crp_cert.specs.Reading.{◌>>=◌, title_at, size_at, heights_at, row_at, claim_at, plan_at}
 use Rattle.crp_cert.proofs.Numbers.{bind_some, if_some}
 use Rattle.crp_cert.proofs.Lines.{row_again, row_takes}
 use Rattle.crp_cert.proofs.Heads.{head_then, size_is, head_states}
@@ -405,11 +405,3 @@ some_answer bytes = by_title (title_at bytes) refl
     by_title : (o : Option (Version × List ℕ)) → title_at bytes ≡ o → Answer bytes
     by_title None e = inr (faults.Opening 1, inl (refl, no_title bytes e))
     by_title (Some x) e = bay_answer bytes x.0 x.1 (title_reader.takes bytes x.0 x.1 e).1
-
--- ---- what the reader met
-
--- a fault among the row lines is a first fault
-pub stack_fault : (bytes : List ℕ) (frame : Frame) (rest : List ℕ) (fault : CertFault) → BeginsWithFrame bytes frame rest → IsStackFault frame.version frame.size frame.heights rest fault → IsFirstFault bytes fault
-stack_fault bytes frame rest fault tells is =
-    subst (IsFirstFault bytes) (sym is.fault_is)
-    (frame, is.stacks, is.rest, record { tells = subst (BeginsWithFrame bytes frame) is.text tells; first = is.first }, is.more, refl, is.none)

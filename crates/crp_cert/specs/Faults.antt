@@ -1,5 +1,6 @@
 -- Which line is the first that is not as said: the lines before it are, and no line that may stand there does.
 use Rattle.std.specs.Prelude.{◌≡◌, ◌≤◌, ◌<◌, ◌⊎◌, ℕ, ◌+◌, ◌-◌, ◌*◌, List, [], ◌∷◌, ◌++◌, length, IfSome, take, replicate}
+use Rattle.std.specs.Coded.{×_prop, Unit-prop, le_prop}
 use Rattle.std.specs.List.{flat_map}
 use Rattle.crp_plan.specs.BayNames.{YardBay, IsYardBay}
 use Rattle.crp_plan.specs.Rows.{occurrences, FitRows, tallest}
@@ -35,6 +36,13 @@ pub record AreFirstStacks (size : Size) (heights : List ℕ) (stacks : List (Lis
   pub in_range : (x : ℕ) → 0 < occurrences x stacks → (1 ≤ x) × (x ≤ size.total)
   pub apart : (x : ℕ) → occurrences x stacks ≤ 1
   pub none_missing : length stacks ≡ size.rows → (x : ℕ) → 1 ≤ x → x ≤ size.total → 0 < occurrences x stacks
+
+-- whether rows are no higher than heights is so in one way
+pub FitRows-prop : (heights : List ℕ) (stacks : List (List ℕ)) → IsProp (FitRows heights stacks)
+FitRows-prop [] [] = Unit-prop
+FitRows-prop [] (stack ∷ stacks) = λ a b. absurd a
+FitRows-prop (height ∷ heights) [] = λ a b. absurd a
+FitRows-prop (height ∷ heights) (stack ∷ stacks) = ×_prop le_prop (FitRows-prop heights stacks)
 
 -- the stack may follow these
 abbrev pub IsNextStack : Size → List ℕ → List (List ℕ) → List ℕ → Type 0

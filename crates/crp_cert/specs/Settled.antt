@@ -1,5 +1,5 @@
 -- Texts that come bit by bit: when the bytes that came decide what a text begins with, whatever follows.
-use Rattle.std.specs.Prelude.{◌≡◌, ◌≢◌, ◌⊎◌, ℕ, ◌*◌, ◌≤◌, List, [], ◌∷◌, ◌++◌, length, codes}
+use Rattle.std.specs.Prelude.{◌≡◌, ◌≢◌, ◌⊎◌, ℕ, ◌≤◌, List, [], ◌∷◌, ◌++◌, length, codes}
 use Rattle.std.specs.List.{AllByRecursion}
 use Rattle.crp_plan.specs.BayNames.{YardBay, IsYardBay}
 use Rattle.crp_plan.specs.Bay.{Problem, Position, IsAt}
@@ -28,10 +28,6 @@ CanBeJudged stop most bytes = HasStop stop bytes ⊎ (most ≤ length bytes)
 -- no line of a head is longer: a plan line has at most 672 numbers of two digits
 abbrev pub longest_line : ℕ
 longest_line = 2021
-
--- no head is longer: it has at most 18 lines, of which 12 are rows
-abbrev pub longest_head : ℕ
-longest_head = 18 * longest_line
 
 -- a path of the problem with at most 8 rows
 abbrev pub IsName : Problem → List ℕ → Type 0

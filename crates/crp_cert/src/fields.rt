@@ -3,7 +3,7 @@ ghost use Rattle.std.specs.Prelude.{◌≡◌, ◌≤◌, ◌<◌, ◌+◌, ◌*
 ghost use Rattle.std.specs.List.{list_all};
 ghost use Rattle.crp_plan.specs.BayNames.{YardBay, IsYardBay};
 ghost use Rattle.crp_cert.specs.Text.{bay_line};
-ghost use Rattle.crp_cert.specs.Reading.{Reads, tag_at, digits_at, number_at, spaced_at, newline_at, numbers_at, word_at, title_at, size_at, heights_line_at, heights_at, bound_at, first_at, claim_at, is_size, is_height, are_heights, name_at, row_at, plan_at};
+ghost use Rattle.crp_cert.specs.Reading.{Reads, tag_at, digits_at, number_at, spaced_at, newline_at, numbers_at, word_at, title_at, size_at, heights_line_at, bound_at, first_at, claim_at, is_size, is_height, are_heights, name_at, row_at, plan_at};
 
 use crate::claim::Claim;
 use crate::rows::Rows;
@@ -182,7 +182,7 @@ fn are_allowed(size: Size, heights: &[u8]) -> bool
 
 /// The heights that a line says under a size.
 #[tactic(auto, unfolding(crate::specs::Reading::heights_line_at))]
-fn heights_line_of(size: Size, bytes: &[u8]) -> Option<(ArrayVec<u8, MAX_ROWS>, &[u8])>
+pub fn heights_line_of(size: Size, bytes: &[u8]) -> Option<(ArrayVec<u8, MAX_ROWS>, &[u8])>
     ensures { Reads (λ x. (x.0.items, x.1.now)) result (heights_line_at size bytes.now) }
 {
     let rest = after_tag(b"heights", bytes)?;
@@ -194,7 +194,7 @@ fn heights_line_of(size: Size, bytes: &[u8]) -> Option<(ArrayVec<u8, MAX_ROWS>, 
 }
 
 /// The tiers for each row.
-fn same_heights(size: Size) -> ArrayVec<u8, MAX_ROWS>
+pub fn same_heights(size: Size) -> ArrayVec<u8, MAX_ROWS>
     requires { size.rows ≤ 12 }
     ensures { result.items ≡ replicate size.rows size.tiers }
 {
@@ -203,21 +203,6 @@ fn same_heights(size: Size) -> ArrayVec<u8, MAX_ROWS>
         heights.push(size.tiers);
     }
     heights
-}
-
-/// The heights that the text of a version states under a size.
-pub fn heights_of(
-    version: Version,
-    size: Size,
-    bytes: &[u8],
-) -> Option<(ArrayVec<u8, MAX_ROWS>, &[u8])>
-    requires { size.rows ≤ 12 }
-    ensures { Reads (λ x. (x.0.items, x.1.now)) result (heights_at version size bytes.now) }
-{
-    match version {
-        Version::One => Some((same_heights(size), bytes)),
-        Version::Two => heights_line_of(size, bytes),
-    }
 }
 
 /// The bound that a line of a word says, up to the cap.

@@ -1,5 +1,5 @@
 -- What the symbols of a part line lead to, and what its end does.
-use Rattle.std.proofs.Common.{◌≡◌, ◌≢◌, ℕ, suc, ◌+◌, ◌-◌, ◌^◌, ◌≤◌, List, [], ◌∷◌, ◌++◌, length, min, All, Option, Some, None, refl, sym, ap, ◌∙◌, subst, arith, append_assoc, length-append}
+use Rattle.std.proofs.Common.{◌≡◌, ◌≢◌, ℕ, suc, ◌+◌, ◌-◌, ◌^◌, List, [], ◌∷◌, ◌++◌, length, min, All, Option, Some, None, refl, sym, ap, ◌∙◌, subst, arith, append_assoc, length-append}
 use Rattle.std.specs.Prelude.{codes, fold}
 use Rattle.std.specs.List.{AllByRecursion, flat_map}
 use Rattle.std.proofs.lemmas.List.{append-nil, map-append}
@@ -20,7 +20,6 @@ use Rattle.crp_cert.proofs.Joined.{all_both}
 use Rattle.crp_cert.proofs.NameOrder.{few_parts}
 use Rattle.crp_cert.proofs.Opening.{begins_on, line_fault}
 use Rattle.crp_cert.proofs.PartFaults.{parts_push, tells_parts}
-use Rattle.crp_cert.proofs.ScriptVerdicts.{few_rows}
 use Rattle.crp_checker.specs.declared.findings.Findings.{Findings}
 use Rattle.crp_checker.specs.declared.need.Need.{Need}
 use Rattle.crp_checker.specs.declared.line.SymbolLine.{SymbolLine}
@@ -114,7 +113,7 @@ not_in_order wanted before name findings kept at not =
 
 -- what the end of the symbols means for the line
 meant : (wanted : Option Problem) (before name : List ℕ) (findings : Findings) (kept : SymbolLine) (end : LineEnd) (at : IsAtPart wanted before findings name kept) → All (λ other. Precedes other name) findings.names →
-    ((need : List ℕ → ℕ) (top : Spot) (bytes : List ℕ) → length top.place.heights ≤ 12 → line_of kept ≡ line_after need top bytes → IsEndOfSymbols need top bytes end) →
+    ((need : List ℕ → ℕ) (top : Spot) (bytes : List ℕ) → line_of kept ≡ line_after need top bytes → IsEndOfSymbols need top bytes end) →
     (more : List ℕ) → IsPartEnd (need_in at.script) at.script.head.problem at.script.parts at.line name (symbols_line name at.symbols ++ more) more end
 meant wanted before name findings kept end at order ends more =
     let script = at.script in
@@ -122,12 +121,12 @@ meant wanted before name findings kept end at order ends more =
     let is : IsProblem p = at.begins.is_head.problem in
     let comes = comes_after script.parts name (subst (All (λ other. Precedes other name)) at.are.names_are order) in
     part_lines_end (need_in script) p script.parts at.line name at.place at.symbols more end is at.short at.is_at (All-from_recursion (λ b. b ≢ 10) at.symbols at.one_line) comes
-    (ends (need_in script) (record { path = name; place = at.place }) at.symbols (few_rows p name at.place is at.is_at) at.kept_is)
+    (ends (need_in script) (record { path = name; place = at.place }) at.symbols at.kept_is)
 
 -- a fault of the symbols
 pub symbols_fault : (wanted : Option Problem) (before name : List ℕ) (findings : Findings) (kept : SymbolLine) (end : LineEnd) (fault : CertFault) (at : IsAtPart wanted before findings name kept) →
     All (λ other. Precedes other name) findings.names →
-    ((need : List ℕ → ℕ) (top : Spot) (bytes : List ℕ) → length top.place.heights ≤ 12 → line_of kept ≡ line_after need top bytes → IsEndOfSymbols need top bytes end) →
+    ((need : List ℕ → ℕ) (top : Spot) (bytes : List ℕ) → line_of kept ≡ line_after need top bytes → IsEndOfSymbols need top bytes end) →
     ((p : Problem) (parts : List Part) (need : List ℕ → ℕ) (line : ℕ) (bytes after : List ℕ) → line ≡ findings.line → IsPartEnd need p parts line name bytes after end → IsLineFault p parts line bytes fault) → IsFaulty (before ++ 10 ∷ []) (Some findings.bay) fault
 symbols_fault wanted before name findings kept end fault at order ends is =
     at_fault wanted before name findings kept fault at
@@ -196,7 +195,7 @@ pub record IsWithPart (old new : Findings) (name : List ℕ) (w : Option Wrong) 
 
 pub part_ended : (wanted : Option Problem) (before name : List ℕ) (old new : Findings) (kept : SymbolLine) (end : LineEnd) (begun : List ℕ) (w : Option Wrong) (given : List (List ℕ)) → IsAtPart wanted before old name kept →
     All (λ other. Precedes other name) old.names →
-    ((need : List ℕ → ℕ) (top : Spot) (bytes : List ℕ) → length top.place.heights ≤ 12 → line_of kept ≡ line_after need top bytes → IsEndOfSymbols need top bytes end) →
+    ((need : List ℕ → ℕ) (top : Spot) (bytes : List ℕ) → line_of kept ≡ line_after need top bytes → IsEndOfSymbols need top bytes end) →
     ((p : Problem) (parts : List Part) (need : List ℕ → ℕ) (line : ℕ) (bytes after : List ℕ) → IsPartEnd need p parts line name bytes after end → IsNextPart need p parts name bytes after w given) →
     IsWithPart old new name w given → begun ≡ [] → IsAtLine wanted (before ++ 10 ∷ []) new begun
 part_ended wanted before name old new kept end begun w given at order ends whole is none =

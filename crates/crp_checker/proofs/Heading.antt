@@ -1,62 +1,91 @@
--- What the bytes of a head lead to, byte by byte.
-use Rattle.std.proofs.Common.{◌≡◌, ◌≢◌, ℕ, ◌≤◌, List, [], ◌∷◌, ◌++◌, length, Option, Some, None, refl, sym, ap, ◌∙◌, subst, arith, append_assoc, inl, IfSome, IfNone}
-use Rattle.std.specs.Prelude.{codes}
-use Rattle.std.specs.List.{flat_map}
+-- What the lines of a head lead to, one by one.
+use Rattle.std.proofs.Common.{◌≡◌, ◌≢◌, ◌≤◌, ◌⊎◌, ℕ, List, length, [], ◌∷◌, ◌++◌, Option, sym, ap, ◌∙◌, subst, arith, append_assoc, inl, inr, ⊎_elim}
+use Rattle.std.specs.List.{AllByRecursion, flat_map}
 use Rattle.std.proofs.lemmas.List.{append-nil}
 use Rattle.crp_plan.specs.Bay.{Problem}
-use Rattle.crp_plan.specs.BayNames.{YardBay}
+use Rattle.crp_plan.specs.Faults.{stacks_of}
 use Rattle.crp_cert.specs.declared.head.Head.{Head}
-use Rattle.crp_cert.specs.declared.fault.CertFault.{CertFault}
 use Rattle.crp_cert.specs.declared.script.Script.{Script}
-use Rattle.crp_cert.specs.Text.{title_line, bay_line, size_line, stated_heights, first_part, size_of, row_line, claim_line, plan_line, spaced, head_text, IsHead, IsHeadOf}
+use Rattle.crp_cert.specs.declared.version.Version.TheVariants.{Two}
+use Rattle.crp_cert.specs.declared.bay_rows.BayRows.{BayRows}
+use Rattle.crp_cert.specs.declared.head_lines.HeadLines.{HeadLines}
+use Rattle.crp_cert.specs.declared.head_lines.HeadLines.TheVariants as lines
+use Rattle.crp_cert.specs.declared.head_lines.HeadRead.{HeadRead}
+use Rattle.crp_cert.specs.Text.{title_line, bay_line, size_line, stated_heights, row_line, claim_line, first_part, head_text, IsHead}
 use Rattle.crp_cert.specs.Faults.{IsFirstFault}
-use Rattle.crp_cert.specs.Settled.{longest_head, BeginsWithBay}
-use Rattle.crp_cert.proofs.Settled.{fault_stays, no_bay_stays}
-use Rattle.crp_cert.proofs.Verdicts.{apart}
+use Rattle.crp_cert.specs.Settled.{longest_line}
+use Rattle.crp_cert.specs.LinesOfHead.{HasLines, HasRead, HasNoLine, IsLineRead, fault_behind, bay_of}
+use Rattle.crp_cert.proofs.Settled.{no_stop}
+use Rattle.crp_cert.proofs.Readers.{once, title_reader}
+use Rattle.crp_cert.proofs.LinesOfHead.{settled, fault_is}
 use Rattle.crp_checker.specs.declared.findings.Findings.{Findings}
-use Rattle.crp_checker.specs.Stages.{first_script, AreFindings, HasNoHead, IsOpenLine, IsAtLine, IsFaulty}
-use Rattle.crp_checker.proofs.Growing.{grown, grown_by}
+use Rattle.crp_checker.specs.Stages.{first_script, AreFindings, IsInHead, IsLineEnd, IsOpenLine, IsAtLine, IsBayIn, IsFaulty}
+use Rattle.crp_checker.proofs.Growing.{grown}
 
--- a head ends with LF
-head_ends : (head : Head) → (body : List ℕ) × (head_text head ≡ body ++ 10 ∷ [])
-head_ends head =
-    let p = head.problem in
-    let plan = plan_ends head.plan in
-    let a : List ℕ = claim_line head.claim in
-    let b : List ℕ = flat_map row_line p.stacks in
-    let c : List ℕ = size_line (size_of p) in
-    let d : List ℕ = bay_line head.bay in
-    let e : List ℕ = stated_heights head.version p.heights in
-    behind (title_line head.version) _ (behind d _ (behind c _ (behind e _ (behind b _ (behind a _ plan)))))
-  where
-    EndsWithLf : List ℕ → Type 0
-    EndsWithLf text = (body : List ℕ) × (text ≡ body ++ 10 ∷ [])
+-- three texts, and more behind them
+behind : (a b c more : List ℕ) → (a ++ (b ++ c)) ++ more ≡ a ++ (b ++ (c ++ more))
+behind a b c more = append_assoc a (b ++ c) more ∙ ap (λ l. a ++ l) (append_assoc b c more)
 
-    behind : (a text : List ℕ) → (body : List ℕ) × (text ≡ body ++ 10 ∷ []) → (body : List ℕ) × (a ++ text ≡ body ++ 10 ∷ [])
-    behind a text ends = (a ++ ends.0, ap (λ l. a ++ l) ends.1 ∙ sym (append_assoc a ends.0 (10 ∷ [])))
+-- what stands behind the name of the bay
+below_name : BayRows → List ℕ
+below_name rows = size_line rows.size ++ (stated_heights rows.version rows.heights.items ++ flat_map row_line (stacks_of rows.stacks.items))
 
-    plan_ends : (plan : Option (List ℕ)) → (body : List ℕ) × (plan_line plan ≡ body ++ 10 ∷ [])
-    plan_ends None = (codes "plan -", refl)
-    plan_ends (Some rows) = (codes "plan" ++ spaced rows, sym (append_assoc (codes "plan") (spaced rows) (10 ∷ [])))
+-- the bay that is named, where no line more may stand there
+bay_in : (bytes rest : List ℕ) (all : HeadLines) → HasLines bytes all → HasNoLine all rest → IsBayIn (bytes ++ rest) (bay_of all)
+unfolding below_name
+bay_in bytes rest lines.Start has none = λ name stands. none (stands.1.0, tt, (bay_line name ++ stands.1.1, sym (ap (λ l. l ++ rest) has) ∙ stands.1.2))
+bay_in bytes rest (lines.Title version) has none = λ name stands.
+    let same = once title_reader version stands.1.0 rest (bay_line name ++ stands.1.1) tt tt (sym (ap (λ l. l ++ rest) has) ∙ stands.1.2) in
+    none (name, stands.0, (stands.1.1, same.1))
+bay_in bytes rest (lines.Bay version bay) has none = (has.0, (version, rest, ap (λ l. l ++ rest) has.1 ∙ append_assoc (title_line version) (bay_line bay) rest))
+bay_in bytes rest (lines.Size sized) has none = (has.0, (Two, size_line sized.size ++ rest, ap (λ l. l ++ rest) has.1 ∙ behind (title_line Two) (bay_line sized.bay) (size_line sized.size) rest))
+bay_in bytes rest (lines.Rows rows) has none = (has.0.0, (rows.version, below_name rows ++ rest, ap (λ l. l ++ rest) has.1 ∙ behind (title_line rows.version) (bay_line rows.bay) (below_name rows) rest))
+bay_in bytes rest (lines.Claim claimed) has none =
+    let rows : BayRows = claimed.rows in
+    let claim : List ℕ = claim_line claimed.claim in (
+      has.0.0,
+      (
+        rows.version,
+        (below_name rows ++ claim) ++ rest,
+        ap (λ l. l ++ rest) (has.2 ∙ behind (title_line rows.version) (bay_line rows.bay) (below_name rows) claim) ∙ behind (title_line rows.version) (bay_line rows.bay) (below_name rows ++ claim) rest,
+      ),
+    )
 
--- where no head stood before, and another byte than LF came, none stands
-pub no_head_yet : (old new : List ℕ) (b : ℕ) → new ≡ old ++ b ∷ [] → b ≢ 10 → HasNoHead old → HasNoHead new
-no_head_yet old new b added other none head stands =
-    let rest = stands.1.0 in
-    let text = sym added ∙ stands.1.1 in
-    let empty = grown old b (head_text head) rest text (λ r e. none head (stands.0, (r, e))) in
-    let ends = head_ends head in
-    other (grown_by old b (head_text head) rest ends.0 10 text empty ends.1)
+-- bytes that end in a head
+pub head_ends : (bytes : List ℕ) (all : HeadLines) (begun : List ℕ) → IsInHead bytes all begun → IsFirstFault bytes (fault_behind all)
+head_ends bytes all begun at = subst (λ l. IsFirstFault l (fault_behind all)) (sym at.is) (fault_is at.above begun all at.has ((settled all).not_yet begun at.one_line))
 
--- bytes with a fault are no head
-pub no_head : (bytes : List ℕ) (fault : CertFault) → IsFirstFault bytes fault → HasNoHead bytes
-no_head bytes fault is head stands = apart bytes head fault stands is
+pub head_bay : (bytes : List ℕ) (all : HeadLines) (begun : List ℕ) → IsInHead bytes all begun → IsBayIn bytes (bay_of all)
+head_bay bytes all begun at = subst (λ l. IsBayIn l (bay_of all)) (sym at.is) (bay_in at.above begun all at.has ((settled all).not_yet begun at.one_line))
 
--- a head that stands where none stood before is all that came
-pub head_alone : (old new : List ℕ) (b : ℕ) (head : Head) → new ≡ old ++ b ∷ [] → HasNoHead old → IsHeadOf new head → head_text head ≡ new
-head_alone old new b head added none stands =
-    let empty = grown old b (head_text head) stands.1.0 (sym added ∙ stands.1.1) (λ r e. none head (stands.0, (r, e))) in
-    sym (stands.1.1 ∙ ap (λ l. head_text head ++ l) empty ∙ append-nil (head_text head))
+-- a line that may not stand there
+pub line_is_faulty : (before line : List ℕ) (all : HeadLines) → HasLines before all → IsLineEnd line → HasNoLine all line → IsFaulty (before ++ line) (bay_of all) (fault_behind all)
+line_is_faulty before line all has ends none = record {
+  fault_stays = λ more. inl (subst (λ l. IsFirstFault l (fault_behind all)) (sym (append_assoc before line more)) (fault_is before (line ++ more) all has ((settled all).stays line more ends.judged none)));
+  bay_stays = λ more. subst (λ l. IsBayIn l (bay_of all)) (sym (append_assoc before line more)) (bay_in before (line ++ more) all has ((settled all).stays line more ends.judged none));
+}
+
+-- a line that may is read as a whole
+pub line_is_read : (before line rest : List ℕ) (all : HeadLines) (next : HeadRead) → HasLines before all → IsLineEnd line → IsLineRead all line next rest → HasRead (before ++ line) next
+line_is_read before line rest all next has ends step =
+    let own = step.ends in
+    let empty = grown ends.begun ends.last step.line rest (sym ends.is ∙ step.is)
+    (λ r e. no_stop 10 own.body r (subst (AllByRecursion (λ b. b ≢ 10)) (e ∙ ap (λ l. l ++ r) own.is ∙ append_assoc own.body (10 ∷ []) r) ends.one_line)) in
+    subst (λ l. HasRead (before ++ l) next) (sym (step.is ∙ ap (λ l. step.line ++ l) empty ∙ append-nil step.line)) (step.leads before has)
+
+-- a byte with which a line can be judged
+pub line_ends : (old new : List ℕ) (b : ℕ) → AllByRecursion (λ x. x ≢ 10) old → new ≡ old ++ b ∷ [] → (b ≡ 10) ⊎ (longest_line ≤ length new) → IsLineEnd new
+line_ends old new b one_line added judged = record {
+  begun = old;
+  last = b;
+  one_line = one_line;
+  is = added;
+  judged = ⊎_elim (λ lf. inl (record { body = old; rest = []; before = one_line; is = added ∙ ap (λ x. old ++ x ∷ []) lf })) (λ long. inr long) judged;
+}
+
+-- more of a line
+pub placed : (before above begun more new : List ℕ) → before ≡ above ++ begun → new ≡ begun ++ more → above ++ new ≡ before ++ more
+placed before above begun more new is added = ap (λ l. above ++ l) added ∙ sym (append_assoc above begun more) ∙ ap (λ l. l ++ more) (sym is)
 
 -- no line has begun
 pub nothing_begun : (script : Script) → IsOpenLine script []
@@ -78,18 +107,3 @@ first_line wanted head findings begun is are none = subst (IsAtLine wanted (head
       };
       is_open = nothing_begun (first_script head);
     })
-
--- bytes no shorter than any head that begin with none have their fault, and name their bay, for good
-pub for_good : (bytes : List ℕ) (bay : Option YardBay) (fault : CertFault) → longest_head ≤ length bytes → IsFirstFault bytes fault → IfSome bay (BeginsWithBay bytes) →
-    IfNone bay ((name : YardBay) → ¬ BeginsWithBay bytes name) → IsFaulty bytes bay fault
-for_good bytes (Some name) fault long is found none = record {
-  fault_stays = λ more. inl (fault_stays bytes more fault long is);
-  bay_stays = λ more.
-      let title : List ℕ = title_line found.1.0 in
-      let rest : List ℕ = found.1.1 in
-      (found.0, (found.1.0, rest ++ more, ap (λ l. l ++ more) found.1.2 ∙ append_assoc title (bay_line name ++ rest) more ∙ ap (λ l. title ++ l) (append_assoc (bay_line name) rest more)));
-}
-for_good bytes None fault long is found none = record {
-  fault_stays = λ more. inl (fault_stays bytes more fault long is);
-  bay_stays = λ more name. no_bay_stays bytes more name long none;
-}

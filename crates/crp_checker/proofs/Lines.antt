@@ -211,12 +211,12 @@ goes_far need top bytes (b ∷ more) line is =
     (goes_far need top (bytes ++ b ∷ []) more (after need line b) (step need top bytes b line.walked line.trailing line.unknown is))
 
 -- the line from its begin
-from_begin : (need : List ℕ → ℕ) (top : Spot) (bytes : List ℕ) → length top.place.heights ≤ 12 → LineIs need top bytes (line_after need top bytes)
-from_begin need top bytes few = goes_far need top [] bytes (line_begun top) (record {
+from_begin : (need : List ℕ → ℕ) (top : Spot) (bytes : List ℕ) → LineIs need top bytes (line_after need top bytes)
+from_begin need top bytes = goes_far need top [] bytes (line_begun top) (record {
   symbols = [];
   rest = [];
   bytes_are = refl;
-  way = sets_out need top few;
+  way = sets_out need top;
   are = no_symbols;
   none = λ f. refl;
   some = λ t. absurd cc;
@@ -261,28 +261,28 @@ ends need top bytes walked false false sound = (sound.are, by_owed walked.owed r
     by_owed (spot ∷ owed) e = λ stands. not_whole need top sound.symbols walked spot owed sound.way e (subst (BeginsWithTree top.place) same stands)
 
 -- what is known of a line when it ends is what the definitions of certificates say of its symbols
-pub symbols_are_met : (need : List ℕ → ℕ) (top : Spot) (bytes : List ℕ) → length top.place.heights ≤ 12 →
+pub symbols_are_met : (need : List ℕ → ℕ) (top : Spot) (bytes : List ℕ) →
     Ends need top bytes (line_after need top bytes).walked (line_after need top bytes).trailing (line_after need top bytes).unknown
-symbols_are_met need top bytes few = ends need top bytes (line_after need top bytes).walked (line_after need top bytes).trailing (line_after need top bytes).unknown (from_begin need top bytes few)
+symbols_are_met need top bytes = ends need top bytes (line_after need top bytes).walked (line_after need top bytes).trailing (line_after need top bytes).unknown (from_begin need top bytes)
 
 -- ---- the end of a line that is kept
 
 -- what is known of it
-known : (need : List ℕ → ℕ) (top : Spot) (bytes : List ℕ) (line : Line) → length top.place.heights ≤ 12 → line ≡ line_after need top bytes → Ends need top bytes line.walked line.trailing line.unknown
-known need top bytes line few e = subst (λ (l : Line). Ends need top bytes l.walked l.trailing l.unknown) (sym e) (symbols_are_met need top bytes few)
+known : (need : List ℕ → ℕ) (top : Spot) (bytes : List ℕ) (line : Line) → line ≡ line_after need top bytes → Ends need top bytes line.walked line.trailing line.unknown
+known need top bytes line e = subst (λ (l : Line). Ends need top bytes l.walked l.trailing l.unknown) (sym e) (symbols_are_met need top bytes)
 
-pub ends_unknown : (need : List ℕ → ℕ) (top : Spot) (bytes : List ℕ) (line : Line) → length top.place.heights ≤ 12 → line ≡ line_after need top bytes → line.unknown ≡ true → ¬ AreSymbols bytes
-ends_unknown need top bytes line few e u = subst (Ends need top bytes line.walked line.trailing) u (known need top bytes line few e)
+pub ends_unknown : (need : List ℕ → ℕ) (top : Spot) (bytes : List ℕ) (line : Line) → line ≡ line_after need top bytes → line.unknown ≡ true → ¬ AreSymbols bytes
+ends_unknown need top bytes line e u = subst (Ends need top bytes line.walked line.trailing) u (known need top bytes line e)
 
-pub ends_trailing : (need : List ℕ → ℕ) (top : Spot) (bytes : List ℕ) (line : Line) → length top.place.heights ≤ 12 → line ≡ line_after need top bytes → line.unknown ≡ false → line.trailing ≡ true →
+pub ends_trailing : (need : List ℕ → ℕ) (top : Spot) (bytes : List ℕ) (line : Line) → line ≡ line_after need top bytes → line.unknown ≡ false → line.trailing ≡ true →
     AreSymbols bytes × GoesOnBehindTree top.place bytes
-ends_trailing need top bytes line few e u t =
-    subst (λ b. Ends need top bytes line.walked b false) t (subst (Ends need top bytes line.walked line.trailing) u (known need top bytes line few e))
+ends_trailing need top bytes line e u t =
+    subst (λ b. Ends need top bytes line.walked b false) t (subst (Ends need top bytes line.walked line.trailing) u (known need top bytes line e))
 
-pub ends_walk : (need : List ℕ → ℕ) (top : Spot) (bytes : List ℕ) (line : Line) → length top.place.heights ≤ 12 → line ≡ line_after need top bytes → line.unknown ≡ false → line.trailing ≡ false →
+pub ends_walk : (need : List ℕ → ℕ) (top : Spot) (bytes : List ℕ) (line : Line) → line ≡ line_after need top bytes → line.unknown ≡ false → line.trailing ≡ false →
     AreSymbols bytes × EndsWalk need top bytes line.walked.owed line.walked.wrong line.walked.given
-ends_walk need top bytes line few e u t =
-    subst (λ b. Ends need top bytes line.walked b false) t (subst (Ends need top bytes line.walked line.trailing) u (known need top bytes line few e))
+ends_walk need top bytes line e u t =
+    subst (λ b. Ends need top bytes line.walked b false) t (subst (Ends need top bytes line.walked line.trailing) u (known need top bytes line e))
 
 -- where a tree is owed it is not whole
 pub still_owed : (need : List ℕ → ℕ) (top : Spot) (bytes : List ℕ) (owes : Bool) (row : Option ℕ) (path : List ℕ) (s : PlaceAndTrail) (levels : List Level) (wrong : Option Wrong) (given : List (List ℕ)) →

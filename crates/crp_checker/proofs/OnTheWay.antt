@@ -1,22 +1,19 @@
 -- What is known after each symbol of a part.
-use Rattle.std.proofs.Common.{◌≡◌, ℕ, suc, ◌+◌, ◌<◌, ◌≤◌, Bool, true, false, cond, nat_lt, ◌==◌, List, [], ◌∷◌, ◌++◌, length, Option, Some, None, refl, sym, ap, ◌∙◌, subst, arith, append_assoc, append-nil, length-append, eq-eqb}
+use Rattle.std.proofs.Common.{◌≡◌, ℕ, suc, ◌+◌, ◌<◌, Bool, true, false, cond, nat_lt, ◌==◌, List, [], ◌∷◌, ◌++◌, length, Option, Some, None, refl, sym, ap, ◌∙◌, subst, arith, append_assoc, append-nil, length-append, eq-eqb}
 use Rattle.std.specs.Option.{option_or}
 use Rattle.std.specs.List.{AllByRecursion, flat_map}
 use Rattle.std.proofs.lemmas.Bool.{ltb-true, lt-ltb, eqb-true}
 use Rattle.std.proofs.lemmas.List.{map-append, length-map}
-use Rattle.crp_plan.specs.Bay.{Position}
-use Rattle.crp_bay.specs.Positions.{targets}
 use Rattle.crp_bounds.specs.Bounds.{blocking, look_ahead}
 use Rattle.crp_tree.specs.Tree.{Tree, CutB, CutL, Branch, Given}
 use Rattle.crp_tree.specs.Trees.{Mark, B, L, X, G, Node, nodes, letter, given_names, is_cut}
 use Rattle.crp_tree.proofs.Nodes.{given_names-append}
 use Rattle.crp_cert.specs.Script.{symbols_of}
 use Rattle.crp_cert.specs.ScriptFaults.{BeginsWithTree}
-use Rattle.crp_cert.proofs.PartNames.{child_rows}
 use Rattle.crp_checker.specs.declared.wrong.Wrong.{Wrong}
 use Rattle.crp_checker.specs.declared.wrong.Wrong.TheVariants.{Low, AtEnd}
 use Rattle.crp_checker.specs.Nodes.{IsLow, IsAtEnd, IsRight, IsFirstWrong}
-use Rattle.crp_checker.specs.Owed.{Spot, node_at, spots_below, owed_behind, Pay, nodes_of_all}
+use Rattle.crp_checker.specs.Owed.{Spot, node_at, owed_behind, Pay, nodes_of_all}
 use Rattle.crp_checker.specs.Symbols.{Walked, wrong_at, walked_on, begun, IsFirstOf, IsCompleted, IsOnItsWay}
 use Rattle.crp_checker.proofs.Paid.{IsPaid, pay, Behind, behind}
 use Rattle.crp_cert.proofs.Joined.{all_both}
@@ -85,22 +82,6 @@ wrong_after need k mark spot before None first number = wrong_next need k mark s
 wrong_after need k mark spot before (Some (Low n)) first number = still_wrong need (IsLow need) before (node_at spot mark) n first
 wrong_after need k mark spot before (Some (AtEnd n)) first number = still_wrong need IsAtEnd before (node_at spot mark) n first
 
--- ---- the rows of what is owed
-
--- the position has no more than 12 rows
-abbrev HasRows : Spot → Type 0
-HasRows spot = length spot.place.heights ≤ 12
-
-few_below : (path : List ℕ) (s : Position) (rows : List ℕ) → length s.heights ≤ 12 → AllByRecursion HasRows (spots_below path s rows)
-few_below path s [] few = tt
-few_below path s (row ∷ rows) few = (omega (arith, child_rows s row), few_below path s rows few)
-
-few_behind : (mark : Mark) (spot : Spot) (owed : List Spot) → AllByRecursion HasRows (spot ∷ owed) → AllByRecursion HasRows (owed_behind mark spot owed)
-few_behind B spot owed few = few.1
-few_behind L spot owed few = few.1
-few_behind X spot owed few = all_both HasRows (spots_below spot.path spot.place (targets spot.place)) owed (few_below spot.path spot.place (targets spot.place) few.0) few.1
-few_behind G spot owed few = few.1
-
 -- ---- from symbol to symbol
 
 -- the letter of a node's mark
@@ -108,14 +89,13 @@ abbrev letter_of : Node → ℕ
 letter_of node = letter node.mark
 
 -- a walk begins
-pub sets_out : (need : List ℕ → ℕ) (top : Spot) → length top.place.heights ≤ 12 → IsOnItsWay need top [] (begun top)
-sets_out need top few = record {
+pub sets_out : (need : List ℕ → ℕ) (top : Spot) → IsOnItsWay need top [] (begun top)
+sets_out need top = record {
   list = [];
   letters = refl;
   counted = refl;
   wrong = tt;
   given_are = refl;
-  few = (few, tt);
   completes = alone;
   only = λ tree rest more m e. (tree ∷ [], (m, tt), e ∙ ap (λ l. l ++ rest) (sym (append-nil (symbols_of tree))));
 }
@@ -134,14 +114,10 @@ goes_on need top symbols walked mark spot owed way e = record {
   counted = omega (arith, way.counted, length-append symbols (letter mark ∷ []));
   wrong = wrong_after need (walked.count + 1) mark spot way.list walked.wrong way.wrong (omega (arith, way.counted, as_many));
   given_are = ap (λ l. l ++ given_names (node_at spot mark ∷ [])) way.given_are ∙ sym (given_names-append way.list (node_at spot mark ∷ []));
-  few = few_behind mark spot owed few;
-  completes = λ trees pays. completed trees (pay mark spot owed trees few.0 pays);
+  completes = λ trees pays. completed trees (pay mark spot owed trees pays);
   only = λ tree rest more m f. behind_it more rest (way.only tree rest (letter mark ∷ more) m (sym (append_assoc symbols (letter mark ∷ []) more) ∙ f));
 }
   where
-    few : AllByRecursion HasRows (spot ∷ owed)
-    few = subst (AllByRecursion HasRows) e way.few
-
     as_many : length way.list ≡ length symbols
     as_many = sym (length-map way.list letter_of) ∙ ap length way.letters
 

@@ -1,11 +1,10 @@
 -- What a symbol pays of what is owed.
-use Rattle.std.proofs.Common.{◌≡◌, ℕ, zero, suc, ◌≤◌, ⊎_elim, Bool, List, [], ◌∷◌, ◌++◌, length, filter, refl, sym, ap, ◌∙◌, arith, append_assoc, append-nil}
+use Rattle.std.proofs.Common.{◌≡◌, ℕ, List, [], ◌∷◌, ◌++◌, refl, sym, ap, ◌∙◌, arith, append_assoc, append-nil}
 use Rattle.std.specs.Prelude.{codes}
 use Rattle.std.specs.List.{flat_map}
-use Rattle.std.proofs.lemmas.Bool.{cases_Bool}
 use Rattle.std.proofs.lemmas.List.Concat.{flat_map-append}
 use Rattle.crp_plan.specs.Bay.{Position}
-use Rattle.crp_bay.specs.Positions.{can_shift, child, counted, targets}
+use Rattle.crp_bay.specs.Positions.{child, targets}
 use Rattle.crp_tree.specs.Tree.{Tree, CutB, CutL, Branch, Given, Trees, no_trees, one_and, items, row}
 use Rattle.crp_tree.specs.Trees.{Mark, B, L, X, G, nodes, letter, Fits}
 use Rattle.crp_tree.specs.Listed.{nodes_below, AreFit}
@@ -13,23 +12,6 @@ use Rattle.crp_tree.proofs.Listed.{branch_of, list_fits}
 use Rattle.crp_cert.specs.Script.{symbols_of, symbols_of_each}
 use Rattle.crp_cert.proofs.Symbols.{branch_read}
 use Rattle.crp_checker.specs.Owed.{Spot, node_at, spots_below, owed_behind, Pay, nodes_of_all}
-
--- ---- trees that a branch keeps
-
--- there are no more legal rows than rows
-few_targets : (s : Position) → length (targets s) ≤ length s.heights
-few_targets s = omega (arith, fewer (can_shift s) (counted 1 (length s.heights)), as_many 1 (length s.heights))
-  where
-    as_many : (from more : ℕ) → length (counted from more) ≡ more
-    as_many from zero = refl
-    as_many from (suc more) = ap suc (as_many (suc from) more)
-
-    fewer : (p : ℕ → Bool) (xs : List ℕ) → length (filter p xs) ≤ length xs
-    fewer p [] = omega arith
-    fewer p (x ∷ xs) = ⊎_elim
-        (λ t. rw t (let h = fewer p xs in omega arith))
-        (λ f. rw f (let h = fewer p xs in omega arith))
-        (cases_Bool (p x))
 
 -- ---- what pays two lists of spots
 
@@ -71,12 +53,6 @@ rows_fit path s [] (tree ∷ trees) pays = absurd pays
 rows_fit path s (row ∷ rows) [] pays = absurd pays
 rows_fit path s (row ∷ rows) (tree ∷ trees) pays = (pays.0, rows_fit path s rows trees pays.1)
 
-as_many : (path : List ℕ) (s : Position) (rows : List ℕ) (trees : List Tree) → Pay (spots_below path s rows) trees → length trees ≡ length rows
-as_many path s [] [] pays = refl
-as_many path s [] (tree ∷ trees) pays = absurd pays
-as_many path s (row ∷ rows) [] pays = absurd pays
-as_many path s (row ∷ rows) (tree ∷ trees) pays = ap suc (as_many path s rows trees pays.1)
-
 nodes_of_rows : (path : List ℕ) (s : Position) (rows : List ℕ) (trees : List Tree) → nodes_below path s rows trees ≡ nodes_of_all (spots_below path s rows) trees
 nodes_of_rows path s [] trees = refl
 nodes_of_rows path s (row ∷ rows) [] = refl
@@ -104,8 +80,8 @@ pub record IsPaid (mark : Mark) (spot : Spot) (owed : List Spot) (trees : List T
   pub nodes_are : nodes spot.path spot.place first ++ nodes_of_all owed others ≡ node_at spot mark ∷ nodes_of_all (owed_behind mark spot owed) trees
 
 -- a branch whose trees pay
-branch_paid : (spot : Spot) (owed : List Spot) (trees : List Tree) → length spot.place.heights ≤ 12 → Split (spots_below spot.path spot.place (targets spot.place)) owed trees → IsPaid X spot owed trees
-branch_paid spot owed trees few r =
+branch_paid : (spot : Spot) (owed : List Spot) (trees : List Tree) → Split (spots_below spot.path spot.place (targets spot.place)) owed trees → IsPaid X spot owed trees
+branch_paid spot owed trees r =
     let below : List Spot = spots_below spot.path spot.place (targets spot.place) in
     let made = branch_read spot.place (88 ∷ flat_map symbols_of r.first) r.first [] (rows_fit spot.path spot.place (targets spot.place) r.first r.pays)
     (sym (append-nil (codes "X" ++ flat_map symbols_of r.first))) in
@@ -122,11 +98,11 @@ branch_paid spot owed trees few r =
           ∙ sym (nodes_joined below owed r.first r.second r.pays) ∙ ap (nodes_of_all (below ++ owed)) (sym r.are));
     }
 
-pub pay : (mark : Mark) (spot : Spot) (owed : List Spot) (trees : List Tree) → length spot.place.heights ≤ 12 → Pay (owed_behind mark spot owed) trees → IsPaid mark spot owed trees
-pay B spot owed trees few pays = record { first = CutB; others = trees; pays = (tt, pays); symbols_are = refl; nodes_are = refl }
-pay L spot owed trees few pays = record { first = CutL; others = trees; pays = (tt, pays); symbols_are = refl; nodes_are = refl }
-pay X spot owed trees few pays = branch_paid spot owed trees few (split (spots_below spot.path spot.place (targets spot.place)) owed trees pays)
-pay G spot owed trees few pays = record { first = Given; others = trees; pays = (tt, pays); symbols_are = refl; nodes_are = refl }
+pub pay : (mark : Mark) (spot : Spot) (owed : List Spot) (trees : List Tree) → Pay (owed_behind mark spot owed) trees → IsPaid mark spot owed trees
+pay B spot owed trees pays = record { first = CutB; others = trees; pays = (tt, pays); symbols_are = refl; nodes_are = refl }
+pay L spot owed trees pays = record { first = CutL; others = trees; pays = (tt, pays); symbols_are = refl; nodes_are = refl }
+pay X spot owed trees pays = branch_paid spot owed trees (split (spots_below spot.path spot.place (targets spot.place)) owed trees pays)
+pay G spot owed trees pays = record { first = Given; others = trees; pays = (tt, pays); symbols_are = refl; nodes_are = refl }
 
 -- ---- the symbol of a tree
 

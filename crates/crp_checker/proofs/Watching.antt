@@ -1,8 +1,9 @@
 -- One byte more of a certificate in a file.
 use Rattle.std.proofs.Common.{◌≡◌, ◌≢◌, ℕ, List, [], ◌∷◌, ◌++◌, refl, sym, ap, ◌∙◌, subst, append_assoc}
 use Rattle.std.specs.Prelude.{codes}
+use Rattle.std.specs.List.{AllByRecursion}
 use Rattle.std.proofs.lemmas.List.{append-nil}
-use Rattle.std.proofs.lemmas.List.Elements.{All-push, All-nil}
+use Rattle.std.proofs.lemmas.List.Elements.{All-nil, All-from_recursion, recursion_from_All}
 use Rattle.std.proofs.lemmas.Grind.{flat_map-append}
 use Rattle.crp_cert.proofs.Joined.{all_both}
 use Rattle.crp_checker.specs.declared.watch.Watch.{Watch}
@@ -11,13 +12,13 @@ use Rattle.crp_checker.specs.Files.{BeginsWithEnd, IsOtherLine, joined_lines}
 use Rattle.crp_checker.specs.Watches.{IsWatched, IsUnended}
 
 -- a line goes on
-goes_on : (text : List ℕ) (b : ℕ) (old new : Watch) → b ≢ 10 → (un : IsUnended text old) → IsWatched (un.begun ++ b ∷ []) new → IsUnended (text ++ b ∷ []) new
-goes_on text b old new not un watched = record {
+goes_on : (text piece : List ℕ) (watch : Watch) → AllByRecursion (λ b. b ≢ 10) piece → (un : IsUnended text watch) → IsWatched (un.begun ++ piece) watch → IsUnended (text ++ piece) watch
+goes_on text piece watch all un watched = record {
   lines = un.lines;
-  begun = un.begun ++ b ∷ [];
+  begun = un.begun ++ piece;
   others = un.others;
-  open_line = All-push (λ x. x ≢ 10) un.begun b un.open_line not;
-  is = ap (λ l. l ++ b ∷ []) un.is ∙ append_assoc (joined_lines un.lines) un.begun (b ∷ []);
+  open_line = All-from_recursion (λ b. b ≢ 10) (un.begun ++ piece) (all_both (λ b. b ≢ 10) un.begun piece (recursion_from_All (λ b. b ≢ 10) un.begun un.open_line) all);
+  is = ap (λ l. l ++ piece) un.is ∙ append_assoc (joined_lines un.lines) un.begun piece;
   watched = watched;
 }
 
@@ -58,8 +59,12 @@ line_ends text Last not un = absurd (not refl)
 line_ends text Other not un = other_ends text Other un (λ is. un.watched (10 ∷ []) is)
 
 -- more of a line that is no last line
-pub other_goes_on : (text : List ℕ) (b : ℕ) → b ≢ 10 → IsUnended text Other → IsUnended (text ++ b ∷ []) Other
-other_goes_on text b not un = goes_on text b Other Other not un (λ more is. un.watched (b ∷ more) (subst (λ l. BeginsWithEnd l) (append_assoc un.begun (b ∷ []) more) is))
+pub other_goes_on : (text piece : List ℕ) → AllByRecursion (λ b. b ≢ 10) piece → IsUnended text Other → IsUnended (text ++ piece) Other
+other_goes_on text piece all un = goes_on text piece Other all un (λ more is. un.watched (piece ++ more) (subst (λ l. BeginsWithEnd l) (append_assoc un.begun piece more) is))
+
+-- and of one that is
+pub last_goes_on : (text piece : List ℕ) → AllByRecursion (λ b. b ≢ 10) piece → IsUnended text Last → IsUnended (text ++ piece) Last
+last_goes_on text piece all un = goes_on text piece Last all un (let w = un.watched in (w.0 ++ piece, ap (λ l. l ++ piece) w.1 ∙ append_assoc (codes "end ") w.0 piece))
 
 -- nothing has not ended
 pub nothing_unended : IsUnended [] Begun

@@ -1,5 +1,5 @@
 -- Reading the symbols of a part one by one, and what is known after some of them. No tree is kept.
-use Rattle.std.specs.Prelude.{◌≡◌, ℕ, suc, ◌+◌, ◌≤◌, Bool, true, false, ◌==◌, nat_lt, List, [], ◌∷◌, ◌++◌, length, map, fold, Option, Some, None, if◌then◌else◌}
+use Rattle.std.specs.Prelude.{◌≡◌, ℕ, suc, ◌+◌, Bool, true, false, ◌==◌, nat_lt, List, [], ◌∷◌, ◌++◌, length, map, fold, Option, Some, None, if◌then◌else◌}
 use Rattle.std.specs.List.{AllByRecursion, flat_map}
 use Rattle.std.specs.Option.{option_or}
 use Rattle.crp_bounds.specs.Bounds.{blocking, look_ahead}
@@ -94,7 +94,6 @@ pub record IsOnItsWay (need : List ℕ → ℕ) (top : Spot) (symbols : List ℕ
   pub counted : walked.count ≡ length symbols
   pub wrong : IsFirstOf need list walked.wrong
   pub given_are : walked.given ≡ given_names list
-  pub few : AllByRecursion (λ spot. length spot.place.heights ≤ 12) walked.owed
   pub completes : (trees : List Tree) → Pay walked.owed trees → IsCompleted top symbols list walked.owed trees
   pub only : (tree : Tree) (rest more : List ℕ) → Fits top.place tree → symbols ++ more ≡ symbols_of tree ++ rest →
       (trees : List Tree) × Pay walked.owed trees × (more ≡ flat_map symbols_of trees ++ rest)

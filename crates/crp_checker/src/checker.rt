@@ -7,13 +7,13 @@ ghost use Rattle.crp_checker.specs.Refusals.{IsRefusal};
 ghost use Rattle.crp_checker.specs.Stages.{HasCome, IsBayIn};
 ghost use Rattle.crp_checker.specs.Fed.{HasRead, IsOutOfMemory};
 
+use crate::bay::same_bay_if;
 use crate::claim::conclude;
-use crate::in_head::{self, head_fault};
 use crate::refused::Refused;
 use crate::stage::Stage;
 use crate::verdict::Verdict;
-use crate::{in_line, in_part};
-use crp_cert::{CertFault, read_bay};
+use crate::{in_head, in_line, in_part};
+use crp_cert::{CertFault, HeadLines};
 use crp_plan::{BayName, Problem};
 use std::alloc::{AllocError, Global};
 use std::mem;
@@ -44,7 +44,7 @@ fn read_on(
         → HasCome (option_copied wanted.entry) (before ++ take next.1 bytes.now) next.0) }
 {
     match stage {
-        Stage::Head { text } => in_head::read_on(alloc, wanted, text, bytes),
+        Stage::Head { lines, begun } => in_head::read_on(alloc, wanted, lines, begun, bytes),
         Stage::Line { findings, begun } => in_line::read_on(alloc, findings, begun, bytes),
         Stage::Part {
             findings,
@@ -79,26 +79,16 @@ fn read_piece(
     Ok(stage)
 }
 
-/// The same bay once more, if there is one.
-fn same_bay_if(bay: &Option<BayName>) -> Option<BayName>
-    ensures { result ≡ bay.now }
-{
-    match bay {
-        Some(bay) => Some(bay.copy()),
-        None => None,
-    }
-}
-
 /// The bay that a certificate names of which so much was read.
 fn bay_at(stage: &Stage) -> Option<BayName>
     ensures { (wanted : Option Statement) (bytes : List ℕ) → HasCome wanted bytes stage.now → IsBayIn bytes result }
 {
     match stage {
-        Stage::Head { text } => read_bay(text),
+        Stage::Head { lines, .. } => same_bay_if(lines.bay()),
         Stage::Line { findings, .. } => Some(findings.bay.copy()),
         Stage::Part { findings, .. } => Some(findings.bay.copy()),
         Stage::Ended { findings } => Some(findings.bay.copy()),
-        Stage::Faulty { bay, .. } => same_bay_if(bay),
+        Stage::Faulty { bay, .. } => same_bay_if(bay.as_ref()),
     }
 }
 
@@ -112,10 +102,7 @@ fn finish_at(alloc: Global, stage: Stage) -> Result<(BayName, Verdict), Refused>
         ⊎ ((wanted : Option Statement) (bytes : List ℕ) → HasCome wanted bytes stage → IsRefusal wanted bytes refused)) }
 {
     match stage {
-        Stage::Head { text } => {
-            let fault = head_fault(alloc, &text)?;
-            Err(Refused::Cert(fault))
-        }
+        Stage::Head { lines, .. } => Err(Refused::Cert(lines.fault())),
         Stage::Line { findings, begun } => {
             let fault = in_line::open_fault(findings.line, &begun);
             Err(Refused::Cert(fault))
@@ -134,11 +121,14 @@ impl Checker {
     pub fn new(alloc: Global, wanted: Option<&Problem>) -> Checker
         ensures { HasRead (option_copied wanted.entry) [] result }
     {
-        let text = Vec::new(alloc);
+        let stage = Stage::Head {
+            lines: HeadLines::Start,
+            begun: Vec::new(alloc),
+        };
         Checker {
             alloc,
             wanted: wanted.map(Problem::copy),
-            stage: Some(Stage::Head { text }),
+            stage: Some(stage),
         }
     }
 

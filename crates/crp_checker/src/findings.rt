@@ -76,7 +76,7 @@ fn has_its_plan(claim: Claim, plan: &Option<Rows>) -> bool
 /// What is wrong with a head: the problem is not the one that is asked for, the plan is none of it, or the claim of the
 /// first best plan is without its plan.
 fn wrong_in(wanted: Option<&Problem>, head: &Head) -> Option<Refused>
-    requires { IsHead head.now }
+    requires { IfSome head.now.plan AreRows }
     ensures { IsHeadNote (option_copied wanted.entry) head.now result }
 {
     if let Some(problem) = wanted {
@@ -124,8 +124,8 @@ fn refused_for(
 impl Findings {
     /// What is kept of a head, where a problem is asked for or none.
     pub fn of(alloc: Global, wanted: Option<&Problem>, head: Head) -> Findings
-        requires { IsHead head }
-        ensures { AreFindings (option_copied wanted.entry) (first_script head) result }
+        requires { IfSome head.plan AreRows }
+        ensures { IsHead head → AreFindings (option_copied wanted.entry) (first_script head) result }
     {
         let wrong = wrong_in(wanted, &head);
         let count = count_of(&head.plan);

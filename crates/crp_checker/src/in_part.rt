@@ -1,6 +1,5 @@
 //! Reading on in the symbols of a part.
-ghost use Rattle.std.specs.Prelude.{◌≡◌, ◌≢◌, ◌≤◌, ◌<◌, ◌+◌, ◌++◌, ◌∷◌, [], List, ℕ, Option, IfOk, length, take};
-ghost use Rattle.std.specs.List.{AllByRecursion};
+ghost use Rattle.std.specs.Prelude.{◌≤◌, ◌++◌, ◌∷◌, [], List, ℕ, Option, IfOk, length, take};
 ghost use Rattle.crp_plan.specs.Bay.{Problem as Statement};
 ghost use Rattle.crp_checker.specs.Stages.{IsAtPart, HasCome};
 
@@ -9,22 +8,9 @@ use crate::line::SymbolLine;
 use crate::line_end::LineEnd;
 use crate::path::Path;
 use crate::stage::Stage;
+use crate::watch::line_len;
 use crp_cert::CertFault;
 use std::alloc::{AllocError, Global};
-
-/// How many bytes stand before the end of the line; all, if it does not end.
-fn line_len(bytes: &[u8]) -> usize
-    ensures within { result ≤ length bytes.now }
-    ensures line { AllByRecursion (λ b. b ≢ 10) (take result bytes.now) }
-    ensures stop { result < length bytes.now → take (result + 1) bytes.now ≡ take result bytes.now ++ 10 ∷ [] }
-{
-    for (i, byte) in bytes.iter().enumerate() {
-        if *byte == b'\n' {
-            return i;
-        }
-    }
-    bytes.len()
-}
 
 /// What the end of a part line leads to.
 fn end_part(

@@ -1,6 +1,7 @@
 //! The independent checker of certificates. It uses nothing of any search.
 #![tactic(auto)]
 
+mod bay;
 mod checker;
 mod checking;
 mod claim;

@@ -66,8 +66,7 @@ impl SymbolLine {
 
     /// What the symbols are, now that the line ends.
     pub fn end(self) -> LineEnd
-        ensures { (needs : List ℕ → ℕ) (top : Spot) (bytes : List ℕ) → length top.place.heights ≤ 12
-            → line_of self ≡ line_after needs top bytes → IsEndOfSymbols needs top bytes result }
+        ensures { (needs : List ℕ → ℕ) (top : Spot) (bytes : List ℕ) → line_of self ≡ line_after needs top bytes → IsEndOfSymbols needs top bytes result }
     {
         if self.unknown {
             return LineEnd::Unknown;

@@ -1,15 +1,16 @@
 use crate::findings::Findings;
 use crate::line::SymbolLine;
 use crate::path::Path;
-use crp_cert::CertFault;
+use crp_cert::{CertFault, HeadLines};
 use crp_plan::BayName;
 
 /// How far a checker that is fed has come in a certificate, and what it keeps for that.
 #[derive(Drop)]
 pub enum Stage {
-    /// In the head, of which these bytes came.
+    /// In the head, of which these lines came, and these bytes of the next line.
     Head {
-        text: Vec<u8>,
+        lines: HeadLines,
+        begun: Vec<u8>,
     },
     /// In the line after the head and some parts, of which these bytes came.
     Line {

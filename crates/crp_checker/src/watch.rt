@@ -1,5 +1,6 @@
 //! The line of a file that a checker stands in: whether it is the last of a certificate.
-ghost use Rattle.std.specs.Prelude.{◌≡◌, ◌≤◌, ◌++◌, ◌∷◌, [], ℕ, List, IfSome, IfNone, length, take};
+ghost use Rattle.std.specs.Prelude.{◌≡◌, ◌≢◌, ◌≤◌, ◌<◌, ◌+◌, ◌++◌, ◌∷◌, [], ℕ, List, IfSome, IfNone, length, take};
+ghost use Rattle.std.specs.List.{AllByRecursion};
 ghost use Rattle.crp_checker.specs.Files.{IsEnded};
 ghost use Rattle.crp_checker.specs.Watches.{IsUnended};
 
@@ -40,6 +41,32 @@ fn next(watch: Watch, byte: u8) -> Option<Watch>
     }
 }
 
+/// How many bytes stand before the end of the line; all, if it does not end.
+pub fn line_len(bytes: &[u8]) -> usize
+    ensures within { result ≤ length bytes.now }
+    ensures line { AllByRecursion (λ b. b ≢ 10) (take result bytes.now) }
+    ensures stop { result < length bytes.now → take (result + 1) bytes.now ≡ take result bytes.now ++ 10 ∷ [] }
+{
+    for (i, byte) in bytes.iter().enumerate() {
+        if *byte == b'\n' {
+            return i;
+        }
+    }
+    bytes.len()
+}
+
+/// How many of the bytes do not matter to the watch: those of the line, once it is known how that begins.
+fn passed_over(watch: Watch, bytes: &[u8]) -> usize
+    ensures within { result ≤ length bytes.now }
+    ensures on { (text : List ℕ) → IsUnended text watch → IsUnended (text ++ take result bytes.now) watch }
+{
+    match watch {
+        Watch::Last => line_len(bytes),
+        Watch::Other => line_len(bytes),
+        _ => 0,
+    }
+}
+
 /// How many of the bytes belong to the certificate, which has not ended before them: `None` if they
 /// all do, and it has not ended yet.
 pub fn cut(watch: &mut Watch, bytes: &[u8]) -> Option<usize>
@@ -49,12 +76,15 @@ pub fn cut(watch: &mut Watch, bytes: &[u8]) -> Option<usize>
     ensures begun { IfSome result (λ _. watch.new ≡ Watch.Begun) }
     ensures on { IfNone result ((text : List ℕ) → IsUnended text watch.old → IsUnended (text ++ bytes.now) watch.new) }
 {
-    for (i, byte) in bytes.iter().enumerate() {
-        let Some(next) = next(*watch, *byte) else {
+    let mut taken = 0;
+    while taken < bytes.len() {
+        let Some(next) = next(*watch, bytes[taken]) else {
             *watch = Watch::Begun;
-            return Some(i + 1);
+            return Some(taken + 1);
         };
         *watch = next;
+        taken += 1;
+        taken += passed_over(next, &bytes[taken..]);
     }
     None
 }

@@ -1,12 +1,15 @@
-use Rattle.std.proofs.Common.{List, ℕ, ◌++◌, ap, ◌∙◌}
-use Rattle.crp_cert.specs.declared.version.Version.{Version}
-use Rattle.crp_cert.specs.Text.{title_line}
-use Rattle.crp_cert.proofs.Readers.{title_reader}
+use Rattle.std.proofs.Common.{◌++◌, ap}
+use Rattle.crp_cert.specs.Text.{bay_line}
+use Rattle.crp_cert.proofs.Settled.{bay_short}
 use Rattle.crp_cert.proofs.reading.read_bay.Goals as goal
 
 pub returns-clause-found : goal.returns-clause-found
 returns-clause-found c =
-    let bay = c.in-Some-bay_of.ensures.found in
-    let rest : List ℕ = c.in-Some.rest.now in
-    let version : Version = c.in-Some.field-0-0 in
-    (bay.0, (version, _, (title_reader.takes c.args.bytes.now version rest c.in-Some.ensures).1 ∙ ap (λ l. title_line version ++ l) bay.1))
+    let found = c.in_ok-bay.ensures.found in
+    record {
+      line = bay_line c.in_ok-bay.bay;
+      ends = bay_short c.in_ok-bay.bay found.0;
+      is = found.1;
+      rows = tt;
+      leads = λ before has. (found.0, ap (λ l. l ++ bay_line c.in_ok-bay.bay) has);
+    }

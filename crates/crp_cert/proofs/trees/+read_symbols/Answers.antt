@@ -1,6 +1,4 @@
-use Rattle.std.proofs.Common.{◌≡◌, ℕ, ◌∙◌, sym, subst, arith, take, get_or, suc, add-one, ap, List, [], ◌∷◌, ◌++◌, length, rules, append_assoc}
-use Rattle.std.specs.Prelude.{codes}
-use Rattle.std.specs.List.{flat_map}
+use Rattle.std.proofs.Common.{◌≡◌, ℕ, ◌∙◌, sym, subst, arith, get_or, add-one, ap, [], ◌∷◌, ◌++◌, length, rules, append_assoc}
 use Rattle.std.proofs.lemmas.List.{take_all}
 use Rattle.crp_bay.specs.Back.{PlaceAndTrail}
 use Rattle.crp_bay.specs.Positions.{child, targets}
@@ -11,7 +9,6 @@ use Rattle.crp_tree.specs.Trees.{Fits}
 use Rattle.crp_tree.specs.Listed.{AreFit}
 use Rattle.crp_tree.proofs.Listed.{fit_push, fit_lengths}
 use Rattle.crp_tree.proofs.Followed.{pop_back}
-use Rattle.crp_cert.specs.Script.{symbols_of}
 use Rattle.crp_cert.specs.ScriptFaults.{BeginsWithTree}
 use Rattle.crp_cert.proofs.Symbols.{no_symbol, branch_stops, branch_read, text_push, each_push}
 use Rattle.crp_cert.proofs.trees.+read_symbols.Goals as goal

@@ -1,4 +1,4 @@
-use Rattle.std.proofs.Common.{◌≡◌, ◌++◌, ap, ◌∙◌, take, length, map, arith}
+use Rattle.std.proofs.Common.{◌≡◌, ◌++◌, ap, ◌∙◌, take, map, arith}
 use Rattle.std.proofs.lemmas.List.{take_all}
 use Rattle.crp_cert.specs.Letters.{letter_of_symbol}
 use Rattle.crp_cert.proofs.Symbols.{spelled}

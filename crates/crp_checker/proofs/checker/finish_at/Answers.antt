@@ -1,23 +1,21 @@
-use Rattle.std.proofs.Common.{◌≡◌, List, ℕ, ◌⊎◌, inl, inr, sym, ◌∙◌, subst}
+use Rattle.std.proofs.Common.{◌≡◌, List, ℕ, ◌⊎◌, inl, inr, sym, subst}
 use Rattle.crp_cert.specs.declared.fault.CertFault.TheVariants as faults
 use Rattle.crp_checker.specs.Openings.{IsBegunWith, part_word}
 use Rattle.crp_cert.specs.Faults.{IsFirstFault}
-use Rattle.crp_checker.specs.Stages.{HasNoHead, HasCome}
+use Rattle.crp_checker.specs.Stages.{HasCome}
+use Rattle.crp_checker.proofs.Heading.{head_ends}
 use Rattle.crp_checker.proofs.Concluded.{ends_in_line, ends_in_part, faulty_now}
 use Rattle.crp_checker.proofs.checker.finish_at.Goals as goal
 
 pub returns-in-Head-clause-refused : goal.returns-in-Head-clause-refused
 returns-in-Head-clause-refused c =
-    inr (λ wanted bytes come.
-    let here = subst (HasCome wanted bytes) c.in-Head.is come in
-    let same = c.deref.ensures.value ∙ here.0 in
-    inl (subst (λ l. IsFirstFault l c.in_ok-fault-in-Head.fault) same (c.in_ok-fault-in-Head.ensures (subst HasNoHead (sym same) here.1))))
+    inr (λ wanted bytes come. inl (subst (IsFirstFault bytes) (sym c.fault.ensures) (head_ends bytes c.in-Head.lines c.in-Head.begun.items (subst (HasCome wanted bytes) c.in-Head.is come))))
 
 pub returns-in-Line-clause-refused : goal.returns-in-Line-clause-refused
 returns-in-Line-clause-refused c =
     inr (λ wanted bytes come. ends_in_line wanted bytes c.in-Line.findings c.in-Line.begun.items c.open_fault-fault.result (subst (HasCome wanted bytes) c.in-Line.is come)
     (subst (λ (l : List ℕ). (IsBegunWith l part_word × (c.open_fault-fault.result ≡ faults.Part c.in-Line.findings.line)) ⊎ ((IsBegunWith l part_word → ⊥) × (c.open_fault-fault.result ≡ faults.End c.in-Line.findings.line)))
-    c.deref-in-Line.ensures.value c.open_fault-fault.ensures))
+    c.deref.ensures.value c.open_fault-fault.ensures))
 
 pub returns-in-Part-clause-refused : goal.returns-in-Part-clause-refused
 returns-in-Part-clause-refused c =

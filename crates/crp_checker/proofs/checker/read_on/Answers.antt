@@ -2,17 +2,13 @@ use Rattle.std.proofs.Common.{List, ℕ, ◌++◌, length, take, sym, ap, subst,
 use Rattle.std.specs.Option.{option_copied}
 use Rattle.std.proofs.lemmas.List.{take_all}
 use Rattle.std.proofs.lemmas.Result.{IfOk-weaker}
-use Rattle.crp_checker.specs.Stages.{HasNoHead, HasCome}
+use Rattle.crp_checker.specs.Stages.{HasCome}
 use Rattle.crp_checker.proofs.Concluded.{more_after, faulty_on}
 use Rattle.crp_checker.proofs.checker.read_on.Goals as goal
 
 pub returns-in-Head-clause-come : goal.returns-in-Head-clause-come
 returns-in-Head-clause-come c =
-    IfOk-weaker c.read_on.result _ _
-    (λ next come before at.
-    let here = subst (HasCome (option_copied c.args.wanted) before) c.in-Head.is at in
-    subst (λ l. HasCome (option_copied c.args.wanted) (l ++ take next.1 c.args.bytes.now) next.0) here.0 (come (subst HasNoHead (sym here.0) here.1)))
-    c.read_on.ensures.come
+    IfOk-weaker c.read_on.result _ _ (λ next come before at. come before (subst (HasCome (option_copied c.args.wanted) before) c.in-Head.is at)) c.read_on.ensures.come
 
 pub returns-in-Ended-clause-come : goal.returns-in-Ended-clause-come
 returns-in-Ended-clause-come c before at =

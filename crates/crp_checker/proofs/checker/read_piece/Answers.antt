@@ -1,10 +1,13 @@
-use Rattle.std.proofs.Common.{◌≡◌, List, ℕ, ◌++◌, length, take, drop, sym, ap, ◌∙◌, subst, append_assoc}
+use Rattle.std.proofs.Common.{◌≡◌, List, [], ℕ, refl, ◌++◌, length, take, drop, sym, ap, ◌∙◌, subst, append_assoc}
 use Rattle.std.specs.Option.{option_copied}
 use Rattle.std.proofs.lemmas.Bool.{eqb-true}
 use Rattle.std.proofs.lemmas.List.{append-nil, take_rest, take-append-drop}
 use Rattle.crp_checker.specs.Stages.{HasCome}
 use Rattle.crp_checker.proofs.FileFed.{no_elements}
 use Rattle.crp_checker.proofs.checker.read_piece.Goals as goal
+
+pub loop-rest-init : goal.loop-rest-init
+loop-rest-init c = ([], refl, λ before at. subst (λ l. HasCome (option_copied c.args.wanted) l c.args.stage) (sym (append-nil before)) at)
 
 pub loop-rest-preserved : goal.loop-rest-preserved
 loop-rest-preserved c =
