@@ -1,7 +1,6 @@
 //! The program `crp`: plans for a container yard that gives its containers to a ship in a fixed order.
 #![tactic(auto)]
 
-mod laws;
 mod program;
 
 use std::process::ExitCode;

@@ -1,5 +1,9 @@
 //! The program: its words and its streams.
-ghost use Rattle.std.specs.Prelude.{◌≡◌, IfOk, map, string_bytes};
+ghost use Rattle.std.specs.Prelude.{◌≡◌, ◌⊎◌, ℕ, List, IfOk, map, string_bytes};
+ghost use Rattle.crp_report.specs.Runs.{SinkSeen};
+ghost use Rattle.crp_commands.specs.Performing.{JobSeen};
+ghost use Rattle.crp_words.specs.declared.usage.Usage.{Usage as Unused};
+ghost use Rattle.crp_words.specs.Endings.{ProgramEnds, UsageEnds};
 
 use crp_commands::SystemFiles;
 use crp_plan::Counted;
@@ -42,7 +46,12 @@ fn usage_without_words(alloc: Global, error: &io::Error) -> Usage {
 
 /// Runs the program over the words of its command line, the files of the system and the standard streams, and returns its exit status.
 /// Only `threads` may start threads and wait for them.
-pub fn run<T: Threads + Wait + Sync>(rt: &HostRuntime, threads: &T) -> u8 {
+///
+/// It ends as `run_words` says of some words and some streams, or as it says of words that are not had.
+pub fn run<T: Threads + Wait + Sync>(rt: &HostRuntime, threads: &T) -> u8
+    ensures { ((words : List (List ℕ)) × (seen : JobSeen) × (errors : SinkSeen) × ProgramEnds words seen errors result)
+        ⊎ ((usage : Unused) × (out : SinkSeen) × (errors : SinkSeen) × UsageEnds usage out errors result) }
+{
     let alloc = rt.alloc();
     let mut out = Counted::new(rt.stdout());
     let mut errors = Counted::new(rt.stderr());

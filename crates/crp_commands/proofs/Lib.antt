@@ -3,3 +3,4 @@ pub mod Replayed
 pub mod Checked
 pub mod Performed
 pub mod Solved
+pub mod Promised

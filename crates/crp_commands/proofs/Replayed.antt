@@ -1,14 +1,16 @@
 -- What is written of a head, and how refusals are stated.
-use Rattle.std.proofs.Common.{◌≡◌, ℕ, List, ◌++◌, Option, Some, None, ◌⊎◌, inl, inr, refl, ap, ◌∙◌, append_assoc}
+use Rattle.std.proofs.Common.{◌≡◌, ℕ, List, ◌++◌, Option, Some, None, ◌⊎◌, inl, inr, refl, sym, ap, subst, ◌∙◌, append_assoc}
 use Rattle.std.specs.Io.KnownBytes.{Keeps}
 use Rattle.crp_cert.specs.declared.fault.CertFault.{CertFault}
 use Rattle.crp_cert.specs.declared.fault.CertFault.TheVariants as cert
 use Rattle.crp_cert.specs.Faults.{IsFirstFault}
 use Rattle.crp_cert.specs.declared.head.Head.{Head}
-use Rattle.crp_cert.specs.Text.{IsHeadOf}
+use Rattle.crp_cert.specs.Text.{IsHead}
 use Rattle.crp_solve.specs.declared.answer.Solved.{Solved}
 use Rattle.crp_solve.specs.Chosen.{Chosen}
 use Rattle.crp_solve.specs.Answers.{IsSolved}
+use Rattle.crp_headline.specs.Accepted.{IsAcceptedAs}
+use Rattle.crp_headline.proofs.Accepted.{answer_accepted}
 use Rattle.crp_commands.specs.Prove.{IsProofOf}
 use Rattle.crp_report.specs.Report.{text_of}
 use Rattle.crp_commands.specs.declared.outcome.ToolFault.{ToolFault}
@@ -61,6 +63,11 @@ no_report_reported limit seen bytes head (fault.Checked number why) keeps given 
 no_report_reported limit seen bytes head (fault.Run f) keeps given is none = absurd none
 
 -- the certificate of a true answer, as it was made and as it is written
-pub proof_of : (chosen : Chosen) (head : Head) (solved : Solved) (made written : List ℕ) → IsSolved head.problem chosen solved →
+pub proof_of : (chosen : Chosen) (head : Head) (solved : Solved) (made written : List ℕ) → IsHead head → IsSolved head.problem chosen solved →
     made ≡ text_of head.bay head.problem solved.answer → written ≡ made → IsProofOf chosen head solved written
-proof_of chosen head solved made written answered is same = (answered, same ∙ is)
+proof_of chosen head solved made written of_head answered is same = record {
+  answered = answered;
+  is = same ∙ is;
+  accepted = subst (λ l. IsAcceptedAs l head.bay head.problem solved.answer) (sym (same ∙ is))
+      (answer_accepted head.bay head.problem chosen.budget solved.answer solved.expanded of_head.name answered.answer);
+}

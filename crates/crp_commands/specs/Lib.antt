@@ -8,4 +8,5 @@ pub mod Checks
 pub mod Opened
 pub mod Solving
 pub mod Performing
+pub mod Headlines
 pub mod Advice

@@ -10,13 +10,16 @@ use Rattle.crp_solve.specs.Answers.{IsSolved}
 use Rattle.crp_report.specs.declared.status.Status.{Status}
 use Rattle.crp_report.specs.Answered.{status_of}
 use Rattle.crp_report.specs.Report.{text_of}
+use Rattle.crp_headline.specs.Accepted.{IsAcceptedAs}
 use Rattle.crp_commands.specs.declared.outcome.ToolFault.{ToolFault}
 use Rattle.crp_commands.specs.declared.outcome.ToolFault.TheVariants as fault
 
 -- what was chosen for a search of the problem that the head states is answered so, and the text is the certificate of the answer, under the name of the
--- head's bay
-abbrev pub IsProofOf : Chosen → Head → Solved → List ℕ → Type 0
-IsProofOf chosen head solved text = IsSolved head.problem chosen solved × (text ≡ text_of head.bay head.problem solved.answer)
+-- head's bay, which the checker accepts with the verdict on the answer
+pub record IsProofOf (chosen : Chosen) (head : Head) (solved : Solved) (text : List ℕ) : Type 0 where
+  pub answered : IsSolved head.problem chosen solved
+  pub is : text ≡ text_of head.bay head.problem solved.answer
+  pub accepted : IsAcceptedAs text head.bay head.problem solved.answer
 
 -- the certificate of the head that the bytes begin with, by an answer with this status
 abbrev pub IsProof : Chosen → Status → List ℕ → List ℕ → Type 0

@@ -1,6 +1,13 @@
 //! A job over its files.
-ghost use Rattle.std.specs.Prelude.{MatchResult};
+ghost use Rattle.std.specs.Prelude.{◌≡◌, ◌⊎◌, IfOk, IfErr, MatchResult};
+ghost use Rattle.crp_headline.specs.Headline.{IsHeadline};
+ghost use Rattle.crp_report.specs.declared.fault.Fault.TheVariants.{Write};
+ghost use Rattle.crp_report.specs.declared.fault.Output.{Output};
+ghost use Rattle.crp_report.specs.Runs.{Made};
+ghost use Rattle.crp_commands.specs.declared.outcome.ToolFault.TheVariants.{Run};
+ghost use Rattle.crp_commands.specs.Opened.{IsLeftAlone};
 ghost use Rattle.crp_commands.specs.Performing.{JobSeen, ReportsFile, FileFailsWith, ReportsOverFiles, FailsOverFiles};
+ghost use Rattle.crp_commands.specs.Headlines.{ForRun, AreWritten, AreFrontsWritten};
 
 use crate::job::{FileCommand, Job};
 use crate::opening::Files;
@@ -41,6 +48,8 @@ fn perform_on<T: Threads + Wait + Sync, F: Files, R: Source, W: Sink>(
 }
 
 /// Does a job over its files, and writes its report to `out`. A job over the file `-` reads `input`, the standard input.
+///
+/// Of a run over a yard the headline holds: of the texts that it wrote, and where a write has failed of those whose fronts it wrote.
 pub fn run_job<T: Threads + Wait + Sync, F: Files, R: Source, W: Sink>(
     threads: &T,
     alloc: Global,
@@ -49,11 +58,22 @@ pub fn run_job<T: Threads + Wait + Sync, F: Files, R: Source, W: Sink>(
     out: &mut W,
     job: &Job<'_>,
 ) -> Result<Status, ToolFault>
-    ensures { let seen : JobSeen = record {
+    ensures done { let seen : JobSeen = record {
       files = record { known = F.known files.old; before = F.failures files.old; after = F.failures files.new };
       input = record { given = R.remaining input.old; before = R.failures input.old; after = R.failures input.new };
       out = record { held = W.contents out.old; holds = W.contents out.new; before = W.failures out.old; after = W.failures out.new };
     } in MatchResult result (ReportsOverFiles job.now seen) (FailsOverFiles job.now seen) }
+    ensures headline { let seen : JobSeen = record {
+      files = record { known = F.known files.old; before = F.failures files.old; after = F.failures files.new };
+      input = record { given = R.remaining input.old; before = R.failures input.old; after = R.failures input.new };
+      out = record { held = W.contents out.old; holds = W.contents out.new; before = W.failures out.old; after = W.failures out.new };
+    } in IfOk result (λ _. ForRun job.now (λ names chosen. (made : Made) × IsHeadline made × AreWritten names chosen seen made)) }
+    ensures headline_so_far { let seen : JobSeen = record {
+      files = record { known = F.known files.old; before = F.failures files.old; after = F.failures files.new };
+      input = record { given = R.remaining input.old; before = R.failures input.old; after = R.failures input.new };
+      out = record { held = W.contents out.old; holds = W.contents out.new; before = W.failures out.old; after = W.failures out.new };
+    } in IfErr result (λ fault. (sink : Output) → fault ≡ Run (Write sink)
+        → ForRun job.now (λ names chosen. IsLeftAlone seen.out ⊎ ((made : Made) × IsHeadline made × AreFrontsWritten names chosen seen made))) }
 {
     match job {
         Job::OneFile { file, command } => {

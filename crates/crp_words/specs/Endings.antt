@@ -9,6 +9,7 @@ use Rattle.crp_commands.specs.Advice.{IsPlainLine, failed_words}
 use Rattle.crp_commands.specs.Calls.{exit_code}
 use Rattle.crp_commands.specs.Opened.{FilesSeen, AreFilesLeftAlone, IsSourceLeftAlone, IsLeftAlone}
 use Rattle.crp_commands.specs.Performing.{JobSeen, ReportsOverFiles, FailsOverFiles}
+use Rattle.crp_commands.specs.Headlines.{KeepsHeadline}
 use Rattle.crp_words.specs.declared.usage.Mistake.TheVariants as mistake
 use Rattle.crp_words.specs.declared.usage.Usage.{Usage}
 use Rattle.crp_words.specs.declared.usage.Usage.TheVariants as usage
@@ -50,10 +51,11 @@ UsageEnds usage.Memory out errors status = IsLeftAlone out × IsExplained None e
 
 -- ---- a job
 
--- how the program ends that does this job: done, and then nothing is written to the standard error; or with a fault, which is explained there
+-- how the program ends that does this job: done, and then the headline holds of a run, and nothing is written to the standard error; or with a fault,
+-- which is explained there
 abbrev pub JobEnds : Job → JobSeen → SinkSeen → ℕ → Type 0
 JobEnds j seen errors status =
-    ((ended : Status) × ReportsOverFiles j seen ended × IsLeftAlone errors × (status ≡ exit_code (Ok ended)))
+    ((ended : Status) × ReportsOverFiles j seen ended × KeepsHeadline j seen × IsLeftAlone errors × (status ≡ exit_code (Ok ended)))
     ⊎ ((f : ToolFault) × FailsOverFiles j seen f × IsExplained (failed_words j f) errors × (status ≡ exit_code (Err f)))
 
 -- ---- the program

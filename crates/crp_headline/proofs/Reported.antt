@@ -31,9 +31,9 @@ use Rattle.crp_report.specs.Said.{BaySaid, report_text, said_by, IsSaidOf}
 use Rattle.crp_report.proofs.Takes.{plan_takes}
 use Rattle.crp_report.proofs.YardNames.{IsNamedProblem}
 use Rattle.crp_report.proofs.Saying.{answered_named, run_says}
-use Rattle.crp.specs.Accepted.{IsVerdictOn, IsShown, IsVerdictFor}
-use Rattle.crp.specs.Headline.{Reported, said_of, problem_in, PrintsPlan, PrintsFirst, IsOpenVerdict, IsSo, IsTrueOf, IsHeadline}
-use Rattle.crp.proofs.Accepted.{run_accepted}
+use Rattle.crp_headline.specs.Accepted.{IsVerdictOn, IsShown, IsVerdictFor}
+use Rattle.crp_headline.specs.Headline.{Reported, said_of, problem_in, PrintsPlan, PrintsFirst, IsOpenVerdict, IsSo, IsTrueOf, IsHeadline}
+use Rattle.crp_headline.proofs.Accepted.{run_accepted}
 
 -- ---- one bay
 

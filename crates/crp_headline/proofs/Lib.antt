@@ -2,4 +2,4 @@
 pub mod Ended
 pub mod Named
 pub mod Accepted
-pub mod Headline
+pub mod Reported

@@ -8,15 +8,12 @@ use Rattle.crp_plan.specs.Bay.{Problem, cap}
 use Rattle.crp_plan.specs.Plans.{ProblemPath}
 use Rattle.crp_tree.specs.Claims.{IsAccepted, Claimed, path_in}
 use Rattle.crp_tree.specs.Parts.{claimed}
-use Rattle.crp_cert.specs.declared.head.Head.{Head}
-use Rattle.crp_cert.specs.Text.{IsHead}
 use Rattle.crp_cert.specs.declared.script.Script.{Script}
 use Rattle.crp_cert.specs.Writing.{script_for, first_script_for, CanBeSpelled}
 use Rattle.crp_cert.proofs.Written.{spelled_is_script, first_is_script, claimed_rise}
 use Rattle.crp_solve.specs.declared.answer.Answer.{Answer}
 use Rattle.crp_solve.specs.declared.answer.Answer.TheVariants as answer
 use Rattle.crp_solve.specs.declared.answer.Cause.TheVariants as cause
-use Rattle.crp_solve.specs.declared.answer.Solved.{Solved}
 use Rattle.crp_solve.specs.Chosen.{Chosen}
 use Rattle.crp_solve.specs.Answers.{cert_of, count_of, IsTrueAnswer, IsSolved}
 use Rattle.crp_solve.proofs.Limits.{count_low}
@@ -31,10 +28,9 @@ use Rattle.crp_report.specs.Report.{text_of, certificate_of, certificates_text}
 use Rattle.crp_report.specs.Chosen.{RunChosen}
 use Rattle.crp_report.specs.Runs.{RunSeen, Made, IsMade}
 use Rattle.crp_order.specs.BayProblems.{problems_of}
-use Rattle.crp_commands.specs.Prove.{IsProofOf}
-use Rattle.crp.specs.Accepted.{IsVerdictOn, IsAcceptedAs, CanBeWritten, IsVerdictFor, IsAcceptedFile}
-use Rattle.crp.proofs.Ended.{script_ended}
-use Rattle.crp.proofs.Named.{can_be_written}
+use Rattle.crp_headline.specs.Accepted.{IsVerdictOn, IsAcceptedAs, CanBeWritten, IsVerdictFor, IsAcceptedFile}
+use Rattle.crp_headline.proofs.Ended.{script_ended}
+use Rattle.crp_headline.proofs.Named.{can_be_written}
 
 -- ---- the verdict
 
@@ -146,14 +142,6 @@ answer_accepted bay p budget found expanded named t =
         of_problem = (script_of bay p found, text_accepted (Some p) bay p budget found expanded named t can refl, k.2);
       },
     )
-
--- and so is the certificate of a head
-pub proof_accepted : (chosen : Chosen) (head : Head) (solved : Solved) (text : List ℕ) → IsHead head → IsProofOf chosen head solved text →
-    IsAcceptedAs text head.bay head.problem solved.answer
-proof_accepted chosen head solved text is proof =
-    let t = proof.0 in
-    subst (λ l. IsAcceptedAs l head.bay head.problem solved.answer) (sym proof.1)
-    (answer_accepted head.bay head.problem chosen.budget solved.answer solved.expanded is.name t.answer)
 
 -- ---- files of certificates
 

@@ -7,7 +7,7 @@ use Rattle.crp_yard.specs.Reading.{IsYardListOf}
 use Rattle.crp_order.specs.declared.bay_problem.BayProblem.{BayProblem}
 use Rattle.crp_order.specs.BayProblems.{problems_of}
 use Rattle.crp_report.proofs.YardNames.{IsNamedProblem, problems_named}
-use Rattle.crp.specs.Accepted.{CanBeWritten}
+use Rattle.crp_headline.specs.Accepted.{CanBeWritten}
 
 each_stated : (stated : List BayProblem) → AllByRecursion IsNamedProblem stated → AllByRecursion CanBeWritten stated
 each_stated [] named = tt

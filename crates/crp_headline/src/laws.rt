@@ -2,10 +2,7 @@
 ghost use Rattle.std.specs.Prelude.{ℕ, List, All};
 ghost use Rattle.crp_plan.specs.Bay.{Problem};
 ghost use Rattle.crp_plan.specs.BayNames.{YardBay, IsYardBay};
-ghost use Rattle.crp_cert.specs.declared.head.Head.{Head};
-ghost use Rattle.crp_cert.specs.Text.{IsHead};
 ghost use Rattle.crp_solve.specs.declared.answer.Answer.{Answer};
-ghost use Rattle.crp_solve.specs.declared.answer.Solved.{Solved};
 ghost use Rattle.crp_solve.specs.Chosen.{Chosen};
 ghost use Rattle.crp_solve.specs.Answers.{IsTrueAnswer};
 ghost use Rattle.crp_order.specs.declared.bay_problem.BayProblem.{BayProblem};
@@ -13,9 +10,8 @@ ghost use Rattle.crp_report.specs.Answered.{Answered, AreTrueAnswers};
 ghost use Rattle.crp_report.specs.Report.{text_of, certificates_text};
 ghost use Rattle.crp_report.specs.Chosen.{RunChosen};
 ghost use Rattle.crp_report.specs.Runs.{RunSeen, Made, IsMade};
-ghost use Rattle.crp_commands.specs.Prove.{IsProofOf};
-ghost use Rattle.crp.specs.Headline.{IsHeadline};
-ghost use Rattle.crp.specs.Accepted.{IsAcceptedAs, CanBeWritten, IsAcceptedFile};
+ghost use Rattle.crp_headline.specs.Headline.{IsHeadline};
+ghost use Rattle.crp_headline.specs.Accepted.{IsAcceptedAs, CanBeWritten, IsAcceptedFile};
 
 /// The checker accepts what the solver writes: the certificate of a true answer, under the name of a bay, is accepted, with the
 /// verdict on that answer.
@@ -46,10 +42,4 @@ pub fn runs_are_accepted()
 /// and the checker accepts them.
 pub fn headline()
     ensures { (chosen : RunChosen) (seen : RunSeen) (made : Made) → IsMade chosen seen made → IsHeadline made }
-{}
-
-/// The checker accepts the certificate that is made of a head, with the verdict on the answer to its problem.
-pub fn proofs_are_accepted()
-    ensures { (chosen : Chosen) (head : Head) (solved : Solved) (text : List ℕ) → IsHead head
-        → IsProofOf chosen head solved text → IsAcceptedAs text head.bay head.problem solved.answer }
 {}

@@ -1,5 +1,0 @@
-use Rattle.crp.proofs.Accepted.{answer_accepted}
-use Rattle.crp.proofs.laws.answers_are_accepted.Goals as goal
-
-pub returns : goal.returns
-returns c = answer_accepted
