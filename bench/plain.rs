@@ -110,9 +110,23 @@ impl Bay {
         self.put(undo.from, rank);
     }
 
-    /// The look-ahead bound, where it reaches `need`. Each container counts once more at most, and only one that blocks.
-    fn look_ahead_reaching(&self, need: u32) -> Option<u32> {
+    /// The greatest of the least ordered ranks of the other rows with room, where so much of each stack is left; 0 where none has room.
+    fn widest(&self, heights: &[usize; 12], row: usize) -> u8 {
+        let mut widest = 0;
+        for other in 0..self.rows {
+            if other != row && heights[other] < self.tiers {
+                let least = if heights[other] == 0 { NONE } else { self.stacks[other].cells[heights[other] - 1].least };
+                widest = widest.max(least);
+            }
+        }
+        widest
+    }
+
+    /// The look-ahead bound, or as much of it as is `enough`, where it reaches `need`. Each container counts once more at most, and
+    /// only one that blocks.
+    fn look_ahead_reaching(&self, need: u32, enough: u32) -> Option<u32> {
         let need = need.saturating_sub(self.blocking);
+        let enough = enough.saturating_sub(self.blocking).max(need);
         let mut still = self.blocking;
         if still < need {
             return None;
@@ -130,20 +144,20 @@ impl Bay {
             }
             let mut at = heights[row] - 1;
             if stack.cells[at].rank != rank {
-                let widest = (0..self.rows)
-                    .filter(|other| *other != row && heights[*other] < self.tiers)
-                    .map(|other| heights[other].checked_sub(1).map_or(NONE, |top| self.stacks[other].cells[top].least))
-                    .max();
-                if widest == Some(NONE) {
+                let widest = self.widest(&heights, row);
+                if widest == NONE {
                     break;
                 }
                 while stack.cells[at].rank != rank {
-                    again += u32::from(widest.is_none_or(|widest| widest < stack.cells[at].rank));
+                    again += u32::from(widest < stack.cells[at].rank);
                     still -= 1;
                     at -= 1;
                 }
                 if again + still < need {
                     return None;
+                }
+                if again >= enough {
+                    return Some(self.blocking + again);
                 }
             }
             heights[row] = at;
@@ -200,7 +214,9 @@ impl Search {
             return self.cut(b'B', low);
         }
         let need = if self.left == 0 { 0 } else { self.limit - length };
-        if let Some(bound) = self.bay.look_ahead_reaching(need) {
+        // a bound that lowers no value is counted no further; where no expansion is left, it is, since it may be the blocking bound
+        let enough = if self.left == 0 { u32::MAX } else { self.lower.saturating_sub(length) };
+        if let Some(bound) = self.bay.look_ahead_reaching(need, enough) {
             let high = length + bound;
             return self.cut(if high == low { b'B' } else { b'L' }, high);
         }
