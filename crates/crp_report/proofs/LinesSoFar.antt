@@ -36,15 +36,6 @@ pub all_written : (names : List (List ℕ)) (first here : Position) (moves rest 
 all_written names first here moves [] text e stated = subst (AreMoveLines names first moves) (append-nil text) (stated.whole [] refl)
 all_written names first here moves (m ∷ rest) text e stated = cc
 
--- what was taken is what could be, and so with a relocation
-pub take_made : (s t u : Position) (row : ℕ) (r : Option ℕ) → IsSound s → IsTaken s row t → IfSome r (λ x. IsTaken s x u) → IfNone r (NoneToTake s) → IsTaken s row u
-take_made s t u row None sound legal some none = absurd (none row t legal)
-take_made s t u row (Some x) sound legal some none = let P : ℕ → Type 0 = λ y. IsTaken s y u in subst P (one_take s x row u t sound some legal) some
-
-pub shift_made : (s t u : Position) (from to : ℕ) (r : Option ℕ) → IsSound s → IsShifted s from to t → IfSome r (λ x. IsShifted s x to u) → IfNone r ((x : ℕ) (v : Position) → IsShifted s x to v → ⊥) → IsShifted s from to u
-shift_made s t u from to None sound legal some none = absurd (none from t legal)
-shift_made s t u from to (Some x) sound legal some none = let P : ℕ → Type 0 = λ y. IsShifted s y to u in subst P (one_source s x to from to u t sound some legal) some
-
 -- the rows of a legal move are there
 pub row_there : (s : Position) (row : ℕ) (stack : List ℕ) → length s.stacks ≡ length s.heights → 1 ≤ row → slice_get s.stacks (row - 1) ≡ Some stack → row ≤ length s.heights
 row_there s row stack same lo here = let lt = slice_get_within s.stacks (row - 1) stack here in omega arith

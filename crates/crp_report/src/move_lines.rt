@@ -4,7 +4,7 @@ ghost use Rattle.crp_plan.specs.Bay.{Position, IsSound, Legal, IsPlan, start};
 ghost use Rattle.crp_report.specs.MoveLines.{name_of_rank, rank_names, spaced_place, container, move_line, AreMoveLines};
 
 use crp_cert::push_decimal;
-use crp_plan::{Move, Plan, Walk};
+use crp_plan::{Move, Plan, Walk, make};
 use std::alloc::{AllocError, Global};
 
 /// The numbers of the ranks from 1 as their names.
@@ -71,22 +71,6 @@ fn push_line(
             text.extend_from_slice(b"take")?;
             push_place(text, row, walk.stack(row).len() as u8)?;
             push_container(text, names, walk.next())
-        }
-    }
-}
-
-// Makes a legal move.
-fn make(walk: &mut Walk, step: Move)
-    requires sound { IsSound walk.old }
-    requires legal { (t : Position) × Legal walk.old step t }
-    ensures { Legal walk.old step walk.new }
-{
-    match step {
-        Move::Shift { to, .. } => {
-            let _from = walk.shift(to);
-        }
-        Move::Take { .. } => {
-            let _row = walk.take_next();
         }
     }
 }

@@ -1,23 +1,13 @@
 -- The moves of a plan, made one after the other.
-use Rattle.std.proofs.Common.{◌≡◌, ℕ, ◌+◌, ◌<◌, List, [], ◌∷◌, ◌++◌, map, take, drop, length, get_or, Option, Some, None, IfSome, IfNone, slice_get, drop-cons, add-one, refl, ap, subst}
+use Rattle.std.proofs.Common.{◌≡◌, ℕ, ◌+◌, ◌<◌, List, [], ◌∷◌, ◌++◌, map, take, drop, length, get_or, Some, slice_get, drop-cons, add-one, refl, ap, subst}
 use Rattle.std.proofs.lemmas.List.{map-append}
 use Rattle.crp_plan.specs.declared.moves.Move.{Move}
-use Rattle.crp_plan.specs.Bay.{Problem, Position, IsSound, IsProblem, IsPlan, IsFinished, IsTaken, IsShifted, Legal, Runs, start, path_of}
+use Rattle.crp_plan.specs.Bay.{Problem, Position, IsSound, IsProblem, IsPlan, IsFinished, Legal, Runs, start, path_of}
 use Rattle.crp_plan.specs.Plans.{ProblemPath}
-use Rattle.crp_plan.specs.Walks.{NoneToTake}
 use Rattle.crp_plan.proofs.Sound.{sound_legal, sound_start}
-use Rattle.crp_plan.proofs.Determined.{one_take, one_source, legal_is}
+use Rattle.crp_plan.proofs.Determined.{legal_is}
 use Rattle.crp_yard.specs.Ranks.{Leaves, named, name_of_rank}
 use Rattle.crp_yard.proofs.BuildingSteps.{take_next}
-
--- what was taken is what could be, and so with a relocation
-pub take_made : (s t u : Position) (row : ℕ) (r : Option ℕ) → IsSound s → IsTaken s row t → IfSome r (λ x. IsTaken s x u) → IfNone r (NoneToTake s) → IsTaken s row u
-take_made s t u row None sound legal some none = absurd (none row t legal)
-take_made s t u row (Some x) sound legal some none = let P : ℕ → Type 0 = λ y. IsTaken s y u in subst P (one_take s x row u t sound some legal) some
-
-pub shift_made : (s t u : Position) (from to : ℕ) (r : Option ℕ) → IsSound s → IsShifted s from to t → IfSome r (λ x. IsShifted s x to u) → IfNone r ((x : ℕ) (v : Position) → IsShifted s x to v → ⊥) → IsShifted s from to u
-shift_made s t u from to None sound legal some none = absurd (none from t legal)
-shift_made s t u from to (Some x) sound legal some none = let P : ℕ → Type 0 = λ y. IsShifted s y to u in subst P (one_source s x to from to u t sound some legal) some
 
 -- the moves lead on to a finished position
 pub record IsOnTheWay (problem : Problem) (moves : List Move) (here : Position) (rest : List Move) : Type 0 where

@@ -1,29 +1,13 @@
 //! The stacks that a plan leaves.
 
 ghost use Rattle.std.specs.Prelude.{◌≡◌, ℕ, List, IfOk, map};
-ghost use Rattle.crp_plan.specs.Bay.{Position, IsSound, Legal};
+ghost use Rattle.crp_plan.specs.Bay.{IsSound};
 ghost use Rattle.crp_yard.specs.Ranks.{name_of_rank, named, Leaves};
 
 use crate::container::{Container, Containers};
 use crate::stacks::Stacks;
-use crp_plan::{Move, Plan, Walk};
+use crp_plan::{Plan, Walk, make};
 use std::alloc::{AllocError, Global};
-
-// Makes a legal move.
-fn make(walk: &mut Walk, step: Move)
-    requires sound { IsSound walk.old }
-    requires legal { (t : Position) × Legal walk.old step t }
-    ensures { Legal walk.old step walk.new }
-{
-    match step {
-        Move::Shift { to, .. } => {
-            let _from = walk.shift(to);
-        }
-        Move::Take { .. } => {
-            let _row = walk.take_next();
-        }
-    }
-}
 
 /// The end of a plan.
 fn end_of(alloc: Global, plan: &Plan) -> Result<Walk, AllocError>

@@ -1,8 +1,8 @@
 use Rattle.crp_plan.specs.declared.moves.Move.{Move}
 use Rattle.crp_plan.specs.Bay.{Legal, IsTaken, IsShifted}
 use Rattle.std.proofs.Common.{subst, sym}
-use Rattle.crp_report.proofs.LinesSoFar.{take_made, shift_made}
-use Rattle.crp_report.proofs.move_lines.make.Goals as goal
+use Rattle.crp_plan.proofs.Determined.{take_made, shift_made}
+use Rattle.crp_plan.proofs.making.make.Goals as goal
 
 pub returns-in-Shift : goal.returns-in-Shift
 returns-in-Shift c =
