@@ -14,7 +14,7 @@ use Rattle.crp_cert.specs.Text.{spaced, numbers_line, size_line, row_line, bay_l
 use Rattle.crp_cert.specs.Reading.{◌>>=◌, tag_at, spaced_at, newline_at, numbers_at, word_at, is_size, size_at, bound_at, row_at, name_at, plan_at}
 use Rattle.std.proofs.lemmas.List.Elements.{All-from_recursion}
 use Rattle.std.proofs.Common.{◌&&◌}
-use Rattle.crp_cert.specs.Reading.{or_else}
+use Rattle.std.specs.Option.{option_or}
 use Rattle.crp_cert.proofs.Numbers.{bind_some, if_some, if_none, chosen, tag_takes, tag_again, newline_takes, spaced_takes, spaced_again_at, numbers_take, numbers_again, stops}
 
 -- ---- words
@@ -300,7 +300,7 @@ bound_takes word most bytes bound rest e =
 pub plan_takes : (bytes : List ℕ) (plan : Option (List ℕ)) (rest : List ℕ) → plan_at bytes ≡ Some (plan, rest) → IfSome plan AreRows × (bytes ≡ plan_line plan ++ rest)
 unfolding plan_at
 plan_takes bytes plan rest e =
-    let a = bind_some (tag_at (codes "plan") bytes) (λ a. or_else (tag_at dash a >>= none_then) (numbers_at 672 a >>= some_then)) (plan, rest) e in
+    let a = bind_some (tag_at (codes "plan") bytes) (λ a. option_or (tag_at dash a >>= none_then) (numbers_at 672 a >>= some_then)) (plan, rest) e in
     let t = tag_takes (codes "plan") bytes a.0 a.1 in
     by_dash (tag_at dash a.0) a.0 t refl a.2
   where
@@ -310,7 +310,7 @@ plan_takes bytes plan rest e =
     some_then : List ℕ × List ℕ → Option (Option (List ℕ) × List ℕ)
     some_then x = Some (Some x.0, x.1)
 
-    by_dash : (o : Option (List ℕ)) (a : List ℕ) → bytes ≡ codes "plan" ++ a → tag_at dash a ≡ o → or_else (o >>= none_then) (numbers_at 672 a >>= some_then) ≡ Some (plan, rest) → IfSome plan AreRows × (bytes ≡ plan_line plan ++ rest)
+    by_dash : (o : Option (List ℕ)) (a : List ℕ) → bytes ≡ codes "plan" ++ a → tag_at dash a ≡ o → option_or (o >>= none_then) (numbers_at 672 a >>= some_then) ≡ Some (plan, rest) → IfSome plan AreRows × (bytes ≡ plan_line plan ++ rest)
     by_dash None a t d e =
         let x = bind_some (numbers_at 672 a) some_then (plan, rest) e in
         let p = some_pair_parts (Some x.0.0) plan x.0.1 rest x.2 in

@@ -5,6 +5,7 @@ use Rattle.std.specs.List.{list_all, AllByRecursion}
 use Rattle.std.proofs.lemmas.Bool.{and_parts, and_from, leb-true, le-leb}
 use Rattle.std.proofs.lemmas.Option.{none-some, some_pair_parts}
 use Rattle.std.proofs.lemmas.List.Elements.{recursion_from_All, All-from_recursion}
+use Rattle.std.specs.Option.{option_or}
 use Rattle.crp_plan.specs.BayNames.{YardBay, IsYardBay}
 use Rattle.crp_cert.specs.declared.claim.Claim.{Claim}
 use Rattle.crp_cert.specs.declared.claim.Claim.TheVariants.{AtLeast, First}
@@ -12,7 +13,7 @@ use Rattle.crp_cert.specs.declared.version.Version.{Version}
 use Rattle.crp_cert.specs.declared.version.Version.TheVariants.{One, Two}
 use Rattle.crp_cert.specs.Text.{spaced, title_line, bay_line, size_line, claim_line, plan_line, IsSize, AreRows, CanClaim}
 use Rattle.crp_cert.specs.Faults.{BeginsWith, MayClaim}
-use Rattle.crp_cert.specs.Reading.{◌>>=◌, tag_at, or_else, title_at, name_at, size_at, bound_at, first_at, claim_at, plan_at}
+use Rattle.crp_cert.specs.Reading.{◌>>=◌, tag_at, title_at, name_at, size_at, bound_at, first_at, claim_at, plan_at}
 use Rattle.crp_cert.proofs.Numbers.{bind_some, if_some, tag_takes, tag_again}
 use Rattle.crp_cert.proofs.Lines.{name_takes, name_again, size_takes, size_again, bound_takes, bound_again, bound_not, plan_takes, plan_again, plan_low}
 
@@ -120,7 +121,7 @@ titled version rest = Some (version, rest)
 pub title_reader : IsReader AnyVersion title_line title_at
 title_reader = record { takes = λ bytes version rest e. (tt, by_first bytes version rest (tag_at (title_line One) bytes) refl e); again = again }
   where
-    by_first : (bytes : List ℕ) (version : Version) (rest : List ℕ) (o : Option (List ℕ)) → tag_at (title_line One) bytes ≡ o → or_else (o >>= titled One) (tag_at (title_line Two) bytes >>= titled Two) ≡ Some (version, rest) →
+    by_first : (bytes : List ℕ) (version : Version) (rest : List ℕ) (o : Option (List ℕ)) → tag_at (title_line One) bytes ≡ o → option_or (o >>= titled One) (tag_at (title_line Two) bytes >>= titled Two) ≡ Some (version, rest) →
         bytes ≡ title_line version ++ rest
     by_first bytes version rest None f e =
         let x = bind_some (tag_at (title_line Two) bytes) (titled Two) (version, rest) e in
@@ -131,7 +132,7 @@ title_reader = record { takes = λ bytes version rest e. (tt, by_first bytes ver
         tag_takes (title_line One) bytes r f ∙ ap (λ (v : Version). title_line v ++ r) p.0 ∙ ap (λ l. title_line version ++ l) p.1
 
     again : (version : Version) (rest : List ℕ) → AnyVersion version → title_at (title_line version ++ rest) ≡ Some (version, rest)
-    again One rest any = ap (λ o. or_else (o >>= titled One) (tag_at (title_line Two) (title_line One ++ rest) >>= titled Two)) (tag_again (title_line One) rest)
+    again One rest any = ap (λ o. option_or (o >>= titled One) (tag_at (title_line Two) (title_line One ++ rest) >>= titled Two)) (tag_again (title_line One) rest)
     again Two rest any = ap (λ o. o >>= titled Two) (tag_again (title_line Two) rest)
 
 -- ---- the other lines
@@ -160,7 +161,7 @@ claim_reader version most few = record { takes = λ bytes claim rest e. by_first
     low One least = tt
     low Two least = tt
 
-    by_first : (version : Version) (bytes : List ℕ) (claim : Claim) (rest : List ℕ) (o : Option (ℕ × List ℕ)) → bound_at (codes "at least") most bytes ≡ o → or_else (claimed AtLeast o) (first_at version most bytes) ≡ Some (claim, rest) →
+    by_first : (version : Version) (bytes : List ℕ) (claim : Claim) (rest : List ℕ) (o : Option (ℕ × List ℕ)) → bound_at (codes "at least") most bytes ≡ o → option_or (claimed AtLeast o) (first_at version most bytes) ≡ Some (claim, rest) →
         MayClaim version most claim × (bytes ≡ claim_line claim ++ rest)
     by_first version bytes claim rest None f e = takes_first version bytes claim rest e
     by_first version bytes claim rest (Some x) f e =
@@ -169,10 +170,10 @@ claim_reader version most few = record { takes = λ bytes claim rest e. by_first
         (subst (MayClaim version most) p.0 (record { can_claim = low version x.0; within = t.0 }), t.1 ∙ ap (λ (c : Claim). claim_line c ++ x.1) p.0 ∙ ap (λ l. claim_line claim ++ l) p.1)
 
     again : (version : Version) (claim : Claim) (rest : List ℕ) → MayClaim version most claim → claim_at version most (claim_line claim ++ rest) ≡ Some (claim, rest)
-    again version (AtLeast least) rest may = ap (λ o. or_else (claimed AtLeast o) (first_at version most (claim_line (AtLeast least) ++ rest))) (bound_again (codes "at least") most least rest may.within few)
+    again version (AtLeast least) rest may = ap (λ o. option_or (claimed AtLeast o) (first_at version most (claim_line (AtLeast least) ++ rest))) (bound_again (codes "at least") most least rest may.within few)
     again One (First least) rest may = absurd may.can_claim
     again Two (First least) rest may =
-        ap (λ o. or_else (claimed AtLeast o) (first_at Two most (claim_line (First least) ++ rest))) (bound_not most 102 97 (codes "t least") (codes "irst" ++ (spaced (least ∷ []) ++ 10 ∷ []) ++ rest) refl)
+        ap (λ o. option_or (claimed AtLeast o) (first_at Two most (claim_line (First least) ++ rest))) (bound_not most 102 97 (codes "t least") (codes "irst" ++ (spaced (least ∷ []) ++ 10 ∷ []) ++ rest) refl)
         ∙ ap (claimed First) (bound_again (codes "first") most least rest may.within few)
 
 -- the plan line

@@ -3,7 +3,7 @@ ghost use Rattle.std.specs.Prelude.{◌≡◌, ◌≤◌, ◌+◌, ℕ, ◌++◌
 ghost use Rattle.std.specs.Option.{option_copied};
 ghost use Rattle.std.specs.List.{flat_map};
 ghost use Rattle.std.specs.Io.KnownBytes.{Appends};
-ghost use Rattle.crp_plan.specs.Devices.{AppendsFront, AppendsPart, CountsMore, GivesUp, HasFailed, InterruptedMore, most_interruptions};
+ghost use Rattle.crp_plan.specs.Devices.{AppendsPart, TransfersAlone};
 ghost use Rattle.crp_tree.specs.Claims.{path_in};
 ghost use Rattle.crp_tree.specs.Parts.{part_of};
 ghost use Rattle.crp_cert.specs.Text.{numbers_line, title_line, bay_line, size_line, stated_heights, size_of, row_line, claim_line, plan_line, head_text};
@@ -11,43 +11,14 @@ ghost use Rattle.crp_tree.specs.Names.{name_text};
 ghost use Rattle.crp_cert.specs.Script.{symbols_of, part_line};
 ghost use Rattle.crp_cert.specs.Letters.{letter_of_symbol};
 ghost use Rattle.crp_cert.specs.Writing.{are_equal, version_for, version_under, head_for, text_under, certificate_text, first_certificate_text};
-ghost use Rattle.crp_cert.specs.declared.writing.WriteFault.TheVariants.{Failed, Memory};
 
 use crate::claim::Claim;
 use crate::version::Version;
 use arrayvec::ArrayVec;
-use crp_plan::{BayName, MAX_ROWS, Plan, Problem, Sink, WriteFailed, tallest, write_all};
+use crp_plan::{BayName, MAX_ROWS, Plan, Problem, Sink, WriteFault, tallest, write_text};
 use crp_tree::{Cert, Name, Part, Symbol, Tree};
 use itoa::{Buffer, Integer};
 use std::alloc::{AllocError, Global};
-use thiserror::Error;
-
-/// Why a certificate was not written.
-#[derive(Clone, Copy, Debug, Drop, PartialEq, Eq, Error)]
-pub enum WriteFault {
-    /// The sink failed, was interrupted once too often, or took nothing of a piece.
-    #[error("a write failed")]
-    Failed,
-    /// No memory is left.
-    #[error("no memory is left")]
-    Memory,
-}
-
-impl From<AllocError> for WriteFault {
-    ghost from_gives = { λ _ fault. fault ≡ Memory };
-
-    fn from(_error: AllocError) -> WriteFault {
-        WriteFault::Memory
-    }
-}
-
-impl From<WriteFailed> for WriteFault {
-    ghost from_gives = { λ _ fault. fault ≡ Failed };
-
-    fn from(_error: WriteFailed) -> WriteFault {
-        WriteFault::Failed
-    }
-}
 
 /// Adds a number in decimal to a text.
 pub fn push_decimal<N: Integer>(text: &mut Vec<u8>, n: N) -> Result<(), AllocError>
@@ -332,22 +303,6 @@ pub fn first_text(
     )
 }
 
-/// Hands a text to a sink, and counts its interruptions by itself.
-fn write_text<W: Sink>(writer: &mut W, text: &[u8]) -> Result<(), WriteFailed>
-    ensures all { OnOk result (Appends (W.contents writer.old) (W.contents writer.new) text.now) }
-    ensures front { AppendsFront (W.contents writer.old) (W.contents writer.new) text.now }
-    ensures part { OnErr result (AppendsPart (W.contents writer.old) (W.contents writer.new) text.now) }
-    ensures failed { OnErr result (HasFailed (W.failures writer.old) (W.failures writer.new)) }
-    ensures count { W.failures writer.old ≤ W.failures writer.new }
-    ensures interrupted { OnOk result ((passed : ℕ) × (passed ≤ most_interruptions) × CountsMore passed (W.failures writer.old) (W.failures writer.new)
-        × InterruptedMore passed (W.interrupted writer.old) (W.interrupted writer.new)) }
-    ensures ended { OnErr result ((passed : ℕ) × (passed ≤ most_interruptions) × CountsMore (passed + 1) (W.failures writer.old) (W.failures writer.new)
-        × GivesUp 0 passed (W.interrupted writer.old) (W.interrupted writer.new)) }
-{
-    let mut interruptions = 0;
-    write_all(writer, text, &mut interruptions)
-}
-
 /// Hands the text of a certificate to a sink. Where no memory is left, nothing is handed over. It
 /// counts its interruptions itself; whoever counts them over a whole run takes `cert_text`.
 pub fn write_cert<W: Sink>(
@@ -359,16 +314,10 @@ pub fn write_cert<W: Sink>(
     plan: Option<&Plan>,
 ) -> Result<(), WriteFault>
     ensures all { OnOk result (Appends (W.contents writer.old) (W.contents writer.new) (certificate_text bay.now problem.now cert.now (option_copied plan.entry))) }
-    ensures front { AppendsFront (W.contents writer.old) (W.contents writer.new) (certificate_text bay.now problem.now cert.now (option_copied plan.entry)) }
     ensures part { IsErrOf result WriteFault.Failed → AppendsPart (W.contents writer.old) (W.contents writer.new) (certificate_text bay.now problem.now cert.now (option_copied plan.entry)) }
-    ensures failed { IsErrOf result WriteFault.Failed → HasFailed (W.failures writer.old) (W.failures writer.new) }
     ensures memory { IsErrOf result WriteFault.Memory → writer.new ≡ writer.old }
-    ensures count { W.failures writer.old ≤ W.failures writer.new }
-    ensures interrupted { OnOk result ((passed : ℕ) × (passed ≤ most_interruptions) × CountsMore passed (W.failures writer.old) (W.failures writer.new)
-        × InterruptedMore passed (W.interrupted writer.old) (W.interrupted writer.new)) }
-    ensures ended { IsErrOf result WriteFault.Failed
-        → (passed : ℕ) × (passed ≤ most_interruptions) × CountsMore (passed + 1) (W.failures writer.old) (W.failures writer.new)
-        × GivesUp 0 passed (W.interrupted writer.old) (W.interrupted writer.new) }
+    ensures done { OnOk result (TransfersAlone 0 (W.failures writer.old) (W.failures writer.new) (W.interrupted writer.old) (W.interrupted writer.new)) }
+    ensures gave_up { IsErrOf result WriteFault.Failed → TransfersAlone 1 (W.failures writer.old) (W.failures writer.new) (W.interrupted writer.old) (W.interrupted writer.new) }
 {
     let text = cert_text(alloc, bay, problem, cert, plan)?;
     write_text(writer, &text)?;
@@ -387,16 +336,10 @@ pub fn write_first<W: Sink>(
     plan: &Plan,
 ) -> Result<(), WriteFault>
     ensures all { OnOk result (Appends (W.contents writer.old) (W.contents writer.new) (first_certificate_text bay.now problem.now cert.now plan.now)) }
-    ensures front { AppendsFront (W.contents writer.old) (W.contents writer.new) (first_certificate_text bay.now problem.now cert.now plan.now) }
     ensures part { IsErrOf result WriteFault.Failed → AppendsPart (W.contents writer.old) (W.contents writer.new) (first_certificate_text bay.now problem.now cert.now plan.now) }
-    ensures failed { IsErrOf result WriteFault.Failed → HasFailed (W.failures writer.old) (W.failures writer.new) }
     ensures memory { IsErrOf result WriteFault.Memory → writer.new ≡ writer.old }
-    ensures count { W.failures writer.old ≤ W.failures writer.new }
-    ensures interrupted { OnOk result ((passed : ℕ) × (passed ≤ most_interruptions) × CountsMore passed (W.failures writer.old) (W.failures writer.new)
-        × InterruptedMore passed (W.interrupted writer.old) (W.interrupted writer.new)) }
-    ensures ended { IsErrOf result WriteFault.Failed
-        → (passed : ℕ) × (passed ≤ most_interruptions) × CountsMore (passed + 1) (W.failures writer.old) (W.failures writer.new)
-        × GivesUp 0 passed (W.interrupted writer.old) (W.interrupted writer.new) }
+    ensures done { OnOk result (TransfersAlone 0 (W.failures writer.old) (W.failures writer.new) (W.interrupted writer.old) (W.interrupted writer.new)) }
+    ensures gave_up { IsErrOf result WriteFault.Failed → TransfersAlone 1 (W.failures writer.old) (W.failures writer.new) (W.interrupted writer.old) (W.interrupted writer.new) }
 {
     let text = first_text(alloc, bay, problem, cert, plan)?;
     write_text(writer, &text)?;

@@ -23,10 +23,4 @@ IsBound bytes report = (head : Head) × IsHeadOf bytes head × IsBoundReport hea
 -- the bytes begin with no head
 abbrev pub IsNoBound : List ℕ → ToolFault → Type 0
 IsNoBound bytes (fault.Cert f) = IsFirstFault bytes f
-IsNoBound bytes (fault.Plan f) = ⊥
-IsNoBound bytes fault.Read = ⊥
-IsNoBound bytes fault.Write = ⊥
-IsNoBound bytes fault.TooLarge = ⊥
-IsNoBound bytes (fault.Checked number why) = ⊥
-IsNoBound bytes (fault.Run f) = ⊥
-IsNoBound bytes fault.Memory = ⊥
+IsNoBound bytes f = ⊥

@@ -62,8 +62,7 @@ CallFailsWith limit IsReport IsRefused s fault.Write = HasFailed s.sink_before s
     × ((text : List ℕ) × (report : List ℕ) × IsTextWithin limit s.given text × IsReport text report × AppendsPart s.held s.holds report)
 CallFailsWith limit IsReport IsRefused s fault.TooLarge = Keeps s.held s.holds × IfSome s.given (λ xs. limit < length xs)
 CallFailsWith limit IsReport IsRefused s fault.Memory = Keeps s.held s.holds
-CallFailsWith limit IsReport IsRefused s (fault.Checked number why) = ⊥
-CallFailsWith limit IsReport IsRefused s (fault.Run f) = ⊥
+CallFailsWith limit IsReport IsRefused s f = ⊥
 
 -- why no head was read from a source: its bytes begin with none, it has failed in this call, it has more bytes than the limit, or memory
 -- is wanted
@@ -72,10 +71,7 @@ IsNoHead limit given before after (fault.Cert f) = (text : List ℕ) × IsTextWi
 IsNoHead limit given before after fault.Read = HasFailed before after
 IsNoHead limit given before after fault.TooLarge = IfSome given (λ xs. limit < length xs)
 IsNoHead limit given before after fault.Memory = Unit {0}
-IsNoHead limit given before after (fault.Plan f) = ⊥
-IsNoHead limit given before after fault.Write = ⊥
-IsNoHead limit given before after (fault.Checked number why) = ⊥
-IsNoHead limit given before after (fault.Run f) = ⊥
+IsNoHead limit given before after f = ⊥
 
 -- how a command states what went wrong in a layer below
 abbrev pub fault_of_read : ReadFault → ToolFault

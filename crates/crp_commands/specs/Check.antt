@@ -97,9 +97,7 @@ CheckFailsWith limit s fault.Write = HasFailed s.sink_before s.sink_after
 CheckFailsWith limit s fault.TooLarge = IfSome s.given (λ xs. limit < length xs)
     × ((read : List ℕ) × (length read ≡ limit) × WritesEach s read)
 CheckFailsWith limit s fault.Memory = WritesSome limit s
-CheckFailsWith limit s (fault.Cert f) = ⊥
-CheckFailsWith limit s (fault.Plan f) = ⊥
-CheckFailsWith limit s (fault.Run f) = ⊥
+CheckFailsWith limit s f = ⊥
 
 -- how the refusal of a certificate is stated
 abbrev pub fault_of_refusal : ℕ → Refused → ToolFault

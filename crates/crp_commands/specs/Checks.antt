@@ -16,12 +16,7 @@ use Rattle.crp_commands.specs.Check.{verdict_lines, IsCheckBefore, CheckFailsWit
 abbrev pub TextFailsWith : Option (List ℕ) → Option (List ℕ) → ℕ → ℕ → List ℕ → ToolFault → Type 0
 TextFailsWith held holds before after text fault.Memory = Keeps held holds
 TextFailsWith held holds before after text fault.Write = HasFailed before after × AppendsPart held holds text
-TextFailsWith held holds before after text fault.Read = ⊥
-TextFailsWith held holds before after text fault.TooLarge = ⊥
-TextFailsWith held holds before after text (fault.Checked number why) = ⊥
-TextFailsWith held holds before after text (fault.Cert f) = ⊥
-TextFailsWith held holds before after text (fault.Plan f) = ⊥
-TextFailsWith held holds before after text (fault.Run f) = ⊥
+TextFailsWith held holds before after text f = ⊥
 
 -- the checker has read the file, this is the number of the certificate that comes next, and the lines of those that have ended were written
 pub record HasChecked (held holds : Option (List ℕ)) (file : List ℕ) (verdicts : List (YardBay × Verdict)) (files : FileChecker) (number : ℕ) : Type 0 where
@@ -55,11 +50,7 @@ BytesFailWith held holds before after bytes fault.Write = HasFailed before after
     × ((verdicts : List (YardBay × Verdict)) × AreEndedIn bytes verdicts × AppendsPart held holds (verdict_lines verdicts))
 BytesFailWith held holds before after bytes fault.Memory =
     (verdicts : List (YardBay × Verdict)) × AreEndedIn bytes verdicts × Appends held holds (verdict_lines verdicts)
-BytesFailWith held holds before after bytes fault.Read = ⊥
-BytesFailWith held holds before after bytes fault.TooLarge = ⊥
-BytesFailWith held holds before after bytes (fault.Cert f) = ⊥
-BytesFailWith held holds before after bytes (fault.Plan f) = ⊥
-BytesFailWith held holds before after bytes (fault.Run f) = ⊥
+BytesFailWith held holds before after bytes f = ⊥
 
 -- whatever was checked before, this is what a fault says of it and this piece
 abbrev pub PieceFailsWith : List ℕ → Option (List ℕ) → FileChecker → ℕ → Option (List ℕ) → ℕ → ℕ → ToolFault → Type 0

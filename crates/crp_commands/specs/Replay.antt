@@ -34,20 +34,10 @@ IsReplay bytes report = (head : Head) × IsHeadOf bytes head × IsHeadReport hea
 abbrev pub IsNoReport : Head → ToolFault → Type 0
 IsNoReport head (fault.Plan f) = (rows : List ℕ) × (head.plan ≡ Some rows) × IsPlanFault head.problem rows f
 IsNoReport head fault.Memory = Unit {0}
-IsNoReport head (fault.Cert f) = ⊥
-IsNoReport head fault.Read = ⊥
-IsNoReport head fault.Write = ⊥
-IsNoReport head fault.TooLarge = ⊥
-IsNoReport head (fault.Run f) = ⊥
-IsNoReport head (fault.Checked number why) = ⊥
+IsNoReport head f = ⊥
 
 -- the bytes begin with no head, or the plan of the head is none
 abbrev pub IsNoReplay : List ℕ → ToolFault → Type 0
 IsNoReplay bytes (fault.Cert f) = IsFirstFault bytes f
 IsNoReplay bytes (fault.Plan f) = (head : Head) × IsHeadOf bytes head × IsNoReport head (fault.Plan f)
-IsNoReplay bytes fault.Read = ⊥
-IsNoReplay bytes fault.Write = ⊥
-IsNoReplay bytes fault.TooLarge = ⊥
-IsNoReplay bytes (fault.Checked number why) = ⊥
-IsNoReplay bytes (fault.Run f) = ⊥
-IsNoReplay bytes fault.Memory = ⊥
+IsNoReplay bytes f = ⊥

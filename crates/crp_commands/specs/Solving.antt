@@ -53,10 +53,7 @@ IsOutputRefused may_not_create names output.YardAfter = MatchOption names.after 
 abbrev pub IsOfRefused : KnownFiles → RunFiles → Fault → Type 0
 IsOfRefused known names (run.Read source) = IsInputRefused known.may_not_open names source
 IsOfRefused known names (run.Write sink) = IsOutputRefused known.may_not_create names sink
-IsOfRefused known names (run.Yard f) = ⊥
-IsOfRefused known names (run.Interchange f) = ⊥
-IsOfRefused known names (run.Message f) = ⊥
-IsOfRefused known names run.Memory = ⊥
+IsOfRefused known names f = ⊥
 
 -- what a run saw that opens its inputs by their names, and the files of the certificates and of the yard after where they are asked for; its report
 -- goes to a sink of the caller's. What failed of the files is what failed of these devices

@@ -1,12 +1,12 @@
 //! The calls that the tests make, each in a function with no clause: so a test knows nothing of what is promised, and is soon checked.
 ghost use Rattle.std.specs.Prelude.{◌≤◌};
 
-use crp_cert::{CertFault, Head, Script, WriteFault as CertWriteFault};
+use crp_cert::{CertFault, Head, Script};
 use crp_checker::{Checker, FileRefused, Refused, Verdict, Verdicts};
 use crp_movins::{MovinsFault, Orders};
-use crp_plan::{BayName, Plan, Problem, Sink, Source};
+use crp_plan::{BayName, Plan, Problem, Sink, Source, WriteFault};
 use crp_tree::Cert;
-use crp_yard::{WriteFault, Yard, YardFault};
+use crp_yard::{Yard, YardFault};
 use edi_text::{EdiFault, Segments};
 use std::alloc::{AllocError, Global};
 
@@ -35,7 +35,7 @@ pub(crate) fn write_cert<W: Sink>(
     problem: &Problem,
     cert: &Cert,
     plan: Option<&Plan>,
-) -> Result<(), CertWriteFault> {
+) -> Result<(), WriteFault> {
     crp_cert::write_cert(alloc, writer, bay, problem, cert, plan)
 }
 
@@ -46,7 +46,7 @@ pub(crate) fn write_first<W: Sink>(
     problem: &Problem,
     cert: &Cert,
     plan: &Plan,
-) -> Result<(), CertWriteFault> {
+) -> Result<(), WriteFault> {
     crp_cert::write_first(alloc, writer, bay, problem, cert, plan)
 }
 

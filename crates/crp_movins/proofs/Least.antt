@@ -2,17 +2,18 @@
 use Prim.Native.Nat.{zero}
 use Rattle.std.proofs.Common.{◌≡◌, ℕ, suc, ◌<◌, ◌⊎◌, Bool, true, false, cond, List, Option, Some, None, refl, sym, subst, inl, inr, arith}
 use Rattle.std.proofs.lemmas.Bool.{cases_eq}
+use Rattle.std.specs.Option.{option_or}
 use Rattle.edi_text.specs.Parts.{SegmentParts}
 use Rattle.crp_movins.specs.declared.fault.MovinsFault.{MovinsFault}
 use Rattle.crp_movins.specs.declared.kind.Kind.{Kind}
 use Rattle.crp_movins.specs.Places.{kind_at, last_before}
-use Rattle.crp_movins.specs.Faults.{or_else, fault_at, first_fault_before}
+use Rattle.crp_movins.specs.Faults.{fault_at, first_fault_before}
 
-neither : (first second : Option MovinsFault) → or_else first second ≡ None → (first ≡ None) × (second ≡ None)
+neither : (first second : Option MovinsFault) → option_or first second ≡ None → (first ≡ None) × (second ≡ None)
 neither None second h = (refl, h)
 neither (Some fault) second h = absurd (cc)
 
-either : (first second : Option MovinsFault) (fault : MovinsFault) → or_else first second ≡ Some fault → (first ≡ Some fault) ⊎ ((first ≡ None) × (second ≡ Some fault))
+either : (first second : Option MovinsFault) (fault : MovinsFault) → option_or first second ≡ Some fault → (first ≡ Some fault) ⊎ ((first ≡ None) × (second ≡ Some fault))
 either None second fault h = inr (refl, h)
 either (Some faulty) second fault h = inl h
 

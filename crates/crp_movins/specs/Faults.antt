@@ -3,6 +3,7 @@
 use Prim.Native.Nat.{zero}
 use Rattle.std.specs.Prelude.{ℕ, suc, ◌+◌, ◌-◌, Bool, not, ◌&&◌, ◌||◌, List, [], ◌∷◌, length, Option, Some, None, is_some, unwrap_or, ◌==◌, nat_lt, nat_le, if◌then◌else◌, codes}
 use Rattle.std.specs.Str.{bytes_eq}
+use Rattle.std.specs.Option.{option_or}
 use Rattle.edi_text.specs.Parts.{SegmentParts}
 use Rattle.crp_movins.specs.declared.fault.MovinsFault.{MovinsFault}
 use Rattle.crp_movins.specs.declared.fault.MovinsFault.TheVariants.{NoInterchangeHeader, InterchangeHeader as HeaderFault, FunctionalGroup as GroupFault, OutOfPlace, MessageCount, MessageReference, InterchangeCount, InterchangeReference, AfterTrailer, MessageType, SlotNumber, OrderedTwice, TooManyOrders}
@@ -75,15 +76,10 @@ first_of (fault ∷ faults) = if fault.0 then Some fault.1 else first_of faults
 unfoldable pub fault_at : List SegmentParts → List ℕ → ℕ → Option MovinsFault
 fault_at segments code i = first_of (faults_at segments code i)
 
--- the first, and where there is none the second
-abbrev pub or_else : Option MovinsFault → Option MovinsFault → Option MovinsFault
-or_else None second = second
-or_else (Some fault) second = Some fault
-
 -- the fault of the first faulty segment before this one
 abbrev pub first_fault_before : List SegmentParts → List ℕ → ℕ → Option MovinsFault
 first_fault_before segments code zero = None
-first_fault_before segments code (suc i) = or_else (first_fault_before segments code i) (fault_at segments code i)
+first_fault_before segments code (suc i) = option_or (first_fault_before segments code i) (fault_at segments code i)
 
 -- a list that ends without UNZ is faulty at the number after its last segment
 abbrev pub end_fault : List SegmentParts → Option MovinsFault
@@ -91,4 +87,4 @@ end_fault segments = if is_some (last_before is_interchange_trailer segments (le
 
 -- of all faults of the list this one is stated; none where no segment is faulty and there is a UNZ
 abbrev pub first_fault : List SegmentParts → List ℕ → Option MovinsFault
-first_fault segments code = or_else (first_fault_before segments code (length segments + 1)) (end_fault segments)
+first_fault segments code = option_or (first_fault_before segments code (length segments + 1)) (end_fault segments)

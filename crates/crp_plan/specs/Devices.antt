@@ -1,8 +1,10 @@
 -- Sources and sinks of bytes: the counts of their failures and interruptions, and the front and the part of a text that a sink took.
-use Rattle.std.specs.Prelude.{◌≡◌, ℕ, ◌+◌, ◌-◌, ◌^◌, ◌<◌, ◌⊎◌, min, List, length, take, Option, Some, None, Result, MatchResult, ⊤}
+use Rattle.std.specs.Prelude.{◌≡◌, ℕ, ◌+◌, ◌-◌, ◌^◌, ◌<◌, ◌≤◌, ◌⊎◌, min, List, length, take, Option, Some, None, Result, MatchResult, ⊤}
 use Rattle.std.specs.Io.KnownBytes.{Appends}
 use Rattle.crp_plan.specs.declared.device.Failure.{Failure}
 use Rattle.crp_plan.specs.declared.device.Failure.TheVariants.{Interrupted, Failed}
+use Rattle.crp_plan.specs.declared.transfer.ReadFault.{ReadFault}
+use Rattle.crp_plan.specs.declared.transfer.ReadFault.TheVariants as read
 
 -- The count has grown by so many. It stops at the largest u64.
 abbrev pub CountsMore : ℕ → ℕ → ℕ → Type 0
@@ -57,10 +59,24 @@ abbrev pub CountsInterruption : Option ℕ → Option ℕ → Result ℕ Failure
 CountsInterruption old new r =
     MatchResult r (λ _. InterruptedMore 0 old new) (λ failure. InterruptedMore (interruptions_of failure) old new)
 
--- A transfer gives up: each call that was interrupted was tried again, or each but the last, where a run had passed over as many as it may.
-abbrev pub GivesUp : ℕ → ℕ → Option ℕ → Option ℕ → Type 0
-GivesUp passed_before passed_after old new = InterruptedMore (passed_after - passed_before) old new
-    ⊎ ((passed_after ≡ most_interruptions) × InterruptedMore (passed_after - passed_before + 1) old new)
+-- A transfer, in a run that had passed over so many interruptions before it, and after it. Each between was tried again, and so many calls failed besides:
+-- none where it is done, one where it gives up. That one was interrupted too, if at all, only where the run had passed over as many as it may.
+pub record Transfers (besides before after failures new_failures : ℕ) (interrupted new_interrupted : Option ℕ) : Type 0 where
+  pub rises : before ≤ after
+  pub few : after ≤ most_interruptions
+  pub failed : CountsMore (after - before + besides) failures new_failures
+  pub tried_again : InterruptedMore (after - before) interrupted new_interrupted
+      ⊎ ((besides ≡ 1) × (after ≡ most_interruptions) × InterruptedMore (after - before + 1) interrupted new_interrupted)
+
+-- The same, where the transfer counts its interruptions by itself.
+abbrev pub TransfersAlone : ℕ → ℕ → ℕ → Option ℕ → Option ℕ → Type 0
+TransfersAlone besides failures new_failures interrupted new_interrupted =
+    (passed : ℕ) × Transfers besides 0 passed failures new_failures interrupted new_interrupted
+
+-- How many calls fail besides, where a text is not read: one where the source failed.
+abbrev pub failures_of_read : ReadFault → ℕ
+failures_of_read read.Failed = 1
+failures_of_read f = 0
 
 -- It passes over a failure that is an interruption, where fewer than that came before it.
 abbrev pub IsPassedOver : Failure → ℕ → Type 0

@@ -1,11 +1,11 @@
 //! A whole text, from a source or to a sink.
-ghost use Rattle.std.specs.Prelude.{◌≡◌, ◌↔◌, ◌⊎◌, ℕ, List, ◌+◌, ◌-◌, ◌<◌, ◌≤◌, ◌++◌, false, true, length, take, vec_len, IsTrue, IfOk, IfSome, OnOk, OnErr, IsErrOf, flat_map};
+ghost use Rattle.std.specs.Prelude.{◌≡◌, ◌↔◌, ◌⊎◌, ℕ, List, ◌+◌, ◌-◌, ◌<◌, ◌≤◌, ◌++◌, false, true, length, take, vec_len, IsTrue, IfOk, IfErr, IfSome, OnOk, OnErr, IsErrOf, flat_map};
 ghost use Rattle.std.specs.Bool.{OnTrue, OnFalse};
 ghost use Rattle.std.specs.Io.KnownBytes.{Appends, Consumes, Keeps, IsAtEnd};
-ghost use Rattle.crp_plan.specs.Devices.{AppendsFront, AppendsPart, CountsMore, GivesUp, HasFailed, InterruptedMore, IsPassedOver, most_interruptions};
+ghost use Rattle.crp_plan.specs.Devices.{AppendsPart, IsPassedOver, Transfers, TransfersAlone, failures_of_read, most_interruptions};
 
 use crate::device::{Failure, Sink, Source};
-use std::alloc::Global;
+use std::alloc::{AllocError, Global};
 use thiserror::Error;
 
 /// Why a text was not read.
@@ -31,6 +31,37 @@ pub struct ReadFailed;
 #[derive(Clone, Copy, Debug, Drop, PartialEq, Eq, Error)]
 #[error("a write failed")]
 pub struct WriteFailed;
+
+/// Why a text that was to be made and then written was not.
+#[derive(Clone, Copy, Debug, Drop, PartialEq, Eq, Error)]
+pub enum WriteFault {
+    /// The sink failed, was interrupted once too often, or took nothing of a piece.
+    #[error("a write failed")]
+    Failed,
+    /// No memory is left.
+    #[error("no memory is left")]
+    Memory,
+}
+
+impl From<AllocError> for WriteFault {
+    ghost use Rattle.crp_plan.specs.declared.transfer.WriteFault.TheVariants.{Memory};
+
+    ghost from_gives = { λ _ fault. fault ≡ Memory };
+
+    fn from(_error: AllocError) -> WriteFault {
+        WriteFault::Memory
+    }
+}
+
+impl From<WriteFailed> for WriteFault {
+    ghost use Rattle.crp_plan.specs.declared.transfer.WriteFault.TheVariants.{Failed};
+
+    ghost from_gives = { λ _ fault. fault ≡ Failed };
+
+    fn from(_error: WriteFailed) -> WriteFault {
+        WriteFault::Failed
+    }
+}
 
 /// How many interrupted calls a run passes over.
 pub const MOST_INTERRUPTIONS: u32 = 1000;
@@ -67,17 +98,8 @@ fn read_piece<R: Source>(
         → limit + most_interruptions + vec_len bytes.old + interruptions.old < limit + most_interruptions + vec_len bytes.new + interruptions.new) }
     ensures large { IsErrOf result ReadFault.TooLarge
         → IfSome (R.remaining reader.old) (λ xs. limit < vec_len bytes.old + length xs) }
-    ensures passed { (interruptions.old ≤ interruptions.new) × (interruptions.new ≤ most_interruptions) }
-    ensures interrupted { OnOk result (CountsMore (interruptions.new - interruptions.old) (R.failures reader.old) (R.failures reader.new)) }
-    ensures tried_again { OnOk result (InterruptedMore (interruptions.new - interruptions.old) (R.interrupted reader.old) (R.interrupted reader.new)) }
-    ensures ended { IsErrOf result ReadFault.Failed
-        → CountsMore (interruptions.new - interruptions.old + 1) (R.failures reader.old) (R.failures reader.new) }
-    ensures gave_up { IsErrOf result ReadFault.Failed
-        → GivesUp interruptions.old interruptions.new (R.interrupted reader.old) (R.interrupted reader.new) }
-    ensures refused { IsErrOf result ReadFault.TooLarge ⊎ IsErrOf result ReadFault.Memory
-        → CountsMore (interruptions.new - interruptions.old) (R.failures reader.old) (R.failures reader.new) }
-    ensures tried_again_refused { IsErrOf result ReadFault.TooLarge ⊎ IsErrOf result ReadFault.Memory
-        → InterruptedMore (interruptions.new - interruptions.old) (R.interrupted reader.old) (R.interrupted reader.new) }
+    ensures done { OnOk result (Transfers 0 interruptions.old interruptions.new (R.failures reader.old) (R.failures reader.new) (R.interrupted reader.old) (R.interrupted reader.new)) }
+    ensures ended { IfErr result (λ fault. Transfers (failures_of_read fault) interruptions.old interruptions.new (R.failures reader.old) (R.failures reader.new) (R.interrupted reader.old) (R.interrupted reader.new)) }
 {
     let mut piece = [0u8; PIECE];
     match reader.read(&mut piece) {
@@ -101,6 +123,7 @@ fn read_piece<R: Source>(
 }
 
 /// All that a source has left, where that is no more than `limit` bytes.
+#[tactic(auto, using(crate::proofs::Interruptions::transfers_on, crate::proofs::Interruptions::no_transfer))]
 pub fn read_all<R: Source>(
     alloc: Global,
     reader: &mut R,
@@ -113,20 +136,8 @@ pub fn read_all<R: Source>(
     ensures within { IfOk result (λ bytes. vec_len bytes ≤ limit) }
     ensures large { IsErrOf result ReadFault.TooLarge
         → IfSome (R.remaining reader.old) (λ xs. limit < length xs) }
-    ensures failed { IsErrOf result ReadFault.Failed
-        → HasFailed (R.failures reader.old) (R.failures reader.new) }
-    ensures count { R.failures reader.old ≤ R.failures reader.new }
-    ensures passed { (interruptions.old ≤ interruptions.new) × (interruptions.new ≤ most_interruptions) }
-    ensures interrupted { OnOk result (CountsMore (interruptions.new - interruptions.old) (R.failures reader.old) (R.failures reader.new)) }
-    ensures tried_again { OnOk result (InterruptedMore (interruptions.new - interruptions.old) (R.interrupted reader.old) (R.interrupted reader.new)) }
-    ensures ended { IsErrOf result ReadFault.Failed
-        → CountsMore (interruptions.new - interruptions.old + 1) (R.failures reader.old) (R.failures reader.new) }
-    ensures gave_up { IsErrOf result ReadFault.Failed
-        → GivesUp interruptions.old interruptions.new (R.interrupted reader.old) (R.interrupted reader.new) }
-    ensures refused { IsErrOf result ReadFault.TooLarge ⊎ IsErrOf result ReadFault.Memory
-        → CountsMore (interruptions.new - interruptions.old) (R.failures reader.old) (R.failures reader.new) }
-    ensures tried_again_refused { IsErrOf result ReadFault.TooLarge ⊎ IsErrOf result ReadFault.Memory
-        → InterruptedMore (interruptions.new - interruptions.old) (R.interrupted reader.old) (R.interrupted reader.new) }
+    ensures done { OnOk result (Transfers 0 interruptions.old interruptions.new (R.failures reader.old) (R.failures reader.new) (R.interrupted reader.old) (R.interrupted reader.new)) }
+    ensures ended { IfErr result (λ fault. Transfers (failures_of_read fault) interruptions.old interruptions.new (R.failures reader.old) (R.failures reader.new) (R.interrupted reader.old) (R.interrupted reader.new)) }
 {
     let mut bytes = Vec::new(alloc);
     while read_piece(reader, &mut bytes, limit, interruptions)? {}
@@ -134,6 +145,7 @@ pub fn read_all<R: Source>(
 }
 
 /// Puts the next bytes of a source at the front of a piece, and says how many. None come only at the end.
+#[tactic(auto, using(crate::proofs::Interruptions::transfers_on, crate::proofs::Interruptions::no_transfer))]
 pub fn read_some<R: Source>(
     reader: &mut R,
     piece: &mut [u8],
@@ -145,13 +157,8 @@ pub fn read_some<R: Source>(
     ensures got { IfOk result (λ n. Consumes (R.remaining reader.old) (R.remaining reader.new) (take n piece.new)) }
     ensures end { IfOk result (λ n. n ≡ 0 → IsAtEnd (R.remaining reader.new)) }
     ensures kept { OnErr result (Keeps (R.remaining reader.old) (R.remaining reader.new)) }
-    ensures failed { OnErr result (HasFailed (R.failures reader.old) (R.failures reader.new)) }
-    ensures count { R.failures reader.old ≤ R.failures reader.new }
-    ensures passed { (interruptions.old ≤ interruptions.new) × (interruptions.new ≤ most_interruptions) }
-    ensures interrupted { OnOk result (CountsMore (interruptions.new - interruptions.old) (R.failures reader.old) (R.failures reader.new)) }
-    ensures tried_again { OnOk result (InterruptedMore (interruptions.new - interruptions.old) (R.interrupted reader.old) (R.interrupted reader.new)) }
-    ensures ended { OnErr result (CountsMore (interruptions.new - interruptions.old + 1) (R.failures reader.old) (R.failures reader.new)) }
-    ensures gave_up { OnErr result (GivesUp interruptions.old interruptions.new (R.interrupted reader.old) (R.interrupted reader.new)) }
+    ensures done { OnOk result (Transfers 0 interruptions.old interruptions.new (R.failures reader.old) (R.failures reader.new) (R.interrupted reader.old) (R.interrupted reader.new)) }
+    ensures gave_up { OnErr result (Transfers 1 interruptions.old interruptions.new (R.failures reader.old) (R.failures reader.new) (R.interrupted reader.old) (R.interrupted reader.new)) }
 {
     loop {
         match reader.read(piece) {
@@ -177,11 +184,8 @@ fn write_piece<W: Sink>(
     ensures ok { IfOk result (λ n. Appends (W.contents writer.old) (W.contents writer.new) (take n text.now)) }
     ensures err { OnErr result (Keeps (W.contents writer.old) (W.contents writer.new)) }
     ensures nearer { IfOk result (λ n. interruptions.old < n + interruptions.new) }
-    ensures passed { (interruptions.old ≤ interruptions.new) × (interruptions.new ≤ most_interruptions) }
-    ensures interrupted { OnOk result (CountsMore (interruptions.new - interruptions.old) (W.failures writer.old) (W.failures writer.new)) }
-    ensures tried_again { OnOk result (InterruptedMore (interruptions.new - interruptions.old) (W.interrupted writer.old) (W.interrupted writer.new)) }
-    ensures ended { OnErr result (CountsMore (interruptions.new - interruptions.old + 1) (W.failures writer.old) (W.failures writer.new)) }
-    ensures gave_up { OnErr result (GivesUp interruptions.old interruptions.new (W.interrupted writer.old) (W.interrupted writer.new)) }
+    ensures done { OnOk result (Transfers 0 interruptions.old interruptions.new (W.failures writer.old) (W.failures writer.new) (W.interrupted writer.old) (W.interrupted writer.new)) }
+    ensures gave_up { OnErr result (Transfers 1 interruptions.old interruptions.new (W.failures writer.old) (W.failures writer.new) (W.interrupted writer.old) (W.interrupted writer.new)) }
 {
     match writer.write(text) {
         Ok(0) => Err(WriteFailed),
@@ -196,6 +200,7 @@ fn write_piece<W: Sink>(
 }
 
 /// Hands a whole text to a sink.
+#[tactic(auto, using(crate::proofs::Interruptions::transfers_on, crate::proofs::Interruptions::no_transfer))]
 pub fn write_all<W: Sink>(
     writer: &mut W,
     text: &[u8],
@@ -203,15 +208,9 @@ pub fn write_all<W: Sink>(
 ) -> Result<(), WriteFailed>
     requires { interruptions.old ≤ most_interruptions }
     ensures all { OnOk result (Appends (W.contents writer.old) (W.contents writer.new) text.now) }
-    ensures front { AppendsFront (W.contents writer.old) (W.contents writer.new) text.now }
     ensures part { OnErr result (AppendsPart (W.contents writer.old) (W.contents writer.new) text.now) }
-    ensures failed { OnErr result (HasFailed (W.failures writer.old) (W.failures writer.new)) }
-    ensures count { W.failures writer.old ≤ W.failures writer.new }
-    ensures passed { (interruptions.old ≤ interruptions.new) × (interruptions.new ≤ most_interruptions) }
-    ensures interrupted { OnOk result (CountsMore (interruptions.new - interruptions.old) (W.failures writer.old) (W.failures writer.new)) }
-    ensures tried_again { OnOk result (InterruptedMore (interruptions.new - interruptions.old) (W.interrupted writer.old) (W.interrupted writer.new)) }
-    ensures ended { OnErr result (CountsMore (interruptions.new - interruptions.old + 1) (W.failures writer.old) (W.failures writer.new)) }
-    ensures gave_up { OnErr result (GivesUp interruptions.old interruptions.new (W.interrupted writer.old) (W.interrupted writer.new)) }
+    ensures done { OnOk result (Transfers 0 interruptions.old interruptions.new (W.failures writer.old) (W.failures writer.new) (W.interrupted writer.old) (W.interrupted writer.new)) }
+    ensures gave_up { OnErr result (Transfers 1 interruptions.old interruptions.new (W.failures writer.old) (W.failures writer.new) (W.interrupted writer.old) (W.interrupted writer.new)) }
 {
     let mut rest = text;
     while !rest.is_empty() {
@@ -221,23 +220,29 @@ pub fn write_all<W: Sink>(
     Ok(())
 }
 
+/// Hands a whole text to a sink, and counts its interruptions by itself.
+pub fn write_text<W: Sink>(writer: &mut W, text: &[u8]) -> Result<(), WriteFailed>
+    ensures all { OnOk result (Appends (W.contents writer.old) (W.contents writer.new) text.now) }
+    ensures part { OnErr result (AppendsPart (W.contents writer.old) (W.contents writer.new) text.now) }
+    ensures done { OnOk result (TransfersAlone 0 (W.failures writer.old) (W.failures writer.new) (W.interrupted writer.old) (W.interrupted writer.new)) }
+    ensures gave_up { OnErr result (TransfersAlone 1 (W.failures writer.old) (W.failures writer.new) (W.interrupted writer.old) (W.interrupted writer.new)) }
+{
+    let mut interruptions = 0;
+    write_all(writer, text, &mut interruptions)
+}
+
 /// Hands several texts to a sink, one after the other.
+#[tactic(auto, using(crate::proofs::Interruptions::transfers_on, crate::proofs::Interruptions::no_transfer))]
 pub fn write_each<W: Sink>(
     writer: &mut W,
-    texts: &[Vec<u8>],
+    texts: &[&[u8]],
     interruptions: &mut u32,
 ) -> Result<(), WriteFailed>
     requires { interruptions.old ≤ most_interruptions }
-    ensures all { OnOk result (Appends (W.contents writer.old) (W.contents writer.new) (flat_map (λ text. text.items) texts.now)) }
-    ensures front { AppendsFront (W.contents writer.old) (W.contents writer.new) (flat_map (λ text. text.items) texts.now) }
-    ensures part { OnErr result (AppendsPart (W.contents writer.old) (W.contents writer.new) (flat_map (λ text. text.items) texts.now)) }
-    ensures failed { OnErr result (HasFailed (W.failures writer.old) (W.failures writer.new)) }
-    ensures count { W.failures writer.old ≤ W.failures writer.new }
-    ensures passed { (interruptions.old ≤ interruptions.new) × (interruptions.new ≤ most_interruptions) }
-    ensures interrupted { OnOk result (CountsMore (interruptions.new - interruptions.old) (W.failures writer.old) (W.failures writer.new)) }
-    ensures tried_again { OnOk result (InterruptedMore (interruptions.new - interruptions.old) (W.interrupted writer.old) (W.interrupted writer.new)) }
-    ensures ended { OnErr result (CountsMore (interruptions.new - interruptions.old + 1) (W.failures writer.old) (W.failures writer.new)) }
-    ensures gave_up { OnErr result (GivesUp interruptions.old interruptions.new (W.interrupted writer.old) (W.interrupted writer.new)) }
+    ensures all { OnOk result (Appends (W.contents writer.old) (W.contents writer.new) (flat_map (λ text. text.now) texts.now)) }
+    ensures part { OnErr result (AppendsPart (W.contents writer.old) (W.contents writer.new) (flat_map (λ text. text.now) texts.now)) }
+    ensures done { OnOk result (Transfers 0 interruptions.old interruptions.new (W.failures writer.old) (W.failures writer.new) (W.interrupted writer.old) (W.interrupted writer.new)) }
+    ensures gave_up { OnErr result (Transfers 1 interruptions.old interruptions.new (W.failures writer.old) (W.failures writer.new) (W.interrupted writer.old) (W.interrupted writer.new)) }
 {
     for text in texts {
         write_all(writer, text, interruptions)?;

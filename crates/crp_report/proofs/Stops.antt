@@ -5,7 +5,7 @@ use Rattle.std.proofs.KnownBytes.{Appends-nil, Appends-trans}
 use Rattle.std.proofs.lemmas.Grind.{flat_map-append}
 use Rattle.std.specs.Io.KnownBytes.{Appends}
 use Rattle.crp_plan.specs.Devices.{AppendsFront, AppendsPart}
-use Rattle.crp_plan.proofs.Fronts.{Appends-front, Appends-part}
+use Rattle.crp_plan.proofs.Fronts.{Appends-front, Appends-part, split}
 use Rattle.crp_report.specs.declared.fault.Fault.{Fault}
 use Rattle.crp_report.specs.declared.fault.Fault.TheVariants as fault
 use Rattle.crp_report.specs.declared.fault.Output.{Output}
@@ -16,13 +16,6 @@ use Rattle.crp_report.specs.Answered.{Answered}
 use Rattle.crp_report.specs.BayTexts.{AreTextsOfBays}
 use Rattle.crp_report.specs.Pieces.{Piece, piece, is_same, bytes_for, AreBayPieces, Stop, wanted, written}
 use Rattle.crp_report.specs.Writing.{report_of, reports_of, certificates_of, bay_pieces, pieces_of, IsWriteOf, IsBaysStop, IsTextsStop}
-
--- a piece stands behind those before it, and before those after it
-pub split : {X Y : Type 0} (f : X → List Y) (xs : List X) (i : ℕ) (x : X) → i < length xs → x ≡ get_or xs i x
-    → flat_map f (take i xs) ++ (f x ++ flat_map f (drop (i + 1) xs)) ≡ flat_map f xs
-split {X} {Y} f xs i x h is =
-    let tail : x ∷ drop (i + 1) xs ≡ drop i xs = ap (λ (y : X). y ∷ drop (i + 1) xs) is ∙ rw (add-one) (sym (drop-cons xs i x h)) in
-    sym (flat_map-append f (take i xs) (x ∷ drop (i + 1) xs)) ∙ ap (λ (l : List X). flat_map f (take i xs ++ l)) tail ∙ ap (flat_map f) (take-append-drop i xs)
 
 -- what the sinks get of the pieces of bays
 reports_for : (bays : List BayTexts) → bytes_for output.Report (bay_pieces bays) ≡ reports_of bays

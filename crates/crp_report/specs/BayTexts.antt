@@ -50,30 +50,23 @@ abbrev pub IsNoYard : List ℕ → Option (List ℕ) → ℕ → ℕ → Fault �
 IsNoYard heights given before after (fault.Yard f) = (f ≢ yard_fault.Read) × (f ≢ yard_fault.Memory)
     × ((text : List ℕ) × IsTextOf given text × (fault_of_text heights text ≡ Some f))
 IsNoYard heights given before after (fault.Read input.Yard) = HasFailed before after
-IsNoYard heights given before after (fault.Read input.Movins) = ⊥
 IsNoYard heights given before after fault.Memory = Unit {0}
-IsNoYard heights given before after (fault.Interchange f) = ⊥
-IsNoYard heights given before after (fault.Message f) = ⊥
-IsNoYard heights given before after (fault.Write sink) = ⊥
+IsNoYard heights given before after f = ⊥
 
 -- why this text gives no load orders under this code
 abbrev pub IsNoOrders : List ℕ → List ℕ → Fault → Type 0
 IsNoOrders code text (fault.Interchange f) = (f ≢ edi.Memory) × IsFirstFault text f
 IsNoOrders code text (fault.Message f) = (f ≢ movins.Memory) × ((segments : List SegmentParts) × Spells text segments × (first_fault segments code ≡ Some f))
 IsNoOrders code text fault.Memory = Unit {0}
-IsNoOrders code text (fault.Yard f) = ⊥
-IsNoOrders code text (fault.Read source) = ⊥
-IsNoOrders code text (fault.Write sink) = ⊥
+IsNoOrders code text f = ⊥
 
 -- why no load orders were read of a source that had these bytes, with its count of failures before and after
 abbrev pub IsNoMessage : List ℕ → Option (List ℕ) → ℕ → ℕ → Fault → Type 0
 IsNoMessage code given before after (fault.Interchange f) = (text : List ℕ) × IsTextOf given text × IsNoOrders code text (fault.Interchange f)
 IsNoMessage code given before after (fault.Message f) = (text : List ℕ) × IsTextOf given text × IsNoOrders code text (fault.Message f)
 IsNoMessage code given before after (fault.Read input.Movins) = HasFailed before after
-IsNoMessage code given before after (fault.Read input.Yard) = ⊥
 IsNoMessage code given before after fault.Memory = Unit {0}
-IsNoMessage code given before after (fault.Yard f) = ⊥
-IsNoMessage code given before after (fault.Write sink) = ⊥
+IsNoMessage code given before after f = ⊥
 
 -- these are the texts of an answered bay, and how its search ended
 pub record AreTextsOfBay (bay : Answered) (t : BayTexts) : Type 0 where

@@ -17,9 +17,4 @@ WritesMoves names plan s = (text : List ℕ) × ArePlanLines names plan text × 
 abbrev pub PrintingFailsWith : List (List ℕ) → ProblemPath → SinkSeen → Fault → Type 0
 PrintingFailsWith names plan s (fault.Write output.Report) = ((text : List ℕ) × ArePlanLines names plan text × GetsPart s text) × HasFailed s.before s.after
 PrintingFailsWith names plan s fault.Memory = GetsNothing s × (s.after ≡ s.before)
-PrintingFailsWith names plan s (fault.Write output.Certificates) = ⊥
-PrintingFailsWith names plan s (fault.Write output.YardAfter) = ⊥
-PrintingFailsWith names plan s (fault.Read source) = ⊥
-PrintingFailsWith names plan s (fault.Yard f) = ⊥
-PrintingFailsWith names plan s (fault.Interchange f) = ⊥
-PrintingFailsWith names plan s (fault.Message f) = ⊥
+PrintingFailsWith names plan s f = ⊥

@@ -8,7 +8,7 @@ use crate::advice::advice_on_setting;
 use crate::usage::{Mistake, Usage};
 use arrayvec::ArrayVec;
 use crp_commands::{Place, ToolFault, advice_on, exit_of};
-use crp_plan::{Sink, write_all};
+use crp_plan::{Sink, write_each, write_text};
 use std::fmt::{self, Display, Write};
 
 // The exit status where the words are wrong.
@@ -46,11 +46,9 @@ fn write_pieces<W: Sink>(sink: &mut W, pieces: &[&[u8]])
         in GetsLines seen (flat_map (λ piece. piece.now) pieces.now) }
 {
     let mut interruptions = 0;
-    for piece in pieces {
-        let Ok(()) = write_all(sink, piece, &mut interruptions) else {
-            return;
-        };
-    }
+    let Ok(()) = write_each(sink, pieces, &mut interruptions) else {
+        return;
+    };
 }
 
 // Writes the lines of a fault of a read or a write: its text, and the advice behind the place.
@@ -123,8 +121,7 @@ fn show_help<W: Sink, E: Sink>(text: &str, out: &mut W, errors: &mut E) -> u8
         in let errors_seen : SinkSeen = record { held = E.contents errors.old; holds = E.contents errors.new; before = E.failures errors.old; after = E.failures errors.new }
         in HelpEnds text.now out_seen errors_seen result }
 {
-    let mut interruptions = 0;
-    let Ok(()) = write_all(out, text.as_bytes(), &mut interruptions) else {
+    let Ok(()) = write_text(out, text.as_bytes()) else {
         explain_fault(errors, &ToolFault::Write, Some(Place::StandardOutput));
         return exit_of(&Err(ToolFault::Write));
     };

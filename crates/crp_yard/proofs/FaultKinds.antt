@@ -7,8 +7,9 @@ use Rattle.std.proofs.lemmas.Bool.{le-leb}
 use Rattle.crp_yard.specs.declared.fault.YardFault.{YardFault}
 use Rattle.crp_yard.specs.declared.fault.YardFault.TheVariants.{Header, Fields, Digits, Outside, PlaceTaken, Floating, StandsAlready, TooMany, Read, TooLarge, Memory}
 use Rattle.crp_yard.specs.Records.{Entry, records_of, entries_of, is_header}
-use Rattle.crp_yard.specs.Faults.{faults_of, first_of, fault_of, fault_behind, fault_at, or_else, first_fault_up_to, floating_before, first_fault, fault_of_text, floats, max_bytes}
+use Rattle.crp_yard.specs.Faults.{faults_of, first_of, fault_of, fault_behind, fault_at, first_fault_up_to, floating_before, first_fault, fault_of_text, floats, max_bytes}
 use Rattle.std.specs.Prelude.{slice_get, ◌+◌, ◌⊎◌}
+use Rattle.std.specs.Option.{option_or}
 use Rattle.crp_yard.specs.Reading.{IsTextOf, ReadingFailsWith}
 
 -- stated of a record
@@ -30,7 +31,7 @@ abbrev pub HasRecordKind : Option YardFault → Type 0
 HasRecordKind None = Unit {0}
 HasRecordKind (Some fault) = IsOfRecord fault
 
-kind_or : (a b : Option YardFault) → HasRecordKind a → HasRecordKind b → HasRecordKind (or_else a b)
+kind_or : (a b : Option YardFault) → HasRecordKind a → HasRecordKind b → HasRecordKind (option_or a b)
 kind_or None b h k = k
 kind_or (Some fault) b h k = h
 

@@ -3,14 +3,15 @@ use Prim.Native.Nat.{zero}
 use Rattle.std.proofs.Common.{◌≡◌, ℕ, suc, ◌<◌, ◌≤◌, List, Option, Some, None, refl, sym, subst, inl, inr, arith}
 use Rattle.std.specs.Prelude.{◌⊎◌}
 use Rattle.std.proofs.lemmas.Bool.{cases_eq}
+use Rattle.std.specs.Option.{option_or}
 use Rattle.crp_yard.specs.declared.fault.YardFault.{YardFault}
-use Rattle.crp_yard.specs.Faults.{or_else, fault_at, first_fault_up_to}
+use Rattle.crp_yard.specs.Faults.{fault_at, first_fault_up_to}
 
-pub neither : (first second : Option YardFault) → or_else first second ≡ None → (first ≡ None) × (second ≡ None)
+pub neither : (first second : Option YardFault) → option_or first second ≡ None → (first ≡ None) × (second ≡ None)
 neither None second h = (refl, h)
 neither (Some fault) second h = absurd (cc)
 
-either : (first second : Option YardFault) (fault : YardFault) → or_else first second ≡ Some fault → (first ≡ Some fault) ⊎ ((first ≡ None) × (second ≡ Some fault))
+either : (first second : Option YardFault) (fault : YardFault) → option_or first second ≡ Some fault → (first ≡ Some fault) ⊎ ((first ≡ None) × (second ≡ Some fault))
 either None second fault h = inr (refl, h)
 either (Some faulty) second fault h = inl h
 

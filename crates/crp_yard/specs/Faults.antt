@@ -4,6 +4,7 @@ use Prim.Native.Nat.{zero}
 use Rattle.std.specs.Prelude.{ℕ, suc, ◌+◌, ◌-◌, max, Bool, false, not, ◌&&◌, ◌==◌, nat_le, List, [], ◌∷◌, length, take, Option, Some, None, is_some, slice_get, slice_index_or, if◌then◌else◌}
 use Rattle.std.specs.List.{list_any}
 use Rattle.std.specs.Str.{bytes_eq}
+use Rattle.std.specs.Option.{option_or}
 use Rattle.crp_yard.specs.declared.fault.YardFault.{YardFault}
 use Rattle.crp_yard.specs.declared.fault.YardFault.TheVariants.{Header, Fields, Digits, Outside, PlaceTaken, Floating, StandsAlready, TooMany, TooLarge}
 use Rattle.crp_yard.specs.Places.{YardPlace}
@@ -59,15 +60,10 @@ record_numbered records n = slice_index_or records (n - 1) []
 unfoldable pub fault_at : List ℕ → List (List (List ℕ)) → ℕ → Option YardFault
 fault_at heights records n = fault_behind heights (entries_of (take (n - 1) records)) n (record_numbered records n)
 
--- the first, and where there is none the second
-abbrev pub or_else : Option YardFault → Option YardFault → Option YardFault
-or_else None second = second
-or_else (Some fault) second = Some fault
-
 -- the fault of the first faulty record up to this number
 abbrev pub first_fault_up_to : List ℕ → List (List (List ℕ)) → ℕ → Option YardFault
 first_fault_up_to heights records zero = None
-first_fault_up_to heights records (suc n) = or_else (first_fault_up_to heights records n) (fault_at heights records (suc n))
+first_fault_up_to heights records (suc n) = option_or (first_fault_up_to heights records n) (fault_at heights records (suc n))
 
 -- the place one tier lower
 abbrev pub one_tier_lower : YardPlace → YardPlace
@@ -86,13 +82,13 @@ floats entries (Some entry) = is_floating entries entry.0
 abbrev pub floating_before : List Entry → ℕ → Option YardFault
 floating_before entries zero = None
 floating_before entries (suc k) =
-    or_else (floating_before entries k) (if floats entries (slice_get entries k) then Some (Floating (k + 2)) else None)
+    option_or (floating_before entries k) (if floats entries (slice_get entries k) then Some (Floating (k + 2)) else None)
 
 -- of all faults of the records this one is stated; none where no record is faulty and nothing floats. A list without records lacks the
 -- header
 unfoldable pub first_fault : List ℕ → List (List (List ℕ)) → Option YardFault
 first_fault heights records =
-    or_else (first_fault_up_to heights records (max 1 (length records))) (floating_before (entries_of records) (length (entries_of records)))
+    option_or (first_fault_up_to heights records (max 1 (length records))) (floating_before (entries_of records) (length (entries_of records)))
 
 -- the same of a text: that it is too long comes before all
 abbrev pub fault_of_text : List ℕ → List ℕ → Option YardFault

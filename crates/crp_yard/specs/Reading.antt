@@ -1,6 +1,6 @@
 -- What was read of a source, and what a fault says of it.
-use Rattle.std.specs.Prelude.{◌≡◌, ◌<◌, ℕ, ◌+◌, List, length, Option, Some, None, IfSome, replicate}
-use Rattle.crp_plan.specs.Devices.{HasFailed, most_interruptions}
+use Rattle.std.specs.Prelude.{◌≡◌, ◌<◌, ℕ, List, length, Option, Some, None, IfSome, replicate}
+use Rattle.crp_plan.specs.Devices.{HasFailed}
 use Rattle.crp_yard.specs.declared.fault.YardFault.{YardFault}
 use Rattle.crp_yard.specs.declared.fault.YardFault.TheVariants.{Header, Fields, Digits, Outside, PlaceTaken, Floating, StandsAlready, TooMany, Read, TooLarge, Memory}
 use Rattle.crp_yard.specs.Records.{records_of, entries_of}
@@ -39,7 +39,7 @@ ReadingFailsWith heights given before after (Floating n) = IsRefusedText heights
 ReadingFailsWith heights given before after (StandsAlready n) = IsRefusedText heights given (StandsAlready n)
 ReadingFailsWith heights given before after (TooMany n) = IsRefusedText heights given (TooMany n)
 
--- so many reads of a source fail at most where this fault is stated: those that are passed over, and, where it states a failed read, that one
-abbrev pub most_read_failures : YardFault → ℕ
-most_read_failures Read = most_interruptions + 1
-most_read_failures fault = most_interruptions
+-- so many reads fail besides those that are passed over: one where the fault states a failed read
+abbrev pub failures_of_yard : YardFault → ℕ
+failures_of_yard Read = 1
+failures_of_yard fault = 0

@@ -32,5 +32,5 @@ pub use laws::{
 };
 pub use reading::{MAX_BYTES, read_yard, read_yard_heights, yard_of, yard_of_heights};
 pub use records::MAX_CONTAINERS;
-pub use writing::{WriteFault, write_yard, yard_text};
+pub use writing::{write_yard, yard_text};
 pub use yard::Yard;

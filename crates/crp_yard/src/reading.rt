@@ -1,12 +1,12 @@
 //! Reads a yard list.
 
-ghost use Rattle.std.specs.Prelude.{◌≡◌, ◌⊎◌, ◌≤◌, ◌+◌, ◌-◌, ℕ, List, Some, None, IfOk, OnOk, IfErr, IsErrOf, length, replicate};
-ghost use Rattle.crp_plan.specs.Devices.{CountsMore, GivesUp, InterruptedMore, most_interruptions};
+ghost use Rattle.std.specs.Prelude.{◌≡◌, ◌⊎◌, ◌≤◌, ℕ, List, Some, None, IfOk, OnOk, IfErr, length, replicate};
+ghost use Rattle.crp_plan.specs.Devices.{TransfersAlone};
 ghost use Rattle.crp_plan.specs.Faults.{AreHeights};
 ghost use Rattle.crp_yard.specs.Inventory.{inventory_of};
 ghost use Rattle.crp_yard.specs.Listings.{AreEntriesOf};
 ghost use Rattle.crp_yard.specs.Faults.{floating_before, fault_of_text};
-ghost use Rattle.crp_yard.specs.Reading.{IsYardList, IsYardListOf, IsTextOf, ReadingFailsWith, most_read_failures};
+ghost use Rattle.crp_yard.specs.Reading.{IsYardList, IsYardListOf, IsTextOf, ReadingFailsWith, failures_of_yard};
 ghost use Rattle.crp_yard.specs.declared.fault.YardFault.TheVariants.{Memory};
 
 use crate::building::bays_of;
@@ -82,13 +82,8 @@ pub fn read_yard_heights<R: Source>(
     requires heights { AreHeights heights.now }
     ensures accepted { IfOk result (λ yard. (text : List ℕ) × IsTextOf (R.remaining source.old) text × IsYardListOf heights.now text yard) }
     ensures refused { IfErr result (ReadingFailsWith heights.now (R.remaining source.old) (R.failures source.old) (R.failures source.new)) }
-    ensures count { R.failures source.old ≤ R.failures source.new }
-    ensures passed { OnOk result (R.failures source.new - R.failures source.old ≤ most_interruptions) }
-    ensures tried_again { OnOk result ((passed : ℕ) × (passed ≤ most_interruptions) × CountsMore passed (R.failures source.old) (R.failures source.new)
-        × InterruptedMore passed (R.interrupted source.old) (R.interrupted source.new)) }
-    ensures gave_up { IsErrOf result YardFault.Read → (passed : ℕ) × CountsMore (passed + 1) (R.failures source.old) (R.failures source.new)
-        × GivesUp 0 passed (R.interrupted source.old) (R.interrupted source.new) }
-    ensures ended { IfErr result (λ fault. R.failures source.new - R.failures source.old ≤ most_read_failures fault) }
+    ensures done { OnOk result (TransfersAlone 0 (R.failures source.old) (R.failures source.new) (R.interrupted source.old) (R.interrupted source.new)) }
+    ensures ended { IfErr result (λ fault. TransfersAlone (failures_of_yard fault) (R.failures source.old) (R.failures source.new) (R.interrupted source.old) (R.interrupted source.new)) }
 {
     let mut interruptions = 0;
     match read_all(alloc, source, MAX_BYTES, &mut interruptions) {
@@ -112,13 +107,8 @@ pub fn read_yard<R: Source>(
     requires few_tiers { tiers ≤ 8 }
     ensures accepted { IfOk result (λ yard. (text : List ℕ) × IsTextOf (R.remaining source.old) text × IsYardList rows tiers text yard) }
     ensures refused { IfErr result (ReadingFailsWith (replicate rows tiers) (R.remaining source.old) (R.failures source.old) (R.failures source.new)) }
-    ensures count { R.failures source.old ≤ R.failures source.new }
-    ensures passed { OnOk result (R.failures source.new - R.failures source.old ≤ most_interruptions) }
-    ensures tried_again { OnOk result ((passed : ℕ) × (passed ≤ most_interruptions) × CountsMore passed (R.failures source.old) (R.failures source.new)
-        × InterruptedMore passed (R.interrupted source.old) (R.interrupted source.new)) }
-    ensures gave_up { IsErrOf result YardFault.Read → (passed : ℕ) × CountsMore (passed + 1) (R.failures source.old) (R.failures source.new)
-        × GivesUp 0 passed (R.interrupted source.old) (R.interrupted source.new) }
-    ensures ended { IfErr result (λ fault. R.failures source.new - R.failures source.old ≤ most_read_failures fault) }
+    ensures done { OnOk result (TransfersAlone 0 (R.failures source.old) (R.failures source.new) (R.interrupted source.old) (R.interrupted source.new)) }
+    ensures ended { IfErr result (λ fault. TransfersAlone (failures_of_yard fault) (R.failures source.old) (R.failures source.new) (R.interrupted source.old) (R.interrupted source.new)) }
 {
     let heights = [tiers; MAX_ROWS];
     read_yard_heights(alloc, source, &heights[..rows as usize])

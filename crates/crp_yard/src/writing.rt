@@ -1,19 +1,18 @@
 //! Writes a yard list.
 
-ghost use Rattle.std.specs.Prelude.{◌≡◌, ◌≤◌, ℕ, ◌+◌, ◌-◌, [], All, IfOk, OnOk, IsErrOf, length, map};
+ghost use Rattle.std.specs.Prelude.{◌≡◌, ◌≤◌, [], All, IfOk, OnOk, IsErrOf, length, map};
 ghost use Rattle.std.specs.Io.KnownBytes.{Appends};
 ghost use Rattle.csv.specs.Writing.{default_writer, row_text};
-ghost use Rattle.crp_plan.specs.Devices.{AppendsFront, AppendsPart, CountsMore, GivesUp, HasFailed, InterruptedMore, most_interruptions};
+ghost use Rattle.crp_plan.specs.Devices.{AppendsPart, TransfersAlone};
 ghost use Rattle.crp_yard.specs.Written.{text_written_by, IsBetweenRecords, WritesRecords};
 ghost use Rattle.crp_yard.specs.Text.{fields_at, records_of_stack, records_of_rows, text_of_records, yard_text};
 
 use crate::containers::Containers;
 use crate::yard::Yard;
-use crp_plan::{BayName, Container, Sink, write_all};
+use crp_plan::{BayName, Container, Sink, WriteFault, write_text};
 use csv::{Writer, WriterBuilder};
 use itoa::Buffer;
 use std::alloc::{AllocError, Global};
-use thiserror::Error;
 
 /// Writes a record.
 fn push_record(writer: &mut Writer<Vec<u8>>, fields: &[&[u8]]) -> Result<(), AllocError>
@@ -105,38 +104,15 @@ pub fn yard_text(alloc: Global, yard: &Yard) -> Result<Vec<u8>, AllocError>
     }
 }
 
-/// Why a yard was not written.
-#[derive(Clone, Copy, Debug, Drop, PartialEq, Eq, Error)]
-pub enum WriteFault {
-    /// The sink failed, was interrupted once too often, or took nothing of a piece.
-    #[error("a write failed")]
-    Failed,
-    /// No memory is left.
-    #[error("no memory is left")]
-    Memory,
-}
-
 /// Writes the text of a yard to a sink. An interrupted call is tried again, at most 1,000 times.
 pub fn write_yard<W: Sink>(alloc: Global, sink: &mut W, yard: &Yard) -> Result<(), WriteFault>
     ensures all { OnOk result (Appends (W.contents sink.old) (W.contents sink.new) (yard_text yard.now)) }
-    ensures front { AppendsFront (W.contents sink.old) (W.contents sink.new) (yard_text yard.now) }
     ensures part { IsErrOf result WriteFault.Failed → AppendsPart (W.contents sink.old) (W.contents sink.new) (yard_text yard.now) }
-    ensures failed { IsErrOf result WriteFault.Failed → HasFailed (W.failures sink.old) (W.failures sink.new) }
     ensures memory { IsErrOf result WriteFault.Memory → sink.new ≡ sink.old }
-    ensures count { W.failures sink.old ≤ W.failures sink.new }
-    ensures passed { OnOk result (W.failures sink.new - W.failures sink.old ≤ most_interruptions) }
-    ensures tried_again { OnOk result ((passed : ℕ) × (passed ≤ most_interruptions) × CountsMore passed (W.failures sink.old) (W.failures sink.new)
-        × InterruptedMore passed (W.interrupted sink.old) (W.interrupted sink.new)) }
-    ensures gave_up { IsErrOf result WriteFault.Failed → (passed : ℕ) × CountsMore (passed + 1) (W.failures sink.old) (W.failures sink.new)
-        × GivesUp 0 passed (W.interrupted sink.old) (W.interrupted sink.new) }
-    ensures ended { IsErrOf result WriteFault.Failed → W.failures sink.new - W.failures sink.old ≤ most_interruptions + 1 }
+    ensures done { OnOk result (TransfersAlone 0 (W.failures sink.old) (W.failures sink.new) (W.interrupted sink.old) (W.interrupted sink.new)) }
+    ensures gave_up { IsErrOf result WriteFault.Failed → TransfersAlone 1 (W.failures sink.old) (W.failures sink.new) (W.interrupted sink.old) (W.interrupted sink.new) }
 {
-    let Ok(text) = yard_text(alloc, yard) else {
-        return Err(WriteFault::Memory);
-    };
-    let mut interruptions = 0;
-    match write_all(sink, &text, &mut interruptions) {
-        Ok(()) => Ok(()),
-        Err(_) => Err(WriteFault::Failed),
-    }
+    let text = yard_text(alloc, yard)?;
+    write_text(sink, &text)?;
+    Ok(())
 }

@@ -7,8 +7,7 @@ ghost use Rattle.crp_tree.specs.Trees.{nodes, HasShape, least_value};
 
 use crate::calls::write_cert;
 use crate::compare::assert_same;
-use crp_cert::WriteFault;
-use crp_plan::{BayName, Failure, Problem, Received, Sink};
+use crp_plan::{BayName, Failure, Problem, Received, Sink, WriteFault};
 use crp_tree::{Cert, Name, Part, Symbol, Tree};
 use std::alloc::{AllocError, Global};
 use std::process::Abort;
@@ -132,22 +131,5 @@ fn a_full_sink_holds_a_front(rt: HostRuntime) -> Result<(), Fail> {
     assert_same(&rt, &answer, &Err(WriteFault::Failed));
     assert_same(&rt, &sink.bytes.as_slice(), &&DEAD_END[..20]);
     assert_same(&rt, &sink.failed, &1);
-    Ok(())
-}
-
-fn assert_fault_text(
-    rt: &(impl Abort + AllocGlobal),
-    fault: WriteFault,
-    expected: &str,
-) -> Result<(), AllocError> {
-    let text = fault.to_string(rt.alloc())?;
-    assert_same(rt, &text.as_str(), &expected);
-    Ok(())
-}
-
-#[test]
-fn texts_of_write_faults(rt: HostRuntime) -> Result<(), Fail> {
-    assert_fault_text(&rt, WriteFault::Failed, "a write failed")?;
-    assert_fault_text(&rt, WriteFault::Memory, "no memory is left")?;
     Ok(())
 }

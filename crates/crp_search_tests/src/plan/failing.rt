@@ -1,15 +1,12 @@
 //! Devices that fail, and short ones.
 ghost use Rattle.std.specs.Prelude.{Some, None};
 
-use crate::bays::stacks_of;
 use crate::compare::{assert_same, assert_same_at};
 use crp_plan::{
     Counted, Failure, MOST_INTERRUPTIONS, Nowhere, ReadFault, Received, Sink, Source, read_all,
     write_all, write_each,
 };
-use std::alloc::{AllocError, Global};
 use std::process::Abort;
-use std::test::Fail;
 
 // Is interrupted so often, and then gives its bytes one by one; where it has none it fails or ends.
 #[derive(Drop)]
@@ -115,19 +112,17 @@ fn read<R: Source>(
 /// Writes a text or several, where so many interruptions were passed over before. Whether all was written, and the interruptions then.
 fn write<W: Sink>(
     rt: &impl Abort,
-    alloc: Global,
     sink: &mut W,
     texts: &[&[u8]],
     interruptions: u32,
-) -> Result<(bool, u32), AllocError> {
+) -> (bool, u32) {
     assert!(rt; interruptions <= MOST_INTERRUPTIONS);
     let mut passed = interruptions;
-    let texts = stacks_of(alloc, texts)?;
-    let answer = match texts.as_slice() {
-        [text] => write_all(sink, text.as_slice(), &mut passed),
-        _ => write_each(sink, &texts, &mut passed),
+    let answer = match texts {
+        [text] => write_all(sink, text, &mut passed),
+        _ => write_each(sink, texts, &mut passed),
     };
-    Ok((answer.is_ok(), passed))
+    (answer.is_ok(), passed)
 }
 
 /// A read of all gives this. The interruptions then.
@@ -283,7 +278,7 @@ const SINKS: [(usize, bool, &[Writing]); 4] = [
 ];
 
 #[test]
-fn writes_byte_by_byte(rt: HostRuntime) -> Result<(), Fail> {
+fn writes_byte_by_byte(rt: HostRuntime) {
     for (room, fails, writings) in SINKS {
         let mut sink = Small {
             interrupted: 0,
@@ -294,36 +289,26 @@ fn writes_byte_by_byte(rt: HostRuntime) -> Result<(), Fail> {
         };
         for (interrupted, texts, interruptions, answer, after) in writings {
             sink.interrupted = *interrupted;
-            let written = write(&rt, rt.alloc(), &mut sink, texts, *interruptions)?;
+            let written = write(&rt, &mut sink, texts, *interruptions);
             assert_same_at(&rt, &written, answer, &(interrupted, room));
             let held = (sink.bytes.as_slice(), sink.failed);
             assert_same_at(&rt, &held, after, &(interrupted, room));
         }
     }
-    Ok(())
 }
 
 #[test]
-fn writes_to_lists_and_nowhere(rt: HostRuntime) -> Result<(), Fail> {
+fn writes_to_lists_and_nowhere(rt: HostRuntime) {
     let whole = (true, 0);
     let mut sink = Received::new(rt.alloc());
     let lists: [&[&[u8]]; 2] = [&[b"abc"], &[b"de", b"", b"f"]];
     for texts in lists {
-        assert_same(&rt, &write(&rt, rt.alloc(), &mut sink, texts, 0)?, &whole);
+        assert_same(&rt, &write(&rt, &mut sink, texts, 0), &whole);
     }
     let received = (sink.bytes.as_slice(), sink.failed);
     assert_same(&rt, &received, &(b"abcdef".as_slice(), 0));
-    assert_same(
-        &rt,
-        &write(&rt, rt.alloc(), &mut Nowhere, &[b"abc"], 0)?,
-        &whole,
-    );
+    assert_same(&rt, &write(&rt, &mut Nowhere, &[b"abc"], 0), &whole);
     let mut sink = Counted::new(Vec::new(rt.alloc()));
-    assert_same(
-        &rt,
-        &write(&rt, rt.alloc(), &mut sink, &[b"abc"], 0)?,
-        &whole,
-    );
+    assert_same(&rt, &write(&rt, &mut sink, &[b"abc"], 0), &whole);
     assert_same(&rt, &sink.device.as_slice(), &b"abc".as_slice());
-    Ok(())
 }

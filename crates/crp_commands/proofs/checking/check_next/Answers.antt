@@ -1,5 +1,6 @@
 use Rattle.std.proofs.Common.{rules}
 use Rattle.std.proofs.lemmas.Result.{err_from_is_err_and}
+use Rattle.crp_plan.proofs.Interruptions.{has_failed}
 use Rattle.crp_commands.proofs.Checked.{read_stops, goes_nowhere, piece_stops, limit_stops, goes_on}
 use Rattle.crp_commands.proofs.checking.check_next.Goals as goal
 
@@ -7,7 +8,7 @@ pub returns-in_err-n-clause-fault : goal.returns-in_err-n-clause-fault
 returns-in_err-n-clause-fault g c =
     let p = err_from_is_err_and c.from_residual.result c.from_residual.ensures.1 in
     let failed = g.W.Sink.failures c.args.writer.now in
-    rw (p.1, p.2) (read_stops _ _ c.args.files.now c.args.number.now c.args.left.now _ _ failed failed c.in_err-n.ensures.failed)
+    rw (p.1, p.2) (read_stops _ _ c.args.files.now c.args.number.now c.args.left.now _ _ failed failed (has_failed c.in_err-n.ensures.gave_up))
 
 pub returns-then-n-eq0-clause-on : goal.returns-then-n-eq0-clause-on
 returns-then-n-eq0-clause-on g c = goes_nowhere _ _ _ c.args.files.now c.args.number.now c.args.left.now c.in_ok-n.n _ c.if-n-eq0.true c.in_ok-n.ensures.got

@@ -1,5 +1,6 @@
 use Rattle.std.proofs.Common.{rules}
 use Rattle.std.proofs.lemmas.Result.{err_from_is_err_and}
+use Rattle.crp_plan.proofs.Interruptions.{has_failed}
 use Rattle.crp_commands.proofs.Replayed.{proof_of}
 use Rattle.crp_commands.proofs.proving.prove.Goals as goal
 
@@ -12,7 +13,7 @@ returns-in_err-write_all g c =
     c.deref.ensures.value in
     rw (p.1, p.2) (
       (
-        c.in_err-write_all.ensures.failed,
+        has_failed c.in_err-write_all.ensures.gave_up,
         (
           found.0,
           c.deref.result.now,

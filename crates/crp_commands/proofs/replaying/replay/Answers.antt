@@ -1,5 +1,6 @@
 use Rattle.std.proofs.Common.{rules, refl, subst, sym}
 use Rattle.std.proofs.lemmas.Result.{err_from_is_err_and}
+use Rattle.crp_plan.proofs.Interruptions.{has_failed}
 use Rattle.crp_commands.specs.Calls.{CallSeen}
 use Rattle.crp_commands.specs.Replay.{IsReplay, IsNoReplay, IsHeadReport}
 use Rattle.crp_commands.proofs.Replayed.{no_head_reported, no_report_reported, keeps_same}
@@ -32,7 +33,7 @@ returns-in_err-write_all g c =
     let stated = subst (IsHeadReport c.in_ok-head.head) (sym c.deref.ensures.value) c.in_ok-report.ensures.stated in
     let found = c.in_ok-head.ensures.found in
     rw (p.1, p.2)
-    ((c.in_err-write_all.ensures.failed, (found.0, c.deref.result.now, found.1, (c.in_ok-head.head, found.2, stated), c.in_err-write_all.ensures.part)), search rules)
+    ((has_failed c.in_err-write_all.ensures.gave_up, (found.0, c.deref.result.now, found.1, (c.in_ok-head.head, found.2, stated), c.in_err-write_all.ensures.part)), search rules)
 
 pub returns : goal.returns
 returns g c =

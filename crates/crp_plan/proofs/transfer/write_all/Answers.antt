@@ -3,7 +3,7 @@ use Rattle.std.proofs.lemmas.List.{drop-take, drop-drop, take_rest, take-take}
 use Rattle.std.proofs.lemmas.Result.{err_from_is_err_and}
 use Rattle.std.specs.Io.KnownBytes.{Appends}
 use Rattle.std.proofs.KnownBytes.{Appends-kept, Appends-trans}
-use Rattle.crp_plan.proofs.Interruptions.{passed_on}
+use Rattle.crp_plan.proofs.Interruptions.{transfers_on}
 use Rattle.crp_plan.proofs.transfer.write_all.Goals as goal
 
 -- a front, and the front of what follows it
@@ -23,10 +23,7 @@ loop-rest-preserved g c =
     let taken : take done text ++ take n rest ≡ take (done + n) text = ap (λ r. take done text ++ take n r) inv.0.1 ∙ take-add done n text in
     let left : take (length rest - n) (drop n rest) ≡ drop (done + n) text = take_rest rest n ∙ ap (drop n) inv.0.1 ∙ drop-drop n done text in (
       (done + n, left, subst (Appends _ _) taken (Appends-trans _ _ _ _ _ inv.0.2 step.ok)),
-      omega (arith, step.interrupted, step.passed),
-      omega (arith, step.passed),
-      omega (arith, step.passed),
-      passed_on _ _ _ _ _ _ (search rules) step.passed.0 inv.4 step.tried_again,
+      transfers_on inv.1 step.done,
     )
 
 pub returns-in_err-n-clause-part : goal.returns-in_err-n-clause-part

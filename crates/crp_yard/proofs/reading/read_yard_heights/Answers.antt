@@ -1,16 +1,21 @@
 use Rattle.std.proofs.lemmas.Result.{MatchResult-weaker}
-use Rattle.std.proofs.Common.{◌≡◌, ◌≤◌, ◌⊎◌, ℕ, List, length, None, Some, IfErr, subst, lit<, arith}
+use Rattle.std.proofs.Common.{◌≡◌, ◌≤◌, ◌⊎◌, ℕ, List, length, None, Some, refl, lit<, arith}
 use Rattle.crp_plan.specs.Devices.{HasFailed}
 use Rattle.crp_yard.specs.declared.fault.YardFault.{YardFault}
 use Rattle.crp_yard.specs.declared.fault.YardFault.TheVariants.{Memory, Read}
 use Rattle.crp_yard.specs.Faults.{max_bytes, fault_of_text}
-use Rattle.crp_yard.specs.Reading.{IsTextOf}
+use Rattle.crp_yard.specs.Reading.{IsTextOf, failures_of_yard}
 use Rattle.crp_yard.proofs.FaultKinds.{fault_written_of}
 use Rattle.crp_yard.proofs.reading.read_yard_heights.Goals as goal
 
 -- no text has the fault of a failed read
 no_failed_read : (heights text : List ℕ) → length text ≤ max_bytes → (◌≡◌ {A = YardFault} Read Memory) ⊎ (fault_of_text heights text ≡ Some Read) → ⊥
 no_failed_read heights text short why = let failed : HasFailed 0 0 = fault_written_of heights None 0 0 text Read short tt why in absurd (omega (arith, failed (lit< tt)))
+
+-- so what a text is refused for states no failed read
+none_stated : (heights text : List ℕ) (fault : YardFault) → length text ≤ max_bytes → (fault ≡ Memory) ⊎ (fault_of_text heights text ≡ Some fault) → failures_of_yard fault ≡ 0
+none_stated heights text Read short why = absurd (no_failed_read heights text short why)
+none_stated heights text fault short why = refl
 
 pub returns-in-Ok-clause-refused : goal.returns-in-Ok-clause-refused
 returns-in-Ok-clause-refused g c =
@@ -19,8 +24,8 @@ returns-in-Ok-clause-refused g c =
     MatchResult-weaker c.yard_of_heights.result c.yard_of_heights.ensures.refused (λ yard h. h)
     (λ fault h. fault_written_of c.args.heights.now (g.R.Source.remaining c.args.source.now) (g.R.Source.failures c.args.source.now) _ c.deref.result.now fault short given h)
 
-pub returns-in-Ok-clause-gave_up : goal.returns-in-Ok-clause-gave_up
-returns-in-Ok-clause-gave_up g c failed =
+pub returns-in-Ok-clause-ended : goal.returns-in-Ok-clause-ended
+returns-in-Ok-clause-ended g c =
     let short : length c.deref.result.now ≤ max_bytes = omega (arith, c.deref.ensures.len, c.in-Ok.ensures.within) in
-    absurd (no_failed_read c.args.heights.now c.deref.result.now short
-    (subst (λ r. IfErr r (λ fault. (fault ≡ Memory) ⊎ (fault_of_text c.args.heights.now c.deref.result.now ≡ Some fault))) failed c.yard_of_heights.ensures.refused))
+    MatchResult-weaker c.yard_of_heights.result c.yard_of_heights.ensures.refused (λ yard h. h)
+    (λ fault h. rw (none_stated c.args.heights.now c.deref.result.now fault short h) (_, c.in-Ok.ensures.done))
