@@ -2,10 +2,9 @@
 use Rattle.std.proofs.Common.{◌≡◌, ◌≢◌, ℕ, ◌+◌, ◌-◌, ◌^◌, ◌<◌, ◌≤◌, ◌⊎◌, ⊎_elim, inl, inr, List, [], ◌∷◌, ◌++◌, length, take, drop, Option, None, Some, IfSome, refl, sym, ap, ◌∙◌, subst, arith, append_assoc, length-append, take-append-drop}
 use Rattle.std.proofs.lemmas.Bool.{cases_lt}
 use Rattle.std.proofs.lemmas.List.{append-nil, length-take, take-take}
-use Rattle.std.proofs.lemmas.List.Elements.{All-nil}
 use Rattle.std.proofs.lemmas.Grind.{flat_map-append}
-use Rattle.std.specs.Io.KnownBytes.{Appends, Keeps, Consumes, IsAtEnd}
-use Rattle.std.proofs.KnownBytes.{Appends-trans, Appends-kept, Appends-nil, Consumes-nil, Consumes-trans, Consumes-whole}
+use Rattle.std.specs.Io.KnownBytes.{Appends, Consumes, IsAtEnd}
+use Rattle.std.proofs.KnownBytes.{Appends-trans, Appends-kept, Consumes-trans, Consumes-whole}
 use Rattle.crp_plan.specs.BayNames.{YardBay}
 use Rattle.crp_plan.specs.Devices.{AppendsPart, HasFailed}
 use Rattle.crp_plan.proofs.Fronts.{Appends-then_part}
@@ -19,7 +18,7 @@ use Rattle.crp_checker.specs.FedFiles.{HasReadFile}
 use Rattle.crp_commands.specs.declared.outcome.ToolFault.{ToolFault}
 use Rattle.crp_commands.specs.declared.outcome.ToolFault.TheVariants as fault
 use Rattle.crp_commands.specs.Calls.{CallSeen, IsTextWithin}
-use Rattle.crp_commands.specs.Check.{verdict_line, verdict_lines, fault_of_refusal, IsReadFrom, WritesEach, WritesEnded, CheckFailsWith}
+use Rattle.crp_commands.specs.Check.{verdict_line, verdict_lines, fault_of_refusal, IsReadFrom, WritesEach, CheckFailsWith}
 use Rattle.crp_commands.specs.Checks.{TextFailsWith, HasChecked, IsChecking, ChecksPiece, AreEndedIn, BytesFailWith, PieceFailsWith, CheckState, StandsAfter, CheckHasGoneOn, CheckStopsAt}
 
 -- how the refusal of a certificate is stated
@@ -332,13 +331,6 @@ goes_on remaining new holds new_holds files next number new_number left new_left
 
 -- ---- from the beginning to the end
 
-pub starts : (given held : Option (List ℕ)) (limit : ℕ) (files : FileChecker) → HasReadFile [] [] files → StandsAfter given held limit (record { remaining = given; holds = held; files = files; number = 1; left = limit })
-starts given held limit files read =
-    ([], [], record { checked = record { read = read; next = refl; written = Appends-nil held }; consumed = Consumes-nil given; within = omega arith })
-
-pub stands_checking : (given held : Option (List ℕ)) (limit : ℕ) (s : CheckState) → StandsAfter given held limit s → IsChecking s.holds s.files s.number
-stands_checking given held limit s (file, verdicts, way) = (held, file, verdicts, way.checked)
-
 -- all bytes of the source were checked
 pub record HasCheckedAll (given held holds : Option (List ℕ)) (limit : ℕ) (files : FileChecker) (number : ℕ) : Type 0 where
   pub file : List ℕ
@@ -355,19 +347,3 @@ all_checked given held limit s (file, verdicts, way) end' = record {
   text = (omega (arith, way.within), Consumes-whole given s.remaining file (λ xs. file ≡ xs) way.consumed end' refl);
   read = all_read given s.remaining file way.consumed;
 }
-
--- before anything was read
-none_read : (given : Option (List ℕ)) → IsReadFrom given []
-none_read None = tt
-none_read (Some xs) = (xs, refl)
-
-pub wrote_none : (limit : ℕ) (s : CallSeen) → Keeps s.held s.holds → WritesEnded limit s
-wrote_none limit s nothing = (
-  [],
-  omega arith,
-  (
-    [],
-    record { lines = []; begun = []; others = tt; open_line = All-nil (λ b. b ≢ 10); is = refl },
-    (none_read s.given, ([], record { texts = []; ended = tt; is = refl; shown = tt }, Appends-kept s.held s.held s.holds [] (Appends-nil s.held) nothing)),
-  ),
-)
