@@ -1,25 +1,22 @@
 -- What the lines of a head lead to, one by one.
-use Rattle.std.proofs.Common.{◌≡◌, ◌≢◌, ◌≤◌, ◌⊎◌, ℕ, List, length, [], ◌∷◌, ◌++◌, Option, sym, ap, ◌∙◌, subst, arith, append_assoc, inl, inr, ⊎_elim}
+use Rattle.std.proofs.Common.{◌≡◌, ◌≢◌, ◌≤◌, ◌⊎◌, ℕ, List, length, [], ◌∷◌, ◌++◌, sym, ap, ◌∙◌, subst, append_assoc, inl, inr, ⊎_elim}
 use Rattle.std.specs.List.{AllByRecursion, flat_map}
 use Rattle.std.proofs.lemmas.List.{append-nil}
-use Rattle.crp_plan.specs.Bay.{Problem}
 use Rattle.crp_plan.specs.Faults.{stacks_of}
-use Rattle.crp_cert.specs.declared.head.Head.{Head}
 use Rattle.crp_cert.specs.declared.script.Script.{Script}
 use Rattle.crp_cert.specs.declared.version.Version.TheVariants.{Two}
 use Rattle.crp_cert.specs.declared.bay_rows.BayRows.{BayRows}
 use Rattle.crp_cert.specs.declared.head_lines.HeadLines.{HeadLines}
 use Rattle.crp_cert.specs.declared.head_lines.HeadLines.TheVariants as lines
 use Rattle.crp_cert.specs.declared.head_lines.HeadRead.{HeadRead}
-use Rattle.crp_cert.specs.Text.{title_line, bay_line, size_line, stated_heights, row_line, claim_line, first_part, head_text, IsHead}
+use Rattle.crp_cert.specs.Text.{title_line, bay_line, size_line, stated_heights, row_line, claim_line}
 use Rattle.crp_cert.specs.Faults.{IsFirstFault}
 use Rattle.crp_cert.specs.Settled.{longest_line}
 use Rattle.crp_cert.specs.LinesOfHead.{HasLines, HasRead, HasNoLine, IsLineRead, fault_behind, bay_of}
 use Rattle.crp_cert.proofs.Settled.{no_stop}
 use Rattle.crp_cert.proofs.Readers.{once, title_reader}
 use Rattle.crp_cert.proofs.LinesOfHead.{settled, fault_is}
-use Rattle.crp_checker.specs.declared.findings.Findings.{Findings}
-use Rattle.crp_checker.specs.Stages.{first_script, AreFindings, IsInHead, IsLineEnd, IsOpenLine, IsAtLine, IsBayIn, IsFaulty}
+use Rattle.crp_checker.specs.Stages.{IsInHead, IsLineEnd, IsOpenLine, IsBayIn, IsFaulty}
 use Rattle.crp_checker.proofs.Growing.{grown}
 
 -- three texts, and more behind them
@@ -90,20 +87,3 @@ placed before above begun more new is added = ap (λ l. above ++ l) added ∙ sy
 -- no line has begun
 pub nothing_begun : (script : Script) → IsOpenLine script []
 nothing_begun script = record { no_name = λ stands. let e = stands.2.1 in cc; no_end = λ stands. let e = stands.1 in cc }
-
--- behind a head no part has begun
-pub first_line : (wanted : Option Problem) (head : Head) (findings : Findings) (begun : List ℕ) → IsHead head → AreFindings wanted (first_script head) findings → begun ≡ [] → IsAtLine wanted (head_text head) findings begun
-first_line wanted head findings begun is are none = subst (IsAtLine wanted (head_text head) findings) (sym none)
-    (record {
-      script = first_script head;
-      line = first_part head;
-      are = are;
-      begins = record {
-        is_head = is;
-        each_part = λ k d lt. absurd (omega arith);
-        rising = λ i j d lt bound. absurd (omega arith);
-        text = sym (append-nil (head_text head));
-        number = omega arith;
-      };
-      is_open = nothing_begun (first_script head);
-    })

@@ -1,5 +1,5 @@
 -- From a branch to the next tree that is owed.
-use Rattle.std.proofs.Common.{◌≡◌, ℕ, suc, ◌+◌, ◌-◌, ◌<◌, ⊎_elim, Bool, true, false, List, [], ◌∷◌, ◌++◌, length, filter, Some, refl, sym, ap, ◌∙◌, arith, length-append}
+use Rattle.std.proofs.Common.{◌≡◌, ℕ, suc, ◌+◌, ◌-◌, ⊎_elim, Bool, true, false, List, [], ◌∷◌, ◌++◌, length, filter, Some, refl, sym, ap, ◌∙◌, arith, length-append}
 use Rattle.std.specs.Prelude.{reverse}
 use Rattle.std.proofs.lemmas.Bool.{cases_Bool}
 use Rattle.std.proofs.lemmas.List.{take_at, reverse-append}
@@ -45,14 +45,6 @@ goes_up path s old levels none = sym (ap (owed_in path s levels) none)
 -- the last branch above comes first
 pub last_first : (rest : List Level) (upper : Level) → reverse (rest ++ upper ∷ []) ≡ upper ∷ reverse rest
 last_first rest upper = reverse-append rest (upper ∷ [])
-
--- a turn that passed
-pub one_fewer : (old new : Level) (levels : List Level) (row : ℕ) → left old ≡ row ∷ left new → turns (new ∷ levels) < turns (old ∷ levels)
-one_fewer old new levels row rows = omega (arith, ap length rows)
-
--- a branch that ended
-pub one_closed : (old : Level) (levels : List Level) → turns levels < turns (old ∷ levels)
-one_closed old levels = omega arith
 
 -- legal rows are legal once more
 legal_again : (s : Position) → filter (can_shift s) (targets s) ≡ targets s
