@@ -5,7 +5,7 @@ use Rattle.crp_cert.specs.declared.fault.CertFault.{CertFault}
 use Rattle.crp_cert.specs.declared.fault.CertFault.TheVariants as cert
 use Rattle.crp_cert.specs.Faults.{IsFirstFault}
 use Rattle.crp_cert.specs.declared.head.Head.{Head}
-use Rattle.crp_cert.specs.Text.{IsHead}
+use Rattle.crp_cert.specs.Text.{IsHead, IsHeadOf}
 use Rattle.crp_solve.specs.declared.answer.Solved.{Solved}
 use Rattle.crp_solve.specs.Chosen.{Chosen}
 use Rattle.crp_solve.specs.Answers.{IsSolved}
