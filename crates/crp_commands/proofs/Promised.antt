@@ -1,6 +1,5 @@
 -- The headline holds of what a run over files wrote.
-use Rattle.std.proofs.Common.{◌≡◌, ◌⊎◌, Result, Ok, Err, IfOk, IfErr, inl, inr, refl, subst, sym}
-use Rattle.crp_headline.specs.Headline.{IsHeadline}
+use Rattle.std.proofs.Common.{inl, inr}
 use Rattle.crp_headline.proofs.Reported.{headline_holds}
 use Rattle.crp_report.specs.declared.fault.Fault.TheVariants as run
 use Rattle.crp_report.specs.declared.fault.Output.{Output}
