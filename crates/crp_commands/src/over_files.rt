@@ -47,6 +47,32 @@ fn perform_on<T: Threads + Wait + Sync, F: Files, R: Source, W: Sink>(
     answer
 }
 
+// Does a job over its files.
+fn do_job<T: Threads + Wait + Sync, F: Files, R: Source, W: Sink>(
+    threads: &T,
+    alloc: Global,
+    files: &mut F,
+    input: &mut R,
+    out: &mut W,
+    job: &Job<'_>,
+) -> Result<Status, ToolFault>
+    ensures { let seen : JobSeen = record {
+      files = record { known = F.known files.old; before = F.failures files.old; after = F.failures files.new };
+      input = record { given = R.remaining input.old; before = R.failures input.old; after = R.failures input.new };
+      out = record { held = W.contents out.old; holds = W.contents out.new; before = W.failures out.old; after = W.failures out.new };
+    } in MatchResult result (ReportsOverFiles job.now seen) (FailsOverFiles job.now seen) }
+{
+    match job {
+        Job::OneFile { file, command } => {
+            perform_on(threads, alloc, files, input, out, file, command)
+        }
+        Job::Solve {
+            files: names,
+            settings,
+        } => solve(threads, alloc, files, names, settings, out),
+    }
+}
+
 /// Does a job over its files, and writes its report to `out`. A job over the file `-` reads `input`, the standard input.
 ///
 /// Of a run over a yard the headline holds: of the texts that it wrote, and where a write has failed of those whose fronts it wrote.
@@ -75,13 +101,5 @@ pub fn run_job<T: Threads + Wait + Sync, F: Files, R: Source, W: Sink>(
     } in IfErr result (λ fault. (sink : Output) → fault ≡ Run (Write sink)
         → ForRun job.now (λ names chosen. IsLeftAlone seen.out ⊎ ((made : Made) × IsHeadline made × AreFrontsWritten names chosen seen made))) }
 {
-    match job {
-        Job::OneFile { file, command } => {
-            perform_on(threads, alloc, files, input, out, file, command)
-        }
-        Job::Solve {
-            files: names,
-            settings,
-        } => solve(threads, alloc, files, names, settings, out),
-    }
+    do_job(threads, alloc, files, input, out, job)
 }
