@@ -179,7 +179,9 @@ abbrev pub IsSearchFault : List Row → SettingFault → Type 0
 IsSearchFault found setting.Workers = AreWorkersBeyond found
 IsSearchFault found setting.Budget = ((n : ℕ) × HasWorkers found n) × IsBudgetBeyond found
 IsSearchFault found setting.Split = ((n : ℕ) × HasWorkers found n) × ((n : ℕ) × HasBudget found n) × IsSplitBeyond found
-IsSearchFault found f = ⊥
+IsSearchFault found setting.Rows = ⊥
+IsSearchFault found setting.Tiers = ⊥
+IsSearchFault found setting.Heights = ⊥
 
 -- the first setting of solve beyond its limits: that of the search, then the rows, then the tiers, then the heights
 abbrev pub IsSolveFault : List Row → SettingFault → Type 0
@@ -249,8 +251,9 @@ IsJust given there f = (f ≡ given) × there
 -- the refusal is by words, or because memory ran out
 abbrev pub IsWordsOrMemory : Usage → Type 0
 IsWordsOrMemory usage.Memory = ⊤
+IsWordsOrMemory (usage.Help text) = ⊥
 IsWordsOrMemory (usage.Wrong (mistake.Words text)) = ⊤
-IsWordsOrMemory u = ⊥
+IsWordsOrMemory (usage.Wrong (mistake.Setting f)) = ⊥
 
 -- the refusal for an error of this kind
 abbrev pub ShowsKind : ErrorKind → Usage → Type 0
