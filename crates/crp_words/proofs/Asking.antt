@@ -1,15 +1,14 @@
 -- From what clap gives or refuses to what the words ask for, and why they ask for nothing.
-use Rattle.std.proofs.Common.{◌≡◌, ◌⊎◌, ℕ, List, Option, Some, None, IfSome, refl, subst, inl, inr, option_map, true, []}
+use Rattle.std.proofs.Common.{◌≡◌, ◌⊎◌, List, Option, Some, None, refl, subst, inl, inr, option_map, true, []}
 use Rattle.clap.specs.Words.{IsAmong, Row, Text, fault_of, is_simple}
 use Rattle.clap.specs.Faults.{is_simple_and_free}
 use Rattle.clap.specs.declared.error.kind.ErrorKind.{ErrorKind}
 use Rattle.clap.specs.declared.error.kind.ErrorKind.TheVariants as kind
 use Rattle.clap.proofs.OnLiterals.{clap_on_literals}
 use Rattle.crp_words.specs.Commands.{crp}
-use Rattle.crp_words.specs.Words.{Asks, Lacks, MayFindHeights, Refuses, ShowsKind, WordsAsk, WordsHaveFault, IsFault, words_or_default}
+use Rattle.crp_words.specs.Words.{Asks, Lacks, Refuses, ShowsKind, WordsAsk, WordsHaveFault, IsFault, words_or_default}
 use Rattle.crp_words.specs.declared.usage.Mistake.TheVariants as mistake
 use Rattle.crp_words.specs.declared.usage.SettingFault.{SettingFault}
-use Rattle.crp_report.specs.Chosen.{CanBeHeights}
 use Rattle.crp_commands.specs.declared.job.Job.{Job}
 use Rattle.crp_words.specs.declared.usage.Usage.{Usage}
 use Rattle.crp_words.specs.declared.usage.Usage.TheVariants as usage
@@ -57,9 +56,3 @@ refused words (usage.Wrong (mistake.Setting f)) k shows has = absurd shows
 refused words (usage.Wrong (mistake.Words text)) k shows (inl memory) = absurd (shows.0 memory)
 refused words (usage.Wrong (mistake.Words text)) k shows (inr among) =
     (λ j asks. subst (IsAmong k) asks.0 among, inr (k, among, shows.1, shows.2), λ f at. subst (IsAmong k) at.0 among)
-
--- heights that are found can be chosen
-pub may_within : {A : Type 0} (items : A → List ℕ) (rows : List Row) (heights : Option A) → MayFindHeights rows (option_map items heights)
-    → IfSome heights (λ (list : A). CanBeHeights (items list))
-may_within items rows None found = tt
-may_within items rows (Some list) found = found.2.0

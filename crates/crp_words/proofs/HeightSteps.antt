@@ -1,8 +1,8 @@
 -- The text of heights, byte by byte.
-use Rattle.std.proofs.Common.{◌≡◌, ◌∙◌, ◌<◌, ◌≤◌, ◌+◌, ◌-◌, ◌*◌, ◌%◌, ◌⊎◌, ℕ, zero, suc, List, [], ◌∷◌, ◌++◌, length, get_or, take, refl, sym, ap, subst, arith}
+use Rattle.std.proofs.Common.{◌≡◌, ◌∙◌, ◌<◌, ◌+◌, ◌-◌, ◌*◌, ◌%◌, ◌⊎◌, ℕ, zero, suc, List, [], ◌∷◌, ◌++◌, length, get_or, take, refl, sym, ap, subst, arith}
 use Rattle.std.specs.Prelude.{codes, option_map, option_and_then, Option, Some, None, find}
 use Rattle.std.proofs.lemmas.Grind.{flat_map-append}
-use Rattle.std.proofs.lemmas.List.{append_assoc, take_all}
+use Rattle.std.proofs.lemmas.List.{append_assoc}
 use Rattle.std.proofs.Math.Seq.{take-suc}
 use Rattle.clap.specs.Words.{Text, Row, rows_of, matched_of, first_value}
 use Rattle.clap.specs.Facts.{Entry}
@@ -13,8 +13,7 @@ use Rattle.clap.specs.declared.parser.matches.MatchedArg.{MatchedArg}
 use Rattle.clap.specs.declared.parser.matches.ValueSource.{ValueSource}
 use Rattle.clap.specs.declared.parser.matches.ValueSource.TheVariants.{CommandLine}
 use Rattle.clap.proofs.WalkLemmas.{find_row, first_value-rows}
-use Rattle.crp_report.specs.Chosen.{CanBeHeights}
-use Rattle.crp_words.specs.Heights.{behind_points, heights_text, IsHeightsText, HasHeightAt}
+use Rattle.crp_words.specs.Heights.{behind_points, IsHeightsText, HasHeightAt}
 use Rattle.crp_words.specs.Words.{value_source_of, AreHeightsBeyond, FindsHeights, IsGivenByWords, MayFindHeights}
 
 -- ---- from heights to their text
@@ -66,23 +65,6 @@ none_there text k short none heights is =
 
 -- ---- from the text to its heights
 
--- what stands in the text, with a point before it
-pub point_there : (text : Text) (k : ℕ) → (0 < k → get_or text (2 * k - 1) 0 ≡ 46) → get_or (46 ∷ text) (2 * k) 0 ≡ 46
-point_there text zero later = refl
-point_there text (suc k) later =
-    let n : suc (2 * suc k - 1) ≡ 2 * suc k = omega arith in
-    subst (λ (i : ℕ). get_or (46 ∷ text) i 0 ≡ 46) n (later (omega arith))
-
-pub point_was : (text : Text) (k : ℕ) → 0 < k → get_or (46 ∷ text) (2 * k) 0 ≡ 46 → get_or text (2 * k - 1) 0 ≡ 46
-point_was text k later is =
-    let n : 2 * k ≡ suc (2 * k - 1) = omega arith in
-    subst (λ (i : ℕ). get_or (46 ∷ text) i 0 ≡ 46) n is
-
-pub digit_there : (text : Text) (k : ℕ) → get_or (46 ∷ text) (2 * k + 1) 0 ≡ get_or text (2 * k) 0
-digit_there text k =
-    let n : suc (2 * k) ≡ 2 * k + 1 = omega arith in
-    subst (λ (i : ℕ). get_or (46 ∷ text) i 0 ≡ get_or text (2 * k) 0) n refl
-
 -- one height more
 pub one_more : (heights : List ℕ) (text : Text) (k height : ℕ) → 2 * k < length text → behind_points heights ≡ take (2 * k) (46 ∷ text) → HasHeightAt text k height
     → behind_points (heights ++ height ∷ []) ≡ take (2 * (k + 1)) (46 ∷ text)
@@ -97,15 +79,6 @@ one_more heights text k height short so_far there =
     let both : take (suc (suc (2 * k))) whole ≡ take (2 * k) whole ++ 46 ∷ (48 + height) ∷ [] =
     second ∙ ap (λ (l : Text). l ++ (48 + height) ∷ []) first ∙ append_assoc (take (2 * k) whole) (46 ∷ []) ((48 + height) ∷ []) in
     flat_map-append (λ (h : ℕ). 46 ∷ (48 + h) ∷ []) heights (height ∷ []) ∙ ap (λ (l : Text). l ++ 46 ∷ (48 + height) ∷ []) so_far ∙ sym both ∙ ap (λ i. take i whole) n
-
-from_points : (heights : List ℕ) (text : Text) → 1 ≤ length heights → behind_points heights ≡ 46 ∷ text → text ≡ heights_text heights
-from_points [] text some e = absurd (omega arith)
-from_points (height ∷ heights) text some e = let f : 46 ∷ ((48 + height) ∷ behind_points heights) ≡ 46 ∷ text = e in cc
-
--- all of them
-pub all_stated : (heights : List ℕ) (text : Text) (k : ℕ) → CanBeHeights heights → 2 * k ≡ suc (length text) → behind_points heights ≡ take (2 * k) (46 ∷ text)
-    → IsHeightsText heights text
-all_stated heights text k can n e = (can, from_points heights text can.0.0 (e ∙ take_all (2 * k) (46 ∷ text) (omega (arith, n))))
 
 -- ---- where the text of an option comes from
 
