@@ -23,14 +23,14 @@ each_gets s m report certificates yard_after output.YardAfter = yard_after
 -- of one that has ended
 headline_kept : (j : Job) (seen : JobSeen) (ended : Status) → ReportsOverFiles j seen ended → KeepsHeadline j seen
 headline_kept (job.OneFile file command) seen ended is = tt
-headline_kept (job.Solve names chosen) seen ended (alone, s, over, (m, made, status, report, certificates, yard_after), few) =
+headline_kept (job.Solve names chosen) seen ended (alone, (s, over, ((m, made, status, report, certificates, yard_after), few))) =
     (m, headline_holds chosen s m made, record { saw = s; over = over; is_made = made; written = each_gets s m report certificates yard_after })
 
 -- and of one in which a write has failed
 headline_so_far : (j : Job) (seen : JobSeen) (sink : Output) → FailsOverFiles j seen (fault.Run (run.Write sink)) → KeepsHeadlineSoFar j seen
 headline_so_far (job.OneFile file command) seen sink is = tt
 headline_so_far (job.Solve names chosen) seen sink (alone, inl refused) = inl refused.alone
-headline_so_far (job.Solve names chosen) seen sink (alone, inr (s, over, asked, ((m, made, fronts, part, stop), failed), few)) =
+headline_so_far (job.Solve names chosen) seen sink (alone, inr (s, over, asked, (((m, made, fronts, part, stop), failed), few))) =
     inr (m, headline_holds chosen s m made, record { saw = s; over = over; is_made = made; written = fronts })
 
 -- of any job, from how it ended
