@@ -6,7 +6,7 @@ ghost use Rattle.crp_words.specs.declared.usage.Usage.{Usage as Unused};
 ghost use Rattle.crp_words.specs.Endings.{ProgramEnds, UsageEnds};
 
 use crp_commands::SystemFiles;
-use crp_plan::Counted;
+use crp_plan::{Counted, Sink};
 use crp_words::{Mistake, Usage, end_with_usage, run_words};
 use std::alloc::{AllocError, Global};
 use std::sync::Wait;
@@ -44,13 +44,20 @@ fn usage_without_words(alloc: Global, error: &io::Error) -> Usage {
     }
 }
 
+// Ends without words, and says why.
+fn end_without_words<W: Sink, E: Sink>(usage: &Usage, out: &mut W, errors: &mut E) -> u8
+    ensures { (why : Unused) × (out : SinkSeen) × (errors : SinkSeen) × UsageEnds why out errors result }
+{
+    end_with_usage(usage, out, errors)
+}
+
 /// Runs the program over the words of its command line, the files of the system and the standard streams, and returns its exit status.
 /// Only `threads` may start threads and wait for them.
 ///
 /// It ends as `run_words` says of some words and some streams, or as it says of words that are not had.
 pub fn run<T: Threads + Wait + Sync>(rt: &HostRuntime, threads: &T) -> u8
     ensures { ((words : List (List ℕ)) × (seen : JobSeen) × (errors : SinkSeen) × ProgramEnds words seen errors result)
-        ⊎ ((usage : Unused) × (out : SinkSeen) × (errors : SinkSeen) × UsageEnds usage out errors result) }
+        ⊎ ((why : Unused) × (out : SinkSeen) × (errors : SinkSeen) × UsageEnds why out errors result) }
 {
     let alloc = rt.alloc();
     let mut out = Counted::new(rt.stdout());
@@ -59,11 +66,11 @@ pub fn run<T: Threads + Wait + Sync>(rt: &HostRuntime, threads: &T) -> u8
         Ok(words) => words,
         Err(error) => {
             let usage = usage_without_words(alloc, &error);
-            return end_with_usage(&usage, &mut out, &mut errors);
+            return end_without_words(&usage, &mut out, &mut errors);
         }
     };
     let Ok(texts) = texts_of(alloc, &words) else {
-        return end_with_usage(&Usage::Memory, &mut out, &mut errors);
+        return end_without_words(&Usage::Memory, &mut out, &mut errors);
     };
     run_words(
         threads,
