@@ -7,12 +7,12 @@ use crp_commands::{MOST_BYTES, ToolFault};
 use crp_plan::{Failure, Sink, Source};
 use std::test::Fail;
 
-const SIX_CONTAINERS: &[u8] =
-    b"CRP-CERT 1\nbay A 1\nsize 3 3 6 6\nrow 1 5 4\nrow 6\nrow 3 2\nat least 3\nplan 2 2 1\npart /: XLB\nend 1\n";
+const SIX_ROWS: &[u8] =
+    b"CRP-CERT 1\nbay B 7\nsize 6 5 17 20\nrow 9 3 14\nrow 18 1 6 11\nrow 2 13\nrow 17 7 19 4\nrow 5 12 20\nrow 10 8 15 16\nat least 11\nplan 1 6 2 2 2 3 3 5 4 4 1\npart /: XXXXXBLBBBLBBXXBLBBLBBBBBXBLBBXBXXBLBBLBBBBXBXXBLBBLBBBBXBXXBLBBBLBBBBBBXXXXBLBBLBBXLXLBBBBBBBXXXBBXBBXBBBXBBBXBBBXBBBBBBBBBBLBBLBBBBXBBBBXBLBBXBBBXBXBLBBXBBBBXBXBLBBBBL\nend 1\n";
 
-const LINE: &[u8] = b"bay A 1: optimal 3\n";
+const LINE: &[u8] = b"bay B 7: optimal 11\n";
 
-/// Gives the certificate of the six containers again and again.
+/// Gives the certificate of the six rows again and again.
 #[derive(Drop)]
 struct Again {
     rest: &'static [u8],
@@ -26,7 +26,7 @@ impl Source for Again {
     fn read(&mut self, buf: &mut [u8]) -> Result<usize, Failure> {
         for byte in buf.iter_mut() {
             if self.rest.is_empty() {
-                self.rest = SIX_CONTAINERS;
+                self.rest = SIX_ROWS;
             }
             if let Some((first, rest)) = self.rest.split_first() {
                 *byte = *first;
@@ -37,7 +37,7 @@ impl Source for Again {
     }
 }
 
-/// Counts the lines that it takes, and those that are the line of the six containers, each in one call.
+/// Counts the lines that it takes, and those that are the line of the six rows, each in one call.
 #[derive(Drop)]
 struct Lines {
     all: u64,
@@ -58,15 +58,13 @@ impl Sink for Lines {
 
 #[test]
 fn too_many_bytes_are_reported_after_the_lines_before_them(rt: HostRuntime) -> Result<(), Fail> {
-    assert_same(&rt, &SIX_CONTAINERS.len(), &96);
+    assert_same(&rt, &SIX_ROWS.len(), &332);
     assert_same(&rt, &MOST_BYTES, &268435456);
     let mut lines = Lines { all: 0, right: 0 };
-    let mut source = Again {
-        rest: SIX_CONTAINERS,
-    };
+    let mut source = Again { rest: SIX_ROWS };
     let answer = check(rt.alloc(), &mut source, &mut lines);
     assert_same(&rt, &answer, &Err(ToolFault::TooLarge));
-    assert_same(&rt, &lines.all, &2796202);
-    assert_same(&rt, &lines.right, &2796202);
+    assert_same(&rt, &lines.all, &808540);
+    assert_same(&rt, &lines.right, &808540);
     Ok(())
 }
