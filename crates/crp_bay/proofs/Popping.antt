@@ -104,11 +104,3 @@ kept_before more rows h o n rank u items new1 new2 new3 p e er e2 e3 el =
       place_is,
       rows_is,
     )
-
--- what was seen before is the position with what is seen of it
-pub seen_before : (pushes more : List Push) (rows rows' : List ℕ) (s t : Position) (u : Push) (now : PlaceAndTrail) → pushes ≡ more ++ u ∷ [] → t ≡ undone rows u s → rows' ≡ rows_before rows u s → seen pushes rows s ≡ now → now.trail ≡ t ∷ trail_of (reverse more) rows' t
-seen_before pushes more rows rows' s t u now e et er is =
-    ap (λ (x : PlaceAndTrail). x.trail) (sym is)
-    ∙ ap (λ us. trail_of us rows s) (ap reverse e ∙ reverse-append more (u ∷ []))
-    ∙ ap (λ v. v ∷ trail_of (reverse more) (rows_before rows u s) v) (sym et)
-    ∙ ap (λ w. t ∷ trail_of (reverse more) w t) (sym er)

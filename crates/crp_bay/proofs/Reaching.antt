@@ -87,23 +87,6 @@ goes_reached s w row from u t e r k f = record {
   is_at = goes_at s w row from u t e k f r.problem r.path r.is_problem r.is_at;
 }
 
--- a legal shift goes to a target, and leads to the computed position
-pub goes_target : (s w : Position) (row from : ℕ) (u t : Position) → w ≡ s → IsReached s → IsShifted w from row u → Settles u t → Contains (targets s) row × (child s row ≡ t)
-goes_target s w row from u t e r k f =
-    every_target r.problem r.path s row t r.is_problem r.is_at (goes_at s w row from u t e k f r.problem r.path r.is_problem r.is_at)
-
--- no legal shift
-pub stops_at : (s w : Position) (row : ℕ) → w ≡ s → ((from : ℕ) (t : Position) → IsShifted w from row t → ⊥) → (p : Problem) (path : List ℕ) → IsProblem p → IsAt p path s → IsLegalRow p path row → ⊥
-stops_at s w row e none p path is a l =
-    let g = goes_by p path row s l.0 is a l.1 in
-    let P : Position → Type 0 = λ v. IsShifted v g.0 row g.1 in
-    none g.0 g.1 (subst P (sym e) g.2)
-
--- a row with no legal shift is no target
-pub stops_target : (s w : Position) (row : ℕ) → w ≡ s → IsReached s → ((from : ℕ) (t : Position) → IsShifted w from row t → ⊥) → Contains (targets s) row → ⊥
-stops_target s w row e r none c =
-    stops_at s w row e none r.problem r.path r.is_problem r.is_at (child s row, target_goes_on r.problem r.path s row r.is_problem r.is_at c)
-
 -- the targets are the legal rows
 pub targets_legal : (s : Position) (p : Problem) (path : List ℕ) (row : ℕ) → IsProblem p → IsAt p path s → (Contains (targets s) row → IsLegalRow p path row) × (IsLegalRow p path row → Contains (targets s) row)
 targets_legal s p path row is a = (λ c. (child s row, target_goes_on p path s row is a c), λ l. (every_target p path s row l.0 is a l.1).0)
@@ -112,19 +95,6 @@ targets_legal s p path row is a = (λ c. (child s row, target_goes_on p path s r
 pub can_from_target : (s : Position) (row : ℕ) → Contains (targets s) row → can_shift s row ≡ true
 can_from_target s row c = (from_filter (can_shift s) (counted 1 (length s.heights)) row c).0
 
--- the test of a row
-pub shift_fits : (s : Position) (row : ℕ) (stack : List ℕ) → IsReached s → s.next ≤ s.ordered → HasRoom s row → slice_get s.stacks (row - 1) ≡ Some stack → holds s.next stack ≡ false → can_shift s row ≡ true
-shift_fits s row stack r le room here free =
-    let sound : IsSound s = reached_sound s r in
-    let wait = sound.waiting s.next (omega arith) le in
-    let found = placed s.next s.stacks (omega arith) in
-    let ne : source s ≡ row - 1 → ⊥ = λ e.
-    let same : found.0 ≡ stack = same_Some found.0 stack (sym found.1 ∙ ap (slice_get s.stacks) e ∙ here) in
-    both_ways (holds s.next stack) free (ap (holds s.next) (sym same) ∙ found.2) in
-    and_from _ _ (le-leb s.next s.ordered le)
-    (and_from _ _ (le-leb 1 row room.counts)
-    (and_from _ _ (not_from_false (source s == row - 1) (ne_eqb (source s) (row - 1) ne)) (lt-ltb _ _ room.shorter)))
-
 -- a computed target has room, and something is left to leave
 pub shift_needs : (s : Position) (row : ℕ) → can_shift s row ≡ true → (s.next ≤ s.ordered) × HasRoom s row
 shift_needs s row h =
@@ -132,12 +102,6 @@ shift_needs s row h =
     let room : length (stack_at s (row - 1)) < get_or s.heights (row - 1) 0 = a.room in
     let there : row - 1 < length s.heights = walked.within s.heights (row - 1) (omega arith) in
     (a.unfinished, record { counts = lo; there = omega arith; shorter = room })
-
--- the next container does not stand in a computed target
-pub shift_free : (s : Position) (row : ℕ) (stack : List ℕ) → IsReached s → can_shift s row ≡ true → slice_get s.stacks (row - 1) ≡ Some stack → holds s.next stack ≡ true → ⊥
-shift_free s row stack r h here held =
-    let a : Allows s row = allows s row h in let sound : IsSound s = reached_sound s r in
-    a.another (is_place s.next s.stacks (row - 1) stack (sound.once s.next) here (times_held s.next stack held))
 
 -- one more row is looked at
 pub counted_push : (from more : ℕ) → counted from (suc more) ≡ counted from more ++ (from + more) ∷ []
@@ -155,13 +119,6 @@ filter_yes p n t = filter_more p n ∙ ap (λ l. filter p (counted 1 n) ++ l) (r
 -- one more row that does not pass
 pub filter_no : (p : ℕ → Bool) (n : ℕ) → p (suc n) ≡ false → filter p (counted 1 (suc n)) ≡ filter p (counted 1 n)
 filter_no p n f = filter_more p n ∙ ap (λ l. filter p (counted 1 n) ++ l) (rw f refl) ∙ append-nil (filter p (counted 1 n))
-
--- a row with room is a target where the next container stands elsewhere
-pub shift_test : (s : Position) (row : ℕ) (stack : List ℕ) (held : Bool) → IsReached s → s.next ≤ s.ordered → HasRoom s row → slice_get s.stacks (row - 1) ≡ Some stack → held ≡ holds s.next stack → not held ≡ can_shift s row
-shift_test s row stack held r le room here e = ⊎_elim
-    (λ yes. ap not yes ∙ sym (false_from_ne_true (can_shift s row) (λ h. shift_free s row stack r h here (sym e ∙ yes))))
-    (λ no. ap not no ∙ sym (shift_fits s row stack r le room here (sym e ∙ no)))
-    (cases_Bool held)
 
 -- the rows looked at so far, as a loop counts them
 pub looked_yes : (p : ℕ → Bool) (row : ℕ) (old new : List ℕ) → 1 ≤ row → old ≡ filter p (counted 1 (row - 1)) → true ≡ p row → new ≡ old ++ row ∷ [] → new ≡ filter p (counted 1 (row + 1 - 1))

@@ -1,5 +1,5 @@
 //! What a position keeps of where each rank stands.
-ghost use Rattle.std.specs.Prelude.{ℕ, ◌≡◌, ◌-◌, ◌≤◌, ◌<◌, true, false, List, length, slice_get, slice_index, Some};
+ghost use Rattle.std.specs.Prelude.{ℕ, ◌≡◌, ◌-◌, ◌≤◌, ◌<◌, true, false, length, slice_index};
 ghost use Rattle.crp_plan.specs.Rows.{holds, occurrences};
 ghost use Rattle.crp_bay.specs.Located.{AreRowsOf};
 

@@ -78,13 +78,6 @@ reads s k row stack left r is there here within =
     let e : get_or s.stacks (row - 1) [] ≡ stack = get_or_from_slice_get s.stacks (row - 1) stack [] here in
     record { index = omega arith; there = omega arith; stack_is = e; within = omega (arith, within (row - 1), ap length e) }
 
--- what is known of a stack is known of its lower part
-pub part_known : (leasts : List ℕ) (ordered n : ℕ) (stack : List ℕ) → ((i : ℕ) → i < length stack → get_or leasts (get_or stack i 0) 0 ≡ least_ordered ordered (take (suc i) stack)) →
-    (i : ℕ) → i < length (take n stack) → get_or leasts (get_or (take n stack) i 0) 0 ≡ least_ordered ordered (take (suc i) (take n stack))
-part_known leasts ordered n stack known i lt =
-    let less : i < n = omega (arith, length-take n stack) in
-    ap (λ x. get_or leasts x 0) (get_or-take n stack i 0 less) ∙ known i (omega (arith, length-take n stack)) ∙ ap (least_ordered ordered) (sym (take-take (suc i) n stack (omega arith)))
-
 pub part_few : (n : ℕ) (stack : List ℕ) → All (λ rank. rank ≤ 96) stack → All (λ rank. rank ≤ 96) (take n stack)
 part_few n stack few k d lt =
     let e : get_or (take n stack) k d ≡ get_or stack k d = get_or-take n stack k d (omega (arith, length-take n stack)) in

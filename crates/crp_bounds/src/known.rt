@@ -1,5 +1,5 @@
 //! The least ordered ranks of stacks, known by the rank on top.
-ghost use Rattle.std.specs.Prelude.{◌≡◌, ◌<◌, ◌≤◌, ℕ, suc, min, nat_le, if◌then◌else◌, true, false, List, [], ◌++◌, ◌∷◌, All, length, take, slice_index, count_by, ◌==◌};
+ghost use Rattle.std.specs.Prelude.{◌≡◌, ◌<◌, ◌≤◌, ℕ, suc, min, nat_le, if◌then◌else◌, false, All, length, take, slice_index, count_by, ◌==◌};
 ghost use Rattle.crp_plan.specs.Rows.{holds};
 ghost use Rattle.crp_bay.specs.Reached.{IsReached};
 ghost use Rattle.crp_bay.specs.Located.{moved};

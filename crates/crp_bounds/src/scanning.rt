@@ -1,7 +1,7 @@
 //! The count of the look-ahead bound with no stack copied or cut: how much is left of each, and the greatest offer of all rows.
-ghost use Rattle.std.specs.Prelude.{◌≡◌, ℕ, ◌+◌, ◌-◌, ◌*◌, ◌<◌, ◌≤◌, suc, true, List, [], All, length, take, count_by, ◌==◌, nat_lt, slice_index, slice_index_or, IfSome, IfNone};
+ghost use Rattle.std.specs.Prelude.{◌≡◌, ℕ, ◌+◌, ◌-◌, ◌*◌, ◌<◌, ◌≤◌, suc, true, [], All, length, take, count_by, ◌==◌, nat_lt, slice_index, slice_index_or, IfSome, IfNone};
 ghost use Rattle.crp_plan.specs.Rows.{holds, above, below};
-ghost use Rattle.crp_bounds.specs.Bounds.{blocking as blocking_bound, stuck_from, stuck_now};
+ghost use Rattle.crp_bounds.specs.Bounds.{blocking as blocking_bound, stuck_now};
 ghost use Rattle.crp_bounds.specs.Leasts.{least_ordered, KnowsLeasts};
 ghost use Rattle.crp_bounds.specs.Offers.{greatest, offer, offers};
 

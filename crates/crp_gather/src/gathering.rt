@@ -3,7 +3,7 @@ ghost use Rattle.std.specs.Prelude.{◌≡◌, ◌↔◌, ℕ, List, All, Contai
 ghost use Rattle.std.specs.List.Sorted.{IsSorted, IsPermutation};
 ghost use Rattle.std.specs.Cmp.Lexicographic.{slice_cmp};
 ghost use Rattle.std.specs.Ordering.{nat_cmp};
-ghost use Rattle.crp_tree.specs.Parts.{ProblemPart, names_of, IsKeptPart, IsAbout};
+ghost use Rattle.crp_tree.specs.Parts.{names_of, IsKeptPart, IsAbout};
 ghost use Rattle.crp_tree.specs.Names.{IsFirst};
 ghost use Rattle.crp_gather.specs.Gathers.{Need, AreWhole, IsStranger, IsGatherFault, Belongs};
 

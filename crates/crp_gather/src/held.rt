@@ -1,5 +1,5 @@
 //! Names in order, held against each other.
-ghost use Rattle.std.specs.Prelude.{◌≡◌, ◌≤◌, ◌↔◌, ℕ, List, All, Contains, IsTrue, IfSome, IfNone};
+ghost use Rattle.std.specs.Prelude.{◌≤◌, ◌↔◌, ℕ, List, All, Contains, IsTrue, IfSome, IfNone};
 ghost use Rattle.std.specs.List.Sorted.{IsSorted};
 ghost use Rattle.std.specs.Cmp.Lexicographic.{slice_cmp};
 ghost use Rattle.std.specs.Ordering.{nat_cmp};

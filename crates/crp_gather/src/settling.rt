@@ -1,5 +1,5 @@
 //! A certificate settled on a plan.
-ghost use Rattle.std.specs.Prelude.{◌≡◌, ℕ, ◌+◌, ◌≤◌, List, ◌∷◌, length, All, IfOk, OnOk, IfSome, IfNone, IsTrue, ◌↔◌};
+ghost use Rattle.std.specs.Prelude.{◌≡◌, ◌+◌, List, ◌∷◌, length, All, IfOk, OnOk, IfSome, IfNone, IsTrue, ◌↔◌};
 ghost use Rattle.crp_plan.specs.Bay.{IsAt};
 ghost use Rattle.crp_bounds.specs.Bounds.{blocking as blocking_bound, look_ahead as look_ahead_bound};
 ghost use Rattle.crp_tree.specs.Names.{Precedes};

@@ -1,5 +1,5 @@
 //! A whole text, from a source or to a sink.
-ghost use Rattle.std.specs.Prelude.{◌≡◌, ◌↔◌, ◌⊎◌, ℕ, List, ◌+◌, ◌-◌, ◌<◌, ◌≤◌, ◌++◌, false, true, length, take, vec_len, IsTrue, IfOk, IfErr, IfSome, OnOk, OnErr, IsErrOf, flat_map};
+ghost use Rattle.std.specs.Prelude.{◌≡◌, ◌↔◌, ℕ, List, ◌+◌, ◌-◌, ◌<◌, ◌≤◌, ◌++◌, false, true, length, take, vec_len, IsTrue, IfOk, IfErr, IfSome, OnOk, OnErr, IsErrOf, flat_map};
 ghost use Rattle.std.specs.Bool.{OnTrue, OnFalse};
 ghost use Rattle.std.specs.Io.KnownBytes.{Appends, Consumes, Keeps, IsAtEnd};
 ghost use Rattle.crp_plan.specs.Devices.{AppendsPart, IsPassedOver, Transfers, TransfersAlone, failures_of_read, most_interruptions};

@@ -1,5 +1,5 @@
 // A deque's worker, the ways by which others steal from it, and the rule that all keep.
-ghost use Rattle.std.specs.Prelude.{◌≡◌, ◌+◌, ◌<◌, ◌≤◌, [], ◌∷◌, ℕ, IfOk, MatchResult, MatchOption};
+ghost use Rattle.std.specs.Prelude.{◌≡◌, ◌+◌, ◌<◌, ◌≤◌, [], ◌∷◌, IfOk, MatchResult, MatchOption};
 ghost use Rattle.crossbeam_deque.specs.Handles.{view as known, IsPassOf, stealer_deque, worker_deque, worker_view, worker_capacity, worker_index};
 ghost use Rattle.crp_pool.specs.Hand.{hand, all_deque_shares, FoundEmpty, puts, takes, share_cut, both};
 ghost use Rattle.crp_pool.specs.Deques.{Own, Way};

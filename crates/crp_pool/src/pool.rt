@@ -1,9 +1,9 @@
 // The pool as a whole: made before its workers start, taken apart after they end.
-ghost use Rattle.std.specs.Prelude.{◌≡◌, ◌+◌, ◌*◌, ◌-◌, ◌<◌, ◌≤◌, [], ◌∷◌, ◌++◌, ℕ, List, All, map, IfOk, length, vec_len, vec_capacity};
+ghost use Rattle.std.specs.Prelude.{◌≡◌, ◌+◌, ◌-◌, ◌<◌, ◌≤◌, ℕ, List, All, map, IfOk, length, vec_len, vec_capacity};
 ghost use Rattle.std.specs.List.Sorted.{IsPermutation, IsNonDecreasingBy};
 ghost use Rattle.crp_pool.specs.Hand.{all_deque_shares};
-ghost use Rattle.crp_pool.specs.Weigh.{weigh, SameNames};
-ghost use Rattle.crp_pool.specs.Deques.{row_ways, shape, guest, DequeId, own_deque, own_hand, way_hand, fresh_way, IsFresh, EachGivesShare};
+ghost use Rattle.crp_pool.specs.Weigh.{SameNames};
+ghost use Rattle.crp_pool.specs.Deques.{row_ways, shape, guest, DequeId, own_deque, fresh_way, IsFresh, EachGivesShare};
 ghost use Rattle.crp_pool.specs.Seats.{IsSplit, IsEverySeat, IsNewSeat, seat_deque, seat_number, numbers, all_puts, all_takes, PoolKeeps};
 
 use crate::owner::{Link, Owner};
@@ -131,7 +131,7 @@ fn put_in_order(seats: &mut Vec<PoolSeat>)
 }
 
 impl Pool {
-    /// A pool for this many workers, and a seat for each of them.
+    /// A pool for this many workers, and a seat for each of them, by their numbers.
     pub fn new(
         alloc: Global,
         workers: usize,
@@ -141,6 +141,7 @@ impl Pool {
         requires capacity { capacity ≤ 4096 }
         ensures seats { IfOk result (λ r. (length r.1.items ≡ workers) × IsEverySeat r.0 r.1.items) }
         ensures fresh { IfOk result (λ r. All (IsNewSeat r.0 capacity) r.1.items) }
+        ensures in_order { IfOk result (λ r. map seat_number r.1.items ≡ numbers 0 workers) }
     {
         let mut owners = open(alloc, workers, capacity)?;
         let rows = link_rows(alloc, &mut owners)?;

@@ -1,5 +1,5 @@
 // What is left in a pool when its workers are done.
-ghost use Rattle.std.specs.Prelude.{◌≡◌, ◌+◌, ◌<◌, ◌≤◌, [], ◌∷◌, ◌++◌, ℕ, All, map, MatchOption, length};
+ghost use Rattle.std.specs.Prelude.{◌≡◌, ◌+◌, ◌<◌, [], ◌∷◌, ◌++◌, ℕ, All, map, MatchOption};
 ghost use Rattle.crp_pool.specs.Hand.{FoundEmpty, taken_by};
 ghost use Rattle.crp_pool.specs.Weigh.{weigh, SameNames};
 ghost use Rattle.crp_pool.specs.Deques.{own_hand, own_deque, own_kept, way_hand, shape, guest, AddsUp};

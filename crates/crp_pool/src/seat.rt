@@ -1,7 +1,7 @@
 // What one worker has of a pool.
-ghost use Rattle.std.specs.Prelude.{◌≡◌, ◌+◌, ◌<◌, ◌≤◌, [], ◌∷◌, ◌++◌, ℕ, All, map, MatchOption, MatchResult, IfErr, length};
+ghost use Rattle.std.specs.Prelude.{◌≡◌, ◌+◌, ◌<◌, ◌≤◌, [], ◌∷◌, ◌++◌, All, map, MatchOption, MatchResult, IfErr, length};
 ghost use Rattle.crp_pool.specs.Hand.{taken_by};
-ghost use Rattle.crp_pool.specs.Weigh.{weigh, SameNames};
+ghost use Rattle.crp_pool.specs.Weigh.{SameNames};
 ghost use Rattle.crp_pool.specs.Deques.{shape, way_hand};
 ghost use Rattle.crp_pool.specs.Seats.{SameSeat};
 

@@ -10,14 +10,8 @@ use Rattle.crp_search.specs.Searched.{IsHeld}
 pub held_b : (bar : ℕ) (path : List ℕ) (s : Position) → bar ≤ length path + blocking s → IsHeld 0 bar (record { path = path; place = s; mark = B })
 held_b bar path s le = record { closed = λ cut. inl le; needed = λ ahead. absurd (cc); below = λ branch. absurd (cc) }
 
-pub held_l : (bar : ℕ) (path : List ℕ) (s : Position) → length path + blocking s < bar → bar ≤ length path + look_ahead s → IsHeld 0 bar (record { path = path; place = s; mark = L })
-held_l bar path s low le = record { closed = λ cut. inl le; needed = λ ahead. (low, omega (arith, low, le)); below = λ branch. absurd (cc) }
-
 pub held_x : (bar : ℕ) (path : List ℕ) (s : Position) → length path + look_ahead s < bar → IsHeld 0 bar (record { path = path; place = s; mark = X })
 held_x bar path s low = record { closed = λ cut. absurd (cc); needed = λ ahead. absurd (cc); below = λ branch. low }
-
-pub held_g : (bar : ℕ) (path : List ℕ) (s : Position) → IsHeld 0 bar (record { path = path; place = s; mark = G })
-held_g bar path s = record { closed = λ cut. absurd (cc); needed = λ ahead. absurd (cc); below = λ branch. absurd (cc) }
 
 -- the floor stays where a branch is met, and falls to the value of a cut
 pub floor_branch : (most floor : ℕ) (met : List Node) (path : List ℕ) (s : Position) → floor ≡ least_value most met → floor ≡ least_value most (met ++ record { path = path; place = s; mark = X } ∷ [])

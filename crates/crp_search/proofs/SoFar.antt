@@ -43,19 +43,6 @@ met_branch split d e path s unfinished granted puts = record {
   short = All-nil (IsShort split);
 }
 
--- and a subtree that is given away while its name is put
-pub met_given : (split : ℕ) (d e : Dealings) (path : List ℕ) (s : Position) → length path ≤ split → split ≤ 8 → e.view.granted ≡ d.view.granted → e.puts ≡ d.puts ++ path ∷ [] → IsMet split d e (record { path = path; place = s; mark = G } ∷ [])
-met_given split d e path s few short granted puts = record {
-  in_place = All-cons IsInPlace (record { path = path; place = s; mark = G }) [] (omega arith) (All-nil IsInPlace);
-  grants = omega (arith, granted);
-  puts = puts;
-  short = All-cons (IsShort split) path [] few (All-nil (IsShort split));
-}
-
--- so the names that were put are more
-pub met_puts : (split : ℕ) (d e : Dealings) (met : List Node) → IsMet split d e met → PutsMore d.puts e.puts
-met_puts split d e met m = (given_names met, m.puts)
-
 -- ---- what sufficed meanwhile
 
 -- each node was met while so much sufficed
@@ -102,23 +89,6 @@ branches_below refused from to met h =
 
 -- ---- steps of a worker
 
-try_grants : (budget : ℕ) (v w : View) → TriesClaim budget v true w → w ≡ record v { granted = v.granted + 1 }
-try_grants budget v w t =
-    t.after ∙ ap (λ b. if b then record v { granted = v.granted + 1 } else record v { refused = v.refused + 1 }) (sym t.answer_is)
-
-try_refuses : (budget : ℕ) (v w : View) → TriesClaim budget v false w → w ≡ record v { refused = v.refused + 1 }
-try_refuses budget v w t =
-    t.after ∙ ap (λ b. if b then record v { granted = v.granted + 1 } else record v { refused = v.refused + 1 }) (sym t.answer_is)
-
--- a claim that is granted adds one to those granted, and does nothing else
-pub claim_grants : (budget : ℕ) (v w : View) (answer : Bool) → answer ≡ true → ClaimsExpansion budget v answer w → w ≡ record v { granted = v.granted + 1 }
-claim_grants budget v w answer holds k =
-    let c : ClaimsExpansion budget v true w = subst (λ b. ClaimsExpansion budget v b w) holds k in
-    ⊎_elim
-    (λ lt. let r = c.was_refused lt in let no = r.0 in absurd (cc))
-    (λ le. try_grants budget v w (c.tries (omega arith)))
-    (cases_lt 0 v.refused)
-
 -- one that is refused is counted, unless one was refused before, and does nothing else
 pub record IsRefused (v w : View) : Type 0 where
   pub some : 0 < w.refused
@@ -126,35 +96,7 @@ pub record IsRefused (v w : View) : Type 0 where
   pub one_more : w.refused ≤ v.refused + 1
   pub only : w ≡ record v { refused = w.refused }
 
-pub claim_refuses : (budget : ℕ) (v w : View) (answer : Bool) → answer ≡ false → ClaimsExpansion budget v answer w → IsRefused v w
-claim_refuses budget v w answer holds k =
-    let c : ClaimsExpansion budget v false w = subst (λ b. ClaimsExpansion budget v b w) holds k in
-    ⊎_elim
-    (λ lt.
-    let same : w ≡ v = (c.was_refused lt).1 in
-    let count : w.refused ≡ v.refused = ap (λ (x : View). x.refused) same in
-    record { some = omega arith; no_less = omega arith; one_more = omega arith; only = same ∙ ap (λ n. record v { refused = n }) (sym count) })
-    (λ le.
-    let is : w ≡ record v { refused = v.refused + 1 } = try_refuses budget v w (c.tries (omega arith)) in
-    let count : w.refused ≡ v.refused + 1 = ap (λ (x : View). x.refused) is in
-    record { some = omega arith; no_less = omega arith; one_more = omega arith; only = is ∙ ap (λ n. record v { refused = n }) (sym count) })
-    (cases_lt 0 v.refused)
-
 -- ---- as the search holds it
-
--- the limit is seen
-pub sees_met : (p : Problem) (split : ℕ) (d e : Dealings) (answer : ℕ) → SeesLimit d.view answer e.view → e.puts ≡ d.puts → IsSearchedSoFar p split d e []
-sees_met p split d e answer k puts =
-    let seen : e.view.seen ≡ answer = ap (λ (v : View). v.seen) k.after in
-    let mine : e.view.mine ≡ d.view.mine = ap (λ (v : View). v.mine) k.after in
-    let granted : e.view.granted ≡ d.view.granted = ap (λ (v : View). v.granted) k.after in
-    let refused : e.view.refused ≡ d.view.refused = ap (λ (v : View). v.refused) k.after in
-    let low = k.not_above_seen in
-    record {
-      dealings = record { in_place = All-nil IsInPlace; grants = omega arith; puts = puts ∙ sym (append-nil d.puts); short = All-nil (IsShort split) };
-      advances = record { seen = omega arith; mine = omega arith; offered = inl mine; granted = omega arith; refused = omega arith; share = ap (λ (v : View). v.share) k.after };
-      along = omega arith;
-    }
 
 -- a finished path's plan is offered
 pub offer_met : (p : Problem) (split : ℕ) (d e : Dealings) (path : List ℕ) (node : Node) → e.view.seen ≤ length path → Advances p d.view e.view → e.view.granted ≡ d.view.granted → e.puts ≡ d.puts → node.path ≡ path → node.mark ≡ B → IsSearchedSoFar p split d e (node ∷ [])
@@ -171,29 +113,6 @@ offer_met p split d e path node seen on granted puts here mark =
           closed = λ cut. inl (omega arith);
           needed = λ ahead. absurd (let no : B ≡ L = sym mark ∙ ahead in cc);
           below = λ branch. absurd (let no : B ≡ X = sym mark ∙ branch in cc);
-        },
-        omega arith,
-      );
-    }
-
--- a claim is refused
-pub refusal_met : (p : Problem) (split : ℕ) (d e : Dealings) (node : Node) → IsRefused d.view e.view → e.puts ≡ d.puts → is_cut node.mark ≡ true → least_through node ≤ value node → node.place.next ≤ node.place.ordered → NeedsLookAhead d.view.seen node →
-    IsSearchedSoFar p split d e (node ∷ [])
-refusal_met p split d e node k puts cut high unfinished needed =
-    let seen : e.view.seen ≡ d.view.seen = ap (λ (v : View). v.seen) k.only in
-    let mine : e.view.mine ≡ d.view.mine = ap (λ (v : View). v.mine) k.only in
-    let granted : e.view.granted ≡ d.view.granted = ap (λ (v : View). v.granted) k.only in
-    let no_less = k.no_less in
-    record {
-      dealings = met_cut split d e node cut granted puts;
-      advances = record { seen = omega arith; mine = omega arith; offered = inl mine; granted = omega arith; refused = no_less; share = ap (λ (v : View). v.share) k.only };
-      along = (
-        d.view.seen,
-        omega arith,
-        record {
-          closed = λ is. inr (k.some, high, unfinished);
-          needed = needed;
-          below = λ branch. absurd (let no : is_cut X ≡ true = ap is_cut (sym branch) ∙ cut in cc);
         },
         omega arith,
       );

@@ -1,5 +1,5 @@
 //! Search for the first plan of the fewest relocations.
-ghost use Rattle.std.specs.Prelude.{◌≡◌, ◌+◌, ◌++◌, length, All, IfOk, IfErr, OnOk, IfSome, IfNone, refl};
+ghost use Rattle.std.specs.Prelude.{◌≡◌, ◌+◌, ◌++◌, length, All, IfOk, IfErr, IfSome, IfNone, refl};
 ghost use Rattle.std.proofs.Common.{ap, sym, subst, ◌∙◌};
 ghost use Rattle.crp_plan.specs.Bay.{IsAt, Position as Place};
 ghost use Rattle.crp_tree.specs.Parts.{IsKeptPart, given_of, cuts_in, branches_in};

@@ -1,9 +1,9 @@
 //! The state of a world, and what each event does to it.
-ghost use Rattle.std.specs.Prelude.{◌≡◌, ℕ, [], ◌∷◌, ◌++◌, ◌+◌, ◌^◌, ◌<◌, ◌≤◌, length, List, IfOk, OnOk, OnErr, IfErr, IfSome, IfNone, IsTrue, IsFalse, ◌↔◌, Contains};
+ghost use Rattle.std.specs.Prelude.{◌≡◌, ℕ, [], ◌∷◌, ◌++◌, ◌+◌, ◌<◌, ◌≤◌, length, List, IfOk, OnOk, OnErr, IfErr, IfSome, IfNone, IsTrue, IsFalse, ◌↔◌, Contains};
 ghost use Rattle.crp_plan.specs.Bay.{IsProblem, Position as Place};
 ghost use Rattle.crp_bay.specs.Positions.{targets};
-ghost use Rattle.crp_steps.specs.Worlds.{World as WorldValue, Worker as WorkerValue, IsWorker, with_worker};
-ghost use Rattle.crp_steps.specs.Events.{words_of, after_words, IsCurrent, MayClose, children, closed_if_dead, value_of};
+ghost use Rattle.crp_steps.specs.Worlds.{World as WorldValue, Worker as WorkerValue, IsWorker};
+ghost use Rattle.crp_steps.specs.Events.{words_of, after_words, MayClose, value_of};
 ghost use Rattle.crp_steps.specs.Events.{Steps, Sees, Takes, Steals, Claims, Puts, Closes, Offers, Finishes, Leads};
 ghost use Rattle.crp_plan.specs.Bay.{cap};
 ghost use Rattle.crp_steps.specs.Worlds.{begin, least_leaf as least_leaf_of};

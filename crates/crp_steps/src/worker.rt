@@ -1,6 +1,5 @@
 //! A worker: what lies in its deque and in its hand, and what it knows.
-ghost use Rattle.std.specs.Prelude.{◌≡◌, ℕ, [], ◌∷◌, ◌++◌, ◌<◌, ◌≤◌, length, List, IfOk, OnOk, OnErr, IfErr, IfSome, IfNone, IsTrue, IsFalse, ◌↔◌, true};
-ghost use Rattle.crp_plan.specs.declared.running.View.{View as Knowledge};
+ghost use Rattle.std.specs.Prelude.{◌≡◌, ℕ, [], ◌∷◌, ◌++◌, ◌<◌, length, List, IfOk, OnOk, OnErr, IfErr, IfSome, IfNone, IsTrue, ◌↔◌, true};
 ghost use Rattle.crp_steps.specs.Worlds.{Worker as WorkerValue, fresh};
 ghost use Rattle.crp_steps.specs.Events.{Takes, Puts, Finishes, children};
 ghost use Rattle.crp_steps.specs.Own.{IsStopped};

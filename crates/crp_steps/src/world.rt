@@ -1,7 +1,6 @@
-ghost use Rattle.std.specs.Prelude.{◌≡◌, ℕ, ◌++◌, ◌∷◌, ◌≤◌, ◌<◌, length, IfOk, OnOk, OnErr, IfErr, IfSome, IsTrue, ◌↔◌, ◌⊎◌};
+ghost use Rattle.std.specs.Prelude.{◌≡◌, ◌≤◌, ◌<◌, IfOk, OnOk, OnErr, IfSome, IsTrue, ◌↔◌};
 ghost use Rattle.std.specs.Option.{option_copied};
 ghost use Rattle.crp_plan.specs.Bay.{cap, IsProblem};
-ghost use Rattle.crp_plan.specs.Plans.{ProblemPath};
 ghost use Rattle.crp_steps.specs.Worlds.{begin, start_of, IsStart, least_leaf as least_leaf_of};
 ghost use Rattle.crp_steps.specs.Events.{Leads, IsNotNow, Comes, Come, ComeInPart};
 ghost use Rattle.crp_steps.specs.Covered.{IsReachedWorld, IsKeptWorld, IsClosedWorld, SomeRefused, ShowsFewest};

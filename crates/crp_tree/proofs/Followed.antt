@@ -88,11 +88,6 @@ pub arrived : (p : Problem) (rows items : List ℕ) (i : ℕ) (s : Position) →
 arrived p rows items i s is same done e =
     at_means p rows s is (sym e ∙ ap (walk s) (drop_all i rows (subst (λ l. length l ≤ i) same done)))
 
--- what is nothing is not something
-pub none_is_not_some : {X : Type 0} (o : Option X) → o ≡ None → IsSome o → ⊥
-none_is_not_some None e s = cc
-none_is_not_some (Some x) e s = cc
-
 -- the row that was put behind a path is taken off again
 pub back_again : (popped full path : List ℕ) (n row : ℕ) → n ≡ length full → full ≡ path ++ row ∷ [] → popped ≡ take (n - 1) full → popped ≡ path
 back_again popped full path n row size e p =

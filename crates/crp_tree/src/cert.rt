@@ -1,4 +1,4 @@
-ghost use Rattle.std.specs.Prelude.{◌≡◌, ◌≤◌, ◌<◌, [], ◌∷◌, AllPairs, IfOk, length};
+ghost use Rattle.std.specs.Prelude.{◌≡◌, ◌<◌, [], ◌∷◌, AllPairs, IfOk, length};
 ghost use Rattle.crp_tree.specs.Names.{Precedes};
 ghost use Rattle.crp_tree.specs.Parts.{IsLeast, IsCertificate, names_of, floors_of};
 

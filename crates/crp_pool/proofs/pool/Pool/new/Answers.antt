@@ -20,3 +20,8 @@ returns-clause-seats c =
     let e = ap (length {A = DequeId}) c.in_ok-seats.ensures.deques in
     rw c.of-known.ensures
     (omega (arith, n, m, k, e, c.in_ok-owners.ensures.0), new_every (map own_deque owns) c.in_ok-seats.seats.items c.args.capacity c.in_ok-seats.ensures.deques c.in_ok-seats.ensures.new (c.in_ok-seats.ensures.numbers ∙ ap (numbers 0) (sym k)))
+
+pub returns-clause-in_order : goal.returns-clause-in_order
+returns-clause-in_order c =
+    let n = same_count c.link_rows.new.owners.items c.in_ok-owners.owners.items c.in_ok-rows.ensures.deques in
+    c.in_ok-seats.ensures.numbers ∙ ap (numbers 0) (n ∙ c.in_ok-owners.ensures.0)
