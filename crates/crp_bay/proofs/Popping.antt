@@ -7,12 +7,12 @@ use Rattle.crp_bay.specs.Positions.{top, without_top, source, stack_at, shifted}
 use Rattle.crp_bay.specs.Reached.{IsReached}
 use Rattle.crp_bay.proofs.Reaching.{reached_settled}
 use Rattle.crp_bay.specs.declared.push.Push.{Push}
-use Rattle.crp_bay.specs.Back.{PlaceAndTrail, place_of, all_back, shift_back, unsettled, undone, rows_before, trail_of}
+use Rattle.crp_bay.specs.Back.{place_of, all_back, shift_back, unsettled, undone, rows_before}
 use Rattle.crp_bay.specs.Located.{IsLocated, IsKeptPosition, AreUndoable, WentBy}
 use Rattle.crp_bay.proofs.Tops.{top_push, length_push, read_same, read_other}
 use Rattle.crp_bay.proofs.Going.{Shifts, shifts}
 use Rattle.crp_bay.proofs.Shifting.{went_unsettled, push_undone}
-use Rattle.crp_bay.proofs.Pushing.{seen, refill_whole}
+use Rattle.crp_bay.proofs.Pushing.{refill_whole}
 
 -- the last push, and what was kept before it
 pub record LastPush (more : List Push) (u : Push) (rows : List ℕ) (s : Position) : Type 0 where

@@ -1,20 +1,18 @@
 -- Positions that paths lead to, and how they go on.
-use Rattle.std.proofs.Common.{◌≡◌, ℕ, zero, suc, ◌+◌, ◌-◌, ◌<◌, ◌≤◌, Bool, true, false, not, ◌==◌, List, [], ◌∷◌, ◌++◌, length, filter, Contains, All, get_or, Some, slice_get, refl, sym, ap, ◌∙◌, subst, ⊎_elim, arith, append-nil}
+use Rattle.std.proofs.Common.{◌≡◌, ℕ, zero, suc, ◌+◌, ◌-◌, ◌<◌, ◌≤◌, Bool, true, false, List, [], ◌∷◌, ◌++◌, length, filter, Contains, All, get_or, refl, sym, ap, ◌∙◌, subst, arith, append-nil}
 use Rattle.std.specs.List.Sorted.{IsStrictlyIncreasing}
 use Rattle.std.proofs.lemmas.List.Elements.{filter-append}
-use Rattle.std.proofs.lemmas.Option.{same_Some}
-use Rattle.std.proofs.lemmas.Bool.{cases_Bool, and_from, both_ways, le-leb, lt-ltb, false_from_ne_true, ne_eqb, not_from_false}
-use Rattle.crp_plan.specs.Rows.{holds, total}
+use Rattle.std.proofs.lemmas.Bool.{false_from_ne_true}
+use Rattle.crp_plan.specs.Rows.{total}
 use Rattle.crp_plan.specs.Bay.{Problem, IsProblem, start, Position, IsSound, IsAt, IsShifted, Runs, IsFinished, IsLegalRow}
 use Rattle.crp_plan.specs.Walks.{NoneToTake, Settles}
 use Rattle.crp_plan.specs.declared.moves.Move.{Move}
 use Rattle.crp_plan.specs.declared.moves.Move.TheVariants.{Shift, Take}
-use Rattle.crp_plan.proofs.Lists.{times_held}
 use Rattle.crp_plan.proofs.Covered.{at_sound}
 use Rattle.crp_plan.proofs.Paths.{same_at}
-use Rattle.crp_plan.proofs.Steps.{at_next, goes_by, heights_kept, same_rows, within}
+use Rattle.crp_plan.proofs.Steps.{at_next, heights_kept, same_rows, within}
 use Rattle.crp_plan.proofs.Tallies.{few_containers}
-use Rattle.crp_bay.specs.Positions.{source, stack_at, settled, can_shift, child, counted, targets}
+use Rattle.crp_bay.specs.Positions.{stack_at, settled, can_shift, child, counted, targets}
 use Rattle.crp_bay.specs.Reached.{IsReached, HasRoom}
 use Rattle.crp_bay.proofs.Members.{from_filter}
 use Rattle.crp_bay.proofs.Walked.{placed, is_place, begins_at, Allows, allows, row_is_target, target_goes_on, every_target, rises}

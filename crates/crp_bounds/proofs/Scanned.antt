@@ -2,7 +2,7 @@
 use Rattle.std.proofs.Common.{◌≡◌, ◌≢◌, ℕ, zero, suc, ◌+◌, ◌-◌, ◌<◌, ◌≤◌, true, false, ◌==◌, max, List, [], ◌∷◌, length, take, drop, get_or, set, Some, slice_get, count_by, nat_lt, refl, sym, ap, ◌∙◌, subst, ⊎_elim, arith, All}
 use Rattle.std.proofs.Math.Seq.{drop-cons}
 use Rattle.std.proofs.lemmas.Bool.{cases_Bool, cases_lt, eqb-true, or_cases}
-use Rattle.std.proofs.lemmas.List.{take-take, get_or-take, length-take, get_or-set_same, get_or-set_other}
+use Rattle.std.proofs.lemmas.List.{get_or-take, length-take, get_or-set_same, get_or-set_other}
 use Rattle.std.proofs.lemmas.Option.{get_or_from_slice_get, same_Some}
 use Rattle.crp_plan.specs.Rows.{holds, occurrences, above, below, FitRows}
 use Rattle.crp_plan.specs.Bay.{Position}

@@ -1,6 +1,6 @@
 //! What to look at after a fault, in plain words: a line for each fault, and the file that could not be read or written.
 ghost use Rattle.std.specs.Prelude.{◌≡◌, Some, option_map};
-ghost use Rattle.crp_commands.specs.Advice.{IsPlainLine, failed_in_file, failed_in_run, failed_words, file_words, place_words, source_words};
+ghost use Rattle.crp_commands.specs.Advice.{IsPlainLine, failed_in_file, failed_in_run, failed_words, place_words, source_words};
 
 use crate::job::{Job, RunFiles};
 use crate::outcome::ToolFault;

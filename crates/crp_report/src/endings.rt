@@ -1,5 +1,5 @@
 //! How the searches of the bays ended together.
-ghost use Rattle.std.specs.Prelude.{◌≡◌, List, count_by};
+ghost use Rattle.std.specs.Prelude.{◌≡◌, List};
 ghost use Rattle.std.specs.List.{list_any};
 ghost use Rattle.crp_report.specs.Answered.{Answered, is_memory, is_budget, is_decided, status_of_all};
 ghost use Rattle.crp_report.specs.Report.{decided};

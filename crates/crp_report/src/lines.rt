@@ -1,5 +1,5 @@
 //! The lines of the report.
-ghost use Rattle.std.specs.Prelude.{◌≡◌, ◌++◌, ◌∷◌, [], IfOk, OnOk, map};
+ghost use Rattle.std.specs.Prelude.{◌≡◌, ◌++◌, IfOk, OnOk, map};
 ghost use Rattle.std.specs.Option.{option_copied};
 ghost use Rattle.crp_report.specs.Answered.{plan_in};
 ghost use Rattle.crp_report.specs.Report.{counts_line, bay_words, upper_words, cause_words, answer_words, answer_line, bays_line, ArePlanLines, MayBePlanLines};

@@ -2,7 +2,7 @@
 ghost use Rattle.std.specs.Prelude.{◌≡◌, ◌≤◌, List, All, map, IfOk, MatchResult};
 ghost use Rattle.std.specs.List.{IsDistinct};
 ghost use Rattle.crp_plan.specs.Devices.{most_interruptions};
-ghost use Rattle.crp_yard.specs.Inventory.{IsYard, Inventory};
+ghost use Rattle.crp_yard.specs.Inventory.{Inventory};
 ghost use Rattle.crp_plan.specs.BayNames.{same_bay};
 ghost use Rattle.crp_yard.specs.After.{IsPlanForBay, IsAfter};
 ghost use Rattle.crp_yard.specs.Text.{yard_text as list_of};

@@ -1,16 +1,15 @@
 -- What a search for the fewest relocations has met so far: nodes, one after the other.
-use Rattle.std.proofs.Common.{◌≡◌, ℕ, ◌+◌, ◌<◌, ◌≤◌, inl, inr, ⊎_elim, true, false, Bool, if◌then◌else◌, List, [], ◌∷◌, ◌++◌, length, All, filter, sym, ap, ◌∙◌, subst, refl, arith, append-nil}
-use Rattle.std.proofs.lemmas.Bool.{cases_lt}
+use Rattle.std.proofs.Common.{◌≡◌, ℕ, ◌+◌, ◌<◌, ◌≤◌, inl, inr, ⊎_elim, true, Bool, List, [], ◌∷◌, length, All, filter, sym, ap, ◌∙◌, refl, arith, append-nil}
 use Rattle.std.proofs.lemmas.List.Elements.{All-nil, All-cons, All-weaker, All-contains}
 use Rattle.crp_plan.specs.Bay.{Problem, Position}
 use Rattle.crp_plan.specs.declared.running.View.{View}
 use Rattle.crp_bounds.specs.Bounds.{blocking}
-use Rattle.crp_tree.specs.Trees.{B, L, X, G, Mark, Node, is_cut, is_branch, cuts, branches, given_names, bound_by, value, least_through, IsInPlace}
+use Rattle.crp_tree.specs.Trees.{B, L, X, G, Mark, Node, is_cut, is_branch, cuts, branches, bound_by, value, IsInPlace}
 use Rattle.crp_bay.proofs.Members.{from_filter}
 use Rattle.crp_tree.proofs.InLine.{from_members}
-use Rattle.crp_search.specs.Limits.{SeesLimit, TriesClaim, ClaimsExpansion, Advances, Dealings}
+use Rattle.crp_search.specs.Limits.{Advances, Dealings}
 use Rattle.crp_search.specs.Meeting.{along_falls}
-use Rattle.crp_search.specs.Searched.{Suffices, NeedsLookAhead, IsBelow, IsHeld, AreHeldAlong, IsShort, PutsMore, IsMet, IsSearchedSoFar}
+use Rattle.crp_search.specs.Searched.{Suffices, NeedsLookAhead, IsBelow, IsHeld, AreHeldAlong, IsShort, IsMet, IsSearchedSoFar}
 
 -- ---- what was met
 

@@ -1,5 +1,5 @@
 -- Two groups make one.
-use Rattle.std.proofs.Common.{length, ◌≡◌, ◌<◌, ◌≤◌, ℕ, ◌+◌, min, Bool, true, false, ◌||◌, ◌&&◌, not, if◌then◌else◌, List, [], ◌∷◌, ◌++◌, All, Option, IfSome, inl, inr, ⊎_elim, sym, refl, ap, ◌∙◌, subst, arith}
+use Rattle.std.proofs.Common.{length, ◌≡◌, ◌≤◌, ℕ, ◌+◌, min, Bool, true, false, ◌||◌, ◌&&◌, not, if◌then◌else◌, List, [], ◌∷◌, ◌++◌, All, Option, IfSome, inl, inr, ⊎_elim, sym, refl, ap, ◌∙◌, subst, arith}
 use Rattle.std.proofs.lemmas.List.Elements.{All-append, All-weaker}
 use Rattle.std.proofs.lemmas.List.Sums.{sum_by-append}
 use Rattle.crp_plan.specs.declared.running.View.{View}
@@ -56,9 +56,9 @@ searched_later p first old new parts seen refused all =
 pub counted_together : (v w : View) (xs ys : List ProblemPart) (ls ms : List PoolSeat) → IsCounted v xs ls → IsCounted w ys ms → IsCounted (view_joined v w) (xs ++ ys) (ls ++ ms)
 counted_together v w xs ys ls ms a b = record {
   grants = (let g = a.grants in let g' = b.grants in omega (arith, sum_by-append (λ (x : ProblemPart). length (branches_in x)) xs ys));
-  takes = λ h. (let t = a.takes h in let t' = b.takes h in omega (arith, takes-append h ls ms, names-append h xs ys));
-  puts = λ h. (let q = a.puts h in let q' = b.puts h in
-      omega (arith, puts-append h ls ms, roots-append h ls ms, given-append h xs ys, weigh-append h (roots (ls ++ ms)) (given_in (xs ++ ys)), weigh-append h (roots ls) (given_in xs), weigh-append h (roots ms) (given_in ys)));
+  takes = λ h. (let t = a.takes h in let t' = b.takes h in
+      omega (arith, takes-append h ls ms, roots-append h ls ms, names-append h xs ys, weigh-append h (roots (ls ++ ms)) (all_takes (ls ++ ms)), weigh-append h (roots ls) (all_takes ls), weigh-append h (roots ms) (all_takes ms)));
+  puts = λ h. (let q = a.puts h in let q' = b.puts h in omega (arith, puts-append h ls ms, given-append h xs ys));
 }
 
 -- the better plan counts for both

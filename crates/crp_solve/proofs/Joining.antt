@@ -9,7 +9,7 @@ use Rattle.crp_pool.specs.Weigh.{weigh, SameNames}
 use Rattle.crp_pool.specs.Deques.{DequeId}
 use Rattle.crp_pool.specs.Seats.{PoolSeat, seat_number, numbers, IsSeatOf, IsEverySeat, all_puts, all_takes}
 use Rattle.crp_pool.proofs.Hands.{weigh-append}
-use Rattle.crp_solve.specs.Groups.{Crew, Keeping, root_at, roots, given_in, place_key, IsGroup, IsUnusedSeat}
+use Rattle.crp_solve.specs.Groups.{Crew, Keeping, root_at, roots, place_key, IsGroup, IsUnusedSeat}
 use Rattle.crp_solve.specs.Rests.{IsDoneUpTo}
 
 -- a name of the root for each place, by its number
@@ -50,8 +50,8 @@ done_with_left keeps of left g best pool puts takes new k ok some every kept put
     record {
       kept = kept;
       grants = (let a = c.grants in let b = new.none_granted in omega arith);
-      taken = λ h. took h ∙ c.takes h;
-      put = λ h. (let a = put h in let b = c.puts h in omega (arith, one_root pool g.places some every h, weigh-append h (roots g.places) (given_in g.parts)));
+      taken = λ h. (let a = took h in let b = c.takes h in omega (arith, one_root pool g.places some every h, weigh-append h (roots g.places) (all_takes g.places)));
+      put = λ h. put h ∙ c.puts h;
     }
 
 -- the same places, of which each is one of the pool

@@ -8,6 +8,8 @@ pub mod Searching
 pub mod Agreeing
 pub mod Grouped
 pub mod Tasks
+pub mod Begun
+pub mod Moved
 pub mod Halves
 pub mod Opened
 pub mod Rested

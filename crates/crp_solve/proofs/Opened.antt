@@ -1,9 +1,10 @@
 -- The workers of a search before they begin.
-use Rattle.std.proofs.Common.{◌≡◌, ◌+◌, List, [], ◌∷◌, ◌++◌, map, All, append_assoc, sym, refl, ap, ◌∙◌, subst, arith}
+use Rattle.std.proofs.Common.{◌≡◌, ℕ, ◌+◌, List, [], ◌∷◌, ◌++◌, map, All, append_assoc, sym, refl, ap, ◌∙◌, subst, arith}
 use Rattle.std.proofs.lemmas.List.{map-append}
 use Rattle.std.proofs.lemmas.List.Elements.{All-append, All-cons, All-nil}
 use Rattle.crp_incumbent.specs.Rule.{view_kept}
 use Rattle.crp_incumbent.specs.Seats.{Shared, Seat, with_view}
+use Rattle.crp_pool.specs.Deques.{DequeId}
 use Rattle.crp_pool.specs.Seats.{PoolSeat}
 use Rattle.crp_solve.specs.Groups.{Crew, keys, all_keys, place_key, shares, IsUnusedSeat}
 
@@ -21,8 +22,10 @@ shares_snoc [] g = omega arith
 shares_snoc (x ∷ gs) g = omega (arith, shares_snoc gs g)
 
 -- the places of one group more
-pub keys_snoc : (gs : List Crew) (g : Crew) (ys : List PoolSeat) (y : PoolSeat) → keys g ≡ place_key y ∷ [] → all_keys gs ≡ map place_key ys → all_keys (gs ++ g ∷ []) ≡ map place_key (ys ++ y ∷ [])
-keys_snoc gs g ys y one before = keys-append gs (g ∷ []) ∙ ap (λ l. l ++ (keys g ++ [])) before ∙ ap (λ l. map place_key ys ++ (l ++ [])) one ∙ sym (map-append place_key ys (y ∷ []))
+pub keys_snoc : (before : List (List DequeId × DequeId × ℕ)) (gs : List Crew) (g : Crew) (ys : List PoolSeat) (y : PoolSeat) → keys g ≡ place_key y ∷ [] → all_keys gs ≡ before ++ map place_key ys →
+    all_keys (gs ++ g ∷ []) ≡ before ++ map place_key (ys ++ y ∷ [])
+keys_snoc before gs g ys y one so_far =
+    keys-append gs (g ∷ []) ∙ ap (λ l. l ++ (keys g ++ [])) so_far ∙ ap (λ l. (before ++ map place_key ys) ++ (l ++ [])) one ∙ append_assoc before (map place_key ys) (place_key y ∷ []) ∙ ap (λ l. before ++ l) (sym (map-append place_key ys (y ∷ [])))
 
 -- one group more is at the words
 pub words_snoc : (of : Shared) (gs : List Crew) (g : Crew) → g.of ≡ of → All (λ x. x.of ≡ of) gs → All (λ x. x.of ≡ of) (gs ++ g ∷ [])

@@ -9,22 +9,22 @@ use Rattle.crp_search.specs.Limits.{Advances}
 use Rattle.crp_search.specs.Searched.{IsBelow}
 use Rattle.crp_incumbent.specs.Seats.{Shared}
 use Rattle.crp_pool.specs.Weigh.{weigh, SameNames}
-use Rattle.crp_pool.specs.Seats.{PoolSeat, SameSeat}
+use Rattle.crp_pool.specs.Seats.{PoolSeat, SameSeat, all_takes}
 use Rattle.crp_pool.proofs.Hands.{weigh-append}
 use Rattle.crp_solve.specs.Searches.{IsSearched}
 use Rattle.crp_solve.specs.Desks.{Fixed, fixed_at, KeepsPlan, IsCountedPart, IsFoundPart}
-use Rattle.crp_solve.specs.Groups.{Crew, Keeping, with_part, root_at, roots, given_in, IsCounted, IsKeptSoFar, IsGroup}
+use Rattle.crp_solve.specs.Groups.{Crew, Keeping, with_part, root_at, roots, IsCounted, IsKeptSoFar, IsGroup}
 use Rattle.crp_solve.proofs.Grouped.{takes-append, puts-append, roots-append, given-append, names-append, searched_later}
 
 -- what stays of a place
-same_number : (r s : PoolSeat) → fixed_at (Some s) ≡ fixed_at (Some r) → s.number ≡ r.number
+pub same_number : (r s : PoolSeat) → fixed_at (Some s) ≡ fixed_at (Some r) → s.number ≡ r.number
 same_number r s e = ap (λ (o : Option Fixed). number_of o) e
   where
     number_of : Option Fixed → ℕ
     number_of (Some f) = f.number
     number_of _ = 0
 
-same_takes : (r s : PoolSeat) → fixed_at (Some s) ≡ fixed_at (Some r) → s.takes ≡ r.takes
+pub same_takes : (r s : PoolSeat) → fixed_at (Some s) ≡ fixed_at (Some r) → s.takes ≡ r.takes
 same_takes r s e = ap (λ (o : Option Fixed). takes_of o) e
   where
     takes_of : Option Fixed → List (List ℕ)
@@ -45,26 +45,25 @@ counted_more v w xs x ls q r s name k t grants = record {
   grants = (let g = k.grants in omega (arith, sum_by-append (λ (y : ProblemPart). length (branches_in y)) xs (x ∷ []), sum_by-cons (λ (y : ProblemPart). length (branches_in y)) x []));
   takes = λ h. (
       let a = k.takes h in let b = t.takes h in let e : h x.name ≡ h name = ap h t.name_is in
-      omega (arith, takes-append h ls (q ∷ []), takes-append h ls (s ∷ []), names-append h xs (x ∷ []), weigh-append h q.takes [], weigh-append h s.takes [], weigh-append h q.takes (name ∷ [])));
-  puts = λ h. (
-      let a = k.puts h in let b : weigh h s.puts ≡ weigh h (q.puts ++ given_of x) = ap (weigh h) t.puts in
       let c : weigh h (root_at s) ≡ weigh h (root_at q) = ap (λ (n : ℕ). weigh h (root_at (record q { number = n }))) t.number in
       omega (
         arith,
-        puts-append h ls (q ∷ []),
-        puts-append h ls (s ∷ []),
+        takes-append h ls (q ∷ []),
+        takes-append h ls (s ∷ []),
         roots-append h ls (q ∷ []),
         roots-append h ls (s ∷ []),
-        given-append h xs (x ∷ []),
-        weigh-append h q.puts [],
-        weigh-append h s.puts [],
-        weigh-append h q.puts (given_of x),
+        names-append h xs (x ∷ []),
+        weigh-append h q.takes [],
+        weigh-append h s.takes [],
+        weigh-append h q.takes (name ∷ []),
         weigh-append h (root_at q) [],
         weigh-append h (root_at s) [],
-        weigh-append h (given_of x) [],
-        weigh-append h (roots (ls ++ q ∷ [])) (given_in xs),
-        weigh-append h (roots (ls ++ s ∷ [])) (given_in (xs ++ x ∷ [])),
+        weigh-append h (roots (ls ++ q ∷ [])) (all_takes (ls ++ q ∷ [])),
+        weigh-append h (roots (ls ++ s ∷ [])) (all_takes (ls ++ s ∷ [])),
       ));
+  puts = λ h. (
+      let a = k.puts h in let b : weigh h s.puts ≡ weigh h (q.puts ++ given_of x) = ap (weigh h) t.puts in
+      omega (arith, puts-append h ls (q ∷ []), puts-append h ls (s ∷ []), given-append h xs (x ∷ []), weigh-append h q.puts [], weigh-append h s.puts [], weigh-append h q.puts (given_of x), weigh-append h (given_of x) []));
 }
 
 took : (q r s : PoolSeat) (v w : View) (name : List ℕ) (x : ProblemPart) → SameSeat q r → r.puts ≡ q.puts → SameNames r.takes (q.takes ++ name ∷ []) → fixed_at (Some s) ≡ fixed_at (Some r) →

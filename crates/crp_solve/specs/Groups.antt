@@ -1,5 +1,6 @@
 -- The state of one worker of a search or several, and what it keeps, so that one thread hands it to another.
-use Rattle.std.specs.Prelude.{◌≡◌, ℕ, ◌+◌, ◌<◌, ◌≤◌, length, Bool, false, ◌==◌, if◌then◌else◌, List, [], ◌∷◌, ◌++◌, map, flat_map, All, Option, Some, None}
+use Rattle.std.specs.Prelude.{◌≡◌, ℕ, ◌+◌, ◌<◌, ◌≤◌, length, Bool, false, ◌==◌, if◌then◌else◌, List, [], ◌∷◌, ◌++◌, map, flat_map, All, Option, Some, None, Vec, vec_len, vec_capacity}
+use Rattle.std.specs.declared.alloc.Global.{Global}
 use Rattle.crp_plan.specs.declared.running.View.{View}
 use Rattle.crp_plan.specs.Plans.{ProblemPath}
 use Rattle.crp_tree.specs.Parts.{ProblemPart, given_of, names_of}
@@ -8,7 +9,7 @@ use Rattle.crp_incumbent.specs.Rule.{view_joined}
 use Rattle.crp_incumbent.specs.Seats.{Shared, Seat}
 use Rattle.crp_pool.specs.Weigh.{SameNames}
 use Rattle.crp_pool.specs.Deques.{DequeId}
-use Rattle.crp_pool.specs.Seats.{PoolSeat, all_puts, all_takes}
+use Rattle.crp_pool.specs.Seats.{PoolSeat, seat_number, numbers, IsEverySeat, all_puts, all_takes}
 use Rattle.crp_gather.specs.Settled.{branches_in_all}
 use Rattle.crp_solve.specs.Searches.{IsSearched}
 use Rattle.crp_solve.specs.Desks.{KeepsPlan}
@@ -23,7 +24,7 @@ pub record Crew : Type 0 where
   pub places : List PoolSeat
   pub short : Bool
 
--- the name of the whole search is put at the first place of a pool
+-- the part of the root was searched by the worker at the first place of a pool
 abbrev pub root_at : PoolSeat → List (List ℕ)
 root_at place = if place.number == 0 then [] ∷ [] else []
 
@@ -35,11 +36,11 @@ roots (place ∷ places) = root_at place ++ roots places
 abbrev pub given_in : List ProblemPart → List (List ℕ)
 given_in parts = flat_map given_of parts
 
--- each claim that was granted is a branch of a part, each name that was taken is a part's, and each that was put is one that a part gives, or the root's
+-- each claim that was granted is a branch of a part, each name that was taken is a part's, as the root's, and each that was put is one that a part gives
 pub record IsCounted (view : View) (parts : List ProblemPart) (places : List PoolSeat) : Type 0 where
   pub grants : view.granted ≡ branches_in_all parts
-  pub takes : SameNames (all_takes places) (names_of parts)
-  pub puts : SameNames (all_puts places) (roots places ++ given_in parts)
+  pub takes : SameNames (roots places ++ all_takes places) (names_of parts)
+  pub puts : SameNames (all_puts places) (given_in parts)
 
 -- what workers keep of their plan and of the parts that they searched, by what they know of their words
 abbrev pub Keeping : Type 1
@@ -119,10 +120,25 @@ pub record IsUnusedSeat (of : Shared) (seat : Seat) : Type 0 where
   pub mine : seat.view.mine ≡ of.key.start
   pub seen : seat.view.seen ≤ of.key.start
 
--- each place has a group, with a share of the seat; the rest of the shares is left
-pub record AreSeated (of : Shared) (seat : Seat) (places : List PoolSeat) (left : Seat) (groups : List Crew) : Type 0 where
+-- a list that is empty, with room for a place
+abbrev pub IsRoom : Vec PoolSeat Global → Type 0
+IsRoom room = (room.items ≡ []) × (vec_len room < vec_capacity room)
+
+-- what so many workers need before they begin: an unused place of a pool for each, by their numbers, and lists with room for their places and states
+pub record IsRoomFor (count : ℕ) (pool : List DequeId) (places : List PoolSeat) (lists : List (Vec PoolSeat Global)) (groups : Vec Crew Global) : Type 0 where
+  pub every : IsEverySeat pool places
+  pub count_is : length places ≡ count
+  pub unused : All IsUnused places
+  pub by_number : map seat_number places ≡ numbers 0 count
+  pub each : length lists ≡ count
+  pub lists_are : All IsRoom lists
+  pub none_yet : groups.items ≡ []
+  pub room : vec_capacity groups ≡ count
+
+-- each of these places has a group more, with a share of the seat; the rest of the shares is left
+pub record AreSeated (of : Shared) (seat : Seat) (places : List PoolSeat) (before : List Crew) (left : Seat) (groups : List Crew) : Type 0 where
   pub left_new : IsUnusedSeat of left
   pub words : All (λ g. g.of ≡ of) groups
-  pub count : length groups ≡ length places
-  pub share : left.view.share + shares groups ≡ seat.view.share
-  pub keys_are : all_keys groups ≡ map place_key places
+  pub count : length groups ≡ length before + length places
+  pub share : left.view.share + shares groups ≡ seat.view.share + shares before
+  pub keys_are : all_keys groups ≡ all_keys before ++ map place_key places

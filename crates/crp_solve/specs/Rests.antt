@@ -14,12 +14,12 @@ use Rattle.crp_solve.specs.Desks.{count_or}
 use Rattle.crp_gather.specs.Settled.{branches_in_all}
 use Rattle.crp_solve.specs.Groups.{Keeping, given_in}
 
--- the plan and the parts are kept, and the parts are counted: they are those of the names that were taken, and the names that were put are the root's and those that they give
+-- the plan and the parts are kept, and the parts are counted: they are those of the root and of the names that were taken, and the names that were put are those that they give
 pub record IsDoneUpTo (keeps : Keeping) (of : Shared) (view : View) (plan : Option ProblemPath) (parts : List ProblemPart) (puts takes : List (List ℕ)) : Type 0 where
   pub kept : keeps of view plan parts
   pub grants : view.granted ≡ branches_in_all parts
-  pub taken : SameNames takes (names_of parts)
-  pub put : SameNames puts ([] ∷ given_in parts)
+  pub taken : SameNames ([] ∷ takes) (names_of parts)
+  pub put : SameNames puts (given_in parts)
 
 -- nothing is left: the names of the parts are the root's and those that they give, each as often
 pub record IsAllDone (view : View) (parts : List ProblemPart) : Type 0 where

@@ -1,10 +1,10 @@
 //! What all workers of a search have in common.
+use crate::open_work::OpenWork;
 use crp_incumbent::{Board, Shared};
 use crp_plan::Problem;
 use crp_tree::Name;
 use std::alloc::Global;
 use std::marker::Model;
-use std::sync::atomic::AtomicU64;
 
 /// Asked before each part is searched.
 pub trait Gate {
@@ -34,8 +34,7 @@ pub struct Common {
     pub(crate) alloc: Global,
     pub(crate) problem: Problem,
     pub(crate) shared: Shared,
-    /// How many names were put and not searched. Nothing rests on it but that idle workers end.
-    pub(crate) open: AtomicU64,
+    pub(crate) open: OpenWork,
     /// The limit that the search began with.
     pub(crate) first: u32,
     pub(crate) split: u8,

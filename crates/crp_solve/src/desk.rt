@@ -9,6 +9,7 @@ ghost use Rattle.crp_solve.specs.Firsts.{IsPlanOfCount, IsSearchedFirst};
 
 use crate::aim::Searched;
 use crate::common::{Common, Gate, Outside};
+use crate::open_work::OpenWork;
 use crp_incumbent::{Board, Seat, Shared};
 use crp_plan::Plan;
 use crp_pool::PoolSeat;
@@ -16,7 +17,6 @@ use crp_search::{FirstPart, Limit, search, search_first};
 use crp_tree::Name;
 use std::marker::{Brand, Model, PhantomData};
 use std::sync::Wait;
-use std::sync::atomic::{AtomicU64, Ordering};
 
 /// The words that a desk was opened with, and its place.
 trait Opened {
@@ -43,7 +43,7 @@ struct Desk<'a, R, K: Opened> {
     rt: &'a R,
     board: &'a Board,
     shared: &'a Shared,
-    open: &'a AtomicU64,
+    open: &'a OpenWork,
     first: u32,
     seat: Seat,
     best: Option<Plan>,
@@ -104,11 +104,14 @@ impl<'a, R: Wait, K: Opened> Limit for Desk<'a, R, K> {
         let Some(place) = &mut self.place else {
             return Err(name);
         };
-        self.open.fetch_add(1, Ordering::SeqCst);
+        self.open.begin_put();
         match place.put(name) {
-            Ok(()) => Ok(()),
+            Ok(()) => {
+                self.open.end_put();
+                Ok(())
+            }
             Err(name) => {
-                self.open.fetch_sub(1, Ordering::SeqCst);
+                self.open.close_one();
                 Err(name)
             }
         }

@@ -1,30 +1,29 @@
 //! Many workers on one problem.
 ghost use Rattle.std.specs.Prelude.{◌≡◌, ◌+◌, ◌<◌, ◌≤◌, false, length, None, [], IfSome, IfOk, IfErr};
 ghost use Rattle.crp_incumbent.specs.Seats.{Shared as Words, Seat as Place};
-ghost use Rattle.crp_pool.specs.Seats.{IsEverySeat};
+ghost use Rattle.crp_pool.specs.Seats.{IsEverySeat, all_takes};
 ghost use Rattle.crp_solve.specs.Groups.{IsUnusedSeat};
 ghost use Rattle.crp_solve.specs.Answers.{IsFirstLimit};
 ghost use Rattle.crp_solve.specs.Rests.{IsAllDone, AreDone, IsFoundTogether};
 
 use crate::aim::Aim;
+use crate::beginning::begun;
 use crate::common::{Common, Gate, Outside};
 use crate::ending::{Together, ended};
 use crate::fewest::Fewest;
 use crate::group::Crew;
-use crate::opening::groups_of;
+use crate::open_work::OpenWork;
+use crate::opening::{CAPACITY, Room, joined};
 use crate::resting::{Done, search_rest};
 use crate::running::run_all;
 use crate::settings::Settings;
+use crate::working::work;
 use crp_incumbent::{Board, Seat, Shared};
 use crp_plan::Problem;
 use crp_pool::Pool;
 use std::alloc::Global;
 use std::sync::Wait;
-use std::sync::atomic::AtomicU64;
 use std::thread::Threads;
-
-/// How many names each worker's deque holds.
-const CAPACITY: usize = 64;
 
 /// The state of all workers, with the rest of the shares and what was left in the pool.
 fn put_together<R: Wait, G: Gate, A: Aim>(
@@ -63,7 +62,51 @@ fn put_together<R: Wait, G: Gate, A: Aim>(
     search_rest::<R, G, A>(outside, common, done, pool.finish(places))
 }
 
+/// How many workers are of use, of so many at most, where so many names wait: no more than names may wait in the end.
+fn useful(names: u64, split: u8, most: u32) -> usize
+    ensures { result ≤ most }
+{
+    let last = names.checked_pow(u32::from(split)).unwrap_or(u64::MAX);
+    last.min(u64::from(most)) as usize
+}
+
+/// The first worker goes on, and others with it where names wait for them: what is left of the seat, the pool, and the state of all.
+/// Where there is no memory for others, it goes on alone.
+fn work_on<R: Threads + Wait + Sync, G: Gate + Sync, A: Aim + Send>(
+    outside: &Outside<R, G>,
+    common: &Common,
+    most: u32,
+    left: Seat,
+    pool: Pool,
+    first: Crew<A>,
+) -> (Seat, Pool, Crew<A>)
+    requires most { most ≤ 64 }
+    requires words { first.of ≡ common.now.of }
+    requires left { IsUnusedSeat common.now.of left }
+    requires shares { left.view.share ≡ 64 }
+    requires begins { (new : Place) → IsUnusedSeat common.now.of new → A.keeps common.now.of new.view None [] }
+    requires places { IsEverySeat pool first.places × (0 < length pool) }
+    requires none_taken { all_takes first.places ≡ [] }
+    ensures left { IsUnusedSeat common.now.of result.0 }
+    ensures words { result.2.of ≡ common.now.of }
+    ensures share { result.0.view.share + result.2.view.share ≡ left.view.share + first.view.share }
+    ensures places { result.2.short ≡ false → IsEverySeat result.1 result.2.places × (0 < length result.1) }
+{
+    let count = useful(common.open.names(), common.split, most);
+    if first.short || count < 2 {
+        return (left, pool, work(outside, common, 0, first));
+    }
+    let Ok(room) = Room::new(common.alloc, count) else {
+        return (left, pool, work(outside, common, 0, first));
+    };
+    let (left, pool, groups) = joined(outside.rt, common, room, left, pool, first);
+    let all = run_all(outside.rt, outside.gate, outside.board, common, 0, groups);
+    (left, pool, all)
+}
+
 /// Searches the problem with many workers, which begin with the limit `first`: their words, and what they did.
+///
+/// The calling thread searches the part of the root before any other begins.
 pub(crate) fn work_together<R: Threads + Wait + Sync, G: Gate + Sync, A: Aim + Send>(
     rt: &R,
     alloc: Global,
@@ -81,22 +124,25 @@ pub(crate) fn work_together<R: Threads + Wait + Sync, G: Gate + Sync, A: Aim + S
     let Ok((shared, seat)) = Shared::open(alloc, problem, first, settings.budget()) else {
         return None;
     };
-    let Ok((pool, places)) = Pool::new(alloc, settings.workers() as usize, CAPACITY) else {
-        return None;
+    let Ok((left, given)) = shared.split(seat) else {
+        unreachable!()
     };
-    let Ok((left, groups)) = groups_of::<A>(alloc, &shared, seat, places) else {
+    let Ok((pool, places)) = Pool::new(alloc, 1, CAPACITY) else {
         return None;
     };
     let common = Common {
         alloc,
         problem: known,
         shared,
-        open: AtomicU64::new(1),
+        open: OpenWork::new(),
         first,
         split: settings.split(),
     };
-    let all = run_all(rt, gate, board, &common, 0, groups);
     let outside = Outside { rt, gate, board };
+    let Ok(begun) = begun::<R, G, A>(&outside, &common, given, places) else {
+        return None;
+    };
+    let (left, pool, all) = work_on(&outside, &common, settings.workers(), left, pool, begun);
     let done = put_together(&outside, &common, pool, left, all);
     let Common {
         alloc: _,

@@ -1,5 +1,5 @@
 //! A check of certificates that never end.
-ghost use Rattle.std.specs.Prelude.{◌<◌, None, length};
+ghost use Rattle.std.specs.Prelude.{◌<◌, None};
 
 use crate::calls::check;
 use crate::compare::assert_same;

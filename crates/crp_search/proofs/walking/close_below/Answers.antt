@@ -1,11 +1,10 @@
-use Rattle.std.proofs.Common.{◌≡◌, ◌<◌, ◌≤◌, ⊎_elim, sym, ap, subst, refl, arith}
+use Rattle.std.proofs.Common.{◌≡◌, ◌<◌, ◌≤◌, ⊎_elim, sym, subst, refl, arith}
 use Rattle.std.proofs.lemmas.Bool.{cases_lt}
 use Rattle.crp_plan.specs.Bay.{IsFinished}
-use Rattle.crp_plan.specs.Plans.{ProblemPath}
 use Rattle.crp_plan.proofs.Steps.{short_path}
 use Rattle.crp_bay.specs.Back.{PlaceAndTrail}
 use Rattle.crp_bounds.specs.Bounds.{blocking, look_ahead}
-use Rattle.crp_tree.specs.Trees.{B, L, X, Node}
+use Rattle.crp_tree.specs.Trees.{B, L, X}
 use Rattle.crp_search.specs.Limits.{dealt}
 use Rattle.crp_search.proofs.Greedily.{complete, unfinished}
 use Rattle.crp_search.proofs.SoFar.{met_branch}

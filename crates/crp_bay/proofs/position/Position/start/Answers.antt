@@ -1,7 +1,7 @@
 use Rattle.std.proofs.Common.{◌≡◌, ◌≤◌, [], length, sym, ap, ◌∙◌, subst, arith}
 use Rattle.std.specs.List.{refill}
 use Rattle.crp_plan.specs.Rows.{occurrences}
-use Rattle.crp_plan.specs.Bay.{Problem, Position, IsAt, start}
+use Rattle.crp_plan.specs.Bay.{Problem, IsAt, start}
 use Rattle.crp_plan.proofs.Steps.{same_rows}
 use Rattle.crp_plan.proofs.Tallies.{few_containers}
 use Rattle.crp_bay.specs.Positions.{settled}

@@ -1,0 +1,66 @@
+//! The first worker of a search, which searches the part of the root before any other begins.
+ghost use Rattle.std.specs.Prelude.{◌≡◌, ◌<◌, ◌∷◌, [], All, map, IfOk, None, is_some, vec_len, vec_capacity};
+ghost use Rattle.crp_pool.specs.Seats.{seat_number, all_takes};
+ghost use Rattle.crp_solve.specs.Groups.{IsUnused, IsUnusedSeat, with_part, place_key, keys};
+
+use crate::aim::{Aim, Searched};
+use crate::common::{Common, Gate, Outside};
+use crate::group::Crew;
+use crp_incumbent::Seat;
+use crp_pool::PoolSeat;
+use crp_tree::{Name, Part};
+use std::alloc::AllocError;
+use std::marker::PhantomData;
+use std::sync::Wait;
+
+/// Keeps the part, if one was found, and answers whether one was.
+fn keep_found(parts: &mut Vec<Part>, part: Option<Part>) -> bool
+    requires { vec_len parts.old < vec_capacity parts.old }
+    ensures parts { parts.new.items ≡ with_part parts.old.items part }
+    ensures found { result ≡ is_some part }
+{
+    let Some(part) = part else {
+        return false;
+    };
+    parts.push_reserved(part);
+    true
+}
+
+/// The worker with this seat and the only place of a pool, after it searched the part of the root. It is marked where that is lost.
+pub(crate) fn begun<R: Wait, G: Gate, A: Aim>(
+    outside: &Outside<R, G>,
+    common: &Common,
+    seat: Seat,
+    mut places: Vec<PoolSeat>,
+) -> Result<Crew<A>, AllocError>
+    requires seat { IsUnusedSeat common.now.of seat }
+    requires kept { A.keeps common.now.of seat.view None [] }
+    requires first { map seat_number places.items ≡ 0 ∷ [] }
+    requires places { All IsUnused places.items }
+    ensures of { IfOk result (λ worker. worker.of ≡ common.now.of) }
+    ensures share { IfOk result (λ worker. worker.view.share ≡ seat.view.share) }
+    ensures places { IfOk result (λ worker. keys worker ≡ map place_key places.items) }
+    ensures none_taken { IfOk result (λ worker. all_takes worker.places ≡ []) }
+{
+    let mut parts = Vec::with_capacity(common.alloc, 1)?;
+    let Some(place) = places.pop() else {
+        unreachable!()
+    };
+    let Searched {
+        part,
+        seat,
+        best,
+        place,
+    } = A::search_part(outside, common, 0, Name::root(), seat, None, Some(place));
+    common.open.close_one();
+    places.push_reserved(place.unwrap());
+    let found = keep_found(&mut parts, part);
+    Ok(Crew {
+        seat,
+        best,
+        parts,
+        places,
+        short: !found,
+        aim: PhantomData,
+    })
+}

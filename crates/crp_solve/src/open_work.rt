@@ -1,0 +1,73 @@
+//! How much work of a search is open. Nothing rests on it but that idle workers sleep, wake and end.
+use std::sync::Wait;
+use std::sync::atomic::{AtomicBool, AtomicU64, Ordering};
+use std::thread;
+use std::time::Duration;
+
+/// How often an idle worker looks again at once, before it sleeps.
+const LOOKS: u64 = 16;
+
+/// The longest sleep of an idle worker, in microseconds.
+const MAX_SLEEP: u64 = 1000;
+
+/// The names that were put and not searched yet, and whether a part was lost.
+#[derive(Drop)]
+pub(crate) struct OpenWork {
+    names: AtomicU64,
+    lost: AtomicBool,
+}
+
+impl OpenWork {
+    /// One name is open, that of the whole search.
+    pub(crate) fn new() -> OpenWork {
+        OpenWork {
+            names: AtomicU64::new(1),
+            lost: AtomicBool::new(false),
+        }
+    }
+
+    /// How many names are open.
+    pub(crate) fn names(&self) -> u64 {
+        self.names.load(Ordering::SeqCst)
+    }
+
+    /// Counts a name that is about to be put.
+    pub(crate) fn begin_put(&self) {
+        self.names.fetch_add(1, Ordering::SeqCst);
+    }
+
+    /// The name was put, and a worker that sleeps may take it.
+    pub(crate) fn end_put(&self) {
+        self.names.wake_one();
+    }
+
+    /// A name was searched, or was not put. After the last one no worker sleeps any more.
+    pub(crate) fn close_one(&self) {
+        if self.names.fetch_sub(1, Ordering::SeqCst) == 1 {
+            self.names.wake_all();
+        }
+    }
+
+    /// A part was lost: every worker ends at its next task.
+    pub(crate) fn lose(&self) {
+        self.lost.store(true, Ordering::SeqCst);
+        self.names.wake_all();
+    }
+
+    /// Whether workers end, since no name is open or a part was lost.
+    pub(crate) fn is_over(&self) -> bool {
+        self.lost.load(Ordering::SeqCst) || self.names() == 0
+    }
+
+    /// An idle worker waits, which has waited so many times before in a row, and saw so many open names before it found none: at
+    /// first for its next turn, then asleep until another number is open or a name is put, and longer each time.
+    pub(crate) fn wait<R: Wait>(&self, rt: &R, seen: u64, times: u64) {
+        if times < LOOKS {
+            thread::yield_now();
+        } else {
+            let sleep = Duration::from_micros(times.min(MAX_SLEEP));
+            self.names
+                .park_timeout(rt, (seen & 0xffff_ffff) as u32, sleep);
+        }
+    }
+}
