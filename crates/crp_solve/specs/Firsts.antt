@@ -38,6 +38,12 @@ IsNoLater plan None = ⊤
 IsNoLater None (Some other) = ⊥
 IsNoLater (Some plan) (Some other) = (plan.path ≡ other.path) ⊎ Precedes plan.path other.path
 
+-- it is one of the two, and no later than either
+pub record IsEarlier (plan other earlier : Option ProblemPath) : Type 0 where
+  pub one : (earlier ≡ plan) ⊎ (earlier ≡ other)
+  pub mine : IsNoLater earlier plan
+  pub others : IsNoLater earlier other
+
 -- the first best plan, of k relocations, with a certificate in which each cut meets its need; each branch of that was expanded
 pub record IsFoundFirst (p : Problem) (budget k : ℕ) (plan : ProblemPath) (cert : Certificate) (expanded : ℕ) : Type 0 where
   pub plan_is : IsPlanOfCount p k plan

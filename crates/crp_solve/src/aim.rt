@@ -27,9 +27,13 @@ pub trait Aim: Drop {
     /// What workers at these words keep of their plan and of the parts that they searched.
     ghost keeps: { Shared → View → Option ProblemPath → List ProblemPart → Type 0 };
 
+    /// Which of two plans is the better one.
+    ghost better: { Option ProblemPath → Option ProblemPath → Option ProblemPath → Type 0 };
+
     /// The better of two plans.
     fn better_of(plan: Option<Plan>, other: Option<Plan>) -> Option<Plan>
-        ensures { IsBetterOf keeps plan other result };
+        ensures better { better plan other result }
+        ensures kept { IsBetterOf keeps plan other result };
 
     /// Searches the part of the name, with this seat, the plan that is kept with it, and a place where names may be put.
     fn search_part<R: Wait, G: Gate>(

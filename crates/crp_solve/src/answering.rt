@@ -5,7 +5,7 @@ ghost use Rattle.crp_plan.specs.Bay.{IsProblem, start, cap};
 ghost use Rattle.crp_bay.specs.Positions.{settled};
 ghost use Rattle.crp_bounds.specs.Bounds.{look_ahead as look_ahead_bound};
 ghost use Rattle.crp_tree.specs.Parts.{given_of, IsKeptPart};
-ghost use Rattle.crp_solve.specs.Answers.{path_in, cert_of, count_of as count_or_cap, IsCut, IsTrueAnswer, IsOfFirstPart, HasNoSecond};
+ghost use Rattle.crp_solve.specs.Answers.{path_in, cert_of, count_of as count_or_cap, IsCut, IsTrueAnswer, IsOfFirstPart, IsOutOfMemory, HasNoSecond};
 ghost use Rattle.crp_solve.specs.Searches.{IsBestMet, IsEndedSearch};
 
 use crate::answer::{Answer, Cause, Second, Solved};
@@ -74,6 +74,7 @@ pub fn answer_without_memory(
 ) -> Result<Answer, AllocError>
     ensures one_part { IfOk result (λ answer. length (cert_of answer).parts ≡ 1) }
     ensures first_part { IfOk result IsOfFirstPart }
+    ensures out_of_memory { IfOk result (IsOutOfMemory best) }
     ensures true_answer { IfOk result
         (λ answer. (budget first expanded : ℕ) → IsBestMet problem.now first best → expanded ≤ budget → IsTrueAnswer problem.now budget answer expanded) }
 {

@@ -1,7 +1,7 @@
 //! The search for the first best plan: its workers keep the first of the plans that they met.
 ghost use Rattle.std.specs.Prelude.{ℕ, IfSome};
 ghost use Rattle.crp_plan.specs.Bay.{Problem as Statement};
-ghost use Rattle.crp_solve.specs.Firsts.{IsPlanOfCount, IsNoLater};
+ghost use Rattle.crp_solve.specs.Firsts.{IsPlanOfCount, IsEarlier};
 
 use crate::aim::{Aim, Searched};
 use crate::common::{Common, Gate, Outside};
@@ -18,8 +18,7 @@ pub(crate) struct FirstBest;
 
 /// The first of two plans, by their paths.
 pub(crate) fn earlier_of(plan: Option<Plan>, other: Option<Plan>) -> Option<Plan>
-    ensures mine { IsNoLater result plan }
-    ensures others { IsNoLater result other }
+    ensures earlier { IsEarlier plan other result }
     ensures plan { (p : Statement) (count : ℕ) → IfSome plan (IsPlanOfCount p count) → IfSome other (IsPlanOfCount p count)
         → IfSome result (IsPlanOfCount p count) }
 {
@@ -37,9 +36,11 @@ pub(crate) fn earlier_of(plan: Option<Plan>, other: Option<Plan>) -> Option<Plan
 }
 
 impl Aim for FirstBest {
-    ghost use Rattle.crp_solve.specs.Firsts.{IsKeptFirst};
+    ghost use Rattle.crp_solve.specs.Firsts.{IsKeptFirst, IsEarlier};
 
     ghost keeps = { IsKeptFirst };
+
+    ghost better = { IsEarlier };
 
     fn better_of(plan: Option<Plan>, other: Option<Plan>) -> Option<Plan> {
         earlier_of(plan, other)

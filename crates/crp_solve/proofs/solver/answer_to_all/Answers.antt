@@ -2,6 +2,8 @@ use Rattle.std.proofs.Common.{◌≤◌, refl, sym, ◌∙◌, ap, subst, IfOk, 
 use Rattle.crp_solve.specs.Answers.{path_in}
 use Rattle.crp_solve.specs.Desks.{count_or}
 use Rattle.crp_solve.specs.Rests.{IsFoundTogether}
+use Rattle.crp_solve.specs.Searches.{IsBestMet}
+use Rattle.crp_solve.proofs.Limits.{shorter_met}
 use Rattle.crp_solve.proofs.TrueAnswers.{same_answer}
 use Rattle.crp_solve.proofs.solver.answer_to_all.Goals as goal
 
@@ -18,5 +20,5 @@ pub returns-in_ok-answer-in-Err-clause-true_answer : goal.returns-in_ok-answer-i
 returns-in_ok-answer-in-Err-clause-true_answer c budget first begun shown found within =
     let out = c.without_second-in-Err.ensures in
     same_answer c.args.problem.now budget budget c.in_ok-answer-in-Err.answer c.without_second-in-Err.result.answer c.in-Err.expanded c.without_second-in-Err.result.expanded refl (sym out.answer) (sym out.expanded)
-    (c.in_ok-answer-in-Err.ensures.true_answer budget first c.in-Err.expanded (c.best_known.ensures c.args.problem.now first begun shown)
+    (c.in_ok-answer-in-Err.ensures.true_answer budget first c.in-Err.expanded (subst (IsBestMet c.args.problem.now first) (sym c.shorter_of.ensures.shorter) (shorter_met c.args.problem.now first c.args.shown c.args.greedy begun shown))
     (subst (λ o. IfErr o (λ expanded. expanded ≤ budget)) c.in-Err.is within))

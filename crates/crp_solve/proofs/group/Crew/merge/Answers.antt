@@ -11,7 +11,7 @@ invariant_of-result g c =
     let also = subst (λ o. keeps o other.view others.best others.parts.items) same c.other.invariant.kept in
     merged keeps _ _ _ c.append-parts_fit.result c.append-places_fit.result c.self.invariant c.other.invariant
     (ap (λ (s : Seat). s.of) c.join.ensures) (ap (λ (s : Seat). s.view) c.join.ensures)
-    (c.better_of.ensures.both seat.of seat.view other.view mine.parts.items others.parts.items kept also)
-    (c.better_of.ensures.mine seat.of seat.view other.view mine.parts.items others.parts.items kept also)
+    (c.better_of.ensures.kept.both seat.of seat.view other.view mine.parts.items others.parts.items kept also)
+    (c.better_of.ensures.kept.mine seat.of seat.view other.view mine.parts.items others.parts.items kept also)
     c.append-parts_fit.ensures c.append-places_fit.ensures
     (not_short mine.short others.short c.append-parts_fit.result c.append-places_fit.result)
