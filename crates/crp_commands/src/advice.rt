@@ -31,16 +31,16 @@ fn advice_on_interchange(fault: &EdiFault) -> &'static str
             "UNA must name different signs that are no letters, digits or control characters; usual is UNA:+.? '"
         }
         EdiFault::Unfinished { .. } => {
-            "the message ends inside a segment or inside UNA: it is cut off, or its last terminator (usually ') is missing"
+            "the message ends inside a segment or UNA: it is cut off, its last terminator (') is missing, or blanks follow its end"
         }
         EdiFault::Tag { .. } => {
-            "a segment must begin here with a tag of three capital letters, such as LOC: look for a stray terminator (')"
+            "a segment must begin here with three capital letters, such as LOC: look for a stray ', a blank or a byte order mark"
         }
         EdiFault::Release { .. } => {
             "the message ends with a release character (usually ?), and another character must follow it"
         }
         EdiFault::Control { .. } => {
-            "a line end, a tab or another control character stands inside a segment; line ends may stand between segments"
+            "a line end, tab or other control character (as Ctrl-Z) stands in or behind a segment; line ends may stand between two"
         }
         EdiFault::TooLong { .. } => "a message may have at most 8388608 bytes",
         EdiFault::Memory => MEMORY,
@@ -220,7 +220,7 @@ fn advice_on_refused(refused: &Refused) -> &'static str
             "the certificate does not show its claim: at this symbol (B or L) the bound is below what the claim needs"
         }
         Refused::Finished { .. } => {
-            "this symbol is an X where all that are to leave have left: only B or L may stand there"
+            "this symbol is an X where all that are to leave have left: only B, L or G may stand there"
         }
         Refused::Missing { .. } => {
             "the part of this name is missing: the part / must be there, and one for each G of another part"

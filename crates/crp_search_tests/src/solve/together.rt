@@ -68,6 +68,45 @@ fn many_workers_answer_as_one(rt: HostRuntime) -> Result<(), Fail> {
     Ok(())
 }
 
+// Counts the tasks that begin.
+#[derive(Drop)]
+struct Counting {
+    tasks: AtomicU64,
+}
+
+impl Gate for Counting {
+    fn begun(&self, _worker: u32, _task: &Name) {
+        self.tasks.fetch_add(1, Ordering::SeqCst);
+    }
+}
+
+// How many parts the certificate of an answer has.
+fn parts_of(answer: &Answer) -> u64 {
+    match answer {
+        Answer::Optimal { cert, .. } | Answer::First { cert, .. } => cert.parts().len() as u64,
+        Answer::NoPlan { cert } | Answer::Between { cert, .. } => cert.parts().len() as u64,
+    }
+}
+
+#[test]
+fn each_part_begins_once(rt: HostRuntime) -> Result<(), Fail> {
+    for bay in &BAYS {
+        let problem = problem_of(rt.alloc(), bay)?;
+        for (workers, split) in TEAMS {
+            let gate = Counting {
+                tasks: AtomicU64::new(0),
+            };
+            let board = Board::new(&problem);
+            let settings = Settings::new(workers, 1000000, split)?;
+            let solved = solve(&rt, rt.alloc(), &problem, settings, &board, &gate)?;
+            let parts = parts_of(&solved.answer);
+            let tasks = gate.tasks.load(Ordering::SeqCst);
+            assert_same_at(&rt, &tasks, &parts, &(workers, bay.name));
+        }
+    }
+    Ok(())
+}
+
 // Holds the first two tasks other than the root until three workers have begun one.
 #[derive(Drop)]
 struct Meeting {
