@@ -1,5 +1,5 @@
 //! Writing a certificate.
-ghost use Rattle.std.specs.Prelude.{◌≡◌, ◌≤◌, ◌+◌, ℕ, ◌++◌, ◌∷◌, [], IfOk, OnOk, OnErr, IsErrOf, IsTrue, ◌↔◌};
+ghost use Rattle.std.specs.Prelude.{◌≡◌, ◌≤◌, ◌+◌, ℕ, ◌++◌, ◌∷◌, [], length, take, is_ok, if◌then◌else◌, IfOk, OnOk, OnErr, IsErrOf, IsTrue, ◌↔◌};
 ghost use Rattle.std.specs.Option.{option_copied};
 ghost use Rattle.std.specs.List.{flat_map};
 ghost use Rattle.std.specs.Io.KnownBytes.{Appends};
@@ -20,9 +20,9 @@ use crp_tree::{Cert, Name, Part, Symbol, Tree};
 use itoa::{Buffer, Integer};
 use std::alloc::{AllocError, Global};
 
-/// Adds a number in decimal to a text.
+/// Adds a number in decimal to a text. Where no memory is left, the text is unchanged.
 pub fn push_decimal<N: Integer>(text: &mut Vec<u8>, n: N) -> Result<(), AllocError>
-    ensures { OnOk result (text.new.items ≡ text.old.items ++ N.text n) }
+    ensures { text.new.items ≡ (if is_ok result then text.old.items ++ N.text n else text.old.items) }
 {
     let mut digits = Buffer::new();
     text.extend_from_slice(digits.format(n).as_bytes())
@@ -52,9 +52,23 @@ fn push_number(text: &mut Vec<u8>, word: &[u8], number: usize) -> Result<(), All
     Ok(())
 }
 
-/// Adds the line of a bay to a text: the word, the block, the bay's number, and the line's end.
+/// Adds the line of a bay to a text: the word, the block, the bay's number, and the line's end. Where no
+/// memory is left, the text is unchanged.
 pub fn push_bay(text: &mut Vec<u8>, bay: &BayName) -> Result<(), AllocError>
-    ensures { OnOk result (text.new.items ≡ text.old.items ++ bay_line bay.now) }
+    ensures { text.new.items ≡ (if is_ok result then text.old.items ++ bay_line bay.now else text.old.items) }
+{
+    let before = text.len();
+    let added = push_bay_parts(text, bay);
+    if added.is_err() {
+        text.truncate(before);
+    }
+    added
+}
+
+/// Adds the parts of that line, one after the other, until no memory is left.
+fn push_bay_parts(text: &mut Vec<u8>, bay: &BayName) -> Result<(), AllocError>
+    ensures added { OnOk result (text.new.items ≡ text.old.items ++ bay_line bay.now) }
+    ensures begun { take (length text.old.items) text.new.items ≡ text.old.items }
 {
     text.extend_from_slice(b"bay ")?;
     text.extend_from_slice(bay.block())?;

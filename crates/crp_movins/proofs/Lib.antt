@@ -5,4 +5,5 @@ pub mod ReadingSteps
 pub mod Least
 pub mod AcceptedSteps
 pub mod Meaning
-pub mod Vacant
+pub mod Rising
+pub mod Listed

@@ -36,7 +36,7 @@ taken_then : {X : Type 0} (b : Bool) (o : Option X) (x : X) → cond b o None �
 taken_then true o x h = (refl, h)
 taken_then false o x h = absurd (cc)
 
-mapped : {X Y : Type 0} (f : X → Y) (o : Option X) (y : Y) → option_map f o ≡ Some y → (x : X) × (o ≡ Some x) × (f x ≡ y)
+pub mapped : {X Y : Type 0} (f : X → Y) (o : Option X) (y : Y) → option_map f o ≡ Some y → (x : X) × (o ≡ Some x) × (f x ≡ y)
 mapped f None y h = absurd (cc)
 mapped f (Some x) y h = (x, refl, (cc))
 

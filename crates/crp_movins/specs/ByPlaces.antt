@@ -39,8 +39,16 @@ pub record IsVacant (segments : List SegmentParts) (code : List ℕ) (group : �
   pub loading_group : IsLoadingGroup segments code group
   pub empty : (i : ℕ) → StandsInGroup segments i group → ⊥
 
--- these are the numbers of the vacant groups, each once and rising, and all of them
-pub record AreVacant (segments : List SegmentParts) (code : List ℕ) (groups : List ℕ) : Type 0 where
-  pub rising : (k l first second : ℕ) → k < l → slice_get groups k ≡ Some first → slice_get groups l ≡ Some second → first < second
-  pub each : (k group : ℕ) → slice_get groups k ≡ Some group → IsVacant segments code group
-  pub all : (group : ℕ) → IsVacant segments code group → (k : ℕ) × (slice_get groups k ≡ Some group)
+-- the list has all of which it holds and nothing else, each once, by rising numbers
+pub record HasAllRising (X : Type 0) (number : X → ℕ) (Holds : X → Type 0) (list : List X) : Type 0 where
+  pub rising : (k l : ℕ) (first second : X) → k < l → slice_get list k ≡ Some first → slice_get list l ≡ Some second → number first < number second
+  pub each : (k : ℕ) (x : X) → slice_get list k ≡ Some x → Holds x
+  pub all : (x : X) → Holds x → (k : ℕ) × (slice_get list k ≡ Some x)
+
+-- these are the numbers of the vacant groups
+abbrev pub AreVacant : List SegmentParts → List ℕ → List ℕ → Type 0
+AreVacant segments code groups = HasAllRising ℕ (λ group. group) (IsVacant segments code) groups
+
+-- these are the numbers of the segments that order, each with its order
+abbrev pub AreOrdered : List SegmentParts → List ℕ → List (ℕ × Order) → Type 0
+AreOrdered segments code placed = HasAllRising (ℕ × Order) (λ p. p.0) (λ p. IsOrdered segments code p.0 p.1) placed

@@ -1,10 +1,10 @@
 //! Laws of the definitions. Each is the contract of a function that does nothing.
 
-ghost use Rattle.std.specs.Prelude.{◌≡◌, ◌<◌, ℕ, List, Bool, true, false, Some, None, length};
+ghost use Rattle.std.specs.Prelude.{◌≡◌, ◌<◌, ℕ, List, Bool, true, false, Some, None, length, map};
 ghost use Rattle.edi_text.specs.Parts.{SegmentParts};
 ghost use Rattle.crp_movins.specs.Places.{kind_at, last_before};
 ghost use Rattle.crp_movins.specs.LoadOrders.{order_at, load_orders_of};
-ghost use Rattle.crp_movins.specs.ByPlaces.{IsOrdered, AreVacant};
+ghost use Rattle.crp_movins.specs.ByPlaces.{IsOrdered, AreOrdered, AreVacant};
 ghost use Rattle.crp_movins.specs.Faults.{fault_at, first_fault_before};
 ghost use Rattle.crp_movins.specs.declared.order.Order.{Order};
 ghost use Rattle.crp_movins.specs.declared.fault.MovinsFault.{MovinsFault};
@@ -41,6 +41,17 @@ pub fn orders_by_places()
         → order_at segments code i ≡ Some order → IsOrdered segments code i order }
     ensures given { (segments : List SegmentParts) (code : List ℕ) (i : ℕ) (order : Order)
         → IsOrdered segments code i order → order_at segments code i ≡ Some order }
+{}
+
+/// The orders stand by the places of the segments that give them: one list, and no other, has each segment
+/// that orders, once and by its number, with its order, and of nothing else; and its orders are those of the
+/// message.
+pub fn orders_stand_by_place()
+    ensures placed { (segments : List SegmentParts) (code : List ℕ)
+        → (placed : List (ℕ × Order)) × AreOrdered segments code placed
+        × ((load_orders_of segments code).list ≡ map (λ p. p.1) placed) }
+    ensures one_list { (segments : List SegmentParts) (code : List ℕ) (placed others : List (ℕ × Order))
+        → AreOrdered segments code placed → AreOrdered segments code others → placed ≡ others }
 {}
 
 /// As many vacant groups are counted as there are by the relation of places: one list, and no other, has

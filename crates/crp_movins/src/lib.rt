@@ -17,7 +17,9 @@ mod slot;
 mod standing;
 
 pub use fault::MovinsFault;
-pub use laws::{first_fault_is_least, last_is_last, orders_by_places, vacant_by_places};
+pub use laws::{
+    first_fault_is_least, last_is_last, orders_by_places, orders_stand_by_place, vacant_by_places,
+};
 pub use order::{Order, Orders};
 pub use reading::{MAX_ORDERS, load_orders};
 pub use slot::Slot;

@@ -9,4 +9,5 @@ pub mod GroupSteps
 pub mod SequenceSteps
 pub mod StatingSteps
 pub mod NamedSteps
+pub mod RankedSteps
 pub mod StowageSteps

@@ -4,7 +4,7 @@ use Rattle.std.specs.Prelude.{filter}
 use Rattle.std.specs.List.{list_any}
 use denote.Ref.{Bor}
 use Rattle.std.proofs.lemmas.Bool.{ne_eqb}
-use Rattle.std.proofs.lemmas.List.{length-map, map-append, length-append, take_all}
+use Rattle.std.proofs.lemmas.List.{length-map, map-append, length-append, append-nil, take_all}
 use Rattle.std.proofs.lemmas.List.Elements.{filter-append}
 use Rattle.std.specs.Option.{option_map}
 use Rattle.std.proofs.lemmas.Option.{same_Some, slice_get-map, slice_get_read}
@@ -113,16 +113,12 @@ problems-next yard sequence i bay made old new here some is before more =
     more ∙ ap (λ l. l ++ made ∷ []) before ∙ ap (λ t. map (bay_problem_of yard.heights sequence) (filter (is_called sequence) (take i yard.bays)) ++ t ∷ []) is
     ∙ sym (problems-more yard sequence i bay true here (any-filter (is_among (standing bay.1)) sequence ∙ ap not some))
 
-append-none : (xs : List BayProblem) → xs ++ [] ≡ xs
-append-none [] = refl
-append-none (x ∷ xs) = ap (λ ys. x ∷ ys) (append-none xs)
-
 pub problems-same : (yard : Inventory) (sequence : List (List ℕ)) (i : ℕ) (bay : StackedBay) (old : List BayProblem) → slice_get yard.bays i ≡ Some bay
     → (length (leaving sequence bay.1) == 0) ≡ true → old ≡ map (bay_problem_of yard.heights sequence) (filter (is_called sequence) (take i yard.bays))
     → old ≡ map (bay_problem_of yard.heights sequence) (filter (is_called sequence) (take (i + 1) yard.bays))
 problems-same yard sequence i bay old here none before =
     before ∙ sym (problems-more yard sequence i bay false here (any-filter (is_among (standing bay.1)) sequence ∙ ap not none)
-    ∙ append-none (map (bay_problem_of yard.heights sequence) (filter (is_called sequence) (take i yard.bays))))
+    ∙ append-nil (map (bay_problem_of yard.heights sequence) (filter (is_called sequence) (take i yard.bays))))
 
 pub few_left : (yard : Inventory) (i : ℕ) (left : List (List ℕ)) → IsYard yard → i < length yard.bays → CanLeave left (stacks_numbered yard i) → length left ≤ 96
 few_left yard i left is h can = omega (arith, few_names yard i left is h can, length-append left (filter (λ c. not (is_among left c)) (standing (stacks_numbered yard i))))

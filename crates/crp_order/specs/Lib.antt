@@ -4,4 +4,5 @@ pub mod Slots
 pub mod Sequenced
 pub mod Sequences
 pub mod BayProblems
+pub mod ByRank
 pub mod Groups

@@ -4,8 +4,12 @@ ghost use Rattle.std.specs.Prelude.{◌≡◌, ◌<◌, ℕ, List, Some, slice_g
 ghost use Rattle.crp_movins.specs.declared.order.Order.{Order};
 ghost use Rattle.crp_order.specs.declared.sequences.Mode.{Mode};
 ghost use Rattle.crp_order.specs.declared.sequences.Mode.TheVariants.{Stowage};
+ghost use Rattle.crp_yard.specs.Inventory.{Inventory, StackedBay, IsYard};
 ghost use Rattle.crp_order.specs.Slots.{IsBeneath};
 ghost use Rattle.crp_order.specs.Sequences.{IsSequence};
+ghost use Rattle.crp_order.specs.Sequenced.{AreSequenced};
+ghost use Rattle.crp_order.specs.BayProblems.{problem_of};
+ghost use Rattle.crp_order.specs.ByRank.{AreRanked};
 
 /// By stowage a container comes before those above it: of two orders, where the slot of one is beneath
 /// that of the other, its container has a place in the sequence before that of the other.
@@ -21,4 +25,12 @@ pub fn beneath_comes_first()
 pub fn one_sequence()
     ensures { (mode : Mode) (orders : List Order) (first second : List (List ℕ))
         → IsSequence mode orders first → IsSequence mode orders second → first ≡ second }
+{}
+
+/// In the problem of each bay of a yard the containers of the sequence have the first ranks, in its order,
+/// and those that stay have the ranks behind, by row, then tier.
+pub fn ranks_by_places()
+    ensures { (yard : Inventory) (sequence : List (List ℕ)) (number : ℕ) (bay : StackedBay)
+        → IsYard yard → AreSequenced sequence → slice_get yard.bays number ≡ Some bay
+        → AreRanked sequence bay.1 (problem_of yard.heights sequence bay.1) }
 {}

@@ -19,7 +19,7 @@ mod stating;
 
 pub use absences::absent;
 pub use bay_problem::BayProblem;
-pub use laws::{beneath_comes_first, one_sequence};
+pub use laws::{beneath_comes_first, one_sequence, ranks_by_places};
 pub use sequences::{Mode, Sequence};
 pub use sequencing::sequence;
 pub use slots::beneath;

@@ -26,56 +26,76 @@ IsOfRecord (Floating n) = Unit {0}
 IsOfRecord (StandsAlready n) = Unit {0}
 IsOfRecord (TooMany n) = Unit {0}
 
--- the same of a fault, if there is one
-abbrev pub HasRecordKind : Option YardFault → Type 0
-HasRecordKind None = Unit {0}
-HasRecordKind (Some fault) = IsOfRecord fault
+-- stated of a container that floats
+abbrev IsFloating : YardFault → Type 0
+IsFloating (Floating n) = Unit {0}
+IsFloating _ = ⊥
 
-kind_or : (a b : Option YardFault) → HasRecordKind a → HasRecordKind b → HasRecordKind (option_or a b)
-kind_or None b h k = k
-kind_or (Some fault) b h k = h
+-- a kind that all faults have which a record has by itself
+module _ (IsKind : YardFault → Type 0) (header : IsKind (Header 1)) (own : (heights : List ℕ) (entries : List Entry) (n : ℕ) (fields : List (List ℕ)) → AllByRecursion (λ fault. IsKind fault.1) (faults_of heights entries n fields)) where
+  abbrev pub HasKind : Option YardFault → Type 0
+  HasKind None = Unit {0}
+  HasKind (Some fault) = IsKind fault
 
-kind_if : (b : Bool) (x y : Option YardFault) → HasRecordKind x → HasRecordKind y → HasRecordKind (if b then x else y)
-kind_if true x y h k = h
-kind_if false x y h k = k
+  kind_or : (a b : Option YardFault) → HasKind a → HasKind b → HasKind (option_or a b)
+  kind_or None b h k = k
+  kind_or (Some fault) b h k = h
 
-kind_first : (faults : List (Bool × YardFault)) → AllByRecursion (λ fault. IsOfRecord fault.1) faults → HasRecordKind (first_of faults)
-kind_first [] h = tt
-kind_first (fault ∷ faults) h = kind_if fault.0 (Some fault.1) (first_of faults) h.0 (kind_first faults h.1)
+  kind_if : (b : Bool) (x y : Option YardFault) → HasKind x → HasKind y → HasKind (if b then x else y)
+  kind_if true x y h k = h
+  kind_if false x y h k = k
 
-kind_record : (heights : List ℕ) (entries : List Entry) (n : ℕ) (fields : List (List ℕ)) → HasRecordKind (fault_of heights entries n fields)
-unfolding fault_of
-kind_record heights entries n fields = kind_first (faults_of heights entries n fields) (tt, (tt, (tt, (tt, (tt, (tt, tt))))))
+  kind_first : (faults : List (Bool × YardFault)) → AllByRecursion (λ fault. IsKind fault.1) faults → HasKind (first_of faults)
+  kind_first [] h = tt
+  kind_first (fault ∷ faults) h = kind_if fault.0 (Some fault.1) (first_of faults) h.0 (kind_first faults h.1)
 
-kind_behind : (heights : List ℕ) (entries : List Entry) (n : ℕ) (fields : List (List ℕ)) → HasRecordKind (fault_behind heights entries n fields)
-unfolding fault_behind
-kind_behind heights entries n fields =
-    kind_if (n == 1) (if is_header fields then None else Some (Header 1)) (fault_of heights entries n fields) (kind_if (is_header fields) None (Some (Header 1)) tt tt) (kind_record heights entries n fields)
+  kind_record : (heights : List ℕ) (entries : List Entry) (n : ℕ) (fields : List (List ℕ)) → HasKind (fault_of heights entries n fields)
+  unfolding fault_of
+  kind_record heights entries n fields = kind_first (faults_of heights entries n fields) (own heights entries n fields)
 
-kind_at : (heights : List ℕ) (records : List (List (List ℕ))) (n : ℕ) → HasRecordKind (fault_at heights records n)
-unfolding fault_at
-kind_at heights records n = kind_behind heights _ n _
+  kind_behind : (heights : List ℕ) (entries : List Entry) (n : ℕ) (fields : List (List ℕ)) → HasKind (fault_behind heights entries n fields)
+  unfolding fault_behind
+  kind_behind heights entries n fields =
+      kind_if (n == 1) (if is_header fields then None else Some (Header 1)) (fault_of heights entries n fields) (kind_if (is_header fields) None (Some (Header 1)) tt header) (kind_record heights entries n fields)
 
-kind_up_to : (heights : List ℕ) (records : List (List (List ℕ))) (n : ℕ) → HasRecordKind (first_fault_up_to heights records n)
-kind_up_to heights records zero = tt
-kind_up_to heights records (suc n) = kind_or (first_fault_up_to heights records n) (fault_at heights records (suc n)) (kind_up_to heights records n) (kind_at heights records (suc n))
+  kind_at : (heights : List ℕ) (records : List (List (List ℕ))) (n : ℕ) → HasKind (fault_at heights records n)
+  unfolding fault_at
+  kind_at heights records n = kind_behind heights _ n _
 
-kind_floating : (entries : List Entry) (n : ℕ) → HasRecordKind (floating_before entries n)
-kind_floating entries zero = tt
-kind_floating entries (suc n) = kind_or (floating_before entries n) (if floats entries (slice_get entries n) then Some (Floating (n + 2)) else None) (kind_floating entries n) (kind_if (floats entries (slice_get entries n)) (Some (Floating (n + 2))) None tt tt)
+  pub kind_up_to : (heights : List ℕ) (records : List (List (List ℕ))) (n : ℕ) → HasKind (first_fault_up_to heights records n)
+  kind_up_to heights records zero = tt
+  kind_up_to heights records (suc n) = kind_or (first_fault_up_to heights records n) (fault_at heights records (suc n)) (kind_up_to heights records n) (kind_at heights records (suc n))
 
-kind_whole : (heights : List ℕ) (records : List (List (List ℕ))) → HasRecordKind (first_fault heights records)
-unfolding first_fault
-kind_whole heights records =
-    let entries = entries_of records in
-    kind_or (first_fault_up_to heights records (max 1 (length records))) (floating_before entries (length entries)) (kind_up_to heights records (max 1 (length records))) (kind_floating entries (length entries))
+  kind_floating : ((n : ℕ) → IsKind (Floating n)) → (entries : List Entry) (n : ℕ) → HasKind (floating_before entries n)
+  kind_floating floating entries zero = tt
+  kind_floating floating entries (suc n) =
+      kind_or (floating_before entries n) (if floats entries (slice_get entries n) then Some (Floating (n + 2)) else None) (kind_floating floating entries n) (kind_if (floats entries (slice_get entries n)) (Some (Floating (n + 2))) None (floating (n + 2)) tt)
+
+  pub kind_whole : ((n : ℕ) → IsKind (Floating n)) → (heights : List ℕ) (records : List (List (List ℕ))) → HasKind (first_fault heights records)
+  unfolding first_fault
+  kind_whole floating heights records =
+      let entries = entries_of records in
+      kind_or (first_fault_up_to heights records (max 1 (length records))) (floating_before entries (length entries)) (kind_up_to heights records (max 1 (length records))) (kind_floating floating entries (length entries))
+
+-- a record by itself has no fault of one that floats
+abbrev FloatsNot : YardFault → Type 0
+FloatsNot fault = IsFloating fault → ⊥
+
+float_not : (heights : List ℕ) (entries : List Entry) (n : ℕ) (fields : List (List ℕ)) → AllByRecursion (λ fault. FloatsNot fault.1) (faults_of heights entries n fields)
+float_not heights entries n fields = (λ h. h, (λ h. h, (λ h. h, (λ h. h, (λ h. h, (λ h. h, tt))))))
+
+pub none_floating : (heights : List ℕ) (records : List (List (List ℕ))) (n m : ℕ) → first_fault_up_to heights records n ≡ Some (Floating m) → ⊥
+none_floating heights records n m e = subst (HasKind FloatsNot (λ h. h) float_not) e (kind_up_to FloatsNot (λ h. h) float_not heights records n) tt
+
+of_records : (heights : List ℕ) (entries : List Entry) (n : ℕ) (fields : List (List ℕ)) → AllByRecursion (λ fault. IsOfRecord fault.1) (faults_of heights entries n fields)
+of_records heights entries n fields = (tt, (tt, (tt, (tt, (tt, (tt, tt))))))
 
 -- the fault of a text that is short enough says of a record
 pub of_record : (heights : List ℕ) (text : List ℕ) (fault : YardFault) → length text ≤ max_bytes → fault_of_text heights text ≡ Some fault → IsOfRecord fault
 of_record heights text fault short e =
     let within : nat_le (length text) max_bytes ≡ true = le-leb (length text) max_bytes short in
     let is : first_fault heights (records_of text) ≡ Some fault = rw within at e in
-    subst HasRecordKind is (kind_whole heights (records_of text))
+    subst (HasKind IsOfRecord tt of_records) is (kind_whole IsOfRecord tt of_records (λ n. tt) heights (records_of text))
 
 -- what the fault of the bytes says of their source
 pub fault_written_of : (heights : List ℕ) (given : Option (List ℕ)) (before after : ℕ) (text : List ℕ) (fault : YardFault) → length text ≤ max_bytes → IsTextOf given text

@@ -11,7 +11,7 @@ pub neither : (first second : Option YardFault) → option_or first second ≡ N
 neither None second h = (refl, h)
 neither (Some fault) second h = absurd (cc)
 
-either : (first second : Option YardFault) (fault : YardFault) → option_or first second ≡ Some fault → (first ≡ Some fault) ⊎ ((first ≡ None) × (second ≡ Some fault))
+pub either : (first second : Option YardFault) (fault : YardFault) → option_or first second ≡ Some fault → (first ≡ Some fault) ⊎ ((first ≡ None) × (second ≡ Some fault))
 either None second fault h = inr (refl, h)
 either (Some faulty) second fault h = inl h
 

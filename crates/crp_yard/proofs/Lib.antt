@@ -20,5 +20,6 @@ pub mod AfterSteps
 pub mod Least
 pub mod ReadBack
 pub mod Standing
+pub mod FloatingPlaces
 pub mod FirstSeen
 pub mod InventoryPlaces

@@ -28,11 +28,11 @@ same_place_is p q e =
     let tier : p.tier ≡ q.tier = eqb-true p.tier q.tier places.1 in
     λ i. record { bay = bay i; row = row i; tier = tier i }
 
-same_place_self : (p : YardPlace) → same_place p p ≡ true
+pub same_place_self : (p : YardPlace) → same_place p p ≡ true
 same_place_self p = rw (same_bay_self p.bay, eq-eqb p.row p.row refl, eq-eqb p.tier p.tier refl) refl
 
 -- what is read at a place was said by an entry, and what an entry with a place of its own says is read there
-said : (place : YardPlace) (entries : List Entry) → is_some (lookup (same_place place) entries) ≡ true → (i : ℕ) × (e : Entry) × (slice_get entries i ≡ Some e) × (e.0 ≡ place)
+pub said : (place : YardPlace) (entries : List Entry) → is_some (lookup (same_place place) entries) ≡ true → (i : ℕ) × (e : Entry) × (slice_get entries i ≡ Some e) × (e.0 ≡ place)
 said place [] h = absurd (false≢true h)
 said place (e ∷ entries) h = by (same_place place e.0) refl (said place entries)
   where
@@ -139,7 +139,7 @@ none_found (fault ∷ faults) e = by fault.0 refl (none_found faults)
     by true h rest = let faulty : Some fault.1 ≡ None = rw h at e in absurd (cc faulty)
     by false h rest = (h, rest (rw h at e))
 
-not_false : (b : Bool) → not b ≡ false → b ≡ true
+pub not_false : (b : Bool) → not b ≡ false → b ≡ true
 not_false true e = refl
 not_false false e = absurd (true≢false e)
 
@@ -174,7 +174,7 @@ within_list (y ∷ xs) zero x e = omega arith
 within_list (y ∷ xs) (suc i) x e = omega (arith, within_list xs i x e)
 
 -- none of these entries floats
-none_floats : (entries : List Entry) (n : ℕ) → floating_before entries n ≡ None → (i : ℕ) → i < n → floats entries (slice_get entries i) ≡ false
+pub none_floats : (entries : List Entry) (n : ℕ) → floating_before entries n ≡ None → (i : ℕ) → i < n → floats entries (slice_get entries i) ≡ false
 none_floats entries zero e i below = absurd (omega arith)
 none_floats entries (suc n) e i below =
     let parts = neither (floating_before entries n) (if floats entries (slice_get entries n) then Some (Floating (n + 2)) else None) e in

@@ -2,8 +2,8 @@ pub use Rattle.crp_plan.specs.BayNames.{YardBay, IsYardBay}
 pub mod Places
 pub mod Records
 pub mod Inventory
-pub mod ByPlaces
 pub mod Faults
+pub mod ByPlaces
 pub mod Reading
 pub mod Ranks
 pub mod After

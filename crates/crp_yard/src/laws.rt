@@ -1,10 +1,11 @@
 //! Laws of the definitions. Each is the contract of a function that does nothing.
 
-ghost use Rattle.std.specs.Prelude.{◌≡◌, ◌<◌, ◌≤◌, ◌-◌, ℕ, List, Some, None, slice_get};
+ghost use Rattle.std.specs.Prelude.{◌≡◌, ◌<◌, ◌≤◌, ◌-◌, ◌↔◌, ℕ, List, Some, None, slice_get};
 ghost use Rattle.crp_yard.specs.declared.fault.YardFault.{YardFault};
+ghost use Rattle.crp_yard.specs.declared.fault.YardFault.TheVariants.{Floating};
 ghost use Rattle.crp_yard.specs.Records.{Entry, height_of, records_of, entries_of};
 ghost use Rattle.crp_yard.specs.Inventory.{Inventory, stack_up_to, inventory_of};
-ghost use Rattle.crp_yard.specs.ByPlaces.{HasEntries};
+ghost use Rattle.crp_yard.specs.ByPlaces.{HasEntries, FloatsFirst, NoneFloats};
 ghost use Rattle.crp_yard.specs.Faults.{fault_at, first_fault_up_to, first_fault};
 ghost use Rattle.crp_yard.specs.Text.{records_of_yard, yard_text};
 
@@ -23,6 +24,16 @@ pub fn first_fault_is_least()
     ensures faultless { (heights : List ℕ) (records : List (List (List ℕ))) (n : ℕ)
         → first_fault_up_to heights records n ≡ None
         → (k : ℕ) → 1 ≤ k → k ≤ n → fault_at heights records k ≡ None }
+{}
+
+/// A floating container is stated of a record exactly where no record has a fault by what it and those before
+/// it say, and this is the first that stands on nothing; and no fault is stated exactly where none of them has
+/// such a fault and each container stands on something.
+pub fn floating_by_places()
+    ensures first { (heights : List ℕ) (records : List (List (List ℕ))) (n : ℕ)
+        → (first_fault heights records ≡ Some (Floating n)) ↔ FloatsFirst heights records n }
+    ensures none { (heights : List ℕ) (records : List (List (List ℕ)))
+        → (first_fault heights records ≡ None) ↔ NoneFloats heights records }
 {}
 
 /// Where the records have no fault, what each of them says is so: its container stands in its stack at its

@@ -28,7 +28,8 @@ pub use bay_plan::{BayPlan, after};
 pub use containers::Containers;
 pub use fault::YardFault;
 pub use laws::{
-    each_stands_in_its_place, first_fault_is_least, inventory_by_places, text_reads_back,
+    each_stands_in_its_place, first_fault_is_least, floating_by_places, inventory_by_places,
+    text_reads_back,
 };
 pub use reading::{MAX_BYTES, read_yard, read_yard_heights, yard_of, yard_of_heights};
 pub use records::MAX_CONTAINERS;

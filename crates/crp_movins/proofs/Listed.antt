@@ -1,0 +1,132 @@
+-- The vacant groups, as they are counted, and the orders, as they are listed, are those of the relations of places.
+use Prim.Native.Nat.{zero}
+use Rattle.std.proofs.Common.{◌≡◌, ℕ, suc, ◌+◌, ◌<◌, ◌≤◌, ◌-◌, Bool, true, false, not, cond, List, ◌++◌, length, length-append, map, slice_get, Option, Some, None, refl, sym, ap, subst, ◌∙◌, inl, inr, ⊎_elim, arith}
+use Rattle.std.specs.Prelude.{◌==◌, ◌||◌, if◌then◌else◌, unwrap_or, option_to_list}
+use Rattle.std.specs.Option.{option_map}
+use Rattle.std.proofs.lemmas.Bool.{cases_eq, eqb-true, eq-eqb, true≢false, false≢true, or_cases, not-true, cases_Bool, cases_lt}
+use Rattle.std.proofs.lemmas.List.{map-append}
+use Rattle.std.proofs.lemmas.Option.{slice_get_past, cond_some}
+use Rattle.crp_movins.specs.declared.kind.Kind.{Kind}
+use Rattle.crp_movins.specs.declared.kind.Kind.TheVariants.{Other}
+use Rattle.edi_text.specs.Parts.{SegmentParts, no_segment}
+use Rattle.crp_movins.specs.declared.order.Order.{Order}
+use Rattle.crp_movins.specs.Kinds.{kind_of, is_slot_group, is_equipment}
+use Rattle.crp_movins.specs.Places.{kind_at, ordered_group, opens_loading_group}
+use Rattle.crp_movins.specs.LoadOrders.{order_at, orders_before, is_place_number, is_filled, is_vacant, count_below, vacant_before, load_orders_of}
+use Rattle.crp_movins.specs.ByPlaces.{IsOrdered, IsVacant, AreVacant, AreOrdered}
+use Rattle.crp_movins.proofs.Meaning.{mapped, group-means, group-given, filling-means, filling-given, order-means, order-given, and-both}
+use Rattle.crp_movins.proofs.Rising.{all_below, has_all}
+
+number-is : (place : Option ℕ) (j : ℕ) → is_place_number place j ≡ true → place ≡ Some j
+number-is None j h = absurd (false≢true h)
+number-is (Some k) j h = ap Some (eqb-true k j h)
+
+is-number : (place : Option ℕ) (j : ℕ) → place ≡ Some j → is_place_number place j ≡ true
+is-number None j h = absurd (cc)
+is-number (Some k) j h = let same : k ≡ j = cc in eq-eqb k j same
+
+-- some segment before this one fills the group
+filled-by : (segments : List SegmentParts) (code : List ℕ) (n j : ℕ) → is_filled segments code n j ≡ true → (i : ℕ) × (ordered_group segments code i ≡ Some j)
+filled-by segments code zero j h = absurd (false≢true h)
+filled-by segments code (suc n) j h =
+    ⊎_elim (λ here. (n, number-is (ordered_group segments code n) j here)) (λ before. filled-by segments code n j before)
+    (or_cases (is_place_number (ordered_group segments code n) j) (is_filled segments code n j) h)
+
+fills : (segments : List SegmentParts) (code : List ℕ) (n i j : ℕ) → i < n → ordered_group segments code i ≡ Some j → is_filled segments code n j ≡ true
+fills segments code zero i j below h = absurd (omega arith)
+fills segments code (suc n) i j below h =
+    elim (cases_eq i n) [
+      | inl e ↦
+          let here : is_place_number (ordered_group segments code n) j ≡ true = is-number (ordered_group segments code n) j (subst (λ (x : ℕ). ordered_group segments code x ≡ Some j) e h) in
+          rw here refl
+      | inr ne ↦ by (is_place_number (ordered_group segments code n) j) (fills segments code n i j (omega arith) h)
+    ]
+  where
+    by : (b : Bool) → is_filled segments code n j ≡ true → (b || is_filled segments code n j) ≡ true
+    by true h = refl
+    by false h = h
+
+-- no segment has a number past the last
+past : (segments : List SegmentParts) (i : ℕ) → length segments + 1 ≤ i → kind_at segments i ≡ Other
+unfolding kind_at kind_of
+past segments i beyond = ap kind_of (by (i == 0)) ∙ refl
+  where
+    by : (b : Bool) → unwrap_or (cond b None (slice_get segments (i - 1))) no_segment ≡ no_segment
+    by true = refl
+    by false = ap (λ o. unwrap_or o no_segment) (slice_get_past segments (i - 1) (omega arith))
+
+is_there : (test : Kind → Bool) (segments : List SegmentParts) (i : ℕ) → test Other ≡ false → test (kind_at segments i) ≡ true → i < length segments + 1
+is_there test segments i other such =
+    elim (cases_lt i (length segments + 1)) [
+      | inl below ↦ below
+      | inr beyond ↦ absurd (true≢false (sym such ∙ ap test (past segments i beyond) ∙ other))
+    ]
+
+module _ (segments : List SegmentParts) (code : List ℕ) where
+  vacant-means : (j : ℕ) → is_vacant segments code (length segments + 1) j ≡ true → IsVacant segments code j
+  vacant-means j h =
+      let parts = and-both (opens_loading_group segments code j) (not (is_filled segments code (length segments + 1) j)) h in
+      let open_slots = not-true (is_filled segments code (length segments + 1) j) parts.1 in
+      record {
+        loading_group = group-means segments code j parts.0;
+        empty = λ i stands.
+            let below = is_there is_equipment segments i refl stands.equipment in
+            false≢true (sym open_slots ∙ fills segments code (length segments + 1) i j below (filling-given segments code i j stands parts.0));
+      }
+
+  vacant-given : (j : ℕ) → IsVacant segments code j → (j < length segments + 1) × (is_vacant segments code (length segments + 1) j ≡ true)
+  vacant-given j h =
+      let opens = group-given segments code j h.loading_group in
+      let unfilled : is_filled segments code (length segments + 1) j ≡ false =
+      elim (cases_Bool (is_filled segments code (length segments + 1) j)) [
+        | inl e ↦ let filled = filled-by segments code (length segments + 1) j e in absurd (h.empty filled.0 (filling-means segments code filled.0 j filled.1).0)
+        | inr e ↦ e
+      ] in
+      (is_there is_slot_group segments j refl h.loading_group.slot_group, rw (opens, unfilled) refl)
+
+  -- the number of a vacant group
+  abbrev vacant_at : ℕ → Option ℕ
+  vacant_at j = if is_vacant segments code (length segments + 1) j then Some j else None
+
+  as_many : (n : ℕ) → length (all_below ℕ (λ j. j) vacant_at n) ≡ count_below (is_vacant segments code (length segments + 1)) n
+  as_many zero = refl
+  as_many (suc n) = omega (arith, length-append (all_below ℕ (λ j. j) vacant_at n) (option_to_list (vacant_at n)), as_many n, by (is_vacant segments code (length segments + 1) n) (count_below (is_vacant segments code (length segments + 1)) n))
+    where
+      by : (b : Bool) (m : ℕ) → m + length (option_to_list (if b then Some n else None)) ≡ (if b then m + 1 else m)
+      by true m = refl
+      by false m = omega arith
+
+  pub vacant-counted : (groups : List ℕ) × AreVacant segments code groups × ((load_orders_of segments code).vacant ≡ length groups)
+  unfolding vacant_before
+  vacant-counted = (
+    all_below ℕ (λ j. j) vacant_at (length segments + 1),
+    has_all ℕ (λ j. j) (IsVacant segments code) vacant_at (length segments + 1)
+        (λ k j e. let parts = cond_some (is_vacant segments code (length segments + 1) k) k j e in (sym parts.1, vacant-means j (ap (is_vacant segments code (length segments + 1)) (sym parts.1) ∙ parts.0)))
+        (λ j vacant. let own = vacant-given j vacant in (own.0, rw (own.1) refl)),
+    sym (as_many (length segments + 1)),
+  )
+
+  -- an order with the number of the segment that gives it
+  abbrev placed_at : ℕ → Option (ℕ × Order)
+  placed_at i = option_map (λ order. (i, order)) (order_at segments code i)
+
+  orders-of : (n : ℕ) → orders_before segments code n ≡ map (λ p. p.1) (all_below (ℕ × Order) (λ p. p.0) placed_at n)
+  orders-of zero = refl
+  orders-of (suc n) =
+      ap (λ orders. orders ++ option_to_list (order_at segments code n)) (orders-of n)
+      ∙ ap (λ last. map (λ p. p.1) (all_below (ℕ × Order) (λ p. p.0) placed_at n) ++ last) (by (order_at segments code n))
+      ∙ sym (map-append (λ (p : ℕ × Order). p.1) (all_below (ℕ × Order) (λ p. p.0) placed_at n) (option_to_list (placed_at n)))
+    where
+      by : (o : Option Order) → option_to_list o ≡ map (λ (p : ℕ × Order). p.1) (option_to_list (option_map (λ order. (n, order)) o))
+      by None = refl
+      by (Some order) = refl
+
+  pub orders-placed : (placed : List (ℕ × Order)) × AreOrdered segments code placed × ((load_orders_of segments code).list ≡ map (λ p. p.1) placed)
+  orders-placed = (
+    all_below (ℕ × Order) (λ p. p.0) placed_at (length segments + 1),
+    has_all (ℕ × Order) (λ p. p.0) (λ p. IsOrdered segments code p.0 p.1) placed_at (length segments + 1)
+        (λ k p e. let found = mapped (λ (order : Order). let q : ℕ × Order = (k, order) in q) (order_at segments code k) p e in
+        (sym (ap (λ (q : ℕ × Order). q.0) found.2), subst (λ (q : ℕ × Order). IsOrdered segments code q.0 q.1) found.2 (order-means segments code k found.0 found.1)))
+        (λ p ordered. (is_there is_equipment segments p.0 refl ordered.stands.equipment, ap (option_map (λ order. (p.0, order))) (order-given segments code p.0 p.1 ordered))),
+    orders-of (length segments + 1),
+  )
