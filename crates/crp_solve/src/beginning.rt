@@ -55,6 +55,9 @@ pub(crate) fn begun<R: Wait, G: Gate, A: Aim>(
     common.open.close_one();
     places.push_reserved(place.unwrap());
     let found = keep_found(&mut parts, part);
+    if !found {
+        common.open.lose();
+    }
     Ok(Crew {
         seat,
         best,
