@@ -23,3 +23,4 @@ pub mod Standing
 pub mod FloatingPlaces
 pub mod FirstSeen
 pub mod InventoryPlaces
+pub mod WrittenPlaces

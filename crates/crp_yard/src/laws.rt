@@ -1,17 +1,28 @@
 //! Laws of the definitions. Each is the contract of a function that does nothing.
 
-ghost use Rattle.std.specs.Prelude.{◌≡◌, ◌<◌, ◌≤◌, ◌-◌, ◌↔◌, ℕ, List, Some, None, slice_get};
+ghost use Rattle.std.specs.Prelude.{◌≡◌, ◌<◌, ◌≤◌, ◌-◌, ◌↔◌, ℕ, List, All, Some, None, slice_get};
+ghost use Rattle.crp_plan.specs.BayNames.{IsYardBay};
 ghost use Rattle.crp_yard.specs.declared.fault.YardFault.{YardFault};
 ghost use Rattle.crp_yard.specs.declared.fault.YardFault.TheVariants.{Floating};
 ghost use Rattle.crp_yard.specs.Records.{Entry, height_of, records_of, entries_of};
-ghost use Rattle.crp_yard.specs.Inventory.{Inventory, stack_up_to, inventory_of};
-ghost use Rattle.crp_yard.specs.ByPlaces.{HasEntries, FloatsFirst, NoneFloats};
+ghost use Rattle.crp_yard.specs.Inventory.{Inventory, IsYard, stack_up_to, inventory_of};
+ghost use Rattle.crp_yard.specs.Places.{YardPlace};
+ghost use Rattle.crp_yard.specs.Reading.{IsYardListOf};
+ghost use Rattle.crp_yard.specs.ByPlaces.{StandsAt, HasEntries, FloatsFirst, NoneFloats};
 ghost use Rattle.crp_yard.specs.Faults.{fault_at, first_fault_up_to, first_fault};
 ghost use Rattle.crp_yard.specs.Text.{records_of_yard, yard_text};
 
 /// What is written of a yard reads back: csv gives the header, and then the record of each container.
 pub fn text_reads_back()
     ensures { (yard : Inventory) → records_of (yard_text yard) ≡ records_of_yard yard.bays }
+{}
+
+/// Where what is written of a yard is read without a fault, each container stands where it stood, and no other
+/// stands anywhere.
+pub fn places_read_back()
+    ensures { (yard read : Inventory) (heights : List ℕ)
+        → IsYard yard → All (λ bay. IsYardBay bay.0) yard.bays → IsYardListOf heights (yard_text yard) read
+        → (place : YardPlace) (container : List ℕ) → StandsAt yard place container ↔ StandsAt read place container }
 {}
 
 /// The first fault up to a record is that of a record before which none is faulty; and where there is no
