@@ -69,16 +69,16 @@ levels_of following = following.level ∷ reverse following.above.items
 
 -- where it stands
 abbrev pub spot_of : Following → Spot
-spot_of following = record { path = following.path.items; place = below following.row following.place.place }
+spot_of following = record { path = following.path.items; place = below following.row following.place.value.place }
 
 -- what the branches above owe
 abbrev pub pending_above : Following → List Spot
-pending_above following = pending (up following.path.items) (branch_above following.row following.place) (levels_of following)
+pending_above following = pending (up following.path.items) (branch_above following.row following.place.value) (levels_of following)
 
 -- what is kept after some symbols
 abbrev pub walked_of : Following → Walked
 walked_of following = record {
-  owed = owed_by following.owes following.row following.path.items following.place (levels_of following);
+  owed = owed_by following.owes following.row following.path.items following.place.value (levels_of following);
   count = following.count;
   wrong = following.wrong;
   given = following.given.items;

@@ -15,7 +15,7 @@ use std::mem;
 #[derive(Drop)]
 pub struct Following {
     /// The position where the next tree is owed, or the one above.
-    pub place: Bounded,
+    pub place: Box<Bounded>,
     /// The row that leads from the position to where the next tree is owed, if one does.
     pub row: Option<u8>,
     /// The path to where the next tree is owed.
@@ -33,7 +33,7 @@ pub struct Following {
     /// The paths that are given.
     pub given: Vec<Path>,
     /// The row is a legal one.
-    ghost legal: { (r : ℕ) → row ≡ Some r → IsTrue (can_shift place.place r) },
+    ghost legal: { (r : ℕ) → row ≡ Some r → IsTrue (can_shift place.value.place r) },
 }
 
 impl Following {
@@ -51,6 +51,7 @@ impl Following {
         ensures { IfOk result (λ following. walked_of following ≡ begun (record { path = name.now; place = place.place })) }
     {
         let path = Vec::from_slice(alloc, name)?;
+        let place = Box::new(alloc, place)?;
         Ok(Following {
             place,
             row: None,
@@ -67,7 +68,7 @@ impl Following {
     /// Goes back to the branch above the position, or out of the part.
     fn go_up(&mut self)
         ensures path { self.new.path.items ≡ up self.old.path.items }
-        ensures place { self.new.place ≡ back self.old.place }
+        ensures place { self.new.place.value ≡ back self.old.place.value }
         ensures row { self.new.row ≡ None }
         ensures level { self.new.level ≡ self.old.level }
         ensures above { self.new.above.items ≡ self.old.above.items }
@@ -84,7 +85,7 @@ impl Following {
     /// Leaves the node for the branch above.
     fn leave(&mut self)
         ensures path { self.new.path.items ≡ up self.old.path.items }
-        ensures place { self.new.place ≡ branch_above self.old.row self.old.place }
+        ensures place { self.new.place.value ≡ branch_above self.old.row self.old.place.value }
         ensures level { self.new.level ≡ self.old.level }
         ensures above { self.new.above.items ≡ self.old.above.items }
         ensures count { self.new.count ≡ self.old.count }
@@ -120,8 +121,8 @@ impl Following {
 
     /// Goes on from the branch that it stands at to the next tree that is owed, if one is.
     fn go_on(&mut self) -> Result<(), AllocError>
-        ensures owed { OnOk result (owed_by self.new.owes self.new.row self.new.path.items self.new.place (levels_of self.new)
-            ≡ pending self.old.path.items self.old.place (levels_of self.old)) }
+        ensures owed { OnOk result (owed_by self.new.owes self.new.row self.new.path.items self.new.place.value (levels_of self.new)
+            ≡ pending self.old.path.items self.old.place.value (levels_of self.old)) }
         ensures count { self.new.count ≡ self.old.count }
         ensures wrong { self.new.wrong ≡ self.old.wrong }
         ensures given { self.new.given.items ≡ self.old.given.items }
@@ -187,7 +188,7 @@ impl Following {
     /// Notes the path as one that is given to a part of its own.
     fn give(&mut self, alloc: Global) -> Result<(), AllocError>
         ensures given { OnOk result (self.new.given.items ≡ self.old.given.items ++ self.old.path.items ∷ []) }
-        ensures place { self.new.place ≡ self.old.place }
+        ensures place { self.new.place.value ≡ self.old.place.value }
         ensures row { self.new.row ≡ self.old.row }
         ensures path { self.new.path.items ≡ self.old.path.items }
         ensures levels { levels_of self.new ≡ levels_of self.old }
@@ -202,7 +203,7 @@ impl Following {
     /// Opens a branch, or leaves another node for the branch above.
     fn open_or_leave(&mut self, alloc: Global, symbol: Symbol) -> Result<(), AllocError>
         requires { symbol ≡ symbols.X → self.old.row ≡ None }
-        ensures owed { OnOk result (pending self.new.path.items self.new.place (levels_of self.new)
+        ensures owed { OnOk result (pending self.new.path.items self.new.place.value (levels_of self.new)
             ≡ owed_behind (mark_of_symbol symbol) (spot_of self.old) (pending_above self.old)) }
         ensures given { OnOk result (self.new.given.items
             ≡ self.old.given.items ++ given_names (node_at (spot_of self.old) (mark_of_symbol symbol) ∷ [])) }

@@ -8,7 +8,7 @@ decreases-loop-row l = turns (levels_of l.self)
 
 abbrev pub invariant-loop-row : goal.invariant-loop-row
 invariant-loop-row l = record {
-  owed : pending l.self.path.items l.self.place (levels_of l.self) ≡ pending l.initial.self.path.items l.initial.self.place (levels_of l.initial.self);
+  owed : pending l.self.path.items l.self.place.value (levels_of l.self) ≡ pending l.initial.self.path.items l.initial.self.place.value (levels_of l.initial.self);
   none : l.self.owes ≡ false;
   no_row : l.self.row ≡ None;
   count : l.self.count ≡ l.initial.self.count;
