@@ -47,11 +47,11 @@ impl SymbolLine {
             self.unknown = true;
             return Ok(());
         };
-        if self.following.owes {
-            return self.following.meet(alloc, need, symbol);
+        if self.following.owing.is_paid() {
+            self.trailing = true;
+            return Ok(());
         }
-        self.trailing = true;
-        Ok(())
+        self.following.meet(alloc, need, symbol)
     }
 
     /// Reads a piece.
@@ -74,7 +74,7 @@ impl SymbolLine {
         if self.trailing {
             return LineEnd::Trailing;
         }
-        if self.following.owes {
+        if !self.following.owing.is_paid() {
             return LineEnd::Unfinished;
         }
         LineEnd::Whole {
