@@ -1,5 +1,5 @@
 //! Following the symbols of one part.
-ghost use Rattle.std.specs.Prelude.{◌≡◌, ◌∷◌, [], ◌++◌, List, OnOk, IfOk};
+ghost use Rattle.std.specs.Prelude.{◌≡◌, ◌+◌, ◌∷◌, [], ◌++◌, List, OnOk, IfOk};
 ghost use Rattle.crp_tree.specs.Trees.{given_names};
 ghost use Rattle.crp_checker.specs.Owed.{Spot, node_at};
 ghost use Rattle.crp_checker.specs.Symbols.{begun, walked_on};
@@ -61,17 +61,21 @@ impl Following {
         })
     }
 
-    /// A symbol comes where a tree is owed.
-    pub fn meet(&mut self, alloc: Global, need: &Need, symbol: Symbol) -> Result<(), AllocError>
+    /// A symbol comes where a tree is owed, with the number that is next.
+    pub fn meet(
+        &mut self,
+        alloc: Global,
+        need: &Need,
+        symbol: Symbol,
+        number: u64,
+    ) -> Result<(), AllocError>
+        requires { number ≡ self.old.count + 1 }
         ensures { OnOk result ((spot : Spot) (owed : List Spot) → self.old.owing ≡ spot ∷ owed
             → walked_of self.new ≡ walked_on (need_by need.now) (mark_of_symbol symbol) spot owed (walked_of self.old)) }
     {
-        let Some(count) = self.count.checked_add(1) else {
-            return Err(AllocError);
-        };
         give(alloc, &mut self.given, &self.owing, symbol)?;
-        let wrong = self.owing.meet(need, count, symbol)?;
-        self.count = count;
+        let wrong = self.owing.meet(need, number, symbol)?;
+        self.count = number;
         self.wrong = self.wrong.or(wrong);
         Ok(())
     }
