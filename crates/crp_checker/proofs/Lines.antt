@@ -4,7 +4,6 @@ use Rattle.std.specs.Prelude.{codes, fold}
 use Rattle.std.proofs.lemmas.Bool.{cases_Bool, eqb-true}
 use Rattle.std.proofs.lemmas.List.Elements.{All-from_recursion, recursion_from_All}
 use Rattle.std.proofs.lemmas.List.Sums.{fold-append}
-use Rattle.crp_bay.specs.Back.{PlaceAndTrail}
 use Rattle.crp_bay.proofs.Members.{in_cons_cases, not_in_nil}
 use Rattle.crp_tree.specs.Tree.{Tree}
 use Rattle.crp_tree.specs.Trees.{Mark, B, L, X, G, nodes, letter, given_names, Fits}
@@ -12,10 +11,8 @@ use Rattle.crp_cert.specs.Script.{symbols_of}
 use Rattle.crp_cert.specs.ScriptFaults.{AreSymbols, BeginsWithTree, GoesOnBehindTree}
 use Rattle.crp_cert.proofs.PartTests.{none_given}
 use Rattle.crp_checker.specs.declared.wrong.Wrong.{Wrong}
-use Rattle.crp_checker.specs.declared.level.Level.{Level}
 use Rattle.crp_checker.specs.Owed.{Spot}
 use Rattle.crp_checker.specs.Symbols.{Walked, Line, symbol_at, paid, gone_on, after, line_begun, line_after, IsFirstOf, IsOnItsWay, IsOneWholeTree, EndsWalk, Ends}
-use Rattle.crp_checker.specs.Kept.{owed_by}
 use Rattle.crp_checker.proofs.OnTheWay.{sets_out, goes_on, whole, not_whole, some_symbol}
 use Rattle.crp_cert.proofs.Joined.{all_both, all_left, all_right}
 
@@ -283,15 +280,3 @@ pub ends_walk : (need : List ℕ → ℕ) (top : Spot) (bytes : List ℕ) (line 
     AreSymbols bytes × EndsWalk need top bytes line.walked.owed line.walked.wrong line.walked.given
 ends_walk need top bytes line e u t =
     subst (λ b. Ends need top bytes line.walked b false) t (subst (Ends need top bytes line.walked line.trailing) u (known need top bytes line e))
-
--- where a tree is owed it is not whole
-pub still_owed : (need : List ℕ → ℕ) (top : Spot) (bytes : List ℕ) (owes : Bool) (row : Option ℕ) (path : List ℕ) (s : PlaceAndTrail) (levels : List Level) (wrong : Option Wrong) (given : List (List ℕ)) →
-    EndsWalk need top bytes (owed_by owes row path s levels) wrong given → owes ≡ true → ¬ BeginsWithTree top.place bytes
-still_owed need top bytes false row path s levels wrong given e owes = absurd cc
-still_owed need top bytes true row path s levels wrong given e owes = e
-
--- and where none is it is
-pub all_paid : (need : List ℕ → ℕ) (top : Spot) (bytes : List ℕ) (owes : Bool) (row : Option ℕ) (path : List ℕ) (s : PlaceAndTrail) (levels : List Level) (wrong : Option Wrong) (given : List (List ℕ)) →
-    EndsWalk need top bytes (owed_by owes row path s levels) wrong given → owes ≡ false → IsOneWholeTree need top bytes wrong given
-all_paid need top bytes false row path s levels wrong given e owes = e
-all_paid need top bytes true row path s levels wrong given e owes = absurd cc

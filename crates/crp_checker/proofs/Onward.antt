@@ -1,19 +1,38 @@
--- From a branch to the next tree that is owed.
-use Rattle.std.proofs.Common.{◌≡◌, ℕ, suc, ◌+◌, ◌-◌, ⊎_elim, Bool, true, false, List, [], ◌∷◌, ◌++◌, length, filter, Some, refl, sym, ap, ◌∙◌, arith, length-append}
-use Rattle.std.specs.Prelude.{reverse}
-use Rattle.std.proofs.lemmas.Bool.{cases_Bool}
-use Rattle.std.proofs.lemmas.List.{take_at, reverse-append}
+-- From a node to the next tree that branches owe.
+use Rattle.std.proofs.Common.{◌≡◌, ◌↔◌, ℕ, suc, ◌+◌, ◌-◌, ◌<◌, ◌≤◌, Bool, true, false, IsTrue, Contains, List, [], ◌∷◌, ◌++◌, length, filter, refl, sym, ap, ◌∙◌, subst, arith, length-append}
+use Rattle.std.specs.Bool.{OnTrue, OnFalse}
+use Rattle.std.proofs.lemmas.List.{take_at}
 use Rattle.crp_plan.specs.Bay.{Position}
-use Rattle.crp_bay.specs.Positions.{can_shift, child, counted, targets}
+use Rattle.crp_bay.specs.Positions.{top, can_shift, child, counted, targets}
 use Rattle.crp_bay.specs.Back.{PlaceAndTrail}
-use Rattle.crp_checker.specs.declared.level.Level.{Level}
-use Rattle.crp_checker.specs.Owed.{Spot, spots_below}
-use Rattle.crp_checker.specs.Kept.{left, up, back, pending, owed_by}
+use Rattle.crp_bay.proofs.Tops.{top_push}
+use Rattle.crp_bay.proofs.Walked.{row_is_target}
+use Rattle.crp_tree.proofs.Followed.{legal_push}
+use Rattle.crp_tree.specs.Trees.{Mark, X}
+use Rattle.crp_checker.specs.declared.next.Next.{Next}
+use Rattle.crp_checker.specs.declared.next.Next.TheVariants.{Here, Row, Nowhere}
+use Rattle.crp_checker.specs.Owed.{Spot, spots_below, owed_behind}
+use Rattle.crp_checker.specs.Pending.{up, back_on, back, rows_behind, pending, below, spot_at, owed_by, IsSound}
 
--- how many turns branches have, and how often one of them ends
-abbrev pub turns : List Level → ℕ
-turns [] = 0
-turns (level ∷ levels) = suc (length (left level)) + turns levels
+-- ---- legal rows behind a row
+
+counted_on : (row many : ℕ) → row < many → counted (suc row) (many - row) ≡ suc row ∷ counted (suc (suc row)) (many - suc row)
+counted_on row many lt = let e : many - row ≡ suc (many - suc row) = omega arith in ap (counted (suc row)) e
+
+pub is_next : (s : Position) (row next : ℕ) → next ≡ row + 1 → row < length s.heights → can_shift s next ≡ true → rows_behind row s ≡ next ∷ rows_behind next s
+is_next s row next e lt =
+    let same : suc row ≡ next = omega (arith, e) in
+    subst (λ n. can_shift s n ≡ true → rows_behind row s ≡ n ∷ rows_behind n s) same (λ can. ap (filter (can_shift s)) (counted_on row (length s.heights) lt) ∙ rw can refl)
+
+pub is_passed : (s : Position) (row next : ℕ) → next ≡ row + 1 → row < length s.heights → can_shift s next ≡ false → rows_behind row s ≡ rows_behind next s
+is_passed s row next e lt =
+    let same : suc row ≡ next = omega (arith, e) in
+    subst (λ n. can_shift s n ≡ false → rows_behind row s ≡ rows_behind n s) same (λ cannot. ap (filter (can_shift s)) (counted_on row (length s.heights) lt) ∙ rw cannot refl)
+
+pub none_behind : (s : Position) (row : ℕ) → length s.heights ≤ row → rows_behind row s ≡ []
+none_behind s row le = let e : length s.heights - row ≡ 0 = omega arith in ap (λ n. filter (can_shift s) (counted (suc row) n)) e
+
+-- ---- one branch
 
 -- the path below a branch goes back to it
 up_again : (path : List ℕ) (row : ℕ) → up (path ++ row ∷ []) ≡ path
@@ -21,42 +40,65 @@ up_again path row =
     let shorter : length path ≡ length (path ++ row ∷ []) - 1 = omega (arith, length-append path (row ∷ [])) in
     take_at path (row ∷ []) (length (path ++ row ∷ []) - 1) shorter
 
--- what a branch owes, by the rows that are left
-abbrev owed_in : List ℕ → PlaceAndTrail → List Level → List ℕ → List Spot
-owed_in path s levels rows = spots_below path s.place (filter (can_shift s.place) rows) ++ pending (up path) (back s) levels
+-- what a branch and those above it owe behind a row
+branch_owes : (above : ℕ) (path longer : List ℕ) (s : PlaceAndTrail) (row : ℕ) → longer ≡ path ++ row ∷ [] → above ≤ length path →
+    pending (length longer - above) longer s ≡ spots_below path s.place (rows_behind row s.place) ++ pending (length path - above) path (back s)
+branch_owes above path longer s row e le =
+    let more : length longer - above ≡ suc (length path - above) = omega (arith, ap length e, length-append path (row ∷ [])) in
+    ap (λ n. pending n longer s) more
+    ∙ ap (λ l. spots_below (up l) s.place (rows_behind (top l) s.place) ++ pending (length path - above) (up l) (back s)) e
+    ∙ ap (λ l. spots_below l s.place (rows_behind (top (path ++ row ∷ [])) s.place) ++ pending (length path - above) l (back s)) (up_again path row)
+    ∙ ap (λ r. spots_below path s.place (rows_behind r s.place) ++ pending (length path - above) path (back s)) (top_push path row)
 
--- a legal row
-pub goes_down : (path longer : List ℕ) (s : PlaceAndTrail) (old new : Level) (levels : List Level) (row : ℕ) → left old ≡ row ∷ left new → can_shift s.place row ≡ true → longer ≡ path ++ row ∷ [] →
-    owed_by true (Some row) longer s (new ∷ levels) ≡ pending path s (old ∷ levels)
-goes_down path longer s old new levels row rows can there =
-    ap (λ (l : List ℕ). owed_by true (Some row) l s (new ∷ levels)) there
-    ∙ ap (λ (l : List ℕ). record { path = path ++ row ∷ []; place = child s.place row } ∷ pending l s (new ∷ levels)) (up_again path row)
-    ∙ sym (ap (owed_in path s levels) rows ∙ rw can refl)
+-- a pop goes back
+pub gone_back : (old new : PlaceAndTrail) (is_popped : Bool) → OnTrue is_popped (old.trail ≡ new.place ∷ new.trail) → OnFalse is_popped (old.trail ≡ []) → OnFalse is_popped (new ≡ old) → new ≡ back old
+gone_back old new true popped none same = sym (ap (back_on old.place) popped)
+gone_back old new false popped none same = same ∙ ap (λ l. record { place = old.place; trail = l }) none ∙ sym (ap (back_on old.place) none)
 
--- a row that is not legal
-pub passes_over : (path : List ℕ) (s : PlaceAndTrail) (old new : Level) (levels : List Level) (row : ℕ) → left old ≡ row ∷ left new → can_shift s.place row ≡ false → pending path s (new ∷ levels) ≡ pending path s (old ∷ levels)
-passes_over path s old new levels row rows cannot =
-    sym (ap (owed_in path s levels) rows ∙ rw cannot refl)
+-- the next legal row
+pub goes_down : (above : ℕ) (path old new : List ℕ) (s : PlaceAndTrail) (row next : ℕ) → old ≡ path ++ row ∷ [] → above ≤ length path → rows_behind row s.place ≡ next ∷ rows_behind next s.place → new ≡ path ++ next ∷ [] →
+    owed_by (Row next) (length new - above) new s ≡ pending (length old - above) old s
+goes_down above path old new s row next was le rows is =
+    ap (λ l. spot_at (Row next) l s ∷ pending (length new - above) new s) is
+    ∙ ap (λ l. spot_at (Row next) (path ++ next ∷ []) s ∷ l) (branch_owes above path new s next is le)
+    ∙ sym (branch_owes above path old s row was le ∙ ap (λ l. spots_below path s.place l ++ pending (length path - above) path (back s)) rows)
 
--- a branch that owes no more
-pub goes_up : (path : List ℕ) (s : PlaceAndTrail) (old : Level) (levels : List Level) → left old ≡ [] → pending (up path) (back s) levels ≡ pending path s (old ∷ levels)
-goes_up path s old levels none = sym (ap (owed_in path s levels) none)
+-- no legal row is left
+pub goes_up : (above : ℕ) (path old : List ℕ) (s : PlaceAndTrail) (row : ℕ) → old ≡ path ++ row ∷ [] → above ≤ length path → rows_behind row s.place ≡ [] →
+    pending (length path - above) path (back s) ≡ pending (length old - above) old s
+goes_up above path old s row was le none = sym (branch_owes above path old s row was le ∙ ap (λ l. spots_below path s.place l ++ pending (length path - above) path (back s)) none)
 
--- the last branch above comes first
-pub last_first : (rest : List Level) (upper : Level) → reverse (rest ++ upper ∷ []) ≡ upper ∷ reverse rest
-last_first rest upper = reverse-append rest (upper ∷ [])
+-- no branch is left
+pub ends : (above : ℕ) (path : List ℕ) (s : PlaceAndTrail) → length path ≤ above → [] ≡ pending (length path - above) path s
+ends above path s le = let none : 0 ≡ length path - above = omega arith in ap (λ n. pending n path s) none
 
--- legal rows are legal once more
-legal_again : (s : Position) → filter (can_shift s) (targets s) ≡ targets s
-legal_again s = twice (can_shift s) (counted 1 (length s.heights))
-  where
-    twice : (p : ℕ → Bool) (xs : List ℕ) → filter p (filter p xs) ≡ filter p xs
-    twice p [] = refl
-    twice p (x ∷ xs) = ⊎_elim (λ t. rw t (rw t (ap (λ l. x ∷ l) (twice p xs)))) (λ f. rw f (twice p xs)) (cases_Bool (p x))
+-- ---- one symbol
+
+-- a push to a legal row is made
+pub pushed : (old : PlaceAndTrail) (row : ℕ) (new : PlaceAndTrail) (is_pushed : Bool) → IsTrue is_pushed ↔ Contains (targets old.place) row → OnTrue is_pushed (new ≡ record { place = child old.place row; trail = old.place ∷ old.trail }) →
+    can_shift old.place row ≡ true → new ≡ record { place = child old.place row; trail = old.place ∷ old.trail }
+pushed old row new is_pushed target made can = legal_push old row new is_pushed (record { target = target; pushed = made }) (row_is_target old.place row can)
+
+-- where a tree is owed first, and what is owed behind it
+pub first_owed : (next : Next) (more : ℕ) (path : List ℕ) (s : PlaceAndTrail) (spot : Spot) (owed : List Spot) → owed_by next more path s ≡ spot ∷ owed → (spot_at next path s ≡ spot) × (pending more path s ≡ owed)
+first_owed Here more path s spot owed e = (cc, cc)
+first_owed (Row row) more path s spot owed e = (cc, cc)
+first_owed Nowhere more path s spot owed e = absurd cc
 
 -- a branch that begins owes a tree for each legal row
-pub opens : (path : List ℕ) (s : PlaceAndTrail) (old new : Level) (above longer : List Level) → left new ≡ targets s.place → longer ≡ above ++ old ∷ [] →
-    pending path s (new ∷ reverse longer) ≡ spots_below path s.place (targets s.place) ++ pending (up path) (back s) (old ∷ reverse above)
-opens path s old new above longer rows more =
-    ap (λ l. pending path s (new ∷ reverse l)) more ∙ ap (λ l. pending path s (new ∷ l)) (last_first above old)
-    ∙ ap (owed_in path s (old ∷ reverse above)) rows ∙ ap (λ l. spots_below path s.place l ++ pending (up path) (back s) (old ∷ reverse above)) (legal_again s.place)
+pub opens : (next : Next) (above : ℕ) (path longer : List ℕ) (s new : PlaceAndTrail) (spot : Spot) (owed : List Spot) → IsSound next above path s.place → owed_by next (length path - above) path s ≡ spot ∷ owed →
+    longer ≡ path ++ 0 ∷ [] → new.place ≡ below next s.place → ((row : ℕ) → next ≡ Row row → back new ≡ s) → pending (length longer - above) longer new ≡ owed_behind X spot owed
+opens next above path longer s new spot owed sound e is entered goes_back =
+    let first = first_owed next (length path - above) path s spot owed e in
+    let all : length new.place.heights - 0 ≡ length new.place.heights = omega arith in
+    branch_owes above path longer new 0 is sound.within
+    ∙ ap (λ n. spots_below path new.place (filter (can_shift new.place) (counted 1 n)) ++ pending (length path - above) path (back new)) all
+    ∙ ap (λ (t : Position). spots_below path t (targets t) ++ pending (length path - above) path (back new)) entered
+    ∙ ap (λ l. spots_below path (below next s.place) (targets (below next s.place)) ++ l) (rest next sound goes_back e)
+    ∙ ap (λ (at : Spot). spots_below at.path at.place (targets at.place) ++ pending (length path - above) path s) first.0
+    ∙ ap (λ l. spots_below spot.path spot.place (targets spot.place) ++ l) first.1
+  where
+    rest : (next : Next) → IsSound next above path s.place → ((row : ℕ) → next ≡ Row row → back new ≡ s) → owed_by next (length path - above) path s ≡ spot ∷ owed → pending (length path - above) path (back new) ≡ pending (length path - above) path s
+    rest Here sound goes_back e = let le : length path ≤ above = omega (arith, sound.alone refl) in sym (ends above path (back new) le) ∙ ends above path s le
+    rest (Row row) sound goes_back e = ap (pending (length path - above) path) (goes_back row refl)
+    rest Nowhere sound goes_back e = absurd cc

@@ -12,6 +12,7 @@ pub mod Watches
 pub mod FedFiles
 pub mod Owed
 pub mod Symbols
+pub mod Pending
 pub mod Kept
 pub mod Ends
 pub mod PartEnds

@@ -1,7 +1,7 @@
 //! The symbols of one part line, byte by byte.
-ghost use Rattle.std.specs.Prelude.{◌≡◌, ◌≤◌, ℕ, List, length, OnOk, IfOk, fold};
+ghost use Rattle.std.specs.Prelude.{◌≡◌, ◌≤◌, [], ℕ, List, length, OnOk, IfOk, fold};
 ghost use Rattle.crp_checker.specs.Owed.{Spot};
-ghost use Rattle.crp_checker.specs.Symbols.{after, line_begun, line_after};
+ghost use Rattle.crp_checker.specs.Symbols.{after, gone_on, symbol_at, line_begun, line_after};
 ghost use Rattle.crp_checker.specs.Kept.{line_of, need_by};
 ghost use Rattle.crp_checker.specs.Ends.{IsEndOfSymbols};
 
@@ -36,6 +36,16 @@ impl SymbolLine {
         })
     }
 
+    /// Reads one byte more, where no tree is owed.
+    fn read_behind(&mut self, byte: u8)
+        ensures { (needs : List ℕ → ℕ) → self.old.following.owing ≡ [] → line_of self.new ≡ gone_on needs (symbol_at self.old.following.count byte) (line_of self.old) }
+    {
+        match symbol_of(self.following.count, byte) {
+            Some(_) => self.trailing = true,
+            None => self.unknown = true,
+        }
+    }
+
     /// Reads one byte more.
     pub fn read(&mut self, alloc: Global, need: &Need, byte: u8) -> Result<(), AllocError>
         ensures { OnOk result (line_of self.new ≡ after (need_by need.now) (line_of self.old) byte) }
@@ -43,15 +53,18 @@ impl SymbolLine {
         if self.unknown {
             return Ok(());
         }
+        if self.following.owing.is_paid() {
+            self.read_behind(byte);
+            return Ok(());
+        }
+        let Some(number) = self.following.count.checked_add(1) else {
+            return Err(AllocError);
+        };
         let Some(symbol) = symbol_of(self.following.count, byte) else {
             self.unknown = true;
             return Ok(());
         };
-        if self.following.owes {
-            return self.following.meet(alloc, need, symbol);
-        }
-        self.trailing = true;
-        Ok(())
+        self.following.meet(alloc, need, symbol, number)
     }
 
     /// Reads a piece.
@@ -74,7 +87,7 @@ impl SymbolLine {
         if self.trailing {
             return LineEnd::Trailing;
         }
-        if self.following.owes {
+        if !self.following.owing.is_paid() {
             return LineEnd::Unfinished;
         }
         LineEnd::Whole {

@@ -1,12 +1,18 @@
 //! Single symbols, and what is wrong with the nodes that they stand for.
-ghost use Rattle.std.specs.Prelude.{◌≡◌, ◌+◌, ℕ, List, length, nat_lt, if◌then◌else◌, Some, None, option_map};
+ghost use Rattle.std.specs.Prelude.{◌≡◌, ◌+◌, ◌-◌, ◌≤◌, ◌∷◌, ℕ, List, true, length, nat_lt, if◌then◌else◌, Some, None, option_map, IfOk};
+ghost use Rattle.crp_bay.specs.Positions.{can_shift};
+ghost use Rattle.crp_bounds.specs.Bounds.{blocking as blocking_bound};
 ghost use Rattle.crp_tree.specs.Trees.{L, X};
+ghost use Rattle.crp_checker.specs.Owed.{Spot, owed_behind};
 ghost use Rattle.crp_checker.specs.Symbols.{symbol_at, wrong_at};
+ghost use Rattle.crp_checker.specs.Pending.{back, below, spot_at, pending, owed_by, IsSound};
 ghost use Rattle.crp_checker.specs.Kept.{mark_of_symbol, need_by};
 
 use crate::need::Need;
+use crate::next::Next;
 use crate::wrong::Wrong;
 use crp_bounds::Bounded;
+use std::alloc::AllocError;
 
 /// A symbol of a part.
 #[derive(Clone, Copy)]
@@ -65,4 +71,74 @@ pub fn at_end(number: u64, place: &Bounded) -> Option<Wrong>
         return Some(Wrong::AtEnd { symbol: number });
     }
     None
+}
+
+/// The blocking bound where a tree is owed next. The position is not changed for that.
+#[inline]
+fn blocking_at(place: &Bounded, next: Next) -> u32
+    requires { (row : ℕ) → next ≡ Next.Row row → can_shift place.now.place row ≡ true }
+    ensures { result ≡ blocking_bound (below next place.now.place) }
+{
+    match next {
+        Next::Row(row) => place.blocking_after(row),
+        _ => place.blocking(),
+    }
+}
+
+/// Makes the position that where a tree is owed next.
+#[inline]
+fn enter(place: &mut Bounded, next: Next)
+    requires { (row : ℕ) → next ≡ Next.Row row → can_shift place.old.place row ≡ true }
+    ensures place { place.new.place ≡ below next place.old.place }
+    ensures back { (row : ℕ) → next ≡ Next.Row row → back place.new ≡ place.old }
+{
+    if let Next::Row(row) = next {
+        let _pushed = place.push(row);
+    }
+}
+
+/// What is wrong with a cut by the look-ahead bound where a tree is owed next.
+#[inline]
+fn low_at(need: &Need, number: u64, path: &[u8], place: &mut Bounded, next: Next) -> Option<Wrong>
+    requires { (row : ℕ) → next ≡ Next.Row row → can_shift place.old.place row ≡ true }
+    ensures found { result ≡ wrong_at (need_by need.now) number L (spot_at next path.now place.old) }
+    ensures same { place.new ≡ place.old }
+{
+    let Next::Row(row) = next else {
+        return low_ahead(need, number, path, place);
+    };
+    let _pushed = place.push(row);
+    let wrong = low_ahead(need, number, path, place);
+    let _popped = place.pop();
+    wrong
+}
+
+/// A symbol with this number comes where a tree is owed next. What is wrong with its node, if anything is; what it leaves to be owed
+/// stands behind the last row of the path.
+#[inline]
+pub fn judge(
+    need: &Need,
+    number: u64,
+    symbol: Symbol,
+    next: Next,
+    path: &mut Vec<u8>,
+    place: &mut Bounded,
+) -> Result<Option<Wrong>, AllocError>
+    requires { (row : ℕ) → next ≡ Next.Row row → can_shift place.old.place row ≡ true }
+    ensures wrong { IfOk result (λ wrong. wrong ≡ wrong_at (need_by need.now) number (mark_of_symbol symbol) (spot_at next path.old.items place.old)) }
+    ensures owed { IfOk result (λ wrong. (above : ℕ) (spot : Spot) (owed : List Spot) → IsSound next above path.old.items place.old.place
+        → owed_by next (length path.old.items - above) path.old.items place.old ≡ spot ∷ owed
+        → pending (length path.new.items - above) path.new.items place.new ≡ owed_behind (mark_of_symbol symbol) spot owed) }
+    ensures longer { length path.old.items ≤ length path.new.items }
+{
+    match symbol {
+        Symbol::B => Ok(is_low(need, number, path, blocking_at(place, next))),
+        Symbol::L => Ok(low_at(need, number, path, place, next)),
+        Symbol::X => {
+            path.push(0)?;
+            enter(place, next);
+            Ok(at_end(number, place))
+        }
+        Symbol::G => Ok(None),
+    }
 }

@@ -1,0 +1,23 @@
+use Rattle.std.proofs.Common.{◌≡◌, ◌∷◌, sym, ap, ◌∙◌}
+use Rattle.crp_plan.specs.Bay.{Position}
+use Rattle.crp_bay.specs.Back.{PlaceAndTrail}
+use Rattle.crp_tree.specs.Trees.{L}
+use Rattle.crp_tree.proofs.Followed.{pop_back}
+use Rattle.crp_checker.specs.Symbols.{wrong_at}
+use Rattle.crp_checker.specs.Kept.{need_by}
+use Rattle.crp_checker.specs.Pending.{below}
+use Rattle.crp_checker.proofs.Onward.{pushed}
+use Rattle.crp_checker.proofs.symbol.low_at.Goals as goal
+
+pub returns-clause-found : goal.returns-clause-found
+returns-clause-found c =
+    let e = pushed c.args.place.now c.in-Row.row c.push-pushed.new.self c.push-pushed.result c.push-pushed.ensures.target c.push-pushed.ensures.pushed (c.requires c.in-Row.row c.in-Row.is) in
+    c.low_ahead-wrong.ensures
+    ∙ ap (λ (s : Position). wrong_at (need_by c.args.need.now) c.args.number L (record { path = c.args.path.now; place = s }))
+    (ap (λ (s : PlaceAndTrail). s.place) e ∙ sym (ap (λ n. below n c.args.place.now.place) c.in-Row.is))
+
+pub returns-clause-same : goal.returns-clause-same
+returns-clause-same c =
+    pop_back c.args.place.now c.push-pushed.new.self c.pop-popped.new.self c.in-Row.row c.pop-popped.result
+    (pushed c.args.place.now c.in-Row.row c.push-pushed.new.self c.push-pushed.result c.push-pushed.ensures.target c.push-pushed.ensures.pushed (c.requires c.in-Row.row c.in-Row.is))
+    (record { popped = c.pop-popped.ensures.popped; none = c.pop-popped.ensures.none })
