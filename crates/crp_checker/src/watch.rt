@@ -47,6 +47,10 @@ pub fn line_len(bytes: &[u8]) -> usize
     ensures line { AllByRecursion (λ b. b ≢ 10) (take result bytes.now) }
     ensures stop { result < length bytes.now → take (result + 1) bytes.now ≡ take result bytes.now ++ 10 ∷ [] }
 {
+    // Most pieces of a long line have no end in them, which is found out faster.
+    if !bytes.contains(&b'\n') {
+        return bytes.len();
+    }
     for (i, byte) in bytes.iter().enumerate() {
         if *byte == b'\n' {
             return i;
