@@ -1,6 +1,7 @@
 pub mod Rule
 pub mod Choice
 pub mod Greedily
+mod NoLonger
 pub mod SoFar
 pub mod Closing
 pub mod UnderWay

@@ -4,6 +4,7 @@ pub use Rattle.crp_plan.specs.Plans
 pub use Rattle.crp_plan.specs.Faults
 pub use Rattle.crp_bay.specs.Positions
 pub mod Greedy
+pub mod Beam
 pub use Rattle.crp_plan.specs.Running
 pub use Rattle.crp_tree.specs.Trees
 pub use Rattle.crp_tree.specs.Claims

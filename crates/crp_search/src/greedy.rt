@@ -65,7 +65,7 @@ fn is_better(blocker: u8, rank: u16, other: u16) -> bool
 }
 
 /// The row that the greedy rule chooses. `None` exactly where no relocation is legal.
-fn greedy_row(problem: &Problem, position: &Position) -> Option<u8>
+pub(crate) fn greedy_row(problem: &Problem, position: &Position) -> Option<u8>
     ensures chosen { IfSome result (λ row. IsGreedyRow problem.now position.now.place row) }
     ensures none { IfNone result (targets position.now.place ≡ []) }
 {

@@ -1,6 +1,8 @@
 //! Search for the fewest relocations of a bay.
 #![tactic(auto)]
 
+mod beam;
+mod beam_levels;
 mod first_part;
 mod frames;
 mod greedy;
@@ -10,6 +12,7 @@ mod searching_first;
 mod seeking;
 mod walking;
 
+pub use beam::beam_plan;
 pub use first_part::{FirstEnd, FirstPart};
 pub use greedy::{blocker_moves, first_plan, one_greedy_plan};
 pub use limit::Limit;
