@@ -8,6 +8,8 @@ use Rattle.std.proofs.lemmas.List.Elements.{All-map, All-filter}
 use Rattle.std.proofs.lemmas.Map.Entries.{lookup_from_place}
 use Rattle.std.proofs.lemmas.Map.Made.{IsDistinct-keys_filter}
 use Rattle.std.proofs.lemmas.Option.{slice_get-get_or}
+use Rattle.crp_plan.specs.Bay.{IsProblem}
+use Rattle.crp_plan.specs.Faults.{stated_with}
 use Rattle.crp_plan.specs.BayNames.{YardBay, same_bay}
 use Rattle.crp_yard.specs.Inventory.{Inventory, StackedBay, IsYard, times}
 use Rattle.crp_yard.specs.Ranks.{name_of_rank, named}
@@ -20,7 +22,7 @@ use Rattle.crp_order.proofs.Once.{here}
 use Rattle.crp_order.proofs.RankSteps.{name_of-rank}
 use Rattle.crp_order.proofs.BaySteps.{names-times, names-length, ranks_total}
 use Rattle.crp_order.proofs.YardSteps.{stacks_of_bay, stands_once}
-use Rattle.crp_order.proofs.StatingSteps.{can_leave, names-ranked}
+use Rattle.crp_order.proofs.StatingSteps.{can_leave, names-ranked, bay_is_problem}
 
 pub same_bay_equiv : IsEquivalence same_bay
 same_bay_equiv = and_equiv (on_equiv (λ (bay : YardBay). bay.block) nat_list_eq_equiv) (on_equiv (λ (bay : YardBay). bay.bay) nat_eq_equiv)
@@ -50,6 +52,9 @@ bay_named yard sequence i bay is sequenced there at =
     let same : names_behind (leaving sequence bay.1) bay.1 ≡ ranked sequence bay.1 = names-ranked sequence bay.1 in
     let often : (c : List ℕ) → times c (ranked sequence bay.1) ≡ times c (standing bay.1) = λ c. ap (times c) (sym same) ∙ names-times (leaving sequence bay.1) bay.1 can once c in
     record {
+      is_problem = subst (λ names. IsProblem (stated_with yard.heights (length (leaving sequence bay.1)) (ranks_in names bay.1))) same
+          (subst (λ stacks. IsProblem (stated_with yard.heights (length (leaving sequence bay.1)) (ranks_in (names_behind (leaving sequence bay.1) stacks) stacks))) own
+          (bay_is_problem yard i (leaving sequence bay.1) is there (subst (CanLeave (leaving sequence bay.1)) (sym own) can)));
       heights = refl;
       stands = lookup_from_place same_bay_equiv yard.bays i bay.0 bay.1 is.bays_once at ∙ ap Some (sym (stacks_named (ranked sequence bay.1) bay.1 (λ c h. omega (arith, h, often c))));
       each_rank = ap length (sym same) ∙ names-length (leaving sequence bay.1) bay.1 can once ∙ sym (ranks_total (ranked sequence bay.1) bay.1);

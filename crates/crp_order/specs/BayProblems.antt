@@ -2,7 +2,7 @@
 use Rattle.std.specs.Prelude.{◌≡◌, ℕ, suc, Bool, not, List, [], ◌∷◌, ◌++◌, length, map, filter, flat_map, count_by, Some, if◌then◌else◌}
 use Rattle.std.specs.List.{list_any}
 use Rattle.std.specs.Str.{bytes_eq}
-use Rattle.crp_plan.specs.Bay.{Problem}
+use Rattle.crp_plan.specs.Bay.{Problem, IsProblem}
 use Rattle.crp_plan.specs.Rows.{total}
 use Rattle.crp_plan.specs.Faults.{stated_with}
 use Rattle.crp_yard.specs.Inventory.{Inventory, StackedBay, is_among, stands}
@@ -59,9 +59,10 @@ problems_of yard sequence = map (bay_problem_of yard.heights sequence) (filter (
 abbrev pub absent_of : Inventory → List (List ℕ) → ℕ
 absent_of yard sequence = count_by (λ container. not (stands yard.bays container)) sequence
 
--- the problem states the bay of its name as it stands in the yard: the ranks are the places of the containers among the names, one for
+-- the problem is one, and states the bay of its name as it stands in the yard: the ranks are the places of the containers among the names, one for
 -- each container
 pub record IsNamed (yard : Inventory) (made : BayProblem) : Type 0 where
+  pub is_problem : IsProblem made.problem
   pub heights : made.problem.heights ≡ yard.heights
   pub stands : stacks_at yard.bays made.bay ≡ Some (named made.names made.problem.stacks)
   pub each_rank : length made.names ≡ total made.problem.stacks

@@ -1,6 +1,7 @@
 pub mod Rule
 pub mod Choice
 pub mod Greedily
+pub mod GreedyKnown
 mod NoLonger
 pub mod SoFar
 pub mod Closing

@@ -3,6 +3,7 @@ pub mod Limits
 pub mod Covered
 pub mod TrueAnswers
 pub mod One
+pub mod Answerable
 pub mod Starting
 pub mod Searching
 pub mod Agreeing

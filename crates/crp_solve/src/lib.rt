@@ -31,7 +31,7 @@ pub use answer::{Answer, Cause, Second, Solved};
 pub use common::{Gate, NoGate};
 pub use ending::Together;
 pub use group::Group;
-pub use laws::{answers_agree, one_first_limit};
+pub use laws::{answers_agree, each_has_an_answer, one_first_limit};
 pub use settings::{MAX_BUDGET, MAX_SPLIT, MAX_WORKERS, Settings, SettingsFault};
 pub use solver::{answer_to_all, solve};
 pub use solving::{answer_to, solve_alone};

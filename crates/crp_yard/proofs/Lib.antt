@@ -24,3 +24,4 @@ pub mod FloatingPlaces
 pub mod FirstSeen
 pub mod InventoryPlaces
 pub mod WrittenPlaces
+pub mod YardLeft

@@ -2,6 +2,8 @@
 use Rattle.std.specs.Prelude.{◌≡◌, ℕ, List, [], ◌∷◌, Option, Some, MatchOption, ⊤}
 use Rattle.std.specs.List.{find}
 use Rattle.std.specs.Map.{lookup}
+use Rattle.crp_plan.specs.Bay.{IsProblem}
+use Rattle.crp_plan.specs.Faults.{IsPlanPath}
 use Rattle.crp_plan.specs.BayNames.{YardBay, same_bay}
 use Rattle.crp_yard.specs.declared.bay_plan.BayPlan.{BayPlan}
 use Rattle.crp_yard.specs.Inventory.{Inventory, StackedBay}
@@ -15,6 +17,10 @@ stacks_at bays bay = lookup (same_bay bay) bays
 pub record IsPlanForBay (yard : Inventory) (plan : BayPlan) : Type 0 where
   pub heights : plan.plan.problem.heights ≡ yard.heights
   pub stands : stacks_at yard.bays plan.bay ≡ Some (named plan.names plan.plan.problem.stacks)
+
+-- the plan is a complete one, of a problem
+abbrev pub IsCompletePlan : BayPlan → Type 0
+IsCompletePlan plan = IsProblem plan.plan.problem × IsPlanPath plan.plan.problem plan.plan.path
 
 -- the plan of a bay, if there is one
 abbrev pub plan_for : List BayPlan → YardBay → Option BayPlan

@@ -2,6 +2,7 @@
 
 ghost use Rattle.std.specs.Prelude.{◌≡◌, ◌<◌, ◌≤◌, ◌-◌, ◌↔◌, ℕ, List, All, Some, None, slice_get};
 ghost use Rattle.crp_plan.specs.BayNames.{IsYardBay};
+ghost use Rattle.crp_yard.specs.declared.bay_plan.BayPlan.{BayPlan};
 ghost use Rattle.crp_yard.specs.declared.fault.YardFault.{YardFault};
 ghost use Rattle.crp_yard.specs.declared.fault.YardFault.TheVariants.{Floating};
 ghost use Rattle.crp_yard.specs.Records.{Entry, height_of, records_of, entries_of};
@@ -11,6 +12,7 @@ ghost use Rattle.crp_yard.specs.Reading.{IsYardListOf};
 ghost use Rattle.crp_yard.specs.ByPlaces.{StandsAt, HasEntries, FloatsFirst, NoneFloats};
 ghost use Rattle.crp_yard.specs.Faults.{fault_at, first_fault_up_to, first_fault};
 ghost use Rattle.crp_yard.specs.Text.{records_of_yard, yard_text};
+ghost use Rattle.crp_yard.specs.After.{IsCompletePlan, IsAfter};
 
 /// What is written of a yard reads back: csv gives the header, and then the record of each container.
 pub fn text_reads_back()
@@ -60,4 +62,9 @@ pub fn each_stands_in_its_place()
 pub fn inventory_by_places()
     ensures { (heights : List ℕ) (records : List (List (List ℕ)))
         → first_fault heights records ≡ None → HasEntries (entries_of records) (inventory_of heights (entries_of records)) }
+{}
+
+/// Complete plans leave a yard as some other.
+pub fn plans_leave_a_yard()
+    ensures { (yard : Inventory) (plans : List BayPlan) → All IsCompletePlan plans → (left : Inventory) × IsAfter yard plans left }
 {}

@@ -29,7 +29,7 @@ pub use containers::Containers;
 pub use fault::YardFault;
 pub use laws::{
     each_stands_in_its_place, first_fault_is_least, floating_by_places, inventory_by_places,
-    places_read_back, text_reads_back,
+    places_read_back, plans_leave_a_yard, text_reads_back,
 };
 pub use reading::{MAX_BYTES, read_yard, read_yard_heights, yard_of, yard_of_heights};
 pub use records::MAX_CONTAINERS;
