@@ -1,6 +1,5 @@
 -- Of each problem it is known whether the greedy rule leads to a plan.
 use Rattle.std.proofs.Common.{◌≡◌, ℕ, zero, suc, ◌+◌, ◌<◌, ◌≤◌, ◌⊎◌, inl, inr, ⊎_elim, List, [], ◌∷◌, ◌++◌, length, get_or, refl, arith, length-append}
-use Rattle.std.specs.List.Sorted.{IsStrictlyIncreasing}
 use Rattle.std.proofs.lemmas.Bool.{cases_lt}
 use Rattle.crp_plan.specs.Bay.{Problem, IsProblem, start, Position}
 use Rattle.crp_plan.proofs.Steps.{short_path}
@@ -26,9 +25,9 @@ better_known : (c a b : ℕ) → IsBetter c a b ⊎ (IsBetter c a b → ⊥)
 better_known c a b =
     ⊎_elim
     (λ (over : c < a). ⊎_elim
-        (λ (high : c < b). ⊎_elim (λ (less : a < b). inl (inl (over, inr less))) (λ (le : b ≤ a). inr (not_over c a b over high le)) (cases_lt a b))
-        (λ (low : b ≤ c). inl (inl (over, inl low)))
-        (cases_lt c b))
+    (λ (high : c < b). ⊎_elim (λ (less : a < b). inl (inl (over, inr less))) (λ (le : b ≤ a). inr (not_over c a b over high le)) (cases_lt a b))
+    (λ (low : b ≤ c). inl (inl (over, inl low)))
+    (cases_lt c b))
     (λ (under : a ≤ c). ⊎_elim (λ (less : b < a). inl (inr (under, less))) (λ (le : a ≤ b). inr (not_under c a b under le)) (cases_lt b a))
     (cases_lt c a)
 
@@ -66,13 +65,13 @@ known_from (suc more) p path s is f lt =
     let within = (reached_next s (record { problem = p; path = path; is_problem = is; is_at = f.at })).1 in
     ⊎_elim
     (λ (open' : s.next < suc s.ordered). ⊎_elim
-        (λ (none : targets s ≡ []). inr (front_stops p path s is f (omega (arith, open')) none))
-        (λ (some : 0 < length (targets s)).
-        let row = row_there p s some in
-        let on = target_goes_on p path s row.0 is f.at row.1.legal in
-        known_from more p (path ++ row.0 ∷ []) (child s row.0) is (front_grows p path row.0 s (child s row.0) is f (omega (arith, open')) row.1 on)
-        (omega (arith, length-append path (row.0 ∷ []), lt)))
-        (none_or_some (targets s)))
+    (λ (none : targets s ≡ []). inr (front_stops p path s is f (omega (arith, open')) none))
+    (λ (some : 0 < length (targets s)).
+    let row = row_there p s some in
+    let on = target_goes_on p path s row.0 is f.at row.1.legal in
+    known_from more p (path ++ row.0 ∷ []) (child s row.0) is (front_grows p path row.0 s (child s row.0) is f (omega (arith, open')) row.1 on)
+    (omega (arith, length-append path (row.0 ∷ []), lt)))
+    (none_or_some (targets s)))
     (λ (end : suc s.ordered ≤ s.next). inl (path, front_ends p path s f (omega (arith, within, end))))
     (cases_lt s.next (suc s.ordered))
 

@@ -57,6 +57,7 @@ fn shorter_of(first: Option<Plan>, other: Option<Plan>) -> Option<Plan>
 /// cannot lead to fewer relocations than the best plan that was met is dropped. The search ends where none is kept.
 pub fn beam_plan(alloc: Global, problem: &Problem, width: usize) -> Result<Option<Plan>, AllocError>
     ensures problem { IfOk result (λ found. IfSome found (λ plan. plan.problem ≡ problem.now)) }
+    ensures is_problem { IfOk result (λ _. IsProblem problem.now) }
     ensures plan { IfOk result (λ found. IfSome found (λ plan. IsPlanPath problem.now plan.path)) }
     ensures no_longer { IfOk result (λ found. IfSome found (λ plan. IsNoLonger problem.now plan.path)) }
     ensures none { IfOk result (λ found. IfNone found ((path : List ℕ) → IsGreedyPath problem.now path → ⊥)) }

@@ -1,5 +1,5 @@
 -- Each problem has a true answer: the one of a search that finds no memory.
-use Rattle.std.proofs.Common.{◌≡◌, ℕ, ◌≤◌, min, inl, inr, ⊎_elim, List, [], ◌∷◌, length, Option, None, Some, refl, arith}
+use Rattle.std.proofs.Common.{ℕ, min, inl, inr, ⊎_elim, List, [], ◌∷◌, length, Option, None, Some, refl, arith}
 use Rattle.std.proofs.lemmas.List.Elements.{All-cons, All-nil}
 use Rattle.crp_plan.specs.Bay.{Problem, IsProblem, start, cap}
 use Rattle.crp_plan.specs.Plans.{ProblemPath}
@@ -7,7 +7,7 @@ use Rattle.crp_bay.specs.Positions.{settled}
 use Rattle.crp_bay.proofs.Walked.{begins_at}
 use Rattle.crp_bounds.specs.Bounds.{look_ahead}
 use Rattle.crp_tree.specs.Tree.{CutL}
-use Rattle.crp_tree.specs.Trees.{L, Node, IsInPlace}
+use Rattle.crp_tree.specs.Trees.{L, IsInPlace}
 use Rattle.crp_tree.specs.Claims.{IsPart}
 use Rattle.crp_tree.specs.Parts.{ProblemPart, IsKeptPart, Certificate}
 use Rattle.crp_tree.proofs.Kept.{kept}
@@ -25,9 +25,12 @@ use Rattle.crp_solve.proofs.One.{root_is_true, one_certificate}
 -- the greedy plan, if there is one, is the best before a search
 best_before : (p : Problem) → IsProblem p → (first : ℕ) × (plan : Option ProblemPath) × IsBestMet p first plan
 best_before p is = ⊎_elim
-    (λ (greedy : (path : List ℕ) × IsGreedyPath p path). (length greedy.0, Some (record { problem = p; path = greedy.0 }),
-    record { plan_is = record { of_problem = refl; complete = greedy.1.plan }; first_is = inl (greedy.0, greedy.1, refl); no_more = omega arith }))
-    (λ (none : (path : List ℕ) → IsGreedyPath p path → ⊥). (cap p, None, record { plan_is = tt; first_is = inr (none, refl); no_more = omega arith }))
+    (λ (greedy : (path : List ℕ) × IsGreedyPath p path). (
+      length greedy.0,
+      Some (record { problem = p; path = greedy.0 }),
+      record { plan_is = record { of_problem = refl; complete = greedy.1.plan }; first_is = record { limit = length greedy.0; is_limit = inl (greedy.0, greedy.1, refl); within = omega arith }; no_more = omega arith },
+    ))
+    (λ (none : (path : List ℕ) → IsGreedyPath p path → ⊥). (cap p, None, record { plan_is = tt; first_is = record { limit = cap p; is_limit = inr (none, refl); within = omega arith }; no_more = omega arith }))
     (greedy_known p is)
 
 -- the part of one cut at the root
@@ -49,9 +52,10 @@ cut_is_kept p is = kept p p [] CutL (min (cap p) (look_ahead (settled (start p))
 pub has_answer : (p : Problem) (chosen : Chosen) → IsProblem p → (solved : Solved) × IsSolved p chosen solved
 has_answer p chosen is =
     let cert : Certificate = record { parts = cut_at p ∷ []; lower = min (cap p) (look_ahead (settled (start p))) } in
-    let best = best_before p is in
-    (record { answer = Between cert.lower cert best.1 Memory; expanded = 0; second = second.NotAsked; second_expanded = 0 },
-    record {
-      answer = root_is_true p (cut_at p) cert best.1 chosen.budget best.0 0 is refl (one_certificate (cut_at p) cert refl) refl (cut_is_kept p is) refl refl tt refl best.2 (omega arith);
-      second = (refl, refl);
-    })
+    let best = best_before p is in (
+      record { answer = Between cert.lower cert best.1 Memory; expanded = 0; second = second.NotAsked; second_expanded = 0 },
+      record {
+        answer = root_is_true p (cut_at p) cert best.1 chosen.budget best.0 0 is refl (one_certificate (cut_at p) cert refl) refl (cut_is_kept p is) refl refl tt refl best.2 (omega arith);
+        second = (refl, refl);
+      },
+    )

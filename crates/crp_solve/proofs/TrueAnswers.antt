@@ -19,8 +19,8 @@ use Rattle.crp_search.specs.Searched.{IsClosed}
 use Rattle.crp_solve.specs.declared.answer.Answer.{Answer}
 use Rattle.crp_solve.specs.declared.answer.Answer.TheVariants.{Optimal, NoPlan, Between}
 use Rattle.crp_solve.specs.declared.answer.Cause.TheVariants.{Budget, Memory}
-use Rattle.crp_solve.specs.Answers.{path_in, count_of, IsFirstLimit, IsPlanOf, IsCut, IsOneCut, HasNeededBranches, IsTrueAnswer}
-use Rattle.crp_solve.specs.Searches.{IsSearched, IsAbout, IsBestMet, IsEndedSearch}
+use Rattle.crp_solve.specs.Answers.{path_in, count_of, IsPlanOf, IsCut, IsOneCut, HasNeededBranches, IsTrueAnswer}
+use Rattle.crp_solve.specs.Searches.{BeginsWithin, IsSearched, IsAbout, IsBestMet, IsEndedSearch}
 use Rattle.crp_solve.proofs.Ahead.{ahead_of_root}
 use Rattle.crp_solve.proofs.Limits.{greedy_met, count_low}
 use Rattle.crp_solve.proofs.Covered.{lowest_part, lower_low, accepted}
@@ -71,12 +71,13 @@ looks_ahead p budget first view cert plan s w at =
     (λ in_vain. omega (arith, in_vain.1, ahead_of_root p cut.path s cut.place a.is_problem at here))
     (sr.closed i e lti))
 
--- each branch stands below the first limit
-pub needed_branches : (p : Problem) (first : ℕ) (view : View) (cert : Certificate) → IsFirstLimit p first → All (IsSearched p first view) cert.parts → HasNeededBranches p cert
-needed_branches p first view cert first_is all = record {
-  first = first;
-  is_first = first_is;
-  below = All-weaker (IsSearched p first view) (λ part. All (λ node. least_through node < first) (branches_in part)) (λ part s. s.below) cert.parts all;
+-- each branch stands below the first limit, since the search began with no more
+pub needed_branches : (p : Problem) (first : ℕ) (view : View) (cert : Certificate) → BeginsWithin p first → All (IsSearched p first view) cert.parts → HasNeededBranches p cert
+needed_branches p first view cert begun all = record {
+  first = begun.limit;
+  is_first = begun.is_limit;
+  below = All-weaker (IsSearched p first view) (λ part. All (λ node. least_through node < begun.limit) (branches_in part))
+      (λ part s. All-weaker (λ node. least_through node < first) (λ node. least_through node < begun.limit) (λ node lt. omega (arith, lt, begun.within)) (branches_in part) s.below) cert.parts all;
 }
 
 -- the plan has no more relocations than the bound: it is a best one
@@ -162,12 +163,12 @@ ahead_is_true p budget first expanded cert plan a one t within lower =
       certificate = a.certificate;
       accepted = acc;
       needed = record {
-        first = first;
-        is_first = t.first_is;
-        below = subst (All (λ part. All (λ node. least_through node < first) (branches_in part))) (sym one.alone)
-            (All-cons (λ (part : ProblemPart). All (λ node. least_through node < first) (branches_in part)) one.part []
-            (All-same (λ node. least_through node < first) (branches_in one.part) [] (no_branches one.part (All-contains IsKeptPart cert.parts one.part a.kept (subst (λ l. Contains l one.part) (sym one.alone) (0, omega arith, refl))) one.cut) (All-nil (λ (node : Node). least_through node < first)))
-            (All-nil (λ (part : ProblemPart). All (λ node. least_through node < first) (branches_in part))));
+        first = t.first_is.limit;
+        is_first = t.first_is.is_limit;
+        below = subst (All (λ part. All (λ node. least_through node < t.first_is.limit) (branches_in part))) (sym one.alone)
+            (All-cons (λ (part : ProblemPart). All (λ node. least_through node < t.first_is.limit) (branches_in part)) one.part []
+            (All-same (λ node. least_through node < t.first_is.limit) (branches_in one.part) [] (no_branches one.part (All-contains IsKeptPart cert.parts one.part a.kept (subst (λ l. Contains l one.part) (sym one.alone) (0, omega arith, refl))) one.cut) (All-nil (λ (node : Node). least_through node < t.first_is.limit)))
+            (All-nil (λ (part : ProblemPart). All (λ node. least_through node < t.first_is.limit) (branches_in part))));
       };
     }
 

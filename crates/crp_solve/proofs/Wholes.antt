@@ -15,8 +15,8 @@ use Rattle.crp_gather.specs.Gathers.{AreWhole}
 use Rattle.crp_gather.proofs.Wholes.{whole_balanced}
 use Rattle.crp_pool.specs.Weigh.{weigh, SameNames}
 use Rattle.crp_pool.proofs.Hands.{weigh-append}
-use Rattle.crp_solve.specs.Answers.{path_in, count_of, IsFirstLimit, IsPlanOf}
-use Rattle.crp_solve.specs.Searches.{IsSearched, IsEndedSearch}
+use Rattle.crp_solve.specs.Answers.{path_in, count_of, IsPlanOf}
+use Rattle.crp_solve.specs.Searches.{BeginsWithin, IsSearched, IsEndedSearch}
 use Rattle.crp_solve.specs.Desks.{count_or}
 use Rattle.crp_solve.specs.Groups.{given_in}
 use Rattle.crp_solve.specs.Rests.{IsAllDone}
@@ -65,7 +65,7 @@ pub record IsClosedAt (start budget spent limit : ℕ) (view : View) : Type 0 wh
   pub mine : view.mine ≤ start
 
 -- so the whole problem was searched
-pub whole_together : (p : Problem) (budget first spent limit : ℕ) (view : View) (xs : List ProblemPart) (cert : Certificate) (best plan : Option ProblemPath) → IsProblem p → IsFirstLimit p first → IsClosedAt first budget spent limit view →
+pub whole_together : (p : Problem) (budget first spent limit : ℕ) (view : View) (xs : List ProblemPart) (cert : Certificate) (best plan : Option ProblemPath) → IsProblem p → BeginsWithin p first → IsClosedAt first budget spent limit view →
     All (IsSearched p first view) xs → IsAllDone view xs → IsPermutation xs cert.parts → IsAbout p cert → view.mine ≡ count_or first (path_in best) →
     IfSome plan (IsPlanOf p) → count_of p (path_in plan) ≡ count_or first (path_in best) → IsEndedSearch p budget first view cert plan
 whole_together p budget first spent limit view xs cert best plan is first_is closed all done moved about mine plan_is count =

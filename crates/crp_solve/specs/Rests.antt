@@ -8,8 +8,8 @@ use Rattle.crp_incumbent.specs.declared.rule.Key.{Key}
 use Rattle.crp_incumbent.specs.Rule.{all_shares}
 use Rattle.crp_incumbent.specs.Seats.{Shared, Seat}
 use Rattle.crp_pool.specs.Weigh.{SameNames}
-use Rattle.crp_solve.specs.Answers.{path_in, count_of, IsFirstLimit, IsPlanOf}
-use Rattle.crp_solve.specs.Searches.{IsEndedSearch}
+use Rattle.crp_solve.specs.Answers.{path_in, count_of, IsPlanOf}
+use Rattle.crp_solve.specs.Searches.{BeginsWithin, IsEndedSearch}
 use Rattle.crp_solve.specs.Desks.{count_or}
 use Rattle.crp_gather.specs.Settled.{branches_in_all}
 use Rattle.crp_solve.specs.Groups.{Keeping, given_in}
@@ -35,12 +35,12 @@ pub record AreDone (keeps : Keeping) (key : Key) (of : Shared) (seat : Seat) (pl
   pub kept : keeps of seat.view plan parts
   pub all : short ≡ false → IsAllDone seat.view parts
 
--- a search begins with the relocations of this plan, the greedy one; where there is none, with the cap
-pub record IsStartLimit (p : Problem) (first : ℕ) (greedy : Option ProblemPath) : Type 0 where
+-- a search begins with the relocations of this plan, which are no more than the greedy one's; where there is none, with the cap
+pub record IsStartLimit (p : Problem) (first : ℕ) (known : Option ProblemPath) : Type 0 where
   pub is_problem : IsProblem p
-  pub plan_is : IfSome greedy (IsPlanOf p)
-  pub first_is : IsFirstLimit p first
-  pub count : first ≡ count_of p (path_in greedy)
+  pub plan_is : IfSome known (IsPlanOf p)
+  pub first_is : BeginsWithin p first
+  pub count : first ≡ count_of p (path_in known)
 
 -- what workers found together: with any plan of the problem that has as many relocations as their best one (or, where they have none, as the limit at the
 -- start) they have searched the whole problem

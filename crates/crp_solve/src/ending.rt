@@ -1,6 +1,6 @@
 //! The end of a search by many workers: the shared words are closed, and the parts become one certificate.
 ghost use Rattle.std.specs.Prelude.{◌≤◌, IfOk, IfErr};
-ghost use Rattle.crp_solve.specs.Answers.{IsFirstLimit};
+ghost use Rattle.crp_solve.specs.Searches.{BeginsWithin};
 ghost use Rattle.crp_solve.specs.Rests.{AreDone, IsFoundTogether};
 ghost use Rattle.crp_solve.specs.Groups.{IsKeptSoFar};
 
@@ -30,7 +30,7 @@ pub(crate) fn ended(
     budget: u64,
     done: Done,
 ) -> Result<Together, u64>
-    requires first { IsFirstLimit problem.now shared.key.start }
+    requires first { BeginsWithin problem.now shared.key.start }
     requires done { AreDone IsKeptSoFar (record { problem = problem.now; start = shared.key.start; budget = budget }) shared done.seat done.best done.parts.items done.short }
     ensures found { IfOk result (λ r. IsFoundTogether problem.now budget shared.key.start r.cert r.best r.expanded) }
     ensures within { IfErr result (λ expanded. expanded ≤ budget) }

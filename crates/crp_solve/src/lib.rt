@@ -24,6 +24,7 @@ mod second;
 mod settings;
 mod solver;
 mod solving;
+mod start_plan;
 mod together;
 mod working;
 
@@ -32,6 +33,6 @@ pub use common::{Gate, NoGate};
 pub use ending::Together;
 pub use group::Group;
 pub use laws::{answers_agree, each_has_an_answer, one_first_limit};
-pub use settings::{MAX_BUDGET, MAX_SPLIT, MAX_WORKERS, Settings, SettingsFault};
+pub use settings::{MAX_BEAM, MAX_BUDGET, MAX_SPLIT, MAX_WORKERS, Settings, SettingsFault};
 pub use solver::{answer_to_all, solve};
 pub use solving::{answer_to, solve_alone};

@@ -3,7 +3,7 @@ ghost use Rattle.std.specs.Prelude.{◌≡◌, ◌+◌, ◌<◌, ◌≤◌, fals
 ghost use Rattle.crp_incumbent.specs.Seats.{Shared as Words, Seat as Place};
 ghost use Rattle.crp_pool.specs.Seats.{IsEverySeat, all_takes};
 ghost use Rattle.crp_solve.specs.Groups.{IsUnusedSeat};
-ghost use Rattle.crp_solve.specs.Answers.{IsFirstLimit};
+ghost use Rattle.crp_solve.specs.Searches.{BeginsWithin};
 ghost use Rattle.crp_solve.specs.Rests.{IsAllDone, AreDone, IsFoundTogether};
 
 use crate::aim::Aim;
@@ -165,7 +165,7 @@ pub(crate) fn search_together<R: Threads + Wait + Sync, G: Gate + Sync>(
     gate: &G,
     first: u32,
 ) -> Result<Together, u64>
-    requires { IsFirstLimit problem.now first }
+    requires { BeginsWithin problem.now first }
     ensures found { IfOk result (λ r. IsFoundTogether problem.now settings.budget first r.cert r.best r.expanded) }
     ensures within { IfErr result (λ expanded. expanded ≤ settings.budget) }
 {

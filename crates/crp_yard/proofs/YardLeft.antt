@@ -1,6 +1,6 @@
 -- Complete plans leave a yard as some other.
 use Rattle.std.proofs.Common.{◌≡◌, ℕ, List, [], ◌∷◌, All, Option, Some, None, MatchOption, refl}
-use Rattle.std.specs.List.{AllByRecursion, find}
+use Rattle.std.specs.List.{AllByRecursion}
 use Rattle.crp_plan.specs.BayNames.{same_bay}
 use Rattle.crp_yard.specs.declared.bay_plan.BayPlan.{BayPlan}
 use Rattle.crp_yard.specs.Inventory.{Inventory, StackedBay}

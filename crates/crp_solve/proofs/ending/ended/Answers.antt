@@ -3,7 +3,7 @@ use Rattle.crp_incumbent.specs.declared.rule.Key.{Key}
 use Rattle.crp_plan.specs.Bay.{Problem}
 use Rattle.crp_tree.specs.Parts.{IsAbout}
 use Rattle.crp_solve.proofs.Wholes.{IsClosedAt, all_whole, whole_together}
-use Rattle.crp_solve.specs.Answers.{IsFirstLimit}
+use Rattle.crp_solve.specs.Searches.{BeginsWithin}
 use Rattle.crp_solve.specs.Rests.{IsFoundTogether}
 use Rattle.crp_gather.specs.Gathers.{IsGatherFault}
 use Rattle.crp_gather.proofs.Wholes.{whole_not_refused}
@@ -25,7 +25,7 @@ returns-in-Ok-clause-found c =
       granted = omega (arith, c.min-expanded.ensures, t.granted, budget);
       best_is = kept.plan_is;
       whole = λ plan is count. whole_together key.problem c.args.budget key.start totals.spent totals.limit view c.args.done.parts.items c.in-Ok.cert c.args.done.best plan kept.is_problem
-          (subst (λ (q : Problem). IsFirstLimit q key.start) (sym here) c.requires.first) closed
+          (subst (λ (q : Problem). BeginsWithin q key.start) (sym here) c.requires.first) closed
           all.searched (done.all c.if-short.false) c.in-Ok.ensures.parts (subst (λ (q : Problem). IsAbout q c.in-Ok.cert) (sym here) c.in-Ok.ensures.about) kept.mine is count;
     })
 

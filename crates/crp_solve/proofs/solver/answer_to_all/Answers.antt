@@ -20,5 +20,5 @@ pub returns-in_ok-answer-in-Err-clause-true_answer : goal.returns-in_ok-answer-i
 returns-in_ok-answer-in-Err-clause-true_answer c budget first begun shown found within =
     let out = c.without_second-in-Err.ensures in
     same_answer c.args.problem.now budget budget c.in_ok-answer-in-Err.answer c.without_second-in-Err.result.answer c.in-Err.expanded c.without_second-in-Err.result.expanded refl (sym out.answer) (sym out.expanded)
-    (c.in_ok-answer-in-Err.ensures.true_answer budget first c.in-Err.expanded (subst (IsBestMet c.args.problem.now first) (sym c.shorter_of.ensures.shorter) (shorter_met c.args.problem.now first c.args.shown c.args.greedy begun shown))
+    (c.in_ok-answer-in-Err.ensures.true_answer budget first c.in-Err.expanded (subst (IsBestMet c.args.problem.now first) (sym c.shorter_of.ensures.shorter) (shorter_met c.args.problem.now first c.args.shown c.args.known begun shown))
     (subst (λ o. IfErr o (λ expanded. expanded ≤ budget)) c.in-Err.is within))

@@ -1,16 +1,12 @@
 use Rattle.std.proofs.Common.{◌≡◌, sym, ◌∙◌, subst, IfOk}
 use Rattle.crp_solve.specs.Workers.{LoneWorker, best_count}
 use Rattle.crp_solve.specs.Searches.{IsBestMet, IsEndedSearch}
-use Rattle.crp_solve.proofs.Starting.{first_is_plan, first_is_limit}
 use Rattle.crp_solve.proofs.TrueAnswers.{same_answer}
 use Rattle.crp_solve.proofs.solving.fewest_alone.Goals as goal
 
-pub new-worker-requires-clause-plan : goal.new-worker-requires-clause-plan
-new-worker-requires-clause-plan c = first_is_plan c.args.problem.now c.first_plan.result c.first_plan.ensures.problem c.first_plan.ensures.greedy
-
 pub search_all-found-requires-clause-fresh : goal.search_all-found-requires-clause-fresh
 search_all-found-requires-clause-fresh c = record {
-  first = rw (c.new-worker.ensures.problem, c.new-worker.ensures.plan) (first_is_limit c.args.problem.now c.first_plan.result c.first_plan.ensures.greedy c.first_plan.ensures.none);
+  first = rw (c.new-worker.ensures.problem, c.new-worker.ensures.plan) c.start_plan-known.ensures.begins;
   none_granted = c.new-worker.ensures.none_granted;
 }
 
