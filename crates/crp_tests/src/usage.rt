@@ -339,7 +339,7 @@ fn shows_help(rt: HostRuntime) {
 }
 
 // What the help of `solve` says of its words, its options and their defaults.
-const HELP: [&str; 19] = [
+const HELP: [&str; 21] = [
     "Usage: crp solve [OPTIONS] <YARD> <MOVINS>",
     "--rows <N>",
     "1 to 12 [default: 6]",
@@ -357,6 +357,8 @@ const HELP: [&str; 19] = [
     "--budget <N>",
     "0 to 1099511627776 [default: 1000000]",
     "--first",
+    "--beam <N>",
+    "0 to 10000 [default: 0]",
     "--cert <FILE>",
     "--after <FILE>",
 ];

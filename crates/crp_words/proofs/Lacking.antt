@@ -5,7 +5,7 @@ use Rattle.std.specs.declared.num.ParseIntError.{ParseIntError}
 use Rattle.clap.specs.Words.{Row, Text}
 use Rattle.clap.specs.Matches.{ReadsOne}
 use Rattle.crp_solve.specs.Chosen.{Chosen}
-use Rattle.crp_words.specs.Words.{Asks, HasBudget, HasNumber, HasNumberBeyond, HasNumberWithin, FindsRows, HasSearch, HasSettings, HasSplit, FindsTiers, HasWorkers, MayFindHeights, IsBudgetBeyond, IsSplitBeyond, AreRowsBeyond, AreTiersBeyond, AreHeightsBeyond, AreWorkersBeyond, IsFault, IsJust, IsSearchFault, IsSizedTwice, IsSolveFault, IsWordsOrMemory, Lacks, ReadsNumber}
+use Rattle.crp_words.specs.Words.{Asks, HasBudget, HasNumber, HasNumberBeyond, HasNumberWithin, FindsRows, HasSearch, HasSettings, HasSplit, HasBeam, FindsTiers, HasWorkers, MayFindHeights, IsBudgetBeyond, IsSplitBeyond, IsBeamBeyond, AreRowsBeyond, AreTiersBeyond, AreHeightsBeyond, AreWorkersBeyond, IsFault, IsJust, IsSearchFault, IsSizedTwice, IsSolveFault, IsWordsOrMemory, Lacks, ReadsNumber}
 use Rattle.crp_commands.specs.declared.job.Job.{Job}
 use Rattle.crp_report.specs.Chosen.{RunChosen}
 use Rattle.crp_commands.specs.declared.job.FileCommand.TheVariants as command
@@ -15,7 +15,7 @@ use Rattle.crp_words.specs.declared.usage.SettingFault.{SettingFault}
 use Rattle.crp_words.specs.declared.usage.SettingFault.TheVariants as setting
 use Rattle.crp_words.specs.declared.usage.Usage.{Usage}
 use Rattle.crp_words.specs.declared.usage.Usage.TheVariants as usage
-use Rattle.crp_solve.specs.declared.settings.TheConstants.{MAX_BUDGET}
+use Rattle.crp_solve.specs.declared.settings.TheConstants.{MAX_BUDGET, MAX_BEAM}
 
 -- what u64's reading of a text gives
 abbrev Gives : List ℕ → Result ℕ ParseIntError → Type 0
@@ -87,6 +87,9 @@ no_budget_fault rows n has beyond = not_both (codes "budget") 0 MAX_BUDGET rows 
 no_split_fault : (rows : List Row) (n : ℕ) → HasSplit rows n → IsSplitBeyond rows → ⊥
 no_split_fault rows n has beyond = not_both (codes "split") 0 8 rows n has beyond
 
+no_beam_fault : (rows : List Row) (n : ℕ) → HasBeam rows n → IsBeamBeyond rows → ⊥
+no_beam_fault rows n has beyond = not_both (codes "beam") 0 MAX_BEAM rows n has beyond
+
 no_rows_fault : (rows : List Row) (n : ℕ) → FindsRows rows n → AreRowsBeyond rows → ⊥
 no_rows_fault rows n has beyond = not_both (codes "rows") 1 12 rows n has beyond
 
@@ -98,6 +101,7 @@ no_search_fault : (rows : List Row) (s : Chosen) → HasSearch rows s → (f : S
 no_search_fault rows s has setting.Workers beyond = no_workers_fault rows s.workers has.0 beyond
 no_search_fault rows s has setting.Budget first = no_budget_fault rows s.budget has.1 first.1
 no_search_fault rows s has setting.Split first = no_split_fault rows s.split has.2 first.2
+no_search_fault rows s has setting.Beam first = no_beam_fault rows s.beam has.3 first.3
 no_search_fault rows s has setting.Rows none = none
 no_search_fault rows s has setting.Tiers none = none
 no_search_fault rows s has setting.Heights none = none
@@ -114,6 +118,7 @@ no_workers rows u = lacks_more (HasWorkers rows) (HasSearch rows) (IsJust settin
     down setting.Workers beyond = inl (refl, beyond)
     down setting.Budget first = inr first.0
     down setting.Split first = inr first.0
+    down setting.Beam first = inr first.0
     down setting.Rows none = absurd none
     down setting.Tiers none = absurd none
     down setting.Heights none = absurd none
@@ -128,6 +133,7 @@ no_budget rows w u workers = lacks_more (HasBudget rows) (HasSearch rows) (IsJus
     down setting.Workers beyond = absurd (no_workers_fault rows w workers beyond)
     down setting.Budget first = inl (refl, first.1)
     down setting.Split first = inr first.1
+    down setting.Beam first = inr first.1
     down setting.Rows none = absurd none
     down setting.Tiers none = absurd none
     down setting.Heights none = absurd none
@@ -142,6 +148,22 @@ no_split rows w b u workers budget = lacks_more (HasSplit rows) (HasSearch rows)
     down setting.Workers beyond = absurd (no_workers_fault rows w workers beyond)
     down setting.Budget first = absurd (no_budget_fault rows b budget first.1)
     down setting.Split first = inl (refl, first.2)
+    down setting.Beam first = inr first.2
+    down setting.Rows none = absurd none
+    down setting.Tiers none = absurd none
+    down setting.Heights none = absurd none
+
+-- nor without a beam within its limit
+pub no_beam : (rows : List Row) (w b t : ℕ) (u : Usage) → HasWorkers rows w → HasBudget rows b → HasSplit rows t
+    → Lacks (HasBeam rows) (IsJust setting.Beam (IsBeamBeyond rows)) u → Lacks (HasSearch rows) (IsSearchFault rows) u
+no_beam rows w b t u workers budget split = lacks_more (HasBeam rows) (HasSearch rows) (IsJust setting.Beam (IsBeamBeyond rows)) (IsSearchFault rows) u
+    (λ s has. (s.beam, has.3)) (λ f just. subst (IsSearchFault rows) (sym just.0) ((w, workers), (b, budget), (t, split), just.1)) down
+  where
+    down : (f : SettingFault) → IsSearchFault rows f → IsJust setting.Beam (IsBeamBeyond rows) f ⊎ ((n : ℕ) × HasBeam rows n)
+    down setting.Workers beyond = absurd (no_workers_fault rows w workers beyond)
+    down setting.Budget first = absurd (no_budget_fault rows b budget first.1)
+    down setting.Split first = absurd (no_split_fault rows t split first.2)
+    down setting.Beam first = inl (refl, first.3)
     down setting.Rows none = absurd none
     down setting.Tiers none = absurd none
     down setting.Heights none = absurd none
@@ -153,6 +175,7 @@ search_first : (rows : List Row) (f : SettingFault) → IsSearchFault rows f →
 search_first rows setting.Workers first = first
 search_first rows setting.Budget first = first
 search_first rows setting.Split first = first
+search_first rows setting.Beam first = first
 search_first rows setting.Rows none = absurd none
 search_first rows setting.Tiers none = absurd none
 search_first rows setting.Heights none = absurd none
@@ -166,6 +189,7 @@ no_search rows u = lacks_more (HasSearch rows) (HasSettings rows) (IsSearchFault
     down setting.Workers first = inl first
     down setting.Budget first = inl first
     down setting.Split first = inl first
+    down setting.Beam first = inl first
     down setting.Rows first = inr first.0
     down setting.Tiers first = inr first.0
     down setting.Heights first = inr first.0
@@ -180,6 +204,7 @@ no_rows rows s u search = lacks_more (FindsRows rows) (HasSettings rows) (IsJust
     down setting.Workers first = absurd (no_search_fault rows s search setting.Workers first)
     down setting.Budget first = absurd (no_search_fault rows s search setting.Budget first)
     down setting.Split first = absurd (no_search_fault rows s search setting.Split first)
+    down setting.Beam first = absurd (no_search_fault rows s search setting.Beam first)
     down setting.Rows first = inl (refl, first.1)
     down setting.Tiers first = inr first.1
     down setting.Heights first = inr first.1
@@ -194,6 +219,7 @@ no_tiers rows s r u search has_rows = lacks_more (FindsTiers rows) (HasSettings 
     down setting.Workers first = absurd (no_search_fault rows s search setting.Workers first)
     down setting.Budget first = absurd (no_search_fault rows s search setting.Budget first)
     down setting.Split first = absurd (no_search_fault rows s search setting.Split first)
+    down setting.Beam first = absurd (no_search_fault rows s search setting.Beam first)
     down setting.Rows first = absurd (no_rows_fault rows r has_rows first.1)
     down setting.Tiers first = inl (refl, first.2)
     down setting.Heights first = inr first.2
@@ -208,6 +234,7 @@ no_heights rows s r t u search has_rows has_tiers = lacks_more (MayFindHeights r
     down setting.Workers first = absurd (no_search_fault rows s search setting.Workers first)
     down setting.Budget first = absurd (no_search_fault rows s search setting.Budget first)
     down setting.Split first = absurd (no_search_fault rows s search setting.Split first)
+    down setting.Beam first = absurd (no_search_fault rows s search setting.Beam first)
     down setting.Rows first = absurd (no_rows_fault rows r has_rows first.1)
     down setting.Tiers first = absurd (no_tiers_fault rows t has_tiers first.2)
     down setting.Heights first = inl (refl, first.3)

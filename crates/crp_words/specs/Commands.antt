@@ -60,6 +60,10 @@ split_rule = number_rule (codes "split") (codes "2")
 abbrev pub first_rule : Rule
 first_rule = flag_rule (codes "first")
 
+-- the beam: none where it is not given
+abbrev pub beam_rule : Rule
+beam_rule = number_rule (codes "beam") (codes "0")
+
 -- a command with one option more
 abbrev pub with_option : Rule → Shape → Shape
 with_option rule shape = record shape { rules = shape.rules ++ rule ∷ [] }
@@ -68,9 +72,9 @@ with_option rule shape = record shape { rules = shape.rules ++ rule ∷ [] }
 abbrev pub with_limits : Shape → Shape
 with_limits shape = with_option split_rule (with_option budget_rule (with_option workers_rule shape))
 
--- a command with these, and [--first]
+-- a command with these, [--first] and [--beam N]
 abbrev pub with_search : Shape → Shape
-with_search shape = with_option first_rule (with_limits shape)
+with_search shape = with_option beam_rule (with_option first_rule (with_limits shape))
 
 -- a command with [--rows N] [--tiers N]
 abbrev pub with_rows : Shape → Shape

@@ -24,7 +24,7 @@ use Rattle.crp_words.specs.declared.usage.SettingFault.TheVariants as setting
 use Rattle.crp_report.specs.Chosen.{RunChosen}
 use Rattle.crp_words.specs.declared.usage.Usage.{Usage}
 use Rattle.crp_words.specs.declared.usage.Usage.TheVariants as usage
-use Rattle.crp_solve.specs.declared.settings.TheConstants.{MAX_BUDGET}
+use Rattle.crp_solve.specs.declared.settings.TheConstants.{MAX_BUDGET, MAX_BEAM}
 
 -- no words ask for a replay of the standard input
 abbrev pub words_or_default : List Text → List Text
@@ -89,9 +89,17 @@ IsSplitBeyond found = HasNumberBeyond (codes "split") 0 8 found
 abbrev pub MayAskForFirst : List Row → Bool → Type 0
 MayAskForFirst found first = IsTrue first ↔ IsGivenByWords (codes "first") found
 
+-- the beam that was found, at most 10000
+abbrev pub HasBeam : List Row → ℕ → Type 0
+HasBeam found n = HasNumberWithin (codes "beam") 0 MAX_BEAM found n
+
+-- the beam that was found is too wide
+abbrev pub IsBeamBeyond : List Row → Type 0
+IsBeamBeyond found = HasNumberBeyond (codes "beam") 0 MAX_BEAM found
+
 -- the settings of a search that were found, within their limits
 abbrev pub HasSearch : List Row → Chosen → Type 0
-HasSearch found s = HasWorkers found s.workers × HasBudget found s.budget × HasSplit found s.split × MayAskForFirst found s.first
+HasSearch found s = HasWorkers found s.workers × HasBudget found s.budget × HasSplit found s.split × HasBeam found s.beam × MayAskForFirst found s.first
 
 -- the rows of a bay that were found, 1 to 12
 abbrev pub FindsRows : List Row → ℕ → Type 0
@@ -174,11 +182,12 @@ abbrev pub Asks : Text → List Row → Job → Type 0
 Asks name found (job.OneFile file c) = AsksCommand name found c × HasText (codes "file") found file.now
 Asks name found (job.Solve names settings) = (name ≡ codes "solve") × ¬ IsSizedTwice found × HasFiles found names × HasSettings found settings
 
--- the first number of a search beyond its limits: the workers, then the budget, then the split
+-- the first number of a search beyond its limits: the workers, then the budget, then the split, then the beam
 abbrev pub IsSearchFault : List Row → SettingFault → Type 0
 IsSearchFault found setting.Workers = AreWorkersBeyond found
 IsSearchFault found setting.Budget = ((n : ℕ) × HasWorkers found n) × IsBudgetBeyond found
 IsSearchFault found setting.Split = ((n : ℕ) × HasWorkers found n) × ((n : ℕ) × HasBudget found n) × IsSplitBeyond found
+IsSearchFault found setting.Beam = ((n : ℕ) × HasWorkers found n) × ((n : ℕ) × HasBudget found n) × ((n : ℕ) × HasSplit found n) × IsBeamBeyond found
 IsSearchFault found setting.Rows = ⊥
 IsSearchFault found setting.Tiers = ⊥
 IsSearchFault found setting.Heights = ⊥

@@ -1,7 +1,7 @@
 //! The command line: each command with its files and options.
 ghost use Rattle.std.specs.Prelude.{◌≡◌, IfOk};
 ghost use Rattle.clap.specs.Words.{App, Shape, app_of, with_subcommand};
-ghost use Rattle.crp_words.specs.Commands.{IsArg, IsCommand, alone, budget_rule, crp, file_rule, first_rule, flag_rule, leaf as leaf_shape, leaves, number_rule, optional_rule, prove as prove_shape, solve as solve_shape, solve_files as solve_files_shape, split_rule, text_rule, top_command as top_shape, with_orders, with_outputs, with_search, with_size, workers_rule};
+ghost use Rattle.crp_words.specs.Commands.{IsArg, IsCommand, alone, beam_rule, budget_rule, crp, file_rule, first_rule, flag_rule, leaf as leaf_shape, leaves, number_rule, optional_rule, prove as prove_shape, solve as solve_shape, solve_files as solve_files_shape, split_rule, text_rule, top_command as top_shape, with_orders, with_outputs, with_search, with_size, workers_rule};
 
 use clap::{Arg, ArgAction, Command, value_parser};
 use std::alloc::{AllocError, Global};
@@ -122,6 +122,17 @@ fn first<'a>(alloc: Global) -> Arg<'a>
     )
 }
 
+fn beam<'a>(alloc: Global) -> Arg<'a>
+    ensures { IsArg beam_rule result }
+{
+    number(
+        alloc,
+        "beam",
+        "0",
+        "Positions that a beam search for the plan to begin with keeps, 0 to 10000",
+    )
+}
+
 // A command with the options of a search.
 fn with_search<'a>(alloc: Global, command: Command<'a>) -> Result<Command<'a>, AllocError>
     ensures { IfOk result (λ new. (shape : Shape) → IsCommand shape command.entry → IsCommand (with_search shape) new) }
@@ -130,7 +141,8 @@ fn with_search<'a>(alloc: Global, command: Command<'a>) -> Result<Command<'a>, A
         .arg(workers(alloc))?
         .arg(budget(alloc))?
         .arg(split(alloc))?
-        .arg(first(alloc))
+        .arg(first(alloc))?
+        .arg(beam(alloc))
 }
 
 // The command `prove`.

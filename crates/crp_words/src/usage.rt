@@ -13,6 +13,9 @@ pub enum SettingFault {
     /// The split is above 8.
     #[error("S3")]
     Split,
+    /// The beam keeps more than 10000 positions.
+    #[error("S7")]
+    Beam,
     /// The rows are none or more than 12.
     #[error("S5")]
     Rows,

@@ -1,7 +1,8 @@
 //! What the words of the command line ask for.
-ghost use Rattle.std.specs.Prelude.{◌≡◌, ◌≢◌, ◌↔◌, ◌<◌, ◌+◌, ◌*◌, ℕ, List, length, IfOk, IfErr, IfSome, IfNone, IsTrue, map, option_map, codes};
+ghost use Rattle.std.specs.Prelude.{◌≡◌, ◌≢◌, ◌↔◌, ◌<◌, ◌+◌, ◌*◌, ℕ, List, length, IfOk, IfErr, IfSome, IfNone, IsTrue, false, map, option_map, codes};
 ghost use Rattle.clap.specs.Words.{found_of, kind_of, rows_of};
 ghost use Rattle.crp_plan.specs.Faults.{HasTiers};
+ghost use Rattle.crp_solve.specs.Chosen.{IsWorkers, IsBudget, IsSplitDepth, IsBeam};
 ghost use Rattle.crp_report.specs.Chosen.{CanBeHeights, IsRowCount};
 ghost use Rattle.crp_words.specs.declared.usage.SettingFault.TheVariants as setting;
 ghost use Rattle.crp_words.specs.declared.usage.Usage.TheVariants as usage;
@@ -18,7 +19,7 @@ use crp_commands::{FileCommand, Job, RunFiles};
 use crp_order::Mode;
 use crp_plan::MAX_ROWS;
 use crp_report::{RunFault, RunSettings};
-use crp_solve::{MAX_BUDGET, MAX_SPLIT, MAX_WORKERS, Settings};
+use crp_solve::{MAX_BEAM, MAX_BUDGET, MAX_SPLIT, MAX_WORKERS, Settings};
 use std::alloc::Global;
 
 static NO_WORDS: [&str; 2] = ["replay", "-"];
@@ -28,6 +29,9 @@ const MOST_WORKERS: u64 = MAX_WORKERS as u64;
 
 // The most rows of a path at which subtrees are given away.
 const MOST_SPLIT: u64 = MAX_SPLIT as u64;
+
+// The widest beam.
+const MOST_BEAM: u64 = MAX_BEAM as u64;
 
 // The most rows of a bay.
 const MOST_ROWS: u64 = 12;
@@ -174,6 +178,23 @@ fn order_of(alloc: Global, matches: &ArgMatches<'_>) -> Result<Mode, Usage>
     Err(wrong(alloc, "error: the order is 'listed' or 'stowage'\n"))
 }
 
+// The settings of a search with these numbers, in which the first best plan is not asked for.
+fn settings_with(workers: u32, budget: u64, split: u8, beam: u32) -> Settings
+    requires workers { IsWorkers workers }
+    requires budget { IsBudget budget }
+    requires split { IsSplitDepth split }
+    requires beam { IsBeam beam }
+    ensures { result ≡ record { workers = workers; budget = budget; split = split; first = false; beam = beam } }
+{
+    let Ok(search) = Settings::new(workers, budget, split) else {
+        unreachable!()
+    };
+    let Ok(search) = search.with_beam(beam) else {
+        unreachable!()
+    };
+    search
+}
+
 // The settings of a search.
 fn search_of(alloc: Global, matches: &ArgMatches<'_>) -> Result<Settings, Usage>
     ensures ok { IfOk result (HasSearch (rows_of (found_of matches.now))) }
@@ -200,10 +221,8 @@ fn search_of(alloc: Global, matches: &ArgMatches<'_>) -> Result<Settings, Usage>
         (0, MOST_SPLIT),
         SettingFault::Split,
     )?;
-    let search = match Settings::new(workers as u32, budget, split as u8) {
-        Ok(search) => search,
-        Err(_) => unreachable!(),
-    };
+    let beam = number_within(alloc, matches, "beam", (0, MOST_BEAM), SettingFault::Beam)?;
+    let search = settings_with(workers as u32, budget, split as u8, beam as u32);
     if is_given(matches, "first") {
         Ok(search.with_first())
     } else {

@@ -81,10 +81,11 @@ pub(super) const OF_RUNS: [Fault; 5] = [
 ];
 
 // Settings beyond their limits.
-pub(super) const OF_SETTINGS: [SettingFault; 6] = [
+pub(super) const OF_SETTINGS: [SettingFault; 7] = [
     SettingFault::Workers,
     SettingFault::Budget,
     SettingFault::Split,
+    SettingFault::Beam,
     SettingFault::Heights,
     SettingFault::Rows,
     SettingFault::Tiers,

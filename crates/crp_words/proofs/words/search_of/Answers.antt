@@ -1,6 +1,6 @@
 use Rattle.std.proofs.lemmas.Result.{err_from_is_err_and}
 use Rattle.clap.specs.Words.{found_of, rows_of}
-use Rattle.crp_words.proofs.Lacking.{no_workers, no_budget, no_split}
+use Rattle.crp_words.proofs.Lacking.{no_workers, no_budget, no_split, no_beam}
 use Rattle.crp_words.proofs.words.search_of.Goals as goal
 
 pub returns-in_err-workers-clause-err : goal.returns-in_err-workers-clause-err
@@ -17,3 +17,8 @@ pub returns-in_err-split-clause-err : goal.returns-in_err-split-clause-err
 returns-in_err-split-clause-err c =
     let p = err_from_is_err_and c.from_residual-in_err-split.result c.from_residual-in_err-split.ensures.1 in
     rw (p.1, p.2) (no_split (rows_of (found_of c.args.matches.now)) c.in_ok-workers.workers c.in_ok-budget.budget c.in_err-split.field-0.0 c.in_ok-workers.ensures.ok c.in_ok-budget.ensures.ok c.in_err-split.ensures.err)
+
+pub returns-in_err-beam-clause-err : goal.returns-in_err-beam-clause-err
+returns-in_err-beam-clause-err c =
+    let p = err_from_is_err_and c.from_residual-in_err-beam.result c.from_residual-in_err-beam.ensures.1 in
+    rw (p.1, p.2) (no_beam (rows_of (found_of c.args.matches.now)) c.in_ok-workers.workers c.in_ok-budget.budget c.in_ok-split.split c.in_err-beam.field-0.0 c.in_ok-workers.ensures.ok c.in_ok-budget.ensures.ok c.in_ok-split.ensures.ok c.in_err-beam.ensures.err)
