@@ -66,7 +66,7 @@ digit_from : (b : ℕ) → 48 ≤ b → b ≤ 57 → is_ascii_digit b ≡ true
 digit_from b lo hi = and_from (nat_le 48 b) (nat_le b 57) (le-leb 48 b lo) (le-leb b 57 hi)
 
 -- one more digit behind a number
-decimal_more : (v b : ℕ) → 1 ≤ v → 48 ≤ b → b ≤ 57 → 10 * v + (b - 48) ≤ 9999 → decimal (10 * v + (b - 48)) ≡ decimal v ++ b ∷ []
+decimal_more : (v b : ℕ) → 1 ≤ v → 48 ≤ b → b ≤ 57 → 10 * v + (b - 48) ≤ 4294967295 → decimal (10 * v + (b - 48)) ≡ decimal v ++ b ∷ []
 decimal_more v b some lo hi low =
     let n : ℕ = 10 * v + (b - 48) in
     let q : n / 10 ≡ v = omega arith in
@@ -74,7 +74,7 @@ decimal_more v b some lo hi low =
     decimal_step n (omega arith) (omega arith) ∙ ap (λ x. decimal x ++ (48 + n % 10) ∷ []) q ∙ ap (λ x. decimal v ++ x ∷ []) r
 
 -- digits that were read go on the number before them
-pub digits_take : (limit value : ℕ) (bytes : List ℕ) (n : ℕ) (rest : List ℕ) → limit ≤ 9999 → 1 ≤ value → value ≤ limit → digits_at limit value bytes ≡ Some (n, rest) →
+pub digits_take : (limit value : ℕ) (bytes : List ℕ) (n : ℕ) (rest : List ℕ) → limit ≤ 4294967295 → 1 ≤ value → value ≤ limit → digits_at limit value bytes ≡ Some (n, rest) →
     (decimal value ++ bytes ≡ decimal n ++ rest) × (n ≤ limit)
 digits_take limit value [] n rest most some low e =
     let p = some_pair_parts value n [] rest e in
@@ -95,7 +95,7 @@ digits_take limit value (b ∷ bytes) n rest most some low e =
     (chosen (is_ascii_digit b) (cond (nat_lt limit more) None (digits_at limit more bytes)) (Some (value, b ∷ bytes)) (Some (n, rest)) e)
 
 -- a number that was read is what the bytes begin with
-pub number_takes : (limit : ℕ) (bytes : List ℕ) (n : ℕ) (rest : List ℕ) → 9 ≤ limit → limit ≤ 9999 → number_at limit bytes ≡ Some (n, rest) → (bytes ≡ decimal n ++ rest) × (n ≤ limit)
+pub number_takes : (limit : ℕ) (bytes : List ℕ) (n : ℕ) (rest : List ℕ) → 9 ≤ limit → limit ≤ 4294967295 → number_at limit bytes ≡ Some (n, rest) → (bytes ≡ decimal n ++ rest) × (n ≤ limit)
 number_takes limit [] n rest least most e = absurd cc
 number_takes limit (b ∷ bytes) n rest least most e =
     ⊎_elim
@@ -114,7 +114,7 @@ number_takes limit (b ∷ bytes) n rest least most e =
     (chosen (b == 48) (Some (0, bytes)) (cond (is_ascii_digit b) (digits_at limit (b - 48) bytes) None) (Some (n, rest)) e)
 
 -- a number's digits are read as far as they go
-started : (limit n : ℕ) (more : List ℕ) → limit ≤ 9999 → 1 ≤ n → n ≤ limit → number_at limit (decimal n ++ more) ≡ digits_at limit n more
+started : (limit n : ℕ) (more : List ℕ) → limit ≤ 4294967295 → 1 ≤ n → n ≤ limit → number_at limit (decimal n ++ more) ≡ digits_at limit n more
 started limit n more most some low = decimal_by_steps P one step n (omega arith) more some low
   where
     P : ℕ → List ℕ → Type 0
@@ -134,7 +134,7 @@ started limit n more most some low = decimal_by_steps P one step n (omega arith)
         ap (number_at limit) (append_assoc ds (b ∷ []) more) ∙ h (b ∷ more) (omega arith) (omega arith) ∙ next
 
 -- a number is read again where no digit follows
-pub number_again : (limit n stop : ℕ) (rest : List ℕ) → 9 ≤ limit → limit ≤ 9999 → n ≤ limit → is_ascii_digit stop ≡ false → number_at limit (decimal n ++ stop ∷ rest) ≡ Some (n, stop ∷ rest)
+pub number_again : (limit n stop : ℕ) (rest : List ℕ) → 9 ≤ limit → limit ≤ 4294967295 → n ≤ limit → is_ascii_digit stop ≡ false → number_at limit (decimal n ++ stop ∷ rest) ≡ Some (n, stop ∷ rest)
 number_again limit n stop rest least most low not =
     ⊎_elim
     (λ none. let z : 0 ≡ n = omega arith in
@@ -143,7 +143,7 @@ number_again limit n stop rest least most low not =
     (cases_lt n 1)
 
 -- the same behind a space
-pub spaced_takes : (limit : ℕ) (bytes : List ℕ) (n : ℕ) (rest : List ℕ) → 9 ≤ limit → limit ≤ 9999 → spaced_at limit bytes ≡ Some (n, rest) → (bytes ≡ 32 ∷ (decimal n ++ rest)) × (n ≤ limit)
+pub spaced_takes : (limit : ℕ) (bytes : List ℕ) (n : ℕ) (rest : List ℕ) → 9 ≤ limit → limit ≤ 4294967295 → spaced_at limit bytes ≡ Some (n, rest) → (bytes ≡ 32 ∷ (decimal n ++ rest)) × (n ≤ limit)
 spaced_takes limit [] n rest least most e = absurd cc
 spaced_takes limit (b ∷ bytes) n rest least most e =
     let c = if_some (b == 32) (number_at limit bytes) (n, rest) e in
@@ -152,7 +152,7 @@ spaced_takes limit (b ∷ bytes) n rest least most e =
     (ap (λ x. x ∷ bytes) same ∙ ap (λ x. 32 ∷ x) r.0, r.1)
 
 -- and again behind a space
-pub spaced_again : (limit n stop : ℕ) (rest : List ℕ) → 9 ≤ limit → limit ≤ 9999 → n ≤ limit → is_ascii_digit stop ≡ false → spaced_at limit (32 ∷ (decimal n ++ stop ∷ rest)) ≡ Some (n, stop ∷ rest)
+pub spaced_again : (limit n stop : ℕ) (rest : List ℕ) → 9 ≤ limit → limit ≤ 4294967295 → n ≤ limit → is_ascii_digit stop ≡ false → spaced_at limit (32 ∷ (decimal n ++ stop ∷ rest)) ≡ Some (n, stop ∷ rest)
 spaced_again limit n stop rest least most low not = number_again limit n stop rest least most low not
 
 -- ---- numbers to the end of a line
@@ -220,7 +220,7 @@ stops [] rest = record { stop = 10; rest = rest; is = refl; not_digit = refl }
 stops (n ∷ ns) rest = record { stop = 32; rest = (decimal n ++ spaced ns) ++ 10 ∷ rest; is = refl; not_digit = refl }
 
 -- a number of a line is read again
-pub spaced_again_at : (limit n : ℕ) (bytes : List ℕ) → 9 ≤ limit → limit ≤ 9999 → n ≤ limit → Stops bytes → spaced_at limit (32 ∷ (decimal n ++ bytes)) ≡ Some (n, bytes)
+pub spaced_again_at : (limit n : ℕ) (bytes : List ℕ) → 9 ≤ limit → limit ≤ 4294967295 → n ≤ limit → Stops bytes → spaced_at limit (32 ∷ (decimal n ++ bytes)) ≡ Some (n, bytes)
 spaced_again_at limit n bytes least most low s =
     ap (λ x. spaced_at limit (32 ∷ (decimal n ++ x))) s.is ∙ spaced_again limit n s.stop s.rest least most low s.not_digit ∙ ap (λ x. Some (n, x)) (sym s.is)
 

@@ -43,8 +43,7 @@ pub fn title_of(bytes: &[u8]) -> Option<(Version, &[u8])>
 
 /// A number whose first digit is read, up to the limit, and what follows its digits.
 fn further_digits(limit: u32, first: u32, bytes: &[u8]) -> Option<(u32, &[u8])>
-    requires limit { limit ≤ 9999 }
-    requires first { first ≤ limit }
+    requires { first ≤ limit }
     ensures value { Reads (λ x. (x.0, x.1.now)) result (digits_at limit first bytes.now) }
     ensures low { IfSome result (λ x. x.0 ≤ limit) }
 {
@@ -53,19 +52,18 @@ fn further_digits(limit: u32, first: u32, bytes: &[u8]) -> Option<(u32, &[u8])>
         if !b.is_ascii_digit() {
             return Some((value, &bytes[i..]));
         }
-        let more = 10 * value + (*b - b'0') as u32;
-        if more > limit {
+        let more = 10 * value as u64 + (*b - b'0') as u64;
+        if more > limit as u64 {
             return None;
         }
-        value = more;
+        value = more as u32;
     }
     Some((value, &bytes[bytes.len()..]))
 }
 
 /// A number up to the limit, without leading zeros, and what follows it.
 pub fn number(limit: u32, bytes: &[u8]) -> Option<(u32, &[u8])>
-    requires most { limit ≤ 9999 }
-    requires least { 9 ≤ limit }
+    requires { 9 ≤ limit }
     ensures value { Reads (λ x. (x.0, x.1.now)) result (number_at limit bytes.now) }
     ensures low { IfSome result (λ x. x.0 ≤ limit) }
 {
@@ -78,8 +76,7 @@ pub fn number(limit: u32, bytes: &[u8]) -> Option<(u32, &[u8])>
 
 /// A space and a number up to the limit.
 pub fn spaced(limit: u32, bytes: &[u8]) -> Option<(u32, &[u8])>
-    requires most { limit ≤ 9999 }
-    requires least { 9 ≤ limit }
+    requires { 9 ≤ limit }
     ensures value { Reads (λ x. (x.0, x.1.now)) result (spaced_at limit bytes.now) }
     ensures low { IfSome result (λ x. x.0 ≤ limit) }
 {

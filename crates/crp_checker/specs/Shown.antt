@@ -11,6 +11,11 @@ use Rattle.crp_checker.specs.Verdicts.{IsVerdict}
 abbrev pub TextShows : Option Problem → List ℕ → Verdict → Type 0
 TextShows wanted bytes verdict = (script : Script) × IsAcceptedText wanted bytes script × IsVerdict script verdict
 
+-- the same of a text for this bay, and with this plan, if it has one
+abbrev pub TextStates : Option Problem → List ℕ → YardBay → Option (List ℕ) → Verdict → Type 0
+TextStates wanted bytes bay plan verdict =
+    (script : Script) × IsAcceptedText wanted bytes script × (script.head.bay ≡ bay) × (script.head.plan ≡ plan) × IsVerdict script verdict
+
 -- the bytes are an accepted text for this bay, and this is what it shows
 abbrev pub TextShowsFor : List ℕ → YardBay → Verdict → Type 0
 TextShowsFor bytes bay verdict = (script : Script) × IsAcceptedText None bytes script × (script.head.bay ≡ bay) × IsVerdict script verdict

@@ -2,11 +2,12 @@
 ghost use Rattle.std.specs.Prelude.{◌≡◌, ◌≤◌, ◌⊎◌, ◌++◌, [], List, ℕ, Option, Some, None, Err, OnOk, OnErr, IfOk, IfErr, length, take};
 ghost use Rattle.std.specs.Option.{option_copied};
 ghost use Rattle.crp_plan.specs.Bay.{Problem as Statement};
-ghost use Rattle.crp_checker.specs.Shown.{TextShows, TextShowsFor};
+ghost use Rattle.crp_checker.specs.Shown.{TextShows, TextShowsFor, TextStates};
 ghost use Rattle.crp_checker.specs.Refusals.{IsRefusal};
 ghost use Rattle.crp_checker.specs.Stages.{HasCome, IsBayIn};
 ghost use Rattle.crp_checker.specs.Fed.{HasRead, IsOutOfMemory};
 
+use crate::accepted::Accepted;
 use crate::bay::same_bay_if;
 use crate::claim::conclude;
 use crate::refused::Refused;
@@ -92,12 +93,10 @@ fn bay_at(stage: &Stage) -> Option<BayName>
     }
 }
 
-/// Whose a certificate is, and what it shows, of which this stage is the end.
-fn finish_at(alloc: Global, stage: Stage) -> Result<(BayName, Verdict), Refused>
-    ensures shown { IfOk result (λ found. (wanted : Option Statement) (bytes : List ℕ) → HasCome wanted bytes stage
-        → TextShows wanted bytes found.1) }
-    ensures bay { IfOk result (λ found. (bytes : List ℕ) → HasCome None bytes stage
-        → TextShowsFor bytes found.0 found.1) }
+/// What a certificate states and shows, of which this stage is the end.
+fn finish_at(alloc: Global, stage: Stage) -> Result<Accepted, Refused>
+    ensures states { IfOk result (λ found. (wanted : Option Statement) (bytes : List ℕ) → HasCome wanted bytes stage
+        → TextStates wanted bytes found.bay found.plan found.verdict) }
     ensures refused { IfErr result (λ refused. (refused ≡ Refused.Memory)
         ⊎ ((wanted : Option Statement) (bytes : List ℕ) → HasCome wanted bytes stage → IsRefusal wanted bytes refused)) }
 {
@@ -159,12 +158,11 @@ impl Checker {
         bay_at(stage)
     }
 
-    /// Whose the certificate is, and what it shows.
-    pub fn finish_for(self) -> Result<(BayName, Verdict), Refused>
-        ensures shown { IfOk result (λ found. (wanted : Option Statement) (bytes : List ℕ) → HasRead wanted bytes self
-            → TextShows wanted bytes found.1) }
-        ensures bay { IfOk result (λ found. (bytes : List ℕ) → HasRead None bytes self
-            → TextShowsFor bytes found.0 found.1) }
+    /// What the certificate states and shows, of which the pieces are the whole text. Else its first fault, or that no
+    /// memory was left.
+    pub fn accept(self) -> Result<Accepted, Refused>
+        ensures states { IfOk result (λ found. (wanted : Option Statement) (bytes : List ℕ) → HasRead wanted bytes self
+            → TextStates wanted bytes found.bay found.plan found.verdict) }
         ensures refused { IfErr result (λ refused. (refused ≡ Refused.Memory)
             ⊎ ((wanted : Option Statement) (bytes : List ℕ) → HasRead wanted bytes self → IsRefusal wanted bytes refused)) }
         ensures spent { IsOutOfMemory self → result ≡ Err Refused.Memory }
@@ -180,8 +178,25 @@ impl Checker {
         }
     }
 
-    /// What the certificate shows, of which the pieces are the whole text. Else its first fault, or that no
-    /// memory was left.
+    /// Whose the certificate is, and what it shows.
+    pub fn finish_for(self) -> Result<(BayName, Verdict), Refused>
+        ensures shown { IfOk result (λ found. (wanted : Option Statement) (bytes : List ℕ) → HasRead wanted bytes self
+            → TextShows wanted bytes found.1) }
+        ensures bay { IfOk result (λ found. (bytes : List ℕ) → HasRead None bytes self
+            → TextShowsFor bytes found.0 found.1) }
+        ensures refused { IfErr result (λ refused. (refused ≡ Refused.Memory)
+            ⊎ ((wanted : Option Statement) (bytes : List ℕ) → HasRead wanted bytes self → IsRefusal wanted bytes refused)) }
+        ensures spent { IsOutOfMemory self → result ≡ Err Refused.Memory }
+    {
+        let Accepted {
+            bay,
+            plan: _,
+            verdict,
+        } = self.accept()?;
+        Ok((bay, verdict))
+    }
+
+    /// What the certificate shows.
     pub fn finish(self) -> Result<Verdict, Refused>
         ensures accepted { IfOk result (λ verdict. (wanted : Option Statement) (bytes : List ℕ) → HasRead wanted bytes self
             → TextShows wanted bytes verdict) }

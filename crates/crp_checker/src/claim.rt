@@ -1,17 +1,17 @@
 //! What a certificate shows, once its text is read.
-ghost use Rattle.std.specs.Prelude.{◌≡◌, ◌⊎◌, ℕ, List, Option, None, IfOk, IfErr};
+ghost use Rattle.std.specs.Prelude.{◌≡◌, ◌⊎◌, ℕ, List, Option, IfOk, IfErr};
 ghost use Rattle.crp_plan.specs.Bay.{Problem as Statement};
 ghost use Rattle.crp_checker.specs.Verdicts.{IsVerdictOf, IsVerdictUnder};
-ghost use Rattle.crp_checker.specs.Shown.{TextShows, TextShowsFor};
+ghost use Rattle.crp_checker.specs.Shown.{TextStates};
 ghost use Rattle.crp_checker.specs.Stages.{HasEnded};
 ghost use Rattle.crp_checker.specs.Refusals.{IsRefusal};
 
+use crate::accepted::Accepted;
 use crate::findings::Findings;
 use crate::needed::hold_names;
 use crate::refused::Refused;
 use crate::verdict::Verdict;
 use crp_cert::Claim;
-use crp_plan::BayName;
 use std::alloc::Global;
 
 /// What is shown by a bound, the cap, and the relocations of a plan, if there is one.
@@ -37,12 +37,10 @@ fn verdict_under(claim: Claim, cap: u32, count: Option<u32>) -> Verdict
     }
 }
 
-/// What the text of a certificate shows, of which this is kept.
-pub fn conclude(alloc: Global, findings: Findings) -> Result<(BayName, Verdict), Refused>
-    ensures shown { IfOk result (λ found. (wanted : Option Statement) (bytes : List ℕ) → HasEnded wanted bytes findings
-        → TextShows wanted bytes found.1) }
-    ensures bay { IfOk result (λ found. (bytes : List ℕ) → HasEnded None bytes findings
-        → TextShowsFor bytes found.0 found.1) }
+/// What the text of a certificate states and shows, of which this is kept.
+pub fn conclude(alloc: Global, findings: Findings) -> Result<Accepted, Refused>
+    ensures states { IfOk result (λ found. (wanted : Option Statement) (bytes : List ℕ) → HasEnded wanted bytes findings
+        → TextStates wanted bytes found.bay found.plan found.verdict) }
     ensures refused { IfErr result (λ refused. (refused ≡ Refused.Memory)
         ⊎ ((wanted : Option Statement) (bytes : List ℕ) → HasEnded wanted bytes findings → IsRefusal wanted bytes refused)) }
 {
@@ -60,5 +58,10 @@ pub fn conclude(alloc: Global, findings: Findings) -> Result<(BayName, Verdict),
         return Err(refused);
     }
     hold_names(alloc, names.into_vec(), given)?;
-    Ok((bay, verdict_under(need.claim, problem.cap(), count)))
+    let verdict = verdict_under(need.claim, problem.cap(), count);
+    Ok(Accepted {
+        bay,
+        plan: need.plan,
+        verdict,
+    })
 }

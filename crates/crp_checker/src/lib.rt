@@ -1,6 +1,7 @@
 //! The independent checker of certificates. It uses nothing of any search.
 #![tactic(auto)]
 
+mod accepted;
 mod bay;
 mod checker;
 mod checking;
@@ -31,6 +32,7 @@ mod verdicts;
 mod watch;
 mod wrong;
 
+pub use accepted::Accepted;
 pub use checker::Checker;
 pub use checking::{check, check_for};
 pub use file::check_file;

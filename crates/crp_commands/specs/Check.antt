@@ -13,7 +13,7 @@ use Rattle.crp_checker.specs.Files.{IsWithoutEnd, IsOtherLine, joined_lines, Fil
 use Rattle.crp_checker.specs.FedFiles.{IsEndedFront}
 use Rattle.crp_commands.specs.declared.outcome.ToolFault.{ToolFault}
 use Rattle.crp_commands.specs.declared.outcome.ToolFault.TheVariants as fault
-use Rattle.crp_report.specs.Report.{bay_words}
+use Rattle.crp_said.specs.Said.{bay_words}
 use Rattle.crp_commands.specs.Calls.{CallSeen, IsTextWithin}
 
 -- the relocations of the plan, if there is one

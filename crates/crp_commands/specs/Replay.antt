@@ -9,7 +9,7 @@ use Rattle.crp_cert.specs.Text.{bay_line, IsHeadOf}
 use Rattle.crp_cert.specs.Faults.{IsFirstFault}
 use Rattle.crp_commands.specs.declared.outcome.ToolFault.{ToolFault}
 use Rattle.crp_commands.specs.declared.outcome.ToolFault.TheVariants as fault
-use Rattle.crp_report.specs.MoveLines.{rank_names, AreMoveLines}
+use Rattle.crp_said.specs.MoveLines.{rank_names, AreMoveLines}
 
 -- how many moves and relocations a plan has
 abbrev pub count_line : List Move → List ℕ

@@ -12,7 +12,8 @@ use crate::outcome::ToolFault;
 use crp_cert::push_decimal;
 use crp_checker::{Fed, FileChecker, Refused, Verdict};
 use crp_plan::{BayName, Sink, Source, read_some, write_all};
-use crp_report::{Status, push_bay_words};
+use crp_report::Status;
+use crp_said::push_bay_words;
 use std::alloc::{AllocError, Global};
 
 // How many bytes are read at a time, at most.

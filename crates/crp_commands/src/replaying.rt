@@ -10,7 +10,8 @@ use crate::heads::head_from;
 use crate::outcome::ToolFault;
 use crp_cert::{Head, push_bay, push_decimal};
 use crp_plan::{Move, Plan, Sink, Source, write_all};
-use crp_report::{Status, lines_of, names_of_ranks};
+use crp_report::Status;
+use crp_said::{lines_of, names_of_ranks};
 use std::alloc::{AllocError, Global};
 
 fn push_count(text: &mut Vec<u8>, moves: &[Move], count: u32) -> Result<(), AllocError>

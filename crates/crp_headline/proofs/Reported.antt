@@ -22,13 +22,14 @@ use Rattle.crp_checker.specs.declared.verdict.Verdict.{Verdict}
 use Rattle.crp_checker.specs.declared.verdict.Verdict.TheVariants as verdict
 use Rattle.crp_checker.specs.Verdicts.{IsVerdictOf}
 use Rattle.crp_checker.specs.Files.{FileShows}
-use Rattle.crp_report.specs.TakeLines.{FitsLine}
-use Rattle.crp_report.specs.Answered.{Answered, plan_in}
+use Rattle.crp_said.specs.TakeLines.{FitsLine}
+use Rattle.crp_said.specs.Said.{BaySaid, report_text}
+use Rattle.crp_said.proofs.Takes.{plan_takes}
+use Rattle.crp_report.specs.Answered.{Answered, plan_in, cause_said, said_by}
 use Rattle.crp_report.specs.Chosen.{RunChosen}
 use Rattle.crp_report.specs.Report.{ArePlanLines, MayBePlanLines, certificate_of, certificates_text}
 use Rattle.crp_report.specs.Runs.{RunSeen, Made, IsMade, numbers_of}
-use Rattle.crp_report.specs.Said.{BaySaid, report_text, said_by, IsSaidOf}
-use Rattle.crp_report.proofs.Takes.{plan_takes}
+use Rattle.crp_report.specs.Said.{IsSaidOf}
 use Rattle.crp_report.proofs.YardNames.{IsNamedProblem}
 use Rattle.crp_report.proofs.Saying.{answered_named, run_says}
 use Rattle.crp_headline.specs.Accepted.{IsVerdictOn, IsShown, IsVerdictFor}
@@ -72,7 +73,7 @@ counts None = refl
 counts (Some plan) = refl
 
 open_verdict : (p : Problem) (lower : ℕ) (cert : Certificate) (plan : Option ProblemPath) (why : Cause) (v : Verdict) → IsVerdictOn p (answer.Between lower cert plan why) v
-    → IsOpenVerdict p lower (option_map (λ (route : ProblemPath). length route.path) plan) why v
+    → IsOpenVerdict p lower (option_map (λ (route : ProblemPath). length route.path) plan) (cause_said why) v
 open_verdict p lower cert plan cause.Budget v on = on ∙ ap (verdict.Bounds lower) (counts plan)
 open_verdict p lower cert plan cause.Memory v on = subst (λ upper. IsVerdictOf lower (cap p) upper v) (counts plan) on
 

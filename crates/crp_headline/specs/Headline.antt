@@ -1,5 +1,5 @@
 -- What the report and the certificates of a run promise of each bay, in one place. The problem of a bay and its legal moves are those of crp_plan's
--- Bay, the lines of moves those of crp_report's MoveLines, the text of a report that of crp_report's Said, and what the checker accepts that of
+-- Bay, the lines of moves those of crp_said's MoveLines, the text of a report that of crp_said's Said, and what the checker accepts that of
 -- crp_checker's Files and Shown.
 use Rattle.std.specs.Prelude.{◌≡◌, ℕ, ◌≤◌, List, [], map, filter, flat_map, All, Option, Some, MatchOption}
 use Rattle.crp_plan.specs.declared.moves.Move.{Move}
@@ -7,17 +7,19 @@ use Rattle.crp_plan.specs.Bay.{Problem, cap, start, IsPlan, path_of, relocations
 use Rattle.crp_tree.specs.First.{IsFirstBest}
 use Rattle.crp_yard.specs.Inventory.{StackedBay}
 use Rattle.crp_order.specs.BayProblems.{leaving, ranked, problem_of, is_called}
-use Rattle.crp_solve.specs.declared.answer.Cause.{Cause}
-use Rattle.crp_solve.specs.declared.answer.Cause.TheVariants as cause
+use Rattle.crp_said.specs.declared.said.SaidCause.{SaidCause}
+use Rattle.crp_said.specs.declared.said.SaidCause.TheVariants as cause
+use Rattle.crp_said.specs.declared.said.Said.{Said}
+use Rattle.crp_said.specs.declared.said.Said.TheVariants.{Optimal, First, NoPlan, Between}
 use Rattle.crp_checker.specs.declared.verdict.Verdict.{Verdict}
 use Rattle.crp_checker.specs.declared.verdict.Verdict.TheVariants as verdict
 use Rattle.crp_checker.specs.Verdicts.{IsVerdictOf}
 use Rattle.crp_checker.specs.Shown.{TextShows, TextShowsFor}
 use Rattle.crp_checker.specs.Files.{FileShows}
-use Rattle.crp_report.specs.MoveLines.{AreMoveLines}
-use Rattle.crp_report.specs.TakeLines.{taken_in}
+use Rattle.crp_said.specs.MoveLines.{AreMoveLines}
+use Rattle.crp_said.specs.TakeLines.{taken_in}
 use Rattle.crp_report.specs.Runs.{Made, numbers_of}
-use Rattle.crp_report.specs.Said.{Said, Optimal, First, NoPlan, Between, BaySaid, report_text}
+use Rattle.crp_said.specs.Said.{BaySaid, report_text}
 
 -- a bay of the report: the bay as it stands in the yard, what the report says of its fewest relocations, the lines of its moves, its certificate,
 -- and the verdict with which the checker accepts that
@@ -60,7 +62,7 @@ NoneThere m b = (moves : List Move) → IsPlan (problem_in m b) moves → ⊥
 
 -- the verdict on a bay that was left open: where the budget ended, its bounds; where memory ran out, what the lower bound, the cap and the
 -- relocations of the printed plan show
-abbrev pub IsOpenVerdict : Problem → ℕ → Option ℕ → Cause → Verdict → Type 0
+abbrev pub IsOpenVerdict : Problem → ℕ → Option ℕ → SaidCause → Verdict → Type 0
 IsOpenVerdict p lower upper cause.Budget v = v ≡ verdict.Bounds lower upper
 IsOpenVerdict p lower upper cause.Memory v = IsVerdictOf lower (cap p) upper v
 

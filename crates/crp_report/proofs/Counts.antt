@@ -1,5 +1,5 @@
 -- The three numbers of a report are small.
-use Rattle.std.proofs.Common.{◌≡◌, ◌∙◌, ℕ, zero, suc, ◌+◌, ◌<◌, ◌≤◌, ◌^◌, List, [], ◌∷◌, ◌++◌, length, Option, Some, None, sym, ap, subst, arith, length-append}
+use Rattle.std.proofs.Common.{◌≡◌, ◌∙◌, ℕ, zero, suc, ◌+◌, ◌≤◌, List, [], ◌∷◌, ◌++◌, length, Option, Some, None, sym, ap, subst, arith, length-append}
 use Rattle.std.specs.Prelude.{option_to_list, not}
 use Rattle.std.proofs.lemmas.List.{length-map}
 use Rattle.std.proofs.lemmas.List.Sums.{count_by-le-length}
@@ -14,7 +14,7 @@ use Rattle.crp_yard.specs.Inventory.{Inventory, stands}
 use Rattle.crp_order.specs.declared.sequences.Mode.{Mode}
 use Rattle.crp_order.specs.declared.sequences.Mode.TheVariants.{Listed, Stowage}
 use Rattle.crp_order.specs.Sequences.{IsSequence}
-use Rattle.crp_report.specs.Report.{Numbers}
+use Rattle.crp_said.specs.Spelled.{AreSmall}
 use Rattle.crp_report.specs.Runs.{AreOrders, numbers_of}
 
 -- a text has no more segments than bytes
@@ -50,12 +50,6 @@ sequence_bound : (mode : Mode) (orders : List Order) (sequence : List (List ℕ)
 sequence_bound Listed orders sequence is = omega (arith, ap length is, length-map orders (λ order. order.container))
 sequence_bound Stowage orders sequence (stowed, is, containers) =
     omega (arith, ap length containers, length-map stowed (λ order. order.container), length_permutation orders stowed is.same_orders)
-
--- so small
-pub record AreSmall (n : Numbers) : Type 0 where
-  pub orders : n.orders < 2 ^ 64
-  pub vacant : n.vacant < 2 ^ 64
-  pub absent : n.absent < 2 ^ 64
 
 pub numbers_small : (mode : Mode) (code message : List ℕ) (yard : Inventory) (orders : LoadOrders) (sequence : List (List ℕ)) → AreOrders code message orders
     → IsSequence mode orders.list sequence → AreSmall (numbers_of yard orders sequence)

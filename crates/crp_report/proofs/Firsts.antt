@@ -12,12 +12,13 @@ use Rattle.crp_solve.specs.declared.answer.Answer.TheVariants as answer
 use Rattle.crp_solve.specs.Answers.{IsTrueAnswer, IsSolved}
 use Rattle.crp_solve.specs.Chosen.{Chosen}
 use Rattle.crp_solve.proofs.Agreeing.{one_first}
-use Rattle.crp_report.specs.MoveLines.{move_line, AreMoveLines}
-use Rattle.crp_report.specs.Answered.{Answered, plan_in}
+use Rattle.crp_said.specs.MoveLines.{move_line, AreMoveLines}
+use Rattle.crp_said.specs.declared.said.Said.TheVariants.{First}
+use Rattle.crp_report.specs.Answered.{Answered, plan_in, said_by}
 use Rattle.crp_report.specs.Report.{answer_line, ArePlanLines, MayBePlanLines, AreBayLines}
 use Rattle.crp_report.specs.Chosen.{RunChosen}
 use Rattle.crp_report.specs.Runs.{RunSeen, Made, IsMade}
-use Rattle.crp_report.specs.Said.{First, said_by, IsReportedFirst}
+use Rattle.crp_report.specs.Said.{IsReportedFirst}
 
 -- moves have one text
 one_text : (names : List (List ℕ)) (s : Position) (moves : List Move) (text also : List ℕ) → AreMoveLines names s moves text → AreMoveLines names s moves also → text ≡ also

@@ -1,10 +1,10 @@
 -- What a run says, and that two runs with one report say the same.
-use Rattle.std.proofs.Common.{◌≡◌, ℕ, ◌+◌, ◌<◌, ◌^◌, cond, List, [], ◌∷◌, ◌++◌, length, map, Option, Some, None, IfSome, refl, sym, ap, ◌∙◌, subst, arith}
+use Rattle.std.proofs.Common.{◌≡◌, ℕ, ◌+◌, ◌≤◌, cond, List, [], ◌∷◌, ◌++◌, length, map, Option, Some, None, IfSome, refl, sym, ap, ◌∙◌, subst, arith, append_assoc}
 use Rattle.std.specs.Prelude.{flat_map, count_by, fold, option_map}
 use Rattle.std.specs.List.{AllByRecursion, AllZip}
 use Rattle.std.proofs.lemmas.List.Elements.{recursion_from_All}
 use Rattle.std.proofs.lemmas.Slice.Zip.{AllZip-long}
-use Rattle.crp_plan.specs.Bay.{Problem, IsProblem}
+use Rattle.crp_plan.specs.Bay.{Problem, IsProblem, start}
 use Rattle.crp_plan.specs.BayNames.{IsYardBay}
 use Rattle.crp_plan.specs.Plans.{ProblemPath}
 use Rattle.crp_plan.proofs.Tallies.{cap_low}
@@ -14,16 +14,20 @@ use Rattle.crp_solve.specs.declared.answer.Cause.TheVariants as cause
 use Rattle.crp_solve.specs.Answers.{IsTrueAnswer, IsPlanOf, IsSolved}
 use Rattle.crp_solve.specs.Chosen.{Chosen}
 use Rattle.crp_solve.proofs.Limits.{count_low}
-use Rattle.crp_report.specs.Answered.{Answered, plan_in, status_of, is_decided}
+use Rattle.crp_said.specs.declared.numbers.Numbers.{Numbers}
+use Rattle.crp_said.specs.Said.{counts_line, bays_line, is_settled, BaySaid, bay_text, report_text}
+use Rattle.crp_said.specs.Spelled.{most, AreSmall, IsSmall, AreMoves, IsSayable, front_text}
+use Rattle.crp_said.proofs.Bytes.{IsPlain}
+use Rattle.crp_said.proofs.MoveBodies.{are_moves}
+use Rattle.crp_said.proofs.Takes.{plain_names}
+use Rattle.crp_said.proofs.OneReport.{text_once}
+use Rattle.crp_report.specs.Answered.{Answered, plan_in, said_by, status_of, is_decided}
 use Rattle.crp_report.specs.Chosen.{RunChosen}
-use Rattle.crp_report.specs.Report.{counts_line, bay_words, answer_words, bays_line, decided, AreLinesOfBays}
+use Rattle.crp_report.specs.Report.{decided, MayBePlanLines, AreLinesOfBays}
 use Rattle.crp_report.specs.Runs.{RunSeen, Made, IsMade, numbers_of}
-use Rattle.crp_report.specs.Said.{said_words, is_settled, BaySaid, bay_text, said_by, IsSaidOf, SaysOfBays, SayTheSame}
-use Rattle.crp_report.proofs.Bytes.{IsPlain}
-use Rattle.crp_report.proofs.Takes.{plain_names}
+use Rattle.crp_report.specs.Said.{IsSaidOf, SaysOfBays, SayTheSame}
 use Rattle.crp_report.proofs.YardNames.{IsNamedProblem, problems_named}
-use Rattle.crp_report.proofs.Counts.{AreSmall, numbers_small}
-use Rattle.crp_report.proofs.OneText.{plan_lines, IsSmall, IsSayable, report_once}
+use Rattle.crp_report.proofs.Counts.{numbers_small}
 
 -- a bay of which something can be said
 pub record IsReadable (bay : Answered) : Type 0 where
@@ -38,13 +42,10 @@ pub record AreSaid (answered : List Answered) (text : List ℕ) : Type 0 where
   pub sayable : AllByRecursion IsSayable bays
   pub is : text ≡ flat_map bay_text bays
 
--- an answer is said in its words
-words_said : (found : Answer) → answer_words found ≡ said_words (said_by found)
-words_said (answer.Optimal plan cert) = refl
-words_said (answer.First plan cert) = refl
-words_said (answer.NoPlan cert) = refl
-words_said (answer.Between lower cert None why) = refl
-words_said (answer.Between lower cert (Some plan) why) = refl
+-- the lines of a plan are lines of moves
+plan_moves : (names : List (List ℕ)) (plan : Option ProblemPath) (text : List ℕ) → AllByRecursion IsPlain names → MayBePlanLines names plan text → AreMoves text
+plan_moves names None text plain stated = record { bodies = []; each = tt; is = stated }
+plan_moves names (Some plan) text plain (moves, complete, path, stated) = are_moves names (start plan.problem) moves text plain stated
 
 bays_said : (answered : List Answered) (text : List ℕ) → AllByRecursion IsReadable answered → AreLinesOfBays answered text → AreSaid answered text
 bays_said [] text can stated = record { bays = []; of_each = tt; sayable = tt; is = stated }
@@ -55,8 +56,8 @@ bays_said (bay ∷ answered) text can (first, rest, (lines, plan, first-is), sta
     record {
       bays = b ∷ more.bays;
       of_each = (record { bay_is = refl; said_is = refl; lines_are = plan }, more.of_each);
-      sayable = (record { named = k.named; small = k.small; lines = plan_lines bay.stated.names (plan_in bay.solved.answer) lines k.plain plan }, more.sayable);
-      is = is ∙ ap (λ l. l ++ rest) (first-is ∙ ap (λ w. (bay_words bay.stated.bay ++ (w ++ 10 ∷ [])) ++ lines) (words_said bay.solved.answer)) ∙ ap (λ l. bay_text b ++ l) more.is;
+      sayable = (record { named = k.named; small = k.small; lines = plan_moves bay.stated.names (plan_in bay.solved.answer) lines k.plain plan }, more.sayable);
+      is = is ∙ ap (λ l. l ++ rest) first-is ∙ ap (λ l. bay_text b ++ l) more.is;
     }
 
 -- as many are settled as are decided
@@ -98,7 +99,7 @@ small_answer p budget (answer.Between lower cert plan why) expanded t =
     let shown = o.shown in
     (omega (arith, few, within, shown), upper plan o.plan_is ok.is_problem)
   where
-    upper : (plan : Option ProblemPath) → IfSome plan (IsPlanOf p) → IsProblem p → IfSome (option_map (λ (route : ProblemPath). length route.path) plan) (λ count. count < 2 ^ 64)
+    upper : (plan : Option ProblemPath) → IfSome plan (IsPlanOf p) → IsProblem p → IfSome (option_map (λ (route : ProblemPath). length route.path) plan) (λ count. count ≤ most)
     upper None is problem = tt
     upper (Some route) is problem =
         let low = count_low p (Some route) problem is in
@@ -159,6 +160,10 @@ same_said chosen other seen again m n is-m is-n e =
     let b = run_says other again n is-n in
     let first = a.said in
     let second = b.said in
-    let once = report_once (numbers_of m.yard m.orders m.sequence) (numbers_of n.yard n.orders n.sequence) a.bays b.bays (small_numbers chosen seen m is-m) (small_numbers other again n is-n)
-    a.sayable b.sayable (sym first.report ∙ e ∙ second.report) in
+    let numbers : Made → Numbers = λ r. numbers_of r.yard r.orders r.sequence in
+    let settled : List BaySaid → ℕ = λ bays. count_by (λ (b : BaySaid). is_settled b.said) bays in
+    let front : (r : Made) (bays : List BaySaid) → front_text (numbers r) bays ++ bays_line (length bays) (settled bays) ≡ report_text (numbers r) bays =
+    λ r bays. append_assoc (counts_line (numbers r)) (flat_map bay_text bays) (bays_line (length bays) (settled bays)) in
+    let once = text_once (numbers m) (numbers n) a.bays b.bays _ _ (small_numbers chosen seen m is-m) (small_numbers other again n is-n) a.sayable b.sayable
+    (front m a.bays ∙ sym first.report ∙ e ∙ second.report ∙ sym (front n b.bays)) in
     record { numbers = once.0; bays = a.bays; said = first; said_again = subst (SaysOfBays n) (sym once.1) second }

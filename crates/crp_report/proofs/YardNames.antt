@@ -22,7 +22,7 @@ use Rattle.crp_yard.proofs.RecordSteps.{not_one}
 use Rattle.crp_order.specs.declared.bay_problem.BayProblem.{BayProblem}
 use Rattle.crp_order.specs.BayProblems.{standing, leaving, staying, ranked, problems_of, bay_problem_of, is_called}
 use Rattle.crp_order.proofs.Once.{same}
-use Rattle.crp_report.specs.TakeLines.{FitsLine}
+use Rattle.crp_said.specs.TakeLines.{FitsLine}
 use Rattle.crp_cert.proofs.Joined.{all_both}
 
 -- ---- a record names a bay and a container

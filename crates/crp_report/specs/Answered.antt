@@ -1,5 +1,5 @@
 -- What a search said of a bay, and of all bays together.
-use Rattle.std.specs.Prelude.{◌≡◌, Bool, true, false, List, map, All, Option, Some, None, option_map, if◌then◌else◌}
+use Rattle.std.specs.Prelude.{◌≡◌, Bool, true, false, List, length, map, All, Option, Some, None, option_map, if◌then◌else◌}
 use Rattle.std.specs.List.{list_any, filter_map}
 use Rattle.crp_plan.specs.Plans.{ProblemPath}
 use Rattle.crp_yard.specs.declared.bay_plan.BayPlan.{BayPlan}
@@ -11,6 +11,10 @@ use Rattle.crp_solve.specs.declared.answer.Cause.TheVariants as cause
 use Rattle.crp_solve.specs.declared.answer.Solved.{Solved}
 use Rattle.crp_solve.specs.Answers.{IsSolved}
 use Rattle.crp_solve.specs.Chosen.{Chosen}
+use Rattle.crp_said.specs.declared.said.SaidCause.{SaidCause}
+use Rattle.crp_said.specs.declared.said.SaidCause.TheVariants as said_cause
+use Rattle.crp_said.specs.declared.said.Said.{Said}
+use Rattle.crp_said.specs.declared.said.Said.TheVariants as said
 use Rattle.crp_report.specs.declared.status.Status.{Status}
 use Rattle.crp_report.specs.declared.status.Status.TheVariants as status
 
@@ -20,6 +24,17 @@ plan_in (answer.Optimal plan cert) = Some plan
 plan_in (answer.First plan cert) = Some plan
 plan_in (answer.NoPlan cert) = None
 plan_in (answer.Between lower cert plan why) = plan
+
+-- what an answer says
+abbrev pub cause_said : Cause → SaidCause
+cause_said cause.Budget = said_cause.Budget
+cause_said cause.Memory = said_cause.Memory
+
+abbrev pub said_by : Answer → Said
+said_by (answer.Optimal plan cert) = said.Optimal (length plan.path)
+said_by (answer.First plan cert) = said.First (length plan.path)
+said_by (answer.NoPlan cert) = said.NoPlan
+said_by (answer.Between lower cert plan why) = said.Between lower (option_map (λ route. length route.path) plan) (cause_said why)
 
 -- how a search ended that left the problem open
 abbrev pub status_by : Cause → Status

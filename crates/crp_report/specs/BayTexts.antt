@@ -22,10 +22,11 @@ use Rattle.crp_yard.specs.Inventory.{Inventory}
 use Rattle.crp_movins.specs.LoadOrders.{LoadOrders}
 use Rattle.crp_order.specs.Sequences.{IsSequence}
 use Rattle.crp_order.specs.BayProblems.{problems_of}
+use Rattle.crp_said.specs.Said.{counts_line}
 use Rattle.crp_report.specs.Chosen.{RunChosen}
 use Rattle.crp_report.specs.Runs.{numbers_of}
 use Rattle.crp_report.specs.Answered.{Answered, AreTrueAnswers, status_of, status_of_all}
-use Rattle.crp_report.specs.Report.{AreBayLines, certificate_of, counts_line, last_line, IsYardTextAfter}
+use Rattle.crp_report.specs.Report.{AreBayLines, certificate_of, last_line, IsYardTextAfter}
 
 -- the fault of a yard list, of an interchange and of a message, as a run states it
 abbrev pub fault_of_yard : YardFault → Fault

@@ -2,8 +2,7 @@ pub use Rattle.crp_plan.specs.Bay
 pub use Rattle.crp_plan.specs.Plans
 pub use Rattle.crp_plan.specs.Devices
 pub use Rattle.crp_plan.specs.BayNames
-pub mod MoveLines
-pub mod TakeLines
+pub use Rattle.crp_said.specs.MoveLines
 pub mod Answered
 pub mod Report
 pub mod Pieces

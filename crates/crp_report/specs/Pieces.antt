@@ -1,9 +1,11 @@
 -- The pieces of what a run writes, in the order in which they are written, and how far they are written where a write fails.
 use Rattle.std.specs.Prelude.{◌≡◌, ℕ, ◌<◌, Bool, true, false, List, [], ◌∷◌, ◌++◌, length, flat_map, take, if◌then◌else◌}
+use Rattle.crp_said.specs.declared.numbers.Numbers.{Numbers}
+use Rattle.crp_said.specs.Said.{counts_line}
 use Rattle.crp_report.specs.declared.fault.Output.{Output}
 use Rattle.crp_report.specs.declared.fault.Output.TheVariants as output
 use Rattle.crp_report.specs.Answered.{Answered}
-use Rattle.crp_report.specs.Report.{Numbers, counts_line, AreBayLines, certificate_of, last_line}
+use Rattle.crp_report.specs.Report.{AreBayLines, certificate_of, last_line}
 
 -- a piece: the sink that it goes to, and its bytes
 pub record Piece : Type 0 where

@@ -1,54 +1,23 @@
--- The report of a yard, and the texts beside it. Each line ends with LF.
-use Rattle.std.specs.Prelude.{◌≡◌, ℕ, List, [], ◌∷◌, ◌++◌, length, flat_map, count_by, Option, Some, None, codes, decimal}
+-- The report of a run, and the texts beside it. Each line ends with LF.
+use Rattle.std.specs.Prelude.{◌≡◌, ℕ, List, [], ◌∷◌, ◌++◌, length, flat_map, count_by, Option, Some, None}
 use Rattle.crp_plan.specs.declared.moves.Move.{Move}
 use Rattle.crp_plan.specs.Bay.{Problem, start, IsPlan, path_of}
 use Rattle.crp_plan.specs.BayNames.{YardBay}
 use Rattle.crp_plan.specs.Plans.{ProblemPath}
 use Rattle.crp_solve.specs.declared.answer.Answer.{Answer}
 use Rattle.crp_solve.specs.declared.answer.Answer.TheVariants as answer
-use Rattle.crp_solve.specs.declared.answer.Cause.{Cause}
-use Rattle.crp_solve.specs.declared.answer.Cause.TheVariants as cause
 use Rattle.crp_cert.specs.Writing.{certificate_text, first_certificate_text}
 use Rattle.crp_yard.specs.Inventory.{Inventory}
 use Rattle.crp_yard.specs.After.{IsAfter}
 use Rattle.crp_yard.specs.Text.{yard_text}
-use Rattle.crp_report.specs.MoveLines.{AreMoveLines}
-use Rattle.crp_report.specs.Answered.{Answered, plan_in, status_of, is_decided, bay_plans}
-
--- three numbers: the loading orders, the loading groups without a container, and the ordered containers that are not in the yard
-pub record Numbers : Type 0 where
-  pub orders : ℕ
-  pub vacant : ℕ
-  pub absent : ℕ
-
--- the first line: the three numbers
-abbrev pub counts_line : Numbers → List ℕ
-counts_line n = codes "orders " ++ (decimal n.orders ++ (codes " open " ++ (decimal n.vacant ++ (codes " absent " ++ (decimal n.absent ++ 10 ∷ [])))))
-
--- the name of a bay, and a colon
-abbrev pub bay_words : YardBay → List ℕ
-bay_words bay = codes "bay " ++ (bay.block ++ (32 ∷ (decimal bay.bay ++ codes ": ")))
-
--- the relocations of the plan, if there is one
-abbrev pub upper_words : Option ProblemPath → List ℕ
-upper_words None = codes "none"
-upper_words (Some plan) = decimal (length plan.path)
-
--- why the search ended
-abbrev pub cause_words : Cause → List ℕ
-cause_words cause.Budget = codes "budget"
-cause_words cause.Memory = codes "memory"
-
--- an answer in words
-abbrev pub answer_words : Answer → List ℕ
-answer_words (answer.Optimal plan cert) = codes "optimal " ++ decimal (length plan.path)
-answer_words (answer.First plan cert) = codes "optimal " ++ (decimal (length plan.path) ++ codes " first")
-answer_words (answer.NoPlan cert) = codes "no plan"
-answer_words (answer.Between lower cert plan why) = codes "between " ++ (decimal lower ++ (codes " and " ++ (upper_words plan ++ (codes ", " ++ cause_words why))))
+use Rattle.crp_said.specs.declared.numbers.Numbers.{Numbers}
+use Rattle.crp_said.specs.Said.{counts_line, bay_line, bays_line}
+use Rattle.crp_said.specs.MoveLines.{AreMoveLines}
+use Rattle.crp_report.specs.Answered.{Answered, plan_in, said_by, status_of, is_decided, bay_plans}
 
 -- the line of a bay
 abbrev pub answer_line : YardBay → Answer → List ℕ
-answer_line bay found = bay_words bay ++ (answer_words found ++ 10 ∷ [])
+answer_line bay found = bay_line bay (said_by found)
 
 -- the move lines of a plan: those of the complete plan with its path
 abbrev pub ArePlanLines : List (List ℕ) → ProblemPath → List ℕ → Type 0
@@ -71,10 +40,6 @@ AreLinesOfBays (bay ∷ bays) text = (first : List ℕ) × (rest : List ℕ) × 
 -- how many bays are optimal or without a plan
 abbrev pub decided : List Answered → ℕ
 decided answered = count_by (λ bay. is_decided (status_of bay.solved.answer)) answered
-
--- how many bays there are, and how many of them are decided
-abbrev pub bays_line : ℕ → ℕ → List ℕ
-bays_line bays decided = codes "bays " ++ (decimal bays ++ (codes " decided " ++ (decimal decided ++ 10 ∷ [])))
 
 -- the last line
 abbrev pub last_line : List Answered → List ℕ

@@ -16,6 +16,7 @@ use Rattle.crp_yard.specs.Reading.{IsTextOf, IsYardListOf}
 use Rattle.crp_yard.specs.declared.fault.YardFault.TheVariants as yard_fault
 use Rattle.crp_order.specs.Sequences.{IsSequence}
 use Rattle.crp_order.specs.BayProblems.{problems_of, absent_of}
+use Rattle.crp_said.specs.declared.numbers.Numbers.{Numbers}
 use Rattle.crp_report.specs.declared.fault.Fault.{Fault}
 use Rattle.crp_report.specs.declared.fault.Fault.TheVariants as fault
 use Rattle.crp_report.specs.declared.fault.Input.{Input}
@@ -25,7 +26,7 @@ use Rattle.crp_report.specs.declared.fault.Output.TheVariants as output
 use Rattle.crp_report.specs.declared.status.Status.{Status}
 use Rattle.crp_report.specs.Answered.{Answered, AreTrueAnswers, status_of_all}
 use Rattle.crp_report.specs.Chosen.{RunChosen}
-use Rattle.crp_report.specs.Report.{Numbers, IsReport, certificates_text, IsYardTextAfter}
+use Rattle.crp_report.specs.Report.{IsReport, certificates_text, IsYardTextAfter}
 use Rattle.crp_report.specs.Pieces.{Piece, ArePieces, bytes_for, Stop, wanted, written}
 
 -- what a call saw of a source: the bytes that it had, and its count of failures before and after

@@ -1,11 +1,12 @@
 //! Answers to the problems of bays.
 ghost use Rattle.std.specs.Prelude.{◌≡◌, IfOk};
-ghost use Rattle.crp_report.specs.Answered.{status_of};
+ghost use Rattle.crp_report.specs.Answered.{said_by, status_of};
 ghost use Rattle.crp_report.specs.Report.{text_of};
 
 use crate::status::Status;
 use crp_cert::{cert_text, first_text};
 use crp_plan::{BayName, Problem};
+use crp_said::{Said, SaidCause};
 use crp_solve::{Answer, Cause};
 use std::alloc::{AllocError, Global};
 
@@ -23,6 +24,34 @@ pub fn status_of(answer: &Answer) -> Status
             cause: Cause::Memory,
             ..
         } => Status::Memory,
+    }
+}
+
+/// What an answer says.
+pub fn said_of(answer: &Answer) -> Said
+    ensures { result ≡ said_by answer.now }
+{
+    match answer {
+        Answer::Optimal { plan, .. } => Said::Optimal(plan.count()),
+        Answer::First { plan, .. } => Said::First(plan.count()),
+        Answer::NoPlan { .. } => Said::NoPlan,
+        Answer::Between {
+            lower,
+            plan,
+            cause,
+            ..
+        } => {
+            let upper = plan.as_ref().map(|plan| plan.count());
+            let cause = match cause {
+                Cause::Budget => SaidCause::Budget,
+                Cause::Memory => SaidCause::Memory,
+            };
+            Said::Between {
+                lower: *lower,
+                upper,
+                cause,
+            }
+        }
     }
 }
 

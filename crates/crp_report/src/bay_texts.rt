@@ -4,12 +4,13 @@ ghost use Rattle.crp_report.specs.Answered.{Answered, AreTrueAnswers, bay_plan_i
 ghost use Rattle.crp_report.specs.Report.{AreBayLines};
 ghost use Rattle.crp_report.specs.BayTexts.{AreTextsOfBay, AreTextsOfBays};
 
-use crate::answers::{certificate_of, status_of};
-use crate::lines::{answer_lines, push_answer_line};
+use crate::answers::{certificate_of, said_of, status_of};
+use crate::lines::answer_lines;
 use crate::status::Status;
 use crp_incumbent::Board;
 use crp_order::BayProblem;
 use crp_plan::Container;
+use crp_said::push_bay_line;
 use crp_solve::{Answer, NoGate, Settings, Solved, solve};
 use crp_yard::BayPlan;
 use std::alloc::{AllocError, Global};
@@ -69,7 +70,7 @@ fn bay_lines(alloc: Global, bay: &BayProblem, solved: &Solved) -> Result<Vec<u8>
     let names = bytes_of(alloc, bay.names.list())?;
     let lines = answer_lines(alloc, answer, &names)?;
     let mut text = Vec::new(alloc);
-    push_answer_line(&mut text, &bay.bay, answer)?;
+    push_bay_line(&mut text, &bay.bay, said_of(answer))?;
     text.extend_from_slice(&lines)?;
     Ok(text)
 }

@@ -1,23 +1,12 @@
 //! Laws of what is written. Each is the contract of a function that does nothing.
-ghost use Rattle.std.specs.Prelude.{◌≡◌, ◌++◌, List, ℕ, length, All, Contains};
-ghost use Rattle.crp_plan.specs.declared.moves.Move.{Move};
-ghost use Rattle.crp_plan.specs.Bay.{Problem, IsPlan, start};
+ghost use Rattle.std.specs.Prelude.{◌≡◌, List, ℕ, Contains};
 ghost use Rattle.crp_solve.specs.Answers.{IsSolved};
 ghost use Rattle.crp_solve.specs.Chosen.{Chosen};
 ghost use Rattle.crp_report.specs.Answered.{Answered};
 ghost use Rattle.crp_report.specs.Report.{AreBayLines};
 ghost use Rattle.crp_report.specs.Chosen.{RunChosen};
-ghost use Rattle.crp_report.specs.MoveLines.{AreMoveLines};
-ghost use Rattle.crp_report.specs.TakeLines.{FitsLine, taken_in};
 ghost use Rattle.crp_report.specs.Runs.{RunSeen, Made, IsMade};
 ghost use Rattle.crp_report.specs.Said.{IsReportedFirst, SayTheSame};
-
-/// The take lines of a complete plan name the containers of the first ranks, in their order: as many as are to leave.
-pub fn takes_are_in_order()
-    ensures { (p : Problem) (leaving staying : List (List ℕ)) (moves : List Move) (text : List ℕ)
-        → All FitsLine (leaving ++ staying) → length leaving ≡ p.ordered → IsPlan p moves
-        → AreMoveLines (leaving ++ staying) (start p) moves text → taken_in text ≡ leaving }
-{}
 
 /// The first best plan of a bay is stated in one way: where two answers to one bay give it, whatever was chosen for them, and however
 /// their workers took turns, the lines of the bay are the same bytes. So it is with the bays of two runs.

@@ -15,14 +15,13 @@ use crate::bay_texts::{TextsOfBays, texts_of_bays};
 use crate::endings::{decided, status_of_all};
 use crate::fault::Fault;
 use crate::input::{orders_from, yard_from};
-use crate::lines::{last_text, numbers_text};
-use crate::numbers::Counts;
 use crate::settings::RunSettings;
 use crate::status::Status;
 use crate::writing::{Texts, write_texts};
 use crp_movins::Orders;
 use crp_order::{Sequence, absent, problems, sequence};
 use crp_plan::{Sink, Source};
+use crp_said::{Numbers, last_text, numbers_text};
 use crp_solve::Settings;
 use crp_yard::{BayPlan, Yard, after, yard_text};
 use std::alloc::{AllocError, Global};
@@ -70,12 +69,12 @@ fn texts_of<T: Threads + Wait + Sync>(
 {
     let (listed, vacant) = (orders.list().len(), orders.vacant());
     let sequence = sequence(alloc, orders, settings.mode())?;
-    let counts = Counts {
-        orders: listed,
-        vacant,
-        absent: absent(yard, &sequence),
+    let numbers = Numbers {
+        orders: listed as u64,
+        vacant: vacant as u64,
+        absent: absent(yard, &sequence) as u64,
     };
-    let first = numbers_text(alloc, counts)?;
+    let first = numbers_text(alloc, numbers)?;
     let stated = texts_for(rt, alloc, yard, &sequence, settings.search())?;
     let yard_after = text_after(alloc, yard, &stated.plans)?;
     let status = status_of_all(&stated.bays);

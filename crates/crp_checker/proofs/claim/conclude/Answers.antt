@@ -13,14 +13,8 @@ returns-in_err-hold_names-clause-refused c =
     (refused_by_names c.args.findings c.in_err-hold_names.field-0.0 c.in_default.is
     (subst (λ (l : List (List ℕ)). IsNamesRefusal l c.args.findings.given.items c.in_err-hold_names.field-0.0) c.into_vec.ensures.value c.in_err-hold_names.ensures.refused))
 
-pub returns-clause-shown : goal.returns-clause-shown
-returns-clause-shown c wanted bytes ended =
+pub returns-clause-states : goal.returns-clause-states
+returns-clause-states c wanted bytes ended =
     let same = subst (λ (l : List (List ℕ)). (name : List ℕ) → Contains l name ↔ IsRootOrGiven c.args.findings.given.items name) c.into_vec.ensures.value c.in_ok-hold_names.ensures.same in
-    let shown = shown_at_end wanted bytes c.args.findings c.verdict_under.result ended c.in_default.is same (subst (λ n. IsVerdictUnder c.args.findings.need.claim n c.args.findings.count c.verdict_under.result) c.cap.ensures.value c.verdict_under.ensures) in
-    (ended.script, shown.0, shown.1)
-
-pub returns-clause-bay : goal.returns-clause-bay
-returns-clause-bay c bytes ended =
-    let same = subst (λ (l : List (List ℕ)). (name : List ℕ) → Contains l name ↔ IsRootOrGiven c.args.findings.given.items name) c.into_vec.ensures.value c.in_ok-hold_names.ensures.same in
-    let shown = shown_at_end _ bytes c.args.findings c.verdict_under.result ended c.in_default.is same (subst (λ n. IsVerdictUnder c.args.findings.need.claim n c.args.findings.count c.verdict_under.result) c.cap.ensures.value c.verdict_under.ensures) in
-    (ended.script, shown.0, sym ended.are.bay_is, shown.1)
+    let shown = shown_at_end wanted bytes c.args.findings c.verdict_under-verdict.result ended c.in_default.is same (subst (λ n. IsVerdictUnder c.args.findings.need.claim n c.args.findings.count c.verdict_under-verdict.result) c.cap.ensures.value c.verdict_under-verdict.ensures) in
+    (ended.script, shown.0, sym ended.are.bay_is, sym ended.are.plan_is, shown.1)

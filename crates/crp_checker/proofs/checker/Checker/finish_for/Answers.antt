@@ -1,15 +1,7 @@
-use Rattle.std.proofs.Common.{subst, ⊎_elim, inl, inr}
-use Rattle.std.proofs.lemmas.Result.{IfOk-weaker, IfErr-weaker}
-use Rattle.crp_checker.specs.Fed.{HasComeIf}
 use Rattle.crp_checker.proofs.checker.Checker.finish_for.Goals as goal
 
-pub returns-in-Some-clause-shown : goal.returns-in-Some-clause-shown
-returns-in-Some-clause-shown c =
-    IfOk-weaker c.finish_at.result _ _ (λ found shown wanted bytes read. shown wanted bytes (subst (HasComeIf wanted bytes) c.in-Some.is read.1)) c.finish_at.ensures.shown
+pub returns-clause-shown : goal.returns-clause-shown
+returns-clause-shown c wanted bytes read = let s = c.in_ok-bay.ensures.states wanted bytes read in (s.0, s.1, s.4)
 
-pub returns-in-Some-clause-bay : goal.returns-in-Some-clause-bay
-returns-in-Some-clause-bay c = IfOk-weaker c.finish_at.result _ _ (λ found shown bytes read. shown bytes (subst (HasComeIf _ bytes) c.in-Some.is read.1)) c.finish_at.ensures.bay
-
-pub returns-in-Some-clause-refused : goal.returns-in-Some-clause-refused
-returns-in-Some-clause-refused c =
-    IfErr-weaker c.finish_at.result _ _ (λ r why. ⊎_elim (λ memory. inl memory) (λ k. inr (λ wanted bytes read. k wanted bytes (subst (HasComeIf wanted bytes) c.in-Some.is read.1))) why) c.finish_at.ensures.refused
+pub returns-clause-bay : goal.returns-clause-bay
+returns-clause-bay c bytes read = let s = c.in_ok-bay.ensures.states _ bytes read in (s.0, s.1, s.2, s.4)

@@ -1,0 +1,11 @@
+-- Lemmas on reports and their text.
+pub mod Bytes
+pub mod MoveBodies
+pub mod Takes
+pub mod LinesSoFar
+pub mod Digits
+pub mod FirstLine
+pub mod SaidLines
+pub mod Bays
+pub mod StatedMoves
+pub mod OneReport

@@ -1,0 +1,139 @@
+-- Reading the lines of a report from the front of the bytes: what was read, and what follows it. No public clause cites this module.
+use Rattle.std.specs.Prelude.{ℕ, List, [], ◌∷◌, Bool, false, not, Option, Some, None, codes, if◌then◌else◌, ◌==◌, ◌++◌}
+use Rattle.crp_yard.specs.Records.{is_container}
+use Rattle.std.specs.Option.{option_or}
+use Rattle.crp_cert.specs.Reading.{◌>>=◌, tag_at, number_at, newline_at, word_at}
+use Rattle.crp_said.specs.declared.numbers.Numbers.{Numbers}
+use Rattle.crp_said.specs.declared.said.SaidCause.{SaidCause}
+use Rattle.crp_said.specs.declared.said.SaidCause.TheVariants.{Budget, Memory}
+use Rattle.crp_said.specs.declared.said.Said.{Said}
+use Rattle.crp_said.specs.declared.said.Said.TheVariants.{Optimal, First, NoPlan, Between}
+use Rattle.crp_said.specs.declared.moves.Place.{Place}
+use Rattle.crp_said.specs.declared.moves.SaidMove.{SaidMove}
+use Rattle.crp_said.specs.declared.moves.SaidMove.TheVariants.{Shift, Take}
+use Rattle.crp_said.specs.Spelled.{most}
+
+-- the three numbers of a first line
+unfoldable pub counts_at : List ℕ → Option (Numbers × List ℕ)
+counts_at bytes = do
+  a ← tag_at (codes "orders ") bytes
+  orders ← number_at most a
+  b ← tag_at (codes " open ") orders.1
+  vacant ← number_at most b
+  c ← tag_at (codes " absent ") vacant.1
+  absent ← number_at most c
+  rest ← newline_at absent.1
+  Some (record { orders = orders.0; vacant = vacant.0; absent = absent.0 }, rest)
+
+-- the two numbers of a last line
+unfoldable pub last_at : List ℕ → Option ((ℕ × ℕ) × List ℕ)
+last_at bytes = do
+  a ← tag_at (codes "bays ") bytes
+  count ← number_at most a
+  b ← tag_at (codes " decided ") count.1
+  settled ← number_at most b
+  rest ← newline_at settled.1
+  Some ((count.0, settled.0), rest)
+
+-- the rest of a line behind the relocations of an optimal plan
+unfoldable pub optimal_at : ℕ → List ℕ → Option (Said × List ℕ)
+optimal_at count [] = None
+optimal_at count (b ∷ bytes) =
+    if b == 10 then Some (Optimal count, bytes) else (tag_at (codes " first" ++ 10 ∷ []) (b ∷ bytes) >>= λ rest. Some (First count, rest))
+
+-- the relocations of a plan, or that there is none
+abbrev pub upper_at : List ℕ → Option (Option ℕ × List ℕ)
+upper_at bytes = option_or (tag_at (codes "none") bytes >>= λ rest. Some (None, rest)) (number_at most bytes >>= λ x. Some (Some x.0, x.1))
+
+-- why a search ended, and the end of the line
+abbrev pub cause_at : List ℕ → Option (SaidCause × List ℕ)
+cause_at bytes =
+    option_or (tag_at (codes "budget" ++ 10 ∷ []) bytes >>= λ rest. Some (Budget, rest)) (tag_at (codes "memory" ++ 10 ∷ []) bytes >>= λ rest. Some (Memory, rest))
+
+-- what is said of the fewest relocations, by its first word
+unfoldable pub said_optimal_at : List ℕ → Option (Said × List ℕ)
+said_optimal_at bytes = do
+  a ← tag_at (codes "optimal ") bytes
+  count ← number_at most a
+  optimal_at count.0 count.1
+
+unfoldable pub said_none_at : List ℕ → Option (Said × List ℕ)
+said_none_at bytes = do
+  rest ← tag_at (codes "no plan" ++ 10 ∷ []) bytes
+  Some (NoPlan, rest)
+
+unfoldable pub said_between_at : List ℕ → Option (Said × List ℕ)
+said_between_at bytes = do
+  a ← tag_at (codes "between ") bytes
+  lower ← number_at most a
+  b ← tag_at (codes " and ") lower.1
+  upper ← upper_at b
+  c ← tag_at (codes ", ") upper.1
+  why ← cause_at c
+  Some (Between lower.0 upper.0 why.0, why.1)
+
+abbrev pub said_at : List ℕ → Option (Said × List ℕ)
+said_at bytes = option_or (said_optimal_at bytes) (option_or (said_none_at bytes) (said_between_at bytes))
+
+-- the line of a bay: the block and the number, whatever they are, and what is said
+unfoldable pub bay_at : List ℕ → Option (((List ℕ × ℕ) × Said) × List ℕ)
+bay_at bytes = do
+  a ← tag_at (codes "bay ") bytes
+  block ← word_at a
+  b ← tag_at (codes " ") block.1
+  bay ← number_at most b
+  c ← tag_at (codes ": ") bay.1
+  said ← said_at c
+  Some (((block.0, bay.0), said.0), said.1)
+
+-- the bytes before the first LF, and the others
+abbrev pub line_at : List ℕ → Option (List ℕ × List ℕ)
+line_at [] = None
+line_at (b ∷ bytes) = if b == 10 then Some ([], b ∷ bytes) else (line_at bytes >>= λ x. Some (b ∷ x.0, x.1))
+
+-- a line of moves may begin so
+abbrev pub is_move : List ℕ → Bool
+is_move [] = false
+is_move (b ∷ body) = not (b == 98)
+
+-- a line of moves without its LF
+unfoldable pub move_at : List ℕ → Option (List ℕ × List ℕ)
+move_at bytes = do
+  x ← line_at bytes
+  rest ← newline_at x.1
+  if is_move x.0 then Some (x.0, rest) else None
+
+-- a space and a place
+unfoldable pub place_at : List ℕ → Option (Place × List ℕ)
+place_at bytes = do
+  a ← tag_at (codes " ") bytes
+  row ← number_at most a
+  b ← tag_at (codes ".") row.1
+  tier ← number_at most b
+  Some (record { row = row.0; tier = tier.0 }, tier.1)
+
+-- a space and the name of a container, to the end of the bytes
+unfoldable pub container_at : List ℕ → Option (List ℕ)
+container_at bytes = do
+  name ← tag_at (codes " ") bytes
+  if is_container name then Some name else None
+
+-- a relocation, and a retrieval
+unfoldable pub shift_at : List ℕ → Option SaidMove
+shift_at bytes = do
+  a ← tag_at (codes "shift") bytes
+  from ← place_at a
+  to ← place_at from.1
+  container ← container_at to.1
+  Some (Shift from.0 to.0 container)
+
+unfoldable pub take_at : List ℕ → Option SaidMove
+take_at bytes = do
+  a ← tag_at (codes "take") bytes
+  from ← place_at a
+  container ← container_at from.1
+  Some (Take from.0 container)
+
+-- the move that a line states
+abbrev pub stated_at : List ℕ → Option SaidMove
+stated_at bytes = option_or (shift_at bytes) (take_at bytes)

@@ -1,0 +1,27 @@
+//! What a report says, and how it is spelled.
+//!
+//! `read_report` gives what the text of a report says, or the first line that is not as said; `read_move` what the line of a move states.
+//! `push_line`, `push_bay_line` and the others write the lines. What the text is is said in `specs/Said.antt`, the lines of moves in
+//! `specs/MoveLines.antt`, and what is refused in `specs/Spelled.antt`.
+#![tactic(auto)]
+
+mod fields;
+mod laws;
+mod lines;
+mod move_lines;
+mod move_reading;
+mod moves;
+mod numbers;
+mod reading;
+mod report;
+mod said;
+
+pub use laws::{one_move, one_report, takes_are_in_order};
+pub use lines::{last_text, numbers_text, push_bay_line, push_bay_words};
+pub use move_lines::{lines_of, names_of_ranks, push_line};
+pub use move_reading::read_move;
+pub use moves::{Place, SaidMove};
+pub use numbers::Numbers;
+pub use reading::read_report;
+pub use report::{Report, ReportFault};
+pub use said::{Said, SaidBay, SaidCause};

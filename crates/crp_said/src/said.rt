@@ -1,0 +1,37 @@
+//! What is said of a bay.
+
+use crp_plan::BayName;
+
+/// Why the search of a bay ended before the bay was decided.
+#[derive(Clone, Copy, Debug, PartialEq, Eq)]
+pub enum SaidCause {
+    /// Its budget was spent.
+    Budget,
+    /// Memory ran out.
+    Memory,
+}
+
+/// What is said of the fewest relocations of a bay.
+#[derive(Clone, Copy, Debug, PartialEq, Eq)]
+pub enum Said {
+    /// So many.
+    Optimal(u32),
+    /// So many, and that the printed plan is the first of those with as many.
+    First(u32),
+    /// That there is no plan.
+    NoPlan,
+    /// At least so many, and no more than the printed plan has, if there is one; and why the search ended.
+    Between {
+        lower: u32,
+        upper: Option<u32>,
+        cause: SaidCause,
+    },
+}
+
+/// What is said of a bay: its name, its fewest relocations, and the lines of its moves.
+#[derive(Drop)]
+pub struct SaidBay {
+    pub bay: BayName,
+    pub said: Said,
+    pub lines: Vec<u8>,
+}
