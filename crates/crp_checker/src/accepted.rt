@@ -1,3 +1,5 @@
+//! What the checker accepts.
+
 use crate::verdict::Verdict;
 use crp_cert::Rows;
 use crp_plan::BayName;

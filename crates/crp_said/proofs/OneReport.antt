@@ -1,9 +1,8 @@
 -- A text is one report's at most, and one line at most is the first that is misspelled.
-use Rattle.std.proofs.Common.{◌≡◌, ◌≢◌, ◌⊎◌, ⊎_elim, ℕ, List, [], ◌∷◌, ◌++◌, Some, None, refl, sym, ap, ◌∙◌, append_assoc}
+use Rattle.std.proofs.Common.{◌≡◌, ◌≢◌, ◌⊎◌, ⊎_elim, ℕ, List, [], ◌∷◌, ◌++◌, Some, refl, sym, ap, ◌∙◌, append_assoc}
 use Rattle.std.specs.Prelude.{codes, flat_map}
 use Rattle.std.specs.List.{AllByRecursion}
-use Rattle.std.specs.Fmt.{decimal}
-use Rattle.std.proofs.lemmas.Option.{some_pair_parts, none-some}
+use Rattle.std.proofs.lemmas.Option.{some_pair_parts}
 use Rattle.std.proofs.lemmas.List.{append-nil}
 use Rattle.crp_cert.proofs.Readers.{once}
 use Rattle.crp_said.specs.declared.numbers.Numbers.{Numbers}
@@ -13,7 +12,7 @@ use Rattle.crp_said.specs.Spelled.{AreSmall, IsMoveBody, ended, IsSayable, Repor
 use Rattle.crp_said.specs.Fields.{bay_at, last_at}
 use Rattle.crp_said.proofs.Bytes.{first_same, rest_same, cut_once}
 use Rattle.crp_said.proofs.FirstLine.{counts_reader}
-use Rattle.crp_said.proofs.Bays.{bay_takes, bay_again, no_bay_line, last_again}
+use Rattle.crp_said.proofs.Bays.{bay_again, no_bay_line, last_again}
 
 -- ---- lines of moves
 

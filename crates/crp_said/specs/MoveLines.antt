@@ -1,6 +1,6 @@
 -- The lines of moves: `shift FROM TO CONTAINER` and `take FROM CONTAINER`, where a place is its row and its tier joined by a point.
 -- Each line ends with LF.
-use Rattle.std.specs.Prelude.{◌≡◌, ℕ, zero, suc, ◌-◌, ◌≤◌, IsTrue, List, [], ◌∷◌, ◌++◌, length, slice_get, slice_index, unwrap_or, codes, decimal}
+use Rattle.std.specs.Prelude.{◌≡◌, ℕ, zero, suc, ◌-◌, List, [], ◌∷◌, ◌++◌, length, slice_get, slice_index, unwrap_or, codes, decimal}
 use Rattle.crp_plan.specs.declared.moves.Move.{Move}
 use Rattle.crp_plan.specs.declared.moves.Move.TheVariants.{Shift, Take}
 use Rattle.crp_plan.specs.Bay.{Position, Legal}

@@ -1,4 +1,4 @@
-use Rattle.std.proofs.Common.{◌∙◌, sym, ap, subst, refl, arith, ◌++◌, ◌∷◌}
+use Rattle.std.proofs.Common.{◌∙◌, sym, ap, subst, refl, arith, ◌++◌}
 use Rattle.crp_plan.specs.BayNames.{YardBay, IsYardBay}
 use Rattle.crp_said.specs.Said.{bay_line}
 use Rattle.crp_said.proofs.Bays.{bay_takes, no_bay_line, bay_is}

@@ -1,6 +1,5 @@
 use Rattle.std.proofs.Common.{◌≡◌, ◌∙◌, ℕ, List, ap, sym, subst}
 use Rattle.std.specs.Option.{option_or}
-use Rattle.crp_said.specs.declared.moves.SaidMove.{SaidMove}
 use Rattle.crp_said.specs.declared.moves.SaidMove.TheVariants.{Shift, Take}
 use Rattle.crp_said.specs.MoveLines.{move_words}
 use Rattle.crp_said.specs.Spelled.{CanBeStated}
