@@ -45,3 +45,4 @@ pub use path::Path;
 pub use refused::Refused;
 pub use verdict::Verdict;
 pub use verdicts::{FileRefused, Verdicts};
+pub use watch::first_len;

@@ -4,3 +4,4 @@ pub mod Checked
 pub mod Performed
 pub mod Solved
 pub mod Promised
+pub mod Noted

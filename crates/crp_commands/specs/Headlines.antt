@@ -3,18 +3,17 @@ use Rattle.std.specs.Prelude.{◌⊎◌, ⊤}
 use Rattle.crp_headline.specs.Headline.{IsHeadline}
 use Rattle.crp_report.specs.declared.fault.Output.{Output}
 use Rattle.crp_report.specs.Chosen.{RunChosen}
-use Rattle.crp_report.specs.Runs.{RunSeen, Made, IsMade, Gets, GetsFront, sink_of, text_for}
+use Rattle.crp_report.specs.Runs.{RunSeen, Made, IsMade, Gets, GetsFront, GetsNothing, sink_of, text_for}
 use Rattle.crp_commands.specs.declared.job.Job.{Job}
 use Rattle.crp_commands.specs.declared.job.Job.TheVariants as job
 use Rattle.crp_commands.specs.declared.job.RunFiles.{RunFiles}
-use Rattle.crp_commands.specs.Opened.{IsLeftAlone}
 use Rattle.crp_commands.specs.Performing.{JobSeen}
 use Rattle.crp_commands.specs.Solving.{IsOverFiles}
 
 -- what is said of a run over these files, where the job is one
 abbrev pub ForRun : Job → (RunFiles → RunChosen → Type 0) → Type 0
 ForRun (job.OneFile file command) P = ⊤
-ForRun (job.Solve names chosen) P = P names chosen
+ForRun (job.Solve names chosen quiet) P = P names chosen
 
 -- the texts were made of the files of these names, as far as their bytes are known; the sink of the report got the report, and the files of the
 -- certificates and of the yard after got theirs where they are asked for, and nothing else
@@ -37,4 +36,4 @@ KeepsHeadline j seen = ForRun j (λ names chosen. (made : Made) × IsHeadline ma
 
 -- a run wrote fronts of texts of which the headline holds, or nothing
 abbrev pub KeepsHeadlineSoFar : Job → JobSeen → Type 0
-KeepsHeadlineSoFar j seen = ForRun j (λ names chosen. IsLeftAlone seen.out ⊎ ((made : Made) × IsHeadline made × AreFrontsWritten names chosen seen made))
+KeepsHeadlineSoFar j seen = ForRun j (λ names chosen. GetsNothing seen.out ⊎ ((made : Made) × IsHeadline made × AreFrontsWritten names chosen seen made))

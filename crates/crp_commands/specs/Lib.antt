@@ -10,3 +10,4 @@ pub mod Solving
 pub mod Performing
 pub mod Headlines
 pub mod Advice
+pub mod Noted

@@ -44,5 +44,7 @@ pub enum Job<'a> {
         files: RunFiles<'a>,
         /// How the bays are solved.
         settings: RunSettings,
+        /// Whether notes are left out.
+        quiet: bool,
     },
 }

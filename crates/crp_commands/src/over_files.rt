@@ -1,11 +1,8 @@
 //! A job over its files.
 ghost use Rattle.std.specs.Prelude.{◌≡◌, ◌⊎◌, IfOk, IfErr, MatchResult};
 ghost use Rattle.crp_headline.specs.Headline.{IsHeadline};
-ghost use Rattle.crp_report.specs.declared.fault.Fault.TheVariants.{Write};
-ghost use Rattle.crp_report.specs.declared.fault.Output.{Output};
-ghost use Rattle.crp_report.specs.Runs.{Made};
-ghost use Rattle.crp_commands.specs.declared.outcome.ToolFault.TheVariants.{Run};
-ghost use Rattle.crp_commands.specs.Opened.{IsLeftAlone};
+ghost use Rattle.crp_report.specs.Runs.{Made, GetsNothing};
+ghost use Rattle.crp_commands.specs.Noted.{IsNoted};
 ghost use Rattle.crp_commands.specs.Performing.{JobSeen, ReportsFile, FileFailsWith, ReportsOverFiles, FailsOverFiles};
 ghost use Rattle.crp_commands.specs.Headlines.{ForRun, AreWritten, AreFrontsWritten};
 
@@ -48,19 +45,21 @@ fn perform_on<T: Threads + Wait + Sync, F: Files, R: Source, W: Sink>(
 }
 
 // Does a job over its files.
-fn do_job<T: Threads + Wait + Sync, F: Files, R: Source, W: Sink>(
+fn do_job<T: Threads + Wait + Sync, F: Files, R: Source, W: Sink, E: Sink>(
     threads: &T,
     alloc: Global,
     files: &mut F,
     input: &mut R,
     out: &mut W,
     job: &Job<'_>,
+    errors: &mut E,
 ) -> Result<Status, ToolFault>
-    ensures { let seen : JobSeen = record {
+    ensures done { let seen : JobSeen = record {
       files = record { known = F.known files.old; before = F.failures files.old; after = F.failures files.new };
       input = record { given = R.remaining input.old; before = R.failures input.old; after = R.failures input.new };
       out = record { held = W.contents out.old; holds = W.contents out.new; before = W.failures out.old; after = W.failures out.new };
     } in MatchResult result (ReportsOverFiles job.now seen) (FailsOverFiles job.now seen) }
+    ensures noted { IsNoted job.now (record { held = E.contents errors.old; holds = E.contents errors.new; before = E.failures errors.old; after = E.failures errors.new }) }
 {
     match job {
         Job::OneFile { file, command } => {
@@ -69,20 +68,23 @@ fn do_job<T: Threads + Wait + Sync, F: Files, R: Source, W: Sink>(
         Job::Solve {
             files: names,
             settings,
-        } => solve(threads, alloc, files, names, settings, out),
+            quiet,
+        } => solve(threads, alloc, files, names, settings, out, *quiet, errors),
     }
 }
 
-/// Does a job over its files, and writes its report to `out`. A job over the file `-` reads `input`, the standard input.
+/// Does a job over its files, and writes its report to `out`. A job over the file `-` reads `input`, the standard input. A run over a
+/// yard that is not to be quiet writes its notes to `errors`.
 ///
-/// Of a run over a yard the headline holds: of the texts that it wrote, and where a write has failed of those whose fronts it wrote.
-pub fn run_job<T: Threads + Wait + Sync, F: Files, R: Source, W: Sink>(
+/// Of a run over a yard the headline holds: of the texts that it wrote, and where it ended with a fault of those whose fronts it wrote.
+pub fn run_job<T: Threads + Wait + Sync, F: Files, R: Source, W: Sink, E: Sink>(
     threads: &T,
     alloc: Global,
     files: &mut F,
     input: &mut R,
     out: &mut W,
     job: &Job<'_>,
+    errors: &mut E,
 ) -> Result<Status, ToolFault>
     ensures done { let seen : JobSeen = record {
       files = record { known = F.known files.old; before = F.failures files.old; after = F.failures files.new };
@@ -98,8 +100,8 @@ pub fn run_job<T: Threads + Wait + Sync, F: Files, R: Source, W: Sink>(
       files = record { known = F.known files.old; before = F.failures files.old; after = F.failures files.new };
       input = record { given = R.remaining input.old; before = R.failures input.old; after = R.failures input.new };
       out = record { held = W.contents out.old; holds = W.contents out.new; before = W.failures out.old; after = W.failures out.new };
-    } in IfErr result (λ fault. (sink : Output) → fault ≡ Run (Write sink)
-        → ForRun job.now (λ names chosen. IsLeftAlone seen.out ⊎ ((made : Made) × IsHeadline made × AreFrontsWritten names chosen seen made))) }
+    } in IfErr result (λ _. ForRun job.now (λ names chosen. GetsNothing seen.out ⊎ ((made : Made) × IsHeadline made × AreFrontsWritten names chosen seen made))) }
+    ensures noted { IsNoted job.now (record { held = E.contents errors.old; holds = E.contents errors.new; before = E.failures errors.old; after = E.failures errors.new }) }
 {
-    do_job(threads, alloc, files, input, out, job)
+    do_job(threads, alloc, files, input, out, job, errors)
 }

@@ -4,19 +4,22 @@ ghost use Rattle.crp_report.specs.declared.fault.Fault.{Fault};
 ghost use Rattle.crp_report.specs.Runs.{RunSeen, SinkSeen};
 ghost use Rattle.crp_commands.specs.declared.outcome.ToolFault.TheVariants.{Run};
 ghost use Rattle.crp_commands.specs.Opened.{FilesSeen};
+ghost use Rattle.crp_commands.specs.Noted.{IsNotedBy};
 ghost use Rattle.crp_commands.specs.Solving.{RunEnds, RunFails, AnswersAfter, AnswersOutputs, RunReportsOverFiles, RunFailsOverFiles};
 
+use crate::heads::MOST_BYTES;
 use crate::job::RunFiles;
 use crate::opening::Files;
 use crate::outcome::ToolFault;
+use crp_notes::Notes;
 use crp_plan::{Nowhere, Sink, Source};
-use crp_report::{Fault, Input, Output, RunSettings, Status, run};
+use crp_report::{Fault, Input, Output, RunSettings, Status, run, run_watched};
 use std::alloc::Global;
 use std::sync::Wait;
 use std::thread::Threads;
 
-// Runs over devices, and gives a fault of the run as one of the command.
-fn run_to<T: Threads + Wait + Sync, Y: Source, M: Source, W: Sink, C: Sink, A: Sink>(
+// Runs over devices. Notes go to `errors`, where they are wanted: one of them where the certificates have more bytes than so many.
+fn run_noted<T: Threads + Wait + Sync, Y: Source, M: Source, W: Sink, C: Sink, A: Sink, E: Sink>(
     threads: &T,
     alloc: Global,
     yard: &mut Y,
@@ -25,25 +28,80 @@ fn run_to<T: Threads + Wait + Sync, Y: Source, M: Source, W: Sink, C: Sink, A: S
     out: &mut W,
     cert_out: &mut C,
     after_out: &mut A,
+    largest: usize,
+    quiet: bool,
+    errors: &mut E,
+) -> Result<Status, Fault>
+    ensures ended { let seen : RunSeen = record {
+      yard = record { given = Y.remaining yard.old; before = Y.failures yard.old; after = Y.failures yard.new };
+      movins = record { given = M.remaining movins.old; before = M.failures movins.old; after = M.failures movins.new };
+      report = record { held = W.contents out.old; holds = W.contents out.new; before = W.failures out.old; after = W.failures out.new };
+      certificates = record { held = C.contents cert_out.old; holds = C.contents cert_out.new; before = C.failures cert_out.old; after = C.failures cert_out.new };
+      yard_after = record { held = A.contents after_out.old; holds = A.contents after_out.new; before = A.failures after_out.old; after = A.failures after_out.new };
+    } in MatchResult result (RunEnds settings.now seen) (RunFails settings.now seen) }
+    ensures noted { IsNotedBy quiet (record { held = E.contents errors.old; holds = E.contents errors.new; before = E.failures errors.old; after = E.failures errors.new }) }
+{
+    if quiet {
+        return run(
+            threads, alloc, yard, movins, settings, out, cert_out, after_out,
+        );
+    }
+    run_watched(
+        threads,
+        alloc,
+        yard,
+        movins,
+        settings,
+        out,
+        cert_out,
+        after_out,
+        &mut Notes::new(largest),
+        errors,
+    )
+}
+
+// The same, and a fault of the run is one of the command.
+fn run_to<T: Threads + Wait + Sync, Y: Source, M: Source, W: Sink, C: Sink, A: Sink, E: Sink>(
+    threads: &T,
+    alloc: Global,
+    yard: &mut Y,
+    movins: &mut M,
+    settings: &RunSettings,
+    out: &mut W,
+    cert_out: &mut C,
+    after_out: &mut A,
+    largest: usize,
+    quiet: bool,
+    errors: &mut E,
 ) -> Result<Status, ToolFault>
-    ensures { let seen : RunSeen = record {
+    ensures ended { let seen : RunSeen = record {
       yard = record { given = Y.remaining yard.old; before = Y.failures yard.old; after = Y.failures yard.new };
       movins = record { given = M.remaining movins.old; before = M.failures movins.old; after = M.failures movins.new };
       report = record { held = W.contents out.old; holds = W.contents out.new; before = W.failures out.old; after = W.failures out.new };
       certificates = record { held = C.contents cert_out.old; holds = C.contents cert_out.new; before = C.failures cert_out.old; after = C.failures cert_out.new };
       yard_after = record { held = A.contents after_out.old; holds = A.contents after_out.new; before = A.failures after_out.old; after = A.failures after_out.new };
     } in MatchResult result (RunEnds settings.now seen) (λ fault. (f : Fault) × (fault ≡ Run f) × RunFails settings.now seen f) }
+    ensures noted { IsNotedBy quiet (record { held = E.contents errors.old; holds = E.contents errors.new; before = E.failures errors.old; after = E.failures errors.new }) }
 {
-    match run(
-        threads, alloc, yard, movins, settings, out, cert_out, after_out,
+    match run_noted(
+        threads, alloc, yard, movins, settings, out, cert_out, after_out, largest, quiet, errors,
     ) {
         Ok(status) => Ok(status),
         Err(fault) => Err(ToolFault::Run(fault)),
     }
 }
 
+// As many bytes of certificates as `check` takes, if they go to a file.
+fn largest_file(names: &RunFiles<'_>) -> usize {
+    match names.cert {
+        Some(_) => MOST_BYTES,
+        None => usize::MAX,
+    }
+}
+
 // Makes the file of the yard after the plans, if it is wanted, and runs.
-fn run_after<T: Threads + Wait + Sync, F: Files, Y: Source, M: Source, W: Sink, C: Sink>(
+#[tactic(auto, using(crate::proofs::Noted::unnoted))]
+fn run_after<T: Threads + Wait + Sync, F: Files, Y: Source, M: Source, W: Sink, C: Sink, E: Sink>(
     threads: &T,
     alloc: Global,
     files: &mut F,
@@ -53,8 +111,10 @@ fn run_after<T: Threads + Wait + Sync, F: Files, Y: Source, M: Source, W: Sink, 
     settings: &RunSettings,
     out: &mut W,
     cert_out: &mut C,
+    quiet: bool,
+    errors: &mut E,
 ) -> Result<Status, ToolFault>
-    ensures { let seen : SinkSeen → RunSeen = λ left. record {
+    ensures ended { let seen : SinkSeen → RunSeen = λ left. record {
       yard = record { given = Y.remaining yard.old; before = Y.failures yard.old; after = Y.failures yard.new };
       movins = record { given = M.remaining movins.old; before = M.failures movins.old; after = M.failures movins.new };
       report = record { held = W.contents out.old; holds = W.contents out.new; before = W.failures out.old; after = W.failures out.new };
@@ -62,6 +122,7 @@ fn run_after<T: Threads + Wait + Sync, F: Files, Y: Source, M: Source, W: Sink, 
       yard_after = left;
     } in let all : FilesSeen = record { known = F.known files.old; before = F.failures files.old; after = F.failures files.new }
         in AnswersAfter settings.now names.now all seen result }
+    ensures noted { IsNotedBy quiet (record { held = E.contents errors.old; holds = E.contents errors.new; before = E.failures errors.old; after = E.failures errors.new }) }
 {
     match names.after {
         Some(name) => {
@@ -77,6 +138,9 @@ fn run_after<T: Threads + Wait + Sync, F: Files, Y: Source, M: Source, W: Sink, 
                 out,
                 cert_out,
                 &mut after_out,
+                largest_file(names),
+                quiet,
+                errors,
             );
             files.finish(after_out);
             answer
@@ -90,12 +154,16 @@ fn run_after<T: Threads + Wait + Sync, F: Files, Y: Source, M: Source, W: Sink, 
             out,
             cert_out,
             &mut Nowhere,
+            largest_file(names),
+            quiet,
+            errors,
         ),
     }
 }
 
 // Makes the files of the certificates and of the yard after the plans, where they are wanted, and runs.
-fn run_outputs<T: Threads + Wait + Sync, F: Files, Y: Source, M: Source, W: Sink>(
+#[tactic(auto, using(crate::proofs::Noted::unnoted))]
+fn run_outputs<T: Threads + Wait + Sync, F: Files, Y: Source, M: Source, W: Sink, E: Sink>(
     threads: &T,
     alloc: Global,
     files: &mut F,
@@ -104,8 +172,10 @@ fn run_outputs<T: Threads + Wait + Sync, F: Files, Y: Source, M: Source, W: Sink
     movins: &mut M,
     settings: &RunSettings,
     out: &mut W,
+    quiet: bool,
+    errors: &mut E,
 ) -> Result<Status, ToolFault>
-    ensures { let seen : SinkSeen → SinkSeen → RunSeen = λ proofs left. record {
+    ensures ended { let seen : SinkSeen → SinkSeen → RunSeen = λ proofs left. record {
       yard = record { given = Y.remaining yard.old; before = Y.failures yard.old; after = Y.failures yard.new };
       movins = record { given = M.remaining movins.old; before = M.failures movins.old; after = M.failures movins.new };
       report = record { held = W.contents out.old; holds = W.contents out.new; before = W.failures out.old; after = W.failures out.new };
@@ -113,6 +183,7 @@ fn run_outputs<T: Threads + Wait + Sync, F: Files, Y: Source, M: Source, W: Sink
       yard_after = left;
     } in let all : FilesSeen = record { known = F.known files.old; before = F.failures files.old; after = F.failures files.new }
         in AnswersOutputs settings.now names.now all seen result }
+    ensures noted { IsNotedBy quiet (record { held = E.contents errors.old; holds = E.contents errors.new; before = E.failures errors.old; after = E.failures errors.new }) }
 {
     match names.cert {
         Some(name) => {
@@ -129,6 +200,8 @@ fn run_outputs<T: Threads + Wait + Sync, F: Files, Y: Source, M: Source, W: Sink
                 settings,
                 out,
                 &mut cert_out,
+                quiet,
+                errors,
             );
             files.finish(cert_out);
             answer
@@ -143,24 +216,30 @@ fn run_outputs<T: Threads + Wait + Sync, F: Files, Y: Source, M: Source, W: Sink
             settings,
             out,
             &mut Nowhere,
+            quiet,
+            errors,
         ),
     }
 }
 
 /// Opens the files, before anything is read: the yard list, the message, the file of the certificates and that of the yard after the
-/// plans. Then runs over them, and writes the report to `out`.
-pub fn solve<T: Threads + Wait + Sync, F: Files, W: Sink>(
+/// plans. Then runs over them, and writes the report to `out` and, unless it is to be quiet, notes to `errors`.
+#[tactic(auto, using(crate::proofs::Noted::unnoted))]
+pub fn solve<T: Threads + Wait + Sync, F: Files, W: Sink, E: Sink>(
     threads: &T,
     alloc: Global,
     files: &mut F,
     names: &RunFiles<'_>,
     settings: &RunSettings,
     out: &mut W,
+    quiet: bool,
+    errors: &mut E,
 ) -> Result<Status, ToolFault>
-    ensures { let all : FilesSeen = record { known = F.known files.old; before = F.failures files.old; after = F.failures files.new }
+    ensures ended { let all : FilesSeen = record { known = F.known files.old; before = F.failures files.old; after = F.failures files.new }
         in let report : SinkSeen = record { held = W.contents out.old; holds = W.contents out.new; before = W.failures out.old; after = W.failures out.new }
         in MatchResult result (RunReportsOverFiles names.now settings.now all report)
         (λ fault. (f : Fault) × (fault ≡ Run f) × RunFailsOverFiles names.now settings.now all report f) }
+    ensures noted { IsNotedBy quiet (record { held = E.contents errors.old; holds = E.contents errors.new; before = E.failures errors.old; after = E.failures errors.new }) }
 {
     let Ok(mut yard) = files.open(names.yard) else {
         return Err(ToolFault::Run(Fault::Read(Input::Yard)));
@@ -177,6 +256,8 @@ pub fn solve<T: Threads + Wait + Sync, F: Files, W: Sink>(
         &mut movins,
         settings,
         out,
+        quiet,
+        errors,
     );
     files.close(yard);
     files.close(movins);

@@ -5,8 +5,9 @@ use Rattle.std.proofs.lemmas.List.Elements.{All-from_recursion}
 use Rattle.crp_yard.specs.Inventory.{Inventory}
 use Rattle.crp_yard.specs.Reading.{IsYardListOf}
 use Rattle.crp_order.specs.declared.bay_problem.BayProblem.{BayProblem}
-use Rattle.crp_order.specs.BayProblems.{problems_of}
-use Rattle.crp_report.proofs.YardNames.{IsNamedProblem, problems_named}
+use Rattle.crp_order.specs.BayProblems.{problems_of, IsNamedProblem}
+use Rattle.crp_yard.proofs.NamedBays.{yard_named}
+use Rattle.crp_order.proofs.NamedProblems.{problems_named}
 use Rattle.crp_headline.specs.Accepted.{CanBeWritten}
 
 each_stated : (stated : List BayProblem) → AllByRecursion IsNamedProblem stated → AllByRecursion CanBeWritten stated
@@ -16,4 +17,4 @@ each_stated (first ∷ stated) named = let is = named.0 in (is.bay, each_stated 
 -- so texts can state the bay problems of a yard list
 pub can_be_written : (heights text : List ℕ) (yard : Inventory) (sequence : List (List ℕ)) → IsYardListOf heights text yard → All CanBeWritten (problems_of yard sequence)
 can_be_written heights text yard sequence is =
-    All-from_recursion CanBeWritten (problems_of yard sequence) (each_stated (problems_of yard sequence) (problems_named heights text yard sequence is))
+    All-from_recursion CanBeWritten (problems_of yard sequence) (each_stated (problems_of yard sequence) (problems_named yard sequence (yard_named heights text yard is)))

@@ -8,8 +8,9 @@ use Rattle.crp_plan.specs.BayNames.{YardBay}
 use Rattle.crp_plan.specs.Plans.{ProblemPath}
 use Rattle.crp_plan.proofs.Covered.{relocations-path}
 use Rattle.crp_yard.specs.Inventory.{StackedBay}
+use Rattle.crp_yard.specs.Naming.{FitsLine}
 use Rattle.crp_order.specs.declared.bay_problem.BayProblem.{BayProblem}
-use Rattle.crp_order.specs.BayProblems.{leaving, staying, ranked, bay_problem_of, is_called}
+use Rattle.crp_order.specs.BayProblems.{leaving, staying, ranked, bay_problem_of, is_called, IsNamedProblem}
 use Rattle.crp_tree.specs.Parts.{Certificate}
 use Rattle.crp_solve.specs.declared.answer.Answer.{Answer}
 use Rattle.crp_solve.specs.declared.answer.Answer.TheVariants as answer
@@ -22,7 +23,6 @@ use Rattle.crp_checker.specs.declared.verdict.Verdict.{Verdict}
 use Rattle.crp_checker.specs.declared.verdict.Verdict.TheVariants as verdict
 use Rattle.crp_checker.specs.Verdicts.{IsVerdictOf}
 use Rattle.crp_checker.specs.Files.{FileShows}
-use Rattle.crp_said.specs.TakeLines.{FitsLine}
 use Rattle.crp_said.specs.Said.{BaySaid, report_text}
 use Rattle.crp_said.proofs.Takes.{plan_takes}
 use Rattle.crp_report.specs.Answered.{Answered, plan_in, cause_said, said_by}
@@ -30,7 +30,6 @@ use Rattle.crp_report.specs.Chosen.{RunChosen}
 use Rattle.crp_report.specs.Report.{ArePlanLines, MayBePlanLines, certificate_of, certificates_text}
 use Rattle.crp_report.specs.Runs.{RunSeen, Made, IsMade, numbers_of}
 use Rattle.crp_report.specs.Said.{IsSaidOf}
-use Rattle.crp_report.proofs.YardNames.{IsNamedProblem}
 use Rattle.crp_report.proofs.Saying.{answered_named, run_says}
 use Rattle.crp_headline.specs.Accepted.{IsVerdictOn, IsShown, IsVerdictFor}
 use Rattle.crp_headline.specs.Headline.{Reported, said_of, problem_in, PrintsPlan, PrintsFirst, IsOpenVerdict, IsSo, IsTrueOf, IsHeadline}

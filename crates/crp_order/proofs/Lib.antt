@@ -9,5 +9,6 @@ pub mod GroupSteps
 pub mod SequenceSteps
 pub mod StatingSteps
 pub mod NamedSteps
+pub mod NamedProblems
 pub mod RankedSteps
 pub mod StowageSteps

@@ -1,11 +1,13 @@
 -- The problem of each bay: which of its containers leave, and in which order.
 use Rattle.std.specs.Prelude.{◌≡◌, ℕ, suc, Bool, not, List, [], ◌∷◌, ◌++◌, length, map, filter, flat_map, count_by, Some, if◌then◌else◌}
-use Rattle.std.specs.List.{list_any}
+use Rattle.std.specs.List.{AllByRecursion, list_any}
 use Rattle.std.specs.Str.{bytes_eq}
 use Rattle.crp_plan.specs.Bay.{Problem, IsProblem}
+use Rattle.crp_plan.specs.BayNames.{IsYardBay}
 use Rattle.crp_plan.specs.Rows.{total}
 use Rattle.crp_plan.specs.Faults.{stated_with}
 use Rattle.crp_yard.specs.Inventory.{Inventory, StackedBay, is_among, stands}
+use Rattle.crp_yard.specs.Naming.{FitsLine}
 use Rattle.crp_yard.specs.Ranks.{named}
 use Rattle.crp_yard.specs.After.{stacks_at}
 use Rattle.crp_order.specs.declared.bay_problem.BayProblem.{BayProblem}
@@ -66,3 +68,8 @@ pub record IsNamed (yard : Inventory) (made : BayProblem) : Type 0 where
   pub heights : made.problem.heights ≡ yard.heights
   pub stands : stacks_at yard.bays made.bay ≡ Some (named made.names made.problem.stacks)
   pub each_rank : length made.names ≡ total made.problem.stacks
+
+-- its bay has the name of one, and the names of its containers fit a line
+pub record IsNamedProblem (made : BayProblem) : Type 0 where
+  pub bay : IsYardBay made.bay
+  pub names : AllByRecursion FitsLine made.names

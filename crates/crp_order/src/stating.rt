@@ -1,9 +1,10 @@
 //! States the problems of the bays.
 
 ghost use Rattle.std.specs.Prelude.{◌≡◌, ◌<◌, All, IfOk, length, map};
-ghost use Rattle.std.specs.List.{IsDistinct};
+ghost use Rattle.std.specs.List.{AllByRecursion, IsDistinct};
 ghost use Rattle.crp_plan.specs.BayNames.{same_bay};
-ghost use Rattle.crp_order.specs.BayProblems.{problems_of, IsNamed};
+ghost use Rattle.crp_yard.specs.Naming.{IsNamedBay};
+ghost use Rattle.crp_order.specs.BayProblems.{problems_of, IsNamed, IsNamedProblem};
 ghost use Rattle.crp_order.specs.Groups.{stacks_numbered, pointed, IsStated, CanLeave};
 
 use crate::bay_problem::BayProblem;
@@ -52,6 +53,7 @@ pub fn problems(
 
     // The ranks of each problem, read as its names, are the bay of that name as it stands in the yard.
     ensures named { IfOk result (λ problems. All (IsNamed yard.now) problems.items) }
+    ensures names { AllByRecursion IsNamedBay yard.now.bays → IfOk result (λ problems. AllByRecursion IsNamedProblem problems.items) }
     ensures once { IfOk result (λ problems. IsDistinct same_bay (map (λ made. made.bay) problems.items)) }
 {
     let groups = leaving_by_bay(alloc, yard, sequence)?;

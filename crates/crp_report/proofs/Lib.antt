@@ -1,11 +1,13 @@
 -- Lemmas on what is written.
 pub mod Refusing
-pub mod Ended
 pub mod Leaving
-pub mod Making
-pub mod Stops
+pub mod Written
+pub mod Taken
+pub mod Stating
+pub mod Keeping
+pub mod Answering
+pub mod Shown
 pub mod Runs
-pub mod YardNames
 pub mod Counts
 pub mod Saying
 pub mod Firsts

@@ -8,6 +8,9 @@ use Rattle.crp_plan.specs.Bay.{Problem, IsProblem, start}
 use Rattle.crp_plan.specs.BayNames.{IsYardBay}
 use Rattle.crp_plan.specs.Plans.{ProblemPath}
 use Rattle.crp_plan.proofs.Tallies.{cap_low}
+use Rattle.crp_yard.proofs.NamedBays.{yard_named}
+use Rattle.crp_order.specs.BayProblems.{IsNamedProblem}
+use Rattle.crp_order.proofs.NamedProblems.{problems_named}
 use Rattle.crp_solve.specs.declared.answer.Answer.{Answer}
 use Rattle.crp_solve.specs.declared.answer.Answer.TheVariants as answer
 use Rattle.crp_solve.specs.declared.answer.Cause.TheVariants as cause
@@ -26,7 +29,6 @@ use Rattle.crp_report.specs.Chosen.{RunChosen}
 use Rattle.crp_report.specs.Report.{decided, MayBePlanLines, AreLinesOfBays}
 use Rattle.crp_report.specs.Runs.{RunSeen, Made, IsMade, numbers_of}
 use Rattle.crp_report.specs.Said.{IsSaidOf, SaysOfBays, SayTheSame}
-use Rattle.crp_report.proofs.YardNames.{IsNamedProblem, problems_named}
 use Rattle.crp_report.proofs.Counts.{numbers_small}
 
 -- a bay of which something can be said
@@ -123,7 +125,7 @@ readable chosen (bay ∷ answered) named t =
 pub answered_named : (chosen : RunChosen) (seen : RunSeen) (m : Made) → IsMade chosen seen m → AllByRecursion IsNamedProblem (map (λ bay. bay.stated) m.answered)
 answered_named chosen seen m is =
     let t = is.true_answers in
-    subst (AllByRecursion IsNamedProblem) (sym t.one_for_each) (problems_named chosen.heights m.list m.yard m.sequence is.listed)
+    subst (AllByRecursion IsNamedProblem) (sym t.one_for_each) (problems_named m.yard m.sequence (yard_named chosen.heights m.list m.yard is.listed))
 
 -- what a run says, and that it can be said
 pub record HasSaid (m : Made) : Type 0 where

@@ -83,6 +83,14 @@ status_of_all answered =
     if list_any (λ bay. is_memory (status_of bay.solved.answer)) answered then status.Memory
     else (if list_any (λ bay. is_budget (status_of bay.solved.answer)) answered then status.Budget else status.Decided)
 
+-- how two lists of searches ended together, each of which ended so
+abbrev pub both : Status → Status → Status
+both status.Memory other = status.Memory
+both status.Decided other = other
+both status.Budget status.Memory = status.Memory
+both status.Budget status.Budget = status.Budget
+both status.Budget status.Decided = status.Budget
+
 -- the plan of a bay with the containers of its ranks, if the answer gives one
 abbrev pub bay_plan_in : Answered → Option BayPlan
 bay_plan_in bay = option_map (λ plan. record { bay = bay.stated.bay; plan = plan; names = bay.stated.names }) (plan_in bay.solved.answer)

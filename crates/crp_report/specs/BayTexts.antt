@@ -1,5 +1,5 @@
 -- How a run states what went wrong in a layer below, and the texts that it keeps of a bay. Only private clauses speak of it.
-use Rattle.std.specs.Prelude.{◌≡◌, ◌≢◌, ℕ, ◌+◌, ◌≤◌, List, [], ◌∷◌, Option, Some, ⊤}
+use Rattle.std.specs.Prelude.{◌≡◌, ◌≢◌, ℕ, ◌+◌, ◌≤◌, List, Option, Some}
 use Rattle.crp_plan.specs.Devices.{HasFailed}
 use Rattle.crp_yard.specs.declared.fault.YardFault.{YardFault}
 use Rattle.crp_yard.specs.declared.fault.YardFault.TheVariants as yard_fault
@@ -16,17 +16,10 @@ use Rattle.crp_movins.specs.declared.fault.MovinsFault.TheVariants as movins
 use Rattle.crp_report.specs.declared.fault.Fault.{Fault}
 use Rattle.crp_report.specs.declared.fault.Fault.TheVariants as fault
 use Rattle.crp_report.specs.declared.fault.Input.TheVariants as input
+use Rattle.crp_report.specs.declared.fault.Output.{Output}
 use Rattle.crp_report.specs.declared.bay_texts.BayTexts.{BayTexts}
-use Rattle.crp_report.specs.declared.writing.Texts.{Texts}
-use Rattle.crp_yard.specs.Inventory.{Inventory}
-use Rattle.crp_movins.specs.LoadOrders.{LoadOrders}
-use Rattle.crp_order.specs.Sequences.{IsSequence}
-use Rattle.crp_order.specs.BayProblems.{problems_of}
-use Rattle.crp_said.specs.Said.{counts_line}
-use Rattle.crp_report.specs.Chosen.{RunChosen}
-use Rattle.crp_report.specs.Runs.{numbers_of}
-use Rattle.crp_report.specs.Answered.{Answered, AreTrueAnswers, status_of, status_of_all}
-use Rattle.crp_report.specs.Report.{AreBayLines, certificate_of, last_line, IsYardTextAfter}
+use Rattle.crp_report.specs.Answered.{Answered}
+use Rattle.crp_report.specs.Report.{AreBayLines, certificate_of}
 
 -- the fault of a yard list, of an interchange and of a message, as a run states it
 abbrev pub fault_of_yard : YardFault → Fault
@@ -45,6 +38,10 @@ fault_of_message f = fault.Message f
 -- the calls of a device that have failed are no more than the interruptions that were counted, and so many besides
 abbrev pub AreFailuresCounted : ℕ → ℕ → ℕ → ℕ → ℕ → Type 0
 AreFailuresCounted besides failed_before failed_after counted_before counted_after = failed_after + counted_before ≤ failed_before + counted_after + besides
+
+-- a write to this sink has failed, by its counts of failures
+abbrev pub IsWriteOf : Output → ℕ → ℕ → Fault → Type 0
+IsWriteOf sink before after f = (f ≡ fault.Write sink) × HasFailed before after
 
 -- why no yard whose rows have these heights was read of a source that had these bytes, with its count of failures before and after
 abbrev pub IsNoYard : List ℕ → Option (List ℕ) → ℕ → ℕ → Fault → Type 0
@@ -69,27 +66,7 @@ IsNoMessage code given before after (fault.Read input.Movins) = HasFailed before
 IsNoMessage code given before after fault.Memory = Unit {0}
 IsNoMessage code given before after f = ⊥
 
--- these are the texts of an answered bay, and how its search ended
+-- these are the texts of an answered bay
 pub record AreTextsOfBay (bay : Answered) (t : BayTexts) : Type 0 where
   pub report : AreBayLines bay t.report.items
   pub certificate : t.certificate.items ≡ certificate_of bay
-  pub status : t.status ≡ status_of bay.solved.answer
-
--- so it is with each bay
-abbrev pub AreTextsOfBays : List Answered → List BayTexts → Type 0
-AreTextsOfBays [] [] = ⊤
-AreTextsOfBays [] (t ∷ all) = ⊥
-AreTextsOfBays (bay ∷ bays) [] = ⊥
-AreTextsOfBays (bay ∷ bays) (t ∷ all) = AreTextsOfBay bay t × AreTextsOfBays bays all
-
--- one list of true answers gives all texts of a yard and its load orders
-pub record AreTextsOf (chosen : RunChosen) (yard : Inventory) (orders : LoadOrders) (t : Texts) : Type 0 where
-  pub sequence : List (List ℕ)
-  pub answered : List Answered
-  pub in_sequence : IsSequence chosen.mode orders.list sequence
-  pub true_answers : AreTrueAnswers chosen.search (problems_of yard sequence) answered
-  pub first : t.first.items ≡ counts_line (numbers_of yard orders sequence)
-  pub bays : AreTextsOfBays answered t.bays.items
-  pub last : t.last.items ≡ last_line answered
-  pub yard_after : IsYardTextAfter yard answered t.yard_after.items
-  pub status : t.status ≡ status_of_all answered

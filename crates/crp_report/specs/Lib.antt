@@ -13,3 +13,4 @@ pub mod Printing
 pub mod BayTexts
 pub mod Writing
 pub mod Words
+pub mod Watching

@@ -1,7 +1,5 @@
 -- The pieces of what a run writes, in the order in which they are written, and how far they are written where a write fails.
 use Rattle.std.specs.Prelude.{◌≡◌, ℕ, ◌<◌, Bool, true, false, List, [], ◌∷◌, ◌++◌, length, flat_map, take, if◌then◌else◌}
-use Rattle.crp_said.specs.declared.numbers.Numbers.{Numbers}
-use Rattle.crp_said.specs.Said.{counts_line}
 use Rattle.crp_report.specs.declared.fault.Output.{Output}
 use Rattle.crp_report.specs.declared.fault.Output.TheVariants as output
 use Rattle.crp_report.specs.Answered.{Answered}
@@ -33,10 +31,10 @@ AreBayPieces [] pieces = pieces ≡ []
 AreBayPieces (bay ∷ bays) pieces = (lines : List ℕ) × (rest : List Piece) × AreBayLines bay lines × AreBayPieces bays rest
     × (pieces ≡ piece output.Report lines ∷ piece output.Certificates (certificate_of bay) ∷ rest)
 
--- all pieces: the first line, those of the bays, the last line, and the yard after
-abbrev pub ArePieces : Numbers → List Answered → List ℕ → List Piece → Type 0
-ArePieces n answered yard_after pieces = (bays : List Piece) × AreBayPieces answered bays
-    × (pieces ≡ piece output.Report (counts_line n) ∷ (bays ++ piece output.Report (last_line answered) ∷ piece output.YardAfter yard_after ∷ []))
+-- all pieces: this first line, those of the bays, the last line, and the yard after
+abbrev pub ArePieces : List ℕ → List Answered → List ℕ → List Piece → Type 0
+ArePieces first answered yard_after pieces = (bays : List Piece) × AreBayPieces answered bays
+    × (pieces ≡ piece output.Report first ∷ (bays ++ piece output.Report (last_line answered) ∷ piece output.YardAfter yard_after ∷ []))
 
 -- where a write failed: the pieces before, the piece of which only so many bytes were taken, not all that it has, and the pieces behind
 pub record Stop : Type 0 where

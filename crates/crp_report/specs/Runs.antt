@@ -1,6 +1,6 @@
 -- A run from the bytes of a yard list and of a message to a report, certificates and the yard after: what it saw, what it wrote, and what each
 -- fault states.
-use Rattle.std.specs.Prelude.{◌≡◌, ◌≢◌, ℕ, ◌+◌, ◌-◌, List, length, Option, None, Some}
+use Rattle.std.specs.Prelude.{◌≡◌, ◌≢◌, ℕ, ◌+◌, ◌-◌, ◌⊎◌, List, ◌++◌, length, Option, None, Some}
 use Rattle.std.specs.Io.KnownBytes.{Appends, Keeps}
 use Rattle.crp_plan.specs.Devices.{AppendsFront, AppendsPart, HasFailed, most_interruptions}
 use Rattle.edi_text.specs.Parts.{SegmentParts}
@@ -17,6 +17,7 @@ use Rattle.crp_yard.specs.declared.fault.YardFault.TheVariants as yard_fault
 use Rattle.crp_order.specs.Sequences.{IsSequence}
 use Rattle.crp_order.specs.BayProblems.{problems_of, absent_of}
 use Rattle.crp_said.specs.declared.numbers.Numbers.{Numbers}
+use Rattle.crp_said.specs.Said.{counts_line}
 use Rattle.crp_report.specs.declared.fault.Fault.{Fault}
 use Rattle.crp_report.specs.declared.fault.Fault.TheVariants as fault
 use Rattle.crp_report.specs.declared.fault.Input.{Input}
@@ -64,6 +65,10 @@ pub record AreOrders (code text : List ℕ) (orders : LoadOrders) : Type 0 where
 -- the numbers of a yard, the load orders and their sequence
 abbrev pub numbers_of : Inventory → LoadOrders → List (List ℕ) → Numbers
 numbers_of yard orders sequence = record { orders = length orders.list; vacant = orders.vacant; absent = absent_of yard sequence }
+
+-- the first line of the report
+abbrev pub first_line : Inventory → LoadOrders → List (List ℕ) → List ℕ
+first_line yard orders sequence = counts_line (numbers_of yard orders sequence)
 
 -- what a run makes of its input: the two texts that were read, what they say, an answer for each bay problem, and three texts
 pub record Made : Type 0 where
@@ -130,16 +135,24 @@ text_for m output.YardAfter = m.yard_after
 abbrev pub MakeUpTexts : Made → List Piece → Type 0
 MakeUpTexts m pieces = (each : Output) → bytes_for each pieces ≡ text_for m each
 
+-- these are the pieces of a run, and they make up its texts
+abbrev pub AreMadePieces : Made → List Piece → Type 0
+AreMadePieces m pieces = ArePieces (first_line m.yard m.orders m.sequence) m.answered m.yard_after pieces × MakeUpTexts m pieces
+
 -- the writing of the three texts stopped within a piece for this sink: each sink got what goes to it of the pieces before and of a front of this one,
 -- which is not all of it, and nothing else
 abbrev pub StopsAt : Made → RunSeen → Output → Type 0
-StopsAt m s sink = (stop : Stop) × ArePieces (numbers_of m.yard m.orders m.sequence) m.answered m.yard_after (wanted stop) × MakeUpTexts m (wanted stop)
-    × (stop.failed.to ≡ sink) × ((each : Output) → Gets (sink_of s each) (bytes_for each (written stop)))
+StopsAt m s sink = (stop : Stop) × AreMadePieces m (wanted stop) × (stop.failed.to ≡ sink) × ((each : Output) → Gets (sink_of s each) (bytes_for each (written stop)))
 
 -- each sink got a front of its text, and this one not all of it, as far as the pieces were written when the writing stopped within one for this sink
 abbrev pub WritesFronts : RunChosen → RunSeen → Output → Type 0
 WritesFronts chosen s sink = (m : Made) × IsMade chosen s m × ((each : Output) → GetsFront (sink_of s each) (text_for m each))
     × GetsPart (sink_of s sink) (text_for m sink) × StopsAt m s sink
+
+-- each sink got a front of its text: what goes to it of the pieces so far, each of them whole, and nothing else
+abbrev pub WritesSoFar : RunChosen → RunSeen → Type 0
+WritesSoFar chosen s = (m : Made) × IsMade chosen s m × ((each : Output) → GetsFront (sink_of s each) (text_for m each))
+    × ((done : List Piece) × (behind : List Piece) × AreMadePieces m (done ++ behind) × ((each : Output) → Gets (sink_of s each) (bytes_for each done)))
 
 -- no sink got anything
 abbrev pub WritesNothing : RunSeen → Type 0
@@ -171,7 +184,7 @@ most_run_failures f = most_interruptions + failures_of_fault f
 
 -- what a fault states: the first fault of the yard list; where that has none, the first fault of the interchange or of its message; a read or a
 -- write that has failed in this call; or lack of memory. Something may have been written only where a write failed: fronts of the three texts, up to
--- that write, and not all of the text whose write failed.
+-- that write, and not all of the text whose write failed; or where memory ran out behind the input: the pieces up to there.
 abbrev pub RunFailsWith : RunChosen → RunSeen → Fault → Type 0
 RunFailsWith chosen s (fault.Yard f) = WritesNothing s × (f ≢ yard_fault.Read) × (f ≢ yard_fault.Memory)
     × ((text : List ℕ) × IsTextOf s.yard.given text × (fault_of_text chosen.heights text ≡ Some f))
@@ -181,4 +194,4 @@ RunFailsWith chosen s (fault.Message f) = WritesNothing s × (f ≢ movins.Memor
     × ((text : List ℕ) × (segments : List SegmentParts) × IsTextOf s.movins.given text × Spells text segments × (first_fault segments chosen.code ≡ Some f))
 RunFailsWith chosen s (fault.Read source) = WritesNothing s × IsInputBeforeAccepted chosen s source × HasFailed (source_of s source).before (source_of s source).after
 RunFailsWith chosen s (fault.Write sink) = WritesFronts chosen s sink × HasFailed (sink_of s sink).before (sink_of s sink).after
-RunFailsWith chosen s fault.Memory = WritesNothing s
+RunFailsWith chosen s fault.Memory = WritesNothing s ⊎ WritesSoFar chosen s

@@ -1,62 +1,126 @@
--- The texts of a run in pieces, and why they were not written. Only private clauses speak of it.
-use Rattle.std.specs.Prelude.{◌≡◌, ℕ, ◌⊎◌, List, [], ◌∷◌, ◌++◌, flat_map, Option}
+-- What the three sinks of a run got of pieces, and what a run makes and writes of its bays. Only private clauses speak of it.
+use Rattle.std.specs.Prelude.{◌≡◌, ℕ, ◌+◌, ◌≤◌, List, [], ◌∷◌, ◌++◌, length, Option}
 use Rattle.std.specs.Io.KnownBytes.{Appends}
-use Rattle.crp_plan.specs.Devices.{HasFailed}
+use Rattle.crp_plan.specs.Devices.{HasFailed, most_interruptions}
+use Rattle.crp_yard.specs.Inventory.{Inventory}
+use Rattle.crp_yard.specs.After.{IsAfter}
+use Rattle.crp_yard.specs.Text.{yard_text}
+use Rattle.crp_yard.specs.declared.bay_plan.BayPlan.{BayPlan}
+use Rattle.crp_order.specs.declared.bay_problem.BayProblem.{BayProblem}
+use Rattle.crp_said.specs.Said.{bays_line}
+use Rattle.crp_solve.specs.Answers.{IsSolved}
+use Rattle.crp_solve.specs.Chosen.{Chosen}
+use Rattle.crp_solve.specs.declared.answer.Solved.{Solved}
 use Rattle.crp_report.specs.declared.fault.Fault.{Fault}
 use Rattle.crp_report.specs.declared.fault.Fault.TheVariants as fault
 use Rattle.crp_report.specs.declared.fault.Output.{Output}
 use Rattle.crp_report.specs.declared.fault.Output.TheVariants as output
-use Rattle.crp_report.specs.declared.bay_texts.BayTexts.{BayTexts}
-use Rattle.crp_report.specs.declared.writing.Texts.{Texts}
-use Rattle.crp_report.specs.Pieces.{Piece, piece, bytes_for, Stop, wanted, written}
+use Rattle.crp_report.specs.declared.kept.BaysDone.{BaysDone}
+use Rattle.crp_report.specs.Answered.{Answered, AreTrueAnswers, bay_plans, status_of_all}
+use Rattle.crp_report.specs.Report.{decided, IsYardTextAfter}
+use Rattle.crp_report.specs.Pieces.{Piece, piece, bytes_for, AreBayPieces, ArePieces, Stop, wanted, written}
 
--- the lines of the bays
-abbrev pub reports_of : List BayTexts → List ℕ
-reports_of bays = flat_map (λ bay. bay.report.items) bays
+-- what a sink holds, and its count of failures
+pub record SinkNow : Type 0 where
+  pub holds : Option (List ℕ)
+  pub failures : ℕ
 
--- the certificates of the bays
-abbrev pub certificates_of : List BayTexts → List ℕ
-certificates_of bays = flat_map (λ bay. bay.certificate.items) bays
+-- the three sinks of a run, and how many interruptions it has passed over
+pub record Sinks : Type 0 where
+  pub report : SinkNow
+  pub certificates : SinkNow
+  pub yard_after : SinkNow
+  pub passed : ℕ
 
--- the whole report
-abbrev pub report_of : Texts → List ℕ
-report_of texts = texts.first.items ++ (reports_of texts.bays.items ++ texts.last.items)
+abbrev pub sinks_of : Option (List ℕ) → ℕ → Option (List ℕ) → ℕ → Option (List ℕ) → ℕ → ℕ → Sinks
+sinks_of report report_failures certificates certificates_failures yard_after yard_after_failures passed = record {
+  report = record { holds = report; failures = report_failures };
+  certificates = record { holds = certificates; failures = certificates_failures };
+  yard_after = record { holds = yard_after; failures = yard_after_failures };
+  passed = passed;
+}
 
--- a write of this text has failed
-abbrev pub IsWriteOf : Output → ℕ → ℕ → Fault → Type 0
-IsWriteOf sink before after f = (f ≡ fault.Write sink) × HasFailed before after
+abbrev pub sink_now : Sinks → Output → SinkNow
+sink_now s output.Report = s.report
+sink_now s output.Certificates = s.certificates
+sink_now s output.YardAfter = s.yard_after
 
--- a write of the report or of the certificates has failed, by their counts of failures before and after
-abbrev pub IsBaysFault : ℕ → ℕ → ℕ → ℕ → Fault → Type 0
-IsBaysFault report_before report_after certificates_before certificates_after f =
-    IsWriteOf output.Report report_before report_after f ⊎ IsWriteOf output.Certificates certificates_before certificates_after f
+abbrev pub failures_of_sinks : Sinks → ℕ
+failures_of_sinks s = s.report.failures + (s.certificates.failures + s.yard_after.failures)
 
--- a write of one of the three texts has failed
-abbrev pub IsTextsFault : ℕ → ℕ → ℕ → ℕ → ℕ → ℕ → Fault → Type 0
-IsTextsFault report_before report_after certificates_before certificates_after yard_before yard_after f =
-    IsBaysFault report_before report_after certificates_before certificates_after f ⊎ IsWriteOf output.YardAfter yard_before yard_after f
+-- from before to after each sink got its bytes of these pieces, and nothing else; the calls that failed are no more than the interruptions that were
+-- passed over, and so many besides
+pub record SinksGet (pieces : List Piece) (besides : ℕ) (before after : Sinks) : Type 0 where
+  pub got : (each : Output) → Appends (sink_now before each).holds (sink_now after each).holds (bytes_for each pieces)
+  pub grown : (each : Output) → (sink_now before each).failures ≤ (sink_now after each).failures
+  pub counted : failures_of_sinks after + before.passed ≤ failures_of_sinks before + after.passed + besides
+  pub few : after.passed ≤ most_interruptions
 
--- the pieces of bays: of each bay its lines, and then its certificate
-abbrev pub bay_pieces : List BayTexts → List Piece
-bay_pieces bays = flat_map (λ bay. piece output.Report bay.report.items ∷ piece output.Certificates bay.certificate.items ∷ []) bays
+-- the pieces were written
+abbrev pub Writes : List Piece → Sinks → Sinks → Type 0
+Writes pieces before after = SinksGet pieces 0 before after
 
--- all pieces: the first line, those of the bays, the last line, and the yard after
-abbrev pub pieces_of : Texts → List Piece
-pieces_of texts = piece output.Report texts.first.items
-    ∷ (bay_pieces texts.bays.items ++ piece output.Report texts.last.items ∷ piece output.YardAfter texts.yard_after.items ∷ [])
+-- the writing of these pieces ended before the last of them, for this fault: within a piece whose write failed, or between two pieces, for want of
+-- memory
+abbrev pub StopsWith : List Piece → Sinks → Sinks → Fault → Type 0
+StopsWith pieces before after (fault.Write sink) = (stop : Stop) × (pieces ≡ wanted stop) × (stop.failed.to ≡ sink) × SinksGet (written stop) 1 before after
+    × HasFailed (sink_now before sink).failures (sink_now after sink).failures
+StopsWith pieces before after fault.Memory = (done : List Piece) × (behind : List Piece) × (pieces ≡ done ++ behind) × Writes done before after
+StopsWith pieces before after f = ⊥
 
--- a write of one of these pieces failed, which the fault states: of the pieces as far as they were written this is what the report's sink and the
--- certificates' got, and the yard after got nothing
-abbrev pub IsBaysStop : List Piece → Option (List ℕ) → Option (List ℕ) → Option (List ℕ) → Option (List ℕ) → Fault → Type 0
-IsBaysStop pieces report_held report_holds certificates_held certificates_holds f = (stop : Stop) × (pieces ≡ wanted stop) × (f ≡ fault.Write stop.failed.to)
-    × Appends report_held report_holds (bytes_for output.Report (written stop))
-    × Appends certificates_held certificates_holds (bytes_for output.Certificates (written stop))
-    × (bytes_for output.YardAfter (written stop) ≡ [])
+-- the pieces of answered bays were written, or not all of them, for this fault
+abbrev pub WritesAnswers : List Answered → Sinks → Sinks → Type 0
+WritesAnswers answered before after = (pieces : List Piece) × AreBayPieces answered pieces × Writes pieces before after
 
--- a write of one of these pieces failed, which the fault states: of the pieces as far as they were written this is what each sink got
-abbrev pub IsTextsStop : List Piece → Option (List ℕ) → Option (List ℕ) → Option (List ℕ) → Option (List ℕ) → Option (List ℕ) → Option (List ℕ) → Fault → Type 0
-IsTextsStop pieces report_held report_holds certificates_held certificates_holds yard_held yard_holds f =
-    (stop : Stop) × (pieces ≡ wanted stop) × (f ≡ fault.Write stop.failed.to)
-    × Appends report_held report_holds (bytes_for output.Report (written stop))
-    × Appends certificates_held certificates_holds (bytes_for output.Certificates (written stop))
-    × Appends yard_held yard_holds (bytes_for output.YardAfter (written stop))
+abbrev pub StopsAnswers : List Answered → Sinks → Sinks → Fault → Type 0
+StopsAnswers answered before after f = (pieces : List Piece) × AreBayPieces answered pieces × StopsWith pieces before after f
+
+-- so it is of the true answer to the problem of one bay, and of true answers to the problems of several
+abbrev pub WritesBay : Chosen → BayProblem → Sinks → Sinks → Solved → Type 0
+WritesBay chosen stated before after solved = IsSolved stated.problem chosen solved × WritesAnswers (record { stated = stated; solved = solved } ∷ []) before after
+
+abbrev pub StopsBay : Chosen → BayProblem → Sinks → Sinks → Fault → Type 0
+StopsBay chosen stated before after f =
+    (solved : Solved) × IsSolved stated.problem chosen solved × StopsAnswers (record { stated = stated; solved = solved } ∷ []) before after f
+
+abbrev pub StopsBays : Chosen → List BayProblem → Sinks → Sinks → Fault → Type 0
+StopsBays chosen problems before after f = (answered : List Answered) × AreTrueAnswers chosen problems answered × StopsAnswers answered before after f
+
+-- what is kept of answered bays
+pub record AreKept (answered : List Answered) (kept : BaysDone) : Type 0 where
+  pub bays : kept.bays ≡ length answered
+  pub plans : kept.plans.items ≡ bay_plans answered
+  pub decided : kept.decided ≡ decided answered
+  pub status : kept.status ≡ status_of_all answered
+
+-- the bays were answered and written, and this is kept of them
+abbrev pub WritesBays : Chosen → List BayProblem → Sinks → Sinks → BaysDone → Type 0
+WritesBays chosen problems before after kept = (answered : List Answered) × AreTrueAnswers chosen problems answered × WritesAnswers answered before after × AreKept answered kept
+
+-- the text of the yard as these plans leave it
+abbrev pub IsTextAfter : Inventory → List BayPlan → List ℕ → Type 0
+IsTextAfter yard plans text = (left : Inventory) × IsAfter yard plans left × (text ≡ yard_text left)
+
+-- the last two pieces: the line that counts the bays, and the yard after
+abbrev pub end_pieces : ℕ → ℕ → List ℕ → List Piece
+end_pieces bays decided yard_after = piece output.Report (bays_line bays decided) ∷ piece output.YardAfter yard_after ∷ []
+
+abbrev pub WritesEnd : Inventory → BaysDone → Sinks → Sinks → Type 0
+WritesEnd yard kept before after = (text : List ℕ) × IsTextAfter yard kept.plans.items text × Writes (end_pieces kept.bays kept.decided text) before after
+
+abbrev pub StopsEnd : Inventory → BaysDone → Sinks → Sinks → Fault → Type 0
+StopsEnd yard kept before after f = (text : List ℕ) × IsTextAfter yard kept.plans.items text × StopsWith (end_pieces kept.bays kept.decided text) before after f
+
+-- the pieces of a run with this first line over the problems of a yard
+pub record AreRunPieces (chosen : Chosen) (yard : Inventory) (first : List ℕ) (problems : List BayProblem) (answered : List Answered) (pieces : List Piece) : Type 0 where
+  pub true_answers : AreTrueAnswers chosen problems answered
+  pub text : List ℕ
+  pub after : IsYardTextAfter yard answered text
+  pub are : ArePieces first answered text pieces
+
+abbrev pub WritesRun : Chosen → Inventory → List ℕ → List BayProblem → Sinks → Sinks → List Answered → Type 0
+WritesRun chosen yard first problems before after answered = (pieces : List Piece) × AreRunPieces chosen yard first problems answered pieces × Writes pieces before after
+
+abbrev pub StopsRun : Chosen → Inventory → List ℕ → List BayProblem → Sinks → Sinks → Fault → Type 0
+StopsRun chosen yard first problems before after f =
+    (answered : List Answered) × (pieces : List Piece) × AreRunPieces chosen yard first problems answered pieces × StopsWith pieces before after f

@@ -10,7 +10,7 @@ use crate::fault::{Fault, Input};
 use crp_movins::{Orders, load_orders};
 use crp_plan::{ReadFault, Source, read_all};
 use crp_yard::{MAX_BYTES, Yard, YardFault, yard_of_heights};
-use edi_text::{EdiFault, MAX_TEXT, read_segments};
+use edi_text::{EdiFault, MAX_TEXT, Segments, read_segments};
 use std::alloc::Global;
 
 /// The yard that the bytes of a source list, of bays with a row for each of the heights.
@@ -39,25 +39,32 @@ pub(crate) fn yard_from<Y: Source>(
     Ok(yard)
 }
 
-// The load orders of an interchange under this handling code.
-fn orders_of(alloc: Global, text: &[u8], code: &[u8]) -> Result<Orders, Fault>
-    ensures accepted { IfOk result (AreOrders code.now text.now) }
+/// A message: its segments, and the load orders that they state under a handling code.
+#[derive(Drop)]
+pub(crate) struct Message {
+    pub segments: Segments,
+    pub orders: Orders,
+}
+
+// What an interchange states under this handling code.
+fn message_of(alloc: Global, text: &[u8], code: &[u8]) -> Result<Message, Fault>
+    ensures accepted { IfOk result (λ message. AreOrders code.now text.now message.orders) }
     ensures refused { IfErr result (IsNoOrders code.now text.now) }
 {
     let segments = read_segments(alloc, text)?;
     let orders = load_orders(alloc, &segments, code)?;
-    Ok(orders)
+    Ok(Message { segments, orders })
 }
 
-/// The load orders that the bytes of a source state under this handling code.
-pub(crate) fn orders_from<M: Source>(
+/// What the bytes of a source state under this handling code.
+pub(crate) fn message_from<M: Source>(
     alloc: Global,
     source: &mut M,
     code: &[u8],
     interruptions: &mut u32,
-) -> Result<Orders, Fault>
+) -> Result<Message, Fault>
     requires { interruptions.old ≤ most_interruptions }
-    ensures accepted { IfOk result (λ orders. (text : List ℕ) × IsTextOf (M.remaining source.old) text × AreOrders code.now text orders) }
+    ensures accepted { IfOk result (λ message. (text : List ℕ) × IsTextOf (M.remaining source.old) text × AreOrders code.now text message.orders) }
     ensures refused { IfErr result (IsNoMessage code.now (M.remaining source.old) (M.failures source.old) (M.failures source.new)) }
     ensures counted { MatchResult result
         (λ _. AreFailuresCounted 0 (M.failures source.old) (M.failures source.new) interruptions.old interruptions.new)
@@ -73,5 +80,5 @@ pub(crate) fn orders_from<M: Source>(
         }
         Err(ReadFault::Memory) => return Err(Fault::Memory),
     };
-    orders_of(alloc, &text, code)
+    message_of(alloc, &text, code)
 }

@@ -1,27 +1,30 @@
 //! The report of a yard: what is to be done in each bay, bytes in to bytes out.
 //!
 //! `run` reads a yard list and a message, answers the problem of each bay from which a container leaves,
-//! and writes the report, the certificates and the yard as the plans leave it. What the report is is said
-//! in `specs/Report.antt`, and what a run promises in `specs/Runs.antt`. `print_moves` writes the moves of
-//! one plan.
+//! and writes the report and the certificates bay by bay, and the yard as the plans leave it; `run_watched`
+//! lets a `Watch` see how far it is. What the report is is said in `specs/Report.antt`, and what a run
+//! promises in `specs/Runs.antt`. `print_moves` writes the moves of one plan.
 #![tactic(auto)]
 
 mod answers;
 mod bay_texts;
-mod endings;
+mod bays;
 mod fault;
 mod input;
+mod kept;
 mod laws;
 mod lines;
 mod printing;
 mod running;
 mod settings;
 mod status;
+mod watching;
 mod writing;
 
 pub use answers::{certificate_of, said_of, status_of};
 pub use fault::{Fault, Input, Output};
 pub use printing::print_moves;
-pub use running::run;
+pub use running::{run, run_watched};
 pub use settings::{RunFault, RunSettings};
 pub use status::Status;
+pub use watching::{Unwatched, Watch, show};

@@ -10,7 +10,8 @@ use Rattle.crp_plan.specs.declared.moves.Move.TheVariants.{Shift, Take}
 use Rattle.crp_plan.specs.Bay.{Problem, start, Position, Runs, IsPlan}
 use Rattle.crp_yard.specs.Ranks.{name_of_rank}
 use Rattle.crp_said.specs.MoveLines.{row_stack, move_line, AreMoveLines}
-use Rattle.crp_said.specs.TakeLines.{FitsLine, lines_in, behind_space, container_taken, taken_in}
+use Rattle.crp_yard.specs.Naming.{FitsLine}
+use Rattle.crp_said.specs.TakeLines.{lines_in, behind_space, container_taken, taken_in}
 use Rattle.crp_cert.proofs.Joined.{all_both}
 use Rattle.crp_said.proofs.Bytes.{IsPlain, IsDigit, all_weaker, are_digits}
 use Rattle.crp_said.proofs.MoveBodies.{spot, body, body_then, plain_body}

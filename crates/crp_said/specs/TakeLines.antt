@@ -1,11 +1,7 @@
 -- The containers that the `take` lines of a text name.
-use Rattle.std.specs.Prelude.{ℕ, ◌≤◌, List, [], ◌∷◌, ◌==◌, take, drop, All, Option, Some, None, codes, if◌then◌else◌}
+use Rattle.std.specs.Prelude.{ℕ, List, [], ◌∷◌, ◌==◌, take, drop, Option, Some, None, codes, if◌then◌else◌}
 use Rattle.std.specs.List.{slice_split, filter_map}
 use Rattle.std.specs.Str.{bytes_eq}
-
--- the name of a container can stand in a line: it has no byte below 0x20
-abbrev pub FitsLine : List ℕ → Type 0
-FitsLine name = All (λ b. 32 ≤ b) name
 
 -- the lines of a text without their LF, and what stands behind the last LF
 abbrev pub lines_in : List ℕ → List (List ℕ)

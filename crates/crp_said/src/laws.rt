@@ -2,9 +2,10 @@
 ghost use Rattle.std.specs.Prelude.{◌≡◌, ◌++◌, ℕ, List, length, All};
 ghost use Rattle.crp_plan.specs.declared.moves.Move.{Move};
 ghost use Rattle.crp_plan.specs.Bay.{Problem, IsPlan, start};
+ghost use Rattle.crp_yard.specs.Naming.{FitsLine};
 ghost use Rattle.crp_said.specs.declared.moves.SaidMove.{SaidMove};
 ghost use Rattle.crp_said.specs.MoveLines.{move_words, AreMoveLines};
-ghost use Rattle.crp_said.specs.TakeLines.{FitsLine, taken_in};
+ghost use Rattle.crp_said.specs.TakeLines.{taken_in};
 ghost use Rattle.crp_said.specs.Spelled.{ReportSaid, SpellsReport, IsMisspelled, CanBeStated};
 
 /// A text is one report's at most; it is none where a line is misspelled, and one line at most is the first that is.

@@ -20,17 +20,17 @@ use Rattle.crp_solve.specs.declared.answer.Solved.{Solved}
 use Rattle.crp_solve.specs.Chosen.{Chosen}
 use Rattle.crp_solve.specs.Answers.{IsSolved}
 use Rattle.crp_solve.specs.Searches.{IsBestMet}
-use Rattle.crp_solve.proofs.One.{root_is_true, one_certificate}
+use Rattle.crp_solve.proofs.One.{root_shows, one_certificate}
+use Rattle.crp_solve.proofs.TrueAnswers.{cut_is_true}
 
 -- the greedy plan, if there is one, is the best before a search
-best_before : (p : Problem) → IsProblem p → (first : ℕ) × (plan : Option ProblemPath) × IsBestMet p first plan
+best_before : (p : Problem) → IsProblem p → (plan : Option ProblemPath) × IsBestMet p plan
 best_before p is = ⊎_elim
     (λ (greedy : (path : List ℕ) × IsGreedyPath p path). (
-      length greedy.0,
       Some (record { problem = p; path = greedy.0 }),
-      record { plan_is = record { of_problem = refl; complete = greedy.1.plan }; first_is = record { limit = length greedy.0; is_limit = inl (greedy.0, greedy.1, refl); within = omega arith }; no_more = omega arith },
+      record { is_problem = is; plan_is = record { of_problem = refl; complete = greedy.1.plan }; no_more = record { limit = length greedy.0; is_limit = inl (greedy.0, greedy.1, refl); within = omega arith } },
     ))
-    (λ (none : (path : List ℕ) → IsGreedyPath p path → ⊥). (cap p, None, record { plan_is = tt; first_is = record { limit = cap p; is_limit = inr (none, refl); within = omega arith }; no_more = omega arith }))
+    (λ (none : (path : List ℕ) → IsGreedyPath p path → ⊥). (None, record { is_problem = is; plan_is = tt; no_more = record { limit = cap p; is_limit = inr (none, refl); within = omega arith } }))
     (greedy_known p is)
 
 -- the part of one cut at the root
@@ -53,9 +53,11 @@ pub has_answer : (p : Problem) (chosen : Chosen) → IsProblem p → (solved : S
 has_answer p chosen is =
     let cert : Certificate = record { parts = cut_at p ∷ []; lower = min (cap p) (look_ahead (settled (start p))) } in
     let best = best_before p is in (
-      record { answer = Between cert.lower cert best.1 Memory; expanded = 0; second = second.NotAsked; second_expanded = 0 },
+      record { answer = Between cert.lower cert best.0 Memory; expanded = 0; second = second.NotAsked; second_expanded = 0 },
       record {
-        answer = root_is_true p (cut_at p) cert best.1 chosen.budget best.0 0 is refl (one_certificate (cut_at p) cert refl) refl (cut_is_kept p is) refl refl tt refl best.2 (omega arith);
+        answer = cut_is_true p chosen.budget cert best.0 0 (root_shows p (cut_at p) cert best.0 chosen.budget 0 is refl (one_certificate (cut_at p) cert refl) refl (cut_is_kept p is) refl refl tt refl best.1 (omega arith))
+            (record { part = cut_at p; alone = refl; cut = tt });
+        one_search = λ alone. tt;
         second = (refl, refl);
       },
     )

@@ -1,5 +1,5 @@
 -- The answer with the first best plan, or without it, is what was asked for.
-use Rattle.std.proofs.Common.{◌≡◌, ℕ, true, Some, refl, sym, subst}
+use Rattle.std.proofs.Common.{◌≡◌, ℕ, true, false, Some, refl, sym, subst}
 use Rattle.crp_plan.specs.Bay.{Problem}
 use Rattle.crp_plan.specs.Plans.{ProblemPath}
 use Rattle.crp_tree.specs.Parts.{Certificate, claimed}
@@ -10,7 +10,7 @@ use Rattle.crp_solve.specs.declared.answer.Cause.{Cause}
 use Rattle.crp_solve.specs.declared.answer.Cause.TheVariants.{Budget, Memory}
 use Rattle.crp_solve.specs.declared.answer.Second.{Second}
 use Rattle.crp_solve.specs.declared.answer.Second.TheVariants as second
-use Rattle.crp_solve.specs.Answers.{IsTrueAnswer, StaysAsFound, IsSolved}
+use Rattle.crp_solve.specs.Answers.{branches_of, IsTrueAnswer, StaysAsFound, IsSolved}
 use Rattle.crp_solve.specs.Chosen.{Chosen}
 use Rattle.crp_solve.specs.Firsts.{IsFoundFirst, IsGivenUp}
 use Rattle.crp_solve.specs.Seconds.{second_by}
@@ -31,6 +31,7 @@ first_is_true p c best plan cert shown expanded more k asked t found =
         accepted = accepted.accepted;
         needed = tt;
       };
+      one_search = λ alone. tt;
       second = (asked, refl, found.enough, found.within);
     }
 
@@ -41,5 +42,5 @@ stays c Memory more asked given = (asked, given)
 
 -- so does the best plan that was known, where the search for the first was given up
 pub stays_is_true : (p : Problem) (c : Chosen) (best : ProblemPath) (cert : Certificate) (expanded more : ℕ) (cause : Cause) (ended : Second) → ended ≡ second_by cause → c.first ≡ true → IsTrueAnswer p c.budget (Optimal best cert) expanded →
-    IsGivenUp c.budget cause more → IsSolved p c (record { answer = Optimal best cert; expanded = expanded; second = ended; second_expanded = more })
-stays_is_true p c best cert expanded more cause ended is asked t given = record { answer = t; second = subst (λ s. StaysAsFound c.budget c.first s more) (sym is) (stays c cause more asked given) }
+    (c.deepen ≡ false → expanded ≡ branches_of cert) → IsGivenUp c.budget cause more → IsSolved p c (record { answer = Optimal best cert; expanded = expanded; second = ended; second_expanded = more })
+stays_is_true p c best cert expanded more cause ended is asked t alone given = record { answer = t; one_search = alone; second = subst (λ s. StaysAsFound c.budget c.first s more) (sym is) (stays c cause more asked given) }

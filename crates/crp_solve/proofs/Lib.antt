@@ -3,6 +3,8 @@ pub mod Limits
 pub mod Covered
 pub mod TrueAnswers
 pub mod One
+pub mod OneSearch
+pub mod Deepened
 pub mod Answerable
 pub mod Starting
 pub mod Searching

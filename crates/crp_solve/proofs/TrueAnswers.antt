@@ -1,6 +1,7 @@
--- The answer that a search shows is true.
-use Rattle.std.proofs.Common.{◌≡◌, ℕ, ◌<◌, ◌≤◌, min, ⊎_elim, List, [], length, get_or, Contains, All, Option, None, Some, IfSome, sym, ap, ◌∙◌, subst, refl, arith}
+-- The answer that searches show is true.
+use Rattle.std.proofs.Common.{◌≡◌, ℕ, ◌<◌, ◌≤◌, min, ⊎_elim, List, [], ◌∷◌, length, get_or, Contains, All, Option, None, Some, IfSome, sum_by, sym, ap, ◌∙◌, subst, refl, arith}
 use Rattle.std.proofs.lemmas.List.Elements.{All-contains, All-weaker, All-cons, All-nil, All-same, All-filter}
+use Rattle.std.proofs.lemmas.List.Sums.{sum_by-cons}
 use Rattle.std.proofs.lemmas.Bool.{cases_lt}
 use Rattle.crp_plan.specs.Bay.{Problem, IsProblem, cap, Position, IsAt, IsBest}
 use Rattle.crp_plan.specs.Plans.{ProblemPath}
@@ -16,13 +17,12 @@ use Rattle.crp_tree.proofs.Accepted.{bounded, no_plan_at_cap, best}
 use Rattle.crp_tree.proofs.Shown.{least_over}
 use Rattle.crp_tree.proofs.Kept.{part_nodes, nodes_at_name}
 use Rattle.crp_search.specs.Searched.{IsClosed}
-use Rattle.crp_solve.specs.declared.answer.Answer.{Answer}
 use Rattle.crp_solve.specs.declared.answer.Answer.TheVariants.{Optimal, NoPlan, Between}
 use Rattle.crp_solve.specs.declared.answer.Cause.TheVariants.{Budget, Memory}
-use Rattle.crp_solve.specs.Answers.{path_in, count_of, IsPlanOf, IsCut, IsOneCut, HasNeededBranches, IsTrueAnswer}
-use Rattle.crp_solve.specs.Searches.{BeginsWithin, IsSearched, IsAbout, IsBestMet, IsEndedSearch}
+use Rattle.crp_solve.specs.Answers.{path_in, branches_of, count_of, IsPlanOf, IsCut, IsOneCut, IsBetween, HasNeededBranches, IsTrueAnswer}
+use Rattle.crp_solve.specs.Searches.{BeginsWithin, IsSearched, IsAbout, IsBestMet, IsEndedSearch, IsShown}
 use Rattle.crp_solve.proofs.Ahead.{ahead_of_root}
-use Rattle.crp_solve.proofs.Limits.{greedy_met, count_low}
+use Rattle.crp_solve.proofs.Limits.{greedy_met}
 use Rattle.crp_solve.proofs.Covered.{lowest_part, lower_low, accepted}
 
 -- where no cut is below a number, neither is the floor
@@ -38,29 +38,32 @@ lower_over p cert f a le all =
     let cuts : All (λ cut. f ≤ value cut) (cuts_in x.0) = All-contains (λ (y : ProblemPart). All (λ cut. f ≤ value cut) (cuts_in y)) cert.parts x.0 all x.1 in
     omega (arith, x.2, floor_over x.0 f kept (subst (λ q. f ≤ cap q) (sym same) le) cuts)
 
--- where no claim was refused, the bound reaches the best plan that was met
-pub reaches : (p : Problem) (budget first : ℕ) (view : View) (cert : Certificate) (plan : Option ProblemPath) → IsEndedSearch p budget first view cert plan → view.refused ≡ 0 → count_of p (path_in plan) ≤ cert.lower
-reaches p budget first view cert plan w none =
-    let a = w.about in let t = w.best_met in
-    lower_over p cert (count_of p (path_in plan)) a (count_low p plan a.is_problem t.plan_is)
+-- where no claim was refused, the bound reaches the limit in the end
+pub reaches : (p : Problem) (budget first limit : ℕ) (view : View) (cert : Certificate) → IsEndedSearch p budget first limit view cert → limit ≤ cap p → view.refused ≡ 0 → limit ≤ cert.lower
+reaches p budget first limit view cert w low none =
+    lower_over p cert limit w.about low
     (λ k d lt. let s = w.searched k d lt in
-    All-weaker (IsClosed view) (λ cut. count_of p (path_in plan) ≤ value cut)
+    All-weaker (IsClosed view) (λ cut. limit ≤ value cut)
     (λ cut worth. ⊎_elim (λ (seen : view.seen ≤ value cut). omega (arith, w.met, seen)) (λ in_vain. absurd (omega (arith, in_vain.0, none))) worth)
     (cuts_in (get_or cert.parts k d)) s.closed)
 
+-- so where it does not, the budget is spent
+pub spent_below : (p : Problem) (budget first limit : ℕ) (view : View) (cert : Certificate) → IsEndedSearch p budget first limit view cert → limit ≤ cap p → cert.lower < limit → view.granted ≡ budget
+spent_below p budget first limit view cert w low below =
+    ⊎_elim (λ (l : 0 < view.refused). w.refused_last l) (λ (le : view.refused ≤ 0). absurd (omega (arith, below, reaches p budget first limit view cert w low (omega arith)))) (cases_lt 0 view.refused)
+
 -- the look-ahead bound of the first position is at most a plan's relocations
-count_over : (p : Problem) (plan : Option ProblemPath) (s : Position) → IsProblem p → IfSome plan (IsPlanOf p) → IsAt p [] s → min (cap p) (look_ahead s) ≤ count_of p (path_in plan)
-count_over p None s is best_met a = omega arith
-count_over p (Some route) s is best_met a =
-    let plan = best_met.complete in
+pub count_over : (p : Problem) (plan : Option ProblemPath) (s : Position) → IsProblem p → IfSome plan (IsPlanOf p) → IsAt p [] s → min (cap p) (look_ahead s) ≤ count_of p (path_in plan)
+count_over p None s is met a = omega arith
+count_over p (Some route) s is met a =
+    let plan = met.complete in
     omega (arith, (cut_floor p [] route.path s plan.0 is a plan.1 plan.2).0, relocations-path plan.0, ap length plan.2)
 
--- the bound is never below the look-ahead bound of the first position
-pub looks_ahead : (p : Problem) (budget first : ℕ) (view : View) (cert : Certificate) (plan : Option ProblemPath) (s : Position) → IsEndedSearch p budget first view cert plan → IsAt p [] s → min (cap p) (look_ahead s) ≤ cert.lower
-looks_ahead p budget first view cert plan s w at =
-    let a = w.about in let t = w.best_met in
+-- the bound is never below the look-ahead bound of the first position, where the limit is not
+pub looks_ahead : (p : Problem) (budget first limit : ℕ) (view : View) (cert : Certificate) (s : Position) → IsEndedSearch p budget first limit view cert → min (cap p) (look_ahead s) ≤ limit → IsAt p [] s → min (cap p) (look_ahead s) ≤ cert.lower
+looks_ahead p budget first limit view cert s w over at =
+    let a = w.about in
     let f : ℕ = min (cap p) (look_ahead s) in
-    let over : f ≤ count_of p (path_in plan) = count_over p plan s a.is_problem t.plan_is at in
     lower_over p cert f a (omega arith)
     (λ k d lt. let sr = w.searched k d lt in
     let x : ProblemPart = get_or cert.parts k d in
@@ -80,9 +83,21 @@ needed_branches p first view cert begun all = record {
       (λ part s. All-weaker (λ node. least_through node < first) (λ node. least_through node < begun.limit) (λ node lt. omega (arith, lt, begun.within)) (branches_in part) s.below) cert.parts all;
 }
 
+-- what a search shows with a plan
+pub search_shows : (p : Problem) (budget first limit total expanded : ℕ) (view : View) (cert : Certificate) (plan : Option ProblemPath) → IsEndedSearch p budget first limit view cert → IsBestMet p plan →
+    ((s : Position) → IsAt p [] s → min (cap p) (look_ahead s) ≤ limit) → view.granted ≤ expanded → expanded ≤ total → IsShown p total cert plan expanded
+search_shows p budget first limit total expanded view cert plan w met over enough within = record {
+  about = w.about;
+  ahead = λ s at. looks_ahead p budget first limit view cert s w (over s at) at;
+  needed = needed_branches p first view cert w.first_is w.searched;
+  best_met = met;
+  granted = omega (arith, w.granted, enough);
+  within = within;
+}
+
 -- the plan has no more relocations than the bound: it is a best one
-pub optimal_is_true : (p : Problem) (budget first : ℕ) (view : View) (cert : Certificate) (plan : ProblemPath) → IsEndedSearch p budget first view cert (Some plan) → length plan.path ≤ cert.lower → IsTrueAnswer p budget (Optimal plan cert) view.granted
-optimal_is_true p budget first view cert plan w le =
+pub optimal_is_true : (p : Problem) (budget : ℕ) (cert : Certificate) (plan : ProblemPath) (expanded : ℕ) → IsShown p budget cert (Some plan) expanded → length plan.path ≤ cert.lower → IsTrueAnswer p budget (Optimal plan cert) expanded
+optimal_is_true p budget cert plan expanded w le =
     let a = w.about in let t = w.best_met in
     let is : IsPlanOf p plan = t.plan_is in let of = is.complete in
     let acc : IsAccepted (claimed p cert (Some plan.path)) = accepted p cert (Some plan) a is in
@@ -94,13 +109,13 @@ optimal_is_true p budget first view cert plan w le =
       of_problem = a.of_problem;
       certificate = a.certificate;
       accepted = acc;
-      needed = needed_branches p first view cert t.first_is w.searched;
+      needed = w.needed;
     }
 
 -- the bound reaches the cap: there is no plan
-pub no_plan_is_true : (p : Problem) (budget first : ℕ) (view : View) (cert : Certificate) → IsEndedSearch p budget first view cert None → cap p ≤ cert.lower → IsTrueAnswer p budget (NoPlan cert) view.granted
-no_plan_is_true p budget first view cert w le =
-    let a = w.about in let t = w.best_met in
+pub no_plan_is_true : (p : Problem) (budget : ℕ) (cert : Certificate) (expanded : ℕ) → IsShown p budget cert None expanded → cap p ≤ cert.lower → IsTrueAnswer p budget (NoPlan cert) expanded
+no_plan_is_true p budget cert expanded w le =
+    let a = w.about in
     let acc : IsAccepted (claimed p cert None) = accepted p cert None a tt in
     let same : cert.lower ≡ cap p = omega (arith, lower_low p cert a, le) in
     record {
@@ -110,28 +125,47 @@ no_plan_is_true p budget first view cert w le =
       of_problem = a.of_problem;
       certificate = a.certificate;
       accepted = acc;
-      needed = needed_branches p first view cert t.first_is w.searched;
+      needed = w.needed;
     }
 
--- the bound is below the best plan: a claim was refused, and so the budget is spent
-pub between_is_true : (p : Problem) (budget first : ℕ) (view : View) (cert : Certificate) (plan : Option ProblemPath) → IsEndedSearch p budget first view cert plan → cert.lower < count_of p (path_in plan) → IsTrueAnswer p budget (Between cert.lower cert plan Budget) view.granted
-between_is_true p budget first view cert plan w lt =
+-- what is said of the bounds
+bounds_true : (p : Problem) (budget : ℕ) (cert : Certificate) (plan : Option ProblemPath) (expanded : ℕ) → IsShown p budget cert plan expanded → IsBetween p cert.lower cert plan
+bounds_true p budget cert plan expanded w =
     let a = w.about in let t = w.best_met in
-    let acc : IsAccepted (claimed p cert (path_in plan)) = accepted p cert plan a t.plan_is in
     record {
-      says = record {
-        bounds = λ moves is. bounded (claimed p cert (path_in plan)) moves acc is;
-        shown = refl;
-        ahead = λ s at. looks_ahead p budget first view cert plan s w at;
-        plan_is = t.plan_is;
-        greedy = λ path g. greedy_met p first plan path a.is_problem t g;
-      };
-      ended = (w.granted, record { all = ⊎_elim (λ (l : 0 < view.refused). w.refused_last l) (λ (le : view.refused ≤ 0). absurd (omega (arith, lt, reaches p budget first view cert plan w (omega arith)))) (cases_lt 0 view.refused); below = lt });
+      bounds = λ moves is. bounded (claimed p cert (path_in plan)) moves (accepted p cert plan a t.plan_is) is;
+      shown = refl;
+      ahead = w.ahead;
+      plan_is = t.plan_is;
+      greedy = λ path g. greedy_met p plan path t g;
+    }
+
+-- the bound is below the best plan, and the budget is spent
+pub between_is_true : (p : Problem) (budget : ℕ) (cert : Certificate) (plan : Option ProblemPath) (expanded : ℕ) → IsShown p budget cert plan expanded → cert.lower < count_of p (path_in plan) → expanded ≡ budget → IsTrueAnswer p budget (Between cert.lower cert plan Budget) expanded
+between_is_true p budget cert plan expanded w lt spent =
+    let a = w.about in let t = w.best_met in
+    record {
+      says = bounds_true p budget cert plan expanded w;
+      ended = (w.granted, record { all = spent; below = lt });
       within = w.within;
       of_problem = a.of_problem;
       certificate = a.certificate;
-      accepted = acc;
-      needed = needed_branches p first view cert t.first_is w.searched;
+      accepted = accepted p cert plan a t.plan_is;
+      needed = w.needed;
+    }
+
+-- memory ran out, and the certificate is one cut
+pub cut_is_true : (p : Problem) (budget : ℕ) (cert : Certificate) (plan : Option ProblemPath) (expanded : ℕ) → IsShown p budget cert plan expanded → IsOneCut cert → IsTrueAnswer p budget (Between cert.lower cert plan Memory) expanded
+cut_is_true p budget cert plan expanded w one =
+    let a = w.about in let t = w.best_met in
+    record {
+      says = bounds_true p budget cert plan expanded w;
+      ended = one;
+      within = w.within;
+      of_problem = a.of_problem;
+      certificate = a.certificate;
+      accepted = accepted p cert plan a t.plan_is;
+      needed = w.needed;
     }
 
 -- a part of one cut has no branch
@@ -144,35 +178,25 @@ no_branches x k cut = let is = k.is_part in ap branches (nodes_at_name x is.plac
     of_cut path s (Branch all) cut = absurd cut
     of_cut path s Given cut = absurd cut
 
--- the look-ahead bound of the first position is what is answered where memory ran out
-pub ahead_is_true : (p : Problem) (budget first expanded : ℕ) (cert : Certificate) (plan : Option ProblemPath) → IsAbout p cert → IsOneCut cert → IsBestMet p first plan → expanded ≤ budget →
-    ((s : Position) → IsAt p [] s → cert.lower ≡ min (cap p) (look_ahead s)) → IsTrueAnswer p budget (Between cert.lower cert plan Memory) expanded
-ahead_is_true p budget first expanded cert plan a one t within lower =
-    let acc : IsAccepted (claimed p cert (path_in plan)) = accepted p cert plan a t.plan_is in
+-- the look-ahead bound of the first position is what one cut shows, with any plan and before any expansion
+pub cut_shows : (p : Problem) (budget expanded : ℕ) (cert : Certificate) (plan : Option ProblemPath) → IsAbout p cert → IsOneCut cert → IsBestMet p plan → expanded ≤ budget →
+    ((s : Position) → IsAt p [] s → cert.lower ≡ min (cap p) (look_ahead s)) → IsShown p budget cert plan expanded
+cut_shows p budget expanded cert plan a one met within lower =
+    let begun = met.no_more in
+    let none : branches_in one.part ≡ [] = no_branches one.part (All-contains IsKeptPart cert.parts one.part a.kept (subst (λ l. Contains l one.part) (sym one.alone) (0, omega arith, refl))) one.cut in
     record {
-      says = record {
-        bounds = λ moves is. bounded (claimed p cert (path_in plan)) moves acc is;
-        shown = refl;
-        ahead = λ s at. omega (arith, lower s at);
-        plan_is = t.plan_is;
-        greedy = λ path g. greedy_met p first plan path a.is_problem t g;
-      };
-      ended = one;
-      within = within;
-      of_problem = a.of_problem;
-      certificate = a.certificate;
-      accepted = acc;
+      about = a;
+      ahead = λ s at. omega (arith, lower s at);
       needed = record {
-        first = t.first_is.limit;
-        is_first = t.first_is.is_limit;
-        below = subst (All (λ part. All (λ node. least_through node < t.first_is.limit) (branches_in part))) (sym one.alone)
-            (All-cons (λ (part : ProblemPart). All (λ node. least_through node < t.first_is.limit) (branches_in part)) one.part []
-            (All-same (λ node. least_through node < t.first_is.limit) (branches_in one.part) [] (no_branches one.part (All-contains IsKeptPart cert.parts one.part a.kept (subst (λ l. Contains l one.part) (sym one.alone) (0, omega arith, refl))) one.cut) (All-nil (λ (node : Node). least_through node < t.first_is.limit)))
-            (All-nil (λ (part : ProblemPart). All (λ node. least_through node < t.first_is.limit) (branches_in part))));
+        first = begun.limit;
+        is_first = begun.is_limit;
+        below = subst (All (λ part. All (λ node. least_through node < begun.limit) (branches_in part))) (sym one.alone)
+            (All-cons (λ (part : ProblemPart). All (λ node. least_through node < begun.limit) (branches_in part)) one.part []
+            (All-same (λ node. least_through node < begun.limit) (branches_in one.part) [] none (All-nil (λ (node : Node). least_through node < begun.limit)))
+            (All-nil (λ (part : ProblemPart). All (λ node. least_through node < begun.limit) (branches_in part))));
       };
+      best_met = met;
+      granted = (let all : branches_of cert ≡ sum_by (λ (x : ProblemPart). length (branches_in x)) (one.part ∷ []) = ap (λ l. sum_by (λ (x : ProblemPart). length (branches_in x)) l) one.alone in
+          omega (arith, all, sum_by-cons (λ (x : ProblemPart). length (branches_in x)) one.part [], ap (λ (l : List Node). length l) none));
+      within = within;
     }
-
--- a true answer is so under other names
-pub same_answer : (p : Problem) (budget budget' : ℕ) (answer answer' : Answer) (expanded expanded' : ℕ) → budget ≡ budget' → answer ≡ answer' → expanded ≡ expanded' → IsTrueAnswer p budget answer expanded → IsTrueAnswer p budget' answer' expanded'
-same_answer p budget budget' answer answer' expanded expanded' eb ea ee t =
-    subst (λ b. IsTrueAnswer p b answer' expanded') eb (subst (λ a. IsTrueAnswer p budget a expanded') ea (subst (λ e. IsTrueAnswer p budget answer e) ee t))

@@ -1,5 +1,5 @@
 -- What many workers found together is a search of the whole problem.
-use Rattle.std.proofs.Common.{◌≡◌, ◌≤◌, ℕ, ◌+◌, min, List, [], ◌∷◌, length, All, Option, IfSome, sum_by, sym, refl, ◌∙◌, arith}
+use Rattle.std.proofs.Common.{◌≡◌, ◌≤◌, ℕ, ◌+◌, min, List, [], ◌∷◌, length, All, Option, sum_by, sym, refl, ◌∙◌, arith}
 use Rattle.std.specs.List.Sorted.{IsPermutation}
 use Rattle.std.proofs.lemmas.List.Sorted.{sum_by-IsPermutation, All-permutation}
 use Rattle.std.proofs.lemmas.List.Sums.{sum_by-cons}
@@ -15,7 +15,7 @@ use Rattle.crp_gather.specs.Gathers.{AreWhole}
 use Rattle.crp_gather.proofs.Wholes.{whole_balanced}
 use Rattle.crp_pool.specs.Weigh.{weigh, SameNames}
 use Rattle.crp_pool.proofs.Hands.{weigh-append}
-use Rattle.crp_solve.specs.Answers.{path_in, count_of, IsPlanOf}
+use Rattle.crp_solve.specs.Answers.{path_in}
 use Rattle.crp_solve.specs.Searches.{BeginsWithin, IsSearched, IsEndedSearch}
 use Rattle.crp_solve.specs.Desks.{count_or}
 use Rattle.crp_solve.specs.Groups.{given_in}
@@ -65,10 +65,10 @@ pub record IsClosedAt (start budget spent limit : ℕ) (view : View) : Type 0 wh
   pub mine : view.mine ≤ start
 
 -- so the whole problem was searched
-pub whole_together : (p : Problem) (budget first spent limit : ℕ) (view : View) (xs : List ProblemPart) (cert : Certificate) (best plan : Option ProblemPath) → IsProblem p → BeginsWithin p first → IsClosedAt first budget spent limit view →
+pub whole_together : (p : Problem) (budget first spent limit : ℕ) (view : View) (xs : List ProblemPart) (cert : Certificate) (best : Option ProblemPath) → IsProblem p → BeginsWithin p first → IsClosedAt first budget spent limit view →
     All (IsSearched p first view) xs → IsAllDone view xs → IsPermutation xs cert.parts → IsAbout p cert → view.mine ≡ count_or first (path_in best) →
-    IfSome plan (IsPlanOf p) → count_of p (path_in plan) ≡ count_or first (path_in best) → IsEndedSearch p budget first view cert plan
-whole_together p budget first spent limit view xs cert best plan is first_is closed all done moved about mine plan_is count =
+    IsEndedSearch p budget first (count_or first (path_in best)) view cert
+whole_together p budget first spent limit view xs cert best is first_is closed all done moved about mine =
     let ys = cert.parts in
     let all' : All (IsSearched p first view) ys = All-permutation (IsSearched p first view) xs ys moved all in
     let done' : IsAllDone view ys = done_moved view xs ys moved done in
@@ -76,7 +76,8 @@ whole_together p budget first spent limit view xs cert best plan is first_is clo
     record {
       about = about;
       searched = all';
-      best_met = record { plan_is = plan_is; first_is = first_is; no_more = omega arith };
+      first_is = first_is;
+      low = omega arith;
       met = omega arith;
       granted = done'.grants;
       within = omega arith;

@@ -1,15 +1,15 @@
 -- What is left in the pool when its workers are done, and what is known when that is searched too.
-use Rattle.std.specs.Prelude.{◌≡◌, ℕ, Bool, false, List, [], ◌∷◌, Option, IfSome}
+use Rattle.std.specs.Prelude.{◌≡◌, ◌≤◌, ℕ, Bool, false, List, [], ◌∷◌, Option, IfSome}
 use Rattle.crp_plan.specs.declared.running.View.{View}
-use Rattle.crp_plan.specs.Bay.{Problem, IsProblem}
+use Rattle.crp_plan.specs.Bay.{Problem}
 use Rattle.crp_plan.specs.Plans.{ProblemPath}
 use Rattle.crp_tree.specs.Parts.{ProblemPart, Certificate, names_of}
 use Rattle.crp_incumbent.specs.declared.rule.Key.{Key}
 use Rattle.crp_incumbent.specs.Rule.{all_shares}
 use Rattle.crp_incumbent.specs.Seats.{Shared, Seat}
 use Rattle.crp_pool.specs.Weigh.{SameNames}
-use Rattle.crp_solve.specs.Answers.{path_in, count_of, IsPlanOf}
-use Rattle.crp_solve.specs.Searches.{BeginsWithin, IsEndedSearch}
+use Rattle.crp_solve.specs.Answers.{path_in, IsPlanOf}
+use Rattle.crp_solve.specs.Searches.{IsEndedSearch}
 use Rattle.crp_solve.specs.Desks.{count_or}
 use Rattle.crp_gather.specs.Settled.{branches_in_all}
 use Rattle.crp_solve.specs.Groups.{Keeping, given_in}
@@ -35,17 +35,15 @@ pub record AreDone (keeps : Keeping) (key : Key) (of : Shared) (seat : Seat) (pl
   pub kept : keeps of seat.view plan parts
   pub all : short ≡ false → IsAllDone seat.view parts
 
--- a search begins with the relocations of this plan, which are no more than the greedy one's; where there is none, with the cap
-pub record IsStartLimit (p : Problem) (first : ℕ) (known : Option ProblemPath) : Type 0 where
-  pub is_problem : IsProblem p
-  pub plan_is : IfSome known (IsPlanOf p)
-  pub first_is : BeginsWithin p first
-  pub count : first ≡ count_of p (path_in known)
-
--- what workers found together: with any plan of the problem that has as many relocations as their best one (or, where they have none, as the limit at the
--- start) they have searched the whole problem
+-- what the workers of a search found together: a certificate of the whole problem; the limit in the end is the relocations of their best plan, or
+-- where they have none, the limit at the start
 pub record IsFoundTogether (p : Problem) (budget first : ℕ) (cert : Certificate) (best : Option ProblemPath) (expanded : ℕ) : Type 0 where
   pub view : View
   pub granted : expanded ≡ view.granted
   pub best_is : IfSome best (IsPlanOf p)
-  pub whole : (plan : Option ProblemPath) → IfSome plan (IsPlanOf p) → count_of p (path_in plan) ≡ count_or first (path_in best) → IsEndedSearch p budget first view cert plan
+  pub ended : IsEndedSearch p budget first (count_or first (path_in best)) view cert
+
+-- memory ran out in a search after so many expansions; its best plan, if one is known, is one of the problem
+pub record IsCutShort (p : Problem) (budget : ℕ) (best : Option ProblemPath) (expanded : ℕ) : Type 0 where
+  pub best_is : IfSome best (IsPlanOf p)
+  pub within : expanded ≤ budget

@@ -1,14 +1,15 @@
-//! The answer that a search shows.
-ghost use Rattle.std.specs.Prelude.{◌≡◌, ℕ, ◌≤◌, [], IfOk, min, length};
-ghost use Rattle.crp_plan.specs.declared.running.View.{View};
+//! The answer that searches show.
+ghost use Rattle.std.specs.Prelude.{◌≡◌, ℕ, ◌≤◌, [], IfOk, IfErr, Option, min, length};
+ghost use Rattle.crp_plan.specs.Plans.{ProblemPath};
 ghost use Rattle.crp_plan.specs.Bay.{IsProblem, start, cap};
 ghost use Rattle.crp_bay.specs.Positions.{settled};
 ghost use Rattle.crp_bounds.specs.Bounds.{look_ahead as look_ahead_bound};
 ghost use Rattle.crp_tree.specs.Parts.{given_of, IsKeptPart};
-ghost use Rattle.crp_solve.specs.Answers.{path_in, cert_of, count_of as count_or_cap, IsCut, IsTrueAnswer, IsOfFirstPart, IsOutOfMemory, HasNoSecond};
-ghost use Rattle.crp_solve.specs.Searches.{IsBestMet, IsEndedSearch};
+ghost use Rattle.crp_solve.specs.Answers.{path_in, cert_of, branches_of, count_of as count_or_cap, IsCut, IsOneCut, IsTrueAnswer, EachIsBranch, IsOfFirstPart, IsOutOfMemory, HasNoSecond};
+ghost use Rattle.crp_solve.specs.Searches.{IsBestMet, IsShown, AreEnded, IsLost};
 
 use crate::answer::{Answer, Cause, Second, Solved};
+use crate::ending::{Lost, Together};
 use crp_bay::Position;
 use crp_bounds::look_ahead;
 use crp_plan::{Plan, Problem};
@@ -27,12 +28,12 @@ pub fn count_of(problem: &Problem, best: &Option<Plan>) -> u32
     }
 }
 
-/// The answer where the search has ended with this certificate, and this is the best plan that was met.
-pub fn answer_of_ended(problem: &Problem, cert: Cert, best: Option<Plan>) -> Answer
+/// The answer where searches have ended with this certificate, and this is the best plan that is known.
+fn answer_of_ended(problem: &Problem, cert: Cert, best: Option<Plan>) -> Answer
     ensures cert { cert_of result ≡ cert }
     ensures first_part { IsOfFirstPart result }
-    ensures true_answer { (budget first : ℕ) (view : View) → IsEndedSearch problem.now budget first view cert best
-        → IsTrueAnswer problem.now budget result view.granted }
+    ensures true_answer { (budget expanded : ℕ) → AreEnded problem.now budget cert best expanded → IsTrueAnswer problem.now budget result expanded }
+    ensures one_search { (expanded : ℕ) → expanded ≡ branches_of cert → EachIsBranch result expanded }
 {
     let lower = cert.lower();
     if lower < count_of(problem, &best) {
@@ -66,8 +67,19 @@ fn root_cut(alloc: Global, problem: &Problem) -> Result<Part, AllocError>
     Ok(part)
 }
 
-/// The answer where memory ran out, and this is the best plan that was met.
-pub fn answer_without_memory(
+/// The certificate of that part alone.
+pub(crate) fn root_cert(alloc: Global, problem: &Problem) -> Result<Cert, AllocError>
+    ensures one_part { IfOk result (λ cert. length cert.parts ≡ 1) }
+    ensures cut { IfOk result IsOneCut }
+    ensures shown { IfOk result
+        (λ cert. (budget expanded : ℕ) (plan : Option ProblemPath) → IsBestMet problem.now plan → expanded ≤ budget → IsShown problem.now budget cert plan expanded) }
+{
+    let part = root_cut(alloc, problem)?;
+    Cert::whole(alloc, part)
+}
+
+/// The answer where memory ran out, and this is the best plan that is known.
+fn answer_without_memory(
     alloc: Global,
     problem: &Problem,
     best: Option<Plan>,
@@ -75,11 +87,9 @@ pub fn answer_without_memory(
     ensures one_part { IfOk result (λ answer. length (cert_of answer).parts ≡ 1) }
     ensures first_part { IfOk result IsOfFirstPart }
     ensures out_of_memory { IfOk result (IsOutOfMemory best) }
-    ensures true_answer { IfOk result
-        (λ answer. (budget first expanded : ℕ) → IsBestMet problem.now first best → expanded ≤ budget → IsTrueAnswer problem.now budget answer expanded) }
+    ensures true_answer { IfOk result (λ answer. (budget expanded : ℕ) → IsLost problem.now budget best expanded → IsTrueAnswer problem.now budget answer expanded) }
 {
-    let part = root_cut(alloc, problem)?;
-    let cert = Cert::whole(alloc, part)?;
+    let cert = root_cert(alloc, problem)?;
     Ok(Answer::Between {
         lower: cert.lower(),
         cert,
@@ -89,7 +99,7 @@ pub fn answer_without_memory(
 }
 
 /// An answer to a search for the fewest relocations, after so many expansions.
-pub(crate) fn without_second(answer: Answer, expanded: u64) -> Solved
+fn without_second(answer: Answer, expanded: u64) -> Solved
     requires { IsOfFirstPart answer }
     ensures answer { result.answer ≡ answer }
     ensures expanded { result.expanded ≡ expanded }
@@ -100,5 +110,37 @@ pub(crate) fn without_second(answer: Answer, expanded: u64) -> Solved
         expanded,
         second: Second::NotAsked,
         second_expanded: 0,
+    }
+}
+
+/// The answer to what searches found. Where memory ran out, it is the bound of the first position with the best plan that is known.
+pub fn answer_to(
+    alloc: Global,
+    problem: &Problem,
+    found: Result<Together, Lost>,
+) -> Result<Solved, AllocError>
+    ensures one_part { IfOk found (λ r. length r.cert.parts ≡ 1) → IfOk result (λ solved. length (cert_of solved.answer).parts ≡ 1) }
+    ensures no_second { IfOk result HasNoSecond }
+    ensures out_of_memory { IfErr found (λ lost. IfOk result (λ solved. IsOutOfMemory lost.best solved.answer)) }
+    ensures true_answer { (budget : ℕ) → IfOk found (λ r. AreEnded problem.now budget r.cert r.best r.expanded)
+        → IfErr found (λ lost. IsLost problem.now budget lost.best lost.expanded)
+        → IfOk result (λ solved. IsTrueAnswer problem.now budget solved.answer solved.expanded) }
+    ensures one_search { IfOk found (λ r. r.expanded ≡ branches_of r.cert) → IfOk result (λ solved. EachIsBranch solved.answer solved.expanded) }
+{
+    match found {
+        Ok(
+            Together {
+                cert,
+                best,
+                expanded,
+            },
+        ) => {
+            let answer = answer_of_ended(problem, cert, best);
+            Ok(without_second(answer, expanded))
+        }
+        Err(Lost { best, expanded }) => {
+            let answer = answer_without_memory(alloc, problem, best)?;
+            Ok(without_second(answer, expanded))
+        }
     }
 }

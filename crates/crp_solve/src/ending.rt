@@ -11,14 +11,23 @@ use crp_plan::{Plan, Problem};
 use crp_tree::Cert;
 use std::alloc::Global;
 
-/// The certificate that workers made together, the best plan that they met, and how many expansions they were granted.
+/// The certificate that workers made together, the best plan that is known, and how many expansions they were granted.
 #[derive(Drop)]
 pub struct Together {
     /// The certificate of the parts that they searched.
     pub cert: Cert,
-    /// The best plan that they met.
+    /// The best plan that is known.
     pub best: Option<Plan>,
     /// How many expansions were granted to them.
+    pub expanded: u64,
+}
+
+/// What is left of a search where memory ran out: the best plan that is known, and how many expansions were granted.
+#[derive(Drop)]
+pub struct Lost {
+    /// The best plan that is known.
+    pub best: Option<Plan>,
+    /// How many expansions were granted.
     pub expanded: u64,
 }
 

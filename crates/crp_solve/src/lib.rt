@@ -1,4 +1,4 @@
-//! The fewest relocations of a bay, with a certificate: the settings of a search, its answer, and the solver of one worker.
+//! The fewest relocations of a bay, with a certificate: the settings of a search, its answer, and the solvers of one worker and of many.
 #![tactic(auto)]
 
 mod aim;
@@ -8,6 +8,7 @@ mod answering;
 mod asked;
 mod beginning;
 mod common;
+mod deepening;
 mod desk;
 mod ending;
 mod fewest;
@@ -16,6 +17,7 @@ mod first_ending;
 mod group;
 mod laws;
 mod moving;
+mod once;
 mod open_work;
 mod opening;
 mod resting;
@@ -29,10 +31,11 @@ mod together;
 mod working;
 
 pub use answer::{Answer, Cause, Second, Solved};
+pub use answering::answer_to;
 pub use common::{Gate, NoGate};
-pub use ending::Together;
+pub use ending::{Lost, Together};
 pub use group::Group;
 pub use laws::{answers_agree, each_has_an_answer, one_first_limit};
 pub use settings::{MAX_BEAM, MAX_BUDGET, MAX_SPLIT, MAX_WORKERS, Settings, SettingsFault};
-pub use solver::{answer_to_all, solve};
-pub use solving::{answer_to, solve_alone};
+pub use solver::solve;
+pub use solving::solve_alone;

@@ -1,10 +1,10 @@
 //! The second part of a solver: the first of all best plans, once it is known how many relocations these have.
 ghost use Rattle.std.specs.Prelude.{◌≡◌, length, IfOk, IfErr};
-ghost use Rattle.crp_plan.specs.Bay.{IsBest};
+ghost use Rattle.crp_plan.specs.Bay.{IsProblem, IsBest};
 ghost use Rattle.crp_solve.specs.Answers.{IsPlanOf};
 ghost use Rattle.crp_solve.specs.Firsts.{IsFoundFirst, IsGivenUp};
 
-use crate::alone::Alone;
+use crate::alone::{Alone, Begun};
 use crate::answer::Cause;
 use crate::common::Gate;
 use crate::first_best::FirstBest;
@@ -17,6 +17,7 @@ use crp_plan::{Plan, Problem};
 use crp_search::{FirstEnd, FirstPart, search_first};
 use crp_tree::{Cert, Name};
 use std::alloc::Global;
+use std::marker::Brand;
 use std::sync::Wait;
 use std::thread::Threads;
 
@@ -45,21 +46,23 @@ pub(crate) fn first_together<R: Threads + Wait + Sync, G: Gate + Sync>(
     first_ended(alloc, problem, shared, budget, done)
 }
 
-/// The first best plan, searched by one worker that shares nothing. `known` is one of the best plans.
-pub(crate) fn first_alone(
+/// The first best plan, searched by a worker that it makes.
+fn first_by<K: Begun>(
     alloc: Global,
     problem: &Problem,
     settings: Settings,
     known: &Plan,
 ) -> Result<First, GivenUp>
+    requires begun { K.first ≡ length known.now.path }
+    requires problem { IsProblem problem.now }
     requires plan { IsPlanOf problem.now known.now }
     requires best { IsBest problem.now (length known.now.path) }
     ensures found { IfOk result (λ first. IsFoundFirst problem.now settings.budget (length known.now.path) first.plan first.cert first.expanded) }
     ensures given_up { IfErr result (λ end. IsGivenUp settings.budget end.cause end.expanded) }
     ensures one_part { IfOk result (λ first. length first.cert.parts ≡ 1) }
 {
-    let mut worker = Alone::new(problem, settings.budget(), Some(known.copy()));
     let count = known.count();
+    let mut worker: Alone<'_, K> = Alone::new(problem, settings.budget(), count);
     let found = search_first(
         alloc,
         problem,
@@ -95,4 +98,21 @@ pub(crate) fn first_alone(
         cert,
         expanded,
     })
+}
+
+/// The first best plan, searched by one worker that shares nothing. `known` is one of the best plans.
+pub(crate) fn first_alone(
+    alloc: Global,
+    problem: &Problem,
+    settings: Settings,
+    known: &Plan,
+) -> Result<First, GivenUp>
+    requires problem { IsProblem problem.now }
+    requires plan { IsPlanOf problem.now known.now }
+    requires best { IsBest problem.now (length known.now.path) }
+    ensures found { IfOk result (λ first. IsFoundFirst problem.now settings.budget (length known.now.path) first.plan first.cert first.expanded) }
+    ensures given_up { IfErr result (λ end. IsGivenUp settings.budget end.cause end.expanded) }
+    ensures one_part { IfOk result (λ first. length first.cert.parts ≡ 1) }
+{
+    first_by::<Brand>(alloc, problem, settings, known)
 }

@@ -1,8 +1,9 @@
 //! The plan that a search begins with.
 ghost use Rattle.std.specs.Prelude.{◌≡◌, IfSome};
 ghost use Rattle.crp_solve.specs.Answers.{path_in, count_of as count_or_cap, IsFirstLimit, IsPlanOf};
-ghost use Rattle.crp_solve.specs.Searches.{BeginsWithin};
+ghost use Rattle.crp_solve.specs.Searches.{BeginsWithin, IsBestMet};
 
+use crate::answering::count_of;
 use crate::settings::Settings;
 use crp_plan::{Plan, Problem};
 use crp_search::{beam_plan, first_plan};
@@ -10,7 +11,7 @@ use std::alloc::Global;
 
 /// The plan that a search begins with, if there is one: the greedy plan or, where a beam is asked for, the beam's. Where memory for
 /// the beam is short it is the greedy plan.
-pub(crate) fn start_plan(alloc: Global, problem: &Problem, settings: Settings) -> Option<Plan>
+fn start_plan(alloc: Global, problem: &Problem, settings: Settings) -> Option<Plan>
     ensures plan { IfSome result (IsPlanOf problem.now) }
     ensures begins { BeginsWithin problem.now (count_or_cap problem.now (path_in result)) }
     ensures greedy { settings.beam ≡ 0 → IsFirstLimit problem.now (count_or_cap problem.now (path_in result)) }
@@ -24,4 +25,14 @@ pub(crate) fn start_plan(alloc: Global, problem: &Problem, settings: Settings) -
         Ok(found) => found,
         Err(_) => greedy,
     }
+}
+
+/// The plan that a search begins with, if there is one, and the limit that it begins with: the relocations of that plan, or the cap.
+pub(crate) fn started(alloc: Global, problem: &Problem, settings: Settings) -> (Option<Plan>, u32)
+    ensures best_met { IsBestMet problem.now result.0 }
+    ensures first { result.1 ≡ count_or_cap problem.now (path_in result.0) }
+{
+    let known = start_plan(alloc, problem, settings);
+    let first = count_of(problem, &known);
+    (known, first)
 }

@@ -4,12 +4,12 @@ ghost use Rattle.crp_incumbent.specs.Seats.{Shared as Words, Seat as Place};
 ghost use Rattle.crp_pool.specs.Seats.{IsEverySeat, all_takes};
 ghost use Rattle.crp_solve.specs.Groups.{IsUnusedSeat};
 ghost use Rattle.crp_solve.specs.Searches.{BeginsWithin};
-ghost use Rattle.crp_solve.specs.Rests.{IsAllDone, AreDone, IsFoundTogether};
+ghost use Rattle.crp_solve.specs.Rests.{IsAllDone, AreDone, IsFoundTogether, IsCutShort};
 
 use crate::aim::Aim;
 use crate::beginning::begun;
 use crate::common::{Common, Gate, Outside};
-use crate::ending::{Together, ended};
+use crate::ending::{Lost, Together, ended};
 use crate::fewest::Fewest;
 use crate::group::Crew;
 use crate::open_work::OpenWork;
@@ -155,7 +155,7 @@ pub(crate) fn work_together<R: Threads + Wait + Sync, G: Gate + Sync, A: Aim + S
     Some((shared, done))
 }
 
-/// Searches the problem with many workers for the fewest relocations. Where memory ran out the error states how many expansions were granted.
+/// Searches the problem with many workers for the fewest relocations. Where memory ran out the best plan is the one on the board.
 pub(crate) fn search_together<R: Threads + Wait + Sync, G: Gate + Sync>(
     rt: &R,
     alloc: Global,
@@ -164,15 +164,25 @@ pub(crate) fn search_together<R: Threads + Wait + Sync, G: Gate + Sync>(
     board: &Board,
     gate: &G,
     first: u32,
-) -> Result<Together, u64>
-    requires { BeginsWithin problem.now first }
+) -> Result<Together, Lost>
+    requires first { BeginsWithin problem.now first }
+    requires board { board.now ≡ problem.now }
     ensures found { IfOk result (λ r. IsFoundTogether problem.now settings.budget first r.cert r.best r.expanded) }
-    ensures within { IfErr result (λ expanded. expanded ≤ settings.budget) }
+    ensures lost { IfErr result (λ lost. IsCutShort problem.now settings.budget lost.best lost.expanded) }
 {
     let budget = settings.budget();
     let worked = work_together::<R, G, Fewest>(rt, alloc, problem, settings, board, gate, first);
     let Some((shared, done)) = worked else {
-        return Err(0);
+        return Err(Lost {
+            best: board.show(rt),
+            expanded: 0,
+        });
     };
-    ended(alloc, problem, shared, budget, done)
+    match ended(alloc, problem, shared, budget, done) {
+        Ok(found) => Ok(found),
+        Err(expanded) => Err(Lost {
+            best: board.show(rt),
+            expanded,
+        }),
+    }
 }

@@ -1,7 +1,7 @@
 //! The calls that the tests make, each in a function with no clause: so a test knows nothing of what is promised, and is soon checked.
 use crp_commands::{Job, ToolFault};
 use crp_plan::{Sink, Source};
-use crp_report::{Fault, RunSettings, Status};
+use crp_report::{Fault, RunSettings, Status, Watch};
 use crp_solve::Settings;
 use crp_words::Usage;
 use std::alloc::Global;
@@ -53,6 +53,32 @@ pub(crate) fn run<T: Threads + Wait + Sync, Y: Source, M: Source, W: Sink, C: Si
     after_out: &mut A,
 ) -> Result<Status, Fault> {
     crp_report::run(rt, alloc, yard, movins, settings, out, cert_out, after_out)
+}
+
+pub(crate) fn run_watched<
+    T: Threads + Wait + Sync,
+    Y: Source,
+    M: Source,
+    W: Sink,
+    C: Sink,
+    A: Sink,
+    V: Watch,
+    E: Sink,
+>(
+    rt: &T,
+    alloc: Global,
+    yard: &mut Y,
+    movins: &mut M,
+    settings: &RunSettings,
+    out: &mut W,
+    cert_out: &mut C,
+    after_out: &mut A,
+    watch: &mut V,
+    errors: &mut E,
+) -> Result<Status, Fault> {
+    crp_report::run_watched(
+        rt, alloc, yard, movins, settings, out, cert_out, after_out, watch, errors,
+    )
 }
 
 pub(crate) fn exit_of(answer: &Result<Status, ToolFault>) -> u8 {

@@ -2,7 +2,7 @@
 use crate::compare::{assert_at, assert_same};
 use crate::six::HEADER;
 use crp_commands::{SystemFiles, ToolFault, run_job};
-use crp_plan::{Counted, Received};
+use crp_plan::{Counted, Nowhere, Received};
 use crp_report::Status;
 use crp_words::job;
 use std::alloc::{AllocError, Global};
@@ -102,6 +102,7 @@ pub(crate) fn run_words<T: Threads + Wait + Sync>(
                 &mut Counted::new(rt.stdin()),
                 &mut out,
                 &job,
+                &mut Nowhere,
             );
             Ok((answer, out.bytes))
         }

@@ -150,6 +150,7 @@ struct Asked {
     heights: &'static [u8],
     order: Mode,
     code: &'static str,
+    quiet: bool,
 }
 
 fn has_settings(settings: &RunSettings, asked: &Asked) -> bool {
@@ -166,9 +167,13 @@ fn has_files(names: &RunFiles<'_>, asked: &Asked) -> bool {
 // Whether the job is to solve what is asked for.
 fn is_solve(job: &Result<Job<'_>, Usage>, asked: &Asked) -> bool {
     match job {
-        Ok(Job::Solve { files, settings }) => {
-            has_files(files, asked) && has_settings(settings, asked)
-        }
+        Ok(
+            Job::Solve {
+                files,
+                settings,
+                quiet,
+            },
+        ) => has_files(files, asked) && has_settings(settings, asked) && *quiet == asked.quiet,
         _ => false,
     }
 }
@@ -180,6 +185,7 @@ const BY_DEFAULT: Asked = Asked {
     heights: &[5, 5, 5, 5, 5, 5],
     order: Mode::Listed,
     code: "LOA",
+    quiet: false,
 };
 
 const ALL_OPTIONS: Asked = Asked {
@@ -194,9 +200,10 @@ const ALL_OPTIONS: Asked = Asked {
     heights: &[1, 1, 1, 1, 1, 1, 1, 1, 1, 1, 1, 1],
     order: Mode::Stowage,
     code: "",
+    quiet: true,
 };
 
-const ALL_WORDS: [&str; 19] = [
+const ALL_WORDS: [&str; 20] = [
     "solve",
     "--rows",
     "12",
@@ -216,6 +223,7 @@ const ALL_WORDS: [&str; 19] = [
     "c",
     "--after",
     "-",
+    "--quiet",
 ];
 
 #[test]
@@ -285,6 +293,7 @@ const AT_LIMITS: [(&[&str], Asked); 2] = [
             heights: &[8, 8, 8, 8, 8, 8, 8, 8, 8, 8, 8, 8],
             order: Mode::Stowage,
             code: "DIS",
+            quiet: false,
         },
     ),
     (
@@ -310,6 +319,7 @@ const AT_LIMITS: [(&[&str], Asked); 2] = [
             heights: &[1],
             order: Mode::Listed,
             code: "",
+            quiet: false,
         },
     ),
 ];
@@ -339,7 +349,7 @@ fn shows_help(rt: HostRuntime) {
 }
 
 // What the help of `solve` says of its words, its options and their defaults.
-const HELP: [&str; 21] = [
+const HELP: [&str; 22] = [
     "Usage: crp solve [OPTIONS] <YARD> <MOVINS>",
     "--rows <N>",
     "1 to 12 [default: 6]",
@@ -359,6 +369,7 @@ const HELP: [&str; 21] = [
     "--first",
     "--beam <N>",
     "0 to 10000 [default: 0]",
+    "--deepen",
     "--cert <FILE>",
     "--after <FILE>",
 ];

@@ -60,9 +60,17 @@ split_rule = number_rule (codes "split") (codes "2")
 abbrev pub first_rule : Rule
 first_rule = flag_rule (codes "first")
 
+-- whether notes are left out: they are not where the flag is not given
+abbrev pub quiet_rule : Rule
+quiet_rule = flag_rule (codes "quiet")
+
 -- the beam: none where it is not given
 abbrev pub beam_rule : Rule
 beam_rule = number_rule (codes "beam") (codes "0")
+
+-- whether the limit rises from search to search: it does not where the flag is not given
+abbrev pub deepen_rule : Rule
+deepen_rule = flag_rule (codes "deepen")
 
 -- a command with one option more
 abbrev pub with_option : Rule → Shape → Shape
@@ -72,9 +80,9 @@ with_option rule shape = record shape { rules = shape.rules ++ rule ∷ [] }
 abbrev pub with_limits : Shape → Shape
 with_limits shape = with_option split_rule (with_option budget_rule (with_option workers_rule shape))
 
--- a command with these, [--first] and [--beam N]
+-- a command with these, [--first], [--beam N] and [--deepen]
 abbrev pub with_search : Shape → Shape
-with_search shape = with_option beam_rule (with_option first_rule (with_limits shape))
+with_search shape = with_option deepen_rule (with_option beam_rule (with_option first_rule (with_limits shape)))
 
 -- a command with [--rows N] [--tiers N]
 abbrev pub with_rows : Shape → Shape
@@ -88,9 +96,9 @@ with_size shape = with_option (optional_rule (codes "heights")) (with_rows shape
 abbrev pub with_orders : Shape → Shape
 with_orders shape = with_option (text_rule (codes "code") (codes "LOA")) (with_option (text_rule (codes "order") (codes "listed")) shape)
 
--- a command with [--cert FILE] [--after FILE]
+-- a command with [--cert FILE] [--after FILE] [--quiet]
 abbrev pub with_outputs : Shape → Shape
-with_outputs shape = with_option (optional_rule (codes "after")) (with_option (optional_rule (codes "cert")) shape)
+with_outputs shape = with_option quiet_rule (with_option (optional_rule (codes "after")) (with_option (optional_rule (codes "cert")) shape))
 
 -- prove FILE, with the options of a search
 abbrev pub prove : Shape
@@ -100,7 +108,7 @@ prove = with_search (leaf (codes "prove"))
 abbrev pub solve_files : Shape
 solve_files = command (codes "solve") (file_rule (codes "yard") ∷ file_rule (codes "movins") ∷ [])
 
--- solve YARD MOVINS, with its options: the size of the bays, the order of leaving, the search, and the files that are written
+-- solve YARD MOVINS, with its options: the size of the bays, the order of leaving, the search, and what is written
 abbrev pub solve : Shape
 solve = with_outputs (with_search (with_orders (with_size solve_files)))
 

@@ -9,7 +9,8 @@ use Rattle.crp_commands.specs.Advice.{IsPlainLine, failed_words}
 use Rattle.crp_commands.specs.Calls.{exit_code}
 use Rattle.crp_commands.specs.Opened.{FilesSeen, AreFilesLeftAlone, IsSourceLeftAlone, IsLeftAlone}
 use Rattle.crp_commands.specs.Performing.{JobSeen, ReportsOverFiles, FailsOverFiles}
-use Rattle.crp_commands.specs.Headlines.{KeepsHeadline}
+use Rattle.crp_commands.specs.Headlines.{KeepsHeadline, KeepsHeadlineSoFar}
+use Rattle.crp_commands.specs.Noted.{IsNoted}
 use Rattle.crp_words.specs.declared.usage.Mistake.TheVariants as mistake
 use Rattle.crp_words.specs.declared.usage.Usage.{Usage}
 use Rattle.crp_words.specs.declared.usage.Usage.TheVariants as usage
@@ -51,12 +52,19 @@ UsageEnds usage.Memory out errors status = IsLeftAlone out × IsExplained None e
 
 -- ---- a job
 
--- how the program ends that does this job: done, and then the headline holds of a run, and nothing is written to the standard error; or with a fault,
--- which is explained there
+-- the sink got the notes of the job, and then this
+pub record BehindNotes (j : Job) (Then : SinkSeen → Type 0) (s : SinkSeen) : Type 0 where
+  pub between : Option (List ℕ)
+  pub failures : ℕ
+  pub noted : IsNoted j (record { held = s.held; holds = between; before = s.before; after = failures })
+  pub behind : Then (record { held = between; holds = s.holds; before = failures; after = s.after })
+
+-- how the program ends that does this job: done, and then the headline holds of a run, and nothing but its notes is written to the standard error; or
+-- with a fault, which is explained there behind the notes, and then the headline holds of the texts whose fronts a run wrote
 abbrev pub JobEnds : Job → JobSeen → SinkSeen → ℕ → Type 0
 JobEnds j seen errors status =
-    ((ended : Status) × ReportsOverFiles j seen ended × KeepsHeadline j seen × IsLeftAlone errors × (status ≡ exit_code (Ok ended)))
-    ⊎ ((f : ToolFault) × FailsOverFiles j seen f × IsExplained (failed_words j f) errors × (status ≡ exit_code (Err f)))
+    ((ended : Status) × ReportsOverFiles j seen ended × KeepsHeadline j seen × IsNoted j errors × (status ≡ exit_code (Ok ended)))
+    ⊎ ((f : ToolFault) × FailsOverFiles j seen f × KeepsHeadlineSoFar j seen × BehindNotes j (IsExplained (failed_words j f)) errors × (status ≡ exit_code (Err f)))
 
 -- ---- the program
 

@@ -97,9 +97,13 @@ HasBeam found n = HasNumberWithin (codes "beam") 0 MAX_BEAM found n
 abbrev pub IsBeamBeyond : List Row → Type 0
 IsBeamBeyond found = HasNumberBeyond (codes "beam") 0 MAX_BEAM found
 
+-- the limit rises from search to search exactly where the words give the flag
+abbrev pub MayDeepen : List Row → Bool → Type 0
+MayDeepen found deepen = IsTrue deepen ↔ IsGivenByWords (codes "deepen") found
+
 -- the settings of a search that were found, within their limits
 abbrev pub HasSearch : List Row → Chosen → Type 0
-HasSearch found s = HasWorkers found s.workers × HasBudget found s.budget × HasSplit found s.split × HasBeam found s.beam × MayAskForFirst found s.first
+HasSearch found s = HasWorkers found s.workers × HasBudget found s.budget × HasSplit found s.split × HasBeam found s.beam × MayAskForFirst found s.first × MayDeepen found s.deepen
 
 -- the rows of a bay that were found, 1 to 12
 abbrev pub FindsRows : List Row → ℕ → Type 0
@@ -168,6 +172,10 @@ HasFiles found names = HasText (codes "yard") found names.yard.now × HasText (c
     × (first_of (codes "cert") found ≡ option_map (λ text. text.now) names.cert)
     × (first_of (codes "after") found ≡ option_map (λ text. text.now) names.after)
 
+-- notes are left out exactly where the words give the flag
+abbrev pub MayBeQuiet : List Row → Bool → Type 0
+MayBeQuiet found quiet = IsTrue quiet ↔ IsGivenByWords (codes "quiet") found
+
 -- ---- the job, or the first setting beyond its limits
 
 -- the command over one file and its rows ask for this
@@ -180,7 +188,8 @@ AsksCommand name found (command.Prove search) = (name ≡ codes "prove") × HasS
 -- the command and its rows ask for this
 abbrev pub Asks : Text → List Row → Job → Type 0
 Asks name found (job.OneFile file c) = AsksCommand name found c × HasText (codes "file") found file.now
-Asks name found (job.Solve names settings) = (name ≡ codes "solve") × ¬ IsSizedTwice found × HasFiles found names × HasSettings found settings
+Asks name found (job.Solve names settings quiet) =
+    (name ≡ codes "solve") × ¬ IsSizedTwice found × HasFiles found names × HasSettings found settings × MayBeQuiet found quiet
 
 -- the first number of a search beyond its limits: the workers, then the budget, then the split, then the beam
 abbrev pub IsSearchFault : List Row → SettingFault → Type 0

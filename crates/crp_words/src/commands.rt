@@ -1,7 +1,7 @@
 //! The command line: each command with its files and options.
 ghost use Rattle.std.specs.Prelude.{◌≡◌, IfOk};
 ghost use Rattle.clap.specs.Words.{App, Shape, app_of, with_subcommand};
-ghost use Rattle.crp_words.specs.Commands.{IsArg, IsCommand, alone, beam_rule, budget_rule, crp, file_rule, first_rule, flag_rule, leaf as leaf_shape, leaves, number_rule, optional_rule, prove as prove_shape, solve as solve_shape, solve_files as solve_files_shape, split_rule, text_rule, top_command as top_shape, with_orders, with_outputs, with_search, with_size, workers_rule};
+ghost use Rattle.crp_words.specs.Commands.{IsArg, IsCommand, alone, beam_rule, budget_rule, crp, deepen_rule, file_rule, first_rule, flag_rule, leaf as leaf_shape, leaves, number_rule, optional_rule, prove as prove_shape, quiet_rule, solve as solve_shape, solve_files as solve_files_shape, split_rule, text_rule, top_command as top_shape, with_orders, with_outputs, with_search, with_size, workers_rule};
 
 use clap::{Arg, ArgAction, Command, value_parser};
 use std::alloc::{AllocError, Global};
@@ -133,6 +133,16 @@ fn beam<'a>(alloc: Global) -> Arg<'a>
     )
 }
 
+fn deepen<'a>(alloc: Global) -> Arg<'a>
+    ensures { IsArg deepen_rule result }
+{
+    flag(
+        alloc,
+        "deepen",
+        "Search with a limit that rises from the lower bound",
+    )
+}
+
 // A command with the options of a search.
 fn with_search<'a>(alloc: Global, command: Command<'a>) -> Result<Command<'a>, AllocError>
     ensures { IfOk result (λ new. (shape : Shape) → IsCommand shape command.entry → IsCommand (with_search shape) new) }
@@ -142,7 +152,8 @@ fn with_search<'a>(alloc: Global, command: Command<'a>) -> Result<Command<'a>, A
         .arg(budget(alloc))?
         .arg(split(alloc))?
         .arg(first(alloc))?
-        .arg(beam(alloc))
+        .arg(beam(alloc))?
+        .arg(deepen(alloc))
 }
 
 // The command `prove`.
@@ -204,7 +215,13 @@ fn with_orders<'a>(alloc: Global, command: Command<'a>) -> Result<Command<'a>, A
     command.arg(order)?.arg(code)
 }
 
-// A command with the files that are written.
+fn quiet<'a>(alloc: Global) -> Arg<'a>
+    ensures { IsArg quiet_rule result }
+{
+    flag(alloc, "quiet", "Leave out the notes on the standard error")
+}
+
+// A command with what is written.
 fn with_outputs<'a>(alloc: Global, command: Command<'a>) -> Result<Command<'a>, AllocError>
     ensures { IfOk result (λ new. (shape : Shape) → IsCommand shape command.entry → IsCommand (with_outputs shape) new) }
 {
@@ -220,7 +237,7 @@ fn with_outputs<'a>(alloc: Global, command: Command<'a>) -> Result<Command<'a>, 
         "FILE",
         "File that gets the yard after the plans; without it that is not written",
     );
-    command.arg(cert)?.arg(after)
+    command.arg(cert)?.arg(after)?.arg(quiet(alloc))
 }
 
 // The command `solve`.

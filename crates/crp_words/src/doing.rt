@@ -26,7 +26,7 @@ fn explain_answer<E: Sink>(errors: &mut E, job: &Job<'_>, answer: &Result<Status
     }
 }
 
-// Does a job, and explains its fault. Returns the exit status.
+// Does a job, and explains its fault behind its notes. Returns the exit status.
 fn end_with_job<T: Threads + Wait + Sync, F: Files, R: Source, W: Sink, E: Sink>(
     threads: &T,
     alloc: Global,
@@ -43,13 +43,13 @@ fn end_with_job<T: Threads + Wait + Sync, F: Files, R: Source, W: Sink, E: Sink>
     } in let errors_seen : SinkSeen = record { held = E.contents errors.old; holds = E.contents errors.new; before = E.failures errors.old; after = E.failures errors.new }
         in JobEnds job.now seen errors_seen result }
 {
-    let answer = run_job(threads, alloc, files, input, out, job);
+    let answer = run_job(threads, alloc, files, input, out, job, errors);
     explain_answer(errors, job, &answer);
     exit_of(&answer)
 }
 
 /// Does what the words of the command line ask for, those behind the program's name: a job over its files, where a file named `-` is
-/// `input`; or help, on `out`. What went wrong is explained on `errors`. Returns the exit status.
+/// `input`; or help, on `out`. Notes and what went wrong go to `errors`. Returns the exit status.
 pub fn run_words<T: Threads + Wait + Sync, F: Files, R: Source, W: Sink, E: Sink>(
     threads: &T,
     alloc: Global,

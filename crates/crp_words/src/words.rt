@@ -179,12 +179,12 @@ fn order_of(alloc: Global, matches: &ArgMatches<'_>) -> Result<Mode, Usage>
 }
 
 // The settings of a search with these numbers, in which the first best plan is not asked for.
-fn settings_with(workers: u32, budget: u64, split: u8, beam: u32) -> Settings
+fn settings_with(workers: u32, budget: u64, split: u8, beam: u32, deepen: bool) -> Settings
     requires workers { IsWorkers workers }
     requires budget { IsBudget budget }
     requires split { IsSplitDepth split }
     requires beam { IsBeam beam }
-    ensures { result ≡ record { workers = workers; budget = budget; split = split; first = false; beam = beam } }
+    ensures { result ≡ record { workers = workers; budget = budget; split = split; first = false; beam = beam; deepen = deepen } }
 {
     let Ok(search) = Settings::new(workers, budget, split) else {
         unreachable!()
@@ -192,7 +192,7 @@ fn settings_with(workers: u32, budget: u64, split: u8, beam: u32) -> Settings
     let Ok(search) = search.with_beam(beam) else {
         unreachable!()
     };
-    search
+    search.with_deepening(deepen)
 }
 
 // The settings of a search.
@@ -222,7 +222,8 @@ fn search_of(alloc: Global, matches: &ArgMatches<'_>) -> Result<Settings, Usage>
         SettingFault::Split,
     )?;
     let beam = number_within(alloc, matches, "beam", (0, MOST_BEAM), SettingFault::Beam)?;
-    let search = settings_with(workers as u32, budget, split as u8, beam as u32);
+    let deepen = is_given(matches, "deepen");
+    let search = settings_with(workers as u32, budget, split as u8, beam as u32, deepen);
     if is_given(matches, "first") {
         Ok(search.with_first())
     } else {
@@ -316,7 +317,11 @@ fn solve_of<'a>(alloc: Global, matches: &ArgMatches<'a>) -> Result<Job<'a>, Usag
         cert: matches.get_str("cert"),
         after: matches.get_str("after"),
     };
-    Ok(Job::Solve { files, settings })
+    Ok(Job::Solve {
+        files,
+        settings,
+        quiet: is_given(matches, "quiet"),
+    })
 }
 
 // What a command without options and its matches ask for.

@@ -18,6 +18,7 @@ pub mod LeavingSteps
 pub mod LeftSteps
 pub mod AfterSteps
 pub mod Least
+pub mod NamedBays
 pub mod ReadBack
 pub mod Standing
 pub mod FloatingPlaces

@@ -1,9 +1,11 @@
 //! Reads a yard list.
 
 ghost use Rattle.std.specs.Prelude.{◌≡◌, ◌⊎◌, ◌≤◌, ℕ, List, Some, None, IfOk, OnOk, IfErr, length, replicate};
+ghost use Rattle.std.specs.List.{AllByRecursion};
 ghost use Rattle.crp_plan.specs.Devices.{TransfersAlone};
 ghost use Rattle.crp_plan.specs.Faults.{AreHeights};
 ghost use Rattle.crp_yard.specs.Inventory.{inventory_of};
+ghost use Rattle.crp_yard.specs.Naming.{IsNamedBay};
 ghost use Rattle.crp_yard.specs.Listings.{AreEntriesOf};
 ghost use Rattle.crp_yard.specs.Faults.{floating_before, fault_of_text};
 ghost use Rattle.crp_yard.specs.Reading.{IsYardList, IsYardListOf, IsTextOf, ReadingFailsWith, failures_of_yard};
@@ -47,6 +49,7 @@ pub fn yard_of_heights(alloc: Global, text: &[u8], heights: &[u8]) -> Result<Yar
     requires few_rows { length heights.now ≤ 12 }
     requires heights { AreHeights heights.now }
     ensures accepted { IfOk result (λ yard. IsYardListOf heights.now text.now yard) }
+    ensures named { IfOk result (λ yard. AllByRecursion IsNamedBay yard.bays) }
     ensures refused { IfErr result (λ fault. (fault ≡ Memory) ⊎ (fault_of_text heights.now text.now ≡ Some fault)) }
 {
     if text.len() > MAX_BYTES {
@@ -63,6 +66,7 @@ pub fn yard_of(alloc: Global, text: &[u8], rows: u8, tiers: u8) -> Result<Yard, 
     requires some_tiers { 1 ≤ tiers }
     requires few_tiers { tiers ≤ 8 }
     ensures accepted { IfOk result (λ yard. IsYardList rows tiers text.now yard) }
+    ensures named { IfOk result (λ yard. AllByRecursion IsNamedBay yard.bays) }
     ensures refused { IfErr result (λ fault. (fault ≡ Memory) ⊎ (fault_of_text (replicate rows tiers) text.now ≡ Some fault)) }
 {
     let heights = [tiers; MAX_ROWS];
@@ -81,6 +85,7 @@ pub fn read_yard_heights<R: Source>(
     requires few_rows { length heights.now ≤ 12 }
     requires heights { AreHeights heights.now }
     ensures accepted { IfOk result (λ yard. (text : List ℕ) × IsTextOf (R.remaining source.old) text × IsYardListOf heights.now text yard) }
+    ensures named { IfOk result (λ yard. AllByRecursion IsNamedBay yard.bays) }
     ensures refused { IfErr result (ReadingFailsWith heights.now (R.remaining source.old) (R.failures source.old) (R.failures source.new)) }
     ensures done { OnOk result (TransfersAlone 0 (R.failures source.old) (R.failures source.new) (R.interrupted source.old) (R.interrupted source.new)) }
     ensures ended { IfErr result (λ fault. TransfersAlone (failures_of_yard fault) (R.failures source.old) (R.failures source.new) (R.interrupted source.old) (R.interrupted source.new)) }
@@ -106,6 +111,7 @@ pub fn read_yard<R: Source>(
     requires some_tiers { 1 ≤ tiers }
     requires few_tiers { tiers ≤ 8 }
     ensures accepted { IfOk result (λ yard. (text : List ℕ) × IsTextOf (R.remaining source.old) text × IsYardList rows tiers text yard) }
+    ensures named { IfOk result (λ yard. AllByRecursion IsNamedBay yard.bays) }
     ensures refused { IfErr result (ReadingFailsWith (replicate rows tiers) (R.remaining source.old) (R.failures source.old) (R.failures source.new)) }
     ensures done { OnOk result (TransfersAlone 0 (R.failures source.old) (R.failures source.new) (R.interrupted source.old) (R.interrupted source.new)) }
     ensures ended { IfErr result (λ fault. TransfersAlone (failures_of_yard fault) (R.failures source.old) (R.failures source.new) (R.interrupted source.old) (R.interrupted source.new)) }

@@ -124,3 +124,32 @@ fn answers_of_several_workers(rt: HostRuntime) -> Result<(), Fail> {
     }
     Ok(())
 }
+
+// By a limit that rises: a budget, and what is answered for a bay whose look-ahead bound is three and whose greedy plan has four
+// relocations.
+const DEEPENED: [(u64, &str); 3] = [
+    (
+        0,
+        "between from 3 at least 3, part: L, plan 2 3 1 1, budget, expanded 0; not asked",
+    ),
+    (
+        2,
+        "between from 3 at least 3, part: L, plan 2 3 1 1, budget, expanded 2; not asked",
+    ),
+    (
+        1000000,
+        "optimal at least 3, part: L, plan 3 2 1, expanded 3; not asked",
+    ),
+];
+
+#[test]
+fn answers_by_deepening(rt: HostRuntime) -> Result<(), Fail> {
+    for (budget, answer) in DEEPENED {
+        let settings = settings_of(&rt, 1, budget, 0, false).with_deepening(true);
+        let solved = solved_alone(rt.alloc(), &BETTER_THAN_GREEDY, settings)?;
+        assert_solved(&rt, &solved, answer, None)?;
+        let solved = solved_by(&rt, rt.alloc(), &BETTER_THAN_GREEDY, settings)?;
+        assert_solved(&rt, &solved, answer, None)?;
+    }
+    Ok(())
+}

@@ -5,8 +5,8 @@ use Rattle.crp_commands.specs.Solving.{no_sink}
 use Rattle.crp_commands.proofs.Solved.{more_from, new_no_sink, none_more, over_after}
 use Rattle.crp_commands.proofs.over_yard_files.run_after.Goals as goal
 
-pub returns-in-Ok : goal.returns-in-Ok
-returns-in-Ok g c =
+pub returns-in-Ok-clause-ended : goal.returns-in-Ok-clause-ended
+returns-in-Ok-clause-ended g c =
     let left : SinkSeen = record {
       held = g.F.Output.Sink.contents c.in-Ok.after_out;
       holds = g.F.Output.Sink.contents c.run_to-answer.new.after_out;
@@ -14,7 +14,7 @@ returns-in-Ok g c =
       after = g.F.Output.Sink.failures c.run_to-answer.new.after_out;
     } in
     over_after c.args.settings.now c.args.names.now _ _ _ _ _ left _ (subst (λ file. IsNewSink file left) (sym c.in-Some.is) c.in-Ok.ensures.new)
-    (more_from _ _ _ _ c.in-Ok.ensures.count c.finish.ensures) c.run_to-answer.ensures
+    (more_from _ _ _ _ c.in-Ok.ensures.count c.finish.ensures) c.run_to-answer.ensures.ended
 
-pub returns-in-None : goal.returns-in-None
-returns-in-None g c = over_after c.args.settings.now c.args.names.now _ _ _ _ _ no_sink _ (new_no_sink _) (none_more _) c.run_to.ensures
+pub returns-in-None-clause-ended : goal.returns-in-None-clause-ended
+returns-in-None-clause-ended g c = over_after c.args.settings.now c.args.names.now _ _ _ _ _ no_sink _ (new_no_sink _) (none_more _) c.run_to.ensures.ended

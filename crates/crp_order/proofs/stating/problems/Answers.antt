@@ -1,9 +1,11 @@
-use Rattle.std.proofs.Common.{◌≡◌, ◌==◌, ◌∙◌, ap, sym, arith, length, vec_len}
+use Rattle.std.proofs.Common.{◌≡◌, ◌==◌, ◌∙◌, ap, sym, subst, arith, length, vec_len}
+use Rattle.std.specs.List.{AllByRecursion}
 use Rattle.std.proofs.lemmas.List.{length-map}
-use Rattle.crp_order.specs.BayProblems.{leaving}
+use Rattle.crp_order.specs.BayProblems.{leaving, IsNamedProblem}
 use Rattle.crp_order.specs.Groups.{pointed, stacks_numbered}
 use Rattle.crp_order.proofs.StatingSteps.{can_leave, stated-problem, problems-next, problems-same, problems-all, group_at}
 use Rattle.crp_order.proofs.NamedSteps.{all_named, all_once}
+use Rattle.crp_order.proofs.NamedProblems.{problems_named}
 use Rattle.crp_order.proofs.stating.problems.Goals as goal
 use Rattle.crp_order.proofs.stating.problems.Goals.{then-not-is_empty+in_ok-problem_of+in_ok-push, else-not-is_empty}
 
@@ -41,3 +43,10 @@ returns-clause-once c =
     all_once c.args.yard.now c.args.sequence.now c.loop-i.problems.items c.in_ok-groups.ensures.yard
     (problems-all c.args.yard.now c.args.sequence.now c.in_ok-groups.groups.items c.deref-leaving-items.result.now c.loop-i.i c.loop-i.problems.items c.in_ok-groups.ensures.groups
     c.deref-leaving-items.ensures.value c.loop-i-test.false c.loop-i.invariant)
+
+pub returns-clause-names : goal.returns-clause-names
+returns-clause-names c = λ named.
+    subst (AllByRecursion IsNamedProblem)
+    (sym (problems-all c.args.yard.now c.args.sequence.now c.in_ok-groups.groups.items c.deref-leaving-items.result.now c.loop-i.i c.loop-i.problems.items c.in_ok-groups.ensures.groups
+    c.deref-leaving-items.ensures.value c.loop-i-test.false c.loop-i.invariant))
+    (problems_named c.args.yard.now c.args.sequence.now named)

@@ -2,24 +2,24 @@ use Rattle.std.proofs.Common.{◌≡◌, ◌<◌, ◌≤◌, length, None, Some,
 use Rattle.crp_solve.specs.declared.answer.Answer.TheVariants.{Between}
 use Rattle.crp_solve.specs.declared.answer.Cause.TheVariants.{Budget}
 use Rattle.crp_solve.specs.Answers.{path_in, count_of, IsTrueAnswer}
-use Rattle.crp_solve.specs.Searches.{IsEndedSearch}
+use Rattle.crp_solve.specs.Searches.{IsShown}
 use Rattle.crp_solve.proofs.TrueAnswers.{optimal_is_true, no_plan_is_true, between_is_true}
 use Rattle.crp_solve.proofs.answering.answer_of_ended.Goals as goal
 
 pub returns-then-lower-count_of-clause-true_answer : goal.returns-then-lower-count_of-clause-true_answer
-returns-then-lower-count_of-clause-true_answer c budget first view w =
+returns-then-lower-count_of-clause-true_answer c budget expanded w =
     let below : c.args.cert.lower < count_of c.args.problem.now (path_in c.args.best) = omega (arith, c.lower-lower.ensures.value, c.count_of.ensures.value) in
-    subst (λ n. IsTrueAnswer c.args.problem.now budget (Between n c.args.cert c.args.best Budget) view.granted) (sym c.lower-lower.ensures.value)
-    (between_is_true c.args.problem.now budget first view c.args.cert c.args.best w below)
+    subst (λ n. IsTrueAnswer c.args.problem.now budget (Between n c.args.cert c.args.best Budget) expanded) (sym c.lower-lower.ensures.value)
+    (between_is_true c.args.problem.now budget c.args.cert c.args.best expanded w.shown below (w.spent below))
 
 pub returns-in-Some-clause-true_answer : goal.returns-in-Some-clause-true_answer
-returns-in-Some-clause-true_answer c budget first view w =
+returns-in-Some-clause-true_answer c budget expanded w =
     let is : c.args.best ≡ Some c.in-Some.plan = c.in-Some.is in
     let reached : length c.in-Some.plan.path ≤ c.args.cert.lower = omega (arith, c.lower-lower.ensures.value, c.count_of.ensures.value, ap (λ o. count_of c.args.problem.now (path_in o)) is) in
-    optimal_is_true c.args.problem.now budget first view c.args.cert c.in-Some.plan (subst (IsEndedSearch c.args.problem.now budget first view c.args.cert) is w) reached
+    optimal_is_true c.args.problem.now budget c.args.cert c.in-Some.plan expanded (subst (λ o. IsShown c.args.problem.now budget c.args.cert o expanded) is w.shown) reached
 
 pub returns-in-None-clause-true_answer : goal.returns-in-None-clause-true_answer
-returns-in-None-clause-true_answer c budget first view w =
+returns-in-None-clause-true_answer c budget expanded w =
     let is : c.args.best ≡ None = c.in-None.is in
     let reached : count_of c.args.problem.now None ≤ c.args.cert.lower = omega (arith, c.lower-lower.ensures.value, c.count_of.ensures.value, ap (λ o. count_of c.args.problem.now (path_in o)) is) in
-    no_plan_is_true c.args.problem.now budget first view c.args.cert (subst (IsEndedSearch c.args.problem.now budget first view c.args.cert) is w) reached
+    no_plan_is_true c.args.problem.now budget c.args.cert expanded (subst (λ o. IsShown c.args.problem.now budget c.args.cert o expanded) is w.shown) reached

@@ -24,9 +24,9 @@ returns-in-Ok-clause-found c =
       view = view;
       granted = omega (arith, c.min-expanded.ensures, t.granted, budget);
       best_is = kept.plan_is;
-      whole = λ plan is count. whole_together key.problem c.args.budget key.start totals.spent totals.limit view c.args.done.parts.items c.in-Ok.cert c.args.done.best plan kept.is_problem
+      ended = whole_together key.problem c.args.budget key.start totals.spent totals.limit view c.args.done.parts.items c.in-Ok.cert c.args.done.best kept.is_problem
           (subst (λ (q : Problem). BeginsWithin q key.start) (sym here) c.requires.first) closed
-          all.searched (done.all c.if-short.false) c.in-Ok.ensures.parts (subst (λ (q : Problem). IsAbout q c.in-Ok.cert) (sym here) c.in-Ok.ensures.about) kept.mine is count;
+          all.searched (done.all c.if-short.false) c.in-Ok.ensures.parts (subst (λ (q : Problem). IsAbout q c.in-Ok.cert) (sym here) c.in-Ok.ensures.about) kept.mine;
     })
 
 pub unreachable-requires : goal.unreachable-requires

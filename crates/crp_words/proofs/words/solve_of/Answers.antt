@@ -28,4 +28,5 @@ returns-clause-ok c = (
     sym (first_value-rows (found_of c.args.matches.now) (codes "after")) ∙ sym c.get_str-2.ensures,
   ),
   c.in_ok-settings.ensures.ok,
+  c.is_given.ensures,
 )

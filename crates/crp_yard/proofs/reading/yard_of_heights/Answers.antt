@@ -7,6 +7,7 @@ use Rattle.crp_yard.specs.Records.{records_of, entries_of}
 use Rattle.crp_yard.specs.Inventory.{inventory_of}
 use Rattle.crp_yard.specs.Faults.{max_bytes, floating_before}
 use Rattle.crp_yard.specs.Reading.{IsYardListOf}
+use Rattle.crp_yard.proofs.NamedBays.{yard_named}
 use Rattle.crp_yard.proofs.RecordSteps.{floating-whole, ok_by_both}
 use Rattle.crp_yard.proofs.reading.yard_of_heights.Goals as goal
 
@@ -38,3 +39,7 @@ returns-clause-accepted c =
       faultless = rw within (floating-whole c.args.heights.now records None c.in_ok-listing.ensures.faultless floating);
       stands = is ∙ rw c.in_ok-listing.ensures.said refl;
     })
+
+pub returns-clause-named : goal.returns-clause-named
+returns-clause-named c =
+    MatchResult-weaker c.yard_with.result (returns-clause-accepted c) (λ yard is. yard_named c.args.heights.now c.args.text.now yard is) (λ fault h. h)

@@ -1,0 +1,85 @@
+-- What looks true is true, and the other way round.
+use Rattle.std.proofs.Common.{◌≡◌, ℕ, ◌≤◌, ◌==◌, Bool, true, false, cond, List, Option, Some, None, refl, sym, ap, ◌∙◌, subst}
+use Rattle.crp_plan.specs.declared.moves.Move.{Move}
+use Rattle.crp_plan.specs.Bay.{Problem, cap, IsPlan, path_of, relocations}
+use Rattle.crp_tree.specs.First.{IsFirstBest}
+use Rattle.crp_tree.proofs.Firsts.{one_is}
+use Rattle.crp_said.specs.declared.said.SaidCause.TheVariants as cause
+use Rattle.crp_cert.proofs.Scripts.{script_once}
+use Rattle.crp_checker.specs.declared.verdict.Verdict.{Verdict}
+use Rattle.crp_checker.specs.declared.verdict.Verdict.TheVariants as verdict
+use Rattle.crp_checker.specs.Verdicts.{Says}
+use Rattle.crp_checker.proofs.Meaning.{says_from, says_first, plan_of_first}
+use Rattle.crp_said.specs.declared.said.Said.{Said}
+use Rattle.crp_said.specs.declared.said.Said.TheVariants.{Optimal, First, NoPlan, Between}
+use Rattle.crp_audit.specs.Headline.{Handed, Reported, problem_in, IsSo, shown_by, verdict_said, IsShownOf, IsTrueOf}
+use Rattle.crp_audit.specs.LooksTrue.{StatesPlan, LooksSo, LooksTrue}
+use Rattle.crp_plan.specs.BayNames.{YardBay}
+
+-- what an accepted certificate of a problem shows is so
+says : (bay : YardBay) (p : Problem) (text : List ℕ) (v : Verdict) → IsShownOf bay p text v → Says p v
+says bay p text v (script, is, name, shows) = subst (λ (q : Problem). Says q v) (sym is.as_wanted) (says_from script v is.accepted shows)
+
+-- no plan has fewer relocations than the lower bound of what is shown
+low : (p : Problem) (lower : ℕ) (upper : Option ℕ) → Says p (shown_by lower (cap p) upper) → (moves : List Move) → IsPlan p moves → lower ≤ relocations moves
+low p lower None said moves plan = by_test (lower == cap p) said
+  where
+    by_test : (t : Bool) → Says p (cond t verdict.NoPlan (verdict.Bounds lower None)) → lower ≤ relocations moves
+    by_test true none = absurd (none moves plan)
+    by_test false bounds = bounds.0 moves plan
+low p lower (Some count) said moves plan = outer (count == lower) said
+  where
+    inner : (t : Bool) → Says p (cond t verdict.NoPlan (verdict.Bounds lower (Some count))) → lower ≤ relocations moves
+    inner true none = absurd (none moves plan)
+    inner false bounds = bounds.0 moves plan
+
+    outer : (t : Bool) → Says p (cond t (verdict.Optimal lower) (cond (lower == cap p) verdict.NoPlan (verdict.Bounds lower (Some count)))) → lower ≤ relocations moves
+    outer true best = best.least moves plan
+    outer false said = inner (lower == cap p) said
+
+-- the plan of a certificate that shows a first best plan is that plan
+first_stated : (bay : YardBay) (p : Problem) (text : List ℕ) (count : ℕ) → IsShownOf bay p text (verdict.First count)
+    → (path : List ℕ) × IsFirstBest p path × StatesPlan text path
+first_stated bay p text count (script, is, name, shows) =
+    let claims = (says_first script.head.claim _ _ (verdict.First count) count shows).0 refl in
+    let (path, stated, many, first) = plan_of_first (Some p) text script count is claims in
+    (path, subst (λ (q : Problem). IsFirstBest q path) (sym is.as_wanted) first, (script, is.is_text, stated))
+
+-- a certificate states one plan
+one_plan : (text path other : List ℕ) → StatesPlan text path → StatesPlan text other → path ≡ other
+one_plan text path other (a, is-a, plan-a) (b, is-b, plan-b) =
+    let same = (script_once text a b is-a is-b).0 in
+    let e : a.head.plan ≡ b.head.plan = ap (λ h. h.plan) same in
+    let k : Some path ≡ Some other = sym plan-a ∙ e ∙ plan-b in cc
+
+so : (h : Handed) (b : Reported) (said : Said) → IsShownOf b.bay.0 (problem_in h b) b.certificate (verdict_said (cap (problem_in h b)) said) → LooksSo h b said → IsSo h b said
+so h b (Optimal count) shown looks =
+    let best = says b.bay.0 (problem_in h b) b.certificate (verdict.Optimal count) shown in (looks, best.least)
+so h b (First count) shown (prints, plan) =
+    let (path, best, stated) = first_stated b.bay.0 (problem_in h b) b.certificate count shown in
+    let same = one_plan b.certificate path (path_of prints.moves) stated plan in
+    let (other, first, many) = says b.bay.0 (problem_in h b) b.certificate (verdict.First count) shown in
+    let fewest = first.best in (
+      record { plan = prints; first = subst (IsFirstBest (problem_in h b)) same best },
+      λ moves is. subst (λ n. n ≤ relocations moves) many (fewest.least moves is),
+    )
+so h b NoPlan shown looks = (says b.bay.0 (problem_in h b) b.certificate verdict.NoPlan shown, looks)
+so h b (Between lower upper cause.Budget) shown looks =
+    let bounds = says b.bay.0 (problem_in h b) b.certificate (verdict.Bounds lower upper) shown in (bounds.0, looks)
+so h b (Between lower upper cause.Memory) shown looks =
+    (low (problem_in h b) lower upper (says b.bay.0 (problem_in h b) b.certificate (shown_by lower (cap (problem_in h b)) upper) shown), looks)
+
+looks : (h : Handed) (b : Reported) (said : Said) → IsShownOf b.bay.0 (problem_in h b) b.certificate (verdict_said (cap (problem_in h b)) said) → IsSo h b said → LooksSo h b said
+looks h b (Optimal count) shown is = is.0
+looks h b (First count) shown (printed, fewest) =
+    let (path, best, stated) = first_stated b.bay.0 (problem_in h b) b.certificate count shown in
+    let plan = printed.plan in
+    (plan, subst (StatesPlan b.certificate) (one_is (problem_in h b) path (path_of plan.moves) best printed.first) stated)
+looks h b NoPlan shown is = is.1
+looks h b (Between lower upper why) shown is = is.1
+
+pub true_if_looks : (h : Handed) (b : Reported) → LooksTrue h b → IsTrueOf h b
+true_if_looks h b is = record { so = so h b b.said is.shown is.so; shown = is.shown }
+
+pub looks_if_true : (h : Handed) (b : Reported) → IsTrueOf h b → LooksTrue h b
+looks_if_true h b is = record { so = looks h b b.said is.shown is.so; shown = is.shown }

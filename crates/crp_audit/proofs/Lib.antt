@@ -1,0 +1,7 @@
+-- Lemmas on headlines and faults.
+mod Meaning
+mod Deciding
+mod Follows
+mod SoFar
+mod Apart
+mod Looks

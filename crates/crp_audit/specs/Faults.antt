@@ -1,0 +1,135 @@
+-- Why a report and its certificates are refused: the first fault, and the bays before it, of which all that is promised is so.
+use Rattle.std.specs.Prelude.{◌≡◌, ◌≢◌, ℕ, List, [], ◌∷◌, ◌++◌, length, map, filter, count_by, All, Option, Some, None, MatchOption, IsSome}
+use Rattle.crp_plan.specs.declared.moves.Move.{Move}
+use Rattle.crp_plan.specs.Bay.{start, path_of}
+use Rattle.crp_plan.specs.BayNames.{YardBay}
+use Rattle.crp_yard.specs.Inventory.{StackedBay}
+use Rattle.crp_order.specs.BayProblems.{ranked, is_called}
+use Rattle.crp_cert.specs.declared.script.Script.{Script}
+use Rattle.crp_checker.specs.declared.verdict.Verdict.{Verdict}
+use Rattle.crp_checker.specs.declared.refused.Refused.TheVariants as refused
+use Rattle.crp_checker.specs.AcceptedTexts.{IsAcceptedText}
+use Rattle.crp_checker.specs.Verdicts.{IsVerdict}
+use Rattle.crp_checker.specs.Files.{BeginsWithTexts}
+use Rattle.crp_checker.specs.Refusals.{IsRefusal}
+use Rattle.crp_said.specs.MoveLines.{AreMoveLines}
+use Rattle.crp_said.specs.declared.said.Said.{Said}
+use Rattle.crp_said.specs.declared.said.Said.TheVariants.{Optimal, First, NoPlan, Between}
+use Rattle.crp_said.specs.Said.{BaySaid, bay_line, is_settled}
+use Rattle.crp_said.specs.Spelled.{ReportSaid, SpellsReport, front_text, line_behind, IsMisspelled}
+use Rattle.crp_audit.specs.Headline.{Handed, Reported, numbers_in, said_of, problem_in, PrintsPlan, verdict_in, IsTrueOf}
+use Rattle.crp_audit.specs.Followed.{StopsBehind}
+use Rattle.crp_audit.specs.Printed.{AreOtherLines}
+use Rattle.crp_audit.specs.declared.fault.AuditFault.{AuditFault}
+use Rattle.crp_audit.specs.declared.fault.AuditFault.TheVariants as fault
+
+-- ---- one bay
+
+-- the relocations of the plan that is said to be printed, if one is
+abbrev pub count_said : Said → Option ℕ
+count_said (Optimal count) = Some count
+count_said (First count) = Some count
+count_said NoPlan = None
+count_said (Between lower upper why) = upper
+
+-- the lines are those of a plan with the relocations that are said; where none is said there are none
+abbrev pub PrintsSaid : Handed → Reported → Type 0
+PrintsSaid h b = MatchOption (count_said b.said) (b.lines ≡ []) (PrintsPlan h b)
+
+-- these lines are those of legal moves, and the next one is that of no move that is legal then
+abbrev pub IsWrongMove : Handed → Reported → List ℕ → Type 0
+IsWrongMove h b before = StopsBehind (ranked h.sequence b.bay.1) (start (problem_in h b)) b.lines before
+
+-- where the first plan is said, these are the moves of the certificate's
+abbrev pub IsItsPlan : Said → List Move → Script → Type 0
+IsItsPlan (First count) moves script = script.head.plan ≡ Some (path_of moves)
+IsItsPlan said moves script = Unit {0}
+
+-- an accepted certificate says the same as the report: it is the bay's, its verdict is the one that is said, and where the first plan is said it is
+-- the printed one
+pub record SaysTheSame (h : Handed) (b : Reported) (script : Script) : Type 0 where
+  pub bay : script.head.bay ≡ b.bay.0
+  pub verdict : IsVerdict script (verdict_in h b)
+  pub plan : (moves : List Move) → AreMoveLines (ranked h.sequence b.bay.1) (start (problem_in h b)) moves b.lines → IsItsPlan b.said moves script
+
+-- this is the next certificate
+abbrev pub IsNextText : List ℕ → List ℕ → Type 0
+IsNextText certificates text = (after : List ℕ) × BeginsWithTexts certificates (text ∷ []) after
+
+-- the first fault of a bay whose name is right, behind this front of the report, where these certificates are left: in the order of its lines, then
+-- as a plan, then its certificate
+abbrev pub IsBayFault : Handed → Reported → List ℕ → List ℕ → AuditFault → Type 0
+IsBayFault h b left front (fault.Move line) =
+    IsSome (count_said b.said) × ((before : List ℕ) × IsWrongMove h b before × (line ≡ line_behind (front ++ (bay_line b.bay.0 b.said ++ before))))
+IsBayFault h b left front (fault.Plan bay) = (bay ≡ b.bay.0) × AreOtherLines (ranked h.sequence b.bay.1) (problem_in h b) b.lines (count_said b.said)
+IsBayFault h b left front (fault.Lacking bay) = (bay ≡ b.bay.0) × PrintsSaid h b × (left ≡ [])
+IsBayFault h b left front (fault.Certificate bay why) =
+    (bay ≡ b.bay.0) × PrintsSaid h b × (why ≢ refused.Memory) × ((text : List ℕ) × IsNextText left text × IsRefusal (Some (problem_in h b)) text why)
+IsBayFault h b left front (fault.Other bay) =
+    (bay ≡ b.bay.0) × PrintsSaid h b
+    × ((text : List ℕ) × (script : Script) × IsNextText left text × IsAcceptedText (Some (problem_in h b)) text script × ¬ SaysTheSame h b script)
+IsBayFault h b left front f = ⊥
+
+-- ---- all bays
+
+-- a bay of the yard with what is said of it, and its certificate
+abbrev pub reported_as : StackedBay → BaySaid → List ℕ → Reported
+reported_as bay s text = record { bay = bay; said = s.said; lines = s.lines; certificate = text }
+
+-- the name of the next bay, if there is one
+abbrev pub next_called : List StackedBay → Option YardBay
+next_called [] = None
+next_called (bay ∷ later) = Some bay.0
+
+abbrev pub next_said : List BaySaid → Option YardBay
+next_said [] = None
+next_said (s ∷ more) = Some s.bay
+
+-- the last line counts the bays and those that are settled
+abbrev pub CountsRight : ReportSaid → Type 0
+CountsRight r = (r.count ≡ length r.bays) × (r.settled ≡ count_by (λ s. is_settled s.said) r.bays)
+
+-- the first fault behind bays that are right, where these bays of the yard are still to come, this is said of further bays, these certificates are
+-- left, and this front of the report is behind
+abbrev pub IsNextFault : Handed → ReportSaid → List StackedBay → List BaySaid → List ℕ → List ℕ → AuditFault → Type 0
+IsNextFault h r later more left front (fault.Bay line wanted) =
+    (line ≡ line_behind front) × (wanted ≡ next_called later) × (next_said more ≢ next_called later)
+IsNextFault h r [] [] left front fault.LeftOver = left ≢ []
+IsNextFault h r [] [] left front fault.Closing = (left ≡ []) × ¬ CountsRight r
+IsNextFault h r [] more left front f = ⊥
+IsNextFault h r (bay ∷ later) [] left front f = ⊥
+IsNextFault h r (bay ∷ later) (s ∷ more) left front f = (s.bay ≡ bay.0) × IsBayFault h (reported_as bay s []) left front f
+
+-- the bays before are right, and then comes the fault
+pub record IsFaultBehind (h : Handed) (r : ReportSaid) (before : List Reported) (f : AuditFault) : Type 0 where
+  pub later : List StackedBay
+  pub more : List BaySaid
+  pub left : List ℕ
+  pub called : filter (is_called h.sequence) h.yard.bays ≡ map (λ b. b.bay) before ++ later
+  pub bays : r.bays ≡ map said_of before ++ more
+  pub certificates : BeginsWithTexts h.certificates (map (λ b. b.certificate) before) left
+  pub each_true : All (IsTrueOf h) before
+  pub next : IsNextFault h r later more left (front_text r.numbers (map said_of before)) f
+
+-- the report is spelled as one, it has the three numbers, and the fault comes behind these bays
+abbrev pub IsFaultIn : Handed → List Reported → AuditFault → Type 0
+IsFaultIn h before f = (r : ReportSaid) × SpellsReport h.report r × (r.numbers ≡ numbers_in h) × IsFaultBehind h r before f
+
+-- the first fault of what is handed in, and the bays before it. All of the report is read before any of it is looked at. That memory is wanting is no
+-- fault of it
+abbrev pub IsFirstFault : Handed → List Reported → AuditFault → Type 0
+IsFirstFault h before (fault.Spelling line) = (before ≡ []) × IsMisspelled h.report line
+IsFirstFault h before fault.Numbers =
+    (before ≡ []) × ((r : ReportSaid) × SpellsReport h.report r × (r.numbers ≢ numbers_in h))
+IsFirstFault h before fault.Memory = Unit {0}
+IsFirstFault h before f = IsFaultIn h before f
+
+-- the verdicts on these bays
+abbrev pub verdicts_of : (h : Handed) → List Reported → List (YardBay × Verdict)
+verdicts_of h bays = map (λ b. (b.bay.0, verdict_in h b)) bays
+
+-- why it is refused, and what the bays before show
+pub record IsAuditRefusal (h : Handed) (shown : List (YardBay × Verdict)) (f : AuditFault) : Type 0 where
+  pub before : List Reported
+  pub shown_is : shown ≡ verdicts_of h before
+  pub first : IsFirstFault h before f

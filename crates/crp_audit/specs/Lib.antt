@@ -1,0 +1,6 @@
+-- Headlines of what is handed in, and why it is refused.
+pub mod Headline
+pub mod LooksTrue
+pub mod Followed
+pub mod Printed
+pub mod Faults

@@ -1,0 +1,17 @@
+//! Reports and certificates, whoever made them.
+//!
+//! What they promise is said in `specs/Headline.antt`, and why they are refused in `specs/Faults.antt`.
+#![tactic(auto)]
+
+mod fault;
+mod following;
+mod laws;
+mod looking;
+
+pub use fault::{AuditFault, AuditRefused};
+pub use following::{Followed, follow_lines};
+pub use laws::{
+    headlines_show, one_list_of_verdicts, one_plan_is_printed, printed_plans_are_followed,
+    true_if_it_looks_so,
+};
+pub use looking::{Looked, look_at};

@@ -1,0 +1,69 @@
+-- How notes are worded. A note is one line.
+use Rattle.std.specs.Prelude.{ℕ, nat_lt, List, [], ◌∷◌, ◌++◌, length, take, flat_map, if◌then◌else◌, Bool, codes, decimal}
+use Rattle.crp_plan.specs.BayNames.{YardBay}
+
+-- the line of a note that has these parts
+abbrev pub note_of : List (List ℕ) → List ℕ
+note_of parts = codes "crp: note: " ++ (flat_map (λ part. part) parts ++ 10 ∷ [])
+
+-- a name in quotes: of one with more than 35 bytes the first 35, and two points behind
+abbrev pub quoted : List ℕ → List ℕ
+quoted name = 34 ∷ (take 35 name ++ (if nat_lt 35 (length name) then codes "\".." else codes "\""))
+
+-- names in quotes with commas between them, and that there are more
+abbrev pub listed : List (List ℕ) → Bool → List ℕ
+listed [] more = []
+listed (name ∷ names) more = quoted name ++ (flat_map (λ name. codes ", " ++ quoted name) names ++ (if more then codes " and others" else []))
+
+-- a message says that it is no original
+abbrev pub function_note : ℕ → List ℕ → List ℕ → List ℕ
+function_note message function words = note_of (
+    codes "message " ∷ decimal message ∷ codes " is no original, its BGM has function " ∷ quoted function ∷ words
+    ∷ codes "; it is read as an order all the same, so check that it is to be loaded" ∷ [])
+
+-- no container is ordered under the loading code, and the message has no handling code
+abbrev pub no_codes_note : List ℕ → List ℕ
+no_codes_note code = note_of (codes "no container is ordered under the handling code " ∷ quoted code ∷ codes "; the message has no handling code" ∷ [])
+
+-- no container is ordered under the loading code, and the message has these codes
+abbrev pub codes_note : List ℕ → List (List ℕ) → Bool → List ℕ
+codes_note code found more = note_of (
+    codes "no container is ordered under the handling code " ∷ quoted code ∷ codes "; the message has " ∷ listed found more
+    ∷ codes ": choose with --code what is loaded, or look for LOC+147 and EQD+CN under it" ∷ [])
+
+-- several messages stand in one interchange, and their containers are mixed
+abbrev pub messages_note : ℕ → List ℕ
+messages_note messages = note_of (
+    codes "the interchange has " ∷ decimal messages
+    ∷ codes " messages, and --order stowage mixes their containers: put each into a file of its own if they are for different ships" ∷ [])
+
+-- ordered containers are not in the yard: so many, and the first of them
+abbrev pub absent_note : ℕ → List (List ℕ) → Bool → List ℕ
+absent_note count names more = note_of (
+    decimal count ∷ (if nat_lt 1 count then codes " ordered containers are not in the yard: " else codes " ordered container is not in the yard: ")
+    ∷ listed names more ∷ [])
+
+-- an ordered container is like one of the yard
+abbrev pub alike_note : List ℕ → List ℕ → List ℕ
+alike_note ordered standing = note_of (
+    quoted ordered ∷ codes " differs from " ∷ quoted standing ∷ codes " in the yard by blanks, dashes or small letters alone: write both alike" ∷ [])
+
+-- no container stands in the last rows
+abbrev pub rows_note : ℕ → ℕ → List ℕ
+rows_note rows highest = note_of (
+    codes "the settings have " ∷ decimal rows ∷ codes " rows, and no container stands beyond row " ∷ decimal highest
+    ∷ codes ": if the bays end there, say so by --rows or --heights, or plans use rows that are not there" ∷ [])
+
+-- a bay is left open
+abbrev pub open_note : YardBay → List ℕ → List ℕ
+open_note bay advice = note_of (codes "bay " ∷ bay.block ∷ codes " " ∷ decimal bay.bay ∷ codes " is left open, since " ∷ advice ∷ [])
+
+-- the file of certificates has grown past so many bytes
+abbrev pub size_note : ℕ → YardBay → List ℕ
+size_note largest bay = note_of (
+    codes "with bay " ∷ bay.block ∷ codes " " ∷ decimal bay.bay ∷ codes " the certificates have more than " ∷ decimal largest
+    ∷ codes " bytes, and crp check takes no larger file: cut it behind a line that begins with end" ∷ [])
+
+-- so many notes are left out
+abbrev pub more_note : ℕ → List ℕ
+more_note count = note_of (decimal count ∷ codes " more notes are not shown" ∷ [])

@@ -1,0 +1,135 @@
+//! What the messages of an interchange say of themselves.
+ghost use Rattle.std.specs.Prelude.{◌≤◌, ◌<◌, ◌+◌, ◌^◌, length};
+
+use edi_text::Segments;
+use std::alloc::{AllocError, Global};
+
+/// The most names that a note lists.
+pub(crate) const MAX_LISTED: usize = 10;
+
+// What a message function says, of those of UN/EDIFACT D.95B 1225 that are no original.
+const FUNCTIONS: [(&str, &str); 35] = [
+    ("1", " (cancellation)"),
+    ("2", " (addition)"),
+    ("3", " (deletion)"),
+    ("4", " (change)"),
+    ("5", " (replace)"),
+    ("6", " (confirmation)"),
+    ("7", " (duplicate)"),
+    ("8", " (status)"),
+    ("10", " (not found)"),
+    ("11", " (response)"),
+    ("12", " (not processed)"),
+    ("13", " (request)"),
+    ("14", " (advance notification)"),
+    ("15", " (reminder)"),
+    ("16", " (proposal)"),
+    ("17", " (cancel, to be reissued)"),
+    ("18", " (reissue)"),
+    ("19", " (seller initiated change)"),
+    ("20", " (replace heading section only)"),
+    ("21", " (replace item detail and summary only)"),
+    ("22", " (final transmission)"),
+    ("23", " (transaction on hold)"),
+    ("24", " (delivery instruction)"),
+    ("25", " (forecast)"),
+    ("26", " (delivery instruction and forecast)"),
+    ("27", " (not accepted)"),
+    ("28", " (accepted, with amendment in heading section)"),
+    ("29", " (accepted without amendment)"),
+    ("30", " (accepted, with amendment in detail section)"),
+    ("31", " (copy)"),
+    ("32", " (approval)"),
+    ("33", " (change in heading section)"),
+    ("34", " (accepted with amendment)"),
+    ("35", " (retransmission)"),
+    ("36", " (change in detail section)"),
+];
+
+/// The words for a message function, where it is one of the code list.
+pub(crate) fn words_of(function: &[u8]) -> &'static [u8] {
+    for (code, words) in &FUNCTIONS {
+        if code.as_bytes() == function {
+            return words.as_bytes();
+        }
+    }
+    b""
+}
+
+/// Whether a message function is that of an original, or there is none.
+pub(crate) fn is_original(function: &[u8]) -> bool {
+    function.is_empty() || function == b"9".as_slice()
+}
+
+/// What a segment says of the message that it stands in.
+#[derive(Clone, Copy, Drop)]
+pub(crate) enum Says<'a> {
+    /// The message begins.
+    Begins,
+    /// The message has this function.
+    Function(&'a [u8]),
+    /// This handling code is in force from here on.
+    Code(&'a [u8]),
+    /// Something else.
+    Other,
+}
+
+/// What the segment with this number says.
+pub(crate) fn said_by(segments: &Segments, number: usize) -> Says<'_> {
+    let Some(segment) = segments.segment(number) else {
+        return Says::Other;
+    };
+    let tag = segment.tag();
+    if tag == b"UNH".as_slice() {
+        return Says::Begins;
+    }
+    if tag == b"BGM".as_slice() {
+        return Says::Function(segment.component(3, 1));
+    }
+    if tag == b"HAN".as_slice() {
+        return Says::Code(segment.component(1, 1));
+    }
+    Says::Other
+}
+
+/// How many messages have begun, with the segment that says this.
+pub(crate) fn counted(messages: usize, says: &Says<'_>) -> usize
+    requires { messages < 2 ^ 63 }
+    ensures { result ≤ messages + 1 }
+{
+    match says {
+        Says::Begins => messages + 1,
+        Says::Function(_) | Says::Code(_) | Says::Other => messages,
+    }
+}
+
+/// How many messages there are.
+pub(crate) fn messages(segments: &Segments) -> usize
+    ensures { result ≤ length segments.now }
+{
+    let mut messages = 0;
+    for i in 0..segments.count() {
+        messages = counted(messages, &said_by(segments, i + 1));
+    }
+    messages
+}
+
+/// The first ten handling codes that are not empty, each once, and whether there are more.
+pub(crate) fn handling_codes(
+    alloc: Global,
+    segments: &Segments,
+) -> Result<(Vec<&[u8]>, bool), AllocError> {
+    let mut codes = Vec::new(alloc);
+    for i in 0..segments.count() {
+        if let Says::Code(code) = said_by(segments, i + 1) {
+            let is_new = !code.is_empty() && !codes.contains(&code);
+            if is_new && codes.len() == MAX_LISTED {
+                return Ok((codes, true));
+            }
+            if is_new {
+                codes.push(code)?;
+            }
+        }
+    }
+    Ok((codes, false))
+}

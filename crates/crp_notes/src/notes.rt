@@ -1,0 +1,225 @@
+//! The notes of a run.
+ghost use Rattle.crp_report.specs.Watching.{ShowsMore};
+
+use crate::containers::{absent_names, alike};
+use crate::lines::Lines;
+use crate::message::{
+    MAX_LISTED, Says, counted, handling_codes, is_original, messages, said_by, words_of,
+};
+use crate::rows::highest_row;
+use crate::wording::{
+    absent_note, alike_note, codes_note, function_note, messages_note, no_codes_note, open_note,
+    rows_note, size_note,
+};
+use crp_order::{BayProblem, Mode, Sequence};
+use crp_plan::Sink;
+use crp_report::{RunSettings, Watch};
+use crp_solve::{Answer, Cause, NoGate, Solved};
+use crp_yard::Yard;
+use edi_text::Segments;
+use std::alloc::Global;
+
+const BUDGET: &[u8] =
+    b"its budget was spent: a larger --budget decides more, more --workers are faster, and --beam 100 with --deepen helps in large bays";
+
+const MEMORY: &[u8] = b"memory ran out: close other programs, or use a machine with more memory";
+
+/// The notes of a run: what was noticed of its input and of its bays.
+#[derive(Drop)]
+pub struct Notes {
+    lines: Lines,
+    largest: usize,
+    certificates: usize,
+    gate: NoGate,
+}
+
+impl Notes {
+    /// No notes yet. A check takes no more than `largest` bytes of certificates in one file; `usize::MAX` where none is written.
+    pub fn new(largest: usize) -> Notes {
+        Notes {
+            lines: Lines::new(),
+            largest,
+            certificates: 0,
+            gate: NoGate,
+        }
+    }
+
+    // What a message says of its function, where that is no original's.
+    fn function<E: Sink>(&mut self, alloc: Global, message: usize, says: Says<'_>, errors: &mut E)
+        ensures { ShowsMore (E.contents errors.old) (E.contents errors.new) }
+    {
+        let Says::Function(function) = says else {
+            return;
+        };
+        if !is_original(function) {
+            let note = function_note(alloc, message, function, words_of(function));
+            self.lines.note(errors, note);
+        }
+    }
+
+    // Messages that say that they are no original.
+    fn functions<E: Sink>(&mut self, alloc: Global, segments: &Segments, errors: &mut E)
+        ensures { ShowsMore (E.contents errors.old) (E.contents errors.new) }
+    {
+        let mut message = 0;
+        for i in 0..segments.count() {
+            let says = said_by(segments, i + 1);
+            message = counted(message, &says);
+            self.function(alloc, message, says, errors);
+        }
+    }
+
+    // No order under the loading code.
+    fn codes<E: Sink>(
+        &mut self,
+        alloc: Global,
+        segments: &Segments,
+        sequence: &Sequence,
+        code: &[u8],
+        errors: &mut E,
+    )
+        ensures { ShowsMore (E.contents errors.old) (E.contents errors.new) }
+    {
+        if !sequence.list().is_empty() {
+            return;
+        }
+        let Ok((found, more)) = handling_codes(alloc, segments) else {
+            return;
+        };
+        let note = if found.is_empty() {
+            no_codes_note(alloc, code)
+        } else {
+            codes_note(alloc, code, &found, more)
+        };
+        self.lines.note(errors, note);
+    }
+
+    // Several messages whose containers are mixed.
+    fn mixed<E: Sink>(&mut self, alloc: Global, segments: &Segments, mode: Mode, errors: &mut E)
+        ensures { ShowsMore (E.contents errors.old) (E.contents errors.new) }
+    {
+        let messages = messages(segments);
+        if mode == Mode::Stowage && messages > 1 {
+            self.lines.note(errors, messages_note(alloc, messages));
+        }
+    }
+
+    // A name that is like that of an absent container.
+    fn alike_one<E: Sink>(&mut self, alloc: Global, yard: &Yard, name: &[u8], errors: &mut E)
+        ensures { ShowsMore (E.contents errors.old) (E.contents errors.new) }
+    {
+        if let Ok(Some(other)) = alike(alloc, yard, name) {
+            self.lines.note(errors, alike_note(alloc, name, other));
+        }
+    }
+
+    // Names that are like those of absent containers.
+    fn alike<E: Sink>(&mut self, alloc: Global, yard: &Yard, names: &[&[u8]], errors: &mut E)
+        ensures { ShowsMore (E.contents errors.old) (E.contents errors.new) }
+    {
+        for name in names {
+            self.alike_one(alloc, yard, name, errors);
+        }
+    }
+
+    // Ordered containers that are not in the yard.
+    fn absent<E: Sink>(&mut self, alloc: Global, yard: &Yard, sequence: &Sequence, errors: &mut E)
+        ensures { ShowsMore (E.contents errors.old) (E.contents errors.new) }
+    {
+        let Ok(names) = absent_names(alloc, yard, sequence) else {
+            return;
+        };
+        if names.is_empty() {
+            return;
+        }
+        let first = &names[..names.len().min(MAX_LISTED)];
+        let more = names.len() > MAX_LISTED;
+        self.lines
+            .note(errors, absent_note(alloc, names.len(), first, more));
+        self.alike(alloc, yard, first, errors);
+    }
+
+    // Rows in which no container stands.
+    fn rows<E: Sink>(&mut self, alloc: Global, yard: &Yard, errors: &mut E)
+        ensures { ShowsMore (E.contents errors.old) (E.contents errors.new) }
+    {
+        let highest = highest_row(yard);
+        if 0 < highest && highest < yard.rows() {
+            self.lines
+                .note(errors, rows_note(alloc, yard.rows(), highest));
+        }
+    }
+
+    // A bay that is left open.
+    fn open<E: Sink>(&mut self, alloc: Global, bay: &BayProblem, answer: &Answer, errors: &mut E)
+        ensures { ShowsMore (E.contents errors.old) (E.contents errors.new) }
+    {
+        if let Answer::Between { cause, .. } = answer {
+            let advice = match cause {
+                Cause::Budget => BUDGET,
+                Cause::Memory => MEMORY,
+            };
+            self.lines.note(errors, open_note(alloc, &bay.bay, advice));
+        }
+    }
+
+    // One certificate more, with which the file may grow past what a check takes.
+    fn size<E: Sink>(&mut self, alloc: Global, bay: &BayProblem, certificate: &[u8], errors: &mut E)
+        ensures { ShowsMore (E.contents errors.old) (E.contents errors.new) }
+    {
+        let before = self.certificates;
+        self.certificates = before.saturating_add(certificate.len());
+        if before <= self.largest && self.largest < self.certificates {
+            self.lines
+                .note(errors, size_note(alloc, self.largest, &bay.bay));
+        }
+    }
+}
+
+impl Watch for Notes {
+    type Gate = NoGate;
+
+    fn gate(&self) -> &NoGate {
+        &self.gate
+    }
+
+    fn accepts<E: Sink>(
+        &mut self,
+        alloc: Global,
+        yard: &Yard,
+        segments: &Segments,
+        sequence: &Sequence,
+        settings: &RunSettings,
+        errors: &mut E,
+    ) {
+        self.functions(alloc, segments, errors);
+        self.codes(alloc, segments, sequence, settings.code(), errors);
+        self.mixed(alloc, segments, settings.mode(), errors);
+        self.absent(alloc, yard, sequence, errors);
+        self.rows(alloc, yard, errors);
+    }
+
+    fn begins<E: Sink>(
+        &mut self,
+        _alloc: Global,
+        _bay: &BayProblem,
+        _behind: usize,
+        _errors: &mut E,
+    ) {}
+
+    fn answers<E: Sink>(
+        &mut self,
+        alloc: Global,
+        bay: &BayProblem,
+        solved: &Solved,
+        certificate: &[u8],
+        errors: &mut E,
+    ) {
+        self.open(alloc, bay, &solved.answer, errors);
+        self.size(alloc, bay, certificate, errors);
+    }
+
+    fn ends<E: Sink>(&mut self, alloc: Global, errors: &mut E) {
+        self.lines.end(alloc, errors);
+    }
+}

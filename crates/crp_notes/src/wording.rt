@@ -1,0 +1,256 @@
+//! Words the notes.
+ghost use Rattle.std.specs.Prelude.{◌≡◌, [], ◌++◌, IfOk, OnOk, length, take, map, flat_map, nat_lt, codes, if◌then◌else◌};
+ghost use Rattle.crp_notes.specs.Wording.{note_of, quoted, listed, function_note, no_codes_note, codes_note, messages_note, absent_note, alike_note, rows_note, open_note, size_note, more_note};
+
+use crp_plan::BayName;
+use itoa::Buffer;
+use std::alloc::{AllocError, Global};
+
+/// The line of a note that has these parts.
+fn note_of(alloc: Global, parts: &[&[u8]]) -> Result<Vec<u8>, AllocError>
+    ensures { IfOk result (λ text. text.items ≡ note_of (map (λ part. part.now) parts.now)) }
+{
+    let mut text = Vec::from_slice(alloc, b"crp: note: ")?;
+    for part in parts {
+        text.extend_from_slice(part)?;
+    }
+    text.push(b'\n')?;
+    Ok(text)
+}
+
+// How much of a name is shown, and what stands behind it.
+fn shown(name: &[u8]) -> (&[u8], &'static [u8])
+    ensures front { result.0.now ≡ take 35 name.now }
+    ensures end { result.1.now ≡ (if nat_lt 35 (length name.now) then codes "\".." else codes "\"") }
+{
+    if name.len() > 35 {
+        (&name[..35], b"\"..")
+    } else {
+        (name, b"\"")
+    }
+}
+
+// Adds a name in quotes.
+fn push_quoted(text: &mut Vec<u8>, name: &[u8]) -> Result<(), AllocError>
+    ensures { OnOk result (text.new.items ≡ text.old.items ++ quoted name.now) }
+{
+    let (front, end) = shown(name);
+    text.push(b'"')?;
+    text.extend_from_slice(front)?;
+    text.extend_from_slice(end)
+}
+
+// A name in quotes.
+fn quoted(alloc: Global, name: &[u8]) -> Result<Vec<u8>, AllocError>
+    ensures { IfOk result (λ text. text.items ≡ quoted name.now) }
+{
+    let mut text = Vec::new(alloc);
+    push_quoted(&mut text, name)?;
+    Ok(text)
+}
+
+// Adds names in quotes, each behind a comma.
+fn push_others(text: &mut Vec<u8>, names: &[&[u8]]) -> Result<(), AllocError>
+    ensures { OnOk result (text.new.items ≡ text.old.items ++ flat_map (λ name. codes ", " ++ quoted name) (map (λ name. name.now) names.now)) }
+{
+    for name in names {
+        text.extend_from_slice(b", ")?;
+        push_quoted(text, name)?;
+    }
+    Ok(())
+}
+
+// Behind names, whether there are more.
+fn others_words(more: bool) -> &'static [u8]
+    ensures { result.now ≡ (if more then codes " and others" else []) }
+{
+    if more { b" and others" } else { b"" }
+}
+
+// Names in quotes with commas between them, and whether there are more.
+fn listed(alloc: Global, names: &[&[u8]], more: bool) -> Result<Vec<u8>, AllocError>
+    ensures { IfOk result (λ text. text.items ≡ listed (map (λ name. name.now) names.now) more) }
+{
+    let mut text = Vec::new(alloc);
+    let [first, others @ ..] = names else {
+        return Ok(text);
+    };
+    push_quoted(&mut text, first)?;
+    push_others(&mut text, others)?;
+    text.extend_from_slice(others_words(more))?;
+    Ok(text)
+}
+
+/// A message says by this code of its BGM, in these words, that it is no original.
+pub(crate) fn function_note(
+    alloc: Global,
+    message: usize,
+    function: &[u8],
+    words: &[u8],
+) -> Result<Vec<u8>, AllocError>
+    ensures { IfOk result (λ text. text.items ≡ function_note message function.now words.now) }
+{
+    let mut digits = Buffer::new();
+    let function = quoted(alloc, function)?;
+    let parts: [&[u8]; 6] = [
+        b"message ",
+        digits.format(message).as_bytes(),
+        b" is no original, its BGM has function ",
+        &function,
+        words,
+        b"; it is read as an order all the same, so check that it is to be loaded",
+    ];
+    note_of(alloc, parts.as_slice())
+}
+
+/// No container is ordered under the loading code, and the message has no handling code.
+pub(crate) fn no_codes_note(alloc: Global, code: &[u8]) -> Result<Vec<u8>, AllocError>
+    ensures { IfOk result (λ text. text.items ≡ no_codes_note code.now) }
+{
+    let code = quoted(alloc, code)?;
+    let parts: [&[u8]; 3] = [
+        b"no container is ordered under the handling code ",
+        &code,
+        b"; the message has no handling code",
+    ];
+    note_of(alloc, parts.as_slice())
+}
+
+/// No container is ordered under the loading code, and the message has these codes, and others if there are more.
+pub(crate) fn codes_note(
+    alloc: Global,
+    code: &[u8],
+    found: &[&[u8]],
+    more: bool,
+) -> Result<Vec<u8>, AllocError>
+    ensures { IfOk result (λ text. text.items ≡ codes_note code.now (map (λ name. name.now) found.now) more) }
+{
+    let code = quoted(alloc, code)?;
+    let found = listed(alloc, found, more)?;
+    let parts: [&[u8]; 5] = [
+        b"no container is ordered under the handling code ",
+        &code,
+        b"; the message has ",
+        &found,
+        b": choose with --code what is loaded, or look for LOC+147 and EQD+CN under it",
+    ];
+    note_of(alloc, parts.as_slice())
+}
+
+/// So many messages stand in one interchange, and their containers are mixed.
+pub(crate) fn messages_note(alloc: Global, messages: usize) -> Result<Vec<u8>, AllocError>
+    ensures { IfOk result (λ text. text.items ≡ messages_note messages) }
+{
+    let mut digits = Buffer::new();
+    let parts: [&[u8]; 3] = [
+        b"the interchange has ",
+        digits.format(messages).as_bytes(),
+        b" messages, and --order stowage mixes their containers: put each into a file of its own if they are for different ships",
+    ];
+    note_of(alloc, parts.as_slice())
+}
+
+// Behind the number of ordered containers that are not in the yard.
+fn absent_words(count: usize) -> &'static [u8]
+    ensures { result.now ≡ (if nat_lt 1 count then codes " ordered containers are not in the yard: " else codes " ordered container is not in the yard: ") }
+{
+    if 1 < count {
+        b" ordered containers are not in the yard: "
+    } else {
+        b" ordered container is not in the yard: "
+    }
+}
+
+/// So many ordered containers are not in the yard, these first.
+pub(crate) fn absent_note(
+    alloc: Global,
+    count: usize,
+    names: &[&[u8]],
+    more: bool,
+) -> Result<Vec<u8>, AllocError>
+    ensures { IfOk result (λ text. text.items ≡ absent_note count (map (λ name. name.now) names.now) more) }
+{
+    let mut digits = Buffer::new();
+    let names = listed(alloc, names, more)?;
+    let parts: [&[u8]; 3] = [digits.format(count).as_bytes(), absent_words(count), &names];
+    note_of(alloc, parts.as_slice())
+}
+
+/// An ordered container is like one that stands in the yard.
+pub(crate) fn alike_note(
+    alloc: Global,
+    ordered: &[u8],
+    standing: &[u8],
+) -> Result<Vec<u8>, AllocError>
+    ensures { IfOk result (λ text. text.items ≡ alike_note ordered.now standing.now) }
+{
+    let ordered = quoted(alloc, ordered)?;
+    let standing = quoted(alloc, standing)?;
+    let parts: [&[u8]; 4] = [
+        &ordered,
+        b" differs from ",
+        &standing,
+        b" in the yard by blanks, dashes or small letters alone: write both alike",
+    ];
+    note_of(alloc, parts.as_slice())
+}
+
+/// Of so many rows no container stands beyond this one.
+pub(crate) fn rows_note(alloc: Global, rows: u8, highest: u8) -> Result<Vec<u8>, AllocError>
+    ensures { IfOk result (λ text. text.items ≡ rows_note rows highest) }
+{
+    let (mut all, mut last) = (Buffer::new(), Buffer::new());
+    let parts: [&[u8]; 5] = [
+        b"the settings have ",
+        all.format(rows).as_bytes(),
+        b" rows, and no container stands beyond row ",
+        last.format(highest).as_bytes(),
+        b": if the bays end there, say so by --rows or --heights, or plans use rows that are not there",
+    ];
+    note_of(alloc, parts.as_slice())
+}
+
+/// A bay is left open, for this reason.
+pub(crate) fn open_note(alloc: Global, bay: &BayName, advice: &[u8]) -> Result<Vec<u8>, AllocError>
+    ensures { IfOk result (λ text. text.items ≡ open_note bay.now advice.now) }
+{
+    let mut digits = Buffer::new();
+    let parts: [&[u8]; 6] = [
+        b"bay ",
+        bay.block(),
+        b" ",
+        digits.format(bay.bay()).as_bytes(),
+        b" is left open, since ",
+        advice,
+    ];
+    note_of(alloc, parts.as_slice())
+}
+
+/// With this bay the certificates have more than so many bytes.
+pub(crate) fn size_note(alloc: Global, largest: usize, bay: &BayName) -> Result<Vec<u8>, AllocError>
+    ensures { IfOk result (λ text. text.items ≡ size_note largest bay.now) }
+{
+    let (mut number, mut most) = (Buffer::new(), Buffer::new());
+    let parts: [&[u8]; 7] = [
+        b"with bay ",
+        bay.block(),
+        b" ",
+        number.format(bay.bay()).as_bytes(),
+        b" the certificates have more than ",
+        most.format(largest).as_bytes(),
+        b" bytes, and crp check takes no larger file: cut it behind a line that begins with end",
+    ];
+    note_of(alloc, parts.as_slice())
+}
+
+/// So many notes are left out.
+pub(crate) fn more_note(alloc: Global, count: u64) -> Result<Vec<u8>, AllocError>
+    ensures { IfOk result (λ text. text.items ≡ more_note count) }
+{
+    let mut digits = Buffer::new();
+    let parts: [&[u8]; 2] = [
+        digits.format(count).as_bytes(),
+        b" more notes are not shown",
+    ];
+    note_of(alloc, parts.as_slice())
+}

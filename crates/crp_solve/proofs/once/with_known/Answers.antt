@@ -1,0 +1,25 @@
+use Rattle.std.proofs.Common.{IfOk, IfErr, subst, ◌∙◌}
+use Rattle.crp_solve.specs.Answers.{path_in, count_of}
+use Rattle.crp_solve.specs.Rests.{IsFoundTogether, IsCutShort}
+use Rattle.crp_solve.proofs.Limits.{shorter_met}
+use Rattle.crp_solve.proofs.OneSearch.{once_ended}
+use Rattle.crp_solve.proofs.once.with_known.Goals as goal
+
+pub returns-in-Ok-clause-ended : goal.returns-in-Ok-clause-ended
+returns-in-Ok-clause-ended c p budget met found =
+    let r = c.in-Ok.field-0 in
+    let f : IsFoundTogether p budget (count_of p (path_in c.args.known)) r.cert r.best r.expanded =
+    subst (λ o. IfOk o (λ r. IsFoundTogether p budget (count_of p (path_in c.args.known)) r.cert r.best r.expanded)) c.in-Ok.is found in
+    once_ended p budget r.cert r.best c.args.known c.first_of.result r.expanded met f (c.first_of.ensures.plan p f.best_is met.plan_is) (c.first_of.ensures.count p)
+
+pub returns-in-Ok-clause-one_search : goal.returns-in-Ok-clause-one_search
+returns-in-Ok-clause-one_search c p budget first found =
+    let r = c.in-Ok.field-0 in
+    let f : IsFoundTogether p budget first r.cert r.best r.expanded = subst (λ o. IfOk o (λ r. IsFoundTogether p budget first r.cert r.best r.expanded)) c.in-Ok.is found in
+    let w = f.ended in f.granted ∙ w.granted
+
+pub returns-in-Err-clause-lost : goal.returns-in-Err-clause-lost
+returns-in-Err-clause-lost c p budget met short =
+    let r = c.in-Err.field-0 in
+    let s : IsCutShort p budget r.best r.expanded = subst (λ o. IfErr o (λ l. IsCutShort p budget l.best l.expanded)) c.in-Err.is short in
+    record { best_met = shorter_met p r.best c.args.known c.shorter_of.result met s.best_is (c.shorter_of.ensures.plan p s.best_is met.plan_is) c.shorter_of.ensures.shorter; within = s.within }
