@@ -5,3 +5,6 @@ mod Follows
 mod SoFar
 mod Apart
 mod Looks
+mod Results
+mod Bays
+mod Audited

@@ -15,6 +15,8 @@ use Rattle.crp_checker.specs.Refusals.{IsRefusal}
 use Rattle.crp_said.specs.MoveLines.{AreMoveLines}
 use Rattle.crp_said.specs.declared.said.Said.{Said}
 use Rattle.crp_said.specs.declared.said.Said.TheVariants.{Optimal, First, NoPlan, Between}
+use Rattle.crp_said.specs.declared.report.ReportFault.{ReportFault}
+use Rattle.crp_said.specs.declared.report.ReportFault.TheVariants as report
 use Rattle.crp_said.specs.Said.{BaySaid, bay_line, is_settled}
 use Rattle.crp_said.specs.Spelled.{ReportSaid, SpellsReport, front_text, line_behind, IsMisspelled}
 use Rattle.crp_audit.specs.Headline.{Handed, Reported, numbers_in, said_of, problem_in, PrintsPlan, verdict_in, IsTrueOf}
@@ -71,6 +73,11 @@ IsBayFault h b left front (fault.Other bay) =
 IsBayFault h b left front f = ⊥
 
 -- ---- all bays
+
+-- the fault of a text that is no report
+abbrev pub of_spelling : ReportFault → AuditFault
+of_spelling (report.Line line) = fault.Spelling line
+of_spelling report.Memory = fault.Memory
 
 -- a bay of the yard with what is said of it, and its certificate
 abbrev pub reported_as : StackedBay → BaySaid → List ℕ → Reported

@@ -31,6 +31,10 @@ pub record Handed : Type 0 where
   pub report : List ℕ
   pub certificates : List ℕ
 
+abbrev pub handed : Inventory → LoadOrders → List (List ℕ) → List ℕ → List ℕ → Handed
+handed yard orders sequence report certificates =
+    record { yard = yard; orders = orders; sequence = sequence; report = report; certificates = certificates }
+
 -- its three numbers: the load orders, the loading groups without a container, and the ordered containers that are not in the yard
 abbrev pub numbers_in : Handed → Numbers
 numbers_in h = record { orders = length h.orders.list; vacant = h.orders.vacant; absent = absent_of h.yard h.sequence }

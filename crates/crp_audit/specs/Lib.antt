@@ -3,4 +3,5 @@ pub mod Headline
 pub mod LooksTrue
 pub mod Followed
 pub mod Printed
+pub mod Certified
 pub mod Faults

@@ -3,11 +3,15 @@
 //! What they promise is said in `specs/Headline.antt`, and why they are refused in `specs/Faults.antt`.
 #![tactic(auto)]
 
+mod auditing;
+mod certified;
 mod fault;
 mod following;
 mod laws;
+mod lines_read;
 mod looking;
 
+pub use auditing::audit;
 pub use fault::{AuditFault, AuditRefused};
 pub use following::{Followed, follow_lines};
 pub use laws::{

@@ -1,0 +1,82 @@
+//! The lines of a bay, as the audit of a report comes to them.
+ghost use Rattle.std.specs.Prelude.{◌≡◌, ◌++◌, IfOk, IfErr, map};
+ghost use Rattle.crp_said.specs.Spelled.{line_behind};
+ghost use Rattle.crp_said.specs.Views.{bay_as};
+ghost use Rattle.crp_audit.specs.Faults.{count_said};
+ghost use Rattle.crp_audit.specs.Certified.{AreRightLines, IsLinesFault};
+
+use crate::fault::AuditFault;
+use crate::looking::{Looked, look_at};
+use crp_order::BayProblem;
+use crp_plan::Container;
+use crp_said::{Said, SaidBay};
+use std::alloc::{AllocError, Global};
+
+/// The number of the line behind these bytes, from 1.
+pub(crate) fn line_behind(front: &[u8]) -> u64
+    ensures { result ≡ line_behind front.now }
+{
+    let mut line: u64 = 1;
+    for b in front {
+        if *b == b'\n' {
+            line += 1;
+        }
+    }
+    line
+}
+
+/// The number of the line behind these bytes and those.
+fn line_behind_both(alloc: Global, front: &[u8], more: &[u8]) -> Result<u64, AllocError>
+    ensures { IfOk result (λ line. line ≡ line_behind (front.now ++ more.now)) }
+{
+    let mut text = Vec::from_slice(alloc, front)?;
+    text.extend_from_slice(more)?;
+    Ok(line_behind(&text))
+}
+
+/// The relocations of the plan that is said to be printed, if one is.
+fn count_said(said: Said) -> Option<u32>
+    ensures { result ≡ count_said said }
+{
+    match said {
+        Said::Optimal(count) | Said::First(count) => Some(count),
+        Said::NoPlan => None,
+        Said::Between { upper, .. } => upper,
+    }
+}
+
+/// The names of containers.
+fn names_of(alloc: Global, containers: &[Container]) -> Result<Vec<Vec<u8>>, AllocError>
+    ensures { IfOk result (λ names. map (λ name. name.items) names.items ≡ containers.now) }
+{
+    let mut names = Vec::new(alloc);
+    for container in containers {
+        names.push(Vec::from_slice(alloc, container.bytes())?)?;
+    }
+    Ok(names)
+}
+
+/// Reads the lines of a bay, behind this front of the report: the rows of the plan that they are, if one is said.
+pub(crate) fn read_lines(
+    alloc: Global,
+    stated: &BayProblem,
+    said: &SaidBay,
+    front: &[u8],
+) -> Result<Vec<u8>, AuditFault>
+    ensures right { IfOk result (λ rows. AreRightLines stated.now (bay_as said.now) rows.items) }
+    ensures wrong { IfErr result (λ fault. IsLinesFault stated.now (bay_as said.now) front.now fault) }
+{
+    let names = names_of(alloc, stated.names.list())?;
+    let count = count_said(said.said);
+    match look_at(alloc, &names, &stated.problem, count, &said.lines)? {
+        Looked::Nothing => Ok(Vec::new(alloc)),
+        Looked::Plan { path } => Ok(path),
+        Looked::Stopped { read } => {
+            let line = line_behind_both(alloc, front, &said.lines[..read])?;
+            Err(AuditFault::Move { line })
+        }
+        Looked::Other => Err(AuditFault::Plan {
+            bay: stated.bay.copy(),
+        }),
+    }
+}
