@@ -2,6 +2,7 @@
 #![tactic(auto)]
 
 mod program;
+mod terminal;
 
 use std::process::ExitCode;
 

@@ -5,6 +5,7 @@ ghost use Rattle.crp_commands.specs.Performing.{JobSeen};
 ghost use Rattle.crp_words.specs.declared.usage.Usage.{Usage as Unused};
 ghost use Rattle.crp_words.specs.Endings.{ProgramEnds, UsageEnds};
 
+use crate::terminal::ErrorTerminal;
 use crp_commands::SystemFiles;
 use crp_plan::{Counted, Sink};
 use crp_words::{Mistake, Usage, end_with_usage, run_words};
@@ -80,5 +81,6 @@ pub fn run<T: Threads + Wait + Sync>(rt: &HostRuntime, threads: &T) -> u8
         &mut out,
         &mut errors,
         &texts,
+        &ErrorTerminal::new(rt),
     )
 }

@@ -54,5 +54,5 @@ failed_in_run names f = None
 -- what the job could not read or write, in words, where the fault is of that kind
 abbrev pub failed_words : Job → ToolFault → Option (List ℕ)
 failed_words (job.OneFile file command) f = failed_in_file file.now f
-failed_words (job.Solve names settings quiet) (fault.Run f) = failed_in_run names f
-failed_words (job.Solve names settings quiet) f = None
+failed_words (job.Solve names settings quiet progress) (fault.Run f) = failed_in_run names f
+failed_words (job.Solve names settings quiet progress) f = None

@@ -14,4 +14,4 @@ IsNotedBy false s = ShowsMore s.held s.holds
 -- and a command over one file leaves it alone
 abbrev pub IsNoted : Job → SinkSeen → Type 0
 IsNoted (job.OneFile file command) s = IsLeftAlone s
-IsNoted (job.Solve names settings quiet) s = IsNotedBy quiet s
+IsNoted (job.Solve names settings quiet progress) s = IsNotedBy quiet s

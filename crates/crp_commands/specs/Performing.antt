@@ -95,10 +95,10 @@ FileFailsWith name c seen f =
 -- the job was done
 abbrev pub ReportsOverFiles : Job → JobSeen → Status → Type 0
 ReportsOverFiles (job.OneFile file c) seen ended = ReportsFile file.now c seen ended
-ReportsOverFiles (job.Solve names settings quiet) seen ended = IsSourceLeftAlone seen.input × RunReportsOverFiles names settings seen.files seen.out ended
+ReportsOverFiles (job.Solve names settings quiet progress) seen ended = IsSourceLeftAlone seen.input × RunReportsOverFiles names settings seen.files seen.out ended
 
 -- what a fault says of the job
 abbrev pub FailsOverFiles : Job → JobSeen → ToolFault → Type 0
 FailsOverFiles (job.OneFile file c) seen f = FileFailsWith file.now c seen f
-FailsOverFiles (job.Solve names settings quiet) seen (fault.Run f) = IsSourceLeftAlone seen.input × RunFailsOverFiles names settings seen.files seen.out f
-FailsOverFiles (job.Solve names settings quiet) seen f = ⊥
+FailsOverFiles (job.Solve names settings quiet progress) seen (fault.Run f) = IsSourceLeftAlone seen.input × RunFailsOverFiles names settings seen.files seen.out f
+FailsOverFiles (job.Solve names settings quiet progress) seen f = ⊥

@@ -44,7 +44,9 @@ pub enum Job<'a> {
         files: RunFiles<'a>,
         /// How the bays are solved.
         settings: RunSettings,
-        /// Whether notes are left out.
+        /// Whether notes are left out, and how far the run is.
         quiet: bool,
+        /// Whether a line says that each bay begins, where there is no terminal.
+        progress: bool,
     },
 }

@@ -21,6 +21,7 @@ mod replaying;
 pub use advice::{Place, advice_on, place_of};
 pub use bounding::bound;
 pub use checking::check;
+pub use crp_notes::{NoTerminal, Terminal};
 pub use heads::MOST_BYTES;
 pub use job::{FileCommand, Job, RunFiles};
 pub use opening::{Files, NotOpened, SystemFiles};

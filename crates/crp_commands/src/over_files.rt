@@ -11,6 +11,7 @@ use crate::opening::Files;
 use crate::outcome::ToolFault;
 use crate::over_yard_files::solve;
 use crate::performing::perform;
+use crp_notes::Terminal;
 use crp_plan::{Sink, Source};
 use crp_report::Status;
 use std::alloc::Global;
@@ -45,7 +46,7 @@ fn perform_on<T: Threads + Wait + Sync, F: Files, R: Source, W: Sink>(
 }
 
 // Does a job over its files.
-fn do_job<T: Threads + Wait + Sync, F: Files, R: Source, W: Sink, E: Sink>(
+fn do_job<T: Threads + Wait + Sync, F: Files, R: Source, W: Sink, E: Sink, S: Terminal + Sync>(
     threads: &T,
     alloc: Global,
     files: &mut F,
@@ -53,6 +54,7 @@ fn do_job<T: Threads + Wait + Sync, F: Files, R: Source, W: Sink, E: Sink>(
     out: &mut W,
     job: &Job<'_>,
     errors: &mut E,
+    terminal: &S,
 ) -> Result<Status, ToolFault>
     ensures done { let seen : JobSeen = record {
       files = record { known = F.known files.old; before = F.failures files.old; after = F.failures files.new };
@@ -69,15 +71,18 @@ fn do_job<T: Threads + Wait + Sync, F: Files, R: Source, W: Sink, E: Sink>(
             files: names,
             settings,
             quiet,
-        } => solve(threads, alloc, files, names, settings, out, *quiet, errors),
+            progress,
+        } => solve(
+            threads, alloc, files, names, settings, out, *quiet, *progress, terminal, errors,
+        ),
     }
 }
 
 /// Does a job over its files, and writes its report to `out`. A job over the file `-` reads `input`, the standard input. A run over a
-/// yard that is not to be quiet writes its notes to `errors`.
+/// yard that is not to be quiet writes its notes to `errors`, and shows on the terminal how far it is.
 ///
 /// Of a run over a yard the headline holds: of the texts that it wrote, and where it ended with a fault of those whose fronts it wrote.
-pub fn run_job<T: Threads + Wait + Sync, F: Files, R: Source, W: Sink, E: Sink>(
+pub fn run_job<T: Threads + Wait + Sync, F: Files, R: Source, W: Sink, E: Sink, S: Terminal + Sync>(
     threads: &T,
     alloc: Global,
     files: &mut F,
@@ -85,6 +90,7 @@ pub fn run_job<T: Threads + Wait + Sync, F: Files, R: Source, W: Sink, E: Sink>(
     out: &mut W,
     job: &Job<'_>,
     errors: &mut E,
+    terminal: &S,
 ) -> Result<Status, ToolFault>
     ensures done { let seen : JobSeen = record {
       files = record { known = F.known files.old; before = F.failures files.old; after = F.failures files.new };
@@ -103,5 +109,5 @@ pub fn run_job<T: Threads + Wait + Sync, F: Files, R: Source, W: Sink, E: Sink>(
     } in IfErr result (λ _. ForRun job.now (λ names chosen. GetsNothing seen.out ⊎ ((made : Made) × IsHeadline made × AreFrontsWritten names chosen seen made))) }
     ensures noted { IsNoted job.now (record { held = E.contents errors.old; holds = E.contents errors.new; before = E.failures errors.old; after = E.failures errors.new }) }
 {
-    do_job(threads, alloc, files, input, out, job, errors)
+    do_job(threads, alloc, files, input, out, job, errors, terminal)
 }

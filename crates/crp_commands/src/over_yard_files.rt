@@ -11,15 +11,25 @@ use crate::heads::MOST_BYTES;
 use crate::job::RunFiles;
 use crate::opening::Files;
 use crate::outcome::ToolFault;
-use crp_notes::Notes;
+use crp_notes::{Notes, Terminal};
 use crp_plan::{Nowhere, Sink, Source};
 use crp_report::{Fault, Input, Output, RunSettings, Status, run, run_watched};
 use std::alloc::Global;
 use std::sync::Wait;
 use std::thread::Threads;
 
-// Runs over devices. Notes go to `errors`, where they are wanted: one of them where the certificates have more bytes than so many.
-fn run_noted<T: Threads + Wait + Sync, Y: Source, M: Source, W: Sink, C: Sink, A: Sink, E: Sink>(
+// Runs over devices. Notes go to `errors`, where they are wanted: one of them where the certificates have more bytes than so many. How far
+// the run is, is shown on the terminal; where there is none and that is asked for, by a line for each bay among the notes.
+fn run_noted<
+    T: Threads + Wait + Sync,
+    Y: Source,
+    M: Source,
+    W: Sink,
+    C: Sink,
+    A: Sink,
+    E: Sink,
+    S: Terminal + Sync,
+>(
     threads: &T,
     alloc: Global,
     yard: &mut Y,
@@ -30,6 +40,8 @@ fn run_noted<T: Threads + Wait + Sync, Y: Source, M: Source, W: Sink, C: Sink, A
     after_out: &mut A,
     largest: usize,
     quiet: bool,
+    progress: bool,
+    terminal: &S,
     errors: &mut E,
 ) -> Result<Status, Fault>
     ensures ended { let seen : RunSeen = record {
@@ -55,13 +67,22 @@ fn run_noted<T: Threads + Wait + Sync, Y: Source, M: Source, W: Sink, C: Sink, A
         out,
         cert_out,
         after_out,
-        &mut Notes::new(largest),
+        &mut Notes::new(alloc, largest, terminal, progress),
         errors,
     )
 }
 
 // The same, and a fault of the run is one of the command.
-fn run_to<T: Threads + Wait + Sync, Y: Source, M: Source, W: Sink, C: Sink, A: Sink, E: Sink>(
+fn run_to<
+    T: Threads + Wait + Sync,
+    Y: Source,
+    M: Source,
+    W: Sink,
+    C: Sink,
+    A: Sink,
+    E: Sink,
+    S: Terminal + Sync,
+>(
     threads: &T,
     alloc: Global,
     yard: &mut Y,
@@ -72,6 +93,8 @@ fn run_to<T: Threads + Wait + Sync, Y: Source, M: Source, W: Sink, C: Sink, A: S
     after_out: &mut A,
     largest: usize,
     quiet: bool,
+    progress: bool,
+    terminal: &S,
     errors: &mut E,
 ) -> Result<Status, ToolFault>
     ensures ended { let seen : RunSeen = record {
@@ -84,7 +107,8 @@ fn run_to<T: Threads + Wait + Sync, Y: Source, M: Source, W: Sink, C: Sink, A: S
     ensures noted { IsNotedBy quiet (record { held = E.contents errors.old; holds = E.contents errors.new; before = E.failures errors.old; after = E.failures errors.new }) }
 {
     match run_noted(
-        threads, alloc, yard, movins, settings, out, cert_out, after_out, largest, quiet, errors,
+        threads, alloc, yard, movins, settings, out, cert_out, after_out, largest, quiet, progress,
+        terminal, errors,
     ) {
         Ok(status) => Ok(status),
         Err(fault) => Err(ToolFault::Run(fault)),
@@ -101,7 +125,16 @@ fn largest_file(names: &RunFiles<'_>) -> usize {
 
 // Makes the file of the yard after the plans, if it is wanted, and runs.
 #[tactic(auto, using(crate::proofs::Noted::unnoted))]
-fn run_after<T: Threads + Wait + Sync, F: Files, Y: Source, M: Source, W: Sink, C: Sink, E: Sink>(
+fn run_after<
+    T: Threads + Wait + Sync,
+    F: Files,
+    Y: Source,
+    M: Source,
+    W: Sink,
+    C: Sink,
+    E: Sink,
+    S: Terminal + Sync,
+>(
     threads: &T,
     alloc: Global,
     files: &mut F,
@@ -112,6 +145,8 @@ fn run_after<T: Threads + Wait + Sync, F: Files, Y: Source, M: Source, W: Sink, 
     out: &mut W,
     cert_out: &mut C,
     quiet: bool,
+    progress: bool,
+    terminal: &S,
     errors: &mut E,
 ) -> Result<Status, ToolFault>
     ensures ended { let seen : SinkSeen → RunSeen = λ left. record {
@@ -140,6 +175,8 @@ fn run_after<T: Threads + Wait + Sync, F: Files, Y: Source, M: Source, W: Sink, 
                 &mut after_out,
                 largest_file(names),
                 quiet,
+                progress,
+                terminal,
                 errors,
             );
             files.finish(after_out);
@@ -156,6 +193,8 @@ fn run_after<T: Threads + Wait + Sync, F: Files, Y: Source, M: Source, W: Sink, 
             &mut Nowhere,
             largest_file(names),
             quiet,
+            progress,
+            terminal,
             errors,
         ),
     }
@@ -163,7 +202,15 @@ fn run_after<T: Threads + Wait + Sync, F: Files, Y: Source, M: Source, W: Sink, 
 
 // Makes the files of the certificates and of the yard after the plans, where they are wanted, and runs.
 #[tactic(auto, using(crate::proofs::Noted::unnoted))]
-fn run_outputs<T: Threads + Wait + Sync, F: Files, Y: Source, M: Source, W: Sink, E: Sink>(
+fn run_outputs<
+    T: Threads + Wait + Sync,
+    F: Files,
+    Y: Source,
+    M: Source,
+    W: Sink,
+    E: Sink,
+    S: Terminal + Sync,
+>(
     threads: &T,
     alloc: Global,
     files: &mut F,
@@ -173,6 +220,8 @@ fn run_outputs<T: Threads + Wait + Sync, F: Files, Y: Source, M: Source, W: Sink
     settings: &RunSettings,
     out: &mut W,
     quiet: bool,
+    progress: bool,
+    terminal: &S,
     errors: &mut E,
 ) -> Result<Status, ToolFault>
     ensures ended { let seen : SinkSeen → SinkSeen → RunSeen = λ proofs left. record {
@@ -201,6 +250,8 @@ fn run_outputs<T: Threads + Wait + Sync, F: Files, Y: Source, M: Source, W: Sink
                 out,
                 &mut cert_out,
                 quiet,
+                progress,
+                terminal,
                 errors,
             );
             files.finish(cert_out);
@@ -217,15 +268,18 @@ fn run_outputs<T: Threads + Wait + Sync, F: Files, Y: Source, M: Source, W: Sink
             out,
             &mut Nowhere,
             quiet,
+            progress,
+            terminal,
             errors,
         ),
     }
 }
 
 /// Opens the files, before anything is read: the yard list, the message, the file of the certificates and that of the yard after the
-/// plans. Then runs over them, and writes the report to `out` and, unless it is to be quiet, notes to `errors`.
+/// plans. Then runs over them, and writes the report to `out` and, unless it is to be quiet, notes to `errors`; and shows how far it is on
+/// the terminal or, where there is none and that is asked for, by a line for each bay to `errors`.
 #[tactic(auto, using(crate::proofs::Noted::unnoted))]
-pub fn solve<T: Threads + Wait + Sync, F: Files, W: Sink, E: Sink>(
+pub fn solve<T: Threads + Wait + Sync, F: Files, W: Sink, E: Sink, S: Terminal + Sync>(
     threads: &T,
     alloc: Global,
     files: &mut F,
@@ -233,6 +287,8 @@ pub fn solve<T: Threads + Wait + Sync, F: Files, W: Sink, E: Sink>(
     settings: &RunSettings,
     out: &mut W,
     quiet: bool,
+    progress: bool,
+    terminal: &S,
     errors: &mut E,
 ) -> Result<Status, ToolFault>
     ensures ended { let all : FilesSeen = record { known = F.known files.old; before = F.failures files.old; after = F.failures files.new }
@@ -257,6 +313,8 @@ pub fn solve<T: Threads + Wait + Sync, F: Files, W: Sink, E: Sink>(
         settings,
         out,
         quiet,
+        progress,
+        terminal,
         errors,
     );
     files.close(yard);

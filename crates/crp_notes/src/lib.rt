@@ -1,6 +1,6 @@
 //! What a run noticed of its input and its bays, as lines for the planner.
 //!
-//! `Notes` watches a run and writes its notes to standard error; nothing of the report rests on them. How each note is worded is said
+//! `Notes` watches a run and writes its notes to standard error, and how far it is to a `Terminal`; nothing of the report rests on them. How each note is worded is said
 //! in `specs/Wording.antt`, and which names are alike in `specs/Alike.antt`.
 #![tactic(auto)]
 
@@ -8,7 +8,11 @@ mod containers;
 mod lines;
 mod message;
 mod notes;
+mod progress;
 mod rows;
+mod terminal;
 mod wording;
 
 pub use notes::Notes;
+pub use progress::Progress;
+pub use terminal::{NoTerminal, Terminal};

@@ -6,15 +6,17 @@ use crate::lines::Lines;
 use crate::message::{
     MAX_LISTED, Says, counted, handling_codes, is_original, messages, said_by, words_of,
 };
+use crate::progress::{Progress, bay_line};
 use crate::rows::highest_row;
+use crate::terminal::Terminal;
 use crate::wording::{
     absent_note, alike_note, codes_note, function_note, messages_note, no_codes_note, open_note,
     rows_note, size_note,
 };
 use crp_order::{BayProblem, Mode, Sequence};
 use crp_plan::Sink;
-use crp_report::{RunSettings, Watch};
-use crp_solve::{Answer, Cause, NoGate, Solved};
+use crp_report::{RunSettings, Watch, show};
+use crp_solve::{Answer, Cause, Solved};
 use crp_yard::Yard;
 use edi_text::Segments;
 use std::alloc::Global;
@@ -24,23 +26,27 @@ const BUDGET: &[u8] =
 
 const MEMORY: &[u8] = b"memory ran out: close other programs, or use a machine with more memory";
 
-/// The notes of a run: what was noticed of its input and of its bays.
+/// The notes of a run: what was noticed of its input and of its bays; and how far it is.
 #[derive(Drop)]
-pub struct Notes {
+pub struct Notes<'a, T> {
     lines: Lines,
     largest: usize,
     certificates: usize,
-    gate: NoGate,
+    progress: Progress<'a, T>,
+    // Whether a line for each bay is wanted where there is no terminal.
+    bay_lines: bool,
 }
 
-impl Notes {
+impl<'a, T: Terminal> Notes<'a, T> {
     /// No notes yet. A check takes no more than `largest` bytes of certificates in one file; `usize::MAX` where none is written.
-    pub fn new(largest: usize) -> Notes {
+    /// How far the run is, is shown on the terminal; where there is none, by a line for each bay, if these are wanted.
+    pub fn new(alloc: Global, largest: usize, terminal: &'a T, bay_lines: bool) -> Notes<'a, T> {
         Notes {
             lines: Lines::new(),
             largest,
             certificates: 0,
-            gate: NoGate,
+            progress: Progress::new(alloc, terminal),
+            bay_lines,
         }
     }
 
@@ -176,11 +182,11 @@ impl Notes {
     }
 }
 
-impl Watch for Notes {
-    type Gate = NoGate;
+impl<'a, T: Terminal + Sync> Watch for Notes<'a, T> {
+    type Gate = Progress<'a, T>;
 
-    fn gate(&self) -> &NoGate {
-        &self.gate
+    fn gate(&self) -> &Progress<'a, T> {
+        &self.progress
     }
 
     fn accepts<E: Sink>(
@@ -201,11 +207,24 @@ impl Watch for Notes {
 
     fn begins<E: Sink>(
         &mut self,
-        _alloc: Global,
-        _bay: &BayProblem,
-        _behind: usize,
-        _errors: &mut E,
-    ) {}
+        alloc: Global,
+        bay: &BayProblem,
+        behind: usize,
+        bays: usize,
+        errors: &mut E,
+    ) {
+        self.progress.begin(bay, behind, bays);
+        if !self.bay_lines || self.progress.is_there() {
+            return;
+        }
+        if let Ok(line) = bay_line(alloc, bay, behind, bays) {
+            show(errors, &line);
+        }
+    }
+
+    fn searched(&mut self) {
+        self.progress.clear();
+    }
 
     fn answers<E: Sink>(
         &mut self,
@@ -220,6 +239,7 @@ impl Watch for Notes {
     }
 
     fn ends<E: Sink>(&mut self, alloc: Global, errors: &mut E) {
+        self.progress.clear();
         self.lines.end(alloc, errors);
     }
 }

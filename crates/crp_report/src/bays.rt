@@ -18,12 +18,13 @@ use std::alloc::Global;
 use std::sync::Wait;
 use std::thread::Threads;
 
-// Answers the problem of a bay, behind so many others, and writes what is stated of it.
+// Answers the problem of a bay, behind so many others of so many in all, and writes what is stated of it.
 fn write_bay<T: Threads + Wait + Sync, W: Sink, C: Sink, A: Sink, V: Watch, E: Sink>(
     rt: &T,
     alloc: Global,
     bay: &BayProblem,
     behind: usize,
+    bays: usize,
     settings: Settings,
     out: &mut W,
     cert_out: &mut C,
@@ -39,9 +40,10 @@ fn write_bay<T: Threads + Wait + Sync, W: Sink, C: Sink, A: Sink, V: Watch, E: S
         MatchResult result (WritesBay settings bay.now before after) (StopsBay settings bay.now before after) }
     ensures shown { ShowsMore (E.contents errors.old) (E.contents errors.new) }
 {
-    watch.begins(alloc, bay, behind, errors);
+    watch.begins(alloc, bay, behind, bays, errors);
     let board = Board::new(&bay.problem);
     let solved = solve(rt, alloc, &bay.problem, settings, &board, watch.gate())?;
+    watch.searched();
     let texts = texts_of_bay(alloc, bay, &solved)?;
     write_piece(
         out,
@@ -84,12 +86,14 @@ pub(crate) fn write_bays<T: Threads + Wait + Sync, W: Sink, C: Sink, A: Sink, V:
     ensures shown { ShowsMore (E.contents errors.old) (E.contents errors.new) }
 {
     let mut done = BaysDone::none(alloc);
+    let bays = problems.len();
     for bay in problems {
         let solved = write_bay(
             rt,
             alloc,
             &bay,
             done.bays,
+            bays,
             settings,
             out,
             cert_out,

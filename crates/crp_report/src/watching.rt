@@ -14,7 +14,7 @@ pub trait Watch {
     /// The gate of the searches.
     type Gate: Gate + Sync;
 
-    /// The gate at which each task of a search begins.
+    /// The gate at which each task of a search begins, and which hears how far it is.
     fn gate(&self) -> &Self::Gate;
 
     /// The input is accepted: this yard, the segments of the message, and the containers in the order in which they leave.
@@ -29,9 +29,19 @@ pub trait Watch {
     )
         ensures { ShowsMore (E.contents errors.old) (E.contents errors.new) };
 
-    /// The search of a bay begins, behind so many others.
-    fn begins<E: Sink>(&mut self, alloc: Global, bay: &BayProblem, behind: usize, errors: &mut E)
+    /// The search of a bay begins, behind so many others of so many bays in all.
+    fn begins<E: Sink>(
+        &mut self,
+        alloc: Global,
+        bay: &BayProblem,
+        behind: usize,
+        bays: usize,
+        errors: &mut E,
+    )
         ensures { ShowsMore (E.contents errors.old) (E.contents errors.new) };
+
+    /// The search of a bay has ended, and nothing of its answer is written yet.
+    fn searched(&mut self) {}
 
     /// A bay is answered, and its lines and this certificate are written.
     fn answers<E: Sink>(
@@ -93,6 +103,7 @@ impl Watch for Unwatched {
         _alloc: Global,
         _bay: &BayProblem,
         _behind: usize,
+        _bays: usize,
         _errors: &mut E,
     ) {}
 

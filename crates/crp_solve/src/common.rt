@@ -6,10 +6,16 @@ use crp_tree::Name;
 use std::alloc::Global;
 use std::marker::Model;
 
-/// Asked before each part is searched.
+/// Asked before each part is searched, and told how far the search is. Nothing that a search finds rests on it.
 pub trait Gate {
     /// The worker begins the part of this name. It is called once for each, before its first node is looked at.
     fn begun(&self, worker: u32, task: &Name);
+
+    /// A plan of so many relocations is known.
+    fn planned(&self, _relocations: u32) {}
+
+    /// So many positions more were claimed. A worker says so behind each 4096, and for the rest where its part ends.
+    fn claimed(&self, _positions: u32) {}
 }
 
 /// The gate that asks for nothing.

@@ -38,9 +38,13 @@ impl Opened for Brand {
     ghost place = { None };
 }
 
-/// A worker with its seat, the plan that its least offer counts, and its place in the pool.
-struct Desk<'a, R, K: Opened> {
+/// How many claims are said to the gate together.
+const CLAIMS: u32 = 4096;
+
+/// A worker with its seat, the plan that its least offer counts, its place in the pool, and how many claims it made.
+struct Desk<'a, R, G, K: Opened> {
     rt: &'a R,
+    gate: &'a G,
     board: &'a Board,
     shared: &'a Shared,
     open: &'a OpenWork,
@@ -48,10 +52,11 @@ struct Desk<'a, R, K: Opened> {
     seat: Seat,
     best: Option<Plan>,
     place: Option<PoolSeat>,
+    claims: u32,
     opened: PhantomData<K>,
 }
 
-impl<'a, R, K: Opened> Model for Desk<'a, R, K> {
+impl<'a, R, G, K: Opened> Model for Desk<'a, R, G, K> {
     ghost use Rattle.crp_solve.specs.Desks.{Post, IsDesk};
 
     ghost Value = { Post };
@@ -75,7 +80,7 @@ fn keep_shorter(first: u32, best: &mut Option<Plan>, plan: &Plan)
     }
 }
 
-impl<'a, R: Wait, K: Opened> Limit for Desk<'a, R, K> {
+impl<'a, R: Wait, G: Gate, K: Opened> Limit for Desk<'a, R, G, K> {
     ghost use Rattle.crp_solve.specs.Desks.{puts_at};
 
     ghost view = { λ d. d.view };
@@ -94,9 +99,14 @@ impl<'a, R: Wait, K: Opened> Limit for Desk<'a, R, K> {
         keep_shorter(self.first, &mut self.best, plan);
         self.seat.offer(self.shared, plan);
         self.board.post(self.rt, plan);
+        self.gate.planned(plan.count());
     }
 
     fn claim(&mut self) -> bool {
+        self.claims = self.claims.wrapping_add(1);
+        if self.claims % CLAIMS == 0 {
+            self.gate.claimed(CLAIMS);
+        }
         self.seat.claim(self.shared)
     }
 
@@ -139,8 +149,9 @@ fn at_desk<R: Wait, G: Gate, K: Opened>(
     ensures part { IfSome result.part (IsFoundPart common.now.of seat.view result.seat.view) }
 {
     outside.gate.begun(worker, &name);
-    let mut desk: Desk<R, K> = Desk {
+    let mut desk: Desk<R, G, K> = Desk {
         rt: outside.rt,
+        gate: outside.gate,
         board: outside.board,
         shared: &common.shared,
         open: &common.open,
@@ -148,6 +159,7 @@ fn at_desk<R: Wait, G: Gate, K: Opened>(
         seat,
         best,
         place,
+        claims: 0,
         opened: PhantomData,
     };
     let part = if name.position(&common.problem).is_some() {
@@ -157,6 +169,7 @@ fn at_desk<R: Wait, G: Gate, K: Opened>(
     };
     let Desk {
         rt: _,
+        gate: _,
         board: _,
         shared: _,
         open: _,
@@ -164,8 +177,10 @@ fn at_desk<R: Wait, G: Gate, K: Opened>(
         seat,
         best,
         place,
+        claims,
         opened: _,
     } = desk;
+    outside.gate.claimed(claims % CLAIMS);
     Searched {
         part,
         seat,
@@ -219,8 +234,9 @@ fn first_at<R: Wait, G: Gate, K: Opened>(
     ensures plan { IfSome result.0 (λ found. IfSome found.plan (IsPlanOfCount common.now.of.key.problem common.now.of.key.start)) }
 {
     outside.gate.begun(worker, &name);
-    let mut desk: Desk<R, K> = Desk {
+    let mut desk: Desk<R, G, K> = Desk {
         rt: outside.rt,
+        gate: outside.gate,
         board: outside.board,
         shared: &common.shared,
         open: &common.open,
@@ -228,6 +244,7 @@ fn first_at<R: Wait, G: Gate, K: Opened>(
         seat,
         best: None,
         place,
+        claims: 0,
         opened: PhantomData,
     };
     let found = if name.position(&common.problem).is_some() {
@@ -245,6 +262,7 @@ fn first_at<R: Wait, G: Gate, K: Opened>(
     };
     let Desk {
         rt: _,
+        gate: _,
         board: _,
         shared: _,
         open: _,
@@ -252,8 +270,10 @@ fn first_at<R: Wait, G: Gate, K: Opened>(
         seat,
         best: _,
         place,
+        claims,
         opened: _,
     } = desk;
+    outside.gate.claimed(claims % CLAIMS);
     (found, seat, place)
 }
 

@@ -92,6 +92,7 @@ impl Watch for Marks {
         _alloc: Global,
         _bay: &BayProblem,
         _behind: usize,
+        _bays: usize,
         errors: &mut E,
     ) {
         show(errors, b"begun\n");

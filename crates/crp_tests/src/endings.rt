@@ -1,7 +1,7 @@
 //! Help that cannot be written.
 use crate::compare::assert_same;
 use crate::devices::Small;
-use crp_commands::SystemFiles;
+use crp_commands::{NoTerminal, SystemFiles};
 use crp_plan::Received;
 use crp_words::run_words;
 
@@ -22,6 +22,7 @@ fn help_that_cannot_be_written(rt: HostRuntime) {
         &mut out,
         &mut errors,
         &["--version"],
+        &NoTerminal,
     );
     assert_same(&rt, &status, &5);
     assert_same(&rt, &out.bytes.as_slice(), &b"crp".as_slice());

@@ -1,7 +1,7 @@
 //! A yard of many bays, solved over files by one worker and by several.
 use crate::compare::{assert_at, assert_same};
 use crate::six::HEADER;
-use crp_commands::{SystemFiles, ToolFault, run_job};
+use crp_commands::{NoTerminal, SystemFiles, ToolFault, run_job};
 use crp_plan::{Counted, Nowhere, Received};
 use crp_report::Status;
 use crp_words::job;
@@ -103,6 +103,7 @@ pub(crate) fn run_words<T: Threads + Wait + Sync>(
                 &mut out,
                 &job,
                 &mut Nowhere,
+                &NoTerminal,
             );
             Ok((answer, out.bytes))
         }

@@ -151,6 +151,7 @@ struct Asked {
     order: Mode,
     code: &'static str,
     quiet: bool,
+    progress: bool,
 }
 
 fn has_settings(settings: &RunSettings, asked: &Asked) -> bool {
@@ -172,8 +173,13 @@ fn is_solve(job: &Result<Job<'_>, Usage>, asked: &Asked) -> bool {
                 files,
                 settings,
                 quiet,
+                progress,
             },
-        ) => has_files(files, asked) && has_settings(settings, asked) && *quiet == asked.quiet,
+        ) => {
+            has_files(files, asked)
+                && has_settings(settings, asked)
+                && [*quiet, *progress] == [asked.quiet, asked.progress]
+        }
         _ => false,
     }
 }
@@ -186,6 +192,7 @@ const BY_DEFAULT: Asked = Asked {
     order: Mode::Listed,
     code: "LOA",
     quiet: false,
+    progress: false,
 };
 
 const ALL_OPTIONS: Asked = Asked {
@@ -201,9 +208,10 @@ const ALL_OPTIONS: Asked = Asked {
     order: Mode::Stowage,
     code: "",
     quiet: true,
+    progress: true,
 };
 
-const ALL_WORDS: [&str; 20] = [
+const ALL_WORDS: [&str; 21] = [
     "solve",
     "--rows",
     "12",
@@ -224,6 +232,7 @@ const ALL_WORDS: [&str; 20] = [
     "--after",
     "-",
     "--quiet",
+    "--progress",
 ];
 
 #[test]
@@ -294,6 +303,7 @@ const AT_LIMITS: [(&[&str], Asked); 2] = [
             order: Mode::Stowage,
             code: "DIS",
             quiet: false,
+            progress: false,
         },
     ),
     (
@@ -320,6 +330,7 @@ const AT_LIMITS: [(&[&str], Asked); 2] = [
             order: Mode::Listed,
             code: "",
             quiet: false,
+            progress: false,
         },
     ),
 ];
@@ -349,7 +360,7 @@ fn shows_help(rt: HostRuntime) {
 }
 
 // What the help of `solve` says of its words, its options and their defaults.
-const HELP: [&str; 22] = [
+const HELP: [&str; 24] = [
     "Usage: crp solve [OPTIONS] <YARD> <MOVINS>",
     "--rows <N>",
     "1 to 12 [default: 6]",
@@ -372,6 +383,8 @@ const HELP: [&str; 22] = [
     "--deepen",
     "--cert <FILE>",
     "--after <FILE>",
+    "--quiet",
+    "--progress",
 ];
 
 // The help that words ask for; nothing where they ask for none.

@@ -1,6 +1,6 @@
 //! A transcript, played block by block.
 use crate::blocks::{Block, Mark, blocks_of};
-use crp_commands::SystemFiles;
+use crp_commands::{NoTerminal, SystemFiles};
 use crp_plan::{Counted, Received, write_all};
 use crp_words::run_words;
 use std::sync::Wait;
@@ -70,6 +70,7 @@ fn run<T: Threads + Wait + Sync>(
         &mut out,
         &mut errors,
         &words,
+        &NoTerminal,
     );
     played.errors = errors.bytes;
     played.runs = played.runs.saturating_add(1);

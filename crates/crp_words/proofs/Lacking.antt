@@ -247,7 +247,7 @@ prove_asks rows (job.OneFile file command.Replay) asks = let e : ◌≡◌ {A = 
 prove_asks rows (job.OneFile file command.Bound) asks = let e : ◌≡◌ {A = ℕ} 112 98 = ap (λ (l : Text). slice_index l 0) asks.0 in absurd (omega arith)
 prove_asks rows (job.OneFile file command.Check) asks = let e : ◌≡◌ {A = ℕ} 112 99 = ap (λ (l : Text). slice_index l 0) asks.0 in absurd (omega arith)
 prove_asks rows (job.OneFile file (command.Prove search)) asks = (search, asks.0.1)
-prove_asks rows (job.Solve names settings quiet) asks = let e : ◌≡◌ {A = ℕ} 112 115 = ap (λ (l : Text). slice_index l 0) asks.0 in absurd (omega arith)
+prove_asks rows (job.Solve names settings quiet progress) asks = let e : ◌≡◌ {A = ℕ} 112 115 = ap (λ (l : Text). slice_index l 0) asks.0 in absurd (omega arith)
 
 -- a fault of prove is its search's
 prove_fault : (rows : List Row) (f : SettingFault) → IsFault (codes "prove") rows f → IsSearchFault rows f
@@ -268,7 +268,7 @@ solve_asks rows (job.OneFile file command.Replay) asks = let e : ◌≡◌ {A = 
 solve_asks rows (job.OneFile file command.Bound) asks = let e : ◌≡◌ {A = ℕ} 115 98 = ap (λ (l : Text). slice_index l 0) asks.0 in absurd (omega arith)
 solve_asks rows (job.OneFile file command.Check) asks = let e : ◌≡◌ {A = ℕ} 115 99 = ap (λ (l : Text). slice_index l 0) asks.0 in absurd (omega arith)
 solve_asks rows (job.OneFile file (command.Prove search)) asks = let e : ◌≡◌ {A = ℕ} 115 112 = ap (λ (l : Text). slice_index l 0) asks.0.0 in absurd (omega arith)
-solve_asks rows (job.Solve names settings quiet) asks = (settings, asks.3)
+solve_asks rows (job.Solve names settings quiet progress) asks = (settings, asks.3)
 
 -- nor has it its size twice
 solve_once : (rows : List Row) (j : Job) → Asks (codes "solve") rows j → ¬ IsSizedTwice rows
@@ -276,7 +276,7 @@ solve_once rows (job.OneFile file command.Replay) asks = let e : ◌≡◌ {A = 
 solve_once rows (job.OneFile file command.Bound) asks = let e : ◌≡◌ {A = ℕ} 115 98 = ap (λ (l : Text). slice_index l 0) asks.0 in absurd (omega arith)
 solve_once rows (job.OneFile file command.Check) asks = let e : ◌≡◌ {A = ℕ} 115 99 = ap (λ (l : Text). slice_index l 0) asks.0 in absurd (omega arith)
 solve_once rows (job.OneFile file (command.Prove search)) asks = let e : ◌≡◌ {A = ℕ} 115 112 = ap (λ (l : Text). slice_index l 0) asks.0.0 in absurd (omega arith)
-solve_once rows (job.Solve names settings quiet) asks = asks.1
+solve_once rows (job.Solve names settings quiet progress) asks = asks.1
 
 -- a fault of solve comes where its size is not given twice
 solve_fault : (rows : List Row) (f : SettingFault) → IsFault (codes "solve") rows f → ¬ IsSizedTwice rows × IsSolveFault rows f

@@ -64,6 +64,10 @@ first_rule = flag_rule (codes "first")
 abbrev pub quiet_rule : Rule
 quiet_rule = flag_rule (codes "quiet")
 
+-- whether a line says that each bay begins: none does where the flag is not given
+abbrev pub progress_rule : Rule
+progress_rule = flag_rule (codes "progress")
+
 -- the beam: none where it is not given
 abbrev pub beam_rule : Rule
 beam_rule = number_rule (codes "beam") (codes "0")
@@ -96,9 +100,13 @@ with_size shape = with_option (optional_rule (codes "heights")) (with_rows shape
 abbrev pub with_orders : Shape → Shape
 with_orders shape = with_option (text_rule (codes "code") (codes "LOA")) (with_option (text_rule (codes "order") (codes "listed")) shape)
 
--- a command with [--cert FILE] [--after FILE] [--quiet]
+-- a command with [--cert FILE] [--after FILE]
+abbrev pub with_files : Shape → Shape
+with_files shape = with_option (optional_rule (codes "after")) (with_option (optional_rule (codes "cert")) shape)
+
+-- a command with these, [--quiet] and [--progress]
 abbrev pub with_outputs : Shape → Shape
-with_outputs shape = with_option quiet_rule (with_option (optional_rule (codes "after")) (with_option (optional_rule (codes "cert")) shape))
+with_outputs shape = with_option progress_rule (with_option quiet_rule (with_files shape))
 
 -- prove FILE, with the options of a search
 abbrev pub prove : Shape

@@ -176,6 +176,10 @@ HasFiles found names = HasText (codes "yard") found names.yard.now × HasText (c
 abbrev pub MayBeQuiet : List Row → Bool → Type 0
 MayBeQuiet found quiet = IsTrue quiet ↔ IsGivenByWords (codes "quiet") found
 
+-- a line says that each bay begins exactly where the words give the flag
+abbrev pub MayShowProgress : List Row → Bool → Type 0
+MayShowProgress found progress = IsTrue progress ↔ IsGivenByWords (codes "progress") found
+
 -- ---- the job, or the first setting beyond its limits
 
 -- the command over one file and its rows ask for this
@@ -188,8 +192,8 @@ AsksCommand name found (command.Prove search) = (name ≡ codes "prove") × HasS
 -- the command and its rows ask for this
 abbrev pub Asks : Text → List Row → Job → Type 0
 Asks name found (job.OneFile file c) = AsksCommand name found c × HasText (codes "file") found file.now
-Asks name found (job.Solve names settings quiet) =
-    (name ≡ codes "solve") × ¬ IsSizedTwice found × HasFiles found names × HasSettings found settings × MayBeQuiet found quiet
+Asks name found (job.Solve names settings quiet progress) =
+    (name ≡ codes "solve") × ¬ IsSizedTwice found × HasFiles found names × HasSettings found settings × MayBeQuiet found quiet × MayShowProgress found progress
 
 -- the first number of a search beyond its limits: the workers, then the budget, then the split, then the beam
 abbrev pub IsSearchFault : List Row → SettingFault → Type 0

@@ -1,7 +1,7 @@
 //! The command line: each command with its files and options.
 ghost use Rattle.std.specs.Prelude.{◌≡◌, IfOk};
 ghost use Rattle.clap.specs.Words.{App, Shape, app_of, with_subcommand};
-ghost use Rattle.crp_words.specs.Commands.{IsArg, IsCommand, alone, beam_rule, budget_rule, crp, deepen_rule, file_rule, first_rule, flag_rule, leaf as leaf_shape, leaves, number_rule, optional_rule, prove as prove_shape, quiet_rule, solve as solve_shape, solve_files as solve_files_shape, split_rule, text_rule, top_command as top_shape, with_orders, with_outputs, with_search, with_size, workers_rule};
+ghost use Rattle.crp_words.specs.Commands.{IsArg, IsCommand, alone, beam_rule, budget_rule, crp, deepen_rule, file_rule, first_rule, flag_rule, leaf as leaf_shape, leaves, number_rule, optional_rule, progress_rule, prove as prove_shape, quiet_rule, solve as solve_shape, solve_files as solve_files_shape, split_rule, text_rule, top_command as top_shape, with_orders, with_outputs, with_search, with_size, workers_rule};
 
 use clap::{Arg, ArgAction, Command, value_parser};
 use std::alloc::{AllocError, Global};
@@ -221,6 +221,16 @@ fn quiet<'a>(alloc: Global) -> Arg<'a>
     flag(alloc, "quiet", "Leave out the notes on the standard error")
 }
 
+fn progress<'a>(alloc: Global) -> Arg<'a>
+    ensures { IsArg progress_rule result }
+{
+    flag(
+        alloc,
+        "progress",
+        "Say on the standard error which bay begins, where that is no terminal",
+    )
+}
+
 // A command with what is written.
 fn with_outputs<'a>(alloc: Global, command: Command<'a>) -> Result<Command<'a>, AllocError>
     ensures { IfOk result (λ new. (shape : Shape) → IsCommand shape command.entry → IsCommand (with_outputs shape) new) }
@@ -237,7 +247,11 @@ fn with_outputs<'a>(alloc: Global, command: Command<'a>) -> Result<Command<'a>, 
         "FILE",
         "File that gets the yard after the plans; without it that is not written",
     );
-    command.arg(cert)?.arg(after)?.arg(quiet(alloc))
+    command
+        .arg(cert)?
+        .arg(after)?
+        .arg(quiet(alloc))?
+        .arg(progress(alloc))
 }
 
 // The command `solve`.

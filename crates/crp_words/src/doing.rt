@@ -8,7 +8,7 @@ ghost use Rattle.crp_words.specs.Endings.{IsExplained, JobEnds, ProgramEnds};
 
 use crate::ending::{end_with_usage, explain_fault};
 use crate::words::job;
-use crp_commands::{Files, Job, ToolFault, exit_of, place_of, run_job};
+use crp_commands::{Files, Job, Terminal, ToolFault, exit_of, place_of, run_job};
 use crp_plan::{Sink, Source};
 use crp_report::Status;
 use std::alloc::Global;
@@ -27,7 +27,14 @@ fn explain_answer<E: Sink>(errors: &mut E, job: &Job<'_>, answer: &Result<Status
 }
 
 // Does a job, and explains its fault behind its notes. Returns the exit status.
-fn end_with_job<T: Threads + Wait + Sync, F: Files, R: Source, W: Sink, E: Sink>(
+fn end_with_job<
+    T: Threads + Wait + Sync,
+    F: Files,
+    R: Source,
+    W: Sink,
+    E: Sink,
+    S: Terminal + Sync,
+>(
     threads: &T,
     alloc: Global,
     files: &mut F,
@@ -35,6 +42,7 @@ fn end_with_job<T: Threads + Wait + Sync, F: Files, R: Source, W: Sink, E: Sink>
     out: &mut W,
     errors: &mut E,
     job: &Job<'_>,
+    terminal: &S,
 ) -> u8
     ensures { let seen : JobSeen = record {
       files = record { known = F.known files.old; before = F.failures files.old; after = F.failures files.new };
@@ -43,14 +51,22 @@ fn end_with_job<T: Threads + Wait + Sync, F: Files, R: Source, W: Sink, E: Sink>
     } in let errors_seen : SinkSeen = record { held = E.contents errors.old; holds = E.contents errors.new; before = E.failures errors.old; after = E.failures errors.new }
         in JobEnds job.now seen errors_seen result }
 {
-    let answer = run_job(threads, alloc, files, input, out, job, errors);
+    let answer = run_job(threads, alloc, files, input, out, job, errors, terminal);
     explain_answer(errors, job, &answer);
     exit_of(&answer)
 }
 
 /// Does what the words of the command line ask for, those behind the program's name: a job over its files, where a file named `-` is
-/// `input`; or help, on `out`. Notes and what went wrong go to `errors`. Returns the exit status.
-pub fn run_words<T: Threads + Wait + Sync, F: Files, R: Source, W: Sink, E: Sink>(
+/// `input`; or help, on `out`. Notes and what went wrong go to `errors`; how far a run is, is shown on the
+/// terminal. Returns the exit status.
+pub fn run_words<
+    T: Threads + Wait + Sync,
+    F: Files,
+    R: Source,
+    W: Sink,
+    E: Sink,
+    S: Terminal + Sync,
+>(
     threads: &T,
     alloc: Global,
     files: &mut F,
@@ -58,6 +74,7 @@ pub fn run_words<T: Threads + Wait + Sync, F: Files, R: Source, W: Sink, E: Sink
     out: &mut W,
     errors: &mut E,
     words: &[&str],
+    terminal: &S,
 ) -> u8
     ensures { let seen : JobSeen = record {
       files = record { known = F.known files.old; before = F.failures files.old; after = F.failures files.new };
@@ -67,7 +84,7 @@ pub fn run_words<T: Threads + Wait + Sync, F: Files, R: Source, W: Sink, E: Sink
         in ProgramEnds (map (λ w. w.now) words.now) seen errors_seen result }
 {
     match job(alloc, words) {
-        Ok(job) => end_with_job(threads, alloc, files, input, out, errors, &job),
+        Ok(job) => end_with_job(threads, alloc, files, input, out, errors, &job, terminal),
         Err(usage) => end_with_usage(&usage, out, errors),
     }
 }

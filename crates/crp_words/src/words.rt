@@ -321,6 +321,7 @@ fn solve_of<'a>(alloc: Global, matches: &ArgMatches<'a>) -> Result<Job<'a>, Usag
         files,
         settings,
         quiet: is_given(matches, "quiet"),
+        progress: is_given(matches, "progress"),
     })
 }
 

@@ -29,4 +29,5 @@ returns-clause-ok c = (
   ),
   c.in_ok-settings.ensures.ok,
   c.is_given.ensures,
+  c.is_given-2.ensures,
 )
