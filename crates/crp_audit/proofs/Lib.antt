@@ -8,3 +8,5 @@ mod Looks
 mod Results
 mod Bays
 mod Audited
+mod Readable
+mod NoFault

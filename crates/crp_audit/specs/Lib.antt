@@ -4,4 +4,5 @@ pub mod LooksTrue
 pub mod Followed
 pub mod Printed
 pub mod Certified
+pub mod Readable
 pub mod Faults

@@ -1,5 +1,5 @@
 //! The audit of a report and its certificates.
-ghost use Rattle.std.specs.Prelude.{◌≡◌, ◌↔◌, ◌⊎◌, ◌++◌, ◌∷◌, [], ℕ, List, OnOk, OnErr, IfOk, IfErr, IsTrue};
+ghost use Rattle.std.specs.Prelude.{◌≡◌, ◌≤◌, ◌↔◌, ◌⊎◌, ◌++◌, ◌∷◌, [], ℕ, List, length, OnOk, OnErr, IfOk, IfErr, IsTrue};
 ghost use Rattle.std.specs.List.{AllByRecursion};
 ghost use Rattle.std.specs.Option.{option_copied};
 ghost use Rattle.crp_yard.specs.Inventory.{StackedBay};
@@ -7,7 +7,7 @@ ghost use Rattle.crp_yard.specs.Naming.{FitsLine, IsNamedBay};
 ghost use Rattle.crp_order.specs.BayProblems.{bay_problem_of};
 ghost use Rattle.crp_checker.specs.Files.{BeginsWithTexts};
 ghost use Rattle.crp_said.specs.Said.{bay_text, is_settled};
-ghost use Rattle.crp_said.specs.Spelled.{line_behind};
+ghost use Rattle.crp_said.specs.Spelled.{most, AreSmall, line_behind};
 ghost use Rattle.crp_said.specs.Views.{bay_as, report_as};
 ghost use Rattle.crp_audit.specs.Headline.{Handed, handed, IsTrueOf, IsHeadline, numbers_in, shown_in, verdict_in};
 ghost use Rattle.crp_audit.specs.Faults.{IsBayFault, CountsRight, reported_as, IsAuditRefusal};
@@ -166,7 +166,8 @@ fn audit_into(
 }
 
 /// Audits a report and a file of certificates against a yard, its load orders and their sequence, whoever made them: what the
-/// certificates show, where they are a headline, and else the first fault, behind what those of the bays before it show.
+/// certificates show, where they are a headline, and else the first fault, behind what those of the bays before it show. A headline
+/// is refused only where memory runs out.
 pub fn audit(
     alloc: Global,
     yard: &Yard,
@@ -180,6 +181,8 @@ pub fn audit(
         IfOk result (λ shown. (is : IsHeadline h) × (shown ≡ shown_in h is)) }
     ensures refused { let h : Handed = handed yard.now orders.now sequence.now report.now certificates.now in
         IfErr result (λ refused. IsAuditRefusal h refused.before refused.fault) }
+    ensures complete { let h : Handed = handed yard.now orders.now sequence.now report.now certificates.now in
+        IsHeadline h → length h.yard.bays ≤ most → AreSmall (numbers_in h) → IfErr result (λ refused. refused.fault ≡ AuditFault.Memory) }
 {
     let mut shown = Vec::new(alloc);
     match audit_into(

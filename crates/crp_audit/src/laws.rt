@@ -1,13 +1,20 @@
 //! Laws of headlines.
-ghost use Rattle.std.specs.Prelude.{◌≡◌, ◌↔◌, ℕ, List};
+ghost use Rattle.std.specs.Prelude.{◌≡◌, ◌≢◌, ◌≤◌, ◌↔◌, ℕ, List, length};
+ghost use Rattle.std.specs.List.{AllByRecursion};
 ghost use Rattle.crp_plan.specs.declared.moves.Move.{Move};
 ghost use Rattle.crp_plan.specs.Bay.{IsProblem, start};
+ghost use Rattle.crp_yard.specs.Naming.{IsNamedBay};
 ghost use Rattle.crp_order.specs.BayProblems.{ranked};
 ghost use Rattle.crp_said.specs.MoveLines.{AreMoveLines};
-ghost use Rattle.crp_audit.specs.Faults.{IsWrongMove};
-ghost use Rattle.crp_audit.specs.Headline.{Handed, Reported, problem_in, PrintsPlan, IsTrueOf, IsHeadline, shown_in};
+ghost use Rattle.crp_said.specs.Spelled.{most, AreSmall, SpellsReport};
+ghost use Rattle.crp_audit.specs.declared.fault.AuditFault.{AuditFault as Fault};
+ghost use Rattle.crp_audit.specs.Faults.{IsWrongMove, IsFirstFault};
+ghost use Rattle.crp_audit.specs.Readable.{report_in};
+ghost use Rattle.crp_audit.specs.Headline.{Handed, Reported, numbers_in, problem_in, PrintsPlan, IsTrueOf, IsHeadline, shown_in};
 ghost use Rattle.crp_audit.specs.LooksTrue.{LooksTrue};
 ghost use Rattle.crp_checker.specs.Files.{FileShows};
+
+use crate::fault::AuditFault;
 
 /// The checker accepts the certificates of a headline, with its verdicts.
 pub fn headlines_show()
@@ -36,4 +43,22 @@ pub fn one_plan_is_printed()
     ensures { (h : Handed) (b : Reported) (moves others : List Move) → IsProblem (problem_in h b)
         → AreMoveLines (ranked h.sequence b.bay.1) (start (problem_in h b)) moves b.lines
         → AreMoveLines (ranked h.sequence b.bay.1) (start (problem_in h b)) others b.lines → moves ≡ others }
+{}
+
+/// The report of a headline is read, and is refused neither for its spelling nor for its three numbers: where the bays of the yard
+/// have names, and they and the numbers are few enough to be written in a report.
+pub fn headlines_are_read()
+    ensures spelled { (h : Handed) (is : IsHeadline h) → AllByRecursion IsNamedBay h.yard.bays → length h.yard.bays ≤ most
+        → AreSmall (numbers_in h) → SpellsReport h.report (report_in h is) }
+    ensures lines { (h : Handed) (is : IsHeadline h) (before : List Reported) (line : ℕ) → AllByRecursion IsNamedBay h.yard.bays
+        → length h.yard.bays ≤ most → AreSmall (numbers_in h) → ¬ IsFirstFault h before (AuditFault.Spelling line) }
+    ensures numbers { (h : Handed) (is : IsHeadline h) (before : List Reported) → AllByRecursion IsNamedBay h.yard.bays
+        → length h.yard.bays ≤ most → AreSmall (numbers_in h) → ¬ IsFirstFault h before AuditFault.Numbers }
+{}
+
+/// A headline has no first fault, but that memory runs out: where the bays of the yard have names, and they and the numbers are few
+/// enough to be written in a report.
+pub fn headlines_have_no_fault()
+    ensures { (h : Handed) (is : IsHeadline h) (before : List Reported) (f : Fault) → AllByRecursion IsNamedBay h.yard.bays
+        → length h.yard.bays ≤ most → AreSmall (numbers_in h) → f ≢ AuditFault.Memory → ¬ IsFirstFault h before f }
 {}

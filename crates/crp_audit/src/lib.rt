@@ -15,7 +15,7 @@ pub use auditing::audit;
 pub use fault::{AuditFault, AuditRefused};
 pub use following::{Followed, follow_lines};
 pub use laws::{
-    headlines_show, one_list_of_verdicts, one_plan_is_printed, printed_plans_are_followed,
-    true_if_it_looks_so,
+    headlines_are_read, headlines_have_no_fault, headlines_show, one_list_of_verdicts,
+    one_plan_is_printed, printed_plans_are_followed, true_if_it_looks_so,
 };
 pub use looking::{Looked, look_at};
