@@ -14,12 +14,14 @@ ghost use Rattle.crp_audit.specs.Faults.{IsBayFault, CountsRight, reported_as, I
 
 use crate::certified::read_certificate;
 use crate::fault::{AuditFault, AuditRefused};
-use crate::lines_read::{line_behind, read_lines};
+use crate::lines_read::read_lines;
 use crp_checker::{Verdict, Verdicts};
 use crp_movins::Orders;
 use crp_order::{BayProblem, Sequence, absent, problems};
 use crp_plan::BayName;
-use crp_said::{Numbers, Report, Said, SaidBay, numbers_text, push_bay_line, read_report};
+use crp_said::{
+    Numbers, Report, Said, SaidBay, line_behind, numbers_text, push_bay_line, read_report,
+};
 use crp_yard::Yard;
 use std::alloc::{AllocError, Global};
 

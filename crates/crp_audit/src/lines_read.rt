@@ -1,5 +1,5 @@
 //! The lines of a bay, as the audit of a report comes to them.
-ghost use Rattle.std.specs.Prelude.{◌≡◌, ◌++◌, IfOk, IfErr, map};
+ghost use Rattle.std.specs.Prelude.{◌≡◌, ◌++◌, IfOk, IfErr};
 ghost use Rattle.crp_said.specs.Spelled.{line_behind};
 ghost use Rattle.crp_said.specs.Views.{bay_as};
 ghost use Rattle.crp_audit.specs.Faults.{count_said};
@@ -8,22 +8,8 @@ ghost use Rattle.crp_audit.specs.Certified.{AreRightLines, IsLinesFault};
 use crate::fault::AuditFault;
 use crate::looking::{Looked, look_at};
 use crp_order::BayProblem;
-use crp_plan::Container;
-use crp_said::{Said, SaidBay};
+use crp_said::{Said, SaidBay, line_behind, names_of};
 use std::alloc::{AllocError, Global};
-
-/// The number of the line behind these bytes, from 1.
-pub(crate) fn line_behind(front: &[u8]) -> u64
-    ensures { result ≡ line_behind front.now }
-{
-    let mut line: u64 = 1;
-    for b in front {
-        if *b == b'\n' {
-            line += 1;
-        }
-    }
-    line
-}
 
 /// The number of the line behind these bytes and those.
 fn line_behind_both(alloc: Global, front: &[u8], more: &[u8]) -> Result<u64, AllocError>
@@ -43,17 +29,6 @@ fn count_said(said: Said) -> Option<u32>
         Said::NoPlan => None,
         Said::Between { upper, .. } => upper,
     }
-}
-
-/// The names of containers.
-fn names_of(alloc: Global, containers: &[Container]) -> Result<Vec<Vec<u8>>, AllocError>
-    ensures { IfOk result (λ names. map (λ name. name.items) names.items ≡ containers.now) }
-{
-    let mut names = Vec::new(alloc);
-    for container in containers {
-        names.push(Vec::from_slice(alloc, container.bytes())?)?;
-    }
-    Ok(names)
 }
 
 /// Reads the lines of a bay, behind this front of the report: the rows of the plan that they are, if one is said.

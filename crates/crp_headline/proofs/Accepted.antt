@@ -194,6 +194,6 @@ file_accepted chosen problems answered t can =
 
 pub run_accepted : (chosen : RunChosen) (seen : RunSeen) (made : Made) → IsMade chosen seen made → IsAcceptedFile made.certificates made.answered
 run_accepted chosen seen made is =
-    let can = can_be_written chosen.heights made.list made.yard made.sequence is.listed in
+    let can = can_be_written chosen.input.heights made.list made.yard made.sequence is.listed in
     subst (λ file. IsAcceptedFile file made.answered) (sym is.certificates)
     (file_accepted chosen.search (problems_of made.yard made.sequence) made.answered is.true_answers can)

@@ -1,10 +1,11 @@
 //! Load orders.
 
-ghost use Rattle.std.specs.Prelude.{◌≡◌};
+ghost use Rattle.std.specs.Prelude.{◌≡◌, IfOk};
 ghost use Rattle.crp_movins.specs.Accepted.{AreLoadOrders};
 
 use crate::slot::Slot;
 use crp_plan::Container;
+use std::alloc::{AllocError, Global};
 use std::marker::Model;
 
 /// A container is to be loaded into a slot.
@@ -47,6 +48,22 @@ impl Orders {
         ensures accepted { AreLoadOrders self.now.list }
     {
         &self.list
+    }
+
+    /// The same orders again.
+    pub fn copy(&self, alloc: Global) -> Result<Orders, AllocError>
+        ensures { IfOk result (λ orders. orders ≡ self.now) }
+    {
+        let mut list = Vec::new(alloc);
+        for order in &self.list {
+            let container = Container::named(alloc, order.container.bytes())?;
+            let slot = order.slot;
+            list.push(Order { container, slot })?;
+        }
+        Ok(Orders {
+            list,
+            vacant: self.vacant,
+        })
     }
 
     /// The orders by place, given out. Takes no memory.

@@ -199,8 +199,8 @@ impl<'a, T: Terminal + Sync> Watch for Notes<'a, T> {
         errors: &mut E,
     ) {
         self.functions(alloc, segments, errors);
-        self.codes(alloc, segments, sequence, settings.code(), errors);
-        self.mixed(alloc, segments, settings.mode(), errors);
+        self.codes(alloc, segments, sequence, settings.input().code(), errors);
+        self.mixed(alloc, segments, settings.input().mode(), errors);
         self.absent(alloc, yard, sequence, errors);
         self.rows(alloc, yard, errors);
     }

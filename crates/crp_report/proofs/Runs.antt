@@ -38,7 +38,7 @@ use Rattle.crp_report.proofs.Leaving.{plans_are, plans_complete, plans_once}
 use Rattle.crp_report.proofs.Taken.{each_sink}
 
 -- a yard list that is refused
-pub list_refused : (chosen : RunChosen) (s : RunSeen) (f : Fault) → WritesNothing s → IsNoYard chosen.heights s.yard.given s.yard.before s.yard.after f → RunFailsWith chosen s f
+pub list_refused : (chosen : RunChosen) (s : RunSeen) (f : Fault) → WritesNothing s → IsNoYard chosen.input.heights s.yard.given s.yard.before s.yard.after f → RunFailsWith chosen s f
 list_refused chosen s (fault.Yard f) nothing (read, memory, first) = (nothing, read, memory, first)
 list_refused chosen s (fault.Read input.Yard) nothing failed = (nothing, tt, failed)
 list_refused chosen s (fault.Read input.Movins) nothing none = absurd none
@@ -48,7 +48,7 @@ list_refused chosen s (fault.Message f) nothing none = absurd none
 list_refused chosen s (fault.Write sink) nothing none = absurd none
 
 -- a message that is refused
-pub message_refused : (chosen : RunChosen) (s : RunSeen) (f : Fault) → WritesNothing s → IsYardAccepted chosen s → IsNoMessage chosen.code s.movins.given s.movins.before s.movins.after f → RunFailsWith chosen s f
+pub message_refused : (chosen : RunChosen) (s : RunSeen) (f : Fault) → WritesNothing s → IsYardAccepted chosen s → IsNoMessage chosen.input.code s.movins.given s.movins.before s.movins.after f → RunFailsWith chosen s f
 message_refused chosen s (fault.Interchange f) nothing yard (text, given, (real, first)) = (nothing, real, yard, (text, given, first))
 message_refused chosen s (fault.Message f) nothing yard (text, given, (real, (segments, spelled, first))) = (nothing, real, yard, (text, segments, given, spelled, first))
 message_refused chosen s (fault.Read input.Movins) nothing yard failed = (nothing, yard, failed)
@@ -213,8 +213,8 @@ pub record AreAccepted (chosen : RunChosen) (s : RunSeen) (list message : List �
   pub given_list : IsTextOf s.yard.given list
   pub given_message : IsTextOf s.movins.given message
   pub listed : IsListed chosen list yard
-  pub ordered : AreOrders chosen.code message orders
-  pub in_sequence : IsSequence chosen.mode orders.list sequence
+  pub ordered : AreOrders chosen.input.code message orders
+  pub in_sequence : IsSequence chosen.input.mode orders.list sequence
 
 abbrev AreOfRun : RunChosen → Inventory → LoadOrders → List (List ℕ) → List Answered → List Piece → Type 0
 AreOfRun chosen yard orders sequence answered pieces = AreRunPieces chosen.search yard (first_line yard orders sequence) (problems_of yard sequence) answered pieces

@@ -125,7 +125,7 @@ readable chosen (bay ∷ answered) named t =
 pub answered_named : (chosen : RunChosen) (seen : RunSeen) (m : Made) → IsMade chosen seen m → AllByRecursion IsNamedProblem (map (λ bay. bay.stated) m.answered)
 answered_named chosen seen m is =
     let t = is.true_answers in
-    subst (AllByRecursion IsNamedProblem) (sym t.one_for_each) (problems_named m.yard m.sequence (yard_named chosen.heights m.list m.yard is.listed))
+    subst (AllByRecursion IsNamedProblem) (sym t.one_for_each) (problems_named m.yard m.sequence (yard_named chosen.input.heights m.list m.yard is.listed))
 
 -- what a run says, and that it can be said
 pub record HasSaid (m : Made) : Type 0 where
@@ -153,7 +153,7 @@ run_says chosen seen m is =
     }
 
 pub small_numbers : (chosen : RunChosen) (seen : RunSeen) (m : Made) → IsMade chosen seen m → AreSmall (numbers_of m.yard m.orders m.sequence)
-small_numbers chosen seen m is = numbers_small chosen.mode chosen.code m.message m.yard m.orders m.sequence is.ordered is.in_sequence
+small_numbers chosen seen m is = numbers_small chosen.input.mode chosen.input.code m.message m.yard m.orders m.sequence is.ordered is.in_sequence
 
 -- two runs whose reports are the same bytes say the same
 pub same_said : (chosen other : RunChosen) (seen again : RunSeen) (m n : Made) → IsMade chosen seen m → IsMade other again n → m.report ≡ n.report → SayTheSame m n

@@ -6,12 +6,16 @@ use Rattle.crp_solve.specs.Chosen.{Chosen}
 use Rattle.crp_report.specs.declared.settings.RunFault.{RunFault}
 use Rattle.crp_report.specs.declared.settings.RunFault.TheVariants.{Rows, Tiers, Heights, Memory}
 
--- the settings of the search, the height of each row of the bays, how the orders are put in sequence, and the loading code
-pub record RunChosen : Type 0 where
-  pub search : Chosen
+-- what the input means: the height of each row of the bays, how the orders are put in sequence, and the loading code
+pub record InputChosen : Type 0 where
   pub heights : List ℕ
   pub mode : Mode
   pub code : List ℕ
+
+-- the settings of the search and of the input
+pub record RunChosen : Type 0 where
+  pub search : Chosen
+  pub input : InputChosen
 
 -- so many rows can be chosen
 abbrev pub IsRowCount : ℕ → Type 0

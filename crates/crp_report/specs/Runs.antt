@@ -53,7 +53,7 @@ pub record RunSeen : Type 0 where
 
 -- the text is a yard list, of bays whose rows have the chosen heights
 abbrev pub IsListed : RunChosen → List ℕ → Inventory → Type 0
-IsListed chosen text yard = IsYardListOf chosen.heights text yard
+IsListed chosen text yard = IsYardListOf chosen.input.heights text yard
 
 -- the text is an interchange, and these are its load orders under the code
 pub record AreOrders (code text : List ℕ) (orders : LoadOrders) : Type 0 where
@@ -87,8 +87,8 @@ pub record IsMade (chosen : RunChosen) (s : RunSeen) (m : Made) : Type 0 where
   pub given_list : IsTextOf s.yard.given m.list
   pub given_message : IsTextOf s.movins.given m.message
   pub listed : IsListed chosen m.list m.yard
-  pub ordered : AreOrders chosen.code m.message m.orders
-  pub in_sequence : IsSequence chosen.mode m.orders.list m.sequence
+  pub ordered : AreOrders chosen.input.code m.message m.orders
+  pub in_sequence : IsSequence chosen.input.mode m.orders.list m.sequence
   pub true_answers : AreTrueAnswers chosen.search (problems_of m.yard m.sequence) m.answered
   pub report : IsReport (numbers_of m.yard m.orders m.sequence) m.answered m.report
   pub certificates : m.certificates ≡ certificates_text m.answered
@@ -187,11 +187,11 @@ most_run_failures f = most_interruptions + failures_of_fault f
 -- that write, and not all of the text whose write failed; or where memory ran out behind the input: the pieces up to there.
 abbrev pub RunFailsWith : RunChosen → RunSeen → Fault → Type 0
 RunFailsWith chosen s (fault.Yard f) = WritesNothing s × (f ≢ yard_fault.Read) × (f ≢ yard_fault.Memory)
-    × ((text : List ℕ) × IsTextOf s.yard.given text × (fault_of_text chosen.heights text ≡ Some f))
+    × ((text : List ℕ) × IsTextOf s.yard.given text × (fault_of_text chosen.input.heights text ≡ Some f))
 RunFailsWith chosen s (fault.Interchange f) = WritesNothing s × (f ≢ edi.Memory) × IsYardAccepted chosen s
     × ((text : List ℕ) × IsTextOf s.movins.given text × IsFirstFault text f)
 RunFailsWith chosen s (fault.Message f) = WritesNothing s × (f ≢ movins.Memory) × IsYardAccepted chosen s
-    × ((text : List ℕ) × (segments : List SegmentParts) × IsTextOf s.movins.given text × Spells text segments × (first_fault segments chosen.code ≡ Some f))
+    × ((text : List ℕ) × (segments : List SegmentParts) × IsTextOf s.movins.given text × Spells text segments × (first_fault segments chosen.input.code ≡ Some f))
 RunFailsWith chosen s (fault.Read source) = WritesNothing s × IsInputBeforeAccepted chosen s source × HasFailed (source_of s source).before (source_of s source).after
 RunFailsWith chosen s (fault.Write sink) = WritesFronts chosen s sink × HasFailed (sink_of s sink).before (sink_of s sink).after
 RunFailsWith chosen s fault.Memory = WritesNothing s ⊎ WritesSoFar chosen s

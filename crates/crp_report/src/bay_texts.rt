@@ -1,13 +1,12 @@
 //! What is stated of a bay.
-ghost use Rattle.std.specs.Prelude.{◌≡◌, IfOk, map};
+ghost use Rattle.std.specs.Prelude.{IfOk};
 ghost use Rattle.crp_report.specs.Report.{AreBayLines};
 ghost use Rattle.crp_report.specs.BayTexts.{AreTextsOfBay};
 
 use crate::answers::{certificate_of, said_of};
 use crate::lines::answer_lines;
 use crp_order::BayProblem;
-use crp_plan::Container;
-use crp_said::push_bay_line;
+use crp_said::{names_of, push_bay_line};
 use crp_solve::Solved;
 use std::alloc::{AllocError, Global};
 
@@ -20,23 +19,12 @@ pub(crate) struct BayTexts {
     pub certificate: Vec<u8>,
 }
 
-// The names of containers.
-fn bytes_of(alloc: Global, containers: &[Container]) -> Result<Vec<Vec<u8>>, AllocError>
-    ensures { IfOk result (λ names. map (λ name. name.items) names.items ≡ containers.now) }
-{
-    let mut names = Vec::new(alloc);
-    for container in containers {
-        names.push(Vec::from_slice(alloc, container.bytes())?)?;
-    }
-    Ok(names)
-}
-
 // The lines of a bay.
 fn bay_lines(alloc: Global, bay: &BayProblem, solved: &Solved) -> Result<Vec<u8>, AllocError>
     ensures { IfOk result (λ text. AreBayLines (record { stated = bay.now; solved = solved.now }) text.items) }
 {
     let answer = &solved.answer;
-    let names = bytes_of(alloc, bay.names.list())?;
+    let names = names_of(alloc, bay.names.list())?;
     let lines = answer_lines(alloc, answer, &names)?;
     let mut text = Vec::new(alloc);
     push_bay_line(&mut text, &bay.bay, said_of(answer))?;

@@ -14,7 +14,7 @@ use edi_text::{EdiFault, MAX_TEXT, Segments, read_segments};
 use std::alloc::Global;
 
 /// The yard that the bytes of a source list, of bays with a row for each of the heights.
-pub(crate) fn yard_from<Y: Source>(
+pub fn yard_from<Y: Source>(
     alloc: Global,
     source: &mut Y,
     heights: &[u8],
@@ -41,7 +41,7 @@ pub(crate) fn yard_from<Y: Source>(
 
 /// A message: its segments, and the load orders that they state under a handling code.
 #[derive(Drop)]
-pub(crate) struct Message {
+pub struct Message {
     pub segments: Segments,
     pub orders: Orders,
 }
@@ -57,7 +57,7 @@ fn message_of(alloc: Global, text: &[u8], code: &[u8]) -> Result<Message, Fault>
 }
 
 /// What the bytes of a source state under this handling code.
-pub(crate) fn message_from<M: Source>(
+pub fn message_from<M: Source>(
     alloc: Global,
     source: &mut M,
     code: &[u8],

@@ -23,8 +23,9 @@ mod writing;
 
 pub use answers::{certificate_of, said_of, status_of};
 pub use fault::{Fault, Input, Output};
+pub use input::{Message, message_from, yard_from};
 pub use printing::print_moves;
 pub use running::{run, run_watched};
-pub use settings::{RunFault, RunSettings};
+pub use settings::{InputSettings, RunFault, RunSettings};
 pub use status::Status;
 pub use watching::{Unwatched, Watch, show};

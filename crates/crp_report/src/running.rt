@@ -48,14 +48,14 @@ fn work_of(
     orders: Orders,
     settings: &RunSettings,
 ) -> Result<Work, AllocError>
-    ensures sequence { IfOk result (λ work. IsSequence settings.now.mode orders.list work.sequence) }
+    ensures sequence { IfOk result (λ work. IsSequence settings.now.input.mode orders.list work.sequence) }
     ensures first { IfOk result (λ work. work.first.items ≡ first_line yard.now orders work.sequence) }
     ensures problems { IfOk result (λ work. work.problems.items ≡ problems_of yard.now work.sequence) }
     ensures named { IfOk result (λ work. All (IsNamed yard.now) work.problems.items) }
     ensures once { IfOk result (λ work. IsDistinct same_bay (map (λ made. made.bay) work.problems.items)) }
 {
     let (listed, vacant) = (orders.list().len(), orders.vacant());
-    let sequence = sequence(alloc, orders, settings.mode())?;
+    let sequence = sequence(alloc, orders, settings.input().mode())?;
     let numbers = Numbers {
         orders: listed as u64,
         vacant: vacant as u64,
@@ -205,11 +205,11 @@ pub fn run_watched<
     ensures shown { ShowsMore (E.contents errors.old) (E.contents errors.new) }
 {
     let mut interruptions = 0;
-    let listed = yard_from(alloc, yard, settings.heights(), &mut interruptions)?;
+    let listed = yard_from(alloc, yard, settings.input().heights(), &mut interruptions)?;
     let Message { segments, orders } = message_from(
         alloc,
         movins,
-        settings.code(),
+        settings.input().code(),
         &mut interruptions,
     )?;
     let Work {

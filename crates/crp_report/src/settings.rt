@@ -58,38 +58,36 @@ fn listed(heights: &[u8]) -> ArrayVec<u8, MAX_ROWS>
     list
 }
 
-/// What a planner chooses for a run.
+/// What a planner chooses for the input of a run: what its yard list and its message mean.
 #[derive(Drop)]
-pub struct RunSettings {
-    search: Settings,
+pub struct InputSettings {
     heights: ArrayVec<u8, MAX_ROWS>,
     mode: Mode,
     code: Vec<u8>,
 }
 
-impl Model for RunSettings {
-    ghost use Rattle.crp_report.specs.Chosen.{RunChosen, CanBeHeights};
+impl Model for InputSettings {
+    ghost use Rattle.crp_report.specs.Chosen.{InputChosen, CanBeHeights};
 
-    ghost Value = { RunChosen };
+    ghost Value = { InputChosen };
 
-    ghost view = { λ s. record { search = s.search; heights = s.heights.items; mode = s.mode; code = s.code.items } };
+    ghost view = { λ s. record { heights = s.heights.items; mode = s.mode; code = s.code.items } };
 
     ghost invariant = { λ s. CanBeHeights s.heights.items };
 }
 
-impl RunSettings {
-    /// These settings of the search, bays of so many rows with so many tiers each, the order in which containers leave, and the
-    /// handling code of what is to be loaded.
+impl InputSettings {
+    /// Bays of so many rows with so many tiers each, the order in which containers leave, and the handling code of what is to be
+    /// loaded.
     pub fn new(
         alloc: Global,
-        search: Settings,
         rows: u8,
         tiers: u8,
         mode: Mode,
         code: &[u8],
-    ) -> Result<RunSettings, RunFault>
+    ) -> Result<InputSettings, RunFault>
         ensures accepted { IfOk result (λ settings. IsRowCount rows × HasTiers tiers) }
-        ensures value { IfOk result (λ settings. settings ≡ record { search = search; heights = replicate rows tiers; mode = mode; code = code.now }) }
+        ensures value { IfOk result (λ settings. settings ≡ record { heights = replicate rows tiers; mode = mode; code = code.now }) }
         ensures refused { IfErr result (IsRunFault rows tiers) }
     {
         if rows == 0 || rows as usize > MAX_ROWS {
@@ -100,8 +98,7 @@ impl RunSettings {
         }
         let code = Vec::from_slice(alloc, code)?;
         let same = [tiers; MAX_ROWS];
-        Ok(RunSettings {
-            search,
+        Ok(InputSettings {
             heights: listed(&same[..rows as usize]),
             mode,
             code,
@@ -110,7 +107,7 @@ impl RunSettings {
 
     /// These settings with a height for each row, in place of rows of one height. Refused exactly where there are not 1 to 12
     /// heights, or one of them is not 1 to 8. No memory is taken.
-    pub fn with_heights(mut self, heights: &[u8]) -> Result<RunSettings, RunFault>
+    pub fn with_heights(mut self, heights: &[u8]) -> Result<InputSettings, RunFault>
         ensures accepted { IfOk result (λ settings. CanBeHeights heights.now) }
         ensures value { IfOk result (λ settings. settings ≡ record self { heights = heights.now }) }
         ensures refused { IfErr result (λ fault. (fault ≡ Heights) × ¬ CanBeHeights heights.now) }
@@ -120,13 +117,6 @@ impl RunSettings {
         }
         self.heights = listed(heights);
         Ok(self)
-    }
-
-    /// The settings of the search of each bay.
-    pub fn search(&self) -> Settings
-        ensures { result ≡ self.now.search }
-    {
-        self.search
     }
 
     /// How many tiers each row of a bay has, from row 1: 1 to 12 rows of 1 to 8 tiers.
@@ -149,5 +139,46 @@ impl RunSettings {
         ensures { result.now ≡ self.now.code }
     {
         &self.code
+    }
+}
+
+/// What a planner chooses for a run.
+#[derive(Drop)]
+pub struct RunSettings {
+    search: Settings,
+    input: InputSettings,
+}
+
+impl Model for RunSettings {
+    ghost use Rattle.crp_report.specs.Chosen.{RunChosen, CanBeHeights};
+
+    ghost Value = { RunChosen };
+
+    ghost view = { λ s. record { search = s.search; input = s.input } };
+
+    ghost invariant = { λ s. CanBeHeights s.input.heights };
+}
+
+impl RunSettings {
+    /// These settings of the search and of the input.
+    pub fn new(search: Settings, input: InputSettings) -> RunSettings
+        ensures { result ≡ record { search = search; input = input } }
+    {
+        RunSettings { search, input }
+    }
+
+    /// The settings of the search of each bay.
+    pub fn search(&self) -> Settings
+        ensures { result ≡ self.now.search }
+    {
+        self.search
+    }
+
+    /// What the input means.
+    pub fn input(&self) -> &InputSettings
+        ensures value { result.now ≡ self.now.input }
+        ensures chosen { CanBeHeights self.now.input.heights }
+    {
+        &self.input
     }
 }

@@ -18,10 +18,10 @@ mod said;
 
 pub use laws::{one_move, one_report, takes_are_in_order};
 pub use lines::{last_text, numbers_text, push_bay_line, push_bay_words};
-pub use move_lines::{lines_of, names_of_ranks, push_line};
+pub use move_lines::{lines_of, names_of, names_of_ranks, push_line};
 pub use move_reading::read_move;
 pub use moves::{Place, SaidMove};
 pub use numbers::Numbers;
-pub use reading::read_report;
+pub use reading::{line_behind, read_report};
 pub use report::{Report, ReportFault};
 pub use said::{Said, SaidBay, SaidCause};

@@ -5,8 +5,19 @@ ghost use Rattle.crp_yard.specs.Ranks.{name_of_rank};
 ghost use Rattle.crp_said.specs.MoveLines.{rank_names, spaced_place, move_words, move_said, move_line, AreMoveLines};
 
 use crp_cert::push_decimal;
-use crp_plan::{Move, Plan, Walk};
+use crp_plan::{Container, Move, Plan, Walk};
 use std::alloc::{AllocError, Global};
+
+/// The names of containers, by rank.
+pub fn names_of(alloc: Global, containers: &[Container]) -> Result<Vec<Vec<u8>>, AllocError>
+    ensures { IfOk result (λ names. map (λ name. name.items) names.items ≡ containers.now) }
+{
+    let mut names = Vec::new(alloc);
+    for container in containers {
+        names.push(Vec::from_slice(alloc, container.bytes())?)?;
+    }
+    Ok(names)
+}
 
 /// The numbers of the ranks from 1 as their names.
 pub fn names_of_ranks(alloc: Global, containers: u8) -> Result<Vec<Vec<u8>>, AllocError>

@@ -10,8 +10,8 @@ use crate::report::{Report, ReportFault};
 use crate::said::SaidBay;
 use std::alloc::{AllocError, Global};
 
-/// The number of the line behind these bytes.
-fn line_behind(front: &[u8]) -> u64
+/// The number of the line behind these bytes, from 1.
+pub fn line_behind(front: &[u8]) -> u64
     ensures { result ≡ line_behind front.now }
 {
     let mut line: u64 = 1;

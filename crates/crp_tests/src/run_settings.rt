@@ -1,8 +1,7 @@
 //! The settings of a run at their limits, and beyond them.
 use crate::compare::{assert_same, assert_same_at};
 use crp_order::Mode;
-use crp_report::{RunFault, RunSettings};
-use crp_solve::Settings;
+use crp_report::{InputSettings, RunFault};
 use std::alloc::{AllocError, Global};
 use std::process::Abort;
 use std::test::Fail;
@@ -10,7 +9,7 @@ use std::test::Fail;
 // What is stated where settings are refused; nothing where they are not.
 fn settings_text(
     alloc: Global,
-    settings: &Result<RunSettings, RunFault>,
+    settings: &Result<InputSettings, RunFault>,
 ) -> Result<String, AllocError> {
     match settings {
         Err(fault) => format!(in alloc; "{fault}"),
@@ -19,11 +18,8 @@ fn settings_text(
 }
 
 // Settings of bays with so many rows and tiers.
-fn with_size(alloc: Global, rows: u8, tiers: u8) -> Result<RunSettings, RunFault> {
-    let Ok(search) = Settings::new(1, 0, 0) else {
-        return Err(RunFault::Memory);
-    };
-    RunSettings::new(alloc, search, rows, tiers, Mode::Listed, b"LOA")
+fn with_size(alloc: Global, rows: u8, tiers: u8) -> Result<InputSettings, RunFault> {
+    InputSettings::new(alloc, rows, tiers, Mode::Listed, b"LOA")
 }
 
 #[test]
@@ -51,12 +47,12 @@ const HEIGHTS_CASES: [(&[u8], &str); 9] = [
 ];
 
 // Settings with these heights in place of six rows of five tiers.
-fn with_heights(alloc: Global, heights: &[u8]) -> Result<RunSettings, RunFault> {
+fn with_heights(alloc: Global, heights: &[u8]) -> Result<InputSettings, RunFault> {
     with_size(alloc, 6, 5)?.with_heights(heights)
 }
 
 // Settings that are made have these heights.
-fn assert_heights(rt: &impl Abort, settings: &Result<RunSettings, RunFault>, heights: &[u8]) {
+fn assert_heights(rt: &impl Abort, settings: &Result<InputSettings, RunFault>, heights: &[u8]) {
     if let Ok(settings) = settings {
         assert_same(rt, &settings.heights(), &heights);
     }

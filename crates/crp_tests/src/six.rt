@@ -1,6 +1,6 @@
 //! The run over a yard of six containers, which the tests of devices repeat: its inputs, and what it writes.
 use crp_order::Mode;
-use crp_report::{Fault, RunSettings, Status};
+use crp_report::{Fault, InputSettings, RunSettings, Status};
 use crp_solve::Settings;
 use std::alloc::Global;
 use std::test::Fail;
@@ -66,14 +66,8 @@ pub(crate) struct Choice {
 
 pub(crate) fn settings_of(alloc: Global, choice: &Choice) -> Result<RunSettings, Fail> {
     let search = Settings::new(1, choice.budget, 0)?;
-    Ok(RunSettings::new(
-        alloc,
-        search,
-        choice.rows,
-        choice.tiers,
-        choice.mode,
-        b"LOA",
-    )?)
+    let input = InputSettings::new(alloc, choice.rows, choice.tiers, choice.mode, b"LOA")?;
+    Ok(RunSettings::new(search, input))
 }
 
 // The three texts of a run, and how it ended.

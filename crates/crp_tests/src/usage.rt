@@ -156,9 +156,9 @@ struct Asked {
 
 fn has_settings(settings: &RunSettings, asked: &Asked) -> bool {
     search_of(&settings.search()) == asked.search
-        && settings.heights() == asked.heights
-        && settings.mode() == asked.order
-        && settings.code() == asked.code.as_bytes()
+        && settings.input().heights() == asked.heights
+        && settings.input().mode() == asked.order
+        && settings.input().code() == asked.code.as_bytes()
 }
 
 fn has_files(names: &RunFiles<'_>, asked: &Asked) -> bool {
@@ -252,7 +252,7 @@ fn has_heights(job: &Result<Job<'_>, Usage>, heights: &[u8]) -> bool {
     let Ok(Job::Solve { settings, .. }) = job else {
         return false;
     };
-    settings.heights() == heights
+    settings.input().heights() == heights
 }
 
 const HEIGHTS: [(&str, &[u8]); 4] = [

@@ -1,6 +1,6 @@
 use Rattle.std.proofs.Common.{◌≡◌, ◌≤◌, ◌∙◌, arith, refl, replicate}
 use Rattle.std.proofs.lemmas.List.{take-replicate}
-use Rattle.crp_report.proofs.settings.RunSettings.new.Goals as goal
+use Rattle.crp_report.proofs.settings.InputSettings.new.Goals as goal
 
 pub returns-clause-value : goal.returns-clause-value
 returns-clause-value c =
