@@ -9,6 +9,9 @@ use Rattle.crp_report.specs.declared.fault.Fault.TheVariants as run
 use Rattle.crp_commands.specs.declared.job.Job.{Job}
 use Rattle.crp_commands.specs.declared.job.Job.TheVariants as job
 use Rattle.crp_commands.specs.declared.job.RunFiles.{RunFiles}
+use Rattle.crp_commands.specs.declared.job.AuditFiles.{AuditFiles}
+use Rattle.crp_commands.specs.declared.outcome.Statement.{Statement}
+use Rattle.crp_commands.specs.declared.outcome.Statement.TheVariants as statement
 use Rattle.crp_commands.specs.declared.outcome.ToolFault.{ToolFault}
 use Rattle.crp_commands.specs.declared.outcome.ToolFault.TheVariants as fault
 use Rattle.crp_commands.specs.declared.advice.Place.{Place}
@@ -51,8 +54,23 @@ failed_in_run names (run.Write output.Certificates) = option_map (λ name. file_
 failed_in_run names (run.Write output.YardAfter) = option_map (λ name. file_words name.now) names.after
 failed_in_run names f = None
 
+-- the words for a statement that is audited
+abbrev pub statement_words : Statement → List ℕ
+statement_words statement.Report = codes "the report"
+statement_words statement.Certificates = codes "the certificates"
+
+-- the same of an audit of these files; what it shows goes to the standard output
+abbrev pub failed_in_audit : AuditFiles → ToolFault → Option (List ℕ)
+failed_in_audit names (fault.Run (run.Read input.Yard)) = Some (file_words names.yard.now)
+failed_in_audit names (fault.Run (run.Read input.Movins)) = Some (file_words names.movins.now)
+failed_in_audit names (fault.ReadOf statement.Report) = Some (file_words names.report.now)
+failed_in_audit names (fault.ReadOf statement.Certificates) = Some (file_words names.certificates.now)
+failed_in_audit names fault.Write = Some (codes "the standard output")
+failed_in_audit names f = None
+
 -- what the job could not read or write, in words, where the fault is of that kind
 abbrev pub failed_words : Job → ToolFault → Option (List ℕ)
 failed_words (job.OneFile file command) f = failed_in_file file.now f
+failed_words (job.Audit names settings) f = failed_in_audit names f
 failed_words (job.Solve names settings quiet progress) (fault.Run f) = failed_in_run names f
 failed_words (job.Solve names settings quiet progress) f = None

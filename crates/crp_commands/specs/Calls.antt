@@ -7,6 +7,8 @@ use Rattle.crp_plan.specs.declared.transfer.ReadFault.TheVariants as reading
 use Rattle.crp_cert.specs.declared.fault.CertFault.{CertFault}
 use Rattle.crp_cert.specs.declared.fault.CertFault.TheVariants as cert
 use Rattle.crp_cert.specs.Faults.{IsFirstFault}
+use Rattle.crp_audit.specs.declared.fault.AuditFault.{AuditFault}
+use Rattle.crp_audit.specs.declared.fault.AuditFault.TheVariants as audited
 use Rattle.crp_report.specs.Runs.{failures_of_fault}
 use Rattle.crp_report.specs.declared.fault.Fault.TheVariants as run
 use Rattle.crp_report.specs.declared.status.Status.{Status}
@@ -36,6 +38,7 @@ call_failures s = (s.source_after - s.source_before) + (s.sink_after - s.sink_be
 -- so many failed calls a fault states: one where a read or a write has failed, in a run too, else none
 abbrev pub failures_of_tool_fault : ToolFault → ℕ
 failures_of_tool_fault fault.Read = 1
+failures_of_tool_fault (fault.ReadOf which) = 1
 failures_of_tool_fault fault.Write = 1
 failures_of_tool_fault (fault.Run f) = failures_of_fault f
 failures_of_tool_fault f = 0
@@ -83,15 +86,21 @@ abbrev pub fault_of_cert : CertFault → ToolFault
 fault_of_cert cert.Memory = fault.Memory
 fault_of_cert f = fault.Cert f
 
+abbrev pub fault_of_audit : AuditFault → ToolFault
+fault_of_audit audited.Memory = fault.Memory
+fault_of_audit f = fault.Audited f
+
 -- the exit status of the program: 0 decided, 1 a budget ended, 3 input refused, 4 lack of memory, 5 a read or write fault, 6 a certificate,
--- head or plan refused
+-- head or plan refused, or a report with its certificates
 abbrev pub exit_code : Result Status ToolFault → ℕ
 exit_code (Ok status.Decided) = 0
 exit_code (Ok status.Budget) = 1
 exit_code (Ok status.Memory) = 4
 exit_code (Err fault.TooLarge) = 3
+exit_code (Err (fault.TooLargeOf which)) = 3
 exit_code (Err fault.Memory) = 4
 exit_code (Err fault.Read) = 5
+exit_code (Err (fault.ReadOf which)) = 5
 exit_code (Err fault.Write) = 5
 exit_code (Err (fault.Run (run.Yard f))) = 3
 exit_code (Err (fault.Run (run.Interchange f))) = 3
@@ -102,3 +111,4 @@ exit_code (Err (fault.Run run.Memory)) = 4
 exit_code (Err (fault.Cert f)) = 6
 exit_code (Err (fault.Plan f)) = 6
 exit_code (Err (fault.Checked number why)) = 6
+exit_code (Err (fault.Audited f)) = 6

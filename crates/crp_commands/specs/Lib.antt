@@ -4,6 +4,7 @@ pub mod Replay
 pub mod Bound
 pub mod Prove
 pub mod Check
+pub mod Audit
 pub mod Checks
 pub mod Opened
 pub mod Solving

@@ -1,9 +1,10 @@
 //! What to look at after a fault, in plain words: a line for each fault, and the file that could not be read or written.
 ghost use Rattle.std.specs.Prelude.{◌≡◌, Some, option_map};
-ghost use Rattle.crp_commands.specs.Advice.{IsPlainLine, failed_in_file, failed_in_run, failed_words, place_words, source_words};
+ghost use Rattle.crp_commands.specs.Advice.{IsPlainLine, failed_in_audit, failed_in_file, failed_in_run, failed_words, place_words, source_words};
 
-use crate::job::{Job, RunFiles};
-use crate::outcome::ToolFault;
+use crate::job::{AuditFiles, Job, RunFiles};
+use crate::outcome::{Statement, ToolFault};
+use crp_audit::AuditFault;
 use crp_cert::CertFault;
 use crp_checker::Refused;
 use crp_movins::MovinsFault;
@@ -18,6 +19,11 @@ const MEMORY: &str =
 
 const YARD_NOT_READ: &str =
     "the yard list could not be read: it must be there, be a file and no folder, and you must be allowed to read it";
+
+const CERTIFICATE_NOT_READ: &str =
+    "the certificate could not be read: it must be there, be a file and no folder, and you must be allowed to read it";
+
+const CERTIFICATES_TOO_LARGE: &str = "a file of certificates may have at most 268435456 bytes";
 
 // Of an interchange.
 fn advice_on_interchange(fault: &EdiFault) -> &'static str
@@ -230,6 +236,42 @@ fn advice_on_refused(refused: &Refused) -> &'static str
     }
 }
 
+// Of a report and its certificates.
+fn advice_on_audit(fault: &AuditFault) -> &'static str
+    ensures { IsPlainLine result.now }
+{
+    match fault {
+        AuditFault::Spelling { .. } => {
+            "this line is none of a report as crp solve prints it: a wrong word, a blank, a number, another line end, or it is cut off"
+        }
+        AuditFault::Numbers => {
+            "the report is about other orders or another yard: take the yard list, the message, --order and --code of its run"
+        }
+        AuditFault::Bay {
+            wanted: Some(_), ..
+        } => "the line of this bay must stand here: bays from which containers leave, each once, in the yard's order",
+        AuditFault::Bay { wanted: None, .. } => {
+            "the last line must stand here: no container leaves from another bay"
+        }
+        AuditFault::Move { .. } => {
+            "this move is not legal there, or names another row, tier or container than the one that moves"
+        }
+        AuditFault::Plan { .. } => {
+            "the moves must take all ordered containers, with as many relocations as the line says; without a plan none may stand"
+        }
+        AuditFault::Certificate { .. } => {
+            "the certificate of this bay does not prove it: K1 is one about another bay; crp check says more of the others"
+        }
+        AuditFault::Other { .. } => {
+            "the certificate is accepted, but it is another bay's, or shows something else than the report says of this bay"
+        }
+        AuditFault::Lacking { .. } => "the certificates end before that of this bay: one must be there for each bay",
+        AuditFault::LeftOver => "certificates are left over behind that of the last bay: one must be there for each bay",
+        AuditFault::Closing => "the last line must count the bays of the report, and those that are optimal or have no plan",
+        AuditFault::Memory => MEMORY,
+    }
+}
+
 // Of a run over a yard.
 fn advice_on_run(fault: &Fault) -> &'static str
     ensures { IsPlainLine result.now }
@@ -264,14 +306,19 @@ pub fn advice_on(fault: &ToolFault) -> &'static str
         ToolFault::Cert(fault) => advice_on_certificate(fault),
         ToolFault::Plan(fault) => advice_on_plan(fault),
         ToolFault::Checked { refused, .. } => advice_on_refused(refused),
+        ToolFault::Audited(fault) => advice_on_audit(fault),
         ToolFault::Run(fault) => advice_on_run(fault),
-        ToolFault::Read => {
-            "the certificate could not be read: it must be there, be a file and no folder, and you must be allowed to read it"
+        ToolFault::ReadOf(Statement::Report) => {
+            "the report could not be read: it must be there, be a file and no folder, and you must be allowed to read it"
         }
+        ToolFault::ReadOf(Statement::Certificates) => CERTIFICATE_NOT_READ,
+        ToolFault::TooLargeOf(Statement::Report) => "a report may have at most 16777216 bytes",
+        ToolFault::TooLargeOf(Statement::Certificates) => CERTIFICATES_TOO_LARGE,
+        ToolFault::Read => CERTIFICATE_NOT_READ,
         ToolFault::Write => {
             "the output could not be written: its disk must not be full, and the program that reads it must not have ended"
         }
-        ToolFault::TooLarge => "a file of certificates may have at most 268435456 bytes",
+        ToolFault::TooLarge => CERTIFICATES_TOO_LARGE,
         ToolFault::Memory => MEMORY,
     }
 }
@@ -319,7 +366,10 @@ fn place_in_file<'a>(file: &'a str, fault: &ToolFault) -> Option<Place<'a>>
         ToolFault::Cert(_)
         | ToolFault::Plan(_)
         | ToolFault::Checked { .. }
+        | ToolFault::Audited(_)
         | ToolFault::Run(_)
+        | ToolFault::ReadOf(_)
+        | ToolFault::TooLargeOf(_)
         | ToolFault::TooLarge
         | ToolFault::Memory => None,
     }
@@ -339,12 +389,27 @@ fn place_in_run<'a>(names: &RunFiles<'a>, fault: &Fault) -> Option<Place<'a>>
     }
 }
 
+// What an audit of these files could not read or write.
+fn place_in_audit<'a>(names: &AuditFiles<'a>, fault: &ToolFault) -> Option<Place<'a>>
+    ensures { option_map place_words result ≡ failed_in_audit names.now fault.now }
+{
+    match fault {
+        ToolFault::Run(Fault::Read(Input::Yard)) => Some(Place::File(names.yard)),
+        ToolFault::Run(Fault::Read(Input::Movins)) => Some(Place::File(names.movins)),
+        ToolFault::ReadOf(Statement::Report) => Some(Place::File(names.report)),
+        ToolFault::ReadOf(Statement::Certificates) => Some(Place::File(names.certificates)),
+        ToolFault::Write => Some(Place::StandardOutput),
+        _ => None,
+    }
+}
+
 /// What the job could not read or write, where the fault is that a read or a write failed, or that a file could not be opened.
 pub fn place_of<'a>(job: &Job<'a>, fault: &ToolFault) -> Option<Place<'a>>
     ensures { option_map place_words result ≡ failed_words job.now fault.now }
 {
     match job {
         Job::OneFile { file, .. } => place_in_file(file, fault),
+        Job::Audit { files, .. } => place_in_audit(files, fault),
         Job::Solve { files, .. } => {
             if let ToolFault::Run(fault) = fault {
                 return place_in_run(files, fault);

@@ -1,5 +1,5 @@
 //! What the program may be asked for.
-use crp_report::RunSettings;
+use crp_report::{InputSettings, RunSettings};
 use crp_solve::Settings;
 
 /// What is done with the bytes of one file.
@@ -28,6 +28,19 @@ pub struct RunFiles<'a> {
     pub after: Option<&'a str>,
 }
 
+/// The files of an audit, by their names.
+#[derive(Clone, Copy)]
+pub struct AuditFiles<'a> {
+    /// The yard list.
+    pub yard: &'a str,
+    /// The message.
+    pub movins: &'a str,
+    /// The report.
+    pub report: &'a str,
+    /// The certificates.
+    pub certificates: &'a str,
+}
+
 /// What the program is to do.
 #[derive(Drop)]
 pub enum Job<'a> {
@@ -37,6 +50,13 @@ pub enum Job<'a> {
         file: &'a str,
         /// What is done with its bytes.
         command: FileCommand,
+    },
+    /// To audit a report and its certificates against a yard list and a message.
+    Audit {
+        /// The files of the audit.
+        files: AuditFiles<'a>,
+        /// What the yard list and the message mean.
+        settings: InputSettings,
     },
     /// To solve the bays of a yard for the load orders of a message.
     Solve {

@@ -1,14 +1,37 @@
 //! How a command ends.
-ghost use Rattle.std.specs.Prelude.{◌≡◌, Err};
+ghost use Rattle.std.specs.Prelude.{◌≡◌, Err, Some};
 ghost use Rattle.crp_commands.specs.declared.outcome.ToolFault.TheVariants.{Run};
+ghost use Rattle.crp_commands.specs.Advice.{statement_words};
 ghost use Rattle.crp_commands.specs.Calls.{exit_code};
 
+use crp_audit::AuditFault;
 use crp_cert::CertFault;
 use crp_checker::Refused;
 use crp_plan::{PlanFault, ReadFailed, ReadFault, WriteFailed};
 use crp_report::{Fault, Status};
 use std::alloc::AllocError;
+use std::fmt::{self, Display, Formatter, Write};
 use thiserror::Error;
+
+/// What an audit is about: what somebody's run states.
+#[derive(Clone, Copy, Debug, PartialEq, Eq)]
+pub enum Statement {
+    /// The report.
+    Report,
+    /// The certificates.
+    Certificates,
+}
+
+impl Display for Statement {
+    ghost output = { λ which. Some (statement_words which) };
+
+    fn fmt<W: Write>(&self, f: &mut Formatter<W>) -> fmt::Result {
+        match self {
+            Statement::Report => f.write_str("the report"),
+            Statement::Certificates => f.write_str("the certificates"),
+        }
+    }
+}
 
 /// Why a command did not do what it was asked for.
 #[derive(Debug, Drop, PartialEq, Eq, Error)]
@@ -22,6 +45,9 @@ pub enum ToolFault {
     /// A certificate of a file is refused, by its number from 1.
     #[error("certificate {number}: {refused}")]
     Checked { number: u64, refused: Refused },
+    /// A report and its certificates are refused, with their first fault.
+    #[error("{0}")]
+    Audited(AuditFault),
     /// A run over a yard did not do what it was asked for.
     #[error("{0}")]
     Run(Fault),
@@ -31,6 +57,12 @@ pub enum ToolFault {
     /// A write failed, took nothing, or was interrupted once too often.
     #[error("a write failed")]
     Write,
+    /// A read of what is audited failed, or was interrupted once too often; also a file that cannot be opened.
+    #[error("a read of {0} failed")]
+    ReadOf(Statement),
+    /// What is audited has more bytes than are allowed.
+    #[error("{0}: too many bytes")]
+    TooLargeOf(Statement),
     /// The input has more bytes than are allowed.
     #[error("the input is too large")]
     TooLarge,
@@ -96,6 +128,19 @@ impl From<CertFault> for ToolFault {
     }
 }
 
+impl From<AuditFault> for ToolFault {
+    ghost use Rattle.crp_commands.specs.Calls.{fault_of_audit};
+
+    ghost from_gives = { λ error fault. fault ≡ fault_of_audit error };
+
+    fn from(error: AuditFault) -> ToolFault {
+        match error {
+            AuditFault::Memory => ToolFault::Memory,
+            other => ToolFault::Audited(other),
+        }
+    }
+}
+
 impl From<PlanFault> for ToolFault {
     ghost use Rattle.crp_commands.specs.declared.outcome.ToolFault.TheVariants.{Plan};
 
@@ -134,10 +179,15 @@ pub fn exit_of(answer: &Result<Status, ToolFault>) -> u8
     match answer {
         Ok(Status::Decided) => 0,
         Ok(Status::Budget) => 1,
-        Err(ToolFault::TooLarge) => 3,
+        Err(ToolFault::TooLarge | ToolFault::TooLargeOf(_)) => 3,
         Ok(Status::Memory) | Err(ToolFault::Memory) => 4,
-        Err(ToolFault::Read) | Err(ToolFault::Write) => 5,
+        Err(ToolFault::Read | ToolFault::ReadOf(_) | ToolFault::Write) => 5,
         Err(ToolFault::Run(fault)) => exit_of_run(fault),
-        Err(ToolFault::Cert(_)) | Err(ToolFault::Plan(_)) | Err(ToolFault::Checked { .. }) => 6,
+        Err(
+            ToolFault::Cert(_)
+            | ToolFault::Plan(_)
+            | ToolFault::Checked { .. }
+            | ToolFault::Audited(_),
+        ) => 6,
     }
 }

@@ -9,6 +9,7 @@ ghost use Rattle.crp_commands.specs.Headlines.{ForRun, AreWritten, AreFrontsWrit
 use crate::job::{FileCommand, Job};
 use crate::opening::Files;
 use crate::outcome::ToolFault;
+use crate::over_audit_files::audit_files;
 use crate::over_yard_files::solve;
 use crate::performing::perform;
 use crp_notes::Terminal;
@@ -67,6 +68,10 @@ fn do_job<T: Threads + Wait + Sync, F: Files, R: Source, W: Sink, E: Sink, S: Te
         Job::OneFile { file, command } => {
             perform_on(threads, alloc, files, input, out, file, command)
         }
+        Job::Audit {
+            files: names,
+            settings,
+        } => audit_files(alloc, files, names, settings, out),
         Job::Solve {
             files: names,
             settings,

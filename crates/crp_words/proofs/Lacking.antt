@@ -1,13 +1,13 @@
 -- From what a command's rows lack to why no job comes of them.
-use Rattle.std.proofs.Common.{◌≡◌, ◌∙◌, ◌⊎◌, ◌<◌, ◌^◌, ℕ, List, Option, Some, None, IfSome, IfNone, Result, refl, sym, subst, inl, inr, ap, arith, codes, slice_index}
+use Rattle.std.proofs.Common.{◌≡◌, ◌≢◌, ◌∙◌, ◌⊎◌, ◌<◌, ◌^◌, ◌∷◌, ℕ, List, Option, Some, None, IfSome, IfNone, Result, refl, sym, subst, inl, inr, ap, arith, codes, slice_index}
 use Rattle.std.specs.Str.Parse.{ParsesUnsigned, ExplainsUnsignedError, HasUnsignedDigitsIfOk, digits_value, without_leading_plus}
 use Rattle.std.specs.declared.num.ParseIntError.{ParseIntError}
 use Rattle.clap.specs.Words.{Row, Text}
 use Rattle.clap.specs.Matches.{ReadsOne}
 use Rattle.crp_solve.specs.Chosen.{Chosen}
-use Rattle.crp_words.specs.Words.{Asks, HasBudget, HasNumber, HasNumberBeyond, HasNumberWithin, FindsRows, HasSearch, HasSettings, HasSplit, HasBeam, FindsTiers, HasWorkers, MayFindHeights, IsBudgetBeyond, IsSplitBeyond, IsBeamBeyond, AreRowsBeyond, AreTiersBeyond, AreHeightsBeyond, AreWorkersBeyond, IsFault, IsJust, IsSearchFault, IsSizedTwice, IsSolveFault, IsWordsOrMemory, Lacks, ReadsNumber}
+use Rattle.crp_words.specs.Words.{Asks, HasBudget, HasNumber, HasNumberBeyond, HasNumberWithin, FindsRows, HasInput, HasSearch, HasSettings, HasSplit, HasBeam, FindsTiers, HasWorkers, MayFindHeights, IsBudgetBeyond, IsSplitBeyond, IsBeamBeyond, AreRowsBeyond, AreTiersBeyond, AreHeightsBeyond, AreWorkersBeyond, IsFault, IsInputFault, IsJust, IsSearchFault, IsSizedTwice, IsSolveFault, IsWordsOrMemory, Lacks, ReadsNumber}
 use Rattle.crp_commands.specs.declared.job.Job.{Job}
-use Rattle.crp_report.specs.Chosen.{RunChosen}
+use Rattle.crp_report.specs.Chosen.{InputChosen, RunChosen}
 use Rattle.crp_commands.specs.declared.job.FileCommand.TheVariants as command
 use Rattle.crp_commands.specs.declared.job.Job.TheVariants as job
 use Rattle.crp_words.specs.declared.usage.Mistake.TheVariants as mistake
@@ -168,91 +168,92 @@ no_beam rows w b t u workers budget split = lacks_more (HasBeam rows) (HasSearch
     down setting.Tiers none = absurd none
     down setting.Heights none = absurd none
 
--- ---- the settings of solve
+-- ---- what the input means
 
--- a fault of the search is one of solve
-search_first : (rows : List Row) (f : SettingFault) → IsSearchFault rows f → IsSolveFault rows f
-search_first rows setting.Workers first = first
-search_first rows setting.Budget first = first
-search_first rows setting.Split first = first
-search_first rows setting.Beam first = first
-search_first rows setting.Rows none = absurd none
-search_first rows setting.Tiers none = absurd none
-search_first rows setting.Heights none = absurd none
+-- without rows within their limits there is no input
+pub no_rows : (rows : List Row) (u : Usage) → Lacks (FindsRows rows) (IsJust setting.Rows (AreRowsBeyond rows)) u → Lacks (HasInput rows) (IsInputFault rows) u
+no_rows rows u = lacks_more (FindsRows rows) (HasInput rows) (IsJust setting.Rows (AreRowsBeyond rows)) (IsInputFault rows) u
+    (λ s has. (has.0.rows, has.0.finds_rows)) (λ f just. subst (IsInputFault rows) (sym just.0) just.1) down
+  where
+    down : (f : SettingFault) → IsInputFault rows f → IsJust setting.Rows (AreRowsBeyond rows) f ⊎ ((n : ℕ) × FindsRows rows n)
+    down setting.Workers none = absurd none
+    down setting.Budget none = absurd none
+    down setting.Split none = absurd none
+    down setting.Beam none = absurd none
+    down setting.Rows first = inl (refl, first)
+    down setting.Tiers first = inr first.0
+    down setting.Heights first = inr first.0
+
+-- nor is there without tiers within their limits
+pub no_tiers : (rows : List Row) (r : ℕ) (u : Usage) → FindsRows rows r → Lacks (FindsTiers rows) (IsJust setting.Tiers (AreTiersBeyond rows)) u
+    → Lacks (HasInput rows) (IsInputFault rows) u
+no_tiers rows r u has_rows = lacks_more (FindsTiers rows) (HasInput rows) (IsJust setting.Tiers (AreTiersBeyond rows)) (IsInputFault rows) u
+    (λ s has. (has.0.tiers, has.0.finds_tiers)) (λ f just. subst (IsInputFault rows) (sym just.0) ((r, has_rows), just.1)) down
+  where
+    down : (f : SettingFault) → IsInputFault rows f → IsJust setting.Tiers (AreTiersBeyond rows) f ⊎ ((n : ℕ) × FindsTiers rows n)
+    down setting.Workers none = absurd none
+    down setting.Budget none = absurd none
+    down setting.Split none = absurd none
+    down setting.Beam none = absurd none
+    down setting.Rows first = absurd (no_rows_fault rows r has_rows first)
+    down setting.Tiers first = inl (refl, first.1)
+    down setting.Heights first = inr first.1
+
+-- nor without heights that can be chosen, where heights are given
+pub no_heights : (rows : List Row) (r t : ℕ) (u : Usage) → FindsRows rows r → FindsTiers rows t
+    → Lacks (MayFindHeights rows) (IsJust setting.Heights (AreHeightsBeyond rows)) u → Lacks (HasInput rows) (IsInputFault rows) u
+no_heights rows r t u has_rows has_tiers = lacks_more (MayFindHeights rows) (HasInput rows) (IsJust setting.Heights (AreHeightsBeyond rows)) (IsInputFault rows) u
+    (λ s has. (has.0.own, has.0.finds_own)) (λ f just. subst (IsInputFault rows) (sym just.0) ((r, has_rows), (t, has_tiers), just.1)) down
+  where
+    down : (f : SettingFault) → IsInputFault rows f → IsJust setting.Heights (AreHeightsBeyond rows) f ⊎ ((heights : Option (List ℕ)) × MayFindHeights rows heights)
+    down setting.Workers none = absurd none
+    down setting.Budget none = absurd none
+    down setting.Split none = absurd none
+    down setting.Beam none = absurd none
+    down setting.Rows first = absurd (no_rows_fault rows r has_rows first)
+    down setting.Tiers first = absurd (no_tiers_fault rows t has_tiers first.1)
+    down setting.Heights first = inl (refl, first.2)
+
+-- ---- the settings of solve
 
 -- without settings of a search there are none of solve
 pub no_search : (rows : List Row) (u : Usage) → Lacks (HasSearch rows) (IsSearchFault rows) u → Lacks (HasSettings rows) (IsSolveFault rows) u
 no_search rows u = lacks_more (HasSearch rows) (HasSettings rows) (IsSearchFault rows) (IsSolveFault rows) u
-    (λ s has. (s.search, has.0)) (search_first rows) down
-  where
-    down : (f : SettingFault) → IsSolveFault rows f → IsSearchFault rows f ⊎ ((s : Chosen) × HasSearch rows s)
-    down setting.Workers first = inl first
-    down setting.Budget first = inl first
-    down setting.Split first = inl first
-    down setting.Beam first = inl first
-    down setting.Rows first = inr first.0
-    down setting.Tiers first = inr first.0
-    down setting.Heights first = inr first.0
+    (λ s has. (s.search, has.0)) (λ f first. inl first)
+    (λ f first. elim first [
+      | inl h ↦ inl h
+      | inr h ↦ inr h.0
+    ])
 
--- nor are there without rows within their limits
-pub no_rows : (rows : List Row) (s : Chosen) (u : Usage) → HasSearch rows s → Lacks (FindsRows rows) (IsJust setting.Rows (AreRowsBeyond rows)) u
-    → Lacks (HasSettings rows) (IsSolveFault rows) u
-no_rows rows s u search = lacks_more (FindsRows rows) (HasSettings rows) (IsJust setting.Rows (AreRowsBeyond rows)) (IsSolveFault rows) u
-    (λ s has. (has.1.rows, has.1.finds_rows)) (λ f just. subst (IsSolveFault rows) (sym just.0) ((s, search), just.1)) down
-  where
-    down : (f : SettingFault) → IsSolveFault rows f → IsJust setting.Rows (AreRowsBeyond rows) f ⊎ ((n : ℕ) × FindsRows rows n)
-    down setting.Workers first = absurd (no_search_fault rows s search setting.Workers first)
-    down setting.Budget first = absurd (no_search_fault rows s search setting.Budget first)
-    down setting.Split first = absurd (no_search_fault rows s search setting.Split first)
-    down setting.Beam first = absurd (no_search_fault rows s search setting.Beam first)
-    down setting.Rows first = inl (refl, first.1)
-    down setting.Tiers first = inr first.1
-    down setting.Heights first = inr first.1
+-- nor are there without an input
+pub no_input : (rows : List Row) (s : Chosen) (u : Usage) → HasSearch rows s → Lacks (HasInput rows) (IsInputFault rows) u → Lacks (HasSettings rows) (IsSolveFault rows) u
+no_input rows s u search = lacks_more (HasInput rows) (HasSettings rows) (IsInputFault rows) (IsSolveFault rows) u
+    (λ s has. (s.input, has.1)) (λ f first. inr ((s, search), first))
+    (λ f first. elim first [
+      | inl h ↦ absurd (no_search_fault rows s search f h)
+      | inr h ↦ inl h.1
+    ])
 
--- nor without tiers within their limits
-pub no_tiers : (rows : List Row) (s : Chosen) (r : ℕ) (u : Usage) → HasSearch rows s → FindsRows rows r
-    → Lacks (FindsTiers rows) (IsJust setting.Tiers (AreTiersBeyond rows)) u → Lacks (HasSettings rows) (IsSolveFault rows) u
-no_tiers rows s r u search has_rows = lacks_more (FindsTiers rows) (HasSettings rows) (IsJust setting.Tiers (AreTiersBeyond rows)) (IsSolveFault rows) u
-    (λ s has. (has.1.tiers, has.1.finds_tiers)) (λ f just. subst (IsSolveFault rows) (sym just.0) ((s, search), (r, has_rows), just.1)) down
-  where
-    down : (f : SettingFault) → IsSolveFault rows f → IsJust setting.Tiers (AreTiersBeyond rows) f ⊎ ((n : ℕ) × FindsTiers rows n)
-    down setting.Workers first = absurd (no_search_fault rows s search setting.Workers first)
-    down setting.Budget first = absurd (no_search_fault rows s search setting.Budget first)
-    down setting.Split first = absurd (no_search_fault rows s search setting.Split first)
-    down setting.Beam first = absurd (no_search_fault rows s search setting.Beam first)
-    down setting.Rows first = absurd (no_rows_fault rows r has_rows first.1)
-    down setting.Tiers first = inl (refl, first.2)
-    down setting.Heights first = inr first.2
+-- ---- commands by their names
 
--- nor without heights that can be chosen, where heights are given
-pub no_heights : (rows : List Row) (s : Chosen) (r t : ℕ) (u : Usage) → HasSearch rows s → FindsRows rows r → FindsTiers rows t
-    → Lacks (MayFindHeights rows) (IsJust setting.Heights (AreHeightsBeyond rows)) u → Lacks (HasSettings rows) (IsSolveFault rows) u
-no_heights rows s r t u search has_rows has_tiers = lacks_more (MayFindHeights rows) (HasSettings rows) (IsJust setting.Heights (AreHeightsBeyond rows)) (IsSolveFault rows) u
-    (λ s has. (has.1.own, has.1.finds_own)) (λ f just. subst (IsSolveFault rows) (sym just.0) ((s, search), (r, has_rows), (t, has_tiers), just.1)) down
-  where
-    down : (f : SettingFault) → IsSolveFault rows f → IsJust setting.Heights (AreHeightsBeyond rows) f ⊎ ((heights : Option (List ℕ)) × MayFindHeights rows heights)
-    down setting.Workers first = absurd (no_search_fault rows s search setting.Workers first)
-    down setting.Budget first = absurd (no_search_fault rows s search setting.Budget first)
-    down setting.Split first = absurd (no_search_fault rows s search setting.Split first)
-    down setting.Beam first = absurd (no_search_fault rows s search setting.Beam first)
-    down setting.Rows first = absurd (no_rows_fault rows r has_rows first.1)
-    down setting.Tiers first = absurd (no_tiers_fault rows t has_tiers first.2)
-    down setting.Heights first = inl (refl, first.3)
-
--- ---- the search of prove
+-- words of other commands begin with another letter
+other_name : (a b : ℕ) (m n : Text) → a ≢ b → a ∷ m ≡ b ∷ n → ⊥
+other_name a b m n other same = other (ap (λ (l : Text). slice_index l 0) same)
 
 -- what prove asks for has settings of a search
 prove_asks : (rows : List Row) (j : Job) → Asks (codes "prove") rows j → (s : Chosen) × HasSearch rows s
-prove_asks rows (job.OneFile file command.Replay) asks = let e : ◌≡◌ {A = ℕ} 112 114 = ap (λ (l : Text). slice_index l 0) asks.0 in absurd (omega arith)
-prove_asks rows (job.OneFile file command.Bound) asks = let e : ◌≡◌ {A = ℕ} 112 98 = ap (λ (l : Text). slice_index l 0) asks.0 in absurd (omega arith)
-prove_asks rows (job.OneFile file command.Check) asks = let e : ◌≡◌ {A = ℕ} 112 99 = ap (λ (l : Text). slice_index l 0) asks.0 in absurd (omega arith)
+prove_asks rows (job.OneFile file command.Replay) asks = absurd (other_name 112 114 _ _ (omega arith) asks.0)
+prove_asks rows (job.OneFile file command.Bound) asks = absurd (other_name 112 98 _ _ (omega arith) asks.0)
+prove_asks rows (job.OneFile file command.Check) asks = absurd (other_name 112 99 _ _ (omega arith) asks.0)
 prove_asks rows (job.OneFile file (command.Prove search)) asks = (search, asks.0.1)
-prove_asks rows (job.Solve names settings quiet progress) asks = let e : ◌≡◌ {A = ℕ} 112 115 = ap (λ (l : Text). slice_index l 0) asks.0 in absurd (omega arith)
+prove_asks rows (job.Audit names settings) asks = absurd (other_name 112 97 _ _ (omega arith) asks.0)
+prove_asks rows (job.Solve names settings quiet progress) asks = absurd (other_name 112 115 _ _ (omega arith) asks.0)
 
 -- a fault of prove is its search's
 prove_fault : (rows : List Row) (f : SettingFault) → IsFault (codes "prove") rows f → IsSearchFault rows f
 prove_fault rows f (inl (is, first)) = first
-prove_fault rows f (inr (is, first)) = let e : ◌≡◌ {A = ℕ} 112 115 = ap (λ (l : Text). slice_index l 0) is in absurd (omega arith)
+prove_fault rows f (inr (inl (is, first))) = absurd (other_name 112 115 _ _ (omega arith) is)
+prove_fault rows f (inr (inr (is, first))) = absurd (other_name 112 97 _ _ (omega arith) is)
 
 -- without settings of a search prove asks for nothing
 pub no_prove : (rows : List Row) (u : Usage) → Lacks (HasSearch rows) (IsSearchFault rows) u
@@ -260,37 +261,54 @@ pub no_prove : (rows : List Row) (u : Usage) → Lacks (HasSearch rows) (IsSearc
 no_prove rows u = lacks_more (HasSearch rows) (Asks (codes "prove") rows) (IsSearchFault rows) (IsFault (codes "prove") rows) u
     (prove_asks rows) (λ f first. inl (refl, first)) (λ f first. inl (prove_fault rows f first))
 
--- ---- the settings of solve, and its size
+-- what solve asks for has settings, and its size once
+solve_asks : (rows : List Row) (j : Job) → Asks (codes "solve") rows j → ¬ IsSizedTwice rows × ((s : RunChosen) × HasSettings rows s)
+solve_asks rows (job.OneFile file command.Replay) asks = absurd (other_name 115 114 _ _ (omega arith) asks.0)
+solve_asks rows (job.OneFile file command.Bound) asks = absurd (other_name 115 98 _ _ (omega arith) asks.0)
+solve_asks rows (job.OneFile file command.Check) asks = absurd (other_name 115 99 _ _ (omega arith) asks.0)
+solve_asks rows (job.OneFile file (command.Prove search)) asks = absurd (other_name 115 112 _ _ (omega arith) asks.0.0)
+solve_asks rows (job.Audit names settings) asks = absurd (other_name 115 97 _ _ (omega arith) asks.0)
+solve_asks rows (job.Solve names settings quiet progress) asks = (asks.1, (settings, asks.3))
 
--- what solve asks for has settings
-solve_asks : (rows : List Row) (j : Job) → Asks (codes "solve") rows j → (s : RunChosen) × HasSettings rows s
-solve_asks rows (job.OneFile file command.Replay) asks = let e : ◌≡◌ {A = ℕ} 115 114 = ap (λ (l : Text). slice_index l 0) asks.0 in absurd (omega arith)
-solve_asks rows (job.OneFile file command.Bound) asks = let e : ◌≡◌ {A = ℕ} 115 98 = ap (λ (l : Text). slice_index l 0) asks.0 in absurd (omega arith)
-solve_asks rows (job.OneFile file command.Check) asks = let e : ◌≡◌ {A = ℕ} 115 99 = ap (λ (l : Text). slice_index l 0) asks.0 in absurd (omega arith)
-solve_asks rows (job.OneFile file (command.Prove search)) asks = let e : ◌≡◌ {A = ℕ} 115 112 = ap (λ (l : Text). slice_index l 0) asks.0.0 in absurd (omega arith)
-solve_asks rows (job.Solve names settings quiet progress) asks = (settings, asks.3)
-
--- nor has it its size twice
-solve_once : (rows : List Row) (j : Job) → Asks (codes "solve") rows j → ¬ IsSizedTwice rows
-solve_once rows (job.OneFile file command.Replay) asks = let e : ◌≡◌ {A = ℕ} 115 114 = ap (λ (l : Text). slice_index l 0) asks.0 in absurd (omega arith)
-solve_once rows (job.OneFile file command.Bound) asks = let e : ◌≡◌ {A = ℕ} 115 98 = ap (λ (l : Text). slice_index l 0) asks.0 in absurd (omega arith)
-solve_once rows (job.OneFile file command.Check) asks = let e : ◌≡◌ {A = ℕ} 115 99 = ap (λ (l : Text). slice_index l 0) asks.0 in absurd (omega arith)
-solve_once rows (job.OneFile file (command.Prove search)) asks = let e : ◌≡◌ {A = ℕ} 115 112 = ap (λ (l : Text). slice_index l 0) asks.0.0 in absurd (omega arith)
-solve_once rows (job.Solve names settings quiet progress) asks = asks.1
-
--- a fault of solve comes where its size is not given twice
 solve_fault : (rows : List Row) (f : SettingFault) → IsFault (codes "solve") rows f → ¬ IsSizedTwice rows × IsSolveFault rows f
-solve_fault rows f (inl (is, first)) = let e : ◌≡◌ {A = ℕ} 115 112 = ap (λ (l : Text). slice_index l 0) is in absurd (omega arith)
-solve_fault rows f (inr (is, first)) = first
+solve_fault rows f (inl (is, first)) = absurd (other_name 115 112 _ _ (omega arith) is)
+solve_fault rows f (inr (inl (is, first))) = first
+solve_fault rows f (inr (inr (is, first))) = absurd (other_name 115 97 _ _ (omega arith) is)
 
 -- without settings solve asks for nothing
 pub no_solve : (rows : List Row) (u : Usage) → ¬ IsSizedTwice rows → Lacks (HasSettings rows) (IsSolveFault rows) u
     → Lacks (Asks (codes "solve") rows) (IsFault (codes "solve") rows) u
 no_solve rows u once = lacks_more (HasSettings rows) (Asks (codes "solve") rows) (IsSolveFault rows) (IsFault (codes "solve") rows) u
-    (solve_asks rows) (λ f first. inr (refl, (once, first))) (λ f first. inl (solve_fault rows f first).1)
+    (λ j asks. (solve_asks rows j asks).1) (λ f first. inr (inl (refl, (once, first)))) (λ f first. inl (solve_fault rows f first).1)
 
 -- nor does it where its size is given twice
-pub sized_twice : (rows : List Row) (u : Usage) → IsSizedTwice rows → IsWordsOrMemory u
+pub solve_sized_twice : (rows : List Row) (u : Usage) → IsSizedTwice rows → IsWordsOrMemory u
     → Lacks (Asks (codes "solve") rows) (IsFault (codes "solve") rows) u
-sized_twice rows u twice words = lacks (Asks (codes "solve") rows) (IsFault (codes "solve") rows) u words
-    (λ j asks. solve_once rows j asks twice) (λ f first. (solve_fault rows f first).0 twice)
+solve_sized_twice rows u twice words = lacks (Asks (codes "solve") rows) (IsFault (codes "solve") rows) u words
+    (λ j asks. (solve_asks rows j asks).0 twice) (λ f first. (solve_fault rows f first).0 twice)
+
+-- what audit asks for has an input, and its size once
+audit_asks : (rows : List Row) (j : Job) → Asks (codes "audit") rows j → ¬ IsSizedTwice rows × ((s : InputChosen) × HasInput rows s)
+audit_asks rows (job.OneFile file command.Replay) asks = absurd (other_name 97 114 _ _ (omega arith) asks.0)
+audit_asks rows (job.OneFile file command.Bound) asks = absurd (other_name 97 98 _ _ (omega arith) asks.0)
+audit_asks rows (job.OneFile file command.Check) asks = absurd (other_name 97 99 _ _ (omega arith) asks.0)
+audit_asks rows (job.OneFile file (command.Prove search)) asks = absurd (other_name 97 112 _ _ (omega arith) asks.0.0)
+audit_asks rows (job.Audit names settings) asks = (asks.1, (settings, asks.3))
+audit_asks rows (job.Solve names settings quiet progress) asks = absurd (other_name 97 115 _ _ (omega arith) asks.0)
+
+audit_fault : (rows : List Row) (f : SettingFault) → IsFault (codes "audit") rows f → ¬ IsSizedTwice rows × IsInputFault rows f
+audit_fault rows f (inl (is, first)) = absurd (other_name 97 112 _ _ (omega arith) is)
+audit_fault rows f (inr (inl (is, first))) = absurd (other_name 97 115 _ _ (omega arith) is)
+audit_fault rows f (inr (inr (is, first))) = first
+
+-- without an input audit asks for nothing
+pub no_audit : (rows : List Row) (u : Usage) → ¬ IsSizedTwice rows → Lacks (HasInput rows) (IsInputFault rows) u
+    → Lacks (Asks (codes "audit") rows) (IsFault (codes "audit") rows) u
+no_audit rows u once = lacks_more (HasInput rows) (Asks (codes "audit") rows) (IsInputFault rows) (IsFault (codes "audit") rows) u
+    (λ j asks. (audit_asks rows j asks).1) (λ f first. inr (inr (refl, (once, first)))) (λ f first. inl (audit_fault rows f first).1)
+
+-- nor does it where its size is given twice
+pub audit_sized_twice : (rows : List Row) (u : Usage) → IsSizedTwice rows → IsWordsOrMemory u
+    → Lacks (Asks (codes "audit") rows) (IsFault (codes "audit") rows) u
+audit_sized_twice rows u twice words = lacks (Asks (codes "audit") rows) (IsFault (codes "audit") rows) u words
+    (λ j asks. (audit_asks rows j asks).0 twice) (λ f first. (audit_fault rows f first).0 twice)

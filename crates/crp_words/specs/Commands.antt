@@ -120,6 +120,15 @@ solve_files = command (codes "solve") (file_rule (codes "yard") ∷ file_rule (c
 abbrev pub solve : Shape
 solve = with_outputs (with_search (with_orders (with_size solve_files)))
 
+-- audit YARD MOVINS REPORT CERTS, without its options
+abbrev pub audit_files : Shape
+audit_files = command (codes "audit")
+    (file_rule (codes "yard") ∷ file_rule (codes "movins") ∷ file_rule (codes "report") ∷ file_rule (codes "certificates") ∷ [])
+
+-- audit, with its options: the size of the bays, and the order of leaving
+abbrev pub audit : Shape
+audit = with_orders (with_size audit_files)
+
 -- crp itself, with a version, and a command that is required
 abbrev pub top_command : Shape
 top_command = record (new_shape (codes "crp")) {
@@ -137,7 +146,7 @@ leaves = record {
 
 -- the command line of crp
 abbrev pub crp : App
-crp = record leaves { subs = leaves.subs ++ prove ∷ solve ∷ [] }
+crp = record leaves { subs = leaves.subs ++ prove ∷ solve ∷ audit ∷ [] }
 
 -- the argument has this rule, at its own command alone
 abbrev pub IsArg : Rule → Arg → Type 0

@@ -14,6 +14,7 @@ use Rattle.crp_commands.specs.declared.job.FileCommand.{FileCommand}
 use Rattle.crp_commands.specs.declared.job.FileCommand.TheVariants as command
 use Rattle.crp_commands.specs.declared.job.Job.{Job}
 use Rattle.crp_commands.specs.declared.job.Job.TheVariants as job
+use Rattle.crp_commands.specs.declared.job.AuditFiles.{AuditFiles}
 use Rattle.crp_commands.specs.declared.job.RunFiles.{RunFiles}
 use Rattle.crp_words.specs.declared.usage.Mistake.{Mistake}
 use Rattle.crp_words.specs.declared.usage.Mistake.TheVariants as mistake
@@ -21,7 +22,7 @@ use Rattle.crp_order.specs.declared.sequences.Mode.{Mode}
 use Rattle.crp_order.specs.declared.sequences.Mode.TheVariants as mode
 use Rattle.crp_words.specs.declared.usage.SettingFault.{SettingFault}
 use Rattle.crp_words.specs.declared.usage.SettingFault.TheVariants as setting
-use Rattle.crp_report.specs.Chosen.{RunChosen}
+use Rattle.crp_report.specs.Chosen.{InputChosen, RunChosen}
 use Rattle.crp_words.specs.declared.usage.Usage.{Usage}
 use Rattle.crp_words.specs.declared.usage.Usage.TheVariants as usage
 use Rattle.crp_solve.specs.declared.settings.TheConstants.{MAX_BUDGET, MAX_BEAM}
@@ -162,15 +163,24 @@ pub record FindsRowHeights (found : List Row) (heights : List ℕ) : Type 0 wher
   pub finds_own : MayFindHeights found own
   pub are : heights ≡ heights_or own rows tiers
 
+-- what the input means, as it was found, within its limits
+abbrev pub HasInput : List Row → InputChosen → Type 0
+HasInput found s = FindsRowHeights found s.heights × HasOrder found s.mode × HasText (codes "code") found s.code
+
 -- the settings of solve that were found, within their limits
 abbrev pub HasSettings : List Row → RunChosen → Type 0
-HasSettings found s = HasSearch found s.search × FindsRowHeights found s.heights × HasOrder found s.mode × HasText (codes "code") found s.code
+HasSettings found s = HasSearch found s.search × HasInput found s.input
 
 -- the files of solve that were found: the two inputs, and the outputs that are wanted
 abbrev pub HasFiles : List Row → RunFiles → Type 0
 HasFiles found names = HasText (codes "yard") found names.yard.now × HasText (codes "movins") found names.movins.now
     × (first_of (codes "cert") found ≡ option_map (λ text. text.now) names.cert)
     × (first_of (codes "after") found ≡ option_map (λ text. text.now) names.after)
+
+-- the files of audit that were found
+abbrev pub HasAuditFiles : List Row → AuditFiles → Type 0
+HasAuditFiles found names = HasText (codes "yard") found names.yard.now × HasText (codes "movins") found names.movins.now
+    × HasText (codes "report") found names.report.now × HasText (codes "certificates") found names.certificates.now
 
 -- notes are left out exactly where the words give the flag
 abbrev pub MayBeQuiet : List Row → Bool → Type 0
@@ -192,6 +202,8 @@ AsksCommand name found (command.Prove search) = (name ≡ codes "prove") × HasS
 -- the command and its rows ask for this
 abbrev pub Asks : Text → List Row → Job → Type 0
 Asks name found (job.OneFile file c) = AsksCommand name found c × HasText (codes "file") found file.now
+Asks name found (job.Audit names settings) =
+    (name ≡ codes "audit") × ¬ IsSizedTwice found × HasAuditFiles found names × HasInput found settings
 Asks name found (job.Solve names settings quiet progress) =
     (name ≡ codes "solve") × ¬ IsSizedTwice found × HasFiles found names × HasSettings found settings × MayBeQuiet found quiet × MayShowProgress found progress
 
@@ -205,17 +217,21 @@ IsSearchFault found setting.Rows = ⊥
 IsSearchFault found setting.Tiers = ⊥
 IsSearchFault found setting.Heights = ⊥
 
--- the first setting of solve beyond its limits: that of the search, then the rows, then the tiers, then the heights
+-- the first setting of the input beyond its limits: the rows, then the tiers, then the heights
+abbrev pub IsInputFault : List Row → SettingFault → Type 0
+IsInputFault found setting.Rows = AreRowsBeyond found
+IsInputFault found setting.Tiers = ((n : ℕ) × FindsRows found n) × AreTiersBeyond found
+IsInputFault found setting.Heights = ((n : ℕ) × FindsRows found n) × ((n : ℕ) × FindsTiers found n) × AreHeightsBeyond found
+IsInputFault found f = ⊥
+
+-- the first setting of solve beyond its limits: that of the search, then that of the input
 abbrev pub IsSolveFault : List Row → SettingFault → Type 0
-IsSolveFault found setting.Rows = ((s : Chosen) × HasSearch found s) × AreRowsBeyond found
-IsSolveFault found setting.Tiers = ((s : Chosen) × HasSearch found s) × ((n : ℕ) × FindsRows found n) × AreTiersBeyond found
-IsSolveFault found setting.Heights = ((s : Chosen) × HasSearch found s) × ((n : ℕ) × FindsRows found n) × ((n : ℕ) × FindsTiers found n)
-    × AreHeightsBeyond found
-IsSolveFault found f = IsSearchFault found f
+IsSolveFault found f = IsSearchFault found f ⊎ (((s : Chosen) × HasSearch found s) × IsInputFault found f)
 
 -- the first setting of the command beyond its limits
 abbrev pub IsFault : Text → List Row → SettingFault → Type 0
-IsFault name found f = ((name ≡ codes "prove") × IsSearchFault found f) ⊎ ((name ≡ codes "solve") × (¬ IsSizedTwice found × IsSolveFault found f))
+IsFault name found f = ((name ≡ codes "prove") × IsSearchFault found f) ⊎ (((name ≡ codes "solve") × (¬ IsSizedTwice found × IsSolveFault found f))
+    ⊎ ((name ≡ codes "audit") × (¬ IsSizedTwice found × IsInputFault found f)))
 
 -- the command, if there is one, and its rows ask for this
 abbrev pub AsksFor : Option (Text × List Row) → Job → Type 0

@@ -1,7 +1,7 @@
 //! The command line: each command with its files and options.
 ghost use Rattle.std.specs.Prelude.{◌≡◌, IfOk};
 ghost use Rattle.clap.specs.Words.{App, Shape, app_of, with_subcommand};
-ghost use Rattle.crp_words.specs.Commands.{IsArg, IsCommand, alone, beam_rule, budget_rule, crp, deepen_rule, file_rule, first_rule, flag_rule, leaf as leaf_shape, leaves, number_rule, optional_rule, progress_rule, prove as prove_shape, quiet_rule, solve as solve_shape, solve_files as solve_files_shape, split_rule, text_rule, top_command as top_shape, with_orders, with_outputs, with_search, with_size, workers_rule};
+ghost use Rattle.crp_words.specs.Commands.{IsArg, IsCommand, alone, audit as audit_shape, audit_files as audit_files_shape, beam_rule, budget_rule, crp, deepen_rule, file_rule, first_rule, flag_rule, leaf as leaf_shape, leaves, number_rule, optional_rule, progress_rule, prove as prove_shape, quiet_rule, solve as solve_shape, solve_files as solve_files_shape, split_rule, text_rule, top_command as top_shape, with_orders, with_outputs, with_search, with_size, workers_rule};
 
 use clap::{Arg, ArgAction, Command, value_parser};
 use std::alloc::{AllocError, Global};
@@ -264,6 +264,31 @@ fn solve<'a>(alloc: Global) -> Result<Command<'a>, AllocError>
     with_outputs(alloc, searched)
 }
 
+// The command `audit`, with its files, and without the options.
+fn audit_files<'a>(alloc: Global) -> Result<Command<'a>, AllocError>
+    ensures { IfOk result (IsCommand audit_files_shape) }
+{
+    Command::new(alloc, "audit")
+        .about("Check a report and its certificates, whoever made them, against a yard list and a message")
+        .arg(file(alloc, "yard", "YARD", "Yard list (CSV)"))?
+        .arg(file(alloc, "movins", "MOVINS", "Load orders (MOVINS)"))?
+        .arg(file(alloc, "report", "REPORT", "Report, as solve prints it"))?
+        .arg(file(
+            alloc,
+            "certificates",
+            "CERTS",
+            "Certificates of its bays, as solve --cert writes them",
+        ))
+}
+
+// The command `audit`.
+fn audit<'a>(alloc: Global) -> Result<Command<'a>, AllocError>
+    ensures { IfOk result (IsCommand audit_shape) }
+{
+    let sized = with_size(alloc, audit_files(alloc)?)?;
+    with_orders(alloc, sized)
+}
+
 // crp itself, without its commands.
 fn top<'a>(alloc: Global) -> Result<Command<'a>, AllocError>
     ensures { IfOk result (λ c. app_of c ≡ alone top_shape) }
@@ -323,5 +348,6 @@ pub fn command_line<'a>(alloc: Global) -> Result<Command<'a>, AllocError>
 {
     with_leaves(alloc)?
         .subcommand(prove(alloc)?)?
-        .subcommand(solve(alloc)?)
+        .subcommand(solve(alloc)?)?
+        .subcommand(audit(alloc)?)
 }

@@ -7,7 +7,7 @@ ghost use Rattle.crp_report.specs.Chosen.{CanBeHeights, IsRowCount};
 ghost use Rattle.crp_words.specs.declared.usage.SettingFault.TheVariants as setting;
 ghost use Rattle.crp_words.specs.declared.usage.Usage.TheVariants as usage;
 ghost use Rattle.crp_words.specs.Heights.{HasHeightAt, IsHeightsText};
-ghost use Rattle.crp_words.specs.Words.{AreHeightsBeyond, Asks, HasNumber, HasNumberBeyond, HasNumberWithin, HasOrder, HasSearch, HasSettings, HasText, IsFault, IsGivenByWords, IsJust, IsSearchFault, IsSizedTwice, IsSolveFault, IsWordsOrMemory, Lacks, MayFindHeights, NoFault, Refuses, ShowsKind, WordsAsk, heights_or, words_or_default};
+ghost use Rattle.crp_words.specs.Words.{AreHeightsBeyond, Asks, HasNumber, HasNumberBeyond, HasInput, HasNumberWithin, HasOrder, HasSearch, HasSettings, HasText, IsFault, IsGivenByWords, IsInputFault, IsJust, IsSearchFault, IsSizedTwice, IsSolveFault, IsWordsOrMemory, Lacks, MayFindHeights, NoFault, Refuses, ShowsKind, WordsAsk, heights_or, words_or_default};
 
 use crate::commands::command_line;
 use crate::usage::{Mistake, SettingFault, Usage};
@@ -15,10 +15,10 @@ use arrayvec::ArrayVec;
 use clap::error::ErrorKind;
 use clap::parser::ValueSource;
 use clap::{ArgMatches, Error};
-use crp_commands::{FileCommand, Job, RunFiles};
+use crp_commands::{AuditFiles, FileCommand, Job, RunFiles};
 use crp_order::Mode;
 use crp_plan::MAX_ROWS;
-use crp_report::{RunFault, RunSettings};
+use crp_report::{InputSettings, RunFault, RunSettings};
 use crp_solve::{MAX_BEAM, MAX_BUDGET, MAX_SPLIT, MAX_WORKERS, Settings};
 use std::alloc::Global;
 
@@ -42,7 +42,10 @@ const MOST_TIERS: u64 = 8;
 // The most bytes of the heights of rows.
 const MOST_BYTES: usize = 2 * MAX_ROWS - 1;
 
-// The refusal of heights beside rows or tiers.
+// The refusals of heights beside rows or tiers.
+static AUDIT_SIZED_TWICE: &str =
+    "error: the argument '--heights <HEIGHTS>' cannot be used with '--rows <N>' or '--tiers <N>'\n\nUsage: crp audit [OPTIONS] <YARD> <MOVINS> <REPORT> <CERTS>\n\nFor more information, try '--help'.\n";
+
 static SIZED_TWICE: &str =
     "error: the argument '--heights <HEIGHTS>' cannot be used with '--rows <N>' or '--tiers <N>'\n\nUsage: crp solve [OPTIONS] <YARD> <MOVINS>\n\nFor more information, try '--help'.\n";
 
@@ -231,22 +234,21 @@ fn search_of(alloc: Global, matches: &ArgMatches<'_>) -> Result<Settings, Usage>
     }
 }
 
-// The settings of a run whose bays have so many rows with so many tiers, or rows of these heights, where they are given.
-fn run_settings(
+// The settings of an input whose bays have so many rows with so many tiers, or rows of these heights, where they are given.
+fn input_with(
     alloc: Global,
-    search: Settings,
     size: (u8, u8),
     heights: &Option<ArrayVec<u8, MAX_ROWS>>,
     order: Mode,
     code: &str,
-) -> Result<RunSettings, Usage>
+) -> Result<InputSettings, Usage>
     requires rows { IsRowCount size.0 }
     requires tiers { HasTiers size.1 }
     requires own { IfSome heights.now (λ list. CanBeHeights list.items) }
-    ensures ok { IfOk result (λ settings. settings ≡ record { search = search; heights = heights_or (option_map (λ list. list.items) heights.now) size.0 size.1; mode = order; code = code.now }) }
+    ensures ok { IfOk result (λ settings. settings ≡ record { heights = heights_or (option_map (λ list. list.items) heights.now) size.0 size.1; mode = order; code = code.now }) }
     ensures err { IfErr result (λ fault. fault ≡ usage.Memory) }
 {
-    let settings = match RunSettings::new(alloc, search, size.0, size.1, order, code.as_bytes()) {
+    let settings = match InputSettings::new(alloc, size.0, size.1, order, code.as_bytes()) {
         Ok(settings) => settings,
         Err(RunFault::Memory) => return Err(Usage::Memory),
         Err(_) => unreachable!(),
@@ -260,12 +262,11 @@ fn run_settings(
     }
 }
 
-// The settings of `solve`.
-fn settings_of(alloc: Global, matches: &ArgMatches<'_>) -> Result<RunSettings, Usage>
-    ensures ok { IfOk result (HasSettings (rows_of (found_of matches.now))) }
-    ensures err { IfErr result (Lacks (HasSettings (rows_of (found_of matches.now))) (IsSolveFault (rows_of (found_of matches.now)))) }
+// What the yard list and the message of `solve` and `audit` mean.
+fn input_of(alloc: Global, matches: &ArgMatches<'_>) -> Result<InputSettings, Usage>
+    ensures ok { IfOk result (HasInput (rows_of (found_of matches.now))) }
+    ensures err { IfErr result (Lacks (HasInput (rows_of (found_of matches.now))) (IsInputFault (rows_of (found_of matches.now)))) }
 {
-    let search = search_of(alloc, matches)?;
     let rows = number_within(alloc, matches, "rows", (1, MOST_ROWS), SettingFault::Rows)?;
     let tiers = number_within(
         alloc,
@@ -277,14 +278,17 @@ fn settings_of(alloc: Global, matches: &ArgMatches<'_>) -> Result<RunSettings, U
     let heights = heights_of(matches)?;
     let order = order_of(alloc, matches)?;
     let code = text_of(alloc, matches, "code")?;
-    run_settings(
-        alloc,
-        search,
-        (rows as u8, tiers as u8),
-        &heights,
-        order,
-        code,
-    )
+    input_with(alloc, (rows as u8, tiers as u8), &heights, order, code)
+}
+
+// The settings of `solve`.
+fn settings_of(alloc: Global, matches: &ArgMatches<'_>) -> Result<RunSettings, Usage>
+    ensures ok { IfOk result (HasSettings (rows_of (found_of matches.now))) }
+    ensures err { IfErr result (Lacks (HasSettings (rows_of (found_of matches.now))) (IsSolveFault (rows_of (found_of matches.now)))) }
+{
+    let search = search_of(alloc, matches)?;
+    let input = input_of(alloc, matches)?;
+    Ok(RunSettings::new(search, input))
 }
 
 // What `prove` and its matches ask for.
@@ -325,9 +329,27 @@ fn solve_of<'a>(alloc: Global, matches: &ArgMatches<'a>) -> Result<Job<'a>, Usag
     })
 }
 
+// What `audit` and its matches ask for.
+fn audit_of<'a>(alloc: Global, matches: &ArgMatches<'a>) -> Result<Job<'a>, Usage>
+    ensures ok { IfOk result (Asks (codes "audit") (rows_of (found_of matches.now))) }
+    ensures err { IfErr result (Lacks (Asks (codes "audit") (rows_of (found_of matches.now))) (IsFault (codes "audit") (rows_of (found_of matches.now)))) }
+{
+    if is_sized_twice(matches) {
+        return Err(wrong(alloc, AUDIT_SIZED_TWICE));
+    }
+    let settings = input_of(alloc, matches)?;
+    let files = AuditFiles {
+        yard: text_of(alloc, matches, "yard")?,
+        movins: text_of(alloc, matches, "movins")?,
+        report: text_of(alloc, matches, "report")?,
+        certificates: text_of(alloc, matches, "certificates")?,
+    };
+    Ok(Job::Audit { files, settings })
+}
+
 // What a command without options and its matches ask for.
 fn leaf_of<'a>(alloc: Global, name: &str, matches: &ArgMatches<'a>) -> Result<Job<'a>, Usage>
-    requires { (name.now ≢ codes "prove") × (name.now ≢ codes "solve") }
+    requires { (name.now ≢ codes "prove") × (name.now ≢ codes "solve") × (name.now ≢ codes "audit") }
     ensures ok { IfOk result (Asks name.now (rows_of (found_of matches.now))) }
     ensures err { IfErr result (Lacks (Asks name.now (rows_of (found_of matches.now))) (IsFault name.now (rows_of (found_of matches.now)))) }
 {
@@ -351,6 +373,9 @@ fn job_of<'a>(alloc: Global, name: &str, matches: &ArgMatches<'a>) -> Result<Job
     }
     if name == "solve" {
         return solve_of(alloc, matches);
+    }
+    if name == "audit" {
+        return audit_of(alloc, matches);
     }
     leaf_of(alloc, name, matches)
 }

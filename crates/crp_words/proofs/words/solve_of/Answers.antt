@@ -4,12 +4,12 @@ use Rattle.std.proofs.lemmas.Result.{err_from_is_err_and}
 use Rattle.clap.specs.Words.{found_of, rows_of}
 use Rattle.clap.proofs.WalkLemmas.{first_value-rows}
 use Rattle.crp_words.specs.Words.{IsSizedTwice}
-use Rattle.crp_words.proofs.Lacking.{no_solve, sized_twice}
+use Rattle.crp_words.proofs.Lacking.{no_solve, solve_sized_twice}
 use Rattle.crp_words.proofs.words.solve_of.Goals as goal
 
 pub returns-then-is_sized_twice-clause-err : goal.returns-then-is_sized_twice-clause-err
 returns-then-is_sized_twice-clause-err c =
-    sized_twice (rows_of (found_of c.args.matches.now)) c.wrong.result (c.is_sized_twice.ensures.0 c.if-is_sized_twice.true) c.wrong.ensures
+    solve_sized_twice (rows_of (found_of c.args.matches.now)) c.wrong.result (c.is_sized_twice.ensures.0 c.if-is_sized_twice.true) c.wrong.ensures
 
 pub returns-in_err-settings-clause-err : goal.returns-in_err-settings-clause-err
 returns-in_err-settings-clause-err c =
