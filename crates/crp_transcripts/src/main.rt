@@ -11,6 +11,8 @@
 //! - `= NAME` has as its text what the file of this name must hold;
 //! - `- NAME` says that there must be no file of this name.
 //!
+//! What a run of `solve` with certificates wrote is audited, too, and the audit must be a yes.
+//!
 //! In a text `\xHH` is a byte, `\\` a backslash, and a line that ends with `\` gives no line end. Empty lines count for nothing.
 //!
 //! The words of this program are the names of transcripts. It plays them in order, in the folder that it is run in, up to the first block
@@ -18,6 +20,7 @@
 //! must differ. Where anything is otherwise, the standard error shows what was found, and the program ends with status 1.
 #![tactic(auto)]
 
+mod audits;
 mod blocks;
 mod player;
 

@@ -1,4 +1,5 @@
 //! A transcript, played block by block.
+use crate::audits::{REPORT, audit_of};
 use crate::blocks::{Block, Mark, blocks_of};
 use crp_commands::{NoTerminal, SystemFiles};
 use crp_plan::{Counted, Received, write_all};
@@ -7,12 +8,14 @@ use std::sync::Wait;
 use std::thread::Threads;
 use std::{fs, io};
 
-// What the last run wrote to the standard error, and its exit status, as far as no block has spoken of them; and how many runs there were.
+// What the last run wrote to the standard error, and its exit status, as far as no block has spoken of them; how many runs there were, and
+// how many of them were audited.
 #[derive(Drop)]
 struct Played {
     errors: Vec<u8>,
     status: u8,
     runs: u32,
+    audited: u32,
 }
 
 // The words of a run, and the file whose bytes are its standard input.
@@ -51,7 +54,53 @@ fn is_same(rt: &HostRuntime, line: usize, found: &[u8], wanted: &[u8]) -> io::Re
     Ok(false)
 }
 
-// Runs the program, and returns whether it wrote the text of the block.
+// Whether a run of these words was an audit that is a yes.
+fn is_accepted<T: Threads + Wait + Sync>(
+    rt: &HostRuntime,
+    threads: &T,
+    words: &[&str],
+) -> io::Result<bool> {
+    let mut shown = Received::new(rt.alloc());
+    let mut errors = Received::new(rt.alloc());
+    let status = run_words(
+        threads,
+        rt.alloc(),
+        &mut SystemFiles::new(rt),
+        &mut b"".as_slice(),
+        &mut shown,
+        &mut errors,
+        words,
+        &NoTerminal,
+    );
+    show(rt, &errors.bytes);
+    Ok(status == 0)
+}
+
+// Audits what a run of `solve` wrote, where it wrote certificates; returns whether that is a yes.
+fn audit<T: Threads + Wait + Sync>(
+    rt: &HostRuntime,
+    threads: &T,
+    played: &mut Played,
+    line: usize,
+    words: &[&str],
+    report: &[u8],
+) -> io::Result<bool> {
+    if played.status > 1 {
+        return Ok(true);
+    }
+    let Some(words) = audit_of(rt.alloc(), words)? else {
+        return Ok(true);
+    };
+    fs::write(rt, REPORT, report)?;
+    played.audited = played.audited.saturating_add(1);
+    if is_accepted(rt, threads, &words)? {
+        return Ok(true);
+    }
+    eprintln!(rt; "line {line}: the audit of the run is a no")?;
+    Ok(false)
+}
+
+// Runs the program, and returns whether it wrote the text of the block, and whether an audit of a run of `solve` is a yes.
 fn run<T: Threads + Wait + Sync>(
     rt: &HostRuntime,
     threads: &T,
@@ -74,7 +123,10 @@ fn run<T: Threads + Wait + Sync>(
     );
     played.errors = errors.bytes;
     played.runs = played.runs.saturating_add(1);
-    is_same(rt, block.line, &out.bytes, &block.text)
+    Ok(
+        is_same(rt, block.line, &out.bytes, &block.text)?
+            && audit(rt, threads, played, block.line, &words, &out.bytes)?,
+    )
 }
 
 // Whether all has been said of the last run: its standard error is empty and its status 0, but for what blocks have said.
@@ -183,10 +235,15 @@ pub(crate) fn play<T: Threads + Wait + Sync>(
         errors: Vec::new(rt.alloc()),
         status: 0,
         runs: 0,
+        audited: 0,
     };
     let differs = play_blocks(rt, threads, &mut played, &blocks)?;
     match differs {
-        None => println!(rt; "{name}: as written, {} runs", played.runs)?,
+        None if played.audited == 0 => println!(rt; "{name}: as written, {} runs", played.runs)?,
+        None => println!(rt;
+            "{name}: as written, {} runs, {} audited",
+            played.runs, played.audited
+        )?,
         Some(line) => println!(rt; "{name}: differs at line {line}")?,
     }
     Ok(differs.is_none())
