@@ -1,7 +1,8 @@
 -- The headline holds of what a run over files wrote.
 use Rattle.std.proofs.Common.{◌≡◌, ◌⊎◌, Result, Ok, Err, MatchResult, inl, inr, subst}
 use Rattle.std.specs.Prelude.{IfOk, IfErr}
-use Rattle.crp_headline.specs.Headline.{IsHeadline}
+use Rattle.crp_audit.specs.Headline.{IsHeadline}
+use Rattle.crp_headline.specs.Accepted.{handed_of}
 use Rattle.crp_headline.proofs.Reported.{headline_holds}
 use Rattle.crp_report.specs.declared.fault.Fault.{Fault}
 use Rattle.crp_report.specs.declared.fault.Fault.TheVariants as run
@@ -34,7 +35,7 @@ headline_kept (job.Solve names chosen quiet progress) seen ended (alone, (s, ove
 
 -- and of one that ended with a fault
 abbrev HeadlineSoFar : RunFiles → RunChosen → JobSeen → Type 0
-HeadlineSoFar names chosen seen = GetsNothing seen.out ⊎ ((made : Made) × IsHeadline made × AreFrontsWritten names chosen seen made)
+HeadlineSoFar names chosen seen = GetsNothing seen.out ⊎ ((made : Made) × IsHeadline (handed_of made) × AreFrontsWritten names chosen seen made)
 
 nothing_yet : (names : RunFiles) (chosen : RunChosen) (seen : JobSeen) (s : RunSeen) → IsOverFiles seen.files names seen.out s → WritesNothing s → HeadlineSoFar names chosen seen
 nothing_yet names chosen seen s over nothing = inl (subst GetsNothing over.report nothing.0)

@@ -1,6 +1,7 @@
 -- What a run over files promises of what it wrote: the headline.
 use Rattle.std.specs.Prelude.{◌⊎◌, ⊤}
-use Rattle.crp_headline.specs.Headline.{IsHeadline}
+use Rattle.crp_audit.specs.Headline.{IsHeadline}
+use Rattle.crp_headline.specs.Accepted.{handed_of}
 use Rattle.crp_report.specs.declared.fault.Output.{Output}
 use Rattle.crp_report.specs.Chosen.{RunChosen}
 use Rattle.crp_report.specs.Runs.{RunSeen, Made, IsMade, Gets, GetsFront, GetsNothing, sink_of, text_for}
@@ -33,8 +34,8 @@ pub record AreFrontsWritten (names : RunFiles) (chosen : RunChosen) (seen : JobS
 
 -- a run wrote texts of which the headline holds
 abbrev pub KeepsHeadline : Job → JobSeen → Type 0
-KeepsHeadline j seen = ForRun j (λ names chosen. (made : Made) × IsHeadline made × AreWritten names chosen seen made)
+KeepsHeadline j seen = ForRun j (λ names chosen. (made : Made) × IsHeadline (handed_of made) × AreWritten names chosen seen made)
 
 -- a run wrote fronts of texts of which the headline holds, or nothing
 abbrev pub KeepsHeadlineSoFar : Job → JobSeen → Type 0
-KeepsHeadlineSoFar j seen = ForRun j (λ names chosen. GetsNothing seen.out ⊎ ((made : Made) × IsHeadline made × AreFrontsWritten names chosen seen made))
+KeepsHeadlineSoFar j seen = ForRun j (λ names chosen. GetsNothing seen.out ⊎ ((made : Made) × IsHeadline (handed_of made) × AreFrontsWritten names chosen seen made))

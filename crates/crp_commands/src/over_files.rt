@@ -1,6 +1,7 @@
 //! A job over its files.
 ghost use Rattle.std.specs.Prelude.{◌≡◌, ◌⊎◌, IfOk, IfErr, MatchResult};
-ghost use Rattle.crp_headline.specs.Headline.{IsHeadline};
+ghost use Rattle.crp_audit.specs.Headline.{IsHeadline};
+ghost use Rattle.crp_headline.specs.Accepted.{handed_of};
 ghost use Rattle.crp_report.specs.Runs.{Made, GetsNothing};
 ghost use Rattle.crp_commands.specs.Noted.{IsNoted};
 ghost use Rattle.crp_commands.specs.Performing.{JobSeen, ReportsFile, FileFailsWith, ReportsOverFiles, FailsOverFiles};
@@ -106,12 +107,12 @@ pub fn run_job<T: Threads + Wait + Sync, F: Files, R: Source, W: Sink, E: Sink, 
       files = record { known = F.known files.old; before = F.failures files.old; after = F.failures files.new };
       input = record { given = R.remaining input.old; before = R.failures input.old; after = R.failures input.new };
       out = record { held = W.contents out.old; holds = W.contents out.new; before = W.failures out.old; after = W.failures out.new };
-    } in IfOk result (λ _. ForRun job.now (λ names chosen. (made : Made) × IsHeadline made × AreWritten names chosen seen made)) }
+    } in IfOk result (λ _. ForRun job.now (λ names chosen. (made : Made) × IsHeadline (handed_of made) × AreWritten names chosen seen made)) }
     ensures headline_so_far { let seen : JobSeen = record {
       files = record { known = F.known files.old; before = F.failures files.old; after = F.failures files.new };
       input = record { given = R.remaining input.old; before = R.failures input.old; after = R.failures input.new };
       out = record { held = W.contents out.old; holds = W.contents out.new; before = W.failures out.old; after = W.failures out.new };
-    } in IfErr result (λ _. ForRun job.now (λ names chosen. GetsNothing seen.out ⊎ ((made : Made) × IsHeadline made × AreFrontsWritten names chosen seen made))) }
+    } in IfErr result (λ _. ForRun job.now (λ names chosen. GetsNothing seen.out ⊎ ((made : Made) × IsHeadline (handed_of made) × AreFrontsWritten names chosen seen made))) }
     ensures noted { IsNoted job.now (record { held = E.contents errors.old; holds = E.contents errors.new; before = E.failures errors.old; after = E.failures errors.new }) }
 {
     do_job(threads, alloc, files, input, out, job, errors, terminal)

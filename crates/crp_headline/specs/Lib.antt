@@ -1,3 +1,2 @@
--- What a run promises, and what the checker says of what the solver writes.
+-- What the program writes, as an auditor sees it.
 pub mod Accepted
-pub mod Headline
