@@ -242,7 +242,7 @@ fn advice_on_audit(fault: &AuditFault) -> &'static str
 {
     match fault {
         AuditFault::Spelling { .. } => {
-            "this line is none of a report as crp solve prints it: a wrong word, a blank, a number, another line end, or it is cut off"
+            "this line is none of a report as crp solve prints it: a wrong word, blank, number or line end, or it is cut off"
         }
         AuditFault::Numbers => {
             "the report is about other orders or another yard: take the yard list, the message, --order and --code of its run"

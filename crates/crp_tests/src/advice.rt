@@ -6,9 +6,11 @@ use crate::advice::faults::{
     OF_CERTIFICATES, OF_INTERCHANGES, OF_MESSAGES, OF_PLANS, OF_RUNS, OF_SETTINGS, OF_YARD_LISTS,
 };
 use crate::compare::{assert_at, assert_same, assert_same_at};
+use crp_audit::AuditFault;
 use crp_checker::{Path, Refused};
-use crp_commands::{ToolFault, advice_on};
+use crp_commands::{Statement, ToolFault, advice_on};
 use crp_movins::MovinsFault;
+use crp_plan::BayName;
 use crp_report::{Fault, Output};
 use crp_words::advice_on_setting;
 use crp_yard::YardFault;
@@ -21,7 +23,7 @@ fn checked(refused: Refused) -> ToolFault {
 }
 
 // Faults that no small input and no command shows, each with its line and the line after it.
-fn unseen() -> [(ToolFault, &'static str, &'static str); 9] {
+fn unseen() -> [(ToolFault, &'static str, &'static str); 11] {
     [
         (
             ToolFault::Run(Fault::Interchange(EdiFault::TooLong { offset: 6 })),
@@ -61,6 +63,16 @@ fn unseen() -> [(ToolFault, &'static str, &'static str); 9] {
         (
             ToolFault::TooLarge,
             "the input is too large",
+            "a file of certificates may have at most 268435456 bytes",
+        ),
+        (
+            ToolFault::TooLargeOf(Statement::Report),
+            "the report: too many bytes",
+            "a report may have at most 16777216 bytes",
+        ),
+        (
+            ToolFault::TooLargeOf(Statement::Certificates),
+            "the certificates: too many bytes",
             "a file of certificates may have at most 268435456 bytes",
         ),
         (
@@ -135,11 +147,55 @@ fn add_certificates(alloc: Global, faults: &mut Vec<ToolFault>) -> Result<(), Al
     Ok(())
 }
 
+// The faults of a bay that is audited.
+fn audited(bay: &BayName) -> [AuditFault; 5] {
+    [
+        AuditFault::Bay {
+            line: 2,
+            wanted: Some(bay.copy()),
+        },
+        AuditFault::Plan { bay: bay.copy() },
+        AuditFault::Certificate {
+            bay: bay.copy(),
+            refused: Refused::OtherProblem,
+        },
+        AuditFault::Other { bay: bay.copy() },
+        AuditFault::Lacking { bay: bay.copy() },
+    ]
+}
+
+// The faults of an audit that are none of a run or a check.
+fn add_audits(faults: &mut Vec<ToolFault>) -> Result<(), AllocError> {
+    for fault in [
+        AuditFault::Spelling { line: 3 },
+        AuditFault::Numbers,
+        AuditFault::Bay {
+            line: 2,
+            wanted: None,
+        },
+        AuditFault::Move { line: 4 },
+        AuditFault::LeftOver,
+        AuditFault::Closing,
+    ] {
+        faults.push(ToolFault::Audited(fault))?;
+    }
+    if let Some(bay) = BayName::new(b"A", 1) {
+        for fault in audited(&bay) {
+            faults.push(ToolFault::Audited(fault))?;
+        }
+    }
+    faults.push(ToolFault::ReadOf(Statement::Report))?;
+    faults
+        .push(ToolFault::TooLargeOf(Statement::Report))
+        .map_err(AllocError::from)
+}
+
 // Every fault of a job.
 fn every_fault(alloc: Global) -> Result<Vec<ToolFault>, AllocError> {
     let mut faults = Vec::new(alloc);
     add_runs(&mut faults)?;
     add_certificates(alloc, &mut faults)?;
+    add_audits(&mut faults)?;
     faults.push(ToolFault::Read)?;
     faults.push(ToolFault::Write)?;
     faults.push(ToolFault::TooLarge)?;
@@ -167,7 +223,7 @@ fn is_short(advice: &str) -> bool {
 #[test]
 fn each_line_is_short_and_of_one_code(rt: HostRuntime) -> Result<(), Fail> {
     let lines = every_advice(rt.alloc())?;
-    assert_same(&rt, &lines.len(), &70);
+    assert_same(&rt, &lines.len(), &83);
     for (i, advice) in lines.iter().enumerate() {
         assert_at(&rt, is_short(advice), advice);
         let is_new = lines[..i].iter().all(|line| line != advice);

@@ -5,6 +5,8 @@
 #[cfg(test)]
 mod advice;
 #[cfg(test)]
+mod audits;
+#[cfg(test)]
 mod bay_by_bay;
 #[cfg(test)]
 mod calls;

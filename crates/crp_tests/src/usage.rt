@@ -3,7 +3,7 @@ use crate::calls::job;
 use crate::compare::assert_at;
 use crp_commands::{FileCommand, Job, RunFiles};
 use crp_order::Mode;
-use crp_report::RunSettings;
+use crp_report::{InputSettings, RunSettings};
 use crp_solve::Settings;
 use crp_words::Usage;
 use std::alloc::Global;
@@ -154,11 +154,14 @@ struct Asked {
     progress: bool,
 }
 
+fn has_input(settings: &InputSettings, asked: &Asked) -> bool {
+    settings.heights() == asked.heights
+        && settings.mode() == asked.order
+        && settings.code() == asked.code.as_bytes()
+}
+
 fn has_settings(settings: &RunSettings, asked: &Asked) -> bool {
-    search_of(&settings.search()) == asked.search
-        && settings.input().heights() == asked.heights
-        && settings.input().mode() == asked.order
-        && settings.input().code() == asked.code.as_bytes()
+    search_of(&settings.search()) == asked.search && has_input(settings.input(), asked)
 }
 
 fn has_files(names: &RunFiles<'_>, asked: &Asked) -> bool {
@@ -342,6 +345,44 @@ fn settings_at_their_limits(rt: HostRuntime) {
     }
 }
 
+// Whether the job is an audit of these files, by what is asked for of the input.
+fn is_audit(job: &Result<Job<'_>, Usage>, files: [&str; 4], asked: &Asked) -> bool {
+    match job {
+        Ok(
+            Job::Audit {
+                files: names,
+                settings,
+            },
+        ) => {
+            [names.yard, names.movins, names.report, names.certificates] == files
+                && has_input(settings, asked)
+        }
+        _ => false,
+    }
+}
+
+#[test]
+fn reads_an_audit(rt: HostRuntime) {
+    let files = ["y", "m", "r", "c"];
+    let asked = job(rt.alloc(), &["audit", "y", "m", "r", "c"]);
+    assert!(rt; is_audit(&asked, files, &BY_DEFAULT));
+    let words = [
+        "audit",
+        "y",
+        "--rows=12",
+        "m",
+        "--tiers",
+        "1",
+        "r",
+        "--order=stowage",
+        "--code",
+        "",
+        "c",
+    ];
+    let asked = job(rt.alloc(), &words);
+    assert!(rt; is_audit(&asked, files, &ALL_OPTIONS));
+}
+
 fn is_help(alloc: Global, words: &[&str]) -> bool {
     matches!(job(alloc, words), Err(Usage::Help(_)))
 }
@@ -353,6 +394,7 @@ fn shows_help(rt: HostRuntime) {
         ["--version", "replay"],
         ["bound", "--help"],
         ["solve", "--help"],
+        ["audit", "--help"],
         ["help", "prove"],
     ] {
         assert_at(&rt, is_help(rt.alloc(), &words), &words);

@@ -97,7 +97,7 @@ fn split<'a>(alloc: Global) -> Arg<'a>
         alloc,
         "split",
         "2",
-        "Subtrees are given away above this depth, 0 to 8",
+        "Subtrees at paths of fewer rows than this are for whichever worker is idle, 0 to 8",
     )
 }
 
@@ -108,7 +108,7 @@ fn budget<'a>(alloc: Global) -> Arg<'a>
         alloc,
         "budget",
         "1000000",
-        "Most expansions for a bay, 0 to 1099511627776",
+        "Most positions looked at for a bay, 0 to 1099511627776",
     )
 }
 
@@ -295,7 +295,7 @@ fn top<'a>(alloc: Global) -> Result<Command<'a>, AllocError>
 {
     let top = Command::new(alloc, "crp").bin_name("crp")?;
     Ok(
-        top.version("0.1.0")
+        top.version("0.1.0 (rattle-kit-13f logic dac8208d650f15bf)")
             .no_binary_name(true)
             .subcommand_required(true),
     )
