@@ -205,11 +205,12 @@ pub fn run_watched<
     ensures shown { ShowsMore (E.contents errors.old) (E.contents errors.new) }
 {
     let mut interruptions = 0;
-    let listed = yard_from(alloc, yard, settings.input().heights(), &mut interruptions)?;
+    let input = settings.input();
+    let listed = yard_from(alloc, yard, input.heights(), &mut interruptions)?;
     let Message { segments, orders } = message_from(
         alloc,
         movins,
-        settings.input().code(),
+        input.code(),
         &mut interruptions,
     )?;
     let Work {
