@@ -97,6 +97,9 @@ line_stops held holds new before after file piece verdicts stated files number (
 line_stops held holds new before after file piece verdicts stated files number (fault.Cert f) has ended why = absurd why
 line_stops held holds new before after file piece verdicts stated files number (fault.Plan f) has ended why = absurd why
 line_stops held holds new before after file piece verdicts stated files number (fault.Run f) has ended why = absurd why
+line_stops held holds new before after file piece verdicts stated files number (fault.Audited f) has ended why = absurd why
+line_stops held holds new before after file piece verdicts stated files number (fault.ReadOf which) has ended why = absurd why
+line_stops held holds new before after file piece verdicts stated files number (fault.TooLargeOf which) has ended why = absurd why
 
 -- a certificate that is refused
 pub refusal_stops : (held holds : Option (List ℕ)) (before after : ℕ) (file piece : List ℕ) (verdicts : List (YardBay × Verdict)) (files : FileChecker) (number : ℕ) (why : Refused) (f : ToolFault) →
@@ -143,6 +146,9 @@ earlier_bytes held holds first before after bytes fault.TooLarge le grows tells 
 earlier_bytes held holds first before after bytes (fault.Cert f) le grows tells = absurd tells
 earlier_bytes held holds first before after bytes (fault.Plan f) le grows tells = absurd tells
 earlier_bytes held holds first before after bytes (fault.Run f) le grows tells = absurd tells
+earlier_bytes held holds first before after bytes (fault.Audited f) le grows tells = absurd tells
+earlier_bytes held holds first before after bytes (fault.ReadOf which) le grows tells = absurd tells
+earlier_bytes held holds first before after bytes (fault.TooLargeOf which) le grows tells = absurd tells
 
 -- a fault after a piece that was checked
 pub stops_after : (one two all : List ℕ) (a b c : Option (List ℕ)) (f g : FileChecker) (m n first before after : ℕ) (why : ToolFault) → one ++ two ≡ all → first ≤ before → before ≤ after →
@@ -207,6 +213,9 @@ bytes_stop limit s bytes fault.TooLarge is within tells = absurd tells
 bytes_stop limit s bytes (fault.Cert f) is within tells = absurd tells
 bytes_stop limit s bytes (fault.Plan f) is within tells = absurd tells
 bytes_stop limit s bytes (fault.Run f) is within tells = absurd tells
+bytes_stop limit s bytes (fault.Audited f) is within tells = absurd tells
+bytes_stop limit s bytes (fault.ReadOf which) is within tells = absurd tells
+bytes_stop limit s bytes (fault.TooLargeOf which) is within tells = absurd tells
 
 -- a line was written for each certificate that has ended in the file
 pub wrote_each : (s : CallSeen) (file : List ℕ) (verdicts : List (YardBay × Verdict)) (files : FileChecker) (number : ℕ) → IsReadFrom s.given file → HasChecked s.held s.holds file verdicts files number → WritesEach s file
@@ -230,6 +239,9 @@ earlier_check limit given held holds source before after sink first last fault.M
 earlier_check limit given held holds source before after sink first last (fault.Cert f) a b c d tells = absurd tells
 earlier_check limit given held holds source before after sink first last (fault.Plan f) a b c d tells = absurd tells
 earlier_check limit given held holds source before after sink first last (fault.Run f) a b c d tells = absurd tells
+earlier_check limit given held holds source before after sink first last (fault.Audited f) a b c d tells = absurd tells
+earlier_check limit given held holds source before after sink first last (fault.ReadOf which) a b c d tells = absurd tells
+earlier_check limit given held holds source before after sink first last (fault.TooLargeOf which) a b c d tells = absurd tells
 
 -- at the last line
 pub last_stops : (limit : ℕ) (s : CallSeen) (holds : Option (List ℕ)) (file : List ℕ) (verdicts : List (YardBay × Verdict)) (stated : YardBay × Verdict) (files : FileChecker) (number : ℕ) (f : ToolFault) →
@@ -245,6 +257,9 @@ last_stops limit s holds file verdicts stated files number (fault.Checked n r) t
 last_stops limit s holds file verdicts stated files number (fault.Cert f) text is has shows why = absurd why
 last_stops limit s holds file verdicts stated files number (fault.Plan f) text is has shows why = absurd why
 last_stops limit s holds file verdicts stated files number (fault.Run f) text is has shows why = absurd why
+last_stops limit s holds file verdicts stated files number (fault.Audited f) text is has shows why = absurd why
+last_stops limit s holds file verdicts stated files number (fault.ReadOf which) text is has shows why = absurd why
+last_stops limit s holds file verdicts stated files number (fault.TooLargeOf which) text is has shows why = absurd why
 
 -- at the last certificate
 pub last_refused : (limit : ℕ) (s : CallSeen) (file : List ℕ) (verdicts : List (YardBay × Verdict)) (files : FileChecker) (number : ℕ) (why : Refused) (f : ToolFault) →

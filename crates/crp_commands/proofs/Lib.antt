@@ -1,6 +1,7 @@
 -- Lemmas on what is written.
 pub mod Replayed
 pub mod Checked
+pub mod Audited
 pub mod Performed
 pub mod Solved
 pub mod Promised

@@ -1,9 +1,8 @@
 -- What was shown, and nothing more.
-use Rattle.std.proofs.Common.{◌≡◌, ◌∙◌, ℕ, List, Option, Some, None, Bool, true, false, refl}
+use Rattle.std.proofs.Common.{◌∙◌, ℕ, List, Option, Some, None, Bool, true, false, refl}
 use Rattle.std.specs.Io.KnownBytes.{Appends, Keeps}
 use Rattle.std.proofs.KnownBytes.{Keeps-refl, Keeps-trans}
 use Rattle.crp_report.specs.Runs.{SinkSeen}
-use Rattle.crp_report.specs.Watching.{ShowsMore}
 use Rattle.crp_report.proofs.Shown.{shows_nothing}
 use Rattle.crp_commands.specs.declared.job.Job.{Job}
 use Rattle.crp_commands.specs.declared.job.Job.TheVariants as job

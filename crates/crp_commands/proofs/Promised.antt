@@ -1,5 +1,5 @@
 -- The headline holds of what a run over files wrote.
-use Rattle.std.proofs.Common.{◌≡◌, ◌⊎◌, Result, Ok, Err, MatchResult, inl, inr, subst}
+use Rattle.std.proofs.Common.{◌⊎◌, Result, Ok, Err, MatchResult, inl, inr, subst}
 use Rattle.std.specs.Prelude.{IfOk, IfErr}
 use Rattle.crp_audit.specs.Headline.{IsHeadline}
 use Rattle.crp_headline.specs.Accepted.{handed_of}

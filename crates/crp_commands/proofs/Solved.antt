@@ -1,9 +1,8 @@
 -- How a run over files ends, from how the run over its devices does.
-use Rattle.std.proofs.Common.{◌≡◌, ℕ, ◌+◌, ◌<◌, List, Bool, Option, Some, None, IsSome, Result, Ok, Err, MatchResult, refl, sym, ap, subst, inl, inr, ⊎_elim, lit<, arith}
+use Rattle.std.proofs.Common.{◌≡◌, ℕ, ◌+◌, ◌<◌, List, Bool, Option, Some, None, IsSome, Result, Ok, Err, MatchResult, refl, sym, subst, inl, inr, lit<, arith}
 use Rattle.crp_plan.specs.Devices.{CountsMore, CountsOne, HasFailed}
 use Rattle.crp_report.specs.declared.fault.Fault.{Fault}
 use Rattle.crp_report.specs.declared.fault.Fault.TheVariants as run
-use Rattle.crp_report.specs.declared.fault.Output.{Output}
 use Rattle.crp_report.specs.declared.fault.Output.TheVariants as output
 use Rattle.crp_report.specs.declared.status.Status.{Status}
 use Rattle.crp_report.specs.Chosen.{RunChosen}
@@ -12,7 +11,7 @@ use Rattle.crp_commands.specs.declared.job.RunFiles.{RunFiles}
 use Rattle.crp_commands.specs.declared.outcome.ToolFault.{ToolFault}
 use Rattle.crp_commands.specs.declared.outcome.ToolFault.TheVariants as fault
 use Rattle.crp_commands.specs.Opened.{KnownFiles, FilesSeen, IsFileOpened, IsNewSink}
-use Rattle.crp_commands.specs.Solving.{RunEnds, RunFails, RunAnswers, AnswersAfter, AnswersOutputs, AreLeftAlone, FailsWhereAsked, IsOfRefused, IsOutputRefused, IsOverAfter, IsOverOutputs, IsOverFiles, IsRefused, RefusesOutput, RunReportsOverFiles, RunFailsOverFiles, no_sink}
+use Rattle.crp_commands.specs.Solving.{RunEnds, RunFails, RunAnswers, AnswersAfter, AnswersOutputs, FailsWhereAsked, IsOfRefused, IsOutputRefused, IsOverAfter, IsOverOutputs, IsOverFiles, IsRefused, RefusesOutput, RunReportsOverFiles, RunFailsOverFiles, no_sink}
 
 -- ---- counts of failures, which end at the largest u64
 

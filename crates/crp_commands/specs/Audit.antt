@@ -146,12 +146,12 @@ AuditFails chosen s f = AuditFailsWith chosen s f × (audit_failures s ≤ most_
 -- ---- over files
 
 -- the sources are the files of these names; what failed of the files is what failed of them
-pub record IsOverNamed (files : FilesSeen) (names : AuditFiles) (out : SinkSeen) (s : AuditSeen) : Type 0 where
+pub record IsOverNamed (files : FilesSeen) (names : AuditFiles) (shown : SinkSeen) (s : AuditSeen) : Type 0 where
   pub yard : IsFileOpened files.known names.yard.now s.yard
   pub movins : IsFileOpened files.known names.movins.now s.movins
   pub report : IsFileOpened files.known names.report.now s.report
   pub certificates : IsFileOpened files.known names.certificates.now s.certificates
-  pub out : s.out ≡ out
+  pub out : s.out ≡ shown
   pub failed : FilesFail files (s.yard.after + (s.movins.after + (s.report.after + s.certificates.after)))
 
 -- the fault states that a file cannot be opened, as a failed read of it

@@ -248,8 +248,10 @@ fn advice_on_audit(fault: &AuditFault) -> &'static str
             "the report is about other orders or another yard: take the yard list, the message, --order and --code of its run"
         }
         AuditFault::Bay {
-            wanted: Some(_), ..
-        } => "the line of this bay must stand here: bays from which containers leave, each once, in the yard's order",
+            wanted: Some(_),
+            ..
+        } =>
+            "the line of this bay must stand here: bays from which containers leave, each once, in the yard's order",
         AuditFault::Bay { wanted: None, .. } => {
             "the last line must stand here: no container leaves from another bay"
         }
@@ -265,9 +267,12 @@ fn advice_on_audit(fault: &AuditFault) -> &'static str
         AuditFault::Other { .. } => {
             "the certificate is accepted, but it is another bay's, or shows something else than the report says of this bay"
         }
-        AuditFault::Lacking { .. } => "the certificates end before that of this bay: one must be there for each bay",
-        AuditFault::LeftOver => "certificates are left over behind that of the last bay: one must be there for each bay",
-        AuditFault::Closing => "the last line must count the bays of the report, and those that are optimal or have no plan",
+        AuditFault::Lacking { .. } =>
+            "the certificates end before that of this bay: one must be there for each bay",
+        AuditFault::LeftOver =>
+            "certificates are left over behind that of the last bay: one must be there for each bay",
+        AuditFault::Closing =>
+            "the last line must count the bays of the report, and those that are optimal or have no plan",
         AuditFault::Memory => MEMORY,
     }
 }

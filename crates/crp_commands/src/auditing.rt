@@ -1,5 +1,5 @@
 //! The command `audit`: from the bytes of a yard list, a message, a report and certificates to a line for each bay.
-ghost use Rattle.std.specs.Prelude.{◌≡◌, ◌≤◌, ◌+◌, IfOk, IfErr, MatchResult};
+ghost use Rattle.std.specs.Prelude.{◌≡◌, ◌≤◌, ◌+◌, ◌-◌, IfOk, IfErr, MatchResult};
 ghost use Rattle.std.specs.List.{AllByRecursion};
 ghost use Rattle.crp_plan.specs.Devices.{most_interruptions};
 ghost use Rattle.crp_yard.specs.Naming.{IsNamedBay};
@@ -71,12 +71,7 @@ struct InputRead {
 }
 
 // The load orders and their sequence.
-fn sequenced(
-    alloc: Global,
-    yard: Yard,
-    orders: Orders,
-    mode: Mode,
-) -> Result<InputRead, AllocError>
+fn sequenced(alloc: Global, yard: Yard, orders: Orders, mode: Mode) -> Result<InputRead, AllocError>
     ensures same { IfOk result (λ input. (input.yard ≡ yard) × (input.orders ≡ orders)) }
     ensures sequence { IfOk result (λ input. IsSequence mode orders.list input.sequence) }
 {
@@ -96,7 +91,7 @@ fn input_from<Y: Source, M: Source>(
     settings: &InputSettings,
     interruptions: &mut u32,
 ) -> Result<InputRead, Fault>
-    requires { interruptions.old ≤ most_interruptions }
+    requires first { interruptions.old ≡ 0 }
     ensures read { IfOk result (λ input. IsInputOf settings.now
         (record { given = Y.remaining yard.old; before = Y.failures yard.old; after = Y.failures yard.new })
         (record { given = M.remaining movins.old; before = M.failures movins.old; after = M.failures movins.new }) input.yard input.orders input.sequence) }
@@ -105,8 +100,8 @@ fn input_from<Y: Source, M: Source>(
         (record { given = Y.remaining yard.old; before = Y.failures yard.old; after = Y.failures yard.new })
         (record { given = M.remaining movins.old; before = M.failures movins.old; after = M.failures movins.new })) }
     ensures counted { MatchResult result
-        (λ _. Y.failures yard.new + M.failures movins.new + interruptions.old ≤ Y.failures yard.old + M.failures movins.old + interruptions.new)
-        (λ fault. Y.failures yard.new + M.failures movins.new + interruptions.old ≤ Y.failures yard.old + M.failures movins.old + interruptions.new + failures_of_fault fault) }
+        (λ _. (Y.failures yard.new - Y.failures yard.old) + (M.failures movins.new - M.failures movins.old) ≤ interruptions.new)
+        (λ fault. (Y.failures yard.new - Y.failures yard.old) + (M.failures movins.new - M.failures movins.old) ≤ interruptions.new + failures_of_fault fault) }
     ensures passed { interruptions.new ≤ most_interruptions }
 {
     let listed = yard_from(alloc, yard, settings.heights(), interruptions)?;
@@ -148,6 +143,7 @@ fn refuse<W: Sink>(
     ensures stated { let out_seen : SinkSeen = record { held = W.contents out.old; holds = W.contents out.new; before = W.failures out.old; after = W.failures out.new } in
         (h : Handed) → IsAuditRefusal h refused.before refused.fault → StopsOn h out_seen result }
     ensures counted { W.failures out.new + interruptions.old ≤ W.failures out.old + interruptions.new + failures_of_tool_fault result }
+    ensures count { W.failures out.old ≤ W.failures out.new }
     ensures passed { interruptions.new ≤ most_interruptions }
 {
     let Ok(lines) = lines_of(alloc, &refused.before) else {
@@ -175,6 +171,7 @@ fn audit_input<W: Sink>(
         MatchResult result (λ _. (is : IsHeadline h) × Gets out_seen (audit_text (shown_in h is))) (StopsOn h out_seen) }
     ensures counted { MatchResult result (λ _. W.failures out.new + interruptions.old ≤ W.failures out.old + interruptions.new)
         (λ fault. W.failures out.new + interruptions.old ≤ W.failures out.old + interruptions.new + failures_of_tool_fault fault) }
+    ensures count { W.failures out.old ≤ W.failures out.new }
     ensures passed { interruptions.new ≤ most_interruptions }
 {
     match crp_audit::audit(
@@ -216,7 +213,12 @@ pub fn audit<Y: Source, M: Source, R: Source, C: Source, W: Sink>(
     let mut interruptions = 0;
     let input = input_from(alloc, yard, movins, settings, &mut interruptions)?;
     let said = text_from(alloc, report, Statement::Report, &mut interruptions)?;
-    let proofs = text_from(alloc, certificates, Statement::Certificates, &mut interruptions)?;
+    let proofs = text_from(
+        alloc,
+        certificates,
+        Statement::Certificates,
+        &mut interruptions,
+    )?;
     audit_input(alloc, &input, &said, &proofs, out, &mut interruptions)?;
     Ok(Status::Decided)
 }

@@ -54,7 +54,11 @@ fn push_verdict_words(text: &mut Vec<u8>, verdict: Verdict) -> Result<(), AllocE
 }
 
 /// Adds the line of a certificate.
-pub(crate) fn push_verdict(text: &mut Vec<u8>, bay: &BayName, verdict: Verdict) -> Result<(), AllocError>
+pub(crate) fn push_verdict(
+    text: &mut Vec<u8>,
+    bay: &BayName,
+    verdict: Verdict,
+) -> Result<(), AllocError>
     ensures { OnOk result (text.new.items ≡ text.old.items ++ verdict_line (bay.now, verdict)) }
 {
     push_bay_words(text, bay)?;

@@ -1,4 +1,4 @@
-use Rattle.std.proofs.Common.{◌≡◌, ◌≢◌, codes, refl, sym, rules}
+use Rattle.std.proofs.Common.{◌≡◌, ◌≢◌, codes, refl, rules}
 use Rattle.crp_report.specs.Runs.{SourceSeen}
 use Rattle.crp_commands.proofs.Performed.{from_input, from_file}
 use Rattle.crp_commands.proofs.Solved.{more_from}

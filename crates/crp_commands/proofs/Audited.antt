@@ -1,0 +1,42 @@
+-- How an audit ends, from how its parts do.
+use Rattle.std.proofs.Common.{◌+◌, ℕ, Result, Ok, Err, MatchResult, sym, subst, inl, inr}
+use Rattle.crp_plan.specs.Devices.{CountsMore}
+use Rattle.crp_report.specs.declared.status.Status.{Status}
+use Rattle.crp_report.specs.Chosen.{InputChosen}
+use Rattle.crp_report.specs.Runs.{GetsNothing}
+use Rattle.crp_commands.specs.declared.job.AuditFiles.{AuditFiles}
+use Rattle.crp_commands.specs.declared.outcome.Statement.{Statement}
+use Rattle.crp_commands.specs.declared.outcome.ToolFault.{ToolFault}
+use Rattle.crp_commands.specs.declared.outcome.ToolFault.TheVariants as fault
+use Rattle.crp_commands.specs.Audit.{AuditSeen, AuditEnds, AuditFails, AuditFailsWith, AuditReportsOverFiles, AuditFailsOverFiles, IsInputAccepted, IsNoStatement, IsOverNamed, statement_of}
+use Rattle.crp_commands.specs.Opened.{FilesSeen}
+use Rattle.crp_commands.proofs.Solved.{more_and_more}
+
+-- a statement was not read
+pub unread : (chosen : InputChosen) (s : AuditSeen) (which : Statement) (f : ToolFault) → GetsNothing s.out → IsInputAccepted chosen s
+    → IsNoStatement which (statement_of s which) f → AuditFailsWith chosen s f
+unread chosen s which (fault.ReadOf other) nothing input is =
+    (nothing, input, subst (λ (w : Statement). IsNoStatement w (statement_of s w) (fault.ReadOf other)) (sym is.0) is)
+unread chosen s which (fault.TooLargeOf other) nothing input is =
+    (nothing, input, subst (λ (w : Statement). IsNoStatement w (statement_of s w) (fault.TooLargeOf other)) (sym is.0) is)
+unread chosen s which fault.Memory nothing input is = inl nothing
+unread chosen s which (fault.Cert f) nothing input is = absurd is
+unread chosen s which (fault.Plan f) nothing input is = absurd is
+unread chosen s which (fault.Checked number why) nothing input is = absurd is
+unread chosen s which (fault.Audited f) nothing input is = absurd is
+unread chosen s which (fault.Run f) nothing input is = absurd is
+unread chosen s which fault.Read nothing input is = absurd is
+unread chosen s which fault.Write nothing input is = absurd is
+unread chosen s which fault.TooLarge nothing input is = absurd is
+
+-- what is counted of the files, when all four are closed
+pub closed_four : (w x y z : ℕ) (a b c d e : ℕ) → CountsMore w a b → CountsMore x b c → CountsMore y c d → CountsMore z d e → CountsMore (w + (x + (y + z))) a e
+closed_four w x y z a b c d e first second third fourth =
+    more_and_more w (x + (y + z)) a b e first (more_and_more x (y + z) b c e second (more_and_more y z c d e third fourth))
+
+-- over files it ends as over its sources
+pub over_files : (names : AuditFiles) (chosen : InputChosen) (files : FilesSeen) (s : AuditSeen) (answer : Result Status ToolFault) → IsOverNamed files names s.out s →
+    MatchResult answer (AuditEnds chosen s) (AuditFails chosen s) →
+    MatchResult answer (AuditReportsOverFiles names chosen files s.out) (AuditFailsOverFiles names chosen files s.out)
+over_files names chosen files s (Ok ended) over is = (s, over, is)
+over_files names chosen files s (Err f) over is = inr (s, over, is)

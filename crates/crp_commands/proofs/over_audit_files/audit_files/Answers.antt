@@ -1,0 +1,54 @@
+use Rattle.std.proofs.Common.{◌∙◌, ap, refl}
+use Rattle.crp_commands.specs.Audit.{AuditSeen}
+use Rattle.crp_commands.specs.Opened.{KnownFiles}
+use Rattle.crp_commands.proofs.Audited.{closed_four, over_files}
+use Rattle.crp_commands.proofs.Solved.{more_from}
+use Rattle.crp_commands.proofs.over_audit_files.audit_files.Goals as goal
+
+pub returns : goal.returns
+returns g c =
+    let seen : AuditSeen = record {
+      yard = record {
+        given = g.F.Input.Source.remaining c.in-Ok.yard;
+        before = g.F.Input.Source.failures c.in-Ok.yard;
+        after = g.F.Input.Source.failures c.audit-answer.new.yard;
+      };
+      movins = record {
+        given = g.F.Input.Source.remaining c.in-Ok-open.movins;
+        before = g.F.Input.Source.failures c.in-Ok-open.movins;
+        after = g.F.Input.Source.failures c.audit-answer.new.movins;
+      };
+      report = record {
+        given = g.F.Input.Source.remaining c.in-Ok-open-2.report;
+        before = g.F.Input.Source.failures c.in-Ok-open-2.report;
+        after = g.F.Input.Source.failures c.audit-answer.new.report;
+      };
+      certificates = record {
+        given = g.F.Input.Source.remaining c.in-Ok-open-3.certificates;
+        before = g.F.Input.Source.failures c.in-Ok-open-3.certificates;
+        after = g.F.Input.Source.failures c.audit-answer.new.certificates;
+      };
+      out = record {
+        held = g.W.Sink.contents c.args.out.now;
+        holds = g.W.Sink.contents c.audit-answer.new.out;
+        before = g.W.Sink.failures c.args.out.now;
+        after = g.W.Sink.failures c.audit-answer.new.out;
+      };
+    } in
+    let names = c.args.names.now in
+    let second = c.open.ensures.kept in
+    let third = c.open-2.ensures.kept ∙ second in
+    let fourth = c.open-3.ensures.kept ∙ third in
+    over_files names c.args.settings.now _ seen c.audit-answer.result (record {
+      yard = record { bytes = c.in-Ok.ensures.bytes; new = c.in-Ok.ensures.new };
+      movins = record { bytes = c.in-Ok-open.ensures.bytes ∙ ap (λ (k : KnownFiles). k.given names.movins.now) second; new = c.in-Ok-open.ensures.new };
+      report = record { bytes = c.in-Ok-open-2.ensures.bytes ∙ ap (λ (k : KnownFiles). k.given names.report.now) third; new = c.in-Ok-open-2.ensures.new };
+      certificates = record {
+        bytes = c.in-Ok-open-3.ensures.bytes ∙ ap (λ (k : KnownFiles). k.given names.certificates.now) fourth;
+        new = c.in-Ok-open-3.ensures.new;
+      };
+      out = refl;
+      failed = closed_four _ _ _ _ _ _ _ _ _
+          (more_from _ _ _ _ (c.in-Ok-open-3.ensures.count ∙ c.in-Ok-open-2.ensures.count ∙ c.in-Ok-open.ensures.count ∙ c.in-Ok.ensures.count) c.close.ensures)
+          c.close-2.ensures c.close-3.ensures c.close-4.ensures;
+    }) c.audit-answer.ensures
