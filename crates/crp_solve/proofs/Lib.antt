@@ -18,6 +18,7 @@ pub mod Opened
 pub mod Rested
 pub mod Wholes
 pub mod Joining
+pub mod AllWorkers
 pub mod FirstKept
 pub mod FirstFound
 pub mod FirstAnswers

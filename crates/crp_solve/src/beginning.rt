@@ -1,15 +1,21 @@
 //! The first worker of a search, which searches the part of the root before any other begins.
-ghost use Rattle.std.specs.Prelude.{◌≡◌, ◌<◌, ◌∷◌, [], All, map, IfOk, None, is_some, vec_len, vec_capacity};
+ghost use Rattle.std.specs.Prelude.{◌≡◌, ◌<◌, ◌∷◌, [], All, map, IfOk, IfSome, None, is_some, vec_len, vec_capacity};
+ghost use Rattle.crp_incumbent.specs.Seats.{Shared as Words, Seat as Place};
 ghost use Rattle.crp_pool.specs.Seats.{seat_number, all_takes};
 ghost use Rattle.crp_solve.specs.Groups.{IsUnused, IsUnusedSeat, with_part, place_key, keys};
+ghost use Rattle.crp_solve.specs.Begins.{IsStart};
 
 use crate::aim::{Aim, Searched};
 use crate::common::{Common, Gate, Outside};
 use crate::group::Crew;
-use crp_incumbent::Seat;
-use crp_pool::PoolSeat;
+use crate::open_work::OpenWork;
+use crate::opening::CAPACITY;
+use crate::settings::Settings;
+use crp_incumbent::{Board, Seat, Shared};
+use crp_plan::Problem;
+use crp_pool::{Pool, PoolSeat};
 use crp_tree::{Name, Part};
-use std::alloc::AllocError;
+use std::alloc::{AllocError, Global};
 use std::marker::PhantomData;
 use std::sync::Wait;
 
@@ -65,5 +71,59 @@ pub(crate) fn begun<R: Wait, G: Gate, A: Aim>(
         places,
         short: !found,
         aim: PhantomData,
+    })
+}
+
+/// A search whose first worker searched the part of the root: what workers have in common, what is left of the first seat, the pool,
+/// which has one place, and that worker.
+#[derive(Drop)]
+pub(crate) struct Start<A: Aim> {
+    pub(crate) common: Common,
+    pub(crate) left: Seat,
+    pub(crate) pool: Pool,
+    pub(crate) worker: Crew<A>,
+}
+
+/// Begins a search with the limit `first`, where there is memory for that.
+pub(crate) fn begin<R: Wait, G: Gate, A: Aim>(
+    rt: &R,
+    alloc: Global,
+    problem: &Problem,
+    settings: Settings,
+    board: &Board,
+    gate: &G,
+    first: u32,
+) -> Option<Start<A>>
+    requires begins { (of : Words) (seat : Place) → of.key ≡ record { problem = problem.now; start = first; budget = settings.budget }
+        → IsUnusedSeat of seat → A.keeps of seat.view None [] }
+    ensures { IfSome result (λ s. IsStart (record { problem = problem.now; start = first; budget = settings.budget }) s.common.of s.left s.pool s.worker) }
+{
+    let known = problem.copy();
+    let Ok((shared, seat)) = Shared::open(alloc, problem, first, settings.budget()) else {
+        return None;
+    };
+    let Ok((left, given)) = shared.split(seat) else {
+        unreachable!()
+    };
+    let Ok((pool, places)) = Pool::new(alloc, 1, CAPACITY) else {
+        return None;
+    };
+    let common = Common {
+        alloc,
+        problem: known,
+        shared,
+        open: OpenWork::new(),
+        first,
+        split: settings.split(),
+    };
+    let outside = Outside { rt, gate, board };
+    let Ok(worker) = begun::<R, G, A>(&outside, &common, given, places) else {
+        return None;
+    };
+    Some(Start {
+        common,
+        left,
+        pool,
+        worker,
     })
 }

@@ -2,18 +2,17 @@
 ghost use Rattle.std.specs.Prelude.{◌≡◌, ◌+◌, ◌<◌, ◌≤◌, false, length, None, [], IfSome, IfOk, IfErr};
 ghost use Rattle.crp_incumbent.specs.Seats.{Shared as Words, Seat as Place};
 ghost use Rattle.crp_pool.specs.Seats.{IsEverySeat, all_takes};
-ghost use Rattle.crp_solve.specs.Groups.{IsUnusedSeat};
+ghost use Rattle.crp_solve.specs.Groups.{IsUnusedSeat, IsKeptSoFar};
 ghost use Rattle.crp_solve.specs.Searches.{BeginsWithin};
 ghost use Rattle.crp_solve.specs.Rests.{IsAllDone, AreDone, IsFoundTogether, IsCutShort};
 
 use crate::aim::Aim;
-use crate::beginning::begun;
+use crate::beginning::{Start, begin};
 use crate::common::{Common, Gate, Outside};
 use crate::ending::{Lost, Together, ended};
 use crate::fewest::Fewest;
 use crate::group::Crew;
-use crate::open_work::OpenWork;
-use crate::opening::{CAPACITY, Room, joined};
+use crate::opening::{Room, joined};
 use crate::resting::{Done, search_rest};
 use crate::running::run_all;
 use crate::settings::Settings;
@@ -25,8 +24,23 @@ use std::alloc::Global;
 use std::sync::Wait;
 use std::thread::Threads;
 
+/// The words of a search whose workers are done.
+pub(crate) fn shared_of(common: Common) -> Shared
+    ensures { result ≡ common.of }
+{
+    let Common {
+        alloc: _,
+        problem: _,
+        shared,
+        open: _,
+        first: _,
+        split: _,
+    } = common;
+    shared
+}
+
 /// The state of all workers, with the rest of the shares and what was left in the pool.
-fn put_together<R: Wait, G: Gate, A: Aim>(
+pub(crate) fn put_together<R: Wait, G: Gate, A: Aim>(
     outside: &Outside<R, G>,
     common: &Common,
     pool: Pool,
@@ -63,7 +77,7 @@ fn put_together<R: Wait, G: Gate, A: Aim>(
 }
 
 /// How many workers are of use, of so many at most, where so many names wait: no more than names may wait in the end.
-fn useful(names: u64, split: u8, most: u32) -> usize
+pub(crate) fn useful(names: u64, split: u8, most: u32) -> usize
     ensures { result ≤ most }
 {
     let last = names.checked_pow(u32::from(split)).unwrap_or(u64::MAX);
@@ -120,39 +134,41 @@ pub(crate) fn work_together<R: Threads + Wait + Sync, G: Gate + Sync, A: Aim + S
         → IsUnusedSeat of seat → A.keeps of seat.view None [] }
     ensures { IfSome result (λ r. AreDone A.keeps (record { problem = problem.now; start = first; budget = settings.budget }) r.0 r.1.seat r.1.best r.1.parts.items r.1.short) }
 {
-    let known = problem.copy();
-    let Ok((shared, seat)) = Shared::open(alloc, problem, first, settings.budget()) else {
-        return None;
-    };
-    let Ok((left, given)) = shared.split(seat) else {
-        unreachable!()
-    };
-    let Ok((pool, places)) = Pool::new(alloc, 1, CAPACITY) else {
-        return None;
-    };
-    let common = Common {
-        alloc,
-        problem: known,
-        shared,
-        open: OpenWork::new(),
-        first,
-        split: settings.split(),
-    };
+    let Start {
+        common,
+        left,
+        pool,
+        worker,
+    } = begin::<R, G, A>(rt, alloc, problem, settings, board, gate, first)?;
     let outside = Outside { rt, gate, board };
-    let Ok(begun) = begun::<R, G, A>(&outside, &common, given, places) else {
-        return None;
-    };
-    let (left, pool, all) = work_on(&outside, &common, settings.workers(), left, pool, begun);
+    let (left, pool, all) = work_on(&outside, &common, settings.workers(), left, pool, worker);
     let done = put_together(&outside, &common, pool, left, all);
-    let Common {
-        alloc: _,
-        problem: _,
-        shared,
-        open: _,
-        first: _,
-        split: _,
-    } = common;
-    Some((shared, done))
+    Some((shared_of(common), done))
+}
+
+/// What workers found who are done. Where memory ran out the best plan is the one on the board.
+pub(crate) fn found_by<R: Wait>(
+    rt: &R,
+    alloc: Global,
+    problem: &Problem,
+    board: &Board,
+    shared: Shared,
+    budget: u64,
+    done: Done,
+) -> Result<Together, Lost>
+    requires first { BeginsWithin problem.now shared.key.start }
+    requires board { board.now ≡ problem.now }
+    requires done { AreDone IsKeptSoFar (record { problem = problem.now; start = shared.key.start; budget = budget }) shared done.seat done.best done.parts.items done.short }
+    ensures found { IfOk result (λ r. IsFoundTogether problem.now budget shared.key.start r.cert r.best r.expanded) }
+    ensures lost { IfErr result (λ lost. IsCutShort problem.now budget lost.best lost.expanded) }
+{
+    match ended(alloc, problem, shared, budget, done) {
+        Ok(found) => Ok(found),
+        Err(expanded) => Err(Lost {
+            best: board.show(rt),
+            expanded,
+        }),
+    }
 }
 
 /// Searches the problem with many workers for the fewest relocations. Where memory ran out the best plan is the one on the board.
@@ -170,7 +186,6 @@ pub(crate) fn search_together<R: Threads + Wait + Sync, G: Gate + Sync>(
     ensures found { IfOk result (λ r. IsFoundTogether problem.now settings.budget first r.cert r.best r.expanded) }
     ensures lost { IfErr result (λ lost. IsCutShort problem.now settings.budget lost.best lost.expanded) }
 {
-    let budget = settings.budget();
     let worked = work_together::<R, G, Fewest>(rt, alloc, problem, settings, board, gate, first);
     let Some((shared, done)) = worked else {
         return Err(Lost {
@@ -178,11 +193,5 @@ pub(crate) fn search_together<R: Threads + Wait + Sync, G: Gate + Sync>(
             expanded: 0,
         });
     };
-    match ended(alloc, problem, shared, budget, done) {
-        Ok(found) => Ok(found),
-        Err(expanded) => Err(Lost {
-            best: board.show(rt),
-            expanded,
-        }),
-    }
+    found_by(rt, alloc, problem, board, shared, settings.budget(), done)
 }

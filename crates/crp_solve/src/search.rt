@@ -1,0 +1,193 @@
+//! A search by several workers for a caller that runs them in threads of its own.
+ghost use Rattle.std.specs.Prelude.{◌≡◌, ◌≤◌, IfOk, length};
+ghost use Rattle.crp_solve.specs.Answers.{IsTrueAnswer, EachIsBranch, HasNoSecond};
+ghost use Rattle.crp_solve.specs.Groups.{SameWorkers, AreTogether, AreReady};
+ghost use Rattle.crp_solve.specs.Begins.{IsStart, AreAllWorkers};
+
+use crate::answer::Solved;
+use crate::answering::answer_to;
+use crate::beginning::{Start, begin};
+use crate::common::{Common, Gate, Outside};
+use crate::fewest::Fewest;
+use crate::group::Group;
+use crate::once::with_known;
+use crate::opening::{Room, joined};
+use crate::settings::Settings;
+use crate::solver::start_posted;
+use crate::together::{found_by, put_together, shared_of, useful};
+use crate::working;
+use crp_incumbent::{Board, Seat, Shared};
+use crp_plan::{Plan, Problem};
+use crp_pool::Pool;
+use std::alloc::{AllocError, Global};
+use std::marker::Model;
+use std::snapshot::Snapshot;
+use std::sync::Wait;
+
+/// A search for the fewest relocations that has begun, while its workers are with the caller, who runs each where it likes: at once,
+/// one after the other, or in threads of its own. `begin` gives their states, `Common::work` lets one work, `Group::merge` makes one
+/// state of two, and `end` makes the answer of the last one.
+#[derive(Drop)]
+pub struct Search {
+    common: Common,
+    left: Seat,
+    pool: Pool,
+    known: Option<Plan>,
+    budget: u64,
+    workers: Snapshot<Vec<Group>>,
+}
+
+impl Model for Search {
+    ghost use Rattle.crp_solve.specs.Begins.{Search as Begun, IsBegun};
+    ghost use Rattle.crp_tree.specs.Symbols.{tree_code};
+    ghost use Rattle.std.specs.Coded.{codes};
+
+    ghost Value = { Begun };
+
+    ghost coded = { Prim.hlevel (codes, tree_code) };
+
+    ghost view = { λ s. record { of = s.common.of; workers = s.workers.value.items } };
+
+    ghost invariant = { λ s. IsBegun (record { of = s.common.of; workers = s.workers.value.items }) s.left s.pool s.known s.budget };
+}
+
+/// The first worker and others, where names wait for them, `most` in all: what is left of the seat, the pool, and the workers.
+fn with_others<R: Wait>(
+    rt: &R,
+    common: &Common,
+    most: u32,
+    left: Seat,
+    pool: Pool,
+    first: Group,
+) -> Result<(Seat, Pool, Vec<Group>), AllocError>
+    requires most { (1 ≤ most) × (most ≤ 64) }
+    requires start { IsStart common.now.of.key common.now.of left pool first }
+    ensures all { IfOk result (λ r. AreAllWorkers common.now.of r.0 r.1 r.2.items) }
+    ensures count { IfOk result (λ r. length r.2.items ≤ most) }
+{
+    let count = useful(common.open.names(), common.split, most);
+    if first.short || count < 2 {
+        let mut alone = Vec::new(common.alloc);
+        alone.push(first)?;
+        return Ok((left, pool, alone));
+    }
+    let room = Room::new(common.alloc, count)?;
+    Ok(joined(rt, common, room, left, pool, first))
+}
+
+impl Search {
+    /// Begins as `solve` does, with the plan that the settings ask for, which is posted on the board, and with the part of the root,
+    /// which is searched here. What is returned beside the search are the states of its workers, the first one's first: as many as are
+    /// of use, and at most those that the settings ask for. The board must be of the problem. Whether the first of all best plans or
+    /// deepening is asked for changes nothing. The error says that memory ran out.
+    pub fn begin<R: Wait, G: Gate>(
+        rt: &R,
+        alloc: Global,
+        problem: &Problem,
+        settings: Settings,
+        board: &Board,
+        gate: &G,
+    ) -> Result<(Search, Vec<Group>), AllocError>
+        ensures problem { IfOk result (λ r. r.0.of.key.problem ≡ problem.now) }
+        ensures budget { IfOk result (λ r. r.0.of.key.budget ≡ settings.budget) }
+        ensures workers { IfOk result (λ r. r.1.items ≡ r.0.workers) }
+        ensures ready { IfOk result (λ r. AreReady r.0.of r.1.items) }
+        ensures count { IfOk result (λ r. length r.1.items ≤ settings.workers) }
+    {
+        let (known, first) = start_posted(rt, alloc, problem, settings, board, gate);
+        let budget = settings.budget();
+        let begun = begin::<R, G, Fewest>(rt, alloc, problem, settings, board, gate, first);
+        let Some(begun) = begun else {
+            return Err(AllocError);
+        };
+        let Start {
+            common,
+            left,
+            pool,
+            worker,
+        } = begun;
+        let (left, pool, groups) = with_others(
+            rt,
+            &common,
+            settings.workers(),
+            left,
+            pool,
+            worker,
+        )?;
+        let search = Search {
+            common,
+            left,
+            pool,
+            known,
+            budget,
+            workers: Snapshot::of(&groups),
+        };
+        Ok((search, groups))
+    }
+
+    /// What its workers have in common.
+    pub fn common(&self) -> &Common
+        ensures { result.now.of ≡ self.now.of }
+    {
+        &self.common
+    }
+
+    /// The answer, once all workers are done and merged into one state: what is left in the pool is searched first. Where memory ran
+    /// out it is the look-ahead bound of the first position and the best plan that is known. The error says that memory ran out for
+    /// that too. The board must be of the problem.
+    pub fn end<R: Wait, G: Gate>(
+        self,
+        rt: &R,
+        board: &Board,
+        gate: &G,
+        all: Group,
+    ) -> Result<Solved, AllocError>
+        requires together { AreTogether self.workers all }
+        requires board { board.now ≡ self.of.key.problem }
+        ensures no_second { IfOk result HasNoSecond }
+        ensures true_answer { IfOk result (λ solved. IsTrueAnswer self.of.key.problem self.of.key.budget solved.answer solved.expanded) }
+        ensures one_search { IfOk result (λ solved. EachIsBranch solved.answer solved.expanded) }
+    {
+        let Search {
+            common,
+            left,
+            pool,
+            known,
+            budget,
+            workers: _,
+        } = self;
+        let alloc = common.alloc;
+        let problem = common.problem.copy();
+        let outside = Outside { rt, gate, board };
+        let done = put_together(&outside, &common, pool, left, all);
+        let shared = shared_of(common);
+        let found = found_by(rt, alloc, &problem, board, shared, budget, done);
+        answer_to(alloc, &problem, with_known(found, known))
+    }
+}
+
+impl Common {
+    /// The words that its workers share.
+    pub fn shared(&self) -> &Shared
+        ensures { result.now ≡ self.now.of }
+    {
+        &self.shared
+    }
+
+    /// One worker, or several that were merged, searches parts until no work is open, or a part is lost. It may wait for others.
+    /// The gate hears that it is the worker of this number.
+    pub fn work<R: Wait, G: Gate>(
+        &self,
+        rt: &R,
+        board: &Board,
+        gate: &G,
+        worker: u32,
+        group: Group,
+    ) -> Group
+        requires { group.of ≡ self.now.of }
+        ensures { SameWorkers group result }
+    {
+        let outside = Outside { rt, gate, board };
+        working::work(&outside, self, worker, group)
+    }
+}
