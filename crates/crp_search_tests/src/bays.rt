@@ -147,6 +147,31 @@ pub fn stacks_of(alloc: Global, rows: &[&[u8]]) -> Result<Vec<Vec<u8>>, AllocErr
     Ok(stacks)
 }
 
+/// A bay whose rows have a height each.
+#[derive(Clone, Copy)]
+pub struct UnequalBay {
+    pub heights: &'static [u8],
+    pub ordered: u8,
+    pub stacks: &'static [&'static [u8]],
+}
+
+pub const LOW_IN_THE_MIDDLE: UnequalBay = UnequalBay {
+    heights: &[3, 1, 3],
+    ordered: 4,
+    stacks: &[&[1, 4], &[2], &[3]],
+};
+
+pub const FULL_AND_LOW: UnequalBay = UnequalBay {
+    heights: &[2, 1],
+    ordered: 3,
+    stacks: &[&[1, 2], &[3]],
+};
+
+pub fn unequal_problem_of(alloc: Global, bay: &UnequalBay) -> Result<Problem, Fail> {
+    let stacks = stacks_of(alloc, bay.stacks)?;
+    Ok(Problem::with_heights(bay.heights, bay.ordered, &stacks)?)
+}
+
 pub fn problem_of(alloc: Global, bay: &Bay) -> Result<Problem, Fail> {
     let stacks = stacks_of(alloc, bay.stacks)?;
     Ok(Problem::new(bay.tiers, bay.ordered, &stacks)?)

@@ -83,6 +83,11 @@ fn part_of(alloc: Global, piece: Piece, problem: &Problem) -> Result<Option<Part
     }
 }
 
+/// The names that a part gives to others.
+fn names_given(alloc: Global, part: &Part) -> Result<Vec<Name>, AllocError> {
+    Ok(part.given_names(alloc)?.into_vec())
+}
+
 /// What is made of these pieces of the search of the six.
 fn gathered(alloc: Global, pieces: &[Piece]) -> Result<Result<Cert, GatherFault>, Fail> {
     let problem = problem_of(alloc, &SIX)?;
@@ -138,6 +143,18 @@ const CASES: [(&[Piece], &str); 17] = [
         "G3 at 2",
     ),
 ];
+
+#[test]
+fn the_root_gives_two_names_away(rt: HostRuntime) -> Result<(), Fail> {
+    let problem = problem_of(rt.alloc(), &SIX)?;
+    let root = part_of(rt.alloc(), Piece::Root, &problem)?.ok_or("a part")?;
+    let given = names_given(rt.alloc(), &root)?;
+    assert_same(&rt, &given.len(), &2);
+    for (name, row) in given.iter().zip([2, 3]) {
+        assert_same(&rt, &name.rows(), &[row].as_slice());
+    }
+    Ok(())
+}
 
 #[test]
 fn parts_of_one_search_are_put_together(rt: HostRuntime) -> Result<(), Fail> {

@@ -1,3 +1,4 @@
+mod best;
 mod boards;
 mod seats;
 mod threads;

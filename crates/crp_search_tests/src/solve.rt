@@ -1,5 +1,6 @@
 mod answers;
 mod in_world;
+mod own_threads;
 mod shown;
 mod solving;
 mod stepping;

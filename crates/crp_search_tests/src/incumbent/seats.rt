@@ -5,7 +5,7 @@ ghost use Rattle.crp_incumbent.specs.Rule.{all_shares};
 use super::plan_of;
 use crate::bays::{SIX, problem_of};
 use crate::compare::assert_same;
-use crp_incumbent::{Seat, Shared};
+use crp_incumbent::{Seat, Shared, Why};
 use crp_plan::Plan;
 use std::process::Abort;
 use std::test::Fail;
@@ -18,6 +18,20 @@ fn split(rt: &impl Abort, shared: &Shared, seat: Seat) -> (Seat, Seat)
     match shared.split(seat) {
         Ok(seats) => seats,
         Err(_) => panic!(rt; "a share is left"),
+    }
+}
+
+/// The seat with one share, which cannot be split and comes back.
+fn is_not_split(rt: &impl Abort, shared: &Shared, seat: Seat) -> Seat
+    requires { seat.of ≡ shared.now }
+    ensures { result.of ≡ shared.now }
+{
+    match shared.split(seat) {
+        Ok(_) => panic!(rt; "one share is not split"),
+        Err(refused) => {
+            assert_same(rt, &refused.why, &Why::NoneLeft);
+            refused.seat
+        }
     }
 }
 
@@ -66,6 +80,23 @@ fn an_offered_plan_is_seen_by_every_seat(rt: HostRuntime) -> Result<(), Fail> {
     let a = sees(&rt, &shared, a, 3);
     let a = offers(&shared, a, &longer);
     let b = sees(&rt, &shared, b, 3);
+    let both = shared.join(b, a);
+    sees(&rt, &shared, both, 3);
+    Ok(())
+}
+
+/// What comes back of a refused split still sees, and is joined.
+#[test]
+fn a_seat_with_one_share_is_not_split(rt: HostRuntime) -> Result<(), Fail> {
+    let problem = problem_of(rt.alloc(), &SIX)?;
+    let plan = plan_of(&rt, &problem, &[2, 2, 1]);
+    let (shared, seat) = Shared::open(rt.alloc(), &problem, 5, 2)?;
+    let (a, b) = split(&rt, &shared, seat);
+    let b = sees(&rt, &shared, b, 5);
+    let a = offers(&shared, a, &plan);
+    let a = sees(&rt, &shared, a, 3);
+    let b = sees(&rt, &shared, b, 3);
+    let b = is_not_split(&rt, &shared, b);
     let both = shared.join(b, a);
     sees(&rt, &shared, both, 3);
     Ok(())

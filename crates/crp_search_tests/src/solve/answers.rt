@@ -1,5 +1,8 @@
 //! How searches end, for the fewest relocations and for the first of all best plans.
-use crate::bays::{BETTER_THAN_GREEDY, Bay, FOUR, FULL, SIX, problem_of};
+use crate::bays::{
+    BETTER_THAN_GREEDY, Bay, FOUR, FULL, FULL_AND_LOW, IN_ORDER, LOW_IN_THE_MIDDLE, ONE_EMPTY,
+    ONE_ROW, SIX, UnequalBay, problem_of, unequal_problem_of,
+};
 use crate::compare::assert_same_at;
 use crate::solve::solving::text_of;
 use crate::solve::together::solved_by;
@@ -18,7 +21,49 @@ fn solved_alone(alloc: Global, bay: &Bay, settings: Settings) -> Result<Solved, 
 // the second search takes, where it is known.
 type Case = (Bay, u64, bool, &'static str, Option<u64>);
 
-const CASES: [Case; 8] = [
+const CASES: [Case; 14] = [
+    (
+        ONE_EMPTY,
+        1000000,
+        false,
+        "optimal at least 1, part: B, plan 2, expanded 0; not asked",
+        Some(0),
+    ),
+    (
+        IN_ORDER,
+        1000000,
+        false,
+        "optimal at least 0, part: B, plan, expanded 0; not asked",
+        Some(0),
+    ),
+    (
+        ONE_ROW,
+        1000000,
+        false,
+        "no plan at least 5, part: X, expanded 1; not asked",
+        Some(0),
+    ),
+    (
+        BETTER_THAN_GREEDY,
+        0,
+        false,
+        "between from 3 at least 3, part: L, plan 2 3 1 1, budget, expanded 0; not asked",
+        Some(0),
+    ),
+    (
+        BETTER_THAN_GREEDY,
+        1,
+        false,
+        "between from 3 at least 3, part: XLB, plan 2 3 1 1, budget, expanded 1; not asked",
+        Some(0),
+    ),
+    (
+        BETTER_THAN_GREEDY,
+        2,
+        false,
+        "between from 3 at least 3, part: XLXBB, plan 2 3 1 1, budget, expanded 2; not asked",
+        Some(0),
+    ),
     (
         FOUR,
         2,
@@ -121,6 +166,34 @@ fn answers_of_several_workers(rt: HostRuntime) -> Result<(), Fail> {
             let solved = solved_by(&rt, rt.alloc(), &bay, settings)?;
             assert_solved(&rt, &solved, answer, more)?;
         }
+    }
+    Ok(())
+}
+
+// A bay whose rows have a height each, and what is answered.
+const UNEQUAL: [(UnequalBay, &str); 2] = [
+    (
+        LOW_IN_THE_MIDDLE,
+        "optimal at least 2, part: L, plan 3 1, expanded 0; not asked",
+    ),
+    (
+        FULL_AND_LOW,
+        "no plan at least 4, part: X, expanded 1; not asked",
+    ),
+];
+
+// What one worker answers that shares nothing.
+fn unequal_solved(alloc: Global, bay: &UnequalBay, settings: Settings) -> Result<Solved, Fail> {
+    let problem = unequal_problem_of(alloc, bay)?;
+    Ok(solve_alone(alloc, &problem, settings)?)
+}
+
+#[test]
+fn answers_under_unequal_heights(rt: HostRuntime) -> Result<(), Fail> {
+    for (bay, answer) in UNEQUAL {
+        let settings = settings_of(&rt, 1, 1000000, 0, false);
+        let solved = unequal_solved(rt.alloc(), &bay, settings)?;
+        assert_solved(&rt, &solved, answer, Some(0))?;
     }
     Ok(())
 }

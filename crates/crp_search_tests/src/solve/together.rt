@@ -25,10 +25,10 @@ pub(super) fn solved_by<R: Threads + Wait + Sync>(
 }
 
 // The second part ends after the third has lowered the limit, or before.
-const ENDED_AFTER: &str =
+pub(super) const ENDED_AFTER: &str =
     "optimal at least 3, part: XGG, part 2: B, part 3: XXBB, plan 3 2 1, expanded 3; not asked";
 
-const ENDED_BEFORE: &str =
+pub(super) const ENDED_BEFORE: &str =
     "optimal at least 3, part: XGG, part 2: L, part 3: XXBB, plan 3 2 1, expanded 3; not asked";
 
 #[test]
@@ -39,6 +39,25 @@ fn a_part_ends_before_or_after_another(rt: HostRuntime) -> Result<(), Fail> {
         let text = text_of(rt.alloc(), &solved)?;
         let known = text.as_str() == ENDED_AFTER || text.as_str() == ENDED_BEFORE;
         assert_at(&rt, known, &(workers, text.as_str()));
+    }
+    Ok(())
+}
+
+// Where the budget ends before the last expansion of the third part.
+pub(super) const CUT_SHORT: &str =
+    "between from 3 at least 3, part: XGG, part 2: L, part 3: XBB, plan 2 3 1 1, budget, expanded 2; not asked";
+
+// A number of workers, a budget, and the one answer.
+const CERTAIN: [(u32, u64, &str); 3] = [(1, 3, ENDED_AFTER), (1, 2, CUT_SHORT), (2, 2, CUT_SHORT)];
+
+// One worker takes the third part first, as it was put last.
+#[test]
+fn some_answers_are_the_same_in_each_run(rt: HostRuntime) -> Result<(), Fail> {
+    for (workers, budget, answer) in CERTAIN {
+        let settings = Settings::new(workers, budget, 1)?;
+        let solved = solved_by(&rt, rt.alloc(), &BETTER_THAN_GREEDY, settings)?;
+        let text = text_of(rt.alloc(), &solved)?;
+        assert_same_at(&rt, &text.as_str(), &answer, &(workers, budget));
     }
     Ok(())
 }
@@ -107,12 +126,30 @@ fn each_part_begins_once(rt: HostRuntime) -> Result<(), Fail> {
     Ok(())
 }
 
-// Holds the first two tasks other than the root until three workers have begun one.
+// Holds tasks other than the root, the first ones, until so many workers have begun one.
 #[derive(Drop)]
-struct Meeting {
+pub(super) struct Meeting {
+    workers: u32,
     begun_by: AtomicU64,
     tasks: AtomicU64,
     met: AtomicU64,
+}
+
+impl Meeting {
+    // So many workers are to meet.
+    pub(super) fn of(workers: u32) -> Meeting {
+        Meeting {
+            workers,
+            begun_by: AtomicU64::new(0),
+            tasks: AtomicU64::new(0),
+            met: AtomicU64::new(0),
+        }
+    }
+
+    // Whether they met.
+    pub(super) fn was_held(&self) -> bool {
+        self.met.load(Ordering::SeqCst) == 1
+    }
 }
 
 impl Gate for Meeting {
@@ -124,11 +161,11 @@ impl Gate for Meeting {
         if self.begun_by.load(Ordering::SeqCst) & bit == 0 {
             self.begun_by.fetch_add(bit, Ordering::SeqCst);
         }
-        if self.tasks.fetch_add(1, Ordering::SeqCst) >= 2 {
+        if self.tasks.fetch_add(1, Ordering::SeqCst) >= u64::from(self.workers.saturating_sub(1)) {
             return;
         }
         for _ in 0..1_000_000_000u64 {
-            if self.begun_by.load(Ordering::SeqCst).count_ones() >= 3 {
+            if self.begun_by.load(Ordering::SeqCst).count_ones() >= self.workers {
                 self.met.store(1, Ordering::SeqCst);
                 return;
             }
@@ -137,22 +174,22 @@ impl Gate for Meeting {
     }
 }
 
+// Each of three subtrees is a part of its own.
+pub(super) const FOUR_ROWS_IN_PARTS: &str =
+    "optimal at least 3, part: XGGG, part 2: L, part 3: B, part 4: B, plan 2 2 1, expanded 1; not asked";
+
 #[test]
 fn three_workers_meet(rt: HostRuntime) -> Result<(), Fail> {
     let problem = problem_of(rt.alloc(), &FOUR_ROWS)?;
-    let gate = Meeting {
-        begun_by: AtomicU64::new(0),
-        tasks: AtomicU64::new(0),
-        met: AtomicU64::new(0),
-    };
+    let gate = Meeting::of(3);
     let board = Board::new(&problem);
     let settings = Settings::new(3, 1000000, 1)?;
     let solved = solve(&rt, rt.alloc(), &problem, settings, &board, &gate)?;
     assert_same(
         &rt,
         &text_of(rt.alloc(), &solved)?.as_str(),
-        &"optimal at least 3, part: XGGG, part 2: L, part 3: B, part 4: B, plan 2 2 1, expanded 1; not asked",
+        &FOUR_ROWS_IN_PARTS,
     );
-    assert_same(&rt, &gate.met.load(Ordering::SeqCst), &1);
+    assert!(rt; gate.was_held());
     Ok(())
 }

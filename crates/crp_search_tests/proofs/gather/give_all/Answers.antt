@@ -3,7 +3,7 @@ use Rattle.crp_plan.specs.Bay.{Position}
 use Rattle.crp_bay.specs.Back.{PlaceAndTrail}
 use Rattle.crp_tree.specs.declared.symbol.Symbol.{Symbol}
 use Rattle.crp_tree.specs.declared.symbol.Symbol.TheVariants as symbol
-use Rattle.crp_tree.specs.Tree.{Tree, Branch, Given, items, row}
+use Rattle.crp_tree.specs.Tree.{Tree, Branch, Given, row}
 use Rattle.crp_tree.specs.Symbols.{symbols, symbols_of_each, items_row, all_symbols}
 use Rattle.crp_tree.proofs.Paying.{row_symbols}
 use Rattle.crp_tree.proofs.Parsed.{alone}

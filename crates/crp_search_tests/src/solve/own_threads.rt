@@ -1,0 +1,95 @@
+//! A search whose caller runs the workers in threads of its own.
+ghost use Rattle.std.specs.Prelude.{◌≡◌, ◌∷◌, [], IfSome};
+ghost use Rattle.std.specs.Thread.{IsSync};
+ghost use Rattle.crp_solve.specs.Groups.{SameWorkers, AreReady, AreTogether};
+
+use crate::bays::{BETTER_THAN_GREEDY, Bay, FOUR_ROWS, problem_of};
+use crate::compare::assert_at;
+use crate::solve::solving::text_of;
+use crate::solve::together::{CUT_SHORT, ENDED_AFTER, ENDED_BEFORE, FOUR_ROWS_IN_PARTS, Meeting};
+use crp_incumbent::Board;
+use crp_solve::{Common, Gate, Group, Search, Settings, Solved};
+use std::alloc::Global;
+use std::sync::Wait;
+use std::test::Fail;
+use std::thread;
+use std::thread::Threads;
+
+/// What two workers are together, after each worked in a thread.
+fn work_in_two<R: Threads + Wait + Sync, G: Gate + Sync>(
+    rt: &R,
+    board: &Board,
+    gate: &G,
+    common: &Common,
+    first: Group,
+    second: Group,
+) -> Group
+    requires { AreReady common.now.of (first ∷ second ∷ []) }
+    ensures { AreTogether (first ∷ second ∷ []) result }
+{
+    let (second, first) = thread::join(
+        rt,
+        move || -> Group
+            requires sync { IsSync R.row × IsSync G.row }
+            requires words { second.of ≡ common.now.of }
+            ensures { SameWorkers second result }
+        { common.work(rt, board, gate, 1, second) },
+        move || -> Group
+            requires sync { IsSync R.row × IsSync G.row }
+            requires words { first.of ≡ common.now.of }
+            ensures { SameWorkers first result }
+        { common.work(rt, board, gate, 0, first) },
+    );
+    first.merge(common.shared(), second)
+}
+
+/// The two workers, where there are two.
+fn two_of(mut groups: Vec<Group>) -> Option<(Group, Group)>
+    ensures { IfSome result (λ two. groups.items ≡ two.0 ∷ two.1 ∷ []) }
+{
+    let second = groups.pop()?;
+    let first = groups.pop()?;
+    if groups.is_empty() {
+        Some((first, second))
+    } else {
+        None
+    }
+}
+
+/// The answer of a search by two workers, each in a thread of the caller's.
+fn solved_in_two<R: Threads + Wait + Sync, G: Gate + Sync>(
+    rt: &R,
+    alloc: Global,
+    bay: &Bay,
+    settings: Settings,
+    gate: &G,
+) -> Result<Solved, Fail> {
+    let problem = problem_of(alloc, bay)?;
+    let board = Board::new(&problem);
+    let (search, groups) = Search::begin(rt, alloc, &problem, settings, &board, gate)?;
+    let Some((first, second)) = two_of(groups) else {
+        return Err("there are two workers")?;
+    };
+    let all = work_in_two(rt, &board, gate, search.common(), first, second);
+    Ok(search.end(rt, &board, gate, all)?)
+}
+
+/// A bay, a budget, and the answers that are right, whichever worker comes first.
+const CASES: [(Bay, u64, &[&str]); 3] = [
+    (FOUR_ROWS, 1000000, &[FOUR_ROWS_IN_PARTS]),
+    (BETTER_THAN_GREEDY, 3, &[ENDED_AFTER, ENDED_BEFORE]),
+    (BETTER_THAN_GREEDY, 2, &[CUT_SHORT]),
+];
+
+#[test]
+fn workers_in_two_threads_of_the_caller(rt: HostRuntime) -> Result<(), Fail> {
+    for (bay, budget, answers) in CASES {
+        let gate = Meeting::of(2);
+        let settings = Settings::new(2, budget, 1)?;
+        let solved = solved_in_two(&rt, rt.alloc(), &bay, settings, &gate)?;
+        let text = text_of(rt.alloc(), &solved)?;
+        let known = answers.contains(&text.as_str());
+        assert_at(&rt, known && gate.was_held(), &text.as_str());
+    }
+    Ok(())
+}
