@@ -54,13 +54,26 @@ pub(crate) fn check(alloc: Global, bytes: &[u8]) -> Result<Verdict, Refused> {
     crp_checker::check(alloc, bytes)
 }
 
-/// The same, fed byte by byte.
-pub(crate) fn check_bytes(alloc: Global, bytes: &[u8]) -> Result<Verdict, Refused> {
-    let mut checker = Checker::new(alloc, None);
+/// What a checker answers that is fed byte by byte.
+fn fed_bytes(mut checker: Checker, bytes: &[u8]) -> Result<Verdict, Refused> {
     for i in 0..bytes.len() {
         checker.feed(&bytes[i..i + 1])?;
     }
     checker.finish()
+}
+
+/// The same, fed byte by byte.
+pub(crate) fn check_bytes(alloc: Global, bytes: &[u8]) -> Result<Verdict, Refused> {
+    fed_bytes(Checker::new(alloc, None), bytes)
+}
+
+/// The same for a problem.
+pub(crate) fn check_bytes_for(
+    alloc: Global,
+    problem: &Problem,
+    bytes: &[u8],
+) -> Result<Verdict, Refused> {
+    fed_bytes(Checker::new(alloc, Some(problem)), bytes)
 }
 
 /// The same, fed in two pieces.

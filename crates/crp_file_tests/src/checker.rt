@@ -3,7 +3,7 @@ mod files;
 mod paths;
 mod pieces;
 
-use crate::calls::{check, check_bytes, check_for, read_head};
+use crate::calls::{check, check_bytes, check_bytes_for, check_for, read_head};
 use crate::compare::assert_same_at;
 use crp_checker::{Refused, Verdict};
 use crp_plan::Problem;
@@ -47,12 +47,17 @@ const FIRST_OF_SIX: &str =
 const EQUAL: &str =
     "CRP-CERT 2\nbay A 1\nsize 3 3 4 4\nheights 3 3 3\nrow 1 4\nrow 2\nrow 3\nat least 2\nplan 3 1\npart /: L\nend 1\n";
 
+/// Two rows of two tiers, both full: no plan.
+const FULL: &str =
+    "CRP-CERT 1\nbay A 1\nsize 2 2 4 4\nrow 1 2\nrow 3 4\nat least 5\nplan -\npart /: X\nend 1\n";
+
 /// Certificates that are accepted, and what they show: of each verdict one at least.
-const ACCEPTED: [(&str, Verdict); 10] = [
+const ACCEPTED: [(&str, Verdict); 11] = [
     (TWO, Verdict::Optimal(1)),
     (FOUR, Verdict::Optimal(2)),
     (SIX, Verdict::Optimal(3)),
     (ONE_ROW, Verdict::NoPlan),
+    (FULL, Verdict::NoPlan),
     (UNEQUAL, Verdict::Optimal(2)),
     (NARROW, Verdict::NoPlan),
     (
@@ -76,8 +81,8 @@ const ACCEPTED: [(&str, Verdict); 10] = [
     (FIRST, Verdict::First(2)),
 ];
 
-/// Certificates that are refused: for each fault of a text, and for each of a claim but K1.
-const REFUSED: [(&str, &str); 17] = [
+/// Certificates that are refused: with those of the six below, for each fault of a text, and for each of a claim but K1.
+const REFUSED: [(&str, &str); 9] = [
     ("CRP-CERT 3\n", "C1 at line 1"),
     (
         "CRP-CERT 2\nbay A 1\nsize 3 3 4 4\nheights 2 1 2\nrow 1 4\nrow 2\nrow 3\nat least 2\nplan 3 1\npart /: L\nend 1\n",
@@ -88,36 +93,8 @@ const REFUSED: [(&str, &str); 17] = [
         "C3 at line 6",
     ),
     (
-        "CRP-CERT 1\nbay A 1\nsize 3 3 6 6\nrow 1 5 4\nrow 6\nrow 3 2\nat least 14\nplan 2 2 1\npart /: XLB\nend 1\n",
-        "C4 at line 7",
-    ),
-    (
         "CRP-CERT 1\nbay A 1\nsize 3 3 6 6\nrow 1 5 4\nrow 6\nrow 3 2\nat least 3\nplan 07\npart /: XLB\nend 1\n",
         "C5 at line 8",
-    ),
-    (
-        "CRP-CERT 1\nbay A 1\nsize 3 3 6 6\nrow 1 5 4\nrow 6\nrow 3 2\nat least 3\nplan 2 2 1\npart /: XGG\npart 1: B\npart 3: B\nend 3\n",
-        "C6 at line 10",
-    ),
-    (
-        "CRP-CERT 1\nbay A 1\nsize 3 3 6 6\nrow 1 5 4\nrow 6\nrow 3 2\nat least 3\nplan 2 2 1\npart /: XGG\npart 3: B\npart 2: L\nend 3\n",
-        "C7 at line 11",
-    ),
-    (
-        "CRP-CERT 1\nbay A 1\nsize 3 3 6 6\nrow 1 5 4\nrow 6\nrow 3 2\nat least 3\nplan 2 2 1\npart /: XLBZ\nend 1\n",
-        "C8 at line 9",
-    ),
-    (
-        "CRP-CERT 1\nbay A 1\nsize 3 3 6 6\nrow 1 5 4\nrow 6\nrow 3 2\nat least 3\nplan 2 2 1\npart /: XXBB\nend 1\n",
-        "C9 at line 9",
-    ),
-    (
-        "CRP-CERT 1\nbay A 1\nsize 3 3 6 6\nrow 1 5 4\nrow 6\nrow 3 2\nat least 3\nplan 2 2 1\npart /: XLBB\nend 1\n",
-        "C10 at line 9",
-    ),
-    (
-        "CRP-CERT 1\nbay A 1\nsize 3 3 6 6\nrow 1 5 4\nrow 6\nrow 3 2\nat least 3\nplan 2 2 1\npart /: XLB\nend 2\n",
-        "C11 at line 10",
     ),
     (
         "CRP-CERT 1\nbay A 1\nsize 3 3 6 6\nrow 1 5 4\nrow 6\nrow 3 2\nat least 3\nplan 1\npart /: XBL\nend 1\n",
@@ -126,10 +103,6 @@ const REFUSED: [(&str, &str); 17] = [
     (
         "CRP-CERT 2\nbay A 1\nsize 3 3 4 4\nheights 3 3 3\nrow 1 4\nrow 2\nrow 3\nfirst 1\nplan 2 1\npart /: XXBBB\nend 1\n",
         "K2",
-    ),
-    (
-        "CRP-CERT 1\nbay A 1\nsize 3 3 6 6\nrow 1 5 4\nrow 6\nrow 3 2\nat least 3\nplan 2 2 1\npart /: XBL\nend 1\n",
-        "K3 at part / symbol 2",
     ),
     (
         "CRP-CERT 1\nbay A 1\nsize 2 2 2 2\nrow 2 1\nrow\nat least 0\nplan\npart /: X\nend 1\n",
@@ -187,32 +160,122 @@ fn certificates_whole_and_byte_by_byte(rt: HostRuntime) -> Result<(), Fail> {
     Ok(())
 }
 
+/// What stands in the head of the six containers' certificate before the bound.
+const SIX_ROWS: &str = "CRP-CERT 1\nbay A 1\nsize 3 3 6 6\nrow 1 5 4\nrow 6\nrow 3 2\n";
+
+/// What may follow there, so that it is accepted.
+const RESTS: [&str; 4] = [
+    "at least 3\nplan 2 2 1\npart /: XLB\nend 1\n",
+    "at least 3\nplan 2 2 1\npart /: XLL\nend 1\n",
+    "at least 3\nplan 2 2 1\npart /: XXBBB\nend 1\n",
+    "at least 3\nplan 2 2 1\npart /: XGG\npart 2: L\npart 3: B\nend 3\n",
+];
+
+/// What may follow there, and the fault.
+const WRONG_RESTS: [(&str, &str); 17] = [
+    (
+        "at least 14\nplan 2 2 1\npart /: XLB\nend 1\n",
+        "C4 at line 7",
+    ),
+    (
+        "at least 3\nplan 2 2 1\npart /: XGG\npart 1: B\npart 3: B\nend 3\n",
+        "C6 at line 10",
+    ),
+    (
+        "at least 3\nplan 2 2 1\npart /: XGG\npart 3: B\npart 2: L\nend 3\n",
+        "C7 at line 11",
+    ),
+    ("at least 3\nplan 2 2 1\npart /: G\nend 1\n", "C8 at line 9"),
+    (
+        "at least 3\nplan 2 2 1\npart /: XLBZ\nend 1\n",
+        "C8 at line 9",
+    ),
+    (
+        "at least 3\nplan 2 2 1\npart /: XBLQ\nend 1\n",
+        "C8 at line 9",
+    ),
+    (
+        "at least 3\nplan 2 2 1\npart /: XL\nend 1\n",
+        "C9 at line 9",
+    ),
+    (
+        "at least 3\nplan 2 2 1\npart /: XXBB\nend 1\n",
+        "C9 at line 9",
+    ),
+    (
+        "at least 3\nplan 2 2 1\npart /: XLBB\nend 1\n",
+        "C10 at line 9",
+    ),
+    (
+        "at least 3\nplan 2 2 1\npart /: XBLL\nend 1\n",
+        "C10 at line 9",
+    ),
+    ("at least 3\nplan 2 2 1\npart /: XLB\n", "C11 at line 10"),
+    (
+        "at least 3\nplan 2 2 1\npart /: XLB\nend 2\n",
+        "C11 at line 10",
+    ),
+    (
+        "at least 3\nplan 2 2 1\npart /: XBL\nend 1\n",
+        "K3 at part / symbol 2",
+    ),
+    (
+        "at least 3\nplan 2 2 1\npart /: XBB\nend 1\n",
+        "K3 at part / symbol 2",
+    ),
+    (
+        "at least 4\nplan 2 2 1\npart /: XLB\nend 1\n",
+        "K3 at part / symbol 2",
+    ),
+    (
+        "at least 3\nplan 2 2 1\npart /: XGG\npart 2: L\nend 2\n",
+        "K5 at 3",
+    ),
+    (
+        "at least 3\nplan 2 2 1\npart /: XGG\npart 2: L\npart 3: B\npart 3.2: B\nend 4\n",
+        "K6 at 3.2",
+    ),
+];
+
+#[test]
+fn certificates_of_the_six_whole_and_byte_by_byte(rt: HostRuntime) -> Result<(), Fail> {
+    for rest in RESTS {
+        let text = format!(in rt.alloc(); "{SIX_ROWS}{rest}")?;
+        shows(&rt, &text, Verdict::Optimal(3));
+    }
+    for (rest, fault) in WRONG_RESTS {
+        let text = format!(in rt.alloc(); "{SIX_ROWS}{rest}")?;
+        refuses(&rt, &text, fault)?;
+    }
+    Ok(())
+}
+
 fn problem_of(rt: &(impl Abort + AllocGlobal), text: &str) -> Problem {
     read_head(rt.alloc(), text.as_bytes())
         .expect(rt, "a head")
         .problem
 }
 
-/// What is answered to the certificate for the problem of that text's head.
-fn answer_for(rt: &(impl Abort + AllocGlobal), head: &str, text: &str) -> Result<Verdict, Refused> {
-    let problem = problem_of(rt, head);
-    check_for(rt.alloc(), &problem, text.as_bytes())
-}
-
-/// The certificate shows this for the problem of that text's head.
+/// The certificate shows this for the problem of that text's head, whole and byte by byte.
 fn shows_for(rt: &(impl Abort + AllocGlobal), head: &str, text: &str, verdict: Verdict) {
-    let shown = answer_for(rt, head, text).expect(rt, "its problem");
+    let problem = problem_of(rt, head);
+    let shown = check_for(rt.alloc(), &problem, text.as_bytes()).expect(rt, "its problem");
+    assert_same_at(rt, &shown, &verdict, &text);
+    let shown = check_bytes_for(rt.alloc(), &problem, text.as_bytes()).expect(rt, "its problem");
     assert_same_at(rt, &shown, &verdict, &text);
 }
 
-/// The certificate is refused with this fault for the problem of that text's head.
+/// The certificate is refused with this fault for the problem of that text's head, whole and byte by byte.
 fn refuses_for(
     rt: &(impl Abort + AllocGlobal),
     head: &str,
     text: &str,
     fault: &str,
 ) -> Result<(), AllocError> {
-    let refused = answer_for(rt, head, text).expect_err(rt, "refused");
+    let problem = problem_of(rt, head);
+    let refused = check_for(rt.alloc(), &problem, text.as_bytes()).expect_err(rt, "refused");
+    refused_for(rt, &refused, head, fault)?;
+    let refused = check_bytes_for(rt.alloc(), &problem, text.as_bytes()).expect_err(rt, "refused");
     refused_for(rt, &refused, head, fault)
 }
 

@@ -105,6 +105,34 @@ const WHOLE: [Spelled; 3] = [
     },
 ];
 
+/// A released plus belongs to the component; where a space releases, it parts two elements.
+const RELEASED: [Spelled; 2] = [
+    Spelled {
+        text: b"EQD+CN+AB?+C1'",
+        count: 1,
+        number: 1,
+        tag: b"EQD",
+        elements: 2,
+        components: &[(1, 1, b"CN"), (2, 1, b"AB+C1"), (3, 1, b"")],
+    },
+    Spelled {
+        text: b"UNA:+.  'EQD+CN+AB?+C1'",
+        count: 1,
+        number: 1,
+        tag: b"EQD",
+        elements: 3,
+        components: &[(1, 1, b"CN"), (2, 1, b"AB?"), (3, 1, b"C1")],
+    },
+];
+
+#[test]
+fn a_released_sign_parts_nothing(rt: HostRuntime) -> Result<(), Fail> {
+    for row in &RELEASED {
+        assert_spelled(&rt, row)?;
+    }
+    Ok(())
+}
+
 #[test]
 fn reads_a_whole_interchange(rt: HostRuntime) -> Result<(), Fail> {
     for row in &WHOLE {

@@ -1,10 +1,46 @@
 use super::{SIX, fault_of};
-use crate::compare::assert_same;
+use crate::calls::{write_yard, yard_of};
+use crate::compare::{assert_same, assert_same_at};
+use crp_plan::Received;
 use crp_yard::YardFault;
+use std::alloc::Global;
 use std::test::Fail;
 
 /// How many bytes of a record's line end in a field that is wanted.
 const SHORTEST: usize = 9;
+
+/// The yard that a list states, as it is written.
+fn written(alloc: Global, text: &[u8]) -> Result<Vec<u8>, Fail> {
+    let yard = yard_of(alloc, text, 3, 3)?;
+    let mut sink = Received::new(alloc);
+    write_yard(alloc, &mut sink, &yard)?;
+    Ok(sink.bytes)
+}
+
+/// The text, with a line end where it has none.
+fn with_end(alloc: Global, text: &[u8]) -> Result<Vec<u8>, Fail> {
+    let mut whole = Vec::from_slice(alloc, text)?;
+    if text.last() != Some(&b'\n') {
+        whole.push(b'\n')?;
+    }
+    Ok(whole)
+}
+
+// Each record of the list stands as it is written, so what is left of it does too: the last container may have lost an end of its name.
+#[test]
+fn what_is_left_of_a_list_is_its_inventory(rt: HostRuntime) -> Result<(), Fail> {
+    let mut accepted = 0u32;
+    for length in 0..SIX.len() {
+        let left = &SIX[..length];
+        if fault_of(rt.alloc(), left).is_none() {
+            let (found, wanted) = (written(rt.alloc(), left)?, with_end(rt.alloc(), left)?);
+            assert_same_at(&rt, &found.as_slice(), &wanted.as_slice(), &length);
+            accepted = accepted.saturating_add(1);
+        }
+    }
+    assert_same(&rt, &accepted, &19);
+    Ok(())
+}
 
 // A front of the list: a header, whole lines, and a piece of a line.
 #[test]
