@@ -1,0 +1,12 @@
+-- The bays so far are followed.
+use Rattle.std.proofs.Common.{map}
+use Rattle.crp_follow.specs.Followed.{AreFollowed}
+use Rattle.crp_follow.specs.Views.{bay_stated, bay_followed}
+use Rattle.crp_follow.proofs.following.follow_bays.Given as goal
+
+abbrev pub invariant-loop-stated : goal.invariant-loop-stated
+invariant-loop-stated l = record {
+  can : (goal.iterator-loop-stated).can_next l.stated-iterator;
+  ends : (goal.iterator-loop-stated).is_finite l.stated-iterator;
+  so : AreFollowed l.yard (map bay_stated l.yielded) (map bay_followed l.followed.items);
+}

@@ -1,0 +1,11 @@
+-- What the types of the program stand for.
+use Rattle.crp_follow.specs.declared.stated.StatedBay.{StatedBay}
+use Rattle.crp_follow.specs.declared.followed.FollowedBay.{FollowedBay}
+use Rattle.crp_follow.specs.Stated.{BayStated}
+use Rattle.crp_follow.specs.Followed.{BayFollowed}
+
+abbrev pub bay_stated : StatedBay → BayStated
+bay_stated b = record { line = b.line; bay = b.bay; said = b.said; moves = b.moves.items }
+
+abbrev pub bay_followed : FollowedBay → BayFollowed
+bay_followed b = record { stated = bay_stated b.stated; start = b.start.items; after = b.after.items }

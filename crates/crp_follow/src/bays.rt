@@ -1,0 +1,86 @@
+//! Bays of a yard, and what a report states of them.
+ghost use Rattle.std.specs.Prelude.{◌≡◌, ◌<◌, ◌↔◌, Some, None, length, map, slice_get, option_map, count_by, IfOk, IfSome, IfNone, IsTrue};
+ghost use Rattle.crp_follow.specs.Faults.{rows_in, is_named, is_shift, count_said, CountsShifts};
+ghost use Rattle.crp_follow.specs.Stated.{moves_of};
+ghost use Rattle.crp_follow.specs.Views.{bay_stated};
+
+use crate::followed::FollowedBay;
+use crate::pushing::add;
+use crate::row::Row;
+use crate::stated::{StatedBay, StatedMove};
+use crp_plan::BayName;
+use crp_said::{Said, SaidMove};
+use crp_yard::Yard;
+use std::alloc::{AllocError, Global};
+
+/// The number of the bay of this name, from 0, if the yard has one.
+pub(crate) fn find(yard: &Yard, bay: &BayName) -> Option<usize>
+    ensures there { IfSome result (λ i. (i < length yard.now.bays) × (rows_in yard.now bay.now ≡ option_map (λ b. b.1) (slice_get yard.now.bays i))) }
+    ensures none { IfNone result (rows_in yard.now bay.now ≡ None) }
+{
+    for i in 0..yard.count() {
+        if bay == yard.name(i) {
+            return Some(i);
+        }
+    }
+    None
+}
+
+/// What stands in the rows of a bay.
+pub(crate) fn rows_of(alloc: Global, yard: &Yard, bay: usize) -> Result<Vec<Row>, AllocError>
+    requires { bay < length yard.now.bays }
+    ensures { IfOk result (λ rows. option_map (λ b. b.1) (slice_get yard.now.bays bay) ≡ Some rows.items) }
+{
+    let mut rows = Vec::new(alloc);
+    for i in 0..yard.rows() {
+        let row = Row::of(alloc, yard.stack(bay, i + 1))?;
+        add(&mut rows, row)?;
+    }
+    Ok(rows)
+}
+
+/// Whether one of the bays has this name.
+pub(crate) fn is_named(before: &[FollowedBay], bay: &BayName) -> bool
+    ensures { result ≡ is_named (map (λ b. bay_stated b.stated) before.now) bay.now }
+{
+    for followed in before {
+        if followed.stated.bay == *bay {
+            return true;
+        }
+    }
+    false
+}
+
+/// The relocations of the plan that is said to be printed, if one is.
+fn count_said(said: Said) -> Option<u32>
+    ensures { result ≡ count_said said }
+{
+    match said {
+        Said::Optimal(count) | Said::First(count) => Some(count),
+        Said::NoPlan => None,
+        Said::Between { upper, .. } => upper,
+    }
+}
+
+/// How many of the moves are relocations.
+fn shifts_of(moves: &[StatedMove]) -> usize
+    ensures { result ≡ count_by is_shift (moves_of moves.now) }
+{
+    let mut count: usize = 0;
+    for stated in moves {
+        if matches!(stated.said, SaidMove::Shift { .. }) {
+            count += 1;
+        }
+    }
+    count
+}
+
+/// Whether the line of a bay counts the relocations below it.
+pub(crate) fn counts_shifts(stated: &StatedBay) -> bool
+    ensures { IsTrue result ↔ CountsShifts (bay_stated stated.now) }
+{
+    match count_said(stated.said) {
+        Some(count) => shifts_of(&stated.moves) == count as usize,
+        None => stated.moves.is_empty(),
+    }
+}

@@ -1,0 +1,24 @@
+//! Follows the moves of a report over a yard, whoever wrote it.
+//!
+//! `follow` says where the moves of each bay lead, or the first fault. What a crane can do is said in `specs/Crane.antt`, what a report
+//! states line by line in `specs/Stated.antt`, what a report is that is followed in `specs/Followed.antt`, and why one is not in
+//! `specs/Faults.antt`.
+#![tactic(auto)]
+
+mod bays;
+mod fault;
+mod followed;
+mod following;
+mod laws;
+mod moving;
+mod pushing;
+mod row;
+mod stated;
+mod stating;
+
+pub use fault::FollowFault;
+pub use followed::{Followed, FollowedBay};
+pub use following::follow;
+pub use laws::one_outcome;
+pub use row::Row;
+pub use stated::{StatedBay, StatedMove};
