@@ -14,6 +14,7 @@ use Rattle.crp_follow.specs.declared.fault.FollowFault.TheVariants as fault
 use Rattle.crp_follow.specs.Stated.{BayStated}
 use Rattle.crp_follow.specs.Faults.{is_named, LeadsIn, IsBayFault, IsBaysFault}
 use Rattle.crp_follow.specs.Followed.{BayFollowed, AreFollowed}
+use Rattle.crp_follow.specs.Table.{StandFew}
 use Rattle.crp_follow.specs.Views.{bay_stated, bay_followed}
 use Rattle.crp_follow.proofs.Cuts.{all_both}
 use Rattle.crp_follow.proofs.OneBay.{Followable, named_more, each_followed}
@@ -68,3 +69,14 @@ bay_refused yard bays before later followed s f so is (inr wrong) =
 pub taken_front : {X A : Type 0} (s : IntoIter X A) (xs : List X) (t : IntoIter X A) → Yields into_iter_steps s xs t → into_iter_items s ≡ xs ++ into_iter_items t
 taken_front s [] t y = ap into_iter_items y
 taken_front s (x ∷ xs) t y = y.1.0 ∙ ap (λ ys. x ∷ ys) (taken_front y.0 xs t y.2)
+
+-- ---- few containers
+
+pub none_stand : (bays : List FollowedBay) → bays ≡ [] → AllByRecursion StandFew (map bay_followed bays)
+none_stand bays e = subst (λ l. AllByRecursion StandFew (map bay_followed l)) (sym e) tt
+
+pub few_more : (bays new : List FollowedBay) (b : FollowedBay) → AllByRecursion StandFew (map bay_followed bays) → StandFew (bay_followed b) → new ≡ bays ++ b ∷ []
+    → AllByRecursion StandFew (map bay_followed new)
+few_more bays new b few one longer =
+    subst (AllByRecursion StandFew) (sym (ap (map bay_followed) longer ∙ map-append bay_followed bays (b ∷ [])))
+    (all_both StandFew (map bay_followed bays) (bay_followed b ∷ []) few (one, tt))

@@ -10,3 +10,4 @@ mod ReadSoFar
 mod InYard
 mod MoveSteps
 mod FollowSteps
+mod TableSteps

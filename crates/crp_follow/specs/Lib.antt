@@ -3,4 +3,5 @@ pub mod Crane
 pub mod Stated
 pub mod Faults
 pub mod Followed
+pub mod Table
 pub mod Views

@@ -1,6 +1,8 @@
 -- What the types of the program stand for.
+use Rattle.std.specs.Prelude.{ℕ, List}
 use Rattle.crp_follow.specs.declared.stated.StatedBay.{StatedBay}
 use Rattle.crp_follow.specs.declared.followed.FollowedBay.{FollowedBay}
+use Rattle.crp_follow.specs.declared.taking.Taken.{Taken}
 use Rattle.crp_follow.specs.Stated.{BayStated}
 use Rattle.crp_follow.specs.Followed.{BayFollowed}
 
@@ -9,3 +11,7 @@ bay_stated b = record { line = b.line; bay = b.bay; said = b.said; moves = b.mov
 
 abbrev pub bay_followed : FollowedBay → BayFollowed
 bay_followed b = record { stated = bay_stated b.stated; start = b.start.items; after = b.after.items }
+
+-- a container that leaves, with its step
+abbrev pub taken_as : Taken → ℕ × List ℕ
+taken_as t = (t.step, t.container.now)

@@ -1,9 +1,11 @@
 //! Following a report over a yard.
 ghost use Rattle.std.specs.Prelude.{◌≡◌, ◌⊎◌, List, false, map, IfOk, IfErr, IsErr};
+ghost use Rattle.std.specs.List.{AllByRecursion};
 ghost use Rattle.crp_said.specs.declared.numbers.Numbers.{Numbers as Counts};
 ghost use Rattle.crp_follow.specs.declared.fault.FollowFault.{FollowFault as Fault};
 ghost use Rattle.crp_follow.specs.Faults.{is_named, LeadsIn, IsBayFault, IsBaysFault, IsFirstFault};
 ghost use Rattle.crp_follow.specs.Followed.{BayFollowed, IsFollowed, AreFollowed};
+ghost use Rattle.crp_follow.specs.Table.{StandFew};
 ghost use Rattle.crp_follow.specs.Views.{bay_stated, bay_followed};
 
 use crate::bays::{counts_shifts, find, is_named, rows_of};
@@ -26,6 +28,7 @@ fn follow_bay(
     ensures same { IfOk result (λ bay. bay_stated bay.stated ≡ bay_stated stated) }
     ensures fresh { IfOk result (λ bay. is_named (map (λ b. bay_stated b.stated) before.now) stated.bay ≡ false) }
     ensures leads { IfOk result (λ bay. LeadsIn yard.now (bay_stated stated) bay.start.items bay.after.items) }
+    ensures few { IfOk result (λ bay. StandFew (bay_followed bay)) }
     ensures wrong { IfErr result (λ fault. (fault ≡ FollowFault.Memory)
         ⊎ IsBayFault yard.now (map (λ b. bay_stated b.stated) before.now) (bay_stated stated) fault) }
 {
@@ -56,6 +59,7 @@ fn follow_bays(
     bays: Vec<StatedBay>,
 ) -> Result<Vec<FollowedBay>, FollowFault>
     ensures followed { IfOk result (λ followed. AreFollowed yard.now (map bay_stated bays.items) (map bay_followed followed.items)) }
+    ensures few { IfOk result (λ followed. AllByRecursion StandFew (map bay_followed followed.items)) }
     ensures wrong { IfErr result (λ fault. (fault ≡ FollowFault.Memory) ⊎ IsBaysFault yard.now (map bay_stated bays.items) fault) }
 {
     let mut followed = Vec::new(alloc);
@@ -70,6 +74,7 @@ fn follow_bays(
 /// it is a report of bays of the yard whose moves the crane can make; else the first fault. Memory may run out in place of either.
 pub fn follow(alloc: Global, yard: &Yard, report: &[u8]) -> Result<Followed, FollowFault>
     ensures followed { IfOk result (λ followed. IsFollowed yard.now report.now followed.numbers (map bay_followed followed.bays.items)) }
+    ensures few { IfOk result (λ followed. AllByRecursion StandFew (map bay_followed followed.bays.items)) }
     ensures refused { IfErr result (λ fault. (fault ≡ FollowFault.Memory) ⊎ IsFirstFault yard.now report.now fault) }
     ensures accepts { (numbers : Counts) (bays : List BayFollowed) → IsFollowed yard.now report.now numbers bays
         → IfErr result (λ fault. fault ≡ FollowFault.Memory) }

@@ -2,7 +2,7 @@
 //!
 //! `follow` says where the moves of each bay lead, or the first fault. What a crane can do is said in `specs/Crane.antt`, what a report
 //! states line by line in `specs/Stated.antt`, what a report is that is followed in `specs/Followed.antt`, and why one is not in
-//! `specs/Faults.antt`.
+//! `specs/Faults.antt`. `write_table` writes the table of the moves, which `specs/Table.antt` defines.
 #![tactic(auto)]
 
 mod bays;
@@ -15,6 +15,8 @@ mod pushing;
 mod row;
 mod stated;
 mod stating;
+mod table;
+mod taking;
 
 pub use fault::FollowFault;
 pub use followed::{Followed, FollowedBay};
@@ -22,3 +24,4 @@ pub use following::follow;
 pub use laws::one_outcome;
 pub use row::Row;
 pub use stated::{StatedBay, StatedMove};
+pub use table::{table_text, write_table};

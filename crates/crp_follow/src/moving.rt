@@ -25,7 +25,7 @@ fn row_index(row: u32, rows: usize) -> Option<usize>
 }
 
 /// Where a container is to be lifted.
-fn from_of(said: &SaidMove) -> Place
+pub(crate) fn from_of(said: &SaidMove) -> Place
     ensures { result ≡ from_of said.now }
 {
     match said {
@@ -35,7 +35,7 @@ fn from_of(said: &SaidMove) -> Place
 }
 
 /// Which container is to be lifted.
-fn container_of(said: &SaidMove) -> &Container
+pub(crate) fn container_of(said: &SaidMove) -> &Container
     ensures { result.now ≡ container_of said.now }
 {
     match said {

@@ -4,11 +4,11 @@ use Rattle.std.specs.Vec.Iter.{into_iter_items}
 use Rattle.crp_follow.specs.declared.fault.FollowFault.TheVariants as fault
 use Rattle.crp_follow.specs.Faults.{is_named, IsBayFault}
 use Rattle.crp_follow.specs.Views.{bay_stated}
-use Rattle.crp_follow.proofs.FollowSteps.{before_are, none_followed, one_bay_more, bay_refused, taken_front}
+use Rattle.crp_follow.proofs.FollowSteps.{before_are, none_followed, one_bay_more, bay_refused, taken_front, none_stand, few_more}
 use Rattle.crp_follow.proofs.following.follow_bays.Goals as goal
 
 pub loop-stated-init : goal.loop-stated-init
-loop-stated-init c = record { can = tt; ends = tt; so = none_followed c.args.yard.now c.new-followed.result.items c.new-followed.ensures.items }
+loop-stated-init c = record { can = tt; ends = tt; so = none_followed c.args.yard.now c.new-followed.result.items c.new-followed.ensures.items; few = none_stand c.new-followed.result.items c.new-followed.ensures.items }
 
 pub returns-in_err-bay-clause-wrong : goal.returns-in_err-bay-clause-wrong
 returns-in_err-bay-clause-wrong c =
@@ -32,4 +32,5 @@ loop-stated-preserved c =
       ends = tt;
       so = one_bay_more c.args.yard.now c.loop-stated.yielded c.loop-stated.followed.items c.add.new.list.items s c.in_ok-bay.bay o.so c.in_ok-bay.ensures.same
           (subst (λ l. is_named (before_are l) s.bay ≡ false) c.deref.ensures.value c.in_ok-bay.ensures.fresh) c.in_ok-bay.ensures.leads c.in_ok-add.ensures;
+      few = few_more c.loop-stated.followed.items c.add.new.list.items c.in_ok-bay.bay o.few c.in_ok-bay.ensures.few c.in_ok-add.ensures;
     }
