@@ -11,3 +11,4 @@ mod InYard
 mod MoveSteps
 mod FollowSteps
 mod TableSteps
+mod KeptLaws

@@ -10,7 +10,8 @@ use Rattle.crp_follow.specs.declared.fault.FollowFault.{FollowFault}
 use Rattle.crp_follow.specs.declared.fault.FollowFault.TheVariants as fault
 use Rattle.crp_follow.specs.Crane.{Stack, Leads}
 use Rattle.crp_follow.specs.Stated.{BayStated, moves_of}
-use Rattle.crp_follow.specs.Faults.{rows_in, is_named, CountsShifts, IsBayFault, StopsWith, LeadsIn, IsBaysFault}
+use Rattle.crp_follow.specs.MoveFaults.{StopsWith}
+use Rattle.crp_follow.specs.Faults.{rows_in, is_named, CountsShifts, IsBayFault, LeadsIn, IsBaysFault}
 use Rattle.crp_follow.specs.Followed.{BayFollowed}
 use Rattle.crp_follow.proofs.Cuts.{AreCuts, cuts, right_at}
 use Rattle.crp_follow.proofs.OneMove.{leads_once, stops_apart, stops_once}

@@ -6,9 +6,9 @@ use Rattle.crp_said.specs.declared.moves.SaidMove.TheVariants.{Shift, Take}
 use Rattle.crp_follow.specs.declared.stated.StatedMove.{StatedMove}
 use Rattle.crp_follow.specs.declared.fault.FollowFault.{FollowFault}
 use Rattle.crp_follow.specs.declared.fault.FollowFault.TheVariants as fault
-use Rattle.crp_follow.specs.Crane.{Stack, with_stack, IsHighest, CanMake, Leads}
+use Rattle.crp_follow.specs.Crane.{Stack, with_stack, IsHighest, CanMake, Leads, from_of, container_of}
 use Rattle.crp_follow.specs.Stated.{moves_of}
-use Rattle.crp_follow.specs.Faults.{from_of, container_of, CanSetDown, IsMoveFault, StopsWith}
+use Rattle.crp_follow.specs.MoveFaults.{CanSetDown, IsMoveFault, StopsWith}
 use Rattle.crp_follow.proofs.Cuts.{AreCuts, cuts}
 use Rattle.crp_follow.proofs.Rows.{one_highest, one_free}
 

@@ -15,7 +15,7 @@ use Rattle.crp_follow.specs.declared.stated.StatedMove.{StatedMove}
 use Rattle.crp_follow.specs.declared.fault.FollowFault.{FollowFault}
 use Rattle.crp_follow.specs.declared.fault.FollowFault.TheVariants as fault
 use Rattle.crp_follow.specs.Stated.{most_bytes, BayStated, moves_of, lines_of, said_by, AreMovesFrom, line_behind_bays, AreBaysFrom, IsStatable, AreBaysIn, States}
-use Rattle.crp_follow.specs.Faults.{StopStating, IsNoMove, CountsRight, IsWrongCount, IsTextFault}
+use Rattle.crp_follow.specs.TextFaults.{StopsBehind, IsNoMove, CountsRight, IsWrongCount, IsTextFault}
 use Rattle.crp_follow.proofs.Cuts.{AreCuts, cuts, right_at, mapped_cut}
 use Rattle.crp_follow.proofs.MoveText.{are_moves, none_of_nothing, lines_once}
 
@@ -145,13 +145,13 @@ states_once text n k bs cs s t =
 -- ---- a line below a bay that states no move
 
 -- the lines of moves do not stop
-no_stop : (b : BayStated) (s : BaySaid) (moves : List SaidMove) → IsStatable b → said_by b ≡ s → StopStating s.lines moves → ⊥
+no_stop : (b : BayStated) (s : BaySaid) (moves : List SaidMove) → IsStatable b → said_by b ≡ s → StopsBehind s.lines moves → ⊥
 no_stop b s moves is e stop =
     let lines : lines_of (moves_of b.moves) ++ [] ≡ lines_of moves ++ stop.rest = append-nil (lines_of (moves_of b.moves)) ∙ ap (λ (x : BaySaid). x.lines) e ∙ stop.is in
     stop.some (sym (lines_once (moves_of b.moves) moves [] stop.rest is.moves stop.stated none_of_nothing stop.none lines).1)
 
 none_stops : (bays : List BayStated) (front : List BaySaid) (s : BaySaid) (later : List BaySaid) (moves : List SaidMove) → AllByRecursion IsStatable bays → map said_by bays ≡ front ++ s ∷ later
-    → StopStating s.lines moves → ⊥
+    → StopsBehind s.lines moves → ⊥
 none_stops bays front s later moves all e stop =
     let cut = mapped_cut said_by bays front s later e in
     no_stop cut.at s moves (right_at IsStatable cut.front cut.at cut.later (subst (AllByRecursion IsStatable) cut.is all)) cut.at_is stop
@@ -164,7 +164,7 @@ one_stop said line other v w = decide (cuts (map said_by v.before) (map said_by 
   where
     decide : AreCuts (map said_by v.before) (map said_by w.before) v.bay w.bay v.later w.later → line ≡ other
     decide (inl (front, bay, later)) =
-        let stops : StopStating w.bay.lines v.moves = subst (λ (s : BaySaid). StopStating s.lines v.moves) bay v.stops in
+        let stops : StopsBehind w.bay.lines v.moves = subst (λ (s : BaySaid). StopsBehind s.lines v.moves) bay v.stops in
         let also = w.stops in
         let same = lines_once v.moves w.moves stops.rest also.rest stops.stated also.stated stops.none also.none (sym stops.is ∙ also.is) in
         v.line_is ∙ ap (λ k. suc k + length v.moves) (same_line 2 v.before w.before v.statable w.statable front) ∙ ap (λ (l : List SaidMove). suc (line_behind_bays 2 w.before) + length l) same.0

@@ -6,7 +6,8 @@ use Rattle.crp_said.specs.declared.numbers.Numbers.{Numbers}
 use Rattle.crp_follow.specs.declared.fault.FollowFault.{FollowFault}
 use Rattle.crp_follow.specs.declared.fault.FollowFault.TheVariants as fault
 use Rattle.crp_follow.specs.Stated.{BayStated, States}
-use Rattle.crp_follow.specs.Faults.{IsTextFault, IsBaysFault, IsFirstFault}
+use Rattle.crp_follow.specs.TextFaults.{IsTextFault}
+use Rattle.crp_follow.specs.Faults.{IsBaysFault, IsFirstFault}
 use Rattle.crp_follow.specs.Followed.{BayFollowed, AreFollowed, IsFollowed}
 use Rattle.crp_follow.proofs.OneBay.{Followable, followed_apart, bays_once, each_followed, followed_once}
 use Rattle.crp_follow.proofs.OneText.{states_once, text_apart, text_once}

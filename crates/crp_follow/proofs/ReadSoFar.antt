@@ -14,7 +14,7 @@ use Rattle.crp_said.specs.declared.said.SaidBay.{SaidBay}
 use Rattle.crp_said.specs.Views.{bay_as}
 use Rattle.crp_follow.specs.declared.stated.StatedMove.{StatedMove}
 use Rattle.crp_follow.specs.Stated.{BayStated, moves_of, line_of, lines_of, said_by, AreMovesFrom, line_behind_bays, AreBaysFrom, AreMovesIn, IsStatable, AreBaysIn}
-use Rattle.crp_follow.specs.Faults.{StopStating, IsNoMove}
+use Rattle.crp_follow.specs.TextFaults.{StopsBehind, IsNoMove}
 use Rattle.crp_follow.specs.declared.stated.StatedBay.{StatedBay}
 use Rattle.crp_follow.specs.declared.fault.FollowFault.{FollowFault}
 use Rattle.crp_follow.specs.declared.fault.FollowFault.TheVariants as fault
@@ -78,7 +78,7 @@ all_moves first lines moves rest line so none = record {
 }
 
 pub stop_here : (first : ℕ) (lines : List ℕ) (moves : List StatedMove) (rest : List ℕ) (line : ℕ) → MovesSoFar first lines moves rest line → rest ≢ [] → BeginsWithNone rest
-    → (line ≡ first + length (moves_of moves)) × StopStating lines (moves_of moves)
+    → (line ≡ first + length (moves_of moves)) × StopsBehind lines (moves_of moves)
 stop_here first lines moves rest line so some none = (
   so.line_is ∙ ap (λ n. first + n) (sym (length-map moves (λ (x : StatedMove). x.said))),
   record { rest = rest; stated = so.stated; is = so.is; some = some; none = none },
@@ -152,7 +152,7 @@ behind_fits said later stated line s more moves so e is =
 
 -- the line of a bay's moves at which they stop
 pub stop_bay : (said later all more : List BaySaid) (stated : List BayStated) (line : ℕ) (s : BaySaid) (moves : List SaidMove) → BaysSoFar said later stated line → later ≡ s ∷ more
-    → all ≡ said ++ later → StopStating s.lines moves → IsNoMove all ((line + 1) + length moves)
+    → all ≡ said ++ later → StopsBehind s.lines moves → IsNoMove all ((line + 1) + length moves)
 stop_bay said later all more stated line s moves so e is stop =
     let before = so.so in
     let at : line ≡ line_behind_bays 2 stated = so.line_is in
@@ -192,13 +192,13 @@ stated_more stated new line name s moves longer same =
     ∙ ap (λ n. map bay_stated stated ++ record { line = line; bay = n; said = s.said; moves = moves.items } ∷ []) same
 
 abbrev StopsIn : ℕ → List ℕ → FollowFault → Type 0
-StopsIn first lines f = (f ≡ fault.Memory) ⊎ ((moves : List SaidMove) × (f ≡ fault.NoMove (first + length moves)) × StopStating lines moves)
+StopsIn first lines f = (f ≡ fault.Memory) ⊎ ((moves : List SaidMove) × (f ≡ fault.NoMove (first + length moves)) × StopsBehind lines moves)
 
 pub stopped_bay : (said later all more : List BaySaid) (stated : List BayStated) (line : ℕ) (s : BaySaid) (lines : List ℕ) (f : FollowFault) → BaysSoFar said later stated line → later ≡ s ∷ more
     → all ≡ said ++ later → lines ≡ s.lines → StopsIn (line + 1) lines f → (f ≡ fault.Memory) ⊎ ((n : ℕ) × (f ≡ fault.NoMove n) × IsNoMove all n)
 stopped_bay said later all more stated line s lines f so e is same (inl memory) = inl memory
 stopped_bay said later all more stated line s lines f so e is same (inr (moves, at, stops)) =
-    inr ((line + 1) + length moves, at, stop_bay said later all more stated line s moves so e is (subst (λ l. StopStating l moves) same stops))
+    inr ((line + 1) + length moves, at, stop_bay said later all more stated line s moves so e is (subst (λ l. StopsBehind l moves) same stops))
 
 pub if_some_at : {A : Type 0} (o : Option A) (P : A → Type 0) (x : A) → o ≡ Some x → IfSome o P → P x
 if_some_at None P x e is = cc

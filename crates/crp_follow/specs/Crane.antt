@@ -20,6 +20,15 @@ abbrev pub with_stack : List Stack → ℕ → Stack → List Stack
 with_stack rows zero stack = rows
 with_stack rows (suc i) stack = slice_set rows i stack
 
+-- where a container is to be lifted, and which
+abbrev pub from_of : SaidMove → Place
+from_of (Shift from to container) = from
+from_of (Take from container) = from
+
+abbrev pub container_of : SaidMove → List ℕ
+container_of (Shift from to container) = container
+container_of (Take from container) = container
+
 -- the container stands at the place and is the highest of its row; these stand beneath it
 pub record IsHighest (rows : List Stack) (place : Place) (container : List ℕ) (beneath : Stack) : Type 0 where
   pub stack : stack_of rows place.row ≡ Some (beneath ++ container ∷ [])

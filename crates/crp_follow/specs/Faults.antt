@@ -1,5 +1,5 @@
--- Why a report cannot be followed over a yard: the first fault.
-use Rattle.std.specs.Prelude.{◌≡◌, ◌≢◌, ◌⊎◌, ◌+◌, ◌<◌, ◌≤◌, ℕ, suc, Bool, true, false, List, [], ◌∷◌, ◌++◌, length, map, count_by, Option, Some, None, MatchOption, IsSome}
+-- Why a report cannot be followed over a yard: the first fault, of its text and else of its bays in their order.
+use Rattle.std.specs.Prelude.{◌≡◌, ◌⊎◌, ℕ, Bool, true, false, List, [], ◌∷◌, ◌++◌, map, count_by, Option, Some, None, MatchOption, IsSome}
 use Rattle.std.specs.List.{AllByRecursion, IsDistinct, list_any}
 use Rattle.std.specs.Map.{lookup}
 use Rattle.crp_plan.specs.BayNames.{YardBay, same_bay}
@@ -7,100 +7,14 @@ use Rattle.crp_yard.specs.Inventory.{Inventory}
 use Rattle.crp_said.specs.declared.numbers.Numbers.{Numbers}
 use Rattle.crp_said.specs.declared.said.Said.{Said}
 use Rattle.crp_said.specs.declared.said.Said.TheVariants.{Optimal, First, NoPlan, Between}
-use Rattle.crp_said.specs.declared.moves.Place.{Place}
 use Rattle.crp_said.specs.declared.moves.SaidMove.{SaidMove}
 use Rattle.crp_said.specs.declared.moves.SaidMove.TheVariants.{Shift, Take}
-use Rattle.crp_said.specs.declared.report.ReportFault.{ReportFault}
-use Rattle.crp_said.specs.declared.report.ReportFault.TheVariants as report
-use Rattle.crp_said.specs.Said.{BaySaid, is_settled}
-use Rattle.crp_said.specs.Spelled.{ReportSaid, SpellsReport, IsMisspelled, CanBeStated}
-use Rattle.crp_follow.specs.declared.stated.StatedMove.{StatedMove}
 use Rattle.crp_follow.specs.declared.fault.FollowFault.{FollowFault}
 use Rattle.crp_follow.specs.declared.fault.FollowFault.TheVariants as fault
-use Rattle.crp_follow.specs.Crane.{Stack, IsHighest, IsLowestFree, Leads}
-use Rattle.crp_follow.specs.Stated.{most_bytes, BayStated, moves_of, line_of, lines_of, said_by, line_behind_bays, IsStatable, States}
-
--- ---- the text
-
--- the lines of some moves stand there, and what follows them begins with the line of no move
-pub record StopStating (lines : List ℕ) (moves : List SaidMove) : Type 0 where
-  pub rest : List ℕ
-  pub stated : AllByRecursion CanBeStated moves
-  pub is : lines ≡ lines_of moves ++ rest
-  pub some : rest ≢ []
-  pub none : (m : SaidMove) (more : List ℕ) → CanBeStated m → rest ≢ line_of m ++ more
-
--- the lines before this one are those of bays and of moves, and this one, below the line of a bay, is that of no move
-pub record IsNoMove (said : List BaySaid) (line : ℕ) : Type 0 where
-  pub before : List BayStated
-  pub bay : BaySaid
-  pub later : List BaySaid
-  pub moves : List SaidMove
-  pub statable : AllByRecursion IsStatable before
-  pub said_is : said ≡ map said_by before ++ bay ∷ later
-  pub stops : StopStating bay.lines moves
-  pub line_is : line ≡ suc (line_behind_bays 2 before) + length moves
-
--- the last line counts the bays and those that are decided
-abbrev pub CountsRight : ReportSaid → Type 0
-CountsRight r = (r.count ≡ length r.bays) × (r.settled ≡ count_by (λ s. is_settled s.said) r.bays)
-
--- all lines are those of bays and moves, and the last one, which is this one, counts them wrong
-pub record IsWrongCount (r : ReportSaid) (line : ℕ) : Type 0 where
-  pub bays : List BayStated
-  pub statable : AllByRecursion IsStatable bays
-  pub bays_are : r.bays ≡ map said_by bays
-  pub wrong : ¬ CountsRight r
-  pub line_is : line ≡ line_behind_bays 2 bays
-
--- the fault of a text that is no report
-abbrev pub of_spelling : ReportFault → FollowFault
-of_spelling (report.Line line) = fault.Spelling line
-of_spelling report.Memory = fault.Memory
-
--- the first fault of a text
-abbrev pub IsTextFault : List ℕ → FollowFault → Type 0
-IsTextFault text fault.TooLong = most_bytes < length text
-IsTextFault text (fault.Spelling line) = (length text ≤ most_bytes) × IsMisspelled text line
-IsTextFault text (fault.NoMove line) = (length text ≤ most_bytes) × ((r : ReportSaid) × SpellsReport text r × IsNoMove r.bays line)
-IsTextFault text (fault.Count line) = (length text ≤ most_bytes) × ((r : ReportSaid) × SpellsReport text r × IsWrongCount r line)
-IsTextFault text f = ⊥
-
--- ---- a move
-
--- where a container is to be lifted, and which
-abbrev pub from_of : SaidMove → Place
-from_of (Shift from to container) = from
-from_of (Take from container) = from
-
-abbrev pub container_of : SaidMove → List ℕ
-container_of (Shift from to container) = container
-container_of (Take from container) = container
-
--- it can be set down where it is to be; a container that is taken is not
-abbrev pub CanSetDown : List ℕ → List Stack → SaidMove → Type 0
-CanSetDown heights rows (Shift from to container) = (to.row ≢ from.row) × ((beneath : Stack) × IsLowestFree heights rows to beneath)
-CanSetDown heights rows (Take from container) = Unit {0}
-
--- why the crane cannot make a move over these rows. `Lift`: no container is the highest of its row there. `Container`: another one is. `SetDown`: it is,
--- and cannot be set down there
-abbrev pub IsMoveFault : List ℕ → List Stack → StatedMove → FollowFault → Type 0
-IsMoveFault heights rows m (fault.Lift line) = (line ≡ m.line) × ((container : List ℕ) (beneath : Stack) → ¬ IsHighest rows (from_of m.said) container beneath)
-IsMoveFault heights rows m (fault.Container line) =
-    (line ≡ m.line) × ((container : List ℕ) × (beneath : Stack) × IsHighest rows (from_of m.said) container beneath × (container ≢ container_of m.said))
-IsMoveFault heights rows m (fault.SetDown line) =
-    (line ≡ m.line) × ((beneath : Stack) × IsHighest rows (from_of m.said) (container_of m.said) beneath) × ¬ CanSetDown heights rows m.said
-IsMoveFault heights rows m f = ⊥
-
--- the crane makes some of the moves, and cannot make the next
-pub record StopsWith (heights : List ℕ) (start : List Stack) (moves : List StatedMove) (f : FollowFault) : Type 0 where
-  pub made : List StatedMove
-  pub next : StatedMove
-  pub later : List StatedMove
-  pub rows : List Stack
-  pub moves_are : moves ≡ made ++ next ∷ later
-  pub leads : Leads heights start (moves_of made) rows
-  pub wrong : IsMoveFault heights rows next f
+use Rattle.crp_follow.specs.Crane.{Stack, Leads}
+use Rattle.crp_follow.specs.MoveFaults.{StopsWith}
+use Rattle.crp_follow.specs.TextFaults.{IsTextFault}
+use Rattle.crp_follow.specs.Stated.{BayStated, moves_of, States}
 
 -- ---- a bay
 

@@ -1,7 +1,10 @@
 -- Reports that are followed over a yard.
 pub mod Crane
 pub mod Stated
+pub mod TextFaults
+pub mod MoveFaults
 pub mod Faults
 pub mod Followed
+pub mod Kept
 pub mod Table
 pub mod Views

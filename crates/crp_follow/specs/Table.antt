@@ -6,9 +6,8 @@ use Rattle.crp_yard.specs.Text.{text_of_records}
 use Rattle.crp_said.specs.declared.moves.Place.{Place}
 use Rattle.crp_said.specs.declared.moves.SaidMove.{SaidMove}
 use Rattle.crp_said.specs.declared.moves.SaidMove.TheVariants.{Shift, Take}
-use Rattle.crp_follow.specs.Crane.{Stack}
+use Rattle.crp_follow.specs.Crane.{Stack, from_of, container_of}
 use Rattle.crp_follow.specs.Stated.{moves_of}
-use Rattle.crp_follow.specs.Faults.{from_of, container_of}
 use Rattle.crp_follow.specs.Followed.{BayFollowed}
 
 -- the header

@@ -54,7 +54,7 @@ impl From<AllocError> for FollowFault {
 }
 
 impl From<ReportFault> for FollowFault {
-    ghost use Rattle.crp_follow.specs.Faults.{of_spelling};
+    ghost use Rattle.crp_follow.specs.TextFaults.{of_spelling};
 
     ghost from_gives = { λ error fault. fault ≡ of_spelling error };
 

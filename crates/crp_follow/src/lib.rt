@@ -21,7 +21,7 @@ mod taking;
 pub use fault::FollowFault;
 pub use followed::{Followed, FollowedBay};
 pub use following::follow;
-pub use laws::one_outcome;
+pub use laws::{left_stand, nothing_is_lost, one_outcome, stays_within_heights};
 pub use row::Row;
 pub use stated::{StatedBay, StatedMove};
 pub use table::{table_text, write_table};

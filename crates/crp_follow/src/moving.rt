@@ -1,9 +1,9 @@
 //! Moves that a crane makes over the rows of a bay.
 ghost use Rattle.std.specs.Prelude.{◌≡◌, ◌⊎◌, ◌∷◌, ◌++◌, [], ◌<◌, ◌≤◌, ◌↔◌, suc, ℕ, List, OnOk, IfOk, IfErr, IfSome, IfNone, IsTrue};
 ghost use Rattle.crp_yard.specs.Records.{height_of};
-ghost use Rattle.crp_follow.specs.Crane.{Stack, with_stack, IsHighest, IsLowestFree, CanMake, Leads};
+ghost use Rattle.crp_follow.specs.Crane.{Stack, with_stack, IsHighest, IsLowestFree, CanMake, Leads, from_of, container_of};
 ghost use Rattle.crp_follow.specs.Stated.{moves_of};
-ghost use Rattle.crp_follow.specs.Faults.{from_of, container_of, IsMoveFault, StopsWith};
+ghost use Rattle.crp_follow.specs.MoveFaults.{IsMoveFault, StopsWith};
 
 use crate::fault::FollowFault;
 use crate::row::Row;

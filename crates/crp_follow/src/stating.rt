@@ -6,7 +6,7 @@ ghost use Rattle.crp_said.specs.Said.{bay_text, is_settled};
 ghost use Rattle.crp_said.specs.Spelled.{CanBeStated, IsSayable};
 ghost use Rattle.crp_said.specs.Views.{bay_as, report_as};
 ghost use Rattle.crp_follow.specs.Stated.{line_of, line_behind_bays, AreMovesIn, AreBaysIn, States};
-ghost use Rattle.crp_follow.specs.Faults.{StopStating, IsNoMove, CountsRight, IsTextFault};
+ghost use Rattle.crp_follow.specs.TextFaults.{StopsBehind, IsNoMove, CountsRight, IsTextFault};
 ghost use Rattle.crp_follow.specs.Views.{bay_stated};
 
 use crate::fault::FollowFault;
@@ -50,7 +50,7 @@ fn moves_from(alloc: Global, lines: &[u8], first: u64) -> Result<Vec<StatedMove>
     requires room { first + length lines.now < 2 ^ 64 }
     ensures stated { IfOk result (λ moves. AreMovesIn first lines.now moves.items) }
     ensures wrong { IfErr result (λ fault. (fault ≡ FollowFault.Memory)
-        ⊎ ((moves : List Move) × (fault ≡ FollowFault.NoMove (first + length moves)) × StopStating lines.now moves)) }
+        ⊎ ((moves : List Move) × (fault ≡ FollowFault.NoMove (first + length moves)) × StopsBehind lines.now moves)) }
 {
     let mut moves = Vec::new(alloc);
     let mut rest = lines;

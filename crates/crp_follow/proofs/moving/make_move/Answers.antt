@@ -1,5 +1,5 @@
 use Rattle.std.proofs.Common.{◌≡◌, ◌∙◌, inr, sym, ap, true, false}
-use Rattle.crp_follow.specs.Faults.{container_of}
+use Rattle.crp_follow.specs.Crane.{container_of}
 use Rattle.crp_follow.proofs.MoveSteps.{IsLifted, is_lifted, made_shift, no_place, same_names}
 use Rattle.crp_follow.proofs.moving.make_move.Goals as goal
 
