@@ -12,3 +12,5 @@ mod MoveSteps
 mod FollowSteps
 mod TableSteps
 mod KeptLaws
+mod Columns
+mod LineNumbers

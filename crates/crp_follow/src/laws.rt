@@ -1,12 +1,16 @@
 //! Laws of reports that are followed. Each is the contract of a function that does nothing.
-ghost use Rattle.std.specs.Prelude.{◌≡◌, ◌+◌, ℕ, List, take};
+ghost use Rattle.std.specs.Prelude.{◌≡◌, ◌+◌, ◌≤◌, ◌∷◌, ◌++◌, ℕ, List, take, map, Some, None};
 ghost use Rattle.crp_yard.specs.Inventory.{Inventory, FitBay, times};
 ghost use Rattle.crp_said.specs.declared.numbers.Numbers.{Numbers};
 ghost use Rattle.crp_said.specs.declared.moves.SaidMove.{SaidMove};
+ghost use Rattle.crp_said.specs.Said.{bay_line};
+ghost use Rattle.crp_said.specs.Spelled.{front_text, line_behind};
+ghost use Rattle.crp_follow.specs.declared.stated.StatedMove.{StatedMove};
 ghost use Rattle.crp_follow.specs.declared.fault.FollowFault.{FollowFault};
 ghost use Rattle.crp_follow.specs.Crane.{Stack, Leads};
-ghost use Rattle.crp_follow.specs.Kept.{taken_by, times_in};
-ghost use Rattle.crp_follow.specs.Table.{takes_from, standing, left_behind};
+ghost use Rattle.crp_follow.specs.Stated.{BayStated, moves_of, lines_of, said_by, States};
+ghost use Rattle.crp_follow.specs.Kept.{taken_by, times_in, IsTakenAt, IsNextToLeave};
+ghost use Rattle.crp_follow.specs.Table.{takes_from, leaves_at, next_to_leave, standing, left_behind};
 ghost use Rattle.crp_follow.specs.Faults.{IsFirstFault};
 ghost use Rattle.crp_follow.specs.Followed.{BayFollowed, IsFollowed};
 
@@ -33,8 +37,27 @@ pub fn stays_within_heights()
         → FitBay heights after }
 {}
 
-/// The last column of the table counts the containers that stand in the bay after the move.
-pub fn left_stand()
-    ensures { (heights : List ℕ) (start rows : List Stack) (moves : List SaidMove) (step : ℕ) → Leads heights start (take step moves) rows
+/// What the columns `leaves`, `for` and `left` of the table say: the move of the step that `leaves` gives takes the container, and where
+/// it gives none no move does; `for` names the container that the first take of this step or of a later one takes, and where it names
+/// none there is no such take; and `left` counts the containers that stand in the bay after the move.
+pub fn what_columns_say()
+    ensures leaves { (moves : List SaidMove) (container : List ℕ) (step : ℕ) → leaves_at (takes_from 1 moves) container ≡ Some step
+        → IsTakenAt moves step container }
+    ensures stays { (moves : List SaidMove) (container : List ℕ) (step : ℕ) → leaves_at (takes_from 1 moves) container ≡ None
+        → ¬ IsTakenAt moves step container }
+    ensures next { (moves : List SaidMove) (step : ℕ) (container : List ℕ) → next_to_leave (takes_from 1 moves) step ≡ Some container
+        → IsNextToLeave moves step container }
+    ensures none { (moves : List SaidMove) (step later : ℕ) (container : List ℕ) → next_to_leave (takes_from 1 moves) step ≡ None
+        → step ≤ later → ¬ IsTakenAt moves later container }
+    ensures left { (heights : List ℕ) (start rows : List Stack) (moves : List SaidMove) (step : ℕ) → Leads heights start (take step moves) rows
         → left_behind (standing start) (takes_from 1 moves) step ≡ standing rows }
+{}
+
+/// The number of a line is one more than the ends of lines before it.
+pub fn lines_are_numbered()
+    ensures bays { (text : List ℕ) (numbers : Numbers) (before later : List BayStated) (bay : BayStated) → States text numbers (before ++ bay ∷ later)
+        → bay.line ≡ line_behind (front_text numbers (map said_by before)) }
+    ensures moves { (text : List ℕ) (numbers : Numbers) (before later : List BayStated) (bay : BayStated) (made rest : List StatedMove) (next : StatedMove)
+        → States text numbers (before ++ bay ∷ later) → bay.moves ≡ made ++ next ∷ rest
+        → next.line ≡ line_behind (front_text numbers (map said_by before) ++ (bay_line bay.bay bay.said ++ lines_of (moves_of made))) }
 {}

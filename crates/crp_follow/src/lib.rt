@@ -21,7 +21,9 @@ mod taking;
 pub use fault::FollowFault;
 pub use followed::{Followed, FollowedBay};
 pub use following::follow;
-pub use laws::{left_stand, nothing_is_lost, one_outcome, stays_within_heights};
+pub use laws::{
+    lines_are_numbered, nothing_is_lost, one_outcome, stays_within_heights, what_columns_say,
+};
 pub use row::Row;
 pub use stated::{StatedBay, StatedMove};
 pub use table::{table_text, write_table};
