@@ -24,6 +24,8 @@ pub use following::follow;
 pub use laws::{
     lines_are_numbered, nothing_is_lost, one_outcome, stays_within_heights, what_columns_say,
 };
+pub use moving::make_move;
 pub use row::Row;
 pub use stated::{StatedBay, StatedMove};
+pub use stating::MAX_BYTES;
 pub use table::{table_text, write_table};

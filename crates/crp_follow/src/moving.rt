@@ -97,8 +97,13 @@ fn is_within(heights: &[u8], place: Place) -> bool
     }
 }
 
-/// Makes a move, where the crane can make it.
-fn make_move(heights: &[u8], rows: &mut Vec<Row>, stated: &StatedMove) -> Result<(), FollowFault>
+/// Makes a move over rows of these heights, exactly where the crane can make it; else F7, F8 or F9 at its line. After an error the rows
+/// are no longer those before the move.
+pub fn make_move(
+    heights: &[u8],
+    rows: &mut Vec<Row>,
+    stated: &StatedMove,
+) -> Result<(), FollowFault>
     ensures made { OnOk result (CanMake heights.now rows.old.items stated.now.said rows.new.items) }
     ensures wrong { IfErr result (λ fault. (fault ≡ FollowFault.Memory) ⊎ IsMoveFault heights.now rows.old.items stated.now fault) }
 {

@@ -27,8 +27,8 @@ impl Row {
         &self.containers
     }
 
-    /// A row in which these containers stand.
-    pub(crate) fn of(alloc: Global, containers: &[Container]) -> Result<Row, AllocError>
+    /// A row in which these containers stand, from bottom to top.
+    pub fn of(alloc: Global, containers: &[Container]) -> Result<Row, AllocError>
         ensures { IfOk result (λ row. row ≡ containers.now) }
     {
         let containers = copied(alloc, containers)?;
