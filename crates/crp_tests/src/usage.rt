@@ -200,7 +200,7 @@ const BY_DEFAULT: Asked = Asked {
 
 const ALL_OPTIONS: Asked = Asked {
     files: ["y", "-"],
-    outputs: [Some("c"), Some("-")],
+    outputs: [Some("c"), Some("d")],
     search: Search {
         workers: 7,
         budget: 0,
@@ -233,7 +233,7 @@ const ALL_WORDS: [&str; 21] = [
     "--cert",
     "c",
     "--after",
-    "-",
+    "d",
     "--quiet",
     "--progress",
 ];

@@ -5,7 +5,7 @@ use Rattle.std.specs.declared.num.ParseIntError.{ParseIntError}
 use Rattle.clap.specs.Words.{Row, Text}
 use Rattle.clap.specs.Matches.{ReadsOne}
 use Rattle.crp_solve.specs.Chosen.{Chosen}
-use Rattle.crp_words.specs.Words.{Asks, HasBudget, HasNumber, HasNumberBeyond, HasNumberWithin, FindsRows, HasInput, HasSearch, HasSettings, HasSplit, HasBeam, FindsTiers, HasWorkers, MayFindHeights, IsBudgetBeyond, IsSplitBeyond, IsBeamBeyond, AreRowsBeyond, AreTiersBeyond, AreHeightsBeyond, AreWorkersBeyond, IsFault, IsInputFault, IsJust, IsSearchFault, IsSizedTwice, IsSolveFault, IsWordsOrMemory, Lacks, ReadsNumber}
+use Rattle.crp_words.specs.Words.{Asks, HasBudget, HasNumber, HasNumberBeyond, HasNumberWithin, FindsRows, HasInput, HasSearch, HasSettings, HasSplit, HasBeam, FindsTiers, HasWorkers, MayFindHeights, IsBudgetBeyond, IsSplitBeyond, IsBeamBeyond, AreRowsBeyond, AreTiersBeyond, AreHeightsBeyond, AreWorkersBeyond, IsFault, IsInputFault, IsJust, IsSearchFault, IsNamedTwice, IsSizedTwice, IsSolveFault, IsWordsOrMemory, Lacks, ReadsNumber}
 use Rattle.crp_commands.specs.declared.job.Job.{Job}
 use Rattle.crp_report.specs.Chosen.{InputChosen, RunChosen}
 use Rattle.crp_commands.specs.declared.job.FileCommand.TheVariants as command
@@ -261,31 +261,37 @@ pub no_prove : (rows : List Row) (u : Usage) → Lacks (HasSearch rows) (IsSearc
 no_prove rows u = lacks_more (HasSearch rows) (Asks (codes "prove") rows) (IsSearchFault rows) (IsFault (codes "prove") rows) u
     (prove_asks rows) (λ f first. inl (refl, first)) (λ f first. inl (prove_fault rows f first))
 
--- what solve asks for has settings, and its size once
-solve_asks : (rows : List Row) (j : Job) → Asks (codes "solve") rows j → ¬ IsSizedTwice rows × ((s : RunChosen) × HasSettings rows s)
+-- what solve asks for has settings, its size once, and each file once
+solve_asks : (rows : List Row) (j : Job) → Asks (codes "solve") rows j → ¬ IsSizedTwice rows × ¬ IsNamedTwice rows × ((s : RunChosen) × HasSettings rows s)
 solve_asks rows (job.OneFile file command.Replay) asks = absurd (other_name 115 114 _ _ (omega arith) asks.0)
 solve_asks rows (job.OneFile file command.Bound) asks = absurd (other_name 115 98 _ _ (omega arith) asks.0)
 solve_asks rows (job.OneFile file command.Check) asks = absurd (other_name 115 99 _ _ (omega arith) asks.0)
 solve_asks rows (job.OneFile file (command.Prove search)) asks = absurd (other_name 115 112 _ _ (omega arith) asks.0.0)
 solve_asks rows (job.Audit names settings) asks = absurd (other_name 115 97 _ _ (omega arith) asks.0)
-solve_asks rows (job.Solve names settings quiet progress) asks = (asks.1, (settings, asks.3))
+solve_asks rows (job.Solve names settings quiet progress) asks = (asks.1, asks.2, (settings, asks.4))
 
-solve_fault : (rows : List Row) (f : SettingFault) → IsFault (codes "solve") rows f → ¬ IsSizedTwice rows × IsSolveFault rows f
+solve_fault : (rows : List Row) (f : SettingFault) → IsFault (codes "solve") rows f → ¬ IsSizedTwice rows × ¬ IsNamedTwice rows × IsSolveFault rows f
 solve_fault rows f (inl (is, first)) = absurd (other_name 115 112 _ _ (omega arith) is)
 solve_fault rows f (inr (inl (is, first))) = first
 solve_fault rows f (inr (inr (is, first))) = absurd (other_name 115 97 _ _ (omega arith) is)
 
 -- without settings solve asks for nothing
-pub no_solve : (rows : List Row) (u : Usage) → ¬ IsSizedTwice rows → Lacks (HasSettings rows) (IsSolveFault rows) u
+pub no_solve : (rows : List Row) (u : Usage) → ¬ IsSizedTwice rows → ¬ IsNamedTwice rows → Lacks (HasSettings rows) (IsSolveFault rows) u
     → Lacks (Asks (codes "solve") rows) (IsFault (codes "solve") rows) u
-no_solve rows u once = lacks_more (HasSettings rows) (Asks (codes "solve") rows) (IsSolveFault rows) (IsFault (codes "solve") rows) u
-    (λ j asks. (solve_asks rows j asks).1) (λ f first. inr (inl (refl, (once, first)))) (λ f first. inl (solve_fault rows f first).1)
+no_solve rows u once apart = lacks_more (HasSettings rows) (Asks (codes "solve") rows) (IsSolveFault rows) (IsFault (codes "solve") rows) u
+    (λ j asks. (solve_asks rows j asks).2) (λ f first. inr (inl (refl, (once, apart, first)))) (λ f first. inl (solve_fault rows f first).2)
 
 -- nor does it where its size is given twice
 pub solve_sized_twice : (rows : List Row) (u : Usage) → IsSizedTwice rows → IsWordsOrMemory u
     → Lacks (Asks (codes "solve") rows) (IsFault (codes "solve") rows) u
 solve_sized_twice rows u twice words = lacks (Asks (codes "solve") rows) (IsFault (codes "solve") rows) u words
     (λ j asks. (solve_asks rows j asks).0 twice) (λ f first. (solve_fault rows f first).0 twice)
+
+-- nor where two of its files are one
+pub solve_named_twice : (rows : List Row) (u : Usage) → IsNamedTwice rows → IsWordsOrMemory u
+    → Lacks (Asks (codes "solve") rows) (IsFault (codes "solve") rows) u
+solve_named_twice rows u twice words = lacks (Asks (codes "solve") rows) (IsFault (codes "solve") rows) u words
+    (λ j asks. (solve_asks rows j asks).1 twice) (λ f first. (solve_fault rows f first).1 twice)
 
 -- what audit asks for has an input, and its size once
 audit_asks : (rows : List Row) (j : Job) → Asks (codes "audit") rows j → ¬ IsSizedTwice rows × ((s : InputChosen) × HasInput rows s)

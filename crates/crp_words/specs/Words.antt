@@ -1,5 +1,5 @@
 -- What the words of the command line ask for.
-use Rattle.std.specs.Prelude.{◌≡◌, ℕ, ◌≢◌, ◌↔◌, Bool, IsTrue, ◌⊎◌, ◌==◌, ◌<◌, ◌≤◌, ◌^◌, List, [], ◌∷◌, length, if◌then◌else◌, codes, Option, Some, None, option_map, option_and_then, find, replicate, ⊤}
+use Rattle.std.specs.Prelude.{◌≡◌, ℕ, ◌≢◌, ◌↔◌, Bool, IsTrue, ◌⊎◌, ◌==◌, ◌<◌, ◌≤◌, ◌^◌, List, [], ◌∷◌, length, take, drop, if◌then◌else◌, codes, Option, Some, None, option_map, option_and_then, find, replicate, ⊤}
 use Rattle.std.specs.Str.{bytes_eq}
 use Rattle.std.specs.Str.Parse.{IsNumeral, digits_value, without_leading_plus}
 use Rattle.clap.specs.Words.{IsAmong, Kinds, Row, Text, fault_of, first_of, one_of, subcommand_of}
@@ -182,6 +182,24 @@ abbrev pub HasAuditFiles : List Row → AuditFiles → Type 0
 HasAuditFiles found names = HasText (codes "yard") found names.yard.now × HasText (codes "movins") found names.movins.now
     × HasText (codes "report") found names.report.now × HasText (codes "certificates") found names.certificates.now
 
+-- the name of a file without `./` in front
+abbrev pub plain_name : Text → Text
+plain_name name = if bytes_eq (take 2 name) (codes "./") then drop 2 name else name
+
+-- the words name one file for both
+pub record IsOneFile (id other_id : Text) (found : List Row) : Type 0 where
+  pub name : Text
+  pub other : Text
+  pub has : HasText id found name
+  pub has_other : HasText other_id found other
+  pub same : plain_name name ≡ plain_name other
+
+-- a file that solve writes, which is emptied before anything is read, is one that it reads, or the other one that it writes
+abbrev pub IsNamedTwice : List Row → Type 0
+IsNamedTwice found = IsOneFile (codes "cert") (codes "yard") found
+    ⊎ (IsOneFile (codes "cert") (codes "movins") found ⊎ (IsOneFile (codes "after") (codes "yard") found
+    ⊎ (IsOneFile (codes "after") (codes "movins") found ⊎ IsOneFile (codes "after") (codes "cert") found)))
+
 -- notes are left out exactly where the words give the flag
 abbrev pub MayBeQuiet : List Row → Bool → Type 0
 MayBeQuiet found quiet = IsTrue quiet ↔ IsGivenByWords (codes "quiet") found
@@ -205,7 +223,7 @@ Asks name found (job.OneFile file c) = AsksCommand name found c × HasText (code
 Asks name found (job.Audit names settings) =
     (name ≡ codes "audit") × ¬ IsSizedTwice found × HasAuditFiles found names × HasInput found settings
 Asks name found (job.Solve names settings quiet progress) =
-    (name ≡ codes "solve") × ¬ IsSizedTwice found × HasFiles found names × HasSettings found settings × MayBeQuiet found quiet × MayShowProgress found progress
+    (name ≡ codes "solve") × ¬ IsSizedTwice found × ¬ IsNamedTwice found × HasFiles found names × HasSettings found settings × MayBeQuiet found quiet × MayShowProgress found progress
 
 -- the first number of a search beyond its limits: the workers, then the budget, then the split, then the beam
 abbrev pub IsSearchFault : List Row → SettingFault → Type 0
@@ -230,7 +248,7 @@ IsSolveFault found f = IsSearchFault found f ⊎ (((s : Chosen) × HasSearch fou
 
 -- the first setting of the command beyond its limits
 abbrev pub IsFault : Text → List Row → SettingFault → Type 0
-IsFault name found f = ((name ≡ codes "prove") × IsSearchFault found f) ⊎ (((name ≡ codes "solve") × (¬ IsSizedTwice found × IsSolveFault found f))
+IsFault name found f = ((name ≡ codes "prove") × IsSearchFault found f) ⊎ (((name ≡ codes "solve") × (¬ IsSizedTwice found × ¬ IsNamedTwice found × IsSolveFault found f))
     ⊎ ((name ≡ codes "audit") × (¬ IsSizedTwice found × IsInputFault found f)))
 
 -- the command, if there is one, and its rows ask for this

@@ -7,7 +7,7 @@ ghost use Rattle.crp_report.specs.Chosen.{CanBeHeights, IsRowCount};
 ghost use Rattle.crp_words.specs.declared.usage.SettingFault.TheVariants as setting;
 ghost use Rattle.crp_words.specs.declared.usage.Usage.TheVariants as usage;
 ghost use Rattle.crp_words.specs.Heights.{HasHeightAt, IsHeightsText};
-ghost use Rattle.crp_words.specs.Words.{AreHeightsBeyond, Asks, HasNumber, HasNumberBeyond, HasInput, HasNumberWithin, HasOrder, HasSearch, HasSettings, HasText, IsFault, IsGivenByWords, IsInputFault, IsJust, IsSearchFault, IsSizedTwice, IsSolveFault, IsWordsOrMemory, Lacks, MayFindHeights, NoFault, Refuses, ShowsKind, WordsAsk, heights_or, words_or_default};
+ghost use Rattle.crp_words.specs.Words.{AreHeightsBeyond, Asks, HasNumber, HasNumberBeyond, HasInput, HasNumberWithin, HasOrder, HasSearch, HasSettings, HasText, IsFault, IsGivenByWords, IsInputFault, IsJust, IsNamedTwice, IsOneFile, IsSearchFault, IsSizedTwice, IsSolveFault, IsWordsOrMemory, Lacks, MayFindHeights, NoFault, Refuses, ShowsKind, WordsAsk, heights_or, plain_name, words_or_default};
 
 use crate::commands::command_line;
 use crate::usage::{Mistake, SettingFault, Usage};
@@ -167,6 +167,74 @@ fn is_sized_twice(matches: &ArgMatches<'_>) -> bool
     is_given(matches, "heights") && (is_given(matches, "rows") || is_given(matches, "tiers"))
 }
 
+// The name of a file without `./` in front.
+fn plain_name(name: &str) -> &[u8]
+    ensures { result.now ≡ plain_name name.now }
+{
+    let name = name.as_bytes();
+    if name.starts_with(b"./") {
+        &name[2..]
+    } else {
+        name
+    }
+}
+
+// The names that the words give to one file, where they name one for both.
+fn one_file<'a>(
+    matches: &ArgMatches<'a>,
+    name: &str,
+    other: &str,
+) -> Option<(&'a str, &'a str)>
+    ensures some { IfSome result (λ _. IsOneFile name.now other.now (rows_of (found_of matches.now))) }
+    ensures none { IfNone result (¬ IsOneFile name.now other.now (rows_of (found_of matches.now))) }
+{
+    let Some(first) = matches.get_str(name) else {
+        return None;
+    };
+    let Some(second) = matches.get_str(other) else {
+        return None;
+    };
+    if plain_name(first) == plain_name(second) {
+        Some((first, second))
+    } else {
+        None
+    }
+}
+
+// The names of a file that `solve` writes and of another of its files, where they are one.
+fn named_twice<'a>(matches: &ArgMatches<'a>) -> Option<(&'a str, &'a str)>
+    ensures some { IfSome result (λ _. IsNamedTwice (rows_of (found_of matches.now))) }
+    ensures none { IfNone result (¬ IsNamedTwice (rows_of (found_of matches.now))) }
+{
+    if let Some(names) = one_file(matches, "cert", "yard") {
+        return Some(names);
+    }
+    if let Some(names) = one_file(matches, "cert", "movins") {
+        return Some(names);
+    }
+    if let Some(names) = one_file(matches, "after", "yard") {
+        return Some(names);
+    }
+    if let Some(names) = one_file(matches, "after", "movins") {
+        return Some(names);
+    }
+    one_file(matches, "after", "cert")
+}
+
+// The refusal of two names of one file.
+fn same_file(alloc: Global, names: (&str, &str)) -> Usage
+    ensures { IsWordsOrMemory result }
+{
+    match format!(in alloc;
+        "crp: S8\nthe names {} and {} are of one file: each file needs a name of its own, since what is written is emptied first\n",
+        names.0,
+        names.1
+    ) {
+        Ok(text) => Usage::Wrong(Mistake::Words(text)),
+        Err(_) => Usage::Memory,
+    }
+}
+
 fn order_of(alloc: Global, matches: &ArgMatches<'_>) -> Result<Mode, Usage>
     ensures ok { IfOk result (HasOrder (rows_of (found_of matches.now))) }
     ensures err { IfErr result (Lacks (HasOrder (rows_of (found_of matches.now))) NoFault) }
@@ -311,6 +379,9 @@ fn solve_of<'a>(alloc: Global, matches: &ArgMatches<'a>) -> Result<Job<'a>, Usag
 {
     if is_sized_twice(matches) {
         return Err(wrong(alloc, SIZED_TWICE));
+    }
+    if let Some(names) = named_twice(matches) {
+        return Err(same_file(alloc, names));
     }
     let settings = settings_of(alloc, matches)?;
     let yard = text_of(alloc, matches, "yard")?;
