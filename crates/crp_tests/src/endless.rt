@@ -1,10 +1,13 @@
-//! A check of certificates that never end.
-ghost use Rattle.std.specs.Prelude.{◌<◌, None};
+//! Checks of as many bytes as a file of certificates may have, and of more.
+ghost use Rattle.std.specs.Prelude.{None};
 
 use crate::calls::check;
-use crate::compare::assert_same;
+use crate::compare::{assert_same, assert_same_at};
+use crp_cert::CertFault;
+use crp_checker::Refused;
 use crp_commands::{MOST_BYTES, ToolFault};
 use crp_plan::{Failure, Sink, Source};
+use crp_report::Status;
 use std::test::Fail;
 
 const SIX_ROWS: &[u8] =
@@ -12,26 +15,90 @@ const SIX_ROWS: &[u8] =
 
 const LINE: &[u8] = b"bay B 7: optimal 11\n";
 
-/// Gives the certificate of the six rows again and again.
+const SIX: &[u8] =
+    b"CRP-CERT 1\nbay A 1\nsize 3 3 6 6\nrow 1 5 4\nrow 6\nrow 3 2\nat least 3\nplan 2 2 1\npart /: XLB\nend 1\n";
+
+const TWO: &[u8] =
+    b"CRP-CERT 1\nbay AAA 1\nsize 2 2 2 2\nrow 1 2\nrow\nat least 1\nplan 2\npart /: B\nend 1\n";
+
+/// The certificate of the six up to its last symbol.
+const SIX_BEGUN: &[u8] =
+    b"CRP-CERT 1\nbay A 1\nsize 3 3 6 6\nrow 1 5 4\nrow 6\nrow 3 2\nat least 3\nplan 2 2 1\npart /: XLB";
+
+const SYMBOL: &[u8] = b"B";
+
+const LAST: &[u8] = b"\nend 1\n";
+
+/// Some bytes, and how often they come.
+type Piece = (&'static [u8], u64);
+
+/// Gives pieces, so many bytes in all, and keeps none of them.
 #[derive(Drop)]
-struct Again {
-    rest: &'static [u8],
+struct Long {
+    pieces: &'static [Piece],
+    left: usize,
+    /// Which piece comes, how often it was given, and how many bytes of it this time.
+    piece: usize,
+    given: u64,
+    at: usize,
 }
 
-impl Source for Again {
+impl Long {
+    fn of(pieces: &'static [Piece], length: usize) -> Long {
+        Long {
+            pieces,
+            left: length,
+            piece: 0,
+            given: 0,
+            at: 0,
+        }
+    }
+
+    /// Goes on by a byte of a piece of this length, which comes so often.
+    fn go_on(&mut self, length: usize, times: u64) {
+        self.at = self.at.saturating_add(1);
+        if self.at < length {
+            return;
+        }
+        self.at = 0;
+        self.given = self.given.saturating_add(1);
+        if self.given >= times {
+            self.given = 0;
+            self.piece = self.piece.saturating_add(1);
+        }
+    }
+
+    /// The next byte, which is 0 behind the pieces.
+    fn next(&mut self) -> u8 {
+        let Some((bytes, times)) = self.pieces.get(self.piece) else {
+            return 0;
+        };
+        let Some(byte) = bytes.get(self.at) else {
+            return 0;
+        };
+        let (byte, length, times) = (*byte, bytes.len(), *times);
+        self.go_on(length, times);
+        byte
+    }
+}
+
+impl Source for Long {
     ghost remaining = { λ _. None };
 
     ghost failures = { λ _. 0 };
 
     fn read(&mut self, buf: &mut [u8]) -> Result<usize, Failure> {
+        if buf.is_empty() || self.left == 0 {
+            return Ok(0);
+        }
+        if self.left < buf.len() {
+            self.left -= 1;
+            buf[0] = self.next();
+            return Ok(1);
+        }
+        self.left -= buf.len();
         for byte in buf.iter_mut() {
-            if self.rest.is_empty() {
-                self.rest = SIX_ROWS;
-            }
-            if let Some((first, rest)) = self.rest.split_first() {
-                *byte = *first;
-                self.rest = rest;
-            }
+            *byte = self.next();
         }
         Ok(buf.len())
     }
@@ -56,15 +123,46 @@ impl Sink for Lines {
     }
 }
 
+/// As many certificates as fill a file to its last byte.
+const MANY: &[Piece] = &[(SIX_ROWS, 808540), (SIX, 1), (TWO, 1)];
+
 #[test]
-fn too_many_bytes_are_reported_after_the_lines_before_them(rt: HostRuntime) -> Result<(), Fail> {
-    assert_same(&rt, &SIX_ROWS.len(), &332);
+fn a_file_with_as_many_bytes_as_are_checked(rt: HostRuntime) -> Result<(), Fail> {
     assert_same(&rt, &MOST_BYTES, &268435456);
     let mut lines = Lines { all: 0, right: 0 };
-    let mut source = Again { rest: SIX_ROWS };
+    let mut source = Long::of(MANY, 268435456);
     let answer = check(rt.alloc(), &mut source, &mut lines);
-    assert_same(&rt, &answer, &Err(ToolFault::TooLarge));
-    assert_same(&rt, &lines.all, &808540);
-    assert_same(&rt, &lines.right, &808540);
+    assert_same(&rt, &answer, &Ok(Status::Decided));
+    assert_same(&rt, &(lines.all, lines.right), &(808542, 808540));
+    Ok(())
+}
+
+/// A second certificate with symbols behind its tree, whose end is the last byte of such a file.
+const TRAILING: &[Piece] = &[(SIX, 1), (SIX_BEGUN, 1), (SYMBOL, 268435264), (LAST, 1)];
+
+/// The same with one symbol more.
+const ONE_MORE: &[Piece] = &[(SIX, 1), (SIX_BEGUN, 1), (SYMBOL, 268435265), (LAST, 1)];
+
+const REFUSED: ToolFault = ToolFault::Checked {
+    number: 2,
+    refused: Refused::Cert(CertFault::Trailing { line: 9 }),
+};
+
+/// The pieces of a file, how many bytes are given, and the fault: of what the file says, or that it says too much.
+const TOO_LONG: [(&[Piece], usize, ToolFault); 3] = [
+    (TRAILING, 268435456, REFUSED),
+    (ONE_MORE, 268435457, ToolFault::TooLarge),
+    (ONE_MORE, usize::MAX, ToolFault::TooLarge),
+];
+
+#[test]
+fn one_byte_more_is_too_large(rt: HostRuntime) -> Result<(), Fail> {
+    for (pieces, length, fault) in TOO_LONG {
+        let mut lines = Lines { all: 0, right: 0 };
+        let mut source = Long::of(pieces, length);
+        let answer = check(rt.alloc(), &mut source, &mut lines);
+        assert_same_at(&rt, &answer, &Err(fault), &length);
+        assert_same_at(&rt, &lines.all, &1, &length);
+    }
     Ok(())
 }
