@@ -10,7 +10,7 @@ use Rattle.crp_commands.specs.Performing.{JobSeen, ReportsOverFiles, FailsOverFi
 use Rattle.crp_commands.specs.Headlines.{KeepsHeadline, KeepsHeadlineSoFar}
 use Rattle.crp_commands.specs.Noted.{IsNoted}
 use Rattle.crp_commands.proofs.Noted.{seen_from, noted_alone}
-use Rattle.crp_words.specs.Endings.{IsExplained, BehindNotes, JobEnds}
+use Rattle.crp_words.specs.Endings.{IsExplained, JobEnds}
 
 pub job_ends : (j : Job) (seen : JobSeen) (a b c : Option (List ℕ)) (m n o : ℕ) (status : ℕ) (answer : Result Status ToolFault) →
     MatchResult answer (ReportsOverFiles j seen) (FailsOverFiles j seen) → IfOk answer (λ _. KeepsHeadline j seen) → IfErr answer (λ _. KeepsHeadlineSoFar j seen) →

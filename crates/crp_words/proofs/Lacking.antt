@@ -5,8 +5,10 @@ use Rattle.std.specs.declared.num.ParseIntError.{ParseIntError}
 use Rattle.clap.specs.Words.{Row, Text}
 use Rattle.clap.specs.Matches.{ReadsOne}
 use Rattle.crp_solve.specs.Chosen.{Chosen}
-use Rattle.crp_words.specs.Words.{Asks, HasBudget, HasNumber, HasNumberBeyond, HasNumberWithin, FindsRows, HasInput, HasSearch, HasSettings, HasSplit, HasBeam, FindsTiers, HasWorkers, MayFindHeights, IsBudgetBeyond, IsSplitBeyond, IsBeamBeyond, AreRowsBeyond, AreTiersBeyond, AreHeightsBeyond, AreWorkersBeyond, IsFault, IsInputFault, IsJust, IsSearchFault, IsNamedTwice, IsSizedTwice, IsSolveFault, IsWordsOrMemory, Lacks, ReadsNumber}
+use Rattle.crp_words.specs.Words.{Asks, HasBudget, HasNumber, HasNumberBeyond, HasNumberWithin, FindsRows, HasInput, HasSearch, HasSettings, HasSplit, HasBeam, FindsTiers, HasWorkers, MayFindHeights, IsBudgetBeyond, IsSplitBeyond, IsBeamBeyond, AreRowsBeyond, AreTiersBeyond, AreHeightsBeyond, AreWorkersBeyond, IsFault, IsInputFault, IsJust, IsSearchFault, IsNamedTwice, IsSizedTwice, IsSolveFault, IsWordsOrMemory, Lacks, NoFault, HasFiles, HasText, ReadsNumber}
 use Rattle.crp_commands.specs.declared.job.Job.{Job}
+use Rattle.crp_commands.specs.declared.job.RunFiles.{RunFiles}
+use Rattle.crp_words.specs.Heights.{IsHeightsText}
 use Rattle.crp_report.specs.Chosen.{InputChosen, RunChosen}
 use Rattle.crp_commands.specs.declared.job.FileCommand.TheVariants as command
 use Rattle.crp_commands.specs.declared.job.Job.TheVariants as job
@@ -261,14 +263,15 @@ pub no_prove : (rows : List Row) (u : Usage) → Lacks (HasSearch rows) (IsSearc
 no_prove rows u = lacks_more (HasSearch rows) (Asks (codes "prove") rows) (IsSearchFault rows) (IsFault (codes "prove") rows) u
     (prove_asks rows) (λ f first. inl (refl, first)) (λ f first. inl (prove_fault rows f first))
 
--- what solve asks for has settings, its size once, and each file once
-solve_asks : (rows : List Row) (j : Job) → Asks (codes "solve") rows j → ¬ IsSizedTwice rows × ¬ IsNamedTwice rows × ((s : RunChosen) × HasSettings rows s)
+-- what solve asks for has its size once and each file once, files, and settings
+solve_asks : (rows : List Row) (j : Job) → Asks (codes "solve") rows j
+    → ¬ IsSizedTwice rows × ¬ IsNamedTwice rows × ((names : RunFiles) × HasFiles rows names) × ((s : RunChosen) × HasSettings rows s)
 solve_asks rows (job.OneFile file command.Replay) asks = absurd (other_name 115 114 _ _ (omega arith) asks.0)
 solve_asks rows (job.OneFile file command.Bound) asks = absurd (other_name 115 98 _ _ (omega arith) asks.0)
 solve_asks rows (job.OneFile file command.Check) asks = absurd (other_name 115 99 _ _ (omega arith) asks.0)
 solve_asks rows (job.OneFile file (command.Prove search)) asks = absurd (other_name 115 112 _ _ (omega arith) asks.0.0)
 solve_asks rows (job.Audit names settings) asks = absurd (other_name 115 97 _ _ (omega arith) asks.0)
-solve_asks rows (job.Solve names settings quiet progress) asks = (asks.1, asks.2, (settings, asks.4))
+solve_asks rows (job.Solve names settings quiet progress) asks = (asks.1, asks.2, (names, asks.3), (settings, asks.4))
 
 solve_fault : (rows : List Row) (f : SettingFault) → IsFault (codes "solve") rows f → ¬ IsSizedTwice rows × ¬ IsNamedTwice rows × IsSolveFault rows f
 solve_fault rows f (inl (is, first)) = absurd (other_name 115 112 _ _ (omega arith) is)
@@ -279,7 +282,41 @@ solve_fault rows f (inr (inr (is, first))) = absurd (other_name 115 97 _ _ (omeg
 pub no_solve : (rows : List Row) (u : Usage) → ¬ IsSizedTwice rows → ¬ IsNamedTwice rows → Lacks (HasSettings rows) (IsSolveFault rows) u
     → Lacks (Asks (codes "solve") rows) (IsFault (codes "solve") rows) u
 no_solve rows u once apart = lacks_more (HasSettings rows) (Asks (codes "solve") rows) (IsSolveFault rows) (IsFault (codes "solve") rows) u
-    (λ j asks. (solve_asks rows j asks).2) (λ f first. inr (inl (refl, (once, apart, first)))) (λ f first. inl (solve_fault rows f first).2)
+    (λ j asks. (solve_asks rows j asks).3) (λ f first. inr (inl (refl, (once, apart, first)))) (λ f first. inl (solve_fault rows f first).2)
+
+-- settings within their limits have no fault
+no_heights_fault : (rows : List Row) (own : Option (List ℕ)) → MayFindHeights rows own → AreHeightsBeyond rows → ⊥
+no_heights_fault rows None has (text, found, none) = let e : None ≡ Some text = sym has ∙ found in cc
+no_heights_fault rows (Some heights) (text, has, is) (other, found, none) =
+    let e : Some text ≡ Some other = sym has ∙ found in
+    let same : text ≡ other = cc in
+    none heights (subst (IsHeightsText heights) same is)
+
+no_input_fault : (rows : List Row) (s : InputChosen) → HasInput rows s → (f : SettingFault) → IsInputFault rows f → ⊥
+no_input_fault rows s has setting.Workers none = none
+no_input_fault rows s has setting.Budget none = none
+no_input_fault rows s has setting.Split none = none
+no_input_fault rows s has setting.Beam none = none
+no_input_fault rows s has setting.Rows beyond = no_rows_fault rows has.0.rows has.0.finds_rows beyond
+no_input_fault rows s has setting.Tiers first = no_tiers_fault rows has.0.tiers has.0.finds_tiers first.1
+no_input_fault rows s has setting.Heights first = no_heights_fault rows has.0.own has.0.finds_own first.2
+
+no_settings_fault : (rows : List Row) (s : RunChosen) → HasSettings rows s → (f : SettingFault) → IsSolveFault rows f → ⊥
+no_settings_fault rows s has f (inl first) = no_search_fault rows s.search has.0 f first
+no_settings_fault rows s has f (inr first) = no_input_fault rows s.input has.1 f first.1
+
+-- so with settings, and without one of its inputs, solve asks for nothing
+pub no_yard : (rows : List Row) (s : RunChosen) (u : Usage) → HasSettings rows s → Lacks (HasText (codes "yard") rows) NoFault u
+    → Lacks (Asks (codes "solve") rows) (IsFault (codes "solve") rows) u
+no_yard rows s u has = lacks_more (HasText (codes "yard") rows) (Asks (codes "solve") rows) NoFault (IsFault (codes "solve") rows) u
+    (λ j asks. let files = (solve_asks rows j asks).2 in (files.0.yard.now, files.1.0)) (λ f none. absurd none)
+    (λ f first. absurd (no_settings_fault rows s has f (solve_fault rows f first).2))
+
+pub no_movins : (rows : List Row) (s : RunChosen) (u : Usage) → HasSettings rows s → Lacks (HasText (codes "movins") rows) NoFault u
+    → Lacks (Asks (codes "solve") rows) (IsFault (codes "solve") rows) u
+no_movins rows s u has = lacks_more (HasText (codes "movins") rows) (Asks (codes "solve") rows) NoFault (IsFault (codes "solve") rows) u
+    (λ j asks. let files = (solve_asks rows j asks).2 in (files.0.movins.now, files.1.1)) (λ f none. absurd none)
+    (λ f first. absurd (no_settings_fault rows s has f (solve_fault rows f first).2))
 
 -- nor does it where its size is given twice
 pub solve_sized_twice : (rows : List Row) (u : Usage) → IsSizedTwice rows → IsWordsOrMemory u

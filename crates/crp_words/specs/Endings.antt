@@ -2,12 +2,12 @@
 use Rattle.std.specs.Prelude.{◌≡◌, ℕ, ◌⊎◌, List, [], ◌∷◌, ◌++◌, Option, Some, None, Ok, Err, codes, string_bytes}
 use Rattle.crp_plan.specs.Devices.{HasFailed}
 use Rattle.crp_report.specs.declared.status.Status.{Status}
-use Rattle.crp_report.specs.Runs.{SourceSeen, SinkSeen, Gets, GetsPart}
+use Rattle.crp_report.specs.Runs.{SinkSeen, Gets, GetsPart}
 use Rattle.crp_commands.specs.declared.job.Job.{Job}
 use Rattle.crp_commands.specs.declared.outcome.ToolFault.{ToolFault}
 use Rattle.crp_commands.specs.Advice.{IsPlainLine, failed_words}
 use Rattle.crp_commands.specs.Calls.{exit_code}
-use Rattle.crp_commands.specs.Opened.{FilesSeen, AreFilesLeftAlone, IsSourceLeftAlone, IsLeftAlone}
+use Rattle.crp_commands.specs.Opened.{AreFilesLeftAlone, IsSourceLeftAlone, IsLeftAlone}
 use Rattle.crp_commands.specs.Performing.{JobSeen, ReportsOverFiles, FailsOverFiles}
 use Rattle.crp_commands.specs.Headlines.{KeepsHeadline, KeepsHeadlineSoFar}
 use Rattle.crp_commands.specs.Noted.{IsNoted}

@@ -269,7 +269,9 @@ fn audit_files<'a>(alloc: Global) -> Result<Command<'a>, AllocError>
     ensures { IfOk result (IsCommand audit_files_shape) }
 {
     Command::new(alloc, "audit")
-        .about("Check a report and its certificates, whoever made them, against a yard list and a message")
+        .about(
+            "Check a report and its certificates, whoever made them, against a yard list and a message",
+        )
         .arg(file(alloc, "yard", "YARD", "Yard list (CSV)"))?
         .arg(file(alloc, "movins", "MOVINS", "Load orders (MOVINS)"))?
         .arg(file(alloc, "report", "REPORT", "Report, as solve prints it"))?

@@ -180,11 +180,7 @@ fn plain_name(name: &str) -> &[u8]
 }
 
 // The names that the words give to one file, where they name one for both.
-fn one_file<'a>(
-    matches: &ArgMatches<'a>,
-    name: &str,
-    other: &str,
-) -> Option<(&'a str, &'a str)>
+fn one_file<'a>(matches: &ArgMatches<'a>, name: &str, other: &str) -> Option<(&'a str, &'a str)>
     ensures some { IfSome result (λ _. IsOneFile name.now other.now (rows_of (found_of matches.now))) }
     ensures none { IfNone result (¬ IsOneFile name.now other.now (rows_of (found_of matches.now))) }
 {
@@ -227,8 +223,7 @@ fn same_file(alloc: Global, names: (&str, &str)) -> Usage
 {
     match format!(in alloc;
         "crp: S8\nthe names {} and {} are of one file: each file needs a name of its own, since what is written is emptied first\n",
-        names.0,
-        names.1
+        names.0, names.1
     ) {
         Ok(text) => Usage::Wrong(Mistake::Words(text)),
         Err(_) => Usage::Memory,

@@ -4,23 +4,37 @@ use Rattle.std.proofs.lemmas.Result.{err_from_is_err_and}
 use Rattle.clap.specs.Words.{found_of, rows_of}
 use Rattle.clap.proofs.WalkLemmas.{first_value-rows}
 use Rattle.crp_words.specs.Words.{IsSizedTwice}
-use Rattle.crp_words.proofs.Lacking.{no_solve, solve_sized_twice}
+use Rattle.crp_words.proofs.Lacking.{no_solve, no_yard, no_movins, solve_sized_twice, solve_named_twice}
 use Rattle.crp_words.proofs.words.solve_of.Goals as goal
 
 pub returns-then-is_sized_twice-clause-err : goal.returns-then-is_sized_twice-clause-err
 returns-then-is_sized_twice-clause-err c =
     solve_sized_twice (rows_of (found_of c.args.matches.now)) c.wrong.result (c.is_sized_twice.ensures.0 c.if-is_sized_twice.true) c.wrong.ensures
 
+pub returns-in-Some-clause-err : goal.returns-in-Some-clause-err
+returns-in-Some-clause-err c = solve_named_twice (rows_of (found_of c.args.matches.now)) c.same_file.result c.in-Some.ensures.some c.same_file.ensures
+
 pub returns-in_err-settings-clause-err : goal.returns-in_err-settings-clause-err
 returns-in_err-settings-clause-err c =
     let once : ¬ IsSizedTwice (rows_of (found_of c.args.matches.now)) = λ twice. false≢true (sym c.if-is_sized_twice.false ∙ c.is_sized_twice.ensures.1 twice) in
     let p = err_from_is_err_and c.from_residual.result c.from_residual.ensures.1 in
-    rw (p.1, p.2) (no_solve (rows_of (found_of c.args.matches.now)) c.in_err-settings.field-0.0 once c.in_err-settings.ensures.err)
+    rw (p.1, p.2) (no_solve (rows_of (found_of c.args.matches.now)) c.in_err-settings.field-0.0 once c.in_default.ensures.none c.in_err-settings.ensures.err)
+
+pub returns-in_err-yard-clause-err : goal.returns-in_err-yard-clause-err
+returns-in_err-yard-clause-err c =
+    let p = err_from_is_err_and c.from_residual-in_err-yard.result c.from_residual-in_err-yard.ensures.1 in
+    rw (p.1, p.2) (no_yard (rows_of (found_of c.args.matches.now)) c.in_ok-settings.settings c.in_err-yard.field-0.0 c.in_ok-settings.ensures.ok c.in_err-yard.ensures.err)
+
+pub returns-in_err-movins-clause-err : goal.returns-in_err-movins-clause-err
+returns-in_err-movins-clause-err c =
+    let p = err_from_is_err_and c.from_residual-in_err-movins.result c.from_residual-in_err-movins.ensures.1 in
+    rw (p.1, p.2) (no_movins (rows_of (found_of c.args.matches.now)) c.in_ok-settings.settings c.in_err-movins.field-0.0 c.in_ok-settings.ensures.ok c.in_err-movins.ensures.err)
 
 pub returns-clause-ok : goal.returns-clause-ok
 returns-clause-ok c = (
   refl,
   (λ twice. false≢true (sym c.if-is_sized_twice.false ∙ c.is_sized_twice.ensures.1 twice)),
+  c.in_default.ensures.none,
   (
     c.in_ok-yard.ensures.ok,
     c.in_ok-movins.ensures.ok,
