@@ -18,10 +18,10 @@ more z w a b x y c d e (inl (p, q, r)) = inl (ap (λ l. z ∷ l) p ∙ ap (λ v.
 more z w a b x y c d e (inr (inl (mid, is))) = inr (inl (mid, ap (λ l. w ∷ l) is ∙ ap (λ v. v ∷ (a ++ x ∷ mid)) (sym e)))
 more z w a b x y c d e (inr (inr (mid, is))) = inr (inr (mid, ap (λ l. z ∷ l) is ∙ ap (λ v. v ∷ (b ++ y ∷ mid)) e))
 
-head_same : {A : Type 0} (a b : A) (xs ys : List A) → a ∷ xs ≡ b ∷ ys → a ≡ b
+pub head_same : {A : Type 0} (a b : A) (xs ys : List A) → a ∷ xs ≡ b ∷ ys → a ≡ b
 head_same a b xs ys e = cc
 
-tail_same : {A : Type 0} (a b : A) (xs ys : List A) → a ∷ xs ≡ b ∷ ys → xs ≡ ys
+pub tail_same : {A : Type 0} (a b : A) (xs ys : List A) → a ∷ xs ≡ b ∷ ys → xs ≡ ys
 tail_same a b xs ys e = cc
 
 pub cuts : {A : Type 0} (a b : List A) (x y : A) (c d : List A) → a ++ x ∷ c ≡ b ++ y ∷ d → AreCuts a b x y c d

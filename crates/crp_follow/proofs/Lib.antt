@@ -1,16 +1,19 @@
 -- Lemmas on reports that are followed.
 mod Cuts
+mod Pieces
+mod Words
+mod OneLine
 mod Rows
 mod OneMove
 mod OneBay
-mod MoveText
 mod OneText
+mod Reading
+mod Written
+mod Standing
 mod Outcomes
-mod ReadSoFar
 mod InYard
 mod MoveSteps
 mod FollowSteps
 mod TableSteps
 mod KeptLaws
 mod Columns
-mod LineNumbers

@@ -1,6 +1,8 @@
 -- Reports that are followed over a yard.
 pub mod Crane
+pub mod Lines
 pub mod Stated
+pub mod Written
 pub mod TextFaults
 pub mod MoveFaults
 pub mod Faults

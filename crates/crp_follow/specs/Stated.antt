@@ -1,14 +1,15 @@
--- What a report states, line by line: its three numbers, and the bays with their moves, each with the number of its line. Lines count from 1.
-use Rattle.std.specs.Prelude.{◌≡◌, ◌+◌, ◌≤◌, ℕ, suc, List, [], ◌∷◌, ◌++◌, length, map, flat_map}
+-- What a report states, line by line: its three numbers, and the bays with their moves, each with the number of its line.
+use Rattle.std.specs.Prelude.{◌≡◌, ◌≤◌, ℕ, List, ◌∷◌, [], ◌++◌, length, map, flat_map, count_by}
 use Rattle.std.specs.List.{AllByRecursion}
 use Rattle.crp_plan.specs.BayNames.{YardBay, IsYardBay}
 use Rattle.crp_said.specs.declared.numbers.Numbers.{Numbers}
 use Rattle.crp_said.specs.declared.said.Said.{Said}
 use Rattle.crp_said.specs.declared.moves.SaidMove.{SaidMove}
 use Rattle.crp_said.specs.MoveLines.{move_words}
-use Rattle.crp_said.specs.Said.{BaySaid, report_text}
-use Rattle.crp_said.specs.Spelled.{AreSmall, IsSmall, CanBeStated}
+use Rattle.crp_said.specs.Said.{counts_line, bay_words, said_words, bays_line, is_settled}
+use Rattle.crp_said.specs.Spelled.{AreSmall, IsSmall, CanBeStated, ended}
 use Rattle.crp_follow.specs.declared.stated.StatedMove.{StatedMove}
+use Rattle.crp_follow.specs.Lines.{Line, lines_in}
 
 -- the most bytes of a report
 abbrev pub most_bytes : ℕ
@@ -25,37 +26,17 @@ pub record BayStated : Type 0 where
 abbrev pub moves_of : List StatedMove → List SaidMove
 moves_of moves = map (λ m. m.said) moves
 
--- the line of a move, and the lines of moves
-abbrev pub line_of : SaidMove → List ℕ
-line_of m = move_words m ++ 10 ∷ []
+-- the words of a bay's line
+abbrev pub words_of_bay : YardBay → Said → List ℕ
+words_of_bay bay said = bay_words bay ++ said_words said
 
-abbrev pub lines_of : List SaidMove → List ℕ
-lines_of moves = flat_map line_of moves
+-- the line of a move
+abbrev pub move_line : StatedMove → Line
+move_line m = record { number = m.line; body = move_words m.said }
 
--- what the report says of it
-abbrev pub said_by : BayStated → BaySaid
-said_by b = record { bay = b.bay; said = b.said; lines = lines_of (moves_of b.moves) }
-
--- the moves stand at this line and those that follow it
-abbrev pub AreMovesFrom : ℕ → List StatedMove → Type 0
-AreMovesFrom line [] = Unit {0}
-AreMovesFrom line (m ∷ moves) = (m.line ≡ line) × AreMovesFrom (suc line) moves
-
--- the line behind bays of which the first stands at this one
-abbrev pub line_behind_bays : ℕ → List BayStated → ℕ
-line_behind_bays line [] = line
-line_behind_bays line (b ∷ bays) = line_behind_bays (suc line + length b.moves) bays
-
--- the bays with their moves stand at this line and those that follow it
-abbrev pub AreBaysFrom : ℕ → List BayStated → Type 0
-AreBaysFrom line [] = Unit {0}
-AreBaysFrom line (b ∷ bays) = (b.line ≡ line) × AreMovesFrom (suc line) b.moves × AreBaysFrom (suc line + length b.moves) bays
-
--- the lines are those of these moves, numbered from this one
-pub record AreMovesIn (line : ℕ) (lines : List ℕ) (moves : List StatedMove) : Type 0 where
-  pub stated : AllByRecursion CanBeStated (moves_of moves)
-  pub is : lines ≡ lines_of (moves_of moves)
-  pub numbered : AreMovesFrom line moves
+-- the line of a bay, and those of its moves
+abbrev pub bay_lines : BayStated → List Line
+bay_lines b = record { number = b.line; body = words_of_bay b.bay b.said } ∷ map move_line b.moves
 
 -- a bay that can be stated
 pub record IsStatable (b : BayStated) : Type 0 where
@@ -63,16 +44,21 @@ pub record IsStatable (b : BayStated) : Type 0 where
   pub small : IsSmall b.said
   pub moves : AllByRecursion CanBeStated (moves_of b.moves)
 
--- this is said in these bays, which are numbered behind the first line
-pub record AreBaysIn (said : List BaySaid) (bays : List BayStated) : Type 0 where
-  pub statable : AllByRecursion IsStatable bays
-  pub is : said ≡ map said_by bays
-  pub numbered : AreBaysFrom 2 bays
+-- a last line that counts these bays, and those of them that are decided
+abbrev pub CountsBays : List BayStated → Line → Type 0
+CountsBays bays l = ended l.body ≡ bays_line (length bays) (count_by (λ b. is_settled b.said) bays)
 
--- the text is the report of these numbers and these bays, whose lines are numbered behind the first
+-- the lines begin with the orders line and those of bays with their moves, and these follow
+pub record GoOnWith (lines : List Line) (numbers : Numbers) (bays : List BayStated) (later : List Line) : Type 0 where
+  pub orders : Line
+  pub small : AreSmall numbers
+  pub orders_are : ended orders.body ≡ counts_line numbers
+  pub statable : AllByRecursion IsStatable bays
+  pub lines_are : lines ≡ orders ∷ (flat_map bay_lines bays ++ later)
+
+-- the text is a report of these numbers and these bays, and its last line counts them
 pub record States (text : List ℕ) (numbers : Numbers) (bays : List BayStated) : Type 0 where
   pub short : length text ≤ most_bytes
-  pub small : AreSmall numbers
-  pub statable : AllByRecursion IsStatable bays
-  pub lines : AreBaysFrom 2 bays
-  pub text_is : text ≡ report_text numbers (map said_by bays)
+  pub last : Line
+  pub front : GoOnWith (lines_in text) numbers bays (last ∷ [])
+  pub counts : CountsBays bays last

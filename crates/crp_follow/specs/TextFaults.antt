@@ -1,55 +1,76 @@
 -- Why the text of a report is refused: the first fault. All of the text is read before a move is made.
-use Rattle.std.specs.Prelude.{◌≡◌, ◌≢◌, ◌+◌, ◌<◌, ◌≤◌, ℕ, suc, List, [], ◌∷◌, ◌++◌, length, map, count_by}
-use Rattle.std.specs.List.{AllByRecursion}
+use Rattle.std.specs.Prelude.{◌≡◌, ◌≢◌, ◌<◌, ◌≤◌, ℕ, List, [], ◌∷◌, length}
+use Rattle.crp_plan.specs.BayNames.{YardBay, IsYardBay}
+use Rattle.crp_said.specs.declared.numbers.Numbers.{Numbers}
+use Rattle.crp_said.specs.declared.said.Said.{Said}
 use Rattle.crp_said.specs.declared.moves.SaidMove.{SaidMove}
-use Rattle.crp_said.specs.declared.report.ReportFault.{ReportFault}
-use Rattle.crp_said.specs.declared.report.ReportFault.TheVariants as report
-use Rattle.crp_said.specs.Said.{BaySaid, is_settled}
-use Rattle.crp_said.specs.Spelled.{ReportSaid, SpellsReport, IsMisspelled, CanBeStated}
+use Rattle.crp_said.specs.MoveLines.{move_words}
+use Rattle.crp_said.specs.Said.{counts_line, bays_line}
+use Rattle.crp_said.specs.Spelled.{most, AreSmall, IsSmall, CanBeStated, ended}
 use Rattle.crp_follow.specs.declared.fault.FollowFault.{FollowFault}
 use Rattle.crp_follow.specs.declared.fault.FollowFault.TheVariants as fault
-use Rattle.crp_follow.specs.Stated.{most_bytes, BayStated, line_of, lines_of, said_by, line_behind_bays, IsStatable}
+use Rattle.crp_follow.specs.Lines.{Line, lines_in, line_behind_all}
+use Rattle.crp_follow.specs.Stated.{most_bytes, BayStated, words_of_bay, CountsBays, GoOnWith}
 
--- the lines of some moves stand there, and what follows them begins with the line of no move
-pub record StopsBehind (lines : List ℕ) (moves : List SaidMove) : Type 0 where
-  pub rest : List ℕ
-  pub stated : AllByRecursion CanBeStated moves
-  pub is : lines ≡ lines_of moves ++ rest
-  pub some : rest ≢ []
-  pub none : (m : SaidMove) (more : List ℕ) → CanBeStated m → rest ≢ line_of m ++ more
+-- ---- what a line can be, by its bytes
 
--- the lines before this one are those of bays and of moves, and this one, below the line of a bay, is that of no move
-pub record IsNoMove (said : List BaySaid) (line : ℕ) : Type 0 where
-  pub before : List BayStated
-  pub bay : BaySaid
-  pub later : List BaySaid
-  pub moves : List SaidMove
-  pub statable : AllByRecursion IsStatable before
-  pub said_is : said ≡ map said_by before ++ bay ∷ later
-  pub stops : StopsBehind bay.lines moves
-  pub line_is : line ≡ suc (line_behind_bays 2 before) + length moves
+-- an orders line
+abbrev pub IsOrdersLine : List ℕ → Type 0
+IsOrdersLine body = (n : Numbers) × AreSmall n × (ended body ≡ counts_line n)
 
--- the last line counts the bays and those that are decided
-abbrev pub CountsRight : ReportSaid → Type 0
-CountsRight r = (r.count ≡ length r.bays) × (r.settled ≡ count_by (λ s. is_settled s.said) r.bays)
+-- the line of a bay
+abbrev pub IsBayLine : List ℕ → Type 0
+IsBayLine body = (bay : YardBay) × (said : Said) × IsYardBay bay × IsSmall said × (body ≡ words_of_bay bay said)
 
--- all lines are those of bays and moves, and the last one, which is this one, counts them wrong
-pub record IsWrongCount (r : ReportSaid) (line : ℕ) : Type 0 where
+-- the line of a move
+abbrev pub IsMoveLine : List ℕ → Type 0
+IsMoveLine body = (m : SaidMove) × CanBeStated m × (body ≡ move_words m)
+
+-- a last line, whatever it counts
+abbrev pub IsLastLine : List ℕ → Type 0
+IsLastLine body = (count : ℕ) × (settled : ℕ) × (count ≤ most) × (settled ≤ most) × (ended body ≡ bays_line count settled)
+
+-- there is a first line, and it is so
+abbrev pub Begins : (List ℕ → Type 0) → List Line → Type 0
+Begins P [] = ⊥
+Begins P (l ∷ later) = P l.body
+
+-- these lines follow the bays, and begin neither with the line of a bay nor, where there are bays, with that of a move
+pub record IsBehind (bays : List BayStated) (later : List Line) : Type 0 where
+  pub no_bay : ¬ Begins IsBayLine later
+  pub no_move : bays ≢ [] → ¬ Begins IsMoveLine later
+
+-- ---- faults
+
+-- no orders line is the first: the first line is another, or there is none
+abbrev pub IsNoOrders : List Line → ℕ → Type 0
+IsNoOrders [] line = line ≡ 1
+IsNoOrders (l ∷ later) line = (line ≡ l.number) × ¬ IsOrdersLine l.body
+
+-- a line that is none of a bay or its moves, and not a last line with nothing behind it
+abbrev pub IsNoLine : List Line → ℕ → Type 0
+IsNoLine [] line = ⊥
+IsNoLine (l ∷ later) line = (line ≡ l.number) × (later ≡ [] → ¬ IsLastLine l.body)
+
+-- a last line that counts the bays wrong; or there is none
+abbrev pub IsWrongCount : ℕ → List BayStated → List Line → ℕ → Type 0
+IsWrongCount behind bays [] line = line ≡ behind
+IsWrongCount behind bays (l ∷ []) line = (line ≡ l.number) × IsLastLine l.body × ¬ CountsBays bays l
+IsWrongCount behind bays (l ∷ k ∷ later) line = ⊥
+
+-- the lines begin with the orders line and bays with their moves, and there the fault is
+pub record StopsAt (lines : List Line) (IsFault : List BayStated → List Line → Type 0) : Type 0 where
+  pub numbers : Numbers
   pub bays : List BayStated
-  pub statable : AllByRecursion IsStatable bays
-  pub bays_are : r.bays ≡ map said_by bays
-  pub wrong : ¬ CountsRight r
-  pub line_is : line ≡ line_behind_bays 2 bays
-
--- the fault of a text that is no report
-abbrev pub of_spelling : ReportFault → FollowFault
-of_spelling (report.Line line) = fault.Spelling line
-of_spelling report.Memory = fault.Memory
+  pub later : List Line
+  pub front : GoOnWith lines numbers bays later
+  pub behind : IsBehind bays later
+  pub wrong : IsFault bays later
 
 -- the first fault of a text
 abbrev pub IsTextFault : List ℕ → FollowFault → Type 0
 IsTextFault text fault.TooLong = most_bytes < length text
-IsTextFault text (fault.Spelling line) = (length text ≤ most_bytes) × IsMisspelled text line
-IsTextFault text (fault.NoMove line) = (length text ≤ most_bytes) × ((r : ReportSaid) × SpellsReport text r × IsNoMove r.bays line)
-IsTextFault text (fault.Count line) = (length text ≤ most_bytes) × ((r : ReportSaid) × SpellsReport text r × IsWrongCount r line)
+IsTextFault text (fault.Orders line) = (length text ≤ most_bytes) × IsNoOrders (lines_in text) line
+IsTextFault text (fault.NoLine line) = (length text ≤ most_bytes) × StopsAt (lines_in text) (λ bays later. IsNoLine later line)
+IsTextFault text (fault.Count line) = (length text ≤ most_bytes) × StopsAt (lines_in text) (λ bays later. IsWrongCount (line_behind_all text) bays later line)
 IsTextFault text f = ⊥

@@ -3,6 +3,8 @@ use Rattle.std.specs.Prelude.{ℕ, List}
 use Rattle.crp_follow.specs.declared.stated.StatedBay.{StatedBay}
 use Rattle.crp_follow.specs.declared.followed.FollowedBay.{FollowedBay}
 use Rattle.crp_follow.specs.declared.taking.Taken.{Taken}
+use Rattle.crp_follow.specs.declared.lines.Unread.{Unread}
+use Rattle.crp_follow.specs.Lines.{Line, pieces_of, numbered}
 use Rattle.crp_follow.specs.Stated.{BayStated}
 use Rattle.crp_follow.specs.Followed.{BayFollowed}
 
@@ -15,3 +17,7 @@ bay_followed b = record { stated = bay_stated b.stated; start = b.start.items; a
 -- a container that leaves, with its step
 abbrev pub taken_as : Taken → ℕ × List ℕ
 taken_as t = (t.step, t.container.now)
+
+-- the lines that are not read yet
+abbrev pub unread_lines : Unread → List Line
+unread_lines u = numbered u.first (pieces_of u.bytes.now)

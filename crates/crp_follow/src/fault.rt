@@ -1,7 +1,6 @@
 //! Why a report cannot be followed.
 ghost use Rattle.std.specs.Prelude.{◌≡◌};
 
-use crp_said::ReportFault;
 use std::alloc::AllocError;
 use thiserror::Error;
 
@@ -11,13 +10,14 @@ pub enum FollowFault {
     /// F10: the report has more than 8388608 bytes.
     #[error("F10 at line 0")]
     TooLong,
-    /// F1, F2 or F3: the line is none that may stand there.
-    #[error("line {line} is not that of a report")]
-    Spelling { line: u64 },
-    /// F2: the line stands below that of a bay and states no move.
+    /// F1: the first line is not the orders line; or the report has no line, and the fault stands at line 1.
+    #[error("F1 at line {line}")]
+    Orders { line: u64 },
+    /// F2: the line is none of a bay, none of a move below a bay, and not the last line with nothing behind it.
     #[error("F2 at line {line}")]
-    NoMove { line: u64 },
-    /// F3: the last line does not count the bays, or those that are decided.
+    NoLine { line: u64 },
+    /// F3: the last line does not count the bays, or those that are decided; or there is none, and the fault stands one line past the
+    /// last.
     #[error("F3 at line {line}")]
     Count { line: u64 },
     /// F4: the yard has no such bay.
@@ -50,18 +50,5 @@ impl From<AllocError> for FollowFault {
 
     fn from(_error: AllocError) -> FollowFault {
         FollowFault::Memory
-    }
-}
-
-impl From<ReportFault> for FollowFault {
-    ghost use Rattle.crp_follow.specs.TextFaults.{of_spelling};
-
-    ghost from_gives = { λ error fault. fault ≡ of_spelling error };
-
-    fn from(error: ReportFault) -> FollowFault {
-        match error {
-            ReportFault::Line(line) => FollowFault::Spelling { line },
-            ReportFault::Memory => FollowFault::Memory,
-        }
     }
 }

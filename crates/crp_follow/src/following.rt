@@ -72,6 +72,7 @@ fn follow_bays(
 
 /// Follows a report over a yard, whoever wrote it: its bays with their moves, and what stands in them before and after, exactly where
 /// it is a report of bays of the yard whose moves the crane can make; else the first fault. Memory may run out in place of either.
+/// The report may begin with a byte order mark, its lines may end with CR LF, and empty lines are passed over, and counted.
 pub fn follow(alloc: Global, yard: &Yard, report: &[u8]) -> Result<Followed, FollowFault>
     ensures followed { IfOk result (λ followed. IsFollowed yard.now report.now followed.numbers (map bay_followed followed.bays.items)) }
     ensures few { IfOk result (λ followed. AllByRecursion StandFew (map bay_followed followed.bays.items)) }

@@ -1,14 +1,14 @@
 //! Laws of reports that are followed. Each is the contract of a function that does nothing.
-ghost use Rattle.std.specs.Prelude.{◌≡◌, ◌+◌, ◌≤◌, ◌∷◌, ◌++◌, ℕ, List, take, map, Some, None};
+ghost use Rattle.std.specs.Prelude.{◌≡◌, ◌+◌, ◌≤◌, ◌∷◌, ◌++◌, ℕ, List, take, length, Some, None};
 ghost use Rattle.crp_yard.specs.Inventory.{Inventory, FitBay, times};
 ghost use Rattle.crp_said.specs.declared.numbers.Numbers.{Numbers};
 ghost use Rattle.crp_said.specs.declared.moves.SaidMove.{SaidMove};
-ghost use Rattle.crp_said.specs.Said.{bay_line};
-ghost use Rattle.crp_said.specs.Spelled.{front_text, line_behind};
-ghost use Rattle.crp_follow.specs.declared.stated.StatedMove.{StatedMove};
 ghost use Rattle.crp_follow.specs.declared.fault.FollowFault.{FollowFault};
 ghost use Rattle.crp_follow.specs.Crane.{Stack, Leads};
-ghost use Rattle.crp_follow.specs.Stated.{BayStated, moves_of, lines_of, said_by, States};
+ghost use Rattle.crp_said.specs.Spelled.{ReportSaid, SpellsReport};
+ghost use Rattle.crp_follow.specs.Lines.{Line, after_mark, lines_in, StandsIn};
+ghost use Rattle.crp_follow.specs.Stated.{most_bytes, BayStated, States};
+ghost use Rattle.crp_follow.specs.Written.{SaysBays};
 ghost use Rattle.crp_follow.specs.Kept.{taken_by, times_in, IsTakenAt, IsNextToLeave};
 ghost use Rattle.crp_follow.specs.Table.{takes_from, leaves_at, next_to_leave, standing, left_behind};
 ghost use Rattle.crp_follow.specs.Faults.{IsFirstFault};
@@ -53,11 +53,15 @@ pub fn what_columns_say()
         → left_behind (standing start) (takes_from 1 moves) step ≡ standing rows }
 {}
 
-/// The number of a line is one more than the ends of lines before it.
+/// A report as crp_said reads it, and `solve` writes it, is stated so: where it has no more than 8388608 bytes, its lines below bays are
+/// those of moves, and its last line counts the bays.
+pub fn written_is_stated()
+    ensures { (text : List ℕ) (report : ReportSaid) (bays : List BayStated) → length text ≤ most_bytes → SpellsReport text report → SaysBays report bays
+        → States text report.numbers bays }
+{}
+
+/// Each line that is read stands in the text, behind a byte order mark if there is one, as a line that is not empty, with LF, CR LF or
+/// the end of the text behind it; and its number is one more than the LF before it.
 pub fn lines_are_numbered()
-    ensures bays { (text : List ℕ) (numbers : Numbers) (before later : List BayStated) (bay : BayStated) → States text numbers (before ++ bay ∷ later)
-        → bay.line ≡ line_behind (front_text numbers (map said_by before)) }
-    ensures moves { (text : List ℕ) (numbers : Numbers) (before later : List BayStated) (bay : BayStated) (made rest : List StatedMove) (next : StatedMove)
-        → States text numbers (before ++ bay ∷ later) → bay.moves ≡ made ++ next ∷ rest
-        → next.line ≡ line_behind (front_text numbers (map said_by before) ++ (bay_line bay.bay bay.said ++ lines_of (moves_of made))) }
+    ensures { (text : List ℕ) (before later : List Line) (line : Line) → lines_in text ≡ before ++ line ∷ later → StandsIn (after_mark text) line }
 {}

@@ -1,8 +1,9 @@
 //! Follows the moves of a report over a yard, whoever wrote it.
 //!
-//! `follow` says where the moves of each bay lead, or the first fault. What a crane can do is said in `specs/Crane.antt`, what a report
-//! states line by line in `specs/Stated.antt`, what a report is that is followed in `specs/Followed.antt`, and why one is not in
-//! `specs/Faults.antt`. `write_table` writes the table of the moves, which `specs/Table.antt` defines.
+//! `follow` says where the moves of each bay lead, or the first fault. What a crane can do is said in `specs/Crane.antt`, what the lines of a
+//! report are, whichever editor wrote it, in `specs/Lines.antt`, what it states line by line in `specs/Stated.antt`, what a report is that
+//! is followed in `specs/Followed.antt`, and why one is not in `specs/TextFaults.antt` and `specs/Faults.antt`. `write_table` writes the
+//! table of the moves, which `specs/Table.antt` defines.
 #![tactic(auto)]
 
 mod bays;
@@ -10,6 +11,8 @@ mod fault;
 mod followed;
 mod following;
 mod laws;
+mod line_reading;
+mod lines;
 mod moving;
 mod pushing;
 mod row;
@@ -23,6 +26,7 @@ pub use followed::{Followed, FollowedBay};
 pub use following::follow;
 pub use laws::{
     lines_are_numbered, nothing_is_lost, one_outcome, stays_within_heights, what_columns_say,
+    written_is_stated,
 };
 pub use moving::make_move;
 pub use row::Row;

@@ -1,101 +1,131 @@
 //! What a report states, line by line.
-ghost use Rattle.std.specs.Prelude.{◌≡◌, ◌≢◌, ◌⊎◌, ◌+◌, ◌++◌, ◌∷◌, ◌<◌, ◌^◌, ◌↔◌, ℕ, List, length, map, flat_map, IfOk, IfErr, IfSome, IfNone, IsTrue};
+ghost use Rattle.std.specs.Prelude.{◌≡◌, ◌≢◌, ◌⊎◌, ◌+◌, ◌++◌, ◌∷◌, ◌<◌, ◌≤◌, ◌^◌, ◌↔◌, [], ℕ, suc, length, map, flat_map, count_by, IfOk, IfErr, IfSome, IfNone, OnOk, IsTrue};
 ghost use Rattle.std.specs.List.{AllByRecursion};
-ghost use Rattle.crp_said.specs.declared.moves.SaidMove.{SaidMove as Move};
-ghost use Rattle.crp_said.specs.Said.{bay_text, is_settled};
-ghost use Rattle.crp_said.specs.Spelled.{CanBeStated, IsSayable};
-ghost use Rattle.crp_said.specs.Views.{bay_as, report_as};
-ghost use Rattle.crp_follow.specs.Stated.{line_of, line_behind_bays, AreMovesIn, AreBaysIn, States};
-ghost use Rattle.crp_follow.specs.TextFaults.{StopsBehind, IsNoMove, CountsRight, IsTextFault};
-ghost use Rattle.crp_follow.specs.Views.{bay_stated};
+ghost use Rattle.crp_said.specs.Said.{counts_line, bays_line, is_settled};
+ghost use Rattle.crp_said.specs.Spelled.{AreSmall, CanBeStated, ended};
+ghost use Rattle.crp_follow.specs.declared.fault.FollowFault.{FollowFault as Fault};
+ghost use Rattle.crp_follow.specs.Lines.{Line};
+ghost use Rattle.crp_follow.specs.Stated.{BayStated, moves_of, move_line, bay_lines, IsStatable, CountsBays, States};
+ghost use Rattle.crp_follow.specs.TextFaults.{Begins, IsBayLine, IsMoveLine, IsLastLine, IsBehind, IsNoOrders, IsNoLine, IsWrongCount, IsTextFault};
+ghost use Rattle.crp_follow.specs.Views.{bay_stated, unread_lines};
 
 use crate::fault::FollowFault;
+use crate::line_reading::{bay_in, is_last_line, orders_in};
+use crate::lines::{Unread, after_mark, line_behind, next_line};
 use crate::pushing::add;
 use crate::stated::{StatedBay, StatedMove};
-use crp_said::{Numbers, Report, Said, SaidBay, SaidMove, read_move, read_report};
+use crp_said::{Numbers, Said, last_text, read_move};
 use std::alloc::{AllocError, Global};
 
 /// The most bytes of a report.
 pub const MAX_BYTES: usize = 8388608;
 
-/// The bytes before the first LF, and those behind it.
-fn first_line(bytes: &[u8]) -> Option<(&[u8], &[u8])>
-    ensures found { IfSome result (λ x. (bytes.now ≡ x.0.now ++ 10 ∷ x.1.now) × AllByRecursion (λ b. b ≢ 10) x.0.now) }
-    ensures none { IfNone result (AllByRecursion (λ b. b ≢ 10) bytes.now) }
+/// The move that the next line states, if it states one, and what is not read behind it.
+fn next_move<'a>(
+    alloc: Global,
+    unread: Unread<'a>,
+) -> Result<Option<(StatedMove, Unread<'a>)>, AllocError>
+    requires room { unread.first + length unread.bytes.now < 2 ^ 64 }
+    ensures found { IfOk result (λ read. IfSome read (λ x. CanBeStated x.0.said × (unread_lines unread.entry ≡ move_line x.0 ∷ unread_lines x.1))) }
+    ensures room { IfOk result (λ read. IfSome read (λ x. x.1.first + length x.1.bytes.now ≤ unread.entry.first + length unread.entry.bytes.now)) }
+    ensures fewer { IfOk result (λ read. IfSome read (λ x. length x.1.bytes.now < length unread.entry.bytes.now)) }
+    ensures none { IfOk result (λ read. IfNone read (¬ Begins IsMoveLine (unread_lines unread.entry))) }
 {
-    for (i, b) in bytes.iter().enumerate() {
-        if *b == b'\n' {
-            return Some((&bytes[..i], &bytes[i + 1..]));
-        }
-    }
-    None
-}
-
-/// The move whose line the bytes begin with, and what follows the line.
-fn next_move(alloc: Global, bytes: &[u8]) -> Result<Option<(SaidMove, &[u8])>, AllocError>
-    ensures found { IfOk result (λ x. IfSome x (λ p. CanBeStated p.0 × (bytes.now ≡ line_of p.0 ++ p.1.now))) }
-    ensures none { IfOk result (λ x. IfNone x ((m : Move) (more : List ℕ) → CanBeStated m → bytes.now ≢ line_of m ++ more)) }
-{
-    let Some((line, rest)) = first_line(bytes) else {
+    let Some((line, body, after)) = next_line(unread) else {
         return Ok(None);
     };
-    match read_move(alloc, line)? {
+    match read_move(alloc, body)? {
         None => Ok(None),
-        Some(said) => Ok(Some((said, rest))),
+        Some(said) => Ok(Some((StatedMove { line, said }, after))),
     }
 }
 
-/// The moves that the lines of a bay state, of which the first has this number.
-fn moves_from(alloc: Global, lines: &[u8], first: u64) -> Result<Vec<StatedMove>, FollowFault>
-    requires room { first + length lines.now < 2 ^ 64 }
-    ensures stated { IfOk result (λ moves. AreMovesIn first lines.now moves.items) }
-    ensures wrong { IfErr result (λ fault. (fault ≡ FollowFault.Memory)
-        ⊎ ((moves : List Move) × (fault ≡ FollowFault.NoMove (first + length moves)) × StopsBehind lines.now moves)) }
+/// The moves that the next lines state, and what is not read behind them.
+fn moves_from<'a>(
+    alloc: Global,
+    unread: Unread<'a>,
+) -> Result<(Vec<StatedMove>, Unread<'a>), AllocError>
+    requires room { unread.first + length unread.bytes.now < 2 ^ 64 }
+    ensures lines { IfOk result (λ x. unread_lines unread.entry ≡ map move_line x.0.items ++ unread_lines x.1) }
+    ensures stated { IfOk result (λ x. AllByRecursion CanBeStated (moves_of x.0.items)) }
+    ensures room { IfOk result (λ x. x.1.first + length x.1.bytes.now ≤ unread.entry.first + length unread.entry.bytes.now) }
+    ensures fewer { IfOk result (λ x. length x.1.bytes.now ≤ length unread.entry.bytes.now) }
+    ensures none { IfOk result (λ x. ¬ Begins IsMoveLine (unread_lines x.1)) }
 {
     let mut moves = Vec::new(alloc);
-    let mut rest = lines;
-    let mut line = first;
-    while !rest.is_empty() {
-        match next_move(alloc, rest)? {
-            None => return Err(FollowFault::NoMove { line }),
-            Some((said, after)) => {
-                add(&mut moves, StatedMove { line, said })?;
-                line += 1;
-                rest = after;
-            }
-        }
+    let mut rest = unread;
+    while let Some((stated, after)) = next_move(alloc, rest)? {
+        add(&mut moves, stated)?;
+        rest = after;
     }
-    Ok(moves)
+    Ok((moves, rest))
 }
 
-/// What a report states of its bays, and the number of the line behind them.
-fn bays_from(alloc: Global, bays: &[SaidBay]) -> Result<(Vec<StatedBay>, u64), FollowFault>
-    requires sayable { AllByRecursion IsSayable (map bay_as bays.now) }
-    requires room { 2 + length (flat_map bay_text (map bay_as bays.now)) < 2 ^ 64 }
-    ensures stated { IfOk result (λ x. AreBaysIn (map bay_as bays.now) (map bay_stated x.0.items)) }
-    ensures line { IfOk result (λ x. x.1 ≡ line_behind_bays 2 (map bay_stated x.0.items)) }
-    ensures wrong { IfErr result (λ fault. (fault ≡ FollowFault.Memory)
-        ⊎ ((line : ℕ) × (fault ≡ FollowFault.NoMove line) × IsNoMove (map bay_as bays.now) line)) }
+/// The bay that the next line states, if it states one, with its moves, and what is not read behind them.
+fn next_bay<'a>(
+    alloc: Global,
+    unread: Unread<'a>,
+) -> Result<Option<(StatedBay, Unread<'a>)>, AllocError>
+    requires room { unread.first + length unread.bytes.now < 2 ^ 64 }
+    ensures statable { IfOk result (λ read. IfSome read (λ x. IsStatable (bay_stated x.0))) }
+    ensures lines { IfOk result (λ read. IfSome read (λ x. unread_lines unread.entry ≡ bay_lines (bay_stated x.0) ++ unread_lines x.1)) }
+    ensures no_move { IfOk result (λ read. IfSome read (λ x. ¬ Begins IsMoveLine (unread_lines x.1))) }
+    ensures room { IfOk result (λ read. IfSome read (λ x. x.1.first + length x.1.bytes.now ≤ unread.entry.first + length unread.entry.bytes.now)) }
+    ensures fewer { IfOk result (λ read. IfSome read (λ x. length x.1.bytes.now < length unread.entry.bytes.now)) }
+    ensures none { IfOk result (λ read. IfNone read (¬ Begins IsBayLine (unread_lines unread.entry))) }
 {
-    let mut stated = Vec::new(alloc);
-    let mut line: u64 = 2;
-    for bay in bays {
-        let moves = moves_from(alloc, &bay.lines, line + 1)?;
-        let behind = line + 1 + moves.len() as u64;
-        let name = bay.bay.copy();
-        let said = bay.said;
-        add(
-            &mut stated,
-            StatedBay {
-                line,
-                bay: name,
-                said,
-                moves,
-            },
-        )?;
-        line = behind;
+    let Some((line, body, after)) = next_line(unread) else {
+        return Ok(None);
+    };
+    let Some((bay, said)) = bay_in(alloc, body)? else {
+        return Ok(None);
+    };
+    let (moves, after) = moves_from(alloc, after)?;
+    let stated = StatedBay {
+        line,
+        bay,
+        said,
+        moves,
+    };
+    Ok(Some((stated, after)))
+}
+
+/// The bays that the next lines state with their moves, and what is not read behind them.
+fn bays_from<'a>(
+    alloc: Global,
+    unread: Unread<'a>,
+) -> Result<(Vec<StatedBay>, Unread<'a>), AllocError>
+    requires room { unread.first + length unread.bytes.now < 2 ^ 64 }
+    ensures statable { IfOk result (λ x. AllByRecursion IsStatable (map bay_stated x.0.items)) }
+    ensures lines { IfOk result (λ x. unread_lines unread.entry ≡ flat_map bay_lines (map bay_stated x.0.items) ++ unread_lines x.1) }
+    ensures behind { IfOk result (λ x. IsBehind (map bay_stated x.0.items) (unread_lines x.1)) }
+    ensures room { IfOk result (λ x. x.1.first + length x.1.bytes.now ≤ unread.entry.first + length unread.entry.bytes.now) }
+{
+    let mut bays = Vec::new(alloc);
+    let mut rest = unread;
+    while let Some((stated, after)) = next_bay(alloc, rest)? {
+        add(&mut bays, stated)?;
+        rest = after;
     }
-    Ok((stated, line))
+    Ok((bays, rest))
+}
+
+/// The three numbers of the first line, and what is not read behind it.
+fn orders_from<'a>(alloc: Global, unread: Unread<'a>) -> Result<(Numbers, Unread<'a>), FollowFault>
+    requires room { unread.first + length unread.bytes.now < 2 ^ 64 }
+    ensures small { IfOk result (λ x. AreSmall x.0) }
+    ensures line { IfOk result (λ x. (l : Line) × (ended l.body ≡ counts_line x.0) × (unread_lines unread.entry ≡ l ∷ unread_lines x.1)) }
+    ensures room { IfOk result (λ x. x.1.first + length x.1.bytes.now ≤ unread.entry.first + length unread.entry.bytes.now) }
+    ensures wrong { IfErr result (λ fault. (fault ≡ FollowFault.Memory)
+        ⊎ ((line : ℕ) × (fault ≡ FollowFault.Orders line) × IsNoOrders (unread_lines unread.entry) line)) }
+{
+    let Some((line, body, after)) = next_line(unread) else {
+        return Err(FollowFault::Orders { line: 1 });
+    };
+    match orders_in(alloc, body)? {
+        Some(numbers) => Ok((numbers, after)),
+        None => Err(FollowFault::Orders { line }),
+    }
 }
 
 /// Whether it settles the bay.
@@ -105,20 +135,66 @@ fn is_settled(said: Said) -> bool
     !matches!(said, Said::Between { .. })
 }
 
-/// Whether the last line counts the bays and those that are decided.
-fn counts_right(report: &Report) -> bool
-    ensures { IsTrue result ↔ CountsRight (report_as report.now) }
+/// How many of the bays are settled.
+fn settled_of(bays: &[StatedBay]) -> usize
+    ensures { result ≡ count_by (λ b. is_settled b.said) (map bay_stated bays.now) }
 {
     let mut settled: usize = 0;
-    for bay in &report.bays {
+    for bay in bays {
         if is_settled(bay.said) {
             settled += 1;
         }
     }
-    report.count as usize == report.bays.len() && report.settled as usize == settled
+    settled
 }
 
-/// What a report states, line by line: exactly that whose text these bytes are. Else the first fault of the text.
+/// Whether the bytes are the same.
+fn are_same(bytes: &[u8], others: &[u8]) -> bool
+    ensures { IsTrue result ↔ (bytes.now ≡ others.now) }
+{
+    bytes == others
+}
+
+/// Whether the line is the last line that counts these bays, and those that are decided.
+fn counts_bays(alloc: Global, bays: &[StatedBay], line: &[u8]) -> Result<bool, AllocError>
+    ensures { IfOk result (λ right. IsTrue right ↔ (ended line.now ≡ bays_line (length (map bay_stated bays.now)) (count_by (λ b. is_settled b.said) (map bay_stated bays.now)))) }
+{
+    let mut text = Vec::from_slice(alloc, line)?;
+    text.push(b'\n')?;
+    let right = last_text(alloc, bays.len(), settled_of(bays))?;
+    Ok(are_same(&text, &right))
+}
+
+/// Reads the last line behind bays. The number of the line behind all is known.
+#[tactic(auto, using(crate::proofs::Reading::more_behind))]
+fn read_last(
+    alloc: Global,
+    bays: &[StatedBay],
+    unread: Unread<'_>,
+    behind: u64,
+) -> Result<(), FollowFault>
+    requires room { unread.first + length unread.bytes.now < 2 ^ 64 }
+    ensures last { OnOk result ((l : Line) × (unread_lines unread.entry ≡ l ∷ []) × CountsBays (map bay_stated bays.now) l) }
+    ensures wrong { IfErr result (λ fault. (fault ≡ FollowFault.Memory)
+        ⊎ (((line : ℕ) × (fault ≡ FollowFault.NoLine line) × IsNoLine (unread_lines unread.entry) line)
+        ⊎ ((line : ℕ) × (fault ≡ FollowFault.Count line) × IsWrongCount behind (map bay_stated bays.now) (unread_lines unread.entry) line))) }
+{
+    let Some((line, body, after)) = next_line(unread) else {
+        return Err(FollowFault::Count { line: behind });
+    };
+    if let Some(_) = next_line(after) {
+        return Err(FollowFault::NoLine { line });
+    }
+    if !is_last_line(alloc, body)? {
+        return Err(FollowFault::NoLine { line });
+    }
+    if !counts_bays(alloc, bays, body)? {
+        return Err(FollowFault::Count { line });
+    }
+    Ok(())
+}
+
+/// What a report states, line by line: exactly that whose lines these are. Else the first fault of the text.
 pub(crate) fn state(alloc: Global, report: &[u8]) -> Result<(Numbers, Vec<StatedBay>), FollowFault>
     ensures stated { IfOk result (λ x. States report.now x.0 (map bay_stated x.1.items)) }
     ensures wrong { IfErr result (λ fault. (fault ≡ FollowFault.Memory) ⊎ IsTextFault report.now fault) }
@@ -126,10 +202,13 @@ pub(crate) fn state(alloc: Global, report: &[u8]) -> Result<(Numbers, Vec<Stated
     if report.len() > MAX_BYTES {
         return Err(FollowFault::TooLong);
     }
-    let read = read_report(alloc, report)?;
-    let (bays, line) = bays_from(alloc, &read.bays)?;
-    if !counts_right(&read) {
-        return Err(FollowFault::Count { line });
-    }
-    Ok((read.numbers, bays))
+    let text = after_mark(report);
+    let unread = Unread {
+        first: 1,
+        bytes: text,
+    };
+    let (numbers, rest) = orders_from(alloc, unread)?;
+    let (bays, rest) = bays_from(alloc, rest)?;
+    read_last(alloc, &bays, rest, line_behind(text))?;
+    Ok((numbers, bays))
 }
