@@ -17,20 +17,11 @@ const OF_SEARCH: [&str; 6] = [
     "--cert",
 ];
 
-// An option, its value where it has one, and the words behind them.
-fn option_of<'a, 'w>(
-    word: &'a str,
-    rest: &'w [&'a str],
-) -> (&'a str, Option<&'a str>, &'w [&'a str]) {
-    if let Some((name, value)) = word.split_once("=") {
-        return (name, Some(value), rest);
-    }
-    if !OF_INPUT.contains(&word) && !OF_SEARCH.contains(&word) {
-        return (word, None, rest);
-    }
-    match rest.split_first() {
-        Some((value, rest)) => (word, Some(*value), rest),
-        None => (word, None, rest),
+// An option and its value, where a word has both.
+fn parted(word: &str) -> (&str, Option<&str>) {
+    match word.split_once("=") {
+        Some((name, value)) => (name, Some(value)),
+        None => (word, None),
     }
 }
 
@@ -40,26 +31,33 @@ pub(crate) fn audit_of<'a>(
     alloc: Global,
     words: &[&'a str],
 ) -> Result<Option<Vec<&'a str>>, AllocError> {
-    let mut audit = Vec::new(alloc);
-    audit.push("audit")?;
-    let mut certificates = None;
-    let Some((command, mut rest)) = words.split_first() else {
+    let Some((command, rest)) = words.split_first() else {
         return Ok(None);
     };
     if *command != "solve" {
         return Ok(None);
     }
-    while let Some((word, behind)) = rest.split_first() {
-        let (name, value, behind) = option_of(word, behind);
-        rest = behind;
+    let mut audit = Vec::new(alloc);
+    audit.push("audit")?;
+    let mut certificates = None;
+    // The option whose value is the next word.
+    let mut begun = None;
+    for word in rest {
+        let (name, value) = match begun {
+            Some(name) => (name, Some(*word)),
+            None => parted(word),
+        };
+        begun = None;
         match value {
             Some(value) if name == "--cert" => certificates = Some(value),
             Some(value) if OF_INPUT.contains(&name) => {
                 audit.push(name)?;
                 audit.push(value)?;
             }
+            Some(_) => {}
+            None if OF_INPUT.contains(&name) || OF_SEARCH.contains(&name) => begun = Some(name),
             None if !name.starts_with("--") => audit.push(name)?,
-            _ => {}
+            None => {}
         }
     }
     let Some(certificates) = certificates else {
