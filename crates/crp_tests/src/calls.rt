@@ -1,7 +1,7 @@
 //! The calls that the tests make, each in a function with no clause: so a test knows nothing of what is promised, and is soon checked.
 use crp_commands::{Job, ToolFault};
 use crp_plan::{Sink, Source};
-use crp_report::{Fault, InputSettings, RunSettings, Status, Watch};
+use crp_report::{Fault, RunSettings, Status, Watch};
 use crp_solve::Settings;
 use crp_words::Usage;
 use std::alloc::Global;
@@ -30,18 +30,6 @@ pub(crate) fn check<R: Source, W: Sink>(
     writer: &mut W,
 ) -> Result<Status, ToolFault> {
     crp_commands::check(alloc, reader, writer)
-}
-
-pub(crate) fn audit<Y: Source, M: Source, R: Source, C: Source, W: Sink>(
-    alloc: Global,
-    yard: &mut Y,
-    movins: &mut M,
-    report: &mut R,
-    certificates: &mut C,
-    settings: &InputSettings,
-    out: &mut W,
-) -> Result<Status, ToolFault> {
-    crp_commands::audit(alloc, yard, movins, report, certificates, settings, out)
 }
 
 pub(crate) fn prove<T: Threads + Wait + Sync, R: Source, W: Sink>(

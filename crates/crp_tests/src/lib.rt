@@ -5,8 +5,6 @@
 #[cfg(test)]
 mod advice;
 #[cfg(test)]
-mod audits;
-#[cfg(test)]
 mod bay_by_bay;
 #[cfg(test)]
 mod calls;
