@@ -10,7 +10,7 @@ use Rattle.crp_plan.specs.declared.running.View.{View}
 use Rattle.crp_plan.specs.Running.{words, after_see, after_offer, after_claim}
 use Rattle.crp_incumbent.specs.declared.rule.Key.{Key}
 use Rattle.crp_incumbent.specs.declared.rule.KeyedView.{KeyedView}
-use Rattle.crp_incumbent.specs.Rule.{all_shares, gone, kept, given, joined_seat, IsPlanCount, IsLimit, IsAbove, IsLive, granted_of, refused_of, share_of, least_mine, KeepsRule, Keeps}
+use Rattle.crp_incumbent.specs.Rule.{limit_at, all_shares, gone, kept, given, joined_seat, IsPlanCount, IsLimit, IsAbove, IsLive, granted_of, refused_of, share_of, least_mine, KeepsRule, Keeps}
 use Rattle.crp_incumbent.specs.Steps.{IsLimitBeside, Saw, OfferedUnder, ClaimedUnder, Looked}
 use Rattle.crp_incumbent.proofs.Lists.{index_is, at_below, sum-le, sum-set, sum-snoc, least-set, least-at, least-top, least-snoc, min_cases, least_known, sum_of_gone, least_of_gone}
 
@@ -61,17 +61,17 @@ moved key spent limit spent' limit' views id v w k at le live mine least share c
     }
 
 -- the limit becomes n
-put_limit : (key : Key) (s : St) (n : ℕ) (views : List KeyedView) → Keeps key s → KeepsRule key (slice_index s.words 0) n views → Keeps key record { words = slice_set s.words 8 n; homes = s.homes; views = views }
+put_limit : (key : Key) (s : St) (n : ℕ) (views : List KeyedView) → Keeps key s → KeepsRule key (slice_index s.words 0) n views → Keeps key record { words = slice_set s.words limit_at n; homes = s.homes; views = views }
 put_limit key s n views k h = let long = k.words in record {
-  words = length-set s.words 8 n ∙ long;
-  kept = subst (λ (x : ℕ × ℕ). KeepsRule key x.0 x.1 views) (λ i. (sym (get_or-set_other s.words 8 0 n 0 (λ e. omega arith)) i, sym (get_or-set_same s.words 8 n 0 (omega arith)) i)) h;
+  words = length-set s.words limit_at n ∙ long;
+  kept = subst (λ (x : ℕ × ℕ). KeepsRule key x.0 x.1 views) (λ i. (sym (get_or-set_other s.words limit_at 0 n 0 (λ e. omega arith)) i, sym (get_or-set_same s.words limit_at n 0 (omega arith)) i)) h;
 }
 
 -- the number of claims becomes n
-put_spent : (key : Key) (s : St) (n : ℕ) (views : List KeyedView) → Keeps key s → KeepsRule key n (slice_index s.words 8) views → Keeps key record { words = slice_set s.words 0 n; homes = s.homes; views = views }
+put_spent : (key : Key) (s : St) (n : ℕ) (views : List KeyedView) → Keeps key s → KeepsRule key n (slice_index s.words limit_at) views → Keeps key record { words = slice_set s.words 0 n; homes = s.homes; views = views }
 put_spent key s n views k h = let long = k.words in record {
   words = length-set s.words 0 n ∙ long;
-  kept = subst (λ (x : ℕ × ℕ). KeepsRule key x.0 x.1 views) (λ i. (sym (get_or-set_same s.words 0 n 0 (omega arith)) i, sym (get_or-set_other s.words 0 8 n 0 (λ e. omega arith)) i)) h;
+  kept = subst (λ (x : ℕ × ℕ). KeepsRule key x.0 x.1 views) (λ i. (sym (get_or-set_same s.words 0 n 0 (omega arith)) i, sym (get_or-set_other s.words 0 limit_at n 0 (λ e. omega arith)) i)) h;
 }
 
 -- what the rule states a live seat of the limit
@@ -82,8 +82,8 @@ below key spent limit views v k live = record {
   start = subst (λ (q : Key). IsAbove q limit limit) (sym live.same) (limit_above key spent limit views k);
 }
 
-pub sees : (key : Key) (slots id : ℕ) (m : Mine) → m.1 ≡ [] → 1 ≤ m.0.view.share → Allows (Keeps key) slots id m 8 (λ n. n) (Saw (step slots 8 0 0 none) m)
-sees key slots id m empty share s k _ at _ = let spent : ℕ = slice_index s.words 0 in let limit : ℕ = slice_index s.words 8 in
+pub sees : (key : Key) (slots id : ℕ) (m : Mine) → m.1 ≡ [] → 1 ≤ m.0.view.share → Allows (Keeps key) slots id m limit_at (λ n. n) (Saw (step slots limit_at 0 0 none) m)
+sees key slots id m empty share s k _ at _ = let spent : ℕ = slice_index s.words 0 in let limit : ℕ = slice_index s.words limit_at in
     let live = living key limit m.0 share (k.kept.each id m.0 at) in let above = limit_above key spent limit s.views k.kept in
     let w : KeyedView = record m.0 { view = (after_see (words limit 0 m.0.view)).view } in
     let live' : IsLive key limit w = record { same = live.same; seen = above; mine = live.mine; refused = live.refused; share = live.share } in let low = live.mine.low in (
@@ -95,8 +95,8 @@ sees key slots id m empty share s k _ at _ = let spent : ℕ = slice_index s.wor
     )
 
 pub offers : (key : Key) (slots id count : ℕ) (m : Mine) → m.1 ≡ [] → 1 ≤ m.0.view.share → IsPlanCount key.problem count
-    → Allows (Keeps key) slots id m 8 (λ n. min n count) (OfferedUnder (step slots 8 count 0 none) m)
-offers key slots id count m empty share plan s k _ at _ = let spent : ℕ = slice_index s.words 0 in let limit : ℕ = slice_index s.words 8 in
+    → Allows (Keeps key) slots id m limit_at (λ n. min n count) (OfferedUnder (step slots limit_at count 0 none) m)
+offers key slots id count m empty share plan s k _ at _ = let spent : ℕ = slice_index s.words 0 in let limit : ℕ = slice_index s.words limit_at in
     let live = living key limit m.0 share (k.kept.each id m.0 at) in let above = limit_above key spent limit s.views k.kept in
     let w : KeyedView = record m.0 { view = (after_offer count (words limit 0 m.0.view)).view } in
     let low = live.mine.low in let high = live.mine.high in let top = above.high in
@@ -114,7 +114,7 @@ share_below : (key : Key) (spent limit : ℕ) (views : List KeyedView) (id : ℕ
 share_below key spent limit views id v k at = let whole = k.whole in let h = sum-set share_of views id v gone at in omega arith
 
 pub looks : (key : Key) (slots id : ℕ) (m : Mine) → Allows (Keeps key) slots id m 0 (λ n. n) (Looked (step slots 0 0 0 none) m)
-looks key slots id m s k _ at _ = let spent : ℕ = slice_index s.words 0 in let limit : ℕ = slice_index s.words 8 in (
+looks key slots id m s k _ at _ = let spent : ℕ = slice_index s.words 0 in let limit : ℕ = slice_index s.words limit_at in (
   m.0,
   keeps,
   tt,
@@ -152,7 +152,7 @@ claim_kept key spent limit views id v k at share fresh = go (nat_lt spent key.bu
         moved key spent limit (spent + 1) limit views id v w k at (le_refl limit) live' (le_refl _) (omega arith) refl (omega arith) (omega arith)
 
 pub claims : (key : Key) (slots id : ℕ) (m : Mine) → m.1 ≡ [] → 1 ≤ m.0.view.share → m.0.view.refused ≡ 0 → Allows (Keeps key) slots id m 0 (λ n. (n + 1) % 2 ^ 64) (ClaimedUnder (step slots 0 1 0 none) m)
-claims key slots id m empty share fresh s k _ at _ = let spent : ℕ = slice_index s.words 0 in let limit : ℕ = slice_index s.words 8 in
+claims key slots id m empty share fresh s k _ at _ = let spent : ℕ = slice_index s.words 0 in let limit : ℕ = slice_index s.words limit_at in
     let live = living key limit m.0 share (k.kept.each id m.0 at) in let budget : m.0.key.budget ≡ key.budget = ap (λ (q : Key). q.budget) live.same in
     let w : KeyedView = record m.0 { view = (after_claim m.0.key.budget (words 0 spent m.0.view)).view } in
     let counted = k.kept.counted in let granted = k.kept.granted in let few = k.kept.budget in let refused = refused_below key spent limit s.views k.kept in
@@ -167,7 +167,7 @@ claims key slots id m empty share fresh s k _ at _ = let spent : ℕ = slice_ind
     )
 
 pub splits : (key : Key) (id : ℕ) (v : KeyedView) → 1 < v.view.share → v.view.refused < v.view.share → Splits (Keeps key) id v (kept v) (given v)
-splits key id v more left s k at = let spent : ℕ = slice_index s.words 0 in let limit : ℕ = slice_index s.words 8 in let views = s.views in
+splits key id v more left s k at = let spent : ℕ = slice_index s.words 0 in let limit : ℕ = slice_index s.words limit_at in let views = s.views in
     let live = living key limit v (omega arith) (k.kept.each id v at) in let low = live.mine.low in let high = live.mine.high in
     let one : List KeyedView = set views id (kept v) in let here = set_here views id (kept v) (at_below views id v at) in
     let start : v.key.start ≡ key.start = ap (λ (q : Key). q.start) live.same in
@@ -196,7 +196,7 @@ above_both : (key : Key) (limit a b : ℕ) → IsAbove key limit a → IsAbove k
 above_both key limit a b p q = let low = p.low in let low' = q.low in let high = p.high in record { low = omega arith; high = omega arith; known = min_cases a b (IsLimit key) p.known q.known }
 
 pub joins : (key : Key) (id other : ℕ) (v w : KeyedView) → 1 ≤ v.view.share → 1 ≤ w.view.share → Joins (Keeps key) id v other w (joined_seat v w) gone
-joins key id other v w share_v share_w s k at differ at' = let spent : ℕ = slice_index s.words 0 in let limit : ℕ = slice_index s.words 8 in let views = s.views in let b : KeyedView = joined_seat v w in
+joins key id other v w share_v share_w s k at differ at' = let spent : ℕ = slice_index s.words 0 in let limit : ℕ = slice_index s.words limit_at in let views = s.views in let b : KeyedView = joined_seat v w in
     let one : List KeyedView = set views id b in let two : List KeyedView = set one other gone in
     let at_w : get_elem? views other ≡ some w = sym (set_else views id other b differ) ∙ at' in
     let here : get_elem? one id ≡ some b = set_here views id b (at_below views id v at) in
@@ -225,17 +225,17 @@ joins key id other v w share_v share_w s k at differ at' = let spent : ℕ = sli
     }
 
 -- the words at the end, where one seat has all shares
-pub closes : (key : Key) (id : ℕ) (v : KeyedView) (ws : List ℕ) (xs : List (Unit {0})) → v.view.share ≡ all_shares → Final (Seen (Keeps key) id v) ws xs → (spent limit : ℕ) → get_elem? ws 0 ≡ some spent → get_elem? ws 8 ≡ some limit
+pub closes : (key : Key) (id : ℕ) (v : KeyedView) (ws : List ℕ) (xs : List (Unit {0})) → v.view.share ≡ all_shares → Final (Seen (Keeps key) id v) ws xs → (spent limit : ℕ) → get_elem? ws 0 ≡ some spent → get_elem? ws limit_at ≡ some limit
     → (limit ≡ min key.start v.view.mine) × (spent ≡ v.view.granted + v.view.refused) × (v.view.granted ≡ min spent key.budget) × (spent ≤ key.budget + all_shares) × (limit ≤ v.view.seen) × (v.view.mine ≤ key.start)
 closes key id v ws xs all f spent limit e0 e1 = let s = f.0 in let k = f.1.0.kept in let at = f.1.1 in let views = s.views in let rest : List KeyedView = set views id gone in
     let a : slice_index s.words 0 ≡ spent = ap (λ (l : List ℕ). slice_index l 0) f.2 ∙ index_is ws 0 spent e0 in
-    let b : slice_index s.words 8 ≡ limit = ap (λ (l : List ℕ). slice_index l 8) f.2 ∙ index_is ws 8 limit e1 in
+    let b : slice_index s.words limit_at ≡ limit = ap (λ (l : List ℕ). slice_index l limit_at) f.2 ∙ index_is ws limit_at limit e1 in
     let is = k.least in let counted = k.counted in let granted = k.granted in let whole = k.whole in let small = k.start in
     let h = sum-set share_of views id v gone at in let none_left : sum_by share_of rest ≡ 0 = omega arith in
     let each : (i : ℕ) (t : KeyedView) → get_elem? rest i ≡ some t → (1 ≤ t.view.share) ⊎ (t ≡ gone) = λ i t e. ⊎_elim (λ (u : (i ≡ id) × (gone ≡ t)). inr (sym u.1))
-    (λ (u : (i ≢ id) × (get_elem? views i ≡ some t)). ⊎_elim (λ (l : IsLive key (slice_index s.words 8) t). inl l.share) (λ (g : t ≡ gone). inr g) (k.each i t u.1)) (at_set views id i gone t e) in
+    (λ (u : (i ≢ id) × (get_elem? views i ≡ some t)). ⊎_elim (λ (l : IsLive key (slice_index s.words limit_at) t). inl l.share) (λ (g : t ≡ gone). inr g) (k.each i t u.1)) (at_set views id i gone t e) in
     let g = sum-set granted_of views id v gone at in let g' = sum_of_gone granted_of rest refl none_left each in
     let r = sum-set refused_of views id v gone at in let r' = sum_of_gone refused_of rest refl none_left each in
     let l = least-set key.start views id v gone at in let l' = least_of_gone key.start rest (omega arith) none_left each in let top = least-top key.start views in
-    let live = living key (slice_index s.words 8) v (omega arith) (k.each id v at) in let refused = live.refused in let low = live.seen.low in let high = live.mine.high in
+    let live = living key (slice_index s.words limit_at) v (omega arith) (k.each id v at) in let refused = live.refused in let low = live.seen.low in let high = live.mine.high in
     (omega arith, omega arith, omega arith, omega arith, omega arith, omega arith)

@@ -21,15 +21,15 @@ most_budget = 2 ^ 40
 
 -- how many words the table has, used or not
 abbrev pub all_words : ℕ
-all_words = 16
+all_words = 32
 
 -- the number of claims is the first word
 abbrev pub spent_at : ℕ
 spent_at = 0
 
--- the limit is the ninth word, 64 bytes from the first
+-- the limit is the seventeenth word, 128 bytes from the first
 abbrev pub limit_at : ℕ
-limit_at = 8
+limit_at = 16
 
 -- the key: the problem, the limit at the start and the budget that the words were opened with
 abbrev pub key_of : Opening → Key

@@ -12,15 +12,16 @@ use std::alloc::{AllocError, Global};
 use std::marker::Model;
 use std::snapshot::Snapshot;
 
-/// The words of the table. Only two of them are used, 64 bytes apart and with 56 behind the second, so each has a cache line that
-/// the other is not on: all workers load the limit at each node, and one writes the claims at each expansion.
-const WORDS: usize = 16;
+/// The words of the table. Only two of them are used, 128 bytes apart and with 120 behind the second: all workers load the limit at
+/// each node, and one writes the claims at each expansion. Processors fetch cache lines of 64 bytes in pairs, so lines that are only
+/// next to each other would be written together.
+const WORDS: usize = 32;
 
 /// The word with the number of claims. It is the first, which a split or a join loads.
 const SPENT: usize = 0;
 
 /// The word with the limit.
-const LIMIT: usize = 8;
+const LIMIT: usize = 16;
 
 /// The shares of all seats together.
 const SHARES: u64 = 65;
@@ -71,7 +72,8 @@ impl Shared {
             start,
             budget,
         };
-        let words: [u64; WORDS] = [0, 0, 0, 0, 0, 0, 0, 0, start, 0, 0, 0, 0, 0, 0, 0];
+        let mut words = [0; WORDS];
+        words[LIMIT] = start;
         let (table, token) = Table::of_words(alloc, &words, &opening)?;
         Ok((
             Shared { table, budget },
