@@ -297,7 +297,7 @@ fn top<'a>(alloc: Global) -> Result<Command<'a>, AllocError>
 {
     let top = Command::new(alloc, "crp").bin_name("crp")?;
     Ok(
-        top.version("0.1.0 (rattle-kit-13f logic dac8208d650f15bf)")
+        top.version("0.1.0 (Rattle logic dac8208d650f15bf)")
             .no_binary_name(true)
             .subcommand_required(true),
     )
