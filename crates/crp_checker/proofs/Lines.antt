@@ -10,9 +10,8 @@ use Rattle.crp_tree.specs.Trees.{Mark, B, L, X, G, nodes, letter, given_names, F
 use Rattle.crp_cert.specs.Script.{symbols_of}
 use Rattle.crp_cert.specs.ScriptFaults.{AreSymbols, BeginsWithTree, GoesOnBehindTree}
 use Rattle.crp_cert.proofs.PartTests.{none_given}
-use Rattle.crp_checker.specs.declared.wrong.Wrong.{Wrong}
 use Rattle.crp_checker.specs.Owed.{Spot}
-use Rattle.crp_checker.specs.Symbols.{Walked, Line, symbol_at, paid, gone_on, after, line_begun, line_after, IsFirstOf, IsOnItsWay, IsOneWholeTree, EndsWalk, Ends}
+use Rattle.crp_checker.specs.Symbols.{Walked, Line, symbol_at, paid, gone_on, after, line_begun, line_after, IsFirstOf, IsOnItsWay, EndsWalk, Ends}
 use Rattle.crp_checker.proofs.OnTheWay.{sets_out, goes_on, whole, not_whole, some_symbol}
 use Rattle.crp_cert.proofs.Joined.{all_both, all_left, all_right}
 

@@ -1,6 +1,8 @@
 -- From a node to the next tree that branches owe.
-use Rattle.std.proofs.Common.{◌≡◌, ◌↔◌, ℕ, suc, ◌+◌, ◌-◌, ◌<◌, ◌≤◌, Bool, true, false, IsTrue, Contains, List, [], ◌∷◌, ◌++◌, length, filter, refl, sym, ap, ◌∙◌, subst, arith, length-append}
+use Rattle.std.proofs.Common.{◌≡◌, ◌↔◌, ℕ, zero, suc, ◌+◌, ◌-◌, ◌<◌, ◌≤◌, Bool, true, false, IsTrue, Contains, List, [], ◌∷◌, ◌++◌, length, filter, get_or, slice_set, take, refl, sym, ap, ◌∙◌, subst, arith, length-append}
 use Rattle.std.specs.Bool.{OnTrue, OnFalse}
+use Rattle.std.proofs.Math.Seq.{set-append_seam}
+use Rattle.std.proofs.lemmas.Bool.{lt-leb}
 use Rattle.std.proofs.lemmas.List.{take_at}
 use Rattle.crp_plan.specs.Bay.{Position}
 use Rattle.crp_bay.specs.Positions.{top, can_shift, child, counted, targets}
@@ -8,7 +10,7 @@ use Rattle.crp_bay.specs.Back.{PlaceAndTrail}
 use Rattle.crp_bay.proofs.Tops.{top_push}
 use Rattle.crp_bay.proofs.Walked.{row_is_target}
 use Rattle.crp_tree.proofs.Followed.{legal_push}
-use Rattle.crp_tree.specs.Trees.{Mark, X}
+use Rattle.crp_tree.specs.Trees.{X}
 use Rattle.crp_checker.specs.declared.next.Next.{Next}
 use Rattle.crp_checker.specs.declared.next.Next.TheVariants.{Here, Row, Nowhere}
 use Rattle.crp_checker.specs.Owed.{Spot, spots_below, owed_behind}
@@ -32,7 +34,31 @@ is_passed s row next e lt =
 pub none_behind : (s : Position) (row : ℕ) → length s.heights ≤ row → rows_behind row s ≡ []
 none_behind s row le = let e : length s.heights - row ≡ 0 = omega arith in ap (λ n. filter (can_shift s) (counted (suc row) n)) e
 
+pub none_left : (s : Position) (row : ℕ) → s.ordered < s.next → rows_behind row s ≡ []
+none_left s row lt = none (counted (suc row) (length s.heights - row))
+  where
+    none : (rows : List ℕ) → filter (can_shift s) rows ≡ []
+    none [] = refl
+    none (next ∷ rows) = let out : can_shift s next ≡ false = rw (lt-leb s.next s.ordered lt) refl in rw out (none rows)
+
 -- ---- one branch
+
+-- a path, by its last row
+pub last_split : (path : List ℕ) (i row : ℕ) → i + 1 ≡ length path → row ≡ get_or path i row → path ≡ take i path ++ row ∷ []
+last_split [] i row e is = absurd (omega (arith, e))
+last_split (x ∷ []) zero row e is = ap (λ y. y ∷ []) (sym is)
+last_split (x ∷ y ∷ ys) zero row e is = absurd (omega (arith, e))
+last_split (x ∷ xs) (suc i) row e is = ap (λ l. x ∷ l) (last_split xs i row (omega (arith, e)) is)
+
+-- another row in its place
+pub last_set : (path old : List ℕ) (i row next : ℕ) → i + 1 ≡ length old → old ≡ path ++ row ∷ [] → slice_set old i next ≡ path ++ next ∷ []
+last_set path old i row next e is =
+    let at : i ≡ length path = omega (arith, ap length is, e, length-append path (row ∷ [])) in
+    ap (λ k. slice_set old k next) at ∙ ap (λ l. slice_set l (length path) next) is ∙ set-append_seam path row [] next
+
+-- a path has one last row
+pub same_last : (path front back : List ℕ) (x y : ℕ) → path ≡ front ++ x ∷ [] → path ≡ back ++ y ∷ [] → x ≡ y
+same_last path front back x y a b = sym (top_push front x) ∙ ap top (sym a ∙ b) ∙ top_push back y
 
 -- the path below a branch goes back to it
 up_again : (path : List ℕ) (row : ℕ) → up (path ++ row ∷ []) ≡ path

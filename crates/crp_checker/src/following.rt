@@ -62,6 +62,7 @@ impl Following {
     }
 
     /// A symbol comes where a tree is owed, with the number that is next.
+    #[inline]
     pub fn meet(
         &mut self,
         alloc: Global,
@@ -74,9 +75,8 @@ impl Following {
             → walked_of self.new ≡ walked_on (need_by need.now) (mark_of_symbol symbol) spot owed (walked_of self.old)) }
     {
         give(alloc, &mut self.given, &self.owing, symbol)?;
-        let wrong = self.owing.meet(need, number, symbol)?;
+        self.owing.meet(need, number, symbol, &mut self.wrong)?;
         self.count = number;
-        self.wrong = self.wrong.or(wrong);
         Ok(())
     }
 }

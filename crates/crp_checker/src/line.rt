@@ -47,6 +47,7 @@ impl SymbolLine {
     }
 
     /// Reads one byte more.
+    #[inline]
     pub fn read(&mut self, alloc: Global, need: &Need, byte: u8) -> Result<(), AllocError>
         ensures { OnOk result (line_of self.new ≡ after (need_by need.now) (line_of self.old) byte) }
     {

@@ -27,6 +27,7 @@ fn first_need(least: u32, plan: &[u8], path: &[u8]) -> usize
 
 impl Need {
     /// The value that a cut at a path needs.
+    #[inline]
     pub fn at(&self, path: &[u8]) -> usize
         ensures { result ≡ need_by self.now path.now }
     {

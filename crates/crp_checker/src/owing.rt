@@ -33,7 +33,8 @@ impl Model for Owing {
 }
 
 impl Owing {
-    ghost use Rattle.std.specs.Prelude.{◌≡◌, ◌∷◌, [], true, false, List, IfOk};
+    ghost use Rattle.std.specs.Prelude.{◌≡◌, ◌∷◌, [], true, false, List, IfOk, OnOk};
+    ghost use Rattle.std.specs.Option.{option_or};
     ghost use Rattle.crp_checker.specs.Owed.{Spot, owed_behind};
     ghost use Rattle.crp_checker.specs.Symbols.{wrong_at};
     ghost use Rattle.crp_checker.specs.Kept.{mark_of_symbol, need_by};
@@ -53,6 +54,7 @@ impl Owing {
     }
 
     /// Whether none is owed.
+    #[inline]
     pub fn is_paid(&self) -> bool
         ensures none { result ≡ true → self.now ≡ [] }
         ensures some { result ≡ false → (spot : Spot) × (owed : List Spot) × (self.now ≡ spot ∷ owed) }
@@ -71,22 +73,32 @@ impl Owing {
         self.path.as_slice()
     }
 
-    /// A symbol with this number comes where a tree is owed next. What is wrong with its node, if anything is.
+    /// A symbol with this number comes where a tree is owed next. It notes what is wrong with its node, if that is the first wrong one.
+    #[inline]
     pub fn meet(
         &mut self,
         need: &Need,
         number: u64,
         symbol: Symbol,
-    ) -> Result<Option<Wrong>, AllocError>
-        ensures wrong { IfOk result (λ wrong. (spot : Spot) (owed : List Spot) → self.old ≡ spot ∷ owed
-            → wrong ≡ wrong_at (need_by need.now) number (mark_of_symbol symbol) spot) }
-        ensures owed { IfOk result (λ wrong. (spot : Spot) (owed : List Spot) → self.old ≡ spot ∷ owed
+        first: &mut Option<Wrong>,
+    ) -> Result<(), AllocError>
+        ensures first { OnOk result ((spot : Spot) (owed : List Spot) → self.old ≡ spot ∷ owed
+            → first.new ≡ option_or first.old (wrong_at (need_by need.now) number (mark_of_symbol symbol) spot)) }
+        ensures owed { OnOk result ((spot : Spot) (owed : List Spot) → self.old ≡ spot ∷ owed
             → self.new ≡ owed_behind (mark_of_symbol symbol) spot owed) }
     {
         let next = self.next;
         self.next = Next::Nowhere;
-        let wrong = judge(need, number, symbol, next, &mut self.path, &mut self.place)?;
-        self.next = go_on(&mut self.place, &mut self.path, self.above)?;
-        Ok(wrong)
+        judge(
+            need,
+            number,
+            symbol,
+            next,
+            &mut self.path,
+            &mut self.place,
+            first,
+        )?;
+        self.next = go_on(&mut self.place, &mut self.path, self.above);
+        Ok(())
     }
 }

@@ -1,8 +1,8 @@
 //! Single symbols, and what is wrong with the nodes that they stand for.
-ghost use Rattle.std.specs.Prelude.{◌≡◌, ◌+◌, ◌-◌, ◌≤◌, ◌∷◌, ℕ, List, true, length, nat_lt, if◌then◌else◌, Some, None, option_map, IfOk};
+ghost use Rattle.std.specs.Prelude.{◌≡◌, ◌+◌, ◌-◌, ◌≤◌, ◌∷◌, ℕ, List, suc, ◌==◌, true, length, nat_lt, if◌then◌else◌, Some, None, option_map, OnOk};
+ghost use Rattle.std.specs.Option.{option_or};
 ghost use Rattle.crp_bay.specs.Positions.{can_shift};
-ghost use Rattle.crp_bounds.specs.Bounds.{blocking as blocking_bound};
-ghost use Rattle.crp_tree.specs.Trees.{L, X};
+ghost use Rattle.crp_bounds.specs.Bounds.{blocking as blocking_bound, look_ahead as look_ahead_bound};
 ghost use Rattle.crp_checker.specs.Owed.{Spot, owed_behind};
 ghost use Rattle.crp_checker.specs.Symbols.{symbol_at, wrong_at};
 ghost use Rattle.crp_checker.specs.Pending.{back, below, spot_at, pending, owed_by, IsSound};
@@ -28,6 +28,7 @@ pub enum Symbol {
 }
 
 /// The symbol that a byte is behind so many others of its part, which does not begin with `G`.
+#[inline]
 pub fn symbol_of(count: u64, byte: u8) -> Option<Symbol>
     ensures { option_map mark_of_symbol result ≡ symbol_at count byte }
 {
@@ -40,37 +41,25 @@ pub fn symbol_of(count: u64, byte: u8) -> Option<Symbol>
     }
 }
 
-/// What is wrong with a cut at a path, whose symbol has this number: its value is below what it needs.
-pub fn is_low(need: &Need, number: u64, path: &[u8], bound: u32) -> Option<Wrong>
-    ensures { result ≡ (if nat_lt (length path.now + bound) (need_by need.now path.now) then Some (Wrong.Low number) else None) }
+/// Whether a cut at a path, with this bound, is below what it needs.
+#[inline]
+fn is_low(need: &Need, path: &[u8], bound: u32) -> bool
+    ensures { result ≡ nat_lt (length path.now + bound) (need_by need.now path.now) }
 {
-    if (bound as usize) < need.at(path).saturating_sub(path.len()) {
-        return Some(Wrong::Low { symbol: number });
-    }
-    None
+    path.len() + (bound as usize) < need.at(path)
 }
 
 /// The same of a cut by the look-ahead bound, which is counted only as far as the cut needs it.
-pub fn low_ahead(need: &Need, number: u64, path: &[u8], place: &Bounded) -> Option<Wrong>
-    ensures { result ≡ wrong_at (need_by need.now) number L (record { path = path.now; place = place.now.place }) }
+#[inline]
+fn is_low_ahead(need: &Need, path: &[u8], place: &Bounded) -> bool
+    ensures { result ≡ nat_lt (length path.now + look_ahead_bound place.now.place) (need_by need.now path.now) }
 {
     let short = need.at(path).saturating_sub(path.len());
     let short = short.min(u32::MAX as usize) as u32;
     match place.look_ahead_reaching(short, short) {
-        Some(_) => None,
-        None => Some(Wrong::Low { symbol: number }),
+        Some(_) => false,
+        None => true,
     }
-}
-
-/// What is wrong with a branch at a position, whose symbol has this number: the position is finished.
-pub fn at_end(number: u64, place: &Bounded) -> Option<Wrong>
-    ensures { (need : List ℕ → ℕ) (path : List ℕ)
-        → result ≡ wrong_at need number X (record { path = path; place = place.now.place }) }
-{
-    if place.position().is_done() {
-        return Some(Wrong::AtEnd { symbol: number });
-    }
-    None
 }
 
 /// The blocking bound where a tree is owed next. The position is not changed for that.
@@ -97,24 +86,42 @@ fn enter(place: &mut Bounded, next: Next)
     }
 }
 
-/// What is wrong with a cut by the look-ahead bound where a tree is owed next.
+/// Whether a cut by the look-ahead bound is below what it needs where a tree is owed next.
 #[inline]
-fn low_at(need: &Need, number: u64, path: &[u8], place: &mut Bounded, next: Next) -> Option<Wrong>
+fn is_low_at(need: &Need, path: &[u8], place: &mut Bounded, next: Next) -> bool
     requires { (row : ℕ) → next ≡ Next.Row row → can_shift place.old.place row ≡ true }
-    ensures found { result ≡ wrong_at (need_by need.now) number L (spot_at next path.now place.old) }
+    ensures found { result ≡ nat_lt (length path.now + look_ahead_bound (below next place.old.place)) (need_by need.now path.now) }
     ensures same { place.new ≡ place.old }
 {
     let Next::Row(row) = next else {
-        return low_ahead(need, number, path, place);
+        return is_low_ahead(need, path, place);
     };
     let _pushed = place.push(row);
-    let wrong = low_ahead(need, number, path, place);
+    let is_low = is_low_ahead(need, path, place);
     let _popped = place.pop();
-    wrong
+    is_low
 }
 
-/// A symbol with this number comes where a tree is owed next. What is wrong with its node, if anything is; what it leaves to be owed
-/// stands behind the last row of the path.
+/// Whether a position is finished, where no branch may stand.
+#[inline]
+fn is_at_end(place: &Bounded) -> bool
+    ensures { result ≡ (place.now.place.next == suc place.now.place.ordered) }
+{
+    place.position().is_done()
+}
+
+/// Notes what is wrong with a node, if it is wrong and none before it was.
+#[inline]
+fn note(first: &mut Option<Wrong>, is_wrong: bool, wrong: Wrong)
+    ensures { first.new ≡ option_or first.old (if is_wrong then Some wrong else None) }
+{
+    if is_wrong && first.is_none() {
+        *first = Some(wrong);
+    }
+}
+
+/// A symbol with this number comes where a tree is owed next. It notes what is wrong with its node, if that is the first wrong one;
+/// what it leaves to be owed stands behind the last row of the path.
 #[inline]
 pub fn judge(
     need: &Need,
@@ -123,22 +130,31 @@ pub fn judge(
     next: Next,
     path: &mut Vec<u8>,
     place: &mut Bounded,
-) -> Result<Option<Wrong>, AllocError>
+    first: &mut Option<Wrong>,
+) -> Result<(), AllocError>
     requires { (row : ℕ) → next ≡ Next.Row row → can_shift place.old.place row ≡ true }
-    ensures wrong { IfOk result (λ wrong. wrong ≡ wrong_at (need_by need.now) number (mark_of_symbol symbol) (spot_at next path.old.items place.old)) }
-    ensures owed { IfOk result (λ wrong. (above : ℕ) (spot : Spot) (owed : List Spot) → IsSound next above path.old.items place.old.place
+    ensures first { OnOk result (first.new
+        ≡ option_or first.old (wrong_at (need_by need.now) number (mark_of_symbol symbol) (spot_at next path.old.items place.old))) }
+    ensures owed { OnOk result ((above : ℕ) (spot : Spot) (owed : List Spot) → IsSound next above path.old.items place.old.place
         → owed_by next (length path.old.items - above) path.old.items place.old ≡ spot ∷ owed
         → pending (length path.new.items - above) path.new.items place.new ≡ owed_behind (mark_of_symbol symbol) spot owed) }
     ensures longer { length path.old.items ≤ length path.new.items }
 {
     match symbol {
-        Symbol::B => Ok(is_low(need, number, path, blocking_at(place, next))),
-        Symbol::L => Ok(low_at(need, number, path, place, next)),
+        Symbol::B => {
+            let is_low = is_low(need, path, blocking_at(place, next));
+            note(first, is_low, Wrong::Low { symbol: number });
+        }
+        Symbol::L => {
+            let is_low = is_low_at(need, path, place, next);
+            note(first, is_low, Wrong::Low { symbol: number });
+        }
         Symbol::X => {
             path.push(0)?;
             enter(place, next);
-            Ok(at_end(number, place))
+            note(first, is_at_end(place), Wrong::AtEnd { symbol: number });
         }
-        Symbol::G => Ok(None),
+        Symbol::G => {}
     }
+    Ok(())
 }

@@ -1,5 +1,4 @@
-use Rattle.std.proofs.Common.{◌≡◌, ◌∷◌, sym, ap, ◌∙◌}
-use Rattle.crp_bay.specs.Positions.{child}
+use Rattle.std.proofs.Common.{sym, ap, ◌∙◌}
 use Rattle.crp_bay.specs.Back.{PlaceAndTrail}
 use Rattle.crp_checker.specs.Pending.{back, below}
 use Rattle.crp_checker.proofs.Onward.{pushed}

@@ -1,19 +1,18 @@
-use Rattle.std.proofs.Common.{◌≡◌, ◌∷◌, sym, ap, ◌∙◌}
+use Rattle.std.proofs.Common.{◌+◌, length, nat_lt, sym, ap, ◌∙◌}
 use Rattle.crp_plan.specs.Bay.{Position}
 use Rattle.crp_bay.specs.Back.{PlaceAndTrail}
-use Rattle.crp_tree.specs.Trees.{L}
+use Rattle.crp_bounds.specs.Bounds.{look_ahead}
 use Rattle.crp_tree.proofs.Followed.{pop_back}
-use Rattle.crp_checker.specs.Symbols.{wrong_at}
 use Rattle.crp_checker.specs.Kept.{need_by}
 use Rattle.crp_checker.specs.Pending.{below}
 use Rattle.crp_checker.proofs.Onward.{pushed}
-use Rattle.crp_checker.proofs.symbol.low_at.Goals as goal
+use Rattle.crp_checker.proofs.symbol.is_low_at.Goals as goal
 
 pub returns-clause-found : goal.returns-clause-found
 returns-clause-found c =
     let e = pushed c.args.place.now c.in-Row.row c.push-pushed.new.self c.push-pushed.result c.push-pushed.ensures.target c.push-pushed.ensures.pushed (c.requires c.in-Row.row c.in-Row.is) in
-    c.low_ahead-wrong.ensures
-    ∙ ap (λ (s : Position). wrong_at (need_by c.args.need.now) c.args.number L (record { path = c.args.path.now; place = s }))
+    c.is_low_ahead-is_low.ensures
+    ∙ ap (λ (s : Position). nat_lt (length c.args.path.now + look_ahead s) (need_by c.args.need.now c.args.path.now))
     (ap (λ (s : PlaceAndTrail). s.place) e ∙ sym (ap (λ n. below n c.args.place.now.place) c.in-Row.is))
 
 pub returns-clause-same : goal.returns-clause-same
