@@ -46,21 +46,24 @@ abbrev pub takes_first : List StatedMove → ℕ
 takes_first [] = 0
 takes_first (m ∷ moves) = if is_shift m.said then 0 else suc (takes_first moves)
 
--- the frame of this move and the takes behind it
-abbrev pub frame_at : ℕ → List Stack → StatedMove → List StatedMove → Frame
-frame_at step rows m moves = record {
-  step = step;
-  moves = m ∷ take (takes_first moves) moves;
-  later = drop (takes_first moves) moves;
-  before = rows;
-}
+-- how many moves the frame has that the first of these begins: it and the takes behind it
+abbrev pub frame_length : List StatedMove → ℕ
+frame_length [] = 0
+frame_length (m ∷ moves) = suc (takes_first moves)
 
--- the frames that begin with one of these moves, of which the first has this number and is made over these rows: the first move of all and
--- each relocation begin one
+-- the frame that the first of these moves begins, which has this number and is made over these rows
+abbrev pub frame_at : ℕ → List Stack → List StatedMove → Frame
+frame_at step rows moves = record { step = step; moves = take (frame_length moves) moves; later = drop (frame_length moves) moves; before = rows }
+
+-- the same, if it begins one: the first move of all does, and each relocation
+abbrev pub first_frame : ℕ → List Stack → List StatedMove → List Frame
+first_frame step rows [] = []
+first_frame step rows (m ∷ moves) = if (step == 1) || is_shift m.said then frame_at step rows (m ∷ moves) ∷ [] else []
+
+-- the frames that one of these moves begins
 abbrev pub frames_from : ℕ → List Stack → List StatedMove → List Frame
 frames_from step rows [] = []
-frames_from step rows (m ∷ moves) =
-    (if (step == 1) || is_shift m.said then frame_at step rows m moves ∷ [] else []) ++ frames_from (suc step) (made rows m.said) moves
+frames_from step rows (m ∷ moves) = first_frame step rows (m ∷ moves) ++ frames_from (suc step) (made rows m.said) moves
 
 abbrev pub frames_of : BayFollowed → List Frame
 frames_of b = frames_from 1 b.start b.stated.moves

@@ -2,8 +2,8 @@
 ghost use Rattle.std.specs.Prelude.{◌≡◌, ◌≤◌, length, option_map};
 ghost use Rattle.crp_follow.specs.Faults.{is_shift};
 ghost use Rattle.crp_follow.specs.Stated.{moves_of};
-ghost use Rattle.crp_picture.specs.Cells.{step_of, leaves_before, kind_at, blocks};
-ghost use Rattle.crp_picture.specs.Frames.{taken_by, takes_first, first_taken};
+ghost use Rattle.crp_picture.specs.Cells.{takes, step_of, leaves_before, kind_at, blocks};
+ghost use Rattle.crp_picture.specs.Frames.{taken_by, takes_first, frame_length, first_taken};
 
 use crate::cell::Kind;
 use crp_follow::StatedMove;
@@ -27,23 +27,31 @@ fn taken_by(said: &SaidMove) -> Option<&Container>
     }
 }
 
+// Whether a move takes the container.
+fn takes(said: &SaidMove, name: &[u8]) -> bool
+    ensures { result ≡ takes said.now name.now }
+{
+    match said {
+        SaidMove::Shift { .. } => false,
+        SaidMove::Take { container, .. } => container.bytes() == name,
+    }
+}
+
 /// The step at which these moves take the container, from 1; 0 where none does.
 pub(crate) fn step_of(moves: &[StatedMove], name: &[u8]) -> u64
     ensures value { result ≡ step_of (moves_of moves.now) name.now }
     ensures among { result ≤ length moves.now }
 {
     for (i, stated) in moves.iter().enumerate() {
-        if let Some(container) = taken_by(&stated.said) {
-            if container.bytes() == name {
-                return i as u64 + 1;
-            }
+        if takes(&stated.said, name) {
+            return i as u64 + 1;
         }
     }
     0
 }
 
-/// How many takes the moves begin with.
-pub(crate) fn takes_first(moves: &[StatedMove]) -> usize
+// How many takes the moves begin with.
+fn takes_first(moves: &[StatedMove]) -> usize
     ensures value { result ≡ takes_first moves.now }
     ensures among { result ≤ length moves.now }
 {
@@ -53,6 +61,17 @@ pub(crate) fn takes_first(moves: &[StatedMove]) -> usize
         }
     }
     moves.len()
+}
+
+/// How many moves the frame has that the first of these begins.
+pub(crate) fn frame_length(moves: &[StatedMove]) -> usize
+    ensures value { result ≡ frame_length moves.now }
+    ensures among { result ≤ length moves.now }
+{
+    match moves {
+        [] => 0,
+        [_, later @ ..] => takes_first(later) + 1,
+    }
 }
 
 /// The container that is taken first by these moves, if one is.
