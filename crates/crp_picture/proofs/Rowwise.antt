@@ -1,5 +1,5 @@
 -- Rows that are read and changed.
-use Rattle.std.proofs.Common.{◌≡◌, ◌∙◌, ℕ, zero, suc, ◌+◌, ◌<◌, ◌≤◌, List, [], ◌∷◌, ◌++◌, length, take, Option, Some, None, slice_get, slice_set, refl, sym, ap, arith}
+use Rattle.std.proofs.Common.{◌≡◌, ◌∙◌, ℕ, zero, suc, ◌+◌, ◌<◌, ◌≤◌, List, [], ◌∷◌, ◌++◌, length, take, Option, Some, None, slice_get, slice_set, refl, sym, ap, append_assoc, arith}
 use Rattle.std.specs.Prelude.{unwrap_or, option_map, option_to_list}
 use Rattle.std.proofs.lemmas.Option.{slice_get_past}
 use Rattle.std.proofs.lemmas.List.{set_past}
@@ -36,3 +36,9 @@ cells_more moves rows i stack at =
     let one : i + 1 ≡ suc i = omega arith in
     ap (cells_to moves rows) one ∙ ap (λ (o : Option Stack). cells_to moves rows i ++ row_cells moves (suc i) (unwrap_or o []) (length (unwrap_or o []))) at
     ∙ ap (λ n. cells_to moves rows i ++ row_cells moves n stack (length stack)) (sym one)
+
+pub row_longer : (moves : List SaidMove) (row : ℕ) (stack : Stack) (i : ℕ) (name : List ℕ) (init old new : List Cell) → slice_get stack i ≡ Some name
+    → old ≡ init ++ row_cells moves row stack i → new ≡ old ++ cell_on moves row (take i stack) name ∷ [] → new ≡ init ++ row_cells moves row stack (i + 1)
+row_longer moves row stack i name init old new at so_far longer =
+    let more = cell_on moves row (take i stack) name ∷ [] in
+    longer ∙ ap (λ (l : List Cell). l ++ more) so_far ∙ append_assoc init (row_cells moves row stack i) more ∙ ap (λ (l : List Cell). init ++ l) (sym (row_more moves row stack i name at))

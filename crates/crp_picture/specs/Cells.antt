@@ -7,7 +7,7 @@ use Rattle.crp_said.specs.declared.moves.SaidMove.TheVariants.{Shift, Take}
 use Rattle.crp_follow.specs.Crane.{Stack, stack_of}
 use Rattle.crp_follow.specs.Table.{takes_from, leaves_at}
 use Rattle.crp_picture.specs.declared.cell.Kind.{Kind}
-use Rattle.crp_picture.specs.declared.cell.Kind.TheVariants.{Fifth, Stays}
+use Rattle.crp_picture.specs.declared.cell.Kind.TheVariants.{Soonest, Soon, Midway, Late, Latest, Stays}
 
 -- a container that is drawn: where it stands, which it is, the step at which it leaves (0 where it stays), whether it blocks, and what it is drawn as
 pub record Cell : Type 0 where
@@ -31,9 +31,17 @@ step_of moves name = unwrap_or (leaves_at (takes_from 1 moves) name) 0
 abbrev pub leaves_before : ℕ → ℕ → Bool
 leaves_before a b = nat_lt 0 a && ((b == 0) || nat_lt a b)
 
--- in which fifth of so many moves it leaves, from 0; or it stays
+-- one that leaves in this fifth of the moves, from 0
+abbrev pub in_fifth : ℕ → Kind
+in_fifth fifth =
+    if fifth == 0 then Soonest
+    else (if fifth == 1 then Soon
+    else (if fifth == 2 then Midway
+    else (if fifth == 3 then Late else Latest)))
+
+-- one that leaves at this step of so many, or stays
 abbrev pub kind_at : ℕ → ℕ → Kind
-kind_at step count = if step == 0 then Stays else Fifth (5 * (step - 1) / count)
+kind_at step count = if step == 0 then Stays else in_fifth (5 * (step - 1) / count)
 
 -- one of these leaves before the container
 abbrev pub blocks : List SaidMove → Stack → List ℕ → Bool

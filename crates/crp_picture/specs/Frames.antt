@@ -88,6 +88,10 @@ abbrev pub acting : List StatedMove → Cell → Kind
 acting [] c = c.kind
 acting (m ∷ moves) c = if is_at c (from_of m.said) then kind_of m.said else acting moves c
 
+-- a container as it is drawn where these moves are made
+abbrev pub shown_in : List StatedMove → Cell → Cell
+shown_in moves c = record c { kind = acting moves c }
+
 -- where a relocation puts its container, as it would stand there
 abbrev pub goal_of : List SaidMove → List Stack → SaidMove → List Cell
 goal_of all rows (Shift from to container) = record (cell_on all to.row (stack_in rows to.row) container) { kind = Goal } ∷ []
@@ -100,7 +104,7 @@ goals all rows (m ∷ moves) = goal_of all rows m.said
 
 -- the containers of a frame, where these are all moves of the bay
 abbrev pub frame_cells : List SaidMove → Frame → List Cell
-frame_cells all f = map (λ c. record c { kind = acting f.moves c }) (cells_of all f.before ++ goals all f.before f.moves)
+frame_cells all f = map (shown_in f.moves) (cells_of all f.before ++ goals all f.before f.moves)
 
 -- the container that a move takes, if it takes one
 abbrev pub taken_by : SaidMove → Option (List ℕ)

@@ -1,6 +1,5 @@
 -- Where things stand in a picture, in px: a place is 40 wide and 32 high, row 1 begins at 18, and the highest tier at 26 below the top.
-use Rattle.std.specs.Prelude.{ℕ, ◌+◌, ◌-◌, ◌*◌, ◌==◌, List, [], ◌∷◌, ◌++◌, codes, decimal, if◌then◌else◌}
-use Rattle.std.specs.List.{is_empty}
+use Rattle.std.specs.Prelude.{ℕ, ◌+◌, ◌-◌, ◌*◌, ◌==◌, List, [], ◌∷◌, ◌++◌, length, codes, decimal, if◌then◌else◌}
 
 -- the left side of a row
 abbrev pub x_of : ℕ → ℕ
@@ -24,11 +23,20 @@ outline_at tiers row tier = stroke_at 2 2 (codes "h36v28h-36z") tiers row tier
 
 -- strokes of a class; nothing where there are none
 abbrev pub path : List ℕ → List ℕ → List ℕ
-path class strokes = if is_empty strokes then [] else codes "<path class=\"" ++ (class ++ (codes "\" d=\"" ++ (strokes ++ codes "\"/>")))
+path class strokes = if length strokes == 0 then [] else codes "<path class=\"" ++ (class ++ (codes "\" d=\"" ++ (strokes ++ codes "\"/>")))
+
+-- the beginning of a text at (x, y)
+abbrev pub text_at : ℕ → ℕ → ℕ → List ℕ
+text_at class x y = codes "<text class=\"" ++ (class ∷ (codes "\" x=\"" ++ (decimal x ++ (codes "\" y=\"" ++ decimal y))))
+
+-- how wide a text is that goes as far as this row
+abbrev pub width_of : ℕ → List ℕ
+width_of last = codes "\" textLength=\"" ++ (decimal (40 * last) ++ codes "\" lengthAdjust=\"spacingAndGlyphs\">")
+
+-- pieces that go as far as this row
+abbrev pub pieces_as_far : ℕ → List ℕ → List ℕ
+pieces_as_far last pieces = width_of last ++ (pieces ++ codes "</text>")
 
 -- a line of text from row 1 to this row, the last that has a piece, at (x, y); nothing where no row has one
 abbrev pub line : ℕ → ℕ → ℕ → ℕ → List ℕ → List ℕ
-line class x y last pieces =
-    if last == 0 then []
-    else codes "<text class=\"" ++ (class ∷ (codes "\" x=\"" ++ (decimal x ++ (codes "\" y=\"" ++ (decimal y ++ (codes "\" textLength=\"" ++ (decimal (40 * last)
-    ++ (codes "\" lengthAdjust=\"spacingAndGlyphs\">" ++ (pieces ++ codes "</text>")))))))))
+line class x y last pieces = if last == 0 then [] else text_at class x y ++ pieces_as_far last pieces

@@ -10,7 +10,7 @@ use Rattle.crp_follow.specs.Crane.{Stack}
 use Rattle.crp_follow.specs.Stated.{moves_of}
 use Rattle.crp_follow.specs.Followed.{BayFollowed}
 use Rattle.crp_picture.specs.declared.cell.Kind.{Kind}
-use Rattle.crp_picture.specs.declared.cell.Kind.TheVariants.{Fifth, Stays, Moved, Goal, Taken}
+use Rattle.crp_picture.specs.declared.cell.Kind.TheVariants.{Soonest, Soon, Midway, Late, Latest, Stays, Moved, Goal, Taken}
 use Rattle.crp_picture.specs.declared.mark.Mark.{Mark}
 use Rattle.crp_picture.specs.declared.mark.Mark.TheVariants as mark
 use Rattle.crp_picture.specs.declared.wording.Wording.{Wording}
@@ -24,7 +24,11 @@ use Rattle.crp_picture.specs.Frames.{Frame, frame_cells, aimed_at, rows_behind}
 
 -- the letter of what a container is drawn as
 abbrev pub letter_of : Kind → ℕ
-letter_of (Fifth n) = 48 + n
+letter_of Soonest = 48
+letter_of Soon = 49
+letter_of Midway = 50
+letter_of Late = 51
+letter_of Latest = 52
 letter_of Stays = 115
 letter_of Moved = 109
 letter_of Goal = 111
@@ -62,7 +66,7 @@ marked tiers cells m = path (class_of m) (flat_map (mark_of tiers m) cells)
 -- all marks, in their order
 abbrev pub marks : List Mark
 marks =
-    mark.Box (Fifth 0) ∷ mark.Box (Fifth 1) ∷ mark.Box (Fifth 2) ∷ mark.Box (Fifth 3) ∷ mark.Box (Fifth 4) ∷ mark.Box Stays ∷ mark.Box Moved ∷ mark.Box Taken
+    mark.Box Soonest ∷ mark.Box Soon ∷ mark.Box Midway ∷ mark.Box Late ∷ mark.Box Latest ∷ mark.Box Stays ∷ mark.Box Moved ∷ mark.Box Taken
     ∷ mark.Outline ∷ mark.Corner ∷ mark.Up ∷ []
 
 -- ---- labels and steps
@@ -127,8 +131,14 @@ abbrev pub middle_of : ℕ → ℕ
 middle_of row = x_of row + 20
 
 -- an arrow up, across above all stacks and down, and the number of the step on it
+abbrev pub arrow_from : ℕ → ℕ → List ℕ
+arrow_from a up = 77 ∷ (decimal a ++ 32 ∷ decimal up)
+
+abbrev pub arrow_to : ℕ → ℕ → List ℕ
+arrow_to b down = codes "V11H" ++ (decimal b ++ 86 ∷ (decimal down ++ codes "m-5-6 5 6 5-6"))
+
 abbrev pub arrow_strokes : ℕ → ℕ → ℕ → ℕ → List ℕ
-arrow_strokes a up b down = 77 ∷ (decimal a ++ 32 ∷ (decimal up ++ (codes "V11H" ++ (decimal b ++ 86 ∷ (decimal down ++ codes "m-5-6 5 6 5-6")))))
+arrow_strokes a up b down = arrow_from a up ++ arrow_to b down
 
 abbrev pub arrow_number : ℕ → ℕ → List ℕ
 arrow_number middle step =
@@ -194,9 +204,11 @@ tier_numbers zero = []
 tier_numbers (suc tier) = tier_numbers tier ++ decimal (suc tier)
 
 -- the numbers of the tiers
+abbrev pub tiers_head : ℕ → List ℕ
+tiers_head tiers = codes "<text class=\"q\" x=\"" ++ (tier_lefts tiers ++ (codes "\" y=\"" ++ tier_heights tiers tiers))
+
 abbrev pub tiers_text : ℕ → List ℕ
-tiers_text tiers =
-    codes "<text class=\"q\" x=\"" ++ (tier_lefts tiers ++ (codes "\" y=\"" ++ (tier_heights tiers tiers ++ (codes "\">" ++ (tier_numbers tiers ++ codes "</text>")))))
+tiers_text tiers = tiers_head tiers ++ (codes "\">" ++ (tier_numbers tiers ++ codes "</text>"))
 
 -- the line on which the lowest tier stands
 abbrev pub floor_of : ℕ → ℕ → List ℕ

@@ -5,8 +5,16 @@ use crp_plan::Container;
 /// What a container is drawn as.
 #[derive(Clone, Copy)]
 pub(crate) enum Kind {
-    /// It leaves in this fifth of the moves, 0 to 4.
-    Fifth(u8),
+    /// It leaves in the first fifth of the moves.
+    Soonest,
+    /// It leaves in the second.
+    Soon,
+    /// It leaves in the third.
+    Midway,
+    /// It leaves in the fourth.
+    Late,
+    /// It leaves in the last.
+    Latest,
     /// It stays.
     Stays,
     /// It is relocated.

@@ -1,6 +1,6 @@
 //! Where things stand in a picture, in px.
 ghost use Rattle.std.specs.Prelude.{◌≡◌, ◌++◌, ◌*◌, ◌≤◌, OnOk};
-ghost use Rattle.crp_picture.specs.Grid.{x_of, y_of, stroke_at, bar_at, outline_at, path, line};
+ghost use Rattle.crp_picture.specs.Grid.{x_of, y_of, stroke_at, bar_at, outline_at, path, text_at, width_of, pieces_as_far, line};
 
 use crp_cert::push_decimal;
 use std::alloc::AllocError;
@@ -72,6 +72,38 @@ pub(crate) fn push_path(text: &mut Vec<u8>, class: &[u8], strokes: &[u8]) -> Res
     text.extend_from_slice(b"\"/>")
 }
 
+// Adds the beginning of a text at (x, y).
+fn push_text_at(text: &mut Vec<u8>, class: u8, x: u8, y: u64) -> Result<(), AllocError>
+    ensures { OnOk result (text.new.items ≡ text.old.items ++ text_at class x y) }
+{
+    text.extend_from_slice(b"<text class=\"")?;
+    text.push(class)?;
+    text.extend_from_slice(b"\" x=\"")?;
+    push_decimal(text, x)?;
+    text.extend_from_slice(b"\" y=\"")?;
+    push_decimal(text, y)
+}
+
+// Adds how wide a text is that goes as far as this row.
+fn push_width(text: &mut Vec<u8>, last: u64) -> Result<(), AllocError>
+    ensures { OnOk result (text.new.items ≡ text.old.items ++ width_of last) }
+{
+    text.extend_from_slice(b"\" textLength=\"")?;
+    push_decimal(text, 40 * u128::from(last))?;
+    text.extend_from_slice(b"\" lengthAdjust=\"spacingAndGlyphs\">")?;
+    Ok(())
+}
+
+// Adds pieces that go as far as this row.
+fn push_as_far(text: &mut Vec<u8>, last: u64, pieces: &[u8]) -> Result<(), AllocError>
+    ensures { OnOk result (text.new.items ≡ text.old.items ++ pieces_as_far last pieces.now) }
+{
+    push_width(text, last)?;
+    text.extend_from_slice(pieces)?;
+    text.extend_from_slice(b"</text>")?;
+    Ok(())
+}
+
 /// Adds a line of text from row 1 to this row, at (x, y); nothing where the row is 0.
 pub(crate) fn push_text_line(
     text: &mut Vec<u8>,
@@ -86,15 +118,7 @@ pub(crate) fn push_text_line(
     if last == 0 {
         return Ok(());
     }
-    text.extend_from_slice(b"<text class=\"")?;
-    text.push(class)?;
-    text.extend_from_slice(b"\" x=\"")?;
-    push_decimal(text, x)?;
-    text.extend_from_slice(b"\" y=\"")?;
-    push_decimal(text, y)?;
-    text.extend_from_slice(b"\" textLength=\"")?;
-    push_decimal(text, 40 * u128::from(last))?;
-    text.extend_from_slice(b"\" lengthAdjust=\"spacingAndGlyphs\">")?;
-    text.extend_from_slice(pieces)?;
-    text.extend_from_slice(b"</text>")
+    push_text_at(text, class, x, y)?;
+    push_as_far(text, last, pieces)?;
+    Ok(())
 }

@@ -1,6 +1,6 @@
 //! The ground on which every picture stands.
 ghost use Rattle.std.specs.Prelude.{◌≡◌, ◌++◌, ◌+◌, ◌*◌, ◌∷◌, length, codes, decimal, IfOk, OnOk};
-ghost use Rattle.crp_picture.specs.Pictures.{places_of_row, places_to, row_numbers, tier_lefts, tier_heights, tier_numbers, tiers_text, floor_of, ground_parts, ground_picture};
+ghost use Rattle.crp_picture.specs.Pictures.{places_of_row, places_to, row_numbers, tier_lefts, tier_heights, tier_numbers, tiers_head, tiers_text, floor_of, ground_parts, ground_picture};
 
 use crate::grid::{push_bar, push_path, push_text_line, y_of};
 use crate::labels::push_number;
@@ -73,17 +73,25 @@ fn push_numbers(text: &mut Vec<u8>, tiers: u8) -> Result<(), AllocError>
     Ok(())
 }
 
-// Adds the numbers of so many tiers in their places.
-fn push_tiers(text: &mut Vec<u8>, tiers: u8) -> Result<(), AllocError>
-    ensures { OnOk result (text.new.items ≡ text.old.items ++ tiers_text tiers) }
+// Adds where the numbers of so many tiers stand.
+fn push_tiers_head(text: &mut Vec<u8>, tiers: u8) -> Result<(), AllocError>
+    ensures { OnOk result (text.new.items ≡ text.old.items ++ tiers_head tiers) }
 {
     text.extend_from_slice(b"<text class=\"q\" x=\"")?;
     push_lefts(text, tiers)?;
     text.extend_from_slice(b"\" y=\"")?;
-    push_heights(text, tiers)?;
+    push_heights(text, tiers)
+}
+
+// Adds the numbers of so many tiers in their places.
+fn push_tiers(text: &mut Vec<u8>, tiers: u8) -> Result<(), AllocError>
+    ensures { OnOk result (text.new.items ≡ text.old.items ++ tiers_text tiers) }
+{
+    push_tiers_head(text, tiers)?;
     text.extend_from_slice(b"\">")?;
     push_numbers(text, tiers)?;
-    text.extend_from_slice(b"</text>")
+    text.extend_from_slice(b"</text>")?;
+    Ok(())
 }
 
 // The line on which the lowest tier stands.
@@ -107,17 +115,14 @@ fn push_parts(
     ensures { OnOk result (text.new.items ≡ text.old.items ++ ground_parts tiers heights.now) }
 {
     let rows = heights.len() as u64;
-    push_path(text, b"f", &places(alloc, tiers, heights)?)?;
-    push_path(text, b"g", &floor_of(alloc, tiers, rows)?)?;
-    push_text_line(
-        text,
-        b'q',
-        1,
-        40 + 32 * u64::from(tiers),
-        rows,
-        &row_numbers(alloc, rows)?,
-    )?;
-    push_tiers(text, tiers)
+    let places = places(alloc, tiers, heights)?;
+    let floor = floor_of(alloc, tiers, rows)?;
+    let numbers = row_numbers(alloc, rows)?;
+    push_path(text, b"f", &places)?;
+    push_path(text, b"g", &floor)?;
+    push_text_line(text, b'q', 1, 40 + 32 * u64::from(tiers), rows, &numbers)?;
+    push_tiers(text, tiers)?;
+    Ok(())
 }
 
 /// Adds the ground of rows with these heights: the empty places, and the numbers of rows and tiers. It is the element g, which every
@@ -127,5 +132,6 @@ pub fn push_ground(alloc: Global, text: &mut Vec<u8>, heights: &[u8]) -> Result<
 {
     text.extend_from_slice(b"<g id=\"g\">")?;
     push_parts(alloc, text, tallest(heights), heights)?;
-    text.extend_from_slice(b"</g>")
+    text.extend_from_slice(b"</g>")?;
+    Ok(())
 }

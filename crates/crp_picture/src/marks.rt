@@ -8,12 +8,16 @@ use crate::grid::{push_bar, push_outline, push_path, push_stroke};
 use crate::mark::Mark;
 use std::alloc::{AllocError, Global};
 
-// The letter of what a container is drawn as. There are five fifths.
+// The letter of what a container is drawn as.
 fn letter_of(kind: Kind) -> u8
     ensures { result ≡ letter_of kind }
 {
     match kind {
-        Kind::Fifth(n) => b'0' + n,
+        Kind::Soonest => b'0',
+        Kind::Soon => b'1',
+        Kind::Midway => b'2',
+        Kind::Late => b'3',
+        Kind::Latest => b'4',
         Kind::Stays => b's',
         Kind::Moved => b'm',
         Kind::Goal => b'o',
@@ -108,11 +112,11 @@ pub(crate) fn push_marks(
     ensures { OnOk result (text.new.items ≡ text.old.items ++ flat_map (marked tiers (map cell_as cells.now)) marks) }
 {
     let marks = [
-        Mark::Box(Kind::Fifth(0)),
-        Mark::Box(Kind::Fifth(1)),
-        Mark::Box(Kind::Fifth(2)),
-        Mark::Box(Kind::Fifth(3)),
-        Mark::Box(Kind::Fifth(4)),
+        Mark::Box(Kind::Soonest),
+        Mark::Box(Kind::Soon),
+        Mark::Box(Kind::Midway),
+        Mark::Box(Kind::Late),
+        Mark::Box(Kind::Latest),
         Mark::Box(Kind::Stays),
         Mark::Box(Kind::Moved),
         Mark::Box(Kind::Taken),

@@ -1,9 +1,10 @@
 //! The pictures of a bay.
-ghost use Rattle.std.specs.Prelude.{◌≡◌, ◌+◌, ◌/◌, ◌++◌, ◌≤◌, map, option_map, flat_map, OnOk, length};
+ghost use Rattle.std.specs.Prelude.{◌≡◌, ◌+◌, ◌/◌, ◌^◌, ◌++◌, ◌≤◌, map, option_map, flat_map, codes, OnOk};
 ghost use Rattle.crp_follow.specs.Stated.{moves_of};
 ghost use Rattle.crp_follow.specs.Views.{bay_followed};
-ghost use Rattle.crp_picture.specs.Frames.{aimed_at, frame_cells};
-ghost use Rattle.crp_picture.specs.Pictures.{drawn, aim_of, aim, middle_of, arrow_strokes, arrow_number, arrow, first_arrow, position_picture, start_picture, end_picture, frame_picture};
+ghost use Rattle.crp_picture.specs.Frames.{aimed_at};
+ghost use Rattle.crp_picture.specs.Grid.{y_of, path};
+ghost use Rattle.crp_picture.specs.Pictures.{drawn, aim_of, aim, middle_of, arrow_from, arrow_to, arrow_strokes, arrow_number, arrow, first_arrow, position_picture, start_picture, end_picture, frame_picture};
 ghost use Rattle.crp_picture.specs.Views.{cell_as, frame_as};
 
 use crate::cell::Cell;
@@ -31,7 +32,8 @@ fn push_drawn(
     ensures { OnOk result (text.new.items ≡ text.old.items ++ drawn tiers rows (map cell_as cells.now)) }
 {
     push_marks(alloc, text, tiers, cells)?;
-    push_lines(alloc, text, tiers, rows as u64, cells)
+    push_lines(alloc, text, tiers, rows as u64, cells)?;
+    Ok(())
 }
 
 // Adds outlines round the containers of this name.
@@ -90,20 +92,20 @@ fn middle_of(row: u32) -> u128
     x_of(u64::from(row)) + 20
 }
 
-// Adds the strokes of an arrow.
-fn push_arrow_strokes(
-    text: &mut Vec<u8>,
-    a: u128,
-    up: u64,
-    b: u128,
-    down: u64,
-) -> Result<(), AllocError>
-    ensures { OnOk result (text.new.items ≡ text.old.items ++ arrow_strokes a up b down) }
+// Adds where an arrow begins.
+fn push_arrow_from(text: &mut Vec<u8>, a: u128, up: u64) -> Result<(), AllocError>
+    ensures { OnOk result (text.new.items ≡ text.old.items ++ arrow_from a up) }
 {
     text.push(b'M')?;
     push_decimal(text, a)?;
     text.push(b' ')?;
-    push_decimal(text, up)?;
+    push_decimal(text, up)
+}
+
+// Adds how it goes on.
+fn push_arrow_to(text: &mut Vec<u8>, b: u128, down: u64) -> Result<(), AllocError>
+    ensures { OnOk result (text.new.items ≡ text.old.items ++ arrow_to b down) }
+{
     text.extend_from_slice(b"V11H")?;
     push_decimal(text, b)?;
     text.push(b'V')?;
@@ -147,7 +149,8 @@ fn push_arrow(
     let up = y_of(tiers, u64::from(from.tier));
     let down = y_of(tiers, u64::from(to.tier));
     let mut strokes = Vec::new(alloc);
-    push_arrow_strokes(&mut strokes, a, up, b, down)?;
+    push_arrow_from(&mut strokes, a, up)?;
+    push_arrow_to(&mut strokes, b, down)?;
     push_path(text, b"a", &strokes)?;
     push_arrow_number(alloc, text, (a + b) / 2, step)
 }
@@ -182,7 +185,8 @@ fn push_position(
     ensures { OnOk result (text.new.items ≡ text.old.items ++ position_picture tiers (moves_of all.now) rows.now) }
 {
     let cells = cells_of(alloc, all, rows)?;
-    push_drawn(alloc, text, tiers, rows.len(), &cells)
+    push_drawn(alloc, text, tiers, rows.len(), &cells)?;
+    Ok(())
 }
 
 /// Adds the picture of a bay before its first move. The highest row of the yard has so many tiers.
@@ -194,7 +198,8 @@ pub fn push_start(
 ) -> Result<(), AllocError>
     ensures { OnOk result (text.new.items ≡ text.old.items ++ start_picture tiers (bay_followed bay.now)) }
 {
-    push_position(alloc, text, tiers, &bay.stated.moves, &bay.start)
+    push_position(alloc, text, tiers, &bay.stated.moves, &bay.start)?;
+    Ok(())
 }
 
 /// Adds the picture of a bay after its last move.
@@ -206,7 +211,8 @@ pub fn push_end(
 ) -> Result<(), AllocError>
     ensures { OnOk result (text.new.items ≡ text.old.items ++ end_picture tiers (bay_followed bay.now)) }
 {
-    push_position(alloc, text, tiers, &bay.stated.moves, &bay.after)
+    push_position(alloc, text, tiers, &bay.stated.moves, &bay.after)?;
+    Ok(())
 }
 
 /// Adds the picture of a frame of a bay: the position before it, with what is relocated and what is taken, and the arrow of the relocation.
@@ -223,5 +229,6 @@ pub fn push_frame(
     let cells = frame_cells(alloc, all, frame)?;
     push_drawn(alloc, text, tiers, frame.before.len(), &cells)?;
     push_aim(alloc, text, tiers, all, frame)?;
-    push_first_arrow(alloc, text, tiers, frame.step, frame.moves)
+    push_first_arrow(alloc, text, tiers, frame.step, frame.moves)?;
+    Ok(())
 }

@@ -2,7 +2,7 @@
 ghost use Rattle.std.specs.Prelude.{◌≡◌, ◌≤◌, length, option_map};
 ghost use Rattle.crp_follow.specs.Faults.{is_shift};
 ghost use Rattle.crp_follow.specs.Stated.{moves_of};
-ghost use Rattle.crp_picture.specs.Cells.{takes, step_of, leaves_before, kind_at, blocks};
+ghost use Rattle.crp_picture.specs.Cells.{takes, step_of, leaves_before, in_fifth, kind_at, blocks};
 ghost use Rattle.crp_picture.specs.Frames.{taken_by, takes_first, frame_length, first_taken};
 
 use crate::cell::Kind;
@@ -106,7 +106,24 @@ pub(crate) fn blocks(moves: &[StatedMove], beneath: &[Container], name: &[u8]) -
     false
 }
 
-/// In which fifth of so many moves who leaves at this step leaves; or that it stays.
+// What a container is drawn as that leaves in this fifth of the moves, from 0.
+fn in_fifth(fifth: u128) -> Kind
+    ensures { result ≡ in_fifth fifth }
+{
+    if fifth == 0 {
+        Kind::Soonest
+    } else if fifth == 1 {
+        Kind::Soon
+    } else if fifth == 2 {
+        Kind::Midway
+    } else if fifth == 3 {
+        Kind::Late
+    } else {
+        Kind::Latest
+    }
+}
+
+/// What a container is drawn as that leaves at this step of so many, or stays.
 pub(crate) fn kind_at(step: u64, count: u64) -> Kind
     requires { step ≤ count }
     ensures { result ≡ kind_at step count }
@@ -114,6 +131,5 @@ pub(crate) fn kind_at(step: u64, count: u64) -> Kind
     if step == 0 {
         return Kind::Stays;
     }
-    let fifth = 5 * u128::from(step - 1) / u128::from(count);
-    Kind::Fifth(fifth as u8)
+    in_fifth(5 * u128::from(step - 1) / u128::from(count))
 }
