@@ -1,0 +1,4 @@
+pub mod Rowwise
+pub mod Leaving
+pub mod Framed
+pub mod Drawing

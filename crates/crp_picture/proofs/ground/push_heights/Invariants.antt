@@ -1,0 +1,7 @@
+-- The tiers so far are added.
+use Rattle.std.proofs.Common.{◌≡◌, ◌++◌}
+use Rattle.crp_picture.specs.Pictures.{tier_heights}
+use Rattle.crp_picture.proofs.ground.push_heights.Given as goal
+
+abbrev pub invariant-loop-i : goal.invariant-loop-i
+invariant-loop-i l = l.text.items ≡ l.initial.text.items ++ tier_heights l.tiers l.i

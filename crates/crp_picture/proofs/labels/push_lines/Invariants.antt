@@ -1,0 +1,8 @@
+-- The tiers so far are added.
+use Rattle.std.proofs.Common.{◌≡◌, ◌++◌, map}
+use Rattle.crp_picture.specs.Pictures.{lines_to}
+use Rattle.crp_picture.specs.Views.{cell_as}
+use Rattle.crp_picture.proofs.labels.push_lines.Given as goal
+
+abbrev pub invariant-loop-i : goal.invariant-loop-i
+invariant-loop-i l = l.text.items ≡ l.initial.text.items ++ lines_to l.tiers l.rows (map cell_as l.cells) l.i
