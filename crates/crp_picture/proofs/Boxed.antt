@@ -1,5 +1,5 @@
 -- Each container of a position is one box, at its place.
-use Rattle.std.proofs.Common.{◌≡◌, ◌≢◌, ◌⊎◌, ◌∙◌, ℕ, zero, suc, ◌+◌, ◌<◌, ◌≤◌, ◌==◌, Bool, true, false, List, [], ◌∷◌, ◌++◌, length, take, Option, None, Some, slice_get, refl, sym, ap, inl, inr, arith}
+use Rattle.std.proofs.Common.{◌≡◌, ◌≢◌, ◌⊎◌, ◌∙◌, ℕ, zero, suc, ◌+◌, ◌<◌, ◌≤◌, ◌==◌, Bool, true, false, List, [], ◌∷◌, ◌++◌, length, map, take, Option, None, Some, slice_get, refl, sym, ap, inl, inr, arith}
 use Rattle.std.specs.Prelude.{◌&&◌, is_some, option_map, option_to_list, unwrap_or}
 use Rattle.std.proofs.lemmas.Bool.{eq-eqb}
 use Rattle.std.proofs.lemmas.Bool.Decides.{eqb_tells}
@@ -7,14 +7,16 @@ use Rattle.std.proofs.lemmas.List.{length-take-le}
 use Rattle.std.proofs.lemmas.Option.{none-some, slice_get_within, slice_get_cases}
 use Rattle.crp_said.specs.declared.moves.Place.{Place}
 use Rattle.crp_said.specs.declared.moves.SaidMove.{SaidMove}
+use Rattle.crp_said.specs.declared.moves.SaidMove.TheVariants.{Shift, Take}
+use Rattle.crp_follow.specs.declared.stated.StatedMove.{StatedMove}
 use Rattle.crp_follow.specs.Crane.{Stack, stack_of}
 use Rattle.crp_picture.specs.declared.cell.Kind.{Kind}
 use Rattle.crp_picture.specs.declared.cell.Kind.TheVariants.{Soonest, Soon, Midway, Late, Latest, Stays, Moved, Goal, Taken}
 use Rattle.crp_picture.specs.declared.mark.Mark.{Mark}
 use Rattle.crp_picture.specs.Cells.{Cell, cell_on, stack_in, row_cells, cells_to, cells_of}
-use Rattle.crp_picture.specs.Frames.{is_at}
+use Rattle.crp_picture.specs.Frames.{Frame, is_at, shown_in, goal_of, goals, frame_cells}
 use Rattle.crp_picture.specs.Pictures.{letter_of, has_mark, boxes}
-use Rattle.crp_picture.specs.Boxes.{one_if, times_marked, times_among, at_tier, standing_at}
+use Rattle.crp_picture.specs.Boxes.{one_if, times_marked, times_among, at_tier, standing_at, puts_at, goal_is_at}
 
 -- ---- one box for each container
 
@@ -208,3 +210,23 @@ whole moves rows place (suc r) e =
 
 pub drawn_once : (moves : List SaidMove) (rows : List Stack) (place : Place) → times_among (cells_of moves rows) place boxes ≡ one_if (is_some (standing_at rows place))
 drawn_once moves rows place = all_once (cells_of moves rows) place ∙ whole moves rows place place.row refl
+
+-- ---- a frame
+
+count_shown : (moves : List StatedMove) (cells : List Cell) (place : Place) → count_at (map (shown_in moves) cells) place ≡ count_at cells place
+count_shown moves [] place = refl
+count_shown moves (c ∷ cells) place = ap (λ n. one_if (is_at c place) + n) (count_shown moves cells place)
+
+goal_once : (all : List SaidMove) (rows : List Stack) (said : SaidMove) (place : Place) → count_at (goal_of all rows said) place ≡ one_if (puts_at rows said place)
+goal_once all rows (Shift from to container) place = let one : (n : ℕ) → n + 0 ≡ n = λ n. omega arith in one (one_if (puts_at rows (Shift from to container) place))
+goal_once all rows (Take from container) place = refl
+
+goals_once : (all : List SaidMove) (rows : List Stack) (moves : List StatedMove) (place : Place) → count_at (goals all rows moves) place ≡ one_if (goal_is_at rows moves place)
+goals_once all rows [] place = refl
+goals_once all rows (m ∷ moves) place = goal_once all rows m.said place
+
+pub frame_once : (all : List SaidMove) (f : Frame) (place : Place)
+    → times_among (frame_cells all f) place boxes ≡ one_if (is_some (standing_at f.before place)) + one_if (goal_is_at f.before f.moves place)
+frame_once all f place =
+    all_once (frame_cells all f) place ∙ count_shown f.moves (cells_of all f.before ++ goals all f.before f.moves) place ∙ count_append (cells_of all f.before) (goals all f.before f.moves) place
+    ∙ ap (λ n. n + count_at (goals all f.before f.moves) place) (whole all f.before place place.row refl) ∙ ap (λ n. one_if (is_some (standing_at f.before place)) + n) (goals_once all f.before f.moves place)

@@ -1,6 +1,9 @@
 -- Where boxes are drawn, and where containers stand.
-use Rattle.std.specs.Prelude.{ℕ, zero, suc, ◌+◌, Bool, true, false, ◌&&◌, List, [], ◌∷◌, Option, None, Some, is_some, slice_get}
+use Rattle.std.specs.Prelude.{ℕ, zero, suc, ◌+◌, ◌==◌, length, Bool, true, false, ◌&&◌, List, [], ◌∷◌, Option, None, Some, is_some, slice_get}
 use Rattle.crp_said.specs.declared.moves.Place.{Place}
+use Rattle.crp_said.specs.declared.moves.SaidMove.{SaidMove}
+use Rattle.crp_said.specs.declared.moves.SaidMove.TheVariants.{Shift, Take}
+use Rattle.crp_follow.specs.declared.stated.StatedMove.{StatedMove}
 use Rattle.crp_follow.specs.Crane.{Stack}
 use Rattle.crp_picture.specs.declared.mark.Mark.{Mark}
 use Rattle.crp_picture.specs.Cells.{Cell, stack_in}
@@ -29,3 +32,12 @@ at_tier stack (suc tier) = slice_get stack tier
 -- the container at a place
 abbrev pub standing_at : List Stack → Place → Option (List ℕ)
 standing_at rows place = at_tier (stack_in rows place.row) place.tier
+
+-- the first of the moves puts its container there, if it is a relocation: on top of what stands in the row
+abbrev pub puts_at : List Stack → SaidMove → Place → Bool
+puts_at rows (Shift from to container) place = (to.row == place.row) && (suc (length (stack_in rows to.row)) == place.tier)
+puts_at rows (Take from container) place = false
+
+abbrev pub goal_is_at : List Stack → List StatedMove → Place → Bool
+goal_is_at rows [] place = false
+goal_is_at rows (m ∷ moves) place = puts_at rows m.said place
