@@ -1,5 +1,5 @@
 -- Pieces of a text, one after the other.
-use Rattle.std.proofs.Common.{◌≡◌, ◌∙◌, ℕ, suc, ◌+◌, List, [], ◌∷◌, ◌++◌, length, map, sym, ap, append_assoc, arith}
+use Rattle.std.proofs.Common.{◌≡◌, ◌∙◌, ℕ, suc, ◌+◌, List, ◌++◌, length, ap, append_assoc, arith}
 use Rattle.crp_follow.specs.declared.stated.StatedMove.{StatedMove}
 use Rattle.crp_follow.specs.Crane.{Stack}
 use Rattle.crp_follow.specs.Stated.{moves_of}

@@ -2,3 +2,4 @@ pub mod Rowwise
 pub mod Leaving
 pub mod Framed
 pub mod Drawing
+pub mod Boxed

@@ -1,10 +1,10 @@
 -- Rows that are read and changed.
-use Rattle.std.proofs.Common.{◌≡◌, ◌∙◌, ℕ, zero, suc, ◌+◌, ◌<◌, ◌≤◌, List, [], ◌∷◌, ◌++◌, length, take, Option, Some, None, slice_get, slice_set, refl, sym, ap, append_assoc, arith}
+use Rattle.std.proofs.Common.{◌≡◌, ◌∙◌, ℕ, zero, suc, ◌+◌, ◌<◌, List, [], ◌∷◌, ◌++◌, length, take, Option, Some, slice_get, refl, sym, ap, append_assoc, arith}
 use Rattle.std.specs.Prelude.{unwrap_or, option_map, option_to_list}
 use Rattle.std.proofs.lemmas.Option.{slice_get_past}
 use Rattle.std.proofs.lemmas.List.{set_past}
 use Rattle.crp_said.specs.declared.moves.SaidMove.{SaidMove}
-use Rattle.crp_follow.specs.Crane.{Stack, stack_of, with_stack}
+use Rattle.crp_follow.specs.Crane.{Stack, with_stack}
 use Rattle.crp_picture.specs.Cells.{Cell, cell_on, stack_in, row_cells, cells_to}
 
 pub none_put : (rows : List Stack) (row : ℕ) (stack : Stack) → ((i : ℕ) → row ≡ suc i → i < length rows → ⊥) → with_stack rows row stack ≡ rows

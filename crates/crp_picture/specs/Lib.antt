@@ -5,3 +5,4 @@ pub mod Cells
 pub mod Frames
 pub mod Pictures
 pub mod Views
+pub mod Boxes

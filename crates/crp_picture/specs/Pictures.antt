@@ -63,11 +63,14 @@ mark_of tiers m c = if has_mark m c then mark_at m tiers c.row c.tier else []
 abbrev pub marked : ℕ → List Cell → Mark → List ℕ
 marked tiers cells m = path (class_of m) (flat_map (mark_of tiers m) cells)
 
+-- the marks that are boxes: one for each kind, the outline of a goal among them
+abbrev pub boxes : List Mark
+boxes =
+    mark.Box Soonest ∷ mark.Box Soon ∷ mark.Box Midway ∷ mark.Box Late ∷ mark.Box Latest ∷ mark.Box Stays ∷ mark.Box Moved ∷ mark.Box Taken ∷ mark.Outline ∷ []
+
 -- all marks, in their order
 abbrev pub marks : List Mark
-marks =
-    mark.Box Soonest ∷ mark.Box Soon ∷ mark.Box Midway ∷ mark.Box Late ∷ mark.Box Latest ∷ mark.Box Stays ∷ mark.Box Moved ∷ mark.Box Taken
-    ∷ mark.Outline ∷ mark.Corner ∷ mark.Up ∷ []
+marks = boxes ++ mark.Corner ∷ mark.Up ∷ []
 
 -- ---- labels and steps
 

@@ -1,8 +1,7 @@
-use Rattle.std.proofs.Common.{◌≡◌, ◌∙◌, ◌++◌, ◌∷◌, [], length, map, take, refl, sym, ap, append_assoc}
+use Rattle.std.proofs.Common.{◌∙◌, ◌++◌, ◌∷◌, [], length, map, refl, ap}
 use Rattle.std.proofs.lemmas.Option.{slice_get_read}
 use Rattle.std.proofs.lemmas.List.{map-append}
 use Rattle.crp_follow.specs.Stated.{moves_of}
-use Rattle.crp_picture.specs.Cells.{cell_on, row_cells}
 use Rattle.crp_picture.specs.Views.{cell_as}
 use Rattle.crp_picture.proofs.Rowwise.{row_longer}
 use Rattle.crp_picture.proofs.cells.add_row.Goals as goal

@@ -1,4 +1,4 @@
-use Rattle.std.proofs.Common.{◌≡◌, suc, ◌+◌, map, arith}
+use Rattle.std.proofs.Common.{◌+◌, map, arith}
 use Rattle.crp_picture.specs.Views.{cell_as}
 use Rattle.crp_picture.proofs.Drawing.{lines_more}
 use Rattle.crp_picture.proofs.labels.push_lines.Goals as goal

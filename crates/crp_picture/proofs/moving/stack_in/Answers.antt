@@ -1,4 +1,4 @@
-use Rattle.std.proofs.Common.{sym, arith}
+use Rattle.std.proofs.Common.{sym}
 use Rattle.crp_picture.proofs.Rowwise.{none_in}
 use Rattle.crp_picture.proofs.moving.stack_in.Goals as goal
 
