@@ -1,5 +1,5 @@
 -- Each container of a position is one box, at its place.
-use Rattle.std.proofs.Common.{◌≡◌, ◌≢◌, ◌⊎◌, ◌∙◌, ℕ, zero, suc, ◌+◌, ◌<◌, ◌≤◌, ◌==◌, Bool, true, false, List, [], ◌∷◌, ◌++◌, length, map, take, Option, None, Some, slice_get, refl, sym, ap, inl, inr, arith}
+use Rattle.std.proofs.Common.{◌≡◌, ◌≢◌, ◌∙◌, ℕ, zero, suc, ◌+◌, ◌<◌, ◌≤◌, ◌==◌, Bool, true, false, List, [], ◌∷◌, ◌++◌, length, map, take, Option, None, Some, slice_get, refl, sym, ap, inl, inr, arith}
 use Rattle.std.specs.Prelude.{◌&&◌, is_some, option_map, option_to_list, unwrap_or}
 use Rattle.std.proofs.lemmas.Bool.{eq-eqb}
 use Rattle.std.proofs.lemmas.Bool.Decides.{eqb_tells}
@@ -9,14 +9,14 @@ use Rattle.crp_said.specs.declared.moves.Place.{Place}
 use Rattle.crp_said.specs.declared.moves.SaidMove.{SaidMove}
 use Rattle.crp_said.specs.declared.moves.SaidMove.TheVariants.{Shift, Take}
 use Rattle.crp_follow.specs.declared.stated.StatedMove.{StatedMove}
-use Rattle.crp_follow.specs.Crane.{Stack, stack_of}
+use Rattle.crp_follow.specs.Crane.{Stack}
 use Rattle.crp_picture.specs.declared.cell.Kind.{Kind}
 use Rattle.crp_picture.specs.declared.cell.Kind.TheVariants.{Soonest, Soon, Midway, Late, Latest, Stays, Moved, Goal, Taken}
 use Rattle.crp_picture.specs.declared.mark.Mark.{Mark}
 use Rattle.crp_picture.specs.Cells.{Cell, cell_on, stack_in, row_cells, cells_to, cells_of}
 use Rattle.crp_picture.specs.Frames.{Frame, is_at, shown_in, goal_of, goals, frame_cells}
 use Rattle.crp_picture.specs.Pictures.{letter_of, has_mark, boxes}
-use Rattle.crp_picture.specs.Boxes.{one_if, times_marked, times_among, at_tier, standing_at, puts_at, goal_is_at}
+use Rattle.crp_picture.specs.Boxes.{one_if, times_among, at_tier, standing_at, puts_at, goal_is_at}
 
 -- ---- one box for each container
 

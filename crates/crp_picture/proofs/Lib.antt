@@ -1,5 +1,3 @@
 pub mod Rowwise
-pub mod Leaving
-pub mod Framed
 pub mod Drawing
 pub mod Boxed

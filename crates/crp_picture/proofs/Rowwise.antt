@@ -5,7 +5,7 @@ use Rattle.std.proofs.lemmas.Option.{slice_get_past}
 use Rattle.std.proofs.lemmas.List.{set_past}
 use Rattle.crp_said.specs.declared.moves.SaidMove.{SaidMove}
 use Rattle.crp_follow.specs.Crane.{Stack, with_stack}
-use Rattle.crp_picture.specs.Cells.{Cell, cell_on, stack_in, row_cells, cells_to}
+use Rattle.crp_picture.specs.Cells.{Cell, cell_on, stack_in, row_cells}
 
 pub none_put : (rows : List Stack) (row : ℕ) (stack : Stack) → ((i : ℕ) → row ≡ suc i → i < length rows → ⊥) → with_stack rows row stack ≡ rows
 none_put rows zero stack none = refl
@@ -19,23 +19,12 @@ none_in rows (suc i) none =
     let no : i < length rows → ⊥ = none i refl in
     ap (λ (o : Option Stack). unwrap_or o []) (slice_get_past rows i (omega (arith, no)))
 
-pub some_in : (rows : List Stack) (row i : ℕ) (stack : Stack) → row ≡ suc i → slice_get rows i ≡ Some stack → stack_in rows row ≡ stack
-some_in rows row i stack e at = ap (stack_in rows) e ∙ ap (λ (o : Option Stack). unwrap_or o []) at
-
 -- one container more of a row
 pub row_more : (moves : List SaidMove) (row : ℕ) (stack : Stack) (i : ℕ) (name : List ℕ) → slice_get stack i ≡ Some name
     → row_cells moves row stack (i + 1) ≡ row_cells moves row stack i ++ cell_on moves row (take i stack) name ∷ []
 row_more moves row stack i name at =
     let one : i + 1 ≡ suc i = omega arith in
     ap (row_cells moves row stack) one ∙ ap (λ (o : Option (List ℕ)). row_cells moves row stack i ++ option_to_list (option_map (cell_on moves row (take i stack)) o)) at
-
--- one row more
-pub cells_more : (moves : List SaidMove) (rows : List Stack) (i : ℕ) (stack : Stack) → slice_get rows i ≡ Some stack
-    → cells_to moves rows (i + 1) ≡ cells_to moves rows i ++ row_cells moves (i + 1) stack (length stack)
-cells_more moves rows i stack at =
-    let one : i + 1 ≡ suc i = omega arith in
-    ap (cells_to moves rows) one ∙ ap (λ (o : Option Stack). cells_to moves rows i ++ row_cells moves (suc i) (unwrap_or o []) (length (unwrap_or o []))) at
-    ∙ ap (λ n. cells_to moves rows i ++ row_cells moves n stack (length stack)) (sym one)
 
 pub row_longer : (moves : List SaidMove) (row : ℕ) (stack : Stack) (i : ℕ) (name : List ℕ) (init old new : List Cell) → slice_get stack i ≡ Some name
     → old ≡ init ++ row_cells moves row stack i → new ≡ old ++ cell_on moves row (take i stack) name ∷ [] → new ≡ init ++ row_cells moves row stack (i + 1)

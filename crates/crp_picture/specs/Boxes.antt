@@ -1,5 +1,5 @@
 -- Where boxes are drawn, and where containers stand.
-use Rattle.std.specs.Prelude.{ℕ, zero, suc, ◌+◌, ◌==◌, length, Bool, true, false, ◌&&◌, List, [], ◌∷◌, Option, None, Some, is_some, slice_get}
+use Rattle.std.specs.Prelude.{ℕ, zero, suc, ◌+◌, ◌==◌, length, Bool, true, false, ◌&&◌, List, [], ◌∷◌, Option, None, slice_get}
 use Rattle.crp_said.specs.declared.moves.Place.{Place}
 use Rattle.crp_said.specs.declared.moves.SaidMove.{SaidMove}
 use Rattle.crp_said.specs.declared.moves.SaidMove.TheVariants.{Shift, Take}
