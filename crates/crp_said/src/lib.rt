@@ -17,7 +17,7 @@ mod report;
 mod said;
 
 pub use laws::{one_move, one_report, takes_are_in_order};
-pub use lines::{last_text, numbers_text, push_bay_line, push_bay_words};
+pub use lines::{last_text, numbers_text, push_bay_line, push_bay_words, push_said};
 pub use move_lines::{lines_of, names_of, names_of_ranks, push_line};
 pub use move_reading::read_move;
 pub use moves::{Place, SaidMove};

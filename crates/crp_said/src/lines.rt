@@ -39,8 +39,8 @@ fn push_cause(text: &mut Vec<u8>, cause: SaidCause) -> Result<(), AllocError>
     }
 }
 
-// Adds what is said of the fewest relocations, in words.
-fn push_said(text: &mut Vec<u8>, said: Said) -> Result<(), AllocError>
+/// Adds what is said of the fewest relocations, in words.
+pub fn push_said(text: &mut Vec<u8>, said: Said) -> Result<(), AllocError>
     ensures { OnOk result (text.new.items ≡ text.old.items ++ said_words said) }
 {
     match said {

@@ -1,0 +1,6 @@
+-- Lemmas on the page.
+mod Chains
+mod Numbering
+mod Sums
+mod Fewness
+mod Writes

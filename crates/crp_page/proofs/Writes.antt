@@ -1,0 +1,82 @@
+-- Texts that a sink gets one after the other.
+use Rattle.std.proofs.Common.{◌≡◌, ◌≤◌, ℕ, ◌+◌, List, [], ◌++◌, Option, length, take, sym, ap, subst, arith, append-nil, length-append, ⊎_elim}
+use Rattle.std.specs.Prelude.{Result, Ok, Err, OnOk, IsErrOf}
+use Rattle.std.specs.Io.KnownBytes.{Appends}
+use Rattle.std.proofs.KnownBytes.{Appends-nil, Appends-trans}
+use Rattle.std.proofs.lemmas.List.{take-append-le, take_all}
+use Rattle.std.proofs.Math.Seq.{take-append-add}
+use Rattle.std.proofs.lemmas.Bool.{cases_lt}
+use Rattle.crp_plan.specs.Devices.{AppendsPart, TransfersAlone, most_interruptions}
+use Rattle.crp_plan.proofs.Fronts.{Appends-front, Appends-then_part}
+use Rattle.crp_plan.proofs.Interruptions.{no_transfer, transfers_on}
+use Rattle.crp_plan.specs.declared.transfer.WriteFault.{WriteFault}
+use Rattle.crp_plan.specs.declared.transfer.WriteFault.TheVariants as fault
+use Rattle.crp_page.specs.Writing.{SinkNow, sink_now, Writes, Got, Stops, Wrote}
+
+-- nothing was written
+pub writes_nothing : (a : SinkNow) → a.passed ≤ most_interruptions → Writes [] a a
+writes_nothing a few = record { got = Appends-nil a.holds; calls = no_transfer a.passed a.failures a.interrupted few }
+
+-- one text, and then another
+pub writes_then : (p q : List ℕ) (a b c : SinkNow) → Writes p a b → Writes q b c → Writes (p ++ q) a c
+writes_then p q a b c first next = record { got = Appends-trans a.holds b.holds c.holds p q first.got next.got; calls = transfers_on first.calls next.calls }
+
+pub writes_more : (all p q : List ℕ) (a b c : SinkNow) → all ≡ p ++ q → Writes p a b → Writes q b c → Writes all a c
+writes_more all p q a b c is first next = subst (λ l. Writes l a c) (sym is) (writes_then p q a b c first next)
+
+-- a text that is the same
+pub writes_as : {p q : List ℕ} {a b : SinkNow} → p ≡ q → Writes p a b → Writes q a b
+writes_as {p} {q} {a} {b} same w = subst (λ l. Writes l a b) same w
+
+pub stops_as : {p q : List ℕ} {a b : SinkNow} {f : WriteFault} → p ≡ q → Stops p a b f → Stops q a b f
+stops_as {p} {q} {a} {b} {f} same w = subst (λ l. Stops l a b f) same w
+
+-- a front of what follows a text
+front_behind : (f : WriteFault) (a b c : Option (List ℕ)) (p q : List ℕ) → Appends a b p → Got f b c q → Got f a c (p ++ q)
+front_behind fault.Failed a b c p q first next = subst (AppendsPart a c) (ap (λ l. p ++ l) (append-nil q)) (Appends-then_part a b c p q [] first next)
+front_behind fault.Memory a b c p q first (n, next) =
+    (length p + n, subst (Appends a c) (sym (take-append-add p q n)) (Appends-trans a b c p (take n q) first next))
+
+-- the first was written, and a front of the other
+pub stops_behind : (p q : List ℕ) (a b c : SinkNow) (f : WriteFault) → Writes p a b → Stops q b c f → Stops (p ++ q) a c f
+stops_behind p q a b c f first next = record { got = front_behind f a.holds b.holds c.holds p q first.got next.got; calls = transfers_on first.calls next.calls }
+
+-- a front of a text is one of a longer text
+front_before : (f : WriteFault) (a b : Option (List ℕ)) (p q : List ℕ) → Got f a b p → Got f a b (p ++ q)
+front_before fault.Failed a b p q (n, small, got) =
+    let low : n ≤ length p = omega arith in
+    (n, omega (arith, small, length-append p q), subst (Appends a b) (sym (take-append-le n p q low)) got)
+front_before fault.Memory a b p q (n, got) =
+    ⊎_elim (λ lt. let low : n ≤ length p = omega arith in (n, subst (Appends a b) (sym (take-append-le n p q low)) got))
+    (λ ge. Appends-front a b p q (subst (Appends a b) (take_all n p ge) got)) (cases_lt n (length p))
+
+-- a front of the first was written
+pub stops_before : (p q : List ℕ) (a b : SinkNow) (f : WriteFault) → Stops p a b f → Stops (p ++ q) a b f
+stops_before p q a b f first = record { got = front_before f a.holds b.holds p q first.got; calls = first.calls }
+
+-- the first was written, and a front of the second; more was to follow
+pub stops_within : (all p q rest : List ℕ) (a b c : SinkNow) (f : WriteFault) → all ≡ (p ++ q) ++ rest → Writes p a b → Stops q b c f → Stops all a c f
+stops_within all p q rest a b c f is first next = subst (λ l. Stops l a c f) (sym is) (stops_before (p ++ q) rest a c f (stops_behind p q a b c f first next))
+
+-- nothing was written yet
+pub stops_first : (p : List ℕ) (a : SinkNow) → a.passed ≤ most_interruptions → Stops p a a fault.Memory
+stops_first p a few = record { got = (0, Appends-nil a.holds); calls = no_transfer a.passed a.failures a.interrupted few }
+
+-- one text, and then what was written of another
+pub wrote_then : {T : Type 0} (r : Result T WriteFault) (p q : List ℕ) (a b c : SinkNow) → Writes p a b → Wrote r q b c → Wrote r (p ++ q) a c
+wrote_then (Ok t) p q a b c first next = writes_then p q a b c first next
+wrote_then (Err f) p q a b c first next = stops_behind p q a b c f first next
+
+-- ---- what that says of the sink
+
+pub got_all : {T : Type 0} (r : Result T WriteFault) (text : List ℕ) (a b : SinkNow) → Wrote r text a b → OnOk r (Appends a.holds b.holds text)
+got_all (Ok t) text a b w = w.got
+got_all (Err f) text a b w = tt
+
+pub calls_all : {T : Type 0} (r : Result T WriteFault) (text : List ℕ) (holds : Option (List ℕ)) (failures : ℕ) (interrupted : Option ℕ) (b : SinkNow)
+    → Wrote r text (sink_now holds failures interrupted 0) b → OnOk r (TransfersAlone 0 failures b.failures interrupted b.interrupted)
+calls_all (Ok t) text holds failures interrupted b w = (b.passed, w.calls)
+calls_all (Err f) text holds failures interrupted b w = tt
+
+pub stopped : {T : Type 0} (r : Result T WriteFault) (f : WriteFault) (text : List ℕ) (a b : SinkNow) → Wrote r text a b → IsErrOf r f → Stops text a b f
+stopped r f text a b w is = subst (λ x. Wrote x text a b) is w

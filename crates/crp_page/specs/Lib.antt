@@ -1,0 +1,9 @@
+-- The page of a report that is followed.
+pub mod Numbered
+pub mod Few
+pub mod Counts
+pub mod Words
+pub mod Summary
+pub mod Sections
+pub mod Page
+pub mod Writing

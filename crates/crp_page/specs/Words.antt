@@ -1,0 +1,66 @@
+-- What the page says in words: numbers of things, places, containers, moves, bays and verdicts.
+use Rattle.std.specs.Prelude.{ℕ, ◌==◌, List, [], ◌∷◌, ◌++◌, flat_map, codes, decimal, if◌then◌else◌}
+use Rattle.crp_plan.specs.BayNames.{YardBay}
+use Rattle.crp_said.specs.declared.said.Said.{Said}
+use Rattle.crp_said.specs.declared.said.Said.TheVariants.{Optimal, First, NoPlan, Between}
+use Rattle.crp_said.specs.declared.moves.Place.{Place}
+use Rattle.crp_said.specs.declared.moves.SaidMove.{SaidMove}
+use Rattle.crp_said.specs.declared.moves.SaidMove.TheVariants.{Shift, Take}
+use Rattle.crp_said.specs.Said.{said_words}
+use Rattle.crp_follow.specs.Crane.{Stack}
+use Rattle.crp_picture.specs.Names.{front_of, last_four, escaped}
+use Rattle.crp_page.specs.Numbered.{numbered_text}
+
+-- a number of things, of which one is called so
+abbrev pub counted : ℕ → List ℕ → List ℕ
+counted n one = decimal n ++ (32 ∷ (one ++ (if n == 1 then [] else codes "s")))
+
+-- a place: its row, and its tier
+abbrev pub place_words : Place → List ℕ
+place_words p = decimal p.row ++ (46 ∷ decimal p.tier)
+
+-- a container, its last four bytes in bold
+abbrev pub code_of : List ℕ → List ℕ → List ℕ
+code_of front last = codes "<code>" ++ (escaped front ++ (codes "<b>" ++ (escaped last ++ codes "</b></code>")))
+
+abbrev pub code : List ℕ → List ℕ
+code name = code_of (front_of name) (last_four name)
+
+-- a move as an item of a list
+abbrev pub lifted_words : List ℕ → Place → List ℕ
+lifted_words container from = code container ++ (codes " from " ++ place_words from)
+
+abbrev pub move_in_item : SaidMove → List ℕ
+move_in_item (Shift from to container) = codes "<li>shift " ++ (lifted_words container from ++ (codes " to " ++ place_words to))
+move_in_item (Take from container) = codes "<li class=\"t\">take " ++ lifted_words container from
+
+abbrev pub move_item : SaidMove → List ℕ
+move_item m = move_in_item m ++ codes "</li>"
+
+-- the name of a bay
+abbrev pub bay_name : YardBay → List ℕ
+bay_name bay = escaped bay.block ++ (32 ∷ decimal bay.bay)
+
+-- of which kind a verdict is
+abbrev pub kind_of : Said → List ℕ
+kind_of (Optimal count) = codes "vo"
+kind_of (First count) = codes "vo"
+kind_of NoPlan = codes "vn"
+kind_of (Between lower upper why) = codes "vb"
+
+-- a verdict: the words of the report
+abbrev pub verdict : Said → List ℕ
+verdict said = codes "<span class=\"" ++ (kind_of said ++ (codes "\">" ++ (said_words said ++ codes "</span>")))
+
+-- what stands in a row
+abbrev pub stack_words : Stack → List ℕ
+stack_words [] = codes "empty"
+stack_words (name ∷ above) = escaped name ++ flat_map (λ n. codes ", " ++ escaped n) above
+
+-- the row with this number
+abbrev pub row_words : ℕ → Stack → List ℕ
+row_words r stack = codes " Row " ++ (decimal r ++ (codes ": " ++ (stack_words stack ++ codes ".")))
+
+-- what stands in all rows
+abbrev pub rows_words : List Stack → List ℕ
+rows_words rows = numbered_text row_words 1 rows

@@ -1,0 +1,170 @@
+//! Writes the page, figure by figure.
+ghost use Rattle.std.specs.Prelude.{◌≡◌, ◌≤◌, ◌++◌, ℕ, List, length, map, flat_map, codes, IfOk, OnOk, IsErrOf};
+ghost use Rattle.std.specs.List.{AllByRecursion};
+ghost use Rattle.std.specs.Io.KnownBytes.{Appends};
+ghost use Rattle.crp_plan.specs.Devices.{AppendsFront, AppendsPart, TransfersAlone, most_interruptions};
+ghost use Rattle.crp_follow.specs.Followed.{IsFollowed};
+ghost use Rattle.crp_follow.specs.Table.{StandFew};
+ghost use Rattle.crp_follow.specs.Views.{bay_followed};
+ghost use Rattle.crp_picture.specs.Frames.{frames_of};
+ghost use Rattle.crp_picture.specs.Views.{frame_as};
+ghost use Rattle.crp_page.specs.Few.{LeaveFew};
+ghost use Rattle.crp_page.specs.Numbered.{numbered_text};
+ghost use Rattle.crp_page.specs.Sections.{frame_figure, section};
+ghost use Rattle.crp_page.specs.Page.{page_text};
+ghost use Rattle.crp_page.specs.Writing.{SinkNow, sink_now, Wrote};
+
+use crate::front::page_front;
+use crate::section::{frame_text, section_end, section_front};
+use crp_follow::{Followed, FollowedBay, what_columns_say};
+use crp_picture::{Frame, frames};
+use crp_plan::{Sink, WriteFault, write_all};
+use crp_yard::Yard;
+use std::alloc::{AllocError, Global};
+
+/// Writes a text, if it was made.
+fn write_made<W: Sink>(
+    sink: &mut W,
+    made: Result<Vec<u8>, AllocError>,
+    interruptions: &mut u32,
+) -> Result<(), WriteFault>
+    requires { interruptions.old ≤ most_interruptions }
+    ensures wrote { (text : List ℕ) → IfOk made (λ m. m.items ≡ text)
+        → Wrote result text (sink_now (W.contents sink.old) (W.failures sink.old) (W.interrupted sink.old) interruptions.old)
+        (sink_now (W.contents sink.new) (W.failures sink.new) (W.interrupted sink.new) interruptions.new) }
+    ensures passed { interruptions.new ≤ most_interruptions }
+{
+    let text = made?;
+    write_all(sink, &text, interruptions)?;
+    Ok(())
+}
+
+/// Writes the figures of frames.
+fn write_frames<W: Sink>(
+    alloc: Global,
+    sink: &mut W,
+    rows: u8,
+    tiers: u8,
+    bay: &FollowedBay,
+    frames: &[Frame<'_>],
+    interruptions: &mut u32,
+) -> Result<(), WriteFault>
+    requires { interruptions.old ≤ most_interruptions }
+    ensures wrote { Wrote result (flat_map (frame_figure rows tiers (bay_followed bay.now)) (map frame_as frames.now))
+        (sink_now (W.contents sink.old) (W.failures sink.old) (W.interrupted sink.old) interruptions.old)
+        (sink_now (W.contents sink.new) (W.failures sink.new) (W.interrupted sink.new) interruptions.new) }
+    ensures passed { interruptions.new ≤ most_interruptions }
+{
+    for frame in frames {
+        write_made(
+            sink,
+            frame_text(alloc, rows, tiers, bay, frame),
+            interruptions,
+        )?;
+    }
+    Ok(())
+}
+
+/// Writes the section with this number.
+fn write_section<W: Sink>(
+    alloc: Global,
+    sink: &mut W,
+    rows: u8,
+    tiers: u8,
+    number: u64,
+    bay: &FollowedBay,
+    interruptions: &mut u32,
+) -> Result<(), WriteFault>
+    requires passed { interruptions.old ≤ most_interruptions }
+    requires few { StandFew (bay_followed bay.now) }
+    requires left { LeaveFew (bay_followed bay.now) }
+    ensures wrote { Wrote result (section rows tiers number (bay_followed bay.now))
+        (sink_now (W.contents sink.old) (W.failures sink.old) (W.interrupted sink.old) interruptions.old)
+        (sink_now (W.contents sink.new) (W.failures sink.new) (W.interrupted sink.new) interruptions.new) }
+    ensures passed { interruptions.new ≤ most_interruptions }
+{
+    let frames = frames(alloc, bay)?;
+    write_made(
+        sink,
+        section_front(alloc, rows, tiers, number, bay),
+        interruptions,
+    )?;
+    write_frames(alloc, sink, rows, tiers, bay, &frames, interruptions)?;
+    write_made(sink, section_end(alloc, rows, tiers, bay), interruptions)
+}
+
+/// Writes the sections of bays.
+fn write_sections<W: Sink>(
+    alloc: Global,
+    sink: &mut W,
+    rows: u8,
+    tiers: u8,
+    bays: &[FollowedBay],
+    interruptions: &mut u32,
+) -> Result<(), WriteFault>
+    requires passed { interruptions.old ≤ most_interruptions }
+    requires few { AllByRecursion StandFew (map bay_followed bays.now) }
+    requires left { AllByRecursion LeaveFew (map bay_followed bays.now) }
+    ensures wrote { Wrote result (numbered_text (section rows tiers) 1 (map bay_followed bays.now))
+        (sink_now (W.contents sink.old) (W.failures sink.old) (W.interrupted sink.old) interruptions.old)
+        (sink_now (W.contents sink.new) (W.failures sink.new) (W.interrupted sink.new) interruptions.new) }
+    ensures passed { interruptions.new ≤ most_interruptions }
+{
+    for (i, bay) in bays.iter().enumerate() {
+        write_section(alloc, sink, rows, tiers, i as u64 + 1, bay, interruptions)?;
+    }
+    Ok(())
+}
+
+/// Writes the parts of the page.
+fn write_parts<W: Sink>(
+    alloc: Global,
+    sink: &mut W,
+    yard: &Yard,
+    followed: &Followed,
+    interruptions: &mut u32,
+) -> Result<(), WriteFault>
+    requires passed { interruptions.old ≤ most_interruptions }
+    requires followed { (report : List ℕ) × IsFollowed yard.now report followed.now.numbers (map bay_followed followed.now.bays.items) }
+    requires few { AllByRecursion StandFew (map bay_followed followed.now.bays.items) }
+    ensures { Wrote result (page_text yard.now followed.now.numbers (map bay_followed followed.now.bays.items))
+        (sink_now (W.contents sink.old) (W.failures sink.old) (W.interrupted sink.old) interruptions.old)
+        (sink_now (W.contents sink.new) (W.failures sink.new) (W.interrupted sink.new) interruptions.new) }
+{
+    what_columns_say();
+    let rows = yard.rows();
+    let tiers = yard.tiers();
+    let bays: &[FollowedBay] = &followed.bays;
+    write_made(sink, page_front(alloc, yard, followed), interruptions)?;
+    write_sections(alloc, sink, rows, tiers, bays, interruptions)?;
+    write_made(
+        sink,
+        Vec::from_slice(alloc, b"</main></body></html>\n"),
+        interruptions,
+    )
+}
+
+/// Writes the page of a report that is followed over the yard, figure by figure. An interrupted call is tried again, at most 1,000 times.
+/// Where memory runs out, a front of the page is written.
+pub fn write_page<W: Sink>(
+    alloc: Global,
+    sink: &mut W,
+    yard: &Yard,
+    followed: &Followed,
+) -> Result<(), WriteFault>
+    requires followed { (report : List ℕ) × IsFollowed yard.now report followed.now.numbers (map bay_followed followed.now.bays.items) }
+    requires few { AllByRecursion StandFew (map bay_followed followed.now.bays.items) }
+    ensures all { OnOk result (Appends (W.contents sink.old) (W.contents sink.new) (page_text yard.now followed.now.numbers (map bay_followed followed.now.bays.items))) }
+    ensures part { IsErrOf result WriteFault.Failed
+        → AppendsPart (W.contents sink.old) (W.contents sink.new) (page_text yard.now followed.now.numbers (map bay_followed followed.now.bays.items)) }
+    ensures memory { IsErrOf result WriteFault.Memory
+        → AppendsFront (W.contents sink.old) (W.contents sink.new) (page_text yard.now followed.now.numbers (map bay_followed followed.now.bays.items)) }
+    ensures done { OnOk result (TransfersAlone 0 (W.failures sink.old) (W.failures sink.new) (W.interrupted sink.old) (W.interrupted sink.new)) }
+    ensures gave_up { IsErrOf result WriteFault.Failed
+        → TransfersAlone 1 (W.failures sink.old) (W.failures sink.new) (W.interrupted sink.old) (W.interrupted sink.new) }
+    ensures stopped { IsErrOf result WriteFault.Memory
+        → TransfersAlone 0 (W.failures sink.old) (W.failures sink.new) (W.interrupted sink.old) (W.interrupted sink.new) }
+{
+    let mut interruptions = 0;
+    write_parts(alloc, sink, yard, followed, &mut interruptions)
+}
