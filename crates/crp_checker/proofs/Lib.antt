@@ -23,3 +23,4 @@ pub mod AtParts
 pub mod Concluded
 pub mod Watching
 pub mod FileFed
+pub mod Taken

@@ -10,6 +10,7 @@ pub mod Stages
 pub mod Fed
 pub mod Watches
 pub mod FedFiles
+pub mod Reading
 pub mod Owed
 pub mod Symbols
 pub mod Pending

@@ -27,6 +27,7 @@ mod path;
 mod refused;
 mod stage;
 mod symbol;
+mod unread;
 mod verdict;
 mod verdicts;
 mod watch;
@@ -43,6 +44,7 @@ pub use laws::{
 };
 pub use path::Path;
 pub use refused::Refused;
+pub use unread::{Unread, feed_next};
 pub use verdict::Verdict;
 pub use verdicts::{FileRefused, Verdicts};
 pub use watch::first_len;
