@@ -1,5 +1,5 @@
 -- The bays that were right so far, and what follows at the end and at a fault.
-use Rattle.std.proofs.Common.{◌≡◌, ◌≢◌, ◌≤◌, ◌==◌, true, false, arith, ◌∙◌, ◌⊎◌, ⊎_elim, ℕ, ◌+◌, cond, List, [], ◌∷◌, ◌++◌, length, map, filter, fold, Some, None, refl, sym, ap, subst, append_assoc, append-nil}
+use Rattle.std.proofs.Common.{◌≡◌, ◌≢◌, ◌≤◌, ◌==◌, true, false, arith, ◌∙◌, ◌⊎◌, ⊎_elim, ℕ, ◌+◌, cond, List, [], ◌∷◌, ◌++◌, length, map, filter, fold, Some, None, inl, inr, refl, sym, ap, subst, append_assoc, append-nil}
 use Rattle.std.specs.List.{AllByRecursion, flat_map}
 use Rattle.std.proofs.lemmas.Bool.{eqb-true}
 use Rattle.std.proofs.lemmas.List.{map-append, length-map}
@@ -22,7 +22,7 @@ use Rattle.crp_checker.proofs.Cuts.{texts_more}
 use Rattle.crp_audit.specs.declared.fault.AuditFault.{AuditFault}
 use Rattle.crp_audit.specs.declared.fault.AuditFault.TheVariants as fault
 use Rattle.crp_audit.specs.Headline.{Handed, Reported, numbers_in, said_of, verdict_in, IsTrueOf, IsHeadline, shown_in}
-use Rattle.crp_audit.specs.Faults.{of_spelling, reported_as, next_called, next_said, CountsRight, IsBayFault, IsNextFault, IsFaultBehind, IsFirstFault, verdicts_of, IsAuditRefusal}
+use Rattle.crp_audit.specs.Faults.{of_spelling, reported_as, next_called, next_said, CountsRight, IsBayFault, IsNextFault, ComeFirst, IsFaultBehind, AreRightFirst, IsFirstFault, verdicts_of, ShowsFirst, IsAuditRefusal}
 
 -- so much of what is handed in is right: bays with these verdicts, whose text is this front of the report; and what is left
 pub record AreRight (h : Handed) (shown : List (YardBay × Verdict)) (front : List ℕ) (stated : List BayProblem) (more : List BaySaid) (left : List ℕ) : Type 0 where
@@ -125,7 +125,7 @@ one_right h shown wide front new stated behind next more after s left rest verdi
 -- ---- the first fault
 
 pub spelling : (h : Handed) (error : ReportFault) → (error ≡ report.Memory) ⊎ ((line : ℕ) × (error ≡ report.Line line) × IsMisspelled h.report line) → IsFirstFault h [] (of_spelling error)
-spelling h error why = ⊎_elim (λ e. subst (λ (x : ReportFault). IsFirstFault h [] (of_spelling x)) (sym e) tt)
+spelling h error why = ⊎_elim (λ e. subst (λ (x : ReportFault). IsFirstFault h [] (of_spelling x)) (sym e) (inl refl))
     (λ k. let (line, e, is) = k in subst (λ (x : ReportFault). IsFirstFault h [] (of_spelling x)) (sym e) (refl, is)) why
 
 no_spelling : (h : Handed) (r : ReportSaid) (later : List StackedBay) (more : List BaySaid) (left front : List ℕ) (line : ℕ) → ¬ IsNextFault h r later more left front (fault.Spelling line)
@@ -140,40 +140,50 @@ no_numbers h r [] (s ∷ more) left front is = is
 no_numbers h r (bay ∷ later) [] left front is = is
 no_numbers h r (bay ∷ later) (s ∷ more) left front is = is.1
 
+-- the bays so far
+come_first : (h : Handed) (shown : List (YardBay × Verdict)) (front : List ℕ) (stated : List BayProblem) (more : List BaySaid) (left : List ℕ) → (so : AreRight h shown front stated more left)
+    → ComeFirst h so.report so.before
+come_first h shown front stated more left so = record {
+  later = so.later;
+  more = more;
+  left = left;
+  called = so.called;
+  bays = so.bays;
+  certificates = so.certificates;
+  each_true = All-from_recursion (IsTrueOf h) so.before so.each_true;
+}
+
+right_first : (h : Handed) (shown : List (YardBay × Verdict)) (front : List ℕ) (stated : List BayProblem) (more : List BaySaid) (left : List ℕ) → (so : AreRight h shown front stated more left)
+    → AreRightFirst h so.before
+right_first h shown front stated more left so = inr (so.report, so.spelled, so.numbers, come_first h shown front stated more left so)
+
+pub shows_first : (h : Handed) (shown : List (YardBay × Verdict)) (front : List ℕ) (stated : List BayProblem) (more : List BaySaid) (left : List ℕ) → AreRight h shown front stated more left
+    → ShowsFirst h shown
+shows_first h shown front stated more left so = (so.before, so.shown_is, right_first h shown front stated more left so)
+
 first : (h : Handed) (r : ReportSaid) (before : List Reported) (later : List StackedBay) (more : List BaySaid) (left front : List ℕ) (f : AuditFault)
-    → IsNextFault h r later more left front f → ((r2 : ReportSaid) × SpellsReport h.report r2 × (r2.numbers ≡ numbers_in h) × IsFaultBehind h r2 before f) → IsFirstFault h before f
-first h r before later more left front (fault.Spelling line) is in_it = absurd (no_spelling h r later more left front line is)
-first h r before later more left front fault.Numbers is in_it = absurd (no_numbers h r later more left front is)
-first h r before later more left front fault.Memory is in_it = tt
-first h r before later more left front f is in_it = in_it
+    → IsNextFault h r later more left front f → AreRightFirst h before → ((r2 : ReportSaid) × SpellsReport h.report r2 × (r2.numbers ≡ numbers_in h) × IsFaultBehind h r2 before f)
+    → IsFirstFault h before f
+first h r before later more left front (fault.Spelling line) is right in_it = absurd (no_spelling h r later more left front line is)
+first h r before later more left front fault.Numbers is right in_it = absurd (no_numbers h r later more left front is)
+first h r before later more left front fault.Memory is right in_it = right
+first h r before later more left front f is right in_it = in_it
 
 pub refused : (h : Handed) (shown : List (YardBay × Verdict)) (front : List ℕ) (stated : List BayProblem) (more : List BaySaid) (left : List ℕ) (f : AuditFault)
     → (so : AreRight h shown front stated more left) → IsNextFault h so.report so.later more left front f → IsAuditRefusal h shown f
+unfolding come_first
 refused h shown front stated more left f so is =
     let next = subst (λ l. IsNextFault h so.report so.later more left l f) so.front_is is in
     record {
       before = so.before;
       shown_is = so.shown_is;
-      first = first h so.report so.before so.later more left (front_text so.report.numbers (map said_of so.before)) f next (
-        so.report,
-        so.spelled,
-        so.numbers,
-        record {
-          later = so.later;
-          more = more;
-          left = left;
-          called = so.called;
-          bays = so.bays;
-          certificates = so.certificates;
-          each_true = All-from_recursion (IsTrueOf h) so.before so.each_true;
-          next = next;
-        },
-      );
+      first = first h so.report so.before so.later more left (front_text so.report.numbers (map said_of so.before)) f next
+          (right_first h shown front stated more left so) (so.report, so.spelled, so.numbers, record { first = come_first h shown front stated more left so; next = next });
     }
 
 pub out_of_memory : (h : Handed) (shown : List (YardBay × Verdict)) (front : List ℕ) (stated : List BayProblem) (more : List BaySaid) (left : List ℕ) → AreRight h shown front stated more left
     → IsAuditRefusal h shown fault.Memory
-out_of_memory h shown front stated more left so = record { before = so.before; shown_is = so.shown_is; first = tt }
+out_of_memory h shown front stated more left so = record { before = so.before; shown_is = so.shown_is; first = right_first h shown front stated more left so }
 
 -- a fault of the next bay
 bay_next : (h : Handed) (r : ReportSaid) (bay : StackedBay) (later : List StackedBay) (s : BaySaid) (more : List BaySaid) (left front : List ℕ) (f : AuditFault) → s.bay ≡ bay.0

@@ -9,6 +9,7 @@ use Rattle.crp_order.specs.declared.bay_problem.BayProblem.{BayProblem}
 use Rattle.crp_order.specs.BayProblems.{leaving, staying, ranked, bay_problem_of}
 use Rattle.crp_cert.specs.declared.script.Script.{Script}
 use Rattle.crp_checker.specs.AcceptedTexts.{IsAcceptedText}
+use Rattle.crp_checker.specs.declared.unread.Unread.{Unread}
 use Rattle.crp_said.specs.declared.said.Said.{Said}
 use Rattle.crp_said.specs.declared.said.Said.TheVariants.{Optimal, First, NoPlan, Between}
 use Rattle.crp_said.specs.Said.{BaySaid, bay_line}
@@ -16,11 +17,14 @@ use Rattle.crp_said.specs.Spelled.{line_behind}
 use Rattle.crp_said.proofs.Takes.{plan_takes}
 use Rattle.crp_audit.specs.declared.fault.AuditFault.{AuditFault}
 use Rattle.crp_audit.specs.declared.fault.AuditFault.TheVariants as fault
+use Rattle.crp_audit.specs.declared.fault.AuditStop.{AuditStop}
+use Rattle.crp_audit.specs.declared.fault.AuditStop.TheVariants as stop
 use Rattle.crp_audit.specs.Headline.{Handed, Reported, problem_in, PrintsPlan, IsTrueOf}
 use Rattle.crp_audit.specs.LooksTrue.{LooksSo}
 use Rattle.crp_audit.specs.Printed.{ArePlanLines}
 use Rattle.crp_audit.specs.Faults.{count_said, PrintsSaid, SaysTheSame, IsItsPlan, IsBayFault, reported_as}
 use Rattle.crp_audit.specs.Certified.{AreRightLines, IsLinesFault, IsPlanSaid, SaysThis, IsCertificateFault}
+use Rattle.crp_audit.specs.Stops.{StopsAt}
 use Rattle.crp_audit.proofs.Deciding.{true_if_looks}
 use Rattle.crp_audit.proofs.Results.{match_by}
 
@@ -121,3 +125,12 @@ pub certificate_fault : (h : Handed) (bay : StackedBay) (stated : BayProblem) (s
 certificate_fault h bay stated s rows left front f e = subst
     (λ (st : BayProblem). AllByRecursion FitsLine st.names → AreRightLines st s rows → IsCertificateFault st s.said rows left f → FaultOf h bay s left front f)
     (sym e) (certificate_here h bay s rows left front f)
+
+-- why an audit stops at the certificate
+pub certificate_stops : (known : Option (List ℕ)) (u : Unread) (stated : BayProblem) (s : BaySaid) (rows front : List ℕ) (why : AuditStop) → AllByRecursion FitsLine stated.names → AreRightLines stated s rows
+    → StopsAt known u (IsCertificateFault stated s.said rows) why
+    → StopsAt known u (λ left f. (h : Handed) (bay : StackedBay) → stated ≡ stated_in h bay → s.bay ≡ bay.0 → FaultOf h bay s left front f) why
+certificate_stops known u stated s rows front (stop.Fault f) fits right (left, is, wrong) =
+    (left, is, λ h bay same name. certificate_fault h bay stated s rows left front f same fits right wrong)
+certificate_stops known u stated s rows front stop.Failed fits right failed = tt
+certificate_stops known u stated s rows front stop.TooLarge fits right long = long

@@ -8,5 +8,7 @@ mod Looks
 mod Results
 mod Bays
 mod Audited
+mod Reading
+mod Stopping
 mod Readable
 mod NoFault

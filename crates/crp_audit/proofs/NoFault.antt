@@ -1,5 +1,5 @@
 -- A headline has no first fault.
-use Rattle.std.proofs.Common.{◌≡◌, ◌≢◌, ◌∙◌, ◌≤◌, ℕ, true, false, List, [], ◌∷◌, ◌++◌, length, map, Some, None, refl, sym, ap, subst}
+use Rattle.std.proofs.Common.{◌≡◌, ◌≢◌, ◌∙◌, ◌⊎◌, ◌≤◌, ℕ, true, false, List, [], ◌∷◌, ◌++◌, length, map, Option, Some, None, IfSome, inl, inr, refl, sym, ap, subst, arith}
 use Rattle.std.specs.List.{AllByRecursion}
 use Rattle.std.specs.Prelude.{IsSome, option_map}
 use Rattle.std.proofs.lemmas.List.Elements.{recursion_from_All}
@@ -7,8 +7,10 @@ use Rattle.crp_plan.specs.declared.moves.Move.{Move}
 use Rattle.crp_plan.specs.Bay.{IsProblem, cap, start, Runs, IsFinished, relocations, path_of}
 use Rattle.crp_plan.specs.BayNames.{YardBay}
 use Rattle.crp_plan.proofs.Paths.{runs_is}
-use Rattle.crp_yard.specs.Inventory.{StackedBay}
+use Rattle.crp_yard.specs.Inventory.{Inventory, StackedBay}
 use Rattle.crp_yard.specs.Naming.{IsNamedBay}
+use Rattle.crp_yard.specs.Reading.{IsTextOf}
+use Rattle.crp_movins.specs.LoadOrders.{LoadOrders}
 use Rattle.crp_order.specs.BayProblems.{ranked}
 use Rattle.crp_cert.specs.declared.script.Script.{Script}
 use Rattle.crp_cert.proofs.Scripts.{script_once}
@@ -29,10 +31,13 @@ use Rattle.crp_said.specs.Spelled.{most, AreSmall, ReportSaid, SpellsReport, fro
 use Rattle.crp_said.proofs.OneReport.{one_report}
 use Rattle.crp_audit.specs.declared.fault.AuditFault.{AuditFault}
 use Rattle.crp_audit.specs.declared.fault.AuditFault.TheVariants as fault
-use Rattle.crp_audit.specs.Headline.{Handed, Reported, numbers_in, said_of, problem_in, PrintsPlan, verdict_in, IsTrueOf, IsHeadline}
+use Rattle.crp_audit.specs.declared.fault.AuditStop.{AuditStop}
+use Rattle.crp_audit.specs.declared.fault.AuditStop.TheVariants as stop
+use Rattle.crp_audit.specs.Headline.{Handed, handed, Reported, numbers_in, said_of, problem_in, PrintsPlan, verdict_in, IsTrueOf, IsHeadline}
 use Rattle.crp_audit.specs.LooksTrue.{LooksSo}
 use Rattle.crp_audit.specs.Printed.{AreOtherLines}
 use Rattle.crp_audit.specs.Faults.{count_said, CountsRight, IsWrongMove, IsItsPlan, SaysTheSame, IsNextText, IsBayFault, reported_as, IsNextFault, IsFaultBehind, IsFirstFault, IsAuditRefusal}
+use Rattle.crp_audit.specs.Stops.{IsAuditStop}
 use Rattle.crp_audit.specs.Readable.{report_in}
 use Rattle.crp_audit.proofs.Apart.{plan_followed, one_plan_printed}
 use Rattle.crp_audit.proofs.Deciding.{looks_if_true}
@@ -170,11 +175,13 @@ behind : (h : Handed) (is : IsHeadline h) (before : List Reported) (f : AuditFau
 behind h is before f named few small r spells wrong =
     let one : r ≡ report_in h is = one_report h.report r (report_in h is) spells (spelled_as h is named few small) in
     let k : IsFaultBehind h (report_in h is) before f = subst (λ (q : ReportSaid). IsFaultBehind h q before f) one wrong in
+    let first = k.first in
     let rest =
-    are_left h is.bays before k.later k.more h.certificates k.left (is.called ∙ k.called) k.bays is.certificates k.certificates (recursion_from_All (IsTrueOf h) is.bays is.each_true) in
-    no_next h (report_in h is) rest.bays k.left (front_text (numbers_in h) (map said_of before)) f (refl, refl) rest.texts rest.each_true
-    (subst (λ l. IsNextFault h (report_in h is) l (map said_of rest.bays) k.left (front_text (numbers_in h) (map said_of before)) f) rest.later_are
-    (subst (λ l. IsNextFault h (report_in h is) k.later l k.left (front_text (numbers_in h) (map said_of before)) f) rest.more_are k.next))
+    are_left h is.bays before first.later first.more h.certificates first.left (is.called ∙ first.called) first.bays is.certificates first.certificates
+    (recursion_from_All (IsTrueOf h) is.bays is.each_true) in
+    no_next h (report_in h is) rest.bays first.left (front_text (numbers_in h) (map said_of before)) f (refl, refl) rest.texts rest.each_true
+    (subst (λ l. IsNextFault h (report_in h is) l (map said_of rest.bays) first.left (front_text (numbers_in h) (map said_of before)) f) rest.later_are
+    (subst (λ l. IsNextFault h (report_in h is) first.later l first.left (front_text (numbers_in h) (map said_of before)) f) rest.more_are k.next))
 
 pub no_fault : (h : Handed) (is : IsHeadline h) (before : List Reported) (f : AuditFault) → AllByRecursion IsNamedBay h.yard.bays → length h.yard.bays ≤ most → AreSmall (numbers_in h) → f ≢ fault.Memory
     → ¬ IsFirstFault h before f
@@ -191,3 +198,19 @@ is_memory f none = absurd (none (λ e. cc))
 pub memory_alone : (h : Handed) (is : IsHeadline h) (shown : List (YardBay × Verdict)) (f : AuditFault) → AllByRecursion IsNamedBay h.yard.bays → length h.yard.bays ≤ most → AreSmall (numbers_in h)
     → IsAuditRefusal h shown f → f ≡ fault.Memory
 memory_alone h is shown f named few small refusal = is_memory f (λ other. no_fault h is refusal.before f named few small other refusal.first)
+
+-- why an audit of a headline stops
+only_memory : (h : Handed) (limit before after : ℕ) (shown : List (YardBay × Verdict)) (why : AuditStop) → IsHeadline h → length h.certificates ≤ limit → AllByRecursion IsNamedBay h.yard.bays
+    → length h.yard.bays ≤ most → AreSmall (numbers_in h) → IsAuditStop h limit before after shown why → (why ≡ stop.Failed) ⊎ (why ≡ stop.Fault fault.Memory)
+only_memory h limit before after shown (stop.Fault f) is le named few small refused = inr (ap stop.Fault (memory_alone h is shown f named few small refused))
+only_memory h limit before after shown stop.Failed is le named few small failed = inl refl
+only_memory h limit before after shown stop.TooLarge is le named few small long = absurd (omega (arith, le, long.0))
+
+pub complete : (yard : Inventory) (orders : LoadOrders) (sequence : List (List ℕ)) (report : List ℕ) (given : Option (List ℕ)) (limit before after : ℕ) (shown : List (YardBay × Verdict)) (why : AuditStop)
+    → AllByRecursion IsNamedBay yard.bays → (text : List ℕ) × IsTextOf given text × IsAuditStop (handed yard orders sequence report text) limit before after shown why
+    → IfSome given (λ text. length text ≤ limit → IsHeadline (handed yard orders sequence report text) → length yard.bays ≤ most → AreSmall (numbers_in (handed yard orders sequence report text))
+    → (why ≡ stop.Failed) ⊎ (why ≡ stop.Fault fault.Memory))
+complete yard orders sequence report None limit before after shown why named stopped = tt
+complete yard orders sequence report (Some xs) limit before after shown why named (text, same, is) = λ le headline few small.
+    only_memory (handed yard orders sequence report xs) limit before after shown why headline le named few small
+    (subst (λ l. IsAuditStop (handed yard orders sequence report l) limit before after shown why) same is)

@@ -1,5 +1,5 @@
 -- Why a report and its certificates are refused: the first fault, and the bays before it, of which all that is promised is so.
-use Rattle.std.specs.Prelude.{◌≡◌, ◌≢◌, ℕ, List, [], ◌∷◌, ◌++◌, length, map, filter, count_by, All, Option, Some, None, MatchOption, IsSome}
+use Rattle.std.specs.Prelude.{◌≡◌, ◌≢◌, ◌⊎◌, ℕ, List, [], ◌∷◌, ◌++◌, length, map, filter, count_by, All, Option, Some, None, MatchOption, IsSome}
 use Rattle.crp_plan.specs.declared.moves.Move.{Move}
 use Rattle.crp_plan.specs.Bay.{start, path_of}
 use Rattle.crp_plan.specs.BayNames.{YardBay}
@@ -107,8 +107,8 @@ IsNextFault h r [] more left front f = ⊥
 IsNextFault h r (bay ∷ later) [] left front f = ⊥
 IsNextFault h r (bay ∷ later) (s ∷ more) left front f = (s.bay ≡ bay.0) × IsBayFault h (reported_as bay s []) left front f
 
--- the bays before are right, and then comes the fault
-pub record IsFaultBehind (h : Handed) (r : ReportSaid) (before : List Reported) (f : AuditFault) : Type 0 where
+-- these bays come first, of the yard, in the report and by their certificates, and all that is promised of them is so
+pub record ComeFirst (h : Handed) (r : ReportSaid) (before : List Reported) : Type 0 where
   pub later : List StackedBay
   pub more : List BaySaid
   pub left : List ℕ
@@ -116,11 +116,19 @@ pub record IsFaultBehind (h : Handed) (r : ReportSaid) (before : List Reported) 
   pub bays : r.bays ≡ map said_of before ++ more
   pub certificates : BeginsWithTexts h.certificates (map (λ b. b.certificate) before) left
   pub each_true : All (IsTrueOf h) before
-  pub next : IsNextFault h r later more left (front_text r.numbers (map said_of before)) f
+
+-- and then comes the fault
+pub record IsFaultBehind (h : Handed) (r : ReportSaid) (before : List Reported) (f : AuditFault) : Type 0 where
+  pub first : ComeFirst h r before
+  pub next : IsNextFault h r first.later first.more first.left (front_text r.numbers (map said_of before)) f
 
 -- the report is spelled as one, it has the three numbers, and the fault comes behind these bays
 abbrev pub IsFaultIn : Handed → List Reported → AuditFault → Type 0
 IsFaultIn h before f = (r : ReportSaid) × SpellsReport h.report r × (r.numbers ≡ numbers_in h) × IsFaultBehind h r before f
+
+-- the bays that are right so far: none, or the first ones, where the report is spelled as one and has the three numbers
+abbrev pub AreRightFirst : Handed → List Reported → Type 0
+AreRightFirst h before = (before ≡ []) ⊎ ((r : ReportSaid) × SpellsReport h.report r × (r.numbers ≡ numbers_in h) × ComeFirst h r before)
 
 -- the first fault of what is handed in, and the bays before it. All of the report is read before any of it is looked at. That memory is wanting is no
 -- fault of it
@@ -128,12 +136,16 @@ abbrev pub IsFirstFault : Handed → List Reported → AuditFault → Type 0
 IsFirstFault h before (fault.Spelling line) = (before ≡ []) × IsMisspelled h.report line
 IsFirstFault h before fault.Numbers =
     (before ≡ []) × ((r : ReportSaid) × SpellsReport h.report r × (r.numbers ≢ numbers_in h))
-IsFirstFault h before fault.Memory = Unit {0}
+IsFirstFault h before fault.Memory = AreRightFirst h before
 IsFirstFault h before f = IsFaultIn h before f
 
 -- the verdicts on these bays
 abbrev pub verdicts_of : (h : Handed) → List Reported → List (YardBay × Verdict)
 verdicts_of h bays = map (λ b. (b.bay.0, verdict_in h b)) bays
+
+-- this is shown of bays that are right so far
+abbrev pub ShowsFirst : Handed → List (YardBay × Verdict) → Type 0
+ShowsFirst h shown = (before : List Reported) × (shown ≡ verdicts_of h before) × AreRightFirst h before
 
 -- why it is refused, and what the bays before show
 pub record IsAuditRefusal (h : Handed) (shown : List (YardBay × Verdict)) (f : AuditFault) : Type 0 where

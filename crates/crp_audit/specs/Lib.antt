@@ -6,3 +6,4 @@ pub mod Printed
 pub mod Certified
 pub mod Readable
 pub mod Faults
+pub mod Stops

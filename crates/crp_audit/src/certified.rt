@@ -1,20 +1,22 @@
 //! The certificate of a bay, and whether it says the same as the report.
-ghost use Rattle.std.specs.Prelude.{◌≡◌, ◌↔◌, ◌⊎◌, ◌∷◌, [], ℕ, List, Some, IfOk, IfErr, IsTrue};
+ghost use Rattle.std.specs.Prelude.{◌≡◌, ◌↔◌, ◌⊎◌, ◌≤◌, ℕ, List, Some, IfOk, IfErr, OnOk, IsErrOf, IsTrue, MatchResult};
 ghost use Rattle.std.specs.Option.{option_copied};
 ghost use Rattle.crp_plan.specs.Bay.{cap};
+ghost use Rattle.crp_plan.specs.Devices.{Transfers, failures_of_read, most_interruptions};
 ghost use Rattle.crp_cert.specs.declared.script.Script.{Script};
 ghost use Rattle.crp_checker.specs.AcceptedTexts.{IsAcceptedText};
-ghost use Rattle.crp_checker.specs.Files.{BeginsWithTexts};
+ghost use Rattle.crp_checker.specs.Reading.{HasMore, IsLeft, IsTaken, IsTooLong};
 ghost use Rattle.crp_checker.specs.Refusals.{IsRefusal};
 ghost use Rattle.crp_checker.specs.Shown.{TextStates};
 ghost use Rattle.crp_audit.specs.Headline.{shown_by, verdict_said};
 ghost use Rattle.crp_audit.specs.Certified.{IsPlanSaid, SaysThis, IsCertificateFault};
+ghost use Rattle.crp_audit.specs.Stops.{StopsAt, failures_of_stop};
 
-use crate::fault::AuditFault;
+use crate::fault::{AuditFault, AuditStop};
 use crp_cert::Rows;
-use crp_checker::{Accepted, Checker, Refused, Verdict, first_len};
+use crp_checker::{Accepted, Checker, Refused, Unread, Verdict, feed_next};
 use crp_order::BayProblem;
-use crp_plan::{BayName, Problem};
+use crp_plan::{BayName, Problem, ReadFault, Source};
 use crp_said::{Said, SaidCause};
 use std::alloc::Global;
 
@@ -72,51 +74,69 @@ fn says_this(bay: &BayName, verdict: Verdict, said: Said, rows: &[u8], found: &A
     found.bay == *bay && found.verdict == verdict && is_plan_said(said, found.plan.as_ref(), rows)
 }
 
-/// What a certificate of this problem states and shows.
-fn accept(alloc: Global, problem: &Problem, text: &[u8]) -> Result<Accepted, Refused>
-    ensures states { IfOk result (λ found. TextStates (Some problem.now) text.now found.bay found.plan found.verdict) }
-    ensures refused { IfErr result (λ refused. (refused ≡ Refused.Memory) ⊎ IsRefusal (Some problem.now) text.now refused) }
+/// What the next certificate of a file states and shows, which is of this problem, or why it is refused.
+fn accept_next<R: Source>(
+    alloc: Global,
+    problem: &Problem,
+    source: &mut R,
+    unread: &mut Unread,
+    interruptions: &mut u32,
+) -> Result<Result<Accepted, Refused>, ReadFault>
+    requires some { (left : List ℕ) × IsLeft (R.remaining source.old) unread.old left }
+    requires more { HasMore unread.old }
+    requires passed { interruptions.old ≤ most_interruptions }
+    ensures read { IfOk result (λ answer. (text : List ℕ) × IsTaken (R.remaining source.old) unread.old text (R.remaining source.new) unread.new
+        × MatchResult answer (λ found. TextStates (Some problem.now) text found.bay found.plan found.verdict)
+        (λ refused. (refused ≡ Refused.Memory) ⊎ IsRefusal (Some problem.now) text refused)) }
+    ensures large { IsErrOf result ReadFault.TooLarge → IsTooLong (R.remaining source.old) unread.old }
+    ensures done { OnOk result (Transfers 0 interruptions.old interruptions.new (R.failures source.old) (R.failures source.new) (R.interrupted source.old) (R.interrupted source.new)) }
+    ensures stopped { IfErr result (λ fault. Transfers (failures_of_read fault) interruptions.old interruptions.new (R.failures source.old) (R.failures source.new) (R.interrupted source.old) (R.interrupted source.new)) }
 {
     let mut checker = Checker::new(alloc, Some(problem));
-    checker.feed(text)?;
-    checker.accept()
+    feed_next(&mut checker, source, unread, interruptions)?;
+    Ok(checker.accept())
 }
 
-/// What the certificate shows with which these bytes begin, if it is the bay's and says the same as the report, whose plan goes to
-/// these rows; and the bytes behind it.
-pub(crate) fn read_certificate<'a>(
+/// What the next certificate of a file shows, if it is the bay's and says the same as the report, whose plan goes to these rows.
+pub(crate) fn read_certificate<R: Source>(
     alloc: Global,
     stated: &BayProblem,
     said: Said,
     rows: &[u8],
-    left: &'a [u8],
-) -> Result<(Verdict, &'a [u8]), AuditFault>
-    ensures right { IfOk result (λ x. (text : List ℕ) × (script : Script) × BeginsWithTexts left.now (text ∷ []) x.1.now
+    source: &mut R,
+    unread: &mut Unread,
+    interruptions: &mut u32,
+) -> Result<Verdict, AuditStop>
+    requires some { (left : List ℕ) × IsLeft (R.remaining source.old) unread.old left }
+    requires passed { interruptions.old ≤ most_interruptions }
+    ensures right { IfOk result (λ verdict. (text : List ℕ) × (script : Script) × IsTaken (R.remaining source.old) unread.old text (R.remaining source.new) unread.new
         × IsAcceptedText (Some stated.now.problem) text script × SaysThis stated.now said rows.now script
-        × (x.0 ≡ verdict_said (cap stated.now.problem) said)) }
-    ensures wrong { IfErr result (λ fault. IsCertificateFault stated.now said rows.now left.now fault) }
+        × (verdict ≡ verdict_said (cap stated.now.problem) said)) }
+    ensures wrong { IfErr result (StopsAt (R.remaining source.old) unread.old (IsCertificateFault stated.now said rows.now)) }
+    ensures done { OnOk result (Transfers 0 interruptions.old interruptions.new (R.failures source.old) (R.failures source.new) (R.interrupted source.old) (R.interrupted source.new)) }
+    ensures stopped { IfErr result (λ stop. Transfers (failures_of_stop stop) interruptions.old interruptions.new (R.failures source.old) (R.failures source.new) (R.interrupted source.old) (R.interrupted source.new)) }
 {
-    if left.is_empty() {
-        return Err(AuditFault::Lacking {
+    if !unread.fill(source, interruptions)? {
+        return Err(AuditStop::Fault(AuditFault::Lacking {
             bay: stated.bay.copy(),
-        });
+        }));
     }
-    let (text, after) = left.split_at(first_len(left));
-    let found = match accept(alloc, &stated.problem, text) {
+    let answer = accept_next(alloc, &stated.problem, source, unread, interruptions)?;
+    let found = match answer {
         Ok(found) => found,
-        Err(Refused::Memory) => return Err(AuditFault::Memory),
+        Err(Refused::Memory) => return Err(AuditStop::Fault(AuditFault::Memory)),
         Err(refused) => {
-            return Err(AuditFault::Certificate {
+            return Err(AuditStop::Fault(AuditFault::Certificate {
                 bay: stated.bay.copy(),
                 refused,
-            });
+            }));
         }
     };
     let verdict = verdict_said(stated.problem.cap(), said);
     if !says_this(&stated.bay, verdict, said, rows, &found) {
-        return Err(AuditFault::Other {
+        return Err(AuditStop::Fault(AuditFault::Other {
             bay: stated.bay.copy(),
-        });
+        }));
     }
-    Ok((verdict, after))
+    Ok(verdict)
 }

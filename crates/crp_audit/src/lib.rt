@@ -12,7 +12,7 @@ mod lines_read;
 mod looking;
 
 pub use auditing::audit;
-pub use fault::{AuditFault, AuditRefused};
+pub use fault::{AuditFault, AuditStop, AuditStopped};
 pub use following::{Followed, follow_lines};
 pub use laws::{
     headlines_are_read, headlines_have_no_fault, headlines_show, one_list_of_verdicts,

@@ -47,4 +47,3 @@ pub use refused::Refused;
 pub use unread::{Unread, feed_next};
 pub use verdict::Verdict;
 pub use verdicts::{FileRefused, Verdicts};
-pub use watch::first_len;

@@ -1,7 +1,7 @@
 //! The line of a file that a checker stands in: whether it is the last of a certificate.
-ghost use Rattle.std.specs.Prelude.{◌≡◌, ◌≢◌, ◌≤◌, ◌<◌, ◌+◌, ◌++◌, ◌∷◌, [], ℕ, List, IfSome, IfNone, length, take, drop};
+ghost use Rattle.std.specs.Prelude.{◌≡◌, ◌≢◌, ◌≤◌, ◌<◌, ◌+◌, ◌++◌, ◌∷◌, [], ℕ, List, IfSome, IfNone, length, take};
 ghost use Rattle.std.specs.List.{AllByRecursion};
-ghost use Rattle.crp_checker.specs.Files.{IsEnded, BeginsWithTexts};
+ghost use Rattle.crp_checker.specs.Files.{IsEnded};
 ghost use Rattle.crp_checker.specs.Watches.{IsUnended};
 
 /// How the bytes of a line so far agree with `end `, with which the last line of a certificate begins.
@@ -91,16 +91,4 @@ pub fn cut(watch: &mut Watch, bytes: &[u8]) -> Option<usize>
         taken += passed_over(next, &bytes[taken..]);
     }
     None
-}
-
-/// How many bytes of a file are its first certificate.
-pub fn first_len(file: &[u8]) -> usize
-    ensures within { result ≤ length file.now }
-    ensures first { file.now ≢ [] → BeginsWithTexts file.now (take result file.now ∷ []) (drop result file.now) }
-{
-    let mut watch = Watch::Begun;
-    match cut(&mut watch, file) {
-        Some(taken) => taken,
-        None => file.len(),
-    }
 }

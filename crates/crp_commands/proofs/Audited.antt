@@ -4,11 +4,12 @@ use Rattle.crp_plan.specs.Devices.{CountsMore}
 use Rattle.crp_report.specs.declared.status.Status.{Status}
 use Rattle.crp_report.specs.Chosen.{InputChosen}
 use Rattle.crp_report.specs.Runs.{GetsNothing}
+use Rattle.crp_audit.specs.Headline.{Handed}
 use Rattle.crp_commands.specs.declared.job.AuditFiles.{AuditFiles}
 use Rattle.crp_commands.specs.declared.outcome.Statement.{Statement}
 use Rattle.crp_commands.specs.declared.outcome.ToolFault.{ToolFault}
 use Rattle.crp_commands.specs.declared.outcome.ToolFault.TheVariants as fault
-use Rattle.crp_commands.specs.Audit.{AuditSeen, AuditEnds, AuditFails, AuditFailsWith, AuditReportsOverFiles, AuditFailsOverFiles, IsInputAccepted, IsNoStatement, IsOverNamed, statement_of}
+use Rattle.crp_commands.specs.Audit.{AuditSeen, AuditEnds, AuditFails, AuditFailsWith, AuditReportsOverFiles, AuditFailsOverFiles, IsHandedIn, IsInputAccepted, IsNoStatement, IsOverNamed, StopsOn, statement_of}
 use Rattle.crp_commands.specs.Opened.{FilesSeen}
 use Rattle.crp_commands.proofs.Solved.{more_and_more}
 
@@ -28,6 +29,14 @@ unread chosen s which (fault.Run f) nothing input is = absurd is
 unread chosen s which fault.Read nothing input is = absurd is
 unread chosen s which fault.Write nothing input is = absurd is
 unread chosen s which fault.TooLarge nothing input is = absurd is
+
+-- the audit stopped on what was handed in
+pub stopped : (chosen : InputChosen) (s : AuditSeen) (h : Handed) (f : ToolFault) → IsHandedIn chosen s h → StopsOn h s.out f → AuditFailsWith chosen s f
+stopped chosen s h (fault.Run g) is stops = absurd stops
+stopped chosen s h (fault.ReadOf which) is stops = absurd stops
+stopped chosen s h (fault.TooLargeOf which) is stops = absurd stops
+stopped chosen s h fault.Memory is stops = inr (h, is, stops)
+stopped chosen s h f is stops = (h, is, stops)
 
 -- what is counted of the files, when all four are closed
 pub closed_four : (w x y z : ℕ) (a b c d e : ℕ) → CountsMore w a b → CountsMore x b c → CountsMore y c d → CountsMore z d e → CountsMore (w + (x + (y + z))) a e

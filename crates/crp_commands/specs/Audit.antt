@@ -58,11 +58,11 @@ abbrev pub most_of : Statement → ℕ
 most_of statement.Report = MOST_REPORT
 most_of statement.Certificates = MOST_BYTES
 
--- this is what the sources had: the input, a report, and certificates
+-- this is what the sources had: the input, a report, and certificates, however many bytes these are
 pub record IsHandedIn (chosen : InputChosen) (s : AuditSeen) (h : Handed) : Type 0 where
   pub input : IsInputOf chosen s.yard s.movins h.yard h.orders h.sequence
   pub report : IsTextWithin MOST_REPORT s.report.given h.report
-  pub certificates : IsTextWithin MOST_BYTES s.certificates.given h.certificates
+  pub certificates : IsTextOf s.certificates.given h.certificates
 
 -- ---- what is printed
 
@@ -81,9 +81,9 @@ IsAuditText h text = ((is : IsHeadline h) × (text ≡ audit_text (shown_in h is
 
 -- ---- a yes
 
--- what is handed in is a headline, its text was written, and nothing else
+-- what is handed in is a headline, with no more certificates than are read, its text was written, and nothing else
 abbrev pub Audits : InputChosen → AuditSeen → Type 0
-Audits chosen s = (h : Handed) × IsHandedIn chosen s h × ((is : IsHeadline h) × Gets s.out (audit_text (shown_in h is)))
+Audits chosen s = (h : Handed) × IsHandedIn chosen s h × (length h.certificates ≤ MOST_BYTES) × ((is : IsHeadline h) × Gets s.out (audit_text (shown_in h is)))
 
 -- ---- a no
 
@@ -112,7 +112,7 @@ IsNoInput chosen yard movins f = IsNoYard chosen.heights yard.given yard.before 
 abbrev pub IsInputAccepted : InputChosen → AuditSeen → Type 0
 IsInputAccepted chosen s = (stands : Inventory) × (orders : LoadOrders) × (sequence : List (List ℕ)) × IsInputOf chosen s.yard s.movins stands orders sequence
 
--- why nothing was read of what is audited: a read has failed, or there are too many bytes
+-- why a statement was not read, or not to its end: a read has failed, or there are too many bytes
 abbrev pub IsNoStatement : Statement → SourceSeen → ToolFault → Type 0
 IsNoStatement which source (fault.ReadOf other) = (other ≡ which) × HasFailed source.before source.after
 IsNoStatement which source (fault.TooLargeOf other) = (other ≡ which) × IfSome source.given (λ xs. most_of which < length xs)

@@ -1,21 +1,23 @@
 //! The command `audit`: from the bytes of a yard list, a message, a report and certificates to a line for each bay.
-ghost use Rattle.std.specs.Prelude.{◌≡◌, ◌≤◌, ◌+◌, ◌-◌, IfOk, IfErr, MatchResult};
+ghost use Rattle.std.specs.Prelude.{◌≡◌, ◌≤◌, ◌+◌, ◌-◌, ◌⊎◌, ℕ, List, Option, IfOk, IfErr, MatchResult};
 ghost use Rattle.std.specs.List.{AllByRecursion};
 ghost use Rattle.crp_plan.specs.Devices.{most_interruptions};
 ghost use Rattle.crp_yard.specs.Naming.{IsNamedBay};
+ghost use Rattle.crp_yard.specs.Reading.{IsTextOf};
 ghost use Rattle.crp_order.specs.Sequences.{IsSequence};
 ghost use Rattle.crp_report.specs.BayTexts.{AreFailuresCounted};
-ghost use Rattle.crp_report.specs.Runs.{SinkSeen, Gets, failures_of_fault};
+ghost use Rattle.crp_report.specs.Runs.{SourceSeen, SinkSeen, Gets, GetsNothing, failures_of_fault};
 ghost use Rattle.crp_audit.specs.Headline.{Handed, handed, IsHeadline, shown_in};
-ghost use Rattle.crp_audit.specs.Faults.{IsAuditRefusal};
-ghost use Rattle.crp_commands.specs.Audit.{AuditSeen, AuditEnds, AuditFails, IsInputOf, IsNoInput, IsNoStatement, StopsOn, audit_text, most_of};
+ghost use Rattle.crp_audit.specs.Stops.{IsAuditStop, failures_of_stop};
+ghost use Rattle.crp_commands.specs.declared.heads.TheConstants.{MOST_BYTES};
+ghost use Rattle.crp_commands.specs.Audit.{AuditSeen, AuditEnds, AuditFails, IsInputOf, IsNoInput, IsNoStatement, StopsOn, audit_text};
 ghost use Rattle.crp_commands.specs.Calls.{IsTextWithin, failures_of_tool_fault};
 ghost use Rattle.crp_commands.specs.Check.{verdict_lines};
 
 use crate::checking::push_verdict;
 use crate::heads::MOST_BYTES;
 use crate::outcome::{Statement, ToolFault};
-use crp_audit::AuditRefused;
+use crp_audit::{AuditStop, AuditStopped};
 use crp_cert::push_decimal;
 use crp_checker::Verdicts;
 use crp_movins::Orders;
@@ -28,36 +30,25 @@ use std::alloc::{AllocError, Global};
 /// The most bytes of a report that is audited.
 pub const MOST_REPORT: usize = 16_777_216;
 
-// What is read of a statement at most.
-fn most_of(which: Statement) -> usize
-    ensures { result ≡ most_of which }
-{
-    match which {
-        Statement::Report => MOST_REPORT,
-        Statement::Certificates => MOST_BYTES,
-    }
-}
-
-// The bytes of a statement.
-fn text_from<S: Source>(
+// The bytes of a report.
+fn report_from<S: Source>(
     alloc: Global,
     source: &mut S,
-    which: Statement,
     interruptions: &mut u32,
 ) -> Result<Vec<u8>, ToolFault>
     requires { interruptions.old ≤ most_interruptions }
-    ensures read { IfOk result (λ text. IsTextWithin (most_of which) (S.remaining source.old) text.items) }
-    ensures refused { IfErr result (IsNoStatement which (record { given = S.remaining source.old; before = S.failures source.old; after = S.failures source.new })) }
+    ensures read { IfOk result (λ text. IsTextWithin MOST_REPORT (S.remaining source.old) text.items) }
+    ensures refused { IfErr result (IsNoStatement Statement.Report (record { given = S.remaining source.old; before = S.failures source.old; after = S.failures source.new })) }
     ensures counted { MatchResult result
         (λ _. AreFailuresCounted 0 (S.failures source.old) (S.failures source.new) interruptions.old interruptions.new)
         (λ fault. AreFailuresCounted (failures_of_tool_fault fault) (S.failures source.old) (S.failures source.new) interruptions.old interruptions.new) }
     ensures count { S.failures source.old ≤ S.failures source.new }
     ensures passed { interruptions.new ≤ most_interruptions }
 {
-    match read_all(alloc, source, most_of(which), interruptions) {
+    match read_all(alloc, source, MOST_REPORT, interruptions) {
         Ok(text) => Ok(text),
-        Err(ReadFault::Failed) => Err(ToolFault::ReadOf(which)),
-        Err(ReadFault::TooLarge) => Err(ToolFault::TooLargeOf(which)),
+        Err(ReadFault::Failed) => Err(ToolFault::ReadOf(Statement::Report)),
+        Err(ReadFault::TooLarge) => Err(ToolFault::TooLargeOf(Statement::Report)),
         Err(ReadFault::Memory) => Err(ToolFault::Memory),
     }
 }
@@ -132,46 +123,59 @@ fn text_of(alloc: Global, shown: &Verdicts) -> Result<Vec<u8>, AllocError>
     Ok(text)
 }
 
-// Writes what a refused audit shows before the first fault, which is the answer.
-fn refuse<W: Sink>(
+// Writes what an audit shows before the first fault, which is the answer. Where the certificates could not be read, it writes nothing.
+fn stop<W: Sink>(
     alloc: Global,
-    refused: AuditRefused,
+    stopped: AuditStopped,
     out: &mut W,
     interruptions: &mut u32,
 ) -> ToolFault
     requires { interruptions.old ≤ most_interruptions }
     ensures stated { let out_seen : SinkSeen = record { held = W.contents out.old; holds = W.contents out.new; before = W.failures out.old; after = W.failures out.new } in
-        (h : Handed) → IsAuditRefusal h refused.before refused.fault → StopsOn h out_seen result }
-    ensures counted { W.failures out.new + interruptions.old ≤ W.failures out.old + interruptions.new + failures_of_tool_fault result }
+        (h : Handed) (given : Option (List ℕ)) (before after : ℕ) → IsTextOf given h.certificates → IsAuditStop h MOST_BYTES before after stopped.before stopped.stop
+        → (GetsNothing out_seen × IsNoStatement Statement.Certificates (record { given = given; before = before; after = after }) result) ⊎ StopsOn h out_seen result }
+    ensures counted { W.failures out.new + interruptions.old + failures_of_stop stopped.stop ≤ W.failures out.old + interruptions.new + failures_of_tool_fault result }
     ensures count { W.failures out.old ≤ W.failures out.new }
-    ensures passed { interruptions.new ≤ most_interruptions }
+    ensures passed { (interruptions.old ≤ interruptions.new) × (interruptions.new ≤ most_interruptions) }
 {
-    let Ok(lines) = lines_of(alloc, &refused.before) else {
+    let AuditStopped { before, stop } = stopped;
+    let fault = match stop {
+        AuditStop::Fault(fault) => fault,
+        AuditStop::Failed => return ToolFault::ReadOf(Statement::Certificates),
+        AuditStop::TooLarge => return ToolFault::TooLargeOf(Statement::Certificates),
+    };
+    let Ok(lines) = lines_of(alloc, &before) else {
         return ToolFault::Memory;
     };
     let Ok(()) = write_all(out, &lines, interruptions) else {
         return ToolFault::Write;
     };
-    ToolFault::from(refused.fault)
+    ToolFault::from(fault)
 }
 
 // Audits what is handed in, and writes what is shown.
-fn audit_input<W: Sink>(
+fn audit_input<C: Source, W: Sink>(
     alloc: Global,
     input: &InputRead,
     report: &[u8],
-    certificates: &[u8],
+    certificates: &mut C,
     out: &mut W,
     interruptions: &mut u32,
 ) -> Result<(), ToolFault>
     requires named { AllByRecursion IsNamedBay input.now.yard.bays }
     requires passed { interruptions.old ≤ most_interruptions }
-    ensures ended { let h : Handed = handed input.now.yard input.now.orders input.now.sequence report.now certificates.now in
-        let out_seen : SinkSeen = record { held = W.contents out.old; holds = W.contents out.new; before = W.failures out.old; after = W.failures out.new } in
-        MatchResult result (λ _. (is : IsHeadline h) × Gets out_seen (audit_text (shown_in h is))) (StopsOn h out_seen) }
-    ensures counted { MatchResult result (λ _. W.failures out.new + interruptions.old ≤ W.failures out.old + interruptions.new)
-        (λ fault. W.failures out.new + interruptions.old ≤ W.failures out.old + interruptions.new + failures_of_tool_fault fault) }
-    ensures count { W.failures out.old ≤ W.failures out.new }
+    ensures ended { let out_seen : SinkSeen = record { held = W.contents out.old; holds = W.contents out.new; before = W.failures out.old; after = W.failures out.new } in
+        let given : SourceSeen = record { given = C.remaining certificates.old; before = C.failures certificates.old; after = C.failures certificates.new } in
+        MatchResult result
+        (λ _. (text : List ℕ) × IsTextWithin MOST_BYTES given.given text × ((is : IsHeadline (handed input.now.yard input.now.orders input.now.sequence report.now text))
+            × Gets out_seen (audit_text (shown_in (handed input.now.yard input.now.orders input.now.sequence report.now text) is))))
+        (λ fault. (GetsNothing out_seen × IsNoStatement Statement.Certificates given fault)
+            ⊎ ((text : List ℕ) × IsTextOf given.given text × StopsOn (handed input.now.yard input.now.orders input.now.sequence report.now text) out_seen fault)) }
+    ensures counted { MatchResult result
+        (λ _. C.failures certificates.new + W.failures out.new + interruptions.old ≤ C.failures certificates.old + W.failures out.old + interruptions.new)
+        (λ fault. C.failures certificates.new + W.failures out.new + interruptions.old
+            ≤ C.failures certificates.old + W.failures out.old + interruptions.new + failures_of_tool_fault fault) }
+    ensures count { (C.failures certificates.old ≤ C.failures certificates.new) × (W.failures out.old ≤ W.failures out.new) }
     ensures passed { interruptions.new ≤ most_interruptions }
 {
     match crp_audit::audit(
@@ -181,18 +185,20 @@ fn audit_input<W: Sink>(
         &input.sequence,
         report,
         certificates,
+        MOST_BYTES,
+        interruptions,
     ) {
         Ok(shown) => {
             let text = text_of(alloc, &shown)?;
             write_all(out, &text, interruptions)?;
             Ok(())
         }
-        Err(refused) => Err(refuse(alloc, refused, out, interruptions)),
+        Err(stopped) => Err(stop(alloc, stopped, out, interruptions)),
     }
 }
 
 /// Audits a report and certificates, whoever made them, against a yard list and a message: writes what is shown of each bay, and how
-/// many were audited; or what is shown of those before the first fault.
+/// many were audited; or what is shown of those before the first fault. The certificates are read in pieces, one after the other.
 pub fn audit<Y: Source, M: Source, R: Source, C: Source, W: Sink>(
     alloc: Global,
     yard: &mut Y,
@@ -212,13 +218,7 @@ pub fn audit<Y: Source, M: Source, R: Source, C: Source, W: Sink>(
 {
     let mut interruptions = 0;
     let input = input_from(alloc, yard, movins, settings, &mut interruptions)?;
-    let said = text_from(alloc, report, Statement::Report, &mut interruptions)?;
-    let proofs = text_from(
-        alloc,
-        certificates,
-        Statement::Certificates,
-        &mut interruptions,
-    )?;
-    audit_input(alloc, &input, &said, &proofs, out, &mut interruptions)?;
+    let said = report_from(alloc, report, &mut interruptions)?;
+    audit_input(alloc, &input, &said, certificates, out, &mut interruptions)?;
     Ok(Status::Decided)
 }

@@ -5,23 +5,26 @@ use Rattle.crp_audit.specs.Headline.{verdict_said}
 use Rattle.crp_order.specs.declared.bay_problem.BayProblem.{BayProblem}
 use Rattle.crp_said.specs.Views.{bay_as}
 use Rattle.crp_audit.specs.Certified.{SaysThis, IsCertificateFault}
-use Rattle.crp_audit.proofs.Bays.{bay_true, certificate_fault}
+use Rattle.crp_audit.specs.Stops.{StopsAt}
+use Rattle.crp_audit.proofs.Bays.{bay_true, certificate_stops}
 use Rattle.crp_audit.proofs.auditing.audit_bay.Goals as goal
 
 pub returns-in_err-verdict-clause-wrong : goal.returns-in_err-verdict-clause-wrong
-returns-in_err-verdict-clause-wrong c =
+returns-in_err-verdict-clause-wrong g c =
     let p = err_from_is_err_and c.from_residual-in_err-verdict.result c.from_residual-in_err-verdict.ensures.1 in
-    rw (p.1, p.2) (λ h bay same name.
-    certificate_fault h bay c.args.stated.now (bay_as c.args.said.now) c.in_ok-rows.rows.items c.args.left.now c.args.front.now.items c.in_err-verdict.field-0.0
-    same c.requires.named c.in_ok-rows.ensures.right
-    (subst (λ rows. IsCertificateFault c.args.stated.now c.args.said.now.said rows c.args.left.now c.in_err-verdict.field-0.0) c.deref-3.ensures.value c.in_err-verdict.ensures.wrong))
+    let known = g.R.Source.remaining c.args.source.now in
+    rw (p.1, p.2) (certificate_stops known c.args.unread.now c.args.stated.now (bay_as c.args.said.now) c.in_ok-rows.rows.items c.args.front.now.items c.in_err-verdict.field-0.0
+    c.requires.named c.in_ok-rows.ensures.right
+    (subst (λ rows. StopsAt known c.args.unread.now (IsCertificateFault c.args.stated.now c.args.said.now.said rows) c.in_err-verdict.field-0.0) c.deref-3.ensures.value c.in_err-verdict.ensures.wrong))
 
 pub returns-clause-right : goal.returns-clause-right
-returns-clause-right c h bay same =
-    let (text, script, begins, is, says, verdict) = c.in_ok-verdict.ensures.right in (
+returns-clause-right g c =
+    let (text, script, taken, is, says, verdict) = c.in_ok-verdict.ensures.right in (
       text,
-      begins,
-      bay_true h bay c.args.stated.now (bay_as c.args.said.now) text c.in_ok-rows.rows.items script same c.requires.named c.in_ok-rows.ensures.right is
-          (subst (λ rows. SaysThis c.args.stated.now c.args.said.now.said rows script) c.deref-3.ensures.value says),
-      verdict ∙ ap (λ (st : BayProblem). verdict_said (cap st.problem) c.args.said.now.said) same,
+      taken,
+      λ h bay same. (
+        bay_true h bay c.args.stated.now (bay_as c.args.said.now) text c.in_ok-rows.rows.items script same c.requires.named c.in_ok-rows.ensures.right is
+            (subst (λ rows. SaysThis c.args.stated.now c.args.said.now.said rows script) c.deref-3.ensures.value says),
+        verdict ∙ ap (λ (st : BayProblem). verdict_said (cap st.problem) c.args.said.now.said) same,
+      ),
     )

@@ -1,8 +1,11 @@
-use Rattle.std.proofs.Common.{arith}
+use Rattle.std.proofs.Common.{⊎_elim, List, ℕ, arith, refl, sym, subst}
 use Rattle.std.proofs.lemmas.Result.{err_from_is_err_and}
-use Rattle.crp_commands.specs.Audit.{AuditSeen}
+use Rattle.crp_audit.specs.Headline.{Handed, handed}
+use Rattle.crp_commands.specs.Audit.{AuditSeen, IsHandedIn}
+use Rattle.crp_commands.specs.Calls.{IsTextWithin}
+use Rattle.crp_commands.specs.declared.auditing.TheConstants.{MOST_REPORT}
 use Rattle.crp_commands.specs.declared.outcome.Statement.TheVariants as statement
-use Rattle.crp_commands.proofs.Audited.{unread}
+use Rattle.crp_commands.proofs.Audited.{unread, stopped}
 use Rattle.crp_commands.proofs.Replayed.{keeps_same}
 use Rattle.crp_commands.proofs.auditing.audit.Goals as goal
 
@@ -13,7 +16,7 @@ returns-in_err-said g c =
     let seen : AuditSeen = record {
       yard = record { given = g.Y.Source.remaining c.args.yard.now; before = g.Y.Source.failures c.args.yard.now; after = g.Y.Source.failures c.input_from.new.yard };
       movins = record { given = g.M.Source.remaining c.args.movins.now; before = g.M.Source.failures c.args.movins.now; after = g.M.Source.failures c.input_from.new.movins };
-      report = record { given = g.R.Source.remaining c.args.report.now; before = g.R.Source.failures c.args.report.now; after = g.R.Source.failures c.text_from.new.source };
+      report = record { given = g.R.Source.remaining c.args.report.now; before = g.R.Source.failures c.args.report.now; after = g.R.Source.failures c.report_from.new.source };
       certificates = record {
         given = g.C.Source.remaining c.args.certificates.now;
         before = g.C.Source.failures c.args.certificates.now;
@@ -26,30 +29,71 @@ returns-in_err-said g c =
       omega (arith, c.in_ok-input.ensures.counted, c.in_err-said.ensures.counted, c.in_err-said.ensures.count, c.in_err-said.ensures.passed),
     )
 
-pub returns-in_err-proofs : goal.returns-in_err-proofs
-returns-in_err-proofs g c =
-    let p = err_from_is_err_and c.from_residual-in_err-proofs.result c.from_residual-in_err-proofs.ensures.1 in
+pub returns-in_err-audit_input : goal.returns-in_err-audit_input
+returns-in_err-audit_input g c =
+    let p = err_from_is_err_and c.from_residual-in_err-audit_input.result c.from_residual-in_err-audit_input.ensures.1 in
     let input = c.in_ok-input.input in
+    let report : List ℕ = c.deref.result.now in
     let seen : AuditSeen = record {
       yard = record { given = g.Y.Source.remaining c.args.yard.now; before = g.Y.Source.failures c.args.yard.now; after = g.Y.Source.failures c.input_from.new.yard };
       movins = record { given = g.M.Source.remaining c.args.movins.now; before = g.M.Source.failures c.args.movins.now; after = g.M.Source.failures c.input_from.new.movins };
-      report = record { given = g.R.Source.remaining c.args.report.now; before = g.R.Source.failures c.args.report.now; after = g.R.Source.failures c.text_from.new.source };
+      report = record { given = g.R.Source.remaining c.args.report.now; before = g.R.Source.failures c.args.report.now; after = g.R.Source.failures c.report_from.new.source };
       certificates = record {
         given = g.C.Source.remaining c.args.certificates.now;
         before = g.C.Source.failures c.args.certificates.now;
-        after = g.C.Source.failures c.text_from-2.new.source;
+        after = g.C.Source.failures c.audit_input.new.certificates;
       };
-      out = record { held = g.W.Sink.contents c.args.out.now; holds = g.W.Sink.contents c.args.out.now; before = g.W.Sink.failures c.args.out.now; after = g.W.Sink.failures c.args.out.now };
+      out = record { held = g.W.Sink.contents c.args.out.now; holds = g.W.Sink.contents c.audit_input.new.out; before = g.W.Sink.failures c.args.out.now; after = g.W.Sink.failures c.audit_input.new.out };
     } in
+    let f = c.in_err-audit_input.field-0.0 in
+    let said = subst (IsTextWithin MOST_REPORT seen.report.given) (sym c.deref.ensures.value) c.in_ok-said.ensures.read in
     rw (p.1, p.2) (
-      unread c.args.settings.now seen statement.Certificates c.in_err-proofs.field-0.0 (keeps_same _) (input.yard, input.orders, input.sequence, c.in_ok-input.ensures.read) c.in_err-proofs.ensures.refused,
+      ⊎_elim (λ k. unread c.args.settings.now seen statement.Certificates f k.0 (input.yard, input.orders, input.sequence, c.in_ok-input.ensures.read) k.1)
+          (λ k.
+          let (text, given, stops) = k in
+          let h : Handed = handed input.yard input.orders input.sequence report text in
+          let is : IsHandedIn c.args.settings.now seen h = record { input = c.in_ok-input.ensures.read; report = said; certificates = given } in
+          stopped c.args.settings.now seen h f is stops)
+          c.in_err-audit_input.ensures.ended,
       omega (
         arith,
         c.in_ok-input.ensures.counted,
         c.in_ok-said.ensures.counted,
         c.in_ok-said.ensures.count,
-        c.in_err-proofs.ensures.counted,
-        c.in_err-proofs.ensures.count,
-        c.in_err-proofs.ensures.passed,
+        c.in_err-audit_input.ensures.counted,
+        c.in_err-audit_input.ensures.count,
+        c.in_err-audit_input.ensures.passed,
+      ),
+    )
+
+pub returns : goal.returns
+returns g c =
+    let input = c.in_ok-input.input in
+    let report : List ℕ = c.deref.result.now in
+    let seen : AuditSeen = record {
+      yard = record { given = g.Y.Source.remaining c.args.yard.now; before = g.Y.Source.failures c.args.yard.now; after = g.Y.Source.failures c.input_from.new.yard };
+      movins = record { given = g.M.Source.remaining c.args.movins.now; before = g.M.Source.failures c.args.movins.now; after = g.M.Source.failures c.input_from.new.movins };
+      report = record { given = g.R.Source.remaining c.args.report.now; before = g.R.Source.failures c.args.report.now; after = g.R.Source.failures c.report_from.new.source };
+      certificates = record {
+        given = g.C.Source.remaining c.args.certificates.now;
+        before = g.C.Source.failures c.args.certificates.now;
+        after = g.C.Source.failures c.audit_input.new.certificates;
+      };
+      out = record { held = g.W.Sink.contents c.args.out.now; holds = g.W.Sink.contents c.audit_input.new.out; before = g.W.Sink.failures c.args.out.now; after = g.W.Sink.failures c.audit_input.new.out };
+    } in
+    let (text, within, done) = c.in_ok-audit_input.ensures.ended in
+    let h : Handed = handed input.yard input.orders input.sequence report text in
+    let said = subst (IsTextWithin MOST_REPORT seen.report.given) (sym c.deref.ensures.value) c.in_ok-said.ensures.read in
+    let handed_in : IsHandedIn c.args.settings.now seen h = record { input = c.in_ok-input.ensures.read; report = said; certificates = within.1 } in (
+      refl,
+      (h, handed_in, within.0, done),
+      omega (
+        arith,
+        c.in_ok-input.ensures.counted,
+        c.in_ok-said.ensures.counted,
+        c.in_ok-said.ensures.count,
+        c.in_ok-audit_input.ensures.counted,
+        c.in_ok-audit_input.ensures.count,
+        c.in_ok-audit_input.ensures.passed,
       ),
     )
