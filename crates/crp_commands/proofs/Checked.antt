@@ -100,6 +100,8 @@ line_stops held holds new before after file piece verdicts stated files number (
 line_stops held holds new before after file piece verdicts stated files number (fault.Audited f) has ended why = absurd why
 line_stops held holds new before after file piece verdicts stated files number (fault.ReadOf which) has ended why = absurd why
 line_stops held holds new before after file piece verdicts stated files number (fault.TooLargeOf which) has ended why = absurd why
+line_stops held holds new before after file piece verdicts stated files number (fault.Followed f) has ended why = absurd why
+line_stops held holds new before after file piece verdicts stated files number fault.WriteTable has ended why = absurd why
 
 -- a certificate that is refused
 pub refusal_stops : (held holds : Option (List ℕ)) (before after : ℕ) (file piece : List ℕ) (verdicts : List (YardBay × Verdict)) (files : FileChecker) (number : ℕ) (why : Refused) (f : ToolFault) →
@@ -149,6 +151,8 @@ earlier_bytes held holds first before after bytes (fault.Run f) le grows tells =
 earlier_bytes held holds first before after bytes (fault.Audited f) le grows tells = absurd tells
 earlier_bytes held holds first before after bytes (fault.ReadOf which) le grows tells = absurd tells
 earlier_bytes held holds first before after bytes (fault.TooLargeOf which) le grows tells = absurd tells
+earlier_bytes held holds first before after bytes (fault.Followed f) le grows tells = absurd tells
+earlier_bytes held holds first before after bytes fault.WriteTable le grows tells = absurd tells
 
 -- a fault after a piece that was checked
 pub stops_after : (one two all : List ℕ) (a b c : Option (List ℕ)) (f g : FileChecker) (m n first before after : ℕ) (why : ToolFault) → one ++ two ≡ all → first ≤ before → before ≤ after →
@@ -216,6 +220,8 @@ bytes_stop limit s bytes (fault.Run f) is within tells = absurd tells
 bytes_stop limit s bytes (fault.Audited f) is within tells = absurd tells
 bytes_stop limit s bytes (fault.ReadOf which) is within tells = absurd tells
 bytes_stop limit s bytes (fault.TooLargeOf which) is within tells = absurd tells
+bytes_stop limit s bytes (fault.Followed f) is within tells = absurd tells
+bytes_stop limit s bytes fault.WriteTable is within tells = absurd tells
 
 -- a line was written for each certificate that has ended in the file
 pub wrote_each : (s : CallSeen) (file : List ℕ) (verdicts : List (YardBay × Verdict)) (files : FileChecker) (number : ℕ) → IsReadFrom s.given file → HasChecked s.held s.holds file verdicts files number → WritesEach s file
@@ -242,6 +248,8 @@ earlier_check limit given held holds source before after sink first last (fault.
 earlier_check limit given held holds source before after sink first last (fault.Audited f) a b c d tells = absurd tells
 earlier_check limit given held holds source before after sink first last (fault.ReadOf which) a b c d tells = absurd tells
 earlier_check limit given held holds source before after sink first last (fault.TooLargeOf which) a b c d tells = absurd tells
+earlier_check limit given held holds source before after sink first last (fault.Followed f) a b c d tells = absurd tells
+earlier_check limit given held holds source before after sink first last fault.WriteTable a b c d tells = absurd tells
 
 -- at the last line
 pub last_stops : (limit : ℕ) (s : CallSeen) (holds : Option (List ℕ)) (file : List ℕ) (verdicts : List (YardBay × Verdict)) (stated : YardBay × Verdict) (files : FileChecker) (number : ℕ) (f : ToolFault) →
@@ -260,6 +268,8 @@ last_stops limit s holds file verdicts stated files number (fault.Run f) text is
 last_stops limit s holds file verdicts stated files number (fault.Audited f) text is has shows why = absurd why
 last_stops limit s holds file verdicts stated files number (fault.ReadOf which) text is has shows why = absurd why
 last_stops limit s holds file verdicts stated files number (fault.TooLargeOf which) text is has shows why = absurd why
+last_stops limit s holds file verdicts stated files number (fault.Followed f) text is has shows why = absurd why
+last_stops limit s holds file verdicts stated files number fault.WriteTable text is has shows why = absurd why
 
 -- at the last certificate
 pub last_refused : (limit : ℕ) (s : CallSeen) (file : List ℕ) (verdicts : List (YardBay × Verdict)) (files : FileChecker) (number : ℕ) (why : Refused) (f : ToolFault) →

@@ -2,6 +2,7 @@
 pub mod Replayed
 pub mod Checked
 pub mod Audited
+pub mod Traced
 pub mod Performed
 pub mod Solved
 pub mod Promised

@@ -31,5 +31,6 @@ shows_kept (Some x) (Some y) (Some z) text first next = next ∙ first
 pub noted_alone : (j : Job) (a b c : Option (List ℕ)) (m n o : ℕ) → IsNoted j (seen_from a b m n) → IsLeftAlone (seen_from b c n o) → IsNoted j (seen_from a c m o)
 noted_alone (job.OneFile file command) a b c m n o first next = alone_then a b c m n o first next
 noted_alone (job.Audit names settings) a b c m n o first next = alone_then a b c m n o first next
+noted_alone (job.Follow names heights) a b c m n o first next = alone_then a b c m n o first next
 noted_alone (job.Solve names settings true progress) a b c m n o first next = alone_then a b c m n o first next
 noted_alone (job.Solve names settings false progress) a b c m n o (text, first) (next, more) = (text, shows_kept a b c text first next)

@@ -30,6 +30,7 @@ each_gets s m report certificates yard_after output.YardAfter = yard_after
 headline_kept : (j : Job) (seen : JobSeen) (ended : Status) → ReportsOverFiles j seen ended → KeepsHeadline j seen
 headline_kept (job.OneFile file command) seen ended is = tt
 headline_kept (job.Audit names settings) seen ended is = tt
+headline_kept (job.Follow names heights) seen ended is = tt
 headline_kept (job.Solve names chosen quiet progress) seen ended (alone, (s, over, ((m, made, status, report, certificates, yard_after), few))) =
     (m, headline_holds chosen s m made, record { saw = s; over = over; is_made = made; written = each_gets s m report certificates yard_after })
 
@@ -57,15 +58,18 @@ run_so_far names chosen seen (run.Message f) (inr (s, over, asked, (stated, few)
 headline_so_far : (j : Job) (seen : JobSeen) (f : ToolFault) → FailsOverFiles j seen f → KeepsHeadlineSoFar j seen
 headline_so_far (job.OneFile file command) seen f is = tt
 headline_so_far (job.Audit names settings) seen f is = tt
+headline_so_far (job.Follow names heights) seen f is = tt
 headline_so_far (job.Solve names chosen quiet progress) seen (fault.Run f) (alone, is) = run_so_far names chosen seen f is
 headline_so_far (job.Solve names chosen quiet progress) seen (fault.Cert f) is = absurd is
 headline_so_far (job.Solve names chosen quiet progress) seen (fault.Plan f) is = absurd is
 headline_so_far (job.Solve names chosen quiet progress) seen (fault.Checked number refused) is = absurd is
 headline_so_far (job.Solve names chosen quiet progress) seen (fault.Audited f) is = absurd is
+headline_so_far (job.Solve names chosen quiet progress) seen (fault.Followed f) is = absurd is
 headline_so_far (job.Solve names chosen quiet progress) seen (fault.ReadOf which) is = absurd is
 headline_so_far (job.Solve names chosen quiet progress) seen (fault.TooLargeOf which) is = absurd is
 headline_so_far (job.Solve names chosen quiet progress) seen fault.Read is = absurd is
 headline_so_far (job.Solve names chosen quiet progress) seen fault.Write is = absurd is
+headline_so_far (job.Solve names chosen quiet progress) seen fault.WriteTable is = absurd is
 headline_so_far (job.Solve names chosen quiet progress) seen fault.TooLarge is = absurd is
 headline_so_far (job.Solve names chosen quiet progress) seen fault.Memory is = absurd is
 

@@ -10,6 +10,7 @@ use Rattle.crp_commands.specs.declared.job.Job.{Job}
 use Rattle.crp_commands.specs.declared.job.Job.TheVariants as job
 use Rattle.crp_commands.specs.declared.job.RunFiles.{RunFiles}
 use Rattle.crp_commands.specs.declared.job.AuditFiles.{AuditFiles}
+use Rattle.crp_commands.specs.declared.job.FollowFiles.{FollowFiles}
 use Rattle.crp_commands.specs.declared.outcome.Statement.{Statement}
 use Rattle.crp_commands.specs.declared.outcome.Statement.TheVariants as statement
 use Rattle.crp_commands.specs.declared.outcome.ToolFault.{ToolFault}
@@ -29,7 +30,7 @@ IsPlainLine text = IsTrue (nat_lt 0 (length text)) × IsTrue (list_all is_printa
 abbrev pub file_words : List ℕ → List ℕ
 file_words name = codes "the file " ++ name
 
--- what a job over one file reads, in words: a file named `-` is the standard input
+-- what a job over one file reads, and the report that one follows, in words: a file named `-` is the standard input
 abbrev pub source_words : List ℕ → List ℕ
 source_words name = if bytes_eq name (codes "-") then codes "the standard input" else file_words name
 
@@ -68,9 +69,17 @@ failed_in_audit names (fault.ReadOf statement.Certificates) = Some (file_words n
 failed_in_audit names fault.Write = Some (codes "the standard output")
 failed_in_audit names f = None
 
+-- the same where these files are followed; the table goes to the standard output
+abbrev pub failed_in_follow : FollowFiles → ToolFault → Option (List ℕ)
+failed_in_follow names (fault.Run (run.Read input.Yard)) = Some (file_words names.yard.now)
+failed_in_follow names (fault.ReadOf statement.Report) = Some (source_words names.report.now)
+failed_in_follow names fault.WriteTable = Some (codes "the standard output")
+failed_in_follow names f = None
+
 -- what the job could not read or write, in words, where the fault is of that kind
 abbrev pub failed_words : Job → ToolFault → Option (List ℕ)
 failed_words (job.OneFile file command) f = failed_in_file file.now f
 failed_words (job.Audit names settings) f = failed_in_audit names f
+failed_words (job.Follow names heights) f = failed_in_follow names f
 failed_words (job.Solve names settings quiet progress) (fault.Run f) = failed_in_run names f
 failed_words (job.Solve names settings quiet progress) f = None

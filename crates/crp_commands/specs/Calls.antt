@@ -9,6 +9,8 @@ use Rattle.crp_cert.specs.declared.fault.CertFault.TheVariants as cert
 use Rattle.crp_cert.specs.Faults.{IsFirstFault}
 use Rattle.crp_audit.specs.declared.fault.AuditFault.{AuditFault}
 use Rattle.crp_audit.specs.declared.fault.AuditFault.TheVariants as audited
+use Rattle.crp_follow.specs.declared.fault.FollowFault.{FollowFault}
+use Rattle.crp_follow.specs.declared.fault.FollowFault.TheVariants as followed
 use Rattle.crp_report.specs.Runs.{failures_of_fault}
 use Rattle.crp_report.specs.declared.fault.Fault.TheVariants as run
 use Rattle.crp_report.specs.declared.status.Status.{Status}
@@ -40,6 +42,7 @@ abbrev pub failures_of_tool_fault : ToolFault → ℕ
 failures_of_tool_fault fault.Read = 1
 failures_of_tool_fault (fault.ReadOf which) = 1
 failures_of_tool_fault fault.Write = 1
+failures_of_tool_fault fault.WriteTable = 1
 failures_of_tool_fault (fault.Run f) = failures_of_fault f
 failures_of_tool_fault f = 0
 
@@ -90,6 +93,10 @@ abbrev pub fault_of_audit : AuditFault → ToolFault
 fault_of_audit audited.Memory = fault.Memory
 fault_of_audit f = fault.Audited f
 
+abbrev pub fault_of_follow : FollowFault → ToolFault
+fault_of_follow followed.Memory = fault.Memory
+fault_of_follow f = fault.Followed f
+
 -- the exit status of the program: 0 decided, 1 a budget ended, 3 input refused, 4 lack of memory, 5 a read or write fault, 6 a certificate,
 -- head or plan refused, or a report with its certificates
 abbrev pub exit_code : Result Status ToolFault → ℕ
@@ -98,10 +105,12 @@ exit_code (Ok status.Budget) = 1
 exit_code (Ok status.Memory) = 4
 exit_code (Err fault.TooLarge) = 3
 exit_code (Err (fault.TooLargeOf which)) = 3
+exit_code (Err (fault.Followed f)) = 3
 exit_code (Err fault.Memory) = 4
 exit_code (Err fault.Read) = 5
 exit_code (Err (fault.ReadOf which)) = 5
 exit_code (Err fault.Write) = 5
+exit_code (Err fault.WriteTable) = 5
 exit_code (Err (fault.Run (run.Yard f))) = 3
 exit_code (Err (fault.Run (run.Interchange f))) = 3
 exit_code (Err (fault.Run (run.Message f))) = 3

@@ -5,6 +5,7 @@ pub mod Bound
 pub mod Prove
 pub mod Check
 pub mod Audit
+pub mod Follow
 pub mod Checks
 pub mod Opened
 pub mod Solving

@@ -11,8 +11,9 @@ abbrev pub IsNotedBy : Bool → SinkSeen → Type 0
 IsNotedBy true s = IsLeftAlone s
 IsNotedBy false s = ShowsMore s.held s.holds
 
--- and a command over one file and an audit leave it alone
+-- and a command over one file, an audit and what follows a report leave it alone
 abbrev pub IsNoted : Job → SinkSeen → Type 0
 IsNoted (job.OneFile file command) s = IsLeftAlone s
 IsNoted (job.Audit names settings) s = IsLeftAlone s
+IsNoted (job.Follow names heights) s = IsLeftAlone s
 IsNoted (job.Solve names settings quiet progress) s = IsNotedBy quiet s

@@ -13,6 +13,7 @@ use Rattle.crp_report.specs.Runs.{SourceSeen, SinkSeen}
 use Rattle.crp_commands.specs.Opened.{FilesSeen, FilesFail, IsFileOpened, IsOneRefused, AreFilesLeftAlone, IsSourceLeftAlone, IsLeftAlone}
 use Rattle.crp_commands.specs.Solving.{RunReportsOverFiles, RunFailsOverFiles}
 use Rattle.crp_commands.specs.Audit.{AuditReportsOverFiles, AuditFailsOverFiles}
+use Rattle.crp_commands.specs.Follow.{FollowReportsOverFiles, FollowFailsOverFiles}
 use Rattle.crp_commands.specs.Calls.{CallSeen, call_failures, most_call_failures, WritesReport, CallFailsWith}
 use Rattle.crp_commands.specs.Replay.{IsReplay, IsNoReplay}
 use Rattle.crp_commands.specs.Bound.{IsBound, IsNoBound}
@@ -97,11 +98,13 @@ FileFailsWith name c seen f =
 abbrev pub ReportsOverFiles : Job → JobSeen → Status → Type 0
 ReportsOverFiles (job.OneFile file c) seen ended = ReportsFile file.now c seen ended
 ReportsOverFiles (job.Audit names settings) seen ended = IsSourceLeftAlone seen.input × AuditReportsOverFiles names settings seen.files seen.out ended
+ReportsOverFiles (job.Follow names heights) seen ended = FollowReportsOverFiles names heights seen.files seen.input seen.out ended
 ReportsOverFiles (job.Solve names settings quiet progress) seen ended = IsSourceLeftAlone seen.input × RunReportsOverFiles names settings seen.files seen.out ended
 
 -- what a fault says of the job
 abbrev pub FailsOverFiles : Job → JobSeen → ToolFault → Type 0
 FailsOverFiles (job.OneFile file c) seen f = FileFailsWith file.now c seen f
 FailsOverFiles (job.Audit names settings) seen f = IsSourceLeftAlone seen.input × AuditFailsOverFiles names settings seen.files seen.out f
+FailsOverFiles (job.Follow names heights) seen f = FollowFailsOverFiles names heights seen.files seen.input seen.out f
 FailsOverFiles (job.Solve names settings quiet progress) seen (fault.Run f) = IsSourceLeftAlone seen.input × RunFailsOverFiles names settings seen.files seen.out f
 FailsOverFiles (job.Solve names settings quiet progress) seen f = ⊥

@@ -1,8 +1,9 @@
 //! What to look at after a fault, in plain words: a line for each fault, and the file that could not be read or written.
 ghost use Rattle.std.specs.Prelude.{◌≡◌, Some, option_map};
-ghost use Rattle.crp_commands.specs.Advice.{IsPlainLine, failed_in_audit, failed_in_file, failed_in_run, failed_words, place_words, source_words};
+ghost use Rattle.crp_commands.specs.Advice.{IsPlainLine, failed_in_audit, failed_in_file, failed_in_follow, failed_in_run, failed_words, place_words, source_words};
 
-use crate::job::{AuditFiles, Job, RunFiles};
+use crate::follow_advice::advice_on_follow;
+use crate::job::{AuditFiles, FollowFiles, Job, RunFiles};
 use crate::outcome::{Statement, ToolFault};
 use crp_audit::AuditFault;
 use crp_cert::CertFault;
@@ -14,7 +15,7 @@ use crp_yard::YardFault;
 use edi_text::EdiFault;
 use std::fmt::{self, Display, Formatter, Write};
 
-const MEMORY: &str =
+pub(crate) const MEMORY: &str =
     "close other programs, or use a machine with more memory; solve and prove need less with a smaller --budget";
 
 const YARD_NOT_READ: &str =
@@ -312,6 +313,7 @@ pub fn advice_on(fault: &ToolFault) -> &'static str
         ToolFault::Plan(fault) => advice_on_plan(fault),
         ToolFault::Checked { refused, .. } => advice_on_refused(refused),
         ToolFault::Audited(fault) => advice_on_audit(fault),
+        ToolFault::Followed(fault) => advice_on_follow(fault),
         ToolFault::Run(fault) => advice_on_run(fault),
         ToolFault::ReadOf(Statement::Report) => {
             "the report could not be read: it must be there, be a file and no folder, and you must be allowed to read it"
@@ -322,6 +324,9 @@ pub fn advice_on(fault: &ToolFault) -> &'static str
         ToolFault::Read => CERTIFICATE_NOT_READ,
         ToolFault::Write => {
             "the output could not be written: its disk must not be full, and the program that reads it must not have ended"
+        }
+        ToolFault::WriteTable => {
+            "the table could not be written: its disk must not be full, and the program that reads it must not have ended"
         }
         ToolFault::TooLarge => CERTIFICATES_TOO_LARGE,
         ToolFault::Memory => MEMORY,
@@ -351,7 +356,7 @@ impl Display for Place<'_> {
     }
 }
 
-// What a job over one file reads.
+// What a job reads that is over this file, or follows this report.
 fn source_of(file: &str) -> Place<'_>
     ensures { place_words result ≡ source_words file.now }
 {
@@ -372,7 +377,9 @@ fn place_in_file<'a>(file: &'a str, fault: &ToolFault) -> Option<Place<'a>>
         | ToolFault::Plan(_)
         | ToolFault::Checked { .. }
         | ToolFault::Audited(_)
+        | ToolFault::Followed(_)
         | ToolFault::Run(_)
+        | ToolFault::WriteTable
         | ToolFault::ReadOf(_)
         | ToolFault::TooLargeOf(_)
         | ToolFault::TooLarge
@@ -408,6 +415,18 @@ fn place_in_audit<'a>(names: &AuditFiles<'a>, fault: &ToolFault) -> Option<Place
     }
 }
 
+// What could not be read or written where these files are followed.
+fn place_in_follow<'a>(names: &FollowFiles<'a>, fault: &ToolFault) -> Option<Place<'a>>
+    ensures { option_map place_words result ≡ failed_in_follow names.now fault.now }
+{
+    match fault {
+        ToolFault::Run(Fault::Read(Input::Yard)) => Some(Place::File(names.yard)),
+        ToolFault::ReadOf(Statement::Report) => Some(source_of(names.report)),
+        ToolFault::WriteTable => Some(Place::StandardOutput),
+        _ => None,
+    }
+}
+
 /// What the job could not read or write, where the fault is that a read or a write failed, or that a file could not be opened.
 pub fn place_of<'a>(job: &Job<'a>, fault: &ToolFault) -> Option<Place<'a>>
     ensures { option_map place_words result ≡ failed_words job.now fault.now }
@@ -415,6 +434,7 @@ pub fn place_of<'a>(job: &Job<'a>, fault: &ToolFault) -> Option<Place<'a>>
     match job {
         Job::OneFile { file, .. } => place_in_file(file, fault),
         Job::Audit { files, .. } => place_in_audit(files, fault),
+        Job::Follow { files, .. } => place_in_follow(files, fault),
         Job::Solve { files, .. } => {
             if let ToolFault::Run(fault) = fault {
                 return place_in_run(files, fault);

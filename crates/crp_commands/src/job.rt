@@ -1,4 +1,6 @@
 //! What the program may be asked for.
+
+use crate::row_heights::RowHeights;
 use crp_report::{InputSettings, RunSettings};
 use crp_solve::Settings;
 
@@ -41,6 +43,15 @@ pub struct AuditFiles<'a> {
     pub certificates: &'a str,
 }
 
+/// The files that are followed, by their names.
+#[derive(Clone, Copy)]
+pub struct FollowFiles<'a> {
+    /// The yard list.
+    pub yard: &'a str,
+    /// The report. One named `-` is the standard input.
+    pub report: &'a str,
+}
+
 /// What the program is to do.
 #[derive(Drop)]
 pub enum Job<'a> {
@@ -57,6 +68,13 @@ pub enum Job<'a> {
         files: AuditFiles<'a>,
         /// What the yard list and the message mean.
         settings: InputSettings,
+    },
+    /// To follow the moves of a report over a yard.
+    Follow {
+        /// The files that are followed.
+        files: FollowFiles<'a>,
+        /// How high the rows of the bays are.
+        heights: RowHeights,
     },
     /// To solve the bays of a yard for the load orders of a message.
     Solve {

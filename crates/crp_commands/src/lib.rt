@@ -1,8 +1,8 @@
 //! The commands of the program, over any source and sink and over files.
 //!
 //! `replay`, `bound`, `check` and `prove` go from the bytes of a file of certificates to a report, `audit` from those of a yard list, a
-//! message, a report and certificates to what is shown of them; `perform` does one of them
-//! over a file's bytes, and `run_job` any job over its files. What each writes is said in the file of `specs/` of its name, what a job
+//! message, a report and certificates to what is shown of them, `follow` from those of a yard list and a report to the table of its
+//! moves; `perform` does one of them over a file's bytes, and `run_job` any job over its files. What each writes is said in the file of `specs/` of its name, what a job
 //! does in `specs/Performing.antt`.
 #![tactic(auto)]
 
@@ -10,27 +10,33 @@ mod advice;
 mod auditing;
 mod bounding;
 mod checking;
+mod follow_advice;
+mod following;
 mod heads;
 mod job;
 mod opening;
 mod outcome;
 mod over_audit_files;
 mod over_files;
+mod over_follow_files;
 mod over_yard_files;
 mod performing;
 mod proving;
 mod replaying;
+mod row_heights;
 
 pub use advice::{Place, advice_on, place_of};
 pub use auditing::{MOST_REPORT, audit};
 pub use bounding::bound;
 pub use checking::check;
 pub use crp_notes::{NoTerminal, Terminal};
+pub use following::follow;
 pub use heads::MOST_BYTES;
-pub use job::{AuditFiles, FileCommand, Job, RunFiles};
+pub use job::{AuditFiles, FileCommand, FollowFiles, Job, RunFiles};
 pub use opening::{Files, NotOpened, SystemFiles};
 pub use outcome::{Statement, ToolFault, exit_of};
 pub use over_files::run_job;
 pub use performing::perform;
 pub use proving::prove;
 pub use replaying::replay;
+pub use row_heights::RowHeights;

@@ -7,6 +7,7 @@ ghost use Rattle.crp_commands.specs.Calls.{exit_code};
 use crp_audit::AuditFault;
 use crp_cert::CertFault;
 use crp_checker::Refused;
+use crp_follow::FollowFault;
 use crp_plan::{PlanFault, ReadFailed, ReadFault, WriteFailed};
 use crp_report::{Fault, Status};
 use std::alloc::AllocError;
@@ -48,6 +49,9 @@ pub enum ToolFault {
     /// A report and its certificates are refused, with their first fault.
     #[error("{0}")]
     Audited(AuditFault),
+    /// A report cannot be followed, with its first fault.
+    #[error("{0}")]
+    Followed(FollowFault),
     /// A run over a yard did not do what it was asked for.
     #[error("{0}")]
     Run(Fault),
@@ -57,7 +61,10 @@ pub enum ToolFault {
     /// A write failed, took nothing, or was interrupted once too often.
     #[error("a write failed")]
     Write,
-    /// A read of what is audited failed, or was interrupted once too often; also a file that cannot be opened.
+    /// A write of the table of a report's moves failed, took nothing, or was interrupted once too often.
+    #[error("a write of the table failed")]
+    WriteTable,
+    /// A read of what is audited or followed failed, or was interrupted once too often; also a file that cannot be opened.
     #[error("a read of {0} failed")]
     ReadOf(Statement),
     /// What is audited has more bytes than are allowed.
@@ -141,6 +148,19 @@ impl From<AuditFault> for ToolFault {
     }
 }
 
+impl From<FollowFault> for ToolFault {
+    ghost use Rattle.crp_commands.specs.Calls.{fault_of_follow};
+
+    ghost from_gives = { λ error fault. fault ≡ fault_of_follow error };
+
+    fn from(error: FollowFault) -> ToolFault {
+        match error {
+            FollowFault::Memory => ToolFault::Memory,
+            other => ToolFault::Followed(other),
+        }
+    }
+}
+
 impl From<PlanFault> for ToolFault {
     ghost use Rattle.crp_commands.specs.declared.outcome.ToolFault.TheVariants.{Plan};
 
@@ -179,9 +199,9 @@ pub fn exit_of(answer: &Result<Status, ToolFault>) -> u8
     match answer {
         Ok(Status::Decided) => 0,
         Ok(Status::Budget) => 1,
-        Err(ToolFault::TooLarge | ToolFault::TooLargeOf(_)) => 3,
+        Err(ToolFault::TooLarge | ToolFault::TooLargeOf(_) | ToolFault::Followed(_)) => 3,
         Ok(Status::Memory) | Err(ToolFault::Memory) => 4,
-        Err(ToolFault::Read | ToolFault::ReadOf(_) | ToolFault::Write) => 5,
+        Err(ToolFault::Read | ToolFault::ReadOf(_) | ToolFault::Write | ToolFault::WriteTable) => 5,
         Err(ToolFault::Run(fault)) => exit_of_run(fault),
         Err(
             ToolFault::Cert(_)

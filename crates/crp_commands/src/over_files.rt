@@ -11,6 +11,7 @@ use crate::job::{FileCommand, Job};
 use crate::opening::Files;
 use crate::outcome::ToolFault;
 use crate::over_audit_files::audit_files;
+use crate::over_follow_files::follow_files;
 use crate::over_yard_files::solve;
 use crate::performing::perform;
 use crp_notes::Terminal;
@@ -73,6 +74,10 @@ fn do_job<T: Threads + Wait + Sync, F: Files, R: Source, W: Sink, E: Sink, S: Te
             files: names,
             settings,
         } => audit_files(alloc, files, names, settings, out),
+        Job::Follow {
+            files: names,
+            heights,
+        } => follow_files(alloc, files, input, names, heights, out),
         Job::Solve {
             files: names,
             settings,
@@ -84,7 +89,8 @@ fn do_job<T: Threads + Wait + Sync, F: Files, R: Source, W: Sink, E: Sink, S: Te
     }
 }
 
-/// Does a job over its files, and writes its report to `out`. A job over the file `-` reads `input`, the standard input. A run over a
+/// Does a job over its files, and writes its report to `out`. A job over the file `-`, and one that follows a
+/// report named `-`, reads `input`, the standard input. A run over a
 /// yard that is not to be quiet writes its notes to `errors`, and shows on the terminal how far it is.
 ///
 /// Of a run over a yard the headline holds: of the texts that it wrote, and where it ended with a fault of those whose fronts it wrote.

@@ -9,6 +9,7 @@ use crate::compare::{assert_at, assert_same, assert_same_at};
 use crp_audit::AuditFault;
 use crp_checker::{Path, Refused};
 use crp_commands::{Statement, ToolFault, advice_on};
+use crp_follow::FollowFault;
 use crp_movins::MovinsFault;
 use crp_plan::BayName;
 use crp_report::{Fault, Output};
@@ -23,7 +24,7 @@ fn checked(refused: Refused) -> ToolFault {
 }
 
 // Faults that no small input and no command shows, each with its line and the line after it.
-fn unseen() -> [(ToolFault, &'static str, &'static str); 11] {
+fn unseen() -> [(ToolFault, &'static str, &'static str); 13] {
     [
         (
             ToolFault::Run(Fault::Interchange(EdiFault::TooLong { offset: 6 })),
@@ -74,6 +75,16 @@ fn unseen() -> [(ToolFault, &'static str, &'static str); 11] {
             ToolFault::TooLargeOf(Statement::Certificates),
             "the certificates: too many bytes",
             "a file of certificates may have at most 268435456 bytes",
+        ),
+        (
+            ToolFault::Followed(FollowFault::TooLong),
+            "F10 at line 0",
+            "a report may have at most 8388608 bytes",
+        ),
+        (
+            ToolFault::WriteTable,
+            "a write of the table failed",
+            "the table could not be written: its disk must not be full, and the program that reads it must not have ended",
         ),
         (
             ToolFault::Memory,
@@ -190,12 +201,32 @@ fn add_audits(faults: &mut Vec<ToolFault>) -> Result<(), AllocError> {
         .map_err(AllocError::from)
 }
 
+// The faults of a report that is followed.
+fn add_followed(faults: &mut Vec<ToolFault>) -> Result<(), AllocError> {
+    for fault in [
+        FollowFault::TooLong,
+        FollowFault::Orders { line: 1 },
+        FollowFault::NoLine { line: 2 },
+        FollowFault::Count { line: 3 },
+        FollowFault::NoBay { line: 2 },
+        FollowFault::Again { line: 5 },
+        FollowFault::Relocations { line: 2 },
+        FollowFault::Lift { line: 3 },
+        FollowFault::Container { line: 3 },
+        FollowFault::SetDown { line: 3 },
+    ] {
+        faults.push(ToolFault::Followed(fault))?;
+    }
+    faults.push(ToolFault::WriteTable).map_err(AllocError::from)
+}
+
 // Every fault of a job.
 fn every_fault(alloc: Global) -> Result<Vec<ToolFault>, AllocError> {
     let mut faults = Vec::new(alloc);
     add_runs(&mut faults)?;
     add_certificates(alloc, &mut faults)?;
     add_audits(&mut faults)?;
+    add_followed(&mut faults)?;
     faults.push(ToolFault::Read)?;
     faults.push(ToolFault::Write)?;
     faults.push(ToolFault::TooLarge)?;
@@ -223,7 +254,7 @@ fn is_short(advice: &str) -> bool {
 #[test]
 fn each_line_is_short_and_of_one_code(rt: HostRuntime) -> Result<(), Fail> {
     let lines = every_advice(rt.alloc())?;
-    assert_same(&rt, &lines.len(), &83);
+    assert_same(&rt, &lines.len(), &94);
     for (i, advice) in lines.iter().enumerate() {
         assert_at(&rt, is_short(advice), advice);
         let is_new = lines[..i].iter().all(|line| line != advice);

@@ -1,5 +1,5 @@
 //! The calls that the tests make, each in a function with no clause: so a test knows nothing of what is promised, and is soon checked.
-use crp_commands::{Job, ToolFault};
+use crp_commands::{Job, RowHeights, ToolFault};
 use crp_plan::{Sink, Source};
 use crp_report::{Fault, RunSettings, Status, Watch};
 use crp_solve::Settings;
@@ -87,4 +87,14 @@ pub(crate) fn exit_of(answer: &Result<Status, ToolFault>) -> u8 {
 
 pub(crate) fn job<'a>(alloc: Global, words: &'a [&'a str]) -> Result<Job<'a>, Usage> {
     crp_words::job(alloc, words)
+}
+
+pub(crate) fn follow<Y: Source, R: Source, W: Sink>(
+    alloc: Global,
+    yard: &mut Y,
+    report: &mut R,
+    heights: &RowHeights,
+    out: &mut W,
+) -> Result<Status, ToolFault> {
+    crp_commands::follow(alloc, yard, report, heights, out)
 }

@@ -29,6 +29,8 @@ mod failing_runs;
 #[cfg(test)]
 mod first_runs;
 #[cfg(test)]
+mod follow_turns;
+#[cfg(test)]
 mod interrupted_runs;
 #[cfg(test)]
 mod many_workers;

@@ -5,7 +5,7 @@ use Rattle.std.specs.declared.num.ParseIntError.{ParseIntError}
 use Rattle.clap.specs.Words.{Row, Text}
 use Rattle.clap.specs.Matches.{ReadsOne}
 use Rattle.crp_solve.specs.Chosen.{Chosen}
-use Rattle.crp_words.specs.Words.{Asks, HasBudget, HasNumber, HasNumberBeyond, HasNumberWithin, FindsRows, HasInput, HasSearch, HasSettings, HasSplit, HasBeam, FindsTiers, HasWorkers, MayFindHeights, IsBudgetBeyond, IsSplitBeyond, IsBeamBeyond, AreRowsBeyond, AreTiersBeyond, AreHeightsBeyond, AreWorkersBeyond, IsFault, IsInputFault, IsJust, IsSearchFault, IsNamedTwice, IsSizedTwice, IsSolveFault, IsWordsOrMemory, Lacks, NoFault, HasFiles, HasText, ReadsNumber}
+use Rattle.crp_words.specs.Words.{Asks, HasBudget, HasNumber, HasNumberBeyond, HasNumberWithin, FindsRowHeights, FindsRows, HasInput, HasSearch, HasSettings, HasSplit, HasBeam, FindsTiers, HasWorkers, MayFindHeights, IsBudgetBeyond, IsSplitBeyond, IsBeamBeyond, AreRowsBeyond, AreTiersBeyond, AreHeightsBeyond, AreWorkersBeyond, IsFault, IsInputFault, IsJust, IsSearchFault, IsNamedTwice, IsSizedTwice, IsSolveFault, IsWordsOrMemory, Lacks, NoFault, HasFiles, HasText, ReadsNumber}
 use Rattle.crp_commands.specs.declared.job.Job.{Job}
 use Rattle.crp_commands.specs.declared.job.RunFiles.{RunFiles}
 use Rattle.crp_words.specs.Heights.{IsHeightsText}
@@ -172,10 +172,10 @@ no_beam rows w b t u workers budget split = lacks_more (HasBeam rows) (HasSearch
 
 -- ---- what the input means
 
--- without rows within their limits there is no input
-pub no_rows : (rows : List Row) (u : Usage) → Lacks (FindsRows rows) (IsJust setting.Rows (AreRowsBeyond rows)) u → Lacks (HasInput rows) (IsInputFault rows) u
-no_rows rows u = lacks_more (FindsRows rows) (HasInput rows) (IsJust setting.Rows (AreRowsBeyond rows)) (IsInputFault rows) u
-    (λ s has. (has.0.rows, has.0.finds_rows)) (λ f just. subst (IsInputFault rows) (sym just.0) just.1) down
+-- without rows within their limits there are no heights of rows
+pub no_rows : (rows : List Row) (u : Usage) → Lacks (FindsRows rows) (IsJust setting.Rows (AreRowsBeyond rows)) u → Lacks (FindsRowHeights rows) (IsInputFault rows) u
+no_rows rows u = lacks_more (FindsRows rows) (FindsRowHeights rows) (IsJust setting.Rows (AreRowsBeyond rows)) (IsInputFault rows) u
+    (λ heights has. (has.rows, has.finds_rows)) (λ f just. subst (IsInputFault rows) (sym just.0) just.1) down
   where
     down : (f : SettingFault) → IsInputFault rows f → IsJust setting.Rows (AreRowsBeyond rows) f ⊎ ((n : ℕ) × FindsRows rows n)
     down setting.Workers none = absurd none
@@ -186,11 +186,11 @@ no_rows rows u = lacks_more (FindsRows rows) (HasInput rows) (IsJust setting.Row
     down setting.Tiers first = inr first.0
     down setting.Heights first = inr first.0
 
--- nor is there without tiers within their limits
+-- nor are there without tiers within their limits
 pub no_tiers : (rows : List Row) (r : ℕ) (u : Usage) → FindsRows rows r → Lacks (FindsTiers rows) (IsJust setting.Tiers (AreTiersBeyond rows)) u
-    → Lacks (HasInput rows) (IsInputFault rows) u
-no_tiers rows r u has_rows = lacks_more (FindsTiers rows) (HasInput rows) (IsJust setting.Tiers (AreTiersBeyond rows)) (IsInputFault rows) u
-    (λ s has. (has.0.tiers, has.0.finds_tiers)) (λ f just. subst (IsInputFault rows) (sym just.0) ((r, has_rows), just.1)) down
+    → Lacks (FindsRowHeights rows) (IsInputFault rows) u
+no_tiers rows r u has_rows = lacks_more (FindsTiers rows) (FindsRowHeights rows) (IsJust setting.Tiers (AreTiersBeyond rows)) (IsInputFault rows) u
+    (λ heights has. (has.tiers, has.finds_tiers)) (λ f just. subst (IsInputFault rows) (sym just.0) ((r, has_rows), just.1)) down
   where
     down : (f : SettingFault) → IsInputFault rows f → IsJust setting.Tiers (AreTiersBeyond rows) f ⊎ ((n : ℕ) × FindsTiers rows n)
     down setting.Workers none = absurd none
@@ -203,9 +203,9 @@ no_tiers rows r u has_rows = lacks_more (FindsTiers rows) (HasInput rows) (IsJus
 
 -- nor without heights that can be chosen, where heights are given
 pub no_heights : (rows : List Row) (r t : ℕ) (u : Usage) → FindsRows rows r → FindsTiers rows t
-    → Lacks (MayFindHeights rows) (IsJust setting.Heights (AreHeightsBeyond rows)) u → Lacks (HasInput rows) (IsInputFault rows) u
-no_heights rows r t u has_rows has_tiers = lacks_more (MayFindHeights rows) (HasInput rows) (IsJust setting.Heights (AreHeightsBeyond rows)) (IsInputFault rows) u
-    (λ s has. (has.0.own, has.0.finds_own)) (λ f just. subst (IsInputFault rows) (sym just.0) ((r, has_rows), (t, has_tiers), just.1)) down
+    → Lacks (MayFindHeights rows) (IsJust setting.Heights (AreHeightsBeyond rows)) u → Lacks (FindsRowHeights rows) (IsInputFault rows) u
+no_heights rows r t u has_rows has_tiers = lacks_more (MayFindHeights rows) (FindsRowHeights rows) (IsJust setting.Heights (AreHeightsBeyond rows)) (IsInputFault rows) u
+    (λ heights has. (has.own, has.finds_own)) (λ f just. subst (IsInputFault rows) (sym just.0) ((r, has_rows), (t, has_tiers), just.1)) down
   where
     down : (f : SettingFault) → IsInputFault rows f → IsJust setting.Heights (AreHeightsBeyond rows) f ⊎ ((heights : Option (List ℕ)) × MayFindHeights rows heights)
     down setting.Workers none = absurd none
@@ -215,6 +215,10 @@ no_heights rows r t u has_rows has_tiers = lacks_more (MayFindHeights rows) (Has
     down setting.Rows first = absurd (no_rows_fault rows r has_rows first)
     down setting.Tiers first = absurd (no_tiers_fault rows t has_tiers first.1)
     down setting.Heights first = inl (refl, first.2)
+
+-- without heights of rows there is no input
+pub no_size : (rows : List Row) (u : Usage) → Lacks (FindsRowHeights rows) (IsInputFault rows) u → Lacks (HasInput rows) (IsInputFault rows) u
+no_size rows u = lacks_more (FindsRowHeights rows) (HasInput rows) (IsInputFault rows) (IsInputFault rows) u (λ s has. (s.heights, has.0)) (λ f first. first) (λ f first. inl first)
 
 -- ---- the settings of solve
 
@@ -249,13 +253,15 @@ prove_asks rows (job.OneFile file command.Bound) asks = absurd (other_name 112 9
 prove_asks rows (job.OneFile file command.Check) asks = absurd (other_name 112 99 _ _ (omega arith) asks.0)
 prove_asks rows (job.OneFile file (command.Prove search)) asks = (search, asks.0.1)
 prove_asks rows (job.Audit names settings) asks = absurd (other_name 112 97 _ _ (omega arith) asks.0)
+prove_asks rows (job.Follow names heights) asks = absurd (other_name 112 102 _ _ (omega arith) asks.0)
 prove_asks rows (job.Solve names settings quiet progress) asks = absurd (other_name 112 115 _ _ (omega arith) asks.0)
 
 -- a fault of prove is its search's
 prove_fault : (rows : List Row) (f : SettingFault) → IsFault (codes "prove") rows f → IsSearchFault rows f
 prove_fault rows f (inl (is, first)) = first
 prove_fault rows f (inr (inl (is, first))) = absurd (other_name 112 115 _ _ (omega arith) is)
-prove_fault rows f (inr (inr (is, first))) = absurd (other_name 112 97 _ _ (omega arith) is)
+prove_fault rows f (inr (inr (inl (is, first)))) = absurd (other_name 112 97 _ _ (omega arith) is)
+prove_fault rows f (inr (inr (inr (is, first)))) = absurd (other_name 112 102 _ _ (omega arith) is)
 
 -- without settings of a search prove asks for nothing
 pub no_prove : (rows : List Row) (u : Usage) → Lacks (HasSearch rows) (IsSearchFault rows) u
@@ -271,12 +277,14 @@ solve_asks rows (job.OneFile file command.Bound) asks = absurd (other_name 115 9
 solve_asks rows (job.OneFile file command.Check) asks = absurd (other_name 115 99 _ _ (omega arith) asks.0)
 solve_asks rows (job.OneFile file (command.Prove search)) asks = absurd (other_name 115 112 _ _ (omega arith) asks.0.0)
 solve_asks rows (job.Audit names settings) asks = absurd (other_name 115 97 _ _ (omega arith) asks.0)
+solve_asks rows (job.Follow names heights) asks = absurd (other_name 115 102 _ _ (omega arith) asks.0)
 solve_asks rows (job.Solve names settings quiet progress) asks = (asks.1, asks.2, (names, asks.3), (settings, asks.4))
 
 solve_fault : (rows : List Row) (f : SettingFault) → IsFault (codes "solve") rows f → ¬ IsSizedTwice rows × ¬ IsNamedTwice rows × IsSolveFault rows f
 solve_fault rows f (inl (is, first)) = absurd (other_name 115 112 _ _ (omega arith) is)
 solve_fault rows f (inr (inl (is, first))) = first
-solve_fault rows f (inr (inr (is, first))) = absurd (other_name 115 97 _ _ (omega arith) is)
+solve_fault rows f (inr (inr (inl (is, first)))) = absurd (other_name 115 97 _ _ (omega arith) is)
+solve_fault rows f (inr (inr (inr (is, first)))) = absurd (other_name 115 102 _ _ (omega arith) is)
 
 -- without settings solve asks for nothing
 pub no_solve : (rows : List Row) (u : Usage) → ¬ IsSizedTwice rows → ¬ IsNamedTwice rows → Lacks (HasSettings rows) (IsSolveFault rows) u
@@ -292,14 +300,17 @@ no_heights_fault rows (Some heights) (text, has, is) (other, found, none) =
     let same : text ≡ other = cc in
     none heights (subst (IsHeightsText heights) same is)
 
+no_size_fault : (rows : List Row) (heights : List ℕ) → FindsRowHeights rows heights → (f : SettingFault) → IsInputFault rows f → ⊥
+no_size_fault rows heights has setting.Workers none = none
+no_size_fault rows heights has setting.Budget none = none
+no_size_fault rows heights has setting.Split none = none
+no_size_fault rows heights has setting.Beam none = none
+no_size_fault rows heights has setting.Rows beyond = no_rows_fault rows has.rows has.finds_rows beyond
+no_size_fault rows heights has setting.Tiers first = no_tiers_fault rows has.tiers has.finds_tiers first.1
+no_size_fault rows heights has setting.Heights first = no_heights_fault rows has.own has.finds_own first.2
+
 no_input_fault : (rows : List Row) (s : InputChosen) → HasInput rows s → (f : SettingFault) → IsInputFault rows f → ⊥
-no_input_fault rows s has setting.Workers none = none
-no_input_fault rows s has setting.Budget none = none
-no_input_fault rows s has setting.Split none = none
-no_input_fault rows s has setting.Beam none = none
-no_input_fault rows s has setting.Rows beyond = no_rows_fault rows has.0.rows has.0.finds_rows beyond
-no_input_fault rows s has setting.Tiers first = no_tiers_fault rows has.0.tiers has.0.finds_tiers first.1
-no_input_fault rows s has setting.Heights first = no_heights_fault rows has.0.own has.0.finds_own first.2
+no_input_fault rows s has = no_size_fault rows s.heights has.0
 
 no_settings_fault : (rows : List Row) (s : RunChosen) → HasSettings rows s → (f : SettingFault) → IsSolveFault rows f → ⊥
 no_settings_fault rows s has f (inl first) = no_search_fault rows s.search has.0 f first
@@ -337,21 +348,51 @@ audit_asks rows (job.OneFile file command.Bound) asks = absurd (other_name 97 98
 audit_asks rows (job.OneFile file command.Check) asks = absurd (other_name 97 99 _ _ (omega arith) asks.0)
 audit_asks rows (job.OneFile file (command.Prove search)) asks = absurd (other_name 97 112 _ _ (omega arith) asks.0.0)
 audit_asks rows (job.Audit names settings) asks = (asks.1, (settings, asks.3))
+audit_asks rows (job.Follow names heights) asks = absurd (other_name 97 102 _ _ (omega arith) asks.0)
 audit_asks rows (job.Solve names settings quiet progress) asks = absurd (other_name 97 115 _ _ (omega arith) asks.0)
 
 audit_fault : (rows : List Row) (f : SettingFault) → IsFault (codes "audit") rows f → ¬ IsSizedTwice rows × IsInputFault rows f
 audit_fault rows f (inl (is, first)) = absurd (other_name 97 112 _ _ (omega arith) is)
 audit_fault rows f (inr (inl (is, first))) = absurd (other_name 97 115 _ _ (omega arith) is)
-audit_fault rows f (inr (inr (is, first))) = first
+audit_fault rows f (inr (inr (inl (is, first)))) = first
+audit_fault rows f (inr (inr (inr (is, first)))) = absurd (other_name 97 102 _ _ (omega arith) is)
 
 -- without an input audit asks for nothing
 pub no_audit : (rows : List Row) (u : Usage) → ¬ IsSizedTwice rows → Lacks (HasInput rows) (IsInputFault rows) u
     → Lacks (Asks (codes "audit") rows) (IsFault (codes "audit") rows) u
 no_audit rows u once = lacks_more (HasInput rows) (Asks (codes "audit") rows) (IsInputFault rows) (IsFault (codes "audit") rows) u
-    (λ j asks. (audit_asks rows j asks).1) (λ f first. inr (inr (refl, (once, first)))) (λ f first. inl (audit_fault rows f first).1)
+    (λ j asks. (audit_asks rows j asks).1) (λ f first. inr (inr (inl (refl, (once, first))))) (λ f first. inl (audit_fault rows f first).1)
 
 -- nor does it where its size is given twice
 pub audit_sized_twice : (rows : List Row) (u : Usage) → IsSizedTwice rows → IsWordsOrMemory u
     → Lacks (Asks (codes "audit") rows) (IsFault (codes "audit") rows) u
 audit_sized_twice rows u twice words = lacks (Asks (codes "audit") rows) (IsFault (codes "audit") rows) u words
     (λ j asks. (audit_asks rows j asks).0 twice) (λ f first. (audit_fault rows f first).0 twice)
+
+-- what follow asks for has heights of rows, and its size once
+follow_asks : (rows : List Row) (j : Job) → Asks (codes "follow") rows j → ¬ IsSizedTwice rows × ((heights : List ℕ) × FindsRowHeights rows heights)
+follow_asks rows (job.OneFile file command.Replay) asks = absurd (other_name 102 114 _ _ (omega arith) asks.0)
+follow_asks rows (job.OneFile file command.Bound) asks = absurd (other_name 102 98 _ _ (omega arith) asks.0)
+follow_asks rows (job.OneFile file command.Check) asks = absurd (other_name 102 99 _ _ (omega arith) asks.0)
+follow_asks rows (job.OneFile file (command.Prove search)) asks = absurd (other_name 102 112 _ _ (omega arith) asks.0.0)
+follow_asks rows (job.Audit names settings) asks = absurd (other_name 102 97 _ _ (omega arith) asks.0)
+follow_asks rows (job.Follow names heights) asks = (asks.1, (heights, asks.3))
+follow_asks rows (job.Solve names settings quiet progress) asks = absurd (other_name 102 115 _ _ (omega arith) asks.0)
+
+follow_fault : (rows : List Row) (f : SettingFault) → IsFault (codes "follow") rows f → ¬ IsSizedTwice rows × IsInputFault rows f
+follow_fault rows f (inl (is, first)) = absurd (other_name 102 112 _ _ (omega arith) is)
+follow_fault rows f (inr (inl (is, first))) = absurd (other_name 102 115 _ _ (omega arith) is)
+follow_fault rows f (inr (inr (inl (is, first)))) = absurd (other_name 102 97 _ _ (omega arith) is)
+follow_fault rows f (inr (inr (inr (is, first)))) = first
+
+-- without heights of rows follow asks for nothing
+pub no_follow : (rows : List Row) (u : Usage) → ¬ IsSizedTwice rows → Lacks (FindsRowHeights rows) (IsInputFault rows) u
+    → Lacks (Asks (codes "follow") rows) (IsFault (codes "follow") rows) u
+no_follow rows u once = lacks_more (FindsRowHeights rows) (Asks (codes "follow") rows) (IsInputFault rows) (IsFault (codes "follow") rows) u
+    (λ j asks. (follow_asks rows j asks).1) (λ f first. inr (inr (inr (refl, (once, first))))) (λ f first. inl (follow_fault rows f first).1)
+
+-- nor does it where its size is given twice
+pub follow_sized_twice : (rows : List Row) (u : Usage) → IsSizedTwice rows → IsWordsOrMemory u
+    → Lacks (Asks (codes "follow") rows) (IsFault (codes "follow") rows) u
+follow_sized_twice rows u twice words = lacks (Asks (codes "follow") rows) (IsFault (codes "follow") rows) u words
+    (λ j asks. (follow_asks rows j asks).0 twice) (λ f first. (follow_fault rows f first).0 twice)

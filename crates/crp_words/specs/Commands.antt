@@ -129,6 +129,14 @@ audit_files = command (codes "audit")
 abbrev pub audit : Shape
 audit = with_orders (with_size audit_files)
 
+-- follow YARD REPORT, without its options
+abbrev pub follow_files : Shape
+follow_files = command (codes "follow") (file_rule (codes "yard") ∷ file_rule (codes "report") ∷ [])
+
+-- follow, with its options: the size of the bays
+abbrev pub follow : Shape
+follow = with_size follow_files
+
 -- crp itself, with a version, and a command that is required
 abbrev pub top_command : Shape
 top_command = record (new_shape (codes "crp")) {
@@ -146,7 +154,7 @@ leaves = record {
 
 -- the command line of crp
 abbrev pub crp : App
-crp = record leaves { subs = leaves.subs ++ prove ∷ solve ∷ audit ∷ [] }
+crp = record leaves { subs = leaves.subs ++ prove ∷ solve ∷ audit ∷ follow ∷ [] }
 
 -- the argument has this rule, at its own command alone
 abbrev pub IsArg : Rule → Arg → Type 0

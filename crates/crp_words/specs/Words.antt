@@ -15,6 +15,7 @@ use Rattle.crp_commands.specs.declared.job.FileCommand.TheVariants as command
 use Rattle.crp_commands.specs.declared.job.Job.{Job}
 use Rattle.crp_commands.specs.declared.job.Job.TheVariants as job
 use Rattle.crp_commands.specs.declared.job.AuditFiles.{AuditFiles}
+use Rattle.crp_commands.specs.declared.job.FollowFiles.{FollowFiles}
 use Rattle.crp_commands.specs.declared.job.RunFiles.{RunFiles}
 use Rattle.crp_words.specs.declared.usage.Mistake.{Mistake}
 use Rattle.crp_words.specs.declared.usage.Mistake.TheVariants as mistake
@@ -182,6 +183,10 @@ abbrev pub HasAuditFiles : List Row → AuditFiles → Type 0
 HasAuditFiles found names = HasText (codes "yard") found names.yard.now × HasText (codes "movins") found names.movins.now
     × HasText (codes "report") found names.report.now × HasText (codes "certificates") found names.certificates.now
 
+-- the files of follow that were found
+abbrev pub HasFollowFiles : List Row → FollowFiles → Type 0
+HasFollowFiles found names = HasText (codes "yard") found names.yard.now × HasText (codes "report") found names.report.now
+
 -- the name of a file without `./` in front
 abbrev pub plain_name : Text → Text
 plain_name name = if bytes_eq (take 2 name) (codes "./") then drop 2 name else name
@@ -222,6 +227,8 @@ abbrev pub Asks : Text → List Row → Job → Type 0
 Asks name found (job.OneFile file c) = AsksCommand name found c × HasText (codes "file") found file.now
 Asks name found (job.Audit names settings) =
     (name ≡ codes "audit") × ¬ IsSizedTwice found × HasAuditFiles found names × HasInput found settings
+Asks name found (job.Follow names heights) =
+    (name ≡ codes "follow") × ¬ IsSizedTwice found × HasFollowFiles found names × FindsRowHeights found heights
 Asks name found (job.Solve names settings quiet progress) =
     (name ≡ codes "solve") × ¬ IsSizedTwice found × ¬ IsNamedTwice found × HasFiles found names × HasSettings found settings × MayBeQuiet found quiet × MayShowProgress found progress
 
@@ -235,7 +242,7 @@ IsSearchFault found setting.Rows = ⊥
 IsSearchFault found setting.Tiers = ⊥
 IsSearchFault found setting.Heights = ⊥
 
--- the first setting of the input beyond its limits: the rows, then the tiers, then the heights
+-- the first setting of the input beyond its limits: the rows, then the tiers, then the heights; so it is where a report is followed
 abbrev pub IsInputFault : List Row → SettingFault → Type 0
 IsInputFault found setting.Rows = AreRowsBeyond found
 IsInputFault found setting.Tiers = ((n : ℕ) × FindsRows found n) × AreTiersBeyond found
@@ -249,7 +256,8 @@ IsSolveFault found f = IsSearchFault found f ⊎ (((s : Chosen) × HasSearch fou
 -- the first setting of the command beyond its limits
 abbrev pub IsFault : Text → List Row → SettingFault → Type 0
 IsFault name found f = ((name ≡ codes "prove") × IsSearchFault found f) ⊎ (((name ≡ codes "solve") × (¬ IsSizedTwice found × ¬ IsNamedTwice found × IsSolveFault found f))
-    ⊎ ((name ≡ codes "audit") × (¬ IsSizedTwice found × IsInputFault found f)))
+    ⊎ (((name ≡ codes "audit") × (¬ IsSizedTwice found × IsInputFault found f))
+    ⊎ ((name ≡ codes "follow") × (¬ IsSizedTwice found × IsInputFault found f))))
 
 -- the command, if there is one, and its rows ask for this
 abbrev pub AsksFor : Option (Text × List Row) → Job → Type 0

@@ -1,7 +1,7 @@
 //! The command line: each command with its files and options.
 ghost use Rattle.std.specs.Prelude.{◌≡◌, IfOk};
 ghost use Rattle.clap.specs.Words.{App, Shape, app_of, with_subcommand};
-ghost use Rattle.crp_words.specs.Commands.{IsArg, IsCommand, alone, audit as audit_shape, audit_files as audit_files_shape, beam_rule, budget_rule, crp, deepen_rule, file_rule, first_rule, flag_rule, leaf as leaf_shape, leaves, number_rule, optional_rule, progress_rule, prove as prove_shape, quiet_rule, solve as solve_shape, solve_files as solve_files_shape, split_rule, text_rule, top_command as top_shape, with_orders, with_outputs, with_search, with_size, workers_rule};
+ghost use Rattle.crp_words.specs.Commands.{IsArg, IsCommand, alone, audit as audit_shape, audit_files as audit_files_shape, beam_rule, budget_rule, crp, deepen_rule, file_rule, first_rule, flag_rule, follow as follow_shape, follow_files as follow_files_shape, leaf as leaf_shape, leaves, number_rule, optional_rule, progress_rule, prove as prove_shape, quiet_rule, solve as solve_shape, solve_files as solve_files_shape, split_rule, text_rule, top_command as top_shape, with_orders, with_outputs, with_search, with_size, workers_rule};
 
 use clap::{Arg, ArgAction, Command, value_parser};
 use std::alloc::{AllocError, Global};
@@ -291,6 +291,30 @@ fn audit<'a>(alloc: Global) -> Result<Command<'a>, AllocError>
     with_orders(alloc, sized)
 }
 
+// The command `follow`, with its files, and without the options.
+fn follow_files<'a>(alloc: Global) -> Result<Command<'a>, AllocError>
+    ensures { IfOk result (IsCommand follow_files_shape) }
+{
+    Command::new(alloc, "follow")
+        .about(
+            "Follow the moves of a report, whoever wrote it, over a yard and print a table of them",
+        )
+        .arg(file(alloc, "yard", "YARD", "Yard list (CSV)"))?
+        .arg(file(
+            alloc,
+            "report",
+            "REPORT",
+            "Report, as solve prints it, or - for the standard input",
+        ))
+}
+
+// The command `follow`.
+fn follow<'a>(alloc: Global) -> Result<Command<'a>, AllocError>
+    ensures { IfOk result (IsCommand follow_shape) }
+{
+    with_size(alloc, follow_files(alloc)?)
+}
+
 // crp itself, without its commands.
 fn top<'a>(alloc: Global) -> Result<Command<'a>, AllocError>
     ensures { IfOk result (λ c. app_of c ≡ alone top_shape) }
@@ -351,5 +375,6 @@ pub fn command_line<'a>(alloc: Global) -> Result<Command<'a>, AllocError>
     with_leaves(alloc)?
         .subcommand(prove(alloc)?)?
         .subcommand(solve(alloc)?)?
-        .subcommand(audit(alloc)?)
+        .subcommand(audit(alloc)?)?
+        .subcommand(follow(alloc)?)
 }

@@ -9,6 +9,7 @@ mod advice;
 mod commands;
 mod doing;
 mod ending;
+mod follow_words;
 mod usage;
 mod words;
 

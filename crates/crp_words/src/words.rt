@@ -7,9 +7,10 @@ ghost use Rattle.crp_report.specs.Chosen.{CanBeHeights, IsRowCount};
 ghost use Rattle.crp_words.specs.declared.usage.SettingFault.TheVariants as setting;
 ghost use Rattle.crp_words.specs.declared.usage.Usage.TheVariants as usage;
 ghost use Rattle.crp_words.specs.Heights.{HasHeightAt, IsHeightsText};
-ghost use Rattle.crp_words.specs.Words.{AreHeightsBeyond, Asks, HasNumber, HasNumberBeyond, HasInput, HasNumberWithin, HasOrder, HasSearch, HasSettings, HasText, IsFault, IsGivenByWords, IsInputFault, IsJust, IsNamedTwice, IsOneFile, IsSearchFault, IsSizedTwice, IsSolveFault, IsWordsOrMemory, Lacks, MayFindHeights, NoFault, Refuses, ShowsKind, WordsAsk, heights_or, plain_name, words_or_default};
+ghost use Rattle.crp_words.specs.Words.{AreHeightsBeyond, Asks, HasNumber, FindsRowHeights, FindsRows, FindsTiers, HasNumberBeyond, HasInput, HasNumberWithin, HasOrder, HasSearch, HasSettings, HasText, IsFault, IsGivenByWords, IsInputFault, IsJust, IsNamedTwice, IsOneFile, IsSearchFault, IsSizedTwice, IsSolveFault, IsWordsOrMemory, Lacks, MayFindHeights, NoFault, Refuses, ShowsKind, WordsAsk, heights_or, plain_name, words_or_default};
 
 use crate::commands::command_line;
+use crate::follow_words::follow_of;
 use crate::usage::{Mistake, SettingFault, Usage};
 use arrayvec::ArrayVec;
 use clap::error::ErrorKind;
@@ -50,7 +51,7 @@ static SIZED_TWICE: &str =
     "error: the argument '--heights <HEIGHTS>' cannot be used with '--rows <N>' or '--tiers <N>'\n\nUsage: crp solve [OPTIONS] <YARD> <MOVINS>\n\nFor more information, try '--help'.\n";
 
 // The refusal of words that are no command with its files and options.
-fn wrong(alloc: Global, text: &str) -> Usage
+pub(crate) fn wrong(alloc: Global, text: &str) -> Usage
     ensures { IsWordsOrMemory result }
 {
     match String::from_str(alloc, text) {
@@ -60,7 +61,11 @@ fn wrong(alloc: Global, text: &str) -> Usage
 }
 
 // The text of a file or an option.
-fn text_of<'a>(alloc: Global, matches: &ArgMatches<'a>, name: &str) -> Result<&'a str, Usage>
+pub(crate) fn text_of<'a>(
+    alloc: Global,
+    matches: &ArgMatches<'a>,
+    name: &str,
+) -> Result<&'a str, Usage>
     ensures ok { IfOk result (λ text. HasText name.now (rows_of (found_of matches.now)) text.now) }
     ensures err { IfErr result (Lacks (HasText name.now (rows_of (found_of matches.now))) NoFault) }
 {
@@ -161,7 +166,7 @@ fn is_given(matches: &ArgMatches<'_>, name: &str) -> bool
 }
 
 // Whether the heights are given beside the rows or the tiers.
-fn is_sized_twice(matches: &ArgMatches<'_>) -> bool
+pub(crate) fn is_sized_twice(matches: &ArgMatches<'_>) -> bool
     ensures { IsTrue result ↔ IsSizedTwice (rows_of (found_of matches.now)) }
 {
     is_given(matches, "heights") && (is_given(matches, "rows") || is_given(matches, "tiers"))
@@ -297,26 +302,56 @@ fn search_of(alloc: Global, matches: &ArgMatches<'_>) -> Result<Settings, Usage>
     }
 }
 
-// The settings of an input whose bays have so many rows with so many tiers, or rows of these heights, where they are given.
-fn input_with(
+// How large bays are: so many rows with so many tiers, or rows of these heights, where they are given.
+#[derive(Drop)]
+pub(crate) struct Size {
+    rows: u8,
+    tiers: u8,
+    heights: Option<ArrayVec<u8, MAX_ROWS>>,
+}
+
+// How large the bays are.
+pub(crate) fn size_of(alloc: Global, matches: &ArgMatches<'_>) -> Result<Size, Usage>
+    ensures rows { IfOk result (λ size. FindsRows (rows_of (found_of matches.now)) size.rows) }
+    ensures tiers { IfOk result (λ size. FindsTiers (rows_of (found_of matches.now)) size.tiers) }
+    ensures own { IfOk result (λ size. MayFindHeights (rows_of (found_of matches.now)) (option_map (λ list. list.items) size.heights)) }
+    ensures err { IfErr result (Lacks (FindsRowHeights (rows_of (found_of matches.now))) (IsInputFault (rows_of (found_of matches.now)))) }
+{
+    let rows = number_within(alloc, matches, "rows", (1, MOST_ROWS), SettingFault::Rows)?;
+    let tiers = number_within(
+        alloc,
+        matches,
+        "tiers",
+        (1, MOST_TIERS),
+        SettingFault::Tiers,
+    )?;
+    let heights = heights_of(matches)?;
+    Ok(Size {
+        rows: rows as u8,
+        tiers: tiers as u8,
+        heights,
+    })
+}
+
+// The settings of an input with bays of this size.
+pub(crate) fn input_with(
     alloc: Global,
-    size: (u8, u8),
-    heights: &Option<ArrayVec<u8, MAX_ROWS>>,
+    size: &Size,
     order: Mode,
     code: &str,
 ) -> Result<InputSettings, Usage>
-    requires rows { IsRowCount size.0 }
-    requires tiers { HasTiers size.1 }
-    requires own { IfSome heights.now (λ list. CanBeHeights list.items) }
-    ensures ok { IfOk result (λ settings. settings ≡ record { heights = heights_or (option_map (λ list. list.items) heights.now) size.0 size.1; mode = order; code = code.now }) }
+    requires rows { IsRowCount size.now.rows }
+    requires tiers { HasTiers size.now.tiers }
+    requires own { IfSome size.now.heights (λ list. CanBeHeights list.items) }
+    ensures ok { IfOk result (λ settings. settings ≡ record { heights = heights_or (option_map (λ list. list.items) size.now.heights) size.now.rows size.now.tiers; mode = order; code = code.now }) }
     ensures err { IfErr result (λ fault. fault ≡ usage.Memory) }
 {
-    let settings = match InputSettings::new(alloc, size.0, size.1, order, code.as_bytes()) {
+    let settings = match InputSettings::new(alloc, size.rows, size.tiers, order, code.as_bytes()) {
         Ok(settings) => settings,
         Err(RunFault::Memory) => return Err(Usage::Memory),
         Err(_) => unreachable!(),
     };
-    let Some(heights) = heights else {
+    let Some(heights) = &size.heights else {
         return Ok(settings);
     };
     match settings.with_heights(heights.as_slice()) {
@@ -330,18 +365,10 @@ fn input_of(alloc: Global, matches: &ArgMatches<'_>) -> Result<InputSettings, Us
     ensures ok { IfOk result (HasInput (rows_of (found_of matches.now))) }
     ensures err { IfErr result (Lacks (HasInput (rows_of (found_of matches.now))) (IsInputFault (rows_of (found_of matches.now)))) }
 {
-    let rows = number_within(alloc, matches, "rows", (1, MOST_ROWS), SettingFault::Rows)?;
-    let tiers = number_within(
-        alloc,
-        matches,
-        "tiers",
-        (1, MOST_TIERS),
-        SettingFault::Tiers,
-    )?;
-    let heights = heights_of(matches)?;
+    let size = size_of(alloc, matches)?;
     let order = order_of(alloc, matches)?;
     let code = text_of(alloc, matches, "code")?;
-    input_with(alloc, (rows as u8, tiers as u8), &heights, order, code)
+    input_with(alloc, &size, order, code)
 }
 
 // The settings of `solve`.
@@ -415,7 +442,7 @@ fn audit_of<'a>(alloc: Global, matches: &ArgMatches<'a>) -> Result<Job<'a>, Usag
 
 // What a command without options and its matches ask for.
 fn leaf_of<'a>(alloc: Global, name: &str, matches: &ArgMatches<'a>) -> Result<Job<'a>, Usage>
-    requires { (name.now ≢ codes "prove") × (name.now ≢ codes "solve") × (name.now ≢ codes "audit") }
+    requires { (name.now ≢ codes "prove") × (name.now ≢ codes "solve") × (name.now ≢ codes "audit") × (name.now ≢ codes "follow") }
     ensures ok { IfOk result (Asks name.now (rows_of (found_of matches.now))) }
     ensures err { IfErr result (Lacks (Asks name.now (rows_of (found_of matches.now))) (IsFault name.now (rows_of (found_of matches.now)))) }
 {
@@ -442,6 +469,9 @@ fn job_of<'a>(alloc: Global, name: &str, matches: &ArgMatches<'a>) -> Result<Job
     }
     if name == "audit" {
         return audit_of(alloc, matches);
+    }
+    if name == "follow" {
+        return follow_of(alloc, matches);
     }
     leaf_of(alloc, name, matches)
 }

@@ -1,0 +1,37 @@
+use Rattle.std.proofs.Common.{◌∙◌, map, subst}
+use Rattle.std.proofs.lemmas.Result.{err_from_is_err_and}
+use Rattle.crp_plan.proofs.Interruptions.{has_failed}
+use Rattle.crp_follow.specs.Views.{bay_followed}
+use Rattle.crp_report.specs.Runs.{SinkSeen, Gets, GetsPart}
+use Rattle.crp_commands.proofs.Replayed.{keeps_same}
+use Rattle.crp_commands.proofs.Traced.{not_followed}
+use Rattle.crp_commands.proofs.following.follow_text.Goals as goal
+
+pub returns-in_err-followed-clause-ended : goal.returns-in_err-followed-clause-ended
+returns-in_err-followed-clause-ended g c =
+    let p = err_from_is_err_and c.from_residual.result c.from_residual.ensures.1 in
+    rw (p.1, p.2) (not_followed c.args.yard.now c.args.report.now _ c.in_err-followed.field-0.0 (keeps_same _) c.in_err-followed.ensures.refused)
+
+pub returns-in_default-clause-ended : goal.returns-in_default-clause-ended
+returns-in_default-clause-ended g c =
+    let followed = c.in_ok-followed.followed in
+    let out : SinkSeen = record {
+      held = g.W.Sink.contents c.args.out.now;
+      holds = g.W.Sink.contents c.write_all.new.writer;
+      before = g.W.Sink.failures c.args.out.now;
+      after = g.W.Sink.failures c.write_all.new.writer;
+    } in (
+      has_failed c.in_default.ensures.gave_up,
+      (followed.numbers, map bay_followed followed.bays.items, c.in_ok-followed.ensures.followed, subst (GetsPart out) (c.deref.ensures.value ∙ c.in_ok-table.ensures) c.in_default.ensures.part),
+    )
+
+pub returns-clause-ended : goal.returns-clause-ended
+returns-clause-ended g c =
+    let followed = c.in_ok-followed.followed in
+    let out : SinkSeen = record {
+      held = g.W.Sink.contents c.args.out.now;
+      holds = g.W.Sink.contents c.write_all.new.writer;
+      before = g.W.Sink.failures c.args.out.now;
+      after = g.W.Sink.failures c.write_all.new.writer;
+    } in
+    (followed.numbers, map bay_followed followed.bays.items, c.in_ok-followed.ensures.followed, subst (Gets out) (c.deref.ensures.value ∙ c.in_ok-table.ensures) c.in-Ok.ensures.all)
