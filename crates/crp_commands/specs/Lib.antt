@@ -12,3 +12,4 @@ pub mod Performing
 pub mod Headlines
 pub mod Advice
 pub mod Noted
+pub mod Found

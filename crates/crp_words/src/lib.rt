@@ -9,6 +9,7 @@ mod advice;
 mod commands;
 mod doing;
 mod ending;
+mod links;
 mod usage;
 mod words;
 
