@@ -1,6 +1,7 @@
 //! The program `crp`: plans for a container yard that gives its containers to a ship in a fixed order.
 #![tactic(auto)]
 
+mod piped;
 mod program;
 mod terminal;
 

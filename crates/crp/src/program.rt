@@ -5,14 +5,24 @@ ghost use Rattle.crp_commands.specs.Performing.{JobSeen};
 ghost use Rattle.crp_words.specs.declared.usage.Usage.{Usage as Unused};
 ghost use Rattle.crp_words.specs.Endings.{ProgramEnds, UsageEnds};
 
+use crate::piped::Piped;
 use crate::terminal::ErrorTerminal;
 use crp_commands::SystemFiles;
-use crp_plan::{Counted, Sink};
+use crp_plan::{Counted, Sink, write_text};
 use crp_words::{Mistake, Usage, end_with_usage, run_words};
 use std::alloc::{AllocError, Global};
+use std::io::IsTerminal;
 use std::sync::Wait;
 use std::thread::Threads;
 use std::{env, io};
+
+// What is said where no words are given, to whoever sits before the terminal that is read then.
+const AWAITED: &[u8] =
+    b"crp: a certificate's head is awaited on the standard input; crp --help says what else there is\n";
+
+// What is said where the standard output is a pipe that nobody reads any more.
+const READER_ENDED: &[u8] =
+    b"the program that reads the standard output has ended: nothing is wrong with a disk\n";
 
 // The words after the program's name.
 fn words_of(rt: &HostRuntime) -> io::Result<Vec<String>> {
@@ -52,6 +62,11 @@ fn end_without_words<W: Sink, E: Sink>(usage: &Usage, out: &mut W, errors: &mut 
     end_with_usage(usage, out, errors)
 }
 
+// Says something on the standard error, as far as that takes it.
+fn say<E: Sink>(errors: &mut E, text: &[u8]) {
+    let _said = write_text(errors, text);
+}
+
 /// Runs the program over the words of its command line, the files of the system and the standard streams, and returns its exit status.
 /// Only `threads` may start threads and wait for them.
 ///
@@ -61,7 +76,7 @@ pub fn run<T: Threads + Wait + Sync>(rt: &HostRuntime, threads: &T) -> u8
         ⊎ ((why : Unused) × (out : SinkSeen) × (errors : SinkSeen) × UsageEnds why out errors result) }
 {
     let alloc = rt.alloc();
-    let mut out = Counted::new(rt.stdout());
+    let mut out = Counted::new(Piped::new(rt.stdout()));
     let mut errors = Counted::new(rt.stderr());
     let words = match words_of(rt) {
         Ok(words) => words,
@@ -73,7 +88,10 @@ pub fn run<T: Threads + Wait + Sync>(rt: &HostRuntime, threads: &T) -> u8
     let Ok(texts) = texts_of(alloc, &words) else {
         return end_without_words(&Usage::Memory, &mut out, &mut errors);
     };
-    run_words(
+    if texts.is_empty() && rt.stdin().is_terminal() {
+        say(&mut errors, AWAITED);
+    }
+    let status = run_words(
         threads,
         alloc,
         &mut SystemFiles::new(rt),
@@ -82,5 +100,9 @@ pub fn run<T: Threads + Wait + Sync>(rt: &HostRuntime, threads: &T) -> u8
         &mut errors,
         &texts,
         &ErrorTerminal::new(rt),
-    )
+    );
+    if out.device.is_broken() {
+        say(&mut errors, READER_ENDED);
+    }
+    status
 }

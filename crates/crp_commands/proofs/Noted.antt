@@ -1,18 +1,54 @@
 -- What was shown, and nothing more.
-use Rattle.std.proofs.Common.{◌∙◌, ℕ, List, Option, Some, None, Bool, true, false, refl}
+use Rattle.std.proofs.Common.{◌≡◌, ◌<◌, ◌≤◌, ◌+◌, ◌∙◌, ℕ, List, [], ◌∷◌, ◌++◌, length, Option, Some, None, Bool, true, false, Result, Ok, Err, MatchResult, inl, inr, refl, arith}
 use Rattle.std.specs.Io.KnownBytes.{Appends, Keeps}
 use Rattle.std.proofs.KnownBytes.{Keeps-refl, Keeps-trans}
-use Rattle.crp_report.specs.Runs.{SinkSeen}
+use Rattle.crp_plan.specs.BayNames.{YardBay}
+use Rattle.crp_checker.specs.declared.verdict.Verdict.{Verdict}
+use Rattle.crp_report.specs.declared.status.Status.{Status}
+use Rattle.crp_report.specs.Runs.{SinkSeen, GetsPart}
 use Rattle.crp_report.proofs.Shown.{shows_nothing}
+use Rattle.crp_commands.specs.declared.job.FileCommand.{FileCommand}
+use Rattle.crp_commands.specs.declared.job.FileCommand.TheVariants as command
 use Rattle.crp_commands.specs.declared.job.Job.{Job}
 use Rattle.crp_commands.specs.declared.job.Job.TheVariants as job
+use Rattle.crp_commands.specs.declared.outcome.ToolFault.{ToolFault}
 use Rattle.crp_commands.specs.Opened.{IsLeftAlone}
-use Rattle.crp_commands.specs.Noted.{IsNotedBy, IsNoted}
+use Rattle.crp_commands.specs.Noted.{GetsLines, empty_note, TellsOfNone, TellsWhetherEmpty, IsNotedBy, IsNotedIn, IsNoted}
 
 -- nothing was shown
 pub unnoted : (quiet : Bool) (held : Option (List ℕ)) (failures : ℕ) → IsNotedBy quiet (record { held = held; holds = held; before = failures; after = failures })
 unnoted true held failures = (Keeps-refl held, refl)
 unnoted false held failures = shows_nothing held
+
+pub unnoted_in : (c : FileCommand) (held : Option (List ℕ)) (failures : ℕ) → IsNotedIn c (record { held = held; holds = held; before = failures; after = failures })
+unnoted_in command.Replay held failures = (Keeps-refl held, refl)
+unnoted_in command.Bound held failures = (Keeps-refl held, refl)
+unnoted_in command.Check held failures = inl (Keeps-refl held, refl)
+unnoted_in (command.Prove search) held failures = (Keeps-refl held, refl)
+
+-- ---- files that hold no certificate
+
+-- some certificate came, or none did, where this is the number of the one that would come next
+pub tells_some : (number : ℕ) (stated : List (YardBay × Verdict)) (s : SinkSeen) → 1 < number → number ≡ length stated + 1 → IsLeftAlone s → TellsOfNone stated s
+tells_some number [] s more next alone = absurd (omega arith)
+tells_some number (first ∷ rest) s more next alone = alone
+
+pub tells_none : (number : ℕ) (stated : List (YardBay × Verdict)) (s : SinkSeen) → number ≤ 1 → number ≡ length stated + 1 → GetsLines s empty_note → TellsOfNone stated s
+tells_none number [] s few next note = note
+tells_none number (first ∷ rest) s few next note = absurd (omega arith)
+
+pub tells_more : (stated : List (YardBay × Verdict)) (last : YardBay × Verdict) (s : SinkSeen) → IsLeftAlone s → TellsOfNone (stated ++ last ∷ []) s
+tells_more [] last s alone = alone
+tells_more (first ∷ rest) last s alone = alone
+
+noted_of : (stated : List (YardBay × Verdict)) (s : SinkSeen) → TellsOfNone stated s → IsNotedIn command.Check s
+noted_of [] s note = inr note
+noted_of (first ∷ rest) s alone = inl alone
+
+-- what a check shows, however it ended
+pub noted_check : (lines s : SinkSeen) (answer : Result Status ToolFault) → MatchResult answer (λ _. TellsWhetherEmpty lines s) (λ _. IsLeftAlone s) → IsNotedIn command.Check s
+noted_check lines s (Ok status) (stated, written, tells) = noted_of stated s tells
+noted_check lines s (Err fault) alone = inl alone
 
 -- what a sink saw first, and then
 abbrev pub seen_from : Option (List ℕ) → Option (List ℕ) → ℕ → ℕ → SinkSeen
@@ -27,9 +63,23 @@ shows_kept (Some x) None c text first next = absurd first
 shows_kept (Some x) (Some y) None text first next = absurd next
 shows_kept (Some x) (Some y) (Some z) text first next = next ∙ first
 
+part_kept : (a b c : Option (List ℕ)) (m n o : ℕ) (text : List ℕ) → GetsPart (seen_from a b m n) text → Keeps b c → GetsPart (seen_from a c m o) text
+part_kept a b c m n o text (k, short, first) next = (k, short, shows_kept a b c _ first next)
+
+lines_then : (a b c : Option (List ℕ)) (m n o : ℕ) (text : List ℕ) → GetsLines (seen_from a b m n) text → IsLeftAlone (seen_from b c n o) → GetsLines (seen_from a c m o) text
+lines_then a b c m n o text (inl all) (next, more) = inl (shows_kept a b c text all next)
+lines_then a b c m n o text (inr (part, failed)) (next, more) = inr (part_kept a b c m n o text part next, rw more failed)
+
+noted_in_alone : (d : FileCommand) (a b c : Option (List ℕ)) (m n o : ℕ) → IsNotedIn d (seen_from a b m n) → IsLeftAlone (seen_from b c n o) → IsNotedIn d (seen_from a c m o)
+noted_in_alone command.Replay a b c m n o first next = alone_then a b c m n o first next
+noted_in_alone command.Bound a b c m n o first next = alone_then a b c m n o first next
+noted_in_alone command.Check a b c m n o (inl first) next = inl (alone_then a b c m n o first next)
+noted_in_alone command.Check a b c m n o (inr first) next = inr (lines_then a b c m n o empty_note first next)
+noted_in_alone (command.Prove search) a b c m n o first next = alone_then a b c m n o first next
+
 -- the notes of a job, and nothing more
 pub noted_alone : (j : Job) (a b c : Option (List ℕ)) (m n o : ℕ) → IsNoted j (seen_from a b m n) → IsLeftAlone (seen_from b c n o) → IsNoted j (seen_from a c m o)
-noted_alone (job.OneFile file command) a b c m n o first next = alone_then a b c m n o first next
+noted_alone (job.OneFile file command) a b c m n o first next = noted_in_alone command a b c m n o first next
 noted_alone (job.Audit names settings) a b c m n o first next = alone_then a b c m n o first next
 noted_alone (job.Follow names heights) a b c m n o first next = alone_then a b c m n o first next
 noted_alone (job.Solve names settings true progress) a b c m n o first next = alone_then a b c m n o first next

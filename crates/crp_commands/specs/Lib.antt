@@ -13,3 +13,4 @@ pub mod Performing
 pub mod Headlines
 pub mod Advice
 pub mod Noted
+pub mod Found

@@ -3,15 +3,17 @@ use Rattle.std.specs.Prelude.{◌≡◌, ℕ, Bool, true, List, Option, Some, No
 use Rattle.crp_plan.specs.Devices.{CountsMore, CountsOne}
 use Rattle.crp_report.specs.Runs.{SourceSeen, SinkSeen, GetsNothing}
 
--- what is known of files by their names: the bytes of each, where they are known, and whether it may be refused to who would read or write it
+-- what is known of files by their names: the bytes of each, where they are known, whether it may be refused to who would read or write it, and of two
+-- names whether they lead to one file, where that is known
 pub record KnownFiles : Type 0 where
   pub given : List ℕ → Option (List ℕ)
   pub may_not_open : List ℕ → Bool
   pub may_not_create : List ℕ → Bool
+  pub are_one : List ℕ → List ℕ → Option Bool
 
--- nothing is known: no bytes, and each file may be refused
+-- nothing is known: no bytes, each file may be refused, and any two names may lead to one
 abbrev pub nothing_known : KnownFiles
-nothing_known = record { given = λ name. None; may_not_open = λ name. true; may_not_create = λ name. true }
+nothing_known = record { given = λ name. None; may_not_open = λ name. true; may_not_create = λ name. true; are_one = λ name other. None }
 
 -- what a call saw of files: what was known of them, and the count of their failures before and after
 pub record FilesSeen : Type 0 where

@@ -5,9 +5,13 @@ ghost use Rattle.crp_commands.specs.declared.heads.TheConstants.{MOST_BYTES};
 ghost use Rattle.crp_plan.specs.Devices.{most_interruptions};
 ghost use Rattle.crp_commands.specs.Calls.{CallSeen, call_failures, failures_of_tool_fault, most_call_failures, WritesReport};
 ghost use Rattle.crp_commands.specs.Check.{plan_words, verdict_words, verdict_line, fault_of_refusal, IsCheck, CheckFailsWith};
+ghost use Rattle.crp_report.specs.Runs.{SinkSeen};
+ghost use Rattle.crp_commands.specs.Opened.{IsLeftAlone};
+ghost use Rattle.crp_commands.specs.Noted.{TellsWhetherEmpty};
 ghost use Rattle.crp_commands.specs.Checks.{TextFailsWith, IsChecking, ChecksPiece, PieceFailsWith, CheckHasGoneOn, CheckStopsAt};
 
 use crate::heads::MOST_BYTES;
+use crate::noting::note_if_none;
 use crate::outcome::ToolFault;
 use crp_cert::push_decimal;
 use crp_checker::{Fed, FileChecker, Refused, Verdict};
@@ -208,13 +212,14 @@ fn check_next<R: Source, W: Sink>(
 }
 
 /// Writes for each certificate of a source's bytes whose it is and what it shows, as soon as it has ended. A fault comes after
-/// the lines of the certificates that ended before.
-pub fn check<R: Source, W: Sink>(
+/// the lines of the certificates that ended before. Where no certificate is there, `errors` gets a note that says so, and nothing else.
+pub fn check<R: Source, W: Sink, E: Sink>(
     alloc: Global,
     reader: &mut R,
     writer: &mut W,
+    errors: &mut E,
 ) -> Result<Status, ToolFault>
-    ensures { let seen : CallSeen = record {
+    ensures done { let seen : CallSeen = record {
       given = R.remaining reader.old;
       held = W.contents writer.old;
       holds = W.contents writer.new;
@@ -225,6 +230,9 @@ pub fn check<R: Source, W: Sink>(
     } in MatchResult result
         (λ status. ((status ≡ Status.Decided) × WritesReport MOST_BYTES IsCheck seen) × (call_failures seen ≤ most_interruptions))
         (λ fault. CheckFailsWith MOST_BYTES seen fault × (call_failures seen ≤ most_call_failures fault)) }
+    ensures noted { let lines : SinkSeen = record { held = W.contents writer.old; holds = W.contents writer.new; before = W.failures writer.old; after = W.failures writer.new }
+        in let noted : SinkSeen = record { held = E.contents errors.old; holds = E.contents errors.new; before = E.failures errors.old; after = E.failures errors.new }
+        in MatchResult result (λ _. TellsWhetherEmpty lines noted) (λ _. IsLeftAlone noted) }
 {
     let mut files = FileChecker::new(alloc);
     let mut number = 1;
@@ -240,7 +248,10 @@ pub fn check<R: Source, W: Sink>(
         &mut interruptions,
     )? {}
     match files.finish() {
-        Ok(None) => Ok(Status::Decided),
+        Ok(None) => {
+            note_if_none(errors, number);
+            Ok(Status::Decided)
+        }
         Ok(Some((bay, verdict))) => {
             write_verdict(alloc, writer, &bay, verdict, &mut interruptions)?;
             Ok(Status::Decided)

@@ -1,10 +1,20 @@
 //! Files as devices: how a job opens them and gives them back, and the files of the system.
-ghost use Rattle.std.specs.Prelude.{◌≡◌, ℕ, IsTrue, IfOk, IfErr, MatchResult};
+ghost use Rattle.std.specs.Prelude.{◌≡◌, ℕ, IsTrue, IfOk, IfErr, IfSome, MatchResult};
 ghost use Rattle.crp_plan.specs.Devices.{CountsMore, CountsOne};
 ghost use Rattle.crp_commands.specs.Opened.{KnownFiles, nothing_known};
+ghost use Rattle.crp_commands.specs.Found.{IsFront};
 
+use arrayvec::ArrayVec;
 use crp_plan::{Counted, Sink, Source};
-use std::fs::File;
+use std::fs::{self, File};
+use std::io::Read;
+use std::os::unix::fs::MetadataExt;
+
+// How many bytes of a file are looked at.
+const FRONT: usize = 64;
+
+/// The first bytes of a file.
+pub type Front = ArrayVec<u8, FRONT>;
 
 /// A file that cannot be opened.
 #[derive(Clone, Copy, Debug, PartialEq, Eq)]
@@ -23,6 +33,16 @@ pub trait Files {
 
     // How many files could not be opened, and how many calls of those that were closed have failed, up to the largest u64.
     ghost failures: { Self → ℕ };
+
+    /// Whether two names lead to one file, by a link of whatever kind, as far as that can be seen without opening it. A file that is not
+    /// there is no other.
+    fn is_one_file(&self, name: &str, other: &str) -> bool
+        ensures { IfSome ((known self.now).are_one name.now other.now) (λ one. result ≡ one) };
+
+    /// The first bytes of a file, to say what it looks like; nothing where it is no plain file, which alone can be read a second time, or
+    /// cannot be read. It counts no failure.
+    fn front(&self, name: &str) -> Option<Front>
+        ensures { IfSome result (λ front. IsFront ((known self.now).given name.now) front.items) };
 
     /// Opens a file that is there, to read it from its beginning.
     fn open(&mut self, name: &str) -> Result<Self::Input, NotOpened>
@@ -70,6 +90,35 @@ impl Files for SystemFiles<'_> {
     type Output = Counted<File>;
 
     ghost failures = { λ files. files.failed };
+
+    fn is_one_file(&self, name: &str, other: &str) -> bool {
+        let Ok(first) = fs::metadata(self.rt, name) else {
+            return false;
+        };
+        let Ok(second) = fs::metadata(self.rt, other) else {
+            return false;
+        };
+        first.dev() == second.dev() && first.ino() == second.ino()
+    }
+
+    fn front(&self, name: &str) -> Option<Front> {
+        match fs::metadata(self.rt, name) {
+            Ok(found) if found.is_file() => {}
+            _ => return None,
+        }
+        let Ok(mut file) = File::open(self.rt, name) else {
+            return None;
+        };
+        let mut bytes = [0u8; FRONT];
+        let Ok(n) = file.read(&mut bytes) else {
+            return None;
+        };
+        let mut front = ArrayVec::new();
+        match front.try_extend_from_slice(&bytes[..n]) {
+            Ok(()) => Some(front),
+            Err(_) => None,
+        }
+    }
 
     fn open(&mut self, name: &str) -> Result<Counted<File>, NotOpened> {
         match File::open(self.rt, name) {

@@ -3,7 +3,7 @@ ghost use Rattle.std.specs.Prelude.{◌≡◌, ◌⊎◌, IfOk, IfErr, MatchResu
 ghost use Rattle.crp_audit.specs.Headline.{IsHeadline};
 ghost use Rattle.crp_headline.specs.Accepted.{handed_of};
 ghost use Rattle.crp_report.specs.Runs.{Made, GetsNothing};
-ghost use Rattle.crp_commands.specs.Noted.{IsNoted};
+ghost use Rattle.crp_commands.specs.Noted.{IsNoted, IsNotedIn};
 ghost use Rattle.crp_commands.specs.Performing.{JobSeen, ReportsFile, FileFailsWith, ReportsOverFiles, FailsOverFiles};
 ghost use Rattle.crp_commands.specs.Headlines.{ForRun, AreWritten, AreFrontsWritten};
 
@@ -22,7 +22,8 @@ use std::sync::Wait;
 use std::thread::Threads;
 
 // Does a command over one file. A file named `-` is the standard input.
-fn perform_on<T: Threads + Wait + Sync, F: Files, R: Source, W: Sink>(
+#[tactic(auto, using(crate::proofs::Noted::unnoted_in))]
+fn perform_on<T: Threads + Wait + Sync, F: Files, R: Source, W: Sink, E: Sink>(
     threads: &T,
     alloc: Global,
     files: &mut F,
@@ -30,20 +31,22 @@ fn perform_on<T: Threads + Wait + Sync, F: Files, R: Source, W: Sink>(
     out: &mut W,
     name: &str,
     command: &FileCommand,
+    errors: &mut E,
 ) -> Result<Status, ToolFault>
-    ensures { let seen : JobSeen = record {
+    ensures done { let seen : JobSeen = record {
       files = record { known = F.known files.old; before = F.failures files.old; after = F.failures files.new };
       input = record { given = R.remaining input.old; before = R.failures input.old; after = R.failures input.new };
       out = record { held = W.contents out.old; holds = W.contents out.new; before = W.failures out.old; after = W.failures out.new };
     } in MatchResult result (ReportsFile name.now command.now seen) (FileFailsWith name.now command.now seen) }
+    ensures noted { IsNotedIn command.now (record { held = E.contents errors.old; holds = E.contents errors.new; before = E.failures errors.old; after = E.failures errors.new }) }
 {
     if name == "-" {
-        return perform(threads, alloc, command, input, out);
+        return perform(threads, alloc, command, input, out, errors);
     }
     let Ok(mut source) = files.open(name) else {
         return Err(ToolFault::Read);
     };
-    let answer = perform(threads, alloc, command, &mut source, out);
+    let answer = perform(threads, alloc, command, &mut source, out, errors);
     files.close(source);
     answer
 }
@@ -68,7 +71,7 @@ fn do_job<T: Threads + Wait + Sync, F: Files, R: Source, W: Sink, E: Sink, S: Te
 {
     match job {
         Job::OneFile { file, command } => {
-            perform_on(threads, alloc, files, input, out, file, command)
+            perform_on(threads, alloc, files, input, out, file, command, errors)
         }
         Job::Audit {
             files: names,
@@ -89,9 +92,9 @@ fn do_job<T: Threads + Wait + Sync, F: Files, R: Source, W: Sink, E: Sink, S: Te
     }
 }
 
-/// Does a job over its files, and writes its report to `out`. A job over the file `-`, and one that follows a
-/// report named `-`, reads `input`, the standard input. A run over a
-/// yard that is not to be quiet writes its notes to `errors`, and shows on the terminal how far it is.
+/// Does a job over its files, and writes its report to `out`. A job over the file `-`, and one that follows a report named `-`, reads
+/// `input`, the standard input. A run over a yard that is not to be quiet writes its notes to `errors`, as a check does that finds no
+/// certificate, and shows on the terminal how far it is.
 ///
 /// Of a run over a yard the headline holds: of the texts that it wrote, and where it ended with a fault of those whose fronts it wrote.
 pub fn run_job<T: Threads + Wait + Sync, F: Files, R: Source, W: Sink, E: Sink, S: Terminal + Sync>(

@@ -1,6 +1,7 @@
 //! What a command does with the bytes of one file.
 ghost use Rattle.std.specs.Prelude.{MatchResult};
 ghost use Rattle.crp_commands.specs.Calls.{CallSeen};
+ghost use Rattle.crp_commands.specs.Noted.{IsNotedIn};
 ghost use Rattle.crp_commands.specs.Performing.{PerformsIn, CommandFailsInCall};
 
 use crate::bounding::bound;
@@ -15,15 +16,18 @@ use std::alloc::Global;
 use std::sync::Wait;
 use std::thread::Threads;
 
-/// Does a command over one file, from a source of that file's bytes to the sink of its report.
-pub fn perform<T: Threads + Wait + Sync, R: Source, W: Sink>(
+/// Does a command over one file, from a source of that file's bytes to the sink of its report. That a file to be checked holds no
+/// certificate is noted on `errors`.
+#[tactic(auto, using(crate::proofs::Noted::unnoted_in))]
+pub fn perform<T: Threads + Wait + Sync, R: Source, W: Sink, E: Sink>(
     rt: &T,
     alloc: Global,
     command: &FileCommand,
     reader: &mut R,
     writer: &mut W,
+    errors: &mut E,
 ) -> Result<Status, ToolFault>
-    ensures { let seen : CallSeen = record {
+    ensures done { let seen : CallSeen = record {
       given = R.remaining reader.old;
       held = W.contents writer.old;
       holds = W.contents writer.new;
@@ -32,11 +36,12 @@ pub fn perform<T: Threads + Wait + Sync, R: Source, W: Sink>(
       sink_before = W.failures writer.old;
       sink_after = W.failures writer.new;
     } in MatchResult result (PerformsIn command.now seen) (CommandFailsInCall command.now seen) }
+    ensures noted { IsNotedIn command.now (record { held = E.contents errors.old; holds = E.contents errors.new; before = E.failures errors.old; after = E.failures errors.new }) }
 {
     match command {
         FileCommand::Replay => replay(alloc, reader, writer),
         FileCommand::Bound => bound(alloc, reader, writer),
-        FileCommand::Check => check(alloc, reader, writer),
+        FileCommand::Check => check(alloc, reader, writer, errors),
         FileCommand::Prove(search) => prove(rt, alloc, reader, writer, *search),
     }
 }

@@ -1,6 +1,6 @@
 //! The calls that the tests make, each in a function with no clause: so a test knows nothing of what is promised, and is soon checked.
 use crp_commands::{Job, RowHeights, ToolFault};
-use crp_plan::{Sink, Source};
+use crp_plan::{Nowhere, Sink, Source};
 use crp_report::{Fault, RunSettings, Status, Watch};
 use crp_solve::Settings;
 use crp_words::Usage;
@@ -29,7 +29,7 @@ pub(crate) fn check<R: Source, W: Sink>(
     reader: &mut R,
     writer: &mut W,
 ) -> Result<Status, ToolFault> {
-    crp_commands::check(alloc, reader, writer)
+    crp_commands::check(alloc, reader, writer, &mut Nowhere)
 }
 
 pub(crate) fn prove<T: Threads + Wait + Sync, R: Source, W: Sink>(

@@ -6,6 +6,8 @@ use std::alloc::{AllocError, Global};
 pub(crate) enum Mark {
     Note,
     Write,
+    Symlink,
+    HardLink,
     Run,
     Errors,
     Status,
@@ -13,9 +15,11 @@ pub(crate) enum Mark {
     Gone,
 }
 
-const MARKS: [(&str, Mark); 7] = [
+const MARKS: [(&str, Mark); 9] = [
     ("# ", Mark::Note),
     ("> ", Mark::Write),
+    ("~ ", Mark::Symlink),
+    ("+ ", Mark::HardLink),
     ("$ crp", Mark::Run),
     ("!", Mark::Errors),
     ("? ", Mark::Status),

@@ -4,6 +4,7 @@
 //!
 //! - `# NOTE` says what is shown, and has no text;
 //! - `> NAME` writes its text to the file of this name;
+//! - `~ NAME FILE` makes a symbolic link of this name, which leads to this file, and `+ NAME FILE` a hard link;
 //! - `$ crp WORDS` runs the program with these words, and its text is what the standard output must get. With `< NAME` at the end the
 //!   standard input is what the file of this name holds, else it is empty;
 //! - `!` has as its text what the standard error must have got from the run. With no such block that is nothing;

@@ -4,6 +4,7 @@ use crate::blocks::{Block, Mark, blocks_of};
 use crp_commands::{NoTerminal, SystemFiles};
 use crp_plan::{Counted, Received, write_all};
 use crp_words::run_words;
+use std::os::unix::fs::symlink;
 use std::sync::Wait;
 use std::thread::Threads;
 use std::{fs, io};
@@ -177,6 +178,18 @@ fn is_gone(rt: &HostRuntime, block: &Block<'_>) -> io::Result<bool> {
     }
 }
 
+// Makes a link, by its name and that of the file which it leads to.
+fn link(rt: &HostRuntime, mark: Mark, words: &str) -> io::Result<()> {
+    let Some((name, file)) = words.split_once(" ") else {
+        return Err(io::Error::from(io::ErrorKind::InvalidInput));
+    };
+    if mark == Mark::HardLink {
+        fs::hard_link(rt, file, name)
+    } else {
+        symlink(rt, file, name)
+    }
+}
+
 // Does what a block says, and returns whether all is as it says.
 fn step<T: Threads + Wait + Sync>(
     rt: &HostRuntime,
@@ -188,6 +201,10 @@ fn step<T: Threads + Wait + Sync>(
         Mark::Note => Ok(block.text.is_empty()),
         Mark::Write => {
             fs::write(rt, block.words, block.text.as_slice())?;
+            is_settled(rt, played, block.line)
+        }
+        Mark::Symlink | Mark::HardLink => {
+            link(rt, block.mark, block.words)?;
             is_settled(rt, played, block.line)
         }
         Mark::Run => Ok(is_settled(rt, played, block.line)? && run(rt, threads, played, block)?),

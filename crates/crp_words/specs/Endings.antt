@@ -6,15 +6,17 @@ use Rattle.crp_report.specs.Runs.{SinkSeen, Gets, GetsPart}
 use Rattle.crp_commands.specs.declared.job.Job.{Job}
 use Rattle.crp_commands.specs.declared.outcome.ToolFault.{ToolFault}
 use Rattle.crp_commands.specs.Advice.{IsPlainLine, failed_words}
+use Rattle.crp_commands.specs.Found.{IsPlainText}
 use Rattle.crp_commands.specs.Calls.{exit_code}
 use Rattle.crp_commands.specs.Opened.{AreFilesLeftAlone, IsSourceLeftAlone, IsLeftAlone}
 use Rattle.crp_commands.specs.Performing.{JobSeen, ReportsOverFiles, FailsOverFiles}
 use Rattle.crp_commands.specs.Headlines.{KeepsHeadline, KeepsHeadlineSoFar}
-use Rattle.crp_commands.specs.Noted.{IsNoted}
+use Rattle.crp_commands.specs.Noted.{GetsLines, IsNoted}
 use Rattle.crp_words.specs.declared.usage.Mistake.TheVariants as mistake
 use Rattle.crp_words.specs.declared.usage.Usage.{Usage}
 use Rattle.crp_words.specs.declared.usage.Usage.TheVariants as usage
-use Rattle.crp_words.specs.Words.{WordsAsk, Refuses}
+use Rattle.crp_words.specs.Links.{IsLinked, MayBeLinked}
+use Rattle.crp_words.specs.Words.{WordsAsk, Refuses, IsWordsOrMemory}
 
 -- ---- lines for the user
 
@@ -27,13 +29,21 @@ place_part (Some place) = codes "look at " ++ (place ++ codes ": ")
 abbrev pub fault_lines : List ℕ → Option (List ℕ) → List ℕ → List ℕ
 fault_lines text place advice = codes "crp: " ++ (text ++ (10 ∷ (place_part place ++ (advice ++ 10 ∷ []))))
 
--- the sink got the text, or where a write to it has failed a front of it that is not all of it, and nothing else
-abbrev pub GetsLines : SinkSeen → List ℕ → Type 0
-GetsLines s text = Gets s text ⊎ (GetsPart s text × HasFailed s.before s.after)
-
 -- the sink got the two lines of some fault and of some line of advice, with this place
 abbrev pub IsExplained : Option (List ℕ) → SinkSeen → Type 0
 IsExplained place s = (text : List ℕ) × (advice : List ℕ) × IsPlainLine advice × GetsLines s (fault_lines text place advice)
+
+-- the same two lines, and what the file looks like that was refused
+abbrev pub three_lines : List ℕ → List ℕ → List ℕ → List ℕ
+three_lines text advice found = codes "crp: " ++ (text ++ (10 ∷ (advice ++ (10 ∷ (found ++ 10 ∷ [])))))
+
+-- the sink got the two lines of some fault and of some line of advice, and a line on what was found
+abbrev pub IsExplainedWithFound : SinkSeen → Type 0
+IsExplainedWithFound s = (text : List ℕ) × (advice : List ℕ) × (found : List ℕ) × IsPlainLine advice × IsPlainText found × GetsLines s (three_lines text advice found)
+
+-- the sink got the two lines of a fault of the job, with the place where a read or a write has failed; or, where none has, a third one on what was found
+abbrev pub IsExplainedOf : Job → ToolFault → SinkSeen → Type 0
+IsExplainedOf j f s = IsExplained (failed_words j f) s ⊎ ((failed_words j f ≡ None) × IsExplainedWithFound s)
 
 -- ---- words that ask for nothing
 
@@ -64,13 +74,18 @@ pub record BehindNotes (j : Job) (Then : SinkSeen → Type 0) (s : SinkSeen) : T
 abbrev pub JobEnds : Job → JobSeen → SinkSeen → ℕ → Type 0
 JobEnds j seen errors status =
     ((ended : Status) × ReportsOverFiles j seen ended × KeepsHeadline j seen × IsNoted j errors × (status ≡ exit_code (Ok ended)))
-    ⊎ ((f : ToolFault) × FailsOverFiles j seen f × KeepsHeadlineSoFar j seen × BehindNotes j (IsExplained (failed_words j f)) errors × (status ≡ exit_code (Err f)))
+    ⊎ ((f : ToolFault) × FailsOverFiles j seen f × KeepsHeadlineSoFar j seen × BehindNotes j (IsExplainedOf j f) errors × (status ≡ exit_code (Err f)))
 
 -- ---- the program
 
--- how the program ends by these words: they ask for a job, which is done or fails; or they ask for nothing, and then neither a file nor the standard input
--- is touched
+-- the program ends with this refusal, and neither a file nor the standard input is touched
+abbrev pub EndsUntouched : Usage → JobSeen → SinkSeen → ℕ → Type 0
+EndsUntouched u seen errors status = AreFilesLeftAlone seen.files × IsSourceLeftAlone seen.input × UsageEnds u seen.out errors status
+
+-- how the program ends by these words: they ask for a job, none of whose files is known to be written in the place of another, and it is done or fails;
+-- or a file that it writes may be another one of its files, and then it is refused untouched, or for want of memory; or they ask for nothing
 abbrev pub ProgramEnds : List (List ℕ) → JobSeen → SinkSeen → ℕ → Type 0
 ProgramEnds words seen errors status =
-    ((j : Job) × WordsAsk words j × JobEnds j seen errors status)
-    ⊎ ((u : Usage) × Refuses words u × AreFilesLeftAlone seen.files × IsSourceLeftAlone seen.input × UsageEnds u seen.out errors status)
+    ((j : Job) × WordsAsk words j × ¬ IsLinked seen.files.known j × JobEnds j seen errors status)
+    ⊎ (((j : Job) × WordsAsk words j × MayBeLinked seen.files.known j × ((u : Usage) × IsWordsOrMemory u × EndsUntouched u seen errors status))
+    ⊎ ((u : Usage) × Refuses words u × EndsUntouched u seen errors status))

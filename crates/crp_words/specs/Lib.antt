@@ -2,4 +2,5 @@
 pub mod Commands
 pub mod Heights
 pub mod Words
+pub mod Links
 pub mod Endings

@@ -1,28 +1,47 @@
 //! What the words of the command line ask for, done.
 ghost use Rattle.std.specs.Prelude.{MatchResult, map};
 ghost use Rattle.crp_report.specs.Runs.{SinkSeen};
-ghost use Rattle.crp_commands.specs.Advice.{failed_words};
 ghost use Rattle.crp_commands.specs.Opened.{IsLeftAlone};
 ghost use Rattle.crp_commands.specs.Performing.{JobSeen};
-ghost use Rattle.crp_words.specs.Endings.{IsExplained, JobEnds, ProgramEnds};
+ghost use Rattle.crp_words.specs.Endings.{IsExplainedOf, JobEnds, ProgramEnds};
 
-use crate::ending::{end_with_usage, explain_fault};
-use crate::words::job;
-use crp_commands::{Files, Job, Terminal, ToolFault, exit_of, place_of, run_job};
+use crate::ending::{end_with_usage, explain_fault, explain_found};
+use crate::links::linked;
+use crate::words::{job, same_file};
+use crp_commands::{Files, Job, Terminal, ToolFault, exit_of, found_line, place_of, run_job};
 use crp_plan::{Sink, Source};
 use crp_report::Status;
 use std::alloc::Global;
 use std::sync::Wait;
 use std::thread::Threads;
 
-// Explains the fault of a job, if it ended with one.
-fn explain_answer<E: Sink>(errors: &mut E, job: &Job<'_>, answer: &Result<Status, ToolFault>)
+// Explains the fault of a job: the place where a read or a write has failed, and else what was found, where that tells more.
+fn explain_of<F: Files, E: Sink>(files: &F, errors: &mut E, job: &Job<'_>, fault: &ToolFault)
     ensures { let seen : SinkSeen = record { held = E.contents errors.old; holds = E.contents errors.new; before = E.failures errors.old; after = E.failures errors.new }
-        in MatchResult answer.now (λ _. IsLeftAlone seen) (λ fault. IsExplained (failed_words job.now fault) seen) }
+        in IsExplainedOf job.now fault.now seen }
+{
+    let Some(place) = place_of(job, fault) else {
+        let Some(line) = found_line(files, job, fault) else {
+            return explain_fault(errors, fault, None);
+        };
+        return explain_found(errors, fault, line.as_slice());
+    };
+    explain_fault(errors, fault, Some(place));
+}
+
+// Explains the fault of a job, if it ended with one.
+fn explain_answer<F: Files, E: Sink>(
+    files: &F,
+    errors: &mut E,
+    job: &Job<'_>,
+    answer: &Result<Status, ToolFault>,
+)
+    ensures { let seen : SinkSeen = record { held = E.contents errors.old; holds = E.contents errors.new; before = E.failures errors.old; after = E.failures errors.new }
+        in MatchResult answer.now (λ _. IsLeftAlone seen) (λ fault. IsExplainedOf job.now fault seen) }
 {
     match answer {
         Ok(_) => {}
-        Err(fault) => explain_fault(errors, fault, place_of(job, fault)),
+        Err(fault) => explain_of(files, errors, job, fault),
     }
 }
 
@@ -52,13 +71,13 @@ fn end_with_job<
         in JobEnds job.now seen errors_seen result }
 {
     let answer = run_job(threads, alloc, files, input, out, job, errors, terminal);
-    explain_answer(errors, job, &answer);
+    explain_answer(files, errors, job, &answer);
     exit_of(&answer)
 }
 
 /// Does what the words of the command line ask for, those behind the program's name: a job over its files, where a file named `-` is
-/// `input`; or help, on `out`. Notes and what went wrong go to `errors`; how far a run is, is shown on the
-/// terminal. Returns the exit status.
+/// `input`; or help, on `out`. A job that writes a file which is another one of its files too, by a link, is refused. Notes and what went
+/// wrong go to `errors`; how far a run is, is shown on the terminal. Returns the exit status.
 pub fn run_words<
     T: Threads + Wait + Sync,
     F: Files,
@@ -84,7 +103,10 @@ pub fn run_words<
         in ProgramEnds (map (λ w. w.now) words.now) seen errors_seen result }
 {
     match job(alloc, words) {
-        Ok(job) => end_with_job(threads, alloc, files, input, out, errors, &job, terminal),
+        Ok(job) => match linked(files, &job) {
+            Some(names) => end_with_usage(&same_file(alloc, names), out, errors),
+            None => end_with_job(threads, alloc, files, input, out, errors, &job, terminal),
+        },
         Err(usage) => end_with_usage(&usage, out, errors),
     }
 }

@@ -2,7 +2,9 @@
 ghost use Rattle.std.specs.Prelude.{Some, flat_map, option_map};
 ghost use Rattle.crp_report.specs.Runs.{SinkSeen};
 ghost use Rattle.crp_commands.specs.Advice.{place_words};
-ghost use Rattle.crp_words.specs.Endings.{GetsLines, HelpEnds, IsExplained, UsageEnds, fault_lines};
+ghost use Rattle.crp_commands.specs.Noted.{GetsLines};
+ghost use Rattle.crp_commands.specs.Found.{IsPlainText};
+ghost use Rattle.crp_words.specs.Endings.{HelpEnds, IsExplained, IsExplainedWithFound, UsageEnds, fault_lines, three_lines};
 
 use crate::advice::advice_on_setting;
 use crate::usage::{Mistake, Usage};
@@ -114,6 +116,26 @@ pub(crate) fn explain_fault<W: Sink>(sink: &mut W, fault: &ToolFault, place: Opt
 {
     let text = text_of(fault);
     explain(sink, text.bytes.as_slice(), place, advice_on(fault));
+}
+
+// Writes the lines of a fault: its text, the advice, and what was found.
+fn explain_with<W: Sink>(sink: &mut W, text: &[u8], advice: &str, found: &[u8])
+    ensures { let seen : SinkSeen = record { held = W.contents sink.old; holds = W.contents sink.new; before = W.failures sink.old; after = W.failures sink.new }
+        in GetsLines seen (three_lines text.now advice.now found.now) }
+{
+    let advice = advice.as_bytes();
+    let pieces: [&[u8]; 7] = [b"crp: ", text, b"\n", advice, b"\n", found, b"\n"];
+    write_pieces(sink, &pieces);
+}
+
+/// Writes the lines of a fault for which no read or write is the cause: what it is, what to look at, and what was found.
+pub(crate) fn explain_found<W: Sink>(sink: &mut W, fault: &ToolFault, found: &[u8])
+    requires { IsPlainText found.now }
+    ensures { let seen : SinkSeen = record { held = W.contents sink.old; holds = W.contents sink.new; before = W.failures sink.old; after = W.failures sink.new }
+        in IsExplainedWithFound seen }
+{
+    let text = text_of(fault);
+    explain_with(sink, text.bytes.as_slice(), advice_on(fault), found);
 }
 
 fn show_help<W: Sink, E: Sink>(text: &str, out: &mut W, errors: &mut E) -> u8

@@ -10,6 +10,7 @@ mod commands;
 mod doing;
 mod ending;
 mod follow_words;
+mod links;
 mod usage;
 mod words;
 

@@ -21,7 +21,7 @@ use crp_order::Mode;
 use crp_plan::MAX_ROWS;
 use crp_report::{InputSettings, RunFault, RunSettings};
 use crp_solve::{MAX_BEAM, MAX_BUDGET, MAX_SPLIT, MAX_WORKERS, Settings};
-use std::alloc::Global;
+use std::alloc::{AllocError, Global};
 
 static NO_WORDS: [&str; 2] = ["replay", "-"];
 
@@ -42,6 +42,10 @@ const MOST_TIERS: u64 = 8;
 
 // The most bytes of the heights of rows.
 const MOST_BYTES: usize = 2 * MAX_ROWS - 1;
+
+// What numbers may be given.
+const NUMBERS: &str =
+    "\nA number is whole and has no sign: --rows 1 to 12, --tiers 1 to 8, --workers 1 to 64, --split 0 to 8, --beam 0 to 10000, --budget 0 to 1099511627776.\n";
 
 // The refusals of heights beside rows or tiers.
 static AUDIT_SIZED_TWICE: &str =
@@ -222,8 +226,8 @@ fn named_twice<'a>(matches: &ArgMatches<'a>) -> Option<(&'a str, &'a str)>
     one_file(matches, "after", "cert")
 }
 
-// The refusal of two names of one file.
-fn same_file(alloc: Global, names: (&str, &str)) -> Usage
+/// The refusal of two names of one file.
+pub(crate) fn same_file(alloc: Global, names: (&str, &str)) -> Usage
     ensures { IsWordsOrMemory result }
 {
     match format!(in alloc;
@@ -476,11 +480,31 @@ fn job_of<'a>(alloc: Global, name: &str, matches: &ArgMatches<'a>) -> Result<Job
     leaf_of(alloc, name, matches)
 }
 
+// Whether what was refused was to be a number: it is none, or has a sign.
+fn is_no_number(kind: ErrorKind, text: &str) -> bool {
+    if kind == ErrorKind::ValueValidation {
+        return true;
+    }
+    match text.split_once("unexpected argument '-") {
+        Some((_, rest)) => rest.as_bytes().first().is_some_and(|b| b.is_ascii_digit()),
+        None => false,
+    }
+}
+
+// The text of a refusal of clap's; where a number was to be given and none was, with the numbers that there are.
+fn text_of_refusal(alloc: Global, error: &Error) -> Result<String, AllocError> {
+    let mut text = error.to_string(alloc)?;
+    if is_no_number(error.kind(), text.as_str()) {
+        text.push_str(NUMBERS)?;
+    }
+    Ok(text)
+}
+
 // The text of a refusal of clap's.
 fn usage_of(alloc: Global, error: &Error) -> Usage
     ensures { ShowsKind (kind_of error.now) result }
 {
-    let Ok(text) = error.to_string(alloc) else {
+    let Ok(text) = text_of_refusal(alloc, error) else {
         return Usage::Memory;
     };
     match error.kind() {

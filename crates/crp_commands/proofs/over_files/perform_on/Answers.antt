@@ -4,13 +4,13 @@ use Rattle.crp_commands.proofs.Performed.{from_input, from_file}
 use Rattle.crp_commands.proofs.Solved.{more_from}
 use Rattle.crp_commands.proofs.over_files.perform_on.Goals as goal
 
-pub returns-then-eq : goal.returns-then-eq
-returns-then-eq g c =
+pub returns-then-eq-clause-done : goal.returns-then-eq-clause-done
+returns-then-eq-clause-done g c =
     let named : c.args.name.now ≡ codes "-" = search rules in
-    from_input c.args.name.now c.args.command.now _ c.perform.result named refl c.perform.ensures
+    from_input c.args.name.now c.args.command.now _ c.perform.result named refl c.perform.ensures.done
 
-pub returns : goal.returns
-returns g c =
+pub returns-clause-done : goal.returns-clause-done
+returns-clause-done g c =
     let named : c.args.name.now ≢ codes "-" = search rules in
     let source : SourceSeen = record {
       given = g.F.Input.Source.remaining c.in-Ok.source;
@@ -21,4 +21,4 @@ returns g c =
       opened = record { bytes = c.in-Ok.ensures.bytes; new = c.in-Ok.ensures.new };
       failed = more_from _ _ _ _ c.in-Ok.ensures.count c.close.ensures;
       alone = refl;
-    }) c.perform-answer.ensures
+    }) c.perform-answer.ensures.done

@@ -1,0 +1,42 @@
+//! A writer that knows whether its reader has ended.
+use std::io::{self, ErrorKind, Write};
+
+/// A writer that remembers whether a write to it failed because the program that reads it has ended.
+#[derive(Drop)]
+pub struct Piped<W> {
+    writer: W,
+    is_broken: bool,
+}
+
+impl<W: Write> Piped<W> {
+    /// The writer, of whose reader nothing is known yet.
+    pub fn new(writer: W) -> Piped<W> {
+        Piped {
+            writer,
+            is_broken: false,
+        }
+    }
+
+    /// Whether the last write failed because its reader has ended.
+    pub fn is_broken(&self) -> bool {
+        self.is_broken
+    }
+}
+
+impl<W: Write> Write for Piped<W> {
+    ghost contents = { λ piped. W.contents piped.writer };
+
+    fn write(&mut self, buf: &[u8]) -> io::Result<usize> {
+        match self.writer.write(buf) {
+            Ok(n) => Ok(n),
+            Err(error) => {
+                self.is_broken = error.kind() == ErrorKind::BrokenPipe;
+                Err(error)
+            }
+        }
+    }
+
+    fn flush(&mut self) -> io::Result<()> {
+        self.writer.flush()
+    }
+}

@@ -1,0 +1,15 @@
+use Rattle.std.proofs.Common.{◌≡◌, ◌∙◌, None, ap, option_map, sym}
+use Rattle.crp_commands.specs.Advice.{place_words}
+use Rattle.crp_words.proofs.Ended.{explained_at, explained_found}
+use Rattle.crp_words.proofs.doing.explain_of.Goals as goal
+
+pub returns-in_default-found_line : goal.returns-in_default-found_line
+returns-in_default-found_line g c =
+    explained_at c.args.job.now c.args.fault.now None _ (ap (option_map place_words) (sym c.in_default.is) ∙ c.place_of.ensures) c.explain_fault.ensures
+
+pub returns-in_default : goal.returns-in_default
+returns-in_default g c =
+    explained_found c.args.job.now c.args.fault.now _ (ap (option_map place_words) (sym c.in_default.is) ∙ c.place_of.ensures) c.explain_found.ensures
+
+pub returns : goal.returns
+returns g c = explained_at c.args.job.now c.args.fault.now _ _ (ap (option_map place_words) (sym c.in-Some.is) ∙ c.place_of.ensures) c.explain_fault-2.ensures

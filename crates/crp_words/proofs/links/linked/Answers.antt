@@ -1,0 +1,4 @@
+use Rattle.crp_words.proofs.links.linked.Goals as goal
+
+pub returns-in-Solve-clause-none : goal.returns-in-Solve-clause-none
+returns-in-Solve-clause-none g c = rw c.in-Solve.is c.linked_in.ensures.none
