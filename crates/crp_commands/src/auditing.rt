@@ -168,13 +168,13 @@ fn audit_input<C: Source, W: Sink>(
         let given : SourceSeen = record { given = C.remaining certificates.old; before = C.failures certificates.old; after = C.failures certificates.new } in
         MatchResult result
         (λ _. (text : List ℕ) × IsTextWithin MOST_BYTES given.given text × ((is : IsHeadline (handed input.now.yard input.now.orders input.now.sequence report.now text))
-            × Gets out_seen (audit_text (shown_in (handed input.now.yard input.now.orders input.now.sequence report.now text) is))))
+        × Gets out_seen (audit_text (shown_in (handed input.now.yard input.now.orders input.now.sequence report.now text) is))))
         (λ fault. (GetsNothing out_seen × IsNoStatement Statement.Certificates given fault)
-            ⊎ ((text : List ℕ) × IsTextOf given.given text × StopsOn (handed input.now.yard input.now.orders input.now.sequence report.now text) out_seen fault)) }
+        ⊎ ((text : List ℕ) × IsTextOf given.given text × StopsOn (handed input.now.yard input.now.orders input.now.sequence report.now text) out_seen fault)) }
     ensures counted { MatchResult result
         (λ _. C.failures certificates.new + W.failures out.new + interruptions.old ≤ C.failures certificates.old + W.failures out.old + interruptions.new)
         (λ fault. C.failures certificates.new + W.failures out.new + interruptions.old
-            ≤ C.failures certificates.old + W.failures out.old + interruptions.new + failures_of_tool_fault fault) }
+        ≤ C.failures certificates.old + W.failures out.old + interruptions.new + failures_of_tool_fault fault) }
     ensures count { (C.failures certificates.old ≤ C.failures certificates.new) × (W.failures out.old ≤ W.failures out.new) }
     ensures passed { interruptions.new ≤ most_interruptions }
 {
