@@ -31,7 +31,7 @@ struct Ended {
 }
 
 // How a report is followed over a yard of three rows of three tiers, with a sink that has so much room.
-fn ended<R: Source + Drop>(
+fn followed<R: Source + Drop>(
     alloc: Global,
     mut yard: Slow<'_>,
     mut report: R,
@@ -71,7 +71,7 @@ fn whole(text: &[u8]) -> Slow<'_> {
 #[test]
 fn each_write_of_a_table_fails_in_turn(rt: HostRuntime) -> Result<(), Fail> {
     for room in 0..TABLE.len() + 1 {
-        let got = ended(rt.alloc(), whole(LIST), whole(REPORT), room)?;
+        let got = followed(rt.alloc(), whole(LIST), whole(REPORT), room)?;
         let answer = if room < TABLE.len() {
             Err(ToolFault::WriteTable)
         } else {
@@ -86,13 +86,13 @@ fn each_write_of_a_table_fails_in_turn(rt: HostRuntime) -> Result<(), Fail> {
 #[test]
 fn each_read_of_a_followed_report_fails_in_turn(rt: HostRuntime) -> Result<(), Fail> {
     for given in 0..REPORT.len() + 1 {
-        let got = ended(rt.alloc(), whole(LIST), slow(REPORT, given, true), ROOM)?;
+        let got = followed(rt.alloc(), whole(LIST), slow(REPORT, given, true), ROOM)?;
         let answer = Err(ToolFault::ReadOf(Statement::Report));
         assert_same_at(&rt, &got.answer, &answer, &given);
         assert_same_at(&rt, &got.held.len(), &0, &given);
     }
     for given in 0..LIST.len() + 1 {
-        let got = ended(rt.alloc(), slow(LIST, given, true), whole(REPORT), ROOM)?;
+        let got = followed(rt.alloc(), slow(LIST, given, true), whole(REPORT), ROOM)?;
         let answer = Err(ToolFault::Run(Fault::Read(Input::Yard)));
         assert_same_at(&rt, &got.answer, &answer, &given);
         assert_same_at(&rt, &got.held.len(), &0, &given);
@@ -102,7 +102,7 @@ fn each_read_of_a_followed_report_fails_in_turn(rt: HostRuntime) -> Result<(), F
 
 #[test]
 fn a_report_that_never_ends(rt: HostRuntime) -> Result<(), Fail> {
-    let got = ended(rt.alloc(), whole(LIST), Endless, ROOM)?;
+    let got = followed(rt.alloc(), whole(LIST), Endless, ROOM)?;
     let answer = Err(ToolFault::Followed(FollowFault::TooLong));
     assert_same_at(&rt, &got.answer, &answer, &ROOM);
     assert_same_at(&rt, &got.held.len(), &0, &ROOM);
