@@ -1,0 +1,2 @@
+-- Lemmas on the moves of plans.
+mod Planned

@@ -1,0 +1,2 @@
+-- The moves of plans, as they are said.
+pub mod Planned
