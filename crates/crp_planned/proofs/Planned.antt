@@ -1,16 +1,20 @@
 -- What a run prints of a plan, the crane can do.
-use Rattle.std.proofs.Common.{◌≡◌, ◌∙◌, ◌<◌, ◌≤◌, ℕ, zero, suc, ◌+◌, ◌-◌, List, [], ◌∷◌, ◌++◌, length, length-append, map, Option, Some, None, slice_get, slice_set, slice_index, slice_index_or, refl, sym, ap, subst, arith}
-use Rattle.std.specs.Prelude.{option_map, unwrap_or}
+use Rattle.std.proofs.Common.{◌≡◌, ◌∙◌, ◌≤◌, ℕ, zero, suc, ◌-◌, List, [], ◌∷◌, ◌++◌, length, length-append, map, Some, slice_get, slice_set, slice_index, slice_index_or, refl, sym, ap, subst, arith}
+use Rattle.std.specs.Prelude.{option_map, unwrap_or, count_by}
 use Rattle.std.proofs.lemmas.Option.{slice_get-map, none-some, same_Some}
 use Rattle.std.proofs.lemmas.List.{length-map, map-append}
+use Rattle.std.proofs.lemmas.List.Sums.{sum_by-cons}
 use Rattle.crp_plan.specs.declared.moves.Move.{Move}
 use Rattle.crp_plan.specs.declared.moves.Move.TheVariants as move
-use Rattle.crp_plan.specs.Bay.{Position, Legal, IsTaken as Takes, IsShifted as Shifts}
+use Rattle.crp_plan.specs.Bay.{Position, Legal, Runs, IsTaken as Takes, IsShifted as Shifts, relocations}
+use Rattle.crp_plan.proofs.Lists.{one_if}
 use Rattle.crp_yard.specs.Records.{height_of}
 use Rattle.crp_yard.specs.Ranks.{name_of_rank, named}
 use Rattle.crp_said.specs.declared.moves.SaidMove.{SaidMove}
-use Rattle.crp_said.specs.MoveLines.{row_stack, top_of, move_said}
-use Rattle.crp_follow.specs.Crane.{Stack, stack_of, with_stack, IsHighest, IsLowestFree, IsTaken, IsShifted, CanMake, Leads}
+use Rattle.crp_said.specs.MoveLines.{row_stack, top_of, move_said, move_line, AreMoveLines}
+use Rattle.crp_follow.specs.Crane.{Stack, stack_of, with_stack, IsHighest, CanMake, Leads}
+use Rattle.crp_follow.specs.Faults.{is_shift}
+use Rattle.crp_follow.specs.Written.{lines_of}
 use Rattle.crp_planned.specs.Planned.{AreSaid}
 
 -- ---- lists
@@ -104,6 +108,43 @@ legal_named names s t (move.Shift from to) is = shifted_named names s t from to 
 same_heights : (s t : Position) (m : Move) → Legal s m t → t.heights ≡ s.heights
 same_heights s t (move.Take row) is = ap (λ (p : Position). p.heights) is.after
 same_heights s t (move.Shift from to) is = ap (λ (p : Position). p.heights) is.after
+
+-- ---- the lines of moves
+
+-- lines that are those of these moves, which lead on from here: what they say, and where they lead
+pub record AreLinesOf (names : List (List ℕ)) (s : Position) (moves : List Move) (text : List ℕ) : Type 0 where
+  pub said : List SaidMove
+  pub end : Position
+  pub are : AreSaid names s moves said end
+  pub runs : Runs s moves end
+  pub is : text ≡ lines_of said
+
+pub lines_said : (names : List (List ℕ)) (s : Position) (moves : List Move) (text : List ℕ) → AreMoveLines names s moves text → AreLinesOf names s moves text
+lines_said names s [] text is = record { said = []; end = s; are = refl; runs = refl; is = is }
+lines_said names s (m ∷ moves) text (t, rest, legal, stated, is) =
+    let more = lines_said names t moves rest stated in
+    let x = move_said names s m in
+    record {
+      said = x ∷ more.said;
+      end = more.end;
+      are = (refl, (t, legal, more.are));
+      runs = (t, legal, more.runs);
+      is = is ∙ ap (λ l. move_line names s m ++ l) more.is;
+    }
+
+-- as many of the moves are said to be relocations as there are
+pub shifts_said : (names : List (List ℕ)) (s t : Position) (moves : List Move) (said : List SaidMove) → AreSaid names s moves said t → count_by is_shift said ≡ relocations moves
+shifts_said names s t [] [] is = refl
+shifts_said names s t [] (x ∷ said) is = absurd is
+shifts_said names s t (m ∷ moves) [] is = absurd is
+shifts_said names s t (move.Take row ∷ moves) (x ∷ said) (e, (u, legal, more)) =
+    let one : one_if (is_shift x) ≡ 0 = ap (λ y. one_if (is_shift y)) e in
+    omega (arith, one, shifts_said names u t moves said more, sum_by-cons (λ y. one_if (is_shift y)) x said)
+shifts_said names s t (move.Shift from to ∷ moves) (x ∷ said) (e, (u, legal, more)) =
+    let one : one_if (is_shift x) ≡ 1 = ap (λ y. one_if (is_shift y)) e in
+    omega (arith, one, shifts_said names u t moves said more, sum_by-cons (λ y. one_if (is_shift y)) x said)
+
+-- ---- where they lead
 
 pub plan_leads : (names : List (List ℕ)) (s t : Position) (moves : List Move) (said : List SaidMove) → AreSaid names s moves said t
     → Leads s.heights (named names s.stacks) said (named names t.stacks)

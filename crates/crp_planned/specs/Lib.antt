@@ -1,2 +1,3 @@
--- The moves of plans, as they are said.
+-- The moves of plans, as they are said, and where a report ends.
 pub mod Planned
+pub mod Ends

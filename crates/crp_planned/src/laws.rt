@@ -1,11 +1,24 @@
-//! Laws of what is printed of plans.
+//! Laws of what is printed of plans, and of reports that are followed over the yard that they were made of.
 ghost use Rattle.std.specs.Prelude.{ℕ, List};
 ghost use Rattle.crp_plan.specs.declared.moves.Move.{Move};
 ghost use Rattle.crp_plan.specs.Bay.{Position};
 ghost use Rattle.crp_yard.specs.Ranks.{named};
+ghost use Rattle.crp_yard.specs.Reading.{IsYardListOf};
+ghost use Rattle.crp_order.specs.declared.sequences.Mode.{Mode};
+ghost use Rattle.crp_order.specs.Sequences.{IsSequence};
 ghost use Rattle.crp_said.specs.declared.moves.SaidMove.{SaidMove};
+ghost use Rattle.crp_follow.specs.declared.fault.FollowFault.{FollowFault};
 ghost use Rattle.crp_follow.specs.Crane.{Leads};
+ghost use Rattle.crp_follow.specs.Faults.{IsFirstFault};
+ghost use Rattle.crp_report.specs.Chosen.{RunChosen};
+ghost use Rattle.crp_report.specs.Runs.{RunSeen, AreOrders, Made, IsMade};
+ghost use Rattle.crp_audit.specs.Headline.{Handed, IsHeadline};
 ghost use Rattle.crp_planned.specs.Planned.{AreSaid};
+ghost use Rattle.crp_planned.specs.Ends.{IsRunFollowed, IsHeadlineFollowed};
+
+// What a law calls are the laws below on which it rests.
+use crp_audit::headlines_are_read;
+use crp_follow::{one_outcome, stays_within_heights, written_is_stated};
 
 /// The moves of a plan, as a run prints them, a crane can make, one after the other: they lead from what stands in the rows where the plan
 /// begins to what stands there where it ends, the ranks read as names.
@@ -13,3 +26,31 @@ pub fn plans_are_followed()
     ensures { (names : List (List ℕ)) (s t : Position) (moves : List Move) (said : List SaidMove) → AreSaid names s moves said t
         → Leads s.heights (named names s.stacks) said (named names t.stacks) }
 {}
+
+/// The report of a run is followed over the run's yard to its end, and no first fault is found in it: for every yard list, message,
+/// settings and schedule. At the end stands in the yard what the run writes as the yard list after the plans.
+pub fn runs_are_followed()
+    ensures followed { (chosen : RunChosen) (seen : RunSeen) (made : Made) → IsMade chosen seen made → IsRunFollowed made }
+    ensures faultless { (chosen : RunChosen) (seen : RunSeen) (made : Made) (fault : FollowFault) → IsMade chosen seen made
+        → ¬ IsFirstFault made.yard made.report fault }
+{
+    written_is_stated();
+    stays_within_heights();
+    one_outcome();
+}
+
+/// What an audit accepts is followed: where a report and certificates, whoever made them, are a headline of a yard list and of a message
+/// that are accepted, the report is followed over the yard to its end, bay by bay, each from what stands in it to what its printed plan
+/// leaves; and no first fault is found in it.
+pub fn headlines_are_followed()
+    ensures followed { (heights code list message : List ℕ) (mode : Mode) (h : Handed) (is : IsHeadline h) → IsYardListOf heights list h.yard
+        → AreOrders code message h.orders → IsSequence mode h.orders.list h.sequence → IsHeadlineFollowed h is }
+    ensures faultless { (heights code list message : List ℕ) (mode : Mode) (h : Handed) (fault : FollowFault) → IsHeadline h
+        → IsYardListOf heights list h.yard → AreOrders code message h.orders → IsSequence mode h.orders.list h.sequence
+        → ¬ IsFirstFault h.yard h.report fault }
+{
+    headlines_are_read();
+    written_is_stated();
+    stays_within_heights();
+    one_outcome();
+}
