@@ -1,5 +1,5 @@
 -- From symbol to symbol of a piece.
-use Rattle.std.proofs.Common.{◌≡◌, ◌⊎◌, inl, inr, ℕ, suc, ◌+◌, ◌-◌, ◌≤◌, ◌<◌, Bool, true, false, List, [], ◌∷◌, ◌++◌, length, take, drop, get_or, fold, Option, Some, None, refl, sym, ap, ◌∙◌, subst, arith, append_assoc, length-append}
+use Rattle.std.proofs.Common.{◌≡◌, ◌⊎◌, inl, inr, ℕ, suc, ◌+◌, ◌-◌, ◌≤◌, ◌<◌, true, false, List, [], ◌∷◌, ◌++◌, length, take, drop, get_or, fold, Some, None, refl, sym, ap, ◌∙◌, subst, arith, length-append}
 use Rattle.std.specs.Option.{option_or}
 use Rattle.std.proofs.lemmas.List.{length-take-le, take_more, take_all, take-append-drop, length-drop, get_or-drop, length-map}
 use Rattle.std.proofs.lemmas.List.Sums.{fold-append}
@@ -8,10 +8,9 @@ use Rattle.crp_bay.specs.Positions.{can_shift}
 use Rattle.crp_bay.specs.Back.{PlaceAndTrail}
 use Rattle.crp_tree.specs.Trees.{Mark, given_names}
 use Rattle.crp_checker.specs.declared.found.Found.{Found}
-use Rattle.crp_checker.specs.declared.next.Next.TheVariants.{Here, Behind, Nowhere}
 use Rattle.crp_checker.specs.Owed.{Spot, node_at, spots_below, owed_behind}
 use Rattle.crp_checker.specs.Symbols.{Walked, Line, symbol_at, wrong_at, after}
-use Rattle.crp_checker.specs.Pending.{up, back, rows_behind, pending, spot_at, owed_by, IsSound}
+use Rattle.crp_checker.specs.Pending.{up, back, rows_behind, pending, spot_at}
 use Rattle.crp_checker.specs.Passed.{cuts_at, ArePassed, rows_from}
 use Rattle.crp_checker.specs.Walks.{walked_at, line_at, LeadTo, IsWalk, IsStopped}
 use Rattle.crp_checker.proofs.Onward.{is_next, last_split, branch_owes, up_again, ends}

@@ -1,11 +1,10 @@
 -- Cuts that are passed over, and what is known behind them.
-use Rattle.std.proofs.Common.{◌≡◌, ℕ, ◌+◌, ◌≤◌, ◌<◌, Bool, true, false, List, [], ◌∷◌, ◌++◌, length, fold, Option, Some, None, refl, sym, ap, ◌∙◌, subst, arith, append_assoc, append-nil, length-append}
+use Rattle.std.proofs.Common.{◌≡◌, ℕ, ◌+◌, ◌≤◌, Bool, true, false, List, [], ◌∷◌, ◌++◌, length, fold, Option, Some, None, refl, sym, ap, ◌∙◌, arith, append_assoc, append-nil, length-append}
 use Rattle.std.specs.Prelude.{nat_lt}
 use Rattle.std.specs.Option.{option_or}
 use Rattle.std.specs.List.{AllByRecursion}
 use Rattle.std.proofs.lemmas.Bool.{ltb-true}
 use Rattle.std.proofs.lemmas.List.{map-append}
-use Rattle.std.proofs.lemmas.List.Sums.{fold-append}
 use Rattle.crp_plan.specs.Bay.{Position}
 use Rattle.crp_bay.specs.Positions.{child}
 use Rattle.crp_bounds.specs.Bounds.{blocking}
@@ -14,7 +13,7 @@ use Rattle.crp_tree.specs.Trees.{Mark, B, given_names}
 use Rattle.crp_checker.specs.declared.found.Found.{Found}
 use Rattle.crp_checker.specs.declared.wrong.Wrong.{Wrong}
 use Rattle.crp_checker.specs.Owed.{Spot, node_at, spot_below, spots_below, owed_behind}
-use Rattle.crp_checker.specs.Symbols.{Line, Walked, symbol_at, wrong_at, gone_on, after}
+use Rattle.crp_checker.specs.Symbols.{symbol_at, wrong_at, gone_on, after}
 use Rattle.crp_checker.specs.Passed.{cuts_at, ArePassed}
 use Rattle.crp_checker.specs.Walks.{walked_at, line_at, LeadTo}
 

@@ -1,5 +1,5 @@
 -- What a walk makes of a piece of the symbols of a part.
-use Rattle.std.specs.Prelude.{◌≡◌, ◌⊎◌, ℕ, ◌≤◌, ◌<◌, Bool, true, false, List, [], length, take, slice_index, fold, Option, None}
+use Rattle.std.specs.Prelude.{◌≡◌, ◌⊎◌, ℕ, ◌≤◌, ◌<◌, Bool, true, false, List, [], length, take, slice_index, fold, None}
 use Rattle.crp_checker.specs.declared.found.Found.{Found}
 use Rattle.crp_checker.specs.Owed.{Spot}
 use Rattle.crp_checker.specs.Symbols.{Walked, Line, symbol_at, after}

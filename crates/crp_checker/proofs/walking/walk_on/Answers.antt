@@ -1,9 +1,9 @@
-use Rattle.std.proofs.Common.{◌≡◌, ◌<◌, ◌≤◌, ◌+◌, ◌-◌, ◌++◌, ◌∷◌, [], true, List, ℕ, length, take, slice_set, Option, Some, None, IfSome, refl, sym, ap, ◌∙◌, subst, arith, length-append, length-set, length-take-le}
+use Rattle.std.proofs.Common.{◌≡◌, ◌≤◌, ◌+◌, ◌-◌, ◌++◌, ◌∷◌, [], true, List, ℕ, length, take, slice_set, Option, Some, IfSome, refl, ap, subst, arith, length-append, length-set, length-take-le}
 use Rattle.crp_bay.specs.Positions.{can_shift}
 use Rattle.crp_bay.specs.Back.{PlaceAndTrail}
 use Rattle.crp_checker.specs.Owed.{spot_below, spots_below}
 use Rattle.crp_checker.specs.Kept.{mark_of_symbol, need_by}
-use Rattle.crp_checker.specs.Pending.{up, back, rows_behind, pending, spot_at}
+use Rattle.crp_checker.specs.Pending.{back, rows_behind, pending, spot_at}
 use Rattle.crp_checker.specs.Passed.{rows_from}
 use Rattle.crp_checker.specs.Walks.{walked_at, LeadTo}
 use Rattle.crp_checker.proofs.Onward.{last_set}
