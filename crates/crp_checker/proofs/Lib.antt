@@ -7,6 +7,8 @@ pub mod OnTheWay
 pub mod OneCut
 pub mod OneRefusal
 pub mod Onward
+pub mod PassedOver
+pub mod OnWalks
 pub mod Paid
 pub mod PartEnds
 pub mod Shapes

@@ -1,5 +1,5 @@
 -- From a node to the next tree that branches owe.
-use Rattle.std.proofs.Common.{◌≡◌, ◌↔◌, ℕ, zero, suc, ◌+◌, ◌-◌, ◌<◌, ◌≤◌, Bool, true, false, IsTrue, Contains, List, [], ◌∷◌, ◌++◌, length, filter, get_or, slice_set, take, refl, sym, ap, ◌∙◌, subst, arith, length-append}
+use Rattle.std.proofs.Common.{◌≡◌, ◌↔◌, ℕ, zero, suc, ◌+◌, ◌-◌, ◌<◌, ◌≤◌, Bool, true, false, IsTrue, Contains, List, [], ◌∷◌, ◌++◌, length, filter, get_or, slice_set, take, Option, Some, None, refl, sym, ap, ◌∙◌, subst, arith, length-append}
 use Rattle.std.specs.Bool.{OnTrue, OnFalse}
 use Rattle.std.proofs.Math.Seq.{set-append_seam}
 use Rattle.std.proofs.lemmas.Bool.{lt-leb}
@@ -11,10 +11,8 @@ use Rattle.crp_bay.proofs.Tops.{top_push}
 use Rattle.crp_bay.proofs.Walked.{row_is_target}
 use Rattle.crp_tree.proofs.Followed.{legal_push}
 use Rattle.crp_tree.specs.Trees.{X}
-use Rattle.crp_checker.specs.declared.next.Next.{Next}
-use Rattle.crp_checker.specs.declared.next.Next.TheVariants.{Here, Row, Nowhere}
-use Rattle.crp_checker.specs.Owed.{Spot, spots_below, owed_behind}
-use Rattle.crp_checker.specs.Pending.{up, back_on, back, rows_behind, pending, below, spot_at, owed_by, IsSound}
+use Rattle.crp_checker.specs.Owed.{spots_below, owed_behind}
+use Rattle.crp_checker.specs.Pending.{up, back_on, back, rows_behind, pending, below, spot_at}
 
 -- ---- legal rows behind a row
 
@@ -61,13 +59,13 @@ pub same_last : (path front back : List ℕ) (x y : ℕ) → path ≡ front ++ x
 same_last path front back x y a b = sym (top_push front x) ∙ ap top (sym a ∙ b) ∙ top_push back y
 
 -- the path below a branch goes back to it
-up_again : (path : List ℕ) (row : ℕ) → up (path ++ row ∷ []) ≡ path
+pub up_again : (path : List ℕ) (row : ℕ) → up (path ++ row ∷ []) ≡ path
 up_again path row =
     let shorter : length path ≡ length (path ++ row ∷ []) - 1 = omega (arith, length-append path (row ∷ [])) in
     take_at path (row ∷ []) (length (path ++ row ∷ []) - 1) shorter
 
 -- what a branch and those above it owe behind a row
-branch_owes : (above : ℕ) (path longer : List ℕ) (s : PlaceAndTrail) (row : ℕ) → longer ≡ path ++ row ∷ [] → above ≤ length path →
+pub branch_owes : (above : ℕ) (path longer : List ℕ) (s : PlaceAndTrail) (row : ℕ) → longer ≡ path ++ row ∷ [] → above ≤ length path →
     pending (length longer - above) longer s ≡ spots_below path s.place (rows_behind row s.place) ++ pending (length path - above) path (back s)
 branch_owes above path longer s row e le =
     let more : length longer - above ≡ suc (length path - above) = omega (arith, ap length e, length-append path (row ∷ [])) in
@@ -83,11 +81,12 @@ gone_back old new false popped none same = same ∙ ap (λ l. record { place = o
 
 -- the next legal row
 pub goes_down : (above : ℕ) (path old new : List ℕ) (s : PlaceAndTrail) (row next : ℕ) → old ≡ path ++ row ∷ [] → above ≤ length path → rows_behind row s.place ≡ next ∷ rows_behind next s.place → new ≡ path ++ next ∷ [] →
-    owed_by (Row next) (length new - above) new s ≡ pending (length old - above) old s
+    pending (length old - above) old s ≡ spot_at (Some next) new s.place ∷ pending (length new - above) new s
 goes_down above path old new s row next was le rows is =
-    ap (λ l. spot_at (Row next) l s ∷ pending (length new - above) new s) is
-    ∙ ap (λ l. spot_at (Row next) (path ++ next ∷ []) s ∷ l) (branch_owes above path new s next is le)
-    ∙ sym (branch_owes above path old s row was le ∙ ap (λ l. spots_below path s.place l ++ pending (length path - above) path (back s)) rows)
+    branch_owes above path old s row was le
+    ∙ ap (λ l. spots_below path s.place l ++ pending (length path - above) path (back s)) rows
+    ∙ ap (λ l. spot_at (Some next) (path ++ next ∷ []) s.place ∷ l) (sym (branch_owes above path new s next is le))
+    ∙ ap (λ l. spot_at (Some next) l s.place ∷ pending (length new - above) new s) (sym is)
 
 -- no legal row is left
 pub goes_up : (above : ℕ) (path old : List ℕ) (s : PlaceAndTrail) (row : ℕ) → old ≡ path ++ row ∷ [] → above ≤ length path → rows_behind row s.place ≡ [] →
@@ -105,26 +104,17 @@ pub pushed : (old : PlaceAndTrail) (row : ℕ) (new : PlaceAndTrail) (is_pushed 
     can_shift old.place row ≡ true → new ≡ record { place = child old.place row; trail = old.place ∷ old.trail }
 pushed old row new is_pushed target made can = legal_push old row new is_pushed (record { target = target; pushed = made }) (row_is_target old.place row can)
 
--- where a tree is owed first, and what is owed behind it
-pub first_owed : (next : Next) (more : ℕ) (path : List ℕ) (s : PlaceAndTrail) (spot : Spot) (owed : List Spot) → owed_by next more path s ≡ spot ∷ owed → (spot_at next path s ≡ spot) × (pending more path s ≡ owed)
-first_owed Here more path s spot owed e = (cc, cc)
-first_owed (Row row) more path s spot owed e = (cc, cc)
-first_owed Nowhere more path s spot owed e = absurd cc
-
 -- a branch that begins owes a tree for each legal row
-pub opens : (next : Next) (above : ℕ) (path longer : List ℕ) (s new : PlaceAndTrail) (spot : Spot) (owed : List Spot) → IsSound next above path s.place → owed_by next (length path - above) path s ≡ spot ∷ owed →
-    longer ≡ path ++ 0 ∷ [] → new.place ≡ below next s.place → ((row : ℕ) → next ≡ Row row → back new ≡ s) → pending (length longer - above) longer new ≡ owed_behind X spot owed
-opens next above path longer s new spot owed sound e is entered goes_back =
-    let first = first_owed next (length path - above) path s spot owed e in
+pub opens : (row : Option ℕ) (above : ℕ) (path longer : List ℕ) (s new : PlaceAndTrail) → above ≤ length path → (row ≡ None → length path ≤ above) →
+    longer ≡ path ++ 0 ∷ [] → new.place ≡ below row s.place → ((next : ℕ) → row ≡ Some next → back new ≡ s) →
+    pending (length longer - above) longer new ≡ owed_behind X (spot_at row path s.place) (pending (length path - above) path s)
+opens row above path longer s new within alone is entered goes_back =
     let all : length new.place.heights - 0 ≡ length new.place.heights = omega arith in
-    branch_owes above path longer new 0 is sound.within
+    branch_owes above path longer new 0 is within
     ∙ ap (λ n. spots_below path new.place (filter (can_shift new.place) (counted 1 n)) ++ pending (length path - above) path (back new)) all
     ∙ ap (λ (t : Position). spots_below path t (targets t) ++ pending (length path - above) path (back new)) entered
-    ∙ ap (λ l. spots_below path (below next s.place) (targets (below next s.place)) ++ l) (rest next sound goes_back e)
-    ∙ ap (λ (at : Spot). spots_below at.path at.place (targets at.place) ++ pending (length path - above) path s) first.0
-    ∙ ap (λ l. spots_below spot.path spot.place (targets spot.place) ++ l) first.1
+    ∙ ap (λ l. spots_below path (below row s.place) (targets (below row s.place)) ++ l) (rest row alone goes_back)
   where
-    rest : (next : Next) → IsSound next above path s.place → ((row : ℕ) → next ≡ Row row → back new ≡ s) → owed_by next (length path - above) path s ≡ spot ∷ owed → pending (length path - above) path (back new) ≡ pending (length path - above) path s
-    rest Here sound goes_back e = let le : length path ≤ above = omega (arith, sound.alone refl) in sym (ends above path (back new) le) ∙ ends above path s le
-    rest (Row row) sound goes_back e = ap (pending (length path - above) path) (goes_back row refl)
-    rest Nowhere sound goes_back e = absurd cc
+    rest : (row : Option ℕ) → (row ≡ None → length path ≤ above) → ((next : ℕ) → row ≡ Some next → back new ≡ s) → pending (length path - above) path (back new) ≡ pending (length path - above) path s
+    rest None alone goes_back = let le = alone refl in sym (ends above path (back new) le) ∙ ends above path s le
+    rest (Some next) alone goes_back = ap (pending (length path - above) path) (goes_back next refl)

@@ -1,11 +1,11 @@
 -- What is left of a file of certificates when some of it was taken.
-use Rattle.std.proofs.Common.{◌≡◌, ◌≢◌, ◌∙◌, ⊎_elim, ℕ, ◌+◌, ◌-◌, ◌<◌, ◌≤◌, List, [], ◌∷◌, ◌++◌, length, take, drop, true, false, Bool, Option, None, Some, IfSome, Result, Err, IfErr, inl, inr, refl, sym, ap, subst, arith, append_assoc, length-append, length-drop, take-append-drop}
+use Rattle.std.proofs.Common.{◌≡◌, ◌∙◌, ⊎_elim, ℕ, ◌+◌, ◌-◌, ◌<◌, ◌≤◌, List, [], ◌++◌, length, take, drop, true, false, Bool, Option, None, Some, IfSome, Result, Err, IfErr, inl, inr, refl, sym, ap, subst, arith, append_assoc, length-append, length-drop, take-append-drop}
 use Rattle.std.specs.Io.KnownBytes.{Consumes, IsAtEnd}
 use Rattle.std.proofs.lemmas.List.{append-nil, drop_all, drop-drop, length-take, take-take}
 use Rattle.crp_checker.specs.declared.checker.Checker.{Checker}
 use Rattle.crp_checker.specs.declared.unread.Unread.{Unread}
 use Rattle.crp_checker.specs.declared.watch.Watch.{Watch}
-use Rattle.crp_checker.specs.Files.{HasNoEndLine, BeginsWithTexts}
+use Rattle.crp_checker.specs.Files.{HasNoEndLine}
 use Rattle.crp_checker.specs.Watches.{IsUnended}
 use Rattle.crp_checker.specs.Reading.{HasMore, IsSpent, IsLeft, AreTaken, IsTaken, IsTooLong, AreFed}
 use Rattle.crp_checker.proofs.FileFed.{open_text}

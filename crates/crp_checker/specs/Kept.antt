@@ -4,10 +4,10 @@ use Rattle.crp_tree.specs.Trees.{Mark, B, L, X, G}
 use Rattle.crp_checker.specs.declared.symbol.Symbol.{Symbol}
 use Rattle.crp_checker.specs.declared.symbol.Symbol.TheVariants as symbols
 use Rattle.crp_checker.specs.declared.need.Need.{Need}
-use Rattle.crp_checker.specs.declared.following.Following.{Following}
 use Rattle.crp_checker.specs.declared.line.SymbolLine.{SymbolLine}
 use Rattle.crp_checker.specs.Nodes.{need_of}
-use Rattle.crp_checker.specs.Symbols.{Walked, Line}
+use Rattle.crp_checker.specs.Symbols.{Line}
+use Rattle.crp_checker.specs.Walks.{walked_at}
 
 -- the mark of the node that a symbol stands for
 abbrev pub mark_of_symbol : Symbol → Mark
@@ -20,15 +20,6 @@ mark_of_symbol symbols.G = G
 abbrev pub need_by : Need → List ℕ → ℕ
 need_by need = need_of need.claim need.plan
 
--- what is kept after some symbols
-abbrev pub walked_of : Following → Walked
-walked_of following = record {
-  owed = following.owing;
-  count = following.count;
-  wrong = following.wrong;
-  given = following.given.items;
-}
-
 -- what is kept of a line
 abbrev pub line_of : SymbolLine → Line
-line_of line = record { walked = walked_of line.following; trailing = line.trailing; unknown = line.unknown }
+line_of line = record { walked = walked_at line.owing line.found.count line.found; trailing = line.trailing; unknown = line.unknown }

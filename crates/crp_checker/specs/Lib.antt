@@ -14,6 +14,8 @@ pub mod Reading
 pub mod Owed
 pub mod Symbols
 pub mod Pending
+pub mod Passed
+pub mod Walks
 pub mod Kept
 pub mod Ends
 pub mod PartEnds

@@ -1,11 +1,11 @@
 -- What is kept of the symbols of a part in place of the trees that are owed: the position of one branch, which can go back, the path to its child that
 -- came last or is owed, and how many branches are open. What a pop gives back says where the trees of the branches above are owed.
-use Rattle.std.specs.Prelude.{◌≡◌, ◌≤◌, ℕ, zero, suc, ◌-◌, true, List, [], ◌∷◌, ◌++◌, length, take, filter}
+use Rattle.std.specs.Prelude.{◌≡◌, ◌≤◌, ℕ, zero, suc, ◌-◌, List, [], ◌∷◌, ◌++◌, length, take, filter, Option, Some, None}
 use Rattle.crp_plan.specs.Bay.{Position}
 use Rattle.crp_bay.specs.Positions.{top, can_shift, child, counted}
 use Rattle.crp_bay.specs.Back.{PlaceAndTrail}
 use Rattle.crp_checker.specs.declared.next.Next.{Next}
-use Rattle.crp_checker.specs.declared.next.Next.TheVariants.{Here, Row, Nowhere}
+use Rattle.crp_checker.specs.declared.next.Next.TheVariants.{Here, Behind, Nowhere}
 use Rattle.crp_checker.specs.Owed.{Spot, spots_below}
 
 -- the path without its last row
@@ -31,24 +31,23 @@ abbrev pub pending : ℕ → List ℕ → PlaceAndTrail → List Spot
 pending zero path s = []
 pending (suc more) path s = spots_below (up path) s.place (rows_behind (top path) s.place) ++ pending more (up path) (back s)
 
--- the position where a tree is owed next
-abbrev pub below : Next → Position → Position
-below Here s = s
-below (Row row) s = child s row
-below Nowhere s = s
+-- the position itself, or where a row leads from it
+abbrev pub below : Option ℕ → Position → Position
+below None s = s
+below (Some row) s = child s row
 
--- where a tree is owed next, if one is
-abbrev pub spot_at : Next → List ℕ → PlaceAndTrail → Spot
-spot_at next path s = record { path = path; place = below next s.place }
+-- a tree is owed there, to which the path leads
+abbrev pub spot_at : Option ℕ → List ℕ → Position → Spot
+spot_at row path s = record { path = path; place = below row s }
 
 -- what is owed, where so many branches are open
 abbrev pub owed_by : Next → ℕ → List ℕ → PlaceAndTrail → List Spot
-owed_by Here more path s = spot_at Here path s ∷ pending more path s
-owed_by (Row row) more path s = spot_at (Row row) path s ∷ pending more path s
+owed_by Here more path s = spot_at None path s.place ∷ []
+owed_by Behind more path s = pending more path s
 owed_by Nowhere more path s = []
 
--- the row is a legal one; no branch is open where a tree is owed at the position itself; and the path goes on from the part's name
-pub record IsSound (next : Next) (above : ℕ) (path : List ℕ) (s : Position) : Type 0 where
-  pub legal : (row : ℕ) → next ≡ Row row → can_shift s row ≡ true
+-- no branch is open where a tree is owed at the position itself; else the path goes on from the part's name, and some tree is owed
+pub record IsSound (next : Next) (above : ℕ) (path : List ℕ) (s : PlaceAndTrail) : Type 0 where
   pub alone : next ≡ Here → length path ≡ above
-  pub within : above ≤ length path
+  pub within : next ≡ Behind → above ≤ length path
+  pub some : next ≡ Behind → (spot : Spot) × (owed : List Spot) × (pending (length path - above) path s ≡ spot ∷ owed)

@@ -1,13 +1,15 @@
 //! The symbols of one part line, byte by byte.
-ghost use Rattle.std.specs.Prelude.{◌≡◌, ◌≤◌, [], ℕ, List, length, OnOk, IfOk, fold};
+ghost use Rattle.std.specs.Prelude.{◌≡◌, ◌≤◌, ◌<◌, ℕ, List, length, take, slice_index, OnOk, IfOk, fold};
 ghost use Rattle.crp_checker.specs.Owed.{Spot};
-ghost use Rattle.crp_checker.specs.Symbols.{after, gone_on, symbol_at, line_begun, line_after};
+ghost use Rattle.crp_checker.specs.Symbols.{after, line_begun, line_after};
+ghost use Rattle.crp_checker.specs.Walks.{IsStopped};
 ghost use Rattle.crp_checker.specs.Kept.{line_of, need_by};
 ghost use Rattle.crp_checker.specs.Ends.{IsEndOfSymbols};
 
-use crate::following::Following;
+use crate::found::Found;
 use crate::line_end::LineEnd;
 use crate::need::Need;
+use crate::owing::Owing;
 use crate::symbol::symbol_of;
 use crp_bounds::Bounded;
 use std::alloc::{AllocError, Global};
@@ -15,8 +17,10 @@ use std::alloc::{AllocError, Global};
 /// The symbols of a part line as far as they came.
 #[derive(Drop)]
 pub struct SymbolLine {
-    /// The node that they have come to.
-    pub following: Following,
+    /// Where trees are owed.
+    pub owing: Owing,
+    /// What was met among those that trees were owed for.
+    pub found: Found,
     /// Whether symbols followed behind the tree.
     pub trailing: bool,
     /// Whether a byte came that may not stand there.
@@ -28,52 +32,55 @@ impl SymbolLine {
     pub fn new(alloc: Global, name: &[u8], place: Bounded) -> Result<SymbolLine, AllocError>
         ensures { IfOk result (λ line. line_of line ≡ line_begun (record { path = name.now; place = place.place })) }
     {
-        let following = Following::new(alloc, name, place)?;
+        let owing = Owing::new(alloc, name, place)?;
+        let found = Found {
+            count: 0,
+            wrong: None,
+            given: Vec::new(alloc),
+        };
         Ok(SymbolLine {
-            following,
+            owing,
+            found,
             trailing: false,
             unknown: false,
         })
     }
 
-    /// Reads one byte more, where no tree is owed.
+    /// Reads one byte more, which no tree that is owed can take.
     fn read_behind(&mut self, byte: u8)
-        ensures { (needs : List ℕ → ℕ) → self.old.following.owing ≡ [] → line_of self.new ≡ gone_on needs (symbol_at self.old.following.count byte) (line_of self.old) }
+        requires { IsStopped (line_of self.old) byte }
+        ensures read { (needs : List ℕ → ℕ) → line_of self.new ≡ after needs (line_of self.old) byte }
+        ensures stopped { (next : ℕ) → IsStopped (line_of self.new) next }
     {
-        match symbol_of(self.following.count, byte) {
+        if self.unknown {
+            return;
+        }
+        match symbol_of(self.found.count, byte) {
             Some(_) => self.trailing = true,
             None => self.unknown = true,
         }
     }
 
-    /// Reads one byte more.
-    #[inline]
-    pub fn read(&mut self, alloc: Global, need: &Need, byte: u8) -> Result<(), AllocError>
-        ensures { OnOk result (line_of self.new ≡ after (need_by need.now) (line_of self.old) byte) }
+    /// Reads the front of a piece that trees which are owed can take. How long it is.
+    fn walk(&mut self, alloc: Global, need: &Need, piece: &[u8]) -> Result<usize, AllocError>
+        ensures within { IfOk result (λ n. n ≤ length piece.now) }
+        ensures read { IfOk result (λ n. line_of self.new ≡ fold (after (need_by need.now)) (line_of self.old) (take n piece.now)) }
+        ensures stopped { IfOk result (λ n. n < length piece.now → IsStopped (line_of self.new) (slice_index piece.now n)) }
     {
         if self.unknown {
-            return Ok(());
+            return Ok(0);
         }
-        if self.following.owing.is_paid() {
-            self.read_behind(byte);
-            return Ok(());
-        }
-        let Some(number) = self.following.count.checked_add(1) else {
-            return Err(AllocError);
-        };
-        let Some(symbol) = symbol_of(self.following.count, byte) else {
-            self.unknown = true;
-            return Ok(());
-        };
-        self.following.meet(alloc, need, symbol, number)
+        let walked = self.owing.walk(alloc, need, &mut self.found, piece)?;
+        Ok(walked)
     }
 
     /// Reads a piece.
     pub fn feed(&mut self, alloc: Global, need: &Need, piece: &[u8]) -> Result<(), AllocError>
         ensures { OnOk result (line_of self.new ≡ fold (after (need_by need.now)) (line_of self.old) piece.now) }
     {
-        for byte in piece {
-            self.read(alloc, need, *byte)?;
+        let walked = self.walk(alloc, need, piece)?;
+        for byte in &piece[walked..] {
+            self.read_behind(*byte);
         }
         Ok(())
     }
@@ -88,12 +95,12 @@ impl SymbolLine {
         if self.trailing {
             return LineEnd::Trailing;
         }
-        if !self.following.owing.is_paid() {
+        if !self.owing.is_paid() {
             return LineEnd::Unfinished;
         }
         LineEnd::Whole {
-            wrong: self.following.wrong,
-            given: self.following.given,
+            wrong: self.found.wrong,
+            given: self.found.given,
         }
     }
 }

@@ -1,5 +1,5 @@
 //! The values that cuts need.
-ghost use Rattle.std.specs.Prelude.{◌≡◌};
+ghost use Rattle.std.specs.Prelude.{◌≡◌, ◌≤◌, ℕ, List};
 ghost use Rattle.crp_tree.specs.First.{need_at};
 ghost use Rattle.crp_checker.specs.Kept.{need_by};
 
@@ -34,6 +34,16 @@ impl Need {
         match (self.claim, &self.plan) {
             (Claim::First(least), Some(plan)) => first_need(least, plan.as_slice(), path),
             (claim, _) => claim.bound() as usize,
+        }
+    }
+
+    /// What no cut needs more than, at whatever path.
+    pub fn most(&self) -> usize
+        ensures { (path : List ℕ) → need_by self.now path ≤ result }
+    {
+        match self.claim {
+            Claim::AtLeast(least) => least as usize,
+            Claim::First(least) => least as usize + 1,
         }
     }
 }

@@ -1,10 +1,10 @@
-/// Where a tree is owed next, seen from a position that is changed in place.
+/// Where trees are owed, seen from a position that is changed in place.
 #[derive(Clone, Copy)]
 pub enum Next {
     /// At the position, and nowhere else.
     Here,
-    /// Where this row leads from the position.
-    Row(u8),
+    /// At legal rows behind those that the path has for the branches that are open, one at least.
+    Behind,
     /// Nowhere.
     Nowhere,
 }

@@ -1,9 +1,8 @@
 //! The trees that are owed, over a position that is changed in place.
-use crate::going::go_on;
+use crate::found::Found;
 use crate::need::Need;
 use crate::next::Next;
-use crate::symbol::{Symbol, judge};
-use crate::wrong::Wrong;
+use crate::walking::{Walk, walk_from};
 use crp_bounds::Bounded;
 use std::alloc::{AllocError, Global};
 use std::marker::Model;
@@ -11,9 +10,9 @@ use std::marker::Model;
 /// Where trees are owed, the next one first. A contract sees it as their list; no tree is kept.
 #[derive(Drop)]
 pub struct Owing {
-    // The position of the branch whose child is owed next, or of the first node.
+    // The position of the last branch that is open, or of the first node.
     place: Box<Bounded>,
-    // The path to where a tree is owed next.
+    // The path to the child of that branch behind which trees are owed, or to the first node.
     path: Vec<u8>,
     // How many of its rows name the part: below them it has a row for each open branch.
     above: usize,
@@ -29,15 +28,14 @@ impl Model for Owing {
 
     ghost view = { λ o. owed_by o.next (length o.path.items - o.above) o.path.items o.place.value };
 
-    ghost invariant = { λ o. IsSound o.next o.above o.path.items o.place.value.place };
+    ghost invariant = { λ o. IsSound o.next o.above o.path.items o.place.value };
 }
 
 impl Owing {
-    ghost use Rattle.std.specs.Prelude.{◌≡◌, ◌∷◌, [], true, false, List, IfOk, OnOk};
-    ghost use Rattle.std.specs.Option.{option_or};
-    ghost use Rattle.crp_checker.specs.Owed.{Spot, owed_behind};
-    ghost use Rattle.crp_checker.specs.Symbols.{wrong_at};
-    ghost use Rattle.crp_checker.specs.Kept.{mark_of_symbol, need_by};
+    ghost use Rattle.std.specs.Prelude.{◌≡◌, ◌∷◌, [], true, false, List, IfOk};
+    ghost use Rattle.crp_checker.specs.Owed.{Spot};
+    ghost use Rattle.crp_checker.specs.Walks.{IsWalk};
+    ghost use Rattle.crp_checker.specs.Kept.{need_by};
 
     /// One tree is owed, at a place to which these rows lead.
     pub fn new(alloc: Global, name: &[u8], place: Bounded) -> Result<Owing, AllocError>
@@ -62,43 +60,33 @@ impl Owing {
         match self.next {
             Next::Nowhere => true,
             Next::Here => false,
-            Next::Row(_) => false,
+            Next::Behind => false,
         }
     }
 
-    /// The path to where a tree is owed next.
-    pub fn path(&self) -> &[u8]
-        ensures { (spot : Spot) (owed : List Spot) → self.now ≡ spot ∷ owed → result.now ≡ spot.path }
-    {
-        self.path.as_slice()
-    }
-
-    /// A symbol with this number comes where a tree is owed next. It notes what is wrong with its node, if that is the first wrong one.
-    #[inline]
-    pub fn meet(
+    /// Reads a piece as long as trees are owed and its bytes are symbols. How many these are.
+    pub fn walk(
         &mut self,
+        alloc: Global,
         need: &Need,
-        number: u64,
-        symbol: Symbol,
-        first: &mut Option<Wrong>,
-    ) -> Result<(), AllocError>
-        ensures first { OnOk result ((spot : Spot) (owed : List Spot) → self.old ≡ spot ∷ owed
-            → first.new ≡ option_or first.old (wrong_at (need_by need.now) number (mark_of_symbol symbol) spot)) }
-        ensures owed { OnOk result ((spot : Spot) (owed : List Spot) → self.old ≡ spot ∷ owed
-            → self.new ≡ owed_behind (mark_of_symbol symbol) spot owed) }
+        found: &mut Found,
+        piece: &[u8],
+    ) -> Result<usize, AllocError>
+        ensures { IfOk result (IsWalk (need_by need.now) self.old found.old piece.now self.new found.new) }
     {
         let next = self.next;
         self.next = Next::Nowhere;
-        judge(
+        let Walk { taken, next } = walk_from(
+            alloc,
             need,
-            number,
-            symbol,
             next,
             &mut self.path,
+            self.above,
             &mut self.place,
-            first,
+            found,
+            piece,
         )?;
-        self.next = go_on(&mut self.place, &mut self.path, self.above);
-        Ok(())
+        self.next = next;
+        Ok(taken)
     }
 }

@@ -3,13 +3,12 @@ ghost use Rattle.std.specs.Prelude.{◌≡◌, ◌+◌, ◌-◌, ◌≤◌, ◌�
 ghost use Rattle.std.specs.Option.{option_or};
 ghost use Rattle.crp_bay.specs.Positions.{can_shift};
 ghost use Rattle.crp_bounds.specs.Bounds.{blocking as blocking_bound, look_ahead as look_ahead_bound};
-ghost use Rattle.crp_checker.specs.Owed.{Spot, owed_behind};
+ghost use Rattle.crp_checker.specs.Owed.{owed_behind};
 ghost use Rattle.crp_checker.specs.Symbols.{symbol_at, wrong_at};
-ghost use Rattle.crp_checker.specs.Pending.{back, below, spot_at, pending, owed_by, IsSound};
+ghost use Rattle.crp_checker.specs.Pending.{back, below, spot_at, pending};
 ghost use Rattle.crp_checker.specs.Kept.{mark_of_symbol, need_by};
 
 use crate::need::Need;
-use crate::next::Next;
 use crate::wrong::Wrong;
 use crp_bounds::Bounded;
 use std::alloc::AllocError;
@@ -64,36 +63,36 @@ fn is_low_ahead(need: &Need, path: &[u8], place: &Bounded) -> bool
 
 /// The blocking bound where a tree is owed next. The position is not changed for that.
 #[inline]
-fn blocking_at(place: &Bounded, next: Next) -> u32
-    requires { (row : ℕ) → next ≡ Next.Row row → can_shift place.now.place row ≡ true }
-    ensures { result ≡ blocking_bound (below next place.now.place) }
+fn blocking_at(place: &Bounded, row: Option<u8>) -> u32
+    requires { (next : ℕ) → row ≡ Some next → can_shift place.now.place next ≡ true }
+    ensures { result ≡ blocking_bound (below row place.now.place) }
 {
-    match next {
-        Next::Row(row) => place.blocking_after(row),
-        _ => place.blocking(),
+    match row {
+        Some(row) => place.blocking_after(row),
+        None => place.blocking(),
     }
 }
 
 /// Makes the position that where a tree is owed next.
 #[inline]
-fn enter(place: &mut Bounded, next: Next)
-    requires { (row : ℕ) → next ≡ Next.Row row → can_shift place.old.place row ≡ true }
-    ensures place { place.new.place ≡ below next place.old.place }
-    ensures back { (row : ℕ) → next ≡ Next.Row row → back place.new ≡ place.old }
+fn enter(place: &mut Bounded, row: Option<u8>)
+    requires { (next : ℕ) → row ≡ Some next → can_shift place.old.place next ≡ true }
+    ensures place { place.new.place ≡ below row place.old.place }
+    ensures back { (next : ℕ) → row ≡ Some next → back place.new ≡ place.old }
 {
-    if let Next::Row(row) = next {
+    if let Some(row) = row {
         let _pushed = place.push(row);
     }
 }
 
 /// Whether a cut by the look-ahead bound is below what it needs where a tree is owed next.
 #[inline]
-fn is_low_at(need: &Need, path: &[u8], place: &mut Bounded, next: Next) -> bool
-    requires { (row : ℕ) → next ≡ Next.Row row → can_shift place.old.place row ≡ true }
-    ensures found { result ≡ nat_lt (length path.now + look_ahead_bound (below next place.old.place)) (need_by need.now path.now) }
+fn is_low_at(need: &Need, path: &[u8], place: &mut Bounded, row: Option<u8>) -> bool
+    requires { (next : ℕ) → row ≡ Some next → can_shift place.old.place next ≡ true }
+    ensures found { result ≡ nat_lt (length path.now + look_ahead_bound (below row place.old.place)) (need_by need.now path.now) }
     ensures same { place.new ≡ place.old }
 {
-    let Next::Row(row) = next else {
+    let Some(row) = row else {
         return is_low_ahead(need, path, place);
     };
     let _pushed = place.push(row);
@@ -127,31 +126,32 @@ pub fn judge(
     need: &Need,
     number: u64,
     symbol: Symbol,
-    next: Next,
+    row: Option<u8>,
     path: &mut Vec<u8>,
     place: &mut Bounded,
     first: &mut Option<Wrong>,
 ) -> Result<(), AllocError>
-    requires { (row : ℕ) → next ≡ Next.Row row → can_shift place.old.place row ≡ true }
+    requires { (next : ℕ) → row ≡ Some next → can_shift place.old.place next ≡ true }
     ensures first { OnOk result (first.new
-        ≡ option_or first.old (wrong_at (need_by need.now) number (mark_of_symbol symbol) (spot_at next path.old.items place.old))) }
-    ensures owed { OnOk result ((above : ℕ) (spot : Spot) (owed : List Spot) → IsSound next above path.old.items place.old.place
-        → owed_by next (length path.old.items - above) path.old.items place.old ≡ spot ∷ owed
-        → pending (length path.new.items - above) path.new.items place.new ≡ owed_behind (mark_of_symbol symbol) spot owed) }
-    ensures longer { length path.old.items ≤ length path.new.items }
+        ≡ option_or first.old (wrong_at (need_by need.now) number (mark_of_symbol symbol) (spot_at row path.old.items place.old.place))) }
+    ensures owed { OnOk result ((above : ℕ) → above ≤ length path.old.items → (row ≡ None → length path.old.items ≤ above)
+        → pending (length path.new.items - above) path.new.items place.new
+        ≡ owed_behind (mark_of_symbol symbol) (spot_at row path.old.items place.old.place) (pending (length path.old.items - above) path.old.items place.old)) }
+    ensures longer { OnOk result (length path.old.items ≤ length path.new.items) }
+    ensures little { OnOk result (length path.new.items ≤ length path.old.items + 1) }
 {
     match symbol {
         Symbol::B => {
-            let is_low = is_low(need, path, blocking_at(place, next));
+            let is_low = is_low(need, path, blocking_at(place, row));
             note(first, is_low, Wrong::Low { symbol: number });
         }
         Symbol::L => {
-            let is_low = is_low_at(need, path, place, next);
+            let is_low = is_low_at(need, path, place, row);
             note(first, is_low, Wrong::Low { symbol: number });
         }
         Symbol::X => {
             path.push(0)?;
-            enter(place, next);
+            enter(place, row);
             note(first, is_at_end(place), Wrong::AtEnd { symbol: number });
         }
         Symbol::G => {}

@@ -1,5 +1,5 @@
 //! The line of a file that a checker stands in: whether it is the last of a certificate.
-ghost use Rattle.std.specs.Prelude.{◌≡◌, ◌≢◌, ◌≤◌, ◌<◌, ◌+◌, ◌++◌, ◌∷◌, [], ℕ, List, IfSome, IfNone, length, take};
+ghost use Rattle.std.specs.Prelude.{◌≡◌, ◌≢◌, ◌≤◌, ◌<◌, ◌+◌, ◌++◌, ◌∷◌, [], false, ℕ, List, IfSome, IfNone, length, take};
 ghost use Rattle.std.specs.List.{AllByRecursion};
 ghost use Rattle.crp_checker.specs.Files.{IsEnded};
 ghost use Rattle.crp_checker.specs.Watches.{IsUnended};
@@ -41,22 +41,47 @@ fn next(watch: Watch, byte: u8) -> Option<Watch>
     }
 }
 
-/// How many bytes stand before the end of the line; all, if it does not end.
-pub fn line_len(bytes: &[u8]) -> usize
+/// Whether a line ends in these bytes.
+fn has_end(bytes: &[u8]) -> bool
+    ensures { result ≡ false → AllByRecursion (λ b. b ≢ 10) bytes.now }
+{
+    bytes.contains(&b'\n')
+}
+
+/// How many bytes stand in blocks at the front in which no line ends. A block is looked at faster than its bytes one by one.
+fn clear_len(bytes: &[u8]) -> usize
+    ensures within { result ≤ length bytes.now }
+    ensures clear { AllByRecursion (λ b. b ≢ 10) (take result bytes.now) }
+{
+    let mut clear = 0;
+    while bytes.len() - clear >= 64 && !has_end(&bytes[clear..clear + 64]) {
+        clear += 64;
+    }
+    clear
+}
+
+/// How many bytes stand before the first end of a line; all, if none ends.
+fn end_of(bytes: &[u8]) -> usize
     ensures within { result ≤ length bytes.now }
     ensures line { AllByRecursion (λ b. b ≢ 10) (take result bytes.now) }
     ensures stop { result < length bytes.now → take (result + 1) bytes.now ≡ take result bytes.now ++ 10 ∷ [] }
 {
-    // Most pieces of a long line have no end in them, which is found out faster.
-    if !bytes.contains(&b'\n') {
-        return bytes.len();
-    }
     for (i, byte) in bytes.iter().enumerate() {
         if *byte == b'\n' {
             return i;
         }
     }
     bytes.len()
+}
+
+/// How many bytes stand before the end of the line; all, if it does not end.
+pub fn line_len(bytes: &[u8]) -> usize
+    ensures within { result ≤ length bytes.now }
+    ensures line { AllByRecursion (λ b. b ≢ 10) (take result bytes.now) }
+    ensures stop { result < length bytes.now → take (result + 1) bytes.now ≡ take result bytes.now ++ 10 ∷ [] }
+{
+    let clear = clear_len(bytes);
+    clear + end_of(&bytes[clear..])
 }
 
 /// How many of the bytes do not matter to the watch: those of the line, once it is known how that begins.

@@ -1,4 +1,4 @@
-use Rattle.std.proofs.Common.{◌≡◌, ◌+◌, ◌-◌, ◌≤◌, ℕ, List, true, false, length, take, drop, inl, arith, ap, ◌∙◌}
+use Rattle.std.proofs.Common.{◌≡◌, ◌+◌, ◌-◌, ◌≤◌, ℕ, List, true, false, length, take, drop, inl, arith, ap}
 use Rattle.crp_checker.proofs.Taken.{range_taken, range_length, front_taken}
 use Rattle.crp_checker.proofs.unread.Unread.feed.Goals as goal
 
