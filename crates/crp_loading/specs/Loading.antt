@@ -1,0 +1,78 @@
+-- The table of a followed report in the order in which the ship is loaded: the records of its moves by their turns, each with its turn and, where its
+-- container is taken, with the slot of the ship.
+use Rattle.std.specs.Prelude.{ℕ, suc, ◌==◌, Bool, true, false, List, [], ◌∷◌, ◌++◌, length, map, filter, flat_map, Option, Some, None, option_and_then, codes}
+use Rattle.std.specs.List.{range_with_len}
+use Rattle.crp_plan.specs.BayNames.{YardBay}
+use Rattle.crp_movins.specs.declared.order.Order.{Order}
+use Rattle.crp_movins.specs.declared.slot.Slot.{Slot}
+use Rattle.crp_yard.specs.Text.{text_of_records}
+use Rattle.crp_said.specs.declared.moves.SaidMove.{SaidMove}
+use Rattle.crp_said.specs.declared.moves.SaidMove.TheVariants.{Shift, Take}
+use Rattle.crp_follow.specs.Followed.{BayFollowed}
+use Rattle.crp_follow.specs.Stated.{moves_of}
+use Rattle.crp_follow.specs.Table.{takes_from, next_to_leave, standing, number_field, fields_at}
+use Rattle.crp_follow.specs.Table as table
+use Rattle.crp_loading.specs.Turns.{turn_of, slot_for, slot_text}
+
+-- the header: that of the table of moves, and two columns more
+abbrev pub header : List (List ℕ)
+header = table.header ++ codes "order" ∷ codes "slot" ∷ []
+
+-- a record of the table, with the turn that its move belongs to, if there is one
+pub record TurnRecord : Type 0 where
+  pub turn : Option ℕ
+  pub fields : List (List ℕ)
+
+-- the turn of a move: that of the container that leaves its bay at this step, or as the next one
+abbrev pub turn_at : List (List ℕ) → List (ℕ × List ℕ) → ℕ → Option ℕ
+turn_at sequence takes step = option_and_then (turn_of sequence) (next_to_leave takes step)
+
+-- the slot of the ship that a move fills
+abbrev pub slot_at : List Order → SaidMove → Option Slot
+slot_at orders (Shift from to container) = None
+slot_at orders (Take from container) = slot_for orders container
+
+-- a slot, or nothing
+abbrev pub slot_field : Option Slot → List ℕ
+slot_field None = []
+slot_field (Some slot) = slot_text slot
+
+-- the record of the move at this step, where these leave the bay, of so many containers: that of the table of moves, its turn and its slot
+abbrev pub record_at : List (List ℕ) → List Order → YardBay → ℕ → List (ℕ × List ℕ) → ℕ → SaidMove → TurnRecord
+record_at sequence orders bay count takes step m = record {
+  turn = turn_at sequence takes step;
+  fields = fields_at bay count takes step m ++ number_field (turn_at sequence takes step) ∷ slot_field (slot_at orders m) ∷ [];
+}
+
+-- the records of moves that are numbered from this step
+abbrev pub records_from : List (List ℕ) → List Order → YardBay → ℕ → List (ℕ × List ℕ) → ℕ → List SaidMove → List TurnRecord
+records_from sequence orders bay count takes step [] = []
+records_from sequence orders bay count takes step (m ∷ moves) =
+    record_at sequence orders bay count takes step m ∷ records_from sequence orders bay count takes (suc step) moves
+
+-- the records of a bay
+abbrev pub records_in : List (List ℕ) → List Order → BayFollowed → List TurnRecord
+records_in sequence orders b =
+    records_from sequence orders b.stated.bay (standing b.start) (takes_from 1 (moves_of b.stated.moves)) 1 (moves_of b.stated.moves)
+
+-- the records of a report, bay by bay in its order
+abbrev pub records_of : List (List ℕ) → List Order → List BayFollowed → List TurnRecord
+records_of sequence orders bays = flat_map (records_in sequence orders) bays
+
+-- it is this turn
+abbrev pub is_turn : ℕ → Option ℕ → Bool
+is_turn n None = false
+is_turn n (Some turn) = turn == n
+
+-- it is none
+abbrev pub is_no_turn : Option ℕ → Bool
+is_no_turn None = true
+is_no_turn (Some turn) = false
+
+-- the records of each of so many turns, one turn after the other, and then those of none; those of one turn stay as they were
+abbrev pub by_turns : ℕ → List TurnRecord → List TurnRecord
+by_turns turns records = flat_map (λ n. filter (λ r. is_turn n r.turn) records) (range_with_len 1 turns) ++ filter (λ r. is_no_turn r.turn) records
+
+-- the text of the table, as csv writes records by its defaults
+abbrev pub load_text : List (List ℕ) → List Order → List BayFollowed → List ℕ
+load_text sequence orders bays = text_of_records (header ∷ map (λ r. r.fields) (by_turns (length sequence) (records_of sequence orders bays)))

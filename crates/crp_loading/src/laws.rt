@@ -1,0 +1,22 @@
+//! Laws of the table. Each is the contract of a function that does nothing.
+ghost use Rattle.std.specs.Prelude.{◌≡◌, ℕ, List, true, map, take, length, flat_map, sum_by};
+ghost use Rattle.crp_movins.specs.declared.order.Order.{Order};
+ghost use Rattle.crp_movins.specs.Digits.{is_slot, slot_of, seven_digits};
+ghost use Rattle.crp_follow.specs.Followed.{BayFollowed};
+ghost use Rattle.crp_follow.specs.Table as table;
+ghost use Rattle.crp_loading.specs.Turns.{slot_text};
+ghost use Rattle.crp_loading.specs.Loading.{TurnRecord, records_of, by_turns};
+
+/// The table has the records of the table of moves, with two columns more, and each of them once: whatever is counted of records comes to
+/// the same.
+pub fn same_records()
+    ensures columns { (sequence : List (List ℕ)) (orders : List Order) (bays : List BayFollowed)
+        → map (λ r. take 12 r.fields) (records_of sequence orders bays) ≡ flat_map table.records_of bays }
+    ensures each { (count : TurnRecord → ℕ) (sequence : List (List ℕ)) (orders : List Order) (bays : List BayFollowed)
+        → sum_by count (by_turns (length sequence) (records_of sequence orders bays)) ≡ sum_by count (records_of sequence orders bays) }
+{}
+
+/// The column `slot` has the slot as the message has it, where six digits get a zero in front.
+pub fn slots_are_as_ordered()
+    ensures { (text : List ℕ) → is_slot text ≡ true → slot_text (slot_of text) ≡ seven_digits text }
+{}

@@ -1,0 +1,21 @@
+//! The table of a followed report in the order in which the ship is loaded.
+//!
+//! `load_table` writes the records of the moves by the turns of the containers that leave, or says the first take that does not fit the
+//! ship's order. What the turn and the slot of a container are is said in `specs/Turns.antt`, what the table is in `specs/Loading.antt`,
+//! and what is refused in `specs/Faults.antt`.
+#![tactic(auto)]
+
+mod checking;
+mod columns;
+mod fault;
+mod laws;
+mod loading;
+mod recording;
+mod ship;
+mod slot_digits;
+mod taking;
+mod turning;
+
+pub use fault::LoadingFault;
+pub use laws::{same_records, slots_are_as_ordered};
+pub use loading::load_table;
