@@ -121,7 +121,7 @@ fn note(first: &mut Option<Wrong>, is_wrong: bool, wrong: Wrong)
 
 /// A symbol with this number comes where a tree is owed next. It notes what is wrong with its node, if that is the first wrong one;
 /// what it leaves to be owed stands behind the last row of the path.
-#[inline]
+#[inline(always)]
 pub fn judge(
     need: &Need,
     number: u64,

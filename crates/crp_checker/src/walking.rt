@@ -57,7 +57,7 @@ fn symbol_in(piece: &[u8], at: usize, count: u64) -> Option<Symbol>
 }
 
 /// A symbol with this number comes where a tree is owed: at the position, or where a legal row leads from it.
-#[inline]
+#[inline(always)]
 fn meet(
     alloc: Global,
     need: &Need,
