@@ -30,6 +30,7 @@ unread chosen s which (fault.Run f) nothing input is = absurd is
 unread chosen s which fault.Read nothing input is = absurd is
 unread chosen s which fault.Write nothing input is = absurd is
 unread chosen s which fault.WriteTable nothing input is = absurd is
+unread chosen s which fault.WritePage nothing input is = absurd is
 unread chosen s which fault.TooLarge nothing input is = absurd is
 
 -- the audit stopped on what was handed in

@@ -5,5 +5,6 @@ pub mod Audited
 pub mod Traced
 pub mod Performed
 pub mod Solved
+pub mod FollowedFiles
 pub mod Promised
 pub mod Noted

@@ -70,6 +70,7 @@ headline_so_far (job.Solve names chosen quiet progress) seen (fault.TooLargeOf w
 headline_so_far (job.Solve names chosen quiet progress) seen fault.Read is = absurd is
 headline_so_far (job.Solve names chosen quiet progress) seen fault.Write is = absurd is
 headline_so_far (job.Solve names chosen quiet progress) seen fault.WriteTable is = absurd is
+headline_so_far (job.Solve names chosen quiet progress) seen fault.WritePage is = absurd is
 headline_so_far (job.Solve names chosen quiet progress) seen fault.TooLarge is = absurd is
 headline_so_far (job.Solve names chosen quiet progress) seen fault.Memory is = absurd is
 

@@ -69,11 +69,12 @@ failed_in_audit names (fault.ReadOf statement.Certificates) = Some (file_words n
 failed_in_audit names fault.Write = Some (codes "the standard output")
 failed_in_audit names f = None
 
--- the same where these files are followed; the table goes to the standard output
+-- the same where a report of these files is followed: the page, if it is wanted, goes to its file, and the table to the standard output
 abbrev pub failed_in_follow : FollowFiles → ToolFault → Option (List ℕ)
 failed_in_follow names (fault.Run (run.Read input.Yard)) = Some (file_words names.yard.now)
 failed_in_follow names (fault.ReadOf statement.Report) = Some (source_words names.report.now)
 failed_in_follow names fault.WriteTable = Some (codes "the standard output")
+failed_in_follow names fault.WritePage = option_map (λ name. file_words name.now) names.page
 failed_in_follow names f = None
 
 -- what the job could not read or write, in words, where the fault is of that kind

@@ -43,6 +43,7 @@ failures_of_tool_fault fault.Read = 1
 failures_of_tool_fault (fault.ReadOf which) = 1
 failures_of_tool_fault fault.Write = 1
 failures_of_tool_fault fault.WriteTable = 1
+failures_of_tool_fault fault.WritePage = 1
 failures_of_tool_fault (fault.Run f) = failures_of_fault f
 failures_of_tool_fault f = 0
 
@@ -111,6 +112,7 @@ exit_code (Err fault.Read) = 5
 exit_code (Err (fault.ReadOf which)) = 5
 exit_code (Err fault.Write) = 5
 exit_code (Err fault.WriteTable) = 5
+exit_code (Err fault.WritePage) = 5
 exit_code (Err (fault.Run (run.Yard f))) = 3
 exit_code (Err (fault.Run (run.Interchange f))) = 3
 exit_code (Err (fault.Run (run.Message f))) = 3

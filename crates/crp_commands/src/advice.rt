@@ -328,6 +328,9 @@ pub fn advice_on(fault: &ToolFault) -> &'static str
         ToolFault::WriteTable => {
             "the table could not be written: its disk must not be full, and the program that reads it must not have ended"
         }
+        ToolFault::WritePage => {
+            "the page could not be written: the folder must be there and let you write, and its disk must not be full"
+        }
         ToolFault::TooLarge => CERTIFICATES_TOO_LARGE,
         ToolFault::Memory => MEMORY,
     }
@@ -380,6 +383,7 @@ fn place_in_file<'a>(file: &'a str, fault: &ToolFault) -> Option<Place<'a>>
         | ToolFault::Followed(_)
         | ToolFault::Run(_)
         | ToolFault::WriteTable
+        | ToolFault::WritePage
         | ToolFault::ReadOf(_)
         | ToolFault::TooLargeOf(_)
         | ToolFault::TooLarge
@@ -423,6 +427,7 @@ fn place_in_follow<'a>(names: &FollowFiles<'a>, fault: &ToolFault) -> Option<Pla
         ToolFault::Run(Fault::Read(Input::Yard)) => Some(Place::File(names.yard)),
         ToolFault::ReadOf(Statement::Report) => Some(source_of(names.report)),
         ToolFault::WriteTable => Some(Place::StandardOutput),
+        ToolFault::WritePage => names.page.map(Place::File),
         _ => None,
     }
 }

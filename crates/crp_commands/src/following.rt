@@ -1,19 +1,35 @@
-//! The command `follow`: from the bytes of a yard list and a report to the table of its moves.
-ghost use Rattle.std.specs.Prelude.{◌≡◌, ◌≤◌, ◌+◌, List, IfOk, IfErr, MatchResult};
+//! The command `follow`: from the bytes of a yard list and a report to the table of its moves, and to their page where one is asked for.
+ghost use Rattle.std.specs.Prelude.{◌≡◌, ◌≤◌, ◌+◌, ℕ, List, map, IfOk, IfErr, MatchResult};
+ghost use Rattle.std.specs.Bool.{OnFalse};
+ghost use Rattle.std.specs.List.{AllByRecursion};
 ghost use Rattle.crp_plan.specs.Devices.{most_interruptions};
 ghost use Rattle.crp_yard.specs.Reading.{IsTextOf};
+ghost use Rattle.crp_follow.specs.Followed.{IsFollowed};
+ghost use Rattle.crp_follow.specs.Table.{StandFew};
+ghost use Rattle.crp_follow.specs.Views.{bay_followed};
+ghost use Rattle.crp_page.specs.Page.{page_text};
 ghost use Rattle.crp_report.specs.BayTexts.{AreFailuresCounted};
 ghost use Rattle.crp_report.specs.Runs.{SinkSeen};
 ghost use Rattle.crp_commands.specs.Calls.{failures_of_tool_fault};
-ghost use Rattle.crp_commands.specs.Follow.{FollowSeen, FollowEnds, FollowFails, IsNoReport, StopsFollowing, WritesTable};
+ghost use Rattle.crp_commands.specs.Follow.{FollowSeen, FollowEnds, FollowFails, IsNoReport, StopsFollowing, StopsPage, WritesPage, WritesTexts, if_asked};
 
 use crate::outcome::{Statement, ToolFault};
 use crate::row_heights::RowHeights;
-use crp_follow::{FollowFault, MAX_BYTES, table_text};
-use crp_plan::{ReadFault, Sink, Source, read_all, write_all};
+use crp_follow::{FollowFault, Followed, MAX_BYTES, table_text};
+use crp_page::write_page;
+use crp_plan::{ReadFault, Sink, Source, WriteFault, read_all, write_all};
 use crp_report::{Status, yard_from};
 use crp_yard::Yard;
 use std::alloc::Global;
+
+/// What is asked for where a report is followed, besides the table of its moves.
+#[derive(Clone, Copy)]
+pub struct FollowSettings<'a> {
+    /// How high the rows of the bays are.
+    pub heights: &'a RowHeights,
+    /// Whether the page of the moves is wanted.
+    pub page: bool,
+}
 
 // The bytes of a report.
 fn report_from<R: Source>(
@@ -38,48 +54,98 @@ fn report_from<R: Source>(
     }
 }
 
-// Follows the moves of a report over a yard, and writes the table.
-fn follow_text<W: Sink>(
+// Writes the page of a report that is followed, where one is asked for.
+fn write_page_if<P: Sink>(
+    alloc: Global,
+    yard: &Yard,
+    followed: &Followed,
+    asked: bool,
+    page: &mut P,
+    interruptions: &mut u32,
+) -> Result<(), ToolFault>
+    requires passed { interruptions.old ≤ most_interruptions }
+    requires followed { (report : List ℕ) × IsFollowed yard.now report followed.now.numbers (map bay_followed followed.now.bays.items) }
+    requires few { AllByRecursion StandFew (map bay_followed followed.now.bays.items) }
+    ensures ended { let text = page_text yard.now followed.now.numbers (map bay_followed followed.now.bays.items)
+        in let seen = if_asked asked (record { held = P.contents page.old; holds = P.contents page.new; before = P.failures page.old; after = P.failures page.new })
+        in MatchResult result (λ _. WritesPage text seen) (StopsPage text seen) }
+    ensures alone { OnFalse asked (page.new ≡ page.old) }
+    ensures counted { MatchResult result
+        (λ _. AreFailuresCounted 0 (P.failures page.old) (P.failures page.new) interruptions.old interruptions.new)
+        (λ fault. AreFailuresCounted (failures_of_tool_fault fault) (P.failures page.old) (P.failures page.new) interruptions.old interruptions.new) }
+    ensures count { P.failures page.old ≤ P.failures page.new }
+    ensures passed { interruptions.new ≤ most_interruptions }
+{
+    if !asked {
+        return Ok(());
+    }
+    match write_page(alloc, page, yard, followed, interruptions) {
+        Ok(()) => Ok(()),
+        Err(WriteFault::Failed) => Err(ToolFault::WritePage),
+        Err(WriteFault::Memory) => Err(ToolFault::Memory),
+    }
+}
+
+// Follows the moves of a report over a yard. The table is made before a byte is written, and written behind the page.
+fn follow_text<P: Sink, W: Sink>(
     alloc: Global,
     yard: &Yard,
     report: &[u8],
+    asked: bool,
+    page: &mut P,
     out: &mut W,
     interruptions: &mut u32,
 ) -> Result<(), ToolFault>
     requires { interruptions.old ≤ most_interruptions }
-    ensures ended { let out_seen : SinkSeen = record { held = W.contents out.old; holds = W.contents out.new; before = W.failures out.old; after = W.failures out.new }
-        in MatchResult result (λ _. WritesTable yard.now report.now out_seen) (StopsFollowing yard.now report.now out_seen) }
-    ensures counted { MatchResult result (λ _. W.failures out.new + interruptions.old ≤ W.failures out.old + interruptions.new)
-        (λ fault. W.failures out.new + interruptions.old ≤ W.failures out.old + interruptions.new + failures_of_tool_fault fault) }
-    ensures count { W.failures out.old ≤ W.failures out.new }
+    ensures ended { let seen = if_asked asked (record { held = P.contents page.old; holds = P.contents page.new; before = P.failures page.old; after = P.failures page.new })
+        in let out_seen : SinkSeen = record { held = W.contents out.old; holds = W.contents out.new; before = W.failures out.old; after = W.failures out.new }
+        in MatchResult result (λ _. WritesTexts yard.now report.now seen out_seen) (StopsFollowing yard.now report.now seen out_seen) }
+    ensures alone { OnFalse asked (page.new ≡ page.old) }
+    ensures counted { MatchResult result
+        (λ _. (P.failures page.new + W.failures out.new) + interruptions.old ≤ (P.failures page.old + W.failures out.old) + interruptions.new)
+        (λ fault. (P.failures page.new + W.failures out.new) + interruptions.old ≤ (P.failures page.old + W.failures out.old) + interruptions.new + failures_of_tool_fault fault) }
+    ensures count { P.failures page.old ≤ P.failures page.new }
+    ensures out_count { W.failures out.old ≤ W.failures out.new }
     ensures passed { interruptions.new ≤ most_interruptions }
 {
     let followed = crp_follow::follow(alloc, yard, report)?;
     let table = table_text(alloc, &followed)?;
+    write_page_if(alloc, yard, &followed, asked, page, interruptions)?;
     let Ok(()) = write_all(out, &table, interruptions) else {
         return Err(ToolFault::WriteTable);
     };
     Ok(())
 }
 
-/// Follows the moves of a report, whoever wrote it, over the yard that a list of bays with rows of these heights gives, and writes the
-/// table of the moves; where something is refused, nothing.
-pub fn follow<Y: Source, R: Source, W: Sink>(
+/// Follows the moves of a report, whoever wrote it, over the yard that a list of bays with rows of these heights gives. It writes the page
+/// of the moves, where one is wanted, and behind it the table of them; where something is refused, nothing.
+pub fn follow<Y: Source, R: Source, P: Sink, W: Sink>(
     alloc: Global,
     yard: &mut Y,
     report: &mut R,
-    heights: &RowHeights,
+    settings: &FollowSettings<'_>,
+    page: &mut P,
     out: &mut W,
 ) -> Result<Status, ToolFault>
-    ensures { let seen : FollowSeen = record {
+    ensures ended { let seen : FollowSeen = record {
       yard = record { given = Y.remaining yard.old; before = Y.failures yard.old; after = Y.failures yard.new };
       report = record { given = R.remaining report.old; before = R.failures report.old; after = R.failures report.new };
+      page = if_asked settings.now.page (record { held = P.contents page.old; holds = P.contents page.new; before = P.failures page.old; after = P.failures page.new });
       out = record { held = W.contents out.old; holds = W.contents out.new; before = W.failures out.old; after = W.failures out.new };
-    } in MatchResult result (FollowEnds heights.now seen) (FollowFails heights.now seen) }
+    } in MatchResult result (FollowEnds settings.now.heights.now seen) (FollowFails settings.now.heights.now seen) }
+    ensures alone { OnFalse settings.now.page (page.new ≡ page.old) }
 {
     let mut interruptions = 0;
-    let listed = yard_from(alloc, yard, heights.as_slice(), &mut interruptions)?;
+    let listed = yard_from(alloc, yard, settings.heights.as_slice(), &mut interruptions)?;
     let text = report_from(alloc, report, &mut interruptions)?;
-    follow_text(alloc, &listed, &text, out, &mut interruptions)?;
+    follow_text(
+        alloc,
+        &listed,
+        &text,
+        settings.page,
+        page,
+        out,
+        &mut interruptions,
+    )?;
     Ok(Status::Decided)
 }

@@ -43,13 +43,15 @@ pub struct AuditFiles<'a> {
     pub certificates: &'a str,
 }
 
-/// The files that are followed, by their names.
+/// The files of a report that is followed, by their names.
 #[derive(Clone, Copy)]
 pub struct FollowFiles<'a> {
     /// The yard list.
     pub yard: &'a str,
     /// The report. One named `-` is the standard input.
     pub report: &'a str,
+    /// What gets the page of its moves, if it is wanted.
+    pub page: Option<&'a str>,
 }
 
 /// What the program is to do.
@@ -71,7 +73,7 @@ pub enum Job<'a> {
     },
     /// To follow the moves of a report over a yard.
     Follow {
-        /// The files that are followed.
+        /// The files of the report that is followed.
         files: FollowFiles<'a>,
         /// How high the rows of the bays are.
         heights: RowHeights,

@@ -2,8 +2,8 @@
 //!
 //! `replay`, `bound`, `check` and `prove` go from the bytes of a file of certificates to a report, `audit` from those of a yard list, a
 //! message, a report and certificates to what is shown of them, `follow` from those of a yard list and a report to the table of its
-//! moves; `perform` does one of them over a file's bytes, and `run_job` any job over its files. What each writes is said in the file of `specs/` of its name, what a job
-//! does in `specs/Performing.antt`.
+//! moves, and to their page; `perform` does one of them over a file's bytes, and `run_job` any job over its files. What each writes is
+//! said in the file of `specs/` of its name, what a job does in `specs/Performing.antt`.
 #![tactic(auto)]
 
 mod advice;
@@ -32,7 +32,7 @@ pub use auditing::{MOST_REPORT, audit};
 pub use bounding::bound;
 pub use checking::check;
 pub use crp_notes::{NoTerminal, Terminal};
-pub use following::follow;
+pub use following::{FollowSettings, follow};
 pub use found::{Found, FoundLine, found_in, found_line};
 pub use heads::MOST_BYTES;
 pub use job::{AuditFiles, FileCommand, FollowFiles, Job, RunFiles};

@@ -64,6 +64,9 @@ pub enum ToolFault {
     /// A write of the table of a report's moves failed, took nothing, or was interrupted once too often.
     #[error("a write of the table failed")]
     WriteTable,
+    /// A write of the page of a report's moves failed, took nothing, or was interrupted once too often; also a file that cannot be made.
+    #[error("a write of the page failed")]
+    WritePage,
     /// A read of what is audited or followed failed, or was interrupted once too often; also a file that cannot be opened.
     #[error("a read of {0} failed")]
     ReadOf(Statement),
@@ -201,7 +204,13 @@ pub fn exit_of(answer: &Result<Status, ToolFault>) -> u8
         Ok(Status::Budget) => 1,
         Err(ToolFault::TooLarge | ToolFault::TooLargeOf(_) | ToolFault::Followed(_)) => 3,
         Ok(Status::Memory) | Err(ToolFault::Memory) => 4,
-        Err(ToolFault::Read | ToolFault::ReadOf(_) | ToolFault::Write | ToolFault::WriteTable) => 5,
+        Err(
+            ToolFault::Read
+            | ToolFault::ReadOf(_)
+            | ToolFault::Write
+            | ToolFault::WriteTable
+            | ToolFault::WritePage,
+        ) => 5,
         Err(ToolFault::Run(fault)) => exit_of_run(fault),
         Err(
             ToolFault::Cert(_)

@@ -6,12 +6,12 @@ use Rattle.std.proofs.KnownBytes.{Appends-nil, Appends-trans}
 use Rattle.std.proofs.lemmas.List.{take-append-le, take_all}
 use Rattle.std.proofs.Math.Seq.{take-append-add}
 use Rattle.std.proofs.lemmas.Bool.{cases_lt}
-use Rattle.crp_plan.specs.Devices.{AppendsPart, TransfersAlone, most_interruptions}
+use Rattle.crp_plan.specs.Devices.{AppendsPart, most_interruptions}
 use Rattle.crp_plan.proofs.Fronts.{Appends-front, Appends-then_part}
 use Rattle.crp_plan.proofs.Interruptions.{no_transfer, transfers_on}
 use Rattle.crp_plan.specs.declared.transfer.WriteFault.{WriteFault}
 use Rattle.crp_plan.specs.declared.transfer.WriteFault.TheVariants as fault
-use Rattle.crp_page.specs.Writing.{SinkNow, sink_now, Writes, Got, Stops, Wrote}
+use Rattle.crp_page.specs.Writing.{Calls, SinkNow, Writes, Got, Stops, Wrote}
 
 -- nothing was written
 pub writes_nothing : (a : SinkNow) → a.passed ≤ most_interruptions → Writes [] a a
@@ -73,10 +73,9 @@ pub got_all : {T : Type 0} (r : Result T WriteFault) (text : List ℕ) (a b : Si
 got_all (Ok t) text a b w = w.got
 got_all (Err f) text a b w = tt
 
-pub calls_all : {T : Type 0} (r : Result T WriteFault) (text : List ℕ) (holds : Option (List ℕ)) (failures : ℕ) (interrupted : Option ℕ) (b : SinkNow)
-    → Wrote r text (sink_now holds failures interrupted 0) b → OnOk r (TransfersAlone 0 failures b.failures interrupted b.interrupted)
-calls_all (Ok t) text holds failures interrupted b w = (b.passed, w.calls)
-calls_all (Err f) text holds failures interrupted b w = tt
+pub calls_all : {T : Type 0} (r : Result T WriteFault) (text : List ℕ) (a b : SinkNow) → Wrote r text a b → OnOk r (Calls 0 a b)
+calls_all (Ok t) text a b w = w.calls
+calls_all (Err f) text a b w = tt
 
 pub stopped : {T : Type 0} (r : Result T WriteFault) (f : WriteFault) (text : List ℕ) (a b : SinkNow) → Wrote r text a b → IsErrOf r f → Stops text a b f
 stopped r f text a b w is = subst (λ x. Wrote x text a b) is w

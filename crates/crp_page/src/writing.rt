@@ -2,7 +2,7 @@
 ghost use Rattle.std.specs.Prelude.{◌≡◌, ◌≤◌, ◌++◌, ℕ, List, length, map, flat_map, codes, IfOk, OnOk, IsErrOf};
 ghost use Rattle.std.specs.List.{AllByRecursion};
 ghost use Rattle.std.specs.Io.KnownBytes.{Appends};
-ghost use Rattle.crp_plan.specs.Devices.{AppendsFront, AppendsPart, TransfersAlone, most_interruptions};
+ghost use Rattle.crp_plan.specs.Devices.{AppendsFront, AppendsPart, Transfers, most_interruptions};
 ghost use Rattle.crp_follow.specs.Followed.{IsFollowed};
 ghost use Rattle.crp_follow.specs.Table.{StandFew};
 ghost use Rattle.crp_follow.specs.Views.{bay_followed};
@@ -144,14 +144,16 @@ fn write_parts<W: Sink>(
     )
 }
 
-/// Writes the page of a report that is followed over the yard, figure by figure. An interrupted call is tried again, at most 1,000 times.
-/// Where memory runs out, a front of the page is written.
+/// Writes the page of a report that is followed over the yard, figure by figure. An interrupted call is tried again, and counted. Where
+/// memory runs out, a front of the page is written.
 pub fn write_page<W: Sink>(
     alloc: Global,
     sink: &mut W,
     yard: &Yard,
     followed: &Followed,
+    interruptions: &mut u32,
 ) -> Result<(), WriteFault>
+    requires passed { interruptions.old ≤ most_interruptions }
     requires followed { (report : List ℕ) × IsFollowed yard.now report followed.now.numbers (map bay_followed followed.now.bays.items) }
     requires few { AllByRecursion StandFew (map bay_followed followed.now.bays.items) }
     ensures all { OnOk result (Appends (W.contents sink.old) (W.contents sink.new) (page_text yard.now followed.now.numbers (map bay_followed followed.now.bays.items))) }
@@ -159,12 +161,11 @@ pub fn write_page<W: Sink>(
         → AppendsPart (W.contents sink.old) (W.contents sink.new) (page_text yard.now followed.now.numbers (map bay_followed followed.now.bays.items)) }
     ensures memory { IsErrOf result WriteFault.Memory
         → AppendsFront (W.contents sink.old) (W.contents sink.new) (page_text yard.now followed.now.numbers (map bay_followed followed.now.bays.items)) }
-    ensures done { OnOk result (TransfersAlone 0 (W.failures sink.old) (W.failures sink.new) (W.interrupted sink.old) (W.interrupted sink.new)) }
+    ensures done { OnOk result (Transfers 0 interruptions.old interruptions.new (W.failures sink.old) (W.failures sink.new) (W.interrupted sink.old) (W.interrupted sink.new)) }
     ensures gave_up { IsErrOf result WriteFault.Failed
-        → TransfersAlone 1 (W.failures sink.old) (W.failures sink.new) (W.interrupted sink.old) (W.interrupted sink.new) }
+        → Transfers 1 interruptions.old interruptions.new (W.failures sink.old) (W.failures sink.new) (W.interrupted sink.old) (W.interrupted sink.new) }
     ensures stopped { IsErrOf result WriteFault.Memory
-        → TransfersAlone 0 (W.failures sink.old) (W.failures sink.new) (W.interrupted sink.old) (W.interrupted sink.new) }
+        → Transfers 0 interruptions.old interruptions.new (W.failures sink.old) (W.failures sink.new) (W.interrupted sink.old) (W.interrupted sink.new) }
 {
-    let mut interruptions = 0;
-    write_parts(alloc, sink, yard, followed, &mut interruptions)
+    write_parts(alloc, sink, yard, followed, interruptions)
 }

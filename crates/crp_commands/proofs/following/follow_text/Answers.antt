@@ -3,14 +3,51 @@ use Rattle.std.proofs.lemmas.Result.{err_from_is_err_and}
 use Rattle.crp_plan.proofs.Interruptions.{has_failed}
 use Rattle.crp_follow.specs.Views.{bay_followed}
 use Rattle.crp_report.specs.Runs.{SinkSeen, Gets, GetsPart}
+use Rattle.crp_commands.specs.Follow.{if_asked}
 use Rattle.crp_commands.proofs.Replayed.{keeps_same}
-use Rattle.crp_commands.proofs.Traced.{not_followed}
+use Rattle.crp_commands.proofs.Traced.{asked_nothing, no_memory, no_page, not_followed}
 use Rattle.crp_commands.proofs.following.follow_text.Goals as goal
 
 pub returns-in_err-followed-clause-ended : goal.returns-in_err-followed-clause-ended
 returns-in_err-followed-clause-ended g c =
     let p = err_from_is_err_and c.from_residual.result c.from_residual.ensures.1 in
-    rw (p.1, p.2) (not_followed c.args.yard.now c.args.report.now _ c.in_err-followed.field-0.0 (keeps_same _) c.in_err-followed.ensures.refused)
+    rw (p.1, p.2) (not_followed c.args.yard.now c.args.report.now _ _ c.in_err-followed.field-0.0 (asked_nothing _ _ (keeps_same _), keeps_same _) c.in_err-followed.ensures.refused)
+
+pub returns-in_err-table-clause-ended : goal.returns-in_err-table-clause-ended
+returns-in_err-table-clause-ended g c =
+    let p = err_from_is_err_and c.from_residual-in_err-table.result c.from_residual-in_err-table.ensures.1 in
+    let page : SinkSeen = record {
+      held = g.P.Sink.contents c.args.page.now;
+      holds = g.P.Sink.contents c.args.page.now;
+      before = g.P.Sink.failures c.args.page.now;
+      after = g.P.Sink.failures c.args.page.now;
+    } in
+    let out : SinkSeen = record {
+      held = g.W.Sink.contents c.args.out.now;
+      holds = g.W.Sink.contents c.args.out.now;
+      before = g.W.Sink.failures c.args.out.now;
+      after = g.W.Sink.failures c.args.out.now;
+    } in
+    rw (p.1, p.2) (no_memory c.args.yard.now c.args.report.now (if_asked c.args.asked page) out (asked_nothing c.args.asked page (keeps_same _), keeps_same _))
+
+pub returns-in_err-write_page_if-clause-ended : goal.returns-in_err-write_page_if-clause-ended
+returns-in_err-write_page_if-clause-ended g c =
+    let p = err_from_is_err_and c.from_residual-in_err-write_page_if.result c.from_residual-in_err-write_page_if.ensures.1 in
+    let followed = c.in_ok-followed.followed in
+    let page : SinkSeen = record {
+      held = g.P.Sink.contents c.args.page.now;
+      holds = g.P.Sink.contents c.write_page_if.new.page;
+      before = g.P.Sink.failures c.args.page.now;
+      after = g.P.Sink.failures c.write_page_if.new.page;
+    } in
+    let out : SinkSeen = record {
+      held = g.W.Sink.contents c.args.out.now;
+      holds = g.W.Sink.contents c.args.out.now;
+      before = g.W.Sink.failures c.args.out.now;
+      after = g.W.Sink.failures c.args.out.now;
+    } in
+    rw (p.1, p.2) (no_page c.args.yard.now c.args.report.now followed.numbers (map bay_followed followed.bays.items) (if_asked c.args.asked page) out
+    c.in_err-write_page_if.field-0.0 c.in_ok-followed.ensures.followed (keeps_same _) c.in_err-write_page_if.ensures.ended)
 
 pub returns-in_default-clause-ended : goal.returns-in_default-clause-ended
 returns-in_default-clause-ended g c =
@@ -22,7 +59,13 @@ returns-in_default-clause-ended g c =
       after = g.W.Sink.failures c.write_all.new.writer;
     } in (
       has_failed c.in_default.ensures.gave_up,
-      (followed.numbers, map bay_followed followed.bays.items, c.in_ok-followed.ensures.followed, subst (GetsPart out) (c.deref.ensures.value ∙ c.in_ok-table.ensures) c.in_default.ensures.part),
+      (
+        followed.numbers,
+        map bay_followed followed.bays.items,
+        c.in_ok-followed.ensures.followed,
+        c.in_ok-write_page_if.ensures.ended,
+        subst (GetsPart out) (c.deref.ensures.value ∙ c.in_ok-table.ensures) c.in_default.ensures.part,
+      ),
     )
 
 pub returns-clause-ended : goal.returns-clause-ended
@@ -33,5 +76,10 @@ returns-clause-ended g c =
       holds = g.W.Sink.contents c.write_all.new.writer;
       before = g.W.Sink.failures c.args.out.now;
       after = g.W.Sink.failures c.write_all.new.writer;
-    } in
-    (followed.numbers, map bay_followed followed.bays.items, c.in_ok-followed.ensures.followed, subst (Gets out) (c.deref.ensures.value ∙ c.in_ok-table.ensures) c.in-Ok.ensures.all)
+    } in (
+      followed.numbers,
+      map bay_followed followed.bays.items,
+      c.in_ok-followed.ensures.followed,
+      c.in_ok-write_page_if.ensures.ended,
+      subst (Gets out) (c.deref.ensures.value ∙ c.in_ok-table.ensures) c.in-Ok.ensures.all,
+    )

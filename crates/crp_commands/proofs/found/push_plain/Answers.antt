@@ -1,4 +1,4 @@
-use Rattle.std.proofs.Common.{◌≡◌, ℕ, List, [], ◌∷◌, ◌++◌, IsTrue, rules, subst, sym, arith}
+use Rattle.std.proofs.Common.{◌≡◌, ℕ, List, [], ◌∷◌, ◌++◌, IsTrue, rules}
 use Rattle.std.proofs.lemmas.List.Folds.{list_all-append}
 use Rattle.crp_commands.specs.Advice.{is_printable}
 use Rattle.crp_commands.specs.Found.{IsPlainText}

@@ -12,10 +12,10 @@ pub returns-clause-memory : goal.returns-clause-memory
 returns-clause-memory g c = λ is. (stopped c.write_parts.result fault.Memory _ _ _ c.write_parts.ensures is).got
 
 pub returns-clause-done : goal.returns-clause-done
-returns-clause-done g c = calls_all c.write_parts.result _ _ _ _ _ c.write_parts.ensures
+returns-clause-done g c = calls_all c.write_parts.result _ _ _ c.write_parts.ensures
 
 pub returns-clause-gave_up : goal.returns-clause-gave_up
-returns-clause-gave_up g c = λ is. (c.write_parts.new.interruptions, (stopped c.write_parts.result fault.Failed _ _ _ c.write_parts.ensures is).calls)
+returns-clause-gave_up g c = λ is. (stopped c.write_parts.result fault.Failed _ _ _ c.write_parts.ensures is).calls
 
 pub returns-clause-stopped : goal.returns-clause-stopped
-returns-clause-stopped g c = λ is. (c.write_parts.new.interruptions, (stopped c.write_parts.result fault.Memory _ _ _ c.write_parts.ensures is).calls)
+returns-clause-stopped g c = λ is. (stopped c.write_parts.result fault.Memory _ _ _ c.write_parts.ensures is).calls

@@ -1,0 +1,4 @@
+use Rattle.crp_commands.proofs.over_files.do_job.Goals as goal
+
+pub returns-in-Follow-clause-done : goal.returns-in-Follow-clause-done
+returns-in-Follow-clause-done g c = rw c.in-Follow.is c.follow_files.ensures
