@@ -7,3 +7,4 @@ pub mod Performed
 pub mod Solved
 pub mod Promised
 pub mod Noted
+pub mod Shown

@@ -258,23 +258,22 @@ drop-behind : (front rest : List ℕ) → drop (length front) (front ++ rest) �
 drop-behind [] rest = refl
 drop-behind (x ∷ front) rest = drop-behind front rest
 
+-- the bytes of a segment stand at its offset
+pub segment-there : (text : List ℕ) (number offset : ℕ) (own : List ℕ) (of : IsSegmentText text number offset own) → drop offset text ≡ own ++ of.more
+segment-there text number offset own of =
+    let at = of.at in
+    let front = at.opening ++ at.body in
+    let whole : text ≡ front ++ (own ++ of.more) = at.reads.1.whole ∙ sym (append_assoc at.opening at.body at.rest) ∙ ap (λ (x : List ℕ). front ++ x) of.whole in
+    ap (λ n. drop n text) at.place ∙ ap (drop (length front)) whole ∙ drop-behind front (own ++ of.more)
+
 -- a segment ends with its terminator
 pub end-is : (text : List ℕ) (number offset : ℕ) (own : List ℕ) (signs : Signs) (bytes : List ℕ) → IsSegmentText text number offset own
     → ((x : List ℕ) → OpensAs text x signs bytes) → length text - length (behind_terminator signs false (drop offset text)) ≡ offset + length own
 end-is text number offset own signs bytes of opened =
     let at = of.at in
     let is = is-opened text at.reads.0 signs at.segments at.opening at.body at.rest bytes at.reads.1 at.passed opened in
-    let whole : text ≡ (at.opening ++ at.body) ++ (own ++ of.more) =
-    at.reads.1.whole ∙ sym (append_assoc at.opening at.body at.rest) ∙ ap (λ (x : List ℕ). (at.opening ++ at.body) ++ x) of.whole in
-    let here : drop offset text ≡ own ++ of.more =
-    ap (λ n. drop n text) at.place ∙ ap (drop (length (at.opening ++ at.body))) whole ∙ drop-behind (at.opening ++ at.body) (own ++ of.more) in
     let left : behind_terminator signs false (drop offset text) ≡ of.more =
-    ap (behind_terminator signs false) here ∙ marks-passed at.reads.0 signs _ own of.more is.known (inside-joined (all_elements of.segment)) of.spelled.spelled in
-    omega (
-      arith,
-      at.place,
-      ap (λ (x : List ℕ). length x) whole,
-      ap (λ (x : List ℕ). length x) left,
-      length-append (at.opening ++ at.body) (own ++ of.more),
-      length-append own of.more,
-    )
+        ap (behind_terminator signs false) (segment-there text number offset own of)
+          ∙ marks-passed at.reads.0 signs _ own of.more is.known (inside-joined (all_elements of.segment)) of.spelled.spelled in
+    omega (arith, at.place, ap (λ (x : List ℕ). length x) at.reads.1.whole, ap (λ (x : List ℕ). length x) of.whole, ap (λ (x : List ℕ). length x) left,
+    length-append at.opening (at.body ++ at.rest), length-append at.body at.rest, length-append at.opening at.body, length-append own of.more)

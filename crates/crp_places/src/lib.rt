@@ -8,5 +8,5 @@ mod records;
 mod segments;
 
 pub use lines::line_at;
-pub use records::record_at;
+pub use records::{record_at, without_mark};
 pub use segments::{segment_at, segment_end};

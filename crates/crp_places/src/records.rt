@@ -1,6 +1,6 @@
 //! The offset of a record.
 
-ghost use Rattle.std.specs.Prelude.{◌≡◌, ◌≤◌, length, MatchOption};
+ghost use Rattle.std.specs.Prelude.{◌≡◌, ◌≤◌, ◌<◌, length, IfSome, MatchOption};
 ghost use Rattle.csv.specs.Reading.{strip_bom};
 ghost use Rattle.crp_places.specs.Records.{Ends, GoesOn, LeavesRecord, record_start};
 
@@ -47,7 +47,7 @@ fn after_record(text: &[u8]) -> &[u8]
 }
 
 /// The text without a byte order mark.
-fn without_mark(text: &[u8]) -> &[u8]
+pub fn without_mark(text: &[u8]) -> &[u8]
     ensures stripped { result.now ≡ strip_bom text.now }
     ensures shorter { length result.now ≤ length text.now }
 {
@@ -61,7 +61,8 @@ fn without_mark(text: &[u8]) -> &[u8]
 /// The offset, in bytes from 0, at which the record with this number begins, from 1, as csv reads the text by its defaults without a
 /// header row of its own; none where the text has fewer records. Blank lines are no records, and a byte order mark is part of none.
 pub fn record_at(text: &[u8], number: usize) -> Option<usize>
-    ensures { result ≡ record_start text.now number }
+    ensures place { result ≡ record_start text.now number }
+    ensures within { IfSome result (λ offset. offset < length text.now) }
 {
     if number == 0 {
         return None;

@@ -9,8 +9,8 @@ loop-init c = (
   behind-start c.args.text.now _ (c.skip_line_ends-rest.ensures.passed ∙ ap after_line_ends c.without_mark.ensures.stripped),
 )
 
-pub returns-then-is_empty : goal.returns-then-is_empty
-returns-then-is_empty c =
+pub returns-then-is_empty-clause-place : goal.returns-then-is_empty-clause-place
+returns-then-is_empty-clause-place c =
     let none : length c.loop.rest.now ≡ 0 = grind (arith, tests, c.is_empty.ensures, c.if-is_empty.true) in
     let before = c.loop.auto.counter in
     sym (start-none c.args.text.now c.args.number (c.loop.counter - 1) c.loop.rest.now c.loop.invariant.1 none (omega (arith, c.loop-test.true, before)))
