@@ -10,6 +10,10 @@ use Rattle.crp_commands.specs.Advice.{is_printable}
 abbrev pub IsPlainText : List ℕ → Type 0
 IsPlainText text = IsTrue (list_all is_printable text)
 
+-- a byte as a line of plain text shows it: itself where it is printable, and else a question mark
+abbrev pub plain : ℕ → ℕ
+plain b = if is_printable b then b else 63
+
 -- the bytes begin with the sign
 abbrev pub begins : List ℕ → List ℕ → Bool
 begins sign bytes = bytes_eq (take (length sign) bytes) sign

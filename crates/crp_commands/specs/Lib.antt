@@ -14,3 +14,4 @@ pub mod Headlines
 pub mod Advice
 pub mod Noted
 pub mod Found
+pub mod Placed

@@ -1,20 +1,26 @@
-//! What the file looks like that was refused in the place of another: a line behind the advice.
+//! What a file looks like that was refused in the place of another, or where in it the fault stands: a line behind the advice.
 ghost use Rattle.std.specs.Prelude.{◌≡◌, IfSome, IsTrue};
-ghost use Rattle.crp_commands.specs.Advice.{is_printable};
 ghost use Rattle.crp_commands.specs.Found.{IsPlainText, found_in};
+ghost use Rattle.crp_commands.specs.Placed.{IsPlacedLine, is_other};
 
 use crate::job::Job;
+use crate::named::{message_named, offset_named, record_named, segment_named, yard_named};
 use crate::opening::Files;
 use crate::outcome::ToolFault;
+use crate::placed::{is_line_end, line_front, line_on_offset, line_on_record, line_on_segment};
+use crate::plain::{FoundLine, MOST_FOUND, push_plain};
 use arrayvec::ArrayVec;
+use crp_places::without_mark;
 use crp_report::Fault;
-use crp_yard::YardFault;
+use crp_yard::{MAX_BYTES, YardFault};
+use edi_text::MAX_TEXT;
+use std::alloc::Global;
 
-/// The most bytes of a line on what was found.
-pub const MOST_FOUND: usize = 160;
+// How many bytes of a file show what it looks like.
+const FRONT: usize = 64;
 
-/// A line on what was found.
-pub type FoundLine = ArrayVec<u8, MOST_FOUND>;
+// How many bytes of a message are looked at: more than are read, so that it can be shown what stands behind the limit.
+const MOST_TEXT: usize = MAX_TEXT + MOST_FOUND;
 
 /// What a file looks like.
 #[derive(Clone, Copy, Debug, PartialEq, Eq)]
@@ -59,52 +65,12 @@ pub fn found_in(front: &[u8]) -> Option<Found>
     None
 }
 
-// The byte where it is printable, and else a question mark.
-fn plain(byte: u8) -> u8
-    ensures { IsTrue (is_printable result) }
-{
-    if (32..127).contains(&byte) {
-        byte
-    } else {
-        b'?'
-    }
-}
-
-// Adds a text, as far as there is room.
-fn push_plain(line: &mut FoundLine, text: &[u8])
-    requires { IsPlainText line.old.items }
-    ensures { IsPlainText line.new.items }
-{
-    for byte in text {
-        let Ok(()) = line.try_push(plain(*byte)) else {
-            return;
-        };
-    }
-}
-
-// The text without a byte order mark.
-fn without_mark(front: &[u8]) -> &[u8] {
-    if front.starts_with(&[0xef, 0xbb, 0xbf]) {
-        &front[3..]
-    } else {
-        front
-    }
-}
-
-fn is_line_end(byte: u8) -> bool {
-    byte == b'\n' || byte == b'\r'
-}
-
 // The first line that is not empty; where there is none, nothing.
 fn first_line(text: &[u8]) -> &[u8] {
     let Some(start) = text.iter().position(|b| !is_line_end(*b)) else {
         return &[];
     };
-    let text = &text[start..];
-    match text.iter().position(|b| is_line_end(*b)) {
-        Some(end) => &text[..end],
-        None => text,
-    }
+    line_front(&text[start..])
 }
 
 // What is wrong with a header, where that is plain to see.
@@ -151,7 +117,8 @@ fn line_on_list(front: &[u8]) -> FoundLine
 
 // What stands in the place of an interchange, where that is plain to see.
 fn line_on_message(front: &[u8]) -> Option<FoundLine>
-    ensures { IfSome result (λ line. IsPlainText line.items) }
+    ensures plain { IfSome result (λ line. IsPlainText line.items) }
+    ensures other { IfSome result (λ _. IsTrue (is_other (found_in front.now))) }
 {
     let text = match found_in(front) {
         Some(Found::Archive) => {
@@ -166,38 +133,42 @@ fn line_on_message(front: &[u8]) -> Option<FoundLine>
     Some(line)
 }
 
-// The yard list of a job, by its name.
-fn yard_of<'a>(job: &Job<'a>) -> Option<&'a str> {
-    match job {
-        Job::Solve { files, .. } => Some(files.yard),
-        Job::Audit { files, .. } => Some(files.yard),
-        Job::Follow { files, .. } => Some(files.yard),
-        Job::OneFile { .. } => None,
-    }
-}
-
-// Its message.
-fn message_of<'a>(job: &Job<'a>) -> Option<&'a str> {
-    match job {
-        Job::Solve { files, .. } => Some(files.movins),
-        Job::Audit { files, .. } => Some(files.movins),
-        Job::Follow { .. } | Job::OneFile { .. } => None,
-    }
-}
-
-/// What the file looks like that the fault refuses, in a line, where that may tell more than the fault: of a yard list without its header,
-/// and of a message that is no interchange.
-pub fn found_line<F: Files>(files: &F, job: &Job<'_>, fault: &ToolFault) -> Option<FoundLine>
-    ensures { IfSome result (λ line. IsPlainText line.items) }
+/// What the fault of an input is about, in a line. Of a yard list without its header, and of a message that is no interchange, what the
+/// file looks like where that may tell more than the fault; otherwise the line of the file in which the record, the segment or the offset
+/// stands that the fault names, and what stands there.
+pub fn found_line<F: Files>(
+    alloc: Global,
+    files: &F,
+    job: &Job<'_>,
+    fault: &ToolFault,
+) -> Option<FoundLine>
+    ensures plain { IfSome result (λ line. IsPlainText line.items) }
+    ensures placed { IfSome result (λ line. IsPlacedLine (F.known files.now) job.now fault.now line.items) }
 {
     match fault {
         ToolFault::Run(Fault::Yard(YardFault::Header { .. })) => {
-            let front = files.front(yard_of(job)?)?;
+            let front = files.begins(alloc, yard_named(job)?, FRONT)?;
             Some(line_on_list(without_mark(front.as_slice())))
         }
-        ToolFault::Run(Fault::Interchange(_)) => {
-            let front = files.front(message_of(job)?)?;
-            line_on_message(without_mark(front.as_slice()))
+        ToolFault::Run(Fault::Yard(fault)) => {
+            let number = record_named(fault)?;
+            let text = files.begins(alloc, yard_named(job)?, MAX_BYTES)?;
+            line_on_record(alloc, number, text.as_slice()).ok()
+        }
+        ToolFault::Run(Fault::Interchange(fault)) => {
+            let offset = offset_named(fault)?;
+            let name = message_named(job)?;
+            let front = files.begins(alloc, name, FRONT)?;
+            if let Some(line) = line_on_message(without_mark(front.as_slice())) {
+                return Some(line);
+            }
+            let text = files.begins(alloc, name, MOST_TEXT)?;
+            line_on_offset(alloc, offset, text.as_slice()).ok()
+        }
+        ToolFault::Run(Fault::Message(fault)) => {
+            let number = segment_named(fault)?;
+            let text = files.begins(alloc, message_named(job)?, MAX_TEXT)?;
+            line_on_segment(alloc, number, text.as_slice()).ok()
         }
         _ => None,
     }

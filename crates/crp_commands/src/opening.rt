@@ -1,20 +1,14 @@
 //! Files as devices: how a job opens them and gives them back, and the files of the system.
-ghost use Rattle.std.specs.Prelude.{◌≡◌, ℕ, IsTrue, IfOk, IfErr, IfSome, MatchResult};
+ghost use Rattle.std.specs.Prelude.{◌≡◌, ◌≤◌, ℕ, IsTrue, IfOk, IfErr, IfSome, MatchResult, vec_len};
 ghost use Rattle.crp_plan.specs.Devices.{CountsMore, CountsOne};
 ghost use Rattle.crp_commands.specs.Opened.{KnownFiles, nothing_known};
 ghost use Rattle.crp_commands.specs.Found.{IsFront};
 
-use arrayvec::ArrayVec;
-use crp_plan::{Counted, Sink, Source};
+use crp_plan::{Counted, Sink, Source, read_all};
+use std::alloc::Global;
 use std::fs::{self, File};
 use std::io::Read;
 use std::os::unix::fs::MetadataExt;
-
-// How many bytes of a file are looked at.
-const FRONT: usize = 64;
-
-/// The first bytes of a file.
-pub type Front = ArrayVec<u8, FRONT>;
 
 /// A file that cannot be opened.
 #[derive(Clone, Copy, Debug, PartialEq, Eq)]
@@ -39,10 +33,11 @@ pub trait Files {
     fn is_one_file(&self, name: &str, other: &str) -> bool
         ensures { IfSome ((known self.now).are_one name.now other.now) (λ one. result ≡ one) };
 
-    /// The first bytes of a file, to say what it looks like; nothing where it is no plain file, which alone can be read a second time, or
-    /// cannot be read. It counts no failure.
-    fn front(&self, name: &str) -> Option<Front>
-        ensures { IfSome result (λ front. IsFront ((known self.now).given name.now) front.items) };
+    /// What a file begins with, at most so many bytes, to say what it looks like or what stands at a place; nothing where it is no plain
+    /// file, which alone can be read a second time, where it cannot be read, or where memory is refused. It counts no failure.
+    fn begins(&self, alloc: Global, name: &str, most: usize) -> Option<Vec<u8>>
+        ensures front { IfSome result (λ front. IsFront ((known self.now).given name.now) front.items) }
+        ensures few { IfSome result (λ front. vec_len front ≤ most) };
 
     /// Opens a file that is there, to read it from its beginning.
     fn open(&mut self, name: &str) -> Result<Self::Input, NotOpened>
@@ -101,21 +96,18 @@ impl Files for SystemFiles<'_> {
         first.dev() == second.dev() && first.ino() == second.ino()
     }
 
-    fn front(&self, name: &str) -> Option<Front> {
+    fn begins(&self, alloc: Global, name: &str, most: usize) -> Option<Vec<u8>> {
         match fs::metadata(self.rt, name) {
             Ok(found) if found.is_file() => {}
             _ => return None,
         }
-        let Ok(mut file) = File::open(self.rt, name) else {
+        let Ok(file) = File::open(self.rt, name) else {
             return None;
         };
-        let mut bytes = [0u8; FRONT];
-        let Ok(n) = file.read(&mut bytes) else {
-            return None;
-        };
-        let mut front = ArrayVec::new();
-        match front.try_extend_from_slice(&bytes[..n]) {
-            Ok(()) => Some(front),
+        let mut front = Counted::new(file.take(most as u64));
+        let mut interruptions = 0;
+        match read_all(alloc, &mut front, most, &mut interruptions) {
+            Ok(bytes) => Some(bytes),
             Err(_) => None,
         }
     }

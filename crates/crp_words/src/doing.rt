@@ -16,12 +16,18 @@ use std::sync::Wait;
 use std::thread::Threads;
 
 // Explains the fault of a job: the place where a read or a write has failed, and else what was found, where that tells more.
-fn explain_of<F: Files, E: Sink>(files: &F, errors: &mut E, job: &Job<'_>, fault: &ToolFault)
+fn explain_of<F: Files, E: Sink>(
+    alloc: Global,
+    files: &F,
+    errors: &mut E,
+    job: &Job<'_>,
+    fault: &ToolFault,
+)
     ensures { let seen : SinkSeen = record { held = E.contents errors.old; holds = E.contents errors.new; before = E.failures errors.old; after = E.failures errors.new }
         in IsExplainedOf job.now fault.now seen }
 {
     let Some(place) = place_of(job, fault) else {
-        let Some(line) = found_line(files, job, fault) else {
+        let Some(line) = found_line(alloc, files, job, fault) else {
             return explain_fault(errors, fault, None);
         };
         return explain_found(errors, fault, line.as_slice());
@@ -31,6 +37,7 @@ fn explain_of<F: Files, E: Sink>(files: &F, errors: &mut E, job: &Job<'_>, fault
 
 // Explains the fault of a job, if it ended with one.
 fn explain_answer<F: Files, E: Sink>(
+    alloc: Global,
     files: &F,
     errors: &mut E,
     job: &Job<'_>,
@@ -41,7 +48,7 @@ fn explain_answer<F: Files, E: Sink>(
 {
     match answer {
         Ok(_) => {}
-        Err(fault) => explain_of(files, errors, job, fault),
+        Err(fault) => explain_of(alloc, files, errors, job, fault),
     }
 }
 
@@ -71,7 +78,7 @@ fn end_with_job<
         in JobEnds job.now seen errors_seen result }
 {
     let answer = run_job(threads, alloc, files, input, out, job, errors, terminal);
-    explain_answer(files, errors, job, &answer);
+    explain_answer(alloc, files, errors, job, &answer);
     exit_of(&answer)
 }
 

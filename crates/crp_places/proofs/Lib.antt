@@ -1,0 +1,4 @@
+pub mod LineSteps
+pub mod RecordSteps
+pub mod Openings
+pub mod SegmentSteps
