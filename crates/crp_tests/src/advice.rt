@@ -24,7 +24,7 @@ fn checked(refused: Refused) -> ToolFault {
 }
 
 // Faults that no small input and no command shows, each with its line and the line after it.
-fn unseen() -> [(ToolFault, &'static str, &'static str); 13] {
+fn unseen() -> [(ToolFault, &'static str, &'static str); 14] {
     [
         (
             ToolFault::Run(Fault::Interchange(EdiFault::TooLong { offset: 6 })),
@@ -85,6 +85,11 @@ fn unseen() -> [(ToolFault, &'static str, &'static str); 13] {
             ToolFault::WriteTable,
             "a write of the table failed",
             "the table could not be written: its disk must not be full, and the program that reads it must not have ended",
+        ),
+        (
+            ToolFault::WritePage,
+            "a write of the page failed",
+            "the page could not be written: the folder must be there and let you write, and its disk must not be full",
         ),
         (
             ToolFault::Memory,
@@ -217,7 +222,8 @@ fn add_followed(faults: &mut Vec<ToolFault>) -> Result<(), AllocError> {
     ] {
         faults.push(ToolFault::Followed(fault))?;
     }
-    faults.push(ToolFault::WriteTable).map_err(AllocError::from)
+    faults.push(ToolFault::WriteTable)?;
+    faults.push(ToolFault::WritePage).map_err(AllocError::from)
 }
 
 // Every fault of a job.
@@ -254,7 +260,7 @@ fn is_short(advice: &str) -> bool {
 #[test]
 fn each_line_is_short_and_of_one_code(rt: HostRuntime) -> Result<(), Fail> {
     let lines = every_advice(rt.alloc())?;
-    assert_same(&rt, &lines.len(), &94);
+    assert_same(&rt, &lines.len(), &95);
     for (i, advice) in lines.iter().enumerate() {
         assert_at(&rt, is_short(advice), advice);
         let is_new = lines[..i].iter().all(|line| line != advice);

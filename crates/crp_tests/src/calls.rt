@@ -1,5 +1,5 @@
 //! The calls that the tests make, each in a function with no clause: so a test knows nothing of what is promised, and is soon checked.
-use crp_commands::{Job, RowHeights, ToolFault};
+use crp_commands::{FollowSettings, Job, ToolFault};
 use crp_plan::{Nowhere, Sink, Source};
 use crp_report::{Fault, RunSettings, Status, Watch};
 use crp_solve::Settings;
@@ -89,12 +89,13 @@ pub(crate) fn job<'a>(alloc: Global, words: &'a [&'a str]) -> Result<Job<'a>, Us
     crp_words::job(alloc, words)
 }
 
-pub(crate) fn follow<Y: Source, R: Source, W: Sink>(
+pub(crate) fn follow<Y: Source, R: Source, P: Sink, W: Sink>(
     alloc: Global,
     yard: &mut Y,
     report: &mut R,
-    heights: &RowHeights,
+    settings: &FollowSettings<'_>,
+    page: &mut P,
     out: &mut W,
 ) -> Result<Status, ToolFault> {
-    crp_commands::follow(alloc, yard, report, heights, out)
+    crp_commands::follow(alloc, yard, report, settings, page, out)
 }

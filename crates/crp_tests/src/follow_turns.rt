@@ -1,11 +1,11 @@
 //! `follow` over devices of which each call fails in turn, and over a report that never ends.
 use crate::calls::follow;
 use crate::compare::assert_same_at;
-use crate::devices::{Endless, Slow, Small};
-use crp_commands::{RowHeights, Statement, ToolFault};
+use crate::devices::{Busy, Endless, Slow, Small};
+use crp_commands::{FollowSettings, RowHeights, Statement, ToolFault};
 use crp_follow::FollowFault;
 use crp_order::Mode;
-use crp_plan::Source;
+use crp_plan::{Sink, Source};
 use crp_report::{Fault, Input, InputSettings, Status};
 use std::alloc::Global;
 use std::test::Fail;
@@ -20,33 +20,66 @@ const TABLE: &[u8] =
         B,2,1,shift,Y,1,2,2,1,,X,2\n\
         B,2,2,take,X,1,1,,,2,X,1\n";
 
-// More room than the table needs.
+// More room than the table needs, and than the page.
 const ROOM: usize = 1000;
 
-// How a call ended, and what its sink holds then.
+const PAGE_ROOM: usize = 100000;
+
+// How a call ended, and what its sinks hold then.
 #[derive(Drop)]
 struct Ended {
     answer: Result<Status, ToolFault>,
+    page: Vec<u8>,
     held: Vec<u8>,
 }
 
-// How a report is followed over a yard of three rows of three tiers, with a sink that has so much room.
+fn small(alloc: Global, room: usize) -> Small {
+    Small {
+        bytes: Vec::new(alloc),
+        room,
+        failed: 0,
+    }
+}
+
+// How a report is followed over a yard of three rows of three tiers, with sinks of the page and of the table.
+fn followed_to<Y: Source, R: Source, P: Sink, W: Sink>(
+    alloc: Global,
+    yard: &mut Y,
+    report: &mut R,
+    asked: bool,
+    page: &mut P,
+    out: &mut W,
+) -> Result<Result<Status, ToolFault>, Fail> {
+    let heights = RowHeights::of(&InputSettings::new(alloc, 3, 3, Mode::Listed, b"")?);
+    let settings = FollowSettings {
+        heights: &heights,
+        page: asked,
+    };
+    Ok(follow(alloc, yard, report, &settings, page, out))
+}
+
+// The same, with sinks that have so much room; without room for a page none is asked for.
 fn followed<R: Source + Drop>(
     alloc: Global,
     mut yard: Slow<'_>,
     mut report: R,
+    page_room: Option<usize>,
     room: usize,
 ) -> Result<Ended, Fail> {
-    let mut sink = Small {
-        bytes: Vec::new(alloc),
-        room,
-        failed: 0,
-    };
-    let heights = RowHeights::of(&InputSettings::new(alloc, 3, 3, Mode::Listed, b"")?);
-    let answer = follow(alloc, &mut yard, &mut report, &heights, &mut sink);
+    let mut page = small(alloc, page_room.unwrap_or(PAGE_ROOM));
+    let mut out = small(alloc, room);
+    let answer = followed_to(
+        alloc,
+        &mut yard,
+        &mut report,
+        page_room.is_some(),
+        &mut page,
+        &mut out,
+    )?;
     Ok(Ended {
         answer,
-        held: sink.bytes,
+        page: page.bytes,
+        held: out.bytes,
     })
 }
 
@@ -68,17 +101,89 @@ fn whole(text: &[u8]) -> Slow<'_> {
     slow(text, text.len(), false)
 }
 
+// The page of the report.
+fn whole_page(alloc: Global) -> Result<Vec<u8>, Fail> {
+    let got = followed(alloc, whole(LIST), whole(REPORT), Some(PAGE_ROOM), ROOM)?;
+    Ok(got.page)
+}
+
 #[test]
 fn each_write_of_a_table_fails_in_turn(rt: HostRuntime) -> Result<(), Fail> {
+    let page = whole_page(rt.alloc())?;
     for room in 0..TABLE.len() + 1 {
-        let got = followed(rt.alloc(), whole(LIST), whole(REPORT), room)?;
         let answer = if room < TABLE.len() {
             Err(ToolFault::WriteTable)
         } else {
             Ok(Status::Decided)
         };
+        let got = followed(rt.alloc(), whole(LIST), whole(REPORT), None, room)?;
         assert_same_at(&rt, &got.answer, &answer, &room);
         assert_same_at(&rt, &got.held.as_slice(), &front(TABLE, room), &room);
+        assert_same_at(&rt, &got.page.len(), &0, &room);
+        let beside = followed(
+            rt.alloc(),
+            whole(LIST),
+            whole(REPORT),
+            Some(PAGE_ROOM),
+            room,
+        )?;
+        assert_same_at(&rt, &beside.answer, &answer, &room);
+        assert_same_at(&rt, &beside.held.as_slice(), &front(TABLE, room), &room);
+        assert_same_at(&rt, &beside.page.as_slice(), &page.as_slice(), &room);
+    }
+    Ok(())
+}
+
+#[test]
+fn writes_of_a_page_fail_in_turn(rt: HostRuntime) -> Result<(), Fail> {
+    let page = whole_page(rt.alloc())?;
+    for part in 0..80 {
+        let room = 101 * part;
+        let got = followed(rt.alloc(), whole(LIST), whole(REPORT), Some(room), ROOM)?;
+        assert_same_at(&rt, &got.answer, &Err(ToolFault::WritePage), &room);
+        assert_same_at(&rt, &got.page.as_slice(), &front(&page, room), &room);
+        assert_same_at(&rt, &got.held.len(), &0, &room);
+    }
+    let room = page.len();
+    let got = followed(
+        rt.alloc(),
+        whole(LIST),
+        whole(REPORT),
+        Some(room.saturating_sub(1)),
+        ROOM,
+    )?;
+    assert_same_at(&rt, &got.answer, &Err(ToolFault::WritePage), &room);
+    let got = followed(rt.alloc(), whole(LIST), whole(REPORT), Some(room), ROOM)?;
+    assert_same_at(&rt, &got.answer, &Ok(Status::Decided), &room);
+    Ok(())
+}
+
+#[test]
+fn a_page_and_a_table_share_a_thousand_interruptions(rt: HostRuntime) -> Result<(), Fail> {
+    let cases: [(u32, u32, Result<Status, ToolFault>); 4] = [
+        (1000, 0, Ok(Status::Decided)),
+        (1001, 0, Err(ToolFault::WritePage)),
+        (600, 400, Ok(Status::Decided)),
+        (600, 401, Err(ToolFault::WriteTable)),
+    ];
+    for (of_page, of_table, answer) in &cases {
+        let mut page = Busy {
+            interrupted: *of_page,
+            failed: 0,
+        };
+        let mut out = Busy {
+            interrupted: *of_table,
+            failed: 0,
+        };
+        let got = followed_to(
+            rt.alloc(),
+            &mut whole(LIST),
+            &mut whole(REPORT),
+            true,
+            &mut page,
+            &mut out,
+        )?;
+        assert_same_at(&rt, &got, answer, of_table);
     }
     Ok(())
 }
@@ -86,25 +191,30 @@ fn each_write_of_a_table_fails_in_turn(rt: HostRuntime) -> Result<(), Fail> {
 #[test]
 fn each_read_of_a_followed_report_fails_in_turn(rt: HostRuntime) -> Result<(), Fail> {
     for given in 0..REPORT.len() + 1 {
-        let got = followed(rt.alloc(), whole(LIST), slow(REPORT, given, true), ROOM)?;
+        let report = slow(REPORT, given, true);
+        let got = followed(rt.alloc(), whole(LIST), report, Some(PAGE_ROOM), ROOM)?;
         let answer = Err(ToolFault::ReadOf(Statement::Report));
         assert_same_at(&rt, &got.answer, &answer, &given);
         assert_same_at(&rt, &got.held.len(), &0, &given);
+        assert_same_at(&rt, &got.page.len(), &0, &given);
     }
     for given in 0..LIST.len() + 1 {
-        let got = followed(rt.alloc(), slow(LIST, given, true), whole(REPORT), ROOM)?;
+        let list = slow(LIST, given, true);
+        let got = followed(rt.alloc(), list, whole(REPORT), Some(PAGE_ROOM), ROOM)?;
         let answer = Err(ToolFault::Run(Fault::Read(Input::Yard)));
         assert_same_at(&rt, &got.answer, &answer, &given);
         assert_same_at(&rt, &got.held.len(), &0, &given);
+        assert_same_at(&rt, &got.page.len(), &0, &given);
     }
     Ok(())
 }
 
 #[test]
 fn a_report_that_never_ends(rt: HostRuntime) -> Result<(), Fail> {
-    let got = followed(rt.alloc(), whole(LIST), Endless, ROOM)?;
+    let got = followed(rt.alloc(), whole(LIST), Endless, Some(PAGE_ROOM), ROOM)?;
     let answer = Err(ToolFault::Followed(FollowFault::TooLong));
     assert_same_at(&rt, &got.answer, &answer, &ROOM);
     assert_same_at(&rt, &got.held.len(), &0, &ROOM);
+    assert_same_at(&rt, &got.page.len(), &0, &ROOM);
     Ok(())
 }

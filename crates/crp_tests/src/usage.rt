@@ -395,6 +395,7 @@ fn shows_help(rt: HostRuntime) {
         ["bound", "--help"],
         ["solve", "--help"],
         ["audit", "--help"],
+        ["follow", "--help"],
         ["help", "prove"],
     ] {
         assert_at(&rt, is_help(rt.alloc(), &words), &words);

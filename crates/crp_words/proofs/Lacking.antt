@@ -243,7 +243,7 @@ no_input rows s u search = lacks_more (HasInput rows) (HasSettings rows) (IsInpu
 -- ---- commands by their names
 
 -- words of other commands begin with another letter
-other_name : (a b : ℕ) (m n : Text) → a ≢ b → a ∷ m ≡ b ∷ n → ⊥
+pub other_name : (a b : ℕ) (m n : Text) → a ≢ b → a ∷ m ≡ b ∷ n → ⊥
 other_name a b m n other same = other (ap (λ (l : Text). slice_index l 0) same)
 
 -- what prove asks for has settings of a search
@@ -368,31 +368,3 @@ pub audit_sized_twice : (rows : List Row) (u : Usage) → IsSizedTwice rows → 
     → Lacks (Asks (codes "audit") rows) (IsFault (codes "audit") rows) u
 audit_sized_twice rows u twice words = lacks (Asks (codes "audit") rows) (IsFault (codes "audit") rows) u words
     (λ j asks. (audit_asks rows j asks).0 twice) (λ f first. (audit_fault rows f first).0 twice)
-
--- what follow asks for has heights of rows, and its size once
-follow_asks : (rows : List Row) (j : Job) → Asks (codes "follow") rows j → ¬ IsSizedTwice rows × ((heights : List ℕ) × FindsRowHeights rows heights)
-follow_asks rows (job.OneFile file command.Replay) asks = absurd (other_name 102 114 _ _ (omega arith) asks.0)
-follow_asks rows (job.OneFile file command.Bound) asks = absurd (other_name 102 98 _ _ (omega arith) asks.0)
-follow_asks rows (job.OneFile file command.Check) asks = absurd (other_name 102 99 _ _ (omega arith) asks.0)
-follow_asks rows (job.OneFile file (command.Prove search)) asks = absurd (other_name 102 112 _ _ (omega arith) asks.0.0)
-follow_asks rows (job.Audit names settings) asks = absurd (other_name 102 97 _ _ (omega arith) asks.0)
-follow_asks rows (job.Follow names heights) asks = (asks.1, (heights, asks.3))
-follow_asks rows (job.Solve names settings quiet progress) asks = absurd (other_name 102 115 _ _ (omega arith) asks.0)
-
-follow_fault : (rows : List Row) (f : SettingFault) → IsFault (codes "follow") rows f → ¬ IsSizedTwice rows × IsInputFault rows f
-follow_fault rows f (inl (is, first)) = absurd (other_name 102 112 _ _ (omega arith) is)
-follow_fault rows f (inr (inl (is, first))) = absurd (other_name 102 115 _ _ (omega arith) is)
-follow_fault rows f (inr (inr (inl (is, first)))) = absurd (other_name 102 97 _ _ (omega arith) is)
-follow_fault rows f (inr (inr (inr (is, first)))) = first
-
--- without heights of rows follow asks for nothing
-pub no_follow : (rows : List Row) (u : Usage) → ¬ IsSizedTwice rows → Lacks (FindsRowHeights rows) (IsInputFault rows) u
-    → Lacks (Asks (codes "follow") rows) (IsFault (codes "follow") rows) u
-no_follow rows u once = lacks_more (FindsRowHeights rows) (Asks (codes "follow") rows) (IsInputFault rows) (IsFault (codes "follow") rows) u
-    (λ j asks. (follow_asks rows j asks).1) (λ f first. inr (inr (inr (refl, (once, first))))) (λ f first. inl (follow_fault rows f first).1)
-
--- nor does it where its size is given twice
-pub follow_sized_twice : (rows : List Row) (u : Usage) → IsSizedTwice rows → IsWordsOrMemory u
-    → Lacks (Asks (codes "follow") rows) (IsFault (codes "follow") rows) u
-follow_sized_twice rows u twice words = lacks (Asks (codes "follow") rows) (IsFault (codes "follow") rows) u words
-    (λ j asks. (follow_asks rows j asks).0 twice) (λ f first. (follow_fault rows f first).0 twice)

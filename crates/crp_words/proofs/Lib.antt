@@ -2,5 +2,6 @@
 pub mod Asking
 pub mod HeightSteps
 pub mod Lacking
+pub mod FollowLacking
 pub mod CommandLine
 pub mod Ended

@@ -108,6 +108,10 @@ with_files shape = with_option (optional_rule (codes "after")) (with_option (opt
 abbrev pub with_outputs : Shape → Shape
 with_outputs shape = with_option progress_rule (with_option quiet_rule (with_files shape))
 
+-- a command with [--page FILE]
+abbrev pub with_page : Shape → Shape
+with_page shape = with_option (optional_rule (codes "page")) shape
+
 -- prove FILE, with the options of a search
 abbrev pub prove : Shape
 prove = with_search (leaf (codes "prove"))
@@ -133,9 +137,9 @@ audit = with_orders (with_size audit_files)
 abbrev pub follow_files : Shape
 follow_files = command (codes "follow") (file_rule (codes "yard") ∷ file_rule (codes "report") ∷ [])
 
--- follow, with its options: the size of the bays
+-- follow, with its options: the size of the bays, and the page
 abbrev pub follow : Shape
-follow = with_size follow_files
+follow = with_page (with_size follow_files)
 
 -- crp itself, with a version, and a command that is required
 abbrev pub top_command : Shape

@@ -1,7 +1,8 @@
--- Names of a run's files that lead to one file, as far as the files tell before one is opened.
+-- Names of a job's files that lead to one file, as far as the files tell before one is opened.
 use Rattle.std.specs.Prelude.{◌≡◌, ◌≢◌, ℕ, ◌⊎◌, true, false, List, Option, Some, option_map}
 use Rattle.crp_commands.specs.declared.job.Job.{Job}
 use Rattle.crp_commands.specs.declared.job.Job.TheVariants as job
+use Rattle.crp_commands.specs.declared.job.FollowFiles.{FollowFiles}
 use Rattle.crp_commands.specs.declared.job.RunFiles.{RunFiles}
 use Rattle.crp_commands.specs.Opened.{KnownFiles}
 
@@ -28,12 +29,20 @@ OfSomeWritten Of names =
     let after : Option (List ℕ) = option_map (λ name. name.now) names.after in
     Of cert (Some names.yard.now) ⊎ (Of cert (Some names.movins.now) ⊎ (Of after (Some names.yard.now) ⊎ (Of after (Some names.movins.now) ⊎ Of after cert)))
 
--- a file that the job writes is known to be another one of its files; a run over a yard alone writes files
+-- the same of the name of the page that is written where a report is followed, and of a file that is read
+abbrev pub OfPage : (Option (List ℕ) → Option (List ℕ) → Type 0) → FollowFiles → Type 0
+OfPage Of names =
+    let page : Option (List ℕ) = option_map (λ name. name.now) names.page in
+    Of page (Some names.yard.now) ⊎ Of page (Some names.report.now)
+
+-- a file that the job writes is known to be another one of its files; a run over a yard writes files, and who follows a report writes its page
 abbrev pub IsLinked : KnownFiles → Job → Type 0
 IsLinked known (job.Solve names settings quiet progress) = OfSomeWritten (AreOne known) names
+IsLinked known (job.Follow names heights) = OfPage (AreOne known) names
 IsLinked known j = ⊥
 
 -- a file that the job writes may be another one of its files
 abbrev pub MayBeLinked : KnownFiles → Job → Type 0
 MayBeLinked known (job.Solve names settings quiet progress) = OfSomeWritten (MayBeOne known) names
+MayBeLinked known (job.Follow names heights) = OfPage (MayBeOne known) names
 MayBeLinked known j = ⊥

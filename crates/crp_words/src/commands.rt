@@ -1,7 +1,7 @@
 //! The command line: each command with its files and options.
 ghost use Rattle.std.specs.Prelude.{◌≡◌, IfOk};
 ghost use Rattle.clap.specs.Words.{App, Shape, app_of, with_subcommand};
-ghost use Rattle.crp_words.specs.Commands.{IsArg, IsCommand, alone, audit as audit_shape, audit_files as audit_files_shape, beam_rule, budget_rule, crp, deepen_rule, file_rule, first_rule, flag_rule, follow as follow_shape, follow_files as follow_files_shape, leaf as leaf_shape, leaves, number_rule, optional_rule, progress_rule, prove as prove_shape, quiet_rule, solve as solve_shape, solve_files as solve_files_shape, split_rule, text_rule, top_command as top_shape, with_orders, with_outputs, with_search, with_size, workers_rule};
+ghost use Rattle.crp_words.specs.Commands.{IsArg, IsCommand, alone, audit as audit_shape, audit_files as audit_files_shape, beam_rule, budget_rule, crp, deepen_rule, file_rule, first_rule, flag_rule, follow as follow_shape, follow_files as follow_files_shape, leaf as leaf_shape, leaves, number_rule, optional_rule, progress_rule, prove as prove_shape, quiet_rule, solve as solve_shape, solve_files as solve_files_shape, split_rule, text_rule, top_command as top_shape, with_orders, with_outputs, with_page, with_search, with_size, workers_rule};
 
 use clap::{Arg, ArgAction, Command, value_parser};
 use std::alloc::{AllocError, Global};
@@ -308,11 +308,24 @@ fn follow_files<'a>(alloc: Global) -> Result<Command<'a>, AllocError>
         ))
 }
 
+// A command with the page of what is followed.
+fn with_page<'a>(alloc: Global, command: Command<'a>) -> Result<Command<'a>, AllocError>
+    ensures { IfOk result (λ new. (shape : Shape) → IsCommand shape command.entry → IsCommand (with_page shape) new) }
+{
+    command.arg(optional(
+        alloc,
+        "page",
+        "FILE",
+        "File that gets a page of the moves, with pictures; without it that is not written",
+    ))
+}
+
 // The command `follow`.
 fn follow<'a>(alloc: Global) -> Result<Command<'a>, AllocError>
     ensures { IfOk result (IsCommand follow_shape) }
 {
-    with_size(alloc, follow_files(alloc)?)
+    let sized = with_size(alloc, follow_files(alloc)?)?;
+    with_page(alloc, sized)
 }
 
 // crp itself, without its commands.

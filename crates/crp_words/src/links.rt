@@ -1,8 +1,8 @@
-//! Names of a run's files that lead to one file.
+//! Names of a job's files that lead to one file.
 ghost use Rattle.std.specs.Prelude.{IfNone, IfSome, option_map};
-ghost use Rattle.crp_words.specs.Links.{AreOne, IsLinked, MayBeLinked, MayBeOne, OfSomeWritten};
+ghost use Rattle.crp_words.specs.Links.{AreOne, IsLinked, MayBeLinked, MayBeOne, OfPage, OfSomeWritten};
 
-use crp_commands::{Files, Job, RunFiles};
+use crp_commands::{Files, FollowFiles, Job, RunFiles};
 
 // The two names, where both are given and lead to one file.
 fn one_file<'a, F: Files>(
@@ -46,6 +46,17 @@ fn linked_in<'a, F: Files>(files: &F, names: &RunFiles<'a>) -> Option<(&'a str, 
     one_file(files, names.after, names.cert)
 }
 
+// The names of the page that is written and of a file that is read, where they lead to one.
+fn linked_to_page<'a, F: Files>(files: &F, names: &FollowFiles<'a>) -> Option<(&'a str, &'a str)>
+    ensures some { IfSome result (λ _. OfPage (MayBeOne (F.known files.now)) names.now) }
+    ensures none { IfNone result (OfPage (AreOne (F.known files.now)) names.now → ⊥) }
+{
+    if let Some(found) = one_file(files, names.page, Some(names.yard)) {
+        return Some(found);
+    }
+    one_file(files, names.page, Some(names.report))
+}
+
 /// The names of a file that the job writes and of another of its files, where they lead to one.
 pub(crate) fn linked<'a, F: Files>(files: &F, job: &Job<'a>) -> Option<(&'a str, &'a str)>
     ensures some { IfSome result (λ _. MayBeLinked (F.known files.now) job.now) }
@@ -53,6 +64,7 @@ pub(crate) fn linked<'a, F: Files>(files: &F, job: &Job<'a>) -> Option<(&'a str,
 {
     match job {
         Job::Solve { files: names, .. } => linked_in(files, names),
-        Job::OneFile { .. } | Job::Audit { .. } | Job::Follow { .. } => None,
+        Job::Follow { files: names, .. } => linked_to_page(files, names),
+        Job::OneFile { .. } | Job::Audit { .. } => None,
     }
 }

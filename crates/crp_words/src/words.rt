@@ -189,7 +189,11 @@ fn plain_name(name: &str) -> &[u8]
 }
 
 // The names that the words give to one file, where they name one for both.
-fn one_file<'a>(matches: &ArgMatches<'a>, name: &str, other: &str) -> Option<(&'a str, &'a str)>
+pub(crate) fn one_file<'a>(
+    matches: &ArgMatches<'a>,
+    name: &str,
+    other: &str,
+) -> Option<(&'a str, &'a str)>
     ensures some { IfSome result (λ _. IsOneFile name.now other.now (rows_of (found_of matches.now))) }
     ensures none { IfNone result (¬ IsOneFile name.now other.now (rows_of (found_of matches.now))) }
 {

@@ -1,6 +1,8 @@
 use Rattle.std.proofs.lemmas.Result.{IfOk-weaker}
-use Rattle.crp_words.specs.Commands.{follow_files}
+use Rattle.crp_words.specs.Commands.{follow_files, with_size}
 use Rattle.crp_words.proofs.commands.follow.Goals as goal
 
 pub returns : goal.returns
-returns c = IfOk-weaker c.with_size.result _ _ (λ new more. more follow_files c.in_ok-follow_files.ensures) c.with_size.ensures
+returns c =
+    let sized = c.in_ok-sized.ensures follow_files c.in_ok-follow_files.ensures in
+    IfOk-weaker c.with_page.result _ _ (λ new more. more (with_size follow_files) sized) c.with_page.ensures

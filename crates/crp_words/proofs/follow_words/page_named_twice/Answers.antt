@@ -1,0 +1,12 @@
+use Rattle.std.proofs.Common.{Option, Some, None, IfNone, inl, inr}
+use Rattle.crp_words.proofs.follow_words.page_named_twice.Goals as goal
+
+none_of : {A : Type 0} {P Q : Type 0} (o : Option A) → (P → Q) → IfNone o P → IfNone o Q
+none_of None f p = f p
+none_of (Some x) f p = tt
+
+pub returns-clause-none : goal.returns-clause-none
+returns-clause-none c = none_of c.one_file-2.result (λ none twice. elim twice [
+  | inl h ↦ c.in_default.ensures.none h
+  | inr h ↦ none h
+]) c.one_file-2.ensures.none
