@@ -23,8 +23,8 @@ room-full n i f old line text h full =
     let front = old ++ map f (take i text) in
     let enough : n ≤ length front = omega (arith, ap (λ (x : List ℕ). length x) h, length-take n front) in
     let whole : old ++ map f text ≡ front ++ map f (drop i text) =
-        ap (λ (x : List ℕ). old ++ map f x) (sym (take-append-drop i text)) ∙ ap (λ (x : List ℕ). old ++ x) (map-append f (take i text) (drop i text))
-          ∙ sym (append_assoc old (map f (take i text)) (map f (drop i text))) in
+    ap (λ (x : List ℕ). old ++ map f x) (sym (take-append-drop i text)) ∙ ap (λ (x : List ℕ). old ++ x) (map-append f (take i text) (drop i text))
+    ∙ sym (append_assoc old (map f (take i text)) (map f (drop i text))) in
     h ∙ sym (take-append-le n front (map f (drop i text)) enough) ∙ ap (take n) (sym whole)
 
 -- one byte more
@@ -36,8 +36,8 @@ room-more n i f old line text h room below =
     let short : length front ≤ n = omega (arith, ap (λ (x : List ℕ). length x) h, length-take n front) in
     let is : line ≡ front = h ∙ take_all n front short in
     let next : old ++ map f (take (i + 1) text) ≡ front ++ b ∷ [] =
-        ap (λ (x : List ℕ). old ++ map f x) (take_more text i 0 below) ∙ ap (λ (x : List ℕ). old ++ x) (map-append f (take i text) (get_or text i 0 ∷ []))
-          ∙ sym (append_assoc old (map f (take i text)) (b ∷ [])) in
+    ap (λ (x : List ℕ). old ++ map f x) (take_more text i 0 below) ∙ ap (λ (x : List ℕ). old ++ x) (map-append f (take i text) (get_or text i 0 ∷ []))
+    ∙ sym (append_assoc old (map f (take i text)) (b ∷ [])) in
     let fits : length (front ++ b ∷ []) ≤ n = omega (arith, length-append front (b ∷ []), ap (λ (x : List ℕ). length x) is, room) in
     ap (λ (x : List ℕ). x ++ b ∷ []) is ∙ sym (take_all n (front ++ b ∷ []) fits) ∙ ap (take n) (sym next)
 
@@ -76,9 +76,9 @@ segment-line n at line end text bytes said items of_line of_bytes of_said of_ite
       let here : IsSegmentText text n at own = subst (λ (k : ℕ). IsSegmentText text n k own) (sym same) of in
       let count : end - at ≡ length own = omega (arith, ends n own here) in
       let own_bytes : take (end - at) (drop at text) ≡ own =
-          ap (λ k. take k (drop at text)) count ∙ ap (take (length own)) (segment-there text n at own here) ∙ take-append_seam own here.more in
+      ap (λ k. take k (drop at text)) count ∙ ap (take (length own)) (segment-there text n at own here) ∙ take-append_seam own here.more in
       of_items ∙ ap shown (of_said ∙ ap (λ k. place_text (codes "segment ") n k bytes) (of_line ∙ ap (line_of text) same)
-        ∙ ap (place_text (codes "segment ") n (line_of text offset)) (of_bytes ∙ ap line_front own_bytes));
+      ∙ ap (place_text (codes "segment ") n (line_of text offset)) (of_bytes ∙ ap line_front own_bytes));
   none = λ count spelled less. (let e = few count spelled less in absurd cc);
 }
 

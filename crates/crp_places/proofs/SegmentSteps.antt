@@ -273,7 +273,16 @@ end-is text number offset own signs bytes of opened =
     let at = of.at in
     let is = is-opened text at.reads.0 signs at.segments at.opening at.body at.rest bytes at.reads.1 at.passed opened in
     let left : behind_terminator signs false (drop offset text) ≡ of.more =
-        ap (behind_terminator signs false) (segment-there text number offset own of)
-          ∙ marks-passed at.reads.0 signs _ own of.more is.known (inside-joined (all_elements of.segment)) of.spelled.spelled in
-    omega (arith, at.place, ap (λ (x : List ℕ). length x) at.reads.1.whole, ap (λ (x : List ℕ). length x) of.whole, ap (λ (x : List ℕ). length x) left,
-    length-append at.opening (at.body ++ at.rest), length-append at.body at.rest, length-append at.opening at.body, length-append own of.more)
+    ap (behind_terminator signs false) (segment-there text number offset own of)
+    ∙ marks-passed at.reads.0 signs _ own of.more is.known (inside-joined (all_elements of.segment)) of.spelled.spelled in
+    omega (
+      arith,
+      at.place,
+      ap (λ (x : List ℕ). length x) at.reads.1.whole,
+      ap (λ (x : List ℕ). length x) of.whole,
+      ap (λ (x : List ℕ). length x) left,
+      length-append at.opening (at.body ++ at.rest),
+      length-append at.body at.rest,
+      length-append at.opening at.body,
+      length-append own of.more,
+    )

@@ -13,4 +13,4 @@ returns c =
     c.in_ok-push_decimal-3.ensures
     c.in_ok-extend_from_slice-4.ensures.items
     c.in_ok-extend_from_slice-5.ensures.items
-      ∙ sym (place-words c.args.what.now c.args.bytes.now c.args.number c.args.line some)
+    ∙ sym (place-words c.args.what.now c.args.bytes.now c.args.number c.args.line some)

@@ -12,8 +12,7 @@ loop-byte-preserved c =
     let line = c.loop-byte.line.items in
     let b = get_or c.args.text.now c.loop-byte.byte-index 0 in
     let more : c.try_push.new.self.items ≡ line ++ plain b ∷ [] = c.in-Ok.ensures.ok ∙ ap (λ (x : ℕ). line ++ x ∷ []) c.plain.ensures in
-    let room : length line < MOST_FOUND = c.in-Ok.ensures.variant.0 refl in
-    (
+    let room : length line < MOST_FOUND = c.in-Ok.ensures.variant.0 refl in (
       subst IsPlainText (sym more) (plain-more line b c.loop-byte.invariant.0),
       λ fits. more ∙ room-more MOST_FOUND c.loop-byte.byte-index plain c.args.line.now.items line c.args.text.now (c.loop-byte.invariant.1 fits) room c.loop-byte-test.true,
     )
