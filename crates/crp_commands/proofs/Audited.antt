@@ -26,6 +26,7 @@ unread chosen s which (fault.Plan f) nothing input is = absurd is
 unread chosen s which (fault.Checked number why) nothing input is = absurd is
 unread chosen s which (fault.Audited f) nothing input is = absurd is
 unread chosen s which (fault.Followed f) nothing input is = absurd is
+unread chosen s which (fault.Loaded f) nothing input is = absurd is
 unread chosen s which (fault.Run f) nothing input is = absurd is
 unread chosen s which fault.Read nothing input is = absurd is
 unread chosen s which fault.Write nothing input is = absurd is

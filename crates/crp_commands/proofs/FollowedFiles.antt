@@ -1,100 +1,170 @@
 -- How a report is followed over files, from how it is over its devices.
-use Rattle.std.proofs.Common.{◌≡◌, ◌≢◌, ℕ, ◌+◌, List, Option, Some, None, Result, Ok, Err, MatchResult, codes, refl, sym, subst, inl, inr, arith}
+use Rattle.std.proofs.Common.{◌≡◌, ◌≢◌, ℕ, ◌+◌, ◌-◌, List, Option, Some, None, Result, Ok, Err, MatchResult, codes, refl, sym, subst, inl, inr, arith}
 use Rattle.crp_plan.specs.Devices.{CountsMore, CountsOne}
 use Rattle.crp_report.specs.declared.status.Status.{Status}
+use Rattle.crp_report.specs.Chosen.{InputChosen}
 use Rattle.crp_report.specs.Runs.{SourceSeen, SinkSeen}
 use Rattle.crp_commands.specs.declared.job.FollowFiles.{FollowFiles}
 use Rattle.crp_commands.specs.declared.outcome.ToolFault.{ToolFault}
-use Rattle.crp_commands.specs.Follow.{FollowSeen, FollowEnds, FollowFails, FollowReportsOverFiles, FollowFailsOverFiles, AnswersPage, IsOfUnfollowed, IsOverFollowed, IsOverPage, IsPageRefused, IsPageTo, IsUnfollowed, RefusesPage, failures_of}
+use Rattle.crp_commands.specs.Follow.{FollowSeen, FollowEnds, FollowFails, FollowReportsOverFiles, FollowFailsOverFiles, AnswersOver, IsMessageFrom, IsOfUnfollowed, IsOverFollowed, IsOverMessage, IsOverPage, IsOverReport, IsPageTo, IsReportFrom, IsUnfollowed, Opened, RefusesFile, message_name, sink_failures, source_failures}
 use Rattle.crp_commands.specs.Opened.{KnownFiles, FilesSeen, FilesFail, IsFileOpened}
-use Rattle.crp_commands.proofs.Solved.{more_from, more_and_more}
 
 -- what failed of a sink that was opened for the call is what failed of it
-pub failed_new : (sink : SinkSeen) (before after : ℕ) → sink.before ≡ 0 → CountsMore sink.after before after → CountsMore (failures_of (Some sink)) before after
+pub failed_new : (sink : SinkSeen) (before after : ℕ) → sink.before ≡ 0 → CountsMore sink.after before after → CountsMore (sink_failures (Some sink)) before after
 failed_new sink before after new more = omega arith
 
--- a call over its devices answers as one that opens the file of its page
-pub over_page : (names : FollowFiles) (heights : List ℕ) (files : FilesSeen) (seen : Option SinkSeen → FollowSeen) (page : Option SinkSeen) (answer : Result Status ToolFault)
-    → IsPageTo names.page page → FilesFail files (failures_of page) → MatchResult answer (FollowEnds heights (seen page)) (FollowFails heights (seen page))
-    → AnswersPage names heights files seen answer
-over_page names heights files seen page (Ok ended) to failed is = (seen page, record { page = page; is = refl; to = to; failed = failed }, is)
-over_page names heights files seen page (Err f) to failed is = inr (seen page, record { page = page; is = refl; to = to; failed = failed }, is)
+-- a call over its devices answers so
+pub over_devices : (chosen : InputChosen) (Is : FollowSeen → Type 0) (Refuses : ToolFault → Type 0) (s : FollowSeen) (answer : Result Status ToolFault) → Is s
+    → MatchResult answer (FollowEnds chosen s) (FollowFails chosen s) → AnswersOver chosen Is Refuses answer
+over_devices chosen Is Refuses s (Ok ended) is ends = (s, is, ends)
+over_devices chosen Is Refuses s (Err f) is fails = inr (s, is, fails)
 
--- over files it ends as over what is open
-over_open : (names : FollowFiles) (heights : List ℕ) (files middle : FilesSeen) (input : SourceSeen) (shown : SinkSeen) (seen : Option SinkSeen → FollowSeen)
-    (answer : Result Status ToolFault) → ((f : ToolFault) → RefusesPage names middle (seen None) f → IsUnfollowed names files input shown f)
-    → ((s : FollowSeen) → IsOverPage names middle seen s → IsOverFollowed names files input shown s) → AnswersPage names heights middle seen answer
-    → MatchResult answer (FollowReportsOverFiles names heights files input shown) (FollowFailsOverFiles names heights files input shown)
-over_open names heights files middle input shown seen (Ok ended) refused over (s, is, ends) = (s, over s is, ends)
-over_open names heights files middle input shown seen (Err f) refused over (inl refusal) = inl (refused f refusal)
-over_open names heights files middle input shown seen (Err f) refused over (inr (s, is, fails)) = inr (s, over s is, fails)
+-- what is known of its devices in one way is known in another
+known_so : (chosen : InputChosen) (Is Is' : FollowSeen → Type 0) (Refuses Refuses' : ToolFault → Type 0) (answer : Result Status ToolFault)
+    → ((s : FollowSeen) → Is s → Is' s) → ((f : ToolFault) → Refuses f → Refuses' f) → AnswersOver chosen Is Refuses answer → AnswersOver chosen Is' Refuses' answer
+known_so chosen Is Is' Refuses Refuses' (Ok ended) so refused (s, is, ends) = (s, so s is, ends)
+known_so chosen Is Is' Refuses Refuses' (Err f) so refused (inl refusal) = inl (refused f refusal)
+known_so chosen Is Is' Refuses Refuses' (Err f) so refused (inr (s, is, fails)) = inr (s, so s is, fails)
 
--- the devices of a call
-abbrev pub devices : SourceSeen → SourceSeen → SinkSeen → Option SinkSeen → FollowSeen
-devices yard report out page = record { yard = yard; report = report; page = page; out = out }
+-- ---- the file of the page
 
--- the fault of a page that is refused is one of a file that could not be opened
-stated_of : (names : FollowFiles) (files middle : FilesSeen) (s : FollowSeen) (f : ToolFault) → middle.known ≡ files.known → RefusesPage names middle s f
-    → IsOfUnfollowed files.known names f
-stated_of names files middle s f known refusal =
-    subst (IsOfUnfollowed files.known names) (sym refusal.stated) (subst (λ (k : KnownFiles). IsPageRefused k.may_not_create names) known refusal.refused)
+pub over_page : (chosen : InputChosen) (names : FollowFiles) (files : FilesSeen) (devices : Opened) (report : SourceSeen) (page : Option SinkSeen) (answer : Result Status ToolFault)
+    → IsPageTo names.page page → FilesFail files (sink_failures page)
+    → MatchResult answer (FollowEnds chosen (record { yard = devices.yard; movins = devices.movins; report = report; page = page; out = devices.out }))
+    (FollowFails chosen (record { yard = devices.yard; movins = devices.movins; report = report; page = page; out = devices.out }))
+    → AnswersOver chosen (IsOverPage names files devices report) (RefusesFile names files devices report) answer
+over_page chosen names files devices report page answer to failed ends =
+    over_devices chosen (IsOverPage names files devices report) (RefusesFile names files devices report)
+    (record { yard = devices.yard; movins = devices.movins; report = report; page = page; out = devices.out }) answer
+    (record { page = page; is = refl; to = to; failed = failed }) ends
 
--- the same, where the report is the standard input
-pub over_input : (names : FollowFiles) (heights : List ℕ) (files middle : FilesSeen) (yard input : SourceSeen) (shown : SinkSeen) (answer : Result Status ToolFault)
-    → names.report.now ≡ codes "-" → middle.known ≡ files.known → middle.before ≡ files.before → IsFileOpened files.known names.yard.now yard
-    → CountsMore yard.after middle.after files.after → AnswersPage names heights middle (devices yard input shown) answer
-    → MatchResult answer (FollowReportsOverFiles names heights files input shown) (FollowFailsOverFiles names heights files input shown)
-over_input names heights files middle yard input shown answer named known begun opened closed =
-    over_open names heights files middle input shown (devices yard input shown) answer
-    (λ f refusal.
-    let none : yard.after ≡ 0 = omega (arith, refusal.yard, opened.new) in
-    let one : CountsOne files.before middle.after = more_from 1 files.before middle.before middle.after begun refusal.one in
-    record {
-      stated = stated_of names files middle (devices yard input shown None) f known refusal;
-      one = more_and_more 1 0 files.before middle.after files.after one (subst (λ (n : ℕ). CountsMore n middle.after files.after) none closed);
-      unread = refusal.report;
-      alone = refusal.out;
-    })
-    (λ s over.
-    let failed = more_and_more (failures_of over.page) yard.after files.before middle.after files.after
-    (more_from (failures_of over.page) files.before middle.before middle.after begun over.failed) closed in
-    let same : failures_of over.page + yard.after ≡ yard.after + failures_of over.page = omega arith in
-    subst (IsOverFollowed names files input shown) (sym over.is) (record {
-      yard = opened;
-      report = inl (named, refl, subst (λ (n : ℕ). CountsMore n files.before files.after) same failed);
+-- ---- what is opened before others: what fails of it comes to what fails of those
+
+-- the same report, where more has failed before it
+more_before : (name : List ℕ) (files middle : FilesSeen) (input : SourceSeen) (before n : ℕ) (s : FollowSeen) → middle.known ≡ files.known → middle.before ≡ files.before
+    → CountsMore n middle.after files.after → IsReportFrom name middle input before s → IsReportFrom name files input (n + before) s
+more_before name files middle input before n s known begun more (inl (named, is, failed)) =
+    inl (named, is, omega (arith, begun, more, failed))
+more_before name files middle input before n s known begun more (inr (named, opened, unread, failed)) =
+    inr (named, subst (λ (k : KnownFiles). IsFileOpened k name s.report) known opened, unread, omega (arith, begun, more, failed))
+
+-- one file was refused, and of one that was open nothing has failed
+one_too : (source : SourceSeen) (files middle : FilesSeen) → source.before ≡ 0 → source.after ≡ source.before → middle.before ≡ files.before
+    → CountsMore source.after middle.after files.after → CountsOne middle.before middle.after → CountsOne files.before files.after
+one_too source files middle new alone begun closed one = omega (arith, new, alone, begun, closed, one)
+
+-- ---- the report
+
+-- as the standard input
+pub over_input : (chosen : InputChosen) (names : FollowFiles) (files : FilesSeen) (devices : Opened) (input : SourceSeen) (answer : Result Status ToolFault)
+    → names.report.now ≡ codes "-" → AnswersOver chosen (IsOverPage names files devices input) (RefusesFile names files devices input) answer
+    → AnswersOver chosen (IsOverReport names files devices input) (RefusesFile names files devices input) answer
+over_input chosen names files devices input answer named =
+    known_so chosen (IsOverPage names files devices input) (IsOverReport names files devices input) (RefusesFile names files devices input) (RefusesFile names files devices input) answer
+    (λ s over. subst (IsOverReport names files devices input) (sym over.is)
+    (record { yard = refl; movins = refl; report = inl (named, refl, omega (arith, over.failed)); page = over.to; out = refl }))
+    (λ f refusal. refusal)
+
+-- as a file
+pub over_report : (chosen : InputChosen) (names : FollowFiles) (files middle : FilesSeen) (devices : Opened) (report input : SourceSeen) (answer : Result Status ToolFault)
+    → names.report.now ≢ codes "-" → middle.known ≡ files.known → middle.before ≡ files.before → IsFileOpened files.known names.report.now report
+    → input.after ≡ input.before → CountsMore report.after middle.after files.after
+    → AnswersOver chosen (IsOverPage names middle devices report) (RefusesFile names middle devices report) answer
+    → AnswersOver chosen (IsOverReport names files devices input) (RefusesFile names files devices input) answer
+over_report chosen names files middle devices report input answer named known begun opened unread closed =
+    known_so chosen (IsOverPage names middle devices report) (IsOverReport names files devices input) (RefusesFile names middle devices report) (RefusesFile names files devices input)
+    answer
+    (λ s over. subst (IsOverReport names files devices input) (sym over.is) (record {
+      yard = refl;
+      movins = refl;
+      report = inr (named, opened, unread, omega (arith, begun, closed, over.failed));
       page = over.to;
       out = refl;
     }))
-
--- the same, where the report is a file
-pub over_report : (names : FollowFiles) (heights : List ℕ) (files middle : FilesSeen) (yard report input : SourceSeen) (shown : SinkSeen) (between : ℕ)
-    (answer : Result Status ToolFault) → names.report.now ≢ codes "-" → middle.known ≡ files.known → middle.before ≡ files.before
-    → IsFileOpened files.known names.yard.now yard → IsFileOpened files.known names.report.now report → input.after ≡ input.before
-    → CountsMore yard.after middle.after between → CountsMore report.after between files.after
-    → AnswersPage names heights middle (devices yard report shown) answer
-    → MatchResult answer (FollowReportsOverFiles names heights files input shown) (FollowFailsOverFiles names heights files input shown)
-over_report names heights files middle yard report input shown between answer named known begun opened opened_too unread closed closed_too =
-    over_open names heights files middle input shown (devices yard report shown) answer
-    (λ f refusal.
-    let no_yard : yard.after ≡ 0 = omega (arith, refusal.yard, opened.new) in
-    let no_report : report.after ≡ 0 = omega (arith, refusal.report, opened_too.new) in
-    let one : CountsOne files.before middle.after = more_from 1 files.before middle.before middle.after begun refusal.one in
-    let none : CountsMore 0 middle.after between = subst (λ (n : ℕ). CountsMore n middle.after between) no_yard closed in
-    let none_too : CountsMore 0 between files.after = subst (λ (n : ℕ). CountsMore n between files.after) no_report closed_too in
-    record {
-      stated = stated_of names files middle (devices yard report shown None) f known refusal;
-      one = more_and_more 1 0 files.before between files.after (more_and_more 1 0 files.before middle.after between one none) none_too;
+    (λ f refusal. record {
+      stated = subst (λ (k : KnownFiles). IsOfUnfollowed k names f) known refusal.stated;
+      one = one_too report files middle opened.new refusal.unread begun closed refusal.one;
+      yard = refusal.yard;
+      movins = refusal.movins;
       unread = unread;
+      out = refusal.out;
+    })
+
+-- ---- the message
+
+-- the devices that are open
+abbrev pub opened : SourceSeen → Option SourceSeen → SinkSeen → Opened
+opened yard movins out = record { yard = yard; movins = movins; out = out }
+
+-- what failed of a message that was opened for the call is what failed of it
+message_failed : (message : SourceSeen) (seen : Option SourceSeen) → seen ≡ Some message → message.before ≡ 0 → message.after + 0 ≡ source_failures seen
+message_failed message seen is new =
+    subst (λ (o : Option SourceSeen). message.after + 0 ≡ source_failures o) (sym is) (let same : message.after + 0 ≡ message.after - message.before = omega arith in same)
+
+-- read from its file
+pub over_message : (chosen : InputChosen) (names : FollowFiles) (files middle : FilesSeen) (yard input message : SourceSeen) (out : SinkSeen) (name : List ℕ)
+    (answer : Result Status ToolFault) → message_name names ≡ Some name → middle.known ≡ files.known → middle.before ≡ files.before
+    → IsFileOpened files.known name message → CountsMore message.after middle.after files.after
+    → AnswersOver chosen (IsOverReport names middle (opened yard (Some message) out) input) (RefusesFile names middle (opened yard (Some message) out) input) answer
+    → AnswersOver chosen (IsOverMessage names files yard input out) (RefusesFile names files (opened yard None out) input) answer
+over_message chosen names files middle yard input message out name answer named known begun is closed =
+    known_so chosen (IsOverReport names middle (opened yard (Some message) out) input) (IsOverMessage names files yard input out)
+    (RefusesFile names middle (opened yard (Some message) out) input) (RefusesFile names files (opened yard None out) input) answer
+    (λ s over. record {
+      yard = over.yard;
+      movins = subst (λ (o : Option SourceSeen). IsMessageFrom files.known (message_name names) o) (sym over.movins)
+          (subst (λ (o : Option (List ℕ)). IsMessageFrom files.known o (Some message)) (sym named) is);
+      report = subst (λ (n : ℕ). IsReportFrom names.report.now files input n s) (message_failed message s.movins over.movins is.new)
+          (more_before names.report.now files middle input 0 message.after s known begun closed over.report);
+      page = over.page;
+      out = over.out;
+    })
+    (λ f refusal. record {
+      stated = subst (λ (k : KnownFiles). IsOfUnfollowed k names f) known refusal.stated;
+      one = one_too message files middle is.new refusal.movins begun closed refusal.one;
+      yard = refusal.yard;
+      movins = tt;
+      unread = refusal.unread;
+      out = refusal.out;
+    })
+
+-- where there is none
+pub over_none : (chosen : InputChosen) (names : FollowFiles) (files : FilesSeen) (yard input : SourceSeen) (out : SinkSeen) (answer : Result Status ToolFault)
+    → message_name names ≡ None → AnswersOver chosen (IsOverReport names files (opened yard None out) input) (RefusesFile names files (opened yard None out) input) answer
+    → AnswersOver chosen (IsOverMessage names files yard input out) (RefusesFile names files (opened yard None out) input) answer
+over_none chosen names files yard input out answer unnamed =
+    known_so chosen (IsOverReport names files (opened yard None out) input) (IsOverMessage names files yard input out)
+    (RefusesFile names files (opened yard None out) input) (RefusesFile names files (opened yard None out) input) answer
+    (λ s over. record {
+      yard = over.yard;
+      movins = subst (λ (o : Option SourceSeen). IsMessageFrom files.known (message_name names) o) (sym over.movins)
+          (subst (λ (o : Option (List ℕ)). IsMessageFrom files.known o None) (sym unnamed) tt);
+      report = subst (λ (o : Option SourceSeen). IsReportFrom names.report.now files input (source_failures o) s) (sym over.movins) over.report;
+      page = over.page;
+      out = over.out;
+    })
+    (λ f refusal. refusal)
+
+-- ---- the yard list
+
+pub over_yard : (chosen : InputChosen) (names : FollowFiles) (files middle : FilesSeen) (yard input : SourceSeen) (out : SinkSeen) (answer : Result Status ToolFault)
+    → middle.known ≡ files.known → middle.before ≡ files.before → IsFileOpened files.known names.yard.now yard → CountsMore yard.after middle.after files.after
+    → AnswersOver chosen (IsOverMessage names middle yard input out) (RefusesFile names middle (opened yard None out) input) answer
+    → MatchResult answer (FollowReportsOverFiles names chosen files input out) (FollowFailsOverFiles names chosen files input out)
+over_yard chosen names files middle yard input out answer known begun is closed =
+    known_so chosen (IsOverMessage names middle yard input out) (IsOverFollowed names files input out) (RefusesFile names middle (opened yard None out) input)
+    (IsUnfollowed names files input out) answer
+    (λ s over. record {
+      yard = subst (IsFileOpened files.known names.yard.now) (sym over.yard) is;
+      movins = subst (λ (k : KnownFiles). IsMessageFrom k (message_name names) s.movins) known over.movins;
+      report = subst (λ (source : SourceSeen). IsReportFrom names.report.now files input (source.after + source_failures s.movins) s) (sym over.yard)
+          (more_before names.report.now files middle input (source_failures s.movins) yard.after s known begun closed over.report);
+      page = over.page;
+      out = over.out;
+    })
+    (λ f refusal. record {
+      stated = subst (λ (k : KnownFiles). IsOfUnfollowed k names f) known refusal.stated;
+      one = one_too yard files middle is.new refusal.yard begun closed refusal.one;
+      unread = refusal.unread;
       alone = refusal.out;
     })
-    (λ s over.
-    let failures = failures_of over.page in
-    let failed = more_and_more (failures + yard.after) report.after files.before between files.after
-    (more_and_more failures yard.after files.before middle.after between (more_from failures files.before middle.before middle.after begun over.failed) closed) closed_too in
-    let same : (failures + yard.after) + report.after ≡ yard.after + (report.after + failures) = omega arith in
-    subst (IsOverFollowed names files input shown) (sym over.is) (record {
-      yard = opened;
-      report = inr (named, opened_too, unread, subst (λ (n : ℕ). CountsMore n files.before files.after) same failed);
-      page = over.to;
-      out = refl;
-    }))

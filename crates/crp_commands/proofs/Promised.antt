@@ -65,6 +65,7 @@ headline_so_far (job.Solve names chosen quiet progress) seen (fault.Plan f) is =
 headline_so_far (job.Solve names chosen quiet progress) seen (fault.Checked number refused) is = absurd is
 headline_so_far (job.Solve names chosen quiet progress) seen (fault.Audited f) is = absurd is
 headline_so_far (job.Solve names chosen quiet progress) seen (fault.Followed f) is = absurd is
+headline_so_far (job.Solve names chosen quiet progress) seen (fault.Loaded f) is = absurd is
 headline_so_far (job.Solve names chosen quiet progress) seen (fault.ReadOf which) is = absurd is
 headline_so_far (job.Solve names chosen quiet progress) seen (fault.TooLargeOf which) is = absurd is
 headline_so_far (job.Solve names chosen quiet progress) seen fault.Read is = absurd is

@@ -53,6 +53,7 @@ no_head_reported limit IsReport IsRefused seen (fault.Audited f) keeps refuses n
 no_head_reported limit IsReport IsRefused seen (fault.ReadOf which) keeps refuses none = absurd none
 no_head_reported limit IsReport IsRefused seen (fault.TooLargeOf which) keeps refuses none = absurd none
 no_head_reported limit IsReport IsRefused seen (fault.Followed f) keeps refuses none = absurd none
+no_head_reported limit IsReport IsRefused seen (fault.Loaded f) keeps refuses none = absurd none
 no_head_reported limit IsReport IsRefused seen fault.WriteTable keeps refuses none = absurd none
 no_head_reported limit IsReport IsRefused seen fault.WritePage keeps refuses none = absurd none
 
@@ -71,6 +72,7 @@ no_report_reported limit seen bytes head (fault.Audited f) keeps given is none =
 no_report_reported limit seen bytes head (fault.ReadOf which) keeps given is none = absurd none
 no_report_reported limit seen bytes head (fault.TooLargeOf which) keeps given is none = absurd none
 no_report_reported limit seen bytes head (fault.Followed f) keeps given is none = absurd none
+no_report_reported limit seen bytes head (fault.Loaded f) keeps given is none = absurd none
 no_report_reported limit seen bytes head fault.WriteTable keeps given is none = absurd none
 no_report_reported limit seen bytes head fault.WritePage keeps given is none = absurd none
 

@@ -72,6 +72,7 @@ failed_in_audit names f = None
 -- the same where a report of these files is followed: the page, if it is wanted, goes to its file, and the table to the standard output
 abbrev pub failed_in_follow : FollowFiles → ToolFault → Option (List ℕ)
 failed_in_follow names (fault.Run (run.Read input.Yard)) = Some (file_words names.yard.now)
+failed_in_follow names (fault.Run (run.Read input.Movins)) = option_map (λ name. file_words name.now) names.movins
 failed_in_follow names (fault.ReadOf statement.Report) = Some (source_words names.report.now)
 failed_in_follow names fault.WriteTable = Some (codes "the standard output")
 failed_in_follow names fault.WritePage = option_map (λ name. file_words name.now) names.page
@@ -81,6 +82,6 @@ failed_in_follow names f = None
 abbrev pub failed_words : Job → ToolFault → Option (List ℕ)
 failed_words (job.OneFile file command) f = failed_in_file file.now f
 failed_words (job.Audit names settings) f = failed_in_audit names f
-failed_words (job.Follow names heights) f = failed_in_follow names f
+failed_words (job.Follow names settings) f = failed_in_follow names f
 failed_words (job.Solve names settings quiet progress) (fault.Run f) = failed_in_run names f
 failed_words (job.Solve names settings quiet progress) f = None

@@ -11,6 +11,8 @@ use Rattle.crp_audit.specs.declared.fault.AuditFault.{AuditFault}
 use Rattle.crp_audit.specs.declared.fault.AuditFault.TheVariants as audited
 use Rattle.crp_follow.specs.declared.fault.FollowFault.{FollowFault}
 use Rattle.crp_follow.specs.declared.fault.FollowFault.TheVariants as followed
+use Rattle.crp_loading.specs.declared.fault.LoadingFault.{LoadingFault}
+use Rattle.crp_loading.specs.declared.fault.LoadingFault.TheVariants as loading
 use Rattle.crp_report.specs.Runs.{failures_of_fault}
 use Rattle.crp_report.specs.declared.fault.Fault.TheVariants as run
 use Rattle.crp_report.specs.declared.status.Status.{Status}
@@ -98,6 +100,10 @@ abbrev pub fault_of_follow : FollowFault → ToolFault
 fault_of_follow followed.Memory = fault.Memory
 fault_of_follow f = fault.Followed f
 
+abbrev pub fault_of_loading : LoadingFault → ToolFault
+fault_of_loading loading.Memory = fault.Memory
+fault_of_loading f = fault.Loaded f
+
 -- the exit status of the program: 0 decided, 1 a budget ended, 3 input refused, 4 lack of memory, 5 a read or write fault, 6 a certificate,
 -- head or plan refused, or a report with its certificates
 abbrev pub exit_code : Result Status ToolFault → ℕ
@@ -107,6 +113,7 @@ exit_code (Ok status.Memory) = 4
 exit_code (Err fault.TooLarge) = 3
 exit_code (Err (fault.TooLargeOf which)) = 3
 exit_code (Err (fault.Followed f)) = 3
+exit_code (Err (fault.Loaded f)) = 3
 exit_code (Err fault.Memory) = 4
 exit_code (Err fault.Read) = 5
 exit_code (Err (fault.ReadOf which)) = 5

@@ -1,90 +1,86 @@
--- What `follow` does: the moves of a report, whoever wrote it, are followed over a yard, and the table of them is written, and their page where one is asked
--- for.
-use Rattle.std.specs.Prelude.{◌≡◌, ◌≢◌, ℕ, Bool, true, false, ◌+◌, ◌-◌, ◌<◌, ◌≤◌, ◌⊎◌, List, length, codes, Option, Some, None, IfSome, IsSomeAnd, MatchOption, IsTrue, Result, MatchResult, ⊤}
+-- What `follow` does: the moves of a report, whoever wrote it, are followed over a yard, and the table of them is written, in the order in which the ship is
+-- loaded where a message is asked for, and their page where one is asked for.
+use Rattle.std.specs.Prelude.{◌≡◌, ◌≢◌, ℕ, Bool, true, false, ◌+◌, ◌-◌, ◌<◌, ◌≤◌, ◌⊎◌, List, [], length, codes, Option, Some, None, option_map, IfSome, IsSomeAnd, MatchOption, IsTrue, Result, MatchResult, ⊤}
 use Rattle.crp_plan.specs.Devices.{HasFailed, most_interruptions}
 use Rattle.crp_yard.specs.Inventory.{Inventory}
 use Rattle.crp_yard.specs.Reading.{IsTextOf, IsYardListOf}
+use Rattle.crp_movins.specs.LoadOrders.{LoadOrders}
 use Rattle.crp_said.specs.declared.numbers.Numbers.{Numbers}
 use Rattle.crp_follow.specs.declared.fault.FollowFault.TheVariants as followed
 use Rattle.crp_follow.specs.Stated.{most_bytes}
 use Rattle.crp_follow.specs.Followed.{BayFollowed, IsFollowed}
 use Rattle.crp_follow.specs.Faults.{IsFirstFault}
 use Rattle.crp_follow.specs.Table.{table_text}
+use Rattle.crp_loading.specs.declared.fault.LoadingFault.{LoadingFault}
+use Rattle.crp_loading.specs.declared.fault.LoadingFault.TheVariants as loading
+use Rattle.crp_loading.specs.Faults.{faults_of, IsFirst}
+use Rattle.crp_loading.specs.Loading.{load_text}
 use Rattle.crp_page.specs.Page.{page_text}
+use Rattle.crp_report.specs.declared.fault.Fault.{Fault}
 use Rattle.crp_report.specs.declared.fault.Fault.TheVariants as run
 use Rattle.crp_report.specs.declared.fault.Input.TheVariants as input
 use Rattle.crp_report.specs.declared.status.Status.{Status}
 use Rattle.crp_report.specs.declared.status.Status.TheVariants as status
 use Rattle.crp_report.specs.BayTexts.{IsNoYard}
+use Rattle.crp_report.specs.Chosen.{InputChosen}
 use Rattle.crp_report.specs.Runs.{SourceSeen, SinkSeen, Gets, GetsFront, GetsPart, GetsNothing}
 use Rattle.crp_commands.specs.declared.job.FollowFiles.{FollowFiles}
 use Rattle.crp_commands.specs.declared.outcome.Statement.TheVariants as statement
 use Rattle.crp_commands.specs.declared.outcome.ToolFault.{ToolFault}
 use Rattle.crp_commands.specs.declared.outcome.ToolFault.TheVariants as fault
+use Rattle.crp_commands.specs.Audit.{IsInputOf, IsNoInput}
 use Rattle.crp_commands.specs.Calls.{failures_of_tool_fault}
 use Rattle.crp_commands.specs.Opened.{KnownFiles, FilesSeen, FilesFail, IsFileOpened, IsOneRefused, IsSourceLeftAlone, IsLeftAlone}
 
--- what a call saw of its two sources, of the sink of its table, and of that of its page, where one is asked for
+-- what a call saw of its sources, the yard list, the message where one is asked for, and the report; and of the sink of its table, and that of its page where
+-- one is asked for
 pub record FollowSeen : Type 0 where
   pub yard : SourceSeen
+  pub movins : Option SourceSeen
   pub report : SourceSeen
   pub page : Option SinkSeen
   pub out : SinkSeen
 
--- what was seen of a sink for which something is asked, or nothing
-abbrev pub if_asked : Bool → SinkSeen → Option SinkSeen
-if_asked true sink = Some sink
-if_asked false sink = None
+-- what was seen of a device for which something is asked, or nothing
+abbrev pub if_asked : {A : Type 0} → Bool → A → Option A
+if_asked true seen = Some seen
+if_asked false seen = None
+
+-- so many calls of a source have failed, where there is one
+abbrev pub source_failures : Option SourceSeen → ℕ
+source_failures (Some source) = source.after - source.before
+source_failures None = 0
 
 -- so many calls of a sink have failed, where there is one
-abbrev pub failures_of : Option SinkSeen → ℕ
-failures_of (Some sink) = sink.after - sink.before
-failures_of None = 0
+abbrev pub sink_failures : Option SinkSeen → ℕ
+sink_failures (Some sink) = sink.after - sink.before
+sink_failures None = 0
 
 -- so many calls of them have failed
 abbrev pub follow_failures : FollowSeen → ℕ
-follow_failures s = (s.yard.after - s.yard.before) + ((s.report.after - s.report.before) + (failures_of s.page + (s.out.after - s.out.before)))
+follow_failures s = (s.yard.after - s.yard.before) + (source_failures s.movins + ((s.report.after - s.report.before)
+    + (sink_failures s.page + (s.out.after - s.out.before))))
 
--- nothing was written to the sinks of the page and of the table
-abbrev pub WritesNothing : Option SinkSeen → SinkSeen → Type 0
-WritesNothing page out = IfSome page GetsNothing × GetsNothing out
+-- ---- what goes in
+
+-- the load orders of a message, and the sequence in which the ship gets its containers
+abbrev pub Ship : Type 0
+Ship = LoadOrders × List (List ℕ)
 
 -- the source had a yard list whose rows have these heights, it is accepted, and this stands in the yard
 abbrev pub IsYardIn : List ℕ → SourceSeen → Inventory → Type 0
 IsYardIn heights source yard = (list : List ℕ) × IsTextOf source.given list × IsYardListOf heights list yard
 
--- the page, where one is asked for, was written, and nothing else
-abbrev pub WritesPage : List ℕ → Option SinkSeen → Type 0
-WritesPage text page = IfSome page (λ sink. Gets sink text)
+-- the sources had a yard list and, where one is asked for, a message, both accepted: what stands in the yard, and what the ship is to get
+abbrev pub IsFollowInput : InputChosen → SourceSeen → Option SourceSeen → Inventory → Option Ship → Type 0
+IsFollowInput chosen source None yard None = IsYardIn chosen.heights source yard
+IsFollowInput chosen source (Some message) yard (Some ship) = IsInputOf chosen source message yard ship.0 ship.1
+IsFollowInput chosen source message yard ship = ⊥
 
--- the report is followed over the yard; its page, where one is asked for, and its table were written, and nothing else
-abbrev pub WritesTexts : Inventory → List ℕ → Option SinkSeen → SinkSeen → Type 0
-WritesTexts yard report page out =
-    (numbers : Numbers) × (bays : List BayFollowed) × IsFollowed yard report numbers bays × WritesPage (page_text yard numbers bays) page × Gets out (table_text bays)
-
--- the sources had a yard list and a report that is followed over the yard: its texts were written, and nothing else
-abbrev pub Follows : List ℕ → FollowSeen → Type 0
-Follows heights s =
-    (yard : Inventory) × (report : List ℕ) × IsYardIn heights s.yard yard × IsTextOf s.report.given report × WritesTexts yard report s.page s.out
-
--- the report is followed over the yard, and the sink got a front of its page, and nothing else
-abbrev pub GetsPageFront : Inventory → List ℕ → SinkSeen → Type 0
-GetsPageFront yard report page =
-    (numbers : Numbers) × (bays : List BayFollowed) × IsFollowed yard report numbers bays × GetsFront page (page_text yard numbers bays)
-
--- why the texts of a report were not all written: its first fault, and then nothing was; a write of the page, which is asked for, that has failed, after a
--- front of it that is not all of it, and then nothing of the table was written; a write of the table that has failed, after a front of it that is not all of
--- it, and behind the whole page; or lack of memory, and then nothing of the table was written, and of the page nothing or a front
-abbrev pub StopsFollowing : Inventory → List ℕ → Option SinkSeen → SinkSeen → ToolFault → Type 0
-StopsFollowing yard report page out (fault.Followed f) = (f ≢ followed.Memory) × IsFirstFault yard report f × WritesNothing page out
-StopsFollowing yard report page out fault.WritePage = GetsNothing out
-    × ((numbers : Numbers) × (bays : List BayFollowed) × IsFollowed yard report numbers bays
-    × IsSomeAnd page (λ sink. HasFailed sink.before sink.after × GetsPart sink (page_text yard numbers bays)))
-StopsFollowing yard report page out fault.WriteTable = HasFailed out.before out.after
-    × ((numbers : Numbers) × (bays : List BayFollowed) × IsFollowed yard report numbers bays × WritesPage (page_text yard numbers bays) page
-    × GetsPart out (table_text bays))
-StopsFollowing yard report page out fault.Memory = GetsNothing out × IfSome page (λ sink. GetsNothing sink ⊎ GetsPageFront yard report sink)
-StopsFollowing yard report page out f = ⊥
+-- why there is no input: the fault of the yard list or, where a message is asked for and that is accepted, of the message
+abbrev pub IsNoFollowInput : InputChosen → SourceSeen → Option SourceSeen → Fault → Type 0
+IsNoFollowInput chosen source None f = IsNoYard chosen.heights source.given source.before source.after f
+IsNoFollowInput chosen source (Some message) f = IsNoInput chosen source message f
 
 -- why no report was read of a source: a read has failed, there are too many bytes, or memory is lacking
 abbrev pub IsNoReport : SourceSeen → ToolFault → Type 0
@@ -93,37 +89,101 @@ IsNoReport source (fault.Followed followed.TooLong) = IfSome source.given (λ by
 IsNoReport source fault.Memory = ⊤
 IsNoReport source f = ⊥
 
--- the sources had a yard list and a report that is followed over the yard, and the sink got a front of its page, and nothing else
-abbrev pub GetsFollowedFront : List ℕ → FollowSeen → SinkSeen → Type 0
-GetsFollowedFront heights s page =
-    (yard : Inventory) × (report : List ℕ) × IsYardIn heights s.yard yard × IsTextOf s.report.given report × GetsPageFront yard report page
+-- ---- what comes of it
 
--- what a fault says of a call: the fault of the yard list, as a run states it; a failed read of the report of a yard whose list is accepted; lack of memory; or
--- why the texts of a yard and a report that the sources had were not all written
-abbrev pub FollowFailsWith : List ℕ → FollowSeen → ToolFault → Type 0
-FollowFailsWith heights s (fault.Run f) = WritesNothing s.page s.out × IsNoYard heights s.yard.given s.yard.before s.yard.after f
-FollowFailsWith heights s (fault.ReadOf which) =
-    WritesNothing s.page s.out × ((yard : Inventory) × IsYardIn heights s.yard yard) × IsNoReport s.report (fault.ReadOf which)
-FollowFailsWith heights s fault.Memory = GetsNothing s.out × IfSome s.page (λ sink. GetsNothing sink ⊎ GetsFollowedFront heights s sink)
-FollowFailsWith heights s f =
-    (yard : Inventory) × (report : List ℕ) × IsYardIn heights s.yard yard × IsTextOf s.report.given report × StopsFollowing yard report s.page s.out f
+-- the table of a report that is followed: by the turns of the ship, where there is one, and else bay by bay
+abbrev pub table_for : Option Ship → List BayFollowed → List ℕ
+table_for None bays = table_text bays
+table_for (Some ship) bays = load_text ship.1 ship.0.list bays
+
+-- the faults of its takes by the ship's order, where there is one
+abbrev pub loading_faults : Option Ship → List BayFollowed → List LoadingFault
+loading_faults None bays = []
+loading_faults (Some ship) bays = faults_of ship.1 bays
+
+-- the report is followed over the yard, and no take of it has a fault by the ship's order
+abbrev pub IsLoaded : Option Ship → Inventory → List ℕ → Numbers → List BayFollowed → Type 0
+IsLoaded ship yard report numbers bays = IsFollowed yard report numbers bays × (loading_faults ship bays ≡ [])
+
+-- nothing was written to the sinks of the page and of the table
+abbrev pub WritesNothing : Option SinkSeen → SinkSeen → Type 0
+WritesNothing page out = IfSome page GetsNothing × GetsNothing out
+
+-- the page, where one is asked for, was written, and nothing else
+abbrev pub WritesPage : List ℕ → Option SinkSeen → Type 0
+WritesPage text page = IfSome page (λ sink. Gets sink text)
+
+-- the report is followed and loads the ship; its page, where one is asked for, and its table were written, and nothing else
+abbrev pub WritesTexts : Option Ship → Inventory → List ℕ → Option SinkSeen → SinkSeen → Type 0
+WritesTexts ship yard report page out = (numbers : Numbers) × (bays : List BayFollowed) × IsLoaded ship yard report numbers bays
+    × WritesPage (page_text yard numbers bays) page × Gets out (table_for ship bays)
+
+-- the sources had an input and a report that is followed: its texts were written, and nothing else
+abbrev pub Follows : InputChosen → FollowSeen → Type 0
+Follows chosen s = (yard : Inventory) × (ship : Option Ship) × (report : List ℕ) × IsFollowInput chosen s.yard s.movins yard ship × IsTextOf s.report.given report
+    × WritesTexts ship yard report s.page s.out
+
+-- the report is followed and loads the ship, and the sink got a front of its page, and nothing else
+abbrev pub GetsPageFront : Option Ship → Inventory → List ℕ → SinkSeen → Type 0
+GetsPageFront ship yard report page =
+    (numbers : Numbers) × (bays : List BayFollowed) × IsLoaded ship yard report numbers bays × GetsFront page (page_text yard numbers bays)
+
+-- why the texts of a report were not all written: its first fault, or where it is followed the first fault of its takes, and then nothing was; a write of the
+-- page, which is asked for, that has failed, after a front of it that is not all of it, and then nothing of the table was written; a write of the table that
+-- has failed, after a front of it that is not all of it, and behind the whole page; or lack of memory, and then nothing of the table was written, and of the
+-- page nothing or a front
+abbrev pub StopsFollowing : Option Ship → Inventory → List ℕ → Option SinkSeen → SinkSeen → ToolFault → Type 0
+StopsFollowing ship yard report page out (fault.Followed f) = (f ≢ followed.Memory) × IsFirstFault yard report f × WritesNothing page out
+StopsFollowing ship yard report page out (fault.Loaded f) = (f ≢ loading.Memory)
+    × ((numbers : Numbers) × (bays : List BayFollowed) × IsFollowed yard report numbers bays × IsFirst (loading_faults ship bays) f) × WritesNothing page out
+StopsFollowing ship yard report page out fault.WritePage = GetsNothing out
+    × ((numbers : Numbers) × (bays : List BayFollowed) × IsLoaded ship yard report numbers bays
+    × IsSomeAnd page (λ sink. HasFailed sink.before sink.after × GetsPart sink (page_text yard numbers bays)))
+StopsFollowing ship yard report page out fault.WriteTable = HasFailed out.before out.after
+    × ((numbers : Numbers) × (bays : List BayFollowed) × IsLoaded ship yard report numbers bays × WritesPage (page_text yard numbers bays) page
+    × GetsPart out (table_for ship bays))
+StopsFollowing ship yard report page out fault.Memory =
+    GetsNothing out × IfSome page (λ sink. GetsNothing sink ⊎ GetsPageFront ship yard report sink)
+StopsFollowing ship yard report page out f = ⊥
+
+-- the sources had an input and a report that is followed, and the sink got a front of its page, and nothing else
+abbrev pub GetsFollowedFront : InputChosen → FollowSeen → SinkSeen → Type 0
+GetsFollowedFront chosen s page = (yard : Inventory) × (ship : Option Ship) × (report : List ℕ) × IsFollowInput chosen s.yard s.movins yard ship
+    × IsTextOf s.report.given report × GetsPageFront ship yard report page
+
+-- what a fault says of a call: why there is no input, as a run states it; a failed read of the report where the input is accepted; lack of memory; or why the
+-- texts of an input and a report that the sources had were not all written
+abbrev pub FollowFailsWith : InputChosen → FollowSeen → ToolFault → Type 0
+FollowFailsWith chosen s (fault.Run f) = WritesNothing s.page s.out × IsNoFollowInput chosen s.yard s.movins f
+FollowFailsWith chosen s (fault.ReadOf which) = WritesNothing s.page s.out
+    × ((yard : Inventory) × (ship : Option Ship) × IsFollowInput chosen s.yard s.movins yard ship) × IsNoReport s.report (fault.ReadOf which)
+FollowFailsWith chosen s fault.Memory = GetsNothing s.out × IfSome s.page (λ sink. GetsNothing sink ⊎ GetsFollowedFront chosen s sink)
+FollowFailsWith chosen s f = (yard : Inventory) × (ship : Option Ship) × (report : List ℕ) × IsFollowInput chosen s.yard s.movins yard ship
+    × IsTextOf s.report.given report × StopsFollowing ship yard report s.page s.out f
 
 -- ---- with its failures
 
 -- it was done, and no more calls failed than may be passed over
-abbrev pub FollowEnds : List ℕ → FollowSeen → Status → Type 0
-FollowEnds heights s ended = (ended ≡ status.Decided) × Follows heights s × (follow_failures s ≤ most_interruptions)
+abbrev pub FollowEnds : InputChosen → FollowSeen → Status → Type 0
+FollowEnds chosen s ended = (ended ≡ status.Decided) × Follows chosen s × (follow_failures s ≤ most_interruptions)
 
 -- it failed so, and no more calls failed than may be passed over and the one that is stated
-abbrev pub FollowFails : List ℕ → FollowSeen → ToolFault → Type 0
-FollowFails heights s f = FollowFailsWith heights s f × (follow_failures s ≤ most_interruptions + failures_of_tool_fault f)
+abbrev pub FollowFails : InputChosen → FollowSeen → ToolFault → Type 0
+FollowFails chosen s f = FollowFailsWith chosen s f × (follow_failures s ≤ most_interruptions + failures_of_tool_fault f)
 
 -- ---- over files
 
--- the report that is named `-` is the standard input, any other is the file of its name; what failed of the files is what failed of those that were opened
-abbrev pub IsReportFrom : List ℕ → FilesSeen → SourceSeen → FollowSeen → Type 0
-IsReportFrom name files input s = ((name ≡ codes "-") × (s.report ≡ input) × FilesFail files (s.yard.after + failures_of s.page))
-    ⊎ ((name ≢ codes "-") × IsFileOpened files.known name s.report × IsSourceLeftAlone input × FilesFail files (s.yard.after + (s.report.after + failures_of s.page)))
+-- the message is read from its file exactly where one is named
+abbrev pub IsMessageFrom : KnownFiles → Option (List ℕ) → Option SourceSeen → Type 0
+IsMessageFrom known (Some name) (Some source) = IsFileOpened known name source
+IsMessageFrom known None None = ⊤
+IsMessageFrom known name source = ⊥
+
+-- the report that is named `-` is the standard input, any other is the file of its name; what failed of the files is what failed of those that were opened,
+-- of which so many calls failed of those before the report
+abbrev pub IsReportFrom : List ℕ → FilesSeen → SourceSeen → ℕ → FollowSeen → Type 0
+IsReportFrom name files input before s = ((name ≡ codes "-") × (s.report ≡ input) × FilesFail files (before + sink_failures s.page))
+    ⊎ ((name ≢ codes "-") × IsFileOpened files.known name s.report × IsSourceLeftAlone input × FilesFail files (before + (s.report.after + sink_failures s.page)))
 
 -- the page goes to a sink that is opened for it exactly where a file is asked for, and none of its calls had failed before
 abbrev pub IsPageTo : {A : Type 0} → Option A → Option SinkSeen → Type 0
@@ -131,10 +191,16 @@ IsPageTo (Some file) (Some sink) = sink.before ≡ 0
 IsPageTo None None = ⊤
 IsPageTo file page = ⊥
 
--- the sources are the file of the yard list and what the name of the report stands for, and the page goes to the file of its name
+-- the name of the message, if there is one
+abbrev pub message_name : FollowFiles → Option (List ℕ)
+message_name names = option_map (λ name. name.now) names.movins
+
+-- the sources are the files of the yard list and of the message, where one is named, and what the name of the report stands for, and the page goes to the
+-- file of its name
 pub record IsOverFollowed (names : FollowFiles) (files : FilesSeen) (input : SourceSeen) (shown : SinkSeen) (s : FollowSeen) : Type 0 where
   pub yard : IsFileOpened files.known names.yard.now s.yard
-  pub report : IsReportFrom names.report.now files input s
+  pub movins : IsMessageFrom files.known (message_name names) s.movins
+  pub report : IsReportFrom names.report.now files input (s.yard.after + source_failures s.movins) s
   pub page : IsPageTo names.page s.page
   pub out : s.out ≡ shown
 
@@ -142,9 +208,14 @@ pub record IsOverFollowed (names : FollowFiles) (files : FilesSeen) (input : Sou
 abbrev pub IsPageRefused : (List ℕ → Bool) → FollowFiles → Type 0
 IsPageRefused may_not_create names = MatchOption names.page ⊥ (λ name. IsTrue (may_not_create name.now))
 
+-- the file of the message, which is asked for, may be refused to who would read it
+abbrev pub IsMessageRefused : (List ℕ → Bool) → FollowFiles → Type 0
+IsMessageRefused may_not_open names = MatchOption names.movins ⊥ (λ name. IsTrue (may_not_open name.now))
+
 -- the fault states that a file cannot be opened: one that is read as a failed read of it, that of the page as a failed write to it
 abbrev pub IsOfUnfollowed : KnownFiles → FollowFiles → ToolFault → Type 0
 IsOfUnfollowed known names (fault.Run (run.Read input.Yard)) = IsTrue (known.may_not_open names.yard.now)
+IsOfUnfollowed known names (fault.Run (run.Read input.Movins)) = IsMessageRefused known.may_not_open names
 IsOfUnfollowed known names (fault.ReadOf statement.Report) = (names.report.now ≢ codes "-") × IsTrue (known.may_not_open names.report.now)
 IsOfUnfollowed known names fault.WritePage = IsPageRefused known.may_not_create names
 IsOfUnfollowed known names f = ⊥
@@ -157,12 +228,12 @@ pub record IsUnfollowed (names : FollowFiles) (files : FilesSeen) (input : Sourc
   pub alone : IsLeftAlone out
 
 -- how the job ends
-abbrev pub FollowReportsOverFiles : FollowFiles → List ℕ → FilesSeen → SourceSeen → SinkSeen → Status → Type 0
-FollowReportsOverFiles names heights files input out ended = (s : FollowSeen) × IsOverFollowed names files input out s × FollowEnds heights s ended
+abbrev pub FollowReportsOverFiles : FollowFiles → InputChosen → FilesSeen → SourceSeen → SinkSeen → Status → Type 0
+FollowReportsOverFiles names chosen files input out ended = (s : FollowSeen) × IsOverFollowed names files input out s × FollowEnds chosen s ended
 
-abbrev pub FollowFailsOverFiles : FollowFiles → List ℕ → FilesSeen → SourceSeen → SinkSeen → ToolFault → Type 0
-FollowFailsOverFiles names heights files input out f =
-    IsUnfollowed names files input out f ⊎ ((s : FollowSeen) × IsOverFollowed names files input out s × FollowFails heights s f)
+abbrev pub FollowFailsOverFiles : FollowFiles → InputChosen → FilesSeen → SourceSeen → SinkSeen → ToolFault → Type 0
+FollowFailsOverFiles names chosen files input out f =
+    IsUnfollowed names files input out f ⊎ ((s : FollowSeen) × IsOverFollowed names files input out s × FollowFails chosen s f)
 
 -- ---- a call some of whose devices are open. Only private clauses speak of it
 
@@ -172,23 +243,45 @@ StopsPage text page fault.WritePage = IsSomeAnd page (λ sink. HasFailed sink.be
 StopsPage text page fault.Memory = IfSome page (λ sink. GetsFront sink text)
 StopsPage text page f = ⊥
 
--- the file of the page cannot be opened, and the devices that are open were left alone
-pub record RefusesPage (names : FollowFiles) (files : FilesSeen) (s : FollowSeen) (f : ToolFault) : Type 0 where
-  pub stated : f ≡ fault.WritePage
-  pub refused : IsPageRefused files.known.may_not_create names
+-- the answer of a call whose devices are these, or that refuses a file so
+abbrev pub AnswersOver : InputChosen → (FollowSeen → Type 0) → (ToolFault → Type 0) → Result Status ToolFault → Type 0
+AnswersOver chosen Is Refuses answer = MatchResult answer (λ ended. (s : FollowSeen) × Is s × FollowEnds chosen s ended)
+    (λ f. Refuses f ⊎ ((s : FollowSeen) × Is s × FollowFails chosen s f))
+
+-- the devices that are open before the report is
+pub record Opened : Type 0 where
+  pub yard : SourceSeen
+  pub movins : Option SourceSeen
+  pub out : SinkSeen
+
+-- a file could not be opened, and the devices that are open were left alone, and so was what is read as the report
+pub record RefusesFile (names : FollowFiles) (files : FilesSeen) (devices : Opened) (report : SourceSeen) (f : ToolFault) : Type 0 where
+  pub stated : IsOfUnfollowed files.known names f
   pub one : IsOneRefused files
-  pub yard : IsSourceLeftAlone s.yard
-  pub report : IsSourceLeftAlone s.report
-  pub out : IsLeftAlone s.out
+  pub yard : IsSourceLeftAlone devices.yard
+  pub movins : IfSome devices.movins IsSourceLeftAlone
+  pub unread : IsSourceLeftAlone report
+  pub out : IsLeftAlone devices.out
 
 -- what a call saw that opens the file of the page, where it is asked for
-pub record IsOverPage (names : FollowFiles) (files : FilesSeen) (seen : Option SinkSeen → FollowSeen) (s : FollowSeen) : Type 0 where
+pub record IsOverPage (names : FollowFiles) (files : FilesSeen) (devices : Opened) (report : SourceSeen) (s : FollowSeen) : Type 0 where
   pub page : Option SinkSeen
-  pub is : s ≡ seen page
+  pub is : s ≡ record { yard = devices.yard; movins = devices.movins; report = report; page = page; out = devices.out }
   pub to : IsPageTo names.page page
-  pub failed : FilesFail files (failures_of page)
+  pub failed : FilesFail files (sink_failures page)
 
--- the answer of a call that opens the file of the page, where it is asked for
-abbrev pub AnswersPage : FollowFiles → List ℕ → FilesSeen → (Option SinkSeen → FollowSeen) → Result Status ToolFault → Type 0
-AnswersPage names heights files seen answer = MatchResult answer (λ ended. (s : FollowSeen) × IsOverPage names files seen s × FollowEnds heights s ended)
-    (λ f. RefusesPage names files (seen None) f ⊎ ((s : FollowSeen) × IsOverPage names files seen s × FollowFails heights s f))
+-- and one that opens the report, where that is a file
+pub record IsOverReport (names : FollowFiles) (files : FilesSeen) (devices : Opened) (input : SourceSeen) (s : FollowSeen) : Type 0 where
+  pub yard : s.yard ≡ devices.yard
+  pub movins : s.movins ≡ devices.movins
+  pub report : IsReportFrom names.report.now files input 0 s
+  pub page : IsPageTo names.page s.page
+  pub out : s.out ≡ devices.out
+
+-- and one that opens the message, where one is named
+pub record IsOverMessage (names : FollowFiles) (files : FilesSeen) (listed input : SourceSeen) (shown : SinkSeen) (s : FollowSeen) : Type 0 where
+  pub yard : s.yard ≡ listed
+  pub movins : IsMessageFrom files.known (message_name names) s.movins
+  pub report : IsReportFrom names.report.now files input (source_failures s.movins) s
+  pub page : IsPageTo names.page s.page
+  pub out : s.out ≡ shown

@@ -15,7 +15,7 @@ use Rattle.crp_commands.specs.Solving.{IsOverFiles}
 abbrev pub ForRun : Job → (RunFiles → RunChosen → Type 0) → Type 0
 ForRun (job.OneFile file command) P = ⊤
 ForRun (job.Audit names settings) P = ⊤
-ForRun (job.Follow names heights) P = ⊤
+ForRun (job.Follow names settings) P = ⊤
 ForRun (job.Solve names chosen quiet progress) P = P names chosen
 
 -- the texts were made of the files of these names, as far as their bytes are known; the sink of the report got the report, and the files of the

@@ -45,5 +45,5 @@ IsNotedIn (command.Prove search) s = IsLeftAlone s
 abbrev pub IsNoted : Job → SinkSeen → Type 0
 IsNoted (job.OneFile file command) s = IsNotedIn command s
 IsNoted (job.Audit names settings) s = IsLeftAlone s
-IsNoted (job.Follow names heights) s = IsLeftAlone s
+IsNoted (job.Follow names settings) s = IsLeftAlone s
 IsNoted (job.Solve names settings quiet progress) s = IsNotedBy quiet s

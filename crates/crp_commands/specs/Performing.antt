@@ -98,13 +98,13 @@ FileFailsWith name c seen f =
 abbrev pub ReportsOverFiles : Job → JobSeen → Status → Type 0
 ReportsOverFiles (job.OneFile file c) seen ended = ReportsFile file.now c seen ended
 ReportsOverFiles (job.Audit names settings) seen ended = IsSourceLeftAlone seen.input × AuditReportsOverFiles names settings seen.files seen.out ended
-ReportsOverFiles (job.Follow names heights) seen ended = FollowReportsOverFiles names heights seen.files seen.input seen.out ended
+ReportsOverFiles (job.Follow names settings) seen ended = FollowReportsOverFiles names settings seen.files seen.input seen.out ended
 ReportsOverFiles (job.Solve names settings quiet progress) seen ended = IsSourceLeftAlone seen.input × RunReportsOverFiles names settings seen.files seen.out ended
 
 -- what a fault says of the job
 abbrev pub FailsOverFiles : Job → JobSeen → ToolFault → Type 0
 FailsOverFiles (job.OneFile file c) seen f = FileFailsWith file.now c seen f
 FailsOverFiles (job.Audit names settings) seen f = IsSourceLeftAlone seen.input × AuditFailsOverFiles names settings seen.files seen.out f
-FailsOverFiles (job.Follow names heights) seen f = FollowFailsOverFiles names heights seen.files seen.input seen.out f
+FailsOverFiles (job.Follow names settings) seen f = FollowFailsOverFiles names settings seen.files seen.input seen.out f
 FailsOverFiles (job.Solve names settings quiet progress) seen (fault.Run f) = IsSourceLeftAlone seen.input × RunFailsOverFiles names settings seen.files seen.out f
 FailsOverFiles (job.Solve names settings quiet progress) seen f = ⊥

@@ -1,5 +1,5 @@
 -- Where what a fault names stands in its file, and what stands there, as a line says it.
-use Rattle.std.specs.Prelude.{◌≡◌, ◌⊎◌, ℕ, ◌<◌, Bool, true, false, nat_lt, List, [], ◌∷◌, ◌++◌, length, map, take, drop, position, unwrap_or, IsTrue, Option, Some, None, IfSome, if◌then◌else◌, codes}
+use Rattle.std.specs.Prelude.{◌≡◌, ◌⊎◌, ℕ, ◌<◌, Bool, true, false, nat_lt, List, [], ◌∷◌, ◌++◌, length, map, take, drop, position, unwrap_or, IsTrue, Option, Some, None, IfSome, if◌then◌else◌, codes, option_map}
 use Rattle.std.specs.Fmt.{decimal}
 use Rattle.csv.specs.Reading.{strip_bom}
 use Rattle.edi_text.specs.declared.fault.EdiFault.{EdiFault}
@@ -71,14 +71,14 @@ segment_named movins.Memory = None
 abbrev pub yard_named : Job → Option (List ℕ)
 yard_named (job.OneFile file command) = None
 yard_named (job.Audit names settings) = Some names.yard.now
-yard_named (job.Follow names heights) = Some names.yard.now
+yard_named (job.Follow names settings) = Some names.yard.now
 yard_named (job.Solve names settings quiet progress) = Some names.yard.now
 
 -- its message
 abbrev pub message_named : Job → Option (List ℕ)
 message_named (job.OneFile file command) = None
 message_named (job.Audit names settings) = Some names.movins.now
-message_named (job.Follow names heights) = None
+message_named (job.Follow names settings) = option_map (λ name. name.now) names.movins
 message_named (job.Solve names settings quiet progress) = Some names.movins.now
 
 -- ---- what is said of it

@@ -2,7 +2,7 @@
 ghost use Rattle.std.specs.Prelude.{◌≡◌, Some, option_map};
 ghost use Rattle.crp_commands.specs.Advice.{IsPlainLine, failed_in_audit, failed_in_file, failed_in_follow, failed_in_run, failed_words, place_words, source_words};
 
-use crate::follow_advice::advice_on_follow;
+use crate::follow_advice::{advice_on_follow, advice_on_loading};
 use crate::job::{AuditFiles, FollowFiles, Job, RunFiles};
 use crate::outcome::{Statement, ToolFault};
 use crp_audit::AuditFault;
@@ -314,6 +314,7 @@ pub fn advice_on(fault: &ToolFault) -> &'static str
         ToolFault::Checked { refused, .. } => advice_on_refused(refused),
         ToolFault::Audited(fault) => advice_on_audit(fault),
         ToolFault::Followed(fault) => advice_on_follow(fault),
+        ToolFault::Loaded(fault) => advice_on_loading(fault),
         ToolFault::Run(fault) => advice_on_run(fault),
         ToolFault::ReadOf(Statement::Report) => {
             "the report could not be read: it must be there, be a file and no folder, and you must be allowed to read it"
@@ -381,6 +382,7 @@ fn place_in_file<'a>(file: &'a str, fault: &ToolFault) -> Option<Place<'a>>
         | ToolFault::Checked { .. }
         | ToolFault::Audited(_)
         | ToolFault::Followed(_)
+        | ToolFault::Loaded(_)
         | ToolFault::Run(_)
         | ToolFault::WriteTable
         | ToolFault::WritePage
@@ -425,6 +427,7 @@ fn place_in_follow<'a>(names: &FollowFiles<'a>, fault: &ToolFault) -> Option<Pla
 {
     match fault {
         ToolFault::Run(Fault::Read(Input::Yard)) => Some(Place::File(names.yard)),
+        ToolFault::Run(Fault::Read(Input::Movins)) => names.movins.map(Place::File),
         ToolFault::ReadOf(Statement::Report) => Some(source_of(names.report)),
         ToolFault::WriteTable => Some(Place::StandardOutput),
         ToolFault::WritePage => names.page.map(Place::File),

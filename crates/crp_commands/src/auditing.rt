@@ -53,12 +53,12 @@ fn report_from<S: Source>(
     }
 }
 
-// What a yard list and a message say.
+/// What a yard list and a message say.
 #[derive(Drop)]
-struct InputRead {
-    yard: Yard,
-    orders: Orders,
-    sequence: Sequence,
+pub(crate) struct InputRead {
+    pub yard: Yard,
+    pub orders: Orders,
+    pub sequence: Sequence,
 }
 
 // The load orders and their sequence.
@@ -74,8 +74,8 @@ fn sequenced(alloc: Global, yard: Yard, orders: Orders, mode: Mode) -> Result<In
     })
 }
 
-// What the sources of a yard list and of a message say.
-fn input_from<Y: Source, M: Source>(
+/// What the sources of a yard list and of a message say.
+pub(crate) fn input_from<Y: Source, M: Source>(
     alloc: Global,
     yard: &mut Y,
     movins: &mut M,

@@ -3,6 +3,7 @@ ghost use Rattle.crp_commands.specs.Advice.{IsPlainLine};
 
 use crate::advice::MEMORY;
 use crp_follow::FollowFault;
+use crp_loading::LoadingFault;
 
 /// Of a report that is followed.
 pub(crate) fn advice_on_follow(fault: &FollowFault) -> &'static str
@@ -38,5 +39,20 @@ pub(crate) fn advice_on_follow(fault: &FollowFault) -> &'static str
             "the crane cannot set down there: TO must be the lowest free place of another row, and within its height"
         }
         FollowFault::Memory => MEMORY,
+    }
+}
+
+/// Of a report whose takes do not load the ship in its order.
+pub(crate) fn advice_on_loading(fault: &LoadingFault) -> &'static str
+    ensures { IsPlainLine result.now }
+{
+    match fault {
+        LoadingFault::OutOfOrder { .. } => {
+            "the ship gets this container before one that is taken above from its bay: look at the order of the takes, and at --order"
+        }
+        LoadingFault::NotOrdered { .. } => {
+            "the message does not order this container to be loaded: look at the message, and at --code"
+        }
+        LoadingFault::Memory => MEMORY,
     }
 }

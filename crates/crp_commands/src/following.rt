@@ -1,5 +1,6 @@
-//! The command `follow`: from the bytes of a yard list and a report to the table of its moves, and to their page where one is asked for.
-ghost use Rattle.std.specs.Prelude.{◌≡◌, ◌≤◌, ◌+◌, ℕ, List, map, IfOk, IfErr, MatchResult};
+//! The command `follow`: from the bytes of a yard list and a report, and of a message where one is asked for, to the table of the moves, and
+//! to their page where one is asked for.
+ghost use Rattle.std.specs.Prelude.{◌≡◌, ◌≤◌, ◌+◌, ◌-◌, ◌⊎◌, [], ℕ, List, Option, map, IfOk, OnOk, IfErr, MatchResult};
 ghost use Rattle.std.specs.Bool.{OnFalse};
 ghost use Rattle.std.specs.List.{AllByRecursion};
 ghost use Rattle.crp_plan.specs.Devices.{most_interruptions};
@@ -7,28 +8,81 @@ ghost use Rattle.crp_yard.specs.Reading.{IsTextOf};
 ghost use Rattle.crp_follow.specs.Followed.{IsFollowed};
 ghost use Rattle.crp_follow.specs.Table.{StandFew};
 ghost use Rattle.crp_follow.specs.Views.{bay_followed};
+ghost use Rattle.crp_loading.specs.Faults.{IsFirst};
 ghost use Rattle.crp_page.specs.Page.{page_text};
 ghost use Rattle.crp_report.specs.BayTexts.{AreFailuresCounted};
-ghost use Rattle.crp_report.specs.Runs.{SinkSeen};
+ghost use Rattle.crp_report.specs.Runs.{SourceSeen, SinkSeen, failures_of_fault};
 ghost use Rattle.crp_commands.specs.Calls.{failures_of_tool_fault};
-ghost use Rattle.crp_commands.specs.Follow.{FollowSeen, FollowEnds, FollowFails, IsNoReport, StopsFollowing, StopsPage, WritesPage, WritesTexts, if_asked};
+ghost use Rattle.crp_commands.specs.Follow.{FollowSeen, FollowEnds, FollowFails, IsFollowInput, IsNoFollowInput, IsNoReport, StopsFollowing, StopsPage, WritesPage, WritesTexts, if_asked, loading_faults, source_failures, table_for};
 
+use crate::auditing::{InputRead, input_from};
 use crate::outcome::{Statement, ToolFault};
-use crate::row_heights::RowHeights;
 use crp_follow::{FollowFault, Followed, MAX_BYTES, table_text};
+use crp_loading::{LoadingFault, load_table};
+use crp_movins::Orders;
+use crp_order::Sequence;
 use crp_page::write_page;
 use crp_plan::{ReadFault, Sink, Source, WriteFault, read_all, write_all};
-use crp_report::{Status, yard_from};
+use crp_report::{Fault, InputSettings, Status, yard_from};
 use crp_yard::Yard;
 use std::alloc::Global;
 
-/// What is asked for where a report is followed, besides the table of its moves.
+/// What is asked for where a report is followed.
 #[derive(Clone, Copy)]
 pub struct FollowSettings<'a> {
-    /// How high the rows of the bays are.
-    pub heights: &'a RowHeights,
+    /// What the yard list and the message mean.
+    pub input: &'a InputSettings,
+    /// Whether there is a message, in whose order the table is to be; else it is bay by bay.
+    pub ship: bool,
     /// Whether the page of the moves is wanted.
     pub page: bool,
+}
+
+// What a yard list says and, where one is asked for, a message: its load orders, and their sequence.
+#[derive(Drop)]
+struct FollowInput {
+    yard: Yard,
+    ship: Option<(Orders, Sequence)>,
+}
+
+// What the sources of a yard list and, where one is asked for, of a message say.
+fn follow_input<Y: Source, M: Source>(
+    alloc: Global,
+    yard: &mut Y,
+    movins: &mut M,
+    settings: &FollowSettings<'_>,
+    interruptions: &mut u32,
+) -> Result<FollowInput, Fault>
+    requires first { interruptions.old ≡ 0 }
+    ensures read { IfOk result (λ input. IsFollowInput settings.now.input.now
+        (record { given = Y.remaining yard.old; before = Y.failures yard.old; after = Y.failures yard.new })
+        (if_asked settings.now.ship (record { given = M.remaining movins.old; before = M.failures movins.old; after = M.failures movins.new })) input.yard input.ship) }
+    ensures refused { IfErr result (IsNoFollowInput settings.now.input.now
+        (record { given = Y.remaining yard.old; before = Y.failures yard.old; after = Y.failures yard.new })
+        (if_asked settings.now.ship (record { given = M.remaining movins.old; before = M.failures movins.old; after = M.failures movins.new }))) }
+    ensures alone { OnFalse settings.now.ship (movins.new ≡ movins.old) }
+    ensures counted { let message : SourceSeen = record { given = M.remaining movins.old; before = M.failures movins.old; after = M.failures movins.new }
+        in MatchResult result
+        (λ _. (Y.failures yard.new - Y.failures yard.old) + source_failures (if_asked settings.now.ship message) ≤ interruptions.new)
+        (λ fault. (Y.failures yard.new - Y.failures yard.old) + source_failures (if_asked settings.now.ship message) ≤ interruptions.new + failures_of_fault fault) }
+    ensures passed { interruptions.new ≤ most_interruptions }
+{
+    if settings.ship {
+        let InputRead {
+            yard,
+            orders,
+            sequence,
+        } = input_from(alloc, yard, movins, settings.input, interruptions)?;
+        return Ok(FollowInput {
+            yard,
+            ship: Some((orders, sequence)),
+        });
+    }
+    let listed = yard_from(alloc, yard, settings.input.heights(), interruptions)?;
+    Ok(FollowInput {
+        yard: listed,
+        ship: None,
+    })
 }
 
 // The bytes of a report.
@@ -86,10 +140,27 @@ fn write_page_if<P: Sink>(
     }
 }
 
+// The table of a report that is followed: in the order of the ship, where there is one, or else bay by bay.
+fn table_for(
+    alloc: Global,
+    followed: &Followed,
+    ship: &Option<(Orders, Sequence)>,
+) -> Result<Vec<u8>, LoadingFault>
+    requires { AllByRecursion StandFew (map bay_followed followed.now.bays.items) }
+    ensures table { IfOk result (λ text. text.items ≡ table_for ship.now (map bay_followed followed.now.bays.items)) }
+    ensures faultless { OnOk result (loading_faults ship.now (map bay_followed followed.now.bays.items) ≡ []) }
+    ensures refused { IfErr result (λ fault. (fault ≡ LoadingFault.Memory) ⊎ IsFirst (loading_faults ship.now (map bay_followed followed.now.bays.items)) fault) }
+{
+    match ship {
+        Some((orders, sequence)) => load_table(alloc, followed, orders, sequence),
+        None => Ok(table_text(alloc, followed)?),
+    }
+}
+
 // Follows the moves of a report over a yard. The table is made before a byte is written, and written behind the page.
 fn follow_text<P: Sink, W: Sink>(
     alloc: Global,
-    yard: &Yard,
+    input: &FollowInput,
     report: &[u8],
     asked: bool,
     page: &mut P,
@@ -99,7 +170,7 @@ fn follow_text<P: Sink, W: Sink>(
     requires { interruptions.old ≤ most_interruptions }
     ensures ended { let seen = if_asked asked (record { held = P.contents page.old; holds = P.contents page.new; before = P.failures page.old; after = P.failures page.new })
         in let out_seen : SinkSeen = record { held = W.contents out.old; holds = W.contents out.new; before = W.failures out.old; after = W.failures out.new }
-        in MatchResult result (λ _. WritesTexts yard.now report.now seen out_seen) (StopsFollowing yard.now report.now seen out_seen) }
+        in MatchResult result (λ _. WritesTexts input.now.ship input.now.yard report.now seen out_seen) (StopsFollowing input.now.ship input.now.yard report.now seen out_seen) }
     ensures alone { OnFalse asked (page.new ≡ page.old) }
     ensures counted { MatchResult result
         (λ _. (P.failures page.new + W.failures out.new) + interruptions.old ≤ (P.failures page.old + W.failures out.old) + interruptions.new)
@@ -108,20 +179,22 @@ fn follow_text<P: Sink, W: Sink>(
     ensures out_count { W.failures out.old ≤ W.failures out.new }
     ensures passed { interruptions.new ≤ most_interruptions }
 {
-    let followed = crp_follow::follow(alloc, yard, report)?;
-    let table = table_text(alloc, &followed)?;
-    write_page_if(alloc, yard, &followed, asked, page, interruptions)?;
+    let followed = crp_follow::follow(alloc, &input.yard, report)?;
+    let table = table_for(alloc, &followed, &input.ship)?;
+    write_page_if(alloc, &input.yard, &followed, asked, page, interruptions)?;
     let Ok(()) = write_all(out, &table, interruptions) else {
         return Err(ToolFault::WriteTable);
     };
     Ok(())
 }
 
-/// Follows the moves of a report, whoever wrote it, over the yard that a list of bays with rows of these heights gives. It writes the page
-/// of the moves, where one is wanted, and behind it the table of them; where something is refused, nothing.
-pub fn follow<Y: Source, R: Source, P: Sink, W: Sink>(
+/// Follows the moves of a report, whoever wrote it, over the yard that a list of bays gives. It writes the page of the moves, where one is
+/// wanted, and behind it the table of them, in the order in which the ship gets the containers where a message is asked for; where
+/// something is refused, nothing.
+pub fn follow<Y: Source, M: Source, R: Source, P: Sink, W: Sink>(
     alloc: Global,
     yard: &mut Y,
+    movins: &mut M,
     report: &mut R,
     settings: &FollowSettings<'_>,
     page: &mut P,
@@ -129,18 +202,20 @@ pub fn follow<Y: Source, R: Source, P: Sink, W: Sink>(
 ) -> Result<Status, ToolFault>
     ensures ended { let seen : FollowSeen = record {
       yard = record { given = Y.remaining yard.old; before = Y.failures yard.old; after = Y.failures yard.new };
+      movins = if_asked settings.now.ship (record { given = M.remaining movins.old; before = M.failures movins.old; after = M.failures movins.new });
       report = record { given = R.remaining report.old; before = R.failures report.old; after = R.failures report.new };
       page = if_asked settings.now.page (record { held = P.contents page.old; holds = P.contents page.new; before = P.failures page.old; after = P.failures page.new });
       out = record { held = W.contents out.old; holds = W.contents out.new; before = W.failures out.old; after = W.failures out.new };
-    } in MatchResult result (FollowEnds settings.now.heights.now seen) (FollowFails settings.now.heights.now seen) }
+    } in MatchResult result (FollowEnds settings.now.input.now seen) (FollowFails settings.now.input.now seen) }
+    ensures unread { OnFalse settings.now.ship (movins.new ≡ movins.old) }
     ensures alone { OnFalse settings.now.page (page.new ≡ page.old) }
 {
     let mut interruptions = 0;
-    let listed = yard_from(alloc, yard, settings.heights.as_slice(), &mut interruptions)?;
+    let input = follow_input(alloc, yard, movins, settings, &mut interruptions)?;
     let text = report_from(alloc, report, &mut interruptions)?;
     follow_text(
         alloc,
-        &listed,
+        &input,
         &text,
         settings.page,
         page,

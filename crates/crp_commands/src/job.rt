@@ -1,6 +1,5 @@
 //! What the program may be asked for.
 
-use crate::row_heights::RowHeights;
 use crp_report::{InputSettings, RunSettings};
 use crp_solve::Settings;
 
@@ -50,6 +49,8 @@ pub struct FollowFiles<'a> {
     pub yard: &'a str,
     /// The report. One named `-` is the standard input.
     pub report: &'a str,
+    /// The message, in whose order the table is to be, if there is one.
+    pub movins: Option<&'a str>,
     /// What gets the page of its moves, if it is wanted.
     pub page: Option<&'a str>,
 }
@@ -75,8 +76,8 @@ pub enum Job<'a> {
     Follow {
         /// The files of the report that is followed.
         files: FollowFiles<'a>,
-        /// How high the rows of the bays are.
-        heights: RowHeights,
+        /// What the yard list and the message mean.
+        settings: InputSettings,
     },
     /// To solve the bays of a yard for the load orders of a message.
     Solve {

@@ -1,8 +1,8 @@
 //! The commands of the program, over any source and sink and over files.
 //!
 //! `replay`, `bound`, `check` and `prove` go from the bytes of a file of certificates to a report, `audit` from those of a yard list, a
-//! message, a report and certificates to what is shown of them, `follow` from those of a yard list and a report to the table of its
-//! moves, and to their page; `perform` does one of them over a file's bytes, and `run_job` any job over its files. What each writes is
+//! message, a report and certificates to what is shown of them, `follow` from those of a yard list and a report, and of a message where
+//! there is one, to the table of its moves, and to their page; `perform` does one of them over a file's bytes, and `run_job` any job over its files. What each writes is
 //! said in the file of `specs/` of its name, what a job does in `specs/Performing.antt`.
 #![tactic(auto)]
 
@@ -28,7 +28,6 @@ mod placed;
 mod plain;
 mod proving;
 mod replaying;
-mod row_heights;
 
 pub use advice::{Place, advice_on, place_of};
 pub use auditing::{MOST_REPORT, audit};
@@ -46,4 +45,3 @@ pub use performing::perform;
 pub use plain::{FoundLine, MOST_FOUND};
 pub use proving::prove;
 pub use replaying::replay;
-pub use row_heights::RowHeights;

@@ -82,6 +82,7 @@ pub(crate) fn message_named<'a>(job: &Job<'a>) -> Option<&'a str>
     match job {
         Job::Solve { files, .. } => Some(files.movins),
         Job::Audit { files, .. } => Some(files.movins),
-        Job::Follow { .. } | Job::OneFile { .. } => None,
+        Job::Follow { files, .. } => files.movins,
+        Job::OneFile { .. } => None,
     }
 }

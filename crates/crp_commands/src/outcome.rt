@@ -8,6 +8,7 @@ use crp_audit::AuditFault;
 use crp_cert::CertFault;
 use crp_checker::Refused;
 use crp_follow::FollowFault;
+use crp_loading::LoadingFault;
 use crp_plan::{PlanFault, ReadFailed, ReadFault, WriteFailed};
 use crp_report::{Fault, Status};
 use std::alloc::AllocError;
@@ -52,6 +53,9 @@ pub enum ToolFault {
     /// A report cannot be followed, with its first fault.
     #[error("{0}")]
     Followed(FollowFault),
+    /// The takes of a report that is followed do not load the ship in its order, with the first fault.
+    #[error("{0}")]
+    Loaded(LoadingFault),
     /// A run over a yard did not do what it was asked for.
     #[error("{0}")]
     Run(Fault),
@@ -164,6 +168,19 @@ impl From<FollowFault> for ToolFault {
     }
 }
 
+impl From<LoadingFault> for ToolFault {
+    ghost use Rattle.crp_commands.specs.Calls.{fault_of_loading};
+
+    ghost from_gives = { λ error fault. fault ≡ fault_of_loading error };
+
+    fn from(error: LoadingFault) -> ToolFault {
+        match error {
+            LoadingFault::Memory => ToolFault::Memory,
+            other => ToolFault::Loaded(other),
+        }
+    }
+}
+
 impl From<PlanFault> for ToolFault {
     ghost use Rattle.crp_commands.specs.declared.outcome.ToolFault.TheVariants.{Plan};
 
@@ -202,7 +219,12 @@ pub fn exit_of(answer: &Result<Status, ToolFault>) -> u8
     match answer {
         Ok(Status::Decided) => 0,
         Ok(Status::Budget) => 1,
-        Err(ToolFault::TooLarge | ToolFault::TooLargeOf(_) | ToolFault::Followed(_)) => 3,
+        Err(
+            ToolFault::TooLarge
+            | ToolFault::TooLargeOf(_)
+            | ToolFault::Followed(_)
+            | ToolFault::Loaded(_),
+        ) => 3,
         Ok(Status::Memory) | Err(ToolFault::Memory) => 4,
         Err(
             ToolFault::Read

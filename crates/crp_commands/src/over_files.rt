@@ -79,8 +79,8 @@ fn do_job<T: Threads + Wait + Sync, F: Files, R: Source, W: Sink, E: Sink, S: Te
         } => audit_files(alloc, files, names, settings, out),
         Job::Follow {
             files: names,
-            heights,
-        } => follow_files(alloc, files, input, names, heights, out),
+            settings,
+        } => follow_files(alloc, files, input, names, settings, out),
         Job::Solve {
             files: names,
             settings,

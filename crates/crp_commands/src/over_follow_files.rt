@@ -1,87 +1,177 @@
 //! The command `follow` over its files.
-ghost use Rattle.std.specs.Prelude.{MatchResult, Option};
+ghost use Rattle.std.specs.Prelude.{None, MatchResult};
 ghost use Rattle.crp_report.specs.Runs.{SourceSeen, SinkSeen};
 ghost use Rattle.crp_commands.specs.Opened.{FilesSeen};
-ghost use Rattle.crp_commands.specs.Follow.{AnswersPage, FollowSeen, FollowReportsOverFiles, FollowFailsOverFiles};
+ghost use Rattle.crp_commands.specs.Follow.{AnswersOver, FollowReportsOverFiles, FollowFailsOverFiles, IsOverMessage, IsOverPage, IsOverReport, Opened, RefusesFile, if_asked};
 
 use crate::following::{FollowSettings, follow};
 use crate::job::FollowFiles;
 use crate::opening::Files;
 use crate::outcome::{Statement, ToolFault};
-use crate::row_heights::RowHeights;
 use crp_plan::{Nowhere, Sink, Source};
-use crp_report::{Fault, Input, Status};
+use crp_report::{Fault, Input, InputSettings, Status};
 use std::alloc::Global;
 
 // Makes the file of the page, if it is wanted, and follows the moves of the report.
-fn follow_to<F: Files, Y: Source, R: Source, W: Sink>(
+fn follow_to<F: Files, Y: Source, M: Source, R: Source, W: Sink>(
     alloc: Global,
     files: &mut F,
     names: &FollowFiles<'_>,
+    ship: bool,
     yard: &mut Y,
+    movins: &mut M,
     report: &mut R,
-    heights: &RowHeights,
+    settings: &InputSettings,
     out: &mut W,
 ) -> Result<Status, ToolFault>
-    ensures { let seen : Option SinkSeen → FollowSeen = λ page. record {
+    ensures { let devices : Opened = record {
       yard = record { given = Y.remaining yard.old; before = Y.failures yard.old; after = Y.failures yard.new };
-      report = record { given = R.remaining report.old; before = R.failures report.old; after = R.failures report.new };
-      page = page;
+      movins = if_asked ship (record { given = M.remaining movins.old; before = M.failures movins.old; after = M.failures movins.new });
       out = record { held = W.contents out.old; holds = W.contents out.new; before = W.failures out.old; after = W.failures out.new };
-    } in let all : FilesSeen = record { known = F.known files.old; before = F.failures files.old; after = F.failures files.new }
-        in AnswersPage names.now heights.now all seen result }
+    } in let from : SourceSeen = record { given = R.remaining report.old; before = R.failures report.old; after = R.failures report.new }
+        in let all : FilesSeen = record { known = F.known files.old; before = F.failures files.old; after = F.failures files.new }
+        in AnswersOver settings.now (IsOverPage names.now all devices from) (RefusesFile names.now all devices from) result }
 {
     match names.page {
         Some(name) => {
             let Ok(mut page) = files.create(name) else {
                 return Err(ToolFault::WritePage);
             };
-            let settings = FollowSettings {
-                heights,
+            let asked = FollowSettings {
+                input: settings,
+                ship,
                 page: true,
             };
-            let answer = follow(alloc, yard, report, &settings, &mut page, out);
+            let answer = follow(alloc, yard, movins, report, &asked, &mut page, out);
             files.finish(page);
             answer
         }
         None => {
-            let settings = FollowSettings {
-                heights,
+            let asked = FollowSettings {
+                input: settings,
+                ship,
                 page: false,
             };
-            follow(alloc, yard, report, &settings, &mut Nowhere, out)
+            follow(alloc, yard, movins, report, &asked, &mut Nowhere, out)
         }
     }
 }
 
-/// Opens the files, before anything is read: the yard list, the report and the file of the page. Then follows the moves of the report. One
-/// named `-` is `input`, the standard input. The table goes to `out`.
+// Opens the report, unless it is the standard input, and then the file of the page.
+fn follow_report<F: Files, Y: Source, M: Source, R: Source, W: Sink>(
+    alloc: Global,
+    files: &mut F,
+    names: &FollowFiles<'_>,
+    ship: bool,
+    yard: &mut Y,
+    movins: &mut M,
+    input: &mut R,
+    settings: &InputSettings,
+    out: &mut W,
+) -> Result<Status, ToolFault>
+    ensures { let devices : Opened = record {
+      yard = record { given = Y.remaining yard.old; before = Y.failures yard.old; after = Y.failures yard.new };
+      movins = if_asked ship (record { given = M.remaining movins.old; before = M.failures movins.old; after = M.failures movins.new });
+      out = record { held = W.contents out.old; holds = W.contents out.new; before = W.failures out.old; after = W.failures out.new };
+    } in let given : SourceSeen = record { given = R.remaining input.old; before = R.failures input.old; after = R.failures input.new }
+        in let all : FilesSeen = record { known = F.known files.old; before = F.failures files.old; after = F.failures files.new }
+        in AnswersOver settings.now (IsOverReport names.now all devices given) (RefusesFile names.now all devices given) result }
+{
+    if names.report == "-" {
+        return follow_to(
+            alloc, files, names, ship, yard, movins, input, settings, out,
+        );
+    }
+    let Ok(mut report) = files.open(names.report) else {
+        return Err(ToolFault::ReadOf(Statement::Report));
+    };
+    let answer = follow_to(
+        alloc,
+        files,
+        names,
+        ship,
+        yard,
+        movins,
+        &mut report,
+        settings,
+        out,
+    );
+    files.close(report);
+    answer
+}
+
+// Opens the message, if one is named, and then the report and the file of the page.
+fn follow_message<F: Files, Y: Source, R: Source, W: Sink>(
+    alloc: Global,
+    files: &mut F,
+    names: &FollowFiles<'_>,
+    yard: &mut Y,
+    input: &mut R,
+    settings: &InputSettings,
+    out: &mut W,
+) -> Result<Status, ToolFault>
+    ensures { let listed : SourceSeen = record { given = Y.remaining yard.old; before = Y.failures yard.old; after = Y.failures yard.new }
+        in let given : SourceSeen = record { given = R.remaining input.old; before = R.failures input.old; after = R.failures input.new }
+        in let shown : SinkSeen = record { held = W.contents out.old; holds = W.contents out.new; before = W.failures out.old; after = W.failures out.new }
+        in let all : FilesSeen = record { known = F.known files.old; before = F.failures files.old; after = F.failures files.new }
+        in AnswersOver settings.now (IsOverMessage names.now all listed given shown)
+        (RefusesFile names.now all (record { yard = listed; movins = None; out = shown }) given) result }
+{
+    match names.movins {
+        Some(name) => {
+            let Ok(mut movins) = files.open(name) else {
+                return Err(ToolFault::Run(Fault::Read(Input::Movins)));
+            };
+            let answer = follow_report(
+                alloc,
+                files,
+                names,
+                true,
+                yard,
+                &mut movins,
+                input,
+                settings,
+                out,
+            );
+            files.close(movins);
+            answer
+        }
+        None => {
+            let mut unread: &[u8] = b"";
+            follow_report(
+                alloc,
+                files,
+                names,
+                false,
+                yard,
+                &mut unread,
+                input,
+                settings,
+                out,
+            )
+        }
+    }
+}
+
+/// Opens the files, before anything is read: the yard list, the message, if there is one, the report and the file of the page. Then
+/// follows the moves of the report. One named `-` is `input`, the standard input. The table goes to `out`.
 pub fn follow_files<F: Files, R: Source, W: Sink>(
     alloc: Global,
     files: &mut F,
     input: &mut R,
     names: &FollowFiles<'_>,
-    heights: &RowHeights,
+    settings: &InputSettings,
     out: &mut W,
 ) -> Result<Status, ToolFault>
     ensures { let all : FilesSeen = record { known = F.known files.old; before = F.failures files.old; after = F.failures files.new }
         in let given : SourceSeen = record { given = R.remaining input.old; before = R.failures input.old; after = R.failures input.new }
         in let shown : SinkSeen = record { held = W.contents out.old; holds = W.contents out.new; before = W.failures out.old; after = W.failures out.new }
-        in MatchResult result (FollowReportsOverFiles names.now heights.now all given shown) (FollowFailsOverFiles names.now heights.now all given shown) }
+        in MatchResult result (FollowReportsOverFiles names.now settings.now all given shown) (FollowFailsOverFiles names.now settings.now all given shown) }
 {
     let Ok(mut yard) = files.open(names.yard) else {
         return Err(ToolFault::Run(Fault::Read(Input::Yard)));
     };
-    if names.report == "-" {
-        let answer = follow_to(alloc, files, names, &mut yard, input, heights, out);
-        files.close(yard);
-        return answer;
-    }
-    let Ok(mut report) = files.open(names.report) else {
-        return Err(ToolFault::ReadOf(Statement::Report));
-    };
-    let answer = follow_to(alloc, files, names, &mut yard, &mut report, heights, out);
+    let answer = follow_message(alloc, files, names, &mut yard, input, settings, out);
     files.close(yard);
-    files.close(report);
     answer
 }

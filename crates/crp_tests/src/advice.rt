@@ -10,6 +10,7 @@ use crp_audit::AuditFault;
 use crp_checker::{Path, Refused};
 use crp_commands::{Statement, ToolFault, advice_on};
 use crp_follow::FollowFault;
+use crp_loading::LoadingFault;
 use crp_movins::MovinsFault;
 use crp_plan::BayName;
 use crp_report::{Fault, Output};
@@ -222,6 +223,8 @@ fn add_followed(faults: &mut Vec<ToolFault>) -> Result<(), AllocError> {
     ] {
         faults.push(ToolFault::Followed(fault))?;
     }
+    faults.push(ToolFault::Loaded(LoadingFault::OutOfOrder { line: 4 }))?;
+    faults.push(ToolFault::Loaded(LoadingFault::NotOrdered { line: 4 }))?;
     faults.push(ToolFault::WriteTable)?;
     faults.push(ToolFault::WritePage).map_err(AllocError::from)
 }
@@ -260,7 +263,7 @@ fn is_short(advice: &str) -> bool {
 #[test]
 fn each_line_is_short_and_of_one_code(rt: HostRuntime) -> Result<(), Fail> {
     let lines = every_advice(rt.alloc())?;
-    assert_same(&rt, &lines.len(), &95);
+    assert_same(&rt, &lines.len(), &97);
     for (i, advice) in lines.iter().enumerate() {
         assert_at(&rt, is_short(advice), advice);
         let is_new = lines[..i].iter().all(|line| line != advice);

@@ -89,13 +89,14 @@ pub(crate) fn job<'a>(alloc: Global, words: &'a [&'a str]) -> Result<Job<'a>, Us
     crp_words::job(alloc, words)
 }
 
-pub(crate) fn follow<Y: Source, R: Source, P: Sink, W: Sink>(
+pub(crate) fn follow<Y: Source, M: Source, R: Source, P: Sink, W: Sink>(
     alloc: Global,
     yard: &mut Y,
+    movins: &mut M,
     report: &mut R,
     settings: &FollowSettings<'_>,
     page: &mut P,
     out: &mut W,
 ) -> Result<Status, ToolFault> {
-    crp_commands::follow(alloc, yard, report, settings, page, out)
+    crp_commands::follow(alloc, yard, movins, report, settings, page, out)
 }

@@ -2,7 +2,7 @@
 use crate::calls::follow;
 use crate::compare::assert_same_at;
 use crate::devices::{Busy, Endless, Slow, Small};
-use crp_commands::{FollowSettings, RowHeights, Statement, ToolFault};
+use crp_commands::{FollowSettings, Statement, ToolFault};
 use crp_follow::FollowFault;
 use crp_order::Mode;
 use crp_plan::{Sink, Source};
@@ -19,6 +19,14 @@ const TABLE: &[u8] =
     b"block,bay,step,move,container,from_row,from_tier,to_row,to_tier,leaves,for,left\n\
         B,2,1,shift,Y,1,2,2,1,,X,2\n\
         B,2,2,take,X,1,1,,,2,X,1\n";
+
+const MESSAGE: &[u8] = b"UNB+UNOA:1+YARD+SHIP+250101:0800+1'UNH+1+MOVINS:D:95B:UN'BGM++8+9'HAN+LOA'\
+        LOC+147+0010182'EQD+CN+X'UNT+6+1'UNZ+1+1'";
+
+const LOADED: &[u8] =
+    b"block,bay,step,move,container,from_row,from_tier,to_row,to_tier,leaves,for,left,order,slot\n\
+        B,2,1,shift,Y,1,2,2,1,,X,2,1,\n\
+        B,2,2,take,X,1,1,,,2,X,1,1,0010182\n";
 
 // More room than the table needs, and than the page.
 const ROOM: usize = 1000;
@@ -41,21 +49,25 @@ fn small(alloc: Global, room: usize) -> Small {
     }
 }
 
-// How a report is followed over a yard of three rows of three tiers, with sinks of the page and of the table.
+// How a report is followed over a yard of three rows of three tiers, with a message where one is given, and sinks of the page and of the
+// table.
 fn followed_to<Y: Source, R: Source, P: Sink, W: Sink>(
     alloc: Global,
     yard: &mut Y,
+    message: Option<Slow<'_>>,
     report: &mut R,
     asked: bool,
     page: &mut P,
     out: &mut W,
 ) -> Result<Result<Status, ToolFault>, Fail> {
-    let heights = RowHeights::of(&InputSettings::new(alloc, 3, 3, Mode::Listed, b"")?);
+    let input = InputSettings::new(alloc, 3, 3, Mode::Listed, b"LOA")?;
     let settings = FollowSettings {
-        heights: &heights,
+        input: &input,
+        ship: message.is_some(),
         page: asked,
     };
-    Ok(follow(alloc, yard, report, &settings, page, out))
+    let mut movins = message.unwrap_or(whole(b""));
+    Ok(follow(alloc, yard, &mut movins, report, &settings, page, out))
 }
 
 // The same, with sinks that have so much room; without room for a page none is asked for.
@@ -71,8 +83,29 @@ fn followed<R: Source + Drop>(
     let answer = followed_to(
         alloc,
         &mut yard,
+        None,
         &mut report,
         page_room.is_some(),
+        &mut page,
+        &mut out,
+    )?;
+    Ok(Ended {
+        answer,
+        page: page.bytes,
+        held: out.bytes,
+    })
+}
+
+// The same with a message, and without a page.
+fn loaded(alloc: Global, message: Slow<'_>, room: usize) -> Result<Ended, Fail> {
+    let mut page = small(alloc, PAGE_ROOM);
+    let mut out = small(alloc, room);
+    let answer = followed_to(
+        alloc,
+        &mut whole(LIST),
+        Some(message),
+        &mut whole(REPORT),
+        false,
         &mut page,
         &mut out,
     )?;
@@ -178,6 +211,7 @@ fn a_page_and_a_table_share_a_thousand_interruptions(rt: HostRuntime) -> Result<
         let got = followed_to(
             rt.alloc(),
             &mut whole(LIST),
+            None,
             &mut whole(REPORT),
             true,
             &mut page,
@@ -205,6 +239,28 @@ fn each_read_of_a_followed_report_fails_in_turn(rt: HostRuntime) -> Result<(), F
         assert_same_at(&rt, &got.answer, &answer, &given);
         assert_same_at(&rt, &got.held.len(), &0, &given);
         assert_same_at(&rt, &got.page.len(), &0, &given);
+    }
+    Ok(())
+}
+
+#[test]
+fn reads_of_a_message_and_writes_of_its_table_fail_in_turn(rt: HostRuntime) -> Result<(), Fail> {
+    for given in 0..MESSAGE.len() + 1 {
+        let got = loaded(rt.alloc(), slow(MESSAGE, given, true), ROOM)?;
+        let answer = Err(ToolFault::Run(Fault::Read(Input::Movins)));
+        assert_same_at(&rt, &got.answer, &answer, &given);
+        assert_same_at(&rt, &got.held.len(), &0, &given);
+    }
+    for room in 0..LOADED.len() + 1 {
+        let answer = if room < LOADED.len() {
+            Err(ToolFault::WriteTable)
+        } else {
+            Ok(Status::Decided)
+        };
+        let got = loaded(rt.alloc(), whole(MESSAGE), room)?;
+        assert_same_at(&rt, &got.answer, &answer, &room);
+        assert_same_at(&rt, &got.held.as_slice(), &front(LOADED, room), &room);
+        assert_same_at(&rt, &got.page.len(), &0, &room);
     }
     Ok(())
 }

@@ -253,7 +253,7 @@ prove_asks rows (job.OneFile file command.Bound) asks = absurd (other_name 112 9
 prove_asks rows (job.OneFile file command.Check) asks = absurd (other_name 112 99 _ _ (omega arith) asks.0)
 prove_asks rows (job.OneFile file (command.Prove search)) asks = (search, asks.0.1)
 prove_asks rows (job.Audit names settings) asks = absurd (other_name 112 97 _ _ (omega arith) asks.0)
-prove_asks rows (job.Follow names heights) asks = absurd (other_name 112 102 _ _ (omega arith) asks.0)
+prove_asks rows (job.Follow names settings) asks = absurd (other_name 112 102 _ _ (omega arith) asks.0)
 prove_asks rows (job.Solve names settings quiet progress) asks = absurd (other_name 112 115 _ _ (omega arith) asks.0)
 
 -- a fault of prove is its search's
@@ -277,7 +277,7 @@ solve_asks rows (job.OneFile file command.Bound) asks = absurd (other_name 115 9
 solve_asks rows (job.OneFile file command.Check) asks = absurd (other_name 115 99 _ _ (omega arith) asks.0)
 solve_asks rows (job.OneFile file (command.Prove search)) asks = absurd (other_name 115 112 _ _ (omega arith) asks.0.0)
 solve_asks rows (job.Audit names settings) asks = absurd (other_name 115 97 _ _ (omega arith) asks.0)
-solve_asks rows (job.Follow names heights) asks = absurd (other_name 115 102 _ _ (omega arith) asks.0)
+solve_asks rows (job.Follow names settings) asks = absurd (other_name 115 102 _ _ (omega arith) asks.0)
 solve_asks rows (job.Solve names settings quiet progress) asks = (asks.1, asks.2, (names, asks.3), (settings, asks.4))
 
 solve_fault : (rows : List Row) (f : SettingFault) → IsFault (codes "solve") rows f → ¬ IsSizedTwice rows × ¬ IsNamedTwice rows × IsSolveFault rows f
@@ -309,7 +309,7 @@ no_size_fault rows heights has setting.Rows beyond = no_rows_fault rows has.rows
 no_size_fault rows heights has setting.Tiers first = no_tiers_fault rows has.tiers has.finds_tiers first.1
 no_size_fault rows heights has setting.Heights first = no_heights_fault rows has.own has.finds_own first.2
 
-no_input_fault : (rows : List Row) (s : InputChosen) → HasInput rows s → (f : SettingFault) → IsInputFault rows f → ⊥
+pub no_input_fault : (rows : List Row) (s : InputChosen) → HasInput rows s → (f : SettingFault) → IsInputFault rows f → ⊥
 no_input_fault rows s has = no_size_fault rows s.heights has.0
 
 no_settings_fault : (rows : List Row) (s : RunChosen) → HasSettings rows s → (f : SettingFault) → IsSolveFault rows f → ⊥
@@ -348,7 +348,7 @@ audit_asks rows (job.OneFile file command.Bound) asks = absurd (other_name 97 98
 audit_asks rows (job.OneFile file command.Check) asks = absurd (other_name 97 99 _ _ (omega arith) asks.0)
 audit_asks rows (job.OneFile file (command.Prove search)) asks = absurd (other_name 97 112 _ _ (omega arith) asks.0.0)
 audit_asks rows (job.Audit names settings) asks = (asks.1, (settings, asks.3))
-audit_asks rows (job.Follow names heights) asks = absurd (other_name 97 102 _ _ (omega arith) asks.0)
+audit_asks rows (job.Follow names settings) asks = absurd (other_name 97 102 _ _ (omega arith) asks.0)
 audit_asks rows (job.Solve names settings quiet progress) asks = absurd (other_name 97 115 _ _ (omega arith) asks.0)
 
 audit_fault : (rows : List Row) (f : SettingFault) → IsFault (codes "audit") rows f → ¬ IsSizedTwice rows × IsInputFault rows f

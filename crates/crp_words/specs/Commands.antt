@@ -12,6 +12,10 @@ use Rattle.clap.specs.declared.builder.value_parser.ValueParser.TheVariants as v
 abbrev pub file_rule : Text → Rule
 file_rule name = record (new_rule name) { required = true; value_names = 1 }
 
+-- a file that may be named
+abbrev pub more_rule : Text → Rule
+more_rule name = record (new_rule name) { value_names = 1 }
+
 -- an option that takes a text, and the text that it has where it is not given
 abbrev pub text_rule : Text → Text → Rule
 text_rule name default = record (new_rule name) {
@@ -133,13 +137,13 @@ audit_files = command (codes "audit")
 abbrev pub audit : Shape
 audit = with_orders (with_size audit_files)
 
--- follow YARD REPORT, without its options
+-- follow YARD REPORT [MOVINS], without its options
 abbrev pub follow_files : Shape
-follow_files = command (codes "follow") (file_rule (codes "yard") ∷ file_rule (codes "report") ∷ [])
+follow_files = command (codes "follow") (file_rule (codes "yard") ∷ file_rule (codes "report") ∷ more_rule (codes "movins") ∷ [])
 
--- follow, with its options: the size of the bays, and the page
+-- follow, with its options: the size of the bays, the order of leaving, and the page
 abbrev pub follow : Shape
-follow = with_page (with_size follow_files)
+follow = with_page (with_orders (with_size follow_files))
 
 -- crp itself, with a version, and a command that is required
 abbrev pub top_command : Shape

@@ -33,16 +33,16 @@ OfSomeWritten Of names =
 abbrev pub OfPage : (Option (List ℕ) → Option (List ℕ) → Type 0) → FollowFiles → Type 0
 OfPage Of names =
     let page : Option (List ℕ) = option_map (λ name. name.now) names.page in
-    Of page (Some names.yard.now) ⊎ Of page (Some names.report.now)
+    Of page (Some names.yard.now) ⊎ (Of page (Some names.report.now) ⊎ Of page (option_map (λ name. name.now) names.movins))
 
 -- a file that the job writes is known to be another one of its files; a run over a yard writes files, and who follows a report writes its page
 abbrev pub IsLinked : KnownFiles → Job → Type 0
 IsLinked known (job.Solve names settings quiet progress) = OfSomeWritten (AreOne known) names
-IsLinked known (job.Follow names heights) = OfPage (AreOne known) names
+IsLinked known (job.Follow names settings) = OfPage (AreOne known) names
 IsLinked known j = ⊥
 
 -- a file that the job writes may be another one of its files
 abbrev pub MayBeLinked : KnownFiles → Job → Type 0
 MayBeLinked known (job.Solve names settings quiet progress) = OfSomeWritten (MayBeOne known) names
-MayBeLinked known (job.Follow names heights) = OfPage (MayBeOne known) names
+MayBeLinked known (job.Follow names settings) = OfPage (MayBeOne known) names
 MayBeLinked known j = ⊥

@@ -183,9 +183,10 @@ abbrev pub HasAuditFiles : List Row → AuditFiles → Type 0
 HasAuditFiles found names = HasText (codes "yard") found names.yard.now × HasText (codes "movins") found names.movins.now
     × HasText (codes "report") found names.report.now × HasText (codes "certificates") found names.certificates.now
 
--- the files of follow that were found: the two inputs, and the page, if it is wanted
+-- the files of follow that were found: the yard list and the report, the message, if there is one, and the page, if it is wanted
 abbrev pub HasFollowFiles : List Row → FollowFiles → Type 0
 HasFollowFiles found names = HasText (codes "yard") found names.yard.now × HasText (codes "report") found names.report.now
+    × (first_of (codes "movins") found ≡ option_map (λ text. text.now) names.movins)
     × (first_of (codes "page") found ≡ option_map (λ text. text.now) names.page)
 
 -- the name of a file without `./` in front
@@ -208,7 +209,12 @@ IsNamedTwice found = IsOneFile (codes "cert") (codes "yard") found
 
 -- the page that follow writes, which is emptied before anything is read, is a file that it reads
 abbrev pub IsPageNamedTwice : List Row → Type 0
-IsPageNamedTwice found = IsOneFile (codes "page") (codes "yard") found ⊎ IsOneFile (codes "page") (codes "report") found
+IsPageNamedTwice found =
+    IsOneFile (codes "page") (codes "yard") found ⊎ (IsOneFile (codes "page") (codes "report") found ⊎ IsOneFile (codes "page") (codes "movins") found)
+
+-- the order of leaving or the handling code is given, and no message that they are about
+abbrev pub IsOrderedAlone : List Row → Type 0
+IsOrderedAlone found = (first_of (codes "movins") found ≡ None) × (IsGivenByWords (codes "order") found ⊎ IsGivenByWords (codes "code") found)
 
 -- notes are left out exactly where the words give the flag
 abbrev pub MayBeQuiet : List Row → Bool → Type 0
@@ -232,8 +238,8 @@ abbrev pub Asks : Text → List Row → Job → Type 0
 Asks name found (job.OneFile file c) = AsksCommand name found c × HasText (codes "file") found file.now
 Asks name found (job.Audit names settings) =
     (name ≡ codes "audit") × ¬ IsSizedTwice found × HasAuditFiles found names × HasInput found settings
-Asks name found (job.Follow names heights) =
-    (name ≡ codes "follow") × ¬ IsSizedTwice found × ¬ IsPageNamedTwice found × HasFollowFiles found names × FindsRowHeights found heights
+Asks name found (job.Follow names settings) = (name ≡ codes "follow") × ¬ IsSizedTwice found × ¬ IsOrderedAlone found × ¬ IsPageNamedTwice found
+    × HasFollowFiles found names × HasInput found settings
 Asks name found (job.Solve names settings quiet progress) =
     (name ≡ codes "solve") × ¬ IsSizedTwice found × ¬ IsNamedTwice found × HasFiles found names × HasSettings found settings × MayBeQuiet found quiet × MayShowProgress found progress
 
@@ -247,7 +253,7 @@ IsSearchFault found setting.Rows = ⊥
 IsSearchFault found setting.Tiers = ⊥
 IsSearchFault found setting.Heights = ⊥
 
--- the first setting of the input beyond its limits: the rows, then the tiers, then the heights; so it is where a report is followed
+-- the first setting of the input beyond its limits: the rows, then the tiers, then the heights
 abbrev pub IsInputFault : List Row → SettingFault → Type 0
 IsInputFault found setting.Rows = AreRowsBeyond found
 IsInputFault found setting.Tiers = ((n : ℕ) × FindsRows found n) × AreTiersBeyond found
@@ -262,7 +268,7 @@ IsSolveFault found f = IsSearchFault found f ⊎ (((s : Chosen) × HasSearch fou
 abbrev pub IsFault : Text → List Row → SettingFault → Type 0
 IsFault name found f = ((name ≡ codes "prove") × IsSearchFault found f) ⊎ (((name ≡ codes "solve") × (¬ IsSizedTwice found × ¬ IsNamedTwice found × IsSolveFault found f))
     ⊎ (((name ≡ codes "audit") × (¬ IsSizedTwice found × IsInputFault found f))
-    ⊎ ((name ≡ codes "follow") × (¬ IsSizedTwice found × ¬ IsPageNamedTwice found × IsInputFault found f))))
+    ⊎ ((name ≡ codes "follow") × (¬ IsSizedTwice found × ¬ IsOrderedAlone found × ¬ IsPageNamedTwice found × IsInputFault found f))))
 
 -- the command, if there is one, and its rows ask for this
 abbrev pub AsksFor : Option (Text × List Row) → Job → Type 0

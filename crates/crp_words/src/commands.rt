@@ -1,7 +1,7 @@
 //! The command line: each command with its files and options.
 ghost use Rattle.std.specs.Prelude.{◌≡◌, IfOk};
 ghost use Rattle.clap.specs.Words.{App, Shape, app_of, with_subcommand};
-ghost use Rattle.crp_words.specs.Commands.{IsArg, IsCommand, alone, audit as audit_shape, audit_files as audit_files_shape, beam_rule, budget_rule, crp, deepen_rule, file_rule, first_rule, flag_rule, follow as follow_shape, follow_files as follow_files_shape, leaf as leaf_shape, leaves, number_rule, optional_rule, progress_rule, prove as prove_shape, quiet_rule, solve as solve_shape, solve_files as solve_files_shape, split_rule, text_rule, top_command as top_shape, with_orders, with_outputs, with_page, with_search, with_size, workers_rule};
+ghost use Rattle.crp_words.specs.Commands.{IsArg, IsCommand, alone, audit as audit_shape, audit_files as audit_files_shape, beam_rule, budget_rule, crp, deepen_rule, file_rule, first_rule, flag_rule, follow as follow_shape, follow_files as follow_files_shape, leaf as leaf_shape, leaves, more_rule, number_rule, optional_rule, progress_rule, prove as prove_shape, quiet_rule, solve as solve_shape, solve_files as solve_files_shape, split_rule, text_rule, top_command as top_shape, with_orders, with_outputs, with_page, with_search, with_size, workers_rule};
 
 use clap::{Arg, ArgAction, Command, value_parser};
 use std::alloc::{AllocError, Global};
@@ -14,6 +14,13 @@ fn file<'a>(alloc: Global, name: &'a str, shown: &'a str, help: &'a str) -> Arg<
         .required(true)
         .value_name(shown)
         .help(help)
+}
+
+// A file that may be named.
+fn more_file<'a>(alloc: Global, name: &'a str, shown: &'a str, help: &'a str) -> Arg<'a>
+    ensures { IsArg (more_rule name.entry.now) result }
+{
+    Arg::new(alloc, name).value_name(shown).help(help)
 }
 
 // An option that takes a whole number.
@@ -305,6 +312,12 @@ fn follow_files<'a>(alloc: Global) -> Result<Command<'a>, AllocError>
             "report",
             "REPORT",
             "Report, as solve prints it, or - for the standard input",
+        ))?
+        .arg(more_file(
+            alloc,
+            "movins",
+            "MOVINS",
+            "Load orders (MOVINS); with them the table is in the order in which the ship is loaded",
         ))
 }
 
@@ -325,7 +338,8 @@ fn follow<'a>(alloc: Global) -> Result<Command<'a>, AllocError>
     ensures { IfOk result (IsCommand follow_shape) }
 {
     let sized = with_size(alloc, follow_files(alloc)?)?;
-    with_page(alloc, sized)
+    let ordered = with_orders(alloc, sized)?;
+    with_page(alloc, ordered)
 }
 
 // crp itself, without its commands.

@@ -1,29 +1,30 @@
 //! What the words of `follow` ask for.
-ghost use Rattle.std.specs.Prelude.{IfOk, IfErr, IfSome, IfNone, codes};
+ghost use Rattle.std.specs.Prelude.{◌↔◌, IfOk, IfErr, IfSome, IfNone, IsTrue, codes};
 ghost use Rattle.clap.specs.Words.{found_of, rows_of};
-ghost use Rattle.crp_words.specs.Words.{Asks, FindsRowHeights, IsFault, IsInputFault, IsPageNamedTwice, Lacks};
+ghost use Rattle.crp_words.specs.Words.{Asks, IsFault, IsOrderedAlone, IsPageNamedTwice, Lacks};
 
 use crate::usage::Usage;
-use crate::words::{input_with, is_sized_twice, one_file, same_file, size_of, text_of, wrong};
+use crate::words::{input_of, is_given, is_sized_twice, one_file, same_file, text_of, wrong};
 use clap::ArgMatches;
-use crp_commands::{FollowFiles, Job, RowHeights};
-use crp_order::Mode;
+use crp_commands::{FollowFiles, Job};
 use std::alloc::Global;
 
 // The refusal of heights beside rows or tiers.
 static SIZED_TWICE: &str =
-    "error: the argument '--heights <HEIGHTS>' cannot be used with '--rows <N>' or '--tiers <N>'\n\nUsage: crp follow [OPTIONS] <YARD> <REPORT>\n\nFor more information, try '--help'.\n";
+    "error: the argument '--heights <HEIGHTS>' cannot be used with '--rows <N>' or '--tiers <N>'\n\nUsage: crp follow [OPTIONS] <YARD> <REPORT> [MOVINS]\n\nFor more information, try '--help'.\n";
 
-// How high the rows of the bays are over which `follow` follows a report. No message is read, so its order and its code are left empty.
-fn row_heights_of(alloc: Global, matches: &ArgMatches<'_>) -> Result<RowHeights, Usage>
-    ensures ok { IfOk result (FindsRowHeights (rows_of (found_of matches.now))) }
-    ensures err { IfErr result (Lacks (FindsRowHeights (rows_of (found_of matches.now))) (IsInputFault (rows_of (found_of matches.now)))) }
+// The refusal of an order or a code without a message.
+static ORDERED_ALONE: &str =
+    "error: the arguments '--order <ORDER>' and '--code <TEXT>' are about a message: name it behind the report\n\nUsage: crp follow [OPTIONS] <YARD> <REPORT> [MOVINS]\n\nFor more information, try '--help'.\n";
+
+// Whether the order of leaving or the handling code is given, and no message.
+fn is_ordered_alone(matches: &ArgMatches<'_>) -> bool
+    ensures { IsTrue result ↔ IsOrderedAlone (rows_of (found_of matches.now)) }
 {
-    let size = size_of(alloc, matches)?;
-    let Ok(settings) = input_with(alloc, &size, Mode::Listed, "") else {
-        return Err(Usage::Memory);
-    };
-    Ok(RowHeights::of(&settings))
+    match matches.get_str("movins") {
+        Some(_) => false,
+        None => is_given(matches, "order") || is_given(matches, "code"),
+    }
 }
 
 // The names of the page and of a file that is read, where they are one.
@@ -34,7 +35,10 @@ fn page_named_twice<'a>(matches: &ArgMatches<'a>) -> Option<(&'a str, &'a str)>
     if let Some(names) = one_file(matches, "page", "yard") {
         return Some(names);
     }
-    one_file(matches, "page", "report")
+    if let Some(names) = one_file(matches, "page", "report") {
+        return Some(names);
+    }
+    one_file(matches, "page", "movins")
 }
 
 /// What `follow` and its matches ask for.
@@ -45,14 +49,20 @@ pub(crate) fn follow_of<'a>(alloc: Global, matches: &ArgMatches<'a>) -> Result<J
     if is_sized_twice(matches) {
         return Err(wrong(alloc, SIZED_TWICE));
     }
+    if is_ordered_alone(matches) {
+        return Err(wrong(alloc, ORDERED_ALONE));
+    }
     if let Some(names) = page_named_twice(matches) {
         return Err(same_file(alloc, names));
     }
-    let heights = row_heights_of(alloc, matches)?;
+    let settings = input_of(alloc, matches)?;
+    let yard = text_of(alloc, matches, "yard")?;
+    let report = text_of(alloc, matches, "report")?;
     let files = FollowFiles {
-        yard: text_of(alloc, matches, "yard")?,
-        report: text_of(alloc, matches, "report")?,
+        yard,
+        report,
+        movins: matches.get_str("movins"),
         page: matches.get_str("page"),
     };
-    Ok(Job::Follow { files, heights })
+    Ok(Job::Follow { files, settings })
 }

@@ -54,7 +54,10 @@ fn linked_to_page<'a, F: Files>(files: &F, names: &FollowFiles<'a>) -> Option<(&
     if let Some(found) = one_file(files, names.page, Some(names.yard)) {
         return Some(found);
     }
-    one_file(files, names.page, Some(names.report))
+    if let Some(found) = one_file(files, names.page, Some(names.report)) {
+        return Some(found);
+    }
+    one_file(files, names.page, names.movins)
 }
 
 /// The names of a file that the job writes and of another of its files, where they lead to one.

@@ -156,8 +156,8 @@ fn heights_of(matches: &ArgMatches<'_>) -> Result<Option<ArrayVec<u8, MAX_ROWS>>
     }
 }
 
-// Whether the words give the option, so that it has not its default.
-fn is_given(matches: &ArgMatches<'_>, name: &str) -> bool
+/// Whether the words give the option, so that it has not its default.
+pub(crate) fn is_given(matches: &ArgMatches<'_>, name: &str) -> bool
     ensures { IsTrue result ↔ IsGivenByWords name.now (rows_of (found_of matches.now)) }
 {
     let Some(source) = matches.value_source(name) else {
@@ -312,14 +312,14 @@ fn search_of(alloc: Global, matches: &ArgMatches<'_>) -> Result<Settings, Usage>
 
 // How large bays are: so many rows with so many tiers, or rows of these heights, where they are given.
 #[derive(Drop)]
-pub(crate) struct Size {
+struct Size {
     rows: u8,
     tiers: u8,
     heights: Option<ArrayVec<u8, MAX_ROWS>>,
 }
 
 // How large the bays are.
-pub(crate) fn size_of(alloc: Global, matches: &ArgMatches<'_>) -> Result<Size, Usage>
+fn size_of(alloc: Global, matches: &ArgMatches<'_>) -> Result<Size, Usage>
     ensures rows { IfOk result (λ size. FindsRows (rows_of (found_of matches.now)) size.rows) }
     ensures tiers { IfOk result (λ size. FindsTiers (rows_of (found_of matches.now)) size.tiers) }
     ensures own { IfOk result (λ size. MayFindHeights (rows_of (found_of matches.now)) (option_map (λ list. list.items) size.heights)) }
@@ -342,12 +342,7 @@ pub(crate) fn size_of(alloc: Global, matches: &ArgMatches<'_>) -> Result<Size, U
 }
 
 // The settings of an input with bays of this size.
-pub(crate) fn input_with(
-    alloc: Global,
-    size: &Size,
-    order: Mode,
-    code: &str,
-) -> Result<InputSettings, Usage>
+fn input_with(alloc: Global, size: &Size, order: Mode, code: &str) -> Result<InputSettings, Usage>
     requires rows { IsRowCount size.now.rows }
     requires tiers { HasTiers size.now.tiers }
     requires own { IfSome size.now.heights (λ list. CanBeHeights list.items) }
@@ -368,8 +363,8 @@ pub(crate) fn input_with(
     }
 }
 
-// What the yard list and the message of `solve` and `audit` mean.
-fn input_of(alloc: Global, matches: &ArgMatches<'_>) -> Result<InputSettings, Usage>
+/// What a yard list and a message mean.
+pub(crate) fn input_of(alloc: Global, matches: &ArgMatches<'_>) -> Result<InputSettings, Usage>
     ensures ok { IfOk result (HasInput (rows_of (found_of matches.now))) }
     ensures err { IfErr result (Lacks (HasInput (rows_of (found_of matches.now))) (IsInputFault (rows_of (found_of matches.now)))) }
 {

@@ -1,8 +1,8 @@
 use Rattle.std.proofs.Common.{arith, refl, subst, sym}
 use Rattle.std.proofs.lemmas.Result.{err_from_is_err_and}
 use Rattle.crp_yard.specs.Reading.{IsTextOf}
-use Rattle.crp_report.specs.Runs.{SinkSeen}
-use Rattle.crp_commands.specs.Follow.{FollowSeen, IsYardIn, if_asked}
+use Rattle.crp_report.specs.Runs.{SourceSeen, SinkSeen}
+use Rattle.crp_commands.specs.Follow.{FollowSeen, if_asked}
 use Rattle.crp_commands.proofs.Replayed.{keeps_same}
 use Rattle.crp_commands.proofs.Traced.{asked_failures, asked_nothing, no_report, no_texts}
 use Rattle.crp_commands.proofs.following.follow.Goals as goal
@@ -11,38 +11,42 @@ pub returns-in_err-text-clause-ended : goal.returns-in_err-text-clause-ended
 returns-in_err-text-clause-ended g c =
     let p = err_from_is_err_and c.from_residual-in_err-text.result c.from_residual-in_err-text.ensures.1 in
     let page : SinkSeen = record { held = g.P.Sink.contents c.args.page.now; holds = g.P.Sink.contents c.args.page.now; before = g.P.Sink.failures c.args.page.now; after = g.P.Sink.failures c.args.page.now } in
+    let message : SourceSeen = record { given = g.M.Source.remaining c.args.movins.now; before = g.M.Source.failures c.args.movins.now; after = g.M.Source.failures c.follow_input.new.movins } in
     let seen : FollowSeen = record {
-      yard = record { given = g.Y.Source.remaining c.args.yard.now; before = g.Y.Source.failures c.args.yard.now; after = g.Y.Source.failures c.yard_from.new.source };
+      yard = record { given = g.Y.Source.remaining c.args.yard.now; before = g.Y.Source.failures c.args.yard.now; after = g.Y.Source.failures c.follow_input.new.yard };
+      movins = if_asked c.args.settings.now.ship message;
       report = record { given = g.R.Source.remaining c.args.report.now; before = g.R.Source.failures c.args.report.now; after = g.R.Source.failures c.report_from.new.source };
       page = if_asked c.args.settings.now.page page;
       out = record { held = g.W.Sink.contents c.args.out.now; holds = g.W.Sink.contents c.args.out.now; before = g.W.Sink.failures c.args.out.now; after = g.W.Sink.failures c.args.out.now };
     } in
-    let listed = subst (λ heights. IsYardIn heights seen.yard c.in_ok-listed.listed) c.as_slice.ensures.value c.in_ok-listed.ensures.accepted in
     let few = asked_failures c.args.settings.now.page page in
     rw (p.1, p.2) (
-      no_report c.args.settings.now.heights.now seen c.in_ok-listed.listed c.in_err-text.field-0.0 (asked_nothing _ page (keeps_same _), keeps_same _) listed c.in_err-text.ensures.refused,
-      omega (arith, few, c.in_ok-listed.ensures.counted, c.in_err-text.ensures.counted, c.in_err-text.ensures.count, c.in_err-text.ensures.passed),
+      no_report c.args.settings.now.input.now seen c.in_ok-input.input.yard c.in_ok-input.input.ship c.in_err-text.field-0.0 (asked_nothing _ page (keeps_same _), keeps_same _)
+          c.in_ok-input.ensures.read c.in_err-text.ensures.refused,
+      omega (arith, few, c.in_ok-input.ensures.counted, c.in_err-text.ensures.counted, c.in_err-text.ensures.count, c.in_err-text.ensures.passed),
     )
 
 pub returns-in_err-follow_text-clause-ended : goal.returns-in_err-follow_text-clause-ended
 returns-in_err-follow_text-clause-ended g c =
     let p = err_from_is_err_and c.from_residual-in_err-follow_text.result c.from_residual-in_err-follow_text.ensures.1 in
     let page : SinkSeen = record { held = g.P.Sink.contents c.args.page.now; holds = g.P.Sink.contents c.follow_text.new.page; before = g.P.Sink.failures c.args.page.now; after = g.P.Sink.failures c.follow_text.new.page } in
+    let message : SourceSeen = record { given = g.M.Source.remaining c.args.movins.now; before = g.M.Source.failures c.args.movins.now; after = g.M.Source.failures c.follow_input.new.movins } in
     let seen : FollowSeen = record {
-      yard = record { given = g.Y.Source.remaining c.args.yard.now; before = g.Y.Source.failures c.args.yard.now; after = g.Y.Source.failures c.yard_from.new.source };
+      yard = record { given = g.Y.Source.remaining c.args.yard.now; before = g.Y.Source.failures c.args.yard.now; after = g.Y.Source.failures c.follow_input.new.yard };
+      movins = if_asked c.args.settings.now.ship message;
       report = record { given = g.R.Source.remaining c.args.report.now; before = g.R.Source.failures c.args.report.now; after = g.R.Source.failures c.report_from.new.source };
       page = if_asked c.args.settings.now.page page;
       out = record { held = g.W.Sink.contents c.args.out.now; holds = g.W.Sink.contents c.follow_text.new.out; before = g.W.Sink.failures c.args.out.now; after = g.W.Sink.failures c.follow_text.new.out };
     } in
-    let listed = subst (λ heights. IsYardIn heights seen.yard c.in_ok-listed.listed) c.as_slice.ensures.value c.in_ok-listed.ensures.accepted in
     let given = subst (IsTextOf seen.report.given) (sym c.deref.ensures.value) c.in_ok-text.ensures.read in
     let few = asked_failures c.args.settings.now.page page in
     rw (p.1, p.2) (
-      no_texts c.args.settings.now.heights.now seen c.in_ok-listed.listed c.deref.result.now c.in_err-follow_text.field-0.0 listed given c.in_err-follow_text.ensures.ended,
+      no_texts c.args.settings.now.input.now seen c.in_ok-input.input.yard c.in_ok-input.input.ship c.deref.result.now c.in_err-follow_text.field-0.0 c.in_ok-input.ensures.read given
+          c.in_err-follow_text.ensures.ended,
       omega (
         arith,
         few,
-        c.in_ok-listed.ensures.counted,
+        c.in_ok-input.ensures.counted,
         c.in_ok-text.ensures.counted,
         c.in_ok-text.ensures.count,
         c.in_err-follow_text.ensures.counted,
@@ -55,21 +59,14 @@ returns-in_err-follow_text-clause-ended g c =
 pub returns-clause-ended : goal.returns-clause-ended
 returns-clause-ended g c =
     let page : SinkSeen = record { held = g.P.Sink.contents c.args.page.now; holds = g.P.Sink.contents c.follow_text.new.page; before = g.P.Sink.failures c.args.page.now; after = g.P.Sink.failures c.follow_text.new.page } in
-    let seen : FollowSeen = record {
-      yard = record { given = g.Y.Source.remaining c.args.yard.now; before = g.Y.Source.failures c.args.yard.now; after = g.Y.Source.failures c.yard_from.new.source };
-      report = record { given = g.R.Source.remaining c.args.report.now; before = g.R.Source.failures c.args.report.now; after = g.R.Source.failures c.report_from.new.source };
-      page = if_asked c.args.settings.now.page page;
-      out = record { held = g.W.Sink.contents c.args.out.now; holds = g.W.Sink.contents c.follow_text.new.out; before = g.W.Sink.failures c.args.out.now; after = g.W.Sink.failures c.follow_text.new.out };
-    } in
-    let listed = subst (λ heights. IsYardIn heights seen.yard c.in_ok-listed.listed) c.as_slice.ensures.value c.in_ok-listed.ensures.accepted in
-    let given = subst (IsTextOf seen.report.given) (sym c.deref.ensures.value) c.in_ok-text.ensures.read in
+    let given = subst (IsTextOf (g.R.Source.remaining c.args.report.now)) (sym c.deref.ensures.value) c.in_ok-text.ensures.read in
     let few = asked_failures c.args.settings.now.page page in (
       refl,
-      (c.in_ok-listed.listed, c.deref.result.now, listed, given, c.in_ok-follow_text.ensures.ended),
+      (c.in_ok-input.input.yard, c.in_ok-input.input.ship, c.deref.result.now, c.in_ok-input.ensures.read, given, c.in_ok-follow_text.ensures.ended),
       omega (
         arith,
         few,
-        c.in_ok-listed.ensures.counted,
+        c.in_ok-input.ensures.counted,
         c.in_ok-text.ensures.counted,
         c.in_ok-text.ensures.count,
         c.in_ok-follow_text.ensures.counted,

@@ -5,13 +5,13 @@ use Rattle.crp_follow.specs.Views.{bay_followed}
 use Rattle.crp_report.specs.Runs.{SinkSeen, Gets, GetsPart}
 use Rattle.crp_commands.specs.Follow.{if_asked}
 use Rattle.crp_commands.proofs.Replayed.{keeps_same}
-use Rattle.crp_commands.proofs.Traced.{asked_nothing, no_memory, no_page, not_followed}
+use Rattle.crp_commands.proofs.Traced.{asked_nothing, no_page, not_followed, not_loaded}
 use Rattle.crp_commands.proofs.following.follow_text.Goals as goal
 
 pub returns-in_err-followed-clause-ended : goal.returns-in_err-followed-clause-ended
 returns-in_err-followed-clause-ended g c =
     let p = err_from_is_err_and c.from_residual.result c.from_residual.ensures.1 in
-    rw (p.1, p.2) (not_followed c.args.yard.now c.args.report.now _ _ c.in_err-followed.field-0.0 (asked_nothing _ _ (keeps_same _), keeps_same _) c.in_err-followed.ensures.refused)
+    rw (p.1, p.2) (not_followed c.args.input.now.ship c.args.input.now.yard c.args.report.now _ _ c.in_err-followed.field-0.0 (asked_nothing _ _ (keeps_same _), keeps_same _) c.in_err-followed.ensures.refused)
 
 pub returns-in_err-table-clause-ended : goal.returns-in_err-table-clause-ended
 returns-in_err-table-clause-ended g c =
@@ -28,7 +28,9 @@ returns-in_err-table-clause-ended g c =
       before = g.W.Sink.failures c.args.out.now;
       after = g.W.Sink.failures c.args.out.now;
     } in
-    rw (p.1, p.2) (no_memory c.args.yard.now c.args.report.now (if_asked c.args.asked page) out (asked_nothing c.args.asked page (keeps_same _), keeps_same _))
+    let followed = c.in_ok-followed.followed in
+    rw (p.1, p.2) (not_loaded c.args.input.now.ship c.args.input.now.yard c.args.report.now followed.numbers (map bay_followed followed.bays.items) (if_asked c.args.asked page) out
+    c.in_err-table.field-0.0 (asked_nothing c.args.asked page (keeps_same _), keeps_same _) c.in_ok-followed.ensures.followed c.in_err-table.ensures.refused)
 
 pub returns-in_err-write_page_if-clause-ended : goal.returns-in_err-write_page_if-clause-ended
 returns-in_err-write_page_if-clause-ended g c =
@@ -46,8 +48,8 @@ returns-in_err-write_page_if-clause-ended g c =
       before = g.W.Sink.failures c.args.out.now;
       after = g.W.Sink.failures c.args.out.now;
     } in
-    rw (p.1, p.2) (no_page c.args.yard.now c.args.report.now followed.numbers (map bay_followed followed.bays.items) (if_asked c.args.asked page) out
-    c.in_err-write_page_if.field-0.0 c.in_ok-followed.ensures.followed (keeps_same _) c.in_err-write_page_if.ensures.ended)
+    rw (p.1, p.2) (no_page c.args.input.now.ship c.args.input.now.yard c.args.report.now followed.numbers (map bay_followed followed.bays.items) (if_asked c.args.asked page) out
+    c.in_err-write_page_if.field-0.0 (c.in_ok-followed.ensures.followed, c.in_ok-table.ensures.faultless) (keeps_same _) c.in_err-write_page_if.ensures.ended)
 
 pub returns-in_default-clause-ended : goal.returns-in_default-clause-ended
 returns-in_default-clause-ended g c =
@@ -62,9 +64,9 @@ returns-in_default-clause-ended g c =
       (
         followed.numbers,
         map bay_followed followed.bays.items,
-        c.in_ok-followed.ensures.followed,
+        (c.in_ok-followed.ensures.followed, c.in_ok-table.ensures.faultless),
         c.in_ok-write_page_if.ensures.ended,
-        subst (GetsPart out) (c.deref.ensures.value ∙ c.in_ok-table.ensures) c.in_default.ensures.part,
+        subst (GetsPart out) (c.deref.ensures.value ∙ c.in_ok-table.ensures.table) c.in_default.ensures.part,
       ),
     )
 
@@ -79,7 +81,7 @@ returns-clause-ended g c =
     } in (
       followed.numbers,
       map bay_followed followed.bays.items,
-      c.in_ok-followed.ensures.followed,
+      (c.in_ok-followed.ensures.followed, c.in_ok-table.ensures.faultless),
       c.in_ok-write_page_if.ensures.ended,
-      subst (Gets out) (c.deref.ensures.value ∙ c.in_ok-table.ensures) c.in-Ok.ensures.all,
+      subst (Gets out) (c.deref.ensures.value ∙ c.in_ok-table.ensures.table) c.in-Ok.ensures.all,
     )

@@ -13,8 +13,9 @@ returns-in-Ok g c =
       before = g.F.Output.Sink.failures c.in-Ok.page;
       after = g.F.Output.Sink.failures c.follow-answer.new.page;
     } in
-    over_page c.args.names.now c.args.heights.now _ _ (Some page) _ (subst (λ file. IsPageTo file (Some page)) (sym c.in-Some.is) c.in-Ok.ensures.new)
+    over_page c.args.settings.now c.args.names.now _ _ _ (Some page) _ (subst (λ file. IsPageTo file (Some page)) (sym c.in-Some.is) c.in-Ok.ensures.new)
     (failed_new page _ _ c.in-Ok.ensures.new (more_from _ _ _ _ c.in-Ok.ensures.count c.finish.ensures)) c.follow-answer.ensures.ended
 
 pub returns-in-None : goal.returns-in-None
-returns-in-None g c = over_page c.args.names.now c.args.heights.now _ _ None _ (subst (λ file. IsPageTo file None) (sym c.in-None.is) tt) (none_more _) c.follow.ensures.ended
+returns-in-None g c =
+    over_page c.args.settings.now c.args.names.now _ _ _ None _ (subst (λ file. IsPageTo file None) (sym c.in-None.is) tt) (none_more _) c.follow.ensures.ended

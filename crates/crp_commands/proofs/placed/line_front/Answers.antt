@@ -1,4 +1,4 @@
-use Rattle.std.proofs.Common.{◌≡◌, ◌∙◌, ℕ, List, length, take, ap, sym, refl, arith, unwrap_or}
+use Rattle.std.proofs.Common.{◌∙◌, length, take, ap, sym, arith, unwrap_or}
 use Rattle.std.proofs.lemmas.List.{take_all}
 use Rattle.crp_commands.proofs.placed.line_front.Goals as goal
 

@@ -1,4 +1,4 @@
-use Rattle.std.proofs.Common.{◌≡◌, ◌∙◌, ap}
+use Rattle.std.proofs.Common.{◌∙◌, ap}
 use Rattle.crp_commands.specs.Placed.{shown}
 use Rattle.crp_commands.proofs.Shown.{segment-line, segment-line-none}
 use Rattle.crp_commands.proofs.placed.line_on_segment.Goals as goal

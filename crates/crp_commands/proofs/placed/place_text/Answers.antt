@@ -1,4 +1,4 @@
-use Rattle.std.proofs.Common.{◌≡◌, ◌≢◌, ◌∙◌, length, sym, arith, tests}
+use Rattle.std.proofs.Common.{◌≢◌, ◌∙◌, length, sym, arith, tests}
 use Rattle.crp_commands.proofs.Shown.{place-words, six_pieces}
 use Rattle.crp_commands.proofs.placed.place_text.Goals as goal
 

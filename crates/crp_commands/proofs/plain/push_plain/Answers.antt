@@ -1,4 +1,4 @@
-use Rattle.std.proofs.Common.{◌≡◌, ◌≤◌, ◌<◌, ◌∙◌, ◌++◌, ◌∷◌, [], List, ℕ, length, refl, ap, sym, subst, rules, arith, get_or}
+use Rattle.std.proofs.Common.{◌≡◌, ◌<◌, ◌∙◌, ◌++◌, ◌∷◌, [], ℕ, length, refl, ap, sym, subst, get_or}
 use Rattle.crp_commands.specs.Found.{IsPlainText, plain}
 use Rattle.crp_commands.specs.declared.plain.TheConstants.{MOST_FOUND}
 use Rattle.crp_commands.proofs.Shown.{plain-more, room-full, room-more, room-none}

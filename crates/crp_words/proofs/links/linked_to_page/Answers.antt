@@ -6,7 +6,8 @@ none_of None f p = f p
 none_of (Some x) f p = tt
 
 pub returns-clause-none : goal.returns-clause-none
-returns-clause-none g c = none_of c.one_file-2.result (λ none linked. elim linked [
+returns-clause-none g c = none_of c.one_file-3.result (λ none linked. elim linked [
   | inl h ↦ c.in_default.ensures.none h
-  | inr h ↦ none h
-]) c.one_file-2.ensures.none
+  | inr (inl h) ↦ c.in_default-one_file.ensures.none h
+  | inr (inr h) ↦ none h
+]) c.one_file-3.ensures.none
