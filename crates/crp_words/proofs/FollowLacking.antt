@@ -1,5 +1,5 @@
 -- From what the rows of `follow` lack to why no job comes of them.
-use Rattle.std.proofs.Common.{ℕ, List, refl, inl, inr, arith, codes}
+use Rattle.std.proofs.Common.{List, refl, inl, inr, arith, codes}
 use Rattle.clap.specs.Words.{Row, Text}
 use Rattle.crp_report.specs.Chosen.{InputChosen}
 use Rattle.crp_words.specs.Words.{Asks, HasFollowFiles, HasInput, HasText, IsFault, IsInputFault, IsOrderedAlone, IsPageNamedTwice, IsSizedTwice, IsWordsOrMemory, Lacks, NoFault}

@@ -6,8 +6,9 @@ ghost use Rattle.crp_commands.specs.Performing.{JobSeen};
 ghost use Rattle.crp_words.specs.Endings.{IsExplainedOf, JobEnds, ProgramEnds};
 
 use crate::ending::{end_with_usage, explain_fault, explain_found};
+use crate::given::same_file;
 use crate::links::linked;
-use crate::words::{job, same_file};
+use crate::words::job;
 use crp_commands::{Files, Job, Terminal, ToolFault, exit_of, found_line, place_of, run_job};
 use crp_plan::{Sink, Source};
 use crp_report::Status;

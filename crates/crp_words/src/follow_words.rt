@@ -3,8 +3,9 @@ ghost use Rattle.std.specs.Prelude.{◌↔◌, IfOk, IfErr, IfSome, IfNone, IsTr
 ghost use Rattle.clap.specs.Words.{found_of, rows_of};
 ghost use Rattle.crp_words.specs.Words.{Asks, IsFault, IsOrderedAlone, IsPageNamedTwice, Lacks};
 
+use crate::given::{is_given, one_file, same_file, text_of, wrong};
+use crate::input_words::{input_of, is_sized_twice};
 use crate::usage::Usage;
-use crate::words::{input_of, is_given, is_sized_twice, one_file, same_file, text_of, wrong};
 use clap::ArgMatches;
 use crp_commands::{FollowFiles, Job};
 use std::alloc::Global;

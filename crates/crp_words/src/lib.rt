@@ -10,7 +10,10 @@ mod commands;
 mod doing;
 mod ending;
 mod follow_words;
+mod given;
+mod input_words;
 mod links;
+mod search_words;
 mod usage;
 mod words;
 

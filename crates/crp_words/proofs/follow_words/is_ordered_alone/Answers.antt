@@ -1,4 +1,4 @@
-use Rattle.std.proofs.Common.{◌≡◌, ◌∙◌, Bor, List, ℕ, None, ap, codes, inl, inr, option_map, refl, sym}
+use Rattle.std.proofs.Common.{◌≡◌, ◌∙◌, Bor, List, ℕ, None, ap, codes, inl, inr, option_map, sym}
 use Rattle.std.proofs.lemmas.Bool.{false≢true}
 use Rattle.clap.specs.Words.{first_of, found_of, rows_of}
 use Rattle.clap.proofs.WalkLemmas.{first_value-rows}
@@ -14,7 +14,7 @@ returns-in-Some c =
 pub returns-then-is_given : goal.returns-then-is_given
 returns-then-is_given c =
     let none : first_of (codes "movins") (rows_of (found_of c.args.matches.now)) ≡ None =
-        sym (first_value-rows (found_of c.args.matches.now) (codes "movins")) ∙ sym c.get_str.ensures ∙ ap (option_map (λ (s : Bor (List ℕ)). s.now)) c.in-None.is in (
+    sym (first_value-rows (found_of c.args.matches.now) (codes "movins")) ∙ sym c.get_str.ensures ∙ ap (option_map (λ (s : Bor (List ℕ)). s.now)) c.in-None.is in (
       λ yes. (none, inl (c.is_given.ensures.0 c.if-is_given.true)),
       λ alone. c.if-is_given.true,
     )
@@ -22,7 +22,7 @@ returns-then-is_given c =
 pub returns-else-is_given : goal.returns-else-is_given
 returns-else-is_given c =
     let none : first_of (codes "movins") (rows_of (found_of c.args.matches.now)) ≡ None =
-        sym (first_value-rows (found_of c.args.matches.now) (codes "movins")) ∙ sym c.get_str.ensures ∙ ap (option_map (λ (s : Bor (List ℕ)). s.now)) c.in-None.is in (
+    sym (first_value-rows (found_of c.args.matches.now) (codes "movins")) ∙ sym c.get_str.ensures ∙ ap (option_map (λ (s : Bor (List ℕ)). s.now)) c.in-None.is in (
       λ yes. (none, inr (c.is_given-else-is_given.ensures.0 yes)),
       λ alone. elim alone.1 [
         | inl order ↦ absurd (false≢true (sym c.if-is_given.false ∙ c.is_given.ensures.1 order))

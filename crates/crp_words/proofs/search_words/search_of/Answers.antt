@@ -1,7 +1,7 @@
 use Rattle.std.proofs.lemmas.Result.{err_from_is_err_and}
 use Rattle.clap.specs.Words.{found_of, rows_of}
 use Rattle.crp_words.proofs.Lacking.{no_workers, no_budget, no_split, no_beam}
-use Rattle.crp_words.proofs.words.search_of.Goals as goal
+use Rattle.crp_words.proofs.search_words.search_of.Goals as goal
 
 pub returns-in_err-workers-clause-err : goal.returns-in_err-workers-clause-err
 returns-in_err-workers-clause-err c =

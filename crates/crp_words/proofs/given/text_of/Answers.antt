@@ -3,7 +3,7 @@ use Rattle.clap.specs.Words.{first_of, found_of, rows_of}
 use Rattle.clap.proofs.WalkLemmas.{first_value-rows}
 use Rattle.crp_words.specs.Words.{HasText, NoFault}
 use Rattle.crp_words.proofs.Lacking.{lacks}
-use Rattle.crp_words.proofs.words.text_of.Goals as goal
+use Rattle.crp_words.proofs.given.text_of.Goals as goal
 
 pub returns-in-Some-clause-ok : goal.returns-in-Some-clause-ok
 returns-in-Some-clause-ok c =

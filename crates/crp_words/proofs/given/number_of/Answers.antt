@@ -3,7 +3,7 @@ use Rattle.clap.specs.Words.{Text, found_of}
 use Rattle.clap.proofs.WalkLemmas.{one_text-rows}
 use Rattle.crp_words.specs.Words.{ReadsNumber}
 use Rattle.crp_words.proofs.Lacking.{number_none, number_some}
-use Rattle.crp_words.proofs.words.number_of.Goals as goal
+use Rattle.crp_words.proofs.given.number_of.Goals as goal
 
 pub returns-clause-some : goal.returns-clause-some
 returns-clause-some c =

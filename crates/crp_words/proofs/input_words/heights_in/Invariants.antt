@@ -1,7 +1,7 @@
 use Rattle.std.proofs.Common.{◌≡◌, ◌*◌, ◌∷◌, length, take}
 use Rattle.crp_plan.specs.Faults.{AreHeights}
 use Rattle.crp_words.specs.Heights.{behind_points}
-use Rattle.crp_words.proofs.words.heights_in.Given as goal
+use Rattle.crp_words.proofs.input_words.heights_in.Given as goal
 
 abbrev pub invariant-loop-before : goal.invariant-loop-before
 invariant-loop-before l = record {

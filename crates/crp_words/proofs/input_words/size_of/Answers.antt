@@ -1,7 +1,7 @@
 use Rattle.std.proofs.lemmas.Result.{err_from_is_err_and}
 use Rattle.clap.specs.Words.{found_of, rows_of}
 use Rattle.crp_words.proofs.Lacking.{no_rows, no_tiers, no_heights}
-use Rattle.crp_words.proofs.words.size_of.Goals as goal
+use Rattle.crp_words.proofs.input_words.size_of.Goals as goal
 
 pub returns-in_err-rows-clause-err : goal.returns-in_err-rows-clause-err
 returns-in_err-rows-clause-err c =

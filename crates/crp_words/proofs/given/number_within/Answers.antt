@@ -1,7 +1,7 @@
 use Rattle.clap.specs.Words.{found_of, rows_of}
 use Rattle.crp_words.specs.Words.{HasNumberBeyond, HasNumberWithin, IsJust}
 use Rattle.crp_words.proofs.Lacking.{lacks}
-use Rattle.crp_words.proofs.words.number_within.Goals as goal
+use Rattle.crp_words.proofs.given.number_within.Goals as goal
 
 pub returns-in_default-clause-err : goal.returns-in_default-clause-err
 returns-in_default-clause-err c =

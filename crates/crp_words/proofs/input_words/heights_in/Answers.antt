@@ -3,8 +3,8 @@ use Rattle.std.proofs.lemmas.List.Elements.{All-push}
 use Rattle.crp_plan.specs.Faults.{HasTiers, AreHeights}
 use Rattle.crp_words.specs.Heights.{behind_points}
 use Rattle.crp_words.proofs.HeightSteps.{none_so_long, none_there, one_more}
-use Rattle.crp_words.proofs.words.heights_in.Goals as goal
-use Rattle.crp_words.proofs.words.heights_in.Goals.{then-text-eq0-via-then-text-eq0, then-text-eq0-via-else-text-eq0+then-text-gt-MOST_BYTES}
+use Rattle.crp_words.proofs.input_words.heights_in.Goals as goal
+use Rattle.crp_words.proofs.input_words.heights_in.Goals.{then-text-eq0-via-then-text-eq0, then-text-eq0-via-else-text-eq0+then-text-gt-MOST_BYTES}
 
 pub returns-then-text-eq0-clause-none : goal.returns-then-text-eq0-clause-none
 returns-then-text-eq0-clause-none c = elim c.then-text-eq0.branch [

@@ -3,7 +3,7 @@ use Rattle.clap.specs.Words.{first_value, found_of}
 use Rattle.clap.proofs.WalkLemmas.{first_value-rows}
 use Rattle.crp_words.specs.Heights.{IsHeightsText}
 use Rattle.crp_words.proofs.HeightSteps.{found_heights, none_found, found_beyond}
-use Rattle.crp_words.proofs.words.heights_of.Goals as goal
+use Rattle.crp_words.proofs.input_words.heights_of.Goals as goal
 
 pub returns-in_default-clause-ok : goal.returns-in_default-clause-ok
 returns-in_default-clause-ok c =

@@ -3,7 +3,7 @@ use Rattle.std.proofs.lemmas.Bool.{false≢true}
 use Rattle.clap.specs.Words.{found_of}
 use Rattle.clap.specs.declared.parser.matches.ValueSource.TheVariants.{CommandLine, DefaultValue}
 use Rattle.crp_words.proofs.HeightSteps.{given, not_given}
-use Rattle.crp_words.proofs.words.is_given.Goals as goal
+use Rattle.crp_words.proofs.given.is_given.Goals as goal
 
 pub returns-in_default : goal.returns-in_default
 returns-in_default c = (
