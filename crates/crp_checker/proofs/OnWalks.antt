@@ -1,7 +1,8 @@
 -- From symbol to symbol of a piece.
 use Rattle.std.proofs.Common.{◌≡◌, ◌⊎◌, inl, inr, ℕ, suc, ◌+◌, ◌-◌, ◌≤◌, ◌<◌, true, false, List, [], ◌∷◌, ◌++◌, length, take, drop, get_or, fold, Some, None, refl, sym, ap, ◌∙◌, subst, arith, length-append}
 use Rattle.std.specs.Option.{option_or}
-use Rattle.std.proofs.lemmas.List.{length-take-le, take_more, take_all, take-append-drop, length-drop, get_or-drop, length-map}
+use Rattle.std.proofs.lemmas.List.{length-take-le, take_more, take_all, take-append-drop, length-drop, get_or-drop}
+use Rattle.std.proofs.lemmas.List.Elements.{length_all_zip}
 use Rattle.std.proofs.lemmas.List.Sums.{fold-append}
 use Rattle.crp_plan.specs.Bay.{Position}
 use Rattle.crp_bay.specs.Positions.{can_shift}
@@ -11,7 +12,7 @@ use Rattle.crp_checker.specs.declared.found.Found.{Found}
 use Rattle.crp_checker.specs.Owed.{Spot, node_at, spots_below, owed_behind}
 use Rattle.crp_checker.specs.Symbols.{Walked, Line, symbol_at, wrong_at, after}
 use Rattle.crp_checker.specs.Pending.{up, back, rows_behind, pending, spot_at}
-use Rattle.crp_checker.specs.Passed.{cuts_at, ArePassed, rows_from}
+use Rattle.crp_checker.specs.Passed.{IsHighCut, ArePassed, rows_from}
 use Rattle.crp_checker.specs.Walks.{walked_at, line_at, LeadTo, IsWalk, IsStopped}
 use Rattle.crp_checker.proofs.Onward.{is_next, last_split, branch_owes, up_again, ends}
 use Rattle.crp_checker.proofs.PassedOver.{comes, passes}
@@ -50,7 +51,7 @@ child_of above last row old end lt is =
 -- a stop never goes back
 pub not_back : (least : ℕ) (s : Position) (rows left piece : List ℕ) (t taken : ℕ) → ArePassed least s rows left (take t piece) (take taken piece) → t ≤ length piece → taken ≤ length piece → t ≤ taken
 not_back least s rows left piece t taken p before within =
-    omega (arith, before, length-take-le t piece before, length-take-le taken piece within, ap length p.bytes_are, length-append (take t piece) (cuts_at p.passed))
+    omega (arith, before, length-take-le t piece before, length-take-le taken piece within, ap length p.bytes_are, length-append (take t piece) p.letters)
 
 -- cuts are passed over: what the branch owes then
 pub passes_on : (need : List ℕ → ℕ) (top : Walked) (above before : ℕ) (piece path old : List ℕ) (s : PlaceAndTrail) (t taken row most least : ℕ) (left : List ℕ) (found : Found) →
@@ -62,13 +63,13 @@ passes_on need top above before piece path old s t taken row most least left fou
     let owed : pending (length old - above) old s ≡ spots_below path s.place (p.passed ++ left) ++ rest =
     branch_owes above path old s row was le ∙ ap (λ r. spots_below path s.place r ++ rest) p.rows_are in
     let many : (before + t) + length p.passed ≡ before + taken =
-    omega (arith, among.within, length-take-le t piece among.within, length-take-le taken piece within, ap length p.bytes_are, length-append (take t piece) (cuts_at p.passed), length-map {B = ℕ} p.passed (λ (r : ℕ). 66)) in
+    omega (arith, among.within, length-take-le t piece among.within, length-take-le taken piece within, ap length p.bytes_are, length-append (take t piece) p.letters, length_all_zip (IsHighCut least s.place) p.passed p.letters p.cuts) in
     subst (λ l. LeadTo need top l (walked_at (spots_below path s.place left ++ rest) (before + taken) found)) (sym p.bytes_are)
-    (subst (λ n. LeadTo need top (take t piece ++ cuts_at p.passed) (walked_at (spots_below path s.place left ++ rest) n found)) many
+    (subst (λ n. LeadTo need top (take t piece ++ p.letters) (walked_at (spots_below path s.place left ++ rest) n found)) many
     (leads_on need top (walked_at (spots_below path s.place (p.passed ++ left) ++ rest) (before + t) found) (walked_at (spots_below path s.place left ++ rest) ((before + t) + length p.passed) found)
-    (take t piece) (cuts_at p.passed)
+    (take t piece) p.letters
     (owes need top (take t piece) (pending (length old - above) old s) (spots_below path s.place (p.passed ++ left) ++ rest) (before + t) found owed among.walked)
-    (passes need most least path s.place p.passed left rest (before + t) found at_most enough p.high)))
+    (passes need most least path s.place p.passed p.letters left rest (before + t) found at_most enough p.cuts)))
 
 -- no row is left: the branch is left
 pub leaves : (need : List ℕ → ℕ) (top : Walked) (above before : ℕ) (piece path old new : List ℕ) (s t : PlaceAndTrail) (row taken : ℕ) (found : Found) → old ≡ path ++ row ∷ [] → new ≡ up old → t ≡ back s → above ≤ length path → taken ≤ length piece →

@@ -3,7 +3,7 @@ ghost use Rattle.std.specs.Prelude.{◌≡◌, ◌+◌, ◌<◌, ◌≤◌, true
 ghost use Rattle.crp_bay.specs.Positions.{source, child, can_shift};
 ghost use Rattle.crp_bounds.specs.Bounds.{blocking as blocking_bound};
 ghost use Rattle.crp_checker.specs.Pending.{rows_behind};
-ghost use Rattle.crp_checker.specs.Passed.{ArePassed, rows_from};
+ghost use Rattle.crp_checker.specs.Passed.{is_cut_letter, ArePassed, rows_from};
 
 use crp_bay::Position;
 use crp_bounds::Bounded;
@@ -28,18 +28,27 @@ fn is_legal(position: &Position, from: u8, row: u8) -> bool
     row != from && position.stack(row).len() < position.height(row) as usize
 }
 
-/// Whether the next byte of a piece is a cut by the blocking bound at a legal row, and its bound is at least this.
+/// Whether a byte is the letter of a cut.
+#[inline]
+fn is_cut(byte: u8) -> bool
+    ensures { result ≡ is_cut_letter byte }
+{
+    byte == b'B' || byte == b'L'
+}
+
+/// Whether the next byte of a piece is a cut at a legal row, and the blocking bound there is at least this: the look-ahead bound is
+/// no lower.
 #[inline]
 fn is_right(place: &Bounded, least: usize, row: u8, piece: &[u8], at: usize) -> bool
     requires { can_shift place.now.place row ≡ true }
     ensures there { result ≡ true → at < length piece.now }
-    ensures cut { result ≡ true → slice_index piece.now at ≡ 66 }
+    ensures cut { result ≡ true → is_cut_letter (slice_index piece.now at) ≡ true }
     ensures right { result ≡ true → least ≤ blocking_bound (child place.now.place row) }
 {
-    at < piece.len() && piece[at] == b'B' && least <= place.blocking_after(row) as usize
+    at < piece.len() && is_cut(piece[at]) && least <= place.blocking_after(row) as usize
 }
 
-/// Goes on behind a row of the branch at the position, over cuts by the blocking bound as long as that is at least this, to the next legal row.
+/// Goes on behind a row of the branch at the position, over cuts as long as the blocking bound is at least this, to the next legal row.
 #[inline]
 pub fn pass(place: &Bounded, least: usize, row: u8, piece: &[u8], taken: usize) -> Passed
     requires { taken ≤ length piece.now }

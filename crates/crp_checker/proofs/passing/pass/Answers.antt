@@ -1,4 +1,4 @@
-use Rattle.std.proofs.Common.{◌≡◌, ◌<◌, ◌≤◌, ◌+◌, ◌++◌, ◌∷◌, [], true, false, length, take, refl, sym, ap, ◌∙◌, subst, arith}
+use Rattle.std.proofs.Common.{◌≡◌, ◌<◌, ◌≤◌, ◌+◌, true, false, length, take, get_or, refl, sym, ap, ◌∙◌, subst, arith}
 use Rattle.std.proofs.lemmas.List.{take_more}
 use Rattle.crp_bay.specs.Positions.{can_shift}
 use Rattle.crp_bay.specs.Back.{PlaceAndTrail}
@@ -45,10 +45,10 @@ loop-next-preserved-then-is_legal c =
     let lt = c.is_right.ensures.there right in
     record {
       within = omega (arith, lt);
-      passed = passed_on c.args.least place (rows_behind c.args.row place) (rows_behind (next + 1) place) (next + 1) (take c.args.taken piece) (take taken piece) (take (taken + 1) piece)
+      passed = passed_on c.args.least place (rows_behind c.args.row place) (rows_behind (next + 1) place) (next + 1) (get_or piece taken 0) (take c.args.taken piece) (take taken piece) (take (taken + 1) piece)
           (subst (λ left. ArePassed c.args.least place (rows_behind c.args.row place) left (take c.args.taken piece) (take taken piece)) (is_next place next (next + 1) refl within legal) c.loop-next.invariant.passed)
-          (c.is_right.ensures.right right)
-          (take_more piece taken 0 lt ∙ ap (λ b. take taken piece ++ b ∷ []) (c.is_right.ensures.cut right));
+          (record { cut = c.is_right.ensures.cut right; high = c.is_right.ensures.right right })
+          (take_more piece taken 0 lt);
     }
 
 pub loop-next-preserved : goal.loop-next-preserved
