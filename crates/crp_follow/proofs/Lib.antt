@@ -14,6 +14,7 @@ mod Outcomes
 mod InYard
 mod MoveSteps
 mod FollowSteps
-mod TableSteps
+mod Few
+pub mod TableSteps
 mod KeptLaws
-mod Columns
+mod Leaving

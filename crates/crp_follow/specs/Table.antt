@@ -1,6 +1,7 @@
 -- The table of the moves of a report that is followed: a header, and a record for each move, bay by bay in the order of the report.
-use Rattle.std.specs.Prelude.{ℕ, suc, ◌-◌, ◌≤◌, nat_le, List, [], ◌∷◌, length, flat_map, sum_by, count_by, Option, Some, None, option_map, codes, decimal, if◌then◌else◌}
+use Rattle.std.specs.Prelude.{ℕ, suc, ◌-◌, ◌≤◌, nat_le, List, [], ◌∷◌, length, map, flat_map, sum_by, count_by, Option, Some, None, option_map, codes, decimal, if◌then◌else◌}
 use Rattle.std.specs.Str.{bytes_eq}
+use Rattle.csv.specs.Writing.{default_writer, row_text}
 use Rattle.crp_plan.specs.BayNames.{YardBay}
 use Rattle.crp_yard.specs.Text.{text_of_records}
 use Rattle.crp_said.specs.declared.moves.Place.{Place}
@@ -59,28 +60,56 @@ abbrev pub to_of : SaidMove → Option Place
 to_of (Shift from to container) = Some to
 to_of (Take from container) = None
 
--- the record of the move at this step, with the step at which its container leaves, the container that leaves next, and how many are left
-abbrev pub fields_of : YardBay → ℕ → SaidMove → Option ℕ → Option (List ℕ) → ℕ → List (List ℕ)
-fields_of bay step m leaves next left =
-    bay.block ∷ decimal bay.bay ∷ decimal step ∷ word_of m ∷ container_of m ∷ decimal (from_of m).row ∷ decimal (from_of m).tier ∷ number_field (option_map (λ p. p.row) (to_of m))
-    ∷ number_field (option_map (λ p. p.tier) (to_of m)) ∷ number_field leaves ∷ container_field next ∷ decimal left ∷ []
+-- what the table says of a move: its bay and its step there, the move, the step at which its container leaves, the container that leaves next, and how many are left
+pub record MoveColumns : Type 0 where
+  pub bay : YardBay
+  pub step : ℕ
+  pub said : SaidMove
+  pub leaves : Option ℕ
+  pub next : Option (List ℕ)
+  pub left : ℕ
 
--- the same, where these leave the bay, of so many containers
-abbrev pub fields_at : YardBay → ℕ → List (ℕ × List ℕ) → ℕ → SaidMove → List (List ℕ)
-fields_at bay count takes step m = fields_of bay step m (leaves_at takes (container_of m)) (next_to_leave takes step) (left_behind count takes step)
+-- what it says of the move at this step, where these leave the bay, of so many containers
+abbrev pub columns_at : YardBay → ℕ → List (ℕ × List ℕ) → ℕ → SaidMove → MoveColumns
+columns_at bay count takes step m = record {
+  bay = bay;
+  step = step;
+  said = m;
+  leaves = leaves_at takes (container_of m);
+  next = next_to_leave takes step;
+  left = left_behind count takes step;
+}
 
--- the records of moves that are numbered from this step
-abbrev pub records_from : YardBay → ℕ → List (ℕ × List ℕ) → ℕ → List SaidMove → List (List (List ℕ))
-records_from bay count takes step [] = []
-records_from bay count takes step (m ∷ moves) = fields_at bay count takes step m ∷ records_from bay count takes (suc step) moves
+-- what it says of moves that are numbered from this step
+abbrev pub columns_from : YardBay → ℕ → List (ℕ × List ℕ) → ℕ → List SaidMove → List MoveColumns
+columns_from bay count takes step [] = []
+columns_from bay count takes step (m ∷ moves) = columns_at bay count takes step m ∷ columns_from bay count takes (suc step) moves
 
--- the records of a bay
-abbrev pub records_of : BayFollowed → List (List (List ℕ))
-records_of b = records_from b.stated.bay (standing b.start) (takes_from 1 (moves_of b.stated.moves)) 1 (moves_of b.stated.moves)
+-- what it says of the moves of a bay
+abbrev pub columns_in : BayFollowed → List MoveColumns
+columns_in b = columns_from b.stated.bay (standing b.start) (takes_from 1 (moves_of b.stated.moves)) 1 (moves_of b.stated.moves)
+
+-- what it says of the moves of a report, bay by bay in its order
+abbrev pub columns_of : List BayFollowed → List MoveColumns
+columns_of bays = flat_map columns_in bays
+
+-- the record of a move
+abbrev pub fields_of : MoveColumns → List (List ℕ)
+fields_of c =
+    c.bay.block ∷ decimal c.bay.bay ∷ decimal c.step ∷ word_of c.said ∷ container_of c.said ∷ decimal (from_of c.said).row ∷ decimal (from_of c.said).tier
+    ∷ number_field (option_map (λ p. p.row) (to_of c.said)) ∷ number_field (option_map (λ p. p.tier) (to_of c.said)) ∷ number_field c.leaves ∷ container_field c.next ∷ decimal c.left ∷ []
+
+-- the text of a record, as csv writes it by its defaults
+abbrev pub record_text : List (List ℕ) → List ℕ
+record_text fields = row_text default_writer fields
+
+-- the records of a report
+abbrev pub records_of : List BayFollowed → List (List (List ℕ))
+records_of bays = map fields_of (columns_of bays)
 
 -- the text of the table, as csv writes records by its defaults
 abbrev pub table_text : List BayFollowed → List ℕ
-table_text bays = text_of_records (header ∷ flat_map records_of bays)
+table_text bays = text_of_records (header ∷ records_of bays)
 
 -- no more containers than a bay of a yard can have
 abbrev pub StandFew : BayFollowed → Type 0

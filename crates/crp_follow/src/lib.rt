@@ -7,6 +7,7 @@
 #![tactic(auto)]
 
 mod bays;
+mod columns;
 mod fault;
 mod followed;
 mod following;
@@ -21,6 +22,7 @@ mod stating;
 mod table;
 mod taking;
 
+pub use columns::{Columns, columns_of};
 pub use fault::FollowFault;
 pub use followed::{Followed, FollowedBay};
 pub use following::follow;
@@ -32,4 +34,4 @@ pub use moving::make_move;
 pub use row::Row;
 pub use stated::{StatedBay, StatedMove};
 pub use stating::MAX_BYTES;
-pub use table::{table_text, write_table};
+pub use table::{Table, number_field, table_text, write_table};

@@ -49,7 +49,7 @@ pub(crate) fn leaves_at(takes: &[Taken], container: &[u8]) -> Option<u64>
 }
 
 /// The container that leaves at this step, or as the next one.
-pub(crate) fn next_to_leave<'a>(takes: &'a [Taken], step: u64) -> Option<&'a Container>
+pub(crate) fn next_to_leave<'a>(takes: &[Taken<'a>], step: u64) -> Option<&'a Container>
     ensures { option_map (λ container. container.now) result ≡ next_to_leave (map taken_as takes.now) step }
 {
     for taken in takes {

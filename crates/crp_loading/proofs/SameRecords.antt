@@ -4,35 +4,25 @@ use Rattle.std.specs.Prelude.{filter, flat_map, sum_by, IfSome}
 use Rattle.std.specs.List.{range_with_len}
 use Rattle.std.proofs.lemmas.List.Concat.{flat_map-append}
 use Rattle.std.proofs.lemmas.Bool.Decides.{nat_tests}
-use Rattle.std.proofs.lemmas.List.{map-append}
 use Rattle.std.proofs.lemmas.List.Sums.{sum_by-cons, sum_by-append}
-use Rattle.crp_plan.specs.BayNames.{YardBay}
 use Rattle.crp_movins.specs.declared.order.Order.{Order}
-use Rattle.crp_said.specs.declared.moves.SaidMove.{SaidMove}
-use Rattle.crp_follow.specs.Stated.{moves_of}
 use Rattle.crp_follow.specs.Followed.{BayFollowed}
+use Rattle.crp_follow.specs.Table.{MoveColumns, columns_of}
 use Rattle.crp_follow.specs.Table as table
-use Rattle.crp_loading.specs.Loading.{TurnRecord, is_turn, is_no_turn, records_from, records_in, records_of, by_turns}
+use Rattle.crp_loading.specs.Loading.{TurnRecord, is_turn, is_no_turn, record_at, records_of, by_turns}
 use Rattle.crp_loading.specs.Views.{AreTurns}
 use Rattle.crp_loading.proofs.Buckets.{one_more}
 use Rattle.crp_loading.proofs.RecordSteps.{are_turns}
 
 -- ---- the columns of the table of moves
 
-abbrev first : TurnRecord → List (List ℕ)
-first r = take 12 r.fields
+-- the record of a move begins with that of the table of moves
+begin_same : (sequence : List (List ℕ)) (orders : List Order) (moves : List MoveColumns) → map (λ r. take 12 r.fields) (map (record_at sequence orders) moves) ≡ map table.fields_of moves
+begin_same sequence orders [] = refl
+begin_same sequence orders (c ∷ moves) = ap (λ l. table.fields_of c ∷ l) (begin_same sequence orders moves)
 
-moves_same : (sequence : List (List ℕ)) (orders : List Order) (bay : YardBay) (count : ℕ) (takes : List (ℕ × List ℕ)) (step : ℕ) (moves : List SaidMove)
-    → map first (records_from sequence orders bay count takes step moves) ≡ table.records_from bay count takes step moves
-moves_same sequence orders bay count takes step [] = refl
-moves_same sequence orders bay count takes step (m ∷ moves) = ap (λ l. table.fields_at bay count takes step m ∷ l) (moves_same sequence orders bay count takes (suc step) moves)
-
-pub columns_same : (sequence : List (List ℕ)) (orders : List Order) (bays : List BayFollowed) → map first (records_of sequence orders bays) ≡ flat_map table.records_of bays
-columns_same sequence orders [] = refl
-columns_same sequence orders (b ∷ bays) =
-    map-append first (records_in sequence orders b) (records_of sequence orders bays)
-    ∙ ap (λ l. l ++ map first (records_of sequence orders bays)) (moves_same sequence orders b.stated.bay _ _ 1 (moves_of b.stated.moves))
-    ∙ ap (λ l. table.records_of b ++ l) (columns_same sequence orders bays)
+pub columns_same : (sequence : List (List ℕ)) (orders : List Order) (bays : List BayFollowed) → map (λ r. take 12 r.fields) (records_of sequence orders bays) ≡ table.records_of bays
+columns_same sequence orders bays = begin_same sequence orders (columns_of bays)
 
 -- ---- each record once
 
@@ -105,4 +95,4 @@ module _ (count : TurnRecord → ℕ) where
   counts_same sequence orders bays =
       let records = records_of sequence orders bays in
       sum_by-append count (flat_map (λ k. filter (λ (r : TurnRecord). is_turn k r.turn) records) (range_with_len 1 (length sequence))) (filter (λ (r : TurnRecord). is_no_turn r.turn) records)
-      ∙ all_count (length sequence) records (are_turns sequence orders bays)
+      ∙ all_count (length sequence) records (are_turns sequence orders (columns_of bays))

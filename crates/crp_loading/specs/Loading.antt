@@ -1,16 +1,14 @@
 -- The table of a followed report in the order in which the ship is loaded: the records of its moves by their turns, each with its turn and, where its
 -- container is taken, with the slot of the ship.
-use Rattle.std.specs.Prelude.{ℕ, suc, ◌==◌, Bool, true, false, List, [], ◌∷◌, ◌++◌, length, map, filter, flat_map, Option, Some, None, option_and_then, codes}
+use Rattle.std.specs.Prelude.{ℕ, ◌==◌, Bool, true, false, List, [], ◌∷◌, ◌++◌, length, map, filter, flat_map, Option, Some, None, option_and_then, codes}
 use Rattle.std.specs.List.{range_with_len}
-use Rattle.crp_plan.specs.BayNames.{YardBay}
 use Rattle.crp_movins.specs.declared.order.Order.{Order}
 use Rattle.crp_movins.specs.declared.slot.Slot.{Slot}
 use Rattle.crp_yard.specs.Text.{text_of_records}
 use Rattle.crp_said.specs.declared.moves.SaidMove.{SaidMove}
 use Rattle.crp_said.specs.declared.moves.SaidMove.TheVariants.{Shift, Take}
 use Rattle.crp_follow.specs.Followed.{BayFollowed}
-use Rattle.crp_follow.specs.Stated.{moves_of}
-use Rattle.crp_follow.specs.Table.{takes_from, next_to_leave, standing, number_field, fields_at}
+use Rattle.crp_follow.specs.Table.{MoveColumns, number_field, columns_of, fields_of}
 use Rattle.crp_follow.specs.Table as table
 use Rattle.crp_loading.specs.Turns.{turn_of, slot_for, slot_text}
 
@@ -24,8 +22,8 @@ pub record TurnRecord : Type 0 where
   pub fields : List (List ℕ)
 
 -- the turn of a move: that of the container that leaves its bay at this step, or as the next one
-abbrev pub turn_at : List (List ℕ) → List (ℕ × List ℕ) → ℕ → Option ℕ
-turn_at sequence takes step = option_and_then (turn_of sequence) (next_to_leave takes step)
+abbrev pub turn_at : List (List ℕ) → MoveColumns → Option ℕ
+turn_at sequence c = option_and_then (turn_of sequence) c.next
 
 -- the slot of the ship that a move fills
 abbrev pub slot_at : List Order → SaidMove → Option Slot
@@ -37,27 +35,16 @@ abbrev pub slot_field : Option Slot → List ℕ
 slot_field None = []
 slot_field (Some slot) = slot_text slot
 
--- the record of the move at this step, where these leave the bay, of so many containers: that of the table of moves, its turn and its slot
-abbrev pub record_at : List (List ℕ) → List Order → YardBay → ℕ → List (ℕ × List ℕ) → ℕ → SaidMove → TurnRecord
-record_at sequence orders bay count takes step m = record {
-  turn = turn_at sequence takes step;
-  fields = fields_at bay count takes step m ++ number_field (turn_at sequence takes step) ∷ slot_field (slot_at orders m) ∷ [];
+-- the record of a move: that of the table of moves, its turn and its slot
+abbrev pub record_at : List (List ℕ) → List Order → MoveColumns → TurnRecord
+record_at sequence orders c = record {
+  turn = turn_at sequence c;
+  fields = fields_of c ++ number_field (turn_at sequence c) ∷ slot_field (slot_at orders c.said) ∷ [];
 }
-
--- the records of moves that are numbered from this step
-abbrev pub records_from : List (List ℕ) → List Order → YardBay → ℕ → List (ℕ × List ℕ) → ℕ → List SaidMove → List TurnRecord
-records_from sequence orders bay count takes step [] = []
-records_from sequence orders bay count takes step (m ∷ moves) =
-    record_at sequence orders bay count takes step m ∷ records_from sequence orders bay count takes (suc step) moves
-
--- the records of a bay
-abbrev pub records_in : List (List ℕ) → List Order → BayFollowed → List TurnRecord
-records_in sequence orders b =
-    records_from sequence orders b.stated.bay (standing b.start) (takes_from 1 (moves_of b.stated.moves)) 1 (moves_of b.stated.moves)
 
 -- the records of a report, bay by bay in its order
 abbrev pub records_of : List (List ℕ) → List Order → List BayFollowed → List TurnRecord
-records_of sequence orders bays = flat_map (records_in sequence orders) bays
+records_of sequence orders bays = map (record_at sequence orders) (columns_of bays)
 
 -- it is this turn
 abbrev pub is_turn : ℕ → Option ℕ → Bool

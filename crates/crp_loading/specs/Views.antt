@@ -1,5 +1,5 @@
 -- What the types of the program stand for. Only the clauses of private functions speak of it.
-use Rattle.std.specs.Prelude.{◌≡◌, ◌≤◌, ◌++◌, ℕ, nat_le, List, [], ◌∷◌, map, option_map, IfSome}
+use Rattle.std.specs.Prelude.{◌≡◌, ◌≤◌, ◌++◌, ℕ, nat_le, List, [], ◌∷◌, map, IfSome}
 use Rattle.std.specs.List.{list_any, AllByRecursion}
 use Rattle.std.specs.Map.{lookup}
 use Rattle.std.specs.Str.{bytes_eq}
@@ -7,8 +7,8 @@ use denote.Ref.{Bor}
 use Rattle.crp_yard.specs.Text.{text_of_records}
 use Rattle.crp_movins.specs.declared.order.Order.{Order}
 use Rattle.crp_follow.specs.Table.{fields_of, number_field}
-use Rattle.crp_loading.specs.declared.columns.Columns.{Columns}
-use Rattle.crp_loading.specs.declared.taking.Taken.{Taken}
+use Rattle.crp_follow.specs.Views.{columns_as}
+use Rattle.crp_loading.specs.declared.recording.TurnColumns.{TurnColumns}
 use Rattle.crp_loading.specs.Turns.{number_from}
 use Rattle.crp_loading.specs.Faults.{TakeStated, is_at_or_behind}
 use Rattle.crp_loading.specs.Loading.{TurnRecord, slot_field, header}
@@ -22,16 +22,9 @@ pub record ShipOrder : Type 0 where
 abbrev pub Numbers : List (List ℕ) → List (Bor (List ℕ) × ℕ) → Type 0
 Numbers names entries = (container : Bor (List ℕ)) → lookup (λ key. bytes_eq container.now key.now) entries ≡ number_from 0 names container.now
 
--- a container that leaves, with its step
-abbrev pub taken_as : Taken → ℕ × List ℕ
-taken_as t = (t.step, t.container.now)
-
 -- a record of the table, with the turn that it belongs to
-abbrev pub recorded : Columns → TurnRecord
-recorded c = record {
-  turn = c.turn;
-  fields = fields_of c.bay.now c.step c.said.now c.leaves (option_map (λ container. container.now) c.next) c.left ++ number_field c.turn ∷ slot_field c.slot ∷ [];
-}
+abbrev pub recorded : TurnColumns → TurnRecord
+recorded c = record { turn = c.turn; fields = fields_of (columns_as c.of_move) ++ number_field c.turn ∷ slot_field c.slot ∷ [] }
 
 -- no take of these has a turn behind this one, and one has it, unless it is 0
 abbrev pub EndWith : List TakeStated → ℕ → Type 0

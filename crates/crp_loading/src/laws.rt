@@ -1,5 +1,5 @@
 //! Laws of the table. Each is the contract of a function that does nothing.
-ghost use Rattle.std.specs.Prelude.{◌≡◌, ℕ, List, true, map, take, length, flat_map, sum_by};
+ghost use Rattle.std.specs.Prelude.{◌≡◌, ℕ, List, true, map, take, length, sum_by};
 ghost use Rattle.crp_movins.specs.declared.order.Order.{Order};
 ghost use Rattle.crp_movins.specs.Digits.{is_slot, slot_of, seven_digits};
 ghost use Rattle.crp_follow.specs.Followed.{BayFollowed};
@@ -11,7 +11,7 @@ ghost use Rattle.crp_loading.specs.Loading.{TurnRecord, records_of, by_turns};
 /// the same.
 pub fn same_records()
     ensures columns { (sequence : List (List ℕ)) (orders : List Order) (bays : List BayFollowed)
-        → map (λ r. take 12 r.fields) (records_of sequence orders bays) ≡ flat_map table.records_of bays }
+        → map (λ r. take 12 r.fields) (records_of sequence orders bays) ≡ table.records_of bays }
     ensures each { (count : TurnRecord → ℕ) (sequence : List (List ℕ)) (orders : List Order) (bays : List BayFollowed)
         → sum_by count (by_turns (length sequence) (records_of sequence orders bays)) ≡ sum_by count (records_of sequence orders bays) }
 {}

@@ -6,14 +6,12 @@
 #![tactic(auto)]
 
 mod checking;
-mod columns;
 mod fault;
 mod laws;
 mod loading;
 mod recording;
 mod ship;
 mod slot_digits;
-mod taking;
 mod turning;
 
 pub use fault::LoadingFault;

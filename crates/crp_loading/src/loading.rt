@@ -1,62 +1,52 @@
 //! The table of a followed report in the order in which the ship is loaded.
 ghost use Rattle.std.specs.Prelude.{◌≡◌, ◌⊎◌, [], map, IfOk, OnOk, IfErr};
 ghost use Rattle.std.specs.List.{AllByRecursion};
-ghost use Rattle.crp_yard.specs.Written.{text_written_by, IsBetweenRecords};
 ghost use Rattle.crp_follow.specs.Table.{StandFew};
 ghost use Rattle.crp_follow.specs.Views.{bay_followed};
 ghost use Rattle.crp_loading.specs.Faults.{faults_of, IsFirst};
-ghost use Rattle.crp_loading.specs.Loading.{load_text};
+ghost use Rattle.crp_loading.specs.Loading.{slot_field, load_text};
 ghost use Rattle.crp_loading.specs.Views.{recorded, text_of};
 
 use crate::checking::check;
-use crate::columns::{Columns, push_columns, push_record};
 use crate::fault::LoadingFault;
-use crate::recording::records_of;
+use crate::recording::{TurnColumns, records_of};
 use crate::ship::Ship;
+use crate::slot_digits::slot_digits;
 use crate::turning::by_turns;
-use crp_follow::Followed;
-use crp_movins::Orders;
+use crp_follow::{Followed, Table, number_field};
+use crp_movins::{Orders, Slot};
 use crp_order::Sequence;
-use csv::{Writer, WriterBuilder};
+use itoa::Buffer;
 use std::alloc::{AllocError, Global};
 
-// csv's writer, with its defaults, in front of an empty list.
-fn new_writer(alloc: Global) -> Writer<Vec<u8>>
-    ensures between { IsBetweenRecords result }
-    ensures empty { text_written_by result ≡ [] }
+// The digits of a slot, or nothing.
+fn slot_field(digits: &mut [u8; 7], slot: Option<Slot>) -> &[u8]
+    ensures { result.now ≡ slot_field slot }
 {
-    WriterBuilder::new().from_writer(Vec::new(alloc))
+    match slot {
+        Some(slot) => {
+            *digits = slot_digits(slot);
+            digits.as_slice()
+        }
+        None => b"",
+    }
 }
 
 // The text of the header and of these records.
-fn text_of(alloc: Global, records: &[Columns]) -> Result<Vec<u8>, AllocError>
+fn text_of(alloc: Global, records: &[TurnColumns]) -> Result<Vec<u8>, AllocError>
     ensures { IfOk result (λ text. text.items ≡ text_of (map recorded records.now)) }
 {
-    let mut writer = new_writer(alloc);
-    let header: [&[u8]; 14] = [
-        b"block",
-        b"bay",
-        b"step",
-        b"move",
-        b"container",
-        b"from_row",
-        b"from_tier",
-        b"to_row",
-        b"to_tier",
-        b"leaves",
-        b"for",
-        b"left",
-        b"order",
-        b"slot",
-    ];
-    push_record(&mut writer, header.as_slice())?;
+    let names: [&[u8]; 2] = [b"order", b"slot"];
+    let mut table = Table::new(alloc, names.as_slice())?;
     for columns in records {
-        push_columns(&mut writer, columns)?;
+        let (mut turns, mut digits) = (Buffer::new(), [0; 7]);
+        let more = [
+            number_field(&mut turns, columns.turn),
+            slot_field(&mut digits, columns.slot),
+        ];
+        table = table.push(alloc, &columns.of_move, more.as_slice())?;
     }
-    match writer.into_inner() {
-        Ok(text) => Ok(text),
-        Err(_) => Err(AllocError),
-    }
+    table.text()
 }
 
 /// The table of a followed report in the order in which the ship is loaded, which gets its containers in this sequence and is to have them

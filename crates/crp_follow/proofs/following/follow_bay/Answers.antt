@@ -1,5 +1,5 @@
 use Rattle.std.proofs.Common.{◌∙◌}
-use Rattle.crp_follow.proofs.TableSteps.{few_stand}
+use Rattle.crp_follow.proofs.Few.{few_stand}
 use Rattle.crp_follow.proofs.following.follow_bay.Goals as goal
 
 pub returns-clause-few : goal.returns-clause-few

@@ -1,4 +1,4 @@
-use Rattle.crp_follow.proofs.Columns.{leaves, stays, next, none_next}
+use Rattle.crp_follow.proofs.Leaving.{leaves, stays, next, none_next}
 use Rattle.crp_follow.proofs.KeptLaws.{left_stand}
 use Rattle.crp_follow.proofs.laws.what_columns_say.Goals as goal
 

@@ -1,4 +1,5 @@
 use Rattle.std.proofs.Common.{◌≡◌, ◌∙◌, length, map, sym, ap, subst}
+use Rattle.crp_follow.specs.Table.{columns_of}
 use Rattle.crp_follow.specs.Views.{bay_followed}
 use Rattle.crp_loading.specs.Loading.{records_of, by_turns}
 use Rattle.crp_loading.specs.Views.{recorded, AreTurns, text_of}
@@ -12,7 +13,7 @@ by_turns-requires-clause-turns c =
     c.in_ok-records.ensures ∙ ap (λ s. records_of s.sequence s.orders (map bay_followed c.deref-2.result.now)) c.in_ok-ship.ensures
     ∙ ap (λ b. records_of c.args.sequence.now c.args.orders.now.list (map bay_followed b)) c.deref-2.ensures.value in
     subst (λ s. AreTurns (length s) (map recorded c.in_ok-records.records.items)) (sym c.list.ensures.value)
-    (subst (λ r. AreTurns (length c.args.sequence.now) r) (sym same) (are_turns c.args.sequence.now c.args.orders.now.list bays))
+    (subst (λ r. AreTurns (length c.args.sequence.now) r) (sym same) (are_turns c.args.sequence.now c.args.orders.now.list (columns_of bays)))
 
 pub returns-clause-table : goal.returns-clause-table
 returns-clause-table c =

@@ -1,11 +1,11 @@
 use Rattle.std.proofs.Common.{ℕ, rules}
 use Rattle.std.specs.Prelude.{unwrap_or}
 use Rattle.std.proofs.lemmas.List.Sorted.{answers_always, IsNonDecreasingBy-from_sort_by_key}
-use Rattle.crp_loading.specs.declared.columns.Columns.{Columns}
+use Rattle.crp_loading.specs.declared.recording.TurnColumns.{TurnColumns}
 use Rattle.crp_loading.proofs.TurnSteps.{sorted_by_turns}
 use Rattle.crp_loading.proofs.turning.by_turns.Goals as goal
 
-abbrev place : Columns → ℕ
+abbrev place : TurnColumns → ℕ
 place columns = unwrap_or columns.turn 18446744073709551615
 
 pub returns : goal.returns

@@ -1,4 +1,4 @@
--- What the columns of the table say of the moves.
+-- When containers leave, as the columns of the table say it.
 use Rattle.std.proofs.Common.{◌≡◌, ℕ, zero, suc, ◌+◌, ◌<◌, ◌≤◌, arith, Bool, true, false, nat_le, cond, List, [], ◌∷◌, Some, None, slice_get, refl, sym, ap}
 use Rattle.std.specs.Str.{bytes_eq}
 use Rattle.std.proofs.lemmas.Bool.{leb-true, leb-false}

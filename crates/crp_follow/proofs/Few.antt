@@ -1,0 +1,51 @@
+-- Bays in which no more containers stand than a bay of a yard can have.
+use Rattle.std.proofs.Common.{◌≡◌, ℕ, zero, suc, ◌*◌, ◌<◌, ◌≤◌, arith, Bool, true, false, cond, Option, Some, List, [], ◌∷◌, length, map, get_or, sym, subst}
+use Rattle.std.specs.Prelude.{All}
+use Rattle.std.specs.Map.{lookup}
+use Rattle.std.specs.List.{AllByRecursion}
+use Rattle.std.proofs.lemmas.Option.{same_Some, none-some}
+use Rattle.std.proofs.lemmas.List.Elements.{recursion_from_All, All-from_recursion}
+use Rattle.std.proofs.lemmas.List.Sums.{sum_by-cons}
+use Rattle.crp_plan.specs.BayNames.{YardBay, same_bay}
+use Rattle.crp_yard.specs.Inventory.{Inventory, StackedBay, FitBay, IsYard}
+use Rattle.crp_follow.specs.declared.followed.FollowedBay.{FollowedBay}
+use Rattle.crp_follow.specs.Crane.{Stack}
+use Rattle.crp_follow.specs.Faults.{rows_in}
+use Rattle.crp_follow.specs.Table.{standing, StandFew}
+use Rattle.crp_follow.specs.Views.{bay_followed}
+
+-- the bay at this place
+pub few_at : (bays : List FollowedBay) (i : ℕ) (b : FollowedBay) → AllByRecursion StandFew (map bay_followed bays) → i < length bays → b ≡ get_or bays i b → StandFew (bay_followed b)
+few_at [] i b few lt at = absurd (omega arith)
+few_at (x ∷ bays) zero b few lt at = subst (λ y. StandFew (bay_followed y)) (sym at) few.0
+few_at (x ∷ bays) (suc i) b few lt at = few_at bays i b few.1 (omega arith) at
+
+-- no more containers stand in rows than fit
+sum_fits : (heights : List ℕ) (rows : List Stack) → All (λ height. (1 ≤ height) × (height ≤ 8)) heights → FitBay heights rows → standing rows ≤ 8 * length heights
+sum_fits [] [] all fit = omega arith
+sum_fits [] (stack ∷ rows) all fit = absurd fit
+sum_fits (h ∷ heights) [] all fit = omega arith
+sum_fits (h ∷ heights) (stack ∷ rows) all fit =
+    let parts = recursion_from_All (λ height. (1 ≤ height) × (height ≤ 8)) (h ∷ heights) all in
+    let rest = sum_fits heights rows (All-from_recursion (λ height. (1 ≤ height) × (height ≤ 8)) heights parts.1) fit.1 in
+    let low = fit.0 in
+    let high = parts.0.1 in
+    let sum = sum_by-cons length stack rows in
+    omega (arith, rest, low, high, sum)
+
+either_way : {V : Type 0} (t : Bool) (x : V) (o : Option V) (y : V) (P : V → Type 0) → cond t (Some x) o ≡ Some y → P x → (o ≡ Some y → P y) → P y
+either_way true x o y P e here there = subst P (same_Some x y e) here
+either_way false x o y P e here there = there e
+
+found_fits : (heights : List ℕ) (bay : YardBay) (start : List Stack) (bays : List StackedBay) → AllByRecursion (λ (b : StackedBay). FitBay heights b.1) bays → lookup (same_bay bay) bays ≡ Some start
+    → FitBay heights start
+found_fits heights bay start [] all none = absurd (none-some start none)
+found_fits heights bay start (b ∷ bays) all found =
+    either_way (same_bay bay b.0) b.1 (lookup (same_bay bay) bays) start (FitBay heights) found all.0 (λ h. found_fits heights bay start bays all.1 h)
+
+pub few_stand : (yard : Inventory) (bay : YardBay) (start : List Stack) → IsYard yard → rows_in yard bay ≡ Some start → standing start ≤ 96
+few_stand yard bay start is e =
+    let fit : FitBay yard.heights start = found_fits yard.heights bay start yard.bays (recursion_from_All (λ (b : StackedBay). FitBay yard.heights b.1) yard.bays is.bays_fit) e in
+    let few = sum_fits yard.heights start is.heights_fit fit in
+    let rows : length yard.heights ≤ 12 = is.few_rows in
+    omega (arith, few, rows)
