@@ -15,8 +15,8 @@ use Rattle.crp_commands.specs.declared.outcome.Statement.{Statement}
 use Rattle.crp_commands.specs.declared.outcome.Statement.TheVariants as statement
 use Rattle.crp_commands.specs.declared.outcome.ToolFault.{ToolFault}
 use Rattle.crp_commands.specs.declared.outcome.ToolFault.TheVariants as fault
-use Rattle.crp_commands.specs.declared.advice.Place.{Place}
-use Rattle.crp_commands.specs.declared.advice.Place.TheVariants as place
+use Rattle.crp_commands.specs.declared.failed.Place.{Place}
+use Rattle.crp_commands.specs.declared.failed.Place.TheVariants as place
 
 -- a printable ASCII character
 abbrev pub is_printable : ℕ → Bool

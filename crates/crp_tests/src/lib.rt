@@ -1,5 +1,5 @@
 //! Tests of a run, of the commands and of the words of the command line: what no contract says and no transcript shows. Inputs that are
-//! cut at each length or changed in each byte, what words ask for, faults that no file shows, and devices that fail in mid-stream.
+//! cut at each length or changed in each byte, what help says, faults that no file shows, and devices that fail in mid-stream.
 #![tactic(auto)]
 
 #[cfg(test)]
@@ -31,6 +31,8 @@ mod first_runs;
 #[cfg(test)]
 mod follow_turns;
 #[cfg(test)]
+mod help;
+#[cfg(test)]
 mod interrupted_runs;
 #[cfg(test)]
 mod many_workers;
@@ -44,5 +46,3 @@ mod six;
 mod statuses;
 #[cfg(test)]
 mod turns;
-#[cfg(test)]
-mod usage;
