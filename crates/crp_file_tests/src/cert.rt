@@ -1,7 +1,6 @@
 //! What no contract says and no command shows: what is read of texts, damaged texts, sinks, and the texts of faults.
 mod certs;
 mod claims;
-mod cut;
 mod damaged;
 mod first;
 mod heads;

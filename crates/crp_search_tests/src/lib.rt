@@ -3,8 +3,6 @@
 #![tactic(auto)]
 
 #[cfg(test)]
-mod bay;
-#[cfg(test)]
 mod bays;
 #[cfg(test)]
 mod bounds;

@@ -1,4 +1,4 @@
-//! Tests of a run, of the commands and of the words of the command line: what no contract says and no transcript shows. Inputs that are
+//! Tests of a run, of the commands and of the words of the command line: what no contract says and no transcript shows. Certificates that are
 //! cut at each length or changed in each byte, what help says, faults that no file shows, and devices that fail in mid-stream.
 #![tactic(auto)]
 
@@ -12,8 +12,6 @@ mod calls;
 mod certificates;
 #[cfg(test)]
 mod command_turns;
-#[cfg(test)]
-mod commands;
 #[cfg(test)]
 mod compare;
 #[cfg(test)]

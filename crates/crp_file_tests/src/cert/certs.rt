@@ -20,14 +20,14 @@ const LONG_PATHS: [&[u8]; 8] = [
 ];
 
 /// The lines of a head and what follows them.
-pub(super) fn text_of(alloc: Global, head: &[&[u8]], rest: &[u8]) -> Result<Vec<u8>, AllocError> {
+fn text_of(alloc: Global, head: &[&[u8]], rest: &[u8]) -> Result<Vec<u8>, AllocError> {
     let mut text = joined(alloc, head)?;
     text.extend_from_slice(rest)?;
     Ok(text)
 }
 
 /// The fault that a text is refused with, if it is.
-pub(super) fn refusal(alloc: Global, text: &[u8]) -> Option<CertFault> {
+fn refusal(alloc: Global, text: &[u8]) -> Option<CertFault> {
     match read_cert(alloc, text) {
         Ok(_) => None,
         Err(fault) => Some(fault),

@@ -1,16 +1,9 @@
-//! Certificates that come in two pieces, or end too soon.
+//! Certificates that come in two pieces.
 use super::{ONE_ROW, SIX, TWO, UNEQUAL};
 use crate::calls::{bay_after, check, check_pieces};
 use crate::compare::{assert_at, assert_same_at};
-use crp_checker::Refused;
 use std::process::Abort;
 use std::test::Fail;
-
-fn is_cut(rt: &(impl Abort + AllocGlobal), cut: &[u8]) {
-    let length = cut.len();
-    let refused = check(rt.alloc(), cut).expect_err(rt, "a cut certificate");
-    assert_at(rt, matches!(&refused, Refused::Cert(_)), &length);
-}
 
 /// The certificate is what it is, wherever it is cut into two pieces.
 fn is_whole(rt: &(impl Abort + AllocGlobal), text: &str) {
@@ -45,15 +38,6 @@ fn the_bay_is_known_from_the_second_line_on(rt: HostRuntime) -> Result<(), Fail>
     for length in 0..bytes.len() {
         let bay = bay_after(rt.alloc(), &bytes[..length])?;
         assert_at(&rt, bay.is_some() == (length >= 19), &length);
-    }
-    Ok(())
-}
-
-#[test]
-fn a_certificate_cut_anywhere_has_a_fault_of_its_text(rt: HostRuntime) -> Result<(), Fail> {
-    let bytes = SIX.as_bytes();
-    for length in 0..bytes.len() {
-        is_cut(&rt, &bytes[..length]);
     }
     Ok(())
 }
