@@ -5,12 +5,12 @@ use Rattle.crp_report.specs.declared.status.Status.{Status}
 use Rattle.crp_report.specs.Chosen.{InputChosen}
 use Rattle.crp_report.specs.Runs.{GetsNothing}
 use Rattle.crp_audit.specs.Headline.{Handed}
-use Rattle.crp_commands.specs.declared.job.AuditFiles.{AuditFiles}
-use Rattle.crp_commands.specs.declared.outcome.Statement.{Statement}
-use Rattle.crp_commands.specs.declared.outcome.ToolFault.{ToolFault}
-use Rattle.crp_commands.specs.declared.outcome.ToolFault.TheVariants as fault
+use Rattle.crp_jobs.specs.declared.job.AuditFiles.{AuditFiles}
+use Rattle.crp_jobs.specs.declared.outcome.Statement.{Statement}
+use Rattle.crp_jobs.specs.declared.outcome.ToolFault.{ToolFault}
+use Rattle.crp_jobs.specs.declared.outcome.ToolFault.TheVariants as fault
 use Rattle.crp_commands.specs.Audit.{AuditSeen, AuditEnds, AuditFails, AuditFailsWith, AuditReportsOverFiles, AuditFailsOverFiles, IsHandedIn, IsInputAccepted, IsNoStatement, IsOverNamed, StopsOn, statement_of}
-use Rattle.crp_commands.specs.Opened.{FilesSeen}
+use Rattle.crp_jobs.specs.Opened.{FilesSeen}
 use Rattle.crp_commands.proofs.Solved.{more_and_more}
 
 -- a statement was not read

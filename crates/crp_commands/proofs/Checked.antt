@@ -15,8 +15,8 @@ use Rattle.crp_checker.specs.declared.refused.Refused.TheVariants as refused
 use Rattle.crp_checker.specs.declared.file_checker.FileChecker.{FileChecker}
 use Rattle.crp_checker.specs.Files.{FileShows, IsFileRefusal}
 use Rattle.crp_checker.specs.FedFiles.{HasReadFile}
-use Rattle.crp_commands.specs.declared.outcome.ToolFault.{ToolFault}
-use Rattle.crp_commands.specs.declared.outcome.ToolFault.TheVariants as fault
+use Rattle.crp_jobs.specs.declared.outcome.ToolFault.{ToolFault}
+use Rattle.crp_jobs.specs.declared.outcome.ToolFault.TheVariants as fault
 use Rattle.crp_commands.specs.Calls.{CallSeen, IsTextWithin}
 use Rattle.crp_commands.specs.Check.{verdict_line, verdict_lines, fault_of_refusal, IsReadFrom, WritesEach, CheckFailsWith}
 use Rattle.crp_commands.specs.Checks.{TextFailsWith, HasChecked, IsChecking, ChecksPiece, AreEndedIn, BytesFailWith, PieceFailsWith, CheckState, StandsAfter, CheckHasGoneOn, CheckStopsAt}

@@ -4,10 +4,10 @@ use Rattle.crp_plan.specs.Devices.{CountsMore, CountsOne}
 use Rattle.crp_report.specs.declared.status.Status.{Status}
 use Rattle.crp_report.specs.Chosen.{InputChosen}
 use Rattle.crp_report.specs.Runs.{SourceSeen, SinkSeen}
-use Rattle.crp_commands.specs.declared.job.FollowFiles.{FollowFiles}
-use Rattle.crp_commands.specs.declared.outcome.ToolFault.{ToolFault}
+use Rattle.crp_jobs.specs.declared.job.FollowFiles.{FollowFiles}
+use Rattle.crp_jobs.specs.declared.outcome.ToolFault.{ToolFault}
 use Rattle.crp_commands.specs.Follow.{FollowSeen, FollowEnds, FollowFails, FollowReportsOverFiles, FollowFailsOverFiles, AnswersOver, IsMessageFrom, IsOfUnfollowed, IsOverFollowed, IsOverMessage, IsOverPage, IsOverReport, IsPageTo, IsReportFrom, IsUnfollowed, Opened, RefusesFile, message_name, sink_failures, source_failures}
-use Rattle.crp_commands.specs.Opened.{KnownFiles, FilesSeen, FilesFail, IsFileOpened}
+use Rattle.crp_jobs.specs.Opened.{KnownFiles, FilesSeen, FilesFail, IsFileOpened}
 
 -- what failed of a sink that was opened for the call is what failed of it
 pub failed_new : (sink : SinkSeen) (before after : ℕ) → sink.before ≡ 0 → CountsMore sink.after before after → CountsMore (sink_failures (Some sink)) before after

@@ -8,4 +8,3 @@ pub mod Solved
 pub mod FollowedFiles
 pub mod Promised
 pub mod Noted
-pub mod Shown

@@ -7,12 +7,12 @@ use Rattle.crp_checker.specs.declared.verdict.Verdict.{Verdict}
 use Rattle.crp_report.specs.declared.status.Status.{Status}
 use Rattle.crp_report.specs.Runs.{SinkSeen, GetsPart}
 use Rattle.crp_report.proofs.Shown.{shows_nothing}
-use Rattle.crp_commands.specs.declared.job.FileCommand.{FileCommand}
-use Rattle.crp_commands.specs.declared.job.FileCommand.TheVariants as command
-use Rattle.crp_commands.specs.declared.job.Job.{Job}
-use Rattle.crp_commands.specs.declared.job.Job.TheVariants as job
-use Rattle.crp_commands.specs.declared.outcome.ToolFault.{ToolFault}
-use Rattle.crp_commands.specs.Opened.{IsLeftAlone}
+use Rattle.crp_jobs.specs.declared.job.FileCommand.{FileCommand}
+use Rattle.crp_jobs.specs.declared.job.FileCommand.TheVariants as command
+use Rattle.crp_jobs.specs.declared.job.Job.{Job}
+use Rattle.crp_jobs.specs.declared.job.Job.TheVariants as job
+use Rattle.crp_jobs.specs.declared.outcome.ToolFault.{ToolFault}
+use Rattle.crp_jobs.specs.Opened.{IsLeftAlone}
 use Rattle.crp_commands.specs.Noted.{GetsLines, empty_note, TellsOfNone, TellsWhetherEmpty, IsNotedBy, IsNotedIn, IsNoted}
 
 -- nothing was shown

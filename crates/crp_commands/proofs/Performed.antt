@@ -2,9 +2,9 @@
 use Rattle.std.proofs.Common.{◌≡◌, ◌≢◌, ℕ, List, Result, Ok, Err, MatchResult, codes, inl, inr, refl}
 use Rattle.crp_report.specs.declared.status.Status.{Status}
 use Rattle.crp_report.specs.Runs.{SourceSeen}
-use Rattle.crp_commands.specs.declared.job.FileCommand.{FileCommand}
-use Rattle.crp_commands.specs.declared.outcome.ToolFault.{ToolFault}
-use Rattle.crp_commands.specs.Opened.{AreFilesLeftAlone}
+use Rattle.crp_jobs.specs.declared.job.FileCommand.{FileCommand}
+use Rattle.crp_jobs.specs.declared.outcome.ToolFault.{ToolFault}
+use Rattle.crp_jobs.specs.Opened.{AreFilesLeftAlone}
 use Rattle.crp_commands.specs.Performing.{JobSeen, IsFrom, IsFromFile, call_of, PerformsIn, CommandFailsInCall, ReportsFile, FileFailsWith}
 
 -- how a command ended in a call from this source

@@ -13,9 +13,10 @@ use Rattle.crp_headline.specs.Accepted.{IsAcceptedAs}
 use Rattle.crp_headline.proofs.Accepted.{answer_accepted}
 use Rattle.crp_commands.specs.Prove.{IsProofOf}
 use Rattle.crp_report.specs.Report.{text_of}
-use Rattle.crp_commands.specs.declared.outcome.ToolFault.{ToolFault}
-use Rattle.crp_commands.specs.declared.outcome.ToolFault.TheVariants as fault
-use Rattle.crp_commands.specs.Calls.{CallSeen, IsTextWithin, IsNoHead, CallFailsWith, fault_of_cert}
+use Rattle.crp_jobs.specs.declared.outcome.ToolFault.{ToolFault}
+use Rattle.crp_jobs.specs.declared.outcome.ToolFault.TheVariants as fault
+use Rattle.crp_commands.specs.Calls.{CallSeen, IsTextWithin, IsNoHead, CallFailsWith}
+use Rattle.crp_jobs.specs.Outcomes.{fault_of_cert}
 use Rattle.crp_commands.specs.Replay.{IsReplay, IsNoReplay, IsNoReport}
 
 -- five pieces, one after the other

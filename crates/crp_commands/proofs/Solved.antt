@@ -7,10 +7,10 @@ use Rattle.crp_report.specs.declared.fault.Output.TheVariants as output
 use Rattle.crp_report.specs.declared.status.Status.{Status}
 use Rattle.crp_report.specs.Chosen.{RunChosen}
 use Rattle.crp_report.specs.Runs.{RunSeen, SourceSeen, SinkSeen}
-use Rattle.crp_commands.specs.declared.job.RunFiles.{RunFiles}
-use Rattle.crp_commands.specs.declared.outcome.ToolFault.{ToolFault}
-use Rattle.crp_commands.specs.declared.outcome.ToolFault.TheVariants as fault
-use Rattle.crp_commands.specs.Opened.{KnownFiles, FilesSeen, IsFileOpened, IsNewSink}
+use Rattle.crp_jobs.specs.declared.job.RunFiles.{RunFiles}
+use Rattle.crp_jobs.specs.declared.outcome.ToolFault.{ToolFault}
+use Rattle.crp_jobs.specs.declared.outcome.ToolFault.TheVariants as fault
+use Rattle.crp_jobs.specs.Opened.{KnownFiles, FilesSeen, IsFileOpened, IsNewSink}
 use Rattle.crp_commands.specs.Solving.{RunEnds, RunFails, RunAnswers, AnswersAfter, AnswersOutputs, FailsWhereAsked, IsOfRefused, IsOutputRefused, IsOverAfter, IsOverOutputs, IsOverFiles, IsRefused, RefusesOutput, RunReportsOverFiles, RunFailsOverFiles, no_sink}
 
 -- ---- counts of failures, which end at the largest u64

@@ -15,11 +15,11 @@ use Rattle.crp_page.specs.Page.{page_text}
 use Rattle.crp_report.specs.Chosen.{InputChosen}
 use Rattle.crp_report.specs.Runs.{SourceSeen, SinkSeen, GetsFront, GetsNothing}
 use Rattle.crp_report.proofs.Refusing.{longer}
-use Rattle.crp_commands.specs.declared.outcome.ToolFault.{ToolFault}
-use Rattle.crp_commands.specs.declared.outcome.ToolFault.TheVariants as fault
-use Rattle.crp_commands.specs.Calls.{fault_of_follow, fault_of_loading}
+use Rattle.crp_jobs.specs.declared.outcome.ToolFault.{ToolFault}
+use Rattle.crp_jobs.specs.declared.outcome.ToolFault.TheVariants as fault
+use Rattle.crp_jobs.specs.Outcomes.{fault_of_follow, fault_of_loading}
 use Rattle.crp_commands.specs.Follow.{FollowSeen, FollowFailsWith, GetsFollowedFront, GetsPageFront, IsFollowInput, IsLoaded, IsNoReport, Ship, StopsFollowing, StopsPage, WritesNothing, if_asked, loading_faults, sink_failures}
-use Rattle.crp_commands.specs.Opened.{IsSourceLeftAlone}
+use Rattle.crp_jobs.specs.Opened.{IsSourceLeftAlone}
 
 -- ---- a device of which something may be asked
 

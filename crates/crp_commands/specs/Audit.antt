@@ -21,14 +21,14 @@ use Rattle.crp_audit.specs.declared.fault.AuditFault.{AuditFault}
 use Rattle.crp_audit.specs.declared.fault.AuditFault.TheVariants as audited
 use Rattle.crp_commands.specs.declared.auditing.TheConstants.{MOST_REPORT}
 use Rattle.crp_commands.specs.declared.heads.TheConstants.{MOST_BYTES}
-use Rattle.crp_commands.specs.declared.job.AuditFiles.{AuditFiles}
-use Rattle.crp_commands.specs.declared.outcome.Statement.{Statement}
-use Rattle.crp_commands.specs.declared.outcome.Statement.TheVariants as statement
-use Rattle.crp_commands.specs.declared.outcome.ToolFault.{ToolFault}
-use Rattle.crp_commands.specs.declared.outcome.ToolFault.TheVariants as fault
+use Rattle.crp_jobs.specs.declared.job.AuditFiles.{AuditFiles}
+use Rattle.crp_jobs.specs.declared.outcome.Statement.{Statement}
+use Rattle.crp_jobs.specs.declared.outcome.Statement.TheVariants as statement
+use Rattle.crp_jobs.specs.declared.outcome.ToolFault.{ToolFault}
+use Rattle.crp_jobs.specs.declared.outcome.ToolFault.TheVariants as fault
 use Rattle.crp_commands.specs.Calls.{IsTextWithin, failures_of_tool_fault}
 use Rattle.crp_commands.specs.Check.{verdict_lines}
-use Rattle.crp_commands.specs.Opened.{KnownFiles, FilesSeen, FilesFail, IsFileOpened, IsOneRefused, IsLeftAlone}
+use Rattle.crp_jobs.specs.Opened.{KnownFiles, FilesSeen, FilesFail, IsFileOpened, IsOneRefused, IsLeftAlone}
 
 -- what an audit saw of its four sources, and of its sink
 pub record AuditSeen : Type 0 where

@@ -5,8 +5,8 @@ use Rattle.crp_bounds.specs.Bounds.{blocking, look_ahead}
 use Rattle.crp_cert.specs.declared.head.Head.{Head}
 use Rattle.crp_cert.specs.Text.{bay_line, IsHeadOf}
 use Rattle.crp_cert.specs.Faults.{IsFirstFault}
-use Rattle.crp_commands.specs.declared.outcome.ToolFault.{ToolFault}
-use Rattle.crp_commands.specs.declared.outcome.ToolFault.TheVariants as fault
+use Rattle.crp_jobs.specs.declared.outcome.ToolFault.{ToolFault}
+use Rattle.crp_jobs.specs.declared.outcome.ToolFault.TheVariants as fault
 
 -- the lines of the bounds of a position
 abbrev pub bound_lines : Position → List ℕ

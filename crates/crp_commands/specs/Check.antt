@@ -11,8 +11,8 @@ use Rattle.crp_checker.specs.declared.refused.Refused.{Refused}
 use Rattle.crp_checker.specs.declared.refused.Refused.TheVariants as refused
 use Rattle.crp_checker.specs.Files.{IsWithoutEnd, IsOtherLine, joined_lines, FileShows, IsFileRefusal}
 use Rattle.crp_checker.specs.FedFiles.{IsEndedFront}
-use Rattle.crp_commands.specs.declared.outcome.ToolFault.{ToolFault}
-use Rattle.crp_commands.specs.declared.outcome.ToolFault.TheVariants as fault
+use Rattle.crp_jobs.specs.declared.outcome.ToolFault.{ToolFault}
+use Rattle.crp_jobs.specs.declared.outcome.ToolFault.TheVariants as fault
 use Rattle.crp_said.specs.Said.{bay_words}
 use Rattle.crp_commands.specs.Calls.{CallSeen, IsTextWithin}
 

@@ -7,8 +7,8 @@ use Rattle.crp_checker.specs.declared.verdict.Verdict.{Verdict}
 use Rattle.crp_checker.specs.declared.refused.Refused.TheVariants as refused
 use Rattle.crp_checker.specs.declared.file_checker.FileChecker.{FileChecker}
 use Rattle.crp_checker.specs.FedFiles.{HasReadFile, IsEndedFront}
-use Rattle.crp_commands.specs.declared.outcome.ToolFault.{ToolFault}
-use Rattle.crp_commands.specs.declared.outcome.ToolFault.TheVariants as fault
+use Rattle.crp_jobs.specs.declared.outcome.ToolFault.{ToolFault}
+use Rattle.crp_jobs.specs.declared.outcome.ToolFault.TheVariants as fault
 use Rattle.crp_commands.specs.Check.{verdict_lines, IsCheckBefore, CheckFailsWith}
 
 -- what a fault says of a text that was to be written: nothing of it was, because memory ran out, or a write has failed, after a front of it

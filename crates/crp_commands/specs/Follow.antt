@@ -24,13 +24,13 @@ use Rattle.crp_report.specs.declared.status.Status.TheVariants as status
 use Rattle.crp_report.specs.BayTexts.{IsNoYard}
 use Rattle.crp_report.specs.Chosen.{InputChosen}
 use Rattle.crp_report.specs.Runs.{SourceSeen, SinkSeen, Gets, GetsFront, GetsPart, GetsNothing}
-use Rattle.crp_commands.specs.declared.job.FollowFiles.{FollowFiles}
-use Rattle.crp_commands.specs.declared.outcome.Statement.TheVariants as statement
-use Rattle.crp_commands.specs.declared.outcome.ToolFault.{ToolFault}
-use Rattle.crp_commands.specs.declared.outcome.ToolFault.TheVariants as fault
+use Rattle.crp_jobs.specs.declared.job.FollowFiles.{FollowFiles}
+use Rattle.crp_jobs.specs.declared.outcome.Statement.TheVariants as statement
+use Rattle.crp_jobs.specs.declared.outcome.ToolFault.{ToolFault}
+use Rattle.crp_jobs.specs.declared.outcome.ToolFault.TheVariants as fault
 use Rattle.crp_commands.specs.Audit.{IsInputOf, IsNoInput}
 use Rattle.crp_commands.specs.Calls.{failures_of_tool_fault}
-use Rattle.crp_commands.specs.Opened.{KnownFiles, FilesSeen, FilesFail, IsFileOpened, IsOneRefused, IsSourceLeftAlone, IsLeftAlone}
+use Rattle.crp_jobs.specs.Opened.{KnownFiles, FilesSeen, FilesFail, IsFileOpened, IsOneRefused, IsSourceLeftAlone, IsLeftAlone}
 
 -- what a call saw of its sources, the yard list, the message where one is asked for, and the report; and of the sink of its table, and that of its page where
 -- one is asked for

@@ -5,9 +5,9 @@ use Rattle.crp_headline.specs.Accepted.{handed_of}
 use Rattle.crp_report.specs.declared.fault.Output.{Output}
 use Rattle.crp_report.specs.Chosen.{RunChosen}
 use Rattle.crp_report.specs.Runs.{RunSeen, Made, IsMade, Gets, GetsFront, GetsNothing, sink_of, text_for}
-use Rattle.crp_commands.specs.declared.job.Job.{Job}
-use Rattle.crp_commands.specs.declared.job.Job.TheVariants as job
-use Rattle.crp_commands.specs.declared.job.RunFiles.{RunFiles}
+use Rattle.crp_jobs.specs.declared.job.Job.{Job}
+use Rattle.crp_jobs.specs.declared.job.Job.TheVariants as job
+use Rattle.crp_jobs.specs.declared.job.RunFiles.{RunFiles}
 use Rattle.crp_commands.specs.Performing.{JobSeen}
 use Rattle.crp_commands.specs.Solving.{IsOverFiles}
 

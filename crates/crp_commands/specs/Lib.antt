@@ -7,11 +7,7 @@ pub mod Check
 pub mod Audit
 pub mod Follow
 pub mod Checks
-pub mod Opened
 pub mod Solving
 pub mod Performing
 pub mod Headlines
-pub mod Advice
 pub mod Noted
-pub mod Found
-pub mod Placed

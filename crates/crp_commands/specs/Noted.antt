@@ -5,12 +5,12 @@ use Rattle.crp_plan.specs.Devices.{HasFailed}
 use Rattle.crp_checker.specs.declared.verdict.Verdict.{Verdict}
 use Rattle.crp_report.specs.Runs.{SinkSeen, Gets, GetsPart}
 use Rattle.crp_report.specs.Watching.{ShowsMore}
-use Rattle.crp_commands.specs.declared.job.FileCommand.{FileCommand}
-use Rattle.crp_commands.specs.declared.job.FileCommand.TheVariants as command
-use Rattle.crp_commands.specs.declared.job.Job.{Job}
-use Rattle.crp_commands.specs.declared.job.Job.TheVariants as job
+use Rattle.crp_jobs.specs.declared.job.FileCommand.{FileCommand}
+use Rattle.crp_jobs.specs.declared.job.FileCommand.TheVariants as command
+use Rattle.crp_jobs.specs.declared.job.Job.{Job}
+use Rattle.crp_jobs.specs.declared.job.Job.TheVariants as job
 use Rattle.crp_commands.specs.Check.{verdict_lines}
-use Rattle.crp_commands.specs.Opened.{IsLeftAlone}
+use Rattle.crp_jobs.specs.Opened.{IsLeftAlone}
 
 -- the sink got the text, or where a write to it has failed a front of it that is not all of it, and nothing else
 abbrev pub GetsLines : SinkSeen → List ℕ → Type 0

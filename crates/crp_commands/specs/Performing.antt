@@ -3,14 +3,14 @@ use Rattle.std.specs.Prelude.{◌≡◌, ◌≢◌, ℕ, ◌≤◌, ◌⊎◌, L
 use Rattle.crp_plan.specs.Devices.{most_interruptions}
 use Rattle.crp_report.specs.declared.status.Status.{Status}
 use Rattle.crp_report.specs.declared.status.Status.TheVariants as status
-use Rattle.crp_commands.specs.declared.job.FileCommand.{FileCommand}
-use Rattle.crp_commands.specs.declared.job.FileCommand.TheVariants as command
-use Rattle.crp_commands.specs.declared.job.Job.{Job}
-use Rattle.crp_commands.specs.declared.job.Job.TheVariants as job
-use Rattle.crp_commands.specs.declared.outcome.ToolFault.{ToolFault}
-use Rattle.crp_commands.specs.declared.outcome.ToolFault.TheVariants as fault
+use Rattle.crp_jobs.specs.declared.job.FileCommand.{FileCommand}
+use Rattle.crp_jobs.specs.declared.job.FileCommand.TheVariants as command
+use Rattle.crp_jobs.specs.declared.job.Job.{Job}
+use Rattle.crp_jobs.specs.declared.job.Job.TheVariants as job
+use Rattle.crp_jobs.specs.declared.outcome.ToolFault.{ToolFault}
+use Rattle.crp_jobs.specs.declared.outcome.ToolFault.TheVariants as fault
 use Rattle.crp_report.specs.Runs.{SourceSeen, SinkSeen}
-use Rattle.crp_commands.specs.Opened.{FilesSeen, FilesFail, IsFileOpened, IsOneRefused, AreFilesLeftAlone, IsSourceLeftAlone, IsLeftAlone}
+use Rattle.crp_jobs.specs.Opened.{FilesSeen, FilesFail, IsFileOpened, IsOneRefused, AreFilesLeftAlone, IsSourceLeftAlone, IsLeftAlone}
 use Rattle.crp_commands.specs.Solving.{RunReportsOverFiles, RunFailsOverFiles}
 use Rattle.crp_commands.specs.Audit.{AuditReportsOverFiles, AuditFailsOverFiles}
 use Rattle.crp_commands.specs.Follow.{FollowReportsOverFiles, FollowFailsOverFiles}

@@ -11,8 +11,8 @@ use Rattle.crp_report.specs.declared.status.Status.{Status}
 use Rattle.crp_report.specs.Answered.{status_of}
 use Rattle.crp_report.specs.Report.{text_of}
 use Rattle.crp_headline.specs.Accepted.{IsAcceptedAs}
-use Rattle.crp_commands.specs.declared.outcome.ToolFault.{ToolFault}
-use Rattle.crp_commands.specs.declared.outcome.ToolFault.TheVariants as fault
+use Rattle.crp_jobs.specs.declared.outcome.ToolFault.{ToolFault}
+use Rattle.crp_jobs.specs.declared.outcome.ToolFault.TheVariants as fault
 
 -- what was chosen for a search of the problem that the head states is answered so, and the text is the certificate of the answer, under the name of the
 -- head's bay, which the checker accepts with the verdict on the answer

@@ -7,8 +7,8 @@ use Rattle.crp_plan.specs.Faults.{IsPlanFault}
 use Rattle.crp_cert.specs.declared.head.Head.{Head}
 use Rattle.crp_cert.specs.Text.{bay_line, IsHeadOf}
 use Rattle.crp_cert.specs.Faults.{IsFirstFault}
-use Rattle.crp_commands.specs.declared.outcome.ToolFault.{ToolFault}
-use Rattle.crp_commands.specs.declared.outcome.ToolFault.TheVariants as fault
+use Rattle.crp_jobs.specs.declared.outcome.ToolFault.{ToolFault}
+use Rattle.crp_jobs.specs.declared.outcome.ToolFault.TheVariants as fault
 use Rattle.crp_said.specs.MoveLines.{rank_names, AreMoveLines}
 
 -- how many moves and relocations a plan has

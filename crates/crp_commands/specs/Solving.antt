@@ -10,10 +10,10 @@ use Rattle.crp_report.specs.declared.fault.Output.TheVariants as output
 use Rattle.crp_report.specs.declared.status.Status.{Status}
 use Rattle.crp_report.specs.Chosen.{RunChosen}
 use Rattle.crp_report.specs.Runs.{RunSeen, SinkSeen, WritesTexts, RunFailsWith, run_failures, most_run_failures}
-use Rattle.crp_commands.specs.declared.job.RunFiles.{RunFiles}
-use Rattle.crp_commands.specs.declared.outcome.ToolFault.{ToolFault}
-use Rattle.crp_commands.specs.declared.outcome.ToolFault.TheVariants as fault
-use Rattle.crp_commands.specs.Opened.{KnownFiles, FilesSeen, FilesFail, IsFileOpened, IsNewSink, IsOneRefused, IsSourceLeftAlone, IsLeftAlone}
+use Rattle.crp_jobs.specs.declared.job.RunFiles.{RunFiles}
+use Rattle.crp_jobs.specs.declared.outcome.ToolFault.{ToolFault}
+use Rattle.crp_jobs.specs.declared.outcome.ToolFault.TheVariants as fault
+use Rattle.crp_jobs.specs.Opened.{KnownFiles, FilesSeen, FilesFail, IsFileOpened, IsNewSink, IsOneRefused, IsSourceLeftAlone, IsLeftAlone}
 
 -- a run over these devices ended with the status: its texts were written, and no more calls failed than may be passed over
 abbrev pub RunEnds : RunChosen → RunSeen → Status → Type 0

@@ -16,10 +16,10 @@ ghost use Rattle.crp_commands.specs.Check.{verdict_lines};
 
 use crate::checking::push_verdict;
 use crate::heads::MOST_BYTES;
-use crate::outcome::{Statement, ToolFault};
 use crp_audit::{AuditStop, AuditStopped};
 use crp_cert::push_decimal;
 use crp_checker::Verdicts;
+use crp_jobs::{Statement, ToolFault};
 use crp_movins::Orders;
 use crp_order::{Mode, Sequence, sequence};
 use crp_plan::{ReadFault, Sink, Source, read_all, write_all};

@@ -6,10 +6,10 @@ ghost use Rattle.crp_commands.specs.Calls.{CallSeen, call_failures, most_call_fa
 ghost use Rattle.crp_commands.specs.Bound.{bound_lines, IsBoundReport, IsBound, IsNoBound};
 
 use crate::heads::head_from;
-use crate::outcome::ToolFault;
 use crp_bay::Position;
 use crp_bounds::{blocking, look_ahead};
 use crp_cert::{Head, push_bay, push_decimal};
+use crp_jobs::ToolFault;
 use crp_plan::{Sink, Source, write_all};
 use crp_report::Status;
 use std::alloc::{AllocError, Global};

@@ -6,15 +6,15 @@ ghost use Rattle.crp_plan.specs.Devices.{most_interruptions};
 ghost use Rattle.crp_commands.specs.Calls.{CallSeen, call_failures, failures_of_tool_fault, most_call_failures, WritesReport};
 ghost use Rattle.crp_commands.specs.Check.{plan_words, verdict_words, verdict_line, fault_of_refusal, IsCheck, CheckFailsWith};
 ghost use Rattle.crp_report.specs.Runs.{SinkSeen};
-ghost use Rattle.crp_commands.specs.Opened.{IsLeftAlone};
+ghost use Rattle.crp_jobs.specs.Opened.{IsLeftAlone};
 ghost use Rattle.crp_commands.specs.Noted.{TellsWhetherEmpty};
 ghost use Rattle.crp_commands.specs.Checks.{TextFailsWith, IsChecking, ChecksPiece, PieceFailsWith, CheckHasGoneOn, CheckStopsAt};
 
 use crate::heads::MOST_BYTES;
 use crate::noting::note_if_none;
-use crate::outcome::ToolFault;
 use crp_cert::push_decimal;
 use crp_checker::{Fed, FileChecker, Refused, Verdict};
+use crp_jobs::ToolFault;
 use crp_plan::{BayName, Sink, Source, read_some, write_all};
 use crp_report::Status;
 use crp_said::push_bay_words;

@@ -16,8 +16,8 @@ ghost use Rattle.crp_commands.specs.Calls.{failures_of_tool_fault};
 ghost use Rattle.crp_commands.specs.Follow.{FollowSeen, FollowEnds, FollowFails, IsFollowInput, IsNoFollowInput, IsNoReport, StopsFollowing, StopsPage, WritesPage, WritesTexts, if_asked, loading_faults, source_failures, table_for};
 
 use crate::auditing::{InputRead, input_from};
-use crate::outcome::{Statement, ToolFault};
 use crp_follow::{FollowFault, Followed, MAX_BYTES, table_text};
+use crp_jobs::{Statement, ToolFault};
 use crp_loading::{LoadingFault, load_table};
 use crp_movins::Orders;
 use crp_order::Sequence;

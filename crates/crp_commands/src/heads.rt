@@ -5,8 +5,8 @@ ghost use Rattle.crp_plan.specs.Devices.{most_interruptions};
 ghost use Rattle.crp_cert.specs.Text.{IsHeadOf};
 ghost use Rattle.crp_commands.specs.Calls.{IsTextWithin, IsNoHead, failures_of_tool_fault};
 
-use crate::outcome::ToolFault;
 use crp_cert::{Head, read_head};
+use crp_jobs::ToolFault;
 use crp_plan::{Source, read_all};
 use std::alloc::Global;
 

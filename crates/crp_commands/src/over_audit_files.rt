@@ -1,13 +1,11 @@
 //! The command `audit` over its files.
 ghost use Rattle.std.specs.Prelude.{MatchResult};
 ghost use Rattle.crp_report.specs.Runs.{SinkSeen};
-ghost use Rattle.crp_commands.specs.Opened.{FilesSeen};
+ghost use Rattle.crp_jobs.specs.Opened.{FilesSeen};
 ghost use Rattle.crp_commands.specs.Audit.{AuditReportsOverFiles, AuditFailsOverFiles};
 
 use crate::auditing::audit;
-use crate::job::AuditFiles;
-use crate::opening::Files;
-use crate::outcome::{Statement, ToolFault};
+use crp_jobs::{AuditFiles, Files, Statement, ToolFault};
 use crp_plan::Sink;
 use crp_report::{Fault, Input, InputSettings, Status};
 use std::alloc::Global;

@@ -7,13 +7,11 @@ ghost use Rattle.crp_commands.specs.Noted.{IsNoted, IsNotedIn};
 ghost use Rattle.crp_commands.specs.Performing.{JobSeen, ReportsFile, FileFailsWith, ReportsOverFiles, FailsOverFiles};
 ghost use Rattle.crp_commands.specs.Headlines.{ForRun, AreWritten, AreFrontsWritten};
 
-use crate::job::{FileCommand, Job};
-use crate::opening::Files;
-use crate::outcome::ToolFault;
 use crate::over_audit_files::audit_files;
 use crate::over_follow_files::follow_files;
 use crate::over_yard_files::solve;
 use crate::performing::perform;
+use crp_jobs::{FileCommand, Files, Job, ToolFault};
 use crp_notes::Terminal;
 use crp_plan::{Sink, Source};
 use crp_report::Status;

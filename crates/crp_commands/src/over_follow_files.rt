@@ -1,13 +1,11 @@
 //! The command `follow` over its files.
 ghost use Rattle.std.specs.Prelude.{None, MatchResult};
 ghost use Rattle.crp_report.specs.Runs.{SourceSeen, SinkSeen};
-ghost use Rattle.crp_commands.specs.Opened.{FilesSeen};
+ghost use Rattle.crp_jobs.specs.Opened.{FilesSeen};
 ghost use Rattle.crp_commands.specs.Follow.{AnswersOver, FollowReportsOverFiles, FollowFailsOverFiles, IsOverMessage, IsOverPage, IsOverReport, Opened, RefusesFile, if_asked};
 
 use crate::following::{FollowSettings, follow};
-use crate::job::FollowFiles;
-use crate::opening::Files;
-use crate::outcome::{Statement, ToolFault};
+use crp_jobs::{Files, FollowFiles, Statement, ToolFault};
 use crp_plan::{Nowhere, Sink, Source};
 use crp_report::{Fault, Input, InputSettings, Status};
 use std::alloc::Global;

@@ -2,15 +2,13 @@
 ghost use Rattle.std.specs.Prelude.{◌≡◌, MatchResult};
 ghost use Rattle.crp_report.specs.declared.fault.Fault.{Fault};
 ghost use Rattle.crp_report.specs.Runs.{RunSeen, SinkSeen};
-ghost use Rattle.crp_commands.specs.declared.outcome.ToolFault.TheVariants.{Run};
-ghost use Rattle.crp_commands.specs.Opened.{FilesSeen};
+ghost use Rattle.crp_jobs.specs.declared.outcome.ToolFault.TheVariants.{Run};
+ghost use Rattle.crp_jobs.specs.Opened.{FilesSeen};
 ghost use Rattle.crp_commands.specs.Noted.{IsNotedBy};
 ghost use Rattle.crp_commands.specs.Solving.{RunEnds, RunFails, AnswersAfter, AnswersOutputs, RunReportsOverFiles, RunFailsOverFiles};
 
 use crate::heads::MOST_BYTES;
-use crate::job::RunFiles;
-use crate::opening::Files;
-use crate::outcome::ToolFault;
+use crp_jobs::{Files, RunFiles, ToolFault};
 use crp_notes::{Notes, Terminal};
 use crp_plan::{Nowhere, Sink, Source};
 use crp_report::{Fault, Input, Output, RunSettings, Status, run, run_watched};

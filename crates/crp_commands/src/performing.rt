@@ -6,10 +6,9 @@ ghost use Rattle.crp_commands.specs.Performing.{PerformsIn, CommandFailsInCall};
 
 use crate::bounding::bound;
 use crate::checking::check;
-use crate::job::FileCommand;
-use crate::outcome::ToolFault;
 use crate::proving::prove;
 use crate::replaying::replay;
+use crp_jobs::{FileCommand, ToolFault};
 use crp_plan::{Sink, Source};
 use crp_report::Status;
 use std::alloc::Global;

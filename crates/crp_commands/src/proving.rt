@@ -6,8 +6,8 @@ ghost use Rattle.crp_commands.specs.Calls.{CallSeen, call_failures, most_call_fa
 ghost use Rattle.crp_commands.specs.Prove.{IsProof, IsSomeProof, IsNoProof};
 
 use crate::heads::head_from;
-use crate::outcome::ToolFault;
 use crp_incumbent::Board;
+use crp_jobs::ToolFault;
 use crp_plan::{Sink, Source, write_all};
 use crp_report::{Status, certificate_of, status_of};
 use crp_solve::{NoGate, Settings, solve};

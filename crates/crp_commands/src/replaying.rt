@@ -7,8 +7,8 @@ ghost use Rattle.crp_commands.specs.Calls.{CallSeen, call_failures, most_call_fa
 ghost use Rattle.crp_commands.specs.Replay.{count_line, IsReplayText, IsHeadReport, IsReplay, IsNoReplay, IsNoReport};
 
 use crate::heads::head_from;
-use crate::outcome::ToolFault;
 use crp_cert::{Head, push_bay, push_decimal};
+use crp_jobs::ToolFault;
 use crp_plan::{Move, Plan, Sink, Source, write_all};
 use crp_report::Status;
 use crp_said::{lines_of, names_of_ranks};

@@ -8,8 +8,8 @@ use crate::advice::faults::{
 use crate::compare::{assert_at, assert_same, assert_same_at};
 use crp_audit::AuditFault;
 use crp_checker::{Path, Refused};
-use crp_commands::{Statement, ToolFault, advice_on};
 use crp_follow::FollowFault;
+use crp_jobs::{Statement, ToolFault, advice_on};
 use crp_loading::LoadingFault;
 use crp_movins::MovinsFault;
 use crp_plan::BayName;

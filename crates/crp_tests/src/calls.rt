@@ -1,5 +1,6 @@
 //! The calls that the tests make, each in a function with no clause: so a test knows nothing of what is promised, and is soon checked.
-use crp_commands::{FollowSettings, Job, ToolFault};
+use crp_commands::FollowSettings;
+use crp_jobs::{Job, ToolFault};
 use crp_plan::{Nowhere, Sink, Source};
 use crp_report::{Fault, RunSettings, Status, Watch};
 use crp_solve::Settings;
@@ -82,7 +83,7 @@ pub(crate) fn run_watched<
 }
 
 pub(crate) fn exit_of(answer: &Result<Status, ToolFault>) -> u8 {
-    crp_commands::exit_of(answer)
+    crp_jobs::exit_of(answer)
 }
 
 pub(crate) fn job<'a>(alloc: Global, words: &'a [&'a str]) -> Result<Job<'a>, Usage> {

@@ -4,7 +4,7 @@ use crate::compare::{assert_at, assert_same_at};
 use crate::devices::Slow;
 use crp_cert::CertFault;
 use crp_checker::Refused;
-use crp_commands::ToolFault;
+use crp_jobs::ToolFault;
 use crp_plan::Received;
 use crp_report::Status;
 use std::alloc::Global;

@@ -3,7 +3,7 @@ use crate::calls::{bound, check, prove, replay};
 use crate::compare::assert_same_at;
 use crate::devices::{Slow, Small};
 use crate::six::SIX_CERTIFIED;
-use crp_commands::ToolFault;
+use crp_jobs::ToolFault;
 use crp_report::Status;
 use crp_solve::Settings;
 use std::alloc::Global;

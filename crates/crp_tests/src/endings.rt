@@ -1,7 +1,8 @@
 //! Help that cannot be written.
 use crate::compare::assert_same;
 use crate::devices::Small;
-use crp_commands::{NoTerminal, SystemFiles};
+use crp_commands::NoTerminal;
+use crp_jobs::SystemFiles;
 use crp_plan::Received;
 use crp_words::run_words;
 

@@ -2,7 +2,7 @@
 use crate::calls::{bound, prove, replay};
 use crate::compare::assert_same;
 use crate::devices::{Endless, Slow};
-use crp_commands::ToolFault;
+use crp_jobs::ToolFault;
 use crp_plan::Received;
 use crp_report::Status;
 use crp_solve::Settings;

@@ -2,8 +2,9 @@
 use crate::calls::follow;
 use crate::compare::assert_same_at;
 use crate::devices::{Busy, Endless, Slow, Small};
-use crp_commands::{FollowSettings, Statement, ToolFault};
+use crp_commands::FollowSettings;
 use crp_follow::FollowFault;
+use crp_jobs::{Statement, ToolFault};
 use crp_order::Mode;
 use crp_plan::{Sink, Source};
 use crp_report::{Fault, Input, InputSettings, Status};

@@ -3,7 +3,7 @@ use crate::calls::{exit_of, run};
 use crate::compare::assert_same;
 use crate::devices::{Busy, Endless, Slow};
 use crate::six::{Choice, SIX_CONTAINERS, SIX_ORDERS, message, settings_of};
-use crp_commands::ToolFault;
+use crp_jobs::ToolFault;
 use crp_order::Mode;
 use crp_plan::{Plan, Problem, Source};
 use crp_report::{Fault, Output, Status, print_moves};

@@ -1,7 +1,8 @@
 //! A yard of many bays, solved over files by one worker and by several.
 use crate::compare::{assert_at, assert_same};
 use crate::six::HEADER;
-use crp_commands::{NoTerminal, SystemFiles, ToolFault, run_job};
+use crp_commands::{NoTerminal, run_job};
+use crp_jobs::{SystemFiles, ToolFault};
 use crp_plan::{Counted, Nowhere, Received};
 use crp_report::Status;
 use crp_words::job;

@@ -1,7 +1,7 @@
 //! Faults that no command shows: their lines, and exit statuses.
 use crate::calls::exit_of;
 use crate::compare::{assert_same, assert_same_at};
-use crp_commands::ToolFault;
+use crp_jobs::ToolFault;
 use crp_report::{Fault, Output, Status};
 use std::alloc::AllocError;
 use std::process::Abort;

@@ -9,7 +9,7 @@ use Rattle.crp_words.specs.Commands.{crp}
 use Rattle.crp_words.specs.Words.{Asks, Lacks, Refuses, ShowsKind, WordsAsk, WordsHaveFault, IsFault, words_or_default}
 use Rattle.crp_words.specs.declared.usage.Mistake.TheVariants as mistake
 use Rattle.crp_words.specs.declared.usage.SettingFault.{SettingFault}
-use Rattle.crp_commands.specs.declared.job.Job.{Job}
+use Rattle.crp_jobs.specs.declared.job.Job.{Job}
 use Rattle.crp_words.specs.declared.usage.Usage.{Usage}
 use Rattle.crp_words.specs.declared.usage.Usage.TheVariants as usage
 

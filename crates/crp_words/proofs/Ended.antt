@@ -2,11 +2,11 @@
 use Rattle.std.proofs.Common.{◌≡◌, ℕ, List, Option, None, Result, Ok, Err, MatchResult, IfOk, IfErr, inl, inr, subst, sym}
 use Rattle.crp_report.specs.declared.status.Status.{Status}
 use Rattle.crp_report.specs.Runs.{SinkSeen}
-use Rattle.crp_commands.specs.declared.job.Job.{Job}
-use Rattle.crp_commands.specs.declared.outcome.ToolFault.{ToolFault}
-use Rattle.crp_commands.specs.Advice.{failed_words}
-use Rattle.crp_commands.specs.Calls.{exit_code}
-use Rattle.crp_commands.specs.Opened.{IsLeftAlone}
+use Rattle.crp_jobs.specs.declared.job.Job.{Job}
+use Rattle.crp_jobs.specs.declared.outcome.ToolFault.{ToolFault}
+use Rattle.crp_jobs.specs.Advice.{failed_words}
+use Rattle.crp_jobs.specs.Outcomes.{exit_code}
+use Rattle.crp_jobs.specs.Opened.{IsLeftAlone}
 use Rattle.crp_commands.specs.Performing.{JobSeen, ReportsOverFiles, FailsOverFiles}
 use Rattle.crp_commands.specs.Headlines.{KeepsHeadline, KeepsHeadlineSoFar}
 use Rattle.crp_commands.specs.Noted.{IsNoted}

@@ -3,10 +3,10 @@ use Rattle.std.proofs.Common.{List, refl, inl, inr, arith, codes}
 use Rattle.clap.specs.Words.{Row, Text}
 use Rattle.crp_report.specs.Chosen.{InputChosen}
 use Rattle.crp_words.specs.Words.{Asks, HasFollowFiles, HasInput, HasText, IsFault, IsInputFault, IsOrderedAlone, IsPageNamedTwice, IsSizedTwice, IsWordsOrMemory, Lacks, NoFault}
-use Rattle.crp_commands.specs.declared.job.FollowFiles.{FollowFiles}
-use Rattle.crp_commands.specs.declared.job.Job.{Job}
-use Rattle.crp_commands.specs.declared.job.FileCommand.TheVariants as command
-use Rattle.crp_commands.specs.declared.job.Job.TheVariants as job
+use Rattle.crp_jobs.specs.declared.job.FollowFiles.{FollowFiles}
+use Rattle.crp_jobs.specs.declared.job.Job.{Job}
+use Rattle.crp_jobs.specs.declared.job.FileCommand.TheVariants as command
+use Rattle.crp_jobs.specs.declared.job.Job.TheVariants as job
 use Rattle.crp_words.specs.declared.usage.SettingFault.{SettingFault}
 use Rattle.crp_words.specs.declared.usage.Usage.{Usage}
 use Rattle.crp_words.proofs.Lacking.{lacks, lacks_more, no_input_fault, other_name}

@@ -3,12 +3,12 @@ use Rattle.std.specs.Prelude.{◌≡◌, ℕ, ◌⊎◌, List, [], ◌∷◌, �
 use Rattle.crp_plan.specs.Devices.{HasFailed}
 use Rattle.crp_report.specs.declared.status.Status.{Status}
 use Rattle.crp_report.specs.Runs.{SinkSeen, Gets, GetsPart}
-use Rattle.crp_commands.specs.declared.job.Job.{Job}
-use Rattle.crp_commands.specs.declared.outcome.ToolFault.{ToolFault}
-use Rattle.crp_commands.specs.Advice.{IsPlainLine, failed_words}
-use Rattle.crp_commands.specs.Found.{IsPlainText}
-use Rattle.crp_commands.specs.Calls.{exit_code}
-use Rattle.crp_commands.specs.Opened.{AreFilesLeftAlone, IsSourceLeftAlone, IsLeftAlone}
+use Rattle.crp_jobs.specs.declared.job.Job.{Job}
+use Rattle.crp_jobs.specs.declared.outcome.ToolFault.{ToolFault}
+use Rattle.crp_jobs.specs.Advice.{IsPlainLine, failed_words}
+use Rattle.crp_jobs.specs.Found.{IsPlainText}
+use Rattle.crp_jobs.specs.Outcomes.{exit_code}
+use Rattle.crp_jobs.specs.Opened.{AreFilesLeftAlone, IsSourceLeftAlone, IsLeftAlone}
 use Rattle.crp_commands.specs.Performing.{JobSeen, ReportsOverFiles, FailsOverFiles}
 use Rattle.crp_commands.specs.Headlines.{KeepsHeadline, KeepsHeadlineSoFar}
 use Rattle.crp_commands.specs.Noted.{GetsLines, IsNoted}

@@ -1,10 +1,10 @@
 -- Names of a job's files that lead to one file, as far as the files tell before one is opened.
 use Rattle.std.specs.Prelude.{◌≡◌, ◌≢◌, ℕ, ◌⊎◌, true, false, List, Option, Some, option_map}
-use Rattle.crp_commands.specs.declared.job.Job.{Job}
-use Rattle.crp_commands.specs.declared.job.Job.TheVariants as job
-use Rattle.crp_commands.specs.declared.job.FollowFiles.{FollowFiles}
-use Rattle.crp_commands.specs.declared.job.RunFiles.{RunFiles}
-use Rattle.crp_commands.specs.Opened.{KnownFiles}
+use Rattle.crp_jobs.specs.declared.job.Job.{Job}
+use Rattle.crp_jobs.specs.declared.job.Job.TheVariants as job
+use Rattle.crp_jobs.specs.declared.job.FollowFiles.{FollowFiles}
+use Rattle.crp_jobs.specs.declared.job.RunFiles.{RunFiles}
+use Rattle.crp_jobs.specs.Opened.{KnownFiles}
 
 -- both names are given, and are known to lead to one file
 pub record AreOne (known : KnownFiles) (name other : Option (List ℕ)) : Type 0 where

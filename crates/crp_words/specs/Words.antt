@@ -10,13 +10,13 @@ use Rattle.clap.specs.declared.error.kind.ErrorKind.TheVariants as kind
 use Rattle.crp_solve.specs.Chosen.{Chosen}
 use Rattle.crp_words.specs.Commands.{crp}
 use Rattle.crp_words.specs.Heights.{IsHeightsText}
-use Rattle.crp_commands.specs.declared.job.FileCommand.{FileCommand}
-use Rattle.crp_commands.specs.declared.job.FileCommand.TheVariants as command
-use Rattle.crp_commands.specs.declared.job.Job.{Job}
-use Rattle.crp_commands.specs.declared.job.Job.TheVariants as job
-use Rattle.crp_commands.specs.declared.job.AuditFiles.{AuditFiles}
-use Rattle.crp_commands.specs.declared.job.FollowFiles.{FollowFiles}
-use Rattle.crp_commands.specs.declared.job.RunFiles.{RunFiles}
+use Rattle.crp_jobs.specs.declared.job.FileCommand.{FileCommand}
+use Rattle.crp_jobs.specs.declared.job.FileCommand.TheVariants as command
+use Rattle.crp_jobs.specs.declared.job.Job.{Job}
+use Rattle.crp_jobs.specs.declared.job.Job.TheVariants as job
+use Rattle.crp_jobs.specs.declared.job.AuditFiles.{AuditFiles}
+use Rattle.crp_jobs.specs.declared.job.FollowFiles.{FollowFiles}
+use Rattle.crp_jobs.specs.declared.job.RunFiles.{RunFiles}
 use Rattle.crp_words.specs.declared.usage.Mistake.{Mistake}
 use Rattle.crp_words.specs.declared.usage.Mistake.TheVariants as mistake
 use Rattle.crp_order.specs.declared.sequences.Mode.{Mode}

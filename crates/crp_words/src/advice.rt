@@ -1,5 +1,5 @@
 //! What to look at where a setting is beyond its limits, in plain words.
-ghost use Rattle.crp_commands.specs.Advice.{IsPlainLine};
+ghost use Rattle.crp_jobs.specs.Advice.{IsPlainLine};
 
 use crate::usage::SettingFault;
 

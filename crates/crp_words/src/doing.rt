@@ -1,7 +1,7 @@
 //! What the words of the command line ask for, done.
 ghost use Rattle.std.specs.Prelude.{MatchResult, map};
 ghost use Rattle.crp_report.specs.Runs.{SinkSeen};
-ghost use Rattle.crp_commands.specs.Opened.{IsLeftAlone};
+ghost use Rattle.crp_jobs.specs.Opened.{IsLeftAlone};
 ghost use Rattle.crp_commands.specs.Performing.{JobSeen};
 ghost use Rattle.crp_words.specs.Endings.{IsExplainedOf, JobEnds, ProgramEnds};
 
@@ -9,7 +9,8 @@ use crate::ending::{end_with_usage, explain_fault, explain_found};
 use crate::given::same_file;
 use crate::links::linked;
 use crate::words::job;
-use crp_commands::{Files, Job, Terminal, ToolFault, exit_of, found_line, place_of, run_job};
+use crp_commands::{Terminal, run_job};
+use crp_jobs::{Files, Job, ToolFault, exit_of, found_line, place_of};
 use crp_plan::{Sink, Source};
 use crp_report::Status;
 use std::alloc::Global;

@@ -1,15 +1,15 @@
 //! How the program ends: the lines for the user, and the exit status.
 ghost use Rattle.std.specs.Prelude.{Some, flat_map, option_map};
 ghost use Rattle.crp_report.specs.Runs.{SinkSeen};
-ghost use Rattle.crp_commands.specs.Advice.{place_words};
+ghost use Rattle.crp_jobs.specs.Advice.{place_words};
 ghost use Rattle.crp_commands.specs.Noted.{GetsLines};
-ghost use Rattle.crp_commands.specs.Found.{IsPlainText};
+ghost use Rattle.crp_jobs.specs.Found.{IsPlainText};
 ghost use Rattle.crp_words.specs.Endings.{HelpEnds, IsExplained, IsExplainedWithFound, UsageEnds, fault_lines, three_lines};
 
 use crate::advice::advice_on_setting;
 use crate::usage::{Mistake, Usage};
 use arrayvec::ArrayVec;
-use crp_commands::{Place, ToolFault, advice_on, exit_of};
+use crp_jobs::{Place, ToolFault, advice_on, exit_of};
 use crp_plan::{Sink, write_each, write_text};
 use std::fmt::{self, Display, Write};
 

@@ -7,7 +7,7 @@ use crate::given::{is_given, one_file, same_file, text_of, wrong};
 use crate::input_words::{input_of, is_sized_twice};
 use crate::usage::Usage;
 use clap::ArgMatches;
-use crp_commands::{FollowFiles, Job};
+use crp_jobs::{FollowFiles, Job};
 use std::alloc::Global;
 
 // The refusal of heights beside rows or tiers.

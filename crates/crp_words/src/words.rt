@@ -11,7 +11,7 @@ use crate::search_words::search_of;
 use crate::usage::{Mistake, Usage};
 use clap::error::ErrorKind;
 use clap::{ArgMatches, Error};
-use crp_commands::{AuditFiles, FileCommand, Job, RunFiles};
+use crp_jobs::{AuditFiles, FileCommand, Job, RunFiles};
 use crp_report::RunSettings;
 use std::alloc::{AllocError, Global};
 

@@ -1,7 +1,7 @@
 //! Which file is to be looked at, where no file that is not there shows it.
 use crate::calls::job;
 use crate::compare::assert_same_at;
-use crp_commands::{ToolFault, place_of};
+use crp_jobs::{ToolFault, place_of};
 use crp_report::{Fault, Output};
 use std::alloc::Global;
 use std::process::Abort;

@@ -4,7 +4,7 @@ use Rattle.crp_audit.specs.Headline.{Handed, handed}
 use Rattle.crp_commands.specs.Audit.{AuditSeen, IsHandedIn}
 use Rattle.crp_commands.specs.Calls.{IsTextWithin}
 use Rattle.crp_commands.specs.declared.auditing.TheConstants.{MOST_REPORT}
-use Rattle.crp_commands.specs.declared.outcome.Statement.TheVariants as statement
+use Rattle.crp_jobs.specs.declared.outcome.Statement.TheVariants as statement
 use Rattle.crp_commands.proofs.Audited.{unread, stopped}
 use Rattle.crp_commands.proofs.Replayed.{keeps_same}
 use Rattle.crp_commands.proofs.auditing.audit.Goals as goal

@@ -1,6 +1,6 @@
 use Rattle.std.proofs.Common.{◌∙◌, ap, refl}
 use Rattle.crp_commands.specs.Audit.{AuditSeen}
-use Rattle.crp_commands.specs.Opened.{KnownFiles}
+use Rattle.crp_jobs.specs.Opened.{KnownFiles}
 use Rattle.crp_commands.proofs.Audited.{closed_four, over_files}
 use Rattle.crp_commands.proofs.Solved.{more_from}
 use Rattle.crp_commands.proofs.over_audit_files.audit_files.Goals as goal

@@ -1,6 +1,6 @@
 use Rattle.std.proofs.Common.{sym, subst}
 use Rattle.crp_report.specs.Runs.{SinkSeen}
-use Rattle.crp_commands.specs.Opened.{IsNewSink}
+use Rattle.crp_jobs.specs.Opened.{IsNewSink}
 use Rattle.crp_commands.specs.Solving.{no_sink}
 use Rattle.crp_commands.proofs.Solved.{more_from, new_no_sink, none_more, over_after}
 use Rattle.crp_commands.proofs.over_yard_files.run_after.Goals as goal

@@ -1,6 +1,6 @@
 use Rattle.std.proofs.Common.{refl, sym, subst}
 use Rattle.crp_report.specs.Runs.{SinkSeen}
-use Rattle.crp_commands.specs.Opened.{IsNewSink}
+use Rattle.crp_jobs.specs.Opened.{IsNewSink}
 use Rattle.crp_commands.specs.Solving.{no_sink}
 use Rattle.crp_commands.proofs.Solved.{new_no_sink, none_more, over_outputs}
 use Rattle.crp_commands.proofs.over_yard_files.run_outputs.Goals as goal

@@ -1,5 +1,5 @@
 use Rattle.std.proofs.Common.{◌∙◌, None, ap, option_map, sym}
-use Rattle.crp_commands.specs.Advice.{place_words}
+use Rattle.crp_jobs.specs.Advice.{place_words}
 use Rattle.crp_words.proofs.Ended.{explained_at, explained_found}
 use Rattle.crp_words.proofs.doing.explain_of.Goals as goal
 

@@ -1,6 +1,6 @@
 use Rattle.std.proofs.Common.{◌≡◌, List, ℕ, Some, ◌∷◌, [], ◌++◌, ap, codes, subst, sym}
 use Rattle.std.proofs.lemmas.List.{append_assoc}
-use Rattle.crp_commands.specs.Advice.{file_words}
+use Rattle.crp_jobs.specs.Advice.{file_words}
 use Rattle.crp_commands.specs.Noted.{GetsLines}
 use Rattle.crp_words.specs.Endings.{fault_lines}
 use Rattle.crp_words.proofs.ending.explain_at.Goals as goal

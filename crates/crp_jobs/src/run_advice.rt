@@ -1,5 +1,5 @@
 //! What to look at after a fault of a run over a yard, or of what it reads.
-ghost use Rattle.crp_commands.specs.Advice.{IsPlainLine};
+ghost use Rattle.crp_jobs.specs.Advice.{IsPlainLine};
 
 use crate::advice::MEMORY;
 use crp_movins::MovinsFault;

@@ -1,7 +1,7 @@
 use Rattle.std.proofs.Common.{◌≡◌, ◌≤◌, ◌++◌, length, map, take}
-use Rattle.crp_commands.specs.Found.{IsPlainText, plain}
-use Rattle.crp_commands.specs.declared.plain.TheConstants.{MOST_FOUND}
-use Rattle.crp_commands.proofs.plain.push_plain.Given as goal
+use Rattle.crp_jobs.specs.Found.{IsPlainText, plain}
+use Rattle.crp_jobs.specs.declared.plain.TheConstants.{MOST_FOUND}
+use Rattle.crp_jobs.proofs.plain.push_plain.Given as goal
 
 -- the line stays plain, and shows as much of the text as has room
 abbrev pub invariant-loop-byte : goal.invariant-loop-byte

@@ -2,9 +2,9 @@
 use Rattle.std.specs.Prelude.{◌≡◌, ℕ, Bool, IsTrue, ◌==◌, ◌++◌, List, length, take, if◌then◌else◌, Option, Some, None, codes}
 use Rattle.std.specs.List.{list_all}
 use Rattle.std.specs.Str.{bytes_eq}
-use Rattle.crp_commands.specs.declared.found.Found.{Found}
-use Rattle.crp_commands.specs.declared.found.Found.TheVariants as found
-use Rattle.crp_commands.specs.Advice.{is_printable}
+use Rattle.crp_jobs.specs.declared.found.Found.{Found}
+use Rattle.crp_jobs.specs.declared.found.Found.TheVariants as found
+use Rattle.crp_jobs.specs.Advice.{is_printable}
 
 -- printable ASCII characters, of which there may be none
 abbrev pub IsPlainText : List ℕ → Type 0

@@ -1,6 +1,6 @@
 //! What a fault of an input names of its text: a record, an offset or a segment; and whose text that is.
 ghost use Rattle.std.specs.Prelude.{◌≡◌, option_map};
-ghost use Rattle.crp_commands.specs.Placed.{message_named, offset_named, record_named, segment_named, yard_named};
+ghost use Rattle.crp_jobs.specs.Placed.{message_named, offset_named, record_named, segment_named, yard_named};
 
 use crate::job::Job;
 use crp_movins::MovinsFault;

@@ -1,6 +1,6 @@
 use Rattle.std.proofs.Common.{◌≢◌, ◌∙◌, length, sym, arith, tests}
-use Rattle.crp_commands.proofs.Shown.{place-words, six_pieces}
-use Rattle.crp_commands.proofs.placed.place_text.Goals as goal
+use Rattle.crp_jobs.proofs.Shown.{place-words, six_pieces}
+use Rattle.crp_jobs.proofs.placed.place_text.Goals as goal
 
 pub returns : goal.returns
 returns c =

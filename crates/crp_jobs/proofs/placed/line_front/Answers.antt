@@ -1,6 +1,6 @@
 use Rattle.std.proofs.Common.{◌∙◌, length, take, ap, sym, arith, unwrap_or}
 use Rattle.std.proofs.lemmas.List.{take_all}
-use Rattle.crp_commands.proofs.placed.line_front.Goals as goal
+use Rattle.crp_jobs.proofs.placed.line_front.Goals as goal
 
 pub returns-in-Some : goal.returns-in-Some
 returns-in-Some c = ap (λ o. take (unwrap_or o (length c.args.text.now)) c.args.text.now) c.in-Some.ensures

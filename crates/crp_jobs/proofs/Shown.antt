@@ -8,9 +8,9 @@ use Rattle.crp_places.specs.Lines.{line_of}
 use Rattle.crp_places.specs.Segments.{IsSegmentAt, IsSegmentText, IsSpelledBy}
 use Rattle.crp_places.proofs.SegmentSteps.{segment-there}
 use Rattle.std.specs.Prelude.{codes}
-use Rattle.crp_commands.specs.Advice.{is_printable}
-use Rattle.crp_commands.specs.Found.{IsPlainText, plain}
-use Rattle.crp_commands.specs.Placed.{IsSegmentLine, end_text, line_front, place_text, shown}
+use Rattle.crp_jobs.specs.Advice.{is_printable}
+use Rattle.crp_jobs.specs.Found.{IsPlainText, plain}
+use Rattle.crp_jobs.specs.Placed.{IsSegmentLine, end_text, line_front, place_text, shown}
 
 -- nothing is added yet
 pub room-none : (n : ℕ) (line : List ℕ) → length line ≤ n → line ≡ take n (line ++ [])

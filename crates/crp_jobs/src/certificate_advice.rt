@@ -1,5 +1,5 @@
 //! What to look at after a fault of a certificate or of its plan.
-ghost use Rattle.crp_commands.specs.Advice.{IsPlainLine};
+ghost use Rattle.crp_jobs.specs.Advice.{IsPlainLine};
 
 use crate::advice::MEMORY;
 use crp_cert::CertFault;

@@ -1,5 +1,5 @@
 //! What to look at after a fault, in plain words: a line for each fault.
-ghost use Rattle.crp_commands.specs.Advice.{IsPlainLine};
+ghost use Rattle.crp_jobs.specs.Advice.{IsPlainLine};
 
 use crate::certificate_advice::{advice_on_certificate, advice_on_plan, advice_on_refused};
 use crate::follow_advice::{advice_on_follow, advice_on_loading};

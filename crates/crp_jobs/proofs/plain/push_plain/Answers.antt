@@ -1,8 +1,8 @@
 use Rattle.std.proofs.Common.{◌≡◌, ◌<◌, ◌∙◌, ◌++◌, ◌∷◌, [], ℕ, length, refl, ap, sym, subst, get_or}
-use Rattle.crp_commands.specs.Found.{IsPlainText, plain}
-use Rattle.crp_commands.specs.declared.plain.TheConstants.{MOST_FOUND}
-use Rattle.crp_commands.proofs.Shown.{plain-more, room-full, room-more, room-none}
-use Rattle.crp_commands.proofs.plain.push_plain.Goals as goal
+use Rattle.crp_jobs.specs.Found.{IsPlainText, plain}
+use Rattle.crp_jobs.specs.declared.plain.TheConstants.{MOST_FOUND}
+use Rattle.crp_jobs.proofs.Shown.{plain-more, room-full, room-more, room-none}
+use Rattle.crp_jobs.proofs.plain.push_plain.Goals as goal
 
 pub loop-byte-init : goal.loop-byte-init
 loop-byte-init c = (c.requires, λ fits. room-none MOST_FOUND c.args.line.now.items fits)

@@ -1,5 +1,5 @@
 //! What to look at where a report cannot be followed, in plain words.
-ghost use Rattle.crp_commands.specs.Advice.{IsPlainLine};
+ghost use Rattle.crp_jobs.specs.Advice.{IsPlainLine};
 
 use crate::advice::MEMORY;
 use crp_follow::FollowFault;

@@ -1,8 +1,8 @@
 //! Where what a fault names stands in its file, and what stands there: a line behind the advice.
 ghost use Rattle.std.specs.Prelude.{◌≡◌, ◌≤◌, IfOk, IfSome, length, position};
 ghost use Rattle.edi_text.specs.Reading.{is_line_end};
-ghost use Rattle.crp_commands.specs.Found.{IsPlainText};
-ghost use Rattle.crp_commands.specs.Placed.{IsOffsetLine, IsRecordLine, IsSegmentLine, end_text, line_front, place_text, said_at, shown};
+ghost use Rattle.crp_jobs.specs.Found.{IsPlainText};
+ghost use Rattle.crp_jobs.specs.Placed.{IsOffsetLine, IsRecordLine, IsSegmentLine, end_text, line_front, place_text, said_at, shown};
 
 use crate::plain::{FoundLine, push_plain};
 use arrayvec::ArrayVec;

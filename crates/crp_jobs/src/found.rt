@@ -1,7 +1,7 @@
 //! What a file looks like that was refused in the place of another, or where in it the fault stands: a line behind the advice.
 ghost use Rattle.std.specs.Prelude.{◌≡◌, IfSome, IsTrue};
-ghost use Rattle.crp_commands.specs.Found.{IsPlainText, found_in};
-ghost use Rattle.crp_commands.specs.Placed.{IsPlacedLine, is_other};
+ghost use Rattle.crp_jobs.specs.Found.{IsPlainText, found_in};
+ghost use Rattle.crp_jobs.specs.Placed.{IsPlacedLine, is_other};
 
 use crate::job::Job;
 use crate::named::{message_named, offset_named, record_named, segment_named, yard_named};

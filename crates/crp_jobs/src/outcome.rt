@@ -1,8 +1,8 @@
 //! How a command ends.
 ghost use Rattle.std.specs.Prelude.{◌≡◌, Err, Some};
-ghost use Rattle.crp_commands.specs.declared.outcome.ToolFault.TheVariants.{Run};
-ghost use Rattle.crp_commands.specs.Advice.{statement_words};
-ghost use Rattle.crp_commands.specs.Calls.{exit_code};
+ghost use Rattle.crp_jobs.specs.declared.outcome.ToolFault.TheVariants.{Run};
+ghost use Rattle.crp_jobs.specs.Advice.{statement_words};
+ghost use Rattle.crp_jobs.specs.Outcomes.{exit_code};
 
 use crp_audit::AuditFault;
 use crp_cert::CertFault;
@@ -86,7 +86,7 @@ pub enum ToolFault {
 }
 
 impl From<AllocError> for ToolFault {
-    ghost use Rattle.crp_commands.specs.declared.outcome.ToolFault.TheVariants.{Memory};
+    ghost use Rattle.crp_jobs.specs.declared.outcome.ToolFault.TheVariants.{Memory};
 
     ghost from_gives = { λ _ fault. fault ≡ Memory };
 
@@ -96,7 +96,7 @@ impl From<AllocError> for ToolFault {
 }
 
 impl From<ReadFault> for ToolFault {
-    ghost use Rattle.crp_commands.specs.Calls.{fault_of_read};
+    ghost use Rattle.crp_jobs.specs.Outcomes.{fault_of_read};
 
     ghost from_gives = { λ error fault. fault ≡ fault_of_read error };
 
@@ -110,7 +110,7 @@ impl From<ReadFault> for ToolFault {
 }
 
 impl From<ReadFailed> for ToolFault {
-    ghost use Rattle.crp_commands.specs.declared.outcome.ToolFault.TheVariants.{Read};
+    ghost use Rattle.crp_jobs.specs.declared.outcome.ToolFault.TheVariants.{Read};
 
     ghost from_gives = { λ _ fault. fault ≡ Read };
 
@@ -120,7 +120,7 @@ impl From<ReadFailed> for ToolFault {
 }
 
 impl From<WriteFailed> for ToolFault {
-    ghost use Rattle.crp_commands.specs.declared.outcome.ToolFault.TheVariants.{Write};
+    ghost use Rattle.crp_jobs.specs.declared.outcome.ToolFault.TheVariants.{Write};
 
     ghost from_gives = { λ _ fault. fault ≡ Write };
 
@@ -130,7 +130,7 @@ impl From<WriteFailed> for ToolFault {
 }
 
 impl From<CertFault> for ToolFault {
-    ghost use Rattle.crp_commands.specs.Calls.{fault_of_cert};
+    ghost use Rattle.crp_jobs.specs.Outcomes.{fault_of_cert};
 
     ghost from_gives = { λ error fault. fault ≡ fault_of_cert error };
 
@@ -143,7 +143,7 @@ impl From<CertFault> for ToolFault {
 }
 
 impl From<AuditFault> for ToolFault {
-    ghost use Rattle.crp_commands.specs.Calls.{fault_of_audit};
+    ghost use Rattle.crp_jobs.specs.Outcomes.{fault_of_audit};
 
     ghost from_gives = { λ error fault. fault ≡ fault_of_audit error };
 
@@ -156,7 +156,7 @@ impl From<AuditFault> for ToolFault {
 }
 
 impl From<FollowFault> for ToolFault {
-    ghost use Rattle.crp_commands.specs.Calls.{fault_of_follow};
+    ghost use Rattle.crp_jobs.specs.Outcomes.{fault_of_follow};
 
     ghost from_gives = { λ error fault. fault ≡ fault_of_follow error };
 
@@ -169,7 +169,7 @@ impl From<FollowFault> for ToolFault {
 }
 
 impl From<LoadingFault> for ToolFault {
-    ghost use Rattle.crp_commands.specs.Calls.{fault_of_loading};
+    ghost use Rattle.crp_jobs.specs.Outcomes.{fault_of_loading};
 
     ghost from_gives = { λ error fault. fault ≡ fault_of_loading error };
 
@@ -182,7 +182,7 @@ impl From<LoadingFault> for ToolFault {
 }
 
 impl From<PlanFault> for ToolFault {
-    ghost use Rattle.crp_commands.specs.declared.outcome.ToolFault.TheVariants.{Plan};
+    ghost use Rattle.crp_jobs.specs.declared.outcome.ToolFault.TheVariants.{Plan};
 
     ghost from_gives = { λ error fault. fault ≡ Plan error };
 
@@ -192,7 +192,7 @@ impl From<PlanFault> for ToolFault {
 }
 
 impl From<Fault> for ToolFault {
-    ghost use Rattle.crp_commands.specs.declared.outcome.ToolFault.TheVariants.{Run};
+    ghost use Rattle.crp_jobs.specs.declared.outcome.ToolFault.TheVariants.{Run};
 
     ghost from_gives = { λ error fault. fault ≡ Run error };
 

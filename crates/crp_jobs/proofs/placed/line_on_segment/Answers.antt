@@ -1,7 +1,7 @@
 use Rattle.std.proofs.Common.{◌∙◌, ap}
-use Rattle.crp_commands.specs.Placed.{shown}
-use Rattle.crp_commands.proofs.Shown.{segment-line, segment-line-none}
-use Rattle.crp_commands.proofs.placed.line_on_segment.Goals as goal
+use Rattle.crp_jobs.specs.Placed.{shown}
+use Rattle.crp_jobs.proofs.Shown.{segment-line, segment-line-none}
+use Rattle.crp_jobs.proofs.placed.line_on_segment.Goals as goal
 
 pub returns-in_ok-said-in-Some-clause-placed : goal.returns-in_ok-said-in-Some-clause-placed
 returns-in_ok-said-in-Some-clause-placed c =

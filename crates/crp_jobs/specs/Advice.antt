@@ -6,17 +6,17 @@ use Rattle.crp_report.specs.declared.fault.Input.TheVariants as input
 use Rattle.crp_report.specs.declared.fault.Output.TheVariants as output
 use Rattle.crp_report.specs.declared.fault.Fault.{Fault}
 use Rattle.crp_report.specs.declared.fault.Fault.TheVariants as run
-use Rattle.crp_commands.specs.declared.job.Job.{Job}
-use Rattle.crp_commands.specs.declared.job.Job.TheVariants as job
-use Rattle.crp_commands.specs.declared.job.RunFiles.{RunFiles}
-use Rattle.crp_commands.specs.declared.job.AuditFiles.{AuditFiles}
-use Rattle.crp_commands.specs.declared.job.FollowFiles.{FollowFiles}
-use Rattle.crp_commands.specs.declared.outcome.Statement.{Statement}
-use Rattle.crp_commands.specs.declared.outcome.Statement.TheVariants as statement
-use Rattle.crp_commands.specs.declared.outcome.ToolFault.{ToolFault}
-use Rattle.crp_commands.specs.declared.outcome.ToolFault.TheVariants as fault
-use Rattle.crp_commands.specs.declared.failed.Place.{Place}
-use Rattle.crp_commands.specs.declared.failed.Place.TheVariants as place
+use Rattle.crp_jobs.specs.declared.job.Job.{Job}
+use Rattle.crp_jobs.specs.declared.job.Job.TheVariants as job
+use Rattle.crp_jobs.specs.declared.job.RunFiles.{RunFiles}
+use Rattle.crp_jobs.specs.declared.job.AuditFiles.{AuditFiles}
+use Rattle.crp_jobs.specs.declared.job.FollowFiles.{FollowFiles}
+use Rattle.crp_jobs.specs.declared.outcome.Statement.{Statement}
+use Rattle.crp_jobs.specs.declared.outcome.Statement.TheVariants as statement
+use Rattle.crp_jobs.specs.declared.outcome.ToolFault.{ToolFault}
+use Rattle.crp_jobs.specs.declared.outcome.ToolFault.TheVariants as fault
+use Rattle.crp_jobs.specs.declared.failed.Place.{Place}
+use Rattle.crp_jobs.specs.declared.failed.Place.TheVariants as place
 
 -- a printable ASCII character
 abbrev pub is_printable : ℕ → Bool

@@ -1,7 +1,7 @@
 //! Lines of plain text, which take no memory.
 ghost use Rattle.std.specs.Prelude.{◌≡◌, ◌≤◌, ◌++◌, length, map, take};
-ghost use Rattle.crp_commands.specs.Advice.{is_printable};
-ghost use Rattle.crp_commands.specs.Found.{IsPlainText, plain};
+ghost use Rattle.crp_jobs.specs.Advice.{is_printable};
+ghost use Rattle.crp_jobs.specs.Found.{IsPlainText, plain};
 
 use arrayvec::ArrayVec;
 

@@ -1,8 +1,8 @@
 //! Files as devices: how a job opens them and gives them back, and the files of the system.
 ghost use Rattle.std.specs.Prelude.{◌≡◌, ◌≤◌, ℕ, IsTrue, IfOk, IfErr, IfSome, MatchResult, vec_len};
 ghost use Rattle.crp_plan.specs.Devices.{CountsMore, CountsOne};
-ghost use Rattle.crp_commands.specs.Opened.{KnownFiles, nothing_known};
-ghost use Rattle.crp_commands.specs.Found.{IsFront};
+ghost use Rattle.crp_jobs.specs.Opened.{KnownFiles, nothing_known};
+ghost use Rattle.crp_jobs.specs.Found.{IsFront};
 
 use crp_plan::{Counted, Sink, Source, read_all};
 use std::alloc::Global;

@@ -1,6 +1,6 @@
 //! Where a read or a write of a job failed: the file by its name, or the standard input or output.
 ghost use Rattle.std.specs.Prelude.{◌≡◌, Some, option_map};
-ghost use Rattle.crp_commands.specs.Advice.{failed_in_audit, failed_in_file, failed_in_follow, failed_in_run, failed_words, place_words, source_words};
+ghost use Rattle.crp_jobs.specs.Advice.{failed_in_audit, failed_in_file, failed_in_follow, failed_in_run, failed_words, place_words, source_words};
 
 use crate::job::{AuditFiles, FollowFiles, Job, RunFiles};
 use crate::outcome::{Statement, ToolFault};

@@ -13,15 +13,15 @@ use Rattle.crp_places.specs.Lines.{line_of}
 use Rattle.crp_places.specs.Records.{record_start}
 use Rattle.crp_places.specs.Segments.{IsSegmentText, IsSpelledBy}
 use Rattle.crp_report.specs.declared.fault.Fault.TheVariants as run
-use Rattle.crp_commands.specs.declared.found.Found.{Found}
-use Rattle.crp_commands.specs.declared.found.Found.TheVariants as found
-use Rattle.crp_commands.specs.declared.job.Job.{Job}
-use Rattle.crp_commands.specs.declared.job.Job.TheVariants as job
-use Rattle.crp_commands.specs.declared.outcome.ToolFault.{ToolFault}
-use Rattle.crp_commands.specs.declared.outcome.ToolFault.TheVariants as fault
-use Rattle.crp_commands.specs.declared.plain.TheConstants.{MOST_FOUND}
-use Rattle.crp_commands.specs.Found.{IsFront, found_in, plain}
-use Rattle.crp_commands.specs.Opened.{KnownFiles}
+use Rattle.crp_jobs.specs.declared.found.Found.{Found}
+use Rattle.crp_jobs.specs.declared.found.Found.TheVariants as found
+use Rattle.crp_jobs.specs.declared.job.Job.{Job}
+use Rattle.crp_jobs.specs.declared.job.Job.TheVariants as job
+use Rattle.crp_jobs.specs.declared.outcome.ToolFault.{ToolFault}
+use Rattle.crp_jobs.specs.declared.outcome.ToolFault.TheVariants as fault
+use Rattle.crp_jobs.specs.declared.plain.TheConstants.{MOST_FOUND}
+use Rattle.crp_jobs.specs.Found.{IsFront, found_in, plain}
+use Rattle.crp_jobs.specs.Opened.{KnownFiles}
 
 -- ---- what a fault names
 

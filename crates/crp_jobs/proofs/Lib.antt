@@ -1,0 +1,2 @@
+-- Lemmas on the lines about a fault.
+pub mod Shown
