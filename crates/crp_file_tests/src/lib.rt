@@ -10,6 +10,8 @@ mod checker;
 #[cfg(test)]
 mod compare;
 #[cfg(test)]
+mod devices;
+#[cfg(test)]
 mod edi;
 #[cfg(test)]
 mod movins;

@@ -1,8 +1,9 @@
 //! Certificates that claim the first best plan: how they are read, and go to a sink.
-use super::writing::{bay_a, branched_twice, make_small};
+use super::writing::{bay_a, branched_twice};
 use super::{Said, assert_head};
 use crate::calls::{read_cert, write_first};
 use crate::compare::assert_same;
+use crate::devices::make_small;
 use crp_cert::{Claim, Version};
 use crp_plan::{Plan, Problem, Received, Sink, WriteFault};
 use crp_tree::Cert;

@@ -1,5 +1,5 @@
 //! Certificates that go to a sink.
-ghost use Rattle.std.specs.Prelude.{◌≡◌, [], Some};
+ghost use Rattle.std.specs.Prelude.{◌≡◌, []};
 ghost use Rattle.crp_plan.specs.Bay.{IsProblem, start, cap};
 ghost use Rattle.crp_plan.specs.Faults.{stacks_of, stated};
 ghost use Rattle.crp_bay.specs.Positions.{settled};
@@ -7,7 +7,8 @@ ghost use Rattle.crp_tree.specs.Trees.{nodes, HasShape, least_value};
 
 use crate::calls::write_cert;
 use crate::compare::assert_same;
-use crp_plan::{BayName, Failure, Problem, Received, Sink, WriteFault};
+use crate::devices::make_small;
+use crp_plan::{BayName, Problem, Received, Sink, WriteFault};
 use crp_tree::{Cert, Name, Part, Symbol, Tree};
 use std::alloc::{AllocError, Global};
 use std::process::Abort;
@@ -67,42 +68,6 @@ pub(super) fn bay_a(rt: &impl Abort) -> BayName {
 
 const DEAD_END: &[u8] = b"CRP-CERT 1\nbay A 1\nsize 1 3 2 2\nrow 1 2\n\
 at least 5\nplan -\npart /: X\nend 1\n";
-
-/// Takes a byte a call, as long as it has room, and then fails.
-#[derive(Drop)]
-pub(super) struct Small {
-    pub bytes: Vec<u8>,
-    room: usize,
-    pub failed: u64,
-}
-
-impl Sink for Small {
-    ghost contents = { λ s. Some s.bytes.items };
-
-    ghost failures = { λ s. s.failed };
-
-    fn write(&mut self, piece: &[u8]) -> Result<usize, Failure> {
-        if piece.is_empty() {
-            return Ok(0);
-        }
-        if self.bytes.len() < self.room {
-            if self.bytes.push(piece[0]).is_ok() {
-                return Ok(1);
-            }
-        }
-        self.failed = self.failed.saturating_add(1);
-        Err(Failure::Failed)
-    }
-}
-
-/// A sink of this room.
-pub(super) fn make_small(alloc: Global, room: usize) -> Small {
-    Small {
-        bytes: Vec::new(alloc),
-        room,
-        failed: 0,
-    }
-}
 
 /// Writes a certificate without a plan, in bay A 1.
 fn write<W: Sink>(

@@ -1,10 +1,11 @@
 //! Sources and sinks that fail.
-ghost use Rattle.std.specs.Prelude.{Some, None};
+ghost use Rattle.std.specs.Prelude.{None};
 
 use super::SIX;
 use crate::calls::{read_yard, write_yard, yard_of};
 use crate::compare::{assert_same, assert_same_at};
-use crp_plan::{Failure, Received, Sink, Source, WriteFault};
+use crate::devices::make_small;
+use crp_plan::{Failure, Received, Source, WriteFault};
 use crp_yard::{Yard, YardFault};
 use std::alloc::{AllocError, Global};
 use std::process::Abort;
@@ -42,33 +43,6 @@ impl Source for Failing<'_> {
     }
 }
 
-// Takes a byte a call, as long as it has room, and then fails.
-#[derive(Drop)]
-struct Small {
-    bytes: Vec<u8>,
-    room: usize,
-    failed: u64,
-}
-
-impl Sink for Small {
-    ghost contents = { λ s. Some s.bytes.items };
-
-    ghost failures = { λ s. s.failed };
-
-    fn write(&mut self, piece: &[u8]) -> Result<usize, Failure> {
-        if piece.is_empty() {
-            return Ok(0);
-        }
-        if self.bytes.len() < self.room {
-            if self.bytes.push(piece[0]).is_ok() {
-                return Ok(1);
-            }
-        }
-        self.failed = self.failed.saturating_add(1);
-        Err(Failure::Failed)
-    }
-}
-
 /// The fault of a source that gives these bytes and then fails, and how often it failed.
 fn unread(alloc: Global, rest: &[u8]) -> (Option<YardFault>, u64) {
     let mut source = Failing {
@@ -91,11 +65,7 @@ fn each_read_fails(rt: HostRuntime) -> Result<(), Fail> {
 
 /// What a sink with so much room receives of a yard, and whether it failed.
 fn written(alloc: Global, yard: &Yard, room: usize) -> (Vec<u8>, Result<(), WriteFault>) {
-    let mut sink = Small {
-        bytes: Vec::new(alloc),
-        room,
-        failed: 0,
-    };
+    let mut sink = make_small(alloc, room);
     let end = write_yard(alloc, &mut sink, yard);
     (sink.bytes, end)
 }
