@@ -28,7 +28,7 @@ const TWO_BAYS: &[u8] = b"orders 7 open 0 absent 0\n\
     answered\n\
     begun\n\
     bay A 2: optimal 0\n\
-    take 1.1 D1\n\
+    take 1.1 W1\n\
     answered\n\
     bays 2 decided 2\n\
     ended\n";
@@ -118,8 +118,8 @@ impl Watch for Marks {
 fn the_first_bay_is_written_before_the_second_begins(rt: HostRuntime) -> Result<(), Fail> {
     let alloc = rt.alloc();
     let mut yard = SIX_CONTAINERS.to_vec(alloc)?;
-    yard.extend_from_slice(b"A,2,1,1,D1\n")?;
-    let one_more: &[u8] = b"LOC+147+0020182'\nEQD+CN+D1'\n";
+    yard.extend_from_slice(b"A,2,1,1,W1\n")?;
+    let one_more: &[u8] = b"LOC+147+0020182'\nEQD+CN+W1'\n";
     let movins = message(alloc, &[SIX_ORDERS, one_more], b"18")?;
     let settings = settings_of(
         alloc,
