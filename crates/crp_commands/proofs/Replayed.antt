@@ -8,7 +8,7 @@ use Rattle.crp_cert.specs.declared.head.Head.{Head}
 use Rattle.crp_cert.specs.Text.{IsHead, IsHeadOf}
 use Rattle.crp_solve.specs.declared.answer.Solved.{Solved}
 use Rattle.crp_solve.specs.Chosen.{Chosen}
-use Rattle.crp_solve.specs.Answers.{IsSolved}
+use Rattle.crp_solve.specs.Solved.{IsSolved}
 use Rattle.crp_headline.specs.Accepted.{IsAcceptedAs}
 use Rattle.crp_headline.proofs.Accepted.{answer_accepted}
 use Rattle.crp_commands.specs.Prove.{IsProofOf}

@@ -6,7 +6,7 @@ use Rattle.crp_cert.specs.Text.{IsHeadOf}
 use Rattle.crp_cert.specs.Faults.{IsFirstFault}
 use Rattle.crp_solve.specs.declared.answer.Solved.{Solved}
 use Rattle.crp_solve.specs.Chosen.{Chosen}
-use Rattle.crp_solve.specs.Answers.{IsSolved}
+use Rattle.crp_solve.specs.Solved.{IsSolved}
 use Rattle.crp_report.specs.declared.status.Status.{Status}
 use Rattle.crp_report.specs.Answered.{status_of}
 use Rattle.crp_report.specs.Report.{text_of}

@@ -14,7 +14,8 @@ use Rattle.crp_solve.specs.declared.answer.Answer.{Answer}
 use Rattle.crp_solve.specs.declared.answer.Answer.TheVariants as answer
 use Rattle.crp_tree.specs.First.{IsFirstBest}
 use Rattle.crp_solve.specs.Chosen.{Chosen}
-use Rattle.crp_solve.specs.Answers.{IsTrueAnswer, IsSolved, IsPlanOf}
+use Rattle.crp_solve.specs.Answers.{IsTrueAnswer, IsPlanOf}
+use Rattle.crp_solve.specs.Solved.{IsSolved}
 use Rattle.crp_checker.specs.Files.{BeginsWithTexts}
 use Rattle.crp_yard.specs.Naming.{FitsLine}
 use Rattle.crp_said.specs.declared.said.Said.{Said}

@@ -180,4 +180,8 @@ impl<T: Terminal> Gate for Progress<'_, T> {
             .fetch_add(u64::from(positions), Ordering::Relaxed);
         self.show();
     }
+
+    fn looks_first(&self) -> bool {
+        true
+    }
 }

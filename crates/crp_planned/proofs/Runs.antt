@@ -27,7 +27,8 @@ use Rattle.crp_follow.specs.Faults.{rows_in, is_named, count_said}
 use Rattle.crp_follow.specs.Followed.{BayFollowed}
 use Rattle.crp_solve.specs.declared.answer.Answer.{Answer}
 use Rattle.crp_solve.specs.declared.answer.Answer.TheVariants as answer
-use Rattle.crp_solve.specs.Answers.{IsPlanOf, IsSolved}
+use Rattle.crp_solve.specs.Answers.{IsPlanOf}
+use Rattle.crp_solve.specs.Solved.{IsSolved}
 use Rattle.crp_solve.specs.Chosen.{Chosen}
 use Rattle.crp_report.specs.Answered.{Answered, plan_in, said_by, bay_plan_in, bay_plans}
 use Rattle.crp_report.specs.Chosen.{RunChosen}

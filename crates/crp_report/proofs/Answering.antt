@@ -6,7 +6,7 @@ use Rattle.std.proofs.lemmas.List.Elements.{All-append, All-nil, All-cons, recur
 use Rattle.crp_plan.specs.Bay.{IsProblem}
 use Rattle.crp_plan.specs.Devices.{most_interruptions}
 use Rattle.crp_order.specs.declared.bay_problem.BayProblem.{BayProblem}
-use Rattle.crp_solve.specs.Answers.{IsSolved}
+use Rattle.crp_solve.specs.Solved.{IsSolved}
 use Rattle.crp_solve.specs.Chosen.{Chosen}
 use Rattle.crp_solve.specs.declared.answer.Solved.{Solved}
 use Rattle.crp_solve.proofs.Answerable.{has_answer}

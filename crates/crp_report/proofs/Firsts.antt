@@ -9,7 +9,8 @@ use Rattle.crp_plan.proofs.Paths.{same_plan}
 use Rattle.crp_order.specs.declared.bay_problem.BayProblem.{BayProblem}
 use Rattle.crp_solve.specs.declared.answer.Answer.{Answer}
 use Rattle.crp_solve.specs.declared.answer.Answer.TheVariants as answer
-use Rattle.crp_solve.specs.Answers.{IsTrueAnswer, IsSolved}
+use Rattle.crp_solve.specs.Answers.{IsTrueAnswer}
+use Rattle.crp_solve.specs.Solved.{IsSolved}
 use Rattle.crp_solve.specs.Chosen.{Chosen}
 use Rattle.crp_solve.proofs.Agreeing.{one_first}
 use Rattle.crp_said.specs.MoveLines.{move_line, AreMoveLines}

@@ -14,7 +14,8 @@ use Rattle.crp_order.specs.BayProblems.{IsNamed}
 use Rattle.crp_order.specs.declared.bay_problem.BayProblem.{BayProblem}
 use Rattle.crp_solve.specs.declared.answer.Answer.{Answer}
 use Rattle.crp_solve.specs.declared.answer.Answer.TheVariants as answer
-use Rattle.crp_solve.specs.Answers.{IsPlanOf, IsTrueAnswer, IsSolved}
+use Rattle.crp_solve.specs.Answers.{IsPlanOf, IsTrueAnswer}
+use Rattle.crp_solve.specs.Solved.{IsSolved}
 use Rattle.crp_solve.specs.Chosen.{Chosen}
 use Rattle.crp_report.specs.Answered.{Answered, AreTrueAnswers, plan_in, bay_plans}
 

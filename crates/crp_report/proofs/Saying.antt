@@ -14,7 +14,8 @@ use Rattle.crp_order.proofs.NamedProblems.{problems_named}
 use Rattle.crp_solve.specs.declared.answer.Answer.{Answer}
 use Rattle.crp_solve.specs.declared.answer.Answer.TheVariants as answer
 use Rattle.crp_solve.specs.declared.answer.Cause.TheVariants as cause
-use Rattle.crp_solve.specs.Answers.{IsTrueAnswer, IsPlanOf, IsSolved}
+use Rattle.crp_solve.specs.Answers.{IsTrueAnswer, IsPlanOf}
+use Rattle.crp_solve.specs.Solved.{IsSolved}
 use Rattle.crp_solve.specs.Chosen.{Chosen}
 use Rattle.crp_solve.proofs.Limits.{count_low}
 use Rattle.crp_said.specs.declared.numbers.Numbers.{Numbers}

@@ -6,7 +6,8 @@ use Rattle.crp_plan.specs.declared.moves.Move.{Move}
 use Rattle.crp_plan.specs.Bay.{Problem, IsProblem, Position, start, IsPlan, Runs}
 use Rattle.crp_plan.specs.Plans.{ProblemPath}
 use Rattle.crp_order.specs.declared.bay_problem.BayProblem.{BayProblem}
-use Rattle.crp_solve.specs.Answers.{IsPlanOf, IsSolved}
+use Rattle.crp_solve.specs.Answers.{IsPlanOf}
+use Rattle.crp_solve.specs.Solved.{IsSolved}
 use Rattle.crp_solve.specs.Chosen.{Chosen}
 use Rattle.crp_solve.proofs.Answerable.{has_answer}
 use Rattle.crp_said.specs.MoveLines.{move_line, AreMoveLines}

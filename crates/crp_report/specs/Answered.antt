@@ -9,7 +9,7 @@ use Rattle.crp_solve.specs.declared.answer.Answer.TheVariants as answer
 use Rattle.crp_solve.specs.declared.answer.Cause.{Cause}
 use Rattle.crp_solve.specs.declared.answer.Cause.TheVariants as cause
 use Rattle.crp_solve.specs.declared.answer.Solved.{Solved}
-use Rattle.crp_solve.specs.Answers.{IsSolved}
+use Rattle.crp_solve.specs.Solved.{IsSolved}
 use Rattle.crp_solve.specs.Chosen.{Chosen}
 use Rattle.crp_said.specs.declared.said.SaidCause.{SaidCause}
 use Rattle.crp_said.specs.declared.said.SaidCause.TheVariants as said_cause

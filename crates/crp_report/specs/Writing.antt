@@ -8,7 +8,7 @@ use Rattle.crp_yard.specs.Text.{yard_text}
 use Rattle.crp_yard.specs.declared.bay_plan.BayPlan.{BayPlan}
 use Rattle.crp_order.specs.declared.bay_problem.BayProblem.{BayProblem}
 use Rattle.crp_said.specs.Said.{bays_line}
-use Rattle.crp_solve.specs.Answers.{IsSolved}
+use Rattle.crp_solve.specs.Solved.{IsSolved}
 use Rattle.crp_solve.specs.Chosen.{Chosen}
 use Rattle.crp_solve.specs.declared.answer.Solved.{Solved}
 use Rattle.crp_report.specs.declared.fault.Fault.{Fault}

@@ -1,6 +1,6 @@
 //! Laws of what is written. Each is the contract of a function that does nothing.
 ghost use Rattle.std.specs.Prelude.{◌≡◌, List, ℕ, Contains};
-ghost use Rattle.crp_solve.specs.Answers.{IsSolved};
+ghost use Rattle.crp_solve.specs.Solved.{IsSolved};
 ghost use Rattle.crp_solve.specs.Chosen.{Chosen};
 ghost use Rattle.crp_report.specs.Answered.{Answered};
 ghost use Rattle.crp_report.specs.Report.{AreBayLines};

@@ -18,7 +18,7 @@ use Rattle.crp_solve.specs.declared.answer.Cause.TheVariants.{Memory}
 use Rattle.crp_solve.specs.declared.answer.Second.TheVariants as second
 use Rattle.crp_solve.specs.declared.answer.Solved.{Solved}
 use Rattle.crp_solve.specs.Chosen.{Chosen}
-use Rattle.crp_solve.specs.Answers.{IsSolved}
+use Rattle.crp_solve.specs.Solved.{IsSolved}
 use Rattle.crp_solve.specs.Searches.{IsBestMet}
 use Rattle.crp_solve.proofs.One.{root_shows, one_certificate}
 use Rattle.crp_solve.proofs.TrueAnswers.{cut_is_true}
@@ -57,6 +57,7 @@ has_answer p chosen is =
       record {
         answer = cut_is_true p chosen.budget cert best.0 0 (root_shows p (cut_at p) cert best.0 chosen.budget 0 is refl (one_certificate (cut_at p) cert refl) refl (cut_is_kept p is) refl refl tt refl best.1 (omega arith))
             (record { part = cut_at p; alone = refl; cut = tt });
+        searches = tt;
         one_search = λ alone. tt;
         second = (refl, refl);
       },

@@ -1,25 +1,29 @@
 -- The answer with the first best plan, or without it, is what was asked for.
-use Rattle.std.proofs.Common.{◌≡◌, ℕ, true, false, Some, refl, sym, subst}
+use Rattle.std.proofs.Common.{◌≡◌, ℕ, Bool, true, false, Some, refl, sym, subst}
 use Rattle.crp_plan.specs.Bay.{Problem}
 use Rattle.crp_plan.specs.Plans.{ProblemPath}
 use Rattle.crp_tree.specs.Parts.{Certificate, claimed}
 use Rattle.crp_tree.specs.First.{IsFirstAccepted}
 use Rattle.crp_tree.proofs.Firsts.{first_is, first_certified}
-use Rattle.crp_solve.specs.declared.answer.Answer.TheVariants.{Optimal, First}
+use Rattle.crp_solve.specs.declared.answer.Answer.{Answer}
+use Rattle.crp_solve.specs.declared.answer.Answer.TheVariants.{Optimal, First, NoPlan, Between}
+use Rattle.crp_solve.specs.declared.answer.Solved.{Solved}
 use Rattle.crp_solve.specs.declared.answer.Cause.{Cause}
 use Rattle.crp_solve.specs.declared.answer.Cause.TheVariants.{Budget, Memory}
 use Rattle.crp_solve.specs.declared.answer.Second.{Second}
 use Rattle.crp_solve.specs.declared.answer.Second.TheVariants as second
-use Rattle.crp_solve.specs.Answers.{branches_of, IsTrueAnswer, StaysAsFound, IsSolved}
+use Rattle.crp_solve.specs.declared.asked.Optimum.{Optimum}
+use Rattle.crp_solve.specs.Answers.{StaysAsFound, EndedSecond, IsOfFirstPart, HasNoSecond}
+use Rattle.crp_solve.specs.Solved.{IsSolved, IsFirstPart}
 use Rattle.crp_solve.specs.Chosen.{Chosen}
 use Rattle.crp_solve.specs.Firsts.{IsFoundFirst, IsGivenUp}
-use Rattle.crp_solve.specs.Seconds.{second_by}
+use Rattle.crp_solve.specs.Seconds.{second_by, IsKnownBest}
 
 -- the first best plan answers what was asked
-pub first_is_true : (p : Problem) (c : Chosen) (best plan : ProblemPath) (cert shown : Certificate) (expanded more k : ℕ) → c.first ≡ true → IsTrueAnswer p c.budget (Optimal best cert) expanded → IsFoundFirst p c.budget k plan shown more →
-    IsSolved p c (record { answer = First plan shown; expanded = expanded; second = second.Done; second_expanded = more })
-first_is_true p c best plan cert shown expanded more k asked t found =
-    let is = found.plan_is in let of = is.plan_is in let about = found.about in
+pub first_is_true : (p : Problem) (c : Chosen) (best : Optimum) (plan : ProblemPath) (shown : Certificate) (more k : ℕ) → c.first ≡ true → IsKnownBest p c best → IsFoundFirst p c.budget k plan shown more →
+    IsSolved p c (record { answer = First plan shown; expanded = best.expanded; second = second.Done; second_expanded = more })
+first_is_true p c best plan shown more k asked known found =
+    let is = found.plan_is in let of = is.plan_is in let about = found.about in let t = known.answer in
     let accepted : IsFirstAccepted (claimed p shown (Some plan.path)) plan.path = first_certified p shown plan.path about of.complete found.needs in
     record {
       answer = record {
@@ -31,6 +35,7 @@ first_is_true p c best plan cert shown expanded more k asked t found =
         accepted = accepted.accepted;
         needed = tt;
       };
+      searches = (best.plan, best.cert, known.searches);
       one_search = λ alone. tt;
       second = (asked, refl, found.enough, found.within);
     }
@@ -41,6 +46,18 @@ stays c Budget more asked given = (asked, given)
 stays c Memory more asked given = (asked, given)
 
 -- so does the best plan that was known, where the search for the first was given up
-pub stays_is_true : (p : Problem) (c : Chosen) (best : ProblemPath) (cert : Certificate) (expanded more : ℕ) (cause : Cause) (ended : Second) → ended ≡ second_by cause → c.first ≡ true → IsTrueAnswer p c.budget (Optimal best cert) expanded →
-    (c.deepen ≡ false → expanded ≡ branches_of cert) → IsGivenUp c.budget cause more → IsSolved p c (record { answer = Optimal best cert; expanded = expanded; second = ended; second_expanded = more })
-stays_is_true p c best cert expanded more cause ended is asked t alone given = record { answer = t; one_search = alone; second = subst (λ s. StaysAsFound c.budget c.first s more) (sym is) (stays c cause more asked given) }
+pub stays_is_true : (p : Problem) (c : Chosen) (best : Optimum) (more : ℕ) (cause : Cause) (ended : Second) → ended ≡ second_by cause → c.first ≡ true → IsKnownBest p c best → IsGivenUp c.budget cause more →
+    IsSolved p c (record { answer = Optimal best.plan best.cert; expanded = best.expanded; second = ended; second_expanded = more })
+stays_is_true p c best more cause ended is asked known given =
+    record { answer = known.answer; searches = known.searches; one_search = known.one_search; second = subst (λ s. StaysAsFound c.budget c.first s more) (sym is) (stays c cause more asked given) }
+
+-- and what was found without a search for it is what was asked for, where none was
+unasked : (budget : ℕ) (asked : Bool) (answer : Answer) (ended : Second) (more : ℕ) → asked ≡ false → IsOfFirstPart answer → ended ≡ second.NotAsked → more ≡ 0 → EndedSecond budget asked answer ended more
+unasked budget asked (Optimal plan cert) ended more plain is e m = subst (λ s. StaysAsFound budget asked s more) (sym e) (plain, m)
+unasked budget asked (First plan cert) ended more plain is e m = absurd is
+unasked budget asked (NoPlan cert) ended more plain is e m = (e, m)
+unasked budget asked (Between lower cert plan cause) ended more plain is e m = (e, m)
+
+pub unasked_is_solved : (p : Problem) (c : Chosen) (s : Solved) → c.first ≡ false → HasNoSecond s → IsFirstPart p c s → IsSolved p c s
+unasked_is_solved p c s plain none part =
+    record { answer = part.answer; searches = part.searches; one_search = part.one_search; second = unasked c.budget c.first s.answer s.second s.second_expanded plain none.answer none.second none.expanded }

@@ -4,6 +4,10 @@ pub mod Covered
 pub mod TrueAnswers
 pub mod One
 pub mod OneSearch
+pub mod SearchesEnded
+pub mod Rising
+pub mod Looked
+pub mod KeptPlan
 pub mod Deepened
 pub mod Answerable
 pub mod Starting

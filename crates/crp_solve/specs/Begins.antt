@@ -1,5 +1,5 @@
 -- A search as it begins, and one whose workers are with their caller.
-use Rattle.std.specs.Prelude.{◌≡◌, ℕ, ◌+◌, ◌<◌, List, [], length, map, Option}
+use Rattle.std.specs.Prelude.{◌≡◌, ℕ, ◌+◌, ◌<◌, List, [], length, map, Option, false}
 use Rattle.crp_plan.specs.Plans.{ProblemPath}
 use Rattle.crp_incumbent.specs.declared.rule.Key.{Key}
 use Rattle.crp_incumbent.specs.Rule.{all_shares}
@@ -7,12 +7,14 @@ use Rattle.crp_incumbent.specs.Seats.{Shared, Seat}
 use Rattle.crp_pool.specs.Deques.{DequeId}
 use Rattle.crp_pool.specs.Seats.{PoolSeat, IsEverySeat, all_takes}
 use Rattle.crp_solve.specs.Answers.{path_in, count_of}
-use Rattle.crp_solve.specs.Searches.{IsBestMet}
+use Rattle.crp_solve.specs.Chosen.{Chosen}
+use Rattle.crp_solve.specs.Rounds.{IsStartPlan}
 use Rattle.crp_solve.specs.Groups.{Crew, place_key, all_keys, shares, IsUnusedSeat, AreReady}
 
--- a search that has begun: its shared words, and its workers as they are when it begins
+-- a search that has begun: its shared words, what was chosen for it, and its workers as they are when it begins
 pub record Search : Type 0 where
   pub of : Shared
+  pub chosen : Chosen
   pub workers : List Crew
 
 -- the words have this key; the first worker has a share of them and the only place of the pool, where it took no name; the other shares are left
@@ -32,9 +34,12 @@ pub record AreAllWorkers (of : Shared) (left : Seat) (pool : List DequeId) (work
   pub ready : AreReady of workers
   pub places : (all : List PoolSeat) → map place_key all ≡ all_keys workers → IsEverySeat pool all × (0 < length pool)
 
--- what a search keeps: its workers are all of its words and of its pool; the limit that it began with is the count of the plan that was known then
-pub record IsBegun (s : Search) (left : Seat) (pool : List DequeId) (known : Option ProblemPath) (budget : ℕ) : Type 0 where
+-- what a search keeps: its workers are all of its words and of its pool; the limit that it began with is the count of the plan that was known then; and
+-- it is the one search that was asked for
+pub record IsBegun (s : Search) (left : Seat) (pool : List DequeId) (known : Option ProblemPath) : Type 0 where
   pub workers : AreAllWorkers s.of left pool s.workers
-  pub best_met : IsBestMet s.of.key.problem known
+  pub start : IsStartPlan s.of.key.problem s.chosen known
   pub first : s.of.key.start ≡ count_of s.of.key.problem (path_in known)
-  pub budget_is : budget ≡ s.of.key.budget
+  pub budget : s.of.key.budget ≡ s.chosen.budget
+  pub not_first : s.chosen.first ≡ false
+  pub one_search : s.chosen.deepen ≡ false

@@ -1,5 +1,5 @@
 -- What the first part of a solver leaves for the second.
-use Rattle.std.specs.Prelude.{◌≡◌, true, false}
+use Rattle.std.specs.Prelude.{◌≡◌, true, false, Some}
 use Rattle.crp_plan.specs.Bay.{Problem}
 use Rattle.crp_tree.specs.Parts.{Certificate}
 use Rattle.crp_solve.specs.declared.answer.Answer.TheVariants.{Optimal}
@@ -8,8 +8,11 @@ use Rattle.crp_solve.specs.declared.answer.Cause.TheVariants.{Budget, Memory}
 use Rattle.crp_solve.specs.declared.answer.Second.{Second}
 use Rattle.crp_solve.specs.declared.answer.Second.TheVariants as second
 use Rattle.crp_solve.specs.declared.asked.Asked.{Asked}
+use Rattle.crp_solve.specs.declared.asked.Optimum.{Optimum}
 use Rattle.crp_solve.specs.declared.asked.Asked.TheVariants.{Nothing, First}
-use Rattle.crp_solve.specs.Answers.{cert_of, branches_of, IsTrueAnswer, IsSolved}
+use Rattle.crp_solve.specs.Answers.{cert_of, branches_of, IsTrueAnswer}
+use Rattle.crp_solve.specs.Rounds.{AreSearched}
+use Rattle.crp_solve.specs.Solved.{known_by, IsSolved}
 use Rattle.crp_solve.specs.Chosen.{Chosen}
 
 -- the certificate of the first part
@@ -17,10 +20,16 @@ abbrev pub cert_before : Asked → Certificate
 cert_before (Nothing solved) = cert_of solved.answer
 cert_before (First best) = best.cert
 
+-- a best plan is known, with the certificate that shows it, as was chosen
+pub record IsKnownBest (p : Problem) (c : Chosen) (best : Optimum) : Type 0 where
+  pub answer : IsTrueAnswer p c.budget (Optimal best.plan best.cert) best.expanded
+  pub searches : AreSearched p c (known_by best.cert (Some best.plan) best.expanded)
+  pub one_search : c.deepen ≡ false → best.expanded ≡ branches_of best.cert
+
 -- nothing more is asked, and the answer stands; or the first best plan is asked for, and a best one is known
 abbrev pub IsAsked : Problem → Chosen → Asked → Type 0
 IsAsked p c (Nothing solved) = IsSolved p c solved
-IsAsked p c (First best) = (c.first ≡ true) × IsTrueAnswer p c.budget (Optimal best.plan best.cert) best.expanded × (c.deepen ≡ false → best.expanded ≡ branches_of best.cert)
+IsAsked p c (First best) = (c.first ≡ true) × IsKnownBest p c best
 
 -- how the second part ended that was given up for this cause
 abbrev pub second_by : Cause → Second

@@ -1,5 +1,5 @@
 //! What a search by many workers is for.
-ghost use Rattle.std.specs.Prelude.{◌≡◌, List, Option, IfSome};
+ghost use Rattle.std.specs.Prelude.{◌≡◌, ◌≤◌, List, Option, IfSome};
 ghost use Rattle.crp_plan.specs.declared.running.View.{View};
 ghost use Rattle.crp_plan.specs.Plans.{ProblemPath};
 ghost use Rattle.crp_incumbent.specs.Seats.{Shared};
@@ -49,6 +49,7 @@ pub trait Aim: Drop {
         requires kept { (parts : List ProblemPart) × keeps common.now.of seat.view best parts }
         ensures words { result.seat.of ≡ common.now.of }
         ensures share { result.seat.view.share ≡ seat.view.share }
+        ensures mine { result.seat.view.mine ≤ seat.view.mine }
         ensures place { fixed_at result.place ≡ fixed_at place }
         ensures counted { IfSome result.part (IsCountedPart seat.view result.seat.view place result.place name) }
         ensures kept { (parts : List ProblemPart) → keeps common.now.of seat.view best parts → keeps common.now.of result.seat.view result.best (with_part parts result.part) };

@@ -5,7 +5,11 @@ ghost use Rattle.crp_plan.specs.Bay.{IsProblem, start, cap};
 ghost use Rattle.crp_bay.specs.Positions.{settled};
 ghost use Rattle.crp_bounds.specs.Bounds.{look_ahead as look_ahead_bound};
 ghost use Rattle.crp_tree.specs.Parts.{given_of, IsKeptPart};
-ghost use Rattle.crp_solve.specs.Answers.{path_in, cert_of, branches_of, count_of as count_or_cap, IsCut, IsOneCut, IsTrueAnswer, EachIsBranch, IsOfFirstPart, IsOutOfMemory, HasNoSecond};
+ghost use Rattle.crp_solve.specs.Answers.{path_in, plan_of, cert_of, branches_of, count_of as count_or_cap, IsCut, IsOneCut, IsTrueAnswer, EachIsBranch, IsOfFirstPart, IsOutOfMemory, HasNoSecond};
+ghost use Rattle.crp_solve.specs.Chosen.{Chosen};
+ghost use Rattle.crp_solve.specs.Desks.{count_or as count_or_limit};
+ghost use Rattle.crp_solve.specs.Rounds.{AreSearched};
+ghost use Rattle.crp_solve.specs.Solved.{known_by, ComesOf, IsFirstPart};
 ghost use Rattle.crp_solve.specs.Searches.{IsBestMet, IsShown, AreEnded, IsLost};
 
 use crate::answer::{Answer, Cause, Second, Solved};
@@ -28,11 +32,23 @@ pub fn count_of(problem: &Problem, best: &Option<Plan>) -> u32
     }
 }
 
+/// The relocations of the plan; where there is none, this limit.
+pub(crate) fn count_or(first: u32, best: &Option<Plan>) -> u32
+    ensures { result ≡ count_or_limit first (path_in best.now) }
+{
+    match best {
+        Some(plan) => plan.count(),
+        None => first,
+    }
+}
+
 /// The answer where searches have ended with this certificate, and this is the best plan that is known.
 fn answer_of_ended(problem: &Problem, cert: Cert, best: Option<Plan>) -> Answer
     ensures cert { cert_of result ≡ cert }
     ensures first_part { IsOfFirstPart result }
     ensures true_answer { (budget expanded : ℕ) → AreEnded problem.now budget cert best expanded → IsTrueAnswer problem.now budget result expanded }
+    ensures comes { (c : Chosen) (expanded : ℕ) → AreSearched problem.now c (known_by cert best expanded) → ComesOf problem.now c result expanded }
+    ensures plan { plan_of result ≡ path_in best }
     ensures one_search { (expanded : ℕ) → expanded ≡ branches_of cert → EachIsBranch result expanded }
 {
     let lower = cert.lower();
@@ -71,6 +87,7 @@ fn root_cut(alloc: Global, problem: &Problem) -> Result<Part, AllocError>
 pub(crate) fn root_cert(alloc: Global, problem: &Problem) -> Result<Cert, AllocError>
     ensures one_part { IfOk result (λ cert. length cert.parts ≡ 1) }
     ensures cut { IfOk result IsOneCut }
+    ensures bound { IfOk result (λ cert. cert.lower ≡ min (cap problem.now) (look_ahead_bound (settled (start problem.now)))) }
     ensures shown { IfOk result
         (λ cert. (budget expanded : ℕ) (plan : Option ProblemPath) → IsBestMet problem.now plan → expanded ≤ budget → IsShown problem.now budget cert plan expanded) }
 {
@@ -87,6 +104,9 @@ fn answer_without_memory(
     ensures one_part { IfOk result (λ answer. length (cert_of answer).parts ≡ 1) }
     ensures first_part { IfOk result IsOfFirstPart }
     ensures out_of_memory { IfOk result (IsOutOfMemory best) }
+    ensures plan { IfOk result (λ answer. plan_of answer ≡ path_in best) }
+    ensures comes { IfOk result (λ answer. (c : Chosen) (expanded : ℕ) → ComesOf problem.now c answer expanded) }
+    ensures is_branch { IfOk result (λ answer. (expanded : ℕ) → EachIsBranch answer expanded) }
     ensures true_answer { IfOk result (λ answer. (budget expanded : ℕ) → IsLost problem.now budget best expanded → IsTrueAnswer problem.now budget answer expanded) }
 {
     let cert = root_cert(alloc, problem)?;
@@ -122,10 +142,10 @@ pub fn answer_to(
     ensures one_part { IfOk found (λ r. length r.cert.parts ≡ 1) → IfOk result (λ solved. length (cert_of solved.answer).parts ≡ 1) }
     ensures no_second { IfOk result HasNoSecond }
     ensures out_of_memory { IfErr found (λ lost. IfOk result (λ solved. IsOutOfMemory lost.best solved.answer)) }
-    ensures true_answer { (budget : ℕ) → IfOk found (λ r. AreEnded problem.now budget r.cert r.best r.expanded)
-        → IfErr found (λ lost. IsLost problem.now budget lost.best lost.expanded)
-        → IfOk result (λ solved. IsTrueAnswer problem.now budget solved.answer solved.expanded) }
-    ensures one_search { IfOk found (λ r. r.expanded ≡ branches_of r.cert) → IfOk result (λ solved. EachIsBranch solved.answer solved.expanded) }
+    ensures plan { IfOk found (λ r. IfOk result (λ solved. plan_of solved.answer ≡ path_in r.best)) }
+    ensures plan_left { IfErr found (λ lost. IfOk result (λ solved. plan_of solved.answer ≡ path_in lost.best)) }
+    ensures answered { (c : Chosen) → IfOk found (AreSearched problem.now c) → IfErr found (λ lost. IsLost problem.now c.budget lost.best lost.expanded)
+        → IfOk result (IsFirstPart problem.now c) }
 {
     match found {
         Ok(

@@ -1,11 +1,11 @@
 //! What is asked of the second part of a solver, and the answer with what it found.
-ghost use Rattle.std.specs.Prelude.{◌≡◌, length, true, false, IfOk, IfErr};
+ghost use Rattle.std.specs.Prelude.{◌≡◌, length, true, IfOk, IfErr};
 ghost use Rattle.crp_plan.specs.Bay.{Problem as Statement};
-ghost use Rattle.crp_solve.specs.declared.answer.Answer.TheVariants.{Optimal};
-ghost use Rattle.crp_solve.specs.Answers.{cert_of, branches_of, IsTrueAnswer, EachIsBranch, HasNoSecond, IsSolved};
+ghost use Rattle.crp_solve.specs.Answers.{cert_of, HasNoSecond};
 ghost use Rattle.crp_solve.specs.Chosen.{Chosen};
 ghost use Rattle.crp_solve.specs.Firsts.{IsFoundFirst, IsGivenUp};
-ghost use Rattle.crp_solve.specs.Seconds.{cert_before, IsAsked, second_by};
+ghost use Rattle.crp_solve.specs.Seconds.{cert_before, IsKnownBest, IsAsked, second_by};
+ghost use Rattle.crp_solve.specs.Solved.{IsFirstPart, IsSolved};
 
 use crate::answer::{Answer, Cause, Second, Solved};
 use crate::first_ending::{First, GivenUp};
@@ -32,8 +32,7 @@ pub(crate) enum Asked {
 pub(crate) fn asked_for(settings: Settings, solved: Solved) -> Asked
     requires { HasNoSecond solved }
     ensures cert { cert_before result ≡ cert_of solved.answer }
-    ensures asked { (p : Statement) → IsTrueAnswer p settings.budget solved.answer solved.expanded
-        → (settings.deepen ≡ false → EachIsBranch solved.answer solved.expanded) → IsAsked p settings result }
+    ensures asked { (p : Statement) → IsFirstPart p settings solved → IsAsked p settings result }
 {
     if !settings.first() {
         return Asked::Nothing(solved);
@@ -76,8 +75,7 @@ fn given_up_for(cause: Cause) -> Second
 /// The answer after the second part: the first best plan, or the best plan that was known.
 pub(crate) fn answer_with_second(best: Optimum, found: Result<First, GivenUp>) -> Solved
     ensures one_part { length best.cert.parts ≡ 1 → IfOk found (λ first. length first.cert.parts ≡ 1) → length (cert_of result.answer).parts ≡ 1 }
-    ensures solved { (p : Statement) (c : Chosen) → c.first ≡ true → IsTrueAnswer p c.budget (Optimal best.plan best.cert) best.expanded
-        → (c.deepen ≡ false → best.expanded ≡ branches_of best.cert)
+    ensures solved { (p : Statement) (c : Chosen) → c.first ≡ true → IsKnownBest p c best
         → IfOk found (λ first. IsFoundFirst p c.budget (length best.plan.path) first.plan first.cert first.expanded)
         → IfErr found (λ end. IsGivenUp c.budget end.cause end.expanded) → IsSolved p c result }
 {

@@ -11,7 +11,7 @@ use crate::group::Crew;
 use crate::open_work::OpenWork;
 use crate::opening::CAPACITY;
 use crate::settings::Settings;
-use crp_incumbent::{Board, Seat, Shared};
+use crp_incumbent::{Seat, Shared};
 use crp_plan::Problem;
 use crp_pool::{Pool, PoolSeat};
 use crp_tree::{Name, Part};
@@ -86,12 +86,10 @@ pub(crate) struct Start<A: Aim> {
 
 /// Begins a search with the limit `first`, where there is memory for that.
 pub(crate) fn begin<R: Wait, G: Gate, A: Aim>(
-    rt: &R,
+    outside: &Outside<R, G>,
     alloc: Global,
     problem: &Problem,
     settings: Settings,
-    board: &Board,
-    gate: &G,
     first: u32,
 ) -> Option<Start<A>>
     requires begins { (of : Words) (seat : Place) → of.key ≡ record { problem = problem.now; start = first; budget = settings.budget }
@@ -116,8 +114,7 @@ pub(crate) fn begin<R: Wait, G: Gate, A: Aim>(
         first,
         split: settings.split(),
     };
-    let outside = Outside { rt, gate, board };
-    let Ok(worker) = begun::<R, G, A>(&outside, &common, given, places) else {
+    let Ok(worker) = begun::<R, G, A>(outside, &common, given, places) else {
         return None;
     };
     Some(Start {

@@ -14,8 +14,14 @@ pub trait Gate {
     /// A plan of so many relocations is known.
     fn planned(&self, _relocations: u32) {}
 
-    /// So many positions more were claimed. A worker says so behind each 4096, and for the rest where its part ends.
+    /// So many positions more may be expanded. A worker says so behind each 4096, and for the rest where its part ends.
     fn claimed(&self, _positions: u32) {}
+
+    /// Whether one worker looks first, so that others are not started for a problem that it solves at once. What it does then is not
+    /// said to the gate.
+    fn looks_first(&self) -> bool {
+        false
+    }
 }
 
 /// The gate that asks for nothing.
@@ -24,6 +30,10 @@ pub struct NoGate;
 
 impl Gate for NoGate {
     fn begun(&self, _worker: u32, _task: &Name) {}
+
+    fn looks_first(&self) -> bool {
+        true
+    }
 }
 
 /// What a worker reaches outside the search: the leave to wait, the gate, and the board for its plans.

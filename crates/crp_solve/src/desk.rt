@@ -38,10 +38,10 @@ impl Opened for Brand {
     ghost place = { None };
 }
 
-/// How many claims are said to the gate together.
+/// How many granted claims are said to the gate together.
 const CLAIMS: u32 = 4096;
 
-/// A worker with its seat, the plan that its least offer counts, its place in the pool, and how many claims it made.
+/// A worker with its seat, the plan that its least offer counts, its place in the pool, and how many claims were granted to it.
 struct Desk<'a, R, G, K: Opened> {
     rt: &'a R,
     gate: &'a G,
@@ -103,11 +103,14 @@ impl<'a, R: Wait, G: Gate, K: Opened> Limit for Desk<'a, R, G, K> {
     }
 
     fn claim(&mut self) -> bool {
-        self.claims = self.claims.wrapping_add(1);
-        if self.claims % CLAIMS == 0 {
-            self.gate.claimed(CLAIMS);
+        let granted = self.seat.claim(self.shared);
+        if granted {
+            self.claims = self.claims.wrapping_add(1);
+            if self.claims % CLAIMS == 0 {
+                self.gate.claimed(CLAIMS);
+            }
         }
-        self.seat.claim(self.shared)
+        granted
     }
 
     fn put(&mut self, name: Name) -> Result<(), Name> {

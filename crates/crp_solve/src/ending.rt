@@ -1,5 +1,5 @@
 //! The end of a search by many workers: the shared words are closed, and the parts become one certificate.
-ghost use Rattle.std.specs.Prelude.{◌≤◌, IfOk, IfErr};
+ghost use Rattle.std.specs.Prelude.{◌≡◌, ◌≤◌, IfOk, IfErr};
 ghost use Rattle.crp_solve.specs.Searches.{BeginsWithin};
 ghost use Rattle.crp_solve.specs.Rests.{AreDone, IsFoundTogether};
 ghost use Rattle.crp_solve.specs.Groups.{IsKeptSoFar};
@@ -31,18 +31,20 @@ pub struct Lost {
     pub expanded: u64,
 }
 
-/// Closes the words, and makes one certificate of the parts. Where memory is short the error says how many expansions were granted.
+/// Closes the words, and makes one certificate of the parts. Where memory is short the best plan of the workers is left.
 pub(crate) fn ended(
     alloc: Global,
     problem: &Problem,
     shared: Shared,
     budget: u64,
     done: Done,
-) -> Result<Together, u64>
+) -> Result<Together, Lost>
     requires first { BeginsWithin problem.now shared.key.start }
     requires done { AreDone IsKeptSoFar (record { problem = problem.now; start = shared.key.start; budget = budget }) shared done.seat done.best done.parts.items done.short }
     ensures found { IfOk result (λ r. IsFoundTogether problem.now budget shared.key.start r.cert r.best r.expanded) }
-    ensures within { IfErr result (λ expanded. expanded ≤ budget) }
+    ensures best { IfOk result (λ r. r.best ≡ done.best) }
+    ensures best_left { IfErr result (λ lost. lost.best ≡ done.best) }
+    ensures within { IfErr result (λ lost. lost.expanded ≤ budget) }
 {
     let Done {
         seat,
@@ -53,7 +55,7 @@ pub(crate) fn ended(
     let totals = shared.close(seat);
     let expanded = totals.spent.min(budget);
     if short {
-        return Err(expanded);
+        return Err(Lost { best, expanded });
     }
     match gather(alloc, problem, parts) {
         Ok(cert) => Ok(Together {
@@ -62,7 +64,7 @@ pub(crate) fn ended(
             expanded,
         }),
         Err(fault) => match fault {
-            GatherFault::Memory => Err(expanded),
+            GatherFault::Memory => Err(Lost { best, expanded }),
             _ => unreachable!(),
         },
     }

@@ -10,11 +10,12 @@ const LOOKS: u64 = 16;
 /// The longest sleep of an idle worker, in microseconds.
 const MAX_SLEEP: u64 = 1000;
 
-/// The names that were put and not searched yet, and whether a part was lost.
+/// The names that were put and not searched yet, whether a part was lost, and how often an idle worker had reason to look again.
 #[derive(Drop)]
 pub(crate) struct OpenWork {
     names: AtomicU64,
     lost: AtomicBool,
+    calls: AtomicU64,
 }
 
 impl OpenWork {
@@ -23,12 +24,19 @@ impl OpenWork {
         OpenWork {
             names: AtomicU64::new(1),
             lost: AtomicBool::new(false),
+            calls: AtomicU64::new(0),
         }
     }
 
     /// How many names are open.
     pub(crate) fn names(&self) -> u64 {
         self.names.load(Ordering::SeqCst)
+    }
+
+    /// How often idle workers were called. An idle worker reads this before it looks for a name, and sleeps only while nobody called
+    /// since: so it misses no name that is put meanwhile, and no end.
+    pub(crate) fn calls(&self) -> u64 {
+        self.calls.load(Ordering::SeqCst)
     }
 
     /// Counts a name that is about to be put.
@@ -38,20 +46,27 @@ impl OpenWork {
 
     /// The name was put, and a worker that sleeps may take it.
     pub(crate) fn end_put(&self) {
-        self.names.wake_one();
+        self.calls.fetch_add(1, Ordering::SeqCst);
+        self.calls.wake_one();
+    }
+
+    /// All workers that sleep look again.
+    fn call_all(&self) {
+        self.calls.fetch_add(1, Ordering::SeqCst);
+        self.calls.wake_all();
     }
 
     /// A name was searched, or was not put. After the last one no worker sleeps any more.
     pub(crate) fn close_one(&self) {
         if self.names.fetch_sub(1, Ordering::SeqCst) == 1 {
-            self.names.wake_all();
+            self.call_all();
         }
     }
 
-    /// A part was lost: every worker ends at its next task.
+    /// A part or a name was lost: every worker ends at its next task.
     pub(crate) fn lose(&self) {
         self.lost.store(true, Ordering::SeqCst);
-        self.names.wake_all();
+        self.call_all();
     }
 
     /// Whether workers end, since no name is open or a part was lost.
@@ -59,15 +74,15 @@ impl OpenWork {
         self.lost.load(Ordering::SeqCst) || self.names() == 0
     }
 
-    /// An idle worker waits, which has waited so many times before in a row, and saw so many open names before it found none: at
-    /// first for its next turn, then asleep until another number is open or a name is put, and longer each time.
-    pub(crate) fn wait<R: Wait>(&self, rt: &R, seen: u64, times: u64) {
+    /// An idle worker waits, which has waited so many times before in a row, and was called so often before it found no name: at first
+    /// for its next turn, then asleep until somebody calls, and longer each time.
+    pub(crate) fn wait<R: Wait>(&self, rt: &R, called: u64, times: u64) {
         if times < LOOKS {
             thread::yield_now();
         } else {
             let sleep = Duration::from_micros(times.min(MAX_SLEEP));
-            self.names
-                .park_timeout(rt, (seen & 0xffff_ffff) as u32, sleep);
+            self.calls
+                .park_timeout(rt, (called & 0xffff_ffff) as u32, sleep);
         }
     }
 }

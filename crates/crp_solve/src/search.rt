@@ -1,6 +1,8 @@
 //! A search by several workers for a caller that runs them in threads of its own.
-ghost use Rattle.std.specs.Prelude.{◌≡◌, ◌≤◌, IfOk, length};
-ghost use Rattle.crp_solve.specs.Answers.{IsTrueAnswer, EachIsBranch, HasNoSecond};
+ghost use Rattle.std.specs.Prelude.{◌≡◌, ◌≤◌, IfOk, length, false};
+ghost use Rattle.crp_solve.specs.Answers.{path_in, plan_of};
+ghost use Rattle.crp_solve.specs.Searches.{HasNoMore};
+ghost use Rattle.crp_solve.specs.Solved.{IsSolved};
 ghost use Rattle.crp_solve.specs.Groups.{SameWorkers, AreTogether, AreReady};
 ghost use Rattle.crp_solve.specs.Begins.{IsStart, AreAllWorkers};
 
@@ -33,7 +35,7 @@ pub struct Search {
     left: Seat,
     pool: Pool,
     known: Option<Plan>,
-    budget: u64,
+    settings: Settings,
     workers: Snapshot<Vec<Group>>,
 }
 
@@ -46,9 +48,9 @@ impl Model for Search {
 
     ghost coded = { Prim.hlevel (codes, tree_code) };
 
-    ghost view = { λ s. record { of = s.common.of; workers = s.workers.value.items } };
+    ghost view = { λ s. record { of = s.common.of; chosen = s.settings; workers = s.workers.value.items } };
 
-    ghost invariant = { λ s. IsBegun (record { of = s.common.of; workers = s.workers.value.items }) s.left s.pool s.known s.budget };
+    ghost invariant = { λ s. IsBegun (record { of = s.common.of; chosen = s.settings; workers = s.workers.value.items }) s.left s.pool s.known };
 }
 
 /// The first worker and others, where names wait for them, `most` in all: what is left of the seat, the pool, and the workers.
@@ -78,8 +80,8 @@ fn with_others<R: Wait>(
 impl Search {
     /// Begins as `solve` does, with the plan that the settings ask for, which is posted on the board, and with the part of the root,
     /// which is searched here. What is returned beside the search are the states of its workers, the first one's first: as many as are
-    /// of use, and at most those that the settings ask for. The board must be of the problem. Whether the first of all best plans or
-    /// deepening is asked for changes nothing. The error says that memory ran out.
+    /// of use, and at most those that the settings ask for. It makes one search for the fewest relocations, so neither the first of all
+    /// best plans nor deepening may be asked for. The board must be of the problem. The error says that memory ran out.
     pub fn begin<R: Wait, G: Gate>(
         rt: &R,
         alloc: Global,
@@ -88,15 +90,18 @@ impl Search {
         board: &Board,
         gate: &G,
     ) -> Result<(Search, Vec<Group>), AllocError>
+        requires board { board.now ≡ problem.now }
+        requires not_first { settings.first ≡ false }
+        requires one_search { settings.deepen ≡ false }
         ensures problem { IfOk result (λ r. r.0.of.key.problem ≡ problem.now) }
-        ensures budget { IfOk result (λ r. r.0.of.key.budget ≡ settings.budget) }
+        ensures chosen { IfOk result (λ r. r.0.chosen ≡ settings) }
         ensures workers { IfOk result (λ r. r.1.items ≡ r.0.workers) }
         ensures ready { IfOk result (λ r. AreReady r.0.of r.1.items) }
         ensures count { IfOk result (λ r. length r.1.items ≤ settings.workers) }
     {
-        let (known, first) = start_posted(rt, alloc, problem, settings, board, gate);
-        let budget = settings.budget();
-        let begun = begin::<R, G, Fewest>(rt, alloc, problem, settings, board, gate, first);
+        let outside = Outside { rt, gate, board };
+        let (known, first) = start_posted(&outside, alloc, problem, settings);
+        let begun = begin::<R, G, Fewest>(&outside, alloc, problem, settings, first);
         let Some(begun) = begun else {
             return Err(AllocError);
         };
@@ -119,7 +124,7 @@ impl Search {
             left,
             pool,
             known,
-            budget,
+            settings,
             workers: Snapshot::of(&groups),
         };
         Ok((search, groups))
@@ -133,8 +138,8 @@ impl Search {
     }
 
     /// The answer, once all workers are done and merged into one state: what is left in the pool is searched first. Where memory ran
-    /// out it is the look-ahead bound of the first position and the best plan that is known. The error says that memory ran out for
-    /// that too. The board must be of the problem.
+    /// out it is the look-ahead bound of the first position and the best plan that is known. Its plan has no more relocations than
+    /// theirs. The error says that memory ran out for that too. The board must be of the problem.
     pub fn end<R: Wait, G: Gate>(
         self,
         rt: &R,
@@ -144,16 +149,15 @@ impl Search {
     ) -> Result<Solved, AllocError>
         requires together { AreTogether self.workers all }
         requires board { board.now ≡ self.of.key.problem }
-        ensures no_second { IfOk result HasNoSecond }
-        ensures true_answer { IfOk result (λ solved. IsTrueAnswer self.of.key.problem self.of.key.budget solved.answer solved.expanded) }
-        ensures one_search { IfOk result (λ solved. EachIsBranch solved.answer solved.expanded) }
+        ensures solved { IfOk result (IsSolved self.of.key.problem self.chosen) }
+        ensures plan { IfOk result (λ solved. HasNoMore (plan_of solved.answer) (path_in all.plan)) }
     {
         let Search {
             common,
             left,
             pool,
             known,
-            budget,
+            settings,
             workers: _,
         } = self;
         let alloc = common.alloc;
@@ -161,7 +165,7 @@ impl Search {
         let outside = Outside { rt, gate, board };
         let done = put_together(&outside, &common, pool, left, all);
         let shared = shared_of(common);
-        let found = found_by(rt, alloc, &problem, board, shared, budget, done);
+        let found = found_by(rt, alloc, &problem, board, shared, settings.budget(), done);
         answer_to(alloc, &problem, with_known(found, known))
     }
 }

@@ -1,18 +1,17 @@
 //! The second part of a solver: the first of all best plans, once it is known how many relocations these have.
-ghost use Rattle.std.specs.Prelude.{◌≡◌, length, IfOk, IfErr};
+ghost use Rattle.std.specs.Prelude.{◌≡◌, ◌≤◌, length, IfOk, IfErr};
 ghost use Rattle.crp_plan.specs.Bay.{IsProblem, IsBest};
 ghost use Rattle.crp_solve.specs.Answers.{IsPlanOf};
 ghost use Rattle.crp_solve.specs.Firsts.{IsFoundFirst, IsGivenUp};
 
 use crate::alone::{Alone, Begun};
 use crate::answer::Cause;
-use crate::common::Gate;
+use crate::common::{Gate, Outside};
 use crate::first_best::FirstBest;
 use crate::first_ending::{First, GivenUp, first_ended};
 use crate::settings::Settings;
 use crate::together::work_together;
 use crp_gather::settle;
-use crp_incumbent::Board;
 use crp_plan::{Plan, Problem};
 use crp_search::{FirstEnd, FirstPart, search_first};
 use crp_tree::{Cert, Name};
@@ -21,22 +20,22 @@ use std::marker::Brand;
 use std::sync::Wait;
 use std::thread::Threads;
 
-/// The first best plan, which has `count` relocations, searched by many workers.
-pub(crate) fn first_together<R: Threads + Wait + Sync, G: Gate + Sync>(
-    rt: &R,
+/// The first best plan, which has `count` relocations, searched by so many workers.
+pub(crate) fn first_with<R: Threads + Wait + Sync, G: Gate + Sync>(
+    outside: &Outside<R, G>,
     alloc: Global,
     problem: &Problem,
     settings: Settings,
-    board: &Board,
-    gate: &G,
+    most: u32,
     count: u32,
 ) -> Result<First, GivenUp>
-    requires { IsBest problem.now count }
+    requires most { most ≤ 64 }
+    requires best { IsBest problem.now count }
     ensures found { IfOk result (λ first. IsFoundFirst problem.now settings.budget count first.plan first.cert first.expanded) }
     ensures given_up { IfErr result (λ end. IsGivenUp settings.budget end.cause end.expanded) }
 {
     let budget = settings.budget();
-    let worked = work_together::<R, G, FirstBest>(rt, alloc, problem, settings, board, gate, count);
+    let worked = work_together::<R, G, FirstBest>(outside, alloc, problem, settings, most, count);
     let Some((shared, done)) = worked else {
         return Err(GivenUp {
             cause: Cause::Memory,

@@ -1,7 +1,8 @@
 //! The plan that a search begins with.
 ghost use Rattle.std.specs.Prelude.{◌≡◌, IfSome};
 ghost use Rattle.crp_solve.specs.Answers.{path_in, count_of as count_or_cap, IsFirstLimit, IsPlanOf};
-ghost use Rattle.crp_solve.specs.Searches.{BeginsWithin, IsBestMet};
+ghost use Rattle.crp_solve.specs.Searches.{BeginsWithin};
+ghost use Rattle.crp_solve.specs.Rounds.{IsStartPlan};
 
 use crate::answering::count_of;
 use crate::settings::Settings;
@@ -27,9 +28,9 @@ fn start_plan(alloc: Global, problem: &Problem, settings: Settings) -> Option<Pl
     }
 }
 
-/// The plan that a search begins with, if there is one, and the limit that it begins with: the relocations of that plan, or the cap.
+/// The plan that searches begin with, if there is one, and its relocations; where there is none, the cap.
 pub(crate) fn started(alloc: Global, problem: &Problem, settings: Settings) -> (Option<Plan>, u32)
-    ensures best_met { IsBestMet problem.now result.0 }
+    ensures start { IsStartPlan problem.now settings result.0 }
     ensures first { result.1 ≡ count_or_cap problem.now (path_in result.0) }
 {
     let known = start_plan(alloc, problem, settings);

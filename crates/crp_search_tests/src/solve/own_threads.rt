@@ -1,5 +1,5 @@
 //! A search whose caller runs the workers in threads of its own.
-ghost use Rattle.std.specs.Prelude.{◌≡◌, ◌∷◌, [], IfSome};
+ghost use Rattle.std.specs.Prelude.{◌≡◌, ◌∷◌, [], IfSome, false};
 ghost use Rattle.std.specs.Thread.{IsSync};
 ghost use Rattle.crp_solve.specs.Groups.{SameWorkers, AreReady, AreTogether};
 
@@ -63,7 +63,10 @@ fn solved_in_two<R: Threads + Wait + Sync, G: Gate + Sync>(
     bay: &Bay,
     settings: Settings,
     gate: &G,
-) -> Result<Solved, Fail> {
+) -> Result<Solved, Fail>
+    requires not_first { settings.first ≡ false }
+    requires one_search { settings.deepen ≡ false }
+{
     let problem = problem_of(alloc, bay)?;
     let board = Board::new(&problem);
     let (search, groups) = Search::begin(rt, alloc, &problem, settings, &board, gate)?;

@@ -1,15 +1,27 @@
 use Rattle.std.proofs.Common.{IfOk, IfErr, subst}
-use Rattle.crp_solve.specs.Searches.{AreEnded, IsLost}
+use Rattle.crp_solve.specs.declared.ending.Together.{Together}
+use Rattle.crp_solve.specs.Searches.{IsLost}
+use Rattle.crp_solve.specs.Rounds.{AreSearched}
+use Rattle.crp_solve.proofs.SearchesEnded.{searched_ended, searched_branches}
 use Rattle.crp_solve.proofs.answering.answer_to.Goals as goal
 
-pub returns-in-Ok-clause-true_answer : goal.returns-in-Ok-clause-true_answer
-returns-in-Ok-clause-true_answer c budget ended lost =
-    let p = c.args.problem.now in let r = c.in-Ok.field-0 in
+pub returns-in-Ok-clause-answered : goal.returns-in-Ok-clause-answered
+returns-in-Ok-clause-answered c chosen searched lost =
+    let p = c.args.problem.now in let r : Together = c.in-Ok.field-0 in let given = c.answer_of_ended-answer.ensures in
+    let s : AreSearched p chosen r = subst (λ o. IfOk o (AreSearched p chosen)) c.in-Ok.is searched in
     rw (c.without_second.ensures.answer, c.without_second.ensures.expanded)
-    (c.answer_of_ended-answer.ensures.true_answer budget r.expanded (subst (λ o. IfOk o (λ r. AreEnded p budget r.cert r.best r.expanded)) c.in-Ok.is ended))
+    (record {
+      answer = given.true_answer chosen.budget r.expanded (searched_ended p chosen r s);
+      searches = given.comes chosen r.expanded s;
+      one_search = λ alone. given.one_search r.expanded (searched_branches p chosen r s alone);
+    })
 
-pub returns-in_ok-answer-in-Err-clause-true_answer : goal.returns-in_ok-answer-in-Err-clause-true_answer
-returns-in_ok-answer-in-Err-clause-true_answer c budget ended lost =
-    let p = c.args.problem.now in let r = c.in-Err.field-0 in
+pub returns-in_ok-answer-in-Err-clause-answered : goal.returns-in_ok-answer-in-Err-clause-answered
+returns-in_ok-answer-in-Err-clause-answered c chosen searched lost =
+    let p = c.args.problem.now in let r = c.in-Err.field-0 in let given = c.in_ok-answer-in-Err.ensures in
     rw (c.without_second-in-Err.ensures.answer, c.without_second-in-Err.ensures.expanded)
-    (c.in_ok-answer-in-Err.ensures.true_answer budget r.expanded (subst (λ o. IfErr o (λ l. IsLost p budget l.best l.expanded)) c.in-Err.is lost))
+    (record {
+      answer = given.true_answer chosen.budget r.expanded (subst (λ o. IfErr o (λ l. IsLost p chosen.budget l.best l.expanded)) c.in-Err.is lost);
+      searches = given.comes chosen r.expanded;
+      one_search = λ alone. given.is_branch r.expanded;
+    })

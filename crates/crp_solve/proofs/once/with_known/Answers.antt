@@ -1,22 +1,15 @@
-use Rattle.std.proofs.Common.{IfOk, IfErr, subst, ◌∙◌}
+use Rattle.std.proofs.Common.{IfOk, IfErr, subst}
 use Rattle.crp_solve.specs.Answers.{path_in, count_of}
 use Rattle.crp_solve.specs.Rests.{IsFoundTogether, IsCutShort}
 use Rattle.crp_solve.proofs.Limits.{shorter_met}
-use Rattle.crp_solve.proofs.OneSearch.{once_ended}
 use Rattle.crp_solve.proofs.once.with_known.Goals as goal
 
-pub returns-in-Ok-clause-ended : goal.returns-in-Ok-clause-ended
-returns-in-Ok-clause-ended c p budget met found =
-    let r = c.in-Ok.field-0 in
-    let f : IsFoundTogether p budget (count_of p (path_in c.args.known)) r.cert r.best r.expanded =
-    subst (λ o. IfOk o (λ r. IsFoundTogether p budget (count_of p (path_in c.args.known)) r.cert r.best r.expanded)) c.in-Ok.is found in
-    once_ended p budget r.cert r.best c.args.known c.first_of.result r.expanded met f (c.first_of.ensures.plan p f.best_is met.plan_is) (c.first_of.ensures.count p)
-
 pub returns-in-Ok-clause-one_search : goal.returns-in-Ok-clause-one_search
-returns-in-Ok-clause-one_search c p budget first found =
-    let r = c.in-Ok.field-0 in
-    let f : IsFoundTogether p budget first r.cert r.best r.expanded = subst (λ o. IfOk o (λ r. IsFoundTogether p budget first r.cert r.best r.expanded)) c.in-Ok.is found in
-    let w = f.ended in f.granted ∙ w.granted
+returns-in-Ok-clause-one_search c p budget found = record {
+  met = c.in-Ok.field-0.best;
+  found = subst (λ o. IfOk o (λ r. IsFoundTogether p budget (count_of p (path_in c.args.known)) r.cert r.best r.expanded)) c.in-Ok.is found;
+  best = c.first_of.ensures;
+}
 
 pub returns-in-Err-clause-lost : goal.returns-in-Err-clause-lost
 returns-in-Err-clause-lost c p budget met short =

@@ -16,9 +16,9 @@ seated-left-requires-clause-lists g c = (
 
 pub returns-clause-places : goal.returns-clause-places
 returns-clause-places g c all e =
-    let places = c.args.room.places.items in let place = c.remove-place.result in let first = c.moved.result in
+    let places = c.args.room.places.items in let place = c.remove-place.result in let first = c.moved-first.result in
     let one : c.push_reserved.new.self.items ≡ first ∷ [] = c.push_reserved.ensures.items ∙ ap (λ l. l ++ first ∷ []) c.requires.room.none_yet in
-    let before : all_keys c.push_reserved.new.self.items ≡ place_key place ∷ [] = ap all_keys one ∙ ap (λ l. l ++ []) c.moved.ensures.places in
+    let before : all_keys c.push_reserved.new.self.items ≡ place_key place ∷ [] = ap all_keys one ∙ ap (λ l. l ++ []) c.moved-first.ensures.places in
     let some : 0 < length places = omega (arith, c.requires.several) in
     let whole = ap (map place_key) (first_and_others places place some c.remove-place.ensures.value) in
     let same = e ∙ c.seated-left.ensures.keys_are ∙ ap (λ l. l ++ map place_key c.remove-place.new.self.items) before ∙ ap (λ l. place_key place ∷ map place_key l) c.remove-place.ensures.items ∙ whole in

@@ -1,4 +1,29 @@
+use Rattle.std.proofs.Common.{◌≡◌, true, rules}
+use Rattle.std.proofs.lemmas.Result.{err_from_is_err_and}
+use Rattle.crp_solve.proofs.Deepened.{nearer_smaller}
+use Rattle.crp_solve.proofs.Rising.{rising_begins, rising_shown, rising_more, rising_ends}
 use Rattle.crp_solve.proofs.solver.found_together.Goals as goal
 
-pub returns-clause-one_search : goal.returns-clause-one_search
-returns-clause-one_search g c alone = c.with_known.ensures.one_search c.args.problem.now c.args.settings.budget _ c.search_together-found.ensures.found
+pub returns-in_err-known-clause-lost : goal.returns-in_err-known-clause-lost
+returns-in_err-known-clause-lost g c =
+    let p = err_from_is_err_and c.from_residual.result c.from_residual.ensures.1 in
+    rw (p.1, p.2) (c.in_err-known.ensures.lost c.args.settings.budget)
+
+pub next_round-requires : goal.next_round-requires
+next_round-requires g c = rising_shown c.args.problem.now c.args.settings c.loop-left.known c.loop-left.invariant
+
+pub known_behind-requires-clause-known : goal.known_behind-requires-clause-known
+known_behind-requires-clause-known g c = rising_shown c.args.problem.now c.args.settings c.loop-left.known c.loop-left.invariant
+
+pub loop-left-smaller : goal.loop-left-smaller
+loop-left-smaller g c =
+    let p = c.args.problem.now in let known = c.loop-left.known in
+    nearer_smaller p c.args.settings.budget known c.in_ok-known-2.known (rising_shown p c.args.settings known c.loop-left.invariant) c.in-Some.ensures.undecided c.in_ok-known-2.ensures.nearer
+
+pub loop-left-preserved : goal.loop-left-preserved
+loop-left-preserved g c = rising_more c.args.problem.now c.args.settings c.loop-left.known c.in_ok-known-2.known c.loop-left.invariant c.in_ok-known-2.ensures.round
+
+pub returns-clause-searched : goal.returns-clause-searched
+returns-clause-searched g c =
+    let asked : c.args.settings.deepen ≡ true = search rules in
+    rising_ends c.args.problem.now c.args.settings c.loop-left.known asked c.loop-left.invariant c.in_default.ensures.decided

@@ -1,0 +1,67 @@
+-- Searches one after the other, while they are made, and behind them.
+use Rattle.std.proofs.Common.{◌≡◌, ℕ, ◌+◌, ◌-◌, ◌<◌, ◌≤◌, Bool, true, ⊎_elim, List, [], ◌∷◌, ◌++◌, Option, refl, sym, subst, arith}
+use Rattle.std.proofs.lemmas.Bool.{cases_lt}
+use Rattle.crp_plan.specs.Bay.{Problem}
+use Rattle.crp_plan.specs.Plans.{ProblemPath}
+use Rattle.crp_tree.specs.Parts.{Certificate}
+use Rattle.crp_solve.specs.declared.ending.Together.{Together}
+use Rattle.crp_solve.specs.Chosen.{Chosen}
+use Rattle.crp_solve.specs.Answers.{path_in, count_of, shorter, IsPlanOf}
+use Rattle.crp_solve.specs.Searches.{IsOpen, IsShown}
+use Rattle.crp_solve.specs.Rests.{IsFoundTogether}
+use Rattle.crp_solve.specs.Deepening.{higher}
+use Rattle.crp_solve.specs.Rounds.{IsStartPlan, Round, behind, IsNextRound, Deepen, IsKnownBefore, SearchesOf, AreSearched}
+use Rattle.crp_solve.proofs.SearchesEnded.{rounds_more, rounds_shown, before_shown}
+
+-- what is known came of searches one after the other
+pub record IsRising (p : Problem) (c : Chosen) (known : Together) : Type 0 where
+  pub plan : Option ProblemPath
+  pub begins : IsStartPlan p c plan
+  pub before : Together
+  pub is_before : IsKnownBefore p plan before
+  pub rounds : List Round
+  pub deepen : Deepen p c.budget before rounds known
+
+pub rising_begins : (p : Problem) (c : Chosen) (plan : Option ProblemPath) (before : Together) → IsStartPlan p c plan → IsKnownBefore p plan before → IsRising p c before
+rising_begins p c plan before begins known = record { plan = plan; begins = begins; before = before; is_before = known; rounds = []; deepen = refl }
+
+pub rising_shown : (p : Problem) (c : Chosen) (known : Together) → IsRising p c known → IsShown p c.budget known.cert known.best known.expanded
+rising_shown p c known r = let begins = r.begins in rounds_shown p c.budget r.before known r.rounds r.deepen (before_shown p c.budget r.plan r.before begins.best_met r.is_before)
+
+pub rising_more : (p : Problem) (c : Chosen) (known next : Together) → IsRising p c known → (round : Round) × IsNextRound p c.budget known round × (next ≡ behind known round.found) → IsRising p c next
+rising_more p c known next r (round, is, e) = subst (IsRising p c) (sym e) (record {
+  plan = r.plan;
+  begins = r.begins;
+  before = r.before;
+  is_before = r.is_before;
+  rounds = r.rounds ++ round ∷ [];
+  deepen = rounds_more p c.budget r.before known r.rounds round r.deepen is;
+})
+
+pub rising_ends : (p : Problem) (c : Chosen) (known : Together) → c.deepen ≡ true → IsRising p c known → (IsOpen p c.budget known.cert known.best known.expanded → ⊥) → AreSearched p c known
+rising_ends p c known asked r closed =
+    let shown = rising_shown p c known r in
+    record {
+      plan = r.plan;
+      begins = r.begins;
+      searches = subst (λ b. SearchesOf b p c.budget r.plan known) (sym asked) (record {
+        before = r.before;
+        known = r.is_before;
+        rounds = r.rounds;
+        deepen = r.deepen;
+        to_end = λ below. ⊎_elim (λ (left : known.expanded < c.budget). absurd (closed (record { below = below; left = left }))) (λ (spent : c.budget ≤ known.expanded). omega (arith, spent, shown.within)) (cases_lt known.expanded c.budget);
+      });
+    }
+
+-- a search with the rest of the budget, one relocation above the bound, is a search more
+pub one_more : (p : Problem) (budget : ℕ) (known found : Together) (cert : Certificate) (best : Option ProblemPath) → IsOpen p budget known.cert known.best known.expanded →
+    IsFoundTogether p (budget - known.expanded) (known.cert.lower + 1) found.cert found.best found.expanded → cert ≡ higher known.cert found.cert → best ≡ shorter known.best found.best →
+    (round : Round) × IsNextRound p budget known round × (record { cert = cert; best = best; expanded = known.expanded + found.expanded } ≡ behind known round.found)
+one_more p budget known found cert best undecided f e e' = (
+  record { limit = known.cert.lower + 1; found = found },
+  record { undecided = undecided; limit = refl; found = f },
+  together e e',
+)
+  where
+    together : cert ≡ higher known.cert found.cert → best ≡ shorter known.best found.best → record { cert = cert; best = best; expanded = known.expanded + found.expanded } ≡ behind known found
+    together a b = (cc (a, b))

@@ -1,0 +1,81 @@
+-- What is known behind the searches that were chosen: they have ended.
+use Rattle.std.proofs.Common.{◌≡◌, ℕ, ◌+◌, ◌-◌, ◌∙◌, min, Bool, true, false, if◌then◌else◌, List, [], ◌∷◌, ◌++◌, length, Option, None, Some, IfSome, refl, sym, ap, subst, arith}
+use Rattle.std.specs.Prelude.{nat_lt}
+use Rattle.crp_plan.specs.Bay.{Problem, Position, IsAt, start, cap}
+use Rattle.crp_plan.specs.Plans.{ProblemPath}
+use Rattle.crp_bay.specs.Positions.{settled}
+use Rattle.crp_bay.proofs.Reaching.{first_value}
+use Rattle.crp_bounds.specs.Bounds.{look_ahead}
+use Rattle.crp_tree.specs.Parts.{Certificate}
+use Rattle.crp_solve.specs.declared.ending.Together.{Together}
+use Rattle.crp_solve.specs.Chosen.{Chosen}
+use Rattle.crp_solve.specs.Answers.{path_in, branches_of, count_of, shorter, IsPlanOf}
+use Rattle.crp_solve.specs.Desks.{count_or}
+use Rattle.crp_solve.specs.Searches.{met_or_known, IsBestMet, IsShown, AreEnded}
+use Rattle.crp_solve.specs.Rests.{IsFoundTogether}
+use Rattle.crp_solve.specs.Rounds.{Round, behind, IsNextRound, Deepen, IsKnownBefore, AreRounds, IsOneSearch, SearchesOf, AreSearched}
+use Rattle.crp_solve.proofs.TrueAnswers.{cut_shows}
+use Rattle.crp_solve.proofs.Deepened.{shown_after}
+use Rattle.crp_solve.proofs.OneSearch.{once_ended}
+
+-- the better of two plans of the problem is one
+shorter_is_plan : (p : Problem) (plan other : Option ProblemPath) → IfSome plan (IsPlanOf p) → IfSome other (IsPlanOf p) → IfSome (shorter plan other) (IsPlanOf p)
+shorter_is_plan p None other is also = also
+shorter_is_plan p (Some plan) None is also = is
+shorter_is_plan p (Some plan) (Some other) is also =
+    elim (nat_lt (length other.path) (length plan.path)) as (λ b. IfSome (if b then Some other else Some plan) (IsPlanOf p)) [ true ↦ also | false ↦ is ]
+
+-- a search more in its place among the others
+pub rounds_more : (p : Problem) (budget : ℕ) (known end : Together) (rounds : List Round) (round : Round) → Deepen p budget known rounds end → IsNextRound p budget end round →
+    Deepen p budget known (rounds ++ round ∷ []) (behind end round.found)
+rounds_more p budget known end [] round e next = (subst (λ k. IsNextRound p budget k round) (sym e) next, ap (λ k. behind k round.found) e)
+rounds_more p budget known end (first ∷ rounds) round d next = (d.0, rounds_more p budget (behind known first.found) end rounds round d.1 next)
+
+-- what is shown behind them
+pub rounds_shown : (p : Problem) (budget : ℕ) (known end : Together) (rounds : List Round) → Deepen p budget known rounds end → IsShown p budget known.cert known.best known.expanded → IsShown p budget end.cert end.best end.expanded
+rounds_shown p budget known end [] e shown = subst (λ (k : Together). IsShown p budget k.cert k.best k.expanded) e shown
+rounds_shown p budget known end (round ∷ rounds) d shown =
+    let next = d.0 in let met = shown.best_met in let found = round.found in
+    let f : IsFoundTogether p (budget - known.expanded) (known.cert.lower + 1) found.cert found.best found.expanded =
+    subst (λ n. IsFoundTogether p (budget - known.expanded) n found.cert found.best found.expanded) next.limit next.found in
+    rounds_shown p budget (behind known found) end rounds d.1
+    (shown_after p budget known.cert found.cert known.best found.best (shorter known.best found.best) known.expanded found.expanded shown next.undecided f
+    (shorter_is_plan p known.best found.best met.plan_is f.best_is) refl)
+
+-- what is shown before the first
+pub before_shown : (p : Problem) (budget : ℕ) (plan : Option ProblemPath) (known : Together) → IsBestMet p plan → IsKnownBefore p plan known → IsShown p budget known.cert known.best known.expanded
+before_shown p budget plan known met k =
+    cut_shows p budget known.expanded known.cert known.best k.about k.cut (subst (IsBestMet p) (sym k.best) met) (omega (arith, k.none_yet))
+    (λ s at. k.bound ∙ ap (λ v. min (cap p) (look_ahead v)) (sym (first_value p s met.is_problem at)))
+
+-- the plan that one search came to
+met_is_plan : (p : Problem) (met known : Option ProblemPath) → IfSome met (IsPlanOf p) → IfSome known (IsPlanOf p) → IfSome (met_or_known met known) (IsPlanOf p)
+met_is_plan p None known is also = also
+met_is_plan p (Some plan) known is also = is
+
+met_count : (p : Problem) (met known : Option ProblemPath) → count_of p (path_in (met_or_known met known)) ≡ count_or (count_of p (path_in known)) (path_in met)
+met_count p None known = refl
+met_count p (Some plan) known = refl
+
+searches_end : (deepen : Bool) (p : Problem) (budget : ℕ) (plan : Option ProblemPath) (end : Together) → IsBestMet p plan → SearchesOf deepen p budget plan end → AreEnded p budget end.cert end.best end.expanded
+searches_end true p budget plan end met s =
+    record { shown = rounds_shown p budget s.before end s.rounds s.deepen (before_shown p budget plan s.before met s.known); spent = s.to_end }
+searches_end false p budget plan end met s =
+    let f = s.found in
+    once_ended p budget end.cert s.met plan end.best end.expanded met f (subst (λ o. IfSome o (IsPlanOf p)) (sym s.best) (met_is_plan p s.met plan f.best_is met.plan_is))
+    (ap (λ o. count_of p (path_in o)) s.best ∙ met_count p s.met plan)
+
+-- so what was chosen was searched to its end
+pub searched_ended : (p : Problem) (c : Chosen) (end : Together) → AreSearched p c end → AreEnded p c.budget end.cert end.best end.expanded
+searched_ended p c end s = let begins = s.begins in searches_end c.deepen p c.budget s.plan end begins.best_met s.searches
+
+-- and of one search each expansion is a branch
+one_search : (deepen : Bool) (p : Problem) (budget : ℕ) (plan : Option ProblemPath) (end : Together) → deepen ≡ false → SearchesOf deepen p budget plan end → end.expanded ≡ branches_of end.cert
+one_search true p budget plan end alone s = absurd (true_is_not_false alone)
+  where
+    true_is_not_false : true ≡ false → ⊥
+    true_is_not_false e = cc e
+one_search false p budget plan end alone s = let f = s.found in let ended = f.ended in f.granted ∙ ended.granted
+
+pub searched_branches : (p : Problem) (c : Chosen) (end : Together) → AreSearched p c end → c.deepen ≡ false → end.expanded ≡ branches_of end.cert
+searched_branches p c end s alone = one_search c.deepen p c.budget s.plan end alone s.searches
