@@ -1,0 +1,48 @@
+-- What an audit says of what it accepts.
+use Rattle.std.proofs.Common.{◌≡◌, ℕ, List, [], ◌∷◌, map, refl, sym, ap, subst}
+use Rattle.std.specs.List.{AllByRecursion, AllZip}
+use Rattle.std.proofs.lemmas.List.Elements.{recursion_from_All}
+use Rattle.crp_plan.specs.Bay.{Problem}
+use Rattle.crp_plan.specs.BayNames.{YardBay}
+use Rattle.crp_yard.specs.Inventory.{StackedBay}
+use Rattle.crp_cert.specs.declared.script.Script.{Script}
+use Rattle.crp_checker.specs.declared.verdict.Verdict.{Verdict}
+use Rattle.crp_checker.specs.AcceptedTexts.{IsAcceptedScript}
+use Rattle.crp_checker.specs.Verdicts.{IsVerdict, Says}
+use Rattle.crp_said.specs.Said.{BaySaid}
+use Rattle.crp_order.specs.BayProblems.{problem_of}
+use Rattle.crp_audit.specs.Headline.{Handed, Reported, said_of, verdict_in, IsTrueOf, IsHeadline, shown_in}
+
+-- what an audit says of certificates that are accepted
+abbrev pub IsShownBy : (List ℕ → Handed) → List ℕ → List (YardBay × Verdict) → Type 0
+IsShownBy of text shown = (is : IsHeadline (of text)) × (shown ≡ shown_in (of text) is)
+
+-- the same of the text that a source stated
+abbrev pub at_text : (of : List ℕ → Handed) (text given : List ℕ) (shown : List (YardBay × Verdict)) → text ≡ given → IsShownBy of text shown → IsShownBy of given shown
+at_text of text given shown e = subst (λ t. IsShownBy of t shown) e
+
+-- what a certificate shows of a bay is so, by the law of verdicts
+abbrev pub VerdictsSay : Type 0
+VerdictsSay = (script : Script) (verdict : Verdict) → IsAcceptedScript script → IsVerdict script verdict → Says script.head.problem verdict
+
+abbrev pub IsSaidOf : Handed → StackedBay → (YardBay × Verdict) → Type 0
+IsSaidOf h bay shown = (shown.0 ≡ bay.0) × Says (problem_of h.yard.heights h.sequence bay.1) shown.1
+
+each_said : VerdictsSay → (h : Handed) (bays : List Reported) → AllByRecursion (IsTrueOf h) bays
+    → AllZip (IsSaidOf h) (map (λ (b : Reported). b.bay) bays) (map (λ (b : Reported). (b.bay.0, verdict_in h b)) bays)
+each_said law h [] all = tt
+each_said law h (b ∷ bays) (is, all) =
+    let (script, accepted, name, shows) = is.shown in
+    let so = subst (λ (q : Problem). Says q (verdict_in h b)) (sym accepted.as_wanted) (law script (verdict_in h b) accepted.accepted shows) in
+    ((refl, so), each_said law h bays all)
+
+pub said_of_each : VerdictsSay → (h : Handed) (shown : List (YardBay × Verdict)) (is : IsHeadline h) → shown ≡ shown_in h is
+    → (bays : List StackedBay) → map (λ (b : Reported). b.bay) is.bays ≡ bays → AllZip (IsSaidOf h) bays shown
+said_of_each law h shown is e bays called =
+    let each = each_said law h is.bays (recursion_from_All (IsTrueOf h) is.bays is.each_true) in
+    subst (λ (xs : List StackedBay). AllZip (IsSaidOf h) xs shown) called
+    (subst (λ (ys : List (YardBay × Verdict)). AllZip (IsSaidOf h) (map (λ (b : Reported). b.bay) is.bays) ys) (sym e) each)
+
+pub same_names : (h : Handed) (bays : List Reported) → map (λ (s : BaySaid). s.bay) (map said_of bays) ≡ map (λ (v : YardBay × Verdict). v.0) (map (λ (b : Reported). (b.bay.0, verdict_in h b)) bays)
+same_names h [] = refl
+same_names h (b ∷ bays) = ap (λ names. b.bay.0 ∷ names) (same_names h bays)

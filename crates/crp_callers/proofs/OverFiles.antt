@@ -1,0 +1,39 @@
+-- What a job over files says of the bytes of these files, and of a sink that was empty.
+use Rattle.std.proofs.Common.{◌≡◌, ◌≢◌, ◌∙◌, ℕ, List, Some, Option, subst, inl, inr}
+use Rattle.std.specs.Prelude.{codes}
+use Rattle.crp_yard.specs.Reading.{IsTextOf, IsYardListOf}
+use Rattle.crp_report.specs.declared.fault.Output.TheVariants as output
+use Rattle.crp_report.specs.declared.status.Status.{Status}
+use Rattle.crp_report.specs.Chosen.{RunChosen}
+use Rattle.crp_report.specs.Runs.{SinkSeen, Made, Gets}
+use Rattle.crp_audit.specs.Headline.{IsHeadline}
+use Rattle.crp_headline.specs.Accepted.{handed_of}
+use Rattle.crp_jobs.specs.declared.job.FileCommand.{FileCommand}
+use Rattle.crp_jobs.specs.declared.job.RunFiles.{RunFiles}
+use Rattle.crp_commands.specs.Headlines.{AreWritten}
+use Rattle.crp_commands.specs.Performing.{JobSeen, ReportsFile, call_of}
+use Rattle.crp_callers.specs.CommandReports.{IsReportOf}
+use Rattle.crp_callers.proofs.Reporting.{command_reported}
+use Rattle.crp_callers.proofs.WrittenTexts.{IsFilled, got}
+
+pub file_reported : (name : List ℕ) (command : FileCommand) (seen : JobSeen) (ended : Status) (bytes lines : List ℕ) → name ≢ codes "-"
+    → seen.files.known.given name ≡ Some bytes → IsFilled seen.out lines → ReportsFile name command seen ended → IsReportOf command bytes lines
+file_reported name command seen ended bytes lines file known filled (source, inl (dash, from), done) = absurd (file dash)
+file_reported name command seen ended bytes lines file known filled (source, inr (other, from), done) =
+    command_reported command ended bytes lines (call_of source seen.out) (record { given = from.opened.bytes ∙ known; held = filled.held; holds = filled.holds }) done.0
+
+-- the report of a run that was made of the files, on a sink that was empty
+pub record IsReported (given : Option (List ℕ)) (chosen : RunChosen) (lines : List ℕ) (made : Made) : Type 0 where
+  pub headline : IsHeadline (handed_of made)
+  pub report : lines ≡ made.report
+  pub list : IsTextOf given made.list
+  pub listed : IsYardListOf chosen.input.heights made.list made.yard
+
+pub run_reported : (names : RunFiles) (chosen : RunChosen) (seen : JobSeen) (lines : List ℕ) (made : Made) → IsFilled seen.out lines → IsHeadline (handed_of made)
+    → AreWritten names chosen seen made → IsReported (seen.files.known.given names.yard.now) chosen lines made
+run_reported names chosen seen lines made filled headline written = record {
+  headline = headline;
+  report = got seen.out lines made.report filled (subst (λ (s : SinkSeen). Gets s made.report) written.over.report (written.written output.Report));
+  list = subst (λ (o : Option (List ℕ)). IsTextOf o made.list) written.over.yard.bytes written.is_made.given_list;
+  listed = written.is_made.listed;
+}

@@ -1,0 +1,105 @@
+-- What the commands `audit` and `follow` say of lists of bytes.
+use Rattle.std.proofs.Common.{◌≡◌, ℕ, List, [], Some, None, Option, Result, Ok, Err, subst}
+use Rattle.std.specs.Prelude.{MatchResult, OnOk}
+use Rattle.std.specs.Io.KnownBytes.{Appends}
+use Rattle.crp_yard.specs.Inventory.{Inventory}
+use Rattle.crp_yard.specs.Reading.{IsTextOf, IsYardListOf}
+use Rattle.crp_movins.specs.LoadOrders.{LoadOrders}
+use Rattle.crp_follow.specs.Followed.{IsFollowed}
+use Rattle.crp_report.specs.Chosen.{InputChosen}
+use Rattle.crp_report.specs.Runs.{SourceSeen, SinkSeen, AreOrders, Gets}
+use Rattle.crp_audit.specs.Headline.{Handed, handed, IsHeadline, shown_in}
+use Rattle.crp_commands.specs.Audit.{AuditSeen, Audits, IsInputOf, audit_text}
+use Rattle.crp_commands.specs.Follow.{FollowSeen, Follows, IsFollowInput, Ship, WritesTexts}
+use Rattle.crp_callers.specs.CommandReports.{AreInput, HoldsOfTexts, IsFollowedWhole}
+
+pub on_ok : {T E : Type 0} (r : Result T E) (P : T → Type 0) (Q : E → Type 0) (R : Type 0) → MatchResult r P Q → ((x : T) → P x → R) → OnOk r R
+on_ok (Ok x) P Q R is by = by x is
+on_ok (Err e) P Q R is by = tt
+
+-- ---- sources that had these bytes, and sinks that were empty
+
+given_is : (given : Option (List ℕ)) (bytes text : List ℕ) → given ≡ Some bytes → IsTextOf given text → text ≡ bytes
+given_is given bytes text e is = subst (λ (o : Option (List ℕ)). IsTextOf o text) e is
+
+-- a sink that was empty, and holds these bytes
+pub record IsFilled (s : SinkSeen) (bytes : List ℕ) : Type 0 where
+  pub held : s.held ≡ Some []
+  pub holds : s.holds ≡ Some bytes
+
+pub got : (s : SinkSeen) (bytes text : List ℕ) → IsFilled s bytes → Gets s text → bytes ≡ text
+got s bytes text filled gets =
+    let behind = subst (λ (o : Option (List ℕ)). Appends o s.holds text) filled.held gets in
+    subst (λ (o : Option (List ℕ)). Appends (Some []) o text) filled.holds behind
+
+-- ---- `audit`
+
+-- the four texts that an audit had
+pub record AreAudited (s : AuditSeen) (list message report certificates : List ℕ) : Type 0 where
+  pub list_given : s.yard.given ≡ Some list
+  pub message_given : s.movins.given ≡ Some message
+  pub report_given : s.report.given ≡ Some report
+  pub certificates_given : s.certificates.given ≡ Some certificates
+
+input_is : (chosen : InputChosen) (listing messages : SourceSeen) (list message : List ℕ) (yard : Inventory) (orders : LoadOrders) (sequence : List (List ℕ))
+    → listing.given ≡ Some list → messages.given ≡ Some message → IsInputOf chosen listing messages yard orders sequence → AreInput chosen list message yard orders sequence
+input_is chosen listing messages list message yard orders sequence e f is = record {
+  listed = subst (λ (t : List ℕ). IsYardListOf chosen.heights t yard) (given_is listing.given list is.list e is.given_list) is.listed;
+  ordered = subst (λ (t : List ℕ). AreOrders chosen.code t orders) (given_is messages.given message is.message f is.given_message) is.ordered;
+  in_sequence = is.in_sequence;
+}
+
+-- what holds of what is handed in holds of it with these names for its texts
+handed_at : (P : Handed → Type 0) (h : Handed) (report certificates : List ℕ) → h.report ≡ report → h.certificates ≡ certificates → P h
+    → P (handed h.yard h.orders h.sequence report certificates)
+handed_at P h report certificates e f is =
+    subst (λ (c : List ℕ). P (handed h.yard h.orders h.sequence report c)) f (subst (λ (r : List ℕ). P (handed h.yard h.orders h.sequence r h.certificates)) e is)
+
+pub audited : (chosen : InputChosen) (s : AuditSeen) (list message report certificates text : List ℕ) → AreAudited s list message report certificates → IsFilled s.out text
+    → Audits chosen s → HoldsOfTexts chosen list message report certificates (λ h. (is : IsHeadline h) × (text ≡ audit_text (shown_in h is)))
+audited chosen s list message report certificates text over filled (h, in_hand, few, headline) =
+    let input = input_is chosen s.yard s.movins list message h.yard h.orders h.sequence over.list_given over.message_given in_hand.input in
+    let says = given_is s.report.given report h.report over.report_given in_hand.report.1 in
+    let shows = given_is s.certificates.given certificates h.certificates over.certificates_given in_hand.certificates in
+    let is : (is : IsHeadline h) × (text ≡ audit_text (shown_in h is)) = (headline.0, got s.out text _ filled headline.1) in
+    (h.yard, h.orders, h.sequence, input, handed_at (λ (g : Handed). (is : IsHeadline g) × (text ≡ audit_text (shown_in g is))) h report certificates says shows is)
+
+-- ---- `follow`
+
+-- the three texts that a call of `follow` had, and what its two sinks got
+pub record AreFollowed (s : FollowSeen) (list message report page table : List ℕ) : Type 0 where
+  pub messages : SourceSeen
+  pub pages : SinkSeen
+  pub list_given : s.yard.given ≡ Some list
+  pub asked : s.movins ≡ Some messages
+  pub message_given : messages.given ≡ Some message
+  pub report_given : s.report.given ≡ Some report
+  pub wanted : s.page ≡ Some pages
+  pub page_got : IsFilled pages page
+  pub table_got : IsFilled s.out table
+
+whole_for : (chosen : InputChosen) (s : FollowSeen) (list message report page table said : List ℕ) (messages : SourceSeen) (pages : SinkSeen) (yard : Inventory) (ship : Option Ship)
+    → s.yard.given ≡ Some list → messages.given ≡ Some message → said ≡ report → IsFilled pages page → IsFilled s.out table
+    → IsFollowInput chosen s.yard (Some messages) yard ship → WritesTexts ship yard said (Some pages) s.out → IsFollowedWhole chosen list message report page table
+whole_for chosen s list message report page table said messages pages yard None e f g shown told input writes = absurd input
+whole_for chosen s list message report page table said messages pages yard (Some ship) e f g shown told input (numbers, bays, loaded, paged, tabled) = (
+  yard,
+  ship.0,
+  ship.1,
+  input_is chosen s.yard messages list message yard ship.0 ship.1 e f input,
+  record {
+    numbers = numbers;
+    bays = bays;
+    follows = subst (λ (t : List ℕ). IsFollowed yard t numbers bays) g loaded.0;
+    page_is = got pages page _ shown paged;
+    table_is = got s.out table _ told tabled;
+  },
+)
+
+pub followed_whole : (chosen : InputChosen) (s : FollowSeen) (list message report page table : List ℕ) → AreFollowed s list message report page table → Follows chosen s
+    → IsFollowedWhole chosen list message report page table
+followed_whole chosen s list message report page table over (yard, ship, said, input, given, writes) =
+    whole_for chosen s list message report page table said over.messages over.pages yard ship over.list_given over.message_given
+    (given_is s.report.given report said over.report_given given) over.page_got over.table_got
+    (subst (λ (o : Option SourceSeen). IsFollowInput chosen s.yard o yard ship) over.asked input)
+    (subst (λ (o : Option SinkSeen). WritesTexts ship yard said o s.out) over.wanted writes)

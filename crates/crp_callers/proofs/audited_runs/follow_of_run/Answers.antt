@@ -1,0 +1,19 @@
+use Rattle.std.proofs.Common.{◌≡◌, ℕ, List, Some, sym, subst}
+use Rattle.std.specs.List.{AllByRecursion}
+use Rattle.crp_yard.specs.Inventory.{Inventory}
+use Rattle.crp_follow.specs.Faults.{rows_in}
+use Rattle.crp_follow.specs.Followed.{BayFollowed, IsFollowed}
+use Rattle.crp_report.specs.Runs.{numbers_of}
+use Rattle.crp_callers.proofs.Outcomes.{ok_by, both_by}
+use Rattle.crp_callers.proofs.FollowedOnce.{same_bays}
+use Rattle.crp_callers.proofs.audited_runs.follow_of_run.Goals as goal
+
+pub returns : goal.returns
+returns c = λ chosen seen made is yard report.
+    let (after, leads, text) = c.runs_are_followed.ensures.followed chosen seen made is in
+    both_by c.follow.result _ _
+    (ok_by c.follow.result _ _ c.follow.ensures.followed (λ followed at.
+    let same = same_bays c.one_outcome.ensures.one c.args.yard.now made.yard c.args.report.now made.report _ _ _ leads.bays yard report at leads.followed in
+    (after, text, subst (λ (bs : List BayFollowed). AllByRecursion (λ b. rows_in after b.stated.bay ≡ Some b.after) bs) same leads.ends)))
+    (c.follow.ensures.accepts _ leads.bays (subst (λ (y : Inventory). IsFollowed y c.args.report.now (numbers_of made.yard made.orders made.sequence) leads.bays) (sym yard)
+    (subst (λ (t : List ℕ). IsFollowed made.yard t (numbers_of made.yard made.orders made.sequence) leads.bays) (sym report) leads.followed)))

@@ -1,0 +1,50 @@
+-- What the commands write of lists of bytes.
+use Rattle.std.specs.Prelude.{◌≡◌, ℕ, List}
+use Rattle.crp_yard.specs.Inventory.{Inventory}
+use Rattle.crp_yard.specs.Reading.{IsYardListOf}
+use Rattle.crp_movins.specs.LoadOrders.{LoadOrders}
+use Rattle.crp_order.specs.Sequences.{IsSequence}
+use Rattle.crp_said.specs.declared.numbers.Numbers.{Numbers}
+use Rattle.crp_follow.specs.Followed.{BayFollowed, IsFollowed}
+use Rattle.crp_loading.specs.Loading.{load_text}
+use Rattle.crp_page.specs.Page.{page_text}
+use Rattle.crp_report.specs.Chosen.{InputChosen}
+use Rattle.crp_report.specs.Runs.{AreOrders}
+use Rattle.crp_audit.specs.Headline.{Handed, handed}
+use Rattle.crp_jobs.specs.declared.job.FileCommand.{FileCommand}
+use Rattle.crp_jobs.specs.declared.job.FileCommand.TheVariants.{Replay, Bound, Check, Prove}
+use Rattle.crp_commands.specs.Replay.{IsReplay}
+use Rattle.crp_commands.specs.Bound.{IsBound}
+use Rattle.crp_commands.specs.Check.{IsCheck}
+use Rattle.crp_commands.specs.Prove.{IsSomeProof}
+
+-- the text is the command's report of the bytes: the moves of their plan, the bounds of their problem, what they show, or a certificate of their problem
+abbrev pub IsReportOf : FileCommand → List ℕ → List ℕ → Type 0
+IsReportOf Replay bytes text = IsReplay bytes text
+IsReportOf Bound bytes text = IsBound bytes text
+IsReportOf Check bytes text = IsCheck bytes text
+IsReportOf (Prove search) bytes text = IsSomeProof search bytes text
+
+-- a yard list and a message are accepted, and this is what they say
+pub record AreInput (chosen : InputChosen) (list message : List ℕ) (yard : Inventory) (orders : LoadOrders) (sequence : List (List ℕ)) : Type 0 where
+  pub listed : IsYardListOf chosen.heights list yard
+  pub ordered : AreOrders chosen.code message orders
+  pub in_sequence : IsSequence chosen.mode orders.list sequence
+
+-- this holds of a report and certificates, as they are handed in with what a yard list and a message say
+abbrev pub HoldsOfTexts : InputChosen → List ℕ → List ℕ → List ℕ → List ℕ → (Handed → Type 0) → Type 0
+HoldsOfTexts chosen list message report certificates P = (yard : Inventory) × (orders : LoadOrders) × (sequence : List (List ℕ))
+    × AreInput chosen list message yard orders sequence × P (handed yard orders sequence report certificates)
+
+-- the whole report is followed, and these are its page, and its table in the order in which the ship is loaded
+pub record IsWhole (yard : Inventory) (orders : LoadOrders) (sequence : List (List ℕ)) (report page table : List ℕ) : Type 0 where
+  pub numbers : Numbers
+  pub bays : List BayFollowed
+  pub follows : IsFollowed yard report numbers bays
+  pub page_is : page ≡ page_text yard numbers bays
+  pub table_is : table ≡ load_text sequence orders.list bays
+
+-- the same over what a yard list and a message say
+abbrev pub IsFollowedWhole : InputChosen → List ℕ → List ℕ → List ℕ → List ℕ → List ℕ → Type 0
+IsFollowedWhole chosen list message report page table = (yard : Inventory) × (orders : LoadOrders) × (sequence : List (List ℕ))
+    × AreInput chosen list message yard orders sequence × IsWhole yard orders sequence report page table

@@ -1,0 +1,12 @@
+pub mod SmallBays
+pub mod Released
+pub mod TwoBays
+pub mod TwoOrders
+pub mod SmallBay
+pub mod SmallReport
+pub mod SmallFrame
+pub mod InStep
+pub mod SmallPlan
+pub mod SmallAnswers
+pub mod CommandReports
+pub mod NoMoves

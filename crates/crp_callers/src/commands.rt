@@ -1,0 +1,132 @@
+//! Callers of the commands over lists of bytes.
+ghost use Rattle.std.specs.Prelude.{◌≡◌, ◌≢◌, ◌++◌, ◌∷◌, [], ℕ, List, Err, codes, decimal, length, IfOk, OnOk, IfErr, MatchOption};
+ghost use Rattle.crp_plan.specs.BayNames.{YardBay};
+ghost use Rattle.crp_cert.specs.declared.head.Head.{Head as HeadStated};
+ghost use Rattle.crp_cert.specs.Text.{IsHeadOf};
+ghost use Rattle.crp_checker.specs.declared.refused.Refused.{Refused};
+ghost use Rattle.crp_checker.specs.declared.verdict.Verdict.{Verdict};
+ghost use Rattle.crp_checker.specs.Files.{IsFileRefusal};
+ghost use Rattle.crp_audit.specs.declared.fault.AuditFault.{AuditFault};
+ghost use Rattle.crp_audit.specs.Faults.{IsAuditRefusal};
+ghost use Rattle.crp_audit.specs.Headline.{IsHeadline, shown_in};
+ghost use Rattle.crp_commands.specs.Audit.{audit_text};
+ghost use Rattle.crp_commands.specs.Check.{verdict_lines};
+ghost use Rattle.crp_callers.specs.CommandReports.{HoldsOfTexts, IsFollowedWhole, IsReportOf};
+
+use crp_commands::{FollowSettings, audit, check, follow, perform, replay};
+use crp_jobs::{FileCommand, ToolFault};
+use crp_plan::{Nowhere, Received};
+use crp_report::{InputSettings, Status};
+use std::alloc::Global;
+use std::sync::Wait;
+use std::thread::Threads;
+
+/// What a command reports of the bytes of a file is what that command is to report, and not what another one is.
+pub fn performed<T: Threads + Wait + Sync>(
+    threads: &T,
+    alloc: Global,
+    command: &FileCommand,
+    bytes: &[u8],
+) -> Result<Vec<u8>, ToolFault>
+    ensures { IfOk result (λ report. IsReportOf command.now bytes.now report.items) }
+{
+    let mut source = bytes;
+    let mut out = Received::new(alloc);
+    perform(threads, alloc, command, &mut source, &mut out, &mut Nowhere)?;
+    Ok(out.bytes)
+}
+
+/// A replay counts as relocations the moves that shift a container, which are as many as the plan has rows, and not the others.
+pub fn replayed(alloc: Global, bytes: &[u8]) -> Result<Vec<u8>, ToolFault>
+    ensures { IfOk result (λ report. (head : HeadStated) × IsHeadOf bytes.now head × MatchOption head.plan
+        ((before : List ℕ) × (report.items ≡ before ++ codes "no plan\n"))
+        (λ rows. (before : List ℕ) × (after : List ℕ) × (report.items ≡ before ++ (codes " relocations " ++ (decimal (length rows) ++ 10 ∷ after))))) }
+{
+    let mut source = bytes;
+    let mut out = Received::new(alloc);
+    replay(alloc, &mut source, &mut out)?;
+    Ok(out.bytes)
+}
+
+/// A check of a file that is refused writes the lines of the certificates before the refused one; and of a file that holds some it notes
+/// nothing.
+pub fn checked(
+    alloc: Global,
+    certificates: &[u8],
+    lines: &mut Received,
+    notes: &mut Received,
+) -> Result<Status, ToolFault>
+    requires no_lines { lines.old.bytes.items ≡ [] }
+    requires no_notes { notes.old.bytes.items ≡ [] }
+    ensures refused { (number : ℕ) (why : Refused) → result ≡ Err (ToolFault.Checked number why)
+        → (before : List (YardBay × Verdict)) × IsFileRefusal certificates.now before number why × (lines.new.bytes.items ≡ verdict_lines before) }
+    ensures noted { OnOk result (lines.new.bytes.items ≢ [] → notes.new.bytes.items ≡ []) }
+{
+    let mut source = certificates;
+    check(alloc, &mut source, lines, notes)
+}
+
+/// An audit over texts ends well where they are a headline, and then its text is written; where it refuses them, they have that first fault.
+pub fn audited(
+    alloc: Global,
+    list: &[u8],
+    message: &[u8],
+    report: &[u8],
+    certificates: &[u8],
+    settings: &InputSettings,
+) -> Result<Vec<u8>, ToolFault>
+    ensures accepted { IfOk result (λ text. HoldsOfTexts settings.now list.now message.now report.now certificates.now
+        (λ h. (is : IsHeadline h) × (text.items ≡ audit_text (shown_in h is)))) }
+    ensures refused { (fault : AuditFault) → result ≡ Err (ToolFault.Audited fault)
+        → HoldsOfTexts settings.now list.now message.now report.now certificates.now (λ h. (before : List (YardBay × Verdict)) × IsAuditRefusal h before fault) }
+{
+    let mut yard_from = list;
+    let mut orders_from = message;
+    let mut report_from = report;
+    let mut certificates_from = certificates;
+    let mut out = Received::new(alloc);
+    audit(
+        alloc,
+        &mut yard_from,
+        &mut orders_from,
+        &mut report_from,
+        &mut certificates_from,
+        settings,
+        &mut out,
+    )?;
+    Ok(out.bytes)
+}
+
+/// Where a report is followed with a message and a page, all of the report is followed, the whole page is written, and the table is in the
+/// order in which the ship is loaded.
+pub fn followed(
+    alloc: Global,
+    list: &[u8],
+    message: &[u8],
+    report: &[u8],
+    settings: &InputSettings,
+    page: &mut Received,
+    table: &mut Received,
+) -> Result<Status, ToolFault>
+    requires no_page { page.old.bytes.items ≡ [] }
+    requires no_table { table.old.bytes.items ≡ [] }
+    ensures { OnOk result (IsFollowedWhole settings.now list.now message.now report.now page.new.bytes.items table.new.bytes.items) }
+{
+    let mut yard_from = list;
+    let mut orders_from = message;
+    let mut report_from = report;
+    let asked = FollowSettings {
+        input: settings,
+        ship: true,
+        page: true,
+    };
+    follow(
+        alloc,
+        &mut yard_from,
+        &mut orders_from,
+        &mut report_from,
+        &asked,
+        page,
+        table,
+    )
+}

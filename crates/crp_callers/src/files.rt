@@ -1,0 +1,81 @@
+//! Callers of jobs over files.
+ghost use Rattle.std.specs.Prelude.{◌≡◌, ◌≢◌, ℕ, List, Some, codes, IfOk};
+ghost use Rattle.crp_yard.specs.Reading.{IsTextOf, IsYardListOf};
+ghost use Rattle.crp_report.specs.Runs.{Made};
+ghost use Rattle.crp_audit.specs.Headline.{IsHeadline};
+ghost use Rattle.crp_headline.specs.Accepted.{handed_of};
+ghost use Rattle.crp_callers.specs.CommandReports.{IsReportOf};
+
+use crp_commands::{Terminal, run_job};
+use crp_jobs::{FileCommand, Files, Job, RunFiles, ToolFault};
+use crp_plan::{Nowhere, Received};
+use crp_report::RunSettings;
+use std::alloc::Global;
+use std::sync::Wait;
+use std::thread::Threads;
+
+/// A command over a named file reports of the bytes of that file, whatever the standard input has.
+pub fn report_of_file<T: Threads + Wait + Sync, F: Files, S: Terminal + Sync>(
+    threads: &T,
+    alloc: Global,
+    files: &mut F,
+    name: &str,
+    command: FileCommand,
+    input: &[u8],
+    terminal: &S,
+) -> Result<Vec<u8>, ToolFault>
+    requires { name.now ≢ codes "-" }
+    ensures { (bytes : List ℕ) → (F.known files.old).given name.now ≡ Some bytes → IfOk result (λ report. IsReportOf command bytes report.items) }
+{
+    let mut standard_input = input;
+    let mut out = Received::new(alloc);
+    let job = Job::OneFile {
+        file: name,
+        command,
+    };
+    run_job(
+        threads,
+        alloc,
+        files,
+        &mut standard_input,
+        &mut out,
+        &job,
+        &mut Nowhere,
+        terminal,
+    )?;
+    Ok(out.bytes)
+}
+
+/// A run over the files of a yard writes its report, and no other text, to the standard output: one of a headline, of the yard that the
+/// file lists.
+pub fn report_of_run<T: Threads + Wait + Sync, F: Files, S: Terminal + Sync>(
+    threads: &T,
+    alloc: Global,
+    files: &mut F,
+    names: RunFiles<'_>,
+    settings: RunSettings,
+    terminal: &S,
+) -> Result<Vec<u8>, ToolFault>
+    ensures { IfOk result (λ report. (made : Made) × IsHeadline (handed_of made) × (report.items ≡ made.report)
+        × IsTextOf ((F.known files.old).given names.entry.yard.now) made.list × IsYardListOf settings.input.heights made.list made.yard) }
+{
+    let mut standard_input: &[u8] = b"";
+    let mut out = Received::new(alloc);
+    let job = Job::Solve {
+        files: names,
+        settings,
+        quiet: true,
+        progress: false,
+    };
+    run_job(
+        threads,
+        alloc,
+        files,
+        &mut standard_input,
+        &mut out,
+        &job,
+        &mut Nowhere,
+        terminal,
+    )?;
+    Ok(out.bytes)
+}

@@ -1,0 +1,29 @@
+//! Pictures of a bay: what is drawn at a place.
+ghost use Rattle.std.specs.Prelude.{◌≡◌, ◌∷◌, [], List};
+ghost use Rattle.crp_said.specs.declared.moves.SaidMove.{SaidMove};
+ghost use Rattle.crp_picture.specs.Boxes.{times_among};
+ghost use Rattle.crp_picture.specs.Cells.{cells_of};
+ghost use Rattle.crp_picture.specs.Frames.{frame_cells};
+ghost use Rattle.crp_picture.specs.Pictures.{boxes};
+ghost use Rattle.crp_callers.specs.SmallReport.{place, small_rows};
+ghost use Rattle.crp_callers.specs.SmallFrame.{first_frame};
+
+use crp_picture::each_is_drawn_once;
+
+/// Whatever moves are made there, the picture of the small bay has one box where MSCU3 stands, and none on top of it or of MSCU2.
+pub fn small_bay_is_drawn()
+    ensures third { (moves : List SaidMove) → times_among (cells_of moves small_rows) (place 1 2) boxes ≡ 1 }
+    ensures above { (moves : List SaidMove) → times_among (cells_of moves small_rows) (place 1 3) boxes ≡ 0 }
+    ensures beside { (moves : List SaidMove) → times_among (cells_of moves small_rows) (place 2 2) boxes ≡ 0 }
+{
+    each_is_drawn_once();
+}
+
+/// The frame that puts MSCU3 onto MSCU2 has one box where it is lifted, one where it is set down, and one for MSCU2.
+pub fn first_frame_is_drawn()
+    ensures lifted { (moves : List SaidMove) → times_among (frame_cells moves first_frame) (place 1 2) boxes ≡ 1 }
+    ensures set_down { (moves : List SaidMove) → times_among (frame_cells moves first_frame) (place 2 2) boxes ≡ 1 }
+    ensures beneath { (moves : List SaidMove) → times_among (frame_cells moves first_frame) (place 2 1) boxes ≡ 1 }
+{
+    each_is_drawn_once();
+}
