@@ -1,0 +1,12 @@
+pub mod Clear
+pub mod Stands
+pub mod Opening
+pub mod Kept
+pub mod Gaining
+pub mod Parts
+pub mod Blockers
+pub mod Families
+pub mod Naming
+pub mod Worked
+pub mod Reading
+pub mod Singles

@@ -1,0 +1,16 @@
+pub mod Kept
+pub mod Sitting
+pub mod Settling
+pub mod Stepping
+pub mod Relocating
+pub mod Thinning
+pub mod Shown
+pub mod Keeping
+pub mod Beside
+pub mod Facing
+pub mod Playing
+pub mod Falling
+pub mod Chained
+pub mod Alongside
+pub mod Exchanging
+pub mod Worked
