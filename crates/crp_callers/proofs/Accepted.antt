@@ -11,6 +11,11 @@ use Rattle.crp_checker.specs.AcceptedTexts.{IsAcceptedScript}
 use Rattle.crp_checker.specs.Verdicts.{IsVerdict, Says}
 use Rattle.crp_said.specs.Said.{BaySaid}
 use Rattle.crp_order.specs.BayProblems.{problem_of}
+use Rattle.crp_audit.specs.declared.fault.AuditFault.{AuditFault}
+use Rattle.crp_audit.specs.declared.fault.AuditStop.{AuditStop}
+use Rattle.crp_audit.specs.declared.fault.AuditStop.TheVariants as stop
+use Rattle.crp_audit.specs.Faults.{IsFirstFault}
+use Rattle.crp_audit.specs.Stops.{IsAuditStop}
 use Rattle.crp_audit.specs.Headline.{Handed, Reported, said_of, verdict_in, IsTrueOf, IsHeadline, shown_in}
 
 -- what an audit says of certificates that are accepted
@@ -20,6 +25,13 @@ IsShownBy of text shown = (is : IsHeadline (of text)) × (shown ≡ shown_in (of
 -- the same of the text that a source stated
 abbrev pub at_text : (of : List ℕ → Handed) (text given : List ℕ) (shown : List (YardBay × Verdict)) → text ≡ given → IsShownBy of text shown → IsShownBy of given shown
 at_text of text given shown e = subst (λ t. IsShownBy of t shown) e
+
+-- why an audit stopped of the text that a source stated, where that was a fault
+pub fault_at : (of : List ℕ → Handed) (limit before after : ℕ) (text given : List ℕ) (shown : List (YardBay × Verdict)) (reason : AuditStop) (f : AuditFault) → text ≡ given
+    → reason ≡ stop.Fault f → IsAuditStop (of text) limit before after shown reason → (bays : List Reported) × IsFirstFault (of given) bays f
+fault_at of limit before after text given shown reason f e is stops =
+    let there = subst (λ (t : List ℕ). IsAuditStop (of t) limit before after shown reason) e stops in
+    let refusal = subst (IsAuditStop (of given) limit before after shown) is there in (refusal.before, refusal.first)
 
 -- what a certificate shows of a bay is so, by the law of verdicts
 abbrev pub VerdictsSay : Type 0

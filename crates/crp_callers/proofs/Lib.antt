@@ -24,3 +24,4 @@ pub mod PlanLines
 pub mod SixthByte
 pub mod WrittenTexts
 pub mod BestMet
+pub mod Worded

@@ -1,15 +1,25 @@
 -- What the commands `audit` and `follow` say of lists of bytes.
-use Rattle.std.proofs.Common.{◌≡◌, ℕ, List, [], Some, None, Option, Result, Ok, Err, subst}
+use Rattle.std.proofs.Common.{◌≡◌, ◌≢◌, ◌≤◌, ℕ, List, [], length, Some, None, Option, Result, Ok, Err, subst}
 use Rattle.std.specs.Prelude.{MatchResult, OnOk}
 use Rattle.std.specs.Io.KnownBytes.{Appends}
+use Rattle.std.specs.List.{AllByRecursion}
+use Rattle.crp_plan.specs.BayNames.{YardBay}
 use Rattle.crp_yard.specs.Inventory.{Inventory}
+use Rattle.crp_yard.specs.Naming.{IsNamedBay}
 use Rattle.crp_yard.specs.Reading.{IsTextOf, IsYardListOf}
 use Rattle.crp_movins.specs.LoadOrders.{LoadOrders}
+use Rattle.crp_checker.specs.declared.verdict.Verdict.{Verdict}
+use Rattle.crp_said.specs.Spelled.{most, AreSmall}
 use Rattle.crp_follow.specs.Followed.{IsFollowed}
 use Rattle.crp_report.specs.Chosen.{InputChosen}
 use Rattle.crp_report.specs.Runs.{SourceSeen, SinkSeen, AreOrders, Gets}
-use Rattle.crp_audit.specs.Headline.{Handed, handed, IsHeadline, shown_in}
-use Rattle.crp_commands.specs.Audit.{AuditSeen, Audits, IsInputOf, audit_text}
+use Rattle.crp_audit.specs.declared.fault.AuditFault.{AuditFault}
+use Rattle.crp_audit.specs.declared.fault.AuditFault.TheVariants as wrong
+use Rattle.crp_audit.specs.Faults.{IsAuditRefusal, IsFirstFault}
+use Rattle.crp_audit.specs.Headline.{Reported, numbers_in, Handed, handed, IsHeadline, shown_in}
+use Rattle.crp_jobs.specs.declared.outcome.ToolFault.{ToolFault}
+use Rattle.crp_jobs.specs.declared.outcome.ToolFault.TheVariants as fault
+use Rattle.crp_commands.specs.Audit.{AuditSeen, Audits, AuditFailsWith, IsInputOf, audit_text}
 use Rattle.crp_commands.specs.Follow.{FollowSeen, Follows, IsFollowInput, Ship, WritesTexts}
 use Rattle.crp_callers.specs.CommandReports.{AreInput, HoldsOfTexts, IsFollowedWhole}
 
@@ -63,6 +73,26 @@ audited chosen s list message report certificates text over filled (h, in_hand, 
     let shows = given_is s.certificates.given certificates h.certificates over.certificates_given in_hand.certificates in
     let is : (is : IsHeadline h) × (text ≡ audit_text (shown_in h is)) = (headline.0, got s.out text _ filled headline.1) in
     (h.yard, h.orders, h.sequence, input, handed_at (λ (g : Handed). (is : IsHeadline g) × (text ≡ audit_text (shown_in g is))) h report certificates says shows is)
+
+-- no headline has a first fault, but that memory runs out, by the law
+abbrev pub NoneHasFault : Type 0
+NoneHasFault = (h : Handed) (is : IsHeadline h) (before : List Reported) (f : AuditFault) → AllByRecursion IsNamedBay h.yard.bays → length h.yard.bays ≤ most
+    → AreSmall (numbers_in h) → f ≢ wrong.Memory → ¬ IsFirstFault h before f
+
+-- this is the first fault of what is handed in, behind what these bays show, and then it is no headline
+abbrev pub IsRefused : AuditFault → Handed → Type 0
+IsRefused f h = (before : List (YardBay × Verdict)) × IsAuditRefusal h before f
+    × (AllByRecursion IsNamedBay h.yard.bays → length h.yard.bays ≤ most → AreSmall (numbers_in h) → f ≢ wrong.Memory → ¬ IsHeadline h)
+
+pub refused_texts : NoneHasFault → (chosen : InputChosen) (s : AuditSeen) (list message report certificates : List ℕ) (x : ToolFault) (f : AuditFault) → x ≡ fault.Audited f
+    → AreAudited s list message report certificates → AuditFailsWith chosen s x → HoldsOfTexts chosen list message report certificates (IsRefused f)
+refused_texts law chosen s list message report certificates x f e over fails =
+    let (h, in_hand, (memory, (shown, refusal, gets))) = subst (AuditFailsWith chosen s) e fails in
+    let input = input_is chosen s.yard s.movins list message h.yard h.orders h.sequence over.list_given over.message_given in_hand.input in
+    let says = given_is s.report.given report h.report over.report_given in_hand.report.1 in
+    let shows = given_is s.certificates.given certificates h.certificates over.certificates_given in_hand.certificates in
+    let is : IsRefused f h = (shown, refusal, λ named few small other headline. law h headline refusal.before f named few small other refusal.first) in
+    (h.yard, h.orders, h.sequence, input, handed_at (IsRefused f) h report certificates says shows is)
 
 -- ---- `follow`
 

@@ -8,5 +8,6 @@ pub mod SmallFrame
 pub mod InStep
 pub mod SmallPlan
 pub mod SmallAnswers
+pub mod AskedFor
 pub mod CommandReports
 pub mod NoMoves

@@ -1,5 +1,5 @@
 //! What a run makes, as it is audited, checked and followed.
-ghost use Rattle.std.specs.Prelude.{◌≡◌, ◌≤◌, ℕ, List, Some, length, map, IfOk, IfErr, IfSome, IsTrue, MatchResult};
+ghost use Rattle.std.specs.Prelude.{◌≡◌, ◌≤◌, ℕ, List, Some, false, length, map, IfSome, MatchResult};
 ghost use Rattle.std.specs.List.{AllByRecursion, AllZip};
 ghost use Rattle.crp_plan.specs.Bay.{cap};
 ghost use Rattle.crp_plan.specs.BayNames.{YardBay, IsYardBay};
@@ -13,7 +13,7 @@ ghost use Rattle.crp_solve.specs.declared.answer.Answer.{Answer};
 ghost use Rattle.crp_solve.specs.Answers.{IsTrueAnswer};
 ghost use Rattle.crp_said.specs.Spelled.{most, AreSmall};
 ghost use Rattle.crp_follow.specs.declared.fault.FollowFault.{FollowFault as Fault};
-ghost use Rattle.crp_follow.specs.Faults.{rows_in, IsFirstFault};
+ghost use Rattle.crp_follow.specs.Faults.{rows_in, is_named, IsFirstFault};
 ghost use Rattle.crp_follow.specs.Views.{bay_followed};
 ghost use Rattle.crp_report.specs.Answered.{said_by};
 ghost use Rattle.crp_report.specs.Chosen.{RunChosen};
@@ -23,7 +23,8 @@ ghost use Rattle.crp_audit.specs.Headline.{Handed, handed, IsHeadline, numbers_i
 ghost use Rattle.crp_headline.specs.Accepted.{handed_of};
 ghost use Rattle.crp_planned.specs.Ends.{EndsAsPrinted};
 
-use crate::audits::is_headline;
+use crate::audits::first_fault;
+use crp_audit::AuditFault;
 use crp_checker::{Refused, Verdict, accepted_or_refused, check_for};
 use crp_follow::{FollowFault, Followed, follow, one_outcome};
 use crp_headline::{answers_are_accepted, headline};
@@ -34,23 +35,23 @@ use crp_planned::{headlines_are_followed, runs_are_followed};
 use crp_yard::Yard;
 use std::alloc::Global;
 
-/// What a run makes is a headline: an audit of it says so, unless memory runs out.
-pub fn is_run_headline(
+/// What a run makes is a headline: an audit of it finds no fault, unless memory runs out.
+pub fn fault_of_run(
     alloc: Global,
     yard: &Yard,
     orders: &Orders,
     sequence: &Sequence,
     report: &[u8],
     certificates: &[u8],
-) -> Option<bool>
+) -> Option<AuditFault>
     requires named { AllByRecursion IsNamedBay yard.now.bays }
     requires few { length yard.now.bays ≤ most }
     requires small { AreSmall (numbers_in (handed yard.now orders.now sequence.now report.now certificates.now)) }
     ensures { (chosen : RunChosen) (seen : RunSeen) (made : Made) → IsMade chosen seen made
-        → handed yard.now orders.now sequence.now report.now certificates.now ≡ handed_of made → IfSome result IsTrue }
+        → handed yard.now orders.now sequence.now report.now certificates.now ≡ handed_of made → IfSome result (λ fault. fault ≡ AuditFault.Memory) }
 {
     headline();
-    is_headline(alloc, yard, orders, sequence, report, certificates)
+    first_fault(alloc, yard, orders, sequence, report, certificates)
 }
 
 /// The checker says of the certificate of a true answer what the answer says, unless memory runs out.
@@ -65,12 +66,13 @@ pub fn check_of_answer(alloc: Global, problem: &Problem, text: &[u8]) -> Result<
 }
 
 /// The report of a run is followed over the yard of the run, unless memory runs out, and then stands in its bays what the run writes as the
-/// yard after.
+/// yard after, and in the others what stood there.
 pub fn follow_of_run(alloc: Global, yard: &Yard, report: &[u8]) -> Result<Followed, FollowFault>
     ensures { (chosen : RunChosen) (seen : RunSeen) (made : Made) → IsMade chosen seen made → yard.now ≡ made.yard → report.now ≡ made.report
         → MatchResult result
         (λ followed. (after : Inventory) × (made.yard_after ≡ yard_text after)
-        × AllByRecursion (λ b. rows_in after b.stated.bay ≡ Some b.after) (map bay_followed followed.bays.items))
+        × AllByRecursion (λ b. rows_in after b.stated.bay ≡ Some b.after) (map bay_followed followed.bays.items)
+        × ((bay : YardBay) → is_named (map (λ b. b.stated) (map bay_followed followed.bays.items)) bay ≡ false → rows_in after bay ≡ rows_in yard.now bay))
         (λ fault. fault ≡ Fault.Memory) }
 {
     runs_are_followed();

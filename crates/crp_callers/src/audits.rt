@@ -1,5 +1,5 @@
 //! Callers of the audit of a report and its certificates.
-ghost use Rattle.std.specs.Prelude.{◌≡◌, ◌≢◌, ◌≤◌, ◌↔◌, ℕ, List, false, length, map, filter, IfOk, IfSome, IfNone, IsTrue};
+ghost use Rattle.std.specs.Prelude.{◌≡◌, ◌≤◌, List, length, map, filter, IfOk, IfSome, IfNone};
 ghost use Rattle.std.specs.List.{AllByRecursion, AllZip};
 ghost use Rattle.crp_yard.specs.Naming.{IsNamedBay};
 ghost use Rattle.crp_order.specs.BayProblems.{is_called, problem_of};
@@ -7,7 +7,8 @@ ghost use Rattle.crp_checker.specs.Verdicts.{Says};
 ghost use Rattle.crp_checker.specs.Files.{FileShows};
 ghost use Rattle.crp_said.specs.Said.{BaySaid, report_text};
 ghost use Rattle.crp_said.specs.Spelled.{most, AreSmall};
-ghost use Rattle.crp_audit.specs.Headline.{handed, IsHeadline, numbers_in, shown_in};
+ghost use Rattle.crp_audit.specs.Headline.{handed, Reported, IsHeadline, numbers_in, shown_in};
+ghost use Rattle.crp_audit.specs.Faults.{IsFirstFault};
 
 use crp_audit::{AuditFault, AuditStop, AuditStopped, audit, headlines_show, one_list_of_verdicts};
 use crp_checker::{Verdicts, verdicts_say};
@@ -16,34 +17,24 @@ use crp_order::Sequence;
 use crp_yard::Yard;
 use std::alloc::Global;
 
-// What it says of a headline that an audit stopped so: no, unless memory ran out.
-fn answer_of(stop: AuditStop) -> Option<bool>
-    ensures none { IfNone result (stop ≡ AuditStop.Fault AuditFault.Memory) }
-    ensures no { IfSome result (λ yes. (yes ≡ false) × (stop ≢ AuditStop.Fault AuditFault.Memory)) }
-{
-    match stop {
-        AuditStop::Fault(fault) => match fault {
-            AuditFault::Memory => None,
-            _ => Some(false),
-        },
-        AuditStop::Failed | AuditStop::TooLarge => Some(false),
-    }
-}
-
-/// Whether a report and certificates are a headline, where the bays and the numbers are few enough for a report. An audit says yes to each
-/// headline and to nothing else, unless memory runs out: then there is no answer.
-pub fn is_headline(
+/// The first fault of a report and certificates, if they have one. An audit finds none exactly where they are a headline, unless memory
+/// runs out, which is no fault of theirs; where the bays and the numbers are few enough for a report.
+pub fn first_fault(
     alloc: Global,
     yard: &Yard,
     orders: &Orders,
     sequence: &Sequence,
     report: &[u8],
     certificates: &[u8],
-) -> Option<bool>
+) -> Option<AuditFault>
     requires named { AllByRecursion IsNamedBay yard.now.bays }
     requires few { length yard.now.bays ≤ most }
     requires small { AreSmall (numbers_in (handed yard.now orders.now sequence.now report.now certificates.now)) }
-    ensures { IfSome result (λ yes. IsTrue yes ↔ IsHeadline (handed yard.now orders.now sequence.now report.now certificates.now)) }
+    ensures yes { IfNone result (IsHeadline (handed yard.now orders.now sequence.now report.now certificates.now)) }
+    ensures first { IfSome result (λ fault. (before : List Reported)
+        × IsFirstFault (handed yard.now orders.now sequence.now report.now certificates.now) before fault) }
+    ensures complete { IsHeadline (handed yard.now orders.now sequence.now report.now certificates.now)
+        → IfSome result (λ fault. fault ≡ AuditFault.Memory) }
 {
     let mut source = certificates;
     let mut interruptions = 0;
@@ -57,8 +48,11 @@ pub fn is_headline(
         certificates.len(),
         &mut interruptions,
     ) {
-        Ok(_) => Some(true),
-        Err(AuditStopped { stop, .. }) => answer_of(stop),
+        Ok(_) => None,
+        Err(AuditStopped { stop, .. }) => match stop {
+            AuditStop::Fault(fault) => Some(fault),
+            AuditStop::Failed | AuditStop::TooLarge => unreachable!(),
+        },
     }
 }
 

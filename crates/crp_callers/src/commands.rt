@@ -1,5 +1,5 @@
 //! Callers of the commands over lists of bytes.
-ghost use Rattle.std.specs.Prelude.{◌≡◌, ◌≢◌, ◌++◌, ◌∷◌, [], ℕ, List, Err, codes, decimal, length, IfOk, OnOk, IfErr, MatchOption};
+ghost use Rattle.std.specs.Prelude.{◌≡◌, ◌≢◌, ◌≤◌, ◌++◌, ◌∷◌, [], ℕ, List, Err, codes, decimal, length, IfOk, OnOk, MatchOption};
 ghost use Rattle.crp_plan.specs.BayNames.{YardBay};
 ghost use Rattle.crp_cert.specs.declared.head.Head.{Head as HeadStated};
 ghost use Rattle.crp_cert.specs.Text.{IsHeadOf};
@@ -8,11 +8,15 @@ ghost use Rattle.crp_checker.specs.declared.verdict.Verdict.{Verdict};
 ghost use Rattle.crp_checker.specs.Files.{IsFileRefusal};
 ghost use Rattle.crp_audit.specs.declared.fault.AuditFault.{AuditFault};
 ghost use Rattle.crp_audit.specs.Faults.{IsAuditRefusal};
-ghost use Rattle.crp_audit.specs.Headline.{IsHeadline, shown_in};
+ghost use Rattle.crp_audit.specs.Headline.{IsHeadline, numbers_in, shown_in};
+ghost use Rattle.crp_said.specs.Spelled.{most, AreSmall};
+ghost use Rattle.crp_yard.specs.Naming.{IsNamedBay};
+ghost use Rattle.std.specs.List.{AllByRecursion};
 ghost use Rattle.crp_commands.specs.Audit.{audit_text};
 ghost use Rattle.crp_commands.specs.Check.{verdict_lines};
 ghost use Rattle.crp_callers.specs.CommandReports.{HoldsOfTexts, IsFollowedWhole, IsReportOf};
 
+use crp_audit::headlines_have_no_fault;
 use crp_commands::{FollowSettings, audit, check, follow, perform, replay};
 use crp_jobs::{FileCommand, ToolFault};
 use crp_plan::{Nowhere, Received};
@@ -66,7 +70,8 @@ pub fn checked(
     check(alloc, &mut source, lines, notes)
 }
 
-/// An audit over texts ends well where they are a headline, and then its text is written; where it refuses them, they have that first fault.
+/// An audit over texts ends well where they are a headline, and then its text is written; where it refuses them, they have that first fault,
+/// and are no headline, where the bays and the numbers are few enough for a report.
 pub fn audited(
     alloc: Global,
     list: &[u8],
@@ -78,14 +83,16 @@ pub fn audited(
     ensures accepted { IfOk result (λ text. HoldsOfTexts settings.now list.now message.now report.now certificates.now
         (λ h. (is : IsHeadline h) × (text.items ≡ audit_text (shown_in h is)))) }
     ensures refused { (fault : AuditFault) → result ≡ Err (ToolFault.Audited fault)
-        → HoldsOfTexts settings.now list.now message.now report.now certificates.now (λ h. (before : List (YardBay × Verdict)) × IsAuditRefusal h before fault) }
+        → HoldsOfTexts settings.now list.now message.now report.now certificates.now (λ h. (before : List (YardBay × Verdict)) × IsAuditRefusal h before fault
+        × (AllByRecursion IsNamedBay h.yard.bays → length h.yard.bays ≤ most → AreSmall (numbers_in h) → fault ≢ AuditFault.Memory → ¬ IsHeadline h)) }
 {
+    headlines_have_no_fault();
     let mut yard_from = list;
     let mut orders_from = message;
     let mut report_from = report;
     let mut certificates_from = certificates;
     let mut out = Received::new(alloc);
-    audit(
+    match audit(
         alloc,
         &mut yard_from,
         &mut orders_from,
@@ -93,8 +100,10 @@ pub fn audited(
         &mut certificates_from,
         settings,
         &mut out,
-    )?;
-    Ok(out.bytes)
+    ) {
+        Ok(_) => Ok(out.bytes),
+        Err(fault) => Err(fault),
+    }
 }
 
 /// Where a report is followed with a message and a page, all of the report is followed, the whole page is written, and the table is in the
