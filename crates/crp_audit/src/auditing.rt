@@ -36,17 +36,17 @@ fn audit_bay<R: Source>(
     said: &SaidBay,
     front: &mut Vec<u8>,
     source: &mut R,
-    unread: &mut Unread,
+    unread: Unread,
     interruptions: &mut u32,
-) -> Result<Verdict, AuditStop>
+) -> Result<(Verdict, Unread), AuditStop>
     requires named { AllByRecursion FitsLine stated.now.names }
-    requires some { (left : List ℕ) × IsLeft (R.remaining source.old) unread.old left }
+    requires some { (left : List ℕ) × IsLeft (R.remaining source.old) unread left }
     requires passed { interruptions.old ≤ most_interruptions }
     ensures front { OnOk result (front.new.items ≡ front.old.items ++ bay_text (bay_as said.now)) }
-    ensures right { IfOk result (λ verdict. (text : List ℕ) × IsTaken (R.remaining source.old) unread.old text (R.remaining source.new) unread.new
+    ensures right { IfOk result (λ found. (text : List ℕ) × IsTaken (R.remaining source.old) unread text (R.remaining source.new) found.1
         × ((h : Handed) (bay : StackedBay) → stated.now ≡ bay_problem_of h.yard.heights h.sequence bay → IsTrueOf h (reported_as bay (bay_as said.now) text)
-        × (verdict ≡ verdict_in h (reported_as bay (bay_as said.now) text)))) }
-    ensures wrong { IfErr result (StopsAt (R.remaining source.old) unread.old
+        × (found.0 ≡ verdict_in h (reported_as bay (bay_as said.now) text)))) }
+    ensures wrong { IfErr result (StopsAt (R.remaining source.old) unread
         (λ left fault. (h : Handed) (bay : StackedBay) → stated.now ≡ bay_problem_of h.yard.heights h.sequence bay
         → said.now.bay ≡ bay.0 → (fault ≡ AuditFault.Memory) ⊎ IsBayFault h (reported_as bay (bay_as said.now) []) left front.old.items fault)) }
     ensures done { OnOk result (Transfers 0 interruptions.old interruptions.new (R.failures source.old) (R.failures source.new) (R.interrupted source.old) (R.interrupted source.new)) }
@@ -55,7 +55,7 @@ fn audit_bay<R: Source>(
     push_bay_line(front, &said.bay, said.said)?;
     let rows = read_lines(alloc, stated, said, front)?;
     front.extend_from_slice(&said.lines)?;
-    let verdict = read_certificate(
+    let found = read_certificate(
         alloc,
         stated,
         said.said,
@@ -64,7 +64,7 @@ fn audit_bay<R: Source>(
         unread,
         interruptions,
     )?;
-    Ok(verdict)
+    Ok(found)
 }
 
 /// The three numbers of what is handed in.
@@ -173,15 +173,16 @@ fn audit_into<R: Source>(
         if !is_named(&bay.bay, &next.bay) {
             return Err(other_bay(&front, Some(&next.bay)));
         }
-        let verdict = audit_bay(
+        let (verdict, rest) = audit_bay(
             alloc,
             next,
             bay,
             &mut front,
             certificates,
-            &mut unread,
+            unread,
             interruptions,
         )?;
+        unread = rest;
         show(shown, &next.bay, verdict)?;
         later = behind;
         more = after;

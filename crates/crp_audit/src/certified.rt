@@ -79,22 +79,22 @@ fn accept_next<R: Source>(
     alloc: Global,
     problem: &Problem,
     source: &mut R,
-    unread: &mut Unread,
+    unread: Unread,
     interruptions: &mut u32,
-) -> Result<Result<Accepted, Refused>, ReadFault>
-    requires some { (left : List ℕ) × IsLeft (R.remaining source.old) unread.old left }
-    requires more { HasMore unread.old }
+) -> Result<(Result<Accepted, Refused>, Unread), ReadFault>
+    requires some { (left : List ℕ) × IsLeft (R.remaining source.old) unread left }
+    requires more { HasMore unread }
     requires passed { interruptions.old ≤ most_interruptions }
-    ensures read { IfOk result (λ answer. (text : List ℕ) × IsTaken (R.remaining source.old) unread.old text (R.remaining source.new) unread.new
-        × MatchResult answer (λ found. TextStates (Some problem.now) text found.bay found.plan found.verdict)
+    ensures read { IfOk result (λ answer. (text : List ℕ) × IsTaken (R.remaining source.old) unread text (R.remaining source.new) answer.1
+        × MatchResult answer.0 (λ found. TextStates (Some problem.now) text found.bay found.plan found.verdict)
         (λ refused. (refused ≡ Refused.Memory) ⊎ IsRefusal (Some problem.now) text refused)) }
-    ensures large { IsErrOf result ReadFault.TooLarge → IsTooLong (R.remaining source.old) unread.old }
+    ensures large { IsErrOf result ReadFault.TooLarge → IsTooLong (R.remaining source.old) unread }
     ensures done { OnOk result (Transfers 0 interruptions.old interruptions.new (R.failures source.old) (R.failures source.new) (R.interrupted source.old) (R.interrupted source.new)) }
     ensures stopped { IfErr result (λ fault. Transfers (failures_of_read fault) interruptions.old interruptions.new (R.failures source.old) (R.failures source.new) (R.interrupted source.old) (R.interrupted source.new)) }
 {
-    let mut checker = Checker::new(alloc, Some(problem));
-    feed_next(&mut checker, source, unread, interruptions)?;
-    Ok(checker.accept())
+    let checker = Checker::new(alloc, Some(problem));
+    let (checker, unread) = feed_next(checker, source, unread, interruptions)?;
+    Ok((checker.accept(), unread))
 }
 
 /// What the next certificate of a file shows, if it is the bay's and says the same as the report, whose plan goes to these rows.
@@ -104,24 +104,25 @@ pub(crate) fn read_certificate<R: Source>(
     said: Said,
     rows: &[u8],
     source: &mut R,
-    unread: &mut Unread,
+    unread: Unread,
     interruptions: &mut u32,
-) -> Result<Verdict, AuditStop>
-    requires some { (left : List ℕ) × IsLeft (R.remaining source.old) unread.old left }
+) -> Result<(Verdict, Unread), AuditStop>
+    requires some { (left : List ℕ) × IsLeft (R.remaining source.old) unread left }
     requires passed { interruptions.old ≤ most_interruptions }
-    ensures right { IfOk result (λ verdict. (text : List ℕ) × (script : Script) × IsTaken (R.remaining source.old) unread.old text (R.remaining source.new) unread.new
+    ensures right { IfOk result (λ found. (text : List ℕ) × (script : Script) × IsTaken (R.remaining source.old) unread text (R.remaining source.new) found.1
         × IsAcceptedText (Some stated.now.problem) text script × SaysThis stated.now said rows.now script
-        × (verdict ≡ verdict_said (cap stated.now.problem) said)) }
-    ensures wrong { IfErr result (StopsAt (R.remaining source.old) unread.old (IsCertificateFault stated.now said rows.now)) }
+        × (found.0 ≡ verdict_said (cap stated.now.problem) said)) }
+    ensures wrong { IfErr result (StopsAt (R.remaining source.old) unread (IsCertificateFault stated.now said rows.now)) }
     ensures done { OnOk result (Transfers 0 interruptions.old interruptions.new (R.failures source.old) (R.failures source.new) (R.interrupted source.old) (R.interrupted source.new)) }
     ensures stopped { IfErr result (λ stop. Transfers (failures_of_stop stop) interruptions.old interruptions.new (R.failures source.old) (R.failures source.new) (R.interrupted source.old) (R.interrupted source.new)) }
 {
+    let mut unread = unread;
     if !unread.fill(source, interruptions)? {
         return Err(AuditStop::Fault(AuditFault::Lacking {
             bay: stated.bay.copy(),
         }));
     }
-    let answer = accept_next(alloc, &stated.problem, source, unread, interruptions)?;
+    let (answer, unread) = accept_next(alloc, &stated.problem, source, unread, interruptions)?;
     let found = match answer {
         Ok(found) => found,
         Err(Refused::Memory) => return Err(AuditStop::Fault(AuditFault::Memory)),
@@ -138,5 +139,5 @@ pub(crate) fn read_certificate<R: Source>(
             bay: stated.bay.copy(),
         }));
     }
-    Ok(verdict)
+    Ok((verdict, unread))
 }

@@ -11,7 +11,8 @@ use Rattle.crp_report.specs.declared.status.Status.{Status}
 use Rattle.crp_jobs.specs.declared.job.FileCommand.{FileCommand}
 use Rattle.crp_jobs.specs.declared.job.FileCommand.TheVariants.{Replay, Bound, Check, Prove}
 use Rattle.crp_commands.specs.declared.heads.TheConstants.{MOST_BYTES}
-use Rattle.crp_commands.specs.Calls.{CallSeen, WritesReport}
+use Rattle.crp_yard.specs.Reading.{IsTextOf}
+use Rattle.crp_commands.specs.Calls.{CallSeen, IsTextWithin, WritesReport}
 use Rattle.crp_commands.specs.Performing.{Performs}
 use Rattle.crp_commands.specs.Replay.{IsReplay, IsReplayText}
 use Rattle.crp_commands.specs.Bound.{IsBound}
@@ -25,20 +26,20 @@ pub record IsOverBytes (s : CallSeen) (bytes new : List ℕ) : Type 0 where
   pub held : s.held ≡ Some []
   pub holds : s.holds ≡ Some new
 
-pub report_written : (limit : ℕ) (IsReport : List ℕ → List ℕ → Type 0) (bytes new : List ℕ) (s : CallSeen) → IsOverBytes s bytes new
-    → WritesReport limit IsReport s → IsReport bytes new
-report_written limit IsReport bytes new s over (text, report, within, is, appends) =
-    let same = subst (λ (o : Option (List ℕ)). IfSome o (λ xs. text ≡ xs)) over.given within.1 in
+pub report_written : (IsInput : Option (List ℕ) → List ℕ → Type 0) (IsReport : List ℕ → List ℕ → Type 0) (bytes new : List ℕ) (s : CallSeen)
+    → ((known : Option (List ℕ)) (text : List ℕ) → IsInput known text → IsTextOf known text) → IsOverBytes s bytes new → WritesReport IsInput IsReport s → IsReport bytes new
+report_written IsInput IsReport bytes new s reads over (text, report, input, is, appends) =
+    let same = subst (λ (o : Option (List ℕ)). IsTextOf o text) over.given (reads s.given text input) in
     let behind = subst (λ (o : Option (List ℕ)). Appends o s.holds report) over.held appends in
     let all : new ≡ report = subst (λ (o : Option (List ℕ)). Appends (Some []) o report) over.holds behind in
     subst (λ (r : List ℕ). IsReport bytes r) (sym all) (subst (λ (t : List ℕ). IsReport t report) same is)
 
 pub command_reported : (command : FileCommand) (ended : Status) (bytes new : List ℕ) (s : CallSeen) → IsOverBytes s bytes new
     → Performs command ended s → IsReportOf command bytes new
-command_reported Replay ended bytes new s over done = report_written MOST_BYTES IsReplay bytes new s over done.1
-command_reported Bound ended bytes new s over done = report_written MOST_BYTES IsBound bytes new s over done.1
-command_reported Check ended bytes new s over done = report_written MOST_BYTES IsCheck bytes new s over done.1
-command_reported (Prove search) ended bytes new s over done = (ended, report_written MOST_BYTES (IsProof search ended) bytes new s over done)
+command_reported Replay ended bytes new s over done = report_written IsTextOf IsReplay bytes new s (λ known text is. is) over done.1
+command_reported Bound ended bytes new s over done = report_written IsTextOf IsBound bytes new s (λ known text is. is) over done.1
+command_reported Check ended bytes new s over done = report_written (IsTextWithin MOST_BYTES) IsCheck bytes new s (λ known text is. is.1) over done.1
+command_reported (Prove search) ended bytes new s over done = (ended, report_written IsTextOf (IsProof search ended) bytes new s (λ known text is. is) over done)
 
 -- ---- a replay
 

@@ -1,5 +1,5 @@
 -- What is settled stays as it is, whatever follows; and the lines of a head are short.
-use Rattle.std.proofs.Common.{◌≡◌, ◌≢◌, ℕ, suc, ◌+◌, ◌*◌, ◌/◌, ◌%◌, ◌^◌, ◌<◌, ◌≤◌, ⊎_elim, List, [], ◌∷◌, ◌++◌, length, Option, Some, None, refl, sym, ap, ◌∙◌, subst, arith, append_assoc, length-append, lit≤}
+use Rattle.std.proofs.Common.{◌≡◌, ◌≢◌, ◌⊎◌, inl, inr, ℕ, suc, ◌+◌, ◌*◌, ◌/◌, ◌%◌, ◌^◌, ◌<◌, ◌≤◌, ⊎_elim, List, [], ◌∷◌, ◌++◌, length, Option, Some, None, refl, sym, ap, ◌∙◌, subst, arith, append_assoc, length-append, lit≤}
 use Rattle.std.specs.Prelude.{codes, IfSome, Bool, true, false, not, ◌==◌, ◌&&◌}
 use Rattle.std.specs.List.{AllByRecursion, list_all, flat_map}
 use Rattle.std.specs.Fmt.{decimal}
@@ -7,6 +7,7 @@ use Rattle.std.proofs.lemmas.Fmt.{length-decimal-le, decimal_by_steps}
 use Rattle.std.proofs.lemmas.List.Elements.{recursion_from_All}
 use Rattle.crp_plan.specs.BayNames.{YardBay, IsYardBay}
 use Rattle.crp_plan.specs.Bay.{Problem, IsProblem, Position, start, IsAt}
+use Rattle.crp_plan.proofs.Lists.{snoc_parts}
 use Rattle.crp_bay.specs.Positions.{settled}
 use Rattle.crp_bay.proofs.Walked.{at_reads}
 use Rattle.crp_cert.proofs.PartNames.{rows_low, first_rows}
@@ -229,3 +230,22 @@ path_in_line p name s is a = name_in_line name (path_low p name s is a)
 
 pub name_stays : (p : Problem) → IsProblem p → (bytes more : List ℕ) → CanBeJudged 32 longest_name bytes → ¬ BeginsWith (IsName p) spelled_name bytes → ¬ BeginsWith (IsName p) spelled_name (bytes ++ more)
 name_stays p is = stays (IsName p) spelled_name 32 longest_name (λ name fits. name_short name fits.0 (path_low p name fits.1.0 is fits.1.1))
+
+-- ---- bytes that come one by one
+
+-- a list is empty or has a last element
+last_of : (xs : List ℕ) → (xs ≡ []) ⊎ ((before : List ℕ) × (last : ℕ) × (xs ≡ before ++ last ∷ []))
+last_of [] = inl refl
+last_of (x ∷ xs) = ⊎_elim
+    (λ none. inr ([], x, ap (λ l. x ∷ l) none))
+    (λ some. inr (x ∷ some.0, some.1, ap (λ l. x ∷ l) some.2))
+    (last_of xs)
+
+-- bytes that begin with a text, and did not before the last of them came, are the text
+pub grown : (xs : List ℕ) (b : ℕ) (text rest : List ℕ) → xs ++ b ∷ [] ≡ text ++ rest → ((r : List ℕ) → xs ≡ text ++ r → ⊥) → rest ≡ []
+grown xs b text rest e none = ⊎_elim
+    (λ empty. empty)
+    (λ some.
+    let two = snoc_parts xs (text ++ some.0) b some.1 (e ∙ ap (λ l. text ++ l) some.2 ∙ sym (append_assoc text some.0 (some.1 ∷ []))) in
+    absurd (none some.0 two.0))
+    (last_of rest)

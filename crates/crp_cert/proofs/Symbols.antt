@@ -8,7 +8,7 @@ use Rattle.crp_plan.specs.Bay.{Position}
 use Rattle.crp_bay.specs.Positions.{targets, child}
 use Rattle.crp_tree.specs.Tree.{Tree, CutB, CutL, Branch, Given, Trees, no_trees, one_and, items, row}
 use Rattle.std.proofs.lemmas.List.{map-append}
-use Rattle.crp_cert.specs.Letters.{letter_of_symbol}
+use Rattle.crp_tree.specs.Spots.{symbol_letter}
 use Rattle.crp_tree.specs.Symbols.{symbols, symbols_of_each as symbols_of_each', items_row}
 use Rattle.crp_tree.specs.Trees.{Node, nodes, nodes_of_each, letter, Fits, FitsEach}
 use Rattle.crp_tree.specs.Listed.{AreFit}
@@ -163,15 +163,15 @@ branch_stops s bytes rows trees i a left rows_are lt m e none stands = by_tree s
 -- ---- the letters of a tree's symbols
 
 mutual
-  pub spelled : (tree : Tree) → map letter_of_symbol (symbols tree) ≡ symbols_of tree
+  pub spelled : (tree : Tree) → map symbol_letter (symbols tree) ≡ symbols_of tree
   spelled CutB = refl
   spelled CutL = refl
   spelled Given = refl
   spelled (Branch trees) = ap (λ l. 88 ∷ l) (spelled_each trees)
 
-  spelled_each : (trees : Trees) → map letter_of_symbol (symbols_of_each' trees) ≡ symbols_of_each trees
+  spelled_each : (trees : Trees) → map symbol_letter (symbols_of_each' trees) ≡ symbols_of_each trees
   spelled_each no_trees = refl
-  spelled_each (one_and tree trees) = map-append letter_of_symbol (symbols tree) (symbols_of_each' trees) ∙ ap (λ l. l ++ map letter_of_symbol (symbols_of_each' trees)) (spelled tree) ∙ ap (λ l. symbols_of tree ++ l) (spelled_each trees)
+  spelled_each (one_and tree trees) = map-append symbol_letter (symbols tree) (symbols_of_each' trees) ∙ ap (λ l. l ++ map symbol_letter (symbols_of_each' trees)) (spelled tree) ∙ ap (λ l. symbols_of tree ++ l) (spelled_each trees)
 
 -- the symbols of one tree more
 pub each_push : (trees : List Tree) (tree : Tree) → symbols_of_each' (row trees) ++ symbols tree ≡ symbols_of_each' (row (trees ++ tree ∷ []))

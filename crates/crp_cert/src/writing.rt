@@ -9,7 +9,7 @@ ghost use Rattle.crp_tree.specs.Parts.{part_of};
 ghost use Rattle.crp_cert.specs.Text.{numbers_line, title_line, bay_line, size_line, stated_heights, size_of, row_line, claim_line, plan_line, head_text};
 ghost use Rattle.crp_tree.specs.Names.{name_text};
 ghost use Rattle.crp_cert.specs.Script.{symbols_of, part_line};
-ghost use Rattle.crp_cert.specs.Letters.{letter_of_symbol};
+ghost use Rattle.crp_tree.specs.Spots.{symbol_letter};
 ghost use Rattle.crp_cert.specs.Writing.{are_equal, version_for, version_under, head_for, text_under, certificate_text, first_certificate_text};
 
 use crate::claim::Claim;
@@ -216,7 +216,7 @@ fn push_head(
 
 /// The letter of a symbol.
 fn letter(symbol: Symbol) -> u8
-    ensures { result ≡ letter_of_symbol symbol }
+    ensures { result ≡ symbol_letter symbol }
 {
     match symbol {
         Symbol::CutB => b'B',

@@ -20,6 +20,8 @@ use Rattle.crp_cert.proofs.Joined.{all_both}
 use Rattle.crp_cert.proofs.NameOrder.{few_parts}
 use Rattle.crp_cert.proofs.Opening.{begins_on, line_fault}
 use Rattle.crp_cert.proofs.PartFaults.{parts_push, tells_parts}
+use Rattle.crp_checker.specs.Gathered.{Gathered, gathered, joined}
+use Rattle.crp_checker.proofs.Gathering.{gathered_joined}
 use Rattle.crp_checker.specs.declared.findings.Findings.{Findings}
 use Rattle.crp_checker.specs.declared.need.Need.{Need}
 use Rattle.crp_checker.specs.declared.line.SymbolLine.{SymbolLine}
@@ -31,17 +33,16 @@ use Rattle.crp_checker.specs.declared.wrong.Wrong.TheVariants as wrong
 use Rattle.crp_checker.specs.Refusals.{nodes_by_name, named_nodes, IsRightPart, need_in, HasRightHead, IsFirstWrongNode}
 use Rattle.crp_checker.specs.Nodes.{need_of, IsLow, IsAtEnd, IsFirstWrong}
 use Rattle.crp_checker.specs.Openings.{part_word, named_line}
-use Rattle.crp_checker.specs.Owed.{Spot}
+use Rattle.crp_tree.specs.Spots.{Spot}
 use Rattle.crp_checker.specs.Symbols.{after, line_begun, line_after, IsFirstOf}
 use Rattle.crp_checker.specs.Kept.{line_of, need_by}
 use Rattle.crp_checker.specs.Ends.{IsEndOfSymbols}
 use Rattle.crp_checker.specs.PartEnds.{IsNextPart, IsPartEnd}
-use Rattle.crp_checker.specs.Stages.{AreFindings, IsNote, note_after, IsAtLine, IsAtPart, IsFaulty}
+use Rattle.crp_checker.specs.Stages.{AreFindings, IsNote, note_after, IsOpenLine, IsAtLine, IsAtPart, IsFaulty}
 use Rattle.crp_checker.proofs.AtLines.{bay_known}
 use Rattle.crp_checker.proofs.Lines.{pieces_are_joined}
 use Rattle.crp_checker.proofs.PartEnds.{part_lines_end}
 use Rattle.crp_checker.proofs.Rising.{comes_after, after_names}
-use Rattle.crp_checker.proofs.Heading.{nothing_begun}
 
 -- ---- in the symbols
 
@@ -183,17 +184,21 @@ noted wanted script part name None (Some (wrong.Low k)) named first is = (right_
 noted wanted script part name None (Some (wrong.AtEnd k)) named first is = (right_still wanted script part is.0, first_in_last (need_in script) IsAtEnd script.head.problem script.parts part name k named is.1 first)
 
 -- what is kept of one part more
-pub record IsWithPart (old new : Findings) (name : List ℕ) (w : Option Wrong) (given : List (List ℕ)) : Type 0 where
+pub record IsWithPart (old new : Findings) (name : List ℕ) (w : Option Wrong) (given : Gathered) : Type 0 where
   pub same_bay : new.bay ≡ old.bay
   pub same_problem : new.problem ≡ old.problem
   pub same_need : new.need ≡ old.need
   pub same_count : new.count ≡ old.count
   pub next_line : new.line ≡ min (old.line + 1) (2 ^ 32 - 1)
   pub more_names : new.names ≡ old.names ++ name ∷ []
-  pub more_given : new.given.items ≡ old.given.items ++ given
+  pub more_given : new.given ≡ joined old.given given
   pub same_note : new.wrong ≡ note_after old.wrong name w
 
-pub part_ended : (wanted : Option Problem) (before name : List ℕ) (old new : Findings) (kept : SymbolLine) (end : LineEnd) (begun : List ℕ) (w : Option Wrong) (given : List (List ℕ)) → IsAtPart wanted before old name kept →
+-- no line has begun
+nothing_begun : (script : Script) → IsOpenLine script []
+nothing_begun script = record { no_name = λ stands. let e = stands.2.1 in cc; no_end = λ stands. let e = stands.1 in cc }
+
+pub part_ended : (wanted : Option Problem) (before name : List ℕ) (old new : Findings) (kept : SymbolLine) (end : LineEnd) (begun : List ℕ) (w : Option Wrong) (given : Gathered) → IsAtPart wanted before old name kept →
     All (λ other. Precedes other name) old.names →
     ((need : List ℕ → ℕ) (top : Spot) (bytes : List ℕ) → line_of kept ≡ line_after need top bytes → IsEndOfSymbols need top bytes end) →
     ((p : Problem) (parts : List Part) (need : List ℕ → ℕ) (line : ℕ) (bytes after : List ℕ) → IsPartEnd need p parts line name bytes after end → IsNextPart need p parts name bytes after w given) →
@@ -227,7 +232,9 @@ part_ended wanted before name old new kept end begun w given at order ends whole
         count_is = is.same_count ∙ at.are.count_is;
         line_is = let number = at.are.line_is in is.next_line ∙ omega arith;
         names_are = is.more_names ∙ ap (λ l. l ++ name ∷ []) at.are.names_are ∙ ap (λ n. names parts ++ n ∷ []) (sym next.named) ∙ sym (map-append (λ (x : Part). x.name) parts (part ∷ []));
-        given_are = is.more_given ∙ ap (λ l. l ++ given) at.are.given_are ∙ ap (λ l. flat_map (given_by p) parts ++ l) (next.given_are ∙ sym (append-nil (given_by p part))) ∙ sym (flat_map-append (given_by p) parts (part ∷ []));
+        given_are = is.more_given ∙ ap (λ kept. joined kept given) at.are.given_are
+            ∙ ap (joined (gathered (flat_map (given_by p) parts))) (next.given_are ∙ ap gathered (sym (append-nil (given_by p part))))
+            ∙ sym (gathered_joined (flat_map (given_by p) parts) (flat_map (given_by p) (part ∷ []))) ∙ ap gathered (sym (flat_map-append (given_by p) parts (part ∷ [])));
         note = subst (IsNote wanted (record { head = head; parts = parts ++ part ∷ [] })) (sym is.same_note) (noted wanted script part name old.wrong w next.named next.wrong_is at.are.note);
       };
       begins = begins;

@@ -26,7 +26,9 @@ use Rattle.crp_checker.specs.Verdicts.{IsVerdictUnder, IsVerdict}
 use Rattle.crp_checker.specs.Refusals.{IsRefusal}
 use Rattle.crp_checker.specs.Needs.{IsNamesRefusal}
 use Rattle.crp_checker.specs.Openings.{IsBegunWith, part_word, named_line}
-use Rattle.crp_checker.specs.Stages.{IsNote, HasEnded, IsAtLine, IsAtPart, IsBayIn, IsFaulty}
+use Rattle.crp_cert.specs.HeadsFed.{IsFaultyHead, IsBayIn}
+use Rattle.crp_checker.specs.Gathered.{gathered}
+use Rattle.crp_checker.specs.Stages.{IsNote, HasEnded, IsAtLine, IsAtPart, IsFaulty}
 use Rattle.crp_checker.proofs.AtLines.{bay_known}
 use Rattle.crp_checker.proofs.Claimed.{accepted_from, names_refused}
 use Rattle.crp_checker.proofs.Meaning.{claim_refused}
@@ -58,6 +60,10 @@ more_after wanted before (b ∷ bytes) findings number ended some is =
           subst (BeginsWithBay ((before ++ b ∷ bytes) ++ more)) (sym ended.are.bay_is)
           (subst (λ l. BeginsWithBay l head.bay) (sym (append_assoc before (b ∷ bytes) more)) (bay_known before head parts _ (end_line (length parts)) begins ((b ∷ bytes) ++ more)));
     }
+
+-- a head that is at fault
+pub head_faulty : (bytes : List ℕ) (bay : Option YardBay) (fault : CertFault) → IsFaultyHead bytes bay fault → IsFaulty bytes bay fault
+head_faulty bytes bay fault is = record { fault_stays = λ more. inl (is.fault_stays more); bay_stays = is.bay_stays }
 
 -- what stays so is so
 pub faulty_on : (before bytes : List ℕ) (bay : Option YardBay) (fault : CertFault) → IsFaulty before bay fault → IsFaulty (before ++ bytes) bay fault
@@ -130,37 +136,42 @@ ends_in_part wanted bytes findings name kept at =
 -- ---- a text that ends
 
 -- where nothing is noted the names decide
-names_refusal : (wanted : Option Problem) (bytes : List ℕ) (findings : Findings) (r : Refused) → (r ≡ refused.Memory → ⊥) → findings.wrong ≡ None → IsNamesRefusal findings.names findings.given.items r → HasEnded wanted bytes findings →
-    IsRefusal wanted bytes r
+names_refusal : (wanted : Option Problem) (bytes : List ℕ) (findings : Findings) (r : Refused) → (r ≡ refused.Memory → ⊥) → findings.wrong ≡ None →
+    ((list : List (List ℕ)) → findings.given ≡ gathered list → IsNamesRefusal findings.names list r) → HasEnded wanted bytes findings → IsRefusal wanted bytes r
 names_refusal wanted bytes findings r not right is ended =
     let script = ended.script in
     let note = subst (IsNote wanted script) right ended.are.note in
     ⊎_elim
     (λ memory. absurd (not memory))
     (λ wrong. claim_refused wanted bytes script r ended.is_text (wrong wanted note.0.as_wanted))
-    (names_refused script findings.names findings.given.items r ended.are.names_are ended.are.given_are note.1 note.0.plan_is note.0.its_plan is)
+    (names_refused script findings.names _ r ended.are.names_are refl note.1 note.0.plan_is note.0.its_plan (is _ ended.are.given_are))
 
-pub refused_by_names : (findings : Findings) (r : Refused) → findings.wrong ≡ None → IsNamesRefusal findings.names findings.given.items r →
+-- no memory is left, or it is another refusal
+memory_or_not : (r : Refused) → (r ≡ refused.Memory) ⊎ (r ≡ refused.Memory → ⊥)
+memory_or_not (refused.Missing name) = inr (λ e. cc)
+memory_or_not (refused.Unneeded name) = inr (λ e. cc)
+memory_or_not refused.Memory = inl refl
+memory_or_not (refused.Cert fault) = inr (λ e. cc)
+memory_or_not refused.OtherProblem = inr (λ e. cc)
+memory_or_not (refused.Plan fault) = inr (λ e. cc)
+memory_or_not refused.NoFirstPlan = inr (λ e. cc)
+memory_or_not (refused.Low part symbol) = inr (λ e. cc)
+memory_or_not (refused.Finished part symbol) = inr (λ e. cc)
+
+pub refused_by_names : (findings : Findings) (r : Refused) → findings.wrong ≡ None → ((list : List (List ℕ)) → findings.given ≡ gathered list → IsNamesRefusal findings.names list r) →
     (r ≡ refused.Memory) ⊎ ((wanted : Option Problem) (bytes : List ℕ) → HasEnded wanted bytes findings → IsRefusal wanted bytes r)
-refused_by_names findings (refused.Missing name) right is = inr (λ wanted bytes ended. names_refusal wanted bytes findings (refused.Missing name) (λ e. cc) right is ended)
-refused_by_names findings (refused.Unneeded name) right is = inr (λ wanted bytes ended. names_refusal wanted bytes findings (refused.Unneeded name) (λ e. cc) right is ended)
-refused_by_names findings refused.Memory right is = inl refl
-refused_by_names findings (refused.Cert fault) right is = absurd is
-refused_by_names findings refused.OtherProblem right is = absurd is
-refused_by_names findings (refused.Plan fault) right is = absurd is
-refused_by_names findings refused.NoFirstPlan right is = absurd is
-refused_by_names findings (refused.Low part symbol) right is = absurd is
-refused_by_names findings (refused.Finished part symbol) right is = absurd is
+refused_by_names findings r right is =
+    ⊎_elim (λ memory. inl memory) (λ not. inr (λ wanted bytes ended. names_refusal wanted bytes findings r not right is ended)) (memory_or_not r)
 
 -- it shows what is said
 pub shown_at_end : (wanted : Option Problem) (bytes : List ℕ) (findings : Findings) (verdict : Verdict) (ended : HasEnded wanted bytes findings) → findings.wrong ≡ None →
-    ((name : List ℕ) → Contains findings.names name ↔ IsRootOrGiven findings.given.items name) → IsVerdictUnder findings.need.claim (cap findings.problem) findings.count verdict →
+    ((list : List (List ℕ)) → findings.given ≡ gathered list → (name : List ℕ) → Contains findings.names name ↔ IsRootOrGiven list name) → IsVerdictUnder findings.need.claim (cap findings.problem) findings.count verdict →
     IsAcceptedText wanted bytes ended.script × IsVerdict ended.script verdict
 shown_at_end wanted bytes findings verdict ended right same is =
     let script = ended.script in
     let note = subst (IsNote wanted script) right ended.are.note in
     let accepted : IsAcceptedScript script =
-    accepted_from script findings.names findings.given.items ended.is_text.0 note.0.plan_is note.0.its_plan note.1 ended.are.names_are ended.are.given_are same in (
+    accepted_from script findings.names _ ended.is_text.0 note.0.plan_is note.0.its_plan note.1 ended.are.names_are refl (same _ ended.are.given_are) in (
       record { is_text = ended.is_text; as_wanted = note.0.as_wanted; accepted = accepted },
       subst (λ n. IsVerdictUnder script.head.claim (cap script.head.problem) n verdict) ended.are.count_is
           (subst (λ p. IsVerdictUnder script.head.claim (cap p) findings.count verdict) ended.are.problem_is (subst (λ c. IsVerdictUnder c (cap findings.problem) findings.count verdict) ended.are.claim_is is)),

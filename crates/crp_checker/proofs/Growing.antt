@@ -1,40 +1,18 @@
 -- Bytes that come one by one, and the texts that they begin with.
-use Rattle.std.proofs.Common.{◌≡◌, ◌⊎◌, inl, inr, ⊎_elim, ℕ, List, [], ◌∷◌, ◌++◌, length, refl, sym, ap, ◌∙◌, subst, arith, append_assoc}
+use Rattle.std.proofs.Common.{◌≡◌, inl, ⊎_elim, ℕ, List, [], ◌∷◌, ◌++◌, length, refl, sym, ap, ◌∙◌, subst, arith, append_assoc}
 use Rattle.std.proofs.lemmas.Bool.{cases_eq, cases_lt}
 use Rattle.std.proofs.lemmas.List.{append-nil, append_cancel_left}
 use Rattle.crp_plan.specs.Bay.{Problem}
-use Rattle.crp_plan.proofs.Lists.{snoc_parts}
 use Rattle.crp_tree.specs.Names.{name_text}
 use Rattle.crp_cert.specs.Faults.{BeginsWith}
 use Rattle.crp_cert.specs.Script.{end_line}
 use Rattle.crp_cert.specs.ScriptFaults.{IsLineFault}
 use Rattle.crp_cert.specs.Settled.{HasStop, IsName, spelled_name}
-use Rattle.crp_cert.proofs.Settled.{front}
+use Rattle.crp_cert.proofs.Settled.{front, grown}
 use Rattle.crp_cert.proofs.Opening.{refused}
 use Rattle.crp_checker.specs.declared.opening.Opening.{Opening}
 use Rattle.crp_checker.specs.declared.opening.Opening.TheVariants.{Open, Name, Ended, Refused}
 use Rattle.crp_checker.specs.Openings.{IsBegunWith, part_word, named_line, HasNoName, IsPartOpening, IsLastOpening, IsOpening}
-
--- a list is empty or has a last element
-last_of : (xs : List ℕ) → (xs ≡ []) ⊎ ((before : List ℕ) × (last : ℕ) × (xs ≡ before ++ last ∷ []))
-last_of [] = inl refl
-last_of (x ∷ xs) = ⊎_elim
-    (λ none. inr ([], x, ap (λ l. x ∷ l) none))
-    (λ some. inr (x ∷ some.0, some.1, ap (λ l. x ∷ l) some.2))
-    (last_of xs)
-
--- bytes that begin with a text, and did not before the last of them came, are the text
-pub grown : (xs : List ℕ) (b : ℕ) (text rest : List ℕ) → xs ++ b ∷ [] ≡ text ++ rest → ((r : List ℕ) → xs ≡ text ++ r → ⊥) → rest ≡ []
-grown xs b text rest e none = ⊎_elim
-    (λ empty. empty)
-    (λ some.
-    let two = snoc_parts xs (text ++ some.0) b some.1 (e ∙ ap (λ l. text ++ l) some.2 ∙ sym (append_assoc text some.0 (some.1 ∷ []))) in
-    absurd (none some.0 two.0))
-    (last_of rest)
-
--- so the last of them is the one with which the text ends
-pub grown_by : (xs : List ℕ) (b : ℕ) (text rest body : List ℕ) (stop : ℕ) → xs ++ b ∷ [] ≡ text ++ rest → rest ≡ [] → text ≡ body ++ stop ∷ [] → b ≡ stop
-grown_by xs b text rest body stop e none ends = (snoc_parts xs body b stop (e ∙ ap (λ l. text ++ l) none ∙ append-nil text ∙ ends)).1
 
 -- bytes that end with a stop have one
 stopped : (stop : ℕ) (xs : List ℕ) → HasStop stop (xs ++ stop ∷ [])

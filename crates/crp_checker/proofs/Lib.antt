@@ -19,7 +19,7 @@ pub mod OneFile
 pub mod Written
 pub mod Rising
 pub mod Growing
-pub mod Heading
+pub mod Gathering
 pub mod AtLines
 pub mod AtParts
 pub mod Concluded

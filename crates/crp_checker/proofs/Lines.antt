@@ -6,11 +6,14 @@ use Rattle.std.proofs.lemmas.List.Elements.{All-from_recursion, recursion_from_A
 use Rattle.std.proofs.lemmas.List.Sums.{fold-append}
 use Rattle.crp_bay.proofs.Members.{in_cons_cases, not_in_nil}
 use Rattle.crp_tree.specs.Tree.{Tree}
-use Rattle.crp_tree.specs.Trees.{Mark, B, L, X, G, nodes, letter, given_names, Fits}
+use Rattle.crp_tree.specs.declared.mark.Mark.{Mark}
+use Rattle.crp_tree.specs.declared.mark.Mark.TheVariants.{B, L, X, G}
+use Rattle.crp_tree.specs.Trees.{nodes, letter, given_names, Fits}
 use Rattle.crp_cert.specs.Script.{symbols_of}
 use Rattle.crp_cert.specs.ScriptFaults.{AreSymbols, BeginsWithTree, GoesOnBehindTree}
 use Rattle.crp_cert.proofs.PartTests.{none_given}
-use Rattle.crp_checker.specs.Owed.{Spot}
+use Rattle.crp_checker.specs.Gathered.{gathered}
+use Rattle.crp_tree.specs.Spots.{Spot}
 use Rattle.crp_checker.specs.Symbols.{Walked, Line, symbol_at, paid, gone_on, after, line_begun, line_after, IsFirstOf, IsOnItsWay, EndsWalk, Ends}
 use Rattle.crp_checker.proofs.OnTheWay.{sets_out, goes_on, whole, not_whole, some_symbol}
 use Rattle.crp_cert.proofs.Joined.{all_both, all_left, all_right}
@@ -252,7 +255,7 @@ ends need top bytes walked false false sound = (sound.are, by_owed walked.owed r
           not_given = none_given bytes [] c.tree sound.are (text ∙ sym (append-nil (symbols_of c.tree)));
           symbols_are = text;
           wrong_is = subst (λ l. IsFirstOf need l walked.wrong) (sym nodes_are) way.wrong;
-          given_are = way.given_are ∙ ap given_names (sym nodes_are);
+          given_are = way.given_are ∙ ap (λ l. gathered (given_names l)) (sym nodes_are);
         }
     by_owed (spot ∷ owed) e = λ stands. not_whole need top sound.symbols walked spot owed sound.way e (subst (BeginsWithTree top.place) same stands)
 

@@ -6,14 +6,18 @@ use Rattle.std.proofs.lemmas.Bool.{ltb-true, lt-ltb, eqb-true}
 use Rattle.std.proofs.lemmas.List.{map-append, length-map}
 use Rattle.crp_bounds.specs.Bounds.{blocking, look_ahead}
 use Rattle.crp_tree.specs.Tree.{Tree, CutB, CutL, Branch, Given}
-use Rattle.crp_tree.specs.Trees.{Mark, B, L, X, G, Node, nodes, letter, given_names, is_cut}
+use Rattle.crp_tree.specs.declared.mark.Mark.{Mark}
+use Rattle.crp_tree.specs.declared.mark.Mark.TheVariants.{B, L, X, G}
+use Rattle.crp_tree.specs.Trees.{Node, nodes, letter, given_names, is_cut}
 use Rattle.crp_tree.proofs.Nodes.{given_names-append}
 use Rattle.crp_cert.specs.Script.{symbols_of}
 use Rattle.crp_cert.specs.ScriptFaults.{BeginsWithTree}
 use Rattle.crp_checker.specs.declared.wrong.Wrong.{Wrong}
 use Rattle.crp_checker.specs.declared.wrong.Wrong.TheVariants.{Low, AtEnd}
 use Rattle.crp_checker.specs.Nodes.{IsLow, IsAtEnd, IsRight, IsFirstWrong}
-use Rattle.crp_checker.specs.Owed.{Spot, node_at, owed_behind, Pay, nodes_of_all}
+use Rattle.crp_tree.specs.Spots.{Spot, node_at, owed_behind, Pay, nodes_of_all}
+use Rattle.crp_checker.specs.Gathered.{gathered, joined}
+use Rattle.crp_checker.proofs.Gathering.{gathered_joined}
 use Rattle.crp_checker.specs.Symbols.{Walked, wrong_at, walked_on, begun, IsFirstOf, IsCompleted, IsOnItsWay}
 use Rattle.crp_checker.proofs.Paid.{IsPaid, pay, Behind, behind}
 use Rattle.crp_cert.proofs.Joined.{all_both}
@@ -113,7 +117,9 @@ goes_on need top symbols walked mark spot owed way e = record {
   letters = map-append letter_of way.list (node_at spot mark ∷ []) ∙ ap (λ l. l ++ letter mark ∷ []) way.letters;
   counted = omega (arith, way.counted, length-append symbols (letter mark ∷ []));
   wrong = wrong_after need (walked.count + 1) mark spot way.list walked.wrong way.wrong (omega (arith, way.counted, as_many));
-  given_are = ap (λ l. l ++ given_names (node_at spot mark ∷ [])) way.given_are ∙ sym (given_names-append way.list (node_at spot mark ∷ []));
+  given_are =
+      ap (λ kept. joined kept (gathered (given_names (node_at spot mark ∷ [])))) way.given_are ∙ sym (gathered_joined (given_names way.list) (given_names (node_at spot mark ∷ [])))
+      ∙ ap gathered (sym (given_names-append way.list (node_at spot mark ∷ [])));
   completes = λ trees pays. completed trees (pay mark spot owed trees pays);
   only = λ tree rest more m f. behind_it more rest (way.only tree rest (letter mark ∷ more) m (sym (append_assoc symbols (letter mark ∷ []) more) ∙ f));
 }

@@ -7,9 +7,11 @@ use Rattle.std.proofs.lemmas.List.Sums.{fold-append}
 use Rattle.crp_plan.specs.Bay.{Position}
 use Rattle.crp_bay.specs.Positions.{can_shift}
 use Rattle.crp_bay.specs.Back.{PlaceAndTrail}
-use Rattle.crp_tree.specs.Trees.{Mark, given_names}
+use Rattle.crp_tree.specs.declared.mark.Mark.{Mark}
+use Rattle.crp_tree.specs.Trees.{given_names}
+use Rattle.crp_checker.specs.Gathered.{gathered, joined}
 use Rattle.crp_checker.specs.declared.found.Found.{Found}
-use Rattle.crp_checker.specs.Owed.{Spot, node_at, spots_below, owed_behind}
+use Rattle.crp_tree.specs.Spots.{Spot, node_at, spots_below, owed_behind}
 use Rattle.crp_checker.specs.Symbols.{Walked, Line, symbol_at, wrong_at, after}
 use Rattle.crp_checker.specs.Pending.{up, back, rows_behind, pending, spot_at}
 use Rattle.crp_checker.specs.Passed.{IsHighCut, ArePassed, rows_from}
@@ -102,7 +104,7 @@ pub goes_among : (need : List ℕ → ℕ) (top : Walked) (above before : ℕ) (
     LeadTo need top (take taken piece) (walked_at (spot_at (Some row) path s.place ∷ pending (length path - above) path s) count old) →
     above ≤ length new → taken < length piece → count ≡ before + taken → b ≡ get_or piece taken 0 → symbol_at count b ≡ Some mark →
     found.wrong ≡ option_or old.wrong (wrong_at need (count + 1) mark (spot_at (Some row) path s.place)) →
-    found.given.items ≡ old.given.items ++ given_names (node_at (spot_at (Some row) path s.place) mark ∷ []) →
+    found.given ≡ joined old.given (gathered (given_names (node_at (spot_at (Some row) path s.place) mark ∷ []))) →
     pending (length new - above) new t ≡ owed_behind mark (spot_at (Some row) path s.place) (pending (length path - above) path s) →
     IsAmong need top above before piece new t (taken + 1) found
 goes_among need top above before piece path new s t row taken count b mark old found leads le lt counted read is wrong given owed =

@@ -7,7 +7,8 @@ use Rattle.crp_plan.specs.declared.plan.PlanFault.{PlanFault}
 use Rattle.crp_plan.specs.Faults.{IsPlanPath, IsPlanFault}
 use Rattle.crp_plan.proofs.Steps.{fault_refuses}
 use Rattle.crp_plan.proofs.OneFault.{one_plan_fault}
-use Rattle.crp_tree.specs.Trees.{X, Node, nodes, is_cut}
+use Rattle.crp_tree.specs.declared.mark.Mark.TheVariants.{X}
+use Rattle.crp_tree.specs.Trees.{Node, nodes, is_cut}
 use Rattle.crp_tree.specs.Claims.{Part, IsPart, IsAccepted}
 use Rattle.crp_tree.proofs.Accepted.{nodes_are}
 use Rattle.crp_tree.proofs.InOrder.{one_first}

@@ -10,8 +10,8 @@ use Rattle.crp_bay.specs.Back.{PlaceAndTrail}
 use Rattle.crp_bay.proofs.Tops.{top_push}
 use Rattle.crp_bay.proofs.Walked.{row_is_target}
 use Rattle.crp_tree.proofs.Followed.{legal_push}
-use Rattle.crp_tree.specs.Trees.{X}
-use Rattle.crp_checker.specs.Owed.{spots_below, owed_behind}
+use Rattle.crp_tree.specs.declared.mark.Mark.TheVariants.{X}
+use Rattle.crp_tree.specs.Spots.{spots_below, owed_behind}
 use Rattle.crp_checker.specs.Pending.{up, back_on, back, rows_behind, pending, below, spot_at}
 
 -- ---- legal rows behind a row

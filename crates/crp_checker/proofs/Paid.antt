@@ -1,62 +1,31 @@
 -- What a symbol pays of what is owed.
-use Rattle.std.proofs.Common.{◌≡◌, ℕ, List, [], ◌∷◌, ◌++◌, refl, sym, ap, ◌∙◌, arith, append_assoc, append-nil}
+use Rattle.std.proofs.Common.{◌≡◌, ℕ, List, [], ◌∷◌, ◌++◌, refl, sym, ap, ◌∙◌, arith, append-nil}
 use Rattle.std.specs.Prelude.{codes}
 use Rattle.std.specs.List.{flat_map}
 use Rattle.std.proofs.lemmas.List.Concat.{flat_map-append}
 use Rattle.crp_plan.specs.Bay.{Position}
-use Rattle.crp_bay.specs.Positions.{child, targets}
+use Rattle.crp_bay.specs.Positions.{targets}
 use Rattle.crp_tree.specs.Tree.{Tree, CutB, CutL, Branch, Given, Trees, no_trees, one_and, items, row}
-use Rattle.crp_tree.specs.Trees.{Mark, B, L, X, G, nodes, letter, Fits}
-use Rattle.crp_tree.specs.Listed.{nodes_below, AreFit}
+use Rattle.crp_tree.specs.declared.mark.Mark.{Mark}
+use Rattle.crp_tree.specs.declared.mark.Mark.TheVariants.{B, L, X, G}
+use Rattle.crp_tree.specs.Trees.{nodes, letter, Fits}
+use Rattle.crp_tree.specs.Listed.{AreFit}
 use Rattle.crp_tree.proofs.Listed.{branch_of, list_fits}
+use Rattle.crp_tree.proofs.Paying.{Split, split, nodes_joined, rows_fit, nodes_of_rows}
 use Rattle.crp_cert.specs.Script.{symbols_of, symbols_of_each}
 use Rattle.crp_cert.proofs.Symbols.{branch_read}
-use Rattle.crp_checker.specs.Owed.{Spot, node_at, spots_below, owed_behind, Pay, nodes_of_all}
+use Rattle.crp_tree.specs.Spots.{Spot, node_at, spots_below, owed_behind, Pay, nodes_of_all}
 
 -- ---- what pays two lists of spots
 
--- trees that pay two lists are those that pay the first and those that pay the second
-record Split (owed more : List Spot) (trees : List Tree) : Type 0 where
-  first : List Tree
-  second : List Tree
-  are : trees ≡ first ++ second
-  pays : Pay owed first
-  pays_more : Pay more second
-
-split : (owed more : List Spot) (trees : List Tree) → Pay (owed ++ more) trees → Split owed more trees
-split [] more trees pays = record { first = []; second = trees; are = refl; pays = tt; pays_more = pays }
-split (spot ∷ owed) more [] pays = absurd pays
-split (spot ∷ owed) more (tree ∷ trees) pays =
-    let r = split owed more trees pays.1 in
-    record { first = tree ∷ r.first; second = r.second; are = ap (λ l. tree ∷ l) r.are; pays = (pays.0, r.pays); pays_more = r.pays_more }
-
+-- trees that pay the first, and trees that pay the second, pay both
 joined : (owed more : List Spot) (first second : List Tree) → Pay owed first → Pay more second → Pay (owed ++ more) (first ++ second)
 joined [] more [] second pays pays_more = pays_more
 joined [] more (tree ∷ first) second pays pays_more = absurd pays
 joined (spot ∷ owed) more [] second pays pays_more = absurd pays
 joined (spot ∷ owed) more (tree ∷ first) second pays pays_more = (pays.0, joined owed more first second pays.1 pays_more)
 
--- the nodes of both
-nodes_joined : (owed more : List Spot) (first second : List Tree) → Pay owed first → nodes_of_all (owed ++ more) (first ++ second) ≡ nodes_of_all owed first ++ nodes_of_all more second
-nodes_joined [] more [] second pays = refl
-nodes_joined [] more (tree ∷ first) second pays = absurd pays
-nodes_joined (spot ∷ owed) more [] second pays = absurd pays
-nodes_joined (spot ∷ owed) more (tree ∷ first) second pays =
-    ap (λ l. nodes spot.path spot.place tree ++ l) (nodes_joined owed more first second pays.1) ∙ sym (append_assoc (nodes spot.path spot.place tree) (nodes_of_all owed first) (nodes_of_all more second))
-
 -- ---- the trees of a branch
-
--- what pays the rows of a branch are its trees
-rows_fit : (path : List ℕ) (s : Position) (rows : List ℕ) (trees : List Tree) → Pay (spots_below path s rows) trees → AreFit s rows trees
-rows_fit path s [] [] pays = tt
-rows_fit path s [] (tree ∷ trees) pays = absurd pays
-rows_fit path s (row ∷ rows) [] pays = absurd pays
-rows_fit path s (row ∷ rows) (tree ∷ trees) pays = (pays.0, rows_fit path s rows trees pays.1)
-
-nodes_of_rows : (path : List ℕ) (s : Position) (rows : List ℕ) (trees : List Tree) → nodes_below path s rows trees ≡ nodes_of_all (spots_below path s rows) trees
-nodes_of_rows path s [] trees = refl
-nodes_of_rows path s (row ∷ rows) [] = refl
-nodes_of_rows path s (row ∷ rows) (tree ∷ trees) = ap (λ l. nodes (path ++ row ∷ []) (child s row) tree ++ l) (nodes_of_rows path s rows trees)
 
 -- the trees of a branch pay its rows
 each_pays : (path : List ℕ) (s : Position) (rows : List ℕ) (trees : List Tree) → AreFit s rows trees → Pay (spots_below path s rows) trees
@@ -90,7 +59,7 @@ branch_paid spot owed trees r =
     record {
       first = Branch (row r.first);
       others = r.second;
-      pays = (made.0, r.pays_more);
+      pays = (made.0, r.pays_others);
       symbols_are = ap (λ l. l ++ flat_map symbols_of r.second) text ∙ ap (λ l. 88 ∷ l) (sym (flat_map-append symbols_of r.first r.second) ∙ ap (flat_map symbols_of) (sym r.are));
       nodes_are =
           ap (λ l. l ++ nodes_of_all owed r.second) (shown.nodes_are spot.path spot.place)

@@ -8,6 +8,7 @@ use Rattle.crp_cert.specs.Script.{symbols_line}
 use Rattle.crp_cert.specs.ScriptFaults.{ComesAfter, BeginsWithPart}
 use Rattle.crp_checker.specs.declared.line_end.LineEnd.{LineEnd}
 use Rattle.crp_checker.specs.declared.line_end.LineEnd.TheVariants.{Unknown, Trailing, Unfinished, Whole}
+use Rattle.crp_checker.specs.Gathered.{gathered}
 use Rattle.crp_checker.specs.Symbols.{IsFirstOf}
 use Rattle.crp_checker.specs.Ends.{IsEndOfSymbols}
 use Rattle.crp_checker.specs.PartEnds.{IsPartEnd}
@@ -35,5 +36,5 @@ part_lines_end need p parts line name place symbols after end is short is_at one
           in_order = comes;
           text = ap (λ l. symbols_line name l ++ after) w.symbols_are;
           wrong_is = subst (λ l. IsFirstOf need l wrong) (sym same) w.wrong_is;
-          given_are = w.given_are ∙ sym (ap given_names same);
+          given_are = w.given_are ∙ sym (ap (λ l. gathered (given_names l)) same);
         }

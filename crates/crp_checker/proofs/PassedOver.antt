@@ -7,11 +7,15 @@ use Rattle.std.proofs.lemmas.Bool.{le-ltb}
 use Rattle.std.proofs.lemmas.List.Elements.{AllZip-push}
 use Rattle.crp_plan.specs.Bay.{Position}
 use Rattle.crp_bounds.specs.Bounds.{blocking, stuck_now, look_ahead}
-use Rattle.crp_tree.specs.Trees.{Mark, B, L, given_names}
+use Rattle.crp_tree.specs.declared.mark.Mark.{Mark}
+use Rattle.crp_tree.specs.declared.mark.Mark.TheVariants.{B, L}
+use Rattle.crp_tree.specs.Trees.{given_names}
 use Rattle.crp_checker.specs.declared.found.Found.{Found}
 use Rattle.crp_checker.specs.declared.wrong.Wrong.{Wrong}
 use Rattle.crp_checker.specs.declared.wrong.Wrong.TheVariants.{Low}
-use Rattle.crp_checker.specs.Owed.{Spot, node_at, spot_below, spots_below, owed_behind}
+use Rattle.crp_tree.specs.Spots.{Spot, node_at, spot_below, spots_below, owed_behind}
+use Rattle.crp_checker.specs.Gathered.{gathered, joined}
+use Rattle.crp_checker.proofs.Gathering.{joined_none}
 use Rattle.crp_checker.specs.Symbols.{symbol_at, wrong_at, gone_on, after}
 use Rattle.crp_checker.specs.Passed.{is_cut_letter, IsHighCut, ArePassed}
 use Rattle.crp_checker.specs.Walks.{walked_at, line_at, LeadTo}
@@ -36,7 +40,7 @@ passed_on least s rows left row b before bytes longer p cut is = record {
 
 -- a symbol comes where a tree is owed
 pub comes : (need : List ℕ → ℕ) (b count : ℕ) (mark : Mark) (spot : Spot) (owed left : List Spot) (old new : Found) → symbol_at count b ≡ Some mark → left ≡ owed_behind mark spot owed →
-    new.wrong ≡ option_or old.wrong (wrong_at need (count + 1) mark spot) → new.given.items ≡ old.given.items ++ given_names (node_at spot mark ∷ []) →
+    new.wrong ≡ option_or old.wrong (wrong_at need (count + 1) mark spot) → new.given ≡ joined old.given (gathered (given_names (node_at spot mark ∷ []))) →
     LeadTo need (walked_at (spot ∷ owed) count old) (b ∷ []) (walked_at left (count + 1) new)
 comes need b count mark spot owed left old new is behind wrong given trailing =
     ap (λ m. gone_on need m (line_at (walked_at (spot ∷ owed) count old) trailing)) is ∙ (cc)
@@ -59,8 +63,8 @@ cut_passes : (need : List ℕ → ℕ) (b count : ℕ) (spot : Spot) (owed : Lis
     LeadTo need (walked_at (spot ∷ owed) count found) (b ∷ []) (walked_at owed (count + 1) found)
 cut_passes need b count spot owed found is le = by_test (b == 66) refl
   where
-    given : found.given.items ≡ found.given.items ++ []
-    given = sym (append-nil found.given.items)
+    given : found.given ≡ joined found.given (gathered [])
+    given = sym (joined_none found.given)
 
     by_test : (test : Bool) → (b == 66) ≡ test → LeadTo need (walked_at (spot ∷ owed) count found) (b ∷ []) (walked_at owed (count + 1) found)
     by_test true e =

@@ -7,7 +7,9 @@ use Rattle.crp_plan.specs.Bay.{Problem, IsProblem, Position, IsAt}
 use Rattle.crp_plan.proofs.Steps.{unfinished}
 use Rattle.crp_bay.proofs.Members.{in_filter, from_filter}
 use Rattle.crp_tree.specs.Tree.{Tree}
-use Rattle.crp_tree.specs.Trees.{Mark, B, L, X, G, Node, nodes, is_cut, cuts, given_names, value, MayStand, IsInPlace}
+use Rattle.crp_tree.specs.declared.mark.Mark.{Mark}
+use Rattle.crp_tree.specs.declared.mark.Mark.TheVariants.{B, L, X, G}
+use Rattle.crp_tree.specs.Trees.{Node, nodes, is_cut, cuts, given_names, value, MayStand, IsInPlace}
 use Rattle.crp_tree.proofs.InLine.{from_members}
 use Rattle.crp_tree.proofs.Nodes.{nodes_at, in_given}
 use Rattle.crp_checker.specs.Nodes.{IsRight}

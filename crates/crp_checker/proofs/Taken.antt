@@ -1,6 +1,6 @@
 -- What is left of a file of certificates when some of it was taken.
 use Rattle.std.proofs.Common.{◌≡◌, ◌∙◌, ⊎_elim, ℕ, ◌+◌, ◌-◌, ◌<◌, ◌≤◌, List, [], ◌++◌, length, take, drop, true, false, Bool, Option, None, Some, IfSome, Result, Err, IfErr, inl, inr, refl, sym, ap, subst, arith, append_assoc, length-append, length-drop, take-append-drop}
-use Rattle.std.specs.Io.KnownBytes.{Consumes, IsAtEnd}
+use Rattle.std.specs.Io.KnownBytes.{Consumes, Keeps, IsAtEnd}
 use Rattle.std.proofs.lemmas.List.{append-nil, drop_all, drop-drop, length-take, take-take}
 use Rattle.crp_checker.specs.declared.checker.Checker.{Checker}
 use Rattle.crp_checker.specs.declared.unread.Unread.{Unread}
@@ -44,7 +44,7 @@ given_before None b got rest left c g e = tt
 given_before (Some xs) None got rest left c g e = absurd c
 given_before (Some xs) (Some ys) got rest left c g e = e ∙ ap (λ l. got ++ l) g ∙ sym c
 
-not_ended : (ended : Bool) → ended ≡ false → ended ≡ true → ⊥
+pub not_ended : (ended : Bool) → ended ≡ false → ended ≡ true → ⊥
 not_ended ended f t = let k : false ≡ true = sym f ∙ t in cc
 
 -- all that is left is still to come
@@ -155,3 +155,14 @@ whole_taken a b c u v w text more before after stood stands goes_on first second
 -- behind nothing
 pub taken_since : (a b c : Option (List ℕ)) (u v w : Unread) (text : List ℕ) → AreTaken a u [] b v → IsTaken b v text c w → IsTaken a u text c w
 taken_since a b c u v w text first second = record { taken = taken_on a b c u v w [] text first second.taken; first = second.first }
+
+-- who reads nothing has consumed nothing
+pub nothing_consumed : (a : Option (List ℕ)) → Consumes a a []
+nothing_consumed None = tt
+nothing_consumed (Some xs) = refl
+
+-- nor has who fails
+pub kept_consumes : (a b : Option (List ℕ)) → Keeps a b → Consumes a b []
+kept_consumes None b k = tt
+kept_consumes (Some xs) None k = absurd k
+kept_consumes (Some xs) (Some ys) k = sym k

@@ -1,20 +1,10 @@
 -- What is kept of the symbols of a part.
 use Rattle.std.specs.Prelude.{ℕ, List}
-use Rattle.crp_tree.specs.Trees.{Mark, B, L, X, G}
-use Rattle.crp_checker.specs.declared.symbol.Symbol.{Symbol}
-use Rattle.crp_checker.specs.declared.symbol.Symbol.TheVariants as symbols
 use Rattle.crp_checker.specs.declared.need.Need.{Need}
 use Rattle.crp_checker.specs.declared.line.SymbolLine.{SymbolLine}
 use Rattle.crp_checker.specs.Nodes.{need_of}
 use Rattle.crp_checker.specs.Symbols.{Line}
 use Rattle.crp_checker.specs.Walks.{walked_at}
-
--- the mark of the node that a symbol stands for
-abbrev pub mark_of_symbol : Symbol → Mark
-mark_of_symbol symbols.B = B
-mark_of_symbol symbols.L = L
-mark_of_symbol symbols.X = X
-mark_of_symbol symbols.G = G
 
 -- what is kept of a head says what each cut needs
 abbrev pub need_by : Need → List ℕ → ℕ

@@ -11,7 +11,7 @@ pub mod Fed
 pub mod Watches
 pub mod FedFiles
 pub mod Reading
-pub mod Owed
+pub mod Gathered
 pub mod Symbols
 pub mod Pending
 pub mod Passed
@@ -25,6 +25,7 @@ pub use Rattle.crp_plan.specs.Plans
 pub use Rattle.crp_plan.specs.Faults
 pub use Rattle.crp_tree.specs.Names
 pub use Rattle.crp_tree.specs.Trees
+pub use Rattle.crp_tree.specs.Spots
 pub use Rattle.crp_tree.specs.Claims
 pub use Rattle.crp_tree.specs.Parts
 pub use Rattle.crp_tree.specs.First

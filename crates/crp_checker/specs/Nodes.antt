@@ -2,7 +2,8 @@
 use Rattle.std.specs.Prelude.{◌≡◌, ℕ, ◌+◌, ◌<◌, IsTrue, List, ◌∷◌, ◌++◌, length, Option, Some, None}
 use Rattle.std.specs.List.{AllByRecursion}
 use Rattle.crp_plan.specs.Bay.{IsFinished}
-use Rattle.crp_tree.specs.Trees.{X, Node, is_cut, value}
+use Rattle.crp_tree.specs.declared.mark.Mark.TheVariants.{X}
+use Rattle.crp_tree.specs.Trees.{Node, is_cut, value}
 use Rattle.crp_tree.specs.First.{need_at}
 use Rattle.crp_cert.specs.declared.claim.Claim.{Claim}
 use Rattle.crp_cert.specs.declared.claim.Claim.TheVariants.{AtLeast, First}

@@ -6,7 +6,7 @@ use Rattle.crp_bay.specs.Positions.{top, can_shift, child, counted}
 use Rattle.crp_bay.specs.Back.{PlaceAndTrail}
 use Rattle.crp_checker.specs.declared.next.Next.{Next}
 use Rattle.crp_checker.specs.declared.next.Next.TheVariants.{Here, Behind, Nowhere}
-use Rattle.crp_checker.specs.Owed.{Spot, spots_below}
+use Rattle.crp_tree.specs.Spots.{Spot, spots_below}
 
 -- the path without its last row
 abbrev pub up : List ℕ → List ℕ

@@ -1,5 +1,5 @@
 -- What a checker that is fed has read, by the stage that it is at.
-use Rattle.std.specs.Prelude.{◌≡◌, ◌≢◌, ℕ, ◌+◌, ◌≤◌, List, [], ◌∷◌, ◌++◌, length, Option, Some, None, flat_map}
+use Rattle.std.specs.Prelude.{◌≡◌, ◌≢◌, ℕ, ◌+◌, ◌≤◌, List, [], ◌++◌, length, Option, Some, None, flat_map}
 use Rattle.std.specs.List.{AllByRecursion}
 use Rattle.crp_plan.specs.BayNames.{YardBay}
 use Rattle.crp_plan.specs.Bay.{Problem, Position, IsAt}
@@ -10,9 +10,7 @@ use Rattle.crp_cert.specs.declared.script.Script.{Script}
 use Rattle.crp_cert.specs.Text.{first_part}
 use Rattle.crp_cert.specs.Script.{end_line, claim_of, IsScriptOf}
 use Rattle.crp_cert.specs.ScriptFaults.{BeginsWithParts, IsFirstFaultOfScript}
-use Rattle.crp_cert.specs.Settled.{CanBeJudged, longest_line, BeginsWithBay}
-use Rattle.crp_cert.specs.LinesOfHead.{HasLines}
-use Rattle.crp_cert.specs.declared.head_lines.HeadLines.{HeadLines}
+use Rattle.crp_cert.specs.HeadsFed.{IsInHead, IsBayIn}
 use Rattle.crp_checker.specs.declared.refused.Refused.{Refused}
 use Rattle.crp_checker.specs.declared.refused.Refused.TheVariants as refused
 use Rattle.crp_checker.specs.declared.findings.Findings.{Findings}
@@ -21,6 +19,7 @@ use Rattle.crp_checker.specs.declared.stage.Stage.{Stage}
 use Rattle.crp_checker.specs.declared.stage.Stage.TheVariants.{Head as Head', Line, Part, Ended, Faulty}
 use Rattle.crp_checker.specs.declared.wrong.Wrong.{Wrong}
 use Rattle.crp_checker.specs.declared.wrong.Wrong.TheVariants as wrong
+use Rattle.crp_checker.specs.Gathered.{gathered}
 use Rattle.crp_checker.specs.Symbols.{line_after}
 use Rattle.crp_checker.specs.Kept.{line_of}
 use Rattle.crp_checker.specs.Verdicts.{plan_count}
@@ -61,23 +60,8 @@ pub record AreFindings (wanted : Option Problem) (script : Script) (findings : F
   pub count_is : findings.count ≡ plan_count (claim_of script)
   pub line_is : findings.line ≡ first_part script.head + length script.parts
   pub names_are : findings.names ≡ names script.parts
-  pub given_are : findings.given.items ≡ flat_map (given_by script.head.problem) script.parts
+  pub given_are : findings.given ≡ gathered (flat_map (given_by script.head.problem) script.parts)
   pub note : IsNote wanted script findings.wrong
-
--- the bytes are lines of a head, and this of the next one
-pub record IsInHead (bytes : List ℕ) (lines : HeadLines) (begun : List ℕ) : Type 0 where
-  pub above : List ℕ
-  pub has : HasLines above lines
-  pub one_line : AllByRecursion (λ b. b ≢ 10) begun
-  pub is : bytes ≡ above ++ begun
-
--- LF comes at the end of the bytes, or nowhere in as many as no line of a head has more than
-pub record IsLineEnd (line : List ℕ) : Type 0 where
-  pub begun : List ℕ
-  pub last : ℕ
-  pub one_line : AllByRecursion (λ b. b ≢ 10) begun
-  pub is : line ≡ begun ++ last ∷ []
-  pub judged : CanBeJudged 10 longest_line line
 
 -- the line of which these bytes came is still open: neither a name nor the last line stands there
 pub record IsOpenLine (script : Script) (begun : List ℕ) : Type 0 where
@@ -111,11 +95,6 @@ pub record HasEnded (wanted : Option Problem) (bytes : List ℕ) (findings : Fin
   pub are : AreFindings wanted script findings
   pub is_text : IsScriptOf bytes script
 
--- the bay that the bytes name, if they name one
-abbrev pub IsBayIn : List ℕ → Option YardBay → Type 0
-IsBayIn bytes (Some name) = BeginsWithBay bytes name
-IsBayIn bytes None = (name : YardBay) → ¬ BeginsWithBay bytes name
-
 -- the bytes have this fault and name this bay, or none, whatever follows
 pub record IsFaulty (bytes : List ℕ) (bay : Option YardBay) (fault : CertFault) : Type 0 where
   pub fault_stays : (more : List ℕ) → IsFirstFaultOfScript (bytes ++ more) fault
@@ -123,7 +102,7 @@ pub record IsFaulty (bytes : List ℕ) (bay : Option YardBay) (fault : CertFault
 
 -- these bytes lead to this stage, where a problem is asked for or none
 abbrev pub HasCome : Option Problem → List ℕ → Stage → Type 0
-HasCome wanted bytes (Head' lines begun) = IsInHead bytes lines begun.items
+HasCome wanted bytes (Head' head) = IsInHead bytes head
 HasCome wanted bytes (Line findings begun) = IsAtLine wanted bytes findings begun.items
 HasCome wanted bytes (Part findings name kept) = IsAtPart wanted bytes findings name kept
 HasCome wanted bytes (Ended findings) = HasEnded wanted bytes findings

@@ -4,21 +4,24 @@ use Rattle.std.specs.List.{AllByRecursion, flat_map}
 use Rattle.std.specs.Option.{option_or}
 use Rattle.crp_bounds.specs.Bounds.{blocking, look_ahead}
 use Rattle.crp_tree.specs.Tree.{Tree}
-use Rattle.crp_tree.specs.Trees.{Mark, B, L, X, G, Node, nodes, letter, given_names, Fits, IsGivenAway}
+use Rattle.crp_tree.specs.declared.mark.Mark.{Mark}
+use Rattle.crp_tree.specs.declared.mark.Mark.TheVariants.{B, L, X, G}
+use Rattle.crp_tree.specs.Trees.{Node, nodes, letter, given_names, Fits, IsGivenAway}
 use Rattle.crp_cert.specs.Script.{symbols_of}
 use Rattle.crp_cert.specs.ScriptFaults.{AreSymbols, BeginsWithTree, GoesOnBehindTree}
 use Rattle.crp_checker.specs.declared.wrong.Wrong.{Wrong}
 use Rattle.crp_checker.specs.declared.wrong.Wrong.TheVariants.{Low, AtEnd}
+use Rattle.crp_checker.specs.Gathered.{Gathered, gathered, joined}
 use Rattle.crp_checker.specs.Nodes.{IsLow, IsAtEnd, IsRight, IsFirstWrong}
-use Rattle.crp_checker.specs.Owed.{Spot, node_at, owed_behind, Pay, nodes_of_all}
+use Rattle.crp_tree.specs.Spots.{Spot, node_at, owed_behind, Pay, nodes_of_all}
 
 -- what is kept after some symbols of a part: where trees are owed, the next one first; how many symbols came; the first node that is wrong, if
--- one is; and the paths that are given
+-- one is; and the names that are given
 pub record Walked : Type 0 where
   pub owed : List Spot
   pub count : ℕ
   pub wrong : Option Wrong
-  pub given : List (List ℕ)
+  pub given : Gathered
 
 -- what is wrong with the node that symbol number k stands for, if anything is
 abbrev pub wrong_at : (List ℕ → ℕ) → ℕ → Mark → Spot → Option Wrong
@@ -33,12 +36,12 @@ walked_on need mark spot owed walked = record {
   owed = owed_behind mark spot owed;
   count = walked.count + 1;
   wrong = option_or walked.wrong (wrong_at need (walked.count + 1) mark spot);
-  given = walked.given ++ given_names (node_at spot mark ∷ []);
+  given = joined walked.given (gathered (given_names (node_at spot mark ∷ [])));
 }
 
 -- the walk over a part begins: one tree is owed
 abbrev pub begun : Spot → Walked
-begun top = record { owed = top ∷ []; count = 0; wrong = None; given = [] }
+begun top = record { owed = top ∷ []; count = 0; wrong = None; given = gathered [] }
 
 -- the symbols of a part as far as they came: the walk over them; whether symbols followed behind the tree; and whether a byte came that may not stand
 -- there
@@ -93,22 +96,22 @@ pub record IsOnItsWay (need : List ℕ → ℕ) (top : Spot) (symbols : List ℕ
   pub letters : map (λ node. letter node.mark) list ≡ symbols
   pub counted : walked.count ≡ length symbols
   pub wrong : IsFirstOf need list walked.wrong
-  pub given_are : walked.given ≡ given_names list
+  pub given_are : walked.given ≡ gathered (given_names list)
   pub completes : (trees : List Tree) → Pay walked.owed trees → IsCompleted top symbols list walked.owed trees
   pub only : (tree : Tree) (rest more : List ℕ) → Fits top.place tree → symbols ++ more ≡ symbols_of tree ++ rest →
       (trees : List Tree) × Pay walked.owed trees × (more ≡ flat_map symbols_of trees ++ rest)
 
--- the symbols are those of a whole tree, which is not given away: this is its first wrong node, if it has one, and these paths it gives
-pub record IsOneWholeTree (need : List ℕ → ℕ) (top : Spot) (symbols : List ℕ) (wrong : Option Wrong) (given : List (List ℕ)) : Type 0 where
+-- the symbols are those of a whole tree, which is not given away: this is its first wrong node, if it has one, and these names it gives
+pub record IsOneWholeTree (need : List ℕ → ℕ) (top : Spot) (symbols : List ℕ) (wrong : Option Wrong) (given : Gathered) : Type 0 where
   pub tree : Tree
   pub fits : Fits top.place tree
   pub not_given : IsGivenAway tree → ⊥
   pub symbols_are : symbols ≡ symbols_of tree
   pub wrong_is : IsFirstOf need (nodes top.path top.place tree) wrong
-  pub given_are : given ≡ given_names (nodes top.path top.place tree)
+  pub given_are : given ≡ gathered (given_names (nodes top.path top.place tree))
 
 -- where no byte was wrong and none follows the tree: the tree is not whole while one is owed, and else it is
-abbrev pub EndsWalk : (List ℕ → ℕ) → Spot → List ℕ → List Spot → Option Wrong → List (List ℕ) → Type 0
+abbrev pub EndsWalk : (List ℕ → ℕ) → Spot → List ℕ → List Spot → Option Wrong → Gathered → Type 0
 EndsWalk need top bytes [] wrong given = IsOneWholeTree need top bytes wrong given
 EndsWalk need top bytes (spot ∷ owed) wrong given = ¬ BeginsWithTree top.place bytes
 

@@ -1,12 +1,12 @@
 -- What a walk makes of a piece of the symbols of a part.
 use Rattle.std.specs.Prelude.{◌≡◌, ◌⊎◌, ℕ, ◌≤◌, ◌<◌, Bool, true, false, List, [], length, take, slice_index, fold, None}
 use Rattle.crp_checker.specs.declared.found.Found.{Found}
-use Rattle.crp_checker.specs.Owed.{Spot}
+use Rattle.crp_tree.specs.Spots.{Spot}
 use Rattle.crp_checker.specs.Symbols.{Walked, Line, symbol_at, after}
 
 -- what is known where trees are owed at these spots, so many symbols came, and this was met among them
 abbrev pub walked_at : List Spot → ℕ → Found → Walked
-walked_at owed count found = record { owed = owed; count = count; wrong = found.wrong; given = found.given.items }
+walked_at owed count found = record { owed = owed; count = count; wrong = found.wrong; given = found.given }
 
 -- the same of a line in which no byte was wrong
 abbrev pub line_at : Walked → Bool → Line

@@ -4,17 +4,17 @@ ghost use Rattle.std.specs.Option.{option_copied};
 ghost use Rattle.crp_plan.specs.Bay.{Problem as Statement};
 ghost use Rattle.crp_checker.specs.Shown.{TextShows, TextShowsFor, TextStates};
 ghost use Rattle.crp_checker.specs.Refusals.{IsRefusal};
-ghost use Rattle.crp_checker.specs.Stages.{HasCome, IsBayIn};
+ghost use Rattle.crp_cert.specs.HeadsFed.{IsBayIn};
+ghost use Rattle.crp_checker.specs.Stages.{HasCome};
 ghost use Rattle.crp_checker.specs.Fed.{HasRead, IsOutOfMemory};
 
 use crate::accepted::Accepted;
-use crate::bay::same_bay_if;
 use crate::claim::conclude;
 use crate::refused::Refused;
 use crate::stage::Stage;
 use crate::verdict::Verdict;
 use crate::{in_head, in_line, in_part};
-use crp_cert::{CertFault, HeadLines};
+use crp_cert::{CertFault, OpenHead};
 use crp_plan::{BayName, Problem};
 use std::alloc::{AllocError, Global};
 use std::mem;
@@ -45,7 +45,7 @@ fn read_on(
         → HasCome (option_copied wanted.entry) (before ++ take next.1 bytes.now) next.0) }
 {
     match stage {
-        Stage::Head { lines, begun } => in_head::read_on(alloc, wanted, lines, begun, bytes),
+        Stage::Head { head } => in_head::read_on(alloc, wanted, head, bytes),
         Stage::Line { findings, begun } => in_line::read_on(alloc, findings, begun, bytes),
         Stage::Part {
             findings,
@@ -80,16 +80,23 @@ fn read_piece(
     Ok(stage)
 }
 
+/// The same bay once more, if there is one.
+fn same_bay(bay: Option<&BayName>) -> Option<BayName>
+    ensures { result ≡ option_copied bay.entry }
+{
+    bay.map(BayName::copy)
+}
+
 /// The bay that a certificate names of which so much was read.
 fn bay_at(stage: &Stage) -> Option<BayName>
     ensures { (wanted : Option Statement) (bytes : List ℕ) → HasCome wanted bytes stage.now → IsBayIn bytes result }
 {
     match stage {
-        Stage::Head { lines, .. } => same_bay_if(lines.bay()),
+        Stage::Head { head } => same_bay(head.bay()),
         Stage::Line { findings, .. } => Some(findings.bay.copy()),
         Stage::Part { findings, .. } => Some(findings.bay.copy()),
         Stage::Ended { findings } => Some(findings.bay.copy()),
-        Stage::Faulty { bay, .. } => same_bay_if(bay.as_ref()),
+        Stage::Faulty { bay, .. } => same_bay(bay.as_ref()),
     }
 }
 
@@ -101,7 +108,7 @@ fn finish_at(alloc: Global, stage: Stage) -> Result<Accepted, Refused>
         ⊎ ((wanted : Option Statement) (bytes : List ℕ) → HasCome wanted bytes stage → IsRefusal wanted bytes refused)) }
 {
     match stage {
-        Stage::Head { lines, .. } => Err(Refused::Cert(lines.fault())),
+        Stage::Head { head } => Err(Refused::Cert(head.fault())),
         Stage::Line { findings, begun } => {
             let fault = in_line::open_fault(findings.line, &begun);
             Err(Refused::Cert(fault))
@@ -121,8 +128,7 @@ impl Checker {
         ensures { HasRead (option_copied wanted.entry) [] result }
     {
         let stage = Stage::Head {
-            lines: HeadLines::Start,
-            begun: Vec::new(alloc),
+            head: OpenHead::new(alloc),
         };
         Checker {
             alloc,

@@ -4,9 +4,11 @@ ghost use Rattle.std.specs.Option.{option_copied};
 ghost use Rattle.crp_plan.specs.Faults.{IsPlanPath, IsPlanFault};
 ghost use Rattle.crp_tree.specs.Names.{Precedes};
 ghost use Rattle.crp_cert.specs.Text.{IsHead, AreRows};
+ghost use Rattle.crp_checker.specs.Gathered.{joined};
 ghost use Rattle.crp_checker.specs.Refusals.{HasItsPlan};
 ghost use Rattle.crp_checker.specs.Stages.{AreFindings, first_script, IsHeadNote, note_after};
 
+use crate::given_names::GivenNames;
 use crate::need::Need;
 use crate::part_names::PartNames;
 use crate::path::Path;
@@ -15,6 +17,7 @@ use crate::stage::Stage;
 use crate::wrong::Wrong;
 use crp_cert::{CertFault, Claim, Head, Rows};
 use crp_plan::{BayName, Plan, PlanFault, Problem};
+use crp_tree::Name;
 use std::alloc::{AllocError, Global};
 
 /// What is kept of a head and the parts after it: no tree and no text.
@@ -32,8 +35,8 @@ pub struct Findings {
     pub line: u32,
     /// The names of the parts.
     pub names: PartNames,
-    /// The names that the parts give, as they come.
-    pub given: Vec<Path>,
+    /// The names that the parts give.
+    pub given: GivenNames,
     /// The first thing that is wrong with what is claimed so far.
     pub wrong: Option<Refused>,
 }
@@ -93,20 +96,10 @@ fn wrong_in(wanted: Option<&Problem>, head: &Head) -> Option<Refused>
     None
 }
 
-/// Adds paths to others.
-fn add_paths(paths: &mut Vec<Path>, more: Vec<Path>) -> Result<(), AllocError>
-    ensures { OnOk result (paths.new.items ≡ paths.old.items ++ more.items) }
-{
-    for path in more {
-        paths.push(path)?;
-    }
-    Ok(())
-}
-
 /// How a certificate is refused for a wrong node of a part.
 fn refused_for(
     alloc: Global,
-    name: &Path,
+    name: &Name,
     wrong: Option<Wrong>,
 ) -> Result<Option<Refused>, AllocError>
     ensures { IfOk result (λ refused. refused ≡ note_after None name.now wrong) }
@@ -140,7 +133,7 @@ impl Findings {
             count,
             line,
             names: PartNames::none(alloc),
-            given: Vec::new(alloc),
+            given: GivenNames::none(alloc),
             wrong,
         }
     }
@@ -149,9 +142,9 @@ impl Findings {
     pub fn with_part(
         self,
         alloc: Global,
-        name: Path,
+        name: Name,
         wrong: Option<Wrong>,
-        given: Vec<Path>,
+        given: GivenNames,
     ) -> Result<Findings, AllocError>
         requires { All (λ other. Precedes other name) self.names }
         ensures bay { IfOk result (λ next. next.bay ≡ self.bay) }
@@ -160,7 +153,7 @@ impl Findings {
         ensures count { IfOk result (λ next. next.count ≡ self.count) }
         ensures line { IfOk result (λ next. next.line ≡ min (self.line + 1) (2 ^ 32 - 1)) }
         ensures names { IfOk result (λ next. next.names ≡ self.names ++ name ∷ []) }
-        ensures given { IfOk result (λ next. next.given.items ≡ self.given.items ++ given.items) }
+        ensures given { IfOk result (λ next. next.given ≡ joined self.given given) }
         ensures wrong { IfOk result (λ next. next.wrong ≡ note_after self.wrong name wrong) }
     {
         let mut next = self;
@@ -168,7 +161,7 @@ impl Findings {
         if next.wrong.is_none() {
             next.wrong = refused_for(alloc, &name, wrong)?;
         }
-        add_paths(&mut next.given, given)?;
+        next.given.append(alloc, given)?;
         next.names.push(name)?;
         Ok(next)
     }

@@ -1,4 +1,4 @@
-use crate::path::Path;
+use crate::given_names::GivenNames;
 use crate::wrong::Wrong;
 
 /// What was met among the symbols of a part.
@@ -8,6 +8,6 @@ pub struct Found {
     pub count: u64,
     /// The first wrong node.
     pub wrong: Option<Wrong>,
-    /// The paths that are given.
-    pub given: Vec<Path>,
+    /// The names that are given.
+    pub given: GivenNames,
 }

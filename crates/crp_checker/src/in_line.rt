@@ -10,7 +10,6 @@ ghost use Rattle.crp_checker.specs.Stages.{AreFindings, IsAtLine, HasCome};
 use crate::findings::Findings;
 use crate::line::SymbolLine;
 use crate::opening::{Opening, begins_with, open_by};
-use crate::path::Path;
 use crate::stage::Stage;
 use crp_cert::CertFault;
 use crp_tree::Name;
@@ -27,7 +26,6 @@ fn begin_part(alloc: Global, findings: Findings, name: Name) -> Result<Stage, Al
         unreachable!()
     };
     let line = SymbolLine::new(alloc, name.rows(), place)?;
-    let name = Path::from_rows(alloc, name.rows())?;
     Ok(Stage::Part {
         findings,
         name,

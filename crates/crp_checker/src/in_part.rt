@@ -6,17 +6,17 @@ ghost use Rattle.crp_checker.specs.Stages.{IsAtPart, HasCome};
 use crate::findings::Findings;
 use crate::line::SymbolLine;
 use crate::line_end::LineEnd;
-use crate::path::Path;
 use crate::stage::Stage;
 use crate::watch::line_len;
 use crp_cert::CertFault;
+use crp_tree::Name;
 use std::alloc::{AllocError, Global};
 
 /// What the end of a part line leads to.
 fn end_part(
     alloc: Global,
     findings: Findings,
-    name: Path,
+    name: Name,
     line: SymbolLine,
 ) -> Result<Stage, AllocError>
     ensures { IfOk result (λ stage. (wanted : Option Statement) (before : List ℕ)
@@ -41,7 +41,7 @@ fn end_part(
 pub fn read_on(
     alloc: Global,
     findings: Findings,
-    name: Path,
+    name: Name,
     line: SymbolLine,
     bytes: &[u8],
 ) -> Result<(Stage, usize), AllocError>

@@ -2,7 +2,6 @@
 #![tactic(auto)]
 
 mod accepted;
-mod bay;
 mod checker;
 mod checking;
 mod claim;
@@ -10,6 +9,7 @@ mod file;
 mod file_checker;
 mod findings;
 mod found;
+mod given_names;
 mod in_head;
 mod in_line;
 mod in_part;

@@ -1,12 +1,13 @@
 //! The symbols of one part line, byte by byte.
 ghost use Rattle.std.specs.Prelude.{◌≡◌, ◌≤◌, ◌<◌, ℕ, List, length, take, slice_index, OnOk, IfOk, fold};
-ghost use Rattle.crp_checker.specs.Owed.{Spot};
+ghost use Rattle.crp_tree.specs.Spots.{Spot};
 ghost use Rattle.crp_checker.specs.Symbols.{after, line_begun, line_after};
 ghost use Rattle.crp_checker.specs.Walks.{IsStopped};
 ghost use Rattle.crp_checker.specs.Kept.{line_of, need_by};
 ghost use Rattle.crp_checker.specs.Ends.{IsEndOfSymbols};
 
 use crate::found::Found;
+use crate::given_names::GivenNames;
 use crate::line_end::LineEnd;
 use crate::need::Need;
 use crate::owing::Owing;
@@ -36,7 +37,7 @@ impl SymbolLine {
         let found = Found {
             count: 0,
             wrong: None,
-            given: Vec::new(alloc),
+            given: GivenNames::none(alloc),
         };
         Ok(SymbolLine {
             owing,

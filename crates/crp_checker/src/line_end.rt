@@ -1,4 +1,4 @@
-use crate::path::Path;
+use crate::given_names::GivenNames;
 use crate::wrong::Wrong;
 
 /// What the symbols of a part line are, once the line ends.
@@ -14,7 +14,7 @@ pub enum LineEnd {
     Whole {
         /// Its first wrong node, if it has one.
         wrong: Option<Wrong>,
-        /// The paths that it gives.
-        given: Vec<Path>,
+        /// The names that it gives.
+        given: GivenNames,
     },
 }

@@ -21,7 +21,7 @@ pub struct Owing {
 
 impl Model for Owing {
     ghost use Rattle.std.specs.Prelude.{List, length, ◌-◌};
-    ghost use Rattle.crp_checker.specs.Owed.{Spot};
+    ghost use Rattle.crp_tree.specs.Spots.{Spot};
     ghost use Rattle.crp_checker.specs.Pending.{owed_by, IsSound};
 
     ghost Value = { List Spot };
@@ -33,7 +33,7 @@ impl Model for Owing {
 
 impl Owing {
     ghost use Rattle.std.specs.Prelude.{◌≡◌, ◌∷◌, [], true, false, List, IfOk};
-    ghost use Rattle.crp_checker.specs.Owed.{Spot};
+    ghost use Rattle.crp_tree.specs.Spots.{Spot};
     ghost use Rattle.crp_checker.specs.Walks.{IsWalk};
     ghost use Rattle.crp_checker.specs.Kept.{need_by};
 

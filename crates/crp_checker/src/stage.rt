@@ -1,16 +1,15 @@
 use crate::findings::Findings;
 use crate::line::SymbolLine;
-use crate::path::Path;
-use crp_cert::{CertFault, HeadLines};
+use crp_cert::{CertFault, OpenHead};
 use crp_plan::BayName;
+use crp_tree::Name;
 
 /// How far a checker that is fed has come in a certificate, and what it keeps for that.
 #[derive(Drop)]
 pub enum Stage {
-    /// In the head, of which these lines came, and these bytes of the next line.
+    /// In the head.
     Head {
-        lines: HeadLines,
-        begun: Vec<u8>,
+        head: OpenHead,
     },
     /// In the line after the head and some parts, of which these bytes came.
     Line {
@@ -20,7 +19,7 @@ pub enum Stage {
     /// In the symbols of a part of this name.
     Part {
         findings: Findings,
-        name: Path,
+        name: Name,
         line: SymbolLine,
     },
     /// After the last line.

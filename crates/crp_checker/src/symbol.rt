@@ -1,41 +1,29 @@
 //! Single symbols, and what is wrong with the nodes that they stand for.
-ghost use Rattle.std.specs.Prelude.{◌≡◌, ◌+◌, ◌-◌, ◌≤◌, ◌∷◌, ℕ, List, suc, ◌==◌, true, length, nat_lt, if◌then◌else◌, Some, None, option_map, OnOk};
+ghost use Rattle.std.specs.Prelude.{◌≡◌, ◌+◌, ◌-◌, ◌≤◌, ◌∷◌, ℕ, List, suc, ◌==◌, true, length, nat_lt, if◌then◌else◌, Some, None, OnOk};
 ghost use Rattle.std.specs.Option.{option_or};
 ghost use Rattle.crp_bay.specs.Positions.{can_shift};
 ghost use Rattle.crp_bounds.specs.Bounds.{blocking as blocking_bound, look_ahead as look_ahead_bound};
-ghost use Rattle.crp_checker.specs.Owed.{owed_behind};
+ghost use Rattle.crp_tree.specs.Spots.{owed_behind};
 ghost use Rattle.crp_checker.specs.Symbols.{symbol_at, wrong_at};
 ghost use Rattle.crp_checker.specs.Pending.{back, below, spot_at, pending};
-ghost use Rattle.crp_checker.specs.Kept.{mark_of_symbol, need_by};
+ghost use Rattle.crp_checker.specs.Kept.{need_by};
 
 use crate::need::Need;
 use crate::wrong::Wrong;
 use crp_bounds::Bounded;
+use crp_tree::Mark;
 use std::alloc::AllocError;
-
-/// A symbol of a part.
-#[derive(Clone, Copy)]
-pub enum Symbol {
-    /// A cut by the blocking bound.
-    B,
-    /// A cut by the look-ahead bound.
-    L,
-    /// A branch.
-    X,
-    /// A subtree that is given to a part of its own.
-    G,
-}
 
 /// The symbol that a byte is behind so many others of its part, which does not begin with `G`.
 #[inline]
-pub fn symbol_of(count: u64, byte: u8) -> Option<Symbol>
-    ensures { option_map mark_of_symbol result ≡ symbol_at count byte }
+pub fn symbol_of(count: u64, byte: u8) -> Option<Mark>
+    ensures { result ≡ symbol_at count byte }
 {
     match byte {
-        b'B' => Some(Symbol::B),
-        b'L' => Some(Symbol::L),
-        b'X' => Some(Symbol::X),
-        b'G' if count > 0 => Some(Symbol::G),
+        b'B' => Some(Mark::B),
+        b'L' => Some(Mark::L),
+        b'X' => Some(Mark::X),
+        b'G' if count > 0 => Some(Mark::G),
         _ => None,
     }
 }
@@ -125,7 +113,7 @@ fn note(first: &mut Option<Wrong>, is_wrong: bool, wrong: Wrong)
 pub fn judge(
     need: &Need,
     number: u64,
-    symbol: Symbol,
+    symbol: Mark,
     row: Option<u8>,
     path: &mut Vec<u8>,
     place: &mut Bounded,
@@ -133,28 +121,28 @@ pub fn judge(
 ) -> Result<(), AllocError>
     requires { (next : ℕ) → row ≡ Some next → can_shift place.old.place next ≡ true }
     ensures first { OnOk result (first.new
-        ≡ option_or first.old (wrong_at (need_by need.now) number (mark_of_symbol symbol) (spot_at row path.old.items place.old.place))) }
+        ≡ option_or first.old (wrong_at (need_by need.now) number symbol (spot_at row path.old.items place.old.place))) }
     ensures owed { OnOk result ((above : ℕ) → above ≤ length path.old.items → (row ≡ None → length path.old.items ≤ above)
         → pending (length path.new.items - above) path.new.items place.new
-        ≡ owed_behind (mark_of_symbol symbol) (spot_at row path.old.items place.old.place) (pending (length path.old.items - above) path.old.items place.old)) }
+        ≡ owed_behind symbol (spot_at row path.old.items place.old.place) (pending (length path.old.items - above) path.old.items place.old)) }
     ensures longer { OnOk result (length path.old.items ≤ length path.new.items) }
     ensures little { OnOk result (length path.new.items ≤ length path.old.items + 1) }
 {
     match symbol {
-        Symbol::B => {
+        Mark::B => {
             let is_low = is_low(need, path, blocking_at(place, row));
             note(first, is_low, Wrong::Low { symbol: number });
         }
-        Symbol::L => {
+        Mark::L => {
             let is_low = is_low_at(need, path, place, row);
             note(first, is_low, Wrong::Low { symbol: number });
         }
-        Symbol::X => {
+        Mark::X => {
             path.push(0)?;
             enter(place, row);
             note(first, is_at_end(place), Wrong::AtEnd { symbol: number });
         }
-        Symbol::G => {}
+        Mark::G => {}
     }
     Ok(())
 }

@@ -40,7 +40,7 @@ impl Unread {
         }
     }
 
-    // Reads the next piece, where all of the last one was taken.
+    // Reads the next piece, where all of the last one was taken. Room is made before: what was read is never lost.
     fn refill<R: Source>(
         &mut self,
         source: &mut R,
@@ -49,21 +49,24 @@ impl Unread {
         requires none { length self.old.piece.items ≤ self.old.taken }
         requires going { self.old.ended ≡ false }
         requires passed { interruptions.old ≤ most_interruptions }
-        ensures same { OnOk result (AreTaken (R.remaining source.old) self.old [] (R.remaining source.new) self.new) }
+        ensures same { AreTaken (R.remaining source.old) self.old [] (R.remaining source.new) self.new }
         ensures more { OnOk result (self.new.ended ≡ false → self.new.taken < length self.new.piece.items) }
         ensures end { OnOk result (self.new.ended ≡ true → IsSpent self.new) }
         ensures small { IsErrOf result ReadFault.TooLarge → ⊥ }
         ensures done { OnOk result (Transfers 0 interruptions.old interruptions.new (R.failures source.old) (R.failures source.new) (R.interrupted source.old) (R.interrupted source.new)) }
         ensures stopped { IfErr result (λ fault. Transfers (failures_of_read fault) interruptions.old interruptions.new (R.failures source.old) (R.failures source.new) (R.interrupted source.old) (R.interrupted source.new)) }
     {
+        self.taken = 0;
+        self.piece.clear();
+        let Ok(()) = self.piece.reserve(PIECE) else {
+            return Err(ReadFault::Memory);
+        };
         let mut piece = [0u8; PIECE];
         let Ok(n) = read_some(source, &mut piece, interruptions) else {
             return Err(ReadFault::Failed);
         };
-        self.taken = 0;
-        self.piece.clear();
         let Ok(()) = self.piece.extend_from_slice(&piece[..n]) else {
-            return Err(ReadFault::Memory);
+            unreachable!()
         };
         self.ended = n == 0;
         Ok(())
@@ -81,7 +84,8 @@ impl Unread {
     }
 
     /// Whether a byte of the file is left that was not taken. Reads a piece, where that has to be found out. More than the limit is
-    /// reported where all bytes within it were taken, so that it does not depend on how the reads are cut.
+    /// reported where all bytes within it were taken, so that it does not depend on how the reads are cut. Nothing is lost, whatever
+    /// the answer is.
     pub fn fill<R: Source>(
         &mut self,
         source: &mut R,
@@ -89,7 +93,7 @@ impl Unread {
     ) -> Result<bool, ReadFault>
         requires some { (left : List ℕ) × IsLeft (R.remaining source.old) self.old left }
         requires passed { interruptions.old ≤ most_interruptions }
-        ensures same { OnOk result (AreTaken (R.remaining source.old) self.old [] (R.remaining source.new) self.new) }
+        ensures same { AreTaken (R.remaining source.old) self.old [] (R.remaining source.new) self.new }
         ensures more { IfOk result (λ more. more ≡ true → HasMore self.new) }
         ensures end { IfOk result (λ more. more ≡ false → IsSpent self.new × (HasMore self.old → ⊥)) }
         ensures large { IsErrOf result ReadFault.TooLarge → IsTooLong (R.remaining source.old) self.old }
@@ -161,23 +165,26 @@ fn feed_some<R: Source>(
 }
 
 /// Feeds the next certificate of a file to a checker, down to the end of its first line that begins with `end `, or of the file.
+/// Where that fails the rest of the certificate is lost with what was read; so neither the checker nor the file is given back.
 #[tactic(auto, using(crp_plan::proofs::Interruptions::transfers_on, crp_plan::proofs::Interruptions::no_transfer))]
 pub fn feed_next<R: Source>(
-    checker: &mut Checker,
+    checker: Checker,
     source: &mut R,
-    unread: &mut Unread,
+    unread: Unread,
     interruptions: &mut u32,
-) -> Result<(), ReadFault>
-    requires some { (left : List ℕ) × IsLeft (R.remaining source.old) unread.old left }
-    requires more { HasMore unread.old }
+) -> Result<(Checker, Unread), ReadFault>
+    requires some { (left : List ℕ) × IsLeft (R.remaining source.old) unread left }
+    requires more { HasMore unread }
     requires passed { interruptions.old ≤ most_interruptions }
-    ensures fed { OnOk result ((text : List ℕ) × IsTaken (R.remaining source.old) unread.old text (R.remaining source.new) unread.new
-        × ((wanted : Option Problem) → HasRead wanted [] checker.old → HasRead wanted text checker.new)) }
-    ensures large { IsErrOf result ReadFault.TooLarge → IsTooLong (R.remaining source.old) unread.old }
+    ensures fed { IfOk result (λ next. (text : List ℕ) × IsTaken (R.remaining source.old) unread text (R.remaining source.new) next.1
+        × ((wanted : Option Problem) → HasRead wanted [] checker → HasRead wanted text next.0)) }
+    ensures large { IsErrOf result ReadFault.TooLarge → IsTooLong (R.remaining source.old) unread }
     ensures done { OnOk result (Transfers 0 interruptions.old interruptions.new (R.failures source.old) (R.failures source.new) (R.interrupted source.old) (R.interrupted source.new)) }
     ensures stopped { IfErr result (λ fault. Transfers (failures_of_read fault) interruptions.old interruptions.new (R.failures source.old) (R.failures source.new) (R.interrupted source.old) (R.interrupted source.new)) }
 {
+    let mut checker = checker;
+    let mut unread = unread;
     let mut watch = Watch::Begun;
-    while feed_some(checker, &mut watch, source, unread, interruptions)? {}
-    Ok(())
+    while feed_some(&mut checker, &mut watch, source, &mut unread, interruptions)? {}
+    Ok((checker, unread))
 }

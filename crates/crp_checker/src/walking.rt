@@ -3,19 +3,21 @@ ghost use Rattle.std.specs.Prelude.{◌≡◌, ◌⊎◌, ◌+◌, ◌-◌, ◌�
 ghost use Rattle.std.specs.Option.{option_or};
 ghost use Rattle.crp_tree.specs.Trees.{given_names};
 ghost use Rattle.crp_bay.specs.Positions.{can_shift};
-ghost use Rattle.crp_checker.specs.Owed.{Spot, node_at, owed_behind};
+ghost use Rattle.crp_tree.specs.Spots.{Spot, node_at, owed_behind};
+ghost use Rattle.crp_checker.specs.Gathered.{gathered, joined};
 ghost use Rattle.crp_checker.specs.Symbols.{symbol_at, wrong_at};
 ghost use Rattle.crp_checker.specs.Pending.{up, back, pending, spot_at, owed_by, IsSound};
-ghost use Rattle.crp_checker.specs.Kept.{mark_of_symbol, need_by};
+ghost use Rattle.crp_checker.specs.Kept.{need_by};
 ghost use Rattle.crp_checker.specs.Walks.{IsWalk};
 
 use crate::found::Found;
+use crate::given_names::GivenNames;
 use crate::need::Need;
 use crate::next::Next;
 use crate::passing::{Passed, pass};
-use crate::path::Path;
-use crate::symbol::{Symbol, judge, symbol_of};
+use crate::symbol::{judge, symbol_of};
 use crp_bounds::Bounded;
+use crp_tree::Mark;
 use std::alloc::{AllocError, Global};
 
 /// How far a walk came.
@@ -28,26 +30,22 @@ pub struct Walk {
 
 /// Adds the path to where a tree is owed, if the symbol gives it to a part of its own.
 #[inline]
-fn give(alloc: Global, given: &mut Vec<Path>, path: &[u8], symbol: Symbol) -> Result<(), AllocError>
+fn give(alloc: Global, given: &mut GivenNames, path: &[u8], symbol: Mark) -> Result<(), AllocError>
     ensures { OnOk result ((spot : Spot) → spot.path ≡ path.now
-        → given.new.items ≡ given.old.items ++ given_names (node_at spot (mark_of_symbol symbol) ∷ [])) }
+        → given.new ≡ joined given.old (gathered (given_names (node_at spot symbol ∷ [])))) }
 {
     match symbol {
-        Symbol::G => {
-            let path = Path::from_rows(alloc, path)?;
-            given.push(path)?;
-            Ok(())
-        }
-        Symbol::B | Symbol::L | Symbol::X => Ok(()),
+        Mark::G => given.push(alloc, path),
+        Mark::B | Mark::L | Mark::X => Ok(()),
     }
 }
 
 /// The symbol that stands in a piece behind so many others of its part: none at the end of the piece, and where the byte is none.
 #[inline]
-fn symbol_in(piece: &[u8], at: usize, count: u64) -> Option<Symbol>
+fn symbol_in(piece: &[u8], at: usize, count: u64) -> Option<Mark>
     requires { at ≤ length piece.now }
     ensures there { IfSome result (λ symbol. at < length piece.now) }
-    ensures some { IfSome result (λ symbol. symbol_at count (slice_index piece.now at) ≡ Some (mark_of_symbol symbol)) }
+    ensures some { IfSome result (λ symbol. symbol_at count (slice_index piece.now at) ≡ Some symbol) }
     ensures none { IfNone result (at < length piece.now → symbol_at count (slice_index piece.now at) ≡ None) }
 {
     if at == piece.len() {
@@ -62,7 +60,7 @@ fn meet(
     alloc: Global,
     need: &Need,
     number: u64,
-    symbol: Symbol,
+    symbol: Mark,
     row: Option<u8>,
     path: &mut Vec<u8>,
     place: &mut Bounded,
@@ -70,12 +68,12 @@ fn meet(
 ) -> Result<(), AllocError>
     requires { (next : ℕ) → row ≡ Some next → can_shift place.old.place next ≡ true }
     ensures wrong { OnOk result (found.new.wrong
-        ≡ option_or found.old.wrong (wrong_at (need_by need.now) number (mark_of_symbol symbol) (spot_at row path.old.items place.old.place))) }
-    ensures given { OnOk result (found.new.given.items
-        ≡ found.old.given.items ++ given_names (node_at (spot_at row path.old.items place.old.place) (mark_of_symbol symbol) ∷ [])) }
+        ≡ option_or found.old.wrong (wrong_at (need_by need.now) number symbol (spot_at row path.old.items place.old.place))) }
+    ensures given { OnOk result (found.new.given
+        ≡ joined found.old.given (gathered (given_names (node_at (spot_at row path.old.items place.old.place) symbol ∷ [])))) }
     ensures owed { OnOk result ((above : ℕ) → above ≤ length path.old.items → (row ≡ None → length path.old.items ≤ above)
         → pending (length path.new.items - above) path.new.items place.new
-        ≡ owed_behind (mark_of_symbol symbol) (spot_at row path.old.items place.old.place) (pending (length path.old.items - above) path.old.items place.old)) }
+        ≡ owed_behind symbol (spot_at row path.old.items place.old.place) (pending (length path.old.items - above) path.old.items place.old)) }
     ensures longer { OnOk result (length path.old.items ≤ length path.new.items) }
     ensures little { OnOk result (length path.new.items ≤ length path.old.items + 1) }
 {

@@ -1,5 +1,5 @@
 -- What is written of a head, and how refusals are stated.
-use Rattle.std.proofs.Common.{◌≡◌, ℕ, List, ◌++◌, Option, Some, None, ◌⊎◌, inl, inr, refl, sym, ap, subst, ◌∙◌, append_assoc}
+use Rattle.std.proofs.Common.{◌≡◌, ◌<◌, ℕ, List, length, IfSome, ◌++◌, Option, Some, None, ◌⊎◌, inl, inr, refl, sym, ap, subst, ◌∙◌, append_assoc}
 use Rattle.std.specs.Io.KnownBytes.{Keeps}
 use Rattle.crp_cert.specs.declared.fault.CertFault.{CertFault}
 use Rattle.crp_cert.specs.declared.fault.CertFault.TheVariants as cert
@@ -15,8 +15,13 @@ use Rattle.crp_commands.specs.Prove.{IsProofOf}
 use Rattle.crp_report.specs.Report.{text_of}
 use Rattle.crp_jobs.specs.declared.outcome.ToolFault.{ToolFault}
 use Rattle.crp_jobs.specs.declared.outcome.ToolFault.TheVariants as fault
-use Rattle.crp_commands.specs.Calls.{CallSeen, IsTextWithin, IsNoHead, CallFailsWith}
-use Rattle.crp_jobs.specs.Outcomes.{fault_of_cert}
+use Rattle.crp_yard.specs.Reading.{IsTextOf}
+use Rattle.crp_commands.specs.Calls.{CallSeen, IsNoHead, CallFailsWith}
+use Rattle.crp_plan.specs.declared.transfer.ReadFault.{ReadFault}
+use Rattle.crp_plan.specs.declared.transfer.ReadFault.TheVariants as read
+use Rattle.crp_plan.specs.Devices.{HasFailed}
+use Rattle.crp_cert.specs.FromSources.{BeginsWithNone}
+use Rattle.crp_jobs.specs.Outcomes.{fault_of_cert, fault_of_read}
 use Rattle.crp_commands.specs.Replay.{IsReplay, IsNoReplay, IsNoReport}
 
 -- five pieces, one after the other
@@ -32,12 +37,17 @@ pub keeps_same : (known : Option (List ℕ)) → Keeps known known
 keeps_same None = tt
 keeps_same (Some xs) = refl
 
--- why no head was read, as read_head states it
-pub no_head : (limit : ℕ) (given : Option (List ℕ)) (before after : ℕ) (bytes : List ℕ) (f : CertFault) → IsTextWithin limit given bytes → (f ≡ cert.Memory) ⊎ IsFirstFault bytes f →
-    IsNoHead limit given before after (fault_of_cert f)
-no_head limit known before after bytes cert.Memory given why = tt
-no_head limit known before after bytes f given (inl e) = absurd (cc)
-no_head limit known before after bytes f given (inr first) = (bytes, given, first)
+-- why no head was read
+pub no_head : (limit : ℕ) (given : Option (List ℕ)) (before after : ℕ) (f : CertFault) → BeginsWithNone limit given f → IsNoHead limit given before after (fault_of_cert f)
+no_head limit given before after cert.Memory none = tt
+no_head limit given before after f none = (none.text, (none.within, none.text_is), none.first)
+
+-- or why the source was not
+pub not_read : (limit : ℕ) (given : Option (List ℕ)) (before after : ℕ) (f : ReadFault) → (f ≡ read.Failed → HasFailed before after) → (f ≡ read.TooLarge → IfSome given (λ xs. limit < length xs)) →
+    IsNoHead limit given before after (fault_of_read f)
+not_read limit given before after read.Failed failed large = failed refl
+not_read limit given before after read.TooLarge failed large = large refl
+not_read limit given before after read.Memory failed large = tt
 
 -- a command without a head states why, where nothing was written
 pub no_head_reported : (limit : ℕ) (IsReport : List ℕ → List ℕ → Type 0) (IsRefused : List ℕ → ToolFault → Type 0) (seen : CallSeen) (f : ToolFault) → Keeps seen.held seen.holds →
@@ -59,7 +69,7 @@ no_head_reported limit IsReport IsRefused seen fault.WriteTable keeps refuses no
 no_head_reported limit IsReport IsRefused seen fault.WritePage keeps refuses none = absurd none
 
 -- a replay without a report states why, where nothing was written
-pub no_report_reported : (limit : ℕ) (seen : CallSeen) (bytes : List ℕ) (head : Head) (f : ToolFault) → Keeps seen.held seen.holds → IsTextWithin limit seen.given bytes → IsHeadOf bytes head → IsNoReport head f →
+pub no_report_reported : (limit : ℕ) (seen : CallSeen) (bytes : List ℕ) (head : Head) (f : ToolFault) → Keeps seen.held seen.holds → IsTextOf seen.given bytes → IsHeadOf bytes head → IsNoReport head f →
     CallFailsWith limit IsReplay IsNoReplay seen f
 no_report_reported limit seen bytes head (fault.Cert f) keeps given is none = absurd none
 no_report_reported limit seen bytes head (fault.Plan f) keeps given is none = (keeps, (bytes, given, (head, is, none)))

@@ -2,6 +2,9 @@
 use Rattle.std.specs.Prelude.{◌≡◌, ℕ, ◌+◌, ◌-◌, ◌<◌, ◌≤◌, List, length, Option, IfSome}
 use Rattle.std.specs.Io.KnownBytes.{Appends, Keeps}
 use Rattle.crp_plan.specs.Devices.{AppendsPart, HasFailed, most_interruptions}
+use Rattle.crp_yard.specs.Reading.{IsTextOf}
+use Rattle.crp_cert.specs.declared.head.Head.{Head}
+use Rattle.crp_cert.specs.FromSources.{BeginsWithHead}
 use Rattle.crp_cert.specs.Faults.{IsFirstFault}
 use Rattle.crp_report.specs.Runs.{failures_of_fault}
 use Rattle.crp_jobs.specs.declared.outcome.ToolFault.{ToolFault}
@@ -10,6 +13,10 @@ use Rattle.crp_jobs.specs.declared.outcome.ToolFault.TheVariants as fault
 -- these bytes, no more than the limit, are those that a source had, where it stated them
 abbrev pub IsTextWithin : ℕ → Option (List ℕ) → List ℕ → Type 0
 IsTextWithin limit known text = (length text ≤ limit) × IfSome known (λ xs. text ≡ xs)
+
+-- the bytes of a source begin with a head; no more of them were read than the head, and a piece behind it
+abbrev pub ReadsHead : Option (List ℕ) → Option (List ℕ) → Type 0
+ReadsHead given left = (head : Head) × BeginsWithHead given left head
 
 -- what a call saw and left: the bytes that its source had, what its sink held before and holds after, and both counts of failures
 -- before and after
@@ -40,22 +47,23 @@ failures_of_tool_fault f = 0
 abbrev pub most_call_failures : ToolFault → ℕ
 most_call_failures f = most_interruptions + failures_of_tool_fault f
 
--- the whole report of the bytes that the source had, no more than `limit`, was written, and nothing else
-abbrev pub WritesReport : ℕ → (List ℕ → List ℕ → Type 0) → CallSeen → Type 0
-WritesReport limit IsReport s = (text : List ℕ) × (report : List ℕ) × IsTextWithin limit s.given text × IsReport text report × Appends s.held s.holds report
+-- the whole report of the bytes that the source had, which are said by `IsInput`, was written, and nothing else
+abbrev pub WritesReport : (Option (List ℕ) → List ℕ → Type 0) → (List ℕ → List ℕ → Type 0) → CallSeen → Type 0
+WritesReport IsInput IsReport s = (text : List ℕ) × (report : List ℕ) × IsInput s.given text × IsReport text report × Appends s.held s.holds report
 
--- the bytes that the source had, no more than `limit`, are refused in this way, and nothing was written
-abbrev pub RefusesText : ℕ → (List ℕ → ToolFault → Type 0) → CallSeen → ToolFault → Type 0
-RefusesText limit IsRefused s f = Keeps s.held s.holds × ((text : List ℕ) × IsTextWithin limit s.given text × IsRefused text f)
+-- the bytes that the source had, which are said by `IsInput`, are refused in this way, and nothing was written
+abbrev pub RefusesText : (Option (List ℕ) → List ℕ → Type 0) → (List ℕ → ToolFault → Type 0) → CallSeen → ToolFault → Type 0
+RefusesText IsInput IsRefused s f = Keeps s.held s.holds × ((text : List ℕ) × IsInput s.given text × IsRefused text f)
 
--- what a fault says of a call that writes the report of at most `limit` bytes: a refusal, a read or a write that has failed in this call,
--- more bytes than the limit, or lack of memory; only where a write failed a front of the report may have been written, which is not all of it
+-- what a fault says of a call that writes the report of a head: that at most `limit` bytes begin with none, that its plan is refused, a read or a
+-- write that has failed in this call, more bytes than the limit that begin with none, or lack of memory; only where a write failed a front of the
+-- report may have been written, which is not all of it
 abbrev pub CallFailsWith : ℕ → (List ℕ → List ℕ → Type 0) → (List ℕ → ToolFault → Type 0) → CallSeen → ToolFault → Type 0
-CallFailsWith limit IsReport IsRefused s (fault.Cert f) = RefusesText limit IsRefused s (fault.Cert f)
-CallFailsWith limit IsReport IsRefused s (fault.Plan f) = RefusesText limit IsRefused s (fault.Plan f)
+CallFailsWith limit IsReport IsRefused s (fault.Cert f) = RefusesText (IsTextWithin limit) IsRefused s (fault.Cert f)
+CallFailsWith limit IsReport IsRefused s (fault.Plan f) = RefusesText IsTextOf IsRefused s (fault.Plan f)
 CallFailsWith limit IsReport IsRefused s fault.Read = Keeps s.held s.holds × HasFailed s.source_before s.source_after
 CallFailsWith limit IsReport IsRefused s fault.Write = HasFailed s.sink_before s.sink_after
-    × ((text : List ℕ) × (report : List ℕ) × IsTextWithin limit s.given text × IsReport text report × AppendsPart s.held s.holds report)
+    × ((text : List ℕ) × (report : List ℕ) × IsTextOf s.given text × IsReport text report × AppendsPart s.held s.holds report)
 CallFailsWith limit IsReport IsRefused s fault.TooLarge = Keeps s.held s.holds × IfSome s.given (λ xs. limit < length xs)
 CallFailsWith limit IsReport IsRefused s fault.Memory = Keeps s.held s.holds
 CallFailsWith limit IsReport IsRefused s f = ⊥

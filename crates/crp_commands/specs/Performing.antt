@@ -14,7 +14,8 @@ use Rattle.crp_jobs.specs.Opened.{FilesSeen, FilesFail, IsFileOpened, IsOneRefus
 use Rattle.crp_commands.specs.Solving.{RunReportsOverFiles, RunFailsOverFiles}
 use Rattle.crp_commands.specs.Audit.{AuditReportsOverFiles, AuditFailsOverFiles}
 use Rattle.crp_commands.specs.Follow.{FollowReportsOverFiles, FollowFailsOverFiles}
-use Rattle.crp_commands.specs.Calls.{CallSeen, call_failures, most_call_failures, WritesReport, CallFailsWith}
+use Rattle.crp_commands.specs.Calls.{CallSeen, call_failures, most_call_failures, IsTextWithin, WritesReport, CallFailsWith}
+use Rattle.crp_yard.specs.Reading.{IsTextOf}
 use Rattle.crp_commands.specs.Replay.{IsReplay, IsNoReplay}
 use Rattle.crp_commands.specs.Bound.{IsBound, IsNoBound}
 use Rattle.crp_commands.specs.Check.{IsCheck, CheckFailsWith}
@@ -23,10 +24,10 @@ use Rattle.crp_commands.specs.declared.heads.TheConstants.{MOST_BYTES}
 
 -- the command was done, and ended with this status: its whole report was written, and nothing else
 abbrev pub Performs : FileCommand → Status → CallSeen → Type 0
-Performs command.Replay ended s = (ended ≡ status.Decided) × WritesReport MOST_BYTES IsReplay s
-Performs command.Bound ended s = (ended ≡ status.Decided) × WritesReport MOST_BYTES IsBound s
-Performs command.Check ended s = (ended ≡ status.Decided) × WritesReport MOST_BYTES IsCheck s
-Performs (command.Prove search) ended s = WritesReport MOST_BYTES (IsProof search ended) s
+Performs command.Replay ended s = (ended ≡ status.Decided) × WritesReport IsTextOf IsReplay s
+Performs command.Bound ended s = (ended ≡ status.Decided) × WritesReport IsTextOf IsBound s
+Performs command.Check ended s = (ended ≡ status.Decided) × WritesReport (IsTextWithin MOST_BYTES) IsCheck s
+Performs (command.Prove search) ended s = WritesReport IsTextOf (IsProof search ended) s
 
 -- what a fault says of the command
 abbrev pub CommandFailsWith : FileCommand → CallSeen → ToolFault → Type 0

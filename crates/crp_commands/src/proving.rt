@@ -1,8 +1,9 @@
 //! The command `prove`: from the bytes of a certificate's head to a certificate of its problem.
-ghost use Rattle.std.specs.Prelude.{◌≤◌, MatchResult};
+ghost use Rattle.std.specs.Prelude.{◌≤◌, MatchResult, OnOk};
 ghost use Rattle.crp_commands.specs.declared.heads.TheConstants.{MOST_BYTES};
 ghost use Rattle.crp_plan.specs.Devices.{most_interruptions};
-ghost use Rattle.crp_commands.specs.Calls.{CallSeen, call_failures, most_call_failures, WritesReport, CallFailsWith};
+ghost use Rattle.crp_yard.specs.Reading.{IsTextOf};
+ghost use Rattle.crp_commands.specs.Calls.{CallSeen, call_failures, most_call_failures, ReadsHead, WritesReport, CallFailsWith};
 ghost use Rattle.crp_commands.specs.Prove.{IsProof, IsSomeProof, IsNoProof};
 
 use crate::heads::head_from;
@@ -32,8 +33,9 @@ pub fn prove<T: Threads + Wait + Sync, R: Source, W: Sink>(
       source_after = R.failures reader.new;
       sink_before = W.failures writer.old;
       sink_after = W.failures writer.new;
-    } in MatchResult result (λ status. WritesReport MOST_BYTES (IsProof settings status) seen × (call_failures seen ≤ most_interruptions))
+    } in MatchResult result (λ status. WritesReport IsTextOf (IsProof settings status) seen × (call_failures seen ≤ most_interruptions))
         (λ fault. CallFailsWith MOST_BYTES (IsSomeProof settings) IsNoProof seen fault × (call_failures seen ≤ most_call_failures fault)) }
+    ensures near { OnOk result (ReadsHead (R.remaining reader.old) (R.remaining reader.new)) }
 {
     let mut interruptions = 0;
     let head = head_from(alloc, reader, &mut interruptions)?;

@@ -11,7 +11,8 @@ use Rattle.crp_tree.specs.declared.symbol.Symbol.TheVariants as symbol
 use Rattle.crp_tree.specs.Tree.{Tree, CutB, CutL, Given, Branch, items, row}
 use Rattle.crp_tree.specs.Symbols.{symbols, symbols_of_each, tree_of, tree_back, items_row, all_symbols, some_trees, IsLeaf, leaf, leaf_symbols, ComesFirst}
 use Rattle.crp_tree.specs.Names.{Precedes}
-use Rattle.crp_tree.specs.Trees.{B, L, G, Node, nodes, branches, Fits, IsInPlace, IsGivenAway, least_value, Begins}
+use Rattle.crp_tree.specs.declared.mark.Mark.TheVariants.{B, L, G}
+use Rattle.crp_tree.specs.Trees.{Node, nodes, branches, Fits, IsInPlace, IsGivenAway, least_value, Begins}
 use Rattle.crp_tree.specs.Listed.{nodes_below, AreFit}
 use Rattle.crp_tree.proofs.Ordered.{goes_further}
 use Rattle.crp_tree.proofs.Nodes.{At, StandsAt, nodes_stand, nodes_begin}

@@ -7,7 +7,8 @@ use Rattle.crp_tree.specs.declared.symbol.Symbol.{Symbol}
 use Rattle.crp_tree.specs.Tree.{Tree}
 use Rattle.crp_tree.specs.Symbols.{symbols}
 use Rattle.crp_tree.specs.Names.{Precedes}
-use Rattle.crp_tree.specs.Trees.{B, L, Node, nodes, branches, Fits, IsInPlace, IsGivenAway, least_value}
+use Rattle.crp_tree.specs.declared.mark.Mark.TheVariants.{B, L}
+use Rattle.crp_tree.specs.Trees.{Node, nodes, branches, Fits, IsInPlace, IsGivenAway, least_value}
 use Rattle.crp_tree.specs.Parts.{ProblemPart, nodes_of, branches_in, Certificate}
 
 -- a path is past the plan: it comes after the plan's, and the look-ahead bound of the position there reaches the plan's relocations

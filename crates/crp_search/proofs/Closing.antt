@@ -2,7 +2,8 @@
 use Rattle.std.proofs.Common.{◌≡◌, ℕ, ◌+◌, ◌<◌, ◌≤◌, min, inl, List, [], ◌∷◌, ◌++◌, length, map, arith}
 use Rattle.crp_plan.specs.Bay.{Position}
 use Rattle.crp_bounds.specs.Bounds.{blocking, look_ahead}
-use Rattle.crp_tree.specs.Trees.{B, X, Node, cuts, value, least, least_value}
+use Rattle.crp_tree.specs.declared.mark.Mark.TheVariants.{B, X}
+use Rattle.crp_tree.specs.Trees.{Node, cuts, value, least, least_value}
 use Rattle.crp_tree.proofs.Shown.{least_most}
 use Rattle.crp_tree.proofs.Joined.{least_value-append}
 use Rattle.crp_search.specs.Searched.{IsHeld}

@@ -6,7 +6,8 @@ use Rattle.crp_plan.specs.Faults.{IsPlanPath}
 use Rattle.crp_plan.specs.Plans.{ProblemPath}
 use Rattle.crp_plan.proofs.Covered.{relocations-path}
 use Rattle.crp_bounds.specs.Bounds.{blocking}
-use Rattle.crp_tree.specs.Trees.{B, L, X, Node, is_cut, bound_by, value}
+use Rattle.crp_tree.specs.declared.mark.Mark.TheVariants.{B, L, X}
+use Rattle.crp_tree.specs.Trees.{Node, is_cut, bound_by, value}
 use Rattle.crp_search.specs.Limits.{Dealings}
 use Rattle.crp_search.specs.Searched.{IsHeld}
 use Rattle.crp_search.specs.Firsts.{IsLowerBound}

@@ -4,7 +4,9 @@ use Rattle.std.proofs.lemmas.List.Elements.{All-nil, All-cons, All-weaker, All-c
 use Rattle.crp_plan.specs.Bay.{Problem, Position}
 use Rattle.crp_plan.specs.declared.running.View.{View}
 use Rattle.crp_bounds.specs.Bounds.{blocking}
-use Rattle.crp_tree.specs.Trees.{B, L, X, G, Mark, Node, is_cut, is_branch, cuts, branches, bound_by, value, IsInPlace}
+use Rattle.crp_tree.specs.declared.mark.Mark.{Mark}
+use Rattle.crp_tree.specs.declared.mark.Mark.TheVariants.{B, L, X, G}
+use Rattle.crp_tree.specs.Trees.{Node, is_cut, is_branch, cuts, branches, bound_by, value, IsInPlace}
 use Rattle.crp_bay.proofs.Members.{from_filter}
 use Rattle.crp_tree.proofs.InLine.{from_members}
 use Rattle.crp_search.specs.Limits.{Advances, Dealings}

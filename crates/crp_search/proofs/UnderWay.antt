@@ -10,7 +10,8 @@ use Rattle.crp_tree.specs.declared.symbol.Symbol.{Symbol}
 use Rattle.crp_tree.specs.declared.symbol.Symbol.TheVariants as symbol
 use Rattle.crp_tree.specs.Tree.{Tree, CutB, CutL, Branch, Given}
 use Rattle.crp_tree.specs.Symbols.{symbols, tree_of, tree_back, IsLeaf, leaf}
-use Rattle.crp_tree.specs.Trees.{X, Node, nodes, branches, IsGivenAway}
+use Rattle.crp_tree.specs.declared.mark.Mark.TheVariants.{X}
+use Rattle.crp_tree.specs.Trees.{Node, nodes, branches, IsGivenAway}
 use Rattle.crp_tree.specs.Spots.{Spot, node_at, spot_below, spots_below}
 use Rattle.crp_tree.proofs.Joined.{branches-append}
 use Rattle.crp_tree.proofs.Paying.{IsWalked, walk_begins, walk_more, walk_leaf, IsTreeAt, walk_ends}

@@ -2,7 +2,8 @@
 use Rattle.std.specs.Prelude.{◌≡◌, ℕ, List, [], ◌∷◌, Option, Some, None}
 use Rattle.crp_plan.specs.Bay.{Position}
 use Rattle.crp_tree.specs.Symbols.{IsLeaf, leaf}
-use Rattle.crp_tree.specs.Trees.{X, Node, nodes, least_value}
+use Rattle.crp_tree.specs.declared.mark.Mark.TheVariants.{X}
+use Rattle.crp_tree.specs.Trees.{Node, nodes, least_value}
 use Rattle.crp_search.specs.declared.frames.Closed.{Closed}
 
 -- what is met at a path: where the node is closed its one node, else a branch

@@ -3,7 +3,8 @@ ghost use Rattle.std.specs.Prelude.{◌≡◌, ℕ, ◌+◌, ◌<◌, ◌≤◌,
 ghost use Rattle.crp_plan.specs.declared.running.View.{View};
 ghost use Rattle.crp_plan.specs.Bay.{Problem as Statement};
 ghost use Rattle.crp_plan.specs.Faults.{IsPlanPath};
-ghost use Rattle.crp_tree.specs.Trees.{B, Node, IsInPlace, is_cut, value, least_through};
+ghost use Rattle.crp_tree.specs.declared.mark.Mark.TheVariants.{B};
+ghost use Rattle.crp_tree.specs.Trees.{Node, IsInPlace, is_cut, value, least_through};
 ghost use Rattle.crp_search.specs.declared.first_part.FirstEnd.{FirstEnd as WhyEnded};
 ghost use Rattle.crp_search.specs.declared.first_part.FirstEnd.TheVariants.{Memory};
 ghost use Rattle.crp_search.specs.Limits.{Dealings, dealt, OnlyGrants};

@@ -5,7 +5,8 @@ use Rattle.std.proofs.lemmas.List.Elements.{All-contains, Contains-append_left, 
 use Rattle.crp_tree.specs.Tree.{Tree, CutB, CutL, Branch, Given, Trees, no_trees, one_and, items, row}
 use Rattle.crp_plan.specs.Bay.{Position}
 use Rattle.crp_bay.specs.Positions.{targets, child}
-use Rattle.crp_tree.specs.Trees.{Node, X, nodes, nodes_of_each, Fits, FitsEach}
+use Rattle.crp_tree.specs.declared.mark.Mark.TheVariants.{X}
+use Rattle.crp_tree.specs.Trees.{Node, nodes, nodes_of_each, Fits, FitsEach}
 use Rattle.crp_tree.specs.Listed.{nodes_below, AreFit}
 use Rattle.crp_tree.specs.Symbols.{items_row}
 use Rattle.crp_tree.proofs.InLine.{from_members}

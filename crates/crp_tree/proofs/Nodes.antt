@@ -13,7 +13,9 @@ use Rattle.crp_bounds.specs.Bounds.{look_ahead}
 use Rattle.crp_bounds.proofs.Bounding.{ahead_path}
 use Rattle.crp_tree.specs.Tree.{Tree, CutB, CutL, Branch, Given, Trees, no_trees, one_and, items}
 use Rattle.crp_tree.specs.Names.{GoesOn, Precedes}
-use Rattle.crp_tree.specs.Trees.{Mark, B, L, X, G, Node, nodes, nodes_of_each, Fits, FitsEach, is_branch, is_given, given_names, MayStand, IsInPlace, IsGivenAway, Begins}
+use Rattle.crp_tree.specs.declared.mark.Mark.{Mark}
+use Rattle.crp_tree.specs.declared.mark.Mark.TheVariants.{B, L, X, G}
+use Rattle.crp_tree.specs.Trees.{Node, nodes, nodes_of_each, Fits, FitsEach, is_branch, is_given, given_names, MayStand, IsInPlace, IsGivenAway, Begins}
 use Rattle.crp_tree.specs.Listed.{nodes_below}
 use Rattle.crp_tree.proofs.Listed.{list_nodes}
 use Rattle.crp_tree.proofs.Lists.{in_map, from_map}

@@ -6,25 +6,13 @@ use Rattle.crp_tree.specs.declared.symbol.Symbol.{Symbol}
 use Rattle.crp_tree.specs.declared.symbol.Symbol.TheVariants as symbol
 use Rattle.crp_tree.specs.Tree.{Tree, CutB, CutL, Branch, Given, items, row}
 use Rattle.crp_tree.specs.Symbols.{symbols, symbols_of_each, items_row, all_symbols, IsLeaf, leaf}
-use Rattle.crp_tree.specs.Trees.{B, L, X, G, Node, nodes, Fits}
-use Rattle.crp_tree.specs.Spots.{Spot, node_at, spots_below, mark_of, owed_behind, CountsRows, Leaves, nodes_by}
+use Rattle.crp_tree.specs.declared.mark.Mark.TheVariants.{B, L, X, G}
+use Rattle.crp_tree.specs.Trees.{Node, nodes, Fits}
+use Rattle.crp_tree.specs.Spots.{Spot, node_at, spots_below, mark_of, owed_behind, Pay, nodes_of_all, CountsRows, Leaves, nodes_by}
 use Rattle.crp_tree.specs.Listed.{nodes_below, AreFit}
 use Rattle.crp_tree.proofs.Listed.{IsBranchOf, branch_of}
 
 -- ---- trees at spots
-
--- one tree for each spot, in their order, which fits there
-abbrev pub AreAt : List Spot → List Tree → Type 0
-AreAt [] [] = Unit {0}
-AreAt [] (tree ∷ trees) = ⊥
-AreAt (spot ∷ owed) [] = ⊥
-AreAt (spot ∷ owed) (tree ∷ trees) = Fits spot.place tree × AreAt owed trees
-
--- the nodes of such trees
-abbrev pub nodes_of_all : List Spot → List Tree → List Node
-nodes_of_all [] trees = []
-nodes_of_all (spot ∷ owed) [] = []
-nodes_of_all (spot ∷ owed) (tree ∷ trees) = nodes spot.path spot.place tree ++ nodes_of_all owed trees
 
 pub row_symbols : (trees : List Tree) → symbols_of_each (row trees) ≡ all_symbols trees
 row_symbols [] = refl
@@ -35,40 +23,40 @@ symbols_joined [] second = refl
 symbols_joined (tree ∷ first) second = ap (λ l. symbols tree ++ l) (symbols_joined first second) ∙ sym (append_assoc (symbols tree) (all_symbols first) (all_symbols second))
 
 -- trees at two lists of spots are those at the first and those at the second
-record Split (owed others : List Spot) (trees : List Tree) : Type 0 where
-  first : List Tree
-  second : List Tree
-  are : trees ≡ first ++ second
-  at : AreAt owed first
-  at_others : AreAt others second
+pub record Split (owed others : List Spot) (trees : List Tree) : Type 0 where
+  pub first : List Tree
+  pub second : List Tree
+  pub are : trees ≡ first ++ second
+  pub pays : Pay owed first
+  pub pays_others : Pay others second
 
-split : (owed others : List Spot) (trees : List Tree) → AreAt (owed ++ others) trees → Split owed others trees
-split [] others trees h = record { first = []; second = trees; are = refl; at = tt; at_others = h }
+pub split : (owed others : List Spot) (trees : List Tree) → Pay (owed ++ others) trees → Split owed others trees
+split [] others trees h = record { first = []; second = trees; are = refl; pays = tt; pays_others = h }
 split (spot ∷ owed) others [] h = absurd h
 split (spot ∷ owed) others (tree ∷ trees) h =
     let r = split owed others trees h.1 in
-    record { first = tree ∷ r.first; second = r.second; are = ap (λ l. tree ∷ l) r.are; at = (h.0, r.at); at_others = r.at_others }
+    record { first = tree ∷ r.first; second = r.second; are = ap (λ l. tree ∷ l) r.are; pays = (h.0, r.pays); pays_others = r.pays_others }
 
-nodes_joined : (owed others : List Spot) (first second : List Tree) → AreAt owed first → nodes_of_all (owed ++ others) (first ++ second) ≡ nodes_of_all owed first ++ nodes_of_all others second
+pub nodes_joined : (owed others : List Spot) (first second : List Tree) → Pay owed first → nodes_of_all (owed ++ others) (first ++ second) ≡ nodes_of_all owed first ++ nodes_of_all others second
 nodes_joined [] others [] second h = refl
 nodes_joined [] others (tree ∷ first) second h = absurd h
 nodes_joined (spot ∷ owed) others [] second h = absurd h
 nodes_joined (spot ∷ owed) others (tree ∷ first) second h =
     ap (λ l. nodes spot.path spot.place tree ++ l) (nodes_joined owed others first second h.1) ∙ sym (append_assoc (nodes spot.path spot.place tree) (nodes_of_all owed first) (nodes_of_all others second))
 
-rows_fit : (path : List ℕ) (s : Position) (rows : List ℕ) (trees : List Tree) → AreAt (spots_below path s rows) trees → AreFit s rows trees
+pub rows_fit : (path : List ℕ) (s : Position) (rows : List ℕ) (trees : List Tree) → Pay (spots_below path s rows) trees → AreFit s rows trees
 rows_fit path s [] [] h = tt
 rows_fit path s [] (tree ∷ trees) h = absurd h
 rows_fit path s (r ∷ rows) [] h = absurd h
 rows_fit path s (r ∷ rows) (tree ∷ trees) h = (h.0, rows_fit path s rows trees h.1)
 
-as_many : (path : List ℕ) (s : Position) (rows : List ℕ) (trees : List Tree) → AreAt (spots_below path s rows) trees → length rows ≡ length trees
+as_many : (path : List ℕ) (s : Position) (rows : List ℕ) (trees : List Tree) → Pay (spots_below path s rows) trees → length rows ≡ length trees
 as_many path s [] [] h = refl
 as_many path s [] (tree ∷ trees) h = absurd h
 as_many path s (r ∷ rows) [] h = absurd h
 as_many path s (r ∷ rows) (tree ∷ trees) h = ap suc (as_many path s rows trees h.1)
 
-nodes_of_rows : (path : List ℕ) (s : Position) (rows : List ℕ) (trees : List Tree) → nodes_below path s rows trees ≡ nodes_of_all (spots_below path s rows) trees
+pub nodes_of_rows : (path : List ℕ) (s : Position) (rows : List ℕ) (trees : List Tree) → nodes_below path s rows trees ≡ nodes_of_all (spots_below path s rows) trees
 nodes_of_rows path s [] trees = refl
 nodes_of_rows path s (r ∷ rows) [] = refl
 nodes_of_rows path s (r ∷ rows) (tree ∷ trees) = ap (λ l. nodes (path ++ r ∷ []) (child s r) tree ++ l) (nodes_of_rows path s rows trees)
@@ -78,7 +66,7 @@ nodes_of_rows path s (r ∷ rows) (tree ∷ trees) = ap (λ l. nodes (path ++ r 
 -- the trees that symbols pay
 record Paid (owed : List Spot) (list : List Symbol) : Type 0 where
   trees : List Tree
-  at : AreAt owed trees
+  at : Pay owed trees
   symbols_are : list ≡ all_symbols trees
   nodes_are : nodes_by owed list ≡ nodes_of_all owed trees
 
@@ -87,20 +75,20 @@ branch_paid : (n : ℕ) (spot : Spot) (owed : List Spot) (list : List Symbol) �
 branch_paid n spot owed list counts r k =
     let below : List Spot = spots_below spot.path spot.place (targets spot.place) in
     let branch : IsBranchOf (Branch (row k.first)) k.first = branch_of k.first in
-    let many : n ≡ length (items (row k.first)) = counts ∙ as_many spot.path spot.place (targets spot.place) k.first k.at ∙ ap length (sym (items_row k.first)) in
+    let many : n ≡ length (items (row k.first)) = counts ∙ as_many spot.path spot.place (targets spot.place) k.first k.pays ∙ ap length (sym (items_row k.first)) in
     let text : list ≡ symbols_of_each (row k.first) ++ all_symbols k.second =
     r.symbols_are ∙ ap all_symbols k.are ∙ symbols_joined k.first k.second ∙ ap (λ l. l ++ all_symbols k.second) (sym (row_symbols k.first)) in
     record {
       trees = Branch (row k.first) ∷ k.second;
-      at = (branch.fits spot.place (rows_fit spot.path spot.place (targets spot.place) k.first k.at), k.at_others);
+      at = (branch.fits spot.place (rows_fit spot.path spot.place (targets spot.place) k.first k.pays), k.pays_others);
       symbols_are = ap (λ m. symbol.Branch m ∷ list) many ∙ ap (λ l. symbol.Branch (length (items (row k.first))) ∷ l) text;
       nodes_are =
-          ap (λ l. node_at spot X ∷ l) (r.nodes_are ∙ ap (nodes_of_all (below ++ owed)) k.are ∙ nodes_joined below owed k.first k.second k.at
+          ap (λ l. node_at spot X ∷ l) (r.nodes_are ∙ ap (nodes_of_all (below ++ owed)) k.are ∙ nodes_joined below owed k.first k.second k.pays
           ∙ ap (λ l. l ++ nodes_of_all owed k.second) (sym (nodes_of_rows spot.path spot.place (targets spot.place) k.first)))
           ∙ ap (λ l. l ++ nodes_of_all owed k.second) (sym (branch.nodes_are spot.path spot.place));
     }
 
-one_paid : (one : Symbol) (spot : Spot) (owed : List Spot) (list : List Symbol) → CountsRows one spot → Paid (owed_behind one spot owed) list → Paid (spot ∷ owed) (one ∷ list)
+one_paid : (one : Symbol) (spot : Spot) (owed : List Spot) (list : List Symbol) → CountsRows one spot → Paid (owed_behind (mark_of one) spot owed) list → Paid (spot ∷ owed) (one ∷ list)
 one_paid symbol.CutB spot owed list counts r = record { trees = CutB ∷ r.trees; at = (tt, r.at); symbols_are = ap (λ l. symbol.CutB ∷ l) r.symbols_are; nodes_are = ap (λ l. node_at spot B ∷ l) r.nodes_are }
 one_paid symbol.CutL spot owed list counts r = record { trees = CutL ∷ r.trees; at = (tt, r.at); symbols_are = ap (λ l. symbol.CutL ∷ l) r.symbols_are; nodes_are = ap (λ l. node_at spot L ∷ l) r.nodes_are }
 one_paid (symbol.Branch n) spot owed list counts r = branch_paid n spot owed list counts r (split (spots_below spot.path spot.place (targets spot.place)) owed r.trees r.at)
@@ -109,7 +97,7 @@ one_paid symbol.Given spot owed list counts r = record { trees = Given ∷ r.tre
 paid : (owed : List Spot) (list : List Symbol) → Leaves owed list [] → Paid owed list
 paid owed [] none = subst (λ o. Paid o []) (sym none) (record { trees = []; at = tt; symbols_are = refl; nodes_are = refl })
 paid [] (one ∷ list) h = absurd h
-paid (spot ∷ owed) (one ∷ list) h = one_paid one spot owed list h.0 (paid (owed_behind one spot owed) list h.1)
+paid (spot ∷ owed) (one ∷ list) h = one_paid one spot owed list h.0 (paid (owed_behind (mark_of one) spot owed) list h.1)
 
 -- ---- from the first symbol of a tree on
 
@@ -122,19 +110,19 @@ pub record IsWalked (top : Spot) (list : List Symbol) (met : List Node) (owed : 
 pub walk_begins : (top : Spot) → IsWalked top [] [] (top ∷ [])
 walk_begins top = record { leaves = refl; nodes_are = refl }
 
-leaves_more : (from : List Spot) (list : List Symbol) (spot : Spot) (owed : List Spot) (one : Symbol) → Leaves from list (spot ∷ owed) → CountsRows one spot → Leaves from (list ++ one ∷ []) (owed_behind one spot owed)
-leaves_more from [] spot owed one h counts = subst (λ f. Leaves f (one ∷ []) (owed_behind one spot owed)) (sym h) (counts, refl)
+leaves_more : (from : List Spot) (list : List Symbol) (spot : Spot) (owed : List Spot) (one : Symbol) → Leaves from list (spot ∷ owed) → CountsRows one spot → Leaves from (list ++ one ∷ []) (owed_behind (mark_of one) spot owed)
+leaves_more from [] spot owed one h counts = subst (λ f. Leaves f (one ∷ []) (owed_behind (mark_of one) spot owed)) (sym h) (counts, refl)
 leaves_more [] (first ∷ list) spot owed one h counts = absurd h
-leaves_more (f ∷ from) (first ∷ list) spot owed one h counts = (h.0, leaves_more (owed_behind first f from) list spot owed one h.1 counts)
+leaves_more (f ∷ from) (first ∷ list) spot owed one h counts = (h.0, leaves_more (owed_behind (mark_of first) f from) list spot owed one h.1 counts)
 
 nodes_more : (from : List Spot) (list : List Symbol) (spot : Spot) (owed : List Spot) (one : Symbol) → Leaves from list (spot ∷ owed) → nodes_by from (list ++ one ∷ []) ≡ nodes_by from list ++ node_at spot (mark_of one) ∷ []
 nodes_more from [] spot owed one h = ap (λ f. nodes_by f (one ∷ [])) h
 nodes_more [] (first ∷ list) spot owed one h = absurd h
-nodes_more (f ∷ from) (first ∷ list) spot owed one h = ap (λ l. node_at f (mark_of first) ∷ l) (nodes_more (owed_behind first f from) list spot owed one h.1)
+nodes_more (f ∷ from) (first ∷ list) spot owed one h = ap (λ l. node_at f (mark_of first) ∷ l) (nodes_more (owed_behind (mark_of first) f from) list spot owed one h.1)
 
 -- one symbol more
 pub walk_more : (top : Spot) (list : List Symbol) (met : List Node) (spot : Spot) (owed : List Spot) (one : Symbol) → IsWalked top list met (spot ∷ owed) → CountsRows one spot →
-    IsWalked top (list ++ one ∷ []) (met ++ node_at spot (mark_of one) ∷ []) (owed_behind one spot owed)
+    IsWalked top (list ++ one ∷ []) (met ++ node_at spot (mark_of one) ∷ []) (owed_behind (mark_of one) spot owed)
 walk_more top list met spot owed one w counts = record {
   leaves = leaves_more (top ∷ []) list spot owed one w.leaves counts;
   nodes_are = nodes_more (top ∷ []) list spot owed one w.leaves ∙ ap (λ l. l ++ node_at spot (mark_of one) ∷ []) w.nodes_are;
@@ -155,7 +143,7 @@ pub record IsTreeAt (top : Spot) (list : List Symbol) (met : List Node) : Type 0
   pub fits : Fits top.place tree
   pub nodes_are : nodes top.path top.place tree ≡ met
 
-one_tree : (top : Spot) (list : List Symbol) (met : List Node) (trees : List Tree) → AreAt (top ∷ []) trees → list ≡ all_symbols trees → nodes_of_all (top ∷ []) trees ≡ met → IsTreeAt top list met
+one_tree : (top : Spot) (list : List Symbol) (met : List Node) (trees : List Tree) → Pay (top ∷ []) trees → list ≡ all_symbols trees → nodes_of_all (top ∷ []) trees ≡ met → IsTreeAt top list met
 one_tree top list met [] at text list_is = absurd at
 one_tree top list met (tree ∷ []) at text list_is = record {
   tree = tree;

@@ -4,7 +4,10 @@ use Rattle.crp_plan.specs.Bay.{Position}
 use Rattle.crp_bay.specs.Positions.{targets, child}
 use Rattle.crp_tree.specs.declared.symbol.Symbol.{Symbol}
 use Rattle.crp_tree.specs.declared.symbol.Symbol.TheVariants as symbol
-use Rattle.crp_tree.specs.Trees.{Mark, B, L, X, G, Node}
+use Rattle.crp_tree.specs.Tree.{Tree}
+use Rattle.crp_tree.specs.declared.mark.Mark.{Mark}
+use Rattle.crp_tree.specs.declared.mark.Mark.TheVariants.{B, L, X, G}
+use Rattle.crp_tree.specs.Trees.{Node, nodes, letter, Fits}
 
 -- where a tree is owed: the path that it is to stand at, and the position there
 pub record Spot : Type 0 where
@@ -31,12 +34,30 @@ mark_of symbol.CutL = L
 mark_of (symbol.Branch n) = X
 mark_of symbol.Given = G
 
--- what is owed behind a symbol that came where a tree was owed at this spot, and then others
-abbrev pub owed_behind : Symbol → Spot → List Spot → List Spot
-owed_behind symbol.CutB spot owed = owed
-owed_behind symbol.CutL spot owed = owed
-owed_behind (symbol.Branch n) spot owed = spots_below spot.path spot.place (targets spot.place) ++ owed
-owed_behind symbol.Given spot owed = owed
+-- its letter
+abbrev pub symbol_letter : Symbol → ℕ
+symbol_letter one = letter (mark_of one)
+
+-- what is owed behind a node of this mark that came where a tree was owed at this spot, and then others: B, L and G are whole trees, X owes one for
+-- each legal row
+abbrev pub owed_behind : Mark → Spot → List Spot → List Spot
+owed_behind B spot owed = owed
+owed_behind L spot owed = owed
+owed_behind X spot owed = spots_below spot.path spot.place (targets spot.place) ++ owed
+owed_behind G spot owed = owed
+
+-- one tree for each spot, in their order, which fits there
+abbrev pub Pay : List Spot → List Tree → Type 0
+Pay [] [] = ⊤
+Pay [] (tree ∷ trees) = ⊥
+Pay (spot ∷ owed) [] = ⊥
+Pay (spot ∷ owed) (tree ∷ trees) = Fits spot.place tree × Pay owed trees
+
+-- the nodes of such trees
+abbrev pub nodes_of_all : List Spot → List Tree → List Node
+nodes_of_all [] trees = []
+nodes_of_all (spot ∷ owed) [] = []
+nodes_of_all (spot ∷ owed) (tree ∷ trees) = nodes spot.path spot.place tree ++ nodes_of_all owed trees
 
 -- a branch counts the legal rows of its spot
 abbrev pub CountsRows : Symbol → Spot → Type 0
@@ -49,10 +70,10 @@ CountsRows symbol.Given spot = ⊤
 abbrev pub Leaves : List Spot → List Symbol → List Spot → Type 0
 Leaves owed [] left = owed ≡ left
 Leaves [] (one ∷ list) left = ⊥
-Leaves (spot ∷ owed) (one ∷ list) left = CountsRows one spot × Leaves (owed_behind one spot owed) list left
+Leaves (spot ∷ owed) (one ∷ list) left = CountsRows one spot × Leaves (owed_behind (mark_of one) spot owed) list left
 
 -- the nodes that symbols stand for, where trees are owed at these spots
 abbrev pub nodes_by : List Spot → List Symbol → List Node
 nodes_by owed [] = []
 nodes_by [] (one ∷ list) = []
-nodes_by (spot ∷ owed) (one ∷ list) = node_at spot (mark_of one) ∷ nodes_by (owed_behind one spot owed) list
+nodes_by (spot ∷ owed) (one ∷ list) = node_at spot (mark_of one) ∷ nodes_by (owed_behind (mark_of one) spot owed) list

@@ -5,13 +5,8 @@ use Rattle.crp_plan.specs.declared.moves.Move.{Move}
 use Rattle.crp_plan.specs.Bay.{Problem, Position, IsPlan, relocations, path_of}
 use Rattle.crp_bounds.specs.Bounds.{blocking, look_ahead}
 use Rattle.crp_bay.specs.Positions.{targets, child}
-
--- what a node is: B a cut by the blocking bound, L a cut by the look-ahead bound, X a branch, G a subtree that is given to a part of its own
-pub data Mark : Type 0 where
-  B : Mark
-  L : Mark
-  X : Mark
-  G : Mark
+use Rattle.crp_tree.specs.declared.mark.Mark.{Mark}
+use Rattle.crp_tree.specs.declared.mark.Mark.TheVariants.{B, L, X, G}
 
 -- a node: its path, the position there, and what it is
 pub record Node : Type 0 where

@@ -3,6 +3,7 @@
 
 mod cert;
 mod laws;
+mod mark;
 mod name;
 mod name_list;
 mod part;
@@ -17,6 +18,7 @@ pub use laws::{
     names_given, names_once, needs_as_numbers, needs_pass_on, nodes_of_parts, nodes_of_trees,
     one_first_best, parts_cover, trees_show, whole_part_bounds,
 };
+pub use mark::Mark;
 pub use name::{MAX_NAME, Name};
 pub use name_list::Names;
 pub use part::Part;

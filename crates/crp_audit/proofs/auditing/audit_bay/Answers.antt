@@ -9,17 +9,17 @@ use Rattle.crp_audit.specs.Stops.{StopsAt}
 use Rattle.crp_audit.proofs.Bays.{bay_true, certificate_stops}
 use Rattle.crp_audit.proofs.auditing.audit_bay.Goals as goal
 
-pub returns-in_err-verdict-clause-wrong : goal.returns-in_err-verdict-clause-wrong
-returns-in_err-verdict-clause-wrong g c =
-    let p = err_from_is_err_and c.from_residual-in_err-verdict.result c.from_residual-in_err-verdict.ensures.1 in
+pub returns-in_err-found-clause-wrong : goal.returns-in_err-found-clause-wrong
+returns-in_err-found-clause-wrong g c =
+    let p = err_from_is_err_and c.from_residual-in_err-found.result c.from_residual-in_err-found.ensures.1 in
     let known = g.R.Source.remaining c.args.source.now in
-    rw (p.1, p.2) (certificate_stops known c.args.unread.now c.args.stated.now (bay_as c.args.said.now) c.in_ok-rows.rows.items c.args.front.now.items c.in_err-verdict.field-0.0
+    rw (p.1, p.2) (certificate_stops known c.args.unread c.args.stated.now (bay_as c.args.said.now) c.in_ok-rows.rows.items c.args.front.now.items c.in_err-found.field-0.0
     c.requires.named c.in_ok-rows.ensures.right
-    (subst (λ rows. StopsAt known c.args.unread.now (IsCertificateFault c.args.stated.now c.args.said.now.said rows) c.in_err-verdict.field-0.0) c.deref-3.ensures.value c.in_err-verdict.ensures.wrong))
+    (subst (λ rows. StopsAt known c.args.unread (IsCertificateFault c.args.stated.now c.args.said.now.said rows) c.in_err-found.field-0.0) c.deref-3.ensures.value c.in_err-found.ensures.wrong))
 
 pub returns-clause-right : goal.returns-clause-right
 returns-clause-right g c =
-    let (text, script, taken, is, says, verdict) = c.in_ok-verdict.ensures.right in (
+    let (text, script, taken, is, says, verdict) = c.in_ok-found.ensures.right in (
       text,
       taken,
       λ h bay same. (

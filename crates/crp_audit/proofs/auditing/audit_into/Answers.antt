@@ -120,7 +120,7 @@ loop-next-preserved g c =
     record {
       named = named.1;
       so = one_more of given c.args.limit c.loop-next.shown.items c.show.new.shown.items c.loop-next.front.items c.audit_bay.new.front.items c.loop-next.later.now c.in-Some.behind.now
-          c.in-Some.next.now (map bay_as c.loop-next.more.now) (map bay_as c.in-Some-split_first.after.now) (bay_as c.in-Some-split_first.bay.now) _ _ c.loop-next.unread c.audit_bay.new.unread text
+          c.in-Some.next.now (map bay_as c.loop-next.more.now) (map bay_as c.in-Some-split_first.after.now) (bay_as c.in-Some-split_first.bay.now) _ _ c.loop-next.unread c.in_ok-verdict.rest text
           c.in_ok-verdict.verdict o.so c.in-Some.ensures.cases.0 (ap (map bay_as) c.in-Some-split_first.ensures.cases.0) (c.is_named.ensures.0 c.if-not-is_named.false) taken true_of
           c.in_ok-verdict.ensures.front c.in_ok-show.ensures.shown;
       transfers = transfers_on o.transfers c.in_ok-verdict.ensures.done;

@@ -4,7 +4,7 @@ use Rattle.crp_audit.proofs.certified.accept_next.Goals as goal
 
 pub returns-clause-read : goal.returns-clause-read
 returns-clause-read g c =
-    let (text, taken, fed) = c.in_ok-feed_next.ensures.fed in
+    let (text, taken, fed) = c.in_ok-checker.ensures.fed in
     let wanted = Some c.args.problem.now in
     let read = fed wanted c.new-checker.ensures in (
       text,

@@ -15,18 +15,18 @@ use Rattle.crp_audit.proofs.certified.read_certificate.Goals as goal
 pub returns-in_err-fill-clause-wrong : goal.returns-in_err-fill-clause-wrong
 returns-in_err-fill-clause-wrong g c =
     let p = err_from_is_err_and c.from_residual.result c.from_residual.ensures.1 in
-    rw (p.1, p.2) (read_stops _ c.args.unread.now c.args.stated.now c.args.said c.args.rows.now c.in_err-fill.field-0.0 c.requires.some (λ e. c.in_err-fill.ensures.large (ap Err e)))
+    rw (p.1, p.2) (read_stops _ c.args.unread c.args.stated.now c.args.said c.args.rows.now c.in_err-fill.field-0.0 c.requires.some (λ e. c.in_err-fill.ensures.large (ap Err e)))
 
 pub returns-then-not-branch-clause-wrong : goal.returns-then-not-branch-clause-wrong
 returns-then-not-branch-clause-wrong g c =
     let end = c.in_ok-fill.ensures.end c.if-not-branch.true in
-    lacking_stops _ _ c.args.unread.now c.fill.new.self c.args.stated.now c.args.said c.args.rows.now _ c.copy.ensures c.in_ok-fill.ensures.same end.0
+    lacking_stops _ _ c.args.unread c.fill.new.self c.args.stated.now c.args.said c.args.rows.now _ c.copy.ensures c.in_ok-fill.ensures.same end.0
 
 pub returns-in_err-answer-clause-wrong : goal.returns-in_err-answer-clause-wrong
 returns-in_err-answer-clause-wrong g c =
     let p = err_from_is_err_and c.from_residual-in_err-answer.result c.from_residual-in_err-answer.ensures.1 in
-    rw (p.1, p.2) (read_stops _ c.args.unread.now c.args.stated.now c.args.said c.args.rows.now c.in_err-answer.field-0.0 c.requires.some
-    (λ e. too_long_since _ _ c.args.unread.now c.fill.new.self _ c.in_ok-fill.ensures.same (c.in_err-answer.ensures.large (ap Err e))))
+    rw (p.1, p.2) (read_stops _ c.args.unread c.args.stated.now c.args.said c.args.rows.now c.in_err-answer.field-0.0 c.requires.some
+    (λ e. too_long_since _ _ c.args.unread c.fill.new.self _ c.in_ok-fill.ensures.same (c.in_err-answer.ensures.large (ap Err e))))
 
 pub returns-in-Err : goal.returns-in-Err
 returns-in-Err g c =
@@ -35,8 +35,8 @@ returns-in-Err g c =
     let why = ⊎_elim (λ e. absurd (other e)) (λ k. k) (err_at c.in_ok-answer.answer c.in-Err.refused _ _ c.in-Err.is read) in
     record {
       right = tt;
-      wrong = refused_stops _ _ c.args.unread.now c.accept_next.new.unread c.args.stated.now c.args.said c.args.rows.now text _ c.in-Err.refused c.copy-in-Err.ensures
-          (taken_since _ _ _ c.args.unread.now c.fill.new.self c.accept_next.new.unread text c.in_ok-fill.ensures.same taken) other why;
+      wrong = refused_stops _ _ c.args.unread c.in_ok-answer.unread c.args.stated.now c.args.said c.args.rows.now text _ c.in-Err.refused c.copy-in-Err.ensures
+          (taken_since _ _ _ c.args.unread c.fill.new.self c.in_ok-answer.unread text c.in_ok-fill.ensures.same taken) other why;
       done = tt;
       stopped = transfers_on c.in_ok-fill.ensures.done c.in_ok-answer.ensures.done;
     }
@@ -47,8 +47,8 @@ returns-then-not-says_this-clause-wrong g c =
     let (script, is, bay, plan, shows) = ok_at c.in_ok-answer.answer c.in-Ok.found _ _ c.in-Ok.is read in
     let said : c.verdict_said-verdict.result ≡ verdict_said (cap c.args.stated.now.problem) c.args.said =
     c.verdict_said-verdict.ensures ∙ ap (λ most. verdict_said most c.args.said) c.cap.ensures.value in
-    other_stops _ _ c.args.unread.now c.accept_next.new.unread c.args.stated.now c.args.said c.args.rows.now text script _ c.copy-then-not-says_this.ensures
-    (taken_since _ _ _ c.args.unread.now c.fill.new.self c.accept_next.new.unread text c.in_ok-fill.ensures.same taken) is
+    other_stops _ _ c.args.unread c.in_ok-answer.unread c.args.stated.now c.args.said c.args.rows.now text script _ c.copy-then-not-says_this.ensures
+    (taken_since _ _ _ c.args.unread c.fill.new.self c.in_ok-answer.unread text c.in_ok-fill.ensures.same taken) is
     (λ says.
     let verdict = one_verdict_under script.head.claim _ _ c.in-Ok.found.verdict (verdict_said (cap c.args.stated.now.problem) c.args.said) shows says.verdict in
     let t : c.says_this.result ≡ true = c.says_this.ensures.1 (sym bay ∙ says.bay, verdict ∙ sym said, subst (λ p. IsPlanSaid c.args.said p c.args.rows.now) plan says.plan) in
@@ -63,7 +63,7 @@ returns-clause-right g c =
     let same = c.says_this.ensures.0 c.if-not-says_this.false in (
       text,
       script,
-      taken_since _ _ _ c.args.unread.now c.fill.new.self c.accept_next.new.unread text c.in_ok-fill.ensures.same taken,
+      taken_since _ _ _ c.args.unread c.fill.new.self c.in_ok-answer.unread text c.in_ok-fill.ensures.same taken,
       is,
       record { bay = bay ∙ same.0; verdict = subst (IsVerdict script) (same.1 ∙ said) shows; plan = subst (λ p. IsPlanSaid c.args.said p c.args.rows.now) (sym plan) same.2 },
       said,

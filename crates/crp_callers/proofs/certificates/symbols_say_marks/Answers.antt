@@ -1,5 +1,7 @@
 use Rattle.std.proofs.Common.{◌≡◌, ◌∙◌, ℕ, List, [], ◌∷◌, ap, refl, sym, map, if◌then◌else◌, ◌==◌}
-use Rattle.crp_tree.specs.Trees.{Mark, B, L, X, G, Node, letter, nodes}
+use Rattle.crp_tree.specs.declared.mark.Mark.{Mark}
+use Rattle.crp_tree.specs.declared.mark.Mark.TheVariants.{B, L, X, G}
+use Rattle.crp_tree.specs.Trees.{Node, letter, nodes}
 use Rattle.crp_callers.proofs.certificates.symbols_say_marks.Goals as goal
 
 -- the mark of a letter

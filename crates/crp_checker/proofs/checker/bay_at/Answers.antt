@@ -1,12 +1,12 @@
 use Rattle.std.proofs.Common.{sym, ◌∙◌, subst}
-use Rattle.crp_checker.specs.Stages.{HasCome, IsBayIn}
-use Rattle.crp_checker.proofs.Heading.{head_bay}
+use Rattle.crp_cert.specs.HeadsFed.{IsBayIn}
+use Rattle.crp_checker.specs.Stages.{HasCome}
 use Rattle.crp_checker.proofs.Concluded.{bay_now, bay_at_line, bay_at_part, bay_at_end}
 use Rattle.crp_checker.proofs.checker.bay_at.Goals as goal
 
 pub returns-in-Head : goal.returns-in-Head
 returns-in-Head c wanted bytes come =
-    subst (IsBayIn bytes) (sym (c.same_bay_if.ensures ∙ c.bay.ensures)) (head_bay bytes c.in-Head.lines c.in-Head.begun.items (subst (HasCome wanted bytes) c.in-Head.is come))
+    subst (IsBayIn bytes) (sym c.same_bay.ensures) (c.bay.ensures bytes (subst (HasCome wanted bytes) c.in-Head.is come))
 
 pub returns-in-Line : goal.returns-in-Line
 returns-in-Line c wanted bytes come =
@@ -22,4 +22,4 @@ returns-in-Ended c wanted bytes come =
 
 pub returns-in-Faulty : goal.returns-in-Faulty
 returns-in-Faulty c wanted bytes come =
-    subst (IsBayIn bytes) (sym (c.same_bay_if-in-Faulty.ensures ∙ c.as_ref.ensures.value)) (bay_now bytes c.in-Faulty.bay c.in-Faulty.fault (subst (HasCome wanted bytes) c.in-Faulty.is come))
+    subst (IsBayIn bytes) (sym (c.same_bay-in-Faulty.ensures ∙ c.as_ref.ensures.value)) (bay_now bytes c.in-Faulty.bay c.in-Faulty.fault (subst (HasCome wanted bytes) c.in-Faulty.is come))

@@ -1,15 +1,13 @@
-use Rattle.std.proofs.Common.{◌≡◌, List, ℕ, ◌⊎◌, inl, inr, sym, subst}
+use Rattle.std.proofs.Common.{◌≡◌, List, ℕ, ◌⊎◌, inl, inr, subst}
 use Rattle.crp_cert.specs.declared.fault.CertFault.TheVariants as faults
 use Rattle.crp_checker.specs.Openings.{IsBegunWith, part_word}
-use Rattle.crp_cert.specs.Faults.{IsFirstFault}
 use Rattle.crp_checker.specs.Stages.{HasCome}
-use Rattle.crp_checker.proofs.Heading.{head_ends}
 use Rattle.crp_checker.proofs.Concluded.{ends_in_line, ends_in_part, faulty_now}
 use Rattle.crp_checker.proofs.checker.finish_at.Goals as goal
 
 pub returns-in-Head-clause-refused : goal.returns-in-Head-clause-refused
 returns-in-Head-clause-refused c =
-    inr (λ wanted bytes come. inl (subst (IsFirstFault bytes) (sym c.fault.ensures) (head_ends bytes c.in-Head.lines c.in-Head.begun.items (subst (HasCome wanted bytes) c.in-Head.is come))))
+    inr (λ wanted bytes come. inl (c.fault.ensures bytes (subst (HasCome wanted bytes) c.in-Head.is come)))
 
 pub returns-in-Line-clause-refused : goal.returns-in-Line-clause-refused
 returns-in-Line-clause-refused c =

@@ -11,10 +11,11 @@ returns-in_err-hold_names-clause-refused c =
     let p = err_from_is_err_and c.from_residual.result c.from_residual.ensures.1 in
     rw (p.1, p.2)
     (refused_by_names c.args.findings c.in_err-hold_names.field-0.0 c.in_default.is
-    (subst (λ (l : List (List ℕ)). IsNamesRefusal l c.args.findings.given.items c.in_err-hold_names.field-0.0) c.into_vec.ensures.value c.in_err-hold_names.ensures.refused))
+    (λ list kept. subst (λ (l : List (List ℕ)). IsNamesRefusal l list c.in_err-hold_names.field-0.0) c.into_vec.ensures.value (c.in_err-hold_names.ensures.refused list kept)))
 
 pub returns-clause-states : goal.returns-clause-states
 returns-clause-states c wanted bytes ended =
-    let same = subst (λ (l : List (List ℕ)). (name : List ℕ) → Contains l name ↔ IsRootOrGiven c.args.findings.given.items name) c.into_vec.ensures.value c.in_ok-hold_names.ensures.same in
-    let shown = shown_at_end wanted bytes c.args.findings c.verdict_under-verdict.result ended c.in_default.is same (subst (λ n. IsVerdictUnder c.args.findings.need.claim n c.args.findings.count c.verdict_under-verdict.result) c.cap.ensures.value c.verdict_under-verdict.ensures) in
+    let shown = shown_at_end wanted bytes c.args.findings c.verdict_under-verdict.result ended c.in_default.is
+    (λ list kept. subst (λ (l : List (List ℕ)). (name : List ℕ) → Contains l name ↔ IsRootOrGiven list name) c.into_vec.ensures.value (c.in_ok-hold_names.ensures.same list kept))
+    (subst (λ n. IsVerdictUnder c.args.findings.need.claim n c.args.findings.count c.verdict_under-verdict.result) c.cap.ensures.value c.verdict_under-verdict.ensures) in
     (ended.script, shown.0, sym ended.are.bay_is, sym ended.are.plan_is, shown.1)

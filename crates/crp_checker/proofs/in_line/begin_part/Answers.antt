@@ -1,4 +1,4 @@
-use Rattle.std.proofs.Common.{◌≡◌, ◌≤◌, ◌++◌, [], length, sym, ap, ◌∙◌, subst}
+use Rattle.std.proofs.Common.{[], sym, ap, ◌∙◌, subst}
 use Rattle.std.proofs.lemmas.List.{append-nil}
 use Rattle.crp_plan.specs.Bay.{IsAt}
 use Rattle.crp_cert.specs.ScriptFaults.{BeginsWithParts}
@@ -9,16 +9,15 @@ use Rattle.crp_checker.proofs.in_line.begin_part.Goals as goal
 pub returns : goal.returns
 returns c wanted bytes script line are begins =
     let name = c.args.name in
-    let kept : c.in_ok-name.name ≡ name = c.in_ok-name.ensures ∙ c.rows-2.ensures.value in
     record {
       script = script;
       line = line;
       place = c.in-Some.place.place;
       symbols = [];
       are = are;
-      begins = subst (λ n. BeginsWithParts bytes script.head script.parts line (named_line n ++ [])) (sym kept) (subst (BeginsWithParts bytes script.head script.parts line) (sym (append-nil (named_line name))) begins);
-      short = subst (λ n. length n ≤ 8) (sym kept) c.requires.0;
-      is_at = subst (λ p. IsAt p c.in_ok-name.name c.in-Some.place.place) are.problem_is (subst (λ n. IsAt c.args.findings.problem n c.in-Some.place.place) (sym kept) c.in-Some.ensures.at);
+      begins = subst (BeginsWithParts bytes script.head script.parts line) (sym (append-nil (named_line name))) begins;
+      short = c.requires.0;
+      is_at = subst (λ p. IsAt p name c.in-Some.place.place) are.problem_is c.in-Some.ensures.at;
       one_line = tt;
-      kept_is = c.in_ok-line.ensures ∙ ap (λ n. line_begun (record { path = n; place = c.in-Some.place.place })) (c.rows.ensures.value ∙ sym kept);
+      kept_is = c.in_ok-line.ensures ∙ ap (λ n. line_begun (record { path = n; place = c.in-Some.place.place })) c.rows.ensures.value;
     }

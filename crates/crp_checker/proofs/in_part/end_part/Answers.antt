@@ -38,7 +38,7 @@ returns-in_ok-with_part-in-Whole c wanted before at =
     let w = c.in-Whole.wrong in
     let given = c.in-Whole.given in
     let next = c.in_ok-with_part-in-Whole in
-    part_ended wanted before c.args.name c.args.findings next.field-0 c.args.line (Whole w given) c.new.result.items w given.items at (c.come_before.ensures.0 c.if-not-come_before.false)
+    part_ended wanted before c.args.name c.args.findings next.field-0 c.args.line (Whole w given) c.new.result.items w given at (c.come_before.ensures.0 c.if-not-come_before.false)
     (λ need top bytes is. subst (IsEndOfSymbols need top bytes) c.in-Whole.is (c.end.ensures need top bytes is))
     (λ p parts need line bytes after is. is)
     (record {

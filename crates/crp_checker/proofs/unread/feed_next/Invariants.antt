@@ -7,8 +7,8 @@ use Rattle.crp_checker.specs.Watches.{IsUnended}
 use Rattle.crp_checker.specs.Reading.{HasMore, AreTaken}
 use Rattle.crp_checker.proofs.unread.feed_next.Given as goal
 
-abbrev pub invariant-loop : goal.invariant-loop
-invariant-loop g l = record {
+abbrev pub invariant-loop-unread : goal.invariant-loop-unread
+invariant-loop-unread g l = record {
   text : List ℕ;
   taken : AreTaken (g.R.Source.remaining l.initial.source) l.initial.unread text (g.R.Source.remaining l.source) l.unread;
   read : (wanted : Option Problem) → HasRead wanted [] l.initial.checker → HasRead wanted text l.checker;
@@ -17,5 +17,5 @@ invariant-loop g l = record {
   transfers : Transfers 0 l.initial.interruptions l.interruptions (g.R.Source.failures l.initial.source) (g.R.Source.failures l.source) (g.R.Source.interrupted l.initial.source) (g.R.Source.interrupted l.source);
 }
 
-abbrev pub decreases-loop : goal.decreases-loop
-decreases-loop g l = l.unread.room
+abbrev pub decreases-loop-unread : goal.decreases-loop-unread
+decreases-loop-unread g l = l.unread.room

@@ -27,4 +27,4 @@ returns-in_err-write_all g c =
     let stated = subst (IsBoundReport c.in_ok-head.head) (sym c.deref.ensures.value) c.in_ok-report.ensures in
     let found = c.in_ok-head.ensures.found in
     rw (p.1, p.2)
-    ((has_failed c.in_err-write_all.ensures.gave_up, (found.0, c.deref.result.now, found.1, (c.in_ok-head.head, found.2, stated), c.in_err-write_all.ensures.part)), search rules)
+    ((has_failed c.in_err-write_all.ensures.gave_up, (found.text, c.deref.result.now, found.text_is, (c.in_ok-head.head, found.head_is, stated), c.in_err-write_all.ensures.part)), search rules)

@@ -25,7 +25,7 @@ pub returns-in_err-report : goal.returns-in_err-report
 returns-in_err-report g c =
     let p = err_from_is_err_and c.from_residual-in_err-report.result c.from_residual-in_err-report.ensures.1 in
     let found = c.in_ok-head.ensures.found in
-    rw (p.1, p.2) (no_report_reported _ _ found.0 c.in_ok-head.head c.in_err-report.field-0.0 (keeps_same _) found.1 found.2 c.in_err-report.ensures.refused, search rules)
+    rw (p.1, p.2) (no_report_reported _ _ found.text c.in_ok-head.head c.in_err-report.field-0.0 (keeps_same _) found.text_is found.head_is c.in_err-report.ensures.refused, search rules)
 
 pub returns-in_err-write_all : goal.returns-in_err-write_all
 returns-in_err-write_all g c =
@@ -33,10 +33,10 @@ returns-in_err-write_all g c =
     let stated = subst (IsHeadReport c.in_ok-head.head) (sym c.deref.ensures.value) c.in_ok-report.ensures.stated in
     let found = c.in_ok-head.ensures.found in
     rw (p.1, p.2)
-    ((has_failed c.in_err-write_all.ensures.gave_up, (found.0, c.deref.result.now, found.1, (c.in_ok-head.head, found.2, stated), c.in_err-write_all.ensures.part)), search rules)
+    ((has_failed c.in_err-write_all.ensures.gave_up, (found.text, c.deref.result.now, found.text_is, (c.in_ok-head.head, found.head_is, stated), c.in_err-write_all.ensures.part)), search rules)
 
 pub returns : goal.returns
 returns g c =
     let stated = subst (IsHeadReport c.in_ok-head.head) (sym c.deref.ensures.value) c.in_ok-report.ensures.stated in
     let found = c.in_ok-head.ensures.found in
-    ((refl, (found.0, c.deref.result.now, found.1, (c.in_ok-head.head, found.2, stated), c.in_ok-write_all.ensures.all)), search rules)
+    ((refl, (found.text, c.deref.result.now, found.text_is, (c.in_ok-head.head, found.head_is, stated), c.in_ok-write_all.ensures.all)), search rules)

@@ -1,7 +1,8 @@
 use Rattle.std.proofs.Common.{[], ◌∷◌, sym, subst, refl, arith}
 use Rattle.std.proofs.lemmas.Result.{IfOk-weaker, IfErr-weaker}
 use Rattle.crp_plan.proofs.Steps.{short_path}
-use Rattle.crp_tree.specs.Trees.{B, Node}
+use Rattle.crp_tree.specs.declared.mark.Mark.TheVariants.{B}
+use Rattle.crp_tree.specs.Trees.{Node}
 use Rattle.crp_search.specs.Limits.{dealt}
 use Rattle.crp_search.specs.Walked.{met_at}
 use Rattle.crp_search.proofs.SoFar.{met_cut}

@@ -4,7 +4,7 @@ use Rattle.crp_plan.specs.Bay.{IsFinished}
 use Rattle.crp_plan.proofs.Steps.{short_path}
 use Rattle.crp_bay.specs.Back.{PlaceAndTrail}
 use Rattle.crp_bounds.specs.Bounds.{blocking, look_ahead}
-use Rattle.crp_tree.specs.Trees.{B, L, X}
+use Rattle.crp_tree.specs.declared.mark.Mark.TheVariants.{B, L, X}
 use Rattle.crp_search.specs.Limits.{dealt}
 use Rattle.crp_search.proofs.Greedily.{complete, unfinished}
 use Rattle.crp_search.proofs.SoFar.{met_branch}

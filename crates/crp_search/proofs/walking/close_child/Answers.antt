@@ -7,7 +7,8 @@ use Rattle.crp_bay.specs.Positions.{child}
 use Rattle.crp_bay.specs.Reached.{IsReached}
 use Rattle.crp_bay.proofs.Reaching.{can_from_target}
 use Rattle.crp_bounds.proofs.Leasts.{few_blocked}
-use Rattle.crp_tree.specs.Trees.{B, Node}
+use Rattle.crp_tree.specs.declared.mark.Mark.TheVariants.{B}
+use Rattle.crp_tree.specs.Trees.{Node}
 use Rattle.crp_tree.proofs.Followed.{legal_push}
 use Rattle.crp_search.specs.Limits.{dealt}
 use Rattle.crp_search.specs.Walked.{met_at}

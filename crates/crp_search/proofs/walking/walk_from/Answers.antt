@@ -9,7 +9,8 @@ use Rattle.crp_bay.specs.Back.{PlaceAndTrail}
 use Rattle.crp_tree.specs.declared.symbol.Symbol.{Symbol}
 use Rattle.crp_tree.specs.declared.symbol.Symbol.TheVariants as symbol
 use Rattle.crp_tree.specs.Symbols.{leaf, leaf_symbols}
-use Rattle.crp_tree.specs.Trees.{X, Node, nodes, Fits, IsGivenAway, least_value}
+use Rattle.crp_tree.specs.declared.mark.Mark.TheVariants.{X}
+use Rattle.crp_tree.specs.Trees.{Node, nodes, Fits, IsGivenAway, least_value}
 use Rattle.crp_tree.specs.Spots.{node_at}
 use Rattle.crp_tree.proofs.Followed.{pop_back, back_again}
 use Rattle.crp_tree.proofs.Paying.{walk_begins}

@@ -14,10 +14,10 @@ pub returns-then-not-is_paid : goal.returns-then-not-is_paid
 returns-then-not-is_paid c = λ need top bytes e.
     let w = ends_walk need top bytes (line_of c.args.self) e c.if-self.false c.if-self-2.false in
     let owed = c.is_paid.ensures.some c.if-not-is_paid.true in
-    (w.0, subst (λ l. EndsWalk need top bytes l c.args.self.found.wrong c.args.self.found.given.items) owed.2 w.1)
+    (w.0, subst (λ l. EndsWalk need top bytes l c.args.self.found.wrong c.args.self.found.given) owed.2 w.1)
 
 pub returns : goal.returns
 returns c = λ need top bytes e.
     let w = ends_walk need top bytes (line_of c.args.self) e c.if-self.false c.if-self-2.false in
     let none = c.is_paid.ensures.none c.if-not-is_paid.false in
-    (w.0, subst (λ l. EndsWalk need top bytes l c.args.self.found.wrong c.args.self.found.given.items) none w.1)
+    (w.0, subst (λ l. EndsWalk need top bytes l c.args.self.found.wrong c.args.self.found.given) none w.1)

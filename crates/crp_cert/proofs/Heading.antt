@@ -3,7 +3,6 @@ use Rattle.std.proofs.Common.{◌≡◌, ◌≢◌, ◌≤◌, ◌⊎◌, ℕ, L
 use Rattle.std.specs.List.{AllByRecursion, flat_map}
 use Rattle.std.proofs.lemmas.List.{append-nil}
 use Rattle.crp_plan.specs.Faults.{stacks_of}
-use Rattle.crp_cert.specs.declared.script.Script.{Script}
 use Rattle.crp_cert.specs.declared.version.Version.TheVariants.{Two}
 use Rattle.crp_cert.specs.declared.bay_rows.BayRows.{BayRows}
 use Rattle.crp_cert.specs.declared.head_lines.HeadLines.{HeadLines}
@@ -13,11 +12,11 @@ use Rattle.crp_cert.specs.Text.{title_line, bay_line, size_line, stated_heights,
 use Rattle.crp_cert.specs.Faults.{IsFirstFault}
 use Rattle.crp_cert.specs.Settled.{longest_line}
 use Rattle.crp_cert.specs.LinesOfHead.{HasLines, HasRead, HasNoLine, IsLineRead, fault_behind, bay_of}
-use Rattle.crp_cert.proofs.Settled.{no_stop}
+use Rattle.crp_cert.proofs.Settled.{no_stop, grown}
 use Rattle.crp_cert.proofs.Readers.{once, title_reader}
 use Rattle.crp_cert.proofs.LinesOfHead.{settled, fault_is}
-use Rattle.crp_checker.specs.Stages.{IsInHead, IsLineEnd, IsOpenLine, IsBayIn, IsFaulty}
-use Rattle.crp_checker.proofs.Growing.{grown}
+use Rattle.crp_cert.specs.declared.open_head.OpenHead.{OpenHead}
+use Rattle.crp_cert.specs.HeadsFed.{IsInHead, IsLineEnd, IsBayIn, IsFaultyHead}
 
 -- three texts, and more behind them
 behind : (a b c more : List ℕ) → (a ++ (b ++ c)) ++ more ≡ a ++ (b ++ (c ++ more))
@@ -49,16 +48,18 @@ bay_in bytes rest (lines.Claim claimed) has none =
     )
 
 -- bytes that end in a head
-pub head_ends : (bytes : List ℕ) (all : HeadLines) (begun : List ℕ) → IsInHead bytes all begun → IsFirstFault bytes (fault_behind all)
-head_ends bytes all begun at = subst (λ l. IsFirstFault l (fault_behind all)) (sym at.is) (fault_is at.above begun all at.has ((settled all).not_yet begun at.one_line))
+pub head_ends : (bytes : List ℕ) (front : OpenHead) → IsInHead bytes front → IsFirstFault bytes (fault_behind front.lines)
+head_ends bytes front at =
+    subst (λ l. IsFirstFault l (fault_behind front.lines)) (sym at.is) (fault_is at.above front.begun.items front.lines at.has ((settled front.lines).not_yet front.begun.items at.one_line))
 
-pub head_bay : (bytes : List ℕ) (all : HeadLines) (begun : List ℕ) → IsInHead bytes all begun → IsBayIn bytes (bay_of all)
-head_bay bytes all begun at = subst (λ l. IsBayIn l (bay_of all)) (sym at.is) (bay_in at.above begun all at.has ((settled all).not_yet begun at.one_line))
+pub head_bay : (bytes : List ℕ) (front : OpenHead) → IsInHead bytes front → IsBayIn bytes (bay_of front.lines)
+head_bay bytes front at =
+    subst (λ l. IsBayIn l (bay_of front.lines)) (sym at.is) (bay_in at.above front.begun.items front.lines at.has ((settled front.lines).not_yet front.begun.items at.one_line))
 
 -- a line that may not stand there
-pub line_is_faulty : (before line : List ℕ) (all : HeadLines) → HasLines before all → IsLineEnd line → HasNoLine all line → IsFaulty (before ++ line) (bay_of all) (fault_behind all)
+pub line_is_faulty : (before line : List ℕ) (all : HeadLines) → HasLines before all → IsLineEnd line → HasNoLine all line → IsFaultyHead (before ++ line) (bay_of all) (fault_behind all)
 line_is_faulty before line all has ends none = record {
-  fault_stays = λ more. inl (subst (λ l. IsFirstFault l (fault_behind all)) (sym (append_assoc before line more)) (fault_is before (line ++ more) all has ((settled all).stays line more ends.judged none)));
+  fault_stays = λ more. subst (λ l. IsFirstFault l (fault_behind all)) (sym (append_assoc before line more)) (fault_is before (line ++ more) all has ((settled all).stays line more ends.judged none));
   bay_stays = λ more. subst (λ l. IsBayIn l (bay_of all)) (sym (append_assoc before line more)) (bay_in before (line ++ more) all has ((settled all).stays line more ends.judged none));
 }
 
@@ -83,7 +84,3 @@ line_ends old new b one_line added judged = record {
 -- more of a line
 pub placed : (before above begun more new : List ℕ) → before ≡ above ++ begun → new ≡ begun ++ more → above ++ new ≡ before ++ more
 placed before above begun more new is added = ap (λ l. above ++ l) added ∙ sym (append_assoc above begun more) ∙ ap (λ l. l ++ more) (sym is)
-
--- no line has begun
-pub nothing_begun : (script : Script) → IsOpenLine script []
-nothing_begun script = record { no_name = λ stands. let e = stands.2.1 in cc; no_end = λ stands. let e = stands.1 in cc }

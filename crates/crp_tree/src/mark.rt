@@ -1,0 +1,12 @@
+/// What a node of a search tree is.
+#[derive(Clone, Copy)]
+pub enum Mark {
+    /// A cut by the blocking bound.
+    B,
+    /// A cut by the look-ahead bound.
+    L,
+    /// A branch.
+    X,
+    /// A subtree that is given to a part of its own.
+    G,
+}
