@@ -1,8 +1,7 @@
 -- What is written of a head, and how refusals are stated.
-use Rattle.std.proofs.Common.{◌≡◌, ◌<◌, ℕ, List, length, IfSome, ◌++◌, Option, Some, None, ◌⊎◌, inl, inr, refl, sym, ap, subst, ◌∙◌, append_assoc}
+use Rattle.std.proofs.Common.{◌≡◌, ℕ, List, ◌++◌, Option, Some, None, refl, sym, ap, subst, ◌∙◌, append_assoc}
 use Rattle.std.specs.Io.KnownBytes.{Keeps}
 use Rattle.crp_cert.specs.declared.fault.CertFault.{CertFault}
-use Rattle.crp_cert.specs.declared.fault.CertFault.TheVariants as cert
 use Rattle.crp_cert.specs.Faults.{IsFirstFault}
 use Rattle.crp_cert.specs.declared.head.Head.{Head}
 use Rattle.crp_cert.specs.Text.{IsHead, IsHeadOf}
@@ -17,11 +16,6 @@ use Rattle.crp_jobs.specs.declared.outcome.ToolFault.{ToolFault}
 use Rattle.crp_jobs.specs.declared.outcome.ToolFault.TheVariants as fault
 use Rattle.crp_yard.specs.Reading.{IsTextOf}
 use Rattle.crp_commands.specs.Calls.{CallSeen, IsNoHead, CallFailsWith}
-use Rattle.crp_plan.specs.declared.transfer.ReadFault.{ReadFault}
-use Rattle.crp_plan.specs.declared.transfer.ReadFault.TheVariants as read
-use Rattle.crp_plan.specs.Devices.{HasFailed}
-use Rattle.crp_cert.specs.FromSources.{BeginsWithNone}
-use Rattle.crp_jobs.specs.Outcomes.{fault_of_cert, fault_of_read}
 use Rattle.crp_commands.specs.Replay.{IsReplay, IsNoReplay, IsNoReport}
 
 -- five pieces, one after the other
@@ -36,18 +30,6 @@ five_pieces text one two three four five a b c d e p q r s t =
 pub keeps_same : (known : Option (List ℕ)) → Keeps known known
 keeps_same None = tt
 keeps_same (Some xs) = refl
-
--- why no head was read
-pub no_head : (limit : ℕ) (given : Option (List ℕ)) (before after : ℕ) (f : CertFault) → BeginsWithNone limit given f → IsNoHead limit given before after (fault_of_cert f)
-no_head limit given before after cert.Memory none = tt
-no_head limit given before after f none = (none.text, (none.within, none.text_is), none.first)
-
--- or why the source was not
-pub not_read : (limit : ℕ) (given : Option (List ℕ)) (before after : ℕ) (f : ReadFault) → (f ≡ read.Failed → HasFailed before after) → (f ≡ read.TooLarge → IfSome given (λ xs. limit < length xs)) →
-    IsNoHead limit given before after (fault_of_read f)
-not_read limit given before after read.Failed failed large = failed refl
-not_read limit given before after read.TooLarge failed large = large refl
-not_read limit given before after read.Memory failed large = tt
 
 -- a command without a head states why, where nothing was written
 pub no_head_reported : (limit : ℕ) (IsReport : List ℕ → List ℕ → Type 0) (IsRefused : List ℕ → ToolFault → Type 0) (seen : CallSeen) (f : ToolFault) → Keeps seen.held seen.holds →

@@ -3,8 +3,6 @@ use Rattle.std.specs.Prelude.{◌≡◌, ℕ, ◌+◌, ◌-◌, ◌<◌, ◌≤�
 use Rattle.std.specs.Io.KnownBytes.{Appends, Keeps}
 use Rattle.crp_plan.specs.Devices.{AppendsPart, HasFailed, most_interruptions}
 use Rattle.crp_yard.specs.Reading.{IsTextOf}
-use Rattle.crp_cert.specs.declared.head.Head.{Head}
-use Rattle.crp_cert.specs.FromSources.{BeginsWithHead}
 use Rattle.crp_cert.specs.Faults.{IsFirstFault}
 use Rattle.crp_report.specs.Runs.{failures_of_fault}
 use Rattle.crp_jobs.specs.declared.outcome.ToolFault.{ToolFault}
@@ -13,10 +11,6 @@ use Rattle.crp_jobs.specs.declared.outcome.ToolFault.TheVariants as fault
 -- these bytes, no more than the limit, are those that a source had, where it stated them
 abbrev pub IsTextWithin : ℕ → Option (List ℕ) → List ℕ → Type 0
 IsTextWithin limit known text = (length text ≤ limit) × IfSome known (λ xs. text ≡ xs)
-
--- the bytes of a source begin with a head; no more of them were read than the head, and a piece behind it
-abbrev pub ReadsHead : Option (List ℕ) → Option (List ℕ) → Type 0
-ReadsHead given left = (head : Head) × BeginsWithHead given left head
 
 -- what a call saw and left: the bytes that its source had, what its sink held before and holds after, and both counts of failures
 -- before and after

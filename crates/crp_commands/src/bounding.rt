@@ -3,7 +3,7 @@ ghost use Rattle.std.specs.Prelude.{◌≡◌, ◌≤◌, ◌++◌, IfOk, OnOk, 
 ghost use Rattle.crp_commands.specs.declared.heads.TheConstants.{MOST_BYTES};
 ghost use Rattle.crp_plan.specs.Devices.{most_interruptions};
 ghost use Rattle.crp_yard.specs.Reading.{IsTextOf};
-ghost use Rattle.crp_commands.specs.Calls.{CallSeen, call_failures, most_call_failures, ReadsHead, WritesReport, CallFailsWith};
+ghost use Rattle.crp_commands.specs.Calls.{CallSeen, call_failures, most_call_failures, WritesReport, CallFailsWith};
 ghost use Rattle.crp_commands.specs.Bound.{bound_lines, IsBoundReport, IsBound, IsNoBound};
 
 use crate::heads::head_from;
@@ -54,7 +54,6 @@ pub fn bound<R: Source, W: Sink>(
     } in MatchResult result
         (λ status. ((status ≡ Status.Decided) × WritesReport IsTextOf IsBound seen) × (call_failures seen ≤ most_interruptions))
         (λ fault. CallFailsWith MOST_BYTES IsBound IsNoBound seen fault × (call_failures seen ≤ most_call_failures fault)) }
-    ensures near { OnOk result (ReadsHead (R.remaining reader.old) (R.remaining reader.new)) }
 {
     let mut interruptions = 0;
     let head = head_from(alloc, reader, &mut interruptions)?;

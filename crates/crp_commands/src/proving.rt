@@ -1,9 +1,9 @@
 //! The command `prove`: from the bytes of a certificate's head to a certificate of its problem.
-ghost use Rattle.std.specs.Prelude.{◌≤◌, MatchResult, OnOk};
+ghost use Rattle.std.specs.Prelude.{◌≤◌, MatchResult};
 ghost use Rattle.crp_commands.specs.declared.heads.TheConstants.{MOST_BYTES};
 ghost use Rattle.crp_plan.specs.Devices.{most_interruptions};
 ghost use Rattle.crp_yard.specs.Reading.{IsTextOf};
-ghost use Rattle.crp_commands.specs.Calls.{CallSeen, call_failures, most_call_failures, ReadsHead, WritesReport, CallFailsWith};
+ghost use Rattle.crp_commands.specs.Calls.{CallSeen, call_failures, most_call_failures, WritesReport, CallFailsWith};
 ghost use Rattle.crp_commands.specs.Prove.{IsProof, IsSomeProof, IsNoProof};
 
 use crate::heads::head_from;
@@ -35,7 +35,6 @@ pub fn prove<T: Threads + Wait + Sync, R: Source, W: Sink>(
       sink_after = W.failures writer.new;
     } in MatchResult result (λ status. WritesReport IsTextOf (IsProof settings status) seen × (call_failures seen ≤ most_interruptions))
         (λ fault. CallFailsWith MOST_BYTES (IsSomeProof settings) IsNoProof seen fault × (call_failures seen ≤ most_call_failures fault)) }
-    ensures near { OnOk result (ReadsHead (R.remaining reader.old) (R.remaining reader.new)) }
 {
     let mut interruptions = 0;
     let head = head_from(alloc, reader, &mut interruptions)?;

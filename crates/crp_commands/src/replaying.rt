@@ -4,7 +4,7 @@ ghost use Rattle.crp_commands.specs.declared.heads.TheConstants.{MOST_BYTES};
 ghost use Rattle.crp_plan.specs.Bay.{relocations};
 ghost use Rattle.crp_plan.specs.Devices.{most_interruptions};
 ghost use Rattle.crp_yard.specs.Reading.{IsTextOf};
-ghost use Rattle.crp_commands.specs.Calls.{CallSeen, call_failures, most_call_failures, ReadsHead, WritesReport, CallFailsWith};
+ghost use Rattle.crp_commands.specs.Calls.{CallSeen, call_failures, most_call_failures, WritesReport, CallFailsWith};
 ghost use Rattle.crp_commands.specs.Replay.{count_line, IsReplayText, IsHeadReport, IsReplay, IsNoReplay, IsNoReport};
 
 use crate::heads::head_from;
@@ -75,7 +75,6 @@ pub fn replay<R: Source, W: Sink>(
     } in MatchResult result
         (λ status. ((status ≡ Status.Decided) × WritesReport IsTextOf IsReplay seen) × (call_failures seen ≤ most_interruptions))
         (λ fault. CallFailsWith MOST_BYTES IsReplay IsNoReplay seen fault × (call_failures seen ≤ most_call_failures fault)) }
-    ensures near { OnOk result (ReadsHead (R.remaining reader.old) (R.remaining reader.new)) }
 {
     let mut interruptions = 0;
     let head = head_from(alloc, reader, &mut interruptions)?;
