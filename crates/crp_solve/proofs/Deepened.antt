@@ -7,7 +7,7 @@ use Rattle.crp_plan.specs.Bay.{Problem, IsProblem, cap, Position, IsAt}
 use Rattle.crp_plan.specs.Plans.{ProblemPath}
 use Rattle.crp_bounds.specs.Bounds.{look_ahead}
 use Rattle.crp_tree.specs.Parts.{Certificate}
-use Rattle.crp_solve.specs.declared.ending.Together.{Together}
+use Rattle.crp_solve.specs.declared.end.Together.{Together}
 use Rattle.crp_solve.specs.Answers.{path_in, count_of, shorter, IsPlanOf}
 use Rattle.crp_solve.specs.Desks.{count_or}
 use Rattle.crp_solve.specs.Searches.{BeginsWithin, IsBestMet, IsShown, IsOpen, IsLost}

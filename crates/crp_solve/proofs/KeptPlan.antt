@@ -1,13 +1,13 @@
 -- The plan of an answer has no more relocations than the best one of the workers.
-use Rattle.std.proofs.Common.{◌≡◌, ℕ, ◌<◌, ◌≤◌, ◌↔◌, Bool, true, false, if◌then◌else◌, List, length, Option, None, Some, IfSome, Result, Ok, Err, IsOk, IfOk, IfErr, ⊎_elim, refl, sym, ap, subst, arith}
+use Rattle.std.proofs.Common.{◌≡◌, ℕ, ◌≤◌, ◌↔◌, Bool, true, false, if◌then◌else◌, List, length, Option, None, Some, IfSome, Result, Ok, Err, IsOk, IfOk, IfErr, ⊎_elim, refl, sym, ap, subst, arith}
 use Rattle.std.specs.Prelude.{nat_lt}
 use Rattle.std.proofs.lemmas.Bool.{cases_Bool}
 use Rattle.std.proofs.lemmas.Bool.Decides.{nat_tests}
 use Rattle.crp_plan.specs.Bay.{Problem, IsProblem}
 use Rattle.crp_plan.specs.Plans.{ProblemPath}
 use Rattle.crp_solve.specs.declared.answer.Solved.{Solved}
-use Rattle.crp_solve.specs.declared.ending.Together.{Together}
-use Rattle.crp_solve.specs.declared.ending.Lost.{Lost}
+use Rattle.crp_solve.specs.declared.end.Together.{Together}
+use Rattle.crp_solve.specs.declared.end.Lost.{Lost}
 use Rattle.crp_solve.specs.Answers.{path_in, plan_of, count_of, shorter, IsPlanOf}
 use Rattle.crp_solve.specs.Desks.{count_or}
 use Rattle.crp_solve.specs.Searches.{met_or_known, HasNoMore}

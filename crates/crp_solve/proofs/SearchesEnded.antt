@@ -1,19 +1,17 @@
 -- What is known behind the searches that were chosen: they have ended.
 use Rattle.std.proofs.Common.{◌≡◌, ℕ, ◌+◌, ◌-◌, ◌∙◌, min, Bool, true, false, if◌then◌else◌, List, [], ◌∷◌, ◌++◌, length, Option, None, Some, IfSome, refl, sym, ap, subst, arith}
 use Rattle.std.specs.Prelude.{nat_lt}
-use Rattle.crp_plan.specs.Bay.{Problem, Position, IsAt, start, cap}
+use Rattle.crp_plan.specs.Bay.{Problem, cap}
 use Rattle.crp_plan.specs.Plans.{ProblemPath}
-use Rattle.crp_bay.specs.Positions.{settled}
 use Rattle.crp_bay.proofs.Reaching.{first_value}
 use Rattle.crp_bounds.specs.Bounds.{look_ahead}
-use Rattle.crp_tree.specs.Parts.{Certificate}
-use Rattle.crp_solve.specs.declared.ending.Together.{Together}
+use Rattle.crp_solve.specs.declared.end.Together.{Together}
 use Rattle.crp_solve.specs.Chosen.{Chosen}
 use Rattle.crp_solve.specs.Answers.{path_in, branches_of, count_of, shorter, IsPlanOf}
 use Rattle.crp_solve.specs.Desks.{count_or}
 use Rattle.crp_solve.specs.Searches.{met_or_known, IsBestMet, IsShown, AreEnded}
 use Rattle.crp_solve.specs.Rests.{IsFoundTogether}
-use Rattle.crp_solve.specs.Rounds.{Round, behind, IsNextRound, Deepen, IsKnownBefore, AreRounds, IsOneSearch, SearchesOf, AreSearched}
+use Rattle.crp_solve.specs.Rounds.{Round, behind, IsNextRound, Deepen, IsKnownBefore, SearchesOf, AreSearched}
 use Rattle.crp_solve.proofs.TrueAnswers.{cut_shows}
 use Rattle.crp_solve.proofs.Deepened.{shown_after}
 use Rattle.crp_solve.proofs.OneSearch.{once_ended}

@@ -1,5 +1,5 @@
 -- A search as it begins, and one whose workers are with their caller.
-use Rattle.std.specs.Prelude.{◌≡◌, ℕ, ◌+◌, ◌<◌, List, [], length, map, Option, false}
+use Rattle.std.specs.Prelude.{◌≡◌, ◌+◌, ◌<◌, List, [], length, map, Option, false}
 use Rattle.crp_plan.specs.Plans.{ProblemPath}
 use Rattle.crp_incumbent.specs.declared.rule.Key.{Key}
 use Rattle.crp_incumbent.specs.Rule.{all_shares}

@@ -13,7 +13,7 @@ ghost use Rattle.crp_solve.specs.Solved.{known_by, ComesOf, IsFirstPart};
 ghost use Rattle.crp_solve.specs.Searches.{IsBestMet, IsShown, AreEnded, IsLost};
 
 use crate::answer::{Answer, Cause, Second, Solved};
-use crate::ending::{Lost, Together};
+use crate::end::{Lost, Together};
 use crp_bay::Position;
 use crp_bounds::look_ahead;
 use crp_plan::{Plan, Problem};

@@ -8,16 +8,15 @@ ghost use Rattle.crp_solve.specs.Begins.{IsStart, AreAllWorkers};
 
 use crate::answer::Solved;
 use crate::answering::answer_to;
-use crate::beginning::{Start, begin};
-use crate::common::{Common, Gate, Outside};
-use crate::fewest::Fewest;
-use crate::group::Group;
-use crate::once::with_known;
-use crate::opening::{Room, joined};
+use crate::end::{found_by, put_together, shared_of};
+use crate::rounds::with_known;
 use crate::settings::Settings;
-use crate::solver::start_posted;
-use crate::together::{found_by, put_together, shared_of, useful};
-use crate::working;
+use crate::start::{Start, begin, start_posted};
+use crate::workers::aim::Fewest;
+use crate::workers::common::{Common, Gate, Outside};
+use crate::workers::group::Group;
+use crate::workers::wider::{Room, joined};
+use crate::workers::{running, useful};
 use crp_incumbent::{Board, Seat, Shared};
 use crp_plan::{Plan, Problem};
 use crp_pool::Pool;
@@ -192,6 +191,6 @@ impl Common {
         ensures { SameWorkers group result }
     {
         let outside = Outside { rt, gate, board };
-        working::work(&outside, self, worker, group)
+        running::work(&outside, self, worker, group)
     }
 }

@@ -1,5 +1,5 @@
 use Rattle.std.proofs.Common.{IfOk, IfErr, subst}
-use Rattle.crp_solve.specs.declared.ending.Together.{Together}
+use Rattle.crp_solve.specs.declared.end.Together.{Together}
 use Rattle.crp_solve.specs.Searches.{IsLost}
 use Rattle.crp_solve.specs.Rounds.{AreSearched}
 use Rattle.crp_solve.proofs.SearchesEnded.{searched_ended, searched_branches}
