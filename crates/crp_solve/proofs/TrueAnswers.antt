@@ -5,6 +5,7 @@ use Rattle.std.proofs.lemmas.List.Sums.{sum_by-cons}
 use Rattle.std.proofs.lemmas.Bool.{cases_lt}
 use Rattle.crp_plan.specs.Bay.{Problem, IsProblem, cap, Position, IsAt, IsBest}
 use Rattle.crp_plan.specs.Plans.{ProblemPath}
+use Rattle.crp_plan.specs.Faults.{IsPlanPath}
 use Rattle.crp_plan.specs.declared.running.View.{View}
 use Rattle.crp_plan.proofs.Covered.{relocations-path}
 use Rattle.crp_bounds.specs.Bounds.{look_ahead}
@@ -15,6 +16,7 @@ use Rattle.crp_tree.specs.Claims.{IsAccepted}
 use Rattle.crp_tree.specs.Parts.{ProblemPart, nodes_of, cuts_in, branches_in, IsKeptPart, Certificate, claimed}
 use Rattle.crp_tree.proofs.Accepted.{bounded, no_plan_at_cap, best}
 use Rattle.crp_tree.proofs.Shown.{least_over}
+use Rattle.crp_tree.proofs.Certified.{certified, lowest_part, lower_low}
 use Rattle.crp_tree.proofs.Kept.{part_nodes, nodes_at_name}
 use Rattle.crp_search.specs.Searched.{IsClosed}
 use Rattle.crp_solve.specs.declared.answer.Answer.TheVariants.{Optimal, NoPlan, Between}
@@ -23,7 +25,14 @@ use Rattle.crp_solve.specs.Answers.{path_in, branches_of, count_of, IsPlanOf, Is
 use Rattle.crp_solve.specs.Searches.{BeginsWithin, IsSearched, IsAbout, IsBestMet, IsEndedSearch, IsShown}
 use Rattle.crp_solve.proofs.Ahead.{ahead_of_root}
 use Rattle.crp_solve.proofs.Limits.{greedy_met}
-use Rattle.crp_solve.proofs.Covered.{lowest_part, lower_low, accepted}
+
+-- a certificate about the problem is accepted, with a plan of the problem or none
+pub accepted : (p : Problem) (cert : Certificate) (plan : Option ProblemPath) → IsAbout p cert → IfSome plan (IsPlanOf p) → IsAccepted (claimed p cert (path_in plan))
+accepted p cert plan a is = certified p cert (path_in plan) a (complete plan is)
+  where
+    complete : (plan : Option ProblemPath) → IfSome plan (IsPlanOf p) → IfSome (path_in plan) (IsPlanPath p)
+    complete None is = tt
+    complete (Some route) is = is.complete
 
 -- where no cut is below a number, neither is the floor
 floor_over : (x : ProblemPart) (f : ℕ) → IsKeptPart x → f ≤ cap x.problem → All (λ cut. f ≤ value cut) (cuts_in x) → f ≤ x.floor

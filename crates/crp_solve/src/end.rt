@@ -1,10 +1,9 @@
 //! How a search ends: what workers left in the pool is searched by the thread that started them, the shared words are closed, and the
 //! parts become one certificate.
-ghost use Rattle.std.specs.Prelude.{◌≡◌, ◌≤◌, IfOk, IfErr, true, false, ◌+◌, ◌<◌, length, None, []};
+ghost use Rattle.std.specs.Prelude.{◌≡◌, ◌≤◌, IfOk, IfErr, true, false, ◌+◌, None, []};
 ghost use Rattle.crp_solve.specs.Searches.{BeginsWithin, HasNoMore};
 ghost use Rattle.crp_solve.specs.Rests.{AreDone, IsFoundTogether, IsDoneUpTo, IsAllDone, IsCutShort};
-ghost use Rattle.crp_solve.specs.Groups.{IsKeptSoFar, IsUnusedSeat};
-ghost use Rattle.crp_pool.specs.Seats.{IsEverySeat};
+ghost use Rattle.crp_solve.specs.Groups.{IsKeptSoFar, IsUnusedSeat, AreAllPlaces};
 ghost use Rattle.crp_solve.specs.Answers.{path_in};
 
 use crate::workers::aim::{Aim, Searched, shorter_of};
@@ -118,15 +117,7 @@ pub(crate) fn search_rest<R: Wait, G: Gate, A: Aim>(
 pub(crate) fn shared_of(common: Common) -> Shared
     ensures { result ≡ common.of }
 {
-    let Common {
-        alloc: _,
-        problem: _,
-        shared,
-        open: _,
-        first: _,
-        split: _,
-    } = common;
-    shared
+    common.shared
 }
 
 /// The state of all workers, with the rest of the shares and what was left in the pool.
@@ -140,7 +131,7 @@ pub(crate) fn put_together<R: Wait, G: Gate, A: Aim>(
     requires words { all.of ≡ common.now.of }
     requires left { IsUnusedSeat common.now.of left }
     requires begins { A.keeps common.now.of left.view None [] }
-    requires places { all.short ≡ false → IsEverySeat pool all.places × (0 < length pool) }
+    requires places { all.short ≡ false → AreAllPlaces pool all.places }
     ensures words { result.seat.of ≡ common.now.of }
     ensures share { result.seat.view.share ≡ left.view.share + all.view.share }
     ensures mine { result.seat.view.mine ≤ all.view.mine }
@@ -177,24 +168,19 @@ pub(crate) fn ended(
     done: Done,
 ) -> Result<Together, Lost>
     requires first { BeginsWithin problem.now shared.key.start }
-    requires done { AreDone IsKeptSoFar (record { problem = problem.now; start = shared.key.start; budget = budget }) shared done.seat done.best done.parts.items done.short }
+    requires done { AreDone IsKeptSoFar (record { problem = problem.now; start = shared.key.start; budget = budget }) shared done }
     ensures found { IfOk result (λ r. IsFoundTogether problem.now budget shared.key.start r.cert r.best r.expanded) }
     ensures best { IfOk result (λ r. r.best ≡ done.best) }
     ensures best_left { IfErr result (λ lost. lost.best ≡ done.best) }
     ensures within { IfErr result (λ lost. lost.expanded ≤ budget) }
 {
-    let Done {
-        seat,
-        best,
-        parts,
-        short,
-    } = done;
-    let totals = shared.close(seat);
+    let totals = shared.close(done.seat);
+    let best = done.best;
     let expanded = totals.spent.min(budget);
-    if short {
+    if done.short {
         return Err(Lost { best, expanded });
     }
-    match gather(alloc, problem, parts) {
+    match gather(alloc, problem, done.parts) {
         Ok(cert) => Ok(Together {
             cert,
             best,
@@ -220,7 +206,7 @@ pub(crate) fn found_by<R: Wait>(
 ) -> Result<Together, Lost>
     requires first { BeginsWithin problem.now shared.key.start }
     requires board { board.now ≡ problem.now }
-    requires done { AreDone IsKeptSoFar (record { problem = problem.now; start = shared.key.start; budget = budget }) shared done.seat done.best done.parts.items done.short }
+    requires done { AreDone IsKeptSoFar (record { problem = problem.now; start = shared.key.start; budget = budget }) shared done }
     ensures found { IfOk result (λ r. IsFoundTogether problem.now budget shared.key.start r.cert r.best r.expanded) }
     ensures best { IfOk result (λ r. r.best ≡ done.best) }
     ensures lost { IfErr result (λ lost. IsCutShort problem.now budget lost.best lost.expanded) }

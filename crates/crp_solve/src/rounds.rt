@@ -39,20 +39,13 @@ pub fn with_known(found: Result<Together, Lost>, known: Option<Plan>) -> Result<
         → IfErr result (λ lost. IsLost p budget lost.best lost.expanded) }
 {
     match found {
-        Ok(
-            Together {
-                cert,
-                best,
-                expanded,
-            },
-        ) => Ok(Together {
-            cert,
-            best: first_of(best, known),
-            expanded,
+        Ok(found) => Ok(Together {
+            best: first_of(found.best, known),
+            ..found
         }),
-        Err(Lost { best, expanded }) => Err(Lost {
-            best: shorter_of(best, known),
-            expanded,
+        Err(lost) => Err(Lost {
+            best: shorter_of(lost.best, known),
+            ..lost
         }),
     }
 }

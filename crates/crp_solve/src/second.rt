@@ -48,28 +48,14 @@ pub(crate) fn asked_for(settings: Settings, solved: Solved) -> Asked
     if !settings.first() {
         return Asked::Nothing(solved);
     }
-    let Solved {
-        answer,
-        expanded,
-        second,
-        second_expanded,
-    } = solved;
-    match answer {
-        Answer::Optimal { plan, cert } => {
-            Asked::First(Optimum {
-                plan,
-                cert,
-                expanded,
-            })
-        }
-        answer => {
-            Asked::Nothing(Solved {
-                answer,
-                expanded,
-                second,
-                second_expanded,
-            })
-        }
+    let expanded = solved.expanded;
+    match solved.answer {
+        Answer::Optimal { plan, cert } => Asked::First(Optimum {
+            plan,
+            cert,
+            expanded,
+        }),
+        answer => Asked::Nothing(Solved { answer, ..solved }),
     }
 }
 
@@ -156,18 +142,12 @@ pub(crate) fn first_ended(
     done: Done,
 ) -> Result<First, GivenUp>
     requires best { IsBest problem.now shared.key.start }
-    requires done { AreDone IsKeptFirst (record { problem = problem.now; start = shared.key.start; budget = budget }) shared done.seat done.best done.parts.items done.short }
+    requires done { AreDone IsKeptFirst (record { problem = problem.now; start = shared.key.start; budget = budget }) shared done }
     ensures found { IfOk result (λ first. IsFoundFirst problem.now budget shared.key.start first.plan first.cert first.expanded) }
     ensures given_up { IfErr result (λ end. IsGivenUp budget end.cause end.expanded) }
 {
-    let Done {
-        seat,
-        best,
-        parts,
-        short,
-    } = done;
-    let totals = shared.close(seat);
-    if short {
+    let totals = shared.close(done.seat);
+    if done.short {
         return Err(lost(totals.spent, budget));
     }
     let expanded = totals.spent.min(budget);
@@ -175,13 +155,14 @@ pub(crate) fn first_ended(
         cause: Cause::Memory,
         expanded,
     };
-    let cert = match gather(alloc, problem, parts) {
+    let cert = match gather(alloc, problem, done.parts) {
         Ok(cert) => cert,
         Err(fault) => match fault {
             GatherFault::Memory => return Err(memory),
             _ => unreachable!(),
         },
     };
+    let best = done.best;
     let Some(plan) = best else { unreachable!() };
     let Ok(cert) = settle(alloc, cert, &plan) else {
         return Err(memory);
@@ -235,17 +216,13 @@ pub(crate) fn first_together<R: Threads + Wait + Sync, G: Gate + Sync>(
         return first_with(outside, alloc, problem, settings, workers, count);
     };
     match first_with(&outside.unheard(), alloc, problem, look, 1, count) {
-        Ok(found) => Ok(found),
         Err(
             GivenUp {
-                cause: Cause::Memory,
-                expanded,
+                cause: Cause::Budget,
+                ..
             },
-        ) => Err(GivenUp {
-            cause: Cause::Memory,
-            expanded,
-        }),
-        Err(_) => first_with(outside, alloc, problem, settings, workers, count),
+        ) => first_with(outside, alloc, problem, settings, workers, count),
+        found => found,
     }
 }
 

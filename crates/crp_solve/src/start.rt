@@ -3,9 +3,9 @@ ghost use Rattle.std.specs.Prelude.{◌≡◌, IfSome, IfOk, ◌<◌, ◌∷◌,
 ghost use Rattle.crp_solve.specs.Answers.{path_in, count_of as count_or_cap, IsFirstLimit, IsPlanOf};
 ghost use Rattle.crp_solve.specs.Searches.{BeginsWithin};
 ghost use Rattle.crp_solve.specs.Rounds.{IsStartPlan};
-ghost use Rattle.crp_incumbent.specs.Seats.{Shared as Words, Seat as Place};
+ghost use Rattle.crp_incumbent.specs.Seats.{Shared as Words};
 ghost use Rattle.crp_pool.specs.Seats.{seat_number, all_takes};
-ghost use Rattle.crp_solve.specs.Groups.{IsUnused, IsUnusedSeat, with_part, place_key, keys};
+ghost use Rattle.crp_solve.specs.Groups.{IsUnused, IsUnusedSeat, KeepsUnused, with_part, place_key, keys};
 ghost use Rattle.crp_solve.specs.Begins.{IsStart};
 
 use crate::answering::count_of;
@@ -143,8 +143,7 @@ pub(crate) fn begin<R: Wait, G: Gate, A: Aim>(
     settings: Settings,
     first: u32,
 ) -> Option<Start<A>>
-    requires begins { (of : Words) (seat : Place) → of.key ≡ record { problem = problem.now; start = first; budget = settings.budget }
-        → IsUnusedSeat of seat → A.keeps of seat.view None [] }
+    requires begins { (of : Words) → of.key ≡ record { problem = problem.now; start = first; budget = settings.budget } → KeepsUnused A.keeps of }
     ensures { IfSome result (λ s. IsStart (record { problem = problem.now; start = first; budget = settings.budget }) s.common.of s.left s.pool s.worker) }
 {
     let known = problem.copy();

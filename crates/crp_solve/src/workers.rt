@@ -1,9 +1,9 @@
 //! Many workers at one search: as many as are of use, each with a seat at the words that all share and a place in the pool.
-ghost use Rattle.std.specs.Prelude.{◌≡◌, ◌≤◌, min, length, ◌+◌, ◌<◌, false, None, [], IfSome};
+ghost use Rattle.std.specs.Prelude.{◌≡◌, ◌≤◌, min, ◌+◌, false, [], IfSome};
 ghost use Rattle.crp_solve.specs.Rests.{AreDone};
-ghost use Rattle.crp_incumbent.specs.Seats.{Shared as Words, Seat as Place};
-ghost use Rattle.crp_pool.specs.Seats.{IsEverySeat, all_takes};
-ghost use Rattle.crp_solve.specs.Groups.{IsUnusedSeat};
+ghost use Rattle.crp_incumbent.specs.Seats.{Shared as Words};
+ghost use Rattle.crp_pool.specs.Seats.{all_takes};
+ghost use Rattle.crp_solve.specs.Groups.{IsUnusedSeat, KeepsUnused, AreAllPlaces};
 
 pub(crate) mod aim;
 pub(crate) mod common;
@@ -69,13 +69,13 @@ fn work_on<R: Threads + Wait + Sync, G: Gate + Sync, A: Aim + Send>(
     requires words { first.of ≡ common.now.of }
     requires left { IsUnusedSeat common.now.of left }
     requires shares { left.view.share ≡ 64 }
-    requires begins { (new : Place) → IsUnusedSeat common.now.of new → A.keeps common.now.of new.view None [] }
-    requires places { IsEverySeat pool first.places × (0 < length pool) }
+    requires begins { KeepsUnused A.keeps common.now.of }
+    requires places { AreAllPlaces pool first.places }
     requires none_taken { all_takes first.places ≡ [] }
     ensures left { IsUnusedSeat common.now.of result.0 }
     ensures words { result.2.of ≡ common.now.of }
     ensures share { result.0.view.share + result.2.view.share ≡ left.view.share + first.view.share }
-    ensures places { result.2.short ≡ false → IsEverySeat result.1 result.2.places × (0 < length result.1) }
+    ensures places { result.2.short ≡ false → AreAllPlaces result.1 result.2.places }
 {
     let count = useful(common.open.names(), common.split, most);
     if first.short || count < 2 {
@@ -101,9 +101,8 @@ pub(crate) fn work_together<R: Threads + Wait + Sync, G: Gate + Sync, A: Aim + S
     first: u32,
 ) -> Option<(Shared, Done)>
     requires most { most ≤ 64 }
-    requires begins { (of : Words) (seat : Place) → of.key ≡ record { problem = problem.now; start = first; budget = settings.budget }
-        → IsUnusedSeat of seat → A.keeps of seat.view None [] }
-    ensures { IfSome result (λ r. AreDone A.keeps (record { problem = problem.now; start = first; budget = settings.budget }) r.0 r.1.seat r.1.best r.1.parts.items r.1.short) }
+    requires begins { (of : Words) → of.key ≡ record { problem = problem.now; start = first; budget = settings.budget } → KeepsUnused A.keeps of }
+    ensures { IfSome result (λ r. AreDone A.keeps (record { problem = problem.now; start = first; budget = settings.budget }) r.0 r.1) }
 {
     let Start {
         common,

@@ -2,9 +2,8 @@
 //! with the names that wait.
 ghost use Rattle.std.specs.Prelude.{◌≡◌, ◌<◌, [], ◌∷◌, false, IsTrue, length, ◌+◌, ◌≤◌, List, All, IfOk, map, None, vec_len, vec_capacity};
 ghost use Rattle.crp_pool.specs.Weigh.{SameNames};
-ghost use Rattle.crp_pool.specs.Seats.{SameSeat, IsEverySeat, all_takes, PoolSeat as Spot};
-ghost use Rattle.crp_solve.specs.Groups.{IsRoom, IsUnused, place_key, keys, all_keys, shares, IsRoomFor, IsUnusedSeat, AreReady, AreSeated};
-ghost use Rattle.crp_incumbent.specs.Seats.{Seat as Place};
+ghost use Rattle.crp_pool.specs.Seats.{SameSeat, all_takes, PoolSeat as Spot};
+ghost use Rattle.crp_solve.specs.Groups.{IsRoom, IsUnused, place_key, keys, all_keys, shares, IsRoomFor, IsUnusedSeat, KeepsUnused, AreAllPlaces, AreReady, AreSeated};
 
 use crate::workers::aim::Aim;
 use crate::workers::common::Common;
@@ -42,7 +41,7 @@ pub(crate) fn moved<R: Wait, A: Aim>(
     mut place: PoolSeat,
     mut room: Vec<PoolSeat>,
 ) -> Crew<A>
-    requires every { IsEverySeat pool worker.places × (0 < length pool) }
+    requires every { AreAllPlaces pool worker.places }
     requires whole { worker.short ≡ false }
     requires none_taken { all_takes worker.places ≡ [] }
     requires unused { IsUnused place }
@@ -123,7 +122,7 @@ fn seated<A: Aim>(
     mut groups: Vec<Crew<A>>,
 ) -> (Seat, Vec<Crew<A>>)
     requires seat { IsUnusedSeat shared.now seat }
-    requires begins { (new : Place) → IsUnusedSeat shared.now new → A.keeps shared.now new.view None [] }
+    requires begins { KeepsUnused A.keeps shared.now }
     requires shares { length places.items < seat.view.share }
     requires places { All IsUnused places.items }
     requires numbers { All (λ place. 1 ≤ place.number) places.items }
@@ -162,13 +161,13 @@ pub(crate) fn joined<R: Wait, A: Aim>(
     requires none_taken { all_takes first.places ≡ [] }
     requires left { IsUnusedSeat common.now.of left }
     requires shares { left.view.share ≡ 64 }
-    requires begins { (new : Place) → IsUnusedSeat common.now.of new → A.keeps common.now.of new.view None [] }
-    requires places { IsEverySeat pool first.places × (0 < length pool) }
+    requires begins { KeepsUnused A.keeps common.now.of }
+    requires places { AreAllPlaces pool first.places }
     ensures left { IsUnusedSeat common.now.of result.0 }
     ensures ready { AreReady common.now.of result.2.items }
     ensures count { length result.2.items ≡ length room.places.items }
     ensures share { result.0.view.share + shares result.2.items ≡ left.view.share + first.view.share }
-    ensures places { (all : List Spot) → map place_key all ≡ all_keys result.2.items → IsEverySeat result.1 all × (0 < length result.1) }
+    ensures places { (all : List Spot) → map place_key all ≡ all_keys result.2.items → AreAllPlaces result.1 all }
 {
     let Room {
         pool: wider,

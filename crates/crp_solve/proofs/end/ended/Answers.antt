@@ -26,13 +26,13 @@ returns-in-Ok-clause-found c =
       best_is = kept.plan_is;
       ended = whole_together key.problem c.args.budget key.start totals.spent totals.limit view c.args.done.parts.items c.in-Ok.cert c.args.done.best kept.is_problem
           (subst (λ (q : Problem). BeginsWithin q key.start) (sym here) c.requires.first) closed
-          all.searched (done.all c.if-short.false) c.in-Ok.ensures.parts (subst (λ (q : Problem). IsAbout q c.in-Ok.cert) (sym here) c.in-Ok.ensures.about) kept.mine;
+          all.searched (done.all c.if-done.false) c.in-Ok.ensures.parts (subst (λ (q : Problem). IsAbout q c.in-Ok.cert) (sym here) c.in-Ok.ensures.about) kept.mine;
     })
 
 pub unreachable-requires : goal.unreachable-requires
 unreachable-requires c =
     let key = c.args.shared.key in let done = c.requires.done in let all = done.kept in let kept = all.plan_kept in let parts = c.args.done.parts.items in
     let here = ap (λ (k : Key). k.problem) done.opened in
-    let whole = all_whole key.problem key.start c.args.done.seat.view parts kept.is_problem all.searched (done.all c.if-short.false) in
+    let whole = all_whole key.problem key.start c.args.done.seat.view parts kept.is_problem all.searched (done.all c.if-done.false) in
     let refused = subst (λ (q : Problem). IsGatherFault q parts c.in-Err.fault) (sym here) c.in-Err.ensures.refused in
     c.in_default.not-Memory (whole_not_refused key.problem parts c.in-Err.fault whole refused)

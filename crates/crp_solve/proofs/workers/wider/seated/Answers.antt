@@ -1,8 +1,8 @@
 use Rattle.std.proofs.Common.{◌≡◌, ◌≤◌, ◌∷◌, [], length, length-append, rules, ◌∙◌, ap, arith}
 use Rattle.crp_incumbent.specs.Seats.{Seat}
-use Rattle.std.proofs.lemmas.List.Elements.{All-take}
-use Rattle.crp_solve.specs.Groups.{all_keys, IsRoom}
-use Rattle.crp_solve.proofs.Opened.{kept_new, shares_snoc, keys_snoc, words_snoc}
+use Rattle.std.proofs.lemmas.List.Elements.{All-take, All-push}
+use Rattle.crp_solve.specs.Groups.{Crew, all_keys, IsRoom}
+use Rattle.crp_solve.proofs.Opened.{kept_new, shares-append, keys_snoc}
 use Rattle.crp_solve.proofs.workers.wider.seated.Goals as goal
 
 pub loop-place-preserved : goal.loop-place-preserved
@@ -12,12 +12,12 @@ loop-place-preserved g c =
     let kept_share = ap (λ (s : Seat). s.view.share) c.in-Ok.ensures.kept in let given_share = ap (λ (s : Seat). s.view.share) c.in-Ok.ensures.given in
     let mine : x.view.share ≡ 1 = ap (λ (v : _). v.share) c.new.ensures.view ∙ given_share in
     let long = length-append c.loop-place.yielded (c.in-Some.place ∷ []) in let long' = length-append gs (x ∷ []) in
-    let more = shares_snoc gs x in
+    let more = shares-append gs (x ∷ []) in
     record {
       can = tt;
       ends = tt;
       left_new = kept_new c.args.shared.now left kept c.in-Ok.ensures.kept before.left_new;
-      words = rw c.push_reserved.ensures.items (words_snoc c.args.shared.now gs x (c.new.ensures.of ∙ ap (λ (s : Seat). s.of) c.in-Ok.ensures.given ∙ (let n = before.left_new in n.words)) before.words);
+      words = rw c.push_reserved.ensures.items (All-push (λ (g : Crew). g.of ≡ c.args.shared.now) gs x before.words (c.new.ensures.of ∙ ap (λ (s : Seat). s.of) c.in-Ok.ensures.given ∙ (let n = before.left_new in n.words)));
       count = rw c.push_reserved.ensures.items (omega (arith, before.count));
       share = rw c.push_reserved.ensures.items (omega (arith, before.share));
       each = rw c.push_reserved.ensures.items (omega (arith, before.each));
