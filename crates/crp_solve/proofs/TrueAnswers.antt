@@ -19,9 +19,10 @@ use Rattle.crp_tree.proofs.Shown.{least_over}
 use Rattle.crp_tree.proofs.Certified.{certified, lowest_part, lower_low}
 use Rattle.crp_tree.proofs.Kept.{part_nodes, nodes_at_name}
 use Rattle.crp_search.specs.Searched.{IsClosed}
+use Rattle.crp_solve.specs.declared.answer.Answer.{Answer}
 use Rattle.crp_solve.specs.declared.answer.Answer.TheVariants.{Optimal, NoPlan, Between}
 use Rattle.crp_solve.specs.declared.answer.Cause.TheVariants.{Budget, Memory}
-use Rattle.crp_solve.specs.Answers.{path_in, branches_of, count_of, IsPlanOf, IsCut, IsOneCut, IsBetween, HasNeededBranches, IsTrueAnswer}
+use Rattle.crp_solve.specs.Answers.{path_in, branches_of, count_of, IsPlanOf, IsCut, IsOneCut, IsBetween, HasNeededBranches, SaysTrue, Ended, BranchesAreNeeded, IsTrueAnswer, cert_of, plan_of}
 use Rattle.crp_solve.specs.Searches.{BeginsWithin, IsSearched, IsAbout, IsBestMet, IsEndedSearch, IsShown}
 use Rattle.crp_solve.proofs.Ahead.{ahead_of_root}
 use Rattle.crp_solve.proofs.Limits.{greedy_met}
@@ -104,45 +105,44 @@ search_shows p budget first limit total expanded view cert plan w met over enoug
   within = within;
 }
 
--- the plan has no more relocations than the bound: it is a best one
-pub optimal_is_true : (p : Problem) (budget : ℕ) (cert : Certificate) (plan : ProblemPath) (expanded : ℕ) → IsShown p budget cert (Some plan) expanded → length plan.path ≤ cert.lower → IsTrueAnswer p budget (Optimal plan cert) expanded
-optimal_is_true p budget cert plan expanded w le =
+-- what is shown makes an answer true that gives this certificate and this plan, where what it says is so
+shown_is_true : (p : Problem) (budget : ℕ) (answer : Answer) (plan : Option ProblemPath) (expanded : ℕ) → IsShown p budget (cert_of answer) plan expanded → path_in plan ≡ plan_of answer →
+    SaysTrue p answer → Ended p budget answer expanded → BranchesAreNeeded p answer → IsTrueAnswer p budget answer expanded
+shown_is_true p budget answer plan expanded w same says ended needed =
     let a = w.about in let t = w.best_met in
-    let is : IsPlanOf p plan = t.plan_is in let of = is.complete in
-    let acc : IsAccepted (claimed p cert (Some plan.path)) = accepted p cert (Some plan) a is in
-    let same : length plan.path ≡ cert.lower = omega (arith, bounded (claimed p cert (Some plan.path)) of.0 acc of.1, relocations-path of.0, ap length of.2, le) in
     record {
-      says = record { plan_is = is; best = subst (IsBest p) (sym same) (best (claimed p cert (Some plan.path)) plan.path acc refl same); shown = sym same };
-      ended = w.granted;
+      says = says;
+      ended = ended;
       within = w.within;
       of_problem = a.of_problem;
       certificate = a.certificate;
-      accepted = acc;
-      needed = w.needed;
+      accepted = subst (λ o. IsAccepted (claimed p (cert_of answer) o)) same (accepted p (cert_of answer) plan a t.plan_is);
+      needed = needed;
     }
+
+-- the plan has no more relocations than the bound: it is a best one
+pub optimal_is_true : (p : Problem) (budget : ℕ) (cert : Certificate) (plan : ProblemPath) (expanded : ℕ) → IsShown p budget cert (Some plan) expanded → length plan.path ≤ cert.lower → IsTrueAnswer p budget (Optimal plan cert) expanded
+optimal_is_true p budget cert plan expanded w le =
+    let t = w.best_met in
+    let is : IsPlanOf p plan = t.plan_is in let of = is.complete in
+    let acc : IsAccepted (claimed p cert (Some plan.path)) = accepted p cert (Some plan) w.about is in
+    let same : length plan.path ≡ cert.lower = omega (arith, bounded (claimed p cert (Some plan.path)) of.0 acc of.1, relocations-path of.0, ap length of.2, le) in
+    let says : SaysTrue p (Optimal plan cert) = record { plan_is = is; best = subst (IsBest p) (sym same) (best (claimed p cert (Some plan.path)) plan.path acc refl same); shown = sym same } in
+    shown_is_true p budget (Optimal plan cert) (Some plan) expanded w refl says w.granted w.needed
 
 -- the bound reaches the cap: there is no plan
 pub no_plan_is_true : (p : Problem) (budget : ℕ) (cert : Certificate) (expanded : ℕ) → IsShown p budget cert None expanded → cap p ≤ cert.lower → IsTrueAnswer p budget (NoPlan cert) expanded
 no_plan_is_true p budget cert expanded w le =
-    let a = w.about in
-    let acc : IsAccepted (claimed p cert None) = accepted p cert None a tt in
-    let same : cert.lower ≡ cap p = omega (arith, lower_low p cert a, le) in
-    record {
-      says = record { none = λ moves plan. no_plan_at_cap (claimed p cert None) moves acc same plan; shown = same };
-      ended = w.granted;
-      within = w.within;
-      of_problem = a.of_problem;
-      certificate = a.certificate;
-      accepted = acc;
-      needed = w.needed;
-    }
+    let acc : IsAccepted (claimed p cert None) = accepted p cert None w.about tt in
+    let same : cert.lower ≡ cap p = omega (arith, lower_low p cert w.about, le) in
+    shown_is_true p budget (NoPlan cert) None expanded w refl (record { none = λ moves plan. no_plan_at_cap (claimed p cert None) moves acc same plan; shown = same }) w.granted w.needed
 
 -- what is said of the bounds
 bounds_true : (p : Problem) (budget : ℕ) (cert : Certificate) (plan : Option ProblemPath) (expanded : ℕ) → IsShown p budget cert plan expanded → IsBetween p cert.lower cert plan
 bounds_true p budget cert plan expanded w =
-    let a = w.about in let t = w.best_met in
+    let t = w.best_met in
     record {
-      bounds = λ moves is. bounded (claimed p cert (path_in plan)) moves (accepted p cert plan a t.plan_is) is;
+      bounds = λ moves is. bounded (claimed p cert (path_in plan)) moves (accepted p cert plan w.about t.plan_is) is;
       shown = refl;
       ahead = w.ahead;
       plan_is = t.plan_is;
@@ -152,30 +152,11 @@ bounds_true p budget cert plan expanded w =
 -- the bound is below the best plan, and the budget is spent
 pub between_is_true : (p : Problem) (budget : ℕ) (cert : Certificate) (plan : Option ProblemPath) (expanded : ℕ) → IsShown p budget cert plan expanded → cert.lower < count_of p (path_in plan) → expanded ≡ budget → IsTrueAnswer p budget (Between cert.lower cert plan Budget) expanded
 between_is_true p budget cert plan expanded w lt spent =
-    let a = w.about in let t = w.best_met in
-    record {
-      says = bounds_true p budget cert plan expanded w;
-      ended = (w.granted, record { all = spent; below = lt });
-      within = w.within;
-      of_problem = a.of_problem;
-      certificate = a.certificate;
-      accepted = accepted p cert plan a t.plan_is;
-      needed = w.needed;
-    }
+    shown_is_true p budget (Between cert.lower cert plan Budget) plan expanded w refl (bounds_true p budget cert plan expanded w) (w.granted, record { all = spent; below = lt }) w.needed
 
 -- memory ran out, and the certificate is one cut
 pub cut_is_true : (p : Problem) (budget : ℕ) (cert : Certificate) (plan : Option ProblemPath) (expanded : ℕ) → IsShown p budget cert plan expanded → IsOneCut cert → IsTrueAnswer p budget (Between cert.lower cert plan Memory) expanded
-cut_is_true p budget cert plan expanded w one =
-    let a = w.about in let t = w.best_met in
-    record {
-      says = bounds_true p budget cert plan expanded w;
-      ended = one;
-      within = w.within;
-      of_problem = a.of_problem;
-      certificate = a.certificate;
-      accepted = accepted p cert plan a t.plan_is;
-      needed = w.needed;
-    }
+cut_is_true p budget cert plan expanded w one = shown_is_true p budget (Between cert.lower cert plan Memory) plan expanded w refl (bounds_true p budget cert plan expanded w) one w.needed
 
 -- a part of one cut has no branch
 no_branches : (x : ProblemPart) → IsKeptPart x → IsCut x.tree → branches_in x ≡ []

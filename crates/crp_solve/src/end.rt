@@ -10,7 +10,7 @@ use crate::workers::aim::{Aim, Searched, shorter_of};
 use crate::workers::common::{Common, Gate, Outside};
 use crate::workers::group::Crew;
 use crp_gather::{GatherFault, gather};
-use crp_incumbent::{Board, Seat, Shared};
+use crp_incumbent::{Seat, Shared};
 use crp_plan::{Plan, Problem};
 use crp_pool::{Pool, Rest};
 use crp_tree::{Cert, Part};
@@ -88,7 +88,7 @@ fn search_next<R: Wait, G: Gate, A: Aim>(
 }
 
 /// Searches the parts of the names that are left, as the worker 0.
-pub(crate) fn search_rest<R: Wait, G: Gate, A: Aim>(
+fn search_rest<R: Wait, G: Gate, A: Aim>(
     outside: &Outside<R, G>,
     common: &Common,
     mut done: Done,
@@ -160,7 +160,7 @@ pub(crate) fn put_together<R: Wait, G: Gate, A: Aim>(
 }
 
 /// Closes the words, and makes one certificate of the parts. Where memory is short the best plan of the workers is left.
-pub(crate) fn ended(
+fn ended(
     alloc: Global,
     problem: &Problem,
     shared: Shared,
@@ -195,17 +195,16 @@ pub(crate) fn ended(
 
 /// What workers found who are done. Where memory ran out the best plan is theirs, or the one on the board where that has fewer
 /// relocations.
-pub(crate) fn found_by<R: Wait>(
-    rt: &R,
+pub(crate) fn found_by<R: Wait, G: Gate>(
+    outside: &Outside<R, G>,
     alloc: Global,
     problem: &Problem,
-    board: &Board,
     shared: Shared,
     budget: u64,
     done: Done,
 ) -> Result<Together, Lost>
     requires first { BeginsWithin problem.now shared.key.start }
-    requires board { board.now ≡ problem.now }
+    requires board { outside.now.board.now ≡ problem.now }
     requires done { AreDone IsKeptSoFar (record { problem = problem.now; start = shared.key.start; budget = budget }) shared done }
     ensures found { IfOk result (λ r. IsFoundTogether problem.now budget shared.key.start r.cert r.best r.expanded) }
     ensures best { IfOk result (λ r. r.best ≡ done.best) }
@@ -214,9 +213,9 @@ pub(crate) fn found_by<R: Wait>(
 {
     match ended(alloc, problem, shared, budget, done) {
         Ok(found) => Ok(found),
-        Err(Lost { best, expanded }) => Err(Lost {
-            best: shorter_of(best, board.show(rt)),
-            expanded,
+        Err(lost) => Err(Lost {
+            best: shorter_of(lost.best, outside.board.show(outside.rt)),
+            ..lost
         }),
     }
 }

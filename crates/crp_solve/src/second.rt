@@ -120,21 +120,16 @@ fn lost(spent: u64, budget: u64) -> GivenUp
     ensures expanded { result.expanded ≡ min spent budget }
 {
     let expanded = spent.min(budget);
-    if spent > budget {
-        GivenUp {
-            cause: Cause::Budget,
-            expanded,
-        }
+    let cause = if spent > budget {
+        Cause::Budget
     } else {
-        GivenUp {
-            cause: Cause::Memory,
-            expanded,
-        }
-    }
+        Cause::Memory
+    };
+    GivenUp { cause, expanded }
 }
 
 /// Closes the words, makes one certificate of the parts, and settles it on the plan that is kept.
-pub(crate) fn first_ended(
+fn first_ended(
     alloc: Global,
     problem: &Problem,
     shared: Shared,
@@ -174,22 +169,20 @@ pub(crate) fn first_ended(
     })
 }
 
-/// The first best plan, which has `count` relocations, searched by so many workers.
-pub(crate) fn first_with<R: Threads + Wait + Sync, G: Gate + Sync>(
+/// The first best plan, which has `count` relocations, searched by the workers that the settings ask for.
+fn first_with<R: Threads + Wait + Sync, G: Gate + Sync>(
     outside: &Outside<R, G>,
     alloc: Global,
     problem: &Problem,
     settings: Settings,
-    most: u32,
     count: u32,
 ) -> Result<First, GivenUp>
-    requires most { most ≤ 64 }
     requires best { IsBest problem.now count }
     ensures found { IfOk result (λ first. IsFoundFirst problem.now settings.budget count first.plan first.cert first.expanded) }
     ensures given_up { IfErr result (λ end. IsGivenUp settings.budget end.cause end.expanded) }
 {
     let budget = settings.budget();
-    let worked = work_together::<R, G, FirstBest>(outside, alloc, problem, settings, most, count);
+    let worked = work_together::<R, G, FirstBest>(outside, alloc, problem, settings, count);
     let Some((shared, done)) = worked else {
         return Err(GivenUp {
             cause: Cause::Memory,
@@ -211,17 +204,16 @@ pub(crate) fn first_together<R: Threads + Wait + Sync, G: Gate + Sync>(
     ensures found { IfOk result (λ first. IsFoundFirst problem.now settings.budget count first.plan first.cert first.expanded) }
     ensures given_up { IfErr result (λ end. IsGivenUp settings.budget end.cause end.expanded) }
 {
-    let workers = settings.workers();
     let Some(look) = look_of(outside.gate, settings) else {
-        return first_with(outside, alloc, problem, settings, workers, count);
+        return first_with(outside, alloc, problem, settings, count);
     };
-    match first_with(&outside.unheard(), alloc, problem, look, 1, count) {
+    match first_with(&outside.unheard(), alloc, problem, look, count) {
         Err(
             GivenUp {
                 cause: Cause::Budget,
                 ..
             },
-        ) => first_with(outside, alloc, problem, settings, workers, count),
+        ) => first_with(outside, alloc, problem, settings, count),
         found => found,
     }
 }

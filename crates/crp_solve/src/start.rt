@@ -84,7 +84,7 @@ fn keep_found(parts: &mut Vec<Part>, part: Option<Part>) -> bool
 }
 
 /// The worker with this seat and the only place of a pool, after it searched the part of the root. It is marked where that is lost.
-pub(crate) fn begun<R: Wait, G: Gate, A: Aim>(
+fn begun<R: Wait, G: Gate, A: Aim>(
     outside: &Outside<R, G>,
     common: &Common,
     seat: Seat,

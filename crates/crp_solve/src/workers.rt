@@ -33,12 +33,12 @@ const LOOK: u64 = 4096;
 
 /// The settings with which one worker looks first; none where the gate asks for no look, or one worker is all there is.
 pub(crate) fn look_of<G: Gate>(gate: &G, settings: Settings) -> Option<Settings>
-    ensures { IfSome result (λ look. look ≡ record settings { budget = min settings.budget 4096 }) }
+    ensures { IfSome result (λ look. look ≡ record settings { workers = 1; budget = min settings.budget 4096 }) }
 {
     if settings.workers() == 1 || !gate.looks_first() {
         return None;
     }
-    Some(settings.with_left(settings.budget().min(LOOK)))
+    Some(settings.for_one(settings.budget().min(LOOK)))
 }
 
 /// The most rows to which a container may be relocated.
@@ -89,7 +89,7 @@ fn work_on<R: Threads + Wait + Sync, G: Gate + Sync, A: Aim + Send>(
     (left, pool, all)
 }
 
-/// Searches the problem with so many workers, which begin with the limit `first`: their words, and what they did.
+/// Searches the problem with the workers that the settings ask for, which begin with the limit `first`: their words, and what they did.
 ///
 /// The calling thread searches the part of the root before any other begins.
 pub(crate) fn work_together<R: Threads + Wait + Sync, G: Gate + Sync, A: Aim + Send>(
@@ -97,10 +97,8 @@ pub(crate) fn work_together<R: Threads + Wait + Sync, G: Gate + Sync, A: Aim + S
     alloc: Global,
     problem: &Problem,
     settings: Settings,
-    most: u32,
     first: u32,
 ) -> Option<(Shared, Done)>
-    requires most { most ≤ 64 }
     requires begins { (of : Words) → of.key ≡ record { problem = problem.now; start = first; budget = settings.budget } → KeepsUnused A.keeps of }
     ensures { IfSome result (λ r. AreDone A.keeps (record { problem = problem.now; start = first; budget = settings.budget }) r.0 r.1) }
 {
@@ -110,6 +108,7 @@ pub(crate) fn work_together<R: Threads + Wait + Sync, G: Gate + Sync, A: Aim + S
         pool,
         worker,
     } = begin::<R, G, A>(outside, alloc, problem, settings, first)?;
+    let most = settings.workers();
     let (left, pool, all) = work_on(outside, &common, most, left, pool, worker);
     let done = put_together(outside, &common, pool, left, all);
     Some((shared_of(common), done))

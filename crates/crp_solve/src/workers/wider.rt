@@ -34,7 +34,7 @@ fn put_all<R: Wait>(rt: &R, rest: &mut Rest, place: &mut PoolSeat) -> bool
 
 /// The only worker of the pool, at the first place of another; the names that wait go with it. It is marked where there is no
 /// room for them there.
-pub(crate) fn moved<R: Wait, A: Aim>(
+fn moved<R: Wait, A: Aim>(
     rt: &R,
     pool: Pool,
     worker: Crew<A>,

@@ -10,30 +10,30 @@ use Rattle.crp_solve.proofs.second.first_alone.Goals as goal
 
 pub search_first-found-requires-clause-path : goal.search_first-found-requires-clause-path
 search_first-found-requires-clause-path g c =
-    let p = c.args.problem.now in let known = c.new-worker.ensures.known in
-    let is : IsProblem p = subst IsProblem c.new-worker.ensures.problem known.is_problem in
+    let p = c.args.problem.now in
+    let is : IsProblem p = c.requires.problem in
     (settled (start p), subst (λ name. IsAt p name (settled (start p))) (sym c.root.ensures) (begins_at p is))
 
 pub unreachable-requires : goal.unreachable-requires
 unreachable-requires g c =
-    let p = c.args.problem.now in let known = c.new-worker.ensures.known in let k = c.count-count.result in let f = c.in-Ok.ensures in let x = c.in-Ok.found.part in let cert = c.in-Ok-whole.cert in
-    let is : IsProblem p = subst IsProblem c.new-worker.ensures.problem known.is_problem in
+    let p = c.args.problem.now in let k = c.count-count.result in let f = c.in-Ok.ensures in let x = c.in-Ok.found.part in let cert = c.in-Ok-whole.cert in
+    let is : IsProblem p = c.requires.problem in
     let all : IsAloneFirst p k c.in-Ok.found.plan x cert = alone_first p k c.in-Ok.found.plan x cert is c.in-Ok-whole.ensures.value f.problem f.part (f.name ∙ c.root.ensures) (sym f.puts) f.cuts in
     some_plan p k cert c.in-Ok.found.plan (subst (IsBest p) (sym c.count-count.ensures.value) c.requires.best) all.about all.searched c.in_default-plan.is
 
 pub settle-requires : goal.settle-requires
 settle-requires g c =
-    let p = c.args.problem.now in let known = c.new-worker.ensures.known in let k = c.count-count.result in let f = c.in-Ok.ensures in let x = c.in-Ok.found.part in let cert = c.in-Ok-whole.cert in
-    let is : IsProblem p = subst IsProblem c.new-worker.ensures.problem known.is_problem in
+    let p = c.args.problem.now in let k = c.count-count.result in let f = c.in-Ok.ensures in let x = c.in-Ok.found.part in let cert = c.in-Ok-whole.cert in
+    let is : IsProblem p = c.requires.problem in
     let all : IsAloneFirst p k c.in-Ok.found.plan x cert = alone_first p k c.in-Ok.found.plan x cert is c.in-Ok-whole.ensures.value f.problem f.part (f.name ∙ c.root.ensures) (sym f.puts) f.cuts in
     let same : c.in-Some.plan.problem ≡ p = subst (λ o. IfSome o (λ plan. plan.problem ≡ p)) c.in-Some.is f.plan in
     record { about = subst (λ (q : Problem). IsAbout q cert) (sym same) all.about }
 
 pub returns-clause-found : goal.returns-clause-found
 returns-clause-found g c =
-    let p = c.args.problem.now in let known = c.new-worker.ensures.known in let k = c.count-count.result in let f = c.in-Ok.ensures in let x = c.in-Ok.found.part in let cert = c.in-Ok-whole.cert in let plan = c.in-Some.plan in
+    let p = c.args.problem.now in let k = c.count-count.result in let f = c.in-Ok.ensures in let x = c.in-Ok.found.part in let cert = c.in-Ok-whole.cert in let plan = c.in-Some.plan in
     let budget = c.args.settings.budget in let after = c.granted-expanded.ensures.known in let fresh = c.new-worker.ensures.fresh in
-    let is : IsProblem p = subst IsProblem c.new-worker.ensures.problem known.is_problem in
+    let is : IsProblem p = c.requires.problem in
     let all : IsAloneFirst p k c.in-Ok.found.plan x cert = alone_first p k c.in-Ok.found.plan x cert is c.in-Ok-whole.ensures.value f.problem f.part (f.name ∙ c.root.ensures) (sym f.puts) f.cuts in
     let plan_is : IsPlanOfCount p k plan = first_is_plan p k c.root.result (given_of x) plan (subst (λ o. IfSome o (λ plan. plan.problem ≡ p)) c.in-Some.is f.plan)
     (subst (λ o. IfSome o (λ plan. IsFirstHere p k c.root.result (given_of x) plan.path)) c.in-Some.is f.first) in
