@@ -1,4 +1,3 @@
-pub mod Ahead
 pub mod Limits
 pub mod TrueAnswers
 pub mod One

@@ -1,5 +1,5 @@
 -- The answer that searches show is true.
-use Rattle.std.proofs.Common.{◌≡◌, ℕ, ◌<◌, ◌≤◌, min, ⊎_elim, List, [], ◌∷◌, length, get_or, Contains, All, Option, None, Some, IfSome, sum_by, sym, ap, ◌∙◌, subst, refl, arith}
+use Rattle.std.proofs.Common.{◌≡◌, ℕ, ◌<◌, ◌≤◌, min, ⊎_elim, List, [], ◌∷◌, length, get_or, Contains, All, Option, None, Some, IfSome, sum_by, sym, ap, ◌∙◌, subst, refl, arith, ◌+◌, ◌++◌, append_assoc, append-nil, length-append}
 use Rattle.std.proofs.lemmas.List.Elements.{All-contains, All-weaker, All-cons, All-nil, All-same, All-filter}
 use Rattle.std.proofs.lemmas.List.Sums.{sum_by-cons}
 use Rattle.std.proofs.lemmas.Bool.{cases_lt}
@@ -8,7 +8,10 @@ use Rattle.crp_plan.specs.Plans.{ProblemPath}
 use Rattle.crp_plan.specs.Faults.{IsPlanPath}
 use Rattle.crp_plan.specs.declared.running.View.{View}
 use Rattle.crp_plan.proofs.Covered.{relocations-path}
+use Rattle.crp_plan.proofs.Paths.{same_at}
+use Rattle.crp_bay.proofs.Walked.{leads_before}
 use Rattle.crp_bounds.specs.Bounds.{look_ahead}
+use Rattle.crp_bounds.proofs.Bounding.{ahead_path}
 use Rattle.crp_bounds.proofs.Floors.{cut_floor}
 use Rattle.crp_tree.specs.Tree.{Tree, CutB, CutL, Branch, Given}
 use Rattle.crp_tree.specs.Trees.{Node, nodes, is_cut, branches, value, least_through}
@@ -24,7 +27,6 @@ use Rattle.crp_solve.specs.declared.answer.Answer.TheVariants.{Optimal, NoPlan, 
 use Rattle.crp_solve.specs.declared.answer.Cause.TheVariants.{Budget, Memory}
 use Rattle.crp_solve.specs.Answers.{path_in, branches_of, count_of, IsPlanOf, IsCut, IsOneCut, IsBetween, HasNeededBranches, SaysTrue, Ended, BranchesAreNeeded, IsTrueAnswer, cert_of, plan_of}
 use Rattle.crp_solve.specs.Searches.{BeginsWithin, IsSearched, IsAbout, IsBestMet, IsEndedSearch, IsShown}
-use Rattle.crp_solve.proofs.Ahead.{ahead_of_root}
 use Rattle.crp_solve.proofs.Limits.{greedy_met}
 
 -- a certificate about the problem is accepted, with a plan of the problem or none
@@ -68,6 +70,27 @@ count_over p None s is met a = omega arith
 count_over p (Some route) s is met a =
     let plan = met.complete in
     omega (arith, (cut_floor p [] route.path s plan.0 is a plan.1 plan.2).0, relocations-path plan.0, ap length plan.2)
+
+-- length plus look-ahead never falls as a path goes on
+ahead_grows : (p : Problem) (path more : List ℕ) (s t : Position) → IsProblem p → IsAt p path s → IsAt p (path ++ more) t → length path + look_ahead s ≤ length (path ++ more) + look_ahead t
+ahead_grows p path [] s t is a b =
+    let same : t ≡ s = same_at p path t s is (subst (λ l. IsAt p l t) (append-nil path) b) a in
+    omega (arith, ap look_ahead same, length-append path [])
+ahead_grows p path (row ∷ more) s t is a b =
+    let b' : IsAt p ((path ++ row ∷ []) ++ more) t = subst (λ l. IsAt p l t) (sym (append_assoc path (row ∷ []) more)) b in
+    let next = leads_before p (path ++ row ∷ []) more t is b' in
+    omega (
+      arith,
+      ahead_path p path row s next.0 is a next.1,
+      ahead_grows p (path ++ row ∷ []) more next.0 t is next.1 b',
+      length-append path (row ∷ more),
+      length-append (path ++ row ∷ []) more,
+      length-append path (row ∷ []),
+    )
+
+-- so at each path it is at least the look-ahead bound of the first position
+ahead_of_root : (p : Problem) (path : List ℕ) (first s : Position) → IsProblem p → IsAt p [] first → IsAt p path s → look_ahead first ≤ length path + look_ahead s
+ahead_of_root p path first s is a b = omega (arith, ahead_grows p [] path first s is a b)
 
 -- the bound is never below the look-ahead bound of the first position, where the limit is not
 pub looks_ahead : (p : Problem) (budget first limit : ℕ) (view : View) (cert : Certificate) (s : Position) → IsEndedSearch p budget first limit view cert → min (cap p) (look_ahead s) ≤ limit → IsAt p [] s → min (cap p) (look_ahead s) ≤ cert.lower

@@ -2,8 +2,9 @@
 ghost use Rattle.std.specs.Prelude.{◌≡◌, ◌≤◌, min, ◌+◌, false, [], IfSome};
 ghost use Rattle.crp_solve.specs.Rests.{AreDone};
 ghost use Rattle.crp_incumbent.specs.Seats.{Shared as Words};
-ghost use Rattle.crp_pool.specs.Seats.{all_takes};
 ghost use Rattle.crp_solve.specs.Groups.{IsUnusedSeat, KeepsUnused, AreAllPlaces};
+ghost use Rattle.crp_solve.specs.Begins.{IsStart};
+ghost use Rattle.crp_incumbent.specs.Rule.{all_shares};
 
 pub(crate) mod aim;
 pub(crate) mod common;
@@ -66,15 +67,11 @@ fn work_on<R: Threads + Wait + Sync, G: Gate + Sync, A: Aim + Send>(
     first: Crew<A>,
 ) -> (Seat, Pool, Crew<A>)
     requires most { most ≤ 64 }
-    requires words { first.of ≡ common.now.of }
-    requires left { IsUnusedSeat common.now.of left }
-    requires shares { left.view.share ≡ 64 }
+    requires start { IsStart common.now.of.key common.now.of left pool first }
     requires begins { KeepsUnused A.keeps common.now.of }
-    requires places { AreAllPlaces pool first.places }
-    requires none_taken { all_takes first.places ≡ [] }
     ensures left { IsUnusedSeat common.now.of result.0 }
     ensures words { result.2.of ≡ common.now.of }
-    ensures share { result.0.view.share + result.2.view.share ≡ left.view.share + first.view.share }
+    ensures share { result.0.view.share + result.2.view.share ≡ all_shares }
     ensures places { result.2.short ≡ false → AreAllPlaces result.1 result.2.places }
 {
     let count = useful(common.open.names(), common.split, most);

@@ -2,8 +2,9 @@
 //! with the names that wait.
 ghost use Rattle.std.specs.Prelude.{◌≡◌, ◌<◌, [], ◌∷◌, false, IsTrue, length, ◌+◌, ◌≤◌, List, All, IfOk, map, None, vec_len, vec_capacity};
 ghost use Rattle.crp_pool.specs.Weigh.{SameNames};
-ghost use Rattle.crp_pool.specs.Seats.{SameSeat, all_takes, PoolSeat as Spot};
-ghost use Rattle.crp_solve.specs.Groups.{IsRoom, IsUnused, place_key, keys, all_keys, shares, IsRoomFor, IsUnusedSeat, KeepsUnused, AreAllPlaces, AreReady, AreSeated};
+ghost use Rattle.crp_pool.specs.Seats.{SameSeat, all_takes};
+ghost use Rattle.crp_solve.specs.Groups.{IsRoom, IsUnused, place_key, keys, IsRoomFor, IsUnusedSeat, KeepsUnused, AreAllPlaces, AreSeated};
+ghost use Rattle.crp_solve.specs.Begins.{IsStart, AreAllWorkers};
 
 use crate::workers::aim::Aim;
 use crate::workers::common::Common;
@@ -156,18 +157,11 @@ pub(crate) fn joined<R: Wait, A: Aim>(
 ) -> (Seat, Pool, Vec<Crew<A>>)
     requires room { IsRoomFor (length room.places.items) room.pool room.places.items room.lists.items room.groups }
     requires several { (2 ≤ length room.places.items) × (length room.places.items ≤ 64) }
-    requires words { first.of ≡ common.now.of }
+    requires start { IsStart common.now.of.key common.now.of left pool first }
     requires whole { first.short ≡ false }
-    requires none_taken { all_takes first.places ≡ [] }
-    requires left { IsUnusedSeat common.now.of left }
-    requires shares { left.view.share ≡ 64 }
     requires begins { KeepsUnused A.keeps common.now.of }
-    requires places { AreAllPlaces pool first.places }
-    ensures left { IsUnusedSeat common.now.of result.0 }
-    ensures ready { AreReady common.now.of result.2.items }
+    ensures all { AreAllWorkers common.now.of result.0 result.1 result.2.items }
     ensures count { length result.2.items ≡ length room.places.items }
-    ensures share { result.0.view.share + shares result.2.items ≡ left.view.share + first.view.share }
-    ensures places { (all : List Spot) → map place_key all ≡ all_keys result.2.items → AreAllPlaces result.1 all }
 {
     let Room {
         pool: wider,

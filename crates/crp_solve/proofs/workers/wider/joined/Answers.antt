@@ -1,4 +1,4 @@
-use Rattle.std.proofs.Common.{◌≡◌, ◌<◌, ◌∙◌, [], ◌∷◌, ◌++◌, length, length-append, map, ap, arith}
+use Rattle.std.proofs.Common.{◌≡◌, ◌<◌, ◌∙◌, [], ◌∷◌, ◌++◌, length, length-append, map, ap, rules, arith}
 use Rattle.std.proofs.lemmas.List.Elements.{All-take}
 use Rattle.crp_solve.specs.Groups.{IsRoom, all_keys, place_key}
 use Rattle.crp_solve.proofs.Joining.{every_place, some_deque}
@@ -14,12 +14,17 @@ seated-left-requires-clause-lists g c = (
   rw c.in-Some.ensures.rest (All-take IsRoom _ c.args.room.lists.items c.requires.room.lists_are),
 )
 
-pub returns-clause-places : goal.returns-clause-places
-returns-clause-places g c all e =
+pub returns-clause-all : goal.returns-clause-all
+returns-clause-all g c =
     let places = c.args.room.places.items in let place = c.remove-place.result in let first = c.moved-first.result in
     let one : c.push_reserved.new.self.items ≡ first ∷ [] = c.push_reserved.ensures.items ∙ ap (λ l. l ++ first ∷ []) c.requires.room.none_yet in
     let before : all_keys c.push_reserved.new.self.items ≡ place_key place ∷ [] = ap all_keys one ∙ ap (λ l. l ++ []) c.moved-first.ensures.places in
     let some : 0 < length places = omega (arith, c.requires.several) in
     let whole = ap (map place_key) (first_and_others places place some c.remove-place.ensures.value) in
-    let same = e ∙ c.seated-left.ensures.keys_are ∙ ap (λ l. l ++ map place_key c.remove-place.new.self.items) before ∙ ap (λ l. place_key place ∷ map place_key l) c.remove-place.ensures.items ∙ whole in
-    (every_place all places c.args.room.pool same c.requires.room.every, some_deque c.args.room.pool places some c.requires.room.every)
+    let keys_are = c.seated-left.ensures.keys_are ∙ ap (λ l. l ++ map place_key c.remove-place.new.self.items) before ∙ ap (λ l. place_key place ∷ map place_key l) c.remove-place.ensures.items ∙ whole in
+    record {
+      left_new = search rules;
+      share = search rules;
+      ready = search rules;
+      places = λ all e. (every_place all places c.args.room.pool (e ∙ keys_are) c.requires.room.every, some_deque c.args.room.pool places some c.requires.room.every);
+    }
