@@ -1,28 +1,18 @@
 -- What is known after a search more of an iterative deepening.
-use Rattle.std.proofs.Common.{◌≡◌, ℕ, ◌+◌, ◌-◌, ◌<◌, ◌≤◌, min, ◌⊎◌, inl, inr, ⊎_elim, Bool, true, false, if◌then◌else◌, [], Option, None, Some, IfSome, sym, ap, ◌∙◌, subst, arith}
-use Rattle.std.specs.Prelude.{nat_lt}
-use Rattle.std.proofs.lemmas.Bool.{cases_Bool, cases_lt}
-use Rattle.std.proofs.lemmas.Bool.Decides.{nat_tests}
+use Rattle.std.proofs.Common.{◌≡◌, ℕ, ◌+◌, ◌-◌, ◌<◌, ◌≤◌, min, inl, inr, ⊎_elim, [], Option, None, Some, IfSome, sym, ap, ◌∙◌, subst, arith}
+use Rattle.std.proofs.lemmas.Bool.{cases_lt}
 use Rattle.crp_plan.specs.Bay.{Problem, IsProblem, cap, Position, IsAt}
 use Rattle.crp_plan.specs.Plans.{ProblemPath}
 use Rattle.crp_bounds.specs.Bounds.{look_ahead}
 use Rattle.crp_tree.specs.Parts.{Certificate}
-use Rattle.crp_solve.specs.declared.ending.Together.{Together}
+use Rattle.crp_solve.specs.declared.end.Together.{Together}
 use Rattle.crp_solve.specs.Answers.{path_in, count_of, shorter, IsPlanOf}
 use Rattle.crp_solve.specs.Desks.{count_or}
 use Rattle.crp_solve.specs.Searches.{BeginsWithin, IsBestMet, IsShown, IsOpen, IsLost}
 use Rattle.crp_solve.specs.Rests.{IsFoundTogether, IsCutShort}
 use Rattle.crp_solve.specs.Deepening.{higher, count_in, IsNearer, distance}
-use Rattle.crp_solve.proofs.Limits.{count_low, no_longer_met, begins_lower, shorter_count}
+use Rattle.crp_solve.proofs.Limits.{smaller_is, count_low, no_longer_met, begins_lower, shorter_count}
 use Rattle.crp_solve.proofs.TrueAnswers.{reaches, count_over, search_shows}
-
--- which certificate has the higher bound
-higher_is : (cert other : Certificate) → ((cert.lower < other.lower) × (higher cert other ≡ other)) ⊎ ((other.lower ≤ cert.lower) × (higher cert other ≡ cert))
-higher_is cert other =
-    ⊎_elim
-    (λ (less : nat_lt cert.lower other.lower ≡ true). inl (grind (arith, nat_tests, less), ap (λ (b : Bool). if b then other else cert) less))
-    (λ (more : nat_lt cert.lower other.lower ≡ false). inr (grind (arith, nat_tests, more), ap (λ (b : Bool). if b then other else cert) more))
-    (cases_Bool (nat_lt cert.lower other.lower))
 
 -- the limit in the end is no less than the look-ahead bound of the first position, where the limit at the start was not
 pub limit_over : (p : Problem) (first : ℕ) (best : Option ProblemPath) (s : Position) → IsProblem p → IfSome best (IsPlanOf p) → IsAt p [] s → min (cap p) (look_ahead s) ≤ first → min (cap p) (look_ahead s) ≤ count_or first (path_in best)
@@ -50,7 +40,7 @@ shown_after p budget cert cert' best met better expanded more w o f is e =
     (λ s at. limit_over p (cert.lower + 1) met s about.is_problem f.best_is at (omega (arith, w.ahead s at))) (omega (arith, f.granted)) within))
     (λ (x : (cert'.lower ≤ cert.lower) × (higher cert cert' ≡ cert)). subst (λ k. IsShown p budget k better (expanded + more)) (sym x.1)
     (record { about = about; ahead = w.ahead; needed = w.needed; best_met = known; granted = omega (arith, w.granted); within = within }))
-    (higher_is cert cert')
+    (smaller_is cert.lower cert'.lower cert' cert)
 
 -- where no claim was refused, and the bound is no higher, a plan was met that has no more relocations than the bound
 met_fewer : (p : Problem) (lower reached : ℕ) (met : Option ProblemPath) → count_or (lower + 1) (path_in met) ≤ reached → reached ≤ lower → count_of p (path_in met) ≤ lower
@@ -86,7 +76,7 @@ nearer_after p budget cert cert' best met better expanded more w o f e =
           )))
           (cases_lt 0 f.view.refused));
     })
-    (higher_is cert cert')
+    (smaller_is cert.lower cert'.lower cert' cert)
 
 -- what is left where memory ran out in it
 pub lost_after : (p : Problem) (budget : ℕ) (cert : Certificate) (best shown better : Option ProblemPath) (expanded more : ℕ) → IsShown p budget cert best expanded → IsCutShort p (budget - expanded) shown more →

@@ -12,7 +12,7 @@ use Rattle.crp_solve.specs.declared.answer.Cause.{Cause}
 use Rattle.crp_solve.specs.declared.answer.Cause.TheVariants.{Budget, Memory}
 use Rattle.crp_solve.specs.declared.answer.Second.{Second}
 use Rattle.crp_solve.specs.declared.answer.Second.TheVariants as second
-use Rattle.crp_solve.specs.declared.asked.Optimum.{Optimum}
+use Rattle.crp_solve.specs.declared.second.Optimum.{Optimum}
 use Rattle.crp_solve.specs.Answers.{StaysAsFound, EndedSecond, IsOfFirstPart, HasNoSecond}
 use Rattle.crp_solve.specs.Solved.{IsSolved, IsFirstPart}
 use Rattle.crp_solve.specs.Chosen.{Chosen}

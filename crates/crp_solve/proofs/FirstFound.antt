@@ -21,9 +21,8 @@ use Rattle.crp_search.specs.Firsts.{MeetsOwn, IsFirstHere}
 use Rattle.crp_solve.specs.Answers.{branches_of}
 use Rattle.crp_solve.specs.Firsts.{IsPlanOfCount, IsSearchedFirst, IsFoundFirst}
 use Rattle.crp_solve.specs.Rests.{IsAllDone}
-use Rattle.crp_solve.proofs.Covered.{accepted}
 use Rattle.crp_solve.proofs.One.{root_about, one_certificate}
-use Rattle.crp_solve.proofs.TrueAnswers.{lower_over}
+use Rattle.crp_solve.proofs.TrueAnswers.{accepted, lower_over}
 use Rattle.crp_solve.proofs.Wholes.{parts_whole}
 
 -- a plan was met: else each cut would be above the fewest relocations, and so would each plan

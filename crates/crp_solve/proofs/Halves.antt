@@ -1,15 +1,21 @@
 -- Groups of workers in two halves, and what they become together.
-use Rattle.std.proofs.Common.{◌≡◌, ◌<◌, zero, suc, ◌+◌, false, List, [], ◌∷◌, ◌++◌, length, length-append, map, All, sym, refl, ap, ◌∙◌, subst, arith}
+use Rattle.std.proofs.Common.{◌≡◌, ◌<◌, false, List, [], ◌∷◌, ◌++◌, length, length-append, append-nil, map, All, sym, ap, ◌∙◌, subst, arith}
+use Rattle.std.proofs.Math.Seq.{take-append_seam, drop-append_seam}
 use Rattle.std.proofs.lemmas.List.{map-append}
+use Rattle.std.proofs.lemmas.List.Elements.{All-cons, All-nil, All-take, All-drop}
 use Rattle.crp_plan.specs.declared.running.View.{View}
 use Rattle.crp_incumbent.specs.Rule.{view_joined}
-use Rattle.crp_incumbent.specs.Seats.{Shared}
+use Rattle.crp_incumbent.specs.declared.rule.Key.{Key}
+use Rattle.crp_incumbent.specs.Seats.{Shared, Seat}
+use Rattle.crp_pool.specs.Deques.{DequeId}
 use Rattle.crp_solve.specs.Groups.{Crew, keys, all_keys, place_key, shares, SameWorkers, AreTogether, AreReady}
-use Rattle.crp_solve.proofs.Opened.{keys-append}
+use Rattle.crp_solve.specs.Begins.{IsStart, AreAllWorkers}
+use Rattle.crp_solve.proofs.Joining.{every_place}
+use Rattle.crp_solve.proofs.Opened.{keys-append, shares-append}
 
-shares-append : (xs ys : List Crew) → shares (xs ++ ys) ≡ shares xs + shares ys
-shares-append [] ys = omega arith
-shares-append (x ∷ xs) ys = omega (arith, shares-append xs ys)
+-- one group alone is at its words
+at_words : (of : Shared) (g : Crew) → g.of ≡ of → All (λ (x : Crew). x.of ≡ of) (g ∷ [])
+at_words of g at = All-cons (λ (x : Crew). x.of ≡ of) g [] at (All-nil (λ (x : Crew). x.of ≡ of))
 
 -- a group that they became is at the words
 pub together_at : (of : Shared) (gs : List Crew) (c : Crew) → AreReady of gs → AreTogether gs c → c.of ≡ of
@@ -22,18 +28,10 @@ words_of of gs c at all k d lt = all k d lt ∙ sym at
 -- one group that worked is together with itself
 pub together_one : (of : Shared) (g r : Crew) → g.of ≡ of → SameWorkers g r → AreTogether (g ∷ []) r
 together_one of g r at s = record {
-  words = words_of of (g ∷ []) r (s.words ∙ at) (one at);
+  words = words_of of (g ∷ []) r (s.words ∙ at) (at_words of g at);
   share = (let h = s.share in omega arith);
-  places = λ ok. (s.places ok ∙ sym (nothing_more (keys g)));
+  places = λ ok. (s.places ok ∙ sym (append-nil (keys g)));
 }
-  where
-    nothing_more : {X : Type 0} (xs : List X) → xs ++ [] ≡ xs
-    nothing_more [] = refl
-    nothing_more (x ∷ xs) = ap (λ l. x ∷ l) (nothing_more xs)
-
-    one : g.of ≡ of → All (λ (x : Crew). x.of ≡ of) (g ∷ [])
-    one e zero d lt = e
-    one e (suc k) d lt = absurd (omega arith)
 
 -- two that were merged
 pub together_two : (of : Shared) (gs xs ys : List Crew) (a b c : Crew) → AreReady of gs → xs ++ ys ≡ gs → AreTogether xs a → AreTogether ys b → c.of ≡ of → c.view ≡ view_joined a.view b.view →
@@ -48,17 +46,17 @@ together_two of gs xs ys a b c r whole ta tb at view places short = record {
 -- each part of groups that are ready is ready
 pub ready_parts : (of : Shared) (gs xs ys : List Crew) → xs ++ ys ≡ gs → 0 < length xs → 0 < length ys → AreReady of gs → AreReady of xs × AreReady of ys
 ready_parts of gs xs ys whole some more r =
-    let n = length-append xs ys in let few = r.few in let m : length (xs ++ ys) ≡ length gs = ap length whole in
-    let all : All (λ g. g.of ≡ of) (xs ++ ys) = subst (All (λ (g : Crew). g.of ≡ of)) (sym whole) r.words in (
-      record { some = some; few = omega arith; words = front xs ys all },
-      record { some = more; few = omega arith; words = back xs ys all },
+    let P : Crew → Type 0 = λ g. g.of ≡ of in let n = length-append xs ys in let few = r.few in let m : length (xs ++ ys) ≡ length gs = ap length whole in
+    let all : All P (xs ++ ys) = subst (All P) (sym whole) r.words in (
+      record { some = some; few = omega arith; words = subst (All P) (take-append_seam xs ys) (All-take P (length xs) (xs ++ ys) all) },
+      record { some = more; few = omega arith; words = subst (All P) (drop-append_seam xs ys) (All-drop P (length xs) (xs ++ ys) all) },
     )
-  where
-    front : (xs ys : List Crew) → All (λ g. g.of ≡ of) (xs ++ ys) → All (λ g. g.of ≡ of) xs
-    front [] ys all k d lt = absurd (omega arith)
-    front (x ∷ xs) ys all zero d lt = all 0 d (omega arith)
-    front (x ∷ xs) ys all (suc k) d lt = front xs ys (λ j e less. all (suc j) e (omega arith)) k d (omega arith)
 
-    back : (xs ys : List Crew) → All (λ g. g.of ≡ of) (xs ++ ys) → All (λ g. g.of ≡ of) ys
-    back [] ys all = all
-    back (x ∷ xs) ys all = back xs ys (λ j e less. all (suc j) e (omega arith))
+-- the first worker alone is all workers
+pub only_worker : (key : Key) (of : Shared) (left : Seat) (pool : List DequeId) (first : Crew) (groups : List Crew) → groups ≡ first ∷ [] → IsStart key of left pool first → AreAllWorkers of left pool groups
+only_worker key of left pool first groups is s = subst (AreAllWorkers of left pool) (sym is) (record {
+  left_new = s.left_new;
+  share = (let a = s.left_share in let b = s.share in omega arith);
+  ready = record { some = omega arith; few = omega arith; words = at_words of first s.words };
+  places = λ all e. (every_place all first.places pool (e ∙ append-nil (keys first)) s.places.0, s.places.1);
+})

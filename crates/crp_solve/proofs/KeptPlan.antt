@@ -1,34 +1,23 @@
 -- The plan of an answer has no more relocations than the best one of the workers.
-use Rattle.std.proofs.Common.{◌≡◌, ℕ, ◌<◌, ◌≤◌, ◌↔◌, Bool, true, false, if◌then◌else◌, List, length, Option, None, Some, IfSome, Result, Ok, Err, IsOk, IfOk, IfErr, ⊎_elim, refl, sym, ap, subst, arith}
-use Rattle.std.specs.Prelude.{nat_lt}
-use Rattle.std.proofs.lemmas.Bool.{cases_Bool}
-use Rattle.std.proofs.lemmas.Bool.Decides.{nat_tests}
+use Rattle.std.proofs.Common.{◌≡◌, ℕ, ◌<◌, ◌≤◌, ◌↔◌, min, true, false, List, length, Option, None, Some, IfSome, Result, Ok, Err, IsOk, IfOk, IfErr, ⊎_elim, refl, sym, ap, subst, arith}
 use Rattle.crp_plan.specs.Bay.{Problem, IsProblem}
 use Rattle.crp_plan.specs.Plans.{ProblemPath}
 use Rattle.crp_solve.specs.declared.answer.Solved.{Solved}
-use Rattle.crp_solve.specs.declared.ending.Together.{Together}
-use Rattle.crp_solve.specs.declared.ending.Lost.{Lost}
+use Rattle.crp_solve.specs.declared.end.Together.{Together}
+use Rattle.crp_solve.specs.declared.end.Lost.{Lost}
 use Rattle.crp_solve.specs.Answers.{path_in, plan_of, count_of, shorter, IsPlanOf}
 use Rattle.crp_solve.specs.Desks.{count_or}
 use Rattle.crp_solve.specs.Searches.{met_or_known, HasNoMore}
-use Rattle.crp_solve.proofs.Limits.{path_below_cap}
+use Rattle.crp_solve.proofs.Limits.{smaller_is, path_below_cap}
 
 -- the better of two plans has no more relocations than either
-picked : (plan other : ProblemPath) (all : ProblemPath) → length plan.path ≤ length all.path → HasNoMore (path_in (shorter (Some plan) (Some other))) (Some all.path)
+picked : (plan other all : ProblemPath) → min (length plan.path) (length other.path) ≤ length all.path → HasNoMore (path_in (shorter (Some plan) (Some other))) (Some all.path)
 picked plan other all le =
     let P : Option ProblemPath → Type 0 = λ o. HasNoMore (path_in o) (Some all.path) in
     ⊎_elim
-    (λ (less : nat_lt (length other.path) (length plan.path) ≡ true). subst (λ (b : Bool). P (if b then Some other else Some plan)) (sym less) (grind (arith, nat_tests, less)))
-    (λ (more : nat_lt (length other.path) (length plan.path) ≡ false). subst (λ (b : Bool). P (if b then Some other else Some plan)) (sym more) le)
-    (cases_Bool (nat_lt (length other.path) (length plan.path)))
-
-also_picked : (plan other : ProblemPath) (all : ProblemPath) → length other.path ≤ length all.path → HasNoMore (path_in (shorter (Some plan) (Some other))) (Some all.path)
-also_picked plan other all le =
-    let P : Option ProblemPath → Type 0 = λ o. HasNoMore (path_in o) (Some all.path) in
-    ⊎_elim
-    (λ (less : nat_lt (length other.path) (length plan.path) ≡ true). subst (λ (b : Bool). P (if b then Some other else Some plan)) (sym less) le)
-    (λ (more : nat_lt (length other.path) (length plan.path) ≡ false). subst (λ (b : Bool). P (if b then Some other else Some plan)) (sym more) (grind (arith, nat_tests, more)))
-    (cases_Bool (nat_lt (length other.path) (length plan.path)))
+    (λ (x : (length other.path < length plan.path) × (shorter (Some plan) (Some other) ≡ Some other)). subst P (sym x.1) (omega (arith, x.0, le)))
+    (λ (x : (length plan.path ≤ length other.path) × (shorter (Some plan) (Some other) ≡ Some plan)). subst P (sym x.1) (omega (arith, x.0, le)))
+    (smaller_is (length other.path) (length plan.path) (Some other) (Some plan))
 
 -- what the workers kept in the end has no more than what they had before: so has the plan that is known in the end
 pub met_no_more : (p : Problem) (start : ℕ) (known kept all : Option ProblemPath) → IsProblem p → start ≡ count_of p (path_in known) → IfSome all (IsPlanOf p) →
@@ -43,7 +32,7 @@ pub left_no_more : (p : Problem) (start : ℕ) (known kept all left : Option Pro
 left_no_more p start known kept None left is at plan le more = tt
 left_no_more p start None None (Some all) left is at plan le more = absurd (omega (arith, at, le, path_below_cap p all.path is plan.complete))
 left_no_more p start (Some known) None (Some all) None is at plan le more = omega (arith, at, le)
-left_no_more p start (Some known) None (Some all) (Some left) is at plan le more = also_picked left known all (omega (arith, at, le))
+left_no_more p start (Some known) None (Some all) (Some left) is at plan le more = picked left known all (omega (arith, at, le))
 left_no_more p start known (Some kept) (Some all) None is at plan le more = absurd more
 left_no_more p start None (Some kept) (Some all) (Some left) is at plan le more = omega (arith, le, more)
 left_no_more p start (Some known) (Some kept) (Some all) (Some left) is at plan le more = picked left known all (omega (arith, le, more))

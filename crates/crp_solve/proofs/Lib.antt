@@ -1,9 +1,6 @@
-pub mod Ahead
 pub mod Limits
-pub mod Covered
 pub mod TrueAnswers
 pub mod One
-pub mod OneSearch
 pub mod SearchesEnded
 pub mod Rising
 pub mod Looked
@@ -22,7 +19,6 @@ pub mod Opened
 pub mod Rested
 pub mod Wholes
 pub mod Joining
-pub mod AllWorkers
 pub mod FirstKept
 pub mod FirstFound
 pub mod FirstAnswers

@@ -1,5 +1,5 @@
 -- A search of all workers behind one that looked first.
-use Rattle.std.proofs.Common.{◌≡◌, ℕ, ◌<◌, ◌≤◌, Option, None, Some, IfSome, All, refl, sym, subst, arith}
+use Rattle.std.proofs.Common.{◌≡◌, ℕ, ◌≤◌, Option, None, Some, IfSome, refl, sym, subst, arith}
 use Rattle.std.proofs.lemmas.List.Elements.{All-weaker}
 use Rattle.crp_plan.specs.declared.running.View.{View}
 use Rattle.crp_plan.specs.Bay.{Problem}

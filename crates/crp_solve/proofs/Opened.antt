@@ -1,7 +1,6 @@
 -- The workers of a search before they begin.
-use Rattle.std.proofs.Common.{◌≡◌, ℕ, ◌+◌, List, [], ◌∷◌, ◌++◌, map, All, append_assoc, sym, refl, ap, ◌∙◌, subst, arith}
+use Rattle.std.proofs.Common.{◌≡◌, ℕ, ◌+◌, List, [], ◌∷◌, ◌++◌, map, append_assoc, sym, refl, ap, ◌∙◌, subst, arith}
 use Rattle.std.proofs.lemmas.List.{map-append}
-use Rattle.std.proofs.lemmas.List.Elements.{All-append, All-cons, All-nil}
 use Rattle.crp_incumbent.specs.Rule.{view_kept}
 use Rattle.crp_incumbent.specs.Seats.{Shared, Seat, with_view}
 use Rattle.crp_pool.specs.Deques.{DequeId}
@@ -16,17 +15,12 @@ pub keys-append : (xs ys : List Crew) → all_keys (xs ++ ys) ≡ all_keys xs ++
 keys-append [] ys = refl
 keys-append (x ∷ xs) ys = ap (λ l. keys x ++ l) (keys-append xs ys) ∙ sym (append_assoc (keys x) (all_keys xs) (all_keys ys))
 
--- the shares of one group more
-pub shares_snoc : (gs : List Crew) (g : Crew) → shares (gs ++ g ∷ []) ≡ shares gs + g.view.share
-shares_snoc [] g = omega arith
-shares_snoc (x ∷ gs) g = omega (arith, shares_snoc gs g)
+pub shares-append : (xs ys : List Crew) → shares (xs ++ ys) ≡ shares xs + shares ys
+shares-append [] ys = omega arith
+shares-append (x ∷ xs) ys = omega (arith, shares-append xs ys)
 
 -- the places of one group more
 pub keys_snoc : (before : List (List DequeId × DequeId × ℕ)) (gs : List Crew) (g : Crew) (ys : List PoolSeat) (y : PoolSeat) → keys g ≡ place_key y ∷ [] → all_keys gs ≡ before ++ map place_key ys →
     all_keys (gs ++ g ∷ []) ≡ before ++ map place_key (ys ++ y ∷ [])
 keys_snoc before gs g ys y one so_far =
     keys-append gs (g ∷ []) ∙ ap (λ l. l ++ (keys g ++ [])) so_far ∙ ap (λ l. (before ++ map place_key ys) ++ (l ++ [])) one ∙ append_assoc before (map place_key ys) (place_key y ∷ []) ∙ ap (λ l. before ++ l) (sym (map-append place_key ys (y ∷ [])))
-
--- one group more is at the words
-pub words_snoc : (of : Shared) (gs : List Crew) (g : Crew) → g.of ≡ of → All (λ x. x.of ≡ of) gs → All (λ x. x.of ≡ of) (gs ++ g ∷ [])
-words_snoc of gs g e all = All-append (λ (x : Crew). x.of ≡ of) gs (g ∷ []) all (All-cons (λ (x : Crew). x.of ≡ of) g [] e (All-nil (λ (x : Crew). x.of ≡ of)))

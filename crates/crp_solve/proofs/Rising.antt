@@ -1,12 +1,12 @@
 -- Searches one after the other, while they are made, and behind them.
-use Rattle.std.proofs.Common.{◌≡◌, ℕ, ◌+◌, ◌-◌, ◌<◌, ◌≤◌, Bool, true, ⊎_elim, List, [], ◌∷◌, ◌++◌, Option, refl, sym, subst, arith}
+use Rattle.std.proofs.Common.{◌≡◌, ℕ, ◌+◌, ◌-◌, ◌<◌, ◌≤◌, true, ⊎_elim, List, [], ◌∷◌, ◌++◌, Option, refl, sym, subst, arith}
 use Rattle.std.proofs.lemmas.Bool.{cases_lt}
 use Rattle.crp_plan.specs.Bay.{Problem}
 use Rattle.crp_plan.specs.Plans.{ProblemPath}
 use Rattle.crp_tree.specs.Parts.{Certificate}
-use Rattle.crp_solve.specs.declared.ending.Together.{Together}
+use Rattle.crp_solve.specs.declared.end.Together.{Together}
 use Rattle.crp_solve.specs.Chosen.{Chosen}
-use Rattle.crp_solve.specs.Answers.{path_in, count_of, shorter, IsPlanOf}
+use Rattle.crp_solve.specs.Answers.{shorter}
 use Rattle.crp_solve.specs.Searches.{IsOpen, IsShown}
 use Rattle.crp_solve.specs.Rests.{IsFoundTogether}
 use Rattle.crp_solve.specs.Deepening.{higher}

@@ -1,22 +1,21 @@
 -- What is known behind the searches that were chosen: they have ended.
-use Rattle.std.proofs.Common.{◌≡◌, ℕ, ◌+◌, ◌-◌, ◌∙◌, min, Bool, true, false, if◌then◌else◌, List, [], ◌∷◌, ◌++◌, length, Option, None, Some, IfSome, refl, sym, ap, subst, arith}
+use Rattle.std.proofs.Common.{◌≡◌, ℕ, ◌+◌, ◌-◌, ◌≤◌, ◌∙◌, min, Bool, true, false, if◌then◌else◌, List, [], ◌∷◌, ◌++◌, length, Option, None, Some, IfSome, refl, sym, ap, subst, arith}
 use Rattle.std.specs.Prelude.{nat_lt}
-use Rattle.crp_plan.specs.Bay.{Problem, Position, IsAt, start, cap}
+use Rattle.crp_plan.specs.Bay.{Problem, cap}
 use Rattle.crp_plan.specs.Plans.{ProblemPath}
-use Rattle.crp_bay.specs.Positions.{settled}
 use Rattle.crp_bay.proofs.Reaching.{first_value}
 use Rattle.crp_bounds.specs.Bounds.{look_ahead}
 use Rattle.crp_tree.specs.Parts.{Certificate}
-use Rattle.crp_solve.specs.declared.ending.Together.{Together}
+use Rattle.crp_solve.specs.declared.end.Together.{Together}
 use Rattle.crp_solve.specs.Chosen.{Chosen}
 use Rattle.crp_solve.specs.Answers.{path_in, branches_of, count_of, shorter, IsPlanOf}
 use Rattle.crp_solve.specs.Desks.{count_or}
 use Rattle.crp_solve.specs.Searches.{met_or_known, IsBestMet, IsShown, AreEnded}
 use Rattle.crp_solve.specs.Rests.{IsFoundTogether}
-use Rattle.crp_solve.specs.Rounds.{Round, behind, IsNextRound, Deepen, IsKnownBefore, AreRounds, IsOneSearch, SearchesOf, AreSearched}
-use Rattle.crp_solve.proofs.TrueAnswers.{cut_shows}
+use Rattle.crp_solve.specs.Rounds.{Round, behind, IsNextRound, Deepen, IsKnownBefore, SearchesOf, AreSearched}
+use Rattle.crp_solve.proofs.Limits.{count_low, no_longer_met}
+use Rattle.crp_solve.proofs.TrueAnswers.{count_over, search_shows, spent_below, cut_shows}
 use Rattle.crp_solve.proofs.Deepened.{shown_after}
-use Rattle.crp_solve.proofs.OneSearch.{once_ended}
 
 -- the better of two plans of the problem is one
 shorter_is_plan : (p : Problem) (plan other : Option ProblemPath) → IfSome plan (IsPlanOf p) → IfSome other (IsPlanOf p) → IfSome (shorter plan other) (IsPlanOf p)
@@ -56,6 +55,19 @@ met_is_plan p (Some plan) known is also = is
 met_count : (p : Problem) (met known : Option ProblemPath) → count_of p (path_in (met_or_known met known)) ≡ count_or (count_of p (path_in known)) (path_in met)
 met_count p None known = refl
 met_count p (Some plan) known = refl
+
+-- what is known after one search, which began with the plan that was known
+once_ended : (p : Problem) (budget : ℕ) (cert : Certificate) (best known plan : Option ProblemPath) (expanded : ℕ) → IsBestMet p known → IsFoundTogether p budget (count_of p (path_in known)) cert best expanded →
+    IfSome plan (IsPlanOf p) → count_of p (path_in plan) ≡ count_or (count_of p (path_in known)) (path_in best) → AreEnded p budget cert plan expanded
+once_ended p budget cert best known plan expanded met f is count =
+    let first : ℕ = count_of p (path_in known) in let limit : ℕ = count_or first (path_in best) in
+    let w = f.ended in
+    let met' : IsBestMet p plan = no_longer_met p known plan met is (omega (arith, count, w.low)) in
+    let low : limit ≤ cap p = omega (arith, count, count_low p plan met.is_problem is) in
+    record {
+      shown = search_shows p budget first limit budget expanded f.view cert plan w met' (λ s at. omega (arith, count, count_over p plan s met.is_problem is at)) (omega (arith, f.granted)) (omega (arith, f.granted, w.within));
+      spent = λ below. f.granted ∙ spent_below p budget first limit f.view cert w low (omega (arith, below, count));
+    }
 
 searches_end : (deepen : Bool) (p : Problem) (budget : ℕ) (plan : Option ProblemPath) (end : Together) → IsBestMet p plan → SearchesOf deepen p budget plan end → AreEnded p budget end.cert end.best end.expanded
 searches_end true p budget plan end met s =

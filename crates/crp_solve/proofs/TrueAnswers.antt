@@ -1,13 +1,17 @@
 -- The answer that searches show is true.
-use Rattle.std.proofs.Common.{◌≡◌, ℕ, ◌<◌, ◌≤◌, min, ⊎_elim, List, [], ◌∷◌, length, get_or, Contains, All, Option, None, Some, IfSome, sum_by, sym, ap, ◌∙◌, subst, refl, arith}
+use Rattle.std.proofs.Common.{◌≡◌, ℕ, ◌<◌, ◌≤◌, min, ⊎_elim, List, [], ◌∷◌, length, get_or, Contains, All, Option, None, Some, IfSome, sum_by, sym, ap, ◌∙◌, subst, refl, arith, ◌+◌, ◌++◌, append_assoc, append-nil, length-append}
 use Rattle.std.proofs.lemmas.List.Elements.{All-contains, All-weaker, All-cons, All-nil, All-same, All-filter}
 use Rattle.std.proofs.lemmas.List.Sums.{sum_by-cons}
 use Rattle.std.proofs.lemmas.Bool.{cases_lt}
 use Rattle.crp_plan.specs.Bay.{Problem, IsProblem, cap, Position, IsAt, IsBest}
 use Rattle.crp_plan.specs.Plans.{ProblemPath}
+use Rattle.crp_plan.specs.Faults.{IsPlanPath}
 use Rattle.crp_plan.specs.declared.running.View.{View}
 use Rattle.crp_plan.proofs.Covered.{relocations-path}
+use Rattle.crp_plan.proofs.Paths.{same_at}
+use Rattle.crp_bay.proofs.Walked.{leads_before}
 use Rattle.crp_bounds.specs.Bounds.{look_ahead}
+use Rattle.crp_bounds.proofs.Bounding.{ahead_path}
 use Rattle.crp_bounds.proofs.Floors.{cut_floor}
 use Rattle.crp_tree.specs.Tree.{Tree, CutB, CutL, Branch, Given}
 use Rattle.crp_tree.specs.Trees.{Node, nodes, is_cut, branches, value, least_through}
@@ -15,15 +19,23 @@ use Rattle.crp_tree.specs.Claims.{IsAccepted}
 use Rattle.crp_tree.specs.Parts.{ProblemPart, nodes_of, cuts_in, branches_in, IsKeptPart, Certificate, claimed}
 use Rattle.crp_tree.proofs.Accepted.{bounded, no_plan_at_cap, best}
 use Rattle.crp_tree.proofs.Shown.{least_over}
+use Rattle.crp_tree.proofs.Certified.{certified, lowest_part, lower_low}
 use Rattle.crp_tree.proofs.Kept.{part_nodes, nodes_at_name}
 use Rattle.crp_search.specs.Searched.{IsClosed}
+use Rattle.crp_solve.specs.declared.answer.Answer.{Answer}
 use Rattle.crp_solve.specs.declared.answer.Answer.TheVariants.{Optimal, NoPlan, Between}
 use Rattle.crp_solve.specs.declared.answer.Cause.TheVariants.{Budget, Memory}
-use Rattle.crp_solve.specs.Answers.{path_in, branches_of, count_of, IsPlanOf, IsCut, IsOneCut, IsBetween, HasNeededBranches, IsTrueAnswer}
+use Rattle.crp_solve.specs.Answers.{path_in, branches_of, count_of, IsPlanOf, IsCut, IsOneCut, IsBetween, HasNeededBranches, SaysTrue, Ended, BranchesAreNeeded, IsTrueAnswer, cert_of, plan_of}
 use Rattle.crp_solve.specs.Searches.{BeginsWithin, IsSearched, IsAbout, IsBestMet, IsEndedSearch, IsShown}
-use Rattle.crp_solve.proofs.Ahead.{ahead_of_root}
 use Rattle.crp_solve.proofs.Limits.{greedy_met}
-use Rattle.crp_solve.proofs.Covered.{lowest_part, lower_low, accepted}
+
+-- a certificate about the problem is accepted, with a plan of the problem or none
+pub accepted : (p : Problem) (cert : Certificate) (plan : Option ProblemPath) → IsAbout p cert → IfSome plan (IsPlanOf p) → IsAccepted (claimed p cert (path_in plan))
+accepted p cert plan a is = certified p cert (path_in plan) a (complete plan is)
+  where
+    complete : (plan : Option ProblemPath) → IfSome plan (IsPlanOf p) → IfSome (path_in plan) (IsPlanPath p)
+    complete None is = tt
+    complete (Some route) is = is.complete
 
 -- where no cut is below a number, neither is the floor
 floor_over : (x : ProblemPart) (f : ℕ) → IsKeptPart x → f ≤ cap x.problem → All (λ cut. f ≤ value cut) (cuts_in x) → f ≤ x.floor
@@ -58,6 +70,27 @@ count_over p None s is met a = omega arith
 count_over p (Some route) s is met a =
     let plan = met.complete in
     omega (arith, (cut_floor p [] route.path s plan.0 is a plan.1 plan.2).0, relocations-path plan.0, ap length plan.2)
+
+-- length plus look-ahead never falls as a path goes on
+ahead_grows : (p : Problem) (path more : List ℕ) (s t : Position) → IsProblem p → IsAt p path s → IsAt p (path ++ more) t → length path + look_ahead s ≤ length (path ++ more) + look_ahead t
+ahead_grows p path [] s t is a b =
+    let same : t ≡ s = same_at p path t s is (subst (λ l. IsAt p l t) (append-nil path) b) a in
+    omega (arith, ap look_ahead same, length-append path [])
+ahead_grows p path (row ∷ more) s t is a b =
+    let b' : IsAt p ((path ++ row ∷ []) ++ more) t = subst (λ l. IsAt p l t) (sym (append_assoc path (row ∷ []) more)) b in
+    let next = leads_before p (path ++ row ∷ []) more t is b' in
+    omega (
+      arith,
+      ahead_path p path row s next.0 is a next.1,
+      ahead_grows p (path ++ row ∷ []) more next.0 t is next.1 b',
+      length-append path (row ∷ more),
+      length-append (path ++ row ∷ []) more,
+      length-append path (row ∷ []),
+    )
+
+-- so at each path it is at least the look-ahead bound of the first position
+ahead_of_root : (p : Problem) (path : List ℕ) (first s : Position) → IsProblem p → IsAt p [] first → IsAt p path s → look_ahead first ≤ length path + look_ahead s
+ahead_of_root p path first s is a b = omega (arith, ahead_grows p [] path first s is a b)
 
 -- the bound is never below the look-ahead bound of the first position, where the limit is not
 pub looks_ahead : (p : Problem) (budget first limit : ℕ) (view : View) (cert : Certificate) (s : Position) → IsEndedSearch p budget first limit view cert → min (cap p) (look_ahead s) ≤ limit → IsAt p [] s → min (cap p) (look_ahead s) ≤ cert.lower
@@ -95,45 +128,44 @@ search_shows p budget first limit total expanded view cert plan w met over enoug
   within = within;
 }
 
--- the plan has no more relocations than the bound: it is a best one
-pub optimal_is_true : (p : Problem) (budget : ℕ) (cert : Certificate) (plan : ProblemPath) (expanded : ℕ) → IsShown p budget cert (Some plan) expanded → length plan.path ≤ cert.lower → IsTrueAnswer p budget (Optimal plan cert) expanded
-optimal_is_true p budget cert plan expanded w le =
+-- what is shown makes an answer true that gives this certificate and this plan, where what it says is so
+shown_is_true : (p : Problem) (budget : ℕ) (answer : Answer) (plan : Option ProblemPath) (expanded : ℕ) → IsShown p budget (cert_of answer) plan expanded → path_in plan ≡ plan_of answer →
+    SaysTrue p answer → Ended p budget answer expanded → BranchesAreNeeded p answer → IsTrueAnswer p budget answer expanded
+shown_is_true p budget answer plan expanded w same says ended needed =
     let a = w.about in let t = w.best_met in
-    let is : IsPlanOf p plan = t.plan_is in let of = is.complete in
-    let acc : IsAccepted (claimed p cert (Some plan.path)) = accepted p cert (Some plan) a is in
-    let same : length plan.path ≡ cert.lower = omega (arith, bounded (claimed p cert (Some plan.path)) of.0 acc of.1, relocations-path of.0, ap length of.2, le) in
     record {
-      says = record { plan_is = is; best = subst (IsBest p) (sym same) (best (claimed p cert (Some plan.path)) plan.path acc refl same); shown = sym same };
-      ended = w.granted;
+      says = says;
+      ended = ended;
       within = w.within;
       of_problem = a.of_problem;
       certificate = a.certificate;
-      accepted = acc;
-      needed = w.needed;
+      accepted = subst (λ o. IsAccepted (claimed p (cert_of answer) o)) same (accepted p (cert_of answer) plan a t.plan_is);
+      needed = needed;
     }
+
+-- the plan has no more relocations than the bound: it is a best one
+pub optimal_is_true : (p : Problem) (budget : ℕ) (cert : Certificate) (plan : ProblemPath) (expanded : ℕ) → IsShown p budget cert (Some plan) expanded → length plan.path ≤ cert.lower → IsTrueAnswer p budget (Optimal plan cert) expanded
+optimal_is_true p budget cert plan expanded w le =
+    let t = w.best_met in
+    let is : IsPlanOf p plan = t.plan_is in let of = is.complete in
+    let acc : IsAccepted (claimed p cert (Some plan.path)) = accepted p cert (Some plan) w.about is in
+    let same : length plan.path ≡ cert.lower = omega (arith, bounded (claimed p cert (Some plan.path)) of.0 acc of.1, relocations-path of.0, ap length of.2, le) in
+    let says : SaysTrue p (Optimal plan cert) = record { plan_is = is; best = subst (IsBest p) (sym same) (best (claimed p cert (Some plan.path)) plan.path acc refl same); shown = sym same } in
+    shown_is_true p budget (Optimal plan cert) (Some plan) expanded w refl says w.granted w.needed
 
 -- the bound reaches the cap: there is no plan
 pub no_plan_is_true : (p : Problem) (budget : ℕ) (cert : Certificate) (expanded : ℕ) → IsShown p budget cert None expanded → cap p ≤ cert.lower → IsTrueAnswer p budget (NoPlan cert) expanded
 no_plan_is_true p budget cert expanded w le =
-    let a = w.about in
-    let acc : IsAccepted (claimed p cert None) = accepted p cert None a tt in
-    let same : cert.lower ≡ cap p = omega (arith, lower_low p cert a, le) in
-    record {
-      says = record { none = λ moves plan. no_plan_at_cap (claimed p cert None) moves acc same plan; shown = same };
-      ended = w.granted;
-      within = w.within;
-      of_problem = a.of_problem;
-      certificate = a.certificate;
-      accepted = acc;
-      needed = w.needed;
-    }
+    let acc : IsAccepted (claimed p cert None) = accepted p cert None w.about tt in
+    let same : cert.lower ≡ cap p = omega (arith, lower_low p cert w.about, le) in
+    shown_is_true p budget (NoPlan cert) None expanded w refl (record { none = λ moves plan. no_plan_at_cap (claimed p cert None) moves acc same plan; shown = same }) w.granted w.needed
 
 -- what is said of the bounds
 bounds_true : (p : Problem) (budget : ℕ) (cert : Certificate) (plan : Option ProblemPath) (expanded : ℕ) → IsShown p budget cert plan expanded → IsBetween p cert.lower cert plan
 bounds_true p budget cert plan expanded w =
-    let a = w.about in let t = w.best_met in
+    let t = w.best_met in
     record {
-      bounds = λ moves is. bounded (claimed p cert (path_in plan)) moves (accepted p cert plan a t.plan_is) is;
+      bounds = λ moves is. bounded (claimed p cert (path_in plan)) moves (accepted p cert plan w.about t.plan_is) is;
       shown = refl;
       ahead = w.ahead;
       plan_is = t.plan_is;
@@ -143,30 +175,11 @@ bounds_true p budget cert plan expanded w =
 -- the bound is below the best plan, and the budget is spent
 pub between_is_true : (p : Problem) (budget : ℕ) (cert : Certificate) (plan : Option ProblemPath) (expanded : ℕ) → IsShown p budget cert plan expanded → cert.lower < count_of p (path_in plan) → expanded ≡ budget → IsTrueAnswer p budget (Between cert.lower cert plan Budget) expanded
 between_is_true p budget cert plan expanded w lt spent =
-    let a = w.about in let t = w.best_met in
-    record {
-      says = bounds_true p budget cert plan expanded w;
-      ended = (w.granted, record { all = spent; below = lt });
-      within = w.within;
-      of_problem = a.of_problem;
-      certificate = a.certificate;
-      accepted = accepted p cert plan a t.plan_is;
-      needed = w.needed;
-    }
+    shown_is_true p budget (Between cert.lower cert plan Budget) plan expanded w refl (bounds_true p budget cert plan expanded w) (w.granted, record { all = spent; below = lt }) w.needed
 
 -- memory ran out, and the certificate is one cut
 pub cut_is_true : (p : Problem) (budget : ℕ) (cert : Certificate) (plan : Option ProblemPath) (expanded : ℕ) → IsShown p budget cert plan expanded → IsOneCut cert → IsTrueAnswer p budget (Between cert.lower cert plan Memory) expanded
-cut_is_true p budget cert plan expanded w one =
-    let a = w.about in let t = w.best_met in
-    record {
-      says = bounds_true p budget cert plan expanded w;
-      ended = one;
-      within = w.within;
-      of_problem = a.of_problem;
-      certificate = a.certificate;
-      accepted = accepted p cert plan a t.plan_is;
-      needed = w.needed;
-    }
+cut_is_true p budget cert plan expanded w one = shown_is_true p budget (Between cert.lower cert plan Memory) plan expanded w refl (bounds_true p budget cert plan expanded w) one w.needed
 
 -- a part of one cut has no branch
 no_branches : (x : ProblemPart) → IsKeptPart x → IsCut x.tree → branches_in x ≡ []

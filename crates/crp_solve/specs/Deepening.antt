@@ -2,7 +2,7 @@
 use Rattle.std.specs.Prelude.{◌≡◌, ℕ, ◌+◌, ◌-◌, ◌<◌, ◌≤◌, ◌⊎◌, nat_lt, if◌then◌else◌}
 use Rattle.crp_plan.specs.Bay.{Problem, cap}
 use Rattle.crp_tree.specs.Parts.{Certificate}
-use Rattle.crp_solve.specs.declared.ending.Together.{Together}
+use Rattle.crp_solve.specs.declared.end.Together.{Together}
 use Rattle.crp_solve.specs.Answers.{path_in, count_of}
 
 -- the certificate that shows the higher bound; where both show the same, the first

@@ -47,11 +47,10 @@ abbrev pub fixed_at : Option PoolSeat → Option Fixed
 fixed_at place = option_map (λ x. record { number = x.number; pool = x.pool; deque = x.deque; takes = x.takes }) place
 
 -- what a desk keeps; `named` and `begun` are the words and the place that it was opened with
-pub record IsDesk (named of : Shared) (begun place : Option PoolSeat) (seat : Seat) (first : ℕ) (plan : Option ProblemPath) : Type 0 where
+pub record IsDesk (named of : Shared) (begun place : Option PoolSeat) (seat : Seat) (plan : Option ProblemPath) : Type 0 where
   pub words : of ≡ named
   pub fixed : fixed_at place ≡ fixed_at begun
   pub at_words : seat.of ≡ of
-  pub first_is : first ≡ of.key.start
   pub plan_kept : KeepsPlan of seat.view plan
 
 -- the words of no search

@@ -120,6 +120,14 @@ pub record IsUnusedSeat (of : Shared) (seat : Seat) : Type 0 where
   pub mine : seat.view.mine ≡ of.key.start
   pub seen : seat.view.seen ≤ of.key.start
 
+-- such a seat keeps what workers keep, with no plan and no part
+abbrev pub KeepsUnused : Keeping → Shared → Type 0
+KeepsUnused keeps of = (seat : Seat) → IsUnusedSeat of seat → keeps of seat.view None []
+
+-- every place of a pool that has one at least
+abbrev pub AreAllPlaces : List DequeId → List PoolSeat → Type 0
+AreAllPlaces pool places = IsEverySeat pool places × (0 < length pool)
+
 -- a list that is empty, with room for a place
 abbrev pub IsRoom : Vec PoolSeat Global → Type 0
 IsRoom room = (room.items ≡ []) × (vec_len room < vec_capacity room)

@@ -1,13 +1,14 @@
 -- What is left in the pool when its workers are done, and what is known when that is searched too.
-use Rattle.std.specs.Prelude.{◌≡◌, ◌≤◌, ℕ, Bool, false, List, [], ◌∷◌, Option, IfSome}
+use Rattle.std.specs.Prelude.{◌≡◌, ◌≤◌, ℕ, false, List, [], ◌∷◌, Option, IfSome}
 use Rattle.crp_plan.specs.declared.running.View.{View}
 use Rattle.crp_plan.specs.Bay.{Problem}
 use Rattle.crp_plan.specs.Plans.{ProblemPath}
 use Rattle.crp_tree.specs.Parts.{ProblemPart, Certificate, names_of}
 use Rattle.crp_incumbent.specs.declared.rule.Key.{Key}
 use Rattle.crp_incumbent.specs.Rule.{all_shares}
-use Rattle.crp_incumbent.specs.Seats.{Shared, Seat}
+use Rattle.crp_incumbent.specs.Seats.{Shared}
 use Rattle.crp_pool.specs.Weigh.{SameNames}
+use Rattle.crp_solve.specs.declared.end.Done.{Done}
 use Rattle.crp_solve.specs.Answers.{path_in, IsPlanOf}
 use Rattle.crp_solve.specs.Searches.{IsEndedSearch}
 use Rattle.crp_solve.specs.Desks.{count_or}
@@ -28,12 +29,12 @@ pub record IsAllDone (view : View) (parts : List ProblemPart) : Type 0 where
 
 -- what workers leave when they are done: their words with this key, a seat at them that has all shares, the plan and the parts that they keep; and unless a part
 -- was lost, nothing is left
-pub record AreDone (keeps : Keeping) (key : Key) (of : Shared) (seat : Seat) (plan : Option ProblemPath) (parts : List ProblemPart) (short : Bool) : Type 0 where
+pub record AreDone (keeps : Keeping) (key : Key) (of : Shared) (done : Done) : Type 0 where
   pub opened : of.key ≡ key
-  pub words : seat.of ≡ of
-  pub share : seat.view.share ≡ all_shares
-  pub kept : keeps of seat.view plan parts
-  pub all : short ≡ false → IsAllDone seat.view parts
+  pub words : done.seat.of ≡ of
+  pub share : done.seat.view.share ≡ all_shares
+  pub kept : keeps of done.seat.view done.best done.parts.items
+  pub all : done.short ≡ false → IsAllDone done.seat.view done.parts.items
 
 -- what the workers of a search found together: a certificate of the whole problem; the limit in the end is the relocations of their best plan, or
 -- where they have none, the limit at the start

@@ -4,7 +4,7 @@ use Rattle.crp_plan.specs.Bay.{Problem, start, cap}
 use Rattle.crp_plan.specs.Plans.{ProblemPath}
 use Rattle.crp_bay.specs.Positions.{settled}
 use Rattle.crp_bounds.specs.Bounds.{look_ahead}
-use Rattle.crp_solve.specs.declared.ending.Together.{Together}
+use Rattle.crp_solve.specs.declared.end.Together.{Together}
 use Rattle.crp_solve.specs.Chosen.{Chosen}
 use Rattle.crp_solve.specs.Answers.{path_in, shorter, count_of, IsFirstLimit, IsOneCut}
 use Rattle.crp_solve.specs.Searches.{met_or_known, IsAbout, IsBestMet, IsOpen}

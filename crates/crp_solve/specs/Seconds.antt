@@ -7,9 +7,9 @@ use Rattle.crp_solve.specs.declared.answer.Cause.{Cause}
 use Rattle.crp_solve.specs.declared.answer.Cause.TheVariants.{Budget, Memory}
 use Rattle.crp_solve.specs.declared.answer.Second.{Second}
 use Rattle.crp_solve.specs.declared.answer.Second.TheVariants as second
-use Rattle.crp_solve.specs.declared.asked.Asked.{Asked}
-use Rattle.crp_solve.specs.declared.asked.Optimum.{Optimum}
-use Rattle.crp_solve.specs.declared.asked.Asked.TheVariants.{Nothing, First}
+use Rattle.crp_solve.specs.declared.second.Asked.{Asked}
+use Rattle.crp_solve.specs.declared.second.Optimum.{Optimum}
+use Rattle.crp_solve.specs.declared.second.Asked.TheVariants.{Nothing, First}
 use Rattle.crp_solve.specs.Answers.{cert_of, branches_of, IsTrueAnswer}
 use Rattle.crp_solve.specs.Rounds.{AreSearched}
 use Rattle.crp_solve.specs.Solved.{known_by, IsSolved}

@@ -13,7 +13,7 @@ ghost use Rattle.crp_solve.specs.Solved.{known_by, ComesOf, IsFirstPart};
 ghost use Rattle.crp_solve.specs.Searches.{IsBestMet, IsShown, AreEnded, IsLost};
 
 use crate::answer::{Answer, Cause, Second, Solved};
-use crate::ending::{Lost, Together};
+use crate::end::{Lost, Together};
 use crp_bay::Position;
 use crp_bounds::look_ahead;
 use crp_plan::{Plan, Problem};
@@ -148,19 +148,13 @@ pub fn answer_to(
         → IfOk result (IsFirstPart problem.now c) }
 {
     match found {
-        Ok(
-            Together {
-                cert,
-                best,
-                expanded,
-            },
-        ) => {
-            let answer = answer_of_ended(problem, cert, best);
-            Ok(without_second(answer, expanded))
+        Ok(found) => {
+            let answer = answer_of_ended(problem, found.cert, found.best);
+            Ok(without_second(answer, found.expanded))
         }
-        Err(Lost { best, expanded }) => {
-            let answer = answer_without_memory(alloc, problem, best)?;
-            Ok(without_second(answer, expanded))
+        Err(lost) => {
+            let answer = answer_without_memory(alloc, problem, lost.best)?;
+            Ok(without_second(answer, lost.expanded))
         }
     }
 }

@@ -8,16 +8,15 @@ ghost use Rattle.crp_solve.specs.Begins.{IsStart, AreAllWorkers};
 
 use crate::answer::Solved;
 use crate::answering::answer_to;
-use crate::beginning::{Start, begin};
-use crate::common::{Common, Gate, Outside};
-use crate::fewest::Fewest;
-use crate::group::Group;
-use crate::once::with_known;
-use crate::opening::{Room, joined};
+use crate::end::{found_by, put_together, shared_of};
+use crate::rounds::with_known;
 use crate::settings::Settings;
-use crate::solver::start_posted;
-use crate::together::{found_by, put_together, shared_of, useful};
-use crate::working;
+use crate::start::{begin, start_posted};
+use crate::workers::aim::Fewest;
+use crate::workers::common::{Common, Gate, Outside};
+use crate::workers::group::Group;
+use crate::workers::wider::{Room, joined};
+use crate::workers::{running, useful};
 use crp_incumbent::{Board, Seat, Shared};
 use crp_plan::{Plan, Problem};
 use crp_pool::Pool;
@@ -102,22 +101,18 @@ impl Search {
         let outside = Outside { rt, gate, board };
         let (known, first) = start_posted(&outside, alloc, problem, settings);
         let begun = begin::<R, G, Fewest>(&outside, alloc, problem, settings, first);
-        let Some(begun) = begun else {
+        let Some(start) = begun else {
             return Err(AllocError);
         };
-        let Start {
-            common,
-            left,
-            pool,
-            worker,
-        } = begun;
+        let common = start.common;
+        let most = settings.workers();
         let (left, pool, groups) = with_others(
             rt,
             &common,
-            settings.workers(),
-            left,
-            pool,
-            worker,
+            most,
+            start.left,
+            start.pool,
+            start.worker,
         )?;
         let search = Search {
             common,
@@ -165,7 +160,7 @@ impl Search {
         let outside = Outside { rt, gate, board };
         let done = put_together(&outside, &common, pool, left, all);
         let shared = shared_of(common);
-        let found = found_by(rt, alloc, &problem, board, shared, settings.budget(), done);
+        let found = found_by(&outside, alloc, &problem, shared, settings.budget(), done);
         answer_to(alloc, &problem, with_known(found, known))
     }
 }
@@ -192,6 +187,6 @@ impl Common {
         ensures { SameWorkers group result }
     {
         let outside = Outside { rt, gate, board };
-        working::work(&outside, self, worker, group)
+        running::work(&outside, self, worker, group)
     }
 }

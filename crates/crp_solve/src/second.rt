@@ -1,41 +1,188 @@
-//! The second part of a solver: the first of all best plans, once it is known how many relocations these have.
-ghost use Rattle.std.specs.Prelude.{◌≡◌, ◌≤◌, length, IfOk, IfErr};
-ghost use Rattle.crp_plan.specs.Bay.{IsProblem, IsBest};
-ghost use Rattle.crp_solve.specs.Answers.{IsPlanOf};
-ghost use Rattle.crp_solve.specs.Firsts.{IsFoundFirst, IsGivenUp};
+//! The second part of a solver: the search for the first of all best plans, once it is known how many relocations these have.
+ghost use Rattle.std.specs.Prelude.{◌≡◌, length, true, IfOk, IfErr, min, ◌≤◌};
+ghost use Rattle.crp_plan.specs.Bay.{Problem as Statement, IsBest, IsProblem};
+ghost use Rattle.crp_solve.specs.Answers.{cert_of, HasNoSecond, IsPlanOf};
+ghost use Rattle.crp_solve.specs.Chosen.{Chosen};
+ghost use Rattle.crp_solve.specs.Firsts.{IsFoundFirst, IsGivenUp, IsKeptFirst};
+ghost use Rattle.crp_solve.specs.Seconds.{cert_before, IsKnownBest, IsAsked, second_by};
+ghost use Rattle.crp_solve.specs.Solved.{IsFirstPart, IsSolved};
+ghost use Rattle.crp_solve.specs.Rests.{AreDone};
 
 use crate::alone::{Alone, Begun};
-use crate::answer::Cause;
-use crate::common::{Gate, Outside};
-use crate::first_best::FirstBest;
-use crate::first_ending::{First, GivenUp, first_ended};
+use crate::answer::{Answer, Cause, Second, Solved};
+use crate::end::Done;
 use crate::settings::Settings;
-use crate::together::work_together;
-use crp_gather::settle;
+use crate::workers::aim::FirstBest;
+use crate::workers::common::{Gate, Outside};
+use crate::workers::{look_of, work_together};
+use crp_gather::{GatherFault, gather, settle};
+use crp_incumbent::Shared;
 use crp_plan::{Plan, Problem};
 use crp_search::{FirstEnd, FirstPart, search_first};
 use crp_tree::{Cert, Name};
 use std::alloc::Global;
-use std::marker::Brand;
 use std::sync::Wait;
 use std::thread::Threads;
 
-/// The first best plan, which has `count` relocations, searched by so many workers.
-pub(crate) fn first_with<R: Threads + Wait + Sync, G: Gate + Sync>(
+/// A best plan and the certificate that shows that none has fewer relocations, after so many expansions.
+#[derive(Drop)]
+pub(crate) struct Optimum {
+    pub(crate) plan: Plan,
+    pub(crate) cert: Cert,
+    pub(crate) expanded: u64,
+}
+
+/// What is asked after the first part: nothing, or the first best plan, where a best one is known.
+#[derive(Drop)]
+pub(crate) enum Asked {
+    Nothing(Solved),
+    First(Optimum),
+}
+
+/// What these settings ask where the first part answers this.
+pub(crate) fn asked_for(settings: Settings, solved: Solved) -> Asked
+    requires { HasNoSecond solved }
+    ensures cert { cert_before result ≡ cert_of solved.answer }
+    ensures asked { (p : Statement) → IsFirstPart p settings solved → IsAsked p settings result }
+{
+    if !settings.first() {
+        return Asked::Nothing(solved);
+    }
+    let expanded = solved.expanded;
+    match solved.answer {
+        Answer::Optimal { plan, cert } => Asked::First(Optimum {
+            plan,
+            cert,
+            expanded,
+        }),
+        answer => Asked::Nothing(Solved { answer, ..solved }),
+    }
+}
+
+/// How the second part ended that was given up for this cause.
+fn given_up_for(cause: Cause) -> Second
+    ensures { result ≡ second_by cause }
+{
+    match cause {
+        Cause::Budget => Second::Budget,
+        Cause::Memory => Second::Memory,
+    }
+}
+
+/// The answer after the second part: the first best plan, or the best plan that was known.
+pub(crate) fn answer_with_second(best: Optimum, found: Result<First, GivenUp>) -> Solved
+    ensures one_part { length best.cert.parts ≡ 1 → IfOk found (λ first. length first.cert.parts ≡ 1) → length (cert_of result.answer).parts ≡ 1 }
+    ensures solved { (p : Statement) (c : Chosen) → c.first ≡ true → IsKnownBest p c best
+        → IfOk found (λ first. IsFoundFirst p c.budget (length best.plan.path) first.plan first.cert first.expanded)
+        → IfErr found (λ end. IsGivenUp c.budget end.cause end.expanded) → IsSolved p c result }
+{
+    match found {
+        Ok(first) => Solved {
+            answer: Answer::First {
+                plan: first.plan,
+                cert: first.cert,
+            },
+            expanded: best.expanded,
+            second: Second::Done,
+            second_expanded: first.expanded,
+        },
+        Err(end) => Solved {
+            answer: Answer::Optimal {
+                plan: best.plan,
+                cert: best.cert,
+            },
+            expanded: best.expanded,
+            second: given_up_for(end.cause),
+            second_expanded: end.expanded,
+        },
+    }
+}
+
+/// The first best plan, the certificate that shows it, and how many expansions were granted for them.
+#[derive(Drop)]
+pub(crate) struct First {
+    pub(crate) plan: Plan,
+    pub(crate) cert: Cert,
+    pub(crate) expanded: u64,
+}
+
+/// Why the search for the first best plan was given up, and how many expansions were granted to it.
+#[derive(Drop)]
+pub(crate) struct GivenUp {
+    pub(crate) cause: Cause,
+    pub(crate) expanded: u64,
+}
+
+/// Why a part was lost where so many claims were made: one was refused where there were more than the budget, and else memory
+/// was short.
+fn lost(spent: u64, budget: u64) -> GivenUp
+    ensures given_up { IsGivenUp budget result.cause result.expanded }
+    ensures expanded { result.expanded ≡ min spent budget }
+{
+    let expanded = spent.min(budget);
+    let cause = if spent > budget {
+        Cause::Budget
+    } else {
+        Cause::Memory
+    };
+    GivenUp { cause, expanded }
+}
+
+/// Closes the words, makes one certificate of the parts, and settles it on the plan that is kept.
+fn first_ended(
+    alloc: Global,
+    problem: &Problem,
+    shared: Shared,
+    budget: u64,
+    done: Done,
+) -> Result<First, GivenUp>
+    requires best { IsBest problem.now shared.key.start }
+    requires done { AreDone IsKeptFirst (record { problem = problem.now; start = shared.key.start; budget = budget }) shared done }
+    ensures found { IfOk result (λ first. IsFoundFirst problem.now budget shared.key.start first.plan first.cert first.expanded) }
+    ensures given_up { IfErr result (λ end. IsGivenUp budget end.cause end.expanded) }
+{
+    let totals = shared.close(done.seat);
+    if done.short {
+        return Err(lost(totals.spent, budget));
+    }
+    let expanded = totals.spent.min(budget);
+    let memory = GivenUp {
+        cause: Cause::Memory,
+        expanded,
+    };
+    let cert = match gather(alloc, problem, done.parts) {
+        Ok(cert) => cert,
+        Err(fault) => match fault {
+            GatherFault::Memory => return Err(memory),
+            _ => unreachable!(),
+        },
+    };
+    let best = done.best;
+    let Some(plan) = best else { unreachable!() };
+    let Ok(cert) = settle(alloc, cert, &plan) else {
+        return Err(memory);
+    };
+    Ok(First {
+        plan,
+        cert,
+        expanded,
+    })
+}
+
+/// The first best plan, which has `count` relocations, searched by the workers that the settings ask for.
+fn first_with<R: Threads + Wait + Sync, G: Gate + Sync>(
     outside: &Outside<R, G>,
     alloc: Global,
     problem: &Problem,
     settings: Settings,
-    most: u32,
     count: u32,
 ) -> Result<First, GivenUp>
-    requires most { most ≤ 64 }
     requires best { IsBest problem.now count }
     ensures found { IfOk result (λ first. IsFoundFirst problem.now settings.budget count first.plan first.cert first.expanded) }
     ensures given_up { IfErr result (λ end. IsGivenUp settings.budget end.cause end.expanded) }
 {
     let budget = settings.budget();
-    let worked = work_together::<R, G, FirstBest>(outside, alloc, problem, settings, most, count);
+    let worked = work_together::<R, G, FirstBest>(outside, alloc, problem, settings, count);
     let Some((shared, done)) = worked else {
         return Err(GivenUp {
             cause: Cause::Memory,
@@ -45,8 +192,34 @@ pub(crate) fn first_with<R: Threads + Wait + Sync, G: Gate + Sync>(
     first_ended(alloc, problem, shared, budget, done)
 }
 
-/// The first best plan, searched by a worker that it makes.
-fn first_by<K: Begun>(
+/// The first best plan, searched by many workers; where the gate has it so, behind a look of one of them.
+pub(crate) fn first_together<R: Threads + Wait + Sync, G: Gate + Sync>(
+    outside: &Outside<R, G>,
+    alloc: Global,
+    problem: &Problem,
+    settings: Settings,
+    count: u32,
+) -> Result<First, GivenUp>
+    requires { IsBest problem.now count }
+    ensures found { IfOk result (λ first. IsFoundFirst problem.now settings.budget count first.plan first.cert first.expanded) }
+    ensures given_up { IfErr result (λ end. IsGivenUp settings.budget end.cause end.expanded) }
+{
+    let Some(look) = look_of(outside.gate, settings) else {
+        return first_with(outside, alloc, problem, settings, count);
+    };
+    match first_with(&outside.unheard(), alloc, problem, look, count) {
+        Err(
+            GivenUp {
+                cause: Cause::Budget,
+                ..
+            },
+        ) => first_with(outside, alloc, problem, settings, count),
+        found => found,
+    }
+}
+
+/// The first best plan, searched by one worker that shares nothing. `known` is one of the best plans.
+pub(crate) fn first_alone<K: Begun>(
     alloc: Global,
     problem: &Problem,
     settings: Settings,
@@ -97,21 +270,4 @@ fn first_by<K: Begun>(
         cert,
         expanded,
     })
-}
-
-/// The first best plan, searched by one worker that shares nothing. `known` is one of the best plans.
-pub(crate) fn first_alone(
-    alloc: Global,
-    problem: &Problem,
-    settings: Settings,
-    known: &Plan,
-) -> Result<First, GivenUp>
-    requires problem { IsProblem problem.now }
-    requires plan { IsPlanOf problem.now known.now }
-    requires best { IsBest problem.now (length known.now.path) }
-    ensures found { IfOk result (λ first. IsFoundFirst problem.now settings.budget (length known.now.path) first.plan first.cert first.expanded) }
-    ensures given_up { IfErr result (λ end. IsGivenUp settings.budget end.cause end.expanded) }
-    ensures one_part { IfOk result (λ first. length first.cert.parts ≡ 1) }
-{
-    first_by::<Brand>(alloc, problem, settings, known)
 }

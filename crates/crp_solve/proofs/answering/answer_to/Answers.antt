@@ -1,5 +1,5 @@
 use Rattle.std.proofs.Common.{IfOk, IfErr, subst}
-use Rattle.crp_solve.specs.declared.ending.Together.{Together}
+use Rattle.crp_solve.specs.declared.end.Together.{Together}
 use Rattle.crp_solve.specs.Searches.{IsLost}
 use Rattle.crp_solve.specs.Rounds.{AreSearched}
 use Rattle.crp_solve.proofs.SearchesEnded.{searched_ended, searched_branches}
@@ -7,7 +7,7 @@ use Rattle.crp_solve.proofs.answering.answer_to.Goals as goal
 
 pub returns-in-Ok-clause-answered : goal.returns-in-Ok-clause-answered
 returns-in-Ok-clause-answered c chosen searched lost =
-    let p = c.args.problem.now in let r : Together = c.in-Ok.field-0 in let given = c.answer_of_ended-answer.ensures in
+    let p = c.args.problem.now in let r : Together = c.in-Ok.found in let given = c.answer_of_ended-answer.ensures in
     let s : AreSearched p chosen r = subst (λ o. IfOk o (AreSearched p chosen)) c.in-Ok.is searched in
     rw (c.without_second.ensures.answer, c.without_second.ensures.expanded)
     (record {
@@ -18,7 +18,7 @@ returns-in-Ok-clause-answered c chosen searched lost =
 
 pub returns-in_ok-answer-in-Err-clause-answered : goal.returns-in_ok-answer-in-Err-clause-answered
 returns-in_ok-answer-in-Err-clause-answered c chosen searched lost =
-    let p = c.args.problem.now in let r = c.in-Err.field-0 in let given = c.in_ok-answer-in-Err.ensures in
+    let p = c.args.problem.now in let r = c.in-Err.lost in let given = c.in_ok-answer-in-Err.ensures in
     rw (c.without_second-in-Err.ensures.answer, c.without_second-in-Err.ensures.expanded)
     (record {
       answer = given.true_answer chosen.budget r.expanded (subst (λ o. IfErr o (λ l. IsLost p chosen.budget l.best l.expanded)) c.in-Err.is lost);

@@ -1,5 +1,5 @@
 use Rattle.std.proofs.Common.{◌+◌, ◌-◌, IfOk, IfErr, subst}
-use Rattle.crp_solve.specs.declared.ending.Together.{Together}
+use Rattle.crp_solve.specs.declared.end.Together.{Together}
 use Rattle.crp_solve.specs.Rests.{IsFoundTogether, IsCutShort}
 use Rattle.crp_solve.proofs.Deepened.{shown_after, nearer_after, lost_after}
 use Rattle.crp_solve.proofs.Rising.{one_more}

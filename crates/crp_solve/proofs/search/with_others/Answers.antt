@@ -1,5 +1,5 @@
 use Rattle.std.proofs.Common.{◌≡◌, ◌∷◌, [], rules, arith}
-use Rattle.crp_solve.proofs.AllWorkers.{only_worker}
+use Rattle.crp_solve.proofs.Halves.{only_worker}
 use Rattle.crp_solve.proofs.search.with_others.Goals as goal
 
 pub returns-then-first-clause-all : goal.returns-then-first-clause-all

@@ -1,7 +1,7 @@
 use Rattle.std.proofs.Common.{◌≡◌, true, rules}
 use Rattle.std.proofs.lemmas.Result.{err_from_is_err_and}
 use Rattle.crp_solve.proofs.Deepened.{nearer_smaller}
-use Rattle.crp_solve.proofs.Rising.{rising_begins, rising_shown, rising_more, rising_ends}
+use Rattle.crp_solve.proofs.Rising.{rising_shown, rising_more, rising_ends}
 use Rattle.crp_solve.proofs.solver.found_together.Goals as goal
 
 pub returns-in_err-known-clause-lost : goal.returns-in_err-known-clause-lost

@@ -1,10 +1,8 @@
 use Rattle.std.proofs.Common.{◌≡◌, ◌≤◌, ℕ, rules, false, IfOk, IfErr, IfSome, subst, sym, ap, ◌∙◌, arith}
 use Rattle.std.proofs.lemmas.Result.{IfOk-weaker}
 use Rattle.crp_plan.specs.Bay.{Problem, IsProblem}
-use Rattle.crp_plan.specs.Plans.{ProblemPath}
-use Rattle.crp_solve.specs.declared.answer.Solved.{Solved}
-use Rattle.crp_solve.specs.declared.ending.Together.{Together}
-use Rattle.crp_solve.specs.Answers.{path_in, count_of, IsPlanOf, HasNoSecond}
+use Rattle.crp_solve.specs.declared.end.Together.{Together}
+use Rattle.crp_solve.specs.Answers.{path_in, count_of, IsPlanOf}
 use Rattle.crp_solve.specs.Chosen.{Chosen}
 use Rattle.crp_solve.specs.Desks.{count_or}
 use Rattle.crp_solve.specs.Searches.{IsLost}

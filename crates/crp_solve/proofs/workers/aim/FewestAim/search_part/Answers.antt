@@ -1,0 +1,10 @@
+use Rattle.crp_solve.proofs.Tasks.{kept_later_or_more}
+use Rattle.crp_solve.proofs.workers.aim.FewestAim.search_part.Goals as goal
+
+pub search_at_desk-requires-clause-plan : goal.search_at_desk-requires-clause-plan
+search_at_desk-requires-clause-plan g c = let k = c.requires.kept in let kept = k.1 in kept.plan_kept
+
+pub returns-clause-kept : goal.returns-clause-kept
+returns-clause-kept g c parts k =
+    let found = c.search_at_desk.ensures in
+    kept_later_or_more c.args.common.now.of c.args.seat.view c.search_at_desk.result.seat.view c.args.best c.search_at_desk.result.best parts c.search_at_desk.result.part found.plan found.advances k found.part

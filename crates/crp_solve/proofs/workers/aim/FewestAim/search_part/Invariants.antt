@@ -1,0 +1,4 @@
+use Rattle.crp_solve.proofs.workers.aim.FewestAim.search_part.Given as goal
+
+abbrev pub ghosts-search_at_desk : goal.ghosts-search_at_desk
+ghosts-search_at_desk g a = record { words = a.common.now.of; place = a.place }

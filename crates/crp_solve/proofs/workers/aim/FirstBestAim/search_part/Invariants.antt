@@ -1,0 +1,4 @@
+use Rattle.crp_solve.proofs.workers.aim.FirstBestAim.search_part.Given as goal
+
+abbrev pub ghosts-first_at_desk : goal.ghosts-first_at_desk
+ghosts-first_at_desk g a = record { words = a.common.now.of; place = a.place }

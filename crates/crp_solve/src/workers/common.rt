@@ -1,0 +1,82 @@
+//! What all workers of a search have in common.
+use crate::workers::open_work::OpenWork;
+use crp_incumbent::{Board, Shared};
+use crp_plan::Problem;
+use crp_tree::Name;
+use std::alloc::Global;
+use std::marker::Model;
+
+/// Asked before each part is searched, and told how far the search is. Nothing that a search finds rests on it.
+pub trait Gate {
+    /// The worker begins the part of this name. It is called once for each, before its first node is looked at.
+    fn begun(&self, worker: u32, task: &Name);
+
+    /// A plan of so many relocations is known.
+    fn planned(&self, _relocations: u32) {}
+
+    /// So many positions more may be expanded. A worker says so behind each 4096, and for the rest where its part ends.
+    fn claimed(&self, _positions: u32) {}
+
+    /// Whether one worker looks first, so that others are not started for a problem that it solves at once. What it does then is not
+    /// said to the gate.
+    fn looks_first(&self) -> bool {
+        false
+    }
+}
+
+/// The gate that asks for nothing.
+#[derive(Clone, Copy)]
+pub struct NoGate;
+
+impl Gate for NoGate {
+    fn begun(&self, _worker: u32, _task: &Name) {}
+
+    fn looks_first(&self) -> bool {
+        true
+    }
+}
+
+/// What a worker reaches outside the search: the leave to wait, the gate, and the board for its plans.
+#[derive(Drop)]
+pub struct Outside<'a, R, G> {
+    pub(crate) rt: &'a R,
+    pub(crate) gate: &'a G,
+    pub(crate) board: &'a Board,
+}
+
+impl<'a, R, G> Outside<'a, R, G> {
+    ghost use Rattle.std.specs.Prelude.{◌≡◌};
+
+    /// The same with a gate that asks for nothing.
+    pub(crate) fn unheard(&self) -> Outside<'a, R, NoGate>
+        ensures { result.board.now ≡ self.now.board.now }
+    {
+        Outside {
+            rt: self.rt,
+            gate: &NoGate,
+            board: self.board,
+        }
+    }
+}
+
+/// What all workers of a search have in common.
+#[derive(Drop)]
+pub struct Common {
+    pub(crate) alloc: Global,
+    pub(crate) problem: Problem,
+    pub(crate) shared: Shared,
+    pub(crate) open: OpenWork,
+    /// The limit that the search began with.
+    pub(crate) first: u32,
+    pub(crate) split: u8,
+}
+
+impl Model for Common {
+    ghost use Rattle.crp_solve.specs.Desks.{Terms, IsCommon};
+
+    ghost Value = { Terms };
+
+    ghost view = { λ c. record { of = c.shared; split = c.split } };
+
+    ghost invariant = { λ c. IsCommon c.problem c.first (record { of = c.shared; split = c.split }) };
+}

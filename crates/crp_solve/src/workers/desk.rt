@@ -1,0 +1,249 @@
+//! One worker that shares the limit, the claims and the names with others.
+ghost use Rattle.std.specs.Prelude.{◌≡◌, min, length, None, IfSome};
+ghost use Rattle.crp_plan.specs.Bay.{Problem};
+ghost use Rattle.crp_solve.specs.Answers.{path_in, IsPlanOf};
+ghost use Rattle.crp_search.specs.Limits.{Advances};
+ghost use Rattle.crp_search.specs.Firsts.{IsLowerBound, OnlyClaims};
+ghost use Rattle.crp_solve.specs.Desks.{count_or, fixed_at, KeepsPlan, IsCountedPart, IsFoundPart};
+ghost use Rattle.crp_solve.specs.Firsts.{IsPlanOfCount, IsSearchedFirst};
+
+use crate::workers::aim::Searched;
+use crate::workers::common::{Common, Gate, Outside};
+use crp_incumbent::Seat;
+use crp_plan::Plan;
+use crp_pool::PoolSeat;
+use crp_search::{FirstPart, Limit, search, search_first};
+use crp_tree::Name;
+use std::marker::{Brand, Model, PhantomData};
+use std::sync::Wait;
+
+/// The words that a desk was opened with, and its place. Whoever searches at a desk picks them, by the type `Brand`.
+pub(crate) trait Opened {
+    ghost use Rattle.std.specs.Prelude.{Option};
+    ghost use Rattle.crp_incumbent.specs.Seats.{Shared};
+    ghost use Rattle.crp_pool.specs.Seats.{PoolSeat};
+
+    ghost words: { Shared };
+
+    ghost place: { Option PoolSeat };
+}
+
+impl Opened for Brand {
+    ghost use Rattle.std.specs.Prelude.{None};
+    ghost use Rattle.crp_solve.specs.Desks.{no_words};
+
+    ghost words = { no_words };
+
+    ghost place = { None };
+}
+
+/// How many granted claims are said to the gate together.
+const CLAIMS: u32 = 4096;
+
+/// A worker with its seat, the plan that its least offer counts, its place in the pool, and how many claims were granted to it.
+#[derive(Drop)]
+struct Desk<'a, R, G, K: Opened> {
+    outside: &'a Outside<'a, R, G>,
+    common: &'a Common,
+    seat: Seat,
+    best: Option<Plan>,
+    place: Option<PoolSeat>,
+    claims: u32,
+    opened: PhantomData<K>,
+}
+
+impl<'a, R, G, K: Opened> Model for Desk<'a, R, G, K> {
+    ghost use Rattle.crp_solve.specs.Desks.{Post, IsDesk};
+
+    ghost Value = { Post };
+
+    ghost view = { λ d. record { of = d.common.now.of; view = d.seat.view; plan = d.best; place = d.place } };
+
+    ghost invariant = { λ d. IsDesk K.words d.common.now.of K.place d.place d.seat d.best };
+}
+
+/// Keeps the plan in place of the other, where it has fewer relocations; in place of none, where it has fewer than the first limit.
+fn keep_shorter(first: u32, best: &mut Option<Plan>, plan: &Plan)
+    ensures fewest { count_or first (path_in best.new) ≡ min (count_or first (path_in best.old)) (length plan.now.path) }
+    ensures plan { (p : Problem) → plan.now.problem ≡ p → IfSome best.old (IsPlanOf p) → IfSome best.new (IsPlanOf p) }
+{
+    let mine = match &*best {
+        Some(best) => best.count(),
+        None => first,
+    };
+    if plan.count() < mine {
+        *best = Some(plan.copy());
+    }
+}
+
+impl<'a, R: Wait, G: Gate, K: Opened> Limit for Desk<'a, R, G, K> {
+    ghost use Rattle.crp_solve.specs.Desks.{puts_at};
+
+    ghost view = { λ d. d.view };
+
+    ghost problem = { λ d. d.of.key.problem };
+
+    ghost budget = { λ d. d.of.key.budget };
+
+    ghost puts = { λ d. puts_at d.place };
+
+    fn see(&mut self) -> u64 {
+        let common = self.common;
+        self.seat.see(&common.shared)
+    }
+
+    fn offer(&mut self, plan: &Plan) {
+        let common = self.common;
+        keep_shorter(common.first, &mut self.best, plan);
+        self.seat.offer(&common.shared, plan);
+        self.outside.board.post(self.outside.rt, plan);
+        self.outside.gate.planned(plan.count());
+    }
+
+    fn claim(&mut self) -> bool {
+        let common = self.common;
+        let granted = self.seat.claim(&common.shared);
+        if granted {
+            self.claims = self.claims.wrapping_add(1);
+            if self.claims % CLAIMS == 0 {
+                self.outside.gate.claimed(CLAIMS);
+            }
+        }
+        granted
+    }
+
+    fn put(&mut self, name: Name) -> Result<(), Name> {
+        let common = self.common;
+        let Some(place) = &mut self.place else {
+            return Err(name);
+        };
+        common.open.begin_put();
+        match place.put(name) {
+            Ok(()) => {
+                common.open.end_put();
+                Ok(())
+            }
+            Err(name) => {
+                common.open.close_one();
+                Err(name)
+            }
+        }
+    }
+}
+
+impl<'a, R, G: Gate, K: Opened> Desk<'a, R, G, K> {
+    ghost use Rattle.std.specs.Prelude.{◌≡◌};
+    ghost use Rattle.crp_solve.specs.Desks.{fixed_at, KeepsPlan};
+
+    /// A desk for one part.
+    fn open(
+        outside: &'a Outside<'a, R, G>,
+        common: &'a Common,
+        seat: Seat,
+        best: Option<Plan>,
+        place: Option<PoolSeat>,
+    ) -> Desk<'a, R, G, K>
+        requires opened { (K.words ≡ common.now.of) × (K.place ≡ place) }
+        requires words { seat.of ≡ common.now.of }
+        requires plan { KeepsPlan common.now.of seat.view best }
+        ensures { result ≡ record { of = common.now.of; view = seat.view; plan = best; place = place } }
+    {
+        Desk {
+            outside,
+            common,
+            seat,
+            best,
+            place,
+            claims: 0,
+            opened: PhantomData,
+        }
+    }
+
+    /// What it leaves: its seat, its plan and its place. The gate hears of the claims that were not said to it yet.
+    fn close(self) -> (Seat, Option<Plan>, Option<PoolSeat>)
+        ensures words { result.0.of ≡ K.words }
+        ensures plan { KeepsPlan K.words result.0.view result.1 }
+        ensures fixed { fixed_at result.2 ≡ fixed_at K.place }
+        ensures same { self.entry ≡ record { of = K.words; view = result.0.view; plan = result.1; place = result.2 } }
+    {
+        self.outside.gate.claimed(self.claims % CLAIMS);
+        (self.seat, self.best, self.place)
+    }
+}
+
+/// Searches the part of the name, with this seat, the plan that it counts, and a place where names may be put.
+///
+/// A name that is no path of the problem is not searched. None is ever put, but a pool cannot say so.
+pub(crate) fn search_at_desk<R: Wait, G: Gate, K: Opened>(
+    outside: &Outside<R, G>,
+    common: &Common,
+    worker: u32,
+    name: Name,
+    seat: Seat,
+    best: Option<Plan>,
+    place: Option<PoolSeat>,
+) -> Searched
+    requires opened { (K.words ≡ common.now.of) × (K.place ≡ place) }
+    requires words { seat.of ≡ common.now.of }
+    requires plan { KeepsPlan common.now.of seat.view best }
+    ensures words { result.seat.of ≡ common.now.of }
+    ensures plan { KeepsPlan common.now.of result.seat.view result.best }
+    ensures advances { Advances common.now.of.key.problem seat.view result.seat.view }
+    ensures place { fixed_at result.place ≡ fixed_at place }
+    ensures counted { IfSome result.part (IsCountedPart seat.view result.seat.view place result.place name) }
+    ensures part { IfSome result.part (IsFoundPart common.now.of seat.view result.seat.view) }
+{
+    outside.gate.begun(worker, &name);
+    let mut desk: Desk<'_, R, G, K> = Desk::open(outside, common, seat, best, place);
+    let part = if name.position(&common.problem).is_some() {
+        search(common.alloc, &common.problem, name, &mut desk, common.split).ok()
+    } else {
+        None
+    };
+    let (seat, best, place) = desk.close();
+    Searched {
+        part,
+        seat,
+        best,
+        place,
+    }
+}
+
+/// The same for the first plan of the relocations that the words began with, at a seat with which nothing was offered.
+pub(crate) fn first_at_desk<R: Wait, G: Gate, K: Opened>(
+    outside: &Outside<R, G>,
+    common: &Common,
+    worker: u32,
+    name: Name,
+    seat: Seat,
+    place: Option<PoolSeat>,
+) -> (Option<FirstPart>, Seat, Option<PoolSeat>)
+    requires opened { (K.words ≡ common.now.of) × (K.place ≡ place) }
+    requires words { seat.of ≡ common.now.of }
+    requires plan { KeepsPlan common.now.of seat.view None }
+    requires least { IsLowerBound common.now.of.key.problem common.now.of.key.start }
+    ensures words { result.1.of ≡ common.now.of }
+    ensures claims { OnlyClaims seat.view result.1.view }
+    ensures place { fixed_at result.2 ≡ fixed_at place }
+    ensures counted { IfSome result.0 (λ found. IsCountedPart seat.view result.1.view place result.2 name found.part) }
+    ensures part { IfSome result.0 (λ found. IsSearchedFirst common.now.of.key.problem common.now.of.key.start found.plan found.part) }
+    ensures plan { IfSome result.0 (λ found. IfSome found.plan (IsPlanOfCount common.now.of.key.problem common.now.of.key.start)) }
+{
+    outside.gate.begun(worker, &name);
+    let mut desk: Desk<'_, R, G, K> = Desk::open(outside, common, seat, None, place);
+    let found = if name.position(&common.problem).is_some() {
+        search_first(
+            common.alloc,
+            &common.problem,
+            name,
+            common.first,
+            &mut desk,
+            common.split,
+        )
+        .ok()
+    } else {
+        None
+    };
+    let (seat, _, place) = desk.close();
+    (found, seat, place)
+}
