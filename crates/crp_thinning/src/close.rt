@@ -1,0 +1,145 @@
+//! Closing a position by thinned branches alone.
+ghost use Rattle.std.specs.Prelude.{◌≡◌, ℕ, ◌≤◌, Contains, List, ◌++◌, IfOk, IfSome, IfNone, OnErr};
+ghost use Rattle.std.specs.Bool.{OnTrue, OnFalse};
+ghost use Rattle.crp_thinned.specs.Thinned.{good_rows, free_row};
+ghost use Rattle.crp_thinning.specs.Symbols.{Closes};
+
+use crate::thinned::Thinned;
+use std::alloc::AllocError;
+
+/// Closes a position by one cut, where a bound reaches what is needed.
+fn cut(place: &Thinned, need: u32, symbols: &mut Vec<u8>) -> Result<bool, AllocError>
+    ensures closed { IfOk result (λ cut. OnTrue cut ((text : List ℕ) × Closes place.now.place need text × (symbols.new.items ≡ symbols.old.items ++ text))) }
+    ensures open { IfOk result (λ cut. OnFalse cut (symbols.new.items ≡ symbols.old.items)) }
+    ensures grown { (text : List ℕ) × (symbols.new.items ≡ symbols.old.items ++ text) }
+{
+    if place.blocking() >= need {
+        symbols.push(b'B')?;
+        return Ok(true);
+    }
+    if place.look_ahead_reaches(need) {
+        symbols.push(b'L')?;
+        return Ok(true);
+    }
+    Ok(false)
+}
+
+/// Goes on as `close_thinned`; where it closes nothing, some symbols may be left behind those that were there.
+#[cycle(closing)]
+fn close(
+    place: &mut Thinned,
+    need: u32,
+    most: u32,
+    symbols: &mut Vec<u8>,
+) -> Result<Option<u32>, AllocError>
+    ensures same { place.new ≡ place.old }
+    ensures closed { IfOk result (λ spent. IfSome spent (λ spent. (text : List ℕ) × Closes place.old.place need text × (symbols.new.items ≡ symbols.old.items ++ text))) }
+    ensures spent { IfOk result (λ spent. IfSome spent (λ spent. spent ≤ most)) }
+    ensures grown { (text : List ℕ) × (symbols.new.items ≡ symbols.old.items ++ text) }
+{
+    if cut(place, need, symbols)? {
+        return Ok(Some(0));
+    }
+    if most == 0 || place.is_done() {
+        return Ok(None);
+    }
+    let free = place.free_row();
+    if free > 0 {
+        return close_free(place, need, most, free, symbols);
+    }
+    close_thin(place, need, most, symbols)
+}
+
+/// By a branch with one tree, that of the first row where the blocker hinders nobody.
+#[cycle(closing)]
+fn close_free(
+    place: &mut Thinned,
+    need: u32,
+    most: u32,
+    row: u8,
+    symbols: &mut Vec<u8>,
+) -> Result<Option<u32>, AllocError>
+    requires some { 1 ≤ most }
+    requires row { row ≡ free_row place.old.place }
+    requires counts { 1 ≤ row }
+    requires good { Contains (good_rows place.old.place) row }
+    ensures same { place.new ≡ place.old }
+    ensures closed { IfOk result (λ spent. IfSome spent (λ spent. (text : List ℕ) × Closes place.old.place need text × (symbols.new.items ≡ symbols.old.items ++ text))) }
+    ensures spent { IfOk result (λ spent. IfSome spent (λ spent. spent ≤ most)) }
+    ensures grown { (text : List ℕ) × (symbols.new.items ≡ symbols.old.items ++ text) }
+{
+    symbols.push(b'F')?;
+    place.put(row);
+    let below = close(place, need.saturating_sub(1), most - 1, symbols);
+    let _undone = place.undo();
+    let Some(more) = below? else {
+        return Ok(None);
+    };
+    Ok(Some(more + 1))
+}
+
+/// By a thinned branch.
+#[cycle(closing)]
+fn close_thin(
+    place: &mut Thinned,
+    need: u32,
+    most: u32,
+    symbols: &mut Vec<u8>,
+) -> Result<Option<u32>, AllocError>
+    requires some { 1 ≤ most }
+    requires left { place.old.place.next ≤ place.old.place.ordered }
+    ensures same { place.new ≡ place.old }
+    ensures closed { IfOk result (λ spent. IfSome spent (λ spent. (text : List ℕ) × Closes place.old.place need text × (symbols.new.items ≡ symbols.old.items ++ text))) }
+    ensures spent { IfOk result (λ spent. IfSome spent (λ spent. spent ≤ most)) }
+    ensures grown { (text : List ℕ) × (symbols.new.items ≡ symbols.old.items ++ text) }
+{
+    symbols.push(b'R')?;
+    let rows = place.good_rows();
+    let mut spent = 1;
+    for i in 0..rows.len() {
+        place.put(rows.as_slice()[i]);
+        let below = close(place, need.saturating_sub(1), most - spent, symbols);
+        let _undone = place.undo();
+        let Some(more) = below? else {
+            return Ok(None);
+        };
+        spent += more;
+    }
+    place.lift();
+    let below = close(place, need.saturating_sub(2), most - spent, symbols);
+    let _undone = place.undo();
+    let Some(more) = below? else {
+        return Ok(None);
+    };
+    Ok(Some(spent + more))
+}
+
+/// Closes a position by thinned branches alone, depth first, at most so many. Where it succeeds the symbols of a tree stand
+/// behind those that were there, a tree that shows at least what is needed, and it returns how many branches the tree has;
+/// otherwise the symbols are as they were. The position is as it was. No tree may be found where there is one.
+pub fn close_thinned(
+    place: &mut Thinned,
+    need: u32,
+    most: u32,
+    symbols: &mut Vec<u8>,
+) -> Result<Option<u32>, AllocError>
+    ensures same { place.new ≡ place.old }
+    ensures closed { IfOk result (λ spent. IfSome spent (λ spent. (text : List ℕ) × Closes place.old.place need text × (symbols.new.items ≡ symbols.old.items ++ text))) }
+    ensures spent { IfOk result (λ spent. IfSome spent (λ spent. spent ≤ most)) }
+    ensures open { IfOk result (λ spent. IfNone spent (symbols.new.items ≡ symbols.old.items)) }
+    ensures err { OnErr result (symbols.new.items ≡ symbols.old.items) }
+{
+    let before = symbols.len();
+    let outcome = close(place, need, most, symbols);
+    match outcome {
+        Ok(Some(spent)) => Ok(Some(spent)),
+        Ok(None) => {
+            symbols.truncate(before);
+            Ok(None)
+        }
+        Err(error) => {
+            symbols.truncate(before);
+            Err(error)
+        }
+    }
+}
