@@ -5,3 +5,9 @@ pub mod Over
 pub mod GoodRows
 pub mod Scans
 pub mod Closing
+pub mod Clearly
+pub mod Texts
+pub mod Ending
+pub mod Opened
+pub mod Pathway
+pub mod Following

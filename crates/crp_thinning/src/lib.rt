@@ -3,17 +3,27 @@
 
 mod close;
 mod counting;
+mod finding;
+mod follow;
+mod follower;
 mod hindering;
 mod laws;
+mod linking;
+mod looking;
 mod moving;
+mod opening;
+mod path;
+mod reading;
 mod rows;
 mod scanning;
 mod settling;
+mod stage;
 mod starting;
 mod step;
 mod thinned;
 mod track;
 
 pub use close::close_thinned;
+pub use follower::{Follower, follows_thinned};
 pub use laws::closed_means;
 pub use thinned::Thinned;

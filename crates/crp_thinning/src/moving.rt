@@ -38,7 +38,7 @@ pub fn land(row: usize, rank: u8, stacks: &mut ArrayVec<Stack, MAX_ROWS>)
 
 /// Whether a rank stands in a stack.
 #[inline]
-fn is_in(rank: u8, stack: &[u8]) -> bool
+pub fn is_in(rank: u8, stack: &[u8]) -> bool
     ensures { result ≡ holds rank stack.now }
 {
     stack.iter().any(|x| *x == rank)

@@ -49,7 +49,7 @@ fn with_bottom(ordered: u8, rank: u8, least: u8) -> u8
 }
 
 /// The least ordered rank of a stack; 255 where there is none.
-fn least_of(ordered: u8, stack: &[u8]) -> u8
+pub fn least_of(ordered: u8, stack: &[u8]) -> u8
     ensures { result ≡ least_ordered ordered stack.now }
 {
     let mut least: u8 = 255;

@@ -6,8 +6,11 @@ ghost use Rattle.crp_bay.specs.Positions.{source, stack_at};
 ghost use Rattle.crp_bounds.specs.Bounds.{blocking as blocking_bound, look_ahead as look_ahead_bound};
 ghost use Rattle.crp_thinned.specs.Thinned.{blocker as blocker_of, good_rows as rows_of, free_row as first_free, child_at, child_without};
 ghost use Rattle.crp_thinned.specs.Missing.{IsSoundlyThin};
+ghost use Rattle.crp_thinning.specs.Owed.{Task, EndsFamily};
+ghost use Rattle.crp_thinning.specs.OneChain.{IsFair, GoesOn, StaysFair};
 
 use crate::counting::blocking;
+use crate::reading::{Reading, Reads, read_symbol};
 use crate::rows::{blocker, free_row, good_rows};
 use crate::scanning::stuck_reaches;
 use crate::settling::{go_back, settle};
@@ -119,6 +122,15 @@ impl Thinned {
         ensures good { 1 ≤ result → Contains (rows_of self.now.place) result }
     {
         free_row(&self.track)
+    }
+
+    /// Reads one symbol of a family.
+    pub(crate) fn read_family(&self, reading: &mut Reading, symbol: u8) -> Reads
+        requires { IsFair reading.old }
+        ensures goes_on { (tasks : List Task) (text : List ℕ) → EndsFamily self.now.place reading.old tasks (symbol ∷ text) ↔ GoesOn result self.now.place reading.new tasks text }
+        ensures fair { StaysFair result reading.new }
+    {
+        read_symbol(&self.track, reading, symbol)
     }
 
     /// The blocking bound.
