@@ -1,6 +1,8 @@
 -- Texts that are followed to their end.
-use Rattle.std.proofs.Common.{◌≡◌, ◌↔◌, ℕ, zero, suc, ◌+◌, ◌<◌, IsTrue, List, [], ◌∷◌, ◌++◌, length, take, drop, get_or, refl, sym, ap, ◌∙◌, subst, append_assoc, append-nil}
-use Rattle.std.proofs.lemmas.List.{take_more}
+use Rattle.std.proofs.Common.{arith, false, true, nat_eq, Bool, ◌≡◌, ◌↔◌, ℕ, zero, suc, ◌+◌, ◌<◌, IsTrue, List, [], ◌∷◌, ◌++◌, length, take, drop, get_or, refl, sym, ap, ◌∙◌, subst, append_assoc, append-nil}
+use Rattle.std.proofs.lemmas.List.{take_more, take_all}
+use Rattle.std.specs.Bool.{OnTrue}
+use Rattle.std.proofs.lemmas.Bool.{eqb-true}
 use Rattle.crp_plan.specs.Bay.{Position}
 use Rattle.crp_thinning.specs.Symbols.{Closes}
 use Rattle.crp_thinning.specs.declared.path.Path.{Path}
@@ -8,9 +10,9 @@ use Rattle.crp_thinning.specs.declared.reading.Reading.{Reading}
 use Rattle.crp_thinning.specs.declared.stage.Stage.{Stage}
 use Rattle.crp_thinning.specs.declared.stage.Stage.TheVariants as stage
 use Rattle.crp_thinning.specs.Stages.{is_done}
-use Rattle.crp_thinning.specs.Owed.{Following, Trees, Refused, Owes, Takes}
+use Rattle.crp_thinning.specs.Owed.{Following, Trees, Refused, Owes, Takes, EndsFamily}
 use Rattle.crp_thinning.specs.Branches.{task, behind, following, IsKept}
-use Rattle.crp_thinning.proofs.Opened.{some_symbol, some_end, one_tree}
+use Rattle.crp_thinning.proofs.Opened.{IsFresh, by_family, some_symbol, some_end, one_tree}
 
 -- whether nothing is to come
 pub ended : (st : Stage) (path : Path) (reading : Reading) → IsKept st path reading → IsTrue (is_done st) ↔ Takes (following st path reading) []
@@ -53,3 +55,17 @@ whole start new s need symbols e all =
 
 pub none_whole : (start new : Following) (s : Position) (need : ℕ) (symbols : List ℕ) → start ≡ Trees (task s need ∷ []) → ((text : List ℕ) → Takes new text ↔ Takes start (symbols ++ text)) → new ≡ Refused → Closes s need symbols → ⊥
 none_whole start new s need symbols e all none k = subst (λ (f : Following). Takes f []) none ((whole start new s need symbols e all).1 k)
+
+-- ---- a family that is checked
+
+on_true_from : (P : Type 0) (b : Bool) → (b ≡ true → P) → OnTrue b P
+on_true_from P true f = f refl
+on_true_from P false f = tt
+
+-- the last symbol of a family whose chains gain what the blocking bound leaves
+pub family_closes : (s : Position) (need : ℕ) (text : List ℕ) (first r : Reading) (i : ℕ) → IsFresh s need first → i < length text → ((more : List ℕ) → EndsFamily s r [] more → EndsFamily s first [] (take i text ++ more)) → EndsFamily s r [] (get_or text i 0 ∷ []) →
+    OnTrue (nat_eq (i + 1) (length text)) (Closes s need (84 ∷ text))
+family_closes s need text first r i fresh lt back k = on_true_from (Closes s need (84 ∷ text)) (nat_eq (i + 1) (length text)) (λ t.
+    let all : take i text ++ get_or text i 0 ∷ [] ≡ text = sym (take_more text i 0 lt) ∙ take_all (i + 1) text (omega (arith, eqb-true (i + 1) (length text) t)) in
+    let whole_family : EndsFamily s first [] text = subst (EndsFamily s first []) all (back (get_or text i 0 ∷ []) k) in
+    (one_tree s need (84 ∷ text)).0 ((by_family s need [] text first fresh).0 whole_family))

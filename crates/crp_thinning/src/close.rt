@@ -1,28 +1,11 @@
 //! Closing a position by thinned branches alone.
 ghost use Rattle.std.specs.Prelude.{◌≡◌, ℕ, ◌≤◌, Contains, List, ◌++◌, IfOk, IfSome, IfNone, OnErr};
-ghost use Rattle.std.specs.Bool.{OnTrue, OnFalse};
 ghost use Rattle.crp_thinned.specs.Thinned.{good_rows, free_row};
 ghost use Rattle.crp_thinning.specs.Symbols.{Closes};
 
+use crate::cutting::cut;
 use crate::thinned::Thinned;
 use std::alloc::AllocError;
-
-/// Closes a position by one cut, where a bound reaches what is needed.
-fn cut(place: &Thinned, need: u32, symbols: &mut Vec<u8>) -> Result<bool, AllocError>
-    ensures closed { IfOk result (λ cut. OnTrue cut ((text : List ℕ) × Closes place.now.place need text × (symbols.new.items ≡ symbols.old.items ++ text))) }
-    ensures open { IfOk result (λ cut. OnFalse cut (symbols.new.items ≡ symbols.old.items)) }
-    ensures grown { (text : List ℕ) × (symbols.new.items ≡ symbols.old.items ++ text) }
-{
-    if place.blocking() >= need {
-        symbols.push(b'B')?;
-        return Ok(true);
-    }
-    if place.look_ahead_reaches(need) {
-        symbols.push(b'L')?;
-        return Ok(true);
-    }
-    Ok(false)
-}
 
 /// Goes on as `close_thinned`; where it closes nothing, some symbols may be left behind those that were there.
 #[cycle(closing)]
@@ -30,6 +13,7 @@ fn close(
     place: &mut Thinned,
     need: u32,
     most: u32,
+    rows: u8,
     symbols: &mut Vec<u8>,
 ) -> Result<Option<u32>, AllocError>
     ensures same { place.new ≡ place.old }
@@ -37,7 +21,7 @@ fn close(
     ensures spent { IfOk result (λ spent. IfSome spent (λ spent. spent ≤ most)) }
     ensures grown { (text : List ℕ) × (symbols.new.items ≡ symbols.old.items ++ text) }
 {
-    if cut(place, need, symbols)? {
+    if cut(place, need, rows, symbols)? {
         return Ok(Some(0));
     }
     if most == 0 || place.is_done() {
@@ -45,9 +29,9 @@ fn close(
     }
     let free = place.free_row();
     if free > 0 {
-        return close_free(place, need, most, free, symbols);
+        return close_free(place, need, most, rows, free, symbols);
     }
-    close_thin(place, need, most, symbols)
+    close_thin(place, need, most, rows, symbols)
 }
 
 /// By a branch with one tree, that of the first row where the blocker hinders nobody.
@@ -56,6 +40,7 @@ fn close_free(
     place: &mut Thinned,
     need: u32,
     most: u32,
+    rows: u8,
     row: u8,
     symbols: &mut Vec<u8>,
 ) -> Result<Option<u32>, AllocError>
@@ -70,7 +55,7 @@ fn close_free(
 {
     symbols.push(b'F')?;
     place.put(row);
-    let below = close(place, need.saturating_sub(1), most - 1, symbols);
+    let below = close(place, need.saturating_sub(1), most - 1, rows, symbols);
     let _undone = place.undo();
     let Some(more) = below? else {
         return Ok(None);
@@ -84,6 +69,7 @@ fn close_thin(
     place: &mut Thinned,
     need: u32,
     most: u32,
+    rows: u8,
     symbols: &mut Vec<u8>,
 ) -> Result<Option<u32>, AllocError>
     requires some { 1 ≤ most }
@@ -94,11 +80,11 @@ fn close_thin(
     ensures grown { (text : List ℕ) × (symbols.new.items ≡ symbols.old.items ++ text) }
 {
     symbols.push(b'R')?;
-    let rows = place.good_rows();
+    let good = place.good_rows();
     let mut spent = 1;
-    for i in 0..rows.len() {
-        place.put(rows.as_slice()[i]);
-        let below = close(place, need.saturating_sub(1), most - spent, symbols);
+    for i in 0..good.len() {
+        place.put(good.as_slice()[i]);
+        let below = close(place, need.saturating_sub(1), most - spent, rows, symbols);
         let _undone = place.undo();
         let Some(more) = below? else {
             return Ok(None);
@@ -106,7 +92,7 @@ fn close_thin(
         spent += more;
     }
     place.lift();
-    let below = close(place, need.saturating_sub(2), most - spent, symbols);
+    let below = close(place, need.saturating_sub(2), most - spent, rows, symbols);
     let _undone = place.undo();
     let Some(more) = below? else {
         return Ok(None);
@@ -114,13 +100,16 @@ fn close_thin(
     Ok(Some(spent + more))
 }
 
-/// Closes a position by thinned branches alone, depth first, at most so many. Where it succeeds the symbols of a tree stand
-/// behind those that were there, a tree that shows at least what is needed, and it returns how many branches the tree has;
-/// otherwise the symbols are as they were. The position is as it was. No tree may be found where there is one.
+/// Closes a position by thinned branches and branches with one tree alone, depth first, at most so many. Cuts are by the blocking
+/// bound, by the look-ahead bound, and by chains that are found, each with at most so many rows that are open to any of it (with
+/// 0 by none). Where it succeeds the symbols of a tree stand behind those that were there, a tree that shows at least what is
+/// needed, and it returns how many branches the tree has; otherwise the symbols are as they were. The position is as it was. No
+/// tree may be found where there is one.
 pub fn close_thinned(
     place: &mut Thinned,
     need: u32,
     most: u32,
+    rows: u8,
     symbols: &mut Vec<u8>,
 ) -> Result<Option<u32>, AllocError>
     ensures same { place.new ≡ place.old }
@@ -130,7 +119,7 @@ pub fn close_thinned(
     ensures err { OnErr result (symbols.new.items ≡ symbols.old.items) }
 {
     let before = symbols.len();
-    let outcome = close(place, need, most, symbols);
+    let outcome = close(place, need, most, rows, symbols);
     match outcome {
         Ok(Some(spent)) => Ok(Some(spent)),
         Ok(None) => {

@@ -3,6 +3,7 @@
 
 mod close;
 mod counting;
+mod cutting;
 mod finding;
 mod follow;
 mod follower;
@@ -16,6 +17,7 @@ mod path;
 mod reading;
 mod rows;
 mod scanning;
+mod seeking;
 mod settling;
 mod stage;
 mod starting;

@@ -22,7 +22,7 @@ pub fn beneath(rank: u8, stack: &[u8]) -> &[u8]
 }
 
 /// What still stands of a stack when the turn of a rank comes.
-fn standing(turn: u8, stack: &[u8]) -> &[u8]
+pub fn standing(turn: u8, stack: &[u8]) -> &[u8]
     ensures { result.now ≡ standing_at turn stack.now }
 {
     let mut count = 0;
@@ -33,7 +33,7 @@ fn standing(turn: u8, stack: &[u8]) -> &[u8]
 }
 
 /// Whether a row of a height with this stack is open to a container.
-fn is_open(ordered: u8, height: u8, stack: &[u8], blocker: Blocker) -> bool
+pub fn is_open(ordered: u8, height: u8, stack: &[u8], blocker: Blocker) -> bool
     ensures { result ≡ open_to ordered height stack.now blocker }
 {
     let left = standing(blocker.turn, stack);

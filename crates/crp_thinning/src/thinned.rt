@@ -13,6 +13,7 @@ use crate::counting::blocking;
 use crate::reading::{Reading, Reads, read_symbol};
 use crate::rows::{blocker, free_row, good_rows};
 use crate::scanning::stuck_reaches;
+use crate::seeking::{MAX_FAMILY, find_family};
 use crate::settling::{go_back, settle};
 use crate::track::Track;
 use arrayvec::ArrayVec;
@@ -131,6 +132,16 @@ impl Thinned {
         ensures fair { StaysFair result reading.new }
     {
         read_symbol(&self.track, reading, symbol)
+    }
+
+    /// Looks for a family whose chains gain so much, each with at most so many rows that are open to any of it, and writes its text.
+    pub(crate) fn find_family(
+        &self,
+        wanted: u32,
+        rows: u8,
+        text: &mut ArrayVec<u8, MAX_FAMILY>,
+    ) -> bool {
+        find_family(&self.track, wanted, rows, text)
     }
 
     /// The blocking bound.

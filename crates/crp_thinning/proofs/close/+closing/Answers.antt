@@ -40,16 +40,16 @@ close_thin-loop-i-preserved t c =
     let at_child : Closes (child_at s row) (c.args.need - 1) K.0 =
     subst (λ n. Closes (child_at s row) n K.0) c.saturating_sub.ensures
     (subst (λ (v : PlaceAndTrail). Closes v.place c.saturating_sub.result K.0) (c.put.ensures.value ∙ ap (λ (v : PlaceAndTrail). record { place = child_at v.place row; trail = v.place ∷ v.trail }) inv.same) K.1) in
-    let lt : c.loop-i.i < length c.good_rows-rows.result.items = omega (arith, c.loop-i-test.true, c.len-i-end.ensures.value) in
-    let rows : take c.loop-i.i c.good_rows-rows.result.items ++ row ∷ [] ≡ take (c.loop-i.i + 1) c.good_rows-rows.result.items =
-    ap (λ l. take c.loop-i.i c.good_rows-rows.result.items ++ get_or l c.loop-i.i 0 ∷ []) c.as_slice.ensures.value ∙ sym (take_more c.good_rows-rows.result.items c.loop-i.i 0 lt) in
+    let lt : c.loop-i.i < length c.good_rows-good.result.items = omega (arith, c.loop-i-test.true, c.len-i-end.ensures.value) in
+    let rows : take c.loop-i.i c.good_rows-good.result.items ++ row ∷ [] ≡ take (c.loop-i.i + 1) c.good_rows-good.result.items =
+    ap (λ l. take c.loop-i.i c.good_rows-good.result.items ++ get_or l c.loop-i.i 0 ∷ []) c.as_slice.ensures.value ∙ sym (take_more c.good_rows-good.result.items c.loop-i.i 0 lt) in
     record {
       same = back_again c.undo-undone.result c.loop-i.place c.put.new.self c.close-below.new.place c.undo-undone.new.self (child_at c.loop-i.place.place row) c.put.ensures.value c.close-below.ensures.same c.undo-undone.ensures.undone c.undo-undone.ensures.none ∙ inv.same;
       some = omega arith;
       most = omega arith;
       text = (
         T.0 ++ K.0,
-        subst (λ l. Front s c.args.need l (T.0 ++ K.0)) rows (front_more s c.args.need (take c.loop-i.i c.good_rows-rows.result.items) T.0 row K.0 T.1 at_child),
+        subst (λ l. Front s c.args.need l (T.0 ++ K.0)) rows (front_more s c.args.need (take c.loop-i.i c.good_rows-good.result.items) T.0 row K.0 T.1 at_child),
         grown_on c.args.symbols.now.items c.loop-i.symbols.items c.close-below.new.symbols.items (codes "R" ++ T.0) K.0 T.2 K.2,
       );
     }
@@ -73,7 +73,7 @@ close_thin-returns-clause-closed t c =
     let last : Closes (child_without s) (c.args.need - 2) K.0 =
     subst (λ n. Closes (child_without s) n K.0) c.saturating_sub-2.ensures
     (subst (λ (v : PlaceAndTrail). Closes v.place c.saturating_sub-2.result K.0) (c.lift.ensures.value ∙ ap (λ (v : PlaceAndTrail). record { place = child_without v.place; trail = v.place ∷ v.trail }) inv.same) K.1) in
-    let rows : take c.loop-i.i c.good_rows-rows.result.items ≡ good_rows s = take_all c.loop-i.i c.good_rows-rows.result.items (omega (arith, c.loop-i-test.false, c.len-i-end.ensures.value)) ∙ c.good_rows-rows.ensures in (
+    let rows : take c.loop-i.i c.good_rows-good.result.items ≡ good_rows s = take_all c.loop-i.i c.good_rows-good.result.items (omega (arith, c.loop-i-test.false, c.len-i-end.ensures.value)) ∙ c.good_rows-good.ensures in (
       codes "R" ++ (T.0 ++ K.0),
       branch_closes s c.args.need T.0 K.0 c.requires.left (subst (λ l. Front s c.args.need l T.0) rows T.1) last,
       grown_on c.args.symbols.now.items c.loop-i.symbols.items c.close-below-2.new.symbols.items (codes "R" ++ T.0) K.0 T.2 K.2,

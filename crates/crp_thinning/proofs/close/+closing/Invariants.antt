@@ -16,5 +16,5 @@ invariant-close_thin-loop-i l = record {
   same : l.place ≡ l.fn.place;
   some : 1 ≤ l.spent;
   most : l.spent ≤ l.most;
-  text : (text : List ℕ) × Front l.fn.place.place l.need (take l.i l.rows.items) text × (l.symbols.items ≡ l.fn.symbols.items ++ (codes "R" ++ text));
+  text : (text : List ℕ) × Front l.fn.place.place l.need (take l.i l.good.items) text × (l.symbols.items ≡ l.fn.symbols.items ++ (codes "R" ++ text));
 }

@@ -1,6 +1,6 @@
 use Rattle.std.proofs.Common.{codes, arith}
 use Rattle.crp_thinning.proofs.Closing.{blocking_closes, ahead_closes}
-use Rattle.crp_thinning.proofs.close.cut.Goals as goal
+use Rattle.crp_thinning.proofs.cutting.cut.Goals as goal
 
 pub returns-then-blocking-need-clause-closed : goal.returns-then-blocking-need-clause-closed
 returns-then-blocking-need-clause-closed c =
