@@ -11,3 +11,4 @@ pub mod Ending
 pub mod Opened
 pub mod Pathway
 pub mod Following
+pub mod Claimed

@@ -8,3 +8,4 @@ pub mod Owed
 pub mod OneChain
 pub mod Branches
 pub mod Stages
+pub mod Claiming

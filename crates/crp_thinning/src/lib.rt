@@ -1,6 +1,7 @@
 //! Thinned positions in place: what a search and a checker do in a bay from which containers are lifted out.
 #![tactic(auto)]
 
+mod claims;
 mod close;
 mod counting;
 mod cutting;
@@ -25,6 +26,7 @@ mod step;
 mod thinned;
 mod track;
 
+pub use claims::Claims;
 pub use close::close_thinned;
 pub use follower::{Follower, follows_thinned};
 pub use laws::closed_means;

@@ -4,11 +4,13 @@ use Rattle.crp_plan.specs.Bay.{Position}
 use Rattle.crp_bay.specs.Back.{PlaceAndTrail}
 use Rattle.crp_thinned.specs.Thinned.{good_rows, free_row, child_at, child_without}
 use Rattle.crp_thinning.specs.Symbols.{Closes}
+use Rattle.crp_thinning.specs.Claiming.{Granted}
+use Rattle.crp_thinning.proofs.Claimed.{granted_more, granted_first, one_granted, claimed_after, claimed_first}
 use Rattle.crp_thinning.proofs.Closing.{Front, front_more, branch_closes, free_closes, back_again, where_some, grown_on}
 use Rattle.crp_thinning.proofs.close.+closing.Goals as goal
 
 pub close_free-returns-clause-closed : goal.close_free-returns-clause-closed
-close_free-returns-clause-closed t c =
+close_free-returns-clause-closed g t c =
     let s : Position = c.args.place.now.place in
     let K = where_some (λ _. (x : List ℕ) × Closes c.put.new.self.place c.saturating_sub.result x × (c.close-below.new.symbols.items ≡ c.push.new.self.items ++ x)) c.in_ok-more.field-0 c.in-Some.more c.in-Some.is c.in_ok-more.ensures.closed in
     let at_child : Closes (child_at s (free_row s)) (c.args.need - 1) K.0 =
@@ -17,20 +19,20 @@ close_free-returns-clause-closed t c =
     (codes "F" ++ K.0, free_closes s c.args.need K.0 (subst (λ row. 1 ≤ row) c.requires.row c.requires.counts) at_child, grown_on c.args.symbols.now.items c.push.new.self.items c.close-below.new.symbols.items (codes "F") K.0 c.in_ok-push.ensures.items K.2)
 
 pub close_thin-loop-i-init : goal.close_thin-loop-i-init
-close_thin-loop-i-init t c = record { same = refl; some = omega arith; most = c.requires.some; text = ([], refl, c.in_ok-push.ensures.items) }
+close_thin-loop-i-init g t c = record { same = refl; some = omega arith; most = c.requires.some; granted = (c.claim.new.self, c.if-not-claim.ensures, refl); text = ([], refl, c.in_ok-push.ensures.items) }
 
 pub close_thin-returns-in_err-more-clause-grown : goal.close_thin-returns-in_err-more-clause-grown
-close_thin-returns-in_err-more-clause-grown t c =
+close_thin-returns-in_err-more-clause-grown g t c =
     let T = c.loop-i.invariant.text in let G = c.close-below.ensures.grown in
     (codes "R" ++ T.0 ++ G.0, grown_on c.args.symbols.now.items c.loop-i.symbols.items c.close-below.new.symbols.items (codes "R" ++ T.0) G.0 T.2 G.1)
 
 pub close_thin-returns-in_default-clause-grown : goal.close_thin-returns-in_default-clause-grown
-close_thin-returns-in_default-clause-grown t c =
+close_thin-returns-in_default-clause-grown g t c =
     let T = c.loop-i.invariant.text in let G = c.close-below.ensures.grown in
     (codes "R" ++ T.0 ++ G.0, grown_on c.args.symbols.now.items c.loop-i.symbols.items c.close-below.new.symbols.items (codes "R" ++ T.0) G.0 T.2 G.1)
 
 pub close_thin-loop-i-preserved : goal.close_thin-loop-i-preserved
-close_thin-loop-i-preserved t c =
+close_thin-loop-i-preserved g t c =
     let s : Position = c.args.place.now.place in
     let inv = c.loop-i.invariant in let some = inv.some in let most = inv.most in
     let row : ℕ = get_or c.as_slice.result.now c.loop-i.i 0 in
@@ -47,6 +49,8 @@ close_thin-loop-i-preserved t c =
       same = back_again c.undo-undone.result c.loop-i.place c.put.new.self c.close-below.new.place c.undo-undone.new.self (child_at c.loop-i.place.place row) c.put.ensures.value c.close-below.ensures.same c.undo-undone.ensures.undone c.undo-undone.ensures.none ∙ inv.same;
       some = omega arith;
       most = omega arith;
+      granted = granted_more g.C.Claims.claims c.loop-i.spent c.in-Some.more c.args.claims.now c.loop-i.claims c.close-below.new.claims inv.granted
+          (where_some (λ n. Granted g.C.Claims.claims n c.loop-i.claims c.close-below.new.claims) c.in_ok-more.field-0 c.in-Some.more c.in-Some.is c.in_ok-more.ensures.granted);
       text = (
         T.0 ++ K.0,
         subst (λ l. Front s c.args.need l (T.0 ++ K.0)) rows (front_more s c.args.need (take c.loop-i.i c.good_rows-good.result.items) T.0 row K.0 T.1 at_child),
@@ -55,17 +59,17 @@ close_thin-loop-i-preserved t c =
     }
 
 pub close_thin-returns-in_err-more-2-clause-grown : goal.close_thin-returns-in_err-more-2-clause-grown
-close_thin-returns-in_err-more-2-clause-grown t c =
+close_thin-returns-in_err-more-2-clause-grown g t c =
     let T = c.loop-i.invariant.text in let G = c.close-below-2.ensures.grown in
     (codes "R" ++ T.0 ++ G.0, grown_on c.args.symbols.now.items c.loop-i.symbols.items c.close-below-2.new.symbols.items (codes "R" ++ T.0) G.0 T.2 G.1)
 
 pub close_thin-returns-in_default-2-clause-grown : goal.close_thin-returns-in_default-2-clause-grown
-close_thin-returns-in_default-2-clause-grown t c =
+close_thin-returns-in_default-2-clause-grown g t c =
     let T = c.loop-i.invariant.text in let G = c.close-below-2.ensures.grown in
     (codes "R" ++ T.0 ++ G.0, grown_on c.args.symbols.now.items c.loop-i.symbols.items c.close-below-2.new.symbols.items (codes "R" ++ T.0) G.0 T.2 G.1)
 
 pub close_thin-returns-clause-closed : goal.close_thin-returns-clause-closed
-close_thin-returns-clause-closed t c =
+close_thin-returns-clause-closed g t c =
     let s : Position = c.args.place.now.place in
     let inv = c.loop-i.invariant in
     let T = inv.text in
@@ -80,6 +84,47 @@ close_thin-returns-clause-closed t c =
     )
 
 pub close_thin-returns-clause-grown : goal.close_thin-returns-clause-grown
-close_thin-returns-clause-grown t c =
+close_thin-returns-clause-grown g t c =
     let T = c.loop-i.invariant.text in let G = c.close-below-2.ensures.grown in
     (codes "R" ++ T.0 ++ G.0, grown_on c.args.symbols.now.items c.loop-i.symbols.items c.close-below-2.new.symbols.items (codes "R" ++ T.0) G.0 T.2 G.1)
+
+pub close_free-returns-clause-granted : goal.close_free-returns-clause-granted
+close_free-returns-clause-granted g t c =
+    granted_first g.C.Claims.claims c.in-Some.more c.args.claims.now c.claim.new.self c.close-below.new.claims c.if-not-claim.ensures
+    (where_some (λ n. Granted g.C.Claims.claims n c.claim.new.self c.close-below.new.claims) c.in_ok-more.field-0 c.in-Some.more c.in-Some.is c.in_ok-more.ensures.granted)
+
+pub close_free-returns-clause-claimed : goal.close_free-returns-clause-claimed
+close_free-returns-clause-claimed g t c = claimed_first g.C.Claims.claims c.args.claims.now c.claim.new.self c.close-below.new.claims c.if-not-claim.ensures c.close-below.ensures.claimed
+
+pub close_free-returns-in_err-more-clause-claimed : goal.close_free-returns-in_err-more-clause-claimed
+close_free-returns-in_err-more-clause-claimed g t c = claimed_first g.C.Claims.claims c.args.claims.now c.claim.new.self c.close-below.new.claims c.if-not-claim.ensures c.close-below.ensures.claimed
+
+pub close_free-returns-in_default-clause-claimed : goal.close_free-returns-in_default-clause-claimed
+close_free-returns-in_default-clause-claimed g t c = claimed_first g.C.Claims.claims c.args.claims.now c.claim.new.self c.close-below.new.claims c.if-not-claim.ensures c.close-below.ensures.claimed
+
+pub close_thin-returns-in_err-more-clause-claimed : goal.close_thin-returns-in_err-more-clause-claimed
+close_thin-returns-in_err-more-clause-claimed g t c = let inv = c.loop-i.invariant in claimed_after g.C.Claims.claims c.loop-i.spent c.args.claims.now c.loop-i.claims c.close-below.new.claims inv.granted c.close-below.ensures.claimed
+
+pub close_thin-returns-in_default-clause-claimed : goal.close_thin-returns-in_default-clause-claimed
+close_thin-returns-in_default-clause-claimed g t c = let inv = c.loop-i.invariant in claimed_after g.C.Claims.claims c.loop-i.spent c.args.claims.now c.loop-i.claims c.close-below.new.claims inv.granted c.close-below.ensures.claimed
+
+pub close_thin-returns-in_err-more-2-clause-claimed : goal.close_thin-returns-in_err-more-2-clause-claimed
+close_thin-returns-in_err-more-2-clause-claimed g t c = let inv = c.loop-i.invariant in claimed_after g.C.Claims.claims c.loop-i.spent c.args.claims.now c.loop-i.claims c.close-below-2.new.claims inv.granted c.close-below-2.ensures.claimed
+
+pub close_thin-returns-in_default-2-clause-claimed : goal.close_thin-returns-in_default-2-clause-claimed
+close_thin-returns-in_default-2-clause-claimed g t c = let inv = c.loop-i.invariant in claimed_after g.C.Claims.claims c.loop-i.spent c.args.claims.now c.loop-i.claims c.close-below-2.new.claims inv.granted c.close-below-2.ensures.claimed
+
+pub close_thin-returns-clause-granted : goal.close_thin-returns-clause-granted
+close_thin-returns-clause-granted g t c =
+    let inv = c.loop-i.invariant in
+    granted_more g.C.Claims.claims c.loop-i.spent c.in-Some-2.more c.args.claims.now c.loop-i.claims c.close-below-2.new.claims inv.granted
+    (where_some (λ n. Granted g.C.Claims.claims n c.loop-i.claims c.close-below-2.new.claims) c.in_ok-more-2.field-0 c.in-Some-2.more c.in-Some-2.is c.in_ok-more-2.ensures.granted)
+
+pub close_thin-returns-clause-claimed : goal.close_thin-returns-clause-claimed
+close_thin-returns-clause-claimed g t c = let inv = c.loop-i.invariant in claimed_after g.C.Claims.claims c.loop-i.spent c.args.claims.now c.loop-i.claims c.close-below-2.new.claims inv.granted c.close-below-2.ensures.claimed
+
+pub close_free-returns-in_err-push-clause-claimed : goal.close_free-returns-in_err-push-clause-claimed
+close_free-returns-in_err-push-clause-claimed g t c = one_granted g.C.Claims.claims c.args.claims.now c.claim.new.self c.if-not-claim.ensures
+
+pub close_thin-returns-in_err-push-clause-claimed : goal.close_thin-returns-in_err-push-clause-claimed
+close_thin-returns-in_err-push-clause-claimed g t c = one_granted g.C.Claims.claims c.args.claims.now c.claim.new.self c.if-not-claim.ensures
