@@ -1,6 +1,6 @@
 //! A follower of the symbols of thinned branches, which is fed in pieces.
 ghost use Rattle.std.specs.Prelude.{◌≡◌, ℕ, ◌↔◌, ◌∷◌, ◌++◌, [], List, IsTrue};
-ghost use Rattle.std.specs.Bool.{OnFalse};
+ghost use Rattle.std.specs.Bool.{OnTrue, OnFalse};
 ghost use Rattle.crp_thinning.specs.Symbols.{Closes};
 ghost use Rattle.crp_thinning.specs.Owed.{Trees, Refused, Takes};
 
@@ -50,6 +50,7 @@ impl Follower {
     /// Follows one more symbol. `false` where no tree goes on so that fits and shows what is needed; from then on none does.
     pub fn follow(&mut self, symbol: u8) -> bool
         ensures takes { (text : List ℕ) → Takes self.new text ↔ Takes self.old (symbol ∷ text) }
+        ensures goes_on { OnTrue result (self.new ≡ Refused → ⊥) }
         ensures refused { OnFalse result (self.new ≡ Refused) }
     {
         self.stage = match self.stage {
@@ -64,6 +65,7 @@ impl Follower {
     /// Follows more symbols. `false` where no tree goes on so that fits and shows what is needed; from then on none does.
     pub fn follow_all(&mut self, symbols: &[u8]) -> bool
         ensures takes { (text : List ℕ) → Takes self.new text ↔ Takes self.old (symbols.now ++ text) }
+        ensures goes_on { OnTrue result (self.new ≡ Refused → ⊥) }
         ensures refused { OnFalse result (self.new ≡ Refused) }
     {
         for symbol in symbols {
@@ -71,7 +73,7 @@ impl Follower {
                 return false;
             }
         }
-        true
+        !self.stage.is_refused()
     }
 
     /// Whether nothing is still to come.
