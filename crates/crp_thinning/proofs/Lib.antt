@@ -1,0 +1,14 @@
+pub mod Standing
+pub mod Forward
+pub mod Begun
+pub mod Over
+pub mod GoodRows
+pub mod Scans
+pub mod Closing
+pub mod Clearly
+pub mod Texts
+pub mod Ending
+pub mod Opened
+pub mod Pathway
+pub mod Following
+pub mod Claimed

@@ -1,0 +1,11 @@
+pub use Rattle.crp_thinned.specs.Tree
+pub use Rattle.crp_thinned.specs.Hindering
+pub use Rattle.crp_thinned.specs.Thinned
+pub use Rattle.crp_thinned.specs.Missing
+pub mod Steps
+pub mod Symbols
+pub mod Owed
+pub mod OneChain
+pub mod Branches
+pub mod Stages
+pub mod Claiming

@@ -1,0 +1,33 @@
+//! Thinned positions in place: what a search and a checker do in a bay from which containers are lifted out.
+#![tactic(auto)]
+
+mod claims;
+mod close;
+mod counting;
+mod cutting;
+mod finding;
+mod follow;
+mod follower;
+mod hindering;
+mod laws;
+mod linking;
+mod looking;
+mod moving;
+mod opening;
+mod path;
+mod reading;
+mod rows;
+mod scanning;
+mod seeking;
+mod settling;
+mod stage;
+mod starting;
+mod step;
+mod thinned;
+mod track;
+
+pub use claims::Claims;
+pub use close::close_thinned;
+pub use follower::{Follower, follows_thinned};
+pub use laws::closed_means;
+pub use thinned::Thinned;
