@@ -1,5 +1,5 @@
 -- The plan of a search that its budget ended is the best that it met.
-use Rattle.std.proofs.Common.{◌≡◌, ℕ, ◌≤◌, ⊎_elim, false, Option, None, Some, All, IfOk, refl, ap, ◌∙◌, subst, arith}
+use Rattle.std.proofs.Common.{◌≡◌, ℕ, ◌≤◌, ⊎_elim, false, Option, None, Some, All, refl, ap, ◌∙◌, subst, arith}
 use Rattle.std.proofs.lemmas.List.Elements.{All-weaker}
 use Rattle.crp_plan.specs.Bay.{Problem, IsFinished}
 use Rattle.crp_plan.specs.Plans.{ProblemPath}

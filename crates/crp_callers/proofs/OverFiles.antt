@@ -1,16 +1,17 @@
 -- What a job over files says of the bytes of these files, and of a sink that was empty.
-use Rattle.std.proofs.Common.{◌≡◌, ◌≢◌, ◌∙◌, ℕ, List, Some, Option, subst, inl, inr}
+use Rattle.std.proofs.Common.{◌≡◌, ◌≢◌, ◌∙◌, ◌⊎◌, ℕ, List, [], Some, Option, take, subst, inl, inr}
 use Rattle.std.specs.Prelude.{codes}
+use Rattle.std.specs.Io.KnownBytes.{Keeps}
 use Rattle.crp_yard.specs.Reading.{IsTextOf, IsYardListOf}
 use Rattle.crp_report.specs.declared.fault.Output.TheVariants as output
 use Rattle.crp_report.specs.declared.status.Status.{Status}
 use Rattle.crp_report.specs.Chosen.{RunChosen}
-use Rattle.crp_report.specs.Runs.{SinkSeen, Made, Gets}
+use Rattle.crp_report.specs.Runs.{SinkSeen, Made, Gets, GetsFront, GetsNothing}
 use Rattle.crp_audit.specs.Headline.{IsHeadline}
 use Rattle.crp_headline.specs.Accepted.{handed_of}
 use Rattle.crp_jobs.specs.declared.job.FileCommand.{FileCommand}
 use Rattle.crp_jobs.specs.declared.job.RunFiles.{RunFiles}
-use Rattle.crp_commands.specs.Headlines.{AreWritten}
+use Rattle.crp_commands.specs.Headlines.{AreWritten, AreFrontsWritten}
 use Rattle.crp_commands.specs.Performing.{JobSeen, ReportsFile, call_of}
 use Rattle.crp_callers.specs.CommandReports.{IsReportOf}
 use Rattle.crp_callers.proofs.Reporting.{command_reported}
@@ -37,3 +38,23 @@ run_reported names chosen seen lines made filled headline written = record {
   list = subst (λ (o : Option (List ℕ)). IsTextOf o made.list) written.over.yard.bytes written.is_made.given_list;
   listed = written.is_made.listed;
 }
+
+-- a front of that report, or nothing
+abbrev pub IsReportedSoFar : Option (List ℕ) → RunChosen → List ℕ → Type 0
+IsReportedSoFar given chosen lines = (lines ≡ []) ⊎ ((made : Made) × IsHeadline (handed_of made) × ((n : ℕ) × (lines ≡ take n made.report))
+    × IsTextOf given made.list × IsYardListOf chosen.input.heights made.list made.yard)
+
+pub reported_so_far : (names : RunFiles) (chosen : RunChosen) (seen : JobSeen) (lines : List ℕ) → IsFilled seen.out lines
+    → GetsNothing seen.out ⊎ ((made : Made) × IsHeadline (handed_of made) × AreFrontsWritten names chosen seen made)
+    → IsReportedSoFar (seen.files.known.given names.yard.now) chosen lines
+reported_so_far names chosen seen lines filled (inl nothing) =
+    let kept = subst (λ (o : Option (List ℕ)). Keeps o seen.out.holds) filled.held nothing in
+    inl (subst (λ (o : Option (List ℕ)). Keeps (Some []) o) filled.holds kept)
+reported_so_far names chosen seen lines filled (inr (made, headline, fronts)) =
+    let (n, gets) = subst (λ (s : SinkSeen). GetsFront s made.report) fronts.over.report (fronts.written output.Report) in inr (
+      made,
+      headline,
+      (n, got seen.out lines (take n made.report) filled gets),
+      subst (λ (o : Option (List ℕ)). IsTextOf o made.list) fronts.over.yard.bytes fronts.is_made.given_list,
+      fronts.is_made.listed,
+    )

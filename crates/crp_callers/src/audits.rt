@@ -7,10 +7,13 @@ ghost use Rattle.crp_checker.specs.Verdicts.{Says};
 ghost use Rattle.crp_checker.specs.Files.{FileShows};
 ghost use Rattle.crp_said.specs.Said.{BaySaid, report_text};
 ghost use Rattle.crp_said.specs.Spelled.{most, AreSmall};
-ghost use Rattle.crp_audit.specs.Headline.{handed, Reported, IsHeadline, numbers_in, shown_in};
+ghost use Rattle.crp_audit.specs.Headline.{Handed, handed, Reported, IsHeadline, numbers_in, shown_in};
 ghost use Rattle.crp_audit.specs.Faults.{IsFirstFault};
 
-use crp_audit::{AuditFault, AuditStop, AuditStopped, audit, headlines_show, one_list_of_verdicts};
+use crp_audit::{
+    AuditFault, AuditStop, AuditStopped, audit, headlines_are_read, headlines_show,
+    one_list_of_verdicts,
+};
 use crp_checker::{Verdicts, verdicts_say};
 use crp_movins::Orders;
 use crp_order::Sequence;
@@ -92,4 +95,14 @@ pub fn shown_of_each(
         certificates.len(),
         &mut interruptions,
     )
+}
+
+/// A headline of a yard with few bays and small numbers is refused neither for the first line of its report nor for its three numbers.
+pub fn headlines_begin_right()
+    ensures line { (h : Handed) (is : IsHeadline h) (before : List Reported) → AllByRecursion IsNamedBay h.yard.bays → length h.yard.bays ≤ most
+        → AreSmall (numbers_in h) → IsFirstFault h before (AuditFault.Spelling 1) → ⊥ }
+    ensures numbers { (h : Handed) (is : IsHeadline h) (before : List Reported) → AllByRecursion IsNamedBay h.yard.bays → length h.yard.bays ≤ most
+        → AreSmall (numbers_in h) → IsFirstFault h before AuditFault.Numbers → ⊥ }
+{
+    headlines_are_read();
 }

@@ -15,13 +15,15 @@ ghost use Rattle.crp_tree.specs.Parts.{Certificate, IsAbout, claimed, part_of};
 ghost use Rattle.crp_cert.specs.declared.claim.Claim.TheVariants.{AtLeast};
 ghost use Rattle.crp_cert.specs.declared.head.Head.{Head};
 ghost use Rattle.crp_cert.specs.declared.script.Script.{Script as Said};
-ghost use Rattle.crp_cert.specs.Text.{head_text, IsHead};
+ghost use Rattle.crp_cert.specs.Text.{head_text, IsHead, IsHeadOf};
+ghost use Rattle.crp_cert.specs.Faults.{IsFirstFault};
 ghost use Rattle.crp_cert.specs.Script.{symbols_of, IsScriptOf, claim_of};
+ghost use Rattle.crp_cert.specs.ScriptFaults.{IsFirstFaultOfScript};
 ghost use Rattle.crp_cert.specs.Writing.{certificate_text, first_certificate_text, head_for};
 ghost use Rattle.crp_callers.specs.SmallBay.{lines, head_lines, small_head};
 
 use crp_cert::{
-    CertFault, Script, cert_text, one_head, one_script, read_cert, script_or_fault,
+    CertFault, Script, cert_text, head_or_fault, one_head, one_script, read_cert, script_or_fault,
     symbols_are_letters, write_cert, write_first, written_is_read,
 };
 use crp_plan::{BayName, Plan, Problem, Received, WriteFault, begins_somewhere};
@@ -124,6 +126,23 @@ pub fn head_of_lines()
     ensures { (head : Head) (rest more : List ℕ) → IsHead head → lines head_lines ++ more ≡ head_text head ++ rest → (head ≡ small_head) × (rest ≡ more) }
 {
     one_head();
+}
+
+/// Bytes that begin with a head have no first fault of one, and other bytes have one and no other.
+pub fn heads_or_faults()
+    ensures none { (head : Head) (rest : List ℕ) (fault : CertFault) → IsHead head → IsFirstFault (head_text head ++ rest) fault → ⊥ }
+    ensures one { (bytes : List ℕ) → ((head : Head) → IsHeadOf bytes head → ⊥)
+        → (fault : CertFault) × IsFirstFault bytes fault × ((other : CertFault) → IsFirstFault bytes other → other ≡ fault) }
+{
+    head_or_fault();
+}
+
+/// Bytes that are no certificate have a first fault, and no other.
+pub fn one_fault_of_certificate()
+    ensures { (bytes : List ℕ) → ((script : Said) → IsScriptOf bytes script → ⊥)
+        → (fault : CertFault) × IsFirstFaultOfScript bytes fault × ((other : CertFault) → IsFirstFaultOfScript bytes other → other ≡ fault) }
+{
+    script_or_fault();
 }
 
 /// A certificate whose first line is that of version 1 is one of a bay whose rows have one height.

@@ -1,5 +1,5 @@
 //! Callers of jobs over files.
-ghost use Rattle.std.specs.Prelude.{◌≡◌, ◌≢◌, ℕ, List, Some, codes, IfOk};
+ghost use Rattle.std.specs.Prelude.{◌≡◌, ◌≢◌, ◌⊎◌, ℕ, List, [], Some, take, codes, IfOk, IfSome};
 ghost use Rattle.crp_yard.specs.Reading.{IsTextOf, IsYardListOf};
 ghost use Rattle.crp_report.specs.Runs.{Made};
 ghost use Rattle.crp_audit.specs.Headline.{IsHeadline};
@@ -78,4 +78,40 @@ pub fn report_of_run<T: Threads + Wait + Sync, F: Files, S: Terminal + Sync>(
         terminal,
     )?;
     Ok(out.bytes)
+}
+
+/// What stands on the standard output, and was not there before, where a run over the files of a yard ends with a fault: nothing, or a front
+/// of the report of a headline, of the yard that the file lists.
+pub fn front_of_run<T: Threads + Wait + Sync, F: Files, S: Terminal + Sync>(
+    threads: &T,
+    alloc: Global,
+    files: &mut F,
+    names: RunFiles<'_>,
+    settings: RunSettings,
+    terminal: &S,
+) -> Option<Vec<u8>>
+    ensures { IfSome result (λ lines. (lines.items ≡ []) ⊎ ((made : Made) × IsHeadline (handed_of made) × ((n : ℕ) × (lines.items ≡ take n made.report))
+        × IsTextOf ((F.known files.old).given names.entry.yard.now) made.list × IsYardListOf settings.input.heights made.list made.yard)) }
+{
+    let mut standard_input: &[u8] = b"";
+    let mut out = Received::new(alloc);
+    let job = Job::Solve {
+        files: names,
+        settings,
+        quiet: true,
+        progress: false,
+    };
+    match run_job(
+        threads,
+        alloc,
+        files,
+        &mut standard_input,
+        &mut out,
+        &job,
+        &mut Nowhere,
+        terminal,
+    ) {
+        Ok(_) => None,
+        Err(_) => Some(out.bytes),
+    }
 }

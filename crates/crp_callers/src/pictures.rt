@@ -1,12 +1,13 @@
 //! Pictures of a bay: what is drawn at a place.
 ghost use Rattle.std.specs.Prelude.{◌≡◌, ◌∷◌, [], List};
 ghost use Rattle.crp_said.specs.declared.moves.SaidMove.{SaidMove};
+ghost use Rattle.crp_follow.specs.declared.stated.StatedMove.{StatedMove};
 ghost use Rattle.crp_picture.specs.Boxes.{times_among};
 ghost use Rattle.crp_picture.specs.Cells.{cells_of};
-ghost use Rattle.crp_picture.specs.Frames.{frame_cells};
+ghost use Rattle.crp_picture.specs.Frames.{Frame, frame_cells};
 ghost use Rattle.crp_picture.specs.Pictures.{boxes};
 ghost use Rattle.crp_callers.specs.SmallReport.{place, small_rows};
-ghost use Rattle.crp_callers.specs.SmallFrame.{first_frame};
+ghost use Rattle.crp_callers.specs.SmallFrame.{frame_with};
 
 use crp_picture::each_is_drawn_once;
 
@@ -19,11 +20,13 @@ pub fn small_bay_is_drawn()
     each_is_drawn_once();
 }
 
-/// The frame that puts MSCU3 onto MSCU2 has one box where it is lifted, one where it is set down, and one for MSCU2.
-pub fn first_frame_is_drawn()
-    ensures lifted { (moves : List SaidMove) → times_among (frame_cells moves first_frame) (place 1 2) boxes ≡ 1 }
-    ensures set_down { (moves : List SaidMove) → times_among (frame_cells moves first_frame) (place 2 2) boxes ≡ 1 }
-    ensures beneath { (moves : List SaidMove) → times_among (frame_cells moves first_frame) (place 2 1) boxes ≡ 1 }
+/// A frame of the small bay, whatever moves it has, has one box where MSCU3 stands before it. One that puts MSCU3 onto MSCU2 has one there, and
+/// one for MSCU2, whatever moves it has behind that.
+pub fn frames_are_drawn()
+    ensures stands { (moves : List SaidMove) (frame : Frame) → frame.before ≡ small_rows
+        → times_among (frame_cells moves frame) (place 1 2) boxes ≡ 1 }
+    ensures set_down { (moves : List SaidMove) (behind : List StatedMove) → times_among (frame_cells moves (frame_with behind)) (place 2 2) boxes ≡ 1 }
+    ensures beneath { (moves : List SaidMove) (behind : List StatedMove) → times_among (frame_cells moves (frame_with behind)) (place 2 1) boxes ≡ 1 }
 {
     each_is_drawn_once();
 }

@@ -1,4 +1,4 @@
-//! What the answers of one worker say.
+//! What the answers of one worker say, and that there are answers.
 ghost use Rattle.std.specs.Prelude.{◌≡◌, ℕ, ◌≤◌, ◌<◌, List, All, Option, false, IfOk, IfSome, None, length};
 ghost use Rattle.crp_plan.specs.Bay.{Problem as Statement, IsProblem, IsFinished, IsPlan, IsBest, relocations};
 ghost use Rattle.crp_plan.specs.Plans.{ProblemPath};
@@ -6,10 +6,14 @@ ghost use Rattle.crp_plan.specs.declared.moves.Move.{Move as Step};
 ghost use Rattle.crp_tree.specs.Trees.{value, least_through};
 ghost use Rattle.crp_tree.specs.Parts.{Certificate, cuts_in, branches_in};
 ghost use Rattle.crp_search.specs.Greedy.{IsGreedyPath};
+ghost use Rattle.crp_solve.specs.Chosen.{Chosen};
 ghost use Rattle.crp_solve.specs.Answers.{path_in, plan_of, best_of, cert_of, count_of, IsPlanOf, SaysTrue, IsTrueAnswer};
 
 use crp_plan::{Move, Plan, Problem};
-use crp_solve::{Answer, Cause, Settings, Solved, answers_agree, one_first_limit, solve_alone};
+use crp_solve::{
+    Answer, Cause, Settings, Solved, answers_agree, each_has_an_answer, one_first_limit,
+    solve_alone,
+};
 use std::alloc::{AllocError, Global};
 
 /// The plan that is known to be a best one, if one is.
@@ -105,4 +109,11 @@ pub fn best_met(alloc: Global, problem: &Problem, settings: Settings) -> Result<
         → All (λ part. All (λ cut. IsFinished cut.place → count_of problem.now (path_in plan) ≤ value cut) (cuts_in part)) cert.parts) }
 {
     solve_alone(alloc, problem, settings)
+}
+
+/// Whatever is chosen for a search, the problem has a true answer within that budget: no choice asks for what cannot be.
+pub fn some_answer()
+    ensures { (p : Statement) (chosen : Chosen) → IsProblem p → (answer : Answer) × (expanded : ℕ) × IsTrueAnswer p chosen.budget answer expanded }
+{
+    each_has_an_answer();
 }

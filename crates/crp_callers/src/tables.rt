@@ -2,8 +2,10 @@
 ghost use Rattle.std.specs.Prelude.{◌≡◌, ◌<◌, ◌≤◌, ◌⊎◌, ◌+◌, ◌==◌, ℕ, ◌++◌, ◌∷◌, [], List, Option, Some, MatchOption, length, take, map, count_by, slice_get, OnOk, IsErrOf, codes};
 ghost use Rattle.std.specs.List.{AllByRecursion};
 ghost use Rattle.crp_plan.specs.Devices.{CountsOne};
-ghost use Rattle.crp_yard.specs.Inventory.{times};
+ghost use Rattle.crp_yard.specs.Inventory.{Inventory, times};
 ghost use Rattle.crp_said.specs.declared.moves.SaidMove.{SaidMove};
+ghost use Rattle.crp_follow.specs.declared.fault.FollowFault.{FollowFault as Fault};
+ghost use Rattle.crp_follow.specs.Faults.{IsFirstFault};
 ghost use Rattle.crp_follow.specs.Crane.{Stack, Leads};
 ghost use Rattle.crp_follow.specs.Lines.{Line, after_mark, lines_in};
 ghost use Rattle.crp_follow.specs.Kept.{taken_by, times_in, IsTakenAt, IsNextToLeave};
@@ -12,8 +14,8 @@ ghost use Rattle.crp_follow.specs.Views.{bay_followed};
 ghost use Rattle.crp_callers.specs.SmallReport.{small_moves, small_rows, small_heights};
 
 use crp_follow::{
-    Followed, lines_are_numbered, nothing_is_lost, stays_within_heights, what_columns_say,
-    write_table,
+    Followed, lines_are_numbered, nothing_is_lost, one_outcome, stays_within_heights,
+    what_columns_say, write_table,
 };
 use crp_plan::{Received, WriteFault};
 use crp_planned::plans_are_followed;
@@ -73,6 +75,13 @@ pub fn lines_are_found()
         → (front : List ℕ) × (rest : List ℕ) × (after_mark text ≡ front ++ (line.body ++ rest)) × (line.number ≡ 1 + count_by (λ b. b == 10) front) }
 {
     lines_are_numbered();
+}
+
+/// A report cannot be followed for one reason.
+pub fn one_reason_to_stop()
+    ensures { (yard : Inventory) (text : List ℕ) (fault other : Fault) → IsFirstFault yard text fault → IsFirstFault yard text other → fault ≡ other }
+{
+    one_outcome();
 }
 
 /// Writes the table of the moves behind what the sink has. It gets the text of the table; or, where the sink finds no memory, a front that is not all of

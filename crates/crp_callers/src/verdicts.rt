@@ -2,23 +2,30 @@
 ghost use Rattle.std.specs.Prelude.{◌≡◌, ◌≤◌, ◌⊎◌, ℕ, ◌++◌, ◌∷◌, [], List, Some, None, length, IfOk, IfErr, IfSome, IsTrue};
 ghost use Rattle.crp_plan.specs.BayNames.{YardBay};
 ghost use Rattle.crp_plan.specs.declared.moves.Move.{Move};
-ghost use Rattle.crp_plan.specs.Bay.{cap, IsPlan, IsBest, relocations};
-ghost use Rattle.crp_tree.specs.First.{IsFirstBest};
+ghost use Rattle.std.specs.Option.{option_copied};
+ghost use Rattle.crp_plan.specs.Bay.{Problem as Statement, cap, IsProblem, IsPlan, IsBest, relocations};
+ghost use Rattle.crp_plan.specs.Faults.{IsPlanPath};
+ghost use Rattle.crp_tree.specs.Claims.{path_in};
+ghost use Rattle.crp_tree.specs.Parts.{IsAbout};
+ghost use Rattle.crp_tree.specs.First.{IsFirstBest, MeetNeeds};
 ghost use Rattle.crp_cert.specs.declared.script.Script.{Script};
 ghost use Rattle.crp_cert.specs.declared.head.Head.{Head};
 ghost use Rattle.crp_cert.specs.Text.{IsHeadOf};
 ghost use Rattle.crp_cert.specs.Script.{IsScriptOf};
 ghost use Rattle.crp_checker.specs.declared.verdict.Verdict.{Verdict as Shown};
-ghost use Rattle.crp_checker.specs.AcceptedTexts.{IsAcceptedText};
+ghost use Rattle.crp_checker.specs.AcceptedTexts.{IsAcceptedScript, IsAcceptedText};
+ghost use Rattle.crp_checker.specs.Refusals.{IsFirstWrongClaim, IsRefusal};
 ghost use Rattle.crp_checker.specs.Shown.{TextShowsFor};
 ghost use Rattle.crp_checker.specs.Files.{IsEnded, FileShows};
 
-use crp_cert::{CertFault, read_head};
+use crp_cert::{CertFault, cert_text, first_text, read_head};
 use crp_checker::{
-    Refused, Verdict, accepted_or_refused, check, check_file, check_for, first_is_best, one_cut,
-    shown_or_refused, verdicts_say,
+    Refused, Verdict, accepted_or_refused, check, check_file, check_for, first_is_best,
+    first_written_is_accepted, one_cut, right_or_wrong, shown_or_refused, verdicts_say,
+    written_is_accepted,
 };
-use crp_plan::{Problem, begins_somewhere};
+use crp_plan::{BayName, Plan, Problem, begins_somewhere};
+use crp_tree::Cert;
 use std::alloc::Global;
 
 /// No bytes are refused: the first line is missing.
@@ -165,4 +172,64 @@ pub fn two_are_shown()
         → (a : YardBay × Shown) × (b : YardBay × Shown) × (verdicts ≡ a ∷ b ∷ []) × TextShowsFor first a.0 a.1 × TextShowsFor second b.0 b.1 }
 {
     one_cut();
+}
+
+/// Writes a certificate and checks it: nothing but want of memory keeps it from being accepted.
+pub fn check_written(
+    alloc: Global,
+    bay: &BayName,
+    problem: &Problem,
+    cert: &Cert,
+    plan: Option<&Plan>,
+) -> Result<Verdict, Refused>
+    requires about { IsAbout problem.now cert.now }
+    requires plan { IfSome (path_in (option_copied plan)) (IsPlanPath problem.now) }
+    ensures { IfErr result (λ refused. refused ≡ Refused.Memory) }
+{
+    written_is_accepted();
+    accepted_or_refused();
+    let _named = bay.bay();
+    match cert_text(alloc, bay, problem, cert, plan) {
+        Ok(text) => check_for(alloc, problem, &text),
+        Err(_) => Err(Refused::Memory),
+    }
+}
+
+/// So it is with one that claims its plan to be the first best one, where its cuts meet their needs.
+pub fn check_first_written(
+    alloc: Global,
+    bay: &BayName,
+    problem: &Problem,
+    cert: &Cert,
+    plan: &Plan,
+) -> Result<Verdict, Refused>
+    requires about { IsAbout problem.now cert.now }
+    requires plan { IsPlanPath problem.now plan.now.path }
+    requires met { MeetNeeds (length plan.now.path) plan.now.path cert.now.parts }
+    ensures { IfErr result (λ refused. refused ≡ Refused.Memory) }
+{
+    first_written_is_accepted();
+    accepted_or_refused();
+    let _named = bay.bay();
+    match first_text(alloc, bay, problem, cert, plan) {
+        Ok(text) => check_for(alloc, problem, &text),
+        Err(_) => Err(Refused::Memory),
+    }
+}
+
+/// Where no problem is asked for, a claim that is accepted is not wrong, and another is wrong in one way at most.
+pub fn claims_are_right_or_wrong()
+    ensures right { (script : Script) (refused : Refused) → IsAcceptedScript script → IsFirstWrongClaim None script refused → ⊥ }
+    ensures wrong { (script : Script) (refused other : Refused) → IsProblem script.head.problem → IsFirstWrongClaim None script refused
+        → IsFirstWrongClaim None script other → refused ≡ other }
+{
+    right_or_wrong();
+}
+
+/// Bytes are refused for one reason, whatever problem is asked for.
+pub fn one_reason()
+    ensures { (problem : Statement) (bytes : List ℕ) (refused other : Refused) → IsRefusal (Some problem) bytes refused
+        → IsRefusal (Some problem) bytes other → refused ≡ other }
+{
+    accepted_or_refused();
 }

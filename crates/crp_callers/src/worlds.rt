@@ -1,5 +1,8 @@
-//! Workers that take the same steps twice.
-ghost use Rattle.std.specs.Prelude.{◌≡◌, ◌≤◌, IfOk};
+//! Workers that take the same steps twice, and events that follow one another.
+ghost use Rattle.std.specs.Prelude.{◌≡◌, ◌≤◌, ℕ, List, IfOk};
+ghost use Rattle.crp_plan.specs.Bay.{IsProblem};
+ghost use Rattle.crp_steps.specs.Worlds.{Rules, AreRules, World as Stated, begin};
+ghost use Rattle.crp_steps.specs.Events.{Leads, Come};
 ghost use Rattle.crp_steps.specs.Covered.{IsKeptWorld, IsClosedWorld, ShowsFewest};
 
 use crp_plan::Problem;
@@ -42,4 +45,21 @@ pub fn played_twice(
     one.run(events)?;
     other.run(events)?;
     Ok((one, other))
+}
+
+/// Whatever events come to workers that begin, they lead to some world, and every plan is covered in it.
+pub fn events_lead_on()
+    ensures { (rules : Rules) (workers : ℕ) (events : List Event) → AreRules rules → 1 ≤ workers
+        → (last : Stated) × Come events (begin rules workers) last × IsKeptWorld last }
+{
+    one_next_world();
+    every_plan_stays_covered();
+}
+
+/// Two events, one after the other, lead to one world at most, and its problem is the same.
+pub fn two_events()
+    ensures { (one other : Event) (w next last also again : Stated) → IsProblem w.rules.problem → Leads one w next → Leads other next last
+        → Leads one w also → Leads other also again → (last ≡ again) × (last.rules.problem ≡ w.rules.problem) }
+{
+    one_next_world();
 }

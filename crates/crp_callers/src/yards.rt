@@ -1,16 +1,16 @@
 //! What the laws of yards say of one with two bays.
 
-ghost use Rattle.std.specs.Prelude.{◌≡◌, ◌<◌, ◌≤◌, ◌-◌, ◌↔◌, ℕ, List, [], ◌∷◌, codes, Some, None, slice_get};
+ghost use Rattle.std.specs.Prelude.{◌≡◌, ◌<◌, ◌≤◌, ◌↔◌, ℕ, List, [], ◌∷◌, codes, Some, None, slice_get};
 ghost use Rattle.crp_yard.specs.declared.fault.YardFault.TheVariants.{PlaceTaken};
 ghost use Rattle.crp_yard.specs.Places.{YardPlace};
-ghost use Rattle.crp_yard.specs.Records.{Entry, height_of, records_of};
+ghost use Rattle.crp_yard.specs.Records.{Entry, entries_of, records_of};
 ghost use Rattle.crp_yard.specs.Inventory.{Inventory, stack_up_to};
 ghost use Rattle.crp_yard.specs.Reading.{IsYardListOf};
 ghost use Rattle.crp_yard.specs.ByPlaces.{StandsAt, NamesFirst, FloatsFirst, NoneFloats};
-ghost use Rattle.crp_yard.specs.Faults.{fault_at};
+ghost use Rattle.crp_yard.specs.Faults.{fault_at, first_fault};
 ghost use Rattle.crp_yard.specs.Text.{yard_text};
 ghost use Rattle.crp_yard.specs.After.{IsPlanForBay, IsAfter};
-ghost use Rattle.crp_callers.specs.TwoBays.{heights, bay, two_bays, with_empty_bay, first_record, stating, listed, entries, two_float, twice_faulty, quoted_yard, quoted_text, plan_for_first, yard_left};
+ghost use Rattle.crp_callers.specs.TwoBays.{heights, bay, two_bays, with_empty_bay, first_record, stating, listed, placed, entries, two_float, twice_faulty, quoted_yard, quoted_text, plan_for_first, yard_left};
 
 use crp_plan::{one_kind, path_decides};
 use crp_yard::{
@@ -18,16 +18,17 @@ use crp_yard::{
     places_read_back, plans_leave_a_yard, text_reads_back,
 };
 
-/// What a list states stands in its yard, each container at its tier, and nothing else. Of the two bays that it
-/// names the one that it names first stands first.
+/// What a list states stands in its yard, and nothing else. Of the two bays that it names the one that it names
+/// first stands first. In every list without a fault the container of the second tier stands second in its row.
 pub fn yard_of_a_list()
     ensures stands { (i : ℕ) (entry : Entry) → slice_get entries i ≡ Some entry → StandsAt two_bays entry.0 entry.1 }
     ensures stated { (place : YardPlace) (container : List ℕ) → StandsAt two_bays place container
         → (i : ℕ) × (slice_get entries i ≡ Some (place, container)) }
     ensures named { (i : ℕ) × NamesFirst entries (bay 2) i }
     ensures first_seen { (i j : ℕ) → NamesFirst entries (bay 1) i → NamesFirst entries (bay 2) j → i < j }
-    ensures tiers { (i : ℕ) (entry : Entry) → slice_get entries i ≡ Some entry
-        → slice_get (stack_up_to entries entry.0.bay entry.0.row (height_of heights entry.0.row)) (entry.0.tier - 1) ≡ Some entry.1 }
+    ensures second { (records : List (List (List ℕ))) (i : ℕ) (container : List ℕ) → first_fault heights records ≡ None
+        → slice_get (entries_of records) i ≡ Some (placed 1 1 2 container)
+        → slice_get (stack_up_to (entries_of records) (bay 1) 1 2) 1 ≡ Some container }
 {
     inventory_by_places();
     each_stands_in_its_place();

@@ -1,4 +1,3 @@
-use Rattle.std.proofs.Common.{ℕ, Option, IfOk}
 use Rattle.std.proofs.lemmas.Result.{IfOk-weaker}
 use Rattle.crp_solve.specs.Solved.{IsSolved}
 use Rattle.crp_callers.proofs.BestMet.{best_met}
