@@ -4,10 +4,23 @@ use Rattle.crp_plan.specs.Bay.{cap}
 use Rattle.crp_audit.specs.Headline.{verdict_said}
 use Rattle.crp_order.specs.declared.bay_problem.BayProblem.{BayProblem}
 use Rattle.crp_said.specs.Views.{bay_as}
-use Rattle.crp_audit.specs.Certified.{SaysThis, IsCertificateFault}
+use Rattle.crp_audit.specs.Certified.{SaysThis, IsLinesFault, IsCertificateFault}
 use Rattle.crp_audit.specs.Stops.{StopsAt}
-use Rattle.crp_audit.proofs.Bays.{bay_true, certificate_stops}
+use Rattle.crp_audit.proofs.Bays.{bay_true, lines_fault, certificate_stops}
 use Rattle.crp_audit.proofs.auditing.audit_bay.Goals as goal
+
+pub returns-in_err-rows-clause-wrong : goal.returns-in_err-rows-clause-wrong
+returns-in_err-rows-clause-wrong g c =
+    let p = err_from_is_err_and c.from_residual-in_err-rows.result c.from_residual-in_err-rows.ensures.1 in
+    let s = bay_as c.args.said.now in
+    let f = c.in_err-rows.field-0.0 in
+    let (left, is) = c.requires.some in
+    rw (p.1, p.2) (
+      left,
+      is,
+      λ h bay same name. lines_fault h bay c.args.stated.now s left c.args.front.now.items f same name
+          (subst (λ l. IsLinesFault c.args.stated.now s l f) (c.deref.ensures.value ∙ c.in_ok-push_bay_line.ensures) c.in_err-rows.ensures.wrong),
+    )
 
 pub returns-in_err-found-clause-wrong : goal.returns-in_err-found-clause-wrong
 returns-in_err-found-clause-wrong g c =
