@@ -1,5 +1,5 @@
 use Rattle.std.proofs.Common.{Some, refl, ap}
-use Rattle.crp_commands.specs.declared.heads.TheConstants.{MOST_BYTES}
+use Rattle.crp_yard.specs.Reading.{IsTextOf}
 use Rattle.crp_commands.specs.Calls.{CallSeen}
 use Rattle.crp_commands.specs.Replay.{IsReplay}
 use Rattle.crp_callers.proofs.Reporting.{report_written, relocations_counted}
@@ -17,5 +17,5 @@ returns c =
       sink_before = c.new-out.result.failed;
       sink_after = c.replay.new.writer.failed;
     } in
-    relocations_counted c.args.bytes.now text (report_written MOST_BYTES IsReplay c.args.bytes.now text seen
+    relocations_counted c.args.bytes.now text (report_written IsTextOf IsReplay c.args.bytes.now text seen (λ known input is. is)
     (record { given = refl; held = ap Some c.new-out.ensures.bytes; holds = refl }) c.in_ok-replay.ensures.0.1)
