@@ -25,15 +25,16 @@ fn make_slow(interrupted: u32, fails: bool) -> Slow<'static> {
 
 #[test]
 fn slow_sources(rt: HostRuntime) -> Result<(), Fail> {
-    let mut sink = Received::new(rt.alloc());
-    let answer = replay(rt.alloc(), &mut make_slow(1000, false), &mut sink)?;
-    assert_same(&rt, &answer, &Status::Decided);
-    assert_same(&rt, &sink.bytes.as_slice(), &TWO_CONTAINERS_REPLAYED);
-    let mut sink = Received::new(rt.alloc());
-    for mut source in [make_slow(1001, false), make_slow(0, true)] {
-        let answer = replay(rt.alloc(), &mut source, &mut sink);
-        assert!(rt; answer == Err(ToolFault::Read) && sink.bytes.is_empty());
+    // A failure behind the head is not met.
+    for mut source in [make_slow(1000, false), make_slow(0, true)] {
+        let mut sink = Received::new(rt.alloc());
+        let answer = replay(rt.alloc(), &mut source, &mut sink)?;
+        assert_same(&rt, &answer, &Status::Decided);
+        assert_same(&rt, &sink.bytes.as_slice(), &TWO_CONTAINERS_REPLAYED);
     }
+    let mut sink = Received::new(rt.alloc());
+    let answer = replay(rt.alloc(), &mut make_slow(1001, false), &mut sink);
+    assert!(rt; answer == Err(ToolFault::Read) && sink.bytes.is_empty());
     Ok(())
 }
 
