@@ -1,6 +1,6 @@
 -- What a command writes to a list of bytes that was empty.
 use Rattle.std.proofs.Common.{◌≡◌, ◌∙◌, ℕ, suc, List, [], ◌∷◌, ◌++◌, length, Some, None, Option, refl, sym, ap, subst, append_assoc}
-use Rattle.std.specs.Prelude.{codes, decimal, IfSome, MatchOption}
+use Rattle.std.specs.Prelude.{codes, decimal, MatchOption}
 use Rattle.std.specs.Io.KnownBytes.{Appends}
 use Rattle.crp_plan.specs.declared.moves.Move.{Move}
 use Rattle.crp_plan.specs.declared.moves.Move.TheVariants.{Shift, Take}
