@@ -1,12 +1,17 @@
--- What holds of a node where so much suffices, by its mark.
-use Rattle.std.proofs.Common.{◌≡◌, ℕ, ◌+◌, ◌<◌, ◌≤◌, min, inl, List, [], ◌∷◌, ◌++◌, length, map, arith}
+-- What holds of a node where so much suffices, by its mark; and how a node closes.
+use Rattle.std.proofs.Common.{◌≡◌, ℕ, ◌+◌, ◌<◌, ◌≤◌, min, inl, List, [], ◌∷◌, ◌++◌, length, map, Option, Some, None, Result, Ok, Err, ap, arith}
 use Rattle.crp_plan.specs.Bay.{Position}
 use Rattle.crp_bounds.specs.Bounds.{blocking, look_ahead}
 use Rattle.crp_tree.specs.declared.mark.Mark.TheVariants.{B, X}
+use Rattle.crp_tree.specs.declared.symbol.Symbol.TheVariants.{CutB, CutL}
 use Rattle.crp_tree.specs.Trees.{Node, cuts, value, least, least_value}
 use Rattle.crp_tree.proofs.Shown.{least_most}
 use Rattle.crp_tree.proofs.Joined.{least_value-append}
+use Rattle.crp_search.specs.declared.frames.Closed.{Closed}
+use Rattle.crp_search.specs.declared.walk_end.WalkEnd.{WalkEnd}
+use Rattle.crp_search.specs.Limits.{Dealings}
 use Rattle.crp_search.specs.Searched.{IsHeld}
+use Rattle.crp_search.specs.Walked.{met_at, IsLeafAt, Closes}
 
 pub held_b : (bar : ℕ) (path : List ℕ) (s : Position) → bar ≤ length path + blocking s → IsHeld 0 bar (record { path = path; place = s; mark = B })
 held_b bar path s le = record { closed = λ cut. inl le; needed = λ ahead. absurd (cc); below = λ branch. absurd (cc) }
@@ -27,3 +32,28 @@ least_lower floor most (v ∷ values) le = omega (arith, least_lower floor most 
 pub floor_more : (most floor low : ℕ) (met own : List Node) → floor ≡ least_value most met → low ≡ least_value floor own → low ≡ least_value most (met ++ own)
 floor_more most floor low met own is lower =
     omega (arith, is, lower, least_value-append most met own, least_lower floor most (map value (cuts own)) (omega (arith, is, least_most most (map value (cuts met)))))
+
+-- ---- how a node closes
+
+-- by the blocking bound
+pub closed_b : (floor low : ℕ) (path : List ℕ) (s : Position) → low ≡ length path + blocking s → IsLeafAt 0 floor path s (record { symbol = CutB; floor = min low floor })
+closed_b floor low path s e = record { leaf_is = tt; given = λ away. absurd away; floor_is = ap (λ v. min v floor) e }
+
+-- by the look-ahead bound
+pub closed_l : (floor high : ℕ) (path : List ℕ) (s : Position) → high ≡ length path + look_ahead s → IsLeafAt 0 floor path s (record { symbol = CutL; floor = min high floor })
+closed_l floor high path s e = record { leaf_is = tt; given = λ away. absurd away; floor_is = ap (λ v. min v floor) e }
+
+-- as it does once no node was met before, and where more may be given away
+pub closes_from : {A : Type 0} {Meets : ℕ → A → Dealings → A → Dealings → List Node → Type 0} {Ends : ℕ → A → Dealings → A → Dealings → List Node → WalkEnd → Type 0} {a b c : A} {d e f : Dealings}
+    {floor : ℕ} {path : List ℕ} {s : Position} (more : ℕ) (result : Result (Option Closed) WalkEnd) → Closes Meets Ends b e c f 0 floor path s result →
+    ((rows : ℕ) (met : List Node) → Meets rows b e c f met → Meets rows a d c f met) → ((rows : ℕ) (end : WalkEnd) → Ends rows b e c f [] end → Ends rows a d c f [] end) →
+    Closes Meets Ends a d c f more floor path s result
+closes_from more (Err end) h on ends = record { met = tt; closed = tt; ended = λ rows _. ends rows end (h.ended rows (omega arith)) }
+closes_from {path} {s} more (Ok None) h on ends = record { met = λ rows _. on rows (met_at path s None) (h.met rows (omega arith)); closed = tt; ended = tt }
+closes_from {path} {s} more (Ok (Some closed)) h on ends =
+    let leaf = h.closed in
+    record {
+      met = λ rows _. on rows (met_at path s (Some closed)) (h.met rows (omega arith));
+      closed = record { leaf_is = leaf.leaf_is; given = λ away. let none = leaf.given away in absurd (omega arith); floor_is = leaf.floor_is };
+      ended = tt;
+    }

@@ -196,7 +196,7 @@ at_name k plan x kept h =
           (none_here x.problem k x.name is.place x.tree plan kept.is_problem is.is_at shape.fits shape.in_place own);
     }
 
-pub first_met : (p : Problem) (k : ℕ) (name : List ℕ) (plan : Option ProblemPath) (x : ProblemPart) → x.problem ≡ p → x.name ≡ name → IsKeptPart x → AreHeld p k None plan (nodes_of x) → IsFirstMet p k name plan x
-first_met p k name plan x about named kept h =
+pub first_met : {p : Problem} {name : List ℕ} (k : ℕ) (plan : Option ProblemPath) (x : ProblemPart) → x.problem ≡ p → x.name ≡ name → IsKeptPart x → AreHeld p k None plan (nodes_of x) → IsFirstMet p k name plan x
+first_met {p} k plan x about named kept h =
     subst (λ l. IsFirstMet p k l plan x) named (subst (λ q. IsFirstMet q k x.name plan x) about
     (at_name k plan x kept (subst (λ q. AreHeld q k None plan (nodes_of x)) (sym about) h)))

@@ -5,8 +5,8 @@ use Rattle.crp_plan.specs.Bay.{Problem}
 use Rattle.crp_plan.specs.Plans.{ProblemPath}
 use Rattle.crp_plan.specs.declared.running.View.{View}
 use Rattle.crp_tree.specs.Trees.{Node}
-use Rattle.crp_search.specs.declared.first_part.FirstEnd.{FirstEnd}
-use Rattle.crp_search.specs.declared.first_part.FirstEnd.TheVariants.{Refused, Memory}
+use Rattle.crp_search.specs.declared.walk_end.WalkEnd.{WalkEnd}
+use Rattle.crp_search.specs.declared.walk_end.WalkEnd.TheVariants.{Refused, Memory}
 use Rattle.crp_search.specs.Limits.{Dealings, OnlyGrants}
 use Rattle.crp_search.specs.Searched.{IsHeld, IsMet}
 use Rattle.crp_search.specs.Firsts.{OnlyClaims, EndsAs}
@@ -105,6 +105,6 @@ first_more p k j split a b c d e f xs ys same m n =
     }
 
 -- who was refused no claim before ends as he ends afterwards
-pub first_ends : (old mid new : View) (end : FirstEnd) → mid.refused ≡ old.refused → EndsAs mid new end → EndsAs old new end
+pub first_ends : (old mid new : View) (end : WalkEnd) → mid.refused ≡ old.refused → EndsAs mid new end → EndsAs old new end
 first_ends old mid new Refused same e = (e.0, let le = e.1 in omega arith)
 first_ends old mid new Memory same e = e ∙ same

@@ -8,8 +8,8 @@ use Rattle.crp_plan.specs.declared.running.View.{View}
 use Rattle.crp_tree.specs.Names.{Precedes}
 use Rattle.crp_tree.specs.Trees.{Node, value, Begins}
 use Rattle.crp_tree.specs.First.{MeetsNeed}
-use Rattle.crp_search.specs.declared.first_part.FirstEnd.{FirstEnd}
-use Rattle.crp_search.specs.declared.first_part.FirstEnd.TheVariants.{Refused, Memory}
+use Rattle.crp_search.specs.declared.walk_end.WalkEnd.{WalkEnd}
+use Rattle.crp_search.specs.declared.walk_end.WalkEnd.TheVariants.{Refused, Memory}
 
 -- no complete plan has fewer than k relocations
 pub record IsLowerBound (p : Problem) (k : ℕ) : Type 0 where
@@ -50,6 +50,6 @@ pub record OnlyClaims (old new : View) : Type 0 where
   pub refused : old.refused ≤ new.refused
 
 -- why a search ended before its time: one claim of the worker was refused, now or before; or memory was short, and no claim was refused meanwhile
-abbrev pub EndsAs : View → View → FirstEnd → Type 0
+abbrev pub EndsAs : View → View → WalkEnd → Type 0
 EndsAs old new Refused = (0 < new.refused) × (new.refused ≤ old.refused + 1)
 EndsAs old new Memory = new.refused ≡ old.refused

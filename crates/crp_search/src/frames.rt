@@ -1,6 +1,7 @@
 //! The branches that a search is in.
-ghost use Rattle.std.specs.Prelude.{◌≡◌, ◌+◌, ◌<◌, ◌≤◌, length, slice_index, IfSome, IfNone};
+ghost use Rattle.std.specs.Prelude.{◌≡◌, ◌≤◌, length, IfSome, IfNone};
 ghost use Rattle.crp_bay.specs.Positions.{targets};
+ghost use Rattle.crp_search.specs.Walked.{TakesTurn};
 
 use arrayvec::ArrayVec;
 use crp_bay::Position;
@@ -50,10 +51,7 @@ impl Frame {
 
     /// The row whose turn it is. `None` where each row had its turn.
     pub fn turn(&mut self) -> Option<u8>
-        ensures left { IfSome result (λ row. self.old.done < length self.old.rows.items) }
-        ensures row { IfSome result (λ row. row ≡ slice_index self.old.rows.items self.old.done) }
-        ensures done { IfSome result (λ row. self.new.done ≡ self.old.done + 1) }
-        ensures rows { IfSome result (λ row. self.new.rows.items ≡ self.old.rows.items) }
+        ensures turn { IfSome result (TakesTurn self.old self.new) }
         ensures none { IfNone result (length self.old.rows.items ≤ self.old.done) }
         ensures same { IfNone result (self.new ≡ self.old) }
     {

@@ -10,11 +10,13 @@ mod limit;
 mod searching;
 mod searching_first;
 mod seeking;
+mod walk_end;
 mod walking;
 
 pub use beam::beam_plan;
-pub use first_part::{FirstEnd, FirstPart};
+pub use first_part::FirstPart;
 pub use greedy::{blocker_moves, first_plan, one_greedy_plan};
 pub use limit::Limit;
 pub use searching::search;
 pub use searching_first::search_first;
+pub use walk_end::WalkEnd;

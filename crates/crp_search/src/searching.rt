@@ -6,9 +6,9 @@ ghost use Rattle.crp_tree.specs.Parts.{IsKeptPart, given_of, cuts_in, branches_i
 ghost use Rattle.crp_search.specs.Limits.{Advances};
 ghost use Rattle.crp_search.specs.Searched.{IsClosed, NeedsLookAhead, IsBelow, AreHeldAlong, IsShort, PutsMore};
 
-use crate::first_part::FirstEnd;
 use crate::limit::Limit;
 use crate::seeking::Seek;
+use crate::walk_end::WalkEnd;
 use crate::walking::walk;
 use crp_plan::{Plan, Problem};
 use crp_tree::{Name, Part};
@@ -31,7 +31,7 @@ fn offer_plan<L: Limit>(plan: &Plan, limit: &mut L)
 struct SeekFewest;
 
 impl Seek for SeekFewest {
-    ghost use Rattle.crp_search.specs.declared.first_part.FirstEnd.TheVariants.{Memory};
+    ghost use Rattle.crp_search.specs.declared.walk_end.WalkEnd.TheVariants.{Memory};
     ghost use Rattle.crp_search.specs.Searched.{IsSearchedSoFar};
     ghost use Rattle.crp_search.specs.Meeting.{none_met, one_met, more_met};
 
@@ -51,7 +51,7 @@ impl Seek for SeekFewest {
         offer_plan(&plan, limit);
     }
 
-    fn expand<L: Limit>(&mut self, limit: &mut L) -> Result<bool, FirstEnd> {
+    fn expand<L: Limit>(&mut self, limit: &mut L) -> Result<bool, WalkEnd> {
         Ok(limit.claim())
     }
 
@@ -109,7 +109,7 @@ pub fn search<L: Limit>(
     let mut seek = SeekFewest;
     match walk(alloc, problem, name, &mut seek, limit, split) {
         Ok(part) => Ok(part),
-        Err(FirstEnd::Memory) => Err(AllocError),
-        Err(FirstEnd::Refused) => unreachable!(),
+        Err(WalkEnd::Memory) => Err(AllocError),
+        Err(WalkEnd::Refused) => unreachable!(),
     }
 }

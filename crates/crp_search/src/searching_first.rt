@@ -8,9 +8,10 @@ ghost use Rattle.crp_search.specs.Searched.{NeedsLookAhead, IsBelow, IsShort, Pu
 ghost use Rattle.crp_search.specs.Firsts.{IsLowerBound, IsFirstHere, IsNoneHere, MeetsOwn, HoldsByOwn, OnlyClaims, EndsAs};
 ghost use Rattle.crp_search.specs.FirstsFound.{CameSoFar};
 
-use crate::first_part::{FirstEnd, FirstPart};
+use crate::first_part::FirstPart;
 use crate::limit::Limit;
 use crate::seeking::Seek;
+use crate::walk_end::WalkEnd;
 use crate::walking::walk;
 use crp_plan::{Plan, Problem};
 use crp_tree::Name;
@@ -46,11 +47,11 @@ impl Seek for SeekFirst {
         self.plan = Some(plan);
     }
 
-    fn expand<L: Limit>(&mut self, limit: &mut L) -> Result<bool, FirstEnd> {
+    fn expand<L: Limit>(&mut self, limit: &mut L) -> Result<bool, WalkEnd> {
         if limit.claim() {
             Ok(true)
         } else {
-            Err(FirstEnd::Refused)
+            Err(WalkEnd::Refused)
         }
     }
 
@@ -81,7 +82,7 @@ pub fn search_first<L: Limit>(
     count: u32,
     limit: &mut L,
     split: u8,
-) -> Result<FirstPart, FirstEnd>
+) -> Result<FirstPart, WalkEnd>
     requires problem { problem.now ≡ L.problem limit.old }
     requires path { (s : Place) × IsAt problem.now name s }
     requires least { IsLowerBound problem.now count }

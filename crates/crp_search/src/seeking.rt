@@ -5,13 +5,13 @@ ghost use Rattle.crp_plan.specs.Bay.{Problem as Statement};
 ghost use Rattle.crp_plan.specs.Faults.{IsPlanPath};
 ghost use Rattle.crp_tree.specs.declared.mark.Mark.TheVariants.{B};
 ghost use Rattle.crp_tree.specs.Trees.{Node, IsInPlace, is_cut, value, least_through};
-ghost use Rattle.crp_search.specs.declared.first_part.FirstEnd.{FirstEnd as WhyEnded};
-ghost use Rattle.crp_search.specs.declared.first_part.FirstEnd.TheVariants.{Memory};
+ghost use Rattle.crp_search.specs.declared.walk_end.WalkEnd.{WalkEnd as WhyEnded};
+ghost use Rattle.crp_search.specs.declared.walk_end.WalkEnd.TheVariants.{Memory};
 ghost use Rattle.crp_search.specs.Limits.{Dealings, dealt, OnlyGrants};
 ghost use Rattle.crp_search.specs.Searched.{NeedsLookAhead, IsHeld, IsMet};
 
-use crate::first_part::FirstEnd;
 use crate::limit::Limit;
+use crate::walk_end::WalkEnd;
 use crp_plan::Plan;
 
 /// What a walk over a part looks for: what suffices at a node, what a finished path does, and what an expansion asks for.
@@ -31,7 +31,7 @@ pub trait Seek {
     /// What suffices now.
     fn enough<L: Limit>(&mut self, limit: &mut L) -> u64
         ensures bar { result ≡ bar self.new (L.view limit.new) }
-        ensures met { (split : ℕ) → meets (L.problem limit.old) split self.old (dealt (L.view limit.old) (L.puts limit.old)) self.new (dealt (L.view limit.new) (L.puts limit.new)) [] }
+        ensures met { (p : Statement) (split : ℕ) → meets p split self.old (dealt (L.view limit.old) (L.puts limit.old)) self.new (dealt (L.view limit.new) (L.puts limit.new)) [] }
         ensures same { (L.problem limit.new ≡ L.problem limit.old) × (L.budget limit.new ≡ L.budget limit.old) };
 
     /// Takes a plan with fewer relocations than suffice.
@@ -45,7 +45,7 @@ pub trait Seek {
         ensures same { (L.problem limit.new ≡ L.problem limit.old) × (L.budget limit.new ≡ L.budget limit.old) };
 
     /// Asks for an expansion, and answers whether it was granted. Where it was not, the walk goes on after a cut.
-    fn expand<L: Limit>(&mut self, limit: &mut L) -> Result<bool, FirstEnd>
+    fn expand<L: Limit>(&mut self, limit: &mut L) -> Result<bool, WalkEnd>
         ensures granted { IfOk result (λ granted. IsTrue granted
             → (self.new ≡ self.old) × OnlyGrants (L.view limit.old) (L.view limit.new) × ((L.view limit.new).granted ≡ (L.view limit.old).granted + 1)) }
         ensures refused { IfOk result (λ granted. IsFalse granted → (split : ℕ) (node : Node) → is_cut node.mark ≡ true → least_through node ≤ value node

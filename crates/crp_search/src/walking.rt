@@ -4,27 +4,23 @@ ghost use Rattle.crp_plan.specs.Bay.{IsAt, IsProblem, Position as Place, cap};
 ghost use Rattle.crp_plan.specs.Faults.{IsPlanPath};
 ghost use Rattle.crp_bay.specs.Positions.{child, targets};
 ghost use Rattle.crp_bounds.specs.Bounds.{blocking as blocking_bound, look_ahead as look_ahead_bound};
-ghost use Rattle.crp_tree.specs.Symbols.{leaf};
 ghost use Rattle.crp_tree.specs.declared.mark.Mark.TheVariants.{B};
 ghost use Rattle.crp_tree.specs.Trees.{IsGivenAway, Fits, Node, nodes, least_value};
 ghost use Rattle.crp_tree.specs.Parts.{IsKeptPart, nodes_of};
 ghost use Rattle.crp_search.specs.Limits.{dealt};
 ghost use Rattle.crp_search.specs.Searched.{AreFirstNodes};
-ghost use Rattle.crp_search.specs.Walked.{met_at, IsLeafAt};
+ghost use Rattle.crp_search.specs.Walked.{Closes};
 
-use crate::first_part::FirstEnd;
 use crate::frames::{Closed, Found, Frame};
 use crate::limit::Limit;
 use crate::seeking::Seek;
+use crate::walk_end::WalkEnd;
 use arrayvec::ArrayVec;
 use crp_bounds::Bounded;
 use crp_plan::{MAX_RELOCATIONS, Plan, Problem};
 use crp_tree::{MAX_NAME, Name, Part, Symbol, Tree};
 use std::alloc::{AllocError, Global};
 use std::mem;
-
-/// Destination rows, from the first relocation on.
-pub type Path = ArrayVec<u8, MAX_RELOCATIONS>;
 
 /// A node that is closed by a cut of the value, below a floor.
 fn cut(symbol: Symbol, value: u32, floor: u32) -> Closed
@@ -98,18 +94,15 @@ fn close_below<S: Seek, L: Limit>(
     floor: u32,
     seek: &mut S,
     limit: &mut L,
-) -> Result<Option<Closed>, FirstEnd>
+) -> Result<Option<Closed>, WalkEnd>
     requires problem { problem.now ≡ L.problem limit.old }
     requires is_problem { IsProblem problem.now }
     requires ready { S.ready problem.now seek.old }
     requires path { IsAt problem.now path.now place.now.place }
     requires low { low ≡ length path.now + blocking_bound place.now.place }
     requires bar { (low < bar) × (bar ≡ S.bar seek.old (L.view limit.old)) }
-    ensures met { IfOk result (λ found. (split : ℕ) → S.meets problem.now split seek.old (dealt (L.view limit.old) (L.puts limit.old)) seek.new (dealt (L.view limit.new) (L.puts limit.new))
-        (met_at path.now place.now.place found)) }
-    ensures leaf { IfOk result (λ found. IfSome found (IsLeafAt floor path.now place.now.place)) }
-    ensures own { IfOk result (λ found. IfSome found (λ closed. IsGivenAway (leaf closed.symbol) → ⊥)) }
-    ensures end { IfErr result (λ end. (split : ℕ) → S.ends problem.now split seek.old (dealt (L.view limit.old) (L.puts limit.old)) seek.new (dealt (L.view limit.new) (L.puts limit.new)) [] end) }
+    ensures closes { Closes (S.meets problem.now) (S.ends problem.now) seek.old (dealt (L.view limit.old) (L.puts limit.old)) seek.new (dealt (L.view limit.new) (L.puts limit.new))
+        0 floor path.now place.now.place result }
     ensures same { (L.problem limit.new ≡ L.problem limit.old) × (L.budget limit.new ≡ L.budget limit.old) }
 {
     if place.position().is_done() {
@@ -134,16 +127,13 @@ fn close<S: Seek, L: Limit>(
     floor: u32,
     seek: &mut S,
     limit: &mut L,
-) -> Result<Option<Closed>, FirstEnd>
+) -> Result<Option<Closed>, WalkEnd>
     requires problem { problem.now ≡ L.problem limit.old }
     requires is_problem { IsProblem problem.now }
     requires ready { S.ready problem.now seek.old }
     requires path { IsAt problem.now path.now place.now.place }
-    ensures met { IfOk result (λ found. (split : ℕ) → S.meets problem.now split seek.old (dealt (L.view limit.old) (L.puts limit.old)) seek.new (dealt (L.view limit.new) (L.puts limit.new))
-        (met_at path.now place.now.place found)) }
-    ensures leaf { IfOk result (λ found. IfSome found (IsLeafAt floor path.now place.now.place)) }
-    ensures own { IfOk result (λ found. IfSome found (λ closed. IsGivenAway (leaf closed.symbol) → ⊥)) }
-    ensures end { IfErr result (λ end. (split : ℕ) → S.ends problem.now split seek.old (dealt (L.view limit.old) (L.puts limit.old)) seek.new (dealt (L.view limit.new) (L.puts limit.new)) [] end) }
+    ensures closes { Closes (S.meets problem.now) (S.ends problem.now) seek.old (dealt (L.view limit.old) (L.puts limit.old)) seek.new (dealt (L.view limit.new) (L.puts limit.new))
+        0 floor path.now place.now.place result }
     ensures same { (L.problem limit.new ≡ L.problem limit.old) × (L.budget limit.new ≡ L.budget limit.old) }
 {
     let low = path.len() as u32 + place.blocking();
@@ -184,18 +174,16 @@ fn close_child<S: Seek, L: Limit>(
     floor: u32,
     seek: &mut S,
     limit: &mut L,
-) -> Result<Option<Closed>, FirstEnd>
+) -> Result<Option<Closed>, WalkEnd>
     requires problem { problem.now ≡ L.problem limit.old }
     requires is_problem { IsProblem problem.now }
     requires ready { S.ready problem.now seek.old }
     requires path { IsAt problem.now path.now (child place.old.place row) }
     requires row { Contains (targets place.old.place) row }
-    ensures met { IfOk result (λ found. (split : ℕ) → S.meets problem.now split seek.old (dealt (L.view limit.old) (L.puts limit.old)) seek.new (dealt (L.view limit.new) (L.puts limit.new))
-        (met_at path.now (child place.old.place row) found)) }
-    ensures leaf { IfOk result (λ found. IfSome found (IsLeafAt floor path.now (child place.old.place row))) }
+    ensures closes { Closes (S.meets problem.now) (S.ends problem.now) seek.old (dealt (L.view limit.old) (L.puts limit.old)) seek.new (dealt (L.view limit.new) (L.puts limit.new))
+        0 floor path.now (child place.old.place row) result }
     ensures back { IfOk result (λ found. IfSome found (λ closed. place.new ≡ place.old)) }
     ensures down { IfOk result (λ found. IfNone found (place.new ≡ record { place = child place.old.place row; trail = place.old.place ∷ place.old.trail })) }
-    ensures end { IfErr result (λ end. (split : ℕ) → S.ends problem.now split seek.old (dealt (L.view limit.old) (L.puts limit.old)) seek.new (dealt (L.view limit.new) (L.puts limit.new)) [] end) }
     ensures same { (L.problem limit.new ≡ L.problem limit.old) × (L.budget limit.new ≡ L.budget limit.old) }
 {
     let below = path.len() as u32 + place.blocking_after(row);
@@ -222,19 +210,17 @@ fn walk_child<S: Seek, L: Limit>(
     seek: &mut S,
     limit: &mut L,
     split: u8,
-) -> Result<Option<Closed>, FirstEnd>
+) -> Result<Option<Closed>, WalkEnd>
     requires problem { problem.now ≡ L.problem limit.old }
     requires is_problem { IsProblem problem.now }
     requires ready { S.ready problem.now seek.old }
     requires path { IsAt problem.now path.now (child place.old.place row) }
     requires row { Contains (targets place.old.place) row }
     requires split { split ≤ 8 }
-    ensures met { IfOk result (λ found. S.meets problem.now split seek.old (dealt (L.view limit.old) (L.puts limit.old)) seek.new (dealt (L.view limit.new) (L.puts limit.new))
-        (met_at path.now (child place.old.place row) found)) }
-    ensures leaf { IfOk result (λ found. IfSome found (IsLeafAt floor path.now (child place.old.place row))) }
+    ensures closes { Closes (S.meets problem.now) (S.ends problem.now) seek.old (dealt (L.view limit.old) (L.puts limit.old)) seek.new (dealt (L.view limit.new) (L.puts limit.new))
+        (split + 1) floor path.now (child place.old.place row) result }
     ensures back { IfOk result (λ found. IfSome found (λ closed. place.new ≡ place.old)) }
     ensures down { IfOk result (λ found. IfNone found (place.new ≡ record { place = child place.old.place row; trail = place.old.place ∷ place.old.trail })) }
-    ensures end { IfErr result (λ end. S.ends problem.now split seek.old (dealt (L.view limit.old) (L.puts limit.old)) seek.new (dealt (L.view limit.new) (L.puts limit.new)) [] end) }
     ensures same { (L.problem limit.new ≡ L.problem limit.old) × (L.budget limit.new ≡ L.budget limit.old) }
 {
     if give(path, split, limit) {
@@ -264,11 +250,11 @@ fn walk_from<S: Seek, L: Limit>(
     alloc: Global,
     problem: &Problem,
     place: &mut Bounded,
-    path: &mut Path,
+    path: &mut ArrayVec<u8, MAX_RELOCATIONS>,
     seek: &mut S,
     limit: &mut L,
     split: u8,
-) -> Result<Found, FirstEnd>
+) -> Result<Found, WalkEnd>
     requires problem { problem.now ≡ L.problem limit.old }
     requires ready { S.ready problem.now seek.old }
     requires path { IsAt problem.now path.old.items place.old.place }
@@ -347,7 +333,7 @@ pub fn walk<S: Seek, L: Limit>(
     seek: &mut S,
     limit: &mut L,
     split: u8,
-) -> Result<Part, FirstEnd>
+) -> Result<Part, WalkEnd>
     requires problem { problem.now ≡ L.problem limit.old }
     requires ready { S.ready problem.now seek.old }
     requires path { (s : Place) × IsAt problem.now name s }
@@ -364,7 +350,7 @@ pub fn walk<S: Seek, L: Limit>(
     let Some(mut place) = name.bounded(problem) else {
         unreachable!()
     };
-    let mut path = Path::new();
+    let mut path = ArrayVec::new();
     let Ok(()) = path.try_extend_from_slice(name.rows()) else {
         unreachable!()
     };

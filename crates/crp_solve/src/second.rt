@@ -18,7 +18,7 @@ use crate::workers::{look_of, work_together};
 use crp_gather::{GatherFault, gather, settle};
 use crp_incumbent::Shared;
 use crp_plan::{Plan, Problem};
-use crp_search::{FirstEnd, FirstPart, search_first};
+use crp_search::{FirstPart, WalkEnd, search_first};
 use crp_tree::{Cert, Name};
 use std::alloc::Global;
 use std::sync::Wait;
@@ -250,13 +250,13 @@ pub(crate) fn first_alone<K: Begun>(
     };
     let FirstPart { part, plan } = match found {
         Ok(found) => found,
-        Err(FirstEnd::Refused) => {
+        Err(WalkEnd::Refused) => {
             return Err(GivenUp {
                 cause: Cause::Budget,
                 expanded,
             });
         }
-        Err(FirstEnd::Memory) => return Err(memory),
+        Err(WalkEnd::Memory) => return Err(memory),
     };
     let Ok(cert) = Cert::whole(alloc, part) else {
         return Err(memory);

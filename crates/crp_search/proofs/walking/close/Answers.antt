@@ -1,12 +1,10 @@
-use Rattle.std.proofs.Common.{[], ◌∷◌, sym, subst, refl, arith}
-use Rattle.std.proofs.lemmas.Result.{IfOk-weaker, IfErr-weaker}
+use Rattle.std.proofs.Common.{[], ◌∷◌, refl, arith}
 use Rattle.crp_plan.proofs.Steps.{short_path}
 use Rattle.crp_tree.specs.declared.mark.Mark.TheVariants.{B}
 use Rattle.crp_tree.specs.Trees.{Node}
 use Rattle.crp_search.specs.Limits.{dealt}
-use Rattle.crp_search.specs.Walked.{met_at}
 use Rattle.crp_search.proofs.SoFar.{met_cut}
-use Rattle.crp_search.proofs.Closing.{held_b}
+use Rattle.crp_search.proofs.Closing.{held_b, closed_b, closes_from}
 use Rattle.crp_search.proofs.walking.close.Goals as goal
 
 pub overflow_cast-low : goal.overflow_cast-low
@@ -15,38 +13,24 @@ overflow_cast-low g c = let few = short_path c.args.problem.now c.args.path.now 
 pub overflow_add-low : goal.overflow_add-low
 overflow_add-low g c = let few = short_path c.args.problem.now c.args.path.now c.args.place.now.place c.requires.is_problem c.requires.path in let b = c.blocking.ensures.few in omega arith
 
-pub returns-then-from-bar-clause-met : goal.returns-then-from-bar-clause-met
-returns-then-from-bar-clause-met g c = λ split.
-    let old = dealt (g.L.Limit.view c.args.limit.now) (g.L.Limit.puts c.args.limit.now) in
+pub returns-then-from-bar-clause-closes : goal.returns-then-from-bar-clause-closes
+returns-then-from-bar-clause-closes g c =
+    let p = c.args.problem.now in
     let seen = dealt (g.L.Limit.view c.enough-bar.new.limit) (g.L.Limit.puts c.enough-bar.new.limit) in
     let node : Node = record { path = c.args.path.now; place = c.args.place.now.place; mark = B } in
-    let sees = subst (λ p. g.S.Seek.meets p split c.args.seek.now old c.enough-bar.new.self seen []) (sym c.requires.problem) (c.enough-bar.ensures.met split) in
-    rw c.cut.ensures (g.met.S.Seek.onward c.args.problem.now split c.args.seek.now c.enough-bar.new.self c.enough-bar.new.self old seen seen [] (node ∷ []) sees
-    (g.met.S.Seek.one c.args.problem.now split c.enough-bar.new.self seen seen node (met_cut split seen seen node refl refl refl) refl (held_b _ c.args.path.now c.args.place.now.place (omega arith))))
+    rw c.cut.ensures (record {
+      met = λ rows _. g.met.S.Seek.onward p rows _ _ _ _ _ _ [] (node ∷ []) (c.enough-bar.ensures.met p rows)
+          (g.met.S.Seek.one p rows c.enough-bar.new.self seen seen node (met_cut rows seen seen node refl refl refl) refl (held_b _ c.args.path.now c.args.place.now.place (omega arith)));
+      closed = closed_b c.args.floor _ c.args.path.now c.args.place.now.place (omega arith);
+      ended = tt;
+    })
 
 pub close_below-requires-clause-ready : goal.close_below-requires-clause-ready
-close_below-requires-clause-ready g c =
-    let old = dealt (g.L.Limit.view c.args.limit.now) (g.L.Limit.puts c.args.limit.now) in
-    let seen = dealt (g.L.Limit.view c.enough-bar.new.limit) (g.L.Limit.puts c.enough-bar.new.limit) in
-    let sees = subst (λ p. g.S.Seek.meets p 0 c.args.seek.now old c.enough-bar.new.self seen []) (sym c.requires.problem) (c.enough-bar.ensures.met 0) in
-    g.met.S.Seek.still c.args.problem.now 0 c.args.seek.now c.enough-bar.new.self old seen [] sees c.requires.ready
+close_below-requires-clause-ready g c = g.met.S.Seek.still c.args.problem.now 0 _ _ _ _ _ (c.enough-bar.ensures.met c.args.problem.now 0) c.requires.ready
 
-pub returns-clause-met : goal.returns-clause-met
-returns-clause-met g c =
-    let old = dealt (g.L.Limit.view c.args.limit.now) (g.L.Limit.puts c.args.limit.now) in
-    let seen = dealt (g.L.Limit.view c.enough-bar.new.limit) (g.L.Limit.puts c.enough-bar.new.limit) in
-    let new = dealt (g.L.Limit.view c.close_below.new.limit) (g.L.Limit.puts c.close_below.new.limit) in
-    IfOk-weaker c.close_below.result _ _
-    (λ found f. λ split. g.met.S.Seek.onward c.args.problem.now split c.args.seek.now c.enough-bar.new.self c.close_below.new.seek old seen new [] (met_at c.args.path.now c.args.place.now.place found)
-    (subst (λ p. g.S.Seek.meets p split c.args.seek.now old c.enough-bar.new.self seen []) (sym c.requires.problem) (c.enough-bar.ensures.met split)) (f split))
-    c.close_below.ensures.met
-
-pub returns-clause-end : goal.returns-clause-end
-returns-clause-end g c =
-    let old = dealt (g.L.Limit.view c.args.limit.now) (g.L.Limit.puts c.args.limit.now) in
-    let seen = dealt (g.L.Limit.view c.enough-bar.new.limit) (g.L.Limit.puts c.enough-bar.new.limit) in
-    let new = dealt (g.L.Limit.view c.close_below.new.limit) (g.L.Limit.puts c.close_below.new.limit) in
-    IfErr-weaker c.close_below.result _ _
-    (λ end f. λ split. g.met.S.Seek.ended c.args.problem.now split c.args.seek.now c.enough-bar.new.self c.close_below.new.seek old seen new [] [] end
-    (subst (λ p. g.S.Seek.meets p split c.args.seek.now old c.enough-bar.new.self seen []) (sym c.requires.problem) (c.enough-bar.ensures.met split)) (f split))
-    c.close_below.ensures.end
+pub returns-clause-closes : goal.returns-clause-closes
+returns-clause-closes g c =
+    let p = c.args.problem.now in
+    closes_from 0 _ c.close_below.ensures.closes
+    (λ rows met later. g.met.S.Seek.onward p rows _ _ _ _ _ _ [] met (c.enough-bar.ensures.met p rows) later)
+    (λ rows end later. g.met.S.Seek.ended p rows _ _ _ _ _ _ [] [] end (c.enough-bar.ensures.met p rows) later)

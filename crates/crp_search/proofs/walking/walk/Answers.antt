@@ -1,20 +1,17 @@
 use Rattle.std.proofs.Common.{◌≡◌, ◌++◌, All, length, ap, ◌∙◌, subst, arith}
 use Rattle.crp_tree.specs.Trees.{nodes, IsInPlace}
-use Rattle.crp_search.specs.Limits.{dealt}
 use Rattle.crp_search.proofs.walking.walk.Goals as goal
 
 pub new-requires-clause-part : goal.new-requires-clause-part
 new-requires-clause-part g c =
     let path : c.try_extend_from_slice.new.self.items ≡ c.args.name = c.in-Ok.ensures.ok ∙ ap (λ l. l ++ c.rows.result.now) c.new-path.ensures ∙ c.rows.ensures.value in
-    let placed = g.met.S.Seek.placed c.args.problem.now c.min.result c.args.seek.now c.walk_from.new.seek (dealt (g.L.Limit.view c.args.limit.now) (g.L.Limit.puts c.args.limit.now)) (dealt (g.L.Limit.view c.walk_from.new.limit) (g.L.Limit.puts c.walk_from.new.limit))
-    (nodes c.try_extend_from_slice.new.self.items c.in-Some.place.place c.in_ok-found.found.tree) c.in_ok-found.ensures.met in
     record {
       short = omega (arith, c.rows.ensures.few, ap length c.rows.ensures.value);
       place = c.in-Some.place.place;
       is_at = c.in-Some.ensures.at;
       shape = record {
         fits = c.in_ok-found.ensures.fits;
-        in_place = subst (λ l. All IsInPlace (nodes l c.in-Some.place.place c.in_ok-found.found.tree)) path placed;
+        in_place = subst (λ l. All IsInPlace (nodes l c.in-Some.place.place c.in_ok-found.found.tree)) path (g.met.S.Seek.placed c.args.problem.now c.min.result _ _ _ _ _ c.in_ok-found.ensures.met);
         not_given = c.in_ok-found.ensures.own;
       };
     }
