@@ -66,7 +66,7 @@ fn with_others<R: Wait>(
     ensures all { IfOk result (λ r. AreAllWorkers common.now.of r.0 r.1 r.2.items) }
     ensures count { IfOk result (λ r. length r.2.items ≤ most) }
 {
-    let count = useful(common.open.names(), common.split, most);
+    let count = useful(common.open.names(), most);
     if first.short || count < 2 {
         let mut alone = Vec::new(common.alloc);
         alone.push(first)?;

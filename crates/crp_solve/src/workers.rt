@@ -42,18 +42,12 @@ pub(crate) fn look_of<G: Gate>(gate: &G, settings: Settings) -> Option<Settings>
     Some(settings.for_one(settings.budget().min(LOOK)))
 }
 
-/// The most rows to which a container may be relocated.
-const WAYS: u64 = 11;
-
-/// How many workers are of use, of so many at most, where so many names of one row wait: no more than names may wait in the end. In place
-/// of a name with fewer rows than the split there may be one for each row to which its part goes on.
-pub(crate) fn useful(names: u64, split: u8, most: u32) -> usize
+/// How many workers are of use, of so many at most, where so many names wait: all of them, since a part gives more names away while a
+/// worker waits for one.
+pub(crate) fn useful(names: u64, most: u32) -> usize
     ensures { result ≤ most }
 {
-    let each = WAYS
-        .checked_pow(u32::from(split.saturating_sub(1)))
-        .unwrap_or(u64::MAX);
-    names.saturating_mul(each).min(u64::from(most)) as usize
+    if names == 0 { 0 } else { most as usize }
 }
 
 /// The first worker goes on, and others with it where names wait for them: what is left of the seat, the pool, and the state of all.
@@ -74,7 +68,7 @@ fn work_on<R: Threads + Wait + Sync, G: Gate + Sync, A: Aim + Send>(
     ensures share { result.0.view.share + result.2.view.share ≡ all_shares }
     ensures places { result.2.short ≡ false → AreAllPlaces result.1 result.2.places }
 {
-    let count = useful(common.open.names(), common.split, most);
+    let count = useful(common.open.names(), most);
     if first.short || count < 2 {
         return (left, pool, work(outside, common, 0, first));
     }

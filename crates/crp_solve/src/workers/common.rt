@@ -2,7 +2,7 @@
 use crate::workers::open_work::OpenWork;
 use crp_incumbent::{Board, Shared};
 use crp_plan::Problem;
-use crp_tree::Name;
+use crp_tree::{MAX_NAME, Name};
 use std::alloc::Global;
 use std::marker::Model;
 
@@ -79,4 +79,16 @@ impl Model for Common {
     ghost view = { λ c. record { of = c.shared; split = c.split } };
 
     ghost invariant = { λ c. IsCommon c.problem c.first (record { of = c.shared; split = c.split }) };
+}
+
+impl Common {
+    /// How many rows a name has at most that may be put.
+    pub(crate) fn longest(&self) -> u8 {
+        if self.split == 0 { 0 } else { MAX_NAME as u8 }
+    }
+
+    /// Whether the name is to be put: where it has at most as many rows as the split, or a worker waits for one.
+    pub(crate) fn wants(&self, name: &Name) -> bool {
+        name.rows().len() <= usize::from(self.split) || self.open.is_awaited()
+    }
 }

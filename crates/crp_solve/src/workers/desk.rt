@@ -114,6 +114,9 @@ impl<'a, R: Wait, G: Gate, K: Opened> Limit for Desk<'a, R, G, K> {
 
     fn put(&mut self, name: Name) -> Result<(), Name> {
         let common = self.common;
+        if !common.wants(&name) {
+            return Err(name);
+        }
         let Some(place) = &mut self.place else {
             return Err(name);
         };
@@ -196,7 +199,14 @@ pub(crate) fn search_at_desk<R: Wait, G: Gate, K: Opened>(
     outside.gate.begun(worker, &name);
     let mut desk: Desk<'_, R, G, K> = Desk::open(outside, common, seat, best, place);
     let part = if name.position(&common.problem).is_some() {
-        search(common.alloc, &common.problem, name, &mut desk, common.split).ok()
+        search(
+            common.alloc,
+            &common.problem,
+            name,
+            &mut desk,
+            common.longest(),
+        )
+        .ok()
     } else {
         None
     };
@@ -238,7 +248,7 @@ pub(crate) fn first_at_desk<R: Wait, G: Gate, K: Opened>(
             name,
             common.first,
             &mut desk,
-            common.split,
+            common.longest(),
         )
         .ok()
     } else {

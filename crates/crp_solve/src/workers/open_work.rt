@@ -10,12 +10,14 @@ const LOOKS: u64 = 16;
 /// The longest sleep of an idle worker, in microseconds.
 const MAX_SLEEP: u64 = 1000;
 
-/// The names that were put and not searched yet, whether a part was lost, and how often an idle worker had reason to look again.
+/// The names that were put and not searched yet, whether a part was lost, how often an idle worker had reason to look again, and how
+/// many workers wait now.
 #[derive(Drop)]
 pub(crate) struct OpenWork {
     names: AtomicU64,
     lost: AtomicBool,
     calls: AtomicU64,
+    waiting: AtomicU64,
 }
 
 impl OpenWork {
@@ -25,6 +27,7 @@ impl OpenWork {
             names: AtomicU64::new(1),
             lost: AtomicBool::new(false),
             calls: AtomicU64::new(0),
+            waiting: AtomicU64::new(0),
         }
     }
 
@@ -37,6 +40,11 @@ impl OpenWork {
     /// since: so it misses no name that is put meanwhile, and no end.
     pub(crate) fn calls(&self) -> u64 {
         self.calls.load(Ordering::SeqCst)
+    }
+
+    /// Whether a worker waits for a name now.
+    pub(crate) fn is_awaited(&self) -> bool {
+        self.waiting.load(Ordering::Relaxed) > 0
     }
 
     /// Counts a name that is about to be put.
@@ -77,6 +85,7 @@ impl OpenWork {
     /// An idle worker waits, which has waited so many times before in a row, and was called so often before it found no name: at first
     /// for its next turn, then asleep until somebody calls, and longer each time.
     pub(crate) fn wait<R: Wait>(&self, rt: &R, called: u64, times: u64) {
+        self.waiting.fetch_add(1, Ordering::SeqCst);
         if times < LOOKS {
             thread::yield_now();
         } else {
@@ -84,5 +93,6 @@ impl OpenWork {
             self.calls
                 .park_timeout(rt, (called & 0xffff_ffff) as u32, sleep);
         }
+        self.waiting.fetch_sub(1, Ordering::SeqCst);
     }
 }
