@@ -1,5 +1,6 @@
 //! What the lower bounds say of every way to the end, and what they count in a bay of four containers.
 ghost use Rattle.std.specs.Prelude.{◌≡◌, ◌≤◌, ◌+◌, ◌-◌, ℕ, suc, ◌↔◌, List, [], ◌∷◌, ◌++◌, length, map, sum_by, IsTrue, IsFalse};
+ghost use Rattle.std.specs.Bool.{OnTrue, OnFalse};
 ghost use Rattle.std.specs.List.{AllZip};
 ghost use Rattle.crp_plan.specs.declared.moves.Move.{Move};
 ghost use Rattle.crp_plan.specs.Rows.{holds, above, below};
@@ -42,12 +43,26 @@ pub fn is_out_of_reach_ahead_in_place(bounded: &Bounded, most: u32) -> bool
     bounded.look_ahead() > most
 }
 
-/// Goes on by the row where a path that leads to the position can.
+/// Goes on by the row where a path that leads to the position can; then the path and the row lead to where it is. Elsewhere it stays.
 pub fn go_on_with_bounds(bounded: &mut Bounded, row: u8) -> bool
-    ensures { (p : Statement) (path : List ℕ) → IsProblem p → IsAt p path bounded.old.place
+    ensures can { (p : Statement) (path : List ℕ) → IsProblem p → IsAt p path bounded.old.place
         → (IsTrue result ↔ IsLegalRow p path row) }
+    ensures leads { OnTrue result ((p : Statement) (path : List ℕ) → IsProblem p → IsAt p path bounded.old.place
+        → IsAt p (path ++ row ∷ []) bounded.new.place) }
+    ensures stays { OnFalse result (bounded.new ≡ bounded.old) }
 {
     bounded.push(row)
+}
+
+/// Where nothing is to be undone, the position stays at the empty path.
+pub fn nothing_undone_with_bounds(problem: &Problem) -> Bounded
+    ensures { IsAt problem.now [] result.place }
+{
+    let mut bounded = Bounded::start(problem);
+    if bounded.pop() {
+        unreachable!()
+    }
+    bounded
 }
 
 /// How many containers block, each at its place in its stack.
