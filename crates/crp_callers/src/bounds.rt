@@ -7,7 +7,7 @@ ghost use Rattle.crp_plan.specs.Rows.{holds, above, below};
 ghost use Rattle.crp_plan.specs.Bay.{Problem as Statement, IsProblem, IsAt, IsLegalRow, Completes, relocations};
 ghost use Rattle.crp_bay.specs.Positions.{counted};
 ghost use Rattle.crp_bounds.specs.BlockingPlaces.{AreBlockers};
-ghost use Rattle.crp_bounds.specs.Bounds.{blocking as blocking_of, stuck_above};
+ghost use Rattle.crp_bounds.specs.Bounds.{blocking as blocking_of, look_ahead as look_ahead_of, stuck_above};
 ghost use Rattle.crp_bounds.specs.Turns.{left_at};
 ghost use Rattle.crp_callers.specs.SmallBays.{bay_of_four};
 
@@ -91,6 +91,14 @@ pub fn stacks_are_cut()
     ensures absent { (k : ℕ) (stack : List ℕ) → IsFalse (holds k stack) → (above k stack ≡ []) × (below k stack ≡ stack) }
 {
     words_mean();
+}
+
+/// The look-ahead bound of a plan that makes so many relocations before the position. No path has more than 672.
+pub fn bound_behind(position: &Position, made: u32) -> u32
+    requires { made ≤ 672 }
+    ensures { result ≡ made + look_ahead_of position.now.place }
+{
+    made + look_ahead(position)
 }
 
 /// Only 4 blocks, in the row of 1.

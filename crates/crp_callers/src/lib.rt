@@ -52,6 +52,7 @@ pub use audits::headlines_begin_right;
 pub use audits::shown_of_each;
 pub use bounds::blockers;
 pub use bounds::blockers_by_turns;
+pub use bounds::bound_behind;
 pub use bounds::four_blocks;
 pub use bounds::four_blocks_again;
 pub use bounds::go_on_with_bounds;
