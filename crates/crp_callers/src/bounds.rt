@@ -1,12 +1,13 @@
 //! What the lower bounds say of every way to the end, and what they count in a bay of four containers.
 ghost use Rattle.std.specs.Prelude.{◌≡◌, ◌≤◌, ◌+◌, ◌-◌, ℕ, suc, ◌↔◌, List, [], ◌∷◌, ◌++◌, length, map, sum_by, IsTrue, IsFalse};
+ghost use Rattle.std.specs.Bool.{OnTrue, OnFalse};
 ghost use Rattle.std.specs.List.{AllZip};
 ghost use Rattle.crp_plan.specs.declared.moves.Move.{Move};
 ghost use Rattle.crp_plan.specs.Rows.{holds, above, below};
 ghost use Rattle.crp_plan.specs.Bay.{Problem as Statement, IsProblem, IsAt, IsLegalRow, Completes, relocations};
 ghost use Rattle.crp_bay.specs.Positions.{counted};
 ghost use Rattle.crp_bounds.specs.BlockingPlaces.{AreBlockers};
-ghost use Rattle.crp_bounds.specs.Bounds.{blocking as blocking_of, stuck_above};
+ghost use Rattle.crp_bounds.specs.Bounds.{blocking as blocking_of, look_ahead as look_ahead_of, stuck_above};
 ghost use Rattle.crp_bounds.specs.Turns.{left_at};
 ghost use Rattle.crp_callers.specs.SmallBays.{bay_of_four};
 
@@ -42,12 +43,26 @@ pub fn is_out_of_reach_ahead_in_place(bounded: &Bounded, most: u32) -> bool
     bounded.look_ahead() > most
 }
 
-/// Goes on by the row where a path that leads to the position can.
+/// Goes on by the row where a path that leads to the position can; then the path and the row lead to where it is. Elsewhere it stays.
 pub fn go_on_with_bounds(bounded: &mut Bounded, row: u8) -> bool
-    ensures { (p : Statement) (path : List ℕ) → IsProblem p → IsAt p path bounded.old.place
+    ensures can { (p : Statement) (path : List ℕ) → IsProblem p → IsAt p path bounded.old.place
         → (IsTrue result ↔ IsLegalRow p path row) }
+    ensures leads { OnTrue result ((p : Statement) (path : List ℕ) → IsProblem p → IsAt p path bounded.old.place
+        → IsAt p (path ++ row ∷ []) bounded.new.place) }
+    ensures stays { OnFalse result (bounded.new ≡ bounded.old) }
 {
     bounded.push(row)
+}
+
+/// Where nothing is to be undone, the position stays at the empty path.
+pub fn nothing_undone_with_bounds(problem: &Problem) -> Bounded
+    ensures { IsAt problem.now [] result.place }
+{
+    let mut bounded = Bounded::start(problem);
+    if bounded.pop() {
+        unreachable!()
+    }
+    bounded
 }
 
 /// How many containers block, each at its place in its stack.
@@ -76,6 +91,14 @@ pub fn stacks_are_cut()
     ensures absent { (k : ℕ) (stack : List ℕ) → IsFalse (holds k stack) → (above k stack ≡ []) × (below k stack ≡ stack) }
 {
     words_mean();
+}
+
+/// The look-ahead bound of a plan that makes so many relocations before the position. No path has more than 672.
+pub fn bound_behind(position: &Position, made: u32) -> u32
+    requires { made ≤ 672 }
+    ensures { result ≡ made + look_ahead_of position.now.place }
+{
+    made + look_ahead(position)
 }
 
 /// Only 4 blocks, in the row of 1.

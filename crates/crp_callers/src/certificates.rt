@@ -23,8 +23,8 @@ ghost use Rattle.crp_cert.specs.Writing.{certificate_text, first_certificate_tex
 ghost use Rattle.crp_callers.specs.SmallBay.{lines, head_lines, small_head};
 
 use crp_cert::{
-    CertFault, Script, cert_text, head_or_fault, one_head, one_script, read_cert, script_or_fault,
-    symbols_are_letters, write_cert, write_first, written_is_read,
+    CertFault, Script, cert_text, head_or_fault, one_head, one_script, read_cert, read_head,
+    script_or_fault, symbols_are_letters, write_cert, write_first, written_is_read,
 };
 use crp_plan::{BayName, Plan, Problem, Received, WriteFault, begins_somewhere};
 use crp_tree::{Cert, claims_are_accepted};
@@ -35,6 +35,16 @@ pub fn read_no_bytes(alloc: Global) -> CertFault
     ensures { (result ≡ CertFault.Opening 1) ⊎ (result ≡ CertFault.Memory) }
 {
     match read_cert(alloc, b"") {
+        Ok(_) => unreachable!(),
+        Err(fault) => fault,
+    }
+}
+
+/// Nor are they a head.
+pub fn read_no_head(alloc: Global) -> CertFault
+    ensures { (result ≡ CertFault.Opening 1) ⊎ (result ≡ CertFault.Memory) }
+{
+    match read_head(alloc, b"") {
         Ok(_) => unreachable!(),
         Err(fault) => fault,
     }

@@ -1,6 +1,7 @@
 //! How a path goes on from a position, and a bay of six containers that is walked through.
-ghost use Rattle.std.specs.Prelude.{◌≡◌, ℕ, ◌↔◌, List, [], ◌∷◌, true, false, IsTrue, IfSome, IfNone};
-ghost use Rattle.crp_plan.specs.Bay.{Problem as Statement, IsProblem, IsAt, IsLegalRow};
+ghost use Rattle.std.specs.Prelude.{◌≡◌, ℕ, ◌↔◌, List, [], ◌∷◌, ◌++◌, true, false, IsTrue, IfSome, IfNone};
+ghost use Rattle.std.specs.Bool.{OnTrue, OnFalse};
+ghost use Rattle.crp_plan.specs.Bay.{Problem as Statement, IsProblem, IsAt, IsFinished, IsLegalRow};
 ghost use Rattle.crp_bay.specs.Reached.{HasRoom};
 ghost use Rattle.crp_callers.specs.SmallBays.{bay_of_six, standing};
 
@@ -19,12 +20,46 @@ pub fn goes_on(position: &Position, row: u8) -> bool
     }
 }
 
-/// Goes on by the row where a path that leads to the position can.
+/// Goes on by the row where a path that leads to the position can; then the path and the row lead to where it is. Elsewhere it stays.
 pub fn go_on(position: &mut Position, row: u8) -> bool
-    ensures { (p : Statement) (path : List ℕ) → IsProblem p → IsAt p path position.old.place
+    ensures can { (p : Statement) (path : List ℕ) → IsProblem p → IsAt p path position.old.place
         → (IsTrue result ↔ IsLegalRow p path row) }
+    ensures leads { OnTrue result ((p : Statement) (path : List ℕ) → IsProblem p → IsAt p path position.old.place
+        → IsAt p (path ++ row ∷ []) position.new.place) }
+    ensures stays { OnFalse result (position.new ≡ position.old) }
 {
     position.push(row)
+}
+
+/// Where nothing is to be undone, the position stays at the empty path.
+pub fn nothing_undone(problem: &Problem) -> Position
+    ensures { IsAt problem.now [] result.place }
+{
+    let mut position = Position::start(problem);
+    if position.pop() {
+        unreachable!()
+    }
+    position
+}
+
+/// The first row by which a path that leads to the position can go on, if there is one.
+pub fn first_way_on(position: &Position) -> Option<u8>
+    ensures some { IfSome result (λ row. (p : Statement) (path : List ℕ) → IsProblem p → IsAt p path position.now.place → IsLegalRow p path row) }
+    ensures none { IfNone result ((p : Statement) (path : List ℕ) (row : ℕ) → IsProblem p → IsAt p path position.now.place → IsLegalRow p path row → ⊥) }
+{
+    let targets = position.targets();
+    let [first, ..] = targets.as_slice() else {
+        return None;
+    };
+    Some(*first)
+}
+
+/// Where all have left that are to leave, there is none.
+pub fn ways_on_from_the_end(position: &Position) -> usize
+    requires { IsFinished position.now.place }
+    ensures { result ≡ 0 }
+{
+    position.targets().len()
 }
 
 /// The first row that has room, if one has.

@@ -16,6 +16,7 @@ ghost use Rattle.crp_checker.specs.declared.verdict.Verdict.{Verdict as Shown};
 ghost use Rattle.crp_checker.specs.AcceptedTexts.{IsAcceptedScript, IsAcceptedText};
 ghost use Rattle.crp_checker.specs.Refusals.{IsFirstWrongClaim, IsRefusal};
 ghost use Rattle.crp_checker.specs.Shown.{TextShowsFor};
+ghost use Rattle.crp_checker.specs.Verdicts.{Says};
 ghost use Rattle.crp_checker.specs.Files.{IsEnded, FileShows};
 
 use crp_cert::{CertFault, cert_text, first_text, read_head};
@@ -100,6 +101,26 @@ pub fn shown_bound_for(alloc: Global, problem: &Problem, bytes: &[u8]) -> Option
         return None;
     };
     Some(head.claim.bound())
+}
+
+/// The verdict on an accepted certificate: what it says is so of the bay that the certificate states.
+pub fn said_of_stated(alloc: Global, bytes: &[u8]) -> Option<Verdict>
+    ensures { IfSome result (λ verdict. (head : Head) × IsHeadOf bytes.now head × Says head.problem verdict) }
+{
+    let Ok(verdict) = check(alloc, bytes) else {
+        return None;
+    };
+    Some(verdict)
+}
+
+/// So it is of a problem, where the certificate is one of it.
+pub fn said_of_problem(alloc: Global, problem: &Problem, bytes: &[u8]) -> Option<Verdict>
+    ensures { IfSome result (λ verdict. Says problem.now verdict) }
+{
+    let Ok(verdict) = check_for(alloc, problem, bytes) else {
+        return None;
+    };
+    Some(verdict)
 }
 
 /// Checks the certificate of the small bay: two relocations are the fewest, unless memory runs out.
