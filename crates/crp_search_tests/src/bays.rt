@@ -126,6 +126,14 @@ pub const SEVEN: Bay = Bay {
     fewest: Some(5),
 };
 
+pub const PACKED: Bay = Bay {
+    name: "three full rows, one empty",
+    tiers: 3,
+    ordered: 9,
+    stacks: &[&[4, 3, 9], &[7, 8, 2], &[5, 1, 6], &[]],
+    fewest: Some(4),
+};
+
 pub const BAYS: [Bay; 8] = [
     ONE_EMPTY,
     SIX,

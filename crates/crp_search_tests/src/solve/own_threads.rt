@@ -3,12 +3,12 @@ ghost use Rattle.std.specs.Prelude.{◌≡◌, ◌∷◌, [], IfSome, false};
 ghost use Rattle.std.specs.Thread.{IsSync};
 ghost use Rattle.crp_solve.specs.Groups.{SameWorkers, AreReady, AreTogether};
 
-use crate::bays::{BETTER_THAN_GREEDY, Bay, FOUR_ROWS, problem_of};
+use crate::bays::{BETTER_THAN_GREEDY, Bay, FOUR_ROWS, PACKED, problem_of};
 use crate::compare::assert_at;
 use crate::solve::solving::text_of;
 use crate::solve::together::{CUT_SHORT, ENDED, Ends, FOUR_ROWS_IN_PARTS, Meeting, has_ends};
 use crp_incumbent::Board;
-use crp_solve::{Common, Gate, Group, Search, Settings, Solved};
+use crp_solve::{Common, Gate, Group, NoGate, Search, Settings, Solved};
 use std::alloc::Global;
 use std::sync::Wait;
 use std::test::Fail;
@@ -94,5 +94,16 @@ fn workers_in_two_threads_of_the_caller(rt: HostRuntime) -> Result<(), Fail> {
         let known = has_ends(text.as_str(), ends);
         assert_at(&rt, known && gate.was_held(), &text.as_str());
     }
+    Ok(())
+}
+
+// One legal row leads on from the first position, so one name waits, and whoever searches its part can give more away.
+#[test]
+fn two_workers_begin_in_a_packed_bay(rt: HostRuntime) -> Result<(), Fail> {
+    let settings = Settings::new(2, 1000000, 1)?;
+    let solved = solved_in_two(&rt, rt.alloc(), &PACKED, settings, &NoGate)?;
+    let text = text_of(rt.alloc(), &solved)?;
+    let ends = ("optimal at least 4, part: XG, part 4: ", "; not asked");
+    assert_at(&rt, has_ends(text.as_str(), ends), &text.as_str());
     Ok(())
 }
