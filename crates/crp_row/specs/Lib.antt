@@ -1,0 +1,2 @@
+pub mod Symbol
+pub mod Rows
