@@ -127,6 +127,7 @@ impl<'a, R: Wait, G: Gate, K: Opened> Limit for Desk<'a, R, G, K> {
                 Ok(())
             }
             Err(name) => {
+                common.open.take_one();
                 common.open.close_one();
                 Err(name)
             }

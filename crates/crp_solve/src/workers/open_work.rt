@@ -10,21 +10,23 @@ const LOOKS: u64 = 16;
 /// The longest sleep of an idle worker, in microseconds.
 const MAX_SLEEP: u64 = 1000;
 
-/// The names that were put and not searched yet, whether a part was lost, how often an idle worker had reason to look again, and how
-/// many workers wait now.
+/// The names that were put and not searched yet, how many of them nobody took, whether a part was lost, how often an idle worker had
+/// reason to look again, and how many workers wait now or are about to begin.
 #[derive(Drop)]
 pub(crate) struct OpenWork {
     names: AtomicU64,
+    untaken: AtomicU64,
     lost: AtomicBool,
     calls: AtomicU64,
     waiting: AtomicU64,
 }
 
 impl OpenWork {
-    /// One name is open, that of the whole search.
+    /// One name is open, that of the whole search, which the first worker has.
     pub(crate) fn new() -> OpenWork {
         OpenWork {
             names: AtomicU64::new(1),
+            untaken: AtomicU64::new(0),
             lost: AtomicBool::new(false),
             calls: AtomicU64::new(0),
             waiting: AtomicU64::new(0),
@@ -42,14 +44,30 @@ impl OpenWork {
         self.calls.load(Ordering::SeqCst)
     }
 
-    /// Whether a worker waits for a name now.
+    /// Whether a worker waits for a name for which none lies ready.
     pub(crate) fn is_awaited(&self) -> bool {
-        self.waiting.load(Ordering::Relaxed) > 0
+        self.waiting.load(Ordering::Relaxed) > self.untaken.load(Ordering::Relaxed)
+    }
+
+    /// So many workers are about to begin, and wait until they do.
+    pub(crate) fn expect(&self, workers: usize) {
+        self.waiting.fetch_add(workers as u64, Ordering::Relaxed);
+    }
+
+    /// A worker that was expected begins.
+    pub(crate) fn arrive(&self) {
+        self.waiting.fetch_sub(1, Ordering::Relaxed);
     }
 
     /// Counts a name that is about to be put.
     pub(crate) fn begin_put(&self) {
+        self.untaken.fetch_add(1, Ordering::Relaxed);
         self.names.fetch_add(1, Ordering::SeqCst);
+    }
+
+    /// A name was taken, or was not put.
+    pub(crate) fn take_one(&self) {
+        self.untaken.fetch_sub(1, Ordering::Relaxed);
     }
 
     /// The name was put, and a worker that sleeps may take it.

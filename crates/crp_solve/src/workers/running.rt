@@ -42,6 +42,7 @@ fn task<R: Wait, G: Gate, A: Aim>(
         group.places.push_reserved(place);
         return (Turn::Idle, group);
     };
+    common.open.take_one();
     let Searched {
         part,
         seat,
@@ -69,7 +70,7 @@ fn task<R: Wait, G: Gate, A: Aim>(
     (Turn::Searched, group)
 }
 
-/// Searches parts until no work is open, or a part is lost.
+/// Searches parts until no work is open, or a part is lost. All workers but the first, whose number is 0, were expected.
 pub(crate) fn work<R: Wait, G: Gate, A: Aim>(
     outside: &Outside<R, G>,
     common: &Common,
@@ -79,6 +80,9 @@ pub(crate) fn work<R: Wait, G: Gate, A: Aim>(
     requires { group.of ≡ common.now.of }
     ensures { SameWorkers group result }
 {
+    if worker != 0 {
+        common.open.arrive();
+    }
     let mut idle = 0;
     for _ in outside.rt.forever() {
         let called = common.open.calls();

@@ -170,6 +170,7 @@ pub(crate) fn joined<R: Wait, A: Aim>(
         mut groups,
     } = room;
     let place = places.remove(0);
+    common.open.expect(places.len());
     let Some(list) = lists.pop() else {
         unreachable!()
     };
