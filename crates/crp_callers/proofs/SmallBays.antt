@@ -69,7 +69,7 @@ small_script_text = refl
 pub small_script_is : (spot : (s : Position) × IsAt small [] s) → IsScript small_script
 small_script_is spot = record {
   is_head = small_head_is;
-  each_part = All-from_recursion (IsPartLine small) small_script.parts (record { short = omega arith; place = spot.0; is_at = spot.1; fits = tt; not_given = λ n. n }, tt);
+  each_part = All-from_recursion (IsPartLine small_head.version small) small_script.parts (record { short = omega arith; place = spot.0; is_at = spot.1; fits = tt; not_given = λ n. n; can_spell = refl }, tt);
   rising = AllPairs-cons Precedes [] [] (All-from_recursion (Precedes []) [] tt) (λ i j d less below. absurd (omega arith));
 }
 

@@ -5,7 +5,7 @@ use Rattle.std.proofs.lemmas.List.Elements.{All-from_recursion}
 use Rattle.crp_plan.specs.BayNames.{YardBay}
 use Rattle.crp_cert.specs.declared.fault.CertFault.TheVariants.{Opening}
 use Rattle.crp_cert.specs.declared.version.Version.{Version}
-use Rattle.crp_cert.specs.declared.version.Version.TheVariants.{One, Two}
+use Rattle.crp_cert.specs.declared.version.Version.TheVariants.{One, Two, Three}
 use Rattle.crp_cert.specs.Text.{title_line}
 use Rattle.crp_checker.specs.declared.refused.Refused.TheVariants.{Cert}
 use Rattle.crp_checker.specs.declared.verdict.Verdict.{Verdict}
@@ -18,6 +18,7 @@ nothing_shows = ([], refl, tt)
 no_title : (version : Version) (rest : List ℕ) → codes "CRP" ≡ title_line version ++ rest → ⊥
 no_title One rest e = cc
 no_title Two rest e = cc
+no_title Three rest e = cc
 
 -- a file that ends within a title is refused at its first certificate, for its first line
 pub title_refused : IsFileRefusal (codes "CRP") [] 1 (Cert (Opening 1))

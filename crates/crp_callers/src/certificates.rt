@@ -8,7 +8,7 @@ ghost use Rattle.crp_plan.specs.Plans.{ProblemPath};
 ghost use Rattle.crp_plan.specs.Faults.{IsPlanPath};
 ghost use Rattle.crp_plan.specs.Devices.{CountsOne};
 ghost use Rattle.crp_tree.specs.Tree.{Tree};
-ghost use Rattle.crp_tree.specs.declared.mark.Mark.TheVariants.{X, B, L};
+ghost use Rattle.crp_tree.specs.Mark.{X, B, L};
 ghost use Rattle.crp_tree.specs.Trees.{nodes, Fits};
 ghost use Rattle.crp_tree.specs.Claims.{path_in, names};
 ghost use Rattle.crp_tree.specs.Parts.{Certificate, IsAbout, claimed, part_of};
@@ -19,12 +19,12 @@ ghost use Rattle.crp_cert.specs.Text.{head_text, IsHead, IsHeadOf};
 ghost use Rattle.crp_cert.specs.Faults.{IsFirstFault};
 ghost use Rattle.crp_cert.specs.Script.{symbols_of, IsScriptOf, claim_of};
 ghost use Rattle.crp_cert.specs.ScriptFaults.{IsFirstFaultOfScript};
-ghost use Rattle.crp_cert.specs.Writing.{certificate_text, first_certificate_text, head_for};
+ghost use Rattle.crp_cert.specs.Writing.{certificate_text, first_certificate_text, head_for, version_under};
 ghost use Rattle.crp_callers.specs.SmallBay.{lines, head_lines, small_head};
 
 use crp_cert::{
     CertFault, Script, cert_text, head_or_fault, one_head, one_script, read_cert, read_head,
-    script_or_fault, symbols_are_letters, write_cert, write_first, written_is_read,
+    script_or_fault, symbols_are_marks, write_cert, write_first, written_is_read,
 };
 use crp_plan::{BayName, Plan, Problem, Received, WriteFault, begins_somewhere};
 use crp_tree::{Cert, claims_are_accepted};
@@ -76,7 +76,7 @@ pub fn read_written(
 ) -> Result<Script, CertFault>
     requires about { IsAbout problem.now cert.now }
     requires plan { IfSome (path_in (option_copied plan)) (IsPlanPath problem.now) }
-    ensures same { IfOk result (λ script. (script.head ≡ head_for bay.now problem.now (AtLeast cert.now.lower) (option_copied plan.entry))
+    ensures same { IfOk result (λ script. (script.head ≡ head_for (version_under problem.now (AtLeast cert.now.lower) (map part_of cert.now.parts)) bay.now problem.now (AtLeast cert.now.lower) (option_copied plan.entry))
         × (names script.parts ≡ names (map part_of cert.now.parts))
         × (map (λ part. symbols_of part.tree) script.parts ≡ map (λ part. symbols_of part.tree) (map part_of cert.now.parts))) }
     ensures refused { IfErr result (λ fault. fault ≡ CertFault.Memory) }
@@ -187,5 +187,5 @@ pub fn symbols_say_marks()
     ensures { (path : List ℕ) (s : Position) (tree : Tree) → Fits s tree → symbols_of tree ≡ codes "XBL"
         → map (λ node. node.mark) (nodes path s tree) ≡ X ∷ B ∷ L ∷ [] }
 {
-    symbols_are_letters();
+    symbols_are_marks();
 }

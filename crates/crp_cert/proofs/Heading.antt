@@ -3,7 +3,6 @@ use Rattle.std.proofs.Common.{◌≡◌, ◌≢◌, ◌≤◌, ◌⊎◌, ℕ, L
 use Rattle.std.specs.List.{AllByRecursion, flat_map}
 use Rattle.std.proofs.lemmas.List.{append-nil}
 use Rattle.crp_plan.specs.Faults.{stacks_of}
-use Rattle.crp_cert.specs.declared.version.Version.TheVariants.{Two}
 use Rattle.crp_cert.specs.declared.bay_rows.BayRows.{BayRows}
 use Rattle.crp_cert.specs.declared.head_lines.HeadLines.{HeadLines}
 use Rattle.crp_cert.specs.declared.head_lines.HeadLines.TheVariants as lines
@@ -34,7 +33,7 @@ bay_in bytes rest (lines.Title version) has none = λ name stands.
     let same = once title_reader version stands.1.0 rest (bay_line name ++ stands.1.1) tt tt (sym (ap (λ l. l ++ rest) has) ∙ stands.1.2) in
     none (name, stands.0, (stands.1.1, same.1))
 bay_in bytes rest (lines.Bay version bay) has none = (has.0, (version, rest, ap (λ l. l ++ rest) has.1 ∙ append_assoc (title_line version) (bay_line bay) rest))
-bay_in bytes rest (lines.Size sized) has none = (has.0, (Two, size_line sized.size ++ rest, ap (λ l. l ++ rest) has.1 ∙ behind (title_line Two) (bay_line sized.bay) (size_line sized.size) rest))
+bay_in bytes rest (lines.Size sized) has none = (has.0, (sized.version, size_line sized.size ++ rest, ap (λ l. l ++ rest) has.1 ∙ behind (title_line sized.version) (bay_line sized.bay) (size_line sized.size) rest))
 bay_in bytes rest (lines.Rows rows) has none = (has.0.0, (rows.version, below_name rows ++ rest, ap (λ l. l ++ rest) has.1 ∙ behind (title_line rows.version) (bay_line rows.bay) (below_name rows) rest))
 bay_in bytes rest (lines.Claim claimed) has none =
     let rows : BayRows = claimed.rows in

@@ -13,7 +13,7 @@ use Rattle.crp_cert.specs.declared.claim.Claim.{Claim}
 use Rattle.crp_cert.specs.declared.head.Head.{Head}
 use Rattle.crp_cert.specs.declared.size.Size.{Size}
 use Rattle.crp_cert.specs.declared.version.Version.{Version}
-use Rattle.crp_cert.specs.declared.version.Version.TheVariants.{One, Two}
+use Rattle.crp_cert.specs.declared.version.Version.TheVariants.{One, Two, Three}
 use Rattle.crp_cert.specs.Text.{title_line, bay_line, size_line, stated_heights, row_line, claim_line, plan_line, head_text, first_row, first_part, size_of, IsSize, IsHead}
 use Rattle.crp_cert.specs.Faults.{MayState}
 use Rattle.crp_cert.proofs.Lines.{AreLow, bay_once, size_once, rows_once, plan_once}
@@ -77,6 +77,7 @@ first_few head is = let rows = (size_is head is).few_rows in omega (arith, row_e
     row_early : (version : Version) → first_row version ≤ 5
     row_early One = omega arith
     row_early Two = omega arith
+    row_early Three = omega arith
 
 -- no stack is higher than eight, and ranks have one digit or two
 pub stacks_low : (p : Problem) → IsProblem p → AllByRecursion (AreLow 8) p.stacks

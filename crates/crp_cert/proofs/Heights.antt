@@ -14,8 +14,8 @@ use Rattle.crp_plan.proofs.Tallies.{tallest_same}
 use Rattle.crp_plan.proofs.Heights.{same_are}
 use Rattle.crp_cert.specs.declared.size.Size.{Size}
 use Rattle.crp_cert.specs.declared.version.Version.{Version}
-use Rattle.crp_cert.specs.declared.version.Version.TheVariants.{One, Two}
-use Rattle.crp_cert.specs.Text.{heights_line, stated_heights, size_of, HasOneHeight, CanState, IsSize}
+use Rattle.crp_cert.specs.declared.version.Version.TheVariants.{One, Two, Three}
+use Rattle.crp_cert.specs.Text.{heights_line, stated_heights, size_of, has_heights, HasOneHeight, CanState, IsSize}
 use Rattle.crp_cert.specs.Faults.{AreHeightsOf, MayState}
 use Rattle.crp_cert.specs.Reading.{◌>>=◌, tag_at, numbers_at, is_height, are_heights, heights_line_at, heights_at}
 use Rattle.crp_cert.specs.Writing.{are_equal, version_for}
@@ -96,6 +96,7 @@ heights_reader One size is = record {
   again = λ heights rest same. ap (λ (h : List ℕ). Some (h, rest)) (sym same);
 }
 heights_reader Two size is = line_reader size is
+heights_reader Three size is = line_reader size is
 
 -- bytes begin with one statement of heights at most
 pub heights_once : (v w : Version) (s t : Size) (heights others x y : List ℕ) → v ≡ w → s ≡ t → IsSize s → MayState v s heights → MayState w t others →
@@ -116,16 +117,34 @@ heights_are One size heights is same =
       largest = tallest_same size.rows size.tiers is.some_rows;
     })
 heights_are Two size heights is are = are
+heights_are Three size heights is are = are
+
+-- a problem has a height for each row
+each_height : (p : Problem) → IsProblem p → AreHeightsOf (size_of p) p.heights
+each_height p is = record { for_each_row = sym (same_rows p.heights p.stacks is.stacks_fit); are_heights = is.heights_fit; largest = refl }
 
 -- the heights of a problem may be stated
 pub may_state : (version : Version) (p : Problem) → IsProblem p → CanState version p → MayState version (size_of p) p.heights
 may_state One p is same = same
-may_state Two p is any = record { for_each_row = sym (same_rows p.heights p.stacks is.stacks_fit); are_heights = is.heights_fit; largest = refl }
+may_state Two p is any = each_height p is
+may_state Three p is any = each_height p is
 
 -- and the other way round, for the problem that they state
 pub can_state : (version : Version) (size : Size) (p : Problem) → length p.stacks ≡ size.rows → tallest p.heights ≡ size.tiers → MayState version size p.heights → CanState version p
 can_state One size p rows tiers same = same ∙ ap (λ n. replicate n size.tiers) (sym rows) ∙ ap (replicate (length p.stacks)) (sym tiers)
 can_state Two size p rows tiers are = tt
+can_state Three size p rows tiers are = tt
+
+-- so may any heights that fit the size, in a version that has a line of them
+pub may_line : (version : Version) (size : Size) (heights : List ℕ) → has_heights version ≡ true → AreHeightsOf size heights → MayState version size heights
+may_line One size heights with_line are = absurd cc
+may_line Two size heights with_line are = are
+may_line Three size heights with_line are = are
+
+pub line_is : (version : Version) (heights : List ℕ) → has_heights version ≡ true → stated_heights version heights ≡ heights_line heights
+line_is One heights with_line = absurd cc
+line_is Two heights with_line = refl
+line_is Three heights with_line = refl
 
 -- ---- the version that is written
 

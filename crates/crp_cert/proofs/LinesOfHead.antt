@@ -1,5 +1,5 @@
 -- The lines of a head, one by one.
-use Rattle.std.proofs.Common.{◌≡◌, ◌≢◌, ℕ, ◌+◌, ⊎_elim, inl, inr, List, [], ◌∷◌, ◌++◌, length, Option, refl, sym, ap, ◌∙◌, subst, arith, append_assoc, append-nil}
+use Rattle.std.proofs.Common.{◌≡◌, ◌≢◌, ℕ, true, ◌+◌, ⊎_elim, inl, inr, List, [], ◌∷◌, ◌++◌, length, Option, refl, sym, ap, ◌∙◌, subst, arith, append_assoc, append-nil}
 use Rattle.std.specs.Prelude.{IfSome, ⊤}
 use Rattle.std.specs.List.{AllByRecursion, flat_map}
 use Rattle.std.proofs.lemmas.List.Concat.{flat_map-append}
@@ -10,12 +10,13 @@ use Rattle.crp_plan.specs.Faults.{stacks_of, stated_with}
 use Rattle.crp_cert.specs.declared.head.Head.{Head}
 use Rattle.crp_cert.specs.declared.size.Size.{Size}
 use Rattle.crp_cert.specs.declared.version.Version.{Version}
-use Rattle.crp_cert.specs.declared.version.Version.TheVariants.{One, Two}
+use Rattle.crp_cert.specs.declared.version.Version.TheVariants.{One}
 use Rattle.crp_cert.specs.declared.bay_rows.BayRows.{BayRows}
 use Rattle.crp_cert.specs.declared.bay_rows.BayClaim.{BayClaim}
 use Rattle.crp_cert.specs.declared.head_lines.HeadLines.{HeadLines}
 use Rattle.crp_cert.specs.declared.head_lines.HeadLines.TheVariants as lines
-use Rattle.crp_cert.specs.Text.{title_line, bay_line, size_line, heights_line, stated_heights, row_line, claim_line, plan_line, first_row, IsSize, AreRows, IsHead, head_text}
+use Rattle.crp_cert.proofs.Heights.{may_line, line_is}
+use Rattle.crp_cert.specs.Text.{title_line, has_heights, bay_line, size_line, heights_line, stated_heights, row_line, claim_line, plan_line, first_row, IsSize, AreRows, IsHead, head_text}
 use Rattle.crp_cert.specs.Faults.{BeginsWith, AreHeightsOf, MayState, IsNextStack, most_claimed, MayClaim, Frame, BeginsWithStacks, IsFirstFault}
 use Rattle.crp_cert.specs.Settled.{StopsWithin, CanBeJudged, longest_line}
 use Rattle.crp_cert.specs.LinesOfHead.{rows_text, AreStated, HasLines, HasNoLine, fault_behind}
@@ -76,12 +77,14 @@ fault_is bytes rest (lines.Size sized) has none =
     inr (
       refl,
       (
+        sized.version,
         sized.bay,
         sized.size,
         rest,
+        sized.with_heights,
         has.0,
         sized.is_size,
-        ap (λ l. l ++ rest) has.1 ∙ append_assoc (title_line Two) (bay_line sized.bay ++ size_line sized.size) rest ∙ ap (λ l. title_line Two ++ l) (append_assoc (bay_line sized.bay) (size_line sized.size) rest),
+        ap (λ l. l ++ rest) has.1 ∙ append_assoc (title_line sized.version) (bay_line sized.bay ++ size_line sized.size) rest ∙ ap (λ l. title_line sized.version ++ l) (append_assoc (bay_line sized.bay) (size_line sized.size) rest),
         none,
       ),
     )
@@ -123,12 +126,13 @@ sized_rows before rows version bay size heights one v b s h none state has =
     (ap (λ l. l ++ size_line size) (has.1 ∙ ap (λ (v : Version). title_line v ++ bay_line bay) one) ∙ append_assoc (title_line One) (bay_line bay) (size_line size)
     ∙ ap (λ l. title_line One ++ (bay_line bay ++ l)) (sym (append-nil (size_line size))))
 
--- the heights in version 2
-pub stated_rows : (before : List ℕ) (rows : BayRows) (bay : YardBay) (size : Size) (heights : List ℕ) → rows.version ≡ Two → rows.bay ≡ bay → rows.size ≡ size → rows.heights.items ≡ heights → stacks_of rows.stacks.items ≡ [] →
-    AreHeightsOf size heights → IsYardBay bay → before ≡ title_line Two ++ (bay_line bay ++ size_line size) → HasLines (before ++ heights_line heights) (lines.Rows rows)
-stated_rows before rows bay size heights v b s h none are named has =
-    above_rows (before ++ heights_line heights) rows Two bay size heights v b s h none named are
-    (ap (λ l. l ++ heights_line heights) has ∙ regrouped (title_line Two) (bay_line bay) (size_line size) (heights_line heights))
+-- the heights in a version that has a line of them
+pub stated_rows : (before : List ℕ) (rows : BayRows) (version : Version) (bay : YardBay) (size : Size) (heights : List ℕ) → has_heights version ≡ true → rows.version ≡ version → rows.bay ≡ bay → rows.size ≡ size → rows.heights.items ≡ heights → stacks_of rows.stacks.items ≡ [] →
+    AreHeightsOf size heights → IsYardBay bay → before ≡ title_line version ++ (bay_line bay ++ size_line size) → HasLines (before ++ heights_line heights) (lines.Rows rows)
+stated_rows before rows version bay size heights with_line v b s h none are named has =
+    above_rows (before ++ heights_line heights) rows version bay size heights v b s h none named (may_line version size heights with_line are)
+    (ap (λ l. l ++ heights_line heights) has ∙ regrouped (title_line version) (bay_line bay) (size_line size) (heights_line heights)
+    ∙ ap (λ l. title_line version ++ (bay_line bay ++ (size_line size ++ (l ++ [])))) (sym (line_is version heights with_line)))
 
 -- a row behind others
 pub row_added : (a b c d : List ℕ) (stacks new : List (List ℕ)) (stack : List ℕ) → new ≡ stacks ++ stack ∷ [] → (a ++ (b ++ (c ++ (d ++ flat_map row_line stacks)))) ++ row_line stack ≡ a ++ (b ++ (c ++ (d ++ flat_map row_line new)))

@@ -12,6 +12,7 @@ use Rattle.crp_bay.proofs.Walked.{at_reads}
 use Rattle.crp_tree.specs.Names.{Precedes}
 use Rattle.crp_tree.proofs.Ordered.{goes_further, not_itself, less_if}
 use Rattle.crp_tree.specs.Claims.{Part, names}
+use Rattle.crp_cert.specs.declared.version.Version.{Version}
 use Rattle.crp_cert.specs.Script.{IsPartLine}
 use Rattle.crp_cert.specs.ScriptFaults.{ComesAfter}
 use Rattle.crp_cert.proofs.PartNames.{first_rows, rows_low}
@@ -126,15 +127,15 @@ few_names from (name ∷ names) within lows rising =
     only (name ∷ names) lows = ((lows.0).0, only names lows.1)
 
 -- the name of a part has at most 8 rows from 1 to 12
-name_low : (p : Problem) (part : Part) → IsProblem p → IsPartLine p part → IsLowName part.name
-name_low p part is line =
+name_low : (version : Version) (p : Problem) (part : Part) → IsProblem p → IsPartLine version p part → IsLowName part.name
+name_low version p part is line =
     let most = is.few_rows in
     (line.short, rows_low 12 (settled (start p)) line.place part.name (omega (arith, first_rows p)) (at_reads p part.name line.place is line.is_at))
 
 -- there are fewer than 2 ^ 32 parts
-pub few_parts : (p : Problem) (parts : List Part) → IsProblem p → All (IsPartLine p) parts → AllPairs Precedes (names parts) → length parts ≤ 815730721
-few_parts p parts is each rising = omega (arith, length_names parts, few_names 0 (names parts) (omega arith) (lows parts each) rising)
+pub few_parts : (version : Version) (p : Problem) (parts : List Part) → IsProblem p → All (IsPartLine version p) parts → AllPairs Precedes (names parts) → length parts ≤ 815730721
+few_parts version p parts is each rising = omega (arith, length_names parts, few_names 0 (names parts) (omega arith) (lows parts each) rising)
   where
-    lows : (parts : List Part) → All (IsPartLine p) parts → AllByRecursion (λ name. IsLowName name × (0 ≤ rank 8 name)) (names parts)
+    lows : (parts : List Part) → All (IsPartLine version p) parts → AllByRecursion (λ name. IsLowName name × (0 ≤ rank 8 name)) (names parts)
     lows [] each = tt
-    lows (part ∷ parts) each = ((name_low p part is (each 0 part (omega arith)), omega arith), lows parts (λ k d lt. each (suc k) d (omega arith)))
+    lows (part ∷ parts) each = ((name_low version p part is (each 0 part (omega arith)), omega arith), lows parts (λ k d lt. each (suc k) d (omega arith)))

@@ -92,5 +92,5 @@ begins_on bytes more head parts line rest tells = record {
 
 -- a line that is at fault, whatever follows, is the first fault of the whole text, whatever follows
 pub line_fault : (bytes more : List ℕ) (head : Head) (parts : List Part) (line : ℕ) (rest : List ℕ) (fault : CertFault) → BeginsWithParts bytes head parts line rest →
-    IsLineFault head.problem parts line (rest ++ more) fault → IsFirstFaultOfScript (bytes ++ more) fault
+    IsLineFault head.version head.problem parts line (rest ++ more) fault → IsFirstFaultOfScript (bytes ++ more) fault
 line_fault bytes more head parts line rest fault tells is = inr (head, parts, line, rest ++ more, begins_on bytes more head parts line rest tells, is)

@@ -12,6 +12,7 @@ use Rattle.crp_tree.specs.Names.{Precedes, name_text}
 use Rattle.crp_tree.specs.Claims.{Part, names}
 use Rattle.crp_cert.specs.declared.head.Head.{Head}
 use Rattle.crp_cert.specs.declared.fault.CertFault.{CertFault}
+use Rattle.crp_cert.specs.declared.version.Version.{Version}
 use Rattle.crp_cert.specs.Text.{head_text, first_part, IsHead}
 use Rattle.crp_cert.specs.Script.{symbols_of, part_line, end_line, IsPartLine}
 use Rattle.crp_cert.specs.ScriptFaults.{BeginsWithPart, ComesAfter, BeginsWithParts, IsLineFault, GoesOnBehindTree}
@@ -50,16 +51,16 @@ all_used symbols (b ∷ left) tree e none = absurd (omega arith)
 -- ---- several
 
 -- no part yet
-pub no_parts : (p : Problem) (bytes : List ℕ) → AreParts p bytes [] bytes
-no_parts p bytes = record { each_part = λ k d lt. absurd (omega arith); rising = λ i j d lt bound. absurd (omega arith); text = refl }
+pub no_parts : (version : Version) (p : Problem) (bytes : List ℕ) → AreParts version p bytes [] bytes
+no_parts version p bytes = record { each_part = λ k d lt. absurd (omega arith); rising = λ i j d lt bound. absurd (omega arith); text = refl }
 
 -- one part more
-pub parts_push : (p : Problem) (bytes : List ℕ) (parts more : List Part) (part : Part) (rest after : List ℕ) → more ≡ parts ++ part ∷ [] → AreParts p bytes parts rest → IsPartLine p part → ComesAfter parts part.name →
-    rest ≡ part_line part ++ after → AreParts p bytes more after
-parts_push p bytes parts more part rest after is are line comes e =
-    subst (λ l. AreParts p bytes l after) (sym is)
+pub parts_push : (version : Version) (p : Problem) (bytes : List ℕ) (parts more : List Part) (part : Part) (rest after : List ℕ) → more ≡ parts ++ part ∷ [] → AreParts version p bytes parts rest → IsPartLine version p part → ComesAfter parts part.name →
+    rest ≡ part_line part ++ after → AreParts version p bytes more after
+parts_push version p bytes parts more part rest after is are line comes e =
+    subst (λ l. AreParts version p bytes l after) (sym is)
     (record {
-      each_part = All-push (IsPartLine p) parts part are.each_part line;
+      each_part = All-push (IsPartLine version p) parts part are.each_part line;
       rising = subst (AllPairs Precedes) (sym (map-append (λ (x : Part). x.name) parts (part ∷ []))) (all_pairs_push Precedes (names parts) part.name are.rising (λ k d lt. each_comes k d lt));
       text = are.text ∙ ap (λ l. flat_map part_line parts ++ l) e ∙ sym (append_assoc (flat_map part_line parts) (part_line part) after) ∙ ap (λ l. l ++ after) (flat_map_more part_line [] parts part);
     })
@@ -121,14 +122,14 @@ end_reads count bytes rest digits after e is some =
     end_pieces count bytes ∙ ap (λ o. o >>= λ r. (tag_at (decimal count) r >>= newline_at)) e ∙ ap (λ d. tag_at d rest >>= newline_at) (sym is) ∙ ap (λ o. o >>= newline_at) some
 
 -- the fault of a line, stated of the same line
-pub same_line : (p : Problem) (parts parts' : List Part) (n n' : ℕ) (bytes bytes' : List ℕ) (fault : CertFault) → parts ≡ parts' → n ≡ n' → bytes ≡ bytes' → IsLineFault p parts n bytes fault → IsLineFault p parts' n' bytes' fault
-same_line p parts parts' n n' bytes bytes' fault e f g is =
-    subst (λ l. IsLineFault p l n' bytes' fault) e (subst (λ k. IsLineFault p parts k bytes' fault) f (subst (λ l. IsLineFault p parts n l fault) g is))
+pub same_line : (version : Version) (p : Problem) (parts parts' : List Part) (n n' : ℕ) (bytes bytes' : List ℕ) (fault : CertFault) → parts ≡ parts' → n ≡ n' → bytes ≡ bytes' → IsLineFault version p parts n bytes fault → IsLineFault version p parts' n' bytes' fault
+same_line version p parts parts' n n' bytes bytes' fault e f g is =
+    subst (λ l. IsLineFault version p l n' bytes' fault) e (subst (λ k. IsLineFault version p parts k bytes' fault) f (subst (λ l. IsLineFault version p parts n l fault) g is))
 
 -- ---- behind a head
 
 -- a head and parts behind it
-pub tells_parts : (bytes : List ℕ) (head : Head) (behind : List ℕ) (parts : List Part) (line : ℕ) (rest : List ℕ) → IsHead head → bytes ≡ head_text head ++ behind → AreParts head.problem behind parts rest →
+pub tells_parts : (bytes : List ℕ) (head : Head) (behind : List ℕ) (parts : List Part) (line : ℕ) (rest : List ℕ) → IsHead head → bytes ≡ head_text head ++ behind → AreParts head.version head.problem behind parts rest →
     line ≡ first_part head + length parts → BeginsWithParts bytes head parts line rest
 tells_parts bytes head behind parts line rest is text are n = record {
   is_head = is;

@@ -10,7 +10,7 @@ use Rattle.crp_plan.specs.BayNames.{YardBay, IsYardBay}
 use Rattle.crp_cert.specs.declared.claim.Claim.{Claim}
 use Rattle.crp_cert.specs.declared.claim.Claim.TheVariants.{AtLeast, First}
 use Rattle.crp_cert.specs.declared.version.Version.{Version}
-use Rattle.crp_cert.specs.declared.version.Version.TheVariants.{One, Two}
+use Rattle.crp_cert.specs.declared.version.Version.TheVariants.{One, Two, Three}
 use Rattle.crp_cert.specs.Text.{spaced, title_line, bay_line, size_line, claim_line, plan_line, IsSize, AreRows, CanClaim}
 use Rattle.crp_cert.specs.Faults.{BeginsWith, MayClaim}
 use Rattle.crp_cert.specs.Reading.{◌>>=◌, tag_at, title_at, name_at, size_at, bound_at, first_at, claim_at, plan_at}
@@ -121,19 +121,30 @@ titled version rest = Some (version, rest)
 pub title_reader : IsReader AnyVersion title_line title_at
 title_reader = record { takes = λ bytes version rest e. (tt, by_first bytes version rest (tag_at (title_line One) bytes) refl e); again = again }
   where
-    by_first : (bytes : List ℕ) (version : Version) (rest : List ℕ) (o : Option (List ℕ)) → tag_at (title_line One) bytes ≡ o → option_or (o >>= titled One) (tag_at (title_line Two) bytes >>= titled Two) ≡ Some (version, rest) →
-        bytes ≡ title_line version ++ rest
-    by_first bytes version rest None f e =
-        let x = bind_some (tag_at (title_line Two) bytes) (titled Two) (version, rest) e in
-        let p = some_pair_parts Two version x.0 rest x.2 in
-        tag_takes (title_line Two) bytes x.0 x.1 ∙ ap (λ (v : Version). title_line v ++ x.0) p.0 ∙ ap (λ l. title_line version ++ l) p.1
-    by_first bytes version rest (Some r) f e =
-        let p = some_pair_parts One version r rest e in
-        tag_takes (title_line One) bytes r f ∙ ap (λ (v : Version). title_line v ++ r) p.0 ∙ ap (λ l. title_line version ++ l) p.1
+    -- a title that was read
+    read : (bytes : List ℕ) (of version : Version) (r rest : List ℕ) → tag_at (title_line of) bytes ≡ Some r → titled of r ≡ Some (version, rest) → bytes ≡ title_line version ++ rest
+    read bytes of version r rest f e =
+        let p = some_pair_parts of version r rest e in
+        tag_takes (title_line of) bytes r f ∙ ap (λ (v : Version). title_line v ++ r) p.0 ∙ ap (λ l. title_line version ++ l) p.1
+
+    by_third : (bytes : List ℕ) (version : Version) (rest : List ℕ) → (tag_at (title_line Three) bytes >>= titled Three) ≡ Some (version, rest) → bytes ≡ title_line version ++ rest
+    by_third bytes version rest e = let x = bind_some (tag_at (title_line Three) bytes) (titled Three) (version, rest) e in read bytes Three version x.0 rest x.1 x.2
+
+    by_second : (bytes : List ℕ) (version : Version) (rest : List ℕ) (o : Option (List ℕ)) → tag_at (title_line Two) bytes ≡ o →
+        option_or (o >>= titled Two) (tag_at (title_line Three) bytes >>= titled Three) ≡ Some (version, rest) → bytes ≡ title_line version ++ rest
+    by_second bytes version rest None f e = by_third bytes version rest e
+    by_second bytes version rest (Some r) f e = read bytes Two version r rest f e
+
+    by_first : (bytes : List ℕ) (version : Version) (rest : List ℕ) (o : Option (List ℕ)) → tag_at (title_line One) bytes ≡ o →
+        option_or (o >>= titled One) (option_or (tag_at (title_line Two) bytes >>= titled Two) (tag_at (title_line Three) bytes >>= titled Three)) ≡ Some (version, rest) → bytes ≡ title_line version ++ rest
+    by_first bytes version rest None f e = by_second bytes version rest (tag_at (title_line Two) bytes) refl e
+    by_first bytes version rest (Some r) f e = read bytes One version r rest f e
 
     again : (version : Version) (rest : List ℕ) → AnyVersion version → title_at (title_line version ++ rest) ≡ Some (version, rest)
-    again One rest any = ap (λ o. option_or (o >>= titled One) (tag_at (title_line Two) (title_line One ++ rest) >>= titled Two)) (tag_again (title_line One) rest)
-    again Two rest any = ap (λ o. o >>= titled Two) (tag_again (title_line Two) rest)
+    again One rest any =
+        ap (λ o. option_or (o >>= titled One) (option_or (tag_at (title_line Two) (title_line One ++ rest) >>= titled Two) (tag_at (title_line Three) (title_line One ++ rest) >>= titled Three))) (tag_again (title_line One) rest)
+    again Two rest any = ap (λ o. option_or (o >>= titled Two) (tag_at (title_line Three) (title_line Two ++ rest) >>= titled Three)) (tag_again (title_line Two) rest)
+    again Three rest any = ap (λ o. o >>= titled Three) (tag_again (title_line Three) rest)
 
 -- ---- the other lines
 
@@ -149,17 +160,24 @@ claimed of read = read >>= λ x. Some (of x.0, x.1)
 pub claim_reader : (version : Version) (most : ℕ) → most ≤ 9999 → IsReader (MayClaim version most) claim_line (claim_at version most)
 claim_reader version most few = record { takes = λ bytes claim rest e. by_first version bytes claim rest (bound_at (codes "at least") most bytes) refl e; again = again version }
   where
-    takes_first : (version : Version) (bytes : List ℕ) (claim : Claim) (rest : List ℕ) → first_at version most bytes ≡ Some (claim, rest) → MayClaim version most claim × (bytes ≡ claim_line claim ++ rest)
-    takes_first One bytes claim rest e = absurd (none-some (claim, rest) e)
-    takes_first Two bytes claim rest e =
+    -- a claim of the first best plan, in a version that has one
+    takes_bound : (version : Version) (bytes : List ℕ) (claim : Claim) (rest : List ℕ) → ((c : Claim) → CanClaim version c) → claimed First (bound_at (codes "first") most bytes) ≡ Some (claim, rest) →
+        MayClaim version most claim × (bytes ≡ claim_line claim ++ rest)
+    takes_bound version bytes claim rest any e =
         let x = bind_some (bound_at (codes "first") most bytes) (λ x. Some (First x.0, x.1)) (claim, rest) e in
         let p = some_pair_parts (First x.0.0) claim x.0.1 rest x.2 in
         let t = bound_takes (codes "first") most bytes x.0.0 x.0.1 x.1 in
-        (subst (MayClaim Two most) p.0 (record { can_claim = tt; within = t.0 }), t.1 ∙ ap (λ (c : Claim). claim_line c ++ x.0.1) p.0 ∙ ap (λ l. claim_line claim ++ l) p.1)
+        (subst (MayClaim version most) p.0 (record { can_claim = any (First x.0.0); within = t.0 }), t.1 ∙ ap (λ (c : Claim). claim_line c ++ x.0.1) p.0 ∙ ap (λ l. claim_line claim ++ l) p.1)
+
+    takes_first : (version : Version) (bytes : List ℕ) (claim : Claim) (rest : List ℕ) → first_at version most bytes ≡ Some (claim, rest) → MayClaim version most claim × (bytes ≡ claim_line claim ++ rest)
+    takes_first One bytes claim rest e = absurd (none-some (claim, rest) e)
+    takes_first Two bytes claim rest e = takes_bound Two bytes claim rest (λ c. tt) e
+    takes_first Three bytes claim rest e = takes_bound Three bytes claim rest (λ c. tt) e
 
     low : (version : Version) (least : ℕ) → CanClaim version (AtLeast least)
     low One least = tt
     low Two least = tt
+    low Three least = tt
 
     by_first : (version : Version) (bytes : List ℕ) (claim : Claim) (rest : List ℕ) (o : Option (ℕ × List ℕ)) → bound_at (codes "at least") most bytes ≡ o → option_or (claimed AtLeast o) (first_at version most bytes) ≡ Some (claim, rest) →
         MayClaim version most claim × (bytes ≡ claim_line claim ++ rest)
@@ -169,12 +187,18 @@ claim_reader version most few = record { takes = λ bytes claim rest e. by_first
         let t = bound_takes (codes "at least") most bytes x.0 x.1 f in
         (subst (MayClaim version most) p.0 (record { can_claim = low version x.0; within = t.0 }), t.1 ∙ ap (λ (c : Claim). claim_line c ++ x.1) p.0 ∙ ap (λ l. claim_line claim ++ l) p.1)
 
+    -- behind another word the first best plan is claimed
+    first_again : (least : ℕ) (rest : List ℕ) → least ≤ most → (other : Option (Claim × List ℕ)) → other ≡ claimed First (bound_at (codes "first") most (claim_line (First least) ++ rest)) →
+        option_or (claimed AtLeast (bound_at (codes "at least") most (claim_line (First least) ++ rest))) other ≡ Some (First least, rest)
+    first_again least rest within other is =
+        ap (λ o. option_or (claimed AtLeast o) other) (bound_not most 102 97 (codes "t least") (codes "irst" ++ (spaced (least ∷ []) ++ 10 ∷ []) ++ rest) refl)
+        ∙ is ∙ ap (claimed First) (bound_again (codes "first") most least rest within few)
+
     again : (version : Version) (claim : Claim) (rest : List ℕ) → MayClaim version most claim → claim_at version most (claim_line claim ++ rest) ≡ Some (claim, rest)
     again version (AtLeast least) rest may = ap (λ o. option_or (claimed AtLeast o) (first_at version most (claim_line (AtLeast least) ++ rest))) (bound_again (codes "at least") most least rest may.within few)
     again One (First least) rest may = absurd may.can_claim
-    again Two (First least) rest may =
-        ap (λ o. option_or (claimed AtLeast o) (first_at Two most (claim_line (First least) ++ rest))) (bound_not most 102 97 (codes "t least") (codes "irst" ++ (spaced (least ∷ []) ++ 10 ∷ []) ++ rest) refl)
-        ∙ ap (claimed First) (bound_again (codes "first") most least rest may.within few)
+    again Two (First least) rest may = first_again least rest may.within (first_at Two most (claim_line (First least) ++ rest)) refl
+    again Three (First least) rest may = first_again least rest may.within (first_at Three most (claim_line (First least) ++ rest)) refl
 
 -- the plan line
 pub plan_reader : IsReader (λ plan. IfSome plan AreRows) plan_line plan_at

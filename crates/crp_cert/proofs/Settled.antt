@@ -15,7 +15,7 @@ use Rattle.crp_cert.specs.declared.claim.Claim.{Claim}
 use Rattle.crp_cert.specs.declared.claim.Claim.TheVariants.{AtLeast, First}
 use Rattle.crp_cert.specs.declared.size.Size.{Size}
 use Rattle.crp_cert.specs.declared.version.Version.{Version}
-use Rattle.crp_cert.specs.declared.version.Version.TheVariants.{One, Two}
+use Rattle.crp_cert.specs.declared.version.Version.TheVariants.{One, Two, Three}
 use Rattle.crp_cert.specs.Text.{title_line, spaced, numbers_line, bay_line, size_line, heights_line, row_line, bound, claim_line, plan_line, IsSize, AreRows}
 use Rattle.crp_cert.specs.Faults.{BeginsWith, AreHeightsOf, IsNextStack}
 use Rattle.crp_cert.proofs.Joined.{all_both}
@@ -74,7 +74,7 @@ not_yet fits text stop most are bytes all stands =
 -- ---- lines with numbers
 
 -- no digit of a number is a stop
-digits_apart : (stop n : ℕ) → stop < 48 → n < 2 ^ 64 → AllByRecursion (λ b. b ≢ stop) (decimal n)
+pub digits_apart : (stop n : ℕ) → stop < 48 → n < 2 ^ 64 → AllByRecursion (λ b. b ≢ stop) (decimal n)
 digits_apart stop n low small = decimal_by_steps P one step n small
   where
     P : ℕ → List ℕ → Type 0
@@ -130,6 +130,7 @@ no_end (x ∷ xs) e =
 pub title_short : (version : Version) → StopsWithin 10 longest_line (title_line version)
 title_short One = record { body = codes "CRP-CERT 1"; before = no_end (codes "CRP-CERT 1") refl; is = refl; short = lit≤ tt }
 title_short Two = record { body = codes "CRP-CERT 2"; before = no_end (codes "CRP-CERT 2") refl; is = refl; short = lit≤ tt }
+title_short Three = record { body = codes "CRP-CERT 3"; before = no_end (codes "CRP-CERT 3") refl; is = refl; short = lit≤ tt }
 
 pub size_short : (size : Size) → IsSize size → StopsWithin 10 longest_line (size_line size)
 size_short size is =

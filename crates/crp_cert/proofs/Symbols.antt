@@ -1,22 +1,30 @@
 -- The symbols of trees: bytes begin with those of one tree at most, and a branch is read tree by tree.
-use Rattle.std.proofs.Common.{◌≡◌, ℕ, zero, suc, ◌<◌, List, [], ◌∷◌, ◌++◌, length, map, take, get_or, None, refl, sym, ap, ◌∙◌, subst, arith, append_assoc, append-nil}
+use Rattle.std.proofs.Common.{◌≡◌, ℕ, zero, suc, ◌<◌, ◌||◌, List, [], ◌∷◌, ◌++◌, length, map, take, get_or, None, refl, sym, ap, ◌∙◌, subst, arith, append_assoc, append-nil}
 use Rattle.std.specs.Prelude.{codes}
-use Rattle.std.specs.List.{flat_map}
-use Rattle.std.proofs.lemmas.List.{map-append}
+use Rattle.std.specs.List.{flat_map, list_any}
+use Rattle.std.specs.Fmt.{decimal}
+use Rattle.std.proofs.lemmas.Grind.{flat_map-append}
+use Rattle.std.proofs.lemmas.List.Folds.{list_any-append}
+use Rattle.crp_row.specs.Symbol.{Symbol}
+use Rattle.crp_row.specs.Rows.{kind_of}
+use Rattle.crp_row.specs.Reasons.{reasons_text}
+use Rattle.crp_tree.specs.Mark.{R}
 use Rattle.std.proofs.lemmas.Option.{none-some}
 use Rattle.crp_plan.specs.Bay.{Position}
 use Rattle.crp_bay.specs.Positions.{targets, child}
-use Rattle.crp_tree.specs.Tree.{Tree, CutB, CutL, Branch, Given, Trees, no_trees, one_and, items, row}
+use Rattle.crp_tree.specs.Tree.{Tree, CutB, CutL, CutR, Branch, Given, Trees, no_trees, one_and, items, row}
 use Rattle.std.proofs.lemmas.List.{map-append}
-use Rattle.crp_tree.specs.Spots.{symbol_letter}
+use Rattle.crp_tree.specs.Spots.{symbol_text}
 use Rattle.crp_tree.specs.Symbols.{symbols, symbols_of_each as symbols_of_each', items_row}
-use Rattle.crp_tree.specs.Trees.{Node, nodes, nodes_of_each, letter, Fits, FitsEach}
+use Rattle.crp_tree.specs.Trees.{Node, nodes, nodes_of_each, spelled, Fits, FitsEach}
 use Rattle.crp_tree.specs.Listed.{AreFit}
 use Rattle.crp_tree.proofs.Listed.{IsBranch, trees_of, branch_node, branch_of, list_fits}
-use Rattle.crp_cert.specs.Script.{symbols_of, symbols_of_each}
+use Rattle.crp_cert.specs.Script.{symbols_of, symbols_of_each, is_reasons, has_reasons, some_has_reasons}
 use Rattle.crp_cert.specs.ScriptFaults.{BeginsWithTree}
-use Rattle.crp_cert.specs.Reading.{tag_at}
+use Rattle.crp_cert.specs.Reading.{tag_at, reasons_at}
 use Rattle.crp_cert.proofs.Numbers.{tag_again}
+use Rattle.crp_cert.proofs.Readers.{once}
+use Rattle.crp_cert.proofs.Reasons.{Reasons, reasons_reader}
 
 -- ---- one tree
 
@@ -32,44 +40,60 @@ tails x y xs ys e = cc
 unlike : (x y : ℕ) (xs ys : List ℕ) → (x ≡ y → ⊥) → x ∷ xs ≡ y ∷ ys → ⊥
 unlike x y xs ys ne e = ne (heads x y xs ys e)
 
--- the letter of a node's mark
-abbrev pub letter_of : Node → ℕ
-letter_of node = letter node.mark
+-- a node's mark as it is spelled
+abbrev pub spelled_of : Node → List ℕ
+spelled_of node = spelled node.mark
 
 mutual
-  -- the letters of the nodes of a tree that fits are its symbols
-  pub letters_are : (path : List ℕ) (s : Position) (tree : Tree) → Fits s tree → map letter_of (nodes path s tree) ≡ symbols_of tree
-  letters_are path s CutB m = refl
-  letters_are path s CutL m = refl
-  letters_are path s Given m = refl
-  letters_are path s (Branch all) m = ap (λ l. 88 ∷ l) (letters_each path s (targets s) all m)
+  -- the marks of the nodes of a tree that fits, as they are spelled, are its symbols
+  pub marks_are : (path : List ℕ) (s : Position) (tree : Tree) → Fits s tree → flat_map spelled_of (nodes path s tree) ≡ symbols_of tree
+  marks_are path s CutB m = refl
+  marks_are path s CutL m = refl
+  marks_are path s (CutR bound text) m = append-nil (reasons_text bound text)
+  marks_are path s Given m = refl
+  marks_are path s (Branch all) m = ap (λ l. 88 ∷ l) (marks_each path s (targets s) all m)
 
-  letters_each : (path : List ℕ) (s : Position) (rows : List ℕ) (all : Trees) → FitsEach s rows all → map letter_of (nodes_of_each path s rows all) ≡ symbols_of_each all
-  letters_each path s [] no_trees m = refl
-  letters_each path s [] (one_and tree trees) m = absurd m
-  letters_each path s (row ∷ rows) no_trees m = absurd m
-  letters_each path s (row ∷ rows) (one_and tree trees) m =
-      map-append letter_of (nodes (path ++ row ∷ []) (child s row) tree) (nodes_of_each path s rows trees)
-      ∙ ap (λ l. l ++ map letter_of (nodes_of_each path s rows trees)) (letters_are (path ++ row ∷ []) (child s row) tree m.0)
-      ∙ ap (λ l. symbols_of tree ++ l) (letters_each path s rows trees m.1)
+  marks_each : (path : List ℕ) (s : Position) (rows : List ℕ) (all : Trees) → FitsEach s rows all → flat_map spelled_of (nodes_of_each path s rows all) ≡ symbols_of_each all
+  marks_each path s [] no_trees m = refl
+  marks_each path s [] (one_and tree trees) m = absurd m
+  marks_each path s (row ∷ rows) no_trees m = absurd m
+  marks_each path s (row ∷ rows) (one_and tree trees) m =
+      flat_map-append spelled_of (nodes (path ++ row ∷ []) (child s row) tree) (nodes_of_each path s rows trees)
+      ∙ ap (λ l. l ++ flat_map spelled_of (nodes_of_each path s rows trees)) (marks_are (path ++ row ∷ []) (child s row) tree m.0)
+      ∙ ap (λ l. symbols_of tree ++ l) (marks_each path s rows trees m.1)
+
+-- what stands behind the bracket of reasons
+abbrev reasons_behind : ℕ → List ℕ → List ℕ
+reasons_behind bound text = decimal bound ++ (codes ":" ++ (text ++ codes "]"))
 
 -- symbols begin with those of one tree at most, as far as its nodes go
 mutual
   pub one_tree : (path : List ℕ) (s : Position) (tree other : Tree) (rest rest' : List ℕ) → Fits s tree → Fits s other → symbols_of tree ++ rest ≡ symbols_of other ++ rest' → (nodes path s tree ≡ nodes path s other) × (rest ≡ rest')
   one_tree path s CutB CutB rest rest' m m' e = (refl, tails 66 66 rest rest' e)
   one_tree path s CutB CutL rest rest' m m' e = absurd (unlike 66 76 rest rest' (λ h. omega arith) e)
-  one_tree path s CutB (Branch all) rest rest' m m' e = absurd (unlike 66 88 rest (symbols_of_each all ++ rest') (λ h. omega arith) e)
+  one_tree path s CutB (CutR bound text) rest rest' m m' e = absurd (unlike 66 91 rest (reasons_behind bound text ++ rest') (λ h. omega arith) e)
   one_tree path s CutB Given rest rest' m m' e = absurd (unlike 66 71 rest rest' (λ h. omega arith) e)
+  one_tree path s CutB (Branch all) rest rest' m m' e = absurd (unlike 66 88 rest (symbols_of_each all ++ rest') (λ h. omega arith) e)
   one_tree path s CutL CutB rest rest' m m' e = absurd (unlike 76 66 rest rest' (λ h. omega arith) e)
   one_tree path s CutL CutL rest rest' m m' e = (refl, tails 76 76 rest rest' e)
-  one_tree path s CutL (Branch all) rest rest' m m' e = absurd (unlike 76 88 rest (symbols_of_each all ++ rest') (λ h. omega arith) e)
+  one_tree path s CutL (CutR bound text) rest rest' m m' e = absurd (unlike 76 91 rest (reasons_behind bound text ++ rest') (λ h. omega arith) e)
   one_tree path s CutL Given rest rest' m m' e = absurd (unlike 76 71 rest rest' (λ h. omega arith) e)
+  one_tree path s CutL (Branch all) rest rest' m m' e = absurd (unlike 76 88 rest (symbols_of_each all ++ rest') (λ h. omega arith) e)
+  one_tree path s (CutR bound text) CutB rest rest' m m' e = absurd (unlike 91 66 (reasons_behind bound text ++ rest) rest' (λ h. omega arith) e)
+  one_tree path s (CutR bound text) CutL rest rest' m m' e = absurd (unlike 91 76 (reasons_behind bound text ++ rest) rest' (λ h. omega arith) e)
+  one_tree path s (CutR bound text) (CutR bound' text') rest rest' m m' e =
+      let r = once reasons_reader (bound, text) (bound', text') rest rest' m m' e in
+      (ap (λ (x : Reasons). record { path = path; place = s; mark = R x.0 x.1 } ∷ []) r.0, r.1)
+  one_tree path s (CutR bound text) Given rest rest' m m' e = absurd (unlike 91 71 (reasons_behind bound text ++ rest) rest' (λ h. omega arith) e)
+  one_tree path s (CutR bound text) (Branch all) rest rest' m m' e = absurd (unlike 91 88 (reasons_behind bound text ++ rest) (symbols_of_each all ++ rest') (λ h. omega arith) e)
   one_tree path s Given CutB rest rest' m m' e = absurd (unlike 71 66 rest rest' (λ h. omega arith) e)
   one_tree path s Given CutL rest rest' m m' e = absurd (unlike 71 76 rest rest' (λ h. omega arith) e)
-  one_tree path s Given (Branch all) rest rest' m m' e = absurd (unlike 71 88 rest (symbols_of_each all ++ rest') (λ h. omega arith) e)
+  one_tree path s Given (CutR bound text) rest rest' m m' e = absurd (unlike 71 91 rest (reasons_behind bound text ++ rest') (λ h. omega arith) e)
   one_tree path s Given Given rest rest' m m' e = (refl, tails 71 71 rest rest' e)
+  one_tree path s Given (Branch all) rest rest' m m' e = absurd (unlike 71 88 rest (symbols_of_each all ++ rest') (λ h. omega arith) e)
   one_tree path s (Branch all) CutB rest rest' m m' e = absurd (unlike 88 66 (symbols_of_each all ++ rest) rest' (λ h. omega arith) e)
   one_tree path s (Branch all) CutL rest rest' m m' e = absurd (unlike 88 76 (symbols_of_each all ++ rest) rest' (λ h. omega arith) e)
+  one_tree path s (Branch all) (CutR bound text) rest rest' m m' e = absurd (unlike 88 91 (symbols_of_each all ++ rest) (reasons_behind bound text ++ rest') (λ h. omega arith) e)
   one_tree path s (Branch all) Given rest rest' m m' e = absurd (unlike 88 71 (symbols_of_each all ++ rest) rest' (λ h. omega arith) e)
   one_tree path s (Branch all) (Branch all') rest rest' m m' e =
       let r = one_row path s (targets s) all all' rest rest' m m' (tails 88 88 (symbols_of_each all ++ rest) (symbols_of_each all' ++ rest') e) in
@@ -99,6 +123,7 @@ each_symbols (one_and tree trees) = ap (λ l. symbols_of tree ++ l) (each_symbol
 symbols_below : (tree : Tree) → IsBranch tree → symbols_of tree ≡ codes "X" ++ flat_map symbols_of (trees_of tree)
 symbols_below CutB is = absurd is
 symbols_below CutL is = absurd is
+symbols_below (CutR bound text) is = absurd is
 symbols_below Given is = absurd is
 symbols_below (Branch all) is = ap (λ l. codes "X" ++ l) (each_symbols all)
 
@@ -122,12 +147,14 @@ text_push bytes trees tree rest after e f =
 -- ---- where no tree is read
 
 -- none of the symbols stands there
-pub no_symbol : (s : Position) (bytes : List ℕ) → tag_at (codes "B") bytes ≡ None → tag_at (codes "L") bytes ≡ None → tag_at (codes "G") bytes ≡ None → tag_at (codes "X") bytes ≡ None → ¬ BeginsWithTree s bytes
-no_symbol s bytes b l g x stands = by_tree stands.0 stands.1 stands.2.0 stands.2.1
+pub no_symbol : (s : Position) (bytes : List ℕ) → tag_at (codes "B") bytes ≡ None → tag_at (codes "L") bytes ≡ None → tag_at (codes "G") bytes ≡ None → reasons_at bytes ≡ None → tag_at (codes "X") bytes ≡ None →
+    ¬ BeginsWithTree s bytes
+no_symbol s bytes b l g r x stands = by_tree stands.0 stands.1 stands.2.0 stands.2.1
   where
     by_tree : (tree : Tree) → Fits s tree → (rest : List ℕ) → bytes ≡ symbols_of tree ++ rest → ⊥
     by_tree CutB m rest e = none-some rest (sym b ∙ ap (tag_at (codes "B")) e ∙ tag_again (codes "B") rest)
     by_tree CutL m rest e = none-some rest (sym l ∙ ap (tag_at (codes "L")) e ∙ tag_again (codes "L") rest)
+    by_tree (CutR bound text) m rest e = none-some ((bound, text), rest) (sym r ∙ ap reasons_at e ∙ reasons_reader.again (bound, text) rest m)
     by_tree (Branch all) m rest e = none-some (symbols_of_each all ++ rest) (sym x ∙ ap (tag_at (codes "X")) e ∙ tag_again (codes "X") (symbols_of_each all ++ rest))
     by_tree Given m rest e = none-some rest (sym g ∙ ap (tag_at (codes "G")) e ∙ tag_again (codes "G") rest)
 
@@ -153,6 +180,7 @@ branch_stops s bytes rows trees i a left rows_are lt m e none stands = by_tree s
     by_tree : (tree : Tree) → Fits s tree → (rest : List ℕ) → bytes ≡ symbols_of tree ++ rest → ⊥
     by_tree CutB m' rest e' = unlike 88 66 (flat_map symbols_of trees ++ left) rest (λ h. omega arith) (sym e ∙ e')
     by_tree CutL m' rest e' = unlike 88 76 (flat_map symbols_of trees ++ left) rest (λ h. omega arith) (sym e ∙ e')
+    by_tree (CutR bound text) m' rest e' = unlike 88 91 (flat_map symbols_of trees ++ left) (reasons_behind bound text ++ rest) (λ h. omega arith) (sym e ∙ e')
     by_tree Given m' rest e' = unlike 88 71 (flat_map symbols_of trees ++ left) rest (λ h. omega arith) (sym e ∙ e')
     by_tree (Branch all) m' rest e' =
         let t : flat_map symbols_of trees ++ left ≡ symbols_of_each all ++ rest = tails 88 88 (flat_map symbols_of trees ++ left) (symbols_of_each all ++ rest) (sym e ∙ e') in
@@ -160,18 +188,39 @@ branch_stops s bytes rows trees i a left rows_are lt m e none stands = by_tree s
         (subst (λ l. AreFit s l (items all)) (sym rows_are) (list_fits s (targets s) all m'))
         (t ∙ ap (λ l. l ++ rest) (each_symbols all)) none
 
--- ---- the letters of a tree's symbols
+-- ---- a tree's symbols as they are spelled
 
 mutual
-  pub spelled : (tree : Tree) → map symbol_letter (symbols tree) ≡ symbols_of tree
-  spelled CutB = refl
-  spelled CutL = refl
-  spelled Given = refl
-  spelled (Branch trees) = ap (λ l. 88 ∷ l) (spelled_each trees)
+  pub symbols_spelled : (tree : Tree) → flat_map symbol_text (symbols tree) ≡ symbols_of tree
+  symbols_spelled CutB = refl
+  symbols_spelled CutL = refl
+  symbols_spelled (CutR bound text) = append-nil (reasons_text bound text)
+  symbols_spelled Given = refl
+  symbols_spelled (Branch trees) = ap (λ l. 88 ∷ l) (spelled_each trees)
 
-  spelled_each : (trees : Trees) → map symbol_letter (symbols_of_each' trees) ≡ symbols_of_each trees
+  spelled_each : (trees : Trees) → flat_map symbol_text (symbols_of_each' trees) ≡ symbols_of_each trees
   spelled_each no_trees = refl
-  spelled_each (one_and tree trees) = map-append symbol_letter (symbols tree) (symbols_of_each' trees) ∙ ap (λ l. l ++ map symbol_letter (symbols_of_each' trees)) (spelled tree) ∙ ap (λ l. symbols_of tree ++ l) (spelled_each trees)
+  spelled_each (one_and tree trees) =
+      flat_map-append symbol_text (symbols tree) (symbols_of_each' trees) ∙ ap (λ l. l ++ flat_map symbol_text (symbols_of_each' trees)) (symbols_spelled tree) ∙ ap (λ l. symbols_of tree ++ l) (spelled_each trees)
+
+-- ---- which of them have reasons
+
+-- two lists have one where one of them has
+any_joined : (xs ys : List Symbol) → list_any is_reasons (map kind_of (xs ++ ys)) ≡ (list_any is_reasons (map kind_of xs) || list_any is_reasons (map kind_of ys))
+any_joined xs ys = ap (list_any is_reasons) (map-append kind_of xs ys) ∙ list_any-append is_reasons (map kind_of xs) (map kind_of ys)
+
+mutual
+  pub reasons_by_kinds : (tree : Tree) → list_any is_reasons (map kind_of (symbols tree)) ≡ has_reasons tree
+  reasons_by_kinds CutB = refl
+  reasons_by_kinds CutL = refl
+  reasons_by_kinds (CutR bound text) = refl
+  reasons_by_kinds Given = refl
+  reasons_by_kinds (Branch trees) = some_by_kinds trees
+
+  some_by_kinds : (trees : Trees) → list_any is_reasons (map kind_of (symbols_of_each' trees)) ≡ some_has_reasons trees
+  some_by_kinds no_trees = refl
+  some_by_kinds (one_and tree trees) =
+      any_joined (symbols tree) (symbols_of_each' trees) ∙ ap (λ x. x || list_any is_reasons (map kind_of (symbols_of_each' trees))) (reasons_by_kinds tree) ∙ ap (λ x. has_reasons tree || x) (some_by_kinds trees)
 
 -- the symbols of one tree more
 pub each_push : (trees : List Tree) (tree : Tree) → symbols_of_each' (row trees) ++ symbols tree ≡ symbols_of_each' (row (trees ++ tree ∷ []))

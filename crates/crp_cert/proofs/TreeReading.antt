@@ -1,12 +1,14 @@
 -- Whether symbols begin with those of a tree is decided, by reading them.
 use Rattle.std.proofs.Common.{◌≡◌, ℕ, zero, suc, ◌≤◌, ⊎_elim, cond, ◌==◌, List, [], ◌∷◌, ◌++◌, length, Option, Some, None, refl, sym, ap, ◌∙◌, arith, append_assoc, length-append}
 use Rattle.std.proofs.lemmas.Bool.{eqb-true}
-use Rattle.std.proofs.lemmas.Option.{same_Some, none-some}
+use Rattle.std.proofs.lemmas.Option.{same_Some}
 use Rattle.crp_plan.specs.Bay.{Position}
 use Rattle.crp_bay.specs.Positions.{child, targets}
-use Rattle.crp_tree.specs.Tree.{Tree, CutB, CutL, Branch, Given, Trees, no_trees, one_and, row}
+use Rattle.crp_tree.specs.Tree.{Tree, CutB, CutL, CutR, Branch, Given, Trees, no_trees, one_and, row}
 use Rattle.crp_cert.specs.Script.{symbols_of, symbols_of_each}
-use Rattle.crp_cert.specs.Reading.{◌>>=◌}
+use Rattle.crp_row.specs.Reasons.{reasons_text}
+use Rattle.crp_cert.specs.Reading.{◌>>=◌, reasons_at}
+use Rattle.crp_cert.proofs.Reasons.{Reasons, reasons_reader}
 use Rattle.crp_cert.proofs.Numbers.{bind_some, chosen}
 use Rattle.std.specs.List.{flat_map}
 use Rattle.crp_cert.proofs.Symbols.{branch_read}
@@ -20,22 +22,29 @@ abbrev behind_each : (Position → List ℕ → Option (List ℕ)) → Position 
 behind_each behind s [] bytes = Some bytes
 behind_each behind s (row ∷ rows) bytes = behind (child s row) bytes >>= λ rest. behind_each behind s rows rest
 
+-- what follows reasons
+abbrev behind_reasons : Option (Reasons × List ℕ) → Option (List ℕ)
+behind_reasons None = None
+behind_reasons (Some x) = Some x.1
+
 -- what follows a tree, which has no more levels than this
 abbrev pub behind_tree : ℕ → Position → List ℕ → Option (List ℕ)
 behind_tree zero s bytes = None
 behind_tree (suc levels) s [] = None
 behind_tree (suc levels) s (b ∷ bytes) =
-    cond (b == 66) (Some bytes) (cond (b == 76) (Some bytes) (cond (b == 71) (Some bytes) (cond (b == 88) (behind_each (behind_tree levels) s (targets s) bytes) None)))
+    cond (b == 66) (Some bytes) (cond (b == 76) (Some bytes) (cond (b == 71) (Some bytes) (cond (b == 88) (behind_each (behind_tree levels) s (targets s) bytes) (behind_reasons (reasons_at (b ∷ bytes))))))
 
 -- a tree is read again
 mutual
   pub tree_again : (levels : ℕ) (s : Position) (tree : Tree) (rest : List ℕ) → length (symbols_of tree) ≤ levels → Fits s tree → behind_tree levels s (symbols_of tree ++ rest) ≡ Some rest
   tree_again zero s CutB rest few m = absurd (omega arith)
   tree_again zero s CutL rest few m = absurd (omega arith)
+  tree_again zero s (CutR bound text) rest few m = absurd (omega arith)
   tree_again zero s (Branch all) rest few m = absurd (omega arith)
   tree_again zero s Given rest few m = absurd (omega arith)
   tree_again (suc levels) s CutB rest few m = refl
   tree_again (suc levels) s CutL rest few m = refl
+  tree_again (suc levels) s (CutR bound text) rest few m = ap behind_reasons (reasons_reader.again (bound, text) rest m)
   tree_again (suc levels) s Given rest few m = refl
   tree_again (suc levels) s (Branch all) rest few m = each_again levels s (targets s) all rest (omega arith) m
 
@@ -79,8 +88,17 @@ tree_takes (suc levels) s (b ∷ bytes) rest e =
     let r = each_takes (behind_tree levels) s (λ row l after f. tree_takes levels (child s row) l after f) (targets s) bytes rest trees.1 in
     let made = branch_read s (b ∷ bytes) r.0 rest r.1 (ap (λ x. x ∷ bytes) is ∙ ap (λ l. 88 ∷ l) r.2) in
     (Branch (row r.0), made.0, made.1))
-    (λ nothing. absurd (none-some rest nothing.1))
-    (chosen (b == 88) (behind_each (behind_tree levels) s (targets s) bytes) None (Some rest) branch.1))
-    (chosen (b == 71) (Some bytes) (cond (b == 88) (behind_each (behind_tree levels) s (targets s) bytes) None) (Some rest) further.1))
-    (chosen (b == 76) (Some bytes) (cond (b == 71) (Some bytes) (cond (b == 88) (behind_each (behind_tree levels) s (targets s) bytes) None)) (Some rest) more.1))
-    (chosen (b == 66) (Some bytes) (cond (b == 76) (Some bytes) (cond (b == 71) (Some bytes) (cond (b == 88) (behind_each (behind_tree levels) s (targets s) bytes) None))) (Some rest) e)
+    (λ reasons. by_reasons (reasons_at (b ∷ bytes)) refl reasons.1)
+    (chosen (b == 88) (behind_each (behind_tree levels) s (targets s) bytes) last (Some rest) branch.1))
+    (chosen (b == 71) (Some bytes) (cond (b == 88) (behind_each (behind_tree levels) s (targets s) bytes) last) (Some rest) further.1))
+    (chosen (b == 76) (Some bytes) (cond (b == 71) (Some bytes) (cond (b == 88) (behind_each (behind_tree levels) s (targets s) bytes) last)) (Some rest) more.1))
+    (chosen (b == 66) (Some bytes) (cond (b == 76) (Some bytes) (cond (b == 71) (Some bytes) (cond (b == 88) (behind_each (behind_tree levels) s (targets s) bytes) last))) (Some rest) e)
+  where
+    last : Option (List ℕ)
+    last = behind_reasons (reasons_at (b ∷ bytes))
+
+    by_reasons : (o : Option (Reasons × List ℕ)) → reasons_at (b ∷ bytes) ≡ o → behind_reasons o ≡ Some rest → (tree : Tree) × Fits s tree × (b ∷ bytes ≡ symbols_of tree ++ rest)
+    by_reasons None f g = absurd cc
+    by_reasons (Some x) f g =
+        let t = reasons_reader.takes (b ∷ bytes) x.0 x.1 f in
+        (CutR x.0.0 x.0.1, t.0, t.1 ∙ ap (λ l. reasons_text x.0.0 x.0.1 ++ l) (same_Some x.1 rest g))

@@ -1,5 +1,5 @@
 -- Each text begins with a head's text or has a first fault, and only one of these.
-use Rattle.std.proofs.Common.{◌≡◌, ℕ, zero, suc, ◌+◌, ◌-◌, ◌≤◌, ◌⊎◌, inl, inr, ⊎_elim, Bool, cond, List, [], ◌∷◌, ◌++◌, length, get_or, Option, Some, None, refl, sym, ap, ◌∙◌, subst, arith, append_assoc}
+use Rattle.std.proofs.Common.{◌≡◌, ℕ, zero, suc, ◌+◌, ◌-◌, ◌≤◌, ◌⊎◌, inl, inr, ⊎_elim, Bool, true, cond, List, [], ◌∷◌, ◌++◌, length, get_or, Option, Some, None, refl, sym, ap, ◌∙◌, subst, arith, append_assoc}
 use Rattle.std.specs.Prelude.{IfSome}
 use Rattle.std.specs.List.{flat_map}
 use Rattle.std.proofs.lemmas.Option.{none-some, same_Some, some_pair_parts}
@@ -13,12 +13,12 @@ use Rattle.crp_cert.specs.declared.claim.Claim.{Claim}
 use Rattle.crp_cert.specs.declared.head.Head.{Head}
 use Rattle.crp_cert.specs.declared.size.Size.{Size}
 use Rattle.crp_cert.specs.declared.version.Version.{Version}
-use Rattle.crp_cert.specs.declared.version.Version.TheVariants.{One, Two}
+use Rattle.crp_cert.specs.declared.version.Version.TheVariants.{One, Two, Three}
 use Rattle.crp_cert.specs.declared.fault.CertFault.{CertFault}
 use Rattle.crp_cert.specs.declared.fault.CertFault.TheVariants as faults
-use Rattle.crp_cert.specs.Text.{title_line, bay_line, size_line, stated_heights, row_line, bound, claim_line, plan_line, head_text, first_row, size_of, IsSize, IsHead, IsHeadOf, AreRows}
+use Rattle.crp_cert.specs.Text.{title_line, has_heights, bay_line, size_line, stated_heights, row_line, bound, claim_line, plan_line, head_text, first_row, size_of, IsSize, IsHead, IsHeadOf, AreRows}
 use Rattle.crp_cert.specs.Faults.{BeginsWith, MayState, AreFirstStacks, IsNextStack, most_claimed, MayClaim, Frame, BeginsWithFrame, BeginsWithStacks, IsFirstFault}
-use Rattle.crp_cert.specs.Reading.{◌>>=◌, title_at, size_at, heights_at, row_at, claim_at, plan_at}
+use Rattle.crp_cert.specs.Reading.{◌>>=◌, title_at, size_at, heights_at, heights_line_at, row_at, claim_at, plan_at}
 use Rattle.crp_cert.proofs.Numbers.{bind_some, if_some}
 use Rattle.crp_cert.proofs.Lines.{row_again, row_takes}
 use Rattle.crp_cert.proofs.Heads.{head_then, size_is, head_states}
@@ -185,6 +185,12 @@ unfolding claim_fault
 past_claim frame claim rest is low =
     ap (λ o. or_fault o (faults.Claim (claim_number frame)) (λ x. plan_fault frame x.1)) ((claim_reader frame.version (most_claimed frame.size) (few_claimed frame.size is)).again claim rest low)
 
+-- the heights of a version that has a line of them
+line_at : (version : Version) (size : Size) (rest : List ℕ) → has_heights version ≡ true → heights_at version size rest ≡ heights_line_at size rest
+line_at One size rest with_line = absurd cc
+line_at Two size rest with_line = refl
+line_at Three size rest with_line = refl
+
 -- the first fault is the one that is met
 met_fault : (bytes : List ℕ) (fault : CertFault) → IsFirstFault bytes fault → met bytes ≡ Some fault
 unfolding met bay_fault size_fault heights_fault rows_fault claim_fault plan_fault
@@ -196,9 +202,9 @@ met_fault bytes (faults.Size line) (inl is) =
     ap met is.1.4 ∙ past_title is.1.0 (bay_line is.1.1 ++ is.1.2) ∙ past_bay is.1.0 is.1.1 is.1.2 is.1.3
     ∙ ap (λ o. or_fault o (faults.Size 3) (λ x. heights_fault is.1.0 x.0 x.1)) (none_read size_reader is.1.2 is.1.5) ∙ ap (λ n. Some (faults.Size n)) (sym is.0)
 met_fault bytes (faults.Size line) (inr is) =
-    let name : YardBay = is.1.0 in let size : Size = is.1.1 in let rest : List ℕ = is.1.2 in
-    ap met is.1.5 ∙ past_title Two (bay_line name ++ (size_line size ++ rest)) ∙ past_bay Two name (size_line size ++ rest) is.1.3 ∙ past_size Two size rest is.1.4
-    ∙ ap (λ o. or_fault o (faults.Size 4) (λ x. rows_fault (frame_of Two size x.0) size.rows [] x.1)) (none_read (line_reader size is.1.4) rest is.1.6) ∙ ap (λ n. Some (faults.Size n)) (sym is.0)
+    let version : Version = is.1.0 in let name : YardBay = is.1.1 in let size : Size = is.1.2 in let rest : List ℕ = is.1.3 in
+    ap met is.1.7 ∙ past_title version (bay_line name ++ (size_line size ++ rest)) ∙ past_bay version name (size_line size ++ rest) is.1.5 ∙ past_size version size rest is.1.6
+    ∙ ap (λ o. or_fault o (faults.Size 4) (λ x. rows_fault (frame_of version size x.0) size.rows [] x.1)) (line_at version size rest is.1.4 ∙ none_read (line_reader size is.1.6) rest is.1.8) ∙ ap (λ n. Some (faults.Size n)) (sym is.0)
 met_fault bytes (faults.Row line) (frame, stacks, rest, parsed, more, place, none) =
     met_stacks bytes frame stacks rest (suc (frame.size.rows - suc (length stacks))) parsed (omega arith)
     ∙ ap (λ o. or_fault o (faults.Row (first_row frame.version + length stacks)) (λ x. rows_fault frame (frame.size.rows - suc (length stacks)) (stacks ++ x.0 ∷ []) x.1))
@@ -365,7 +371,8 @@ heights_answer bytes version name size rest named is text = by_heights version t
   where
     by_heights : (v : Version) → bytes ≡ title_line v ++ (bay_line name ++ (size_line size ++ rest)) → (o : Option (List ℕ × List ℕ)) → heights_at v size rest ≡ o → Answer bytes
     by_heights One text None e = absurd cc
-    by_heights Two text None e = inr (faults.Size 4, inr (refl, (name, size, rest, named, is, text, none_stands (line_reader size is) rest e)))
+    by_heights Two text None e = inr (faults.Size 4, inr (refl, (Two, name, size, rest, refl, named, is, text, none_stands (line_reader size is) rest e)))
+    by_heights Three text None e = inr (faults.Size 4, inr (refl, (Three, name, size, rest, refl, named, is, text, none_stands (line_reader size is) rest e)))
     by_heights v text (Some x) e =
         let t = (heights_reader v size is).takes rest x.0 x.1 e in
         rows_answer size.rows bytes (frame_of v size x.0) [] x.1

@@ -1,6 +1,6 @@
 -- What is written: lists of bytes joined one after the other, and when a written text can be read.
-use Rattle.std.proofs.Common.{◌≡◌, ℕ, zero, suc, ◌-◌, ◌≤◌, ◌∙◌, List, [], ◌∷◌, ◌++◌, length, take, slice_get, map, All, AllPairs, Option, Some, None, IfSome, sym, ap, ap₂, subst, arith, append_assoc, append-nil}
-use Rattle.std.specs.List.{AllByRecursion, flat_map}
+use Rattle.std.proofs.Common.{◌≡◌, ℕ, zero, suc, ◌-◌, ◌≤◌, ◌∙◌, Bool, true, false, cond, ◌||◌, List, [], ◌∷◌, ◌++◌, length, take, slice_get, map, AllPairs, Option, Some, None, IfSome, refl, sym, ap, ap₂, subst, arith, append_assoc, append-nil}
+use Rattle.std.specs.List.{AllByRecursion, flat_map, list_any}
 use Rattle.std.proofs.lemmas.List.{length-map}
 use Rattle.std.proofs.lemmas.List.Folds.{flat_map-map}
 use Rattle.std.proofs.lemmas.List.Elements.{All-from_recursion}
@@ -18,13 +18,15 @@ use Rattle.crp_tree.specs.Claims.{Part, IsPart, names, Claimed, path_in}
 use Rattle.crp_tree.specs.Parts.{ProblemPart, Certificate, IsCertificate, part_of, claimed}
 use Rattle.crp_tree.proofs.Certified.{same_names}
 use Rattle.crp_cert.specs.declared.claim.Claim.{Claim}
-use Rattle.crp_cert.specs.declared.claim.Claim.TheVariants.{AtLeast}
+use Rattle.crp_cert.specs.declared.claim.Claim.TheVariants.{AtLeast, First}
 use Rattle.crp_cert.specs.declared.version.Version.{Version}
-use Rattle.crp_cert.specs.declared.version.Version.TheVariants.{One, Two}
-use Rattle.crp_cert.specs.Text.{AreRows, title_line, bay_line, size_line, stated_heights, size_of, row_line, claim_line, plan_line, head_text, CanClaim}
-use Rattle.crp_cert.specs.Script.{IsPartLine, IsScript, part_line, end_line}
+use Rattle.crp_cert.specs.declared.version.Version.TheVariants.{One, Two, Three}
+use Rattle.crp_cert.specs.Text.{AreRows, title_line, bay_line, size_line, stated_heights, size_of, row_line, claim_line, plan_line, head_text, bound, CanState, CanClaim}
+use Rattle.std.proofs.lemmas.Bool.{or_parts}
+use Rattle.crp_tree.specs.Tree.{Tree}
+use Rattle.crp_cert.specs.Script.{has_reasons, CanSpell, IsPartLine, IsScript, part_line, end_line}
 use Rattle.crp_cert.proofs.Heights.{written_can}
-use Rattle.crp_cert.specs.Writing.{version_for, version_under, head_for, script_for, first_script_for, text_under, CanBeSpelled}
+use Rattle.crp_cert.specs.Writing.{version_for, have_reasons, version_under, head_for, script_for, first_script_for, text_under, CanBeSpelled}
 use Rattle.crp_tree.specs.Names.{Precedes}
 
 -- ---- lists of bytes
@@ -36,36 +38,37 @@ one_more f (y ∷ ys) zero x e = append-nil (f y) ∙ ap f (same_Some y x e)
 one_more f (y ∷ ys) (suc i) x e = ap (λ l. f y ++ l) (one_more f ys i x e) ∙ sym (append_assoc (f y) (flat_map f (take i ys)) (f x))
 
 -- the lines of a head, each behind those before it, make its text
-pub head_joined : (bay : YardBay) (p : Problem) (claim : Claim) (plan : Option ProblemPath) (version : Version) (old titled named sized high parsed claimed all : List ℕ) → version ≡ version_under p claim → titled ≡ old ++ title_line version →
+pub head_joined : (bay : YardBay) (p : Problem) (claim : Claim) (plan : Option ProblemPath) (version : Version) (old titled named sized high parsed claimed all : List ℕ) → titled ≡ old ++ title_line version →
     named ≡ titled ++ bay_line bay → sized ≡ named ++ size_line (size_of p) → high ≡ sized ++ stated_heights version p.heights → parsed ≡ high ++ flat_map row_line p.stacks → claimed ≡ parsed ++ claim_line claim →
-    all ≡ claimed ++ plan_line (path_in plan) → all ≡ old ++ head_text (head_for bay p claim plan)
-head_joined bay p claim plan version old titled named sized high parsed claimed' all ev et en es eh er ec ea =
+    all ≡ claimed ++ plan_line (path_in plan) → all ≡ old ++ head_text (head_for version bay p claim plan)
+head_joined bay p claim plan version old titled named sized high parsed claimed' all et en es eh er ec ea =
     let name : List ℕ = bay_line bay in let size : List ℕ = size_line (size_of p) in let rows : List ℕ = flat_map row_line p.stacks in
     let low : List ℕ = claim_line claim in let last : List ℕ = plan_line (path_in plan) in
     ea ∙ ap (λ l. l ++ last) (ec ∙ ap (λ l. l ++ low) (er ∙ ap (λ l. l ++ rows) (eh ∙ ap (λ l. l ++ stated_heights version p.heights) (es ∙ ap (λ l. l ++ size) (en ∙ ap (λ l. l ++ name) et)))))
     ∙ joined old (title_line version) name size (stated_heights version p.heights) rows low last
-    ∙ ap (λ (v : Version). old ++ (title_line v ++ (name ++ (size ++ (stated_heights v p.heights ++ (rows ++ (low ++ last))))))) ev
   where
     joined : (o t b s h r c p : List ℕ) → ((((((o ++ t) ++ b) ++ s) ++ h) ++ r) ++ c) ++ p ≡ o ++ (t ++ (b ++ (s ++ (h ++ (r ++ (c ++ p))))))
     joined o t b s h r c p = simp append_assoc
 
 -- the head, the lines of the parts and the last line make the text of a certificate
-pub text_joined : (bay : YardBay) (p : Problem) (cert : Certificate) (claim : Claim) (plan : Option ProblemPath) (parts again : List ProblemPart) (none head lines text : List ℕ) →
-    parts ≡ cert.parts → again ≡ cert.parts → none ≡ [] → head ≡ none ++ head_text (head_for bay p claim plan) →
+pub text_joined : (bay : YardBay) (p : Problem) (cert : Certificate) (claim : Claim) (plan : Option ProblemPath) (version : Version) (looked parts again : List ProblemPart) (none head lines text : List ℕ) →
+    version ≡ version_under p claim (map part_of looked) → looked ≡ cert.parts → parts ≡ cert.parts → again ≡ cert.parts → none ≡ [] → head ≡ none ++ head_text (head_for version bay p claim plan) →
     lines ≡ head ++ flat_map (λ part. part_line (part_of part)) parts → text ≡ lines ++ end_line (length again) → text ≡ text_under bay p cert claim plan
-text_joined bay p cert claim plan parts again none head lines text ep ea en eh es et =
+text_joined bay p cert claim plan version looked parts again none head lines text ev el ep ea en eh es et =
+    let same : version ≡ version_under p claim (map part_of cert.parts) = ev ∙ ap (λ l. version_under p claim (map part_of l)) el in
     let parsed : List Part = map part_of cert.parts in
-    let front : head ≡ head_text (head_for bay p claim plan) = eh ∙ ap (λ l. l ++ head_text (head_for bay p claim plan)) en in
+    let own : List ℕ = head_text (head_for (version_under p claim (map part_of cert.parts)) bay p claim plan) in
+    let front : head ≡ own = eh ∙ ap (λ (v : Version). none ++ head_text (head_for v bay p claim plan)) same ∙ ap (λ l. l ++ own) en in
     let middle : flat_map (λ part. part_line (part_of part)) parts ≡ flat_map part_line parsed = ap (flat_map (λ part. part_line (part_of part))) ep ∙ sym (flat_map-map part_line part_of cert.parts) in
     let end : end_line (length again) ≡ end_line (length parsed) = ap end_line (ap length ea ∙ sym (length-map cert.parts part_of)) in
     et ∙ ap₂ (λ a b. a ++ b) (es ∙ ap₂ (λ a b. a ++ b) front middle) end
-    ∙ append_assoc (head_text (head_for bay p claim plan)) (flat_map part_line parsed) (end_line (length parsed))
+    ∙ append_assoc own (flat_map part_line parsed) (end_line (length parsed))
 
 -- ---- what is written can be read
 
--- a part is one that a part line may say
-line_of_part : (p : Problem) (part : Part) → IsPart p part → IsPartLine p part
-line_of_part p part is =
+-- a part is one that a part line may say, in a version that can spell its tree
+line_of_part : (version : Version) (p : Problem) (part : Part) → CanSpell version part.tree → IsPart p part → IsPartLine version p part
+line_of_part version p part can is =
     let shape = is.shape in
     record {
       short = is.short;
@@ -73,6 +76,7 @@ line_of_part p part is =
       is_at = is.is_at;
       fits = shape.fits;
       not_given = shape.not_given;
+      can_spell = can;
     }
 
 -- relocations go to rows of the bay, which has 12 at most
@@ -99,50 +103,76 @@ plan_rows : (p : Problem) (plan : Option (List ℕ)) → IsProblem p → IfSome 
 plan_rows p None ok h = tt
 plan_rows p (Some rows) ok h = path_rows p rows ok h
 
--- the lines of parts of a claim
-lines_of_parts : (c : Claimed) → CanBeSpelled c → All (IsPartLine c.problem) c.parts
-lines_of_parts c t = let each_part = t.accepted.each_part in λ k d lt. line_of_part c.problem _ (each_part k d lt)
+-- some cut of the parts of a certificate has its reasons
+pub looked_at : (parts : List ProblemPart) → have_reasons (map part_of parts) ≡ list_any (λ part. has_reasons part.tree) parts
+looked_at [] = refl
+looked_at (part ∷ parts) = ap (λ x. has_reasons part.tree || x) (looked_at parts)
+
+-- what the version of a claim with parts has to be able to do, by whether some cut of them has its reasons
+record Suffices (c : Claimed) (claim : Claim) (version : Version) : Type 0 where
+  can_state : CanState version c.problem
+  can_claim : CanClaim version claim
+  can_spell : AllByRecursion (λ (part : Part). CanSpell version part.tree) c.parts
+
+spells_plain : (version : Version) (parts : List Part) → ((tree : Tree) → has_reasons tree ≡ false → CanSpell version tree) → have_reasons parts ≡ false → AllByRecursion (λ (part : Part). CanSpell version part.tree) parts
+spells_plain version [] plain e = tt
+spells_plain version (part ∷ parts) plain e = let both = or_parts (has_reasons part.tree) (have_reasons parts) e in (plain part.tree both.0, spells_plain version parts plain both.1)
+
+spells_all : (parts : List Part) → AllByRecursion (λ (part : Part). CanSpell Three part.tree) parts
+spells_all [] = tt
+spells_all (part ∷ parts) = (tt, spells_all parts)
+
+plain_in : (version : Version) (tree : Tree) → has_reasons tree ≡ false → CanSpell version tree
+plain_in One tree e = e
+plain_in Two tree e = e
+plain_in Three tree e = tt
 
 -- each version has a lower bound
 claims_bound : (version : Version) (least : ℕ) → CanClaim version (AtLeast least)
 claims_bound One least = tt
 claims_bound Two least = tt
+claims_bound Three least = tt
 
--- a claim that can be stated is stated by a script
-pub spelled_is_script : (bay : YardBay) (c : Claimed) → IsYardBay bay → CanBeSpelled c → IsScript (script_for bay c)
-spelled_is_script bay c name t =
+-- the version that is written suffices
+suffices : (c : Claimed) (claim : Claim) → IsProblem c.problem → Suffices c claim (version_under c.problem claim c.parts)
+suffices c (AtLeast least) is = by_reasons (have_reasons c.parts) refl
+  where
+    by_reasons : (b : Bool) → have_reasons c.parts ≡ b → Suffices c (AtLeast least) (cond b Three (version_for c.problem))
+    by_reasons true e = record { can_state = tt; can_claim = tt; can_spell = spells_all c.parts }
+    by_reasons false e = record { can_state = written_can c.problem is; can_claim = claims_bound (version_for c.problem) least; can_spell = spells_plain (version_for c.problem) c.parts (plain_in (version_for c.problem)) e }
+suffices c (First least) is = by_reasons (have_reasons c.parts) refl
+  where
+    by_reasons : (b : Bool) → have_reasons c.parts ≡ b → Suffices c (First least) (cond b Three Two)
+    by_reasons true e = record { can_state = tt; can_claim = tt; can_spell = spells_all c.parts }
+    by_reasons false e = record { can_state = tt; can_claim = tt; can_spell = spells_plain Two c.parts (plain_in Two) e }
+
+-- a claim that can be stated is stated by a script of that version
+is_script : (bay : YardBay) (c : Claimed) (claim : Claim) → IsYardBay bay → CanBeSpelled c → bound claim ≡ c.lower →
+    IsScript (record { head = record { version = version_under c.problem claim c.parts; bay = bay; problem = c.problem; claim = claim; plan = c.plan }; parts = c.parts })
+is_script bay c claim name t same =
     let ok = t.accepted in
     let is_problem = ok.is_problem in
+    let can = suffices c claim is_problem in
+    let each_part = ok.each_part in
     record {
       is_head = record {
         name = name;
         problem = is_problem;
-        can_state = written_can c.problem is_problem;
-        can_claim = claims_bound (version_for c.problem) c.lower;
-        claim = ok.within_cap;
+        can_state = can.can_state;
+        can_claim = can.can_claim;
+        claim = (let low = ok.within_cap in omega arith);
         plan = plan_rows c.problem c.plan is_problem ok.plan_is;
       };
-      each_part = lines_of_parts c t;
+      each_part = λ k d lt. line_of_part (version_under c.problem claim c.parts) c.problem _ (All-from_recursion (λ (part : Part). CanSpell (version_under c.problem claim c.parts) part.tree) c.parts can.can_spell k d lt) (each_part k d lt);
       rising = t.rising;
     }
+
+pub spelled_is_script : (bay : YardBay) (c : Claimed) → IsYardBay bay → CanBeSpelled c → IsScript (script_for bay c)
+spelled_is_script bay c name t = is_script bay c (AtLeast c.lower) name t refl
 
 -- and by one that claims its plan to be the first best one
 pub first_is_script : (bay : YardBay) (c : Claimed) → IsYardBay bay → CanBeSpelled c → IsScript (first_script_for bay c)
-first_is_script bay c name t =
-    let ok = t.accepted in
-    let is_problem = ok.is_problem in
-    record {
-      is_head = record {
-        name = name;
-        problem = is_problem;
-        can_state = tt;
-        can_claim = tt;
-        claim = ok.within_cap;
-        plan = plan_rows c.problem c.plan is_problem ok.plan_is;
-      };
-      each_part = lines_of_parts c t;
-      rising = t.rising;
-    }
+first_is_script bay c name t = is_script bay c (First c.lower) name t refl
 
 -- the parts of a certificate rise by name in what it claims
 pub claimed_rise : (p : Problem) (cert : Certificate) (plan : Option (List ℕ)) → IsCertificate cert → AllPairs Precedes (names (claimed p cert plan).parts)

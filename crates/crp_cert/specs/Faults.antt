@@ -1,5 +1,5 @@
 -- Which line is the first that is not as said: the lines before it are, and no line that may stand there does.
-use Rattle.std.specs.Prelude.{◌≡◌, ◌≤◌, ◌<◌, ◌⊎◌, ℕ, ◌+◌, ◌-◌, ◌*◌, List, [], ◌∷◌, ◌++◌, length, IfSome, take, replicate}
+use Rattle.std.specs.Prelude.{◌≡◌, ◌≤◌, ◌<◌, ◌⊎◌, ℕ, ◌+◌, ◌-◌, ◌*◌, List, [], ◌∷◌, ◌++◌, length, IfSome, take, replicate, true}
 use Rattle.std.specs.Coded.{×_prop, Unit-prop, le_prop}
 use Rattle.std.specs.List.{flat_map}
 use Rattle.crp_plan.specs.BayNames.{YardBay, IsYardBay}
@@ -8,10 +8,10 @@ use Rattle.crp_plan.specs.Faults.{AreHeights}
 use Rattle.crp_cert.specs.declared.claim.Claim.{Claim}
 use Rattle.crp_cert.specs.declared.size.Size.{Size}
 use Rattle.crp_cert.specs.declared.version.Version.{Version}
-use Rattle.crp_cert.specs.declared.version.Version.TheVariants.{One, Two}
+use Rattle.crp_cert.specs.declared.version.Version.TheVariants.{One, Two, Three}
 use Rattle.crp_cert.specs.declared.fault.CertFault.{CertFault}
 use Rattle.crp_cert.specs.declared.fault.CertFault.TheVariants as faults
-use Rattle.crp_cert.specs.Text.{title_line, bay_line, size_line, heights_line, stated_heights, row_line, bound, claim_line, plan_line, first_row, IsSize, AreRows, CanClaim}
+use Rattle.crp_cert.specs.Text.{title_line, has_heights, bay_line, size_line, heights_line, stated_heights, row_line, bound, claim_line, plan_line, first_row, IsSize, AreRows, CanClaim}
 
 -- the bytes begin with the line of something that may stand there
 abbrev pub BeginsWith : {A : Type 0} → (A → Type 0) → (A → List ℕ) → List ℕ → Type 0
@@ -27,6 +27,7 @@ pub record AreHeightsOf (size : Size) (heights : List ℕ) : Type 0 where
 abbrev pub MayState : Version → Size → List ℕ → Type 0
 MayState One size heights = heights ≡ replicate size.rows size.tiers
 MayState Two size heights = AreHeightsOf size heights
+MayState Three size heights = AreHeightsOf size heights
 
 -- the first stacks of a bay of this size and these heights: none is higher than its own row, the ranks are from 1 to the number of containers,
 -- each in one place at most; and once there are all stacks no rank is missing
@@ -86,8 +87,8 @@ IsFirstFault bytes (faults.Size line) =
     ◌⊎◌
     ((line ≡ 3) × ((version : Version) × (name : YardBay) × (rest : List ℕ) × IsYardBay name
     × (bytes ≡ title_line version ++ (bay_line name ++ rest)) × ¬ BeginsWith IsSize size_line rest))
-    ((line ≡ 4) × ((name : YardBay) × (size : Size) × (rest : List ℕ) × IsYardBay name × IsSize size
-    × (bytes ≡ title_line Two ++ (bay_line name ++ (size_line size ++ rest))) × ¬ BeginsWith (AreHeightsOf size) heights_line rest))
+    ((line ≡ 4) × ((version : Version) × (name : YardBay) × (size : Size) × (rest : List ℕ) × (has_heights version ≡ true) × IsYardBay name × IsSize size
+    × (bytes ≡ title_line version ++ (bay_line name ++ (size_line size ++ rest))) × ¬ BeginsWith (AreHeightsOf size) heights_line rest))
 IsFirstFault bytes (faults.Row line) =
     (frame : Frame) × (stacks : List (List ℕ)) × (rest : List ℕ) × BeginsWithStacks bytes frame stacks rest
     × (length stacks < frame.size.rows) × (line ≡ first_row frame.version + length stacks) × ¬ BeginsWith (IsNextStack frame.size frame.heights stacks) row_line rest

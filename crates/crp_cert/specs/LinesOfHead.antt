@@ -3,7 +3,6 @@ use Rattle.std.specs.Prelude.{◌≡◌, ℕ, ◌+◌, ◌<◌, List, [], ◌++�
 use Rattle.std.specs.List.{flat_map}
 use Rattle.crp_plan.specs.BayNames.{YardBay, IsYardBay}
 use Rattle.crp_plan.specs.Faults.{stacks_of}
-use Rattle.crp_cert.specs.declared.version.Version.TheVariants.{Two}
 use Rattle.crp_cert.specs.declared.bay_rows.BayRows.{BayRows}
 use Rattle.crp_cert.specs.declared.head_lines.HeadLines.{HeadLines}
 use Rattle.crp_cert.specs.declared.head_lines.HeadLines.TheVariants as lines
@@ -29,7 +28,7 @@ abbrev pub HasLines : List ℕ → HeadLines → Type 0
 HasLines bytes lines.Start = bytes ≡ []
 HasLines bytes (lines.Title version) = bytes ≡ title_line version
 HasLines bytes (lines.Bay version bay) = IsYardBay bay × (bytes ≡ title_line version ++ bay_line bay)
-HasLines bytes (lines.Size sized) = IsYardBay sized.bay × (bytes ≡ title_line Two ++ (bay_line sized.bay ++ size_line sized.size))
+HasLines bytes (lines.Size sized) = IsYardBay sized.bay × (bytes ≡ title_line sized.version ++ (bay_line sized.bay ++ size_line sized.size))
 HasLines bytes (lines.Rows rows) = AreStated rows × (bytes ≡ rows_text rows)
 HasLines bytes (lines.Claim claimed) =
     AreStated claimed.rows × MayClaim claimed.rows.version (most_claimed claimed.rows.size) claimed.claim × (bytes ≡ rows_text claimed.rows ++ claim_line claimed.claim)

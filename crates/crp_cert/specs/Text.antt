@@ -1,5 +1,5 @@
 -- The text of a certificate's head, line by line. Each line ends with LF.
-use Rattle.std.specs.Prelude.{◌≡◌, ◌≤◌, ◌+◌, ◌*◌, ℕ, List, [], ◌∷◌, ◌++◌, length, All, Option, Some, None, IfSome, codes, replicate, ⊤}
+use Rattle.std.specs.Prelude.{◌≡◌, ◌≤◌, ◌+◌, ◌*◌, ℕ, Bool, true, false, List, [], ◌∷◌, ◌++◌, length, All, Option, Some, None, IfSome, codes, replicate, ⊤}
 use Rattle.std.specs.List.{flat_map}
 use Rattle.std.specs.Fmt.{decimal}
 use Rattle.crp_plan.specs.BayNames.{YardBay, IsYardBay}
@@ -10,7 +10,7 @@ use Rattle.crp_cert.specs.declared.claim.Claim.TheVariants.{AtLeast, First}
 use Rattle.crp_cert.specs.declared.head.Head.{Head}
 use Rattle.crp_cert.specs.declared.size.Size.{Size}
 use Rattle.crp_cert.specs.declared.version.Version.{Version}
-use Rattle.crp_cert.specs.declared.version.Version.TheVariants.{One, Two}
+use Rattle.crp_cert.specs.declared.version.Version.TheVariants.{One, Two, Three}
 
 -- each number after a space
 abbrev pub spaced : List ℕ → List ℕ
@@ -24,6 +24,13 @@ numbers_line word ns = word ++ (spaced ns ++ 10 ∷ [])
 abbrev pub title_line : Version → List ℕ
 title_line One = codes "CRP-CERT 1" ++ 10 ∷ []
 title_line Two = codes "CRP-CERT 2" ++ 10 ∷ []
+title_line Three = codes "CRP-CERT 3" ++ 10 ∷ []
+
+-- the version has a line of heights
+abbrev pub has_heights : Version → Bool
+has_heights One = false
+has_heights Two = true
+has_heights Three = true
 
 -- the name of the bay: its block and its number
 abbrev pub bay_line : YardBay → List ℕ
@@ -41,6 +48,7 @@ heights_line heights = numbers_line (codes "heights") heights
 abbrev pub stated_heights : Version → List ℕ → List ℕ
 stated_heights One heights = []
 stated_heights Two heights = heights_line heights
+stated_heights Three heights = heights_line heights
 
 -- the ranks of a stack, from bottom to top
 abbrev pub row_line : List ℕ → List ℕ
@@ -82,16 +90,18 @@ size_of p = record { rows = length p.stacks; tiers = tallest p.heights; ordered 
 abbrev pub HasOneHeight : Problem → Type 0
 HasOneHeight p = p.heights ≡ replicate (length p.stacks) (tallest p.heights)
 
--- a text of this version can state the problem: version 1 where the rows have one height, version 2 always
+-- a text of this version can state the problem: version 1 where the rows have one height, the others always
 abbrev pub CanState : Version → Problem → Type 0
 CanState One p = HasOneHeight p
 CanState Two p = ⊤
+CanState Three p = ⊤
 
 -- a text of this version can claim this: version 1 a lower bound alone
 abbrev pub CanClaim : Version → Claim → Type 0
 CanClaim One (AtLeast least) = ⊤
 CanClaim One (First least) = ⊥
 CanClaim Two claim = ⊤
+CanClaim Three claim = ⊤
 
 -- what a head may say
 pub record IsHead (head : Head) : Type 0 where
@@ -116,6 +126,7 @@ IsHeadOf bytes head = IsHead head × ((rest : List ℕ) × (bytes ≡ head_text 
 abbrev pub first_row : Version → ℕ
 first_row One = 4
 first_row Two = 5
+first_row Three = 5
 
 -- the number of the first part's line: before it stand the rows, the claim and the plan
 abbrev pub first_part : Head → ℕ

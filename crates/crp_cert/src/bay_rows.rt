@@ -1,8 +1,8 @@
 //! What the lines of a head state of a bay, as far as they were read.
-ghost use Rattle.std.specs.Prelude.{◌≡◌, length};
+ghost use Rattle.std.specs.Prelude.{◌≡◌, true, length};
 ghost use Rattle.std.proofs.Props.{props};
 ghost use Rattle.crp_plan.specs.Faults.{stacks_of};
-ghost use Rattle.crp_cert.specs.Text.{IsSize};
+ghost use Rattle.crp_cert.specs.Text.{IsSize, has_heights};
 ghost use Rattle.crp_cert.specs.Faults.{AreHeightsOf, AreFirstStacks, FitRows-prop};
 
 use crate::claim::Claim;
@@ -14,12 +14,16 @@ use crp_plan::{BayName, MAX_ROWS};
 /// A bay and its size, whose heights a line states.
 #[derive(Drop)]
 pub struct BaySize {
+    /// The version of the text.
+    pub version: Version,
     /// Whose certificate it is.
     pub bay: BayName,
     /// The size.
     pub size: Size,
     /// It is within the limits.
     ghost is_size: { IsSize size },
+    /// The version has a line of heights.
+    ghost with_heights: { has_heights version ≡ true },
 }
 
 /// A bay, its size, its heights and its first stacks, or all of them.

@@ -15,6 +15,7 @@ use crate::parts::{PartLine, Parts};
 use crate::reading::head_and_rest;
 use crate::script::Script;
 use crate::trees::{are_symbols, read_tree};
+use crate::version::Version;
 use arrayvec::ArrayVec;
 use crp_plan::Problem;
 use crp_tree::Name;
@@ -36,17 +37,18 @@ fn comes_after(parts: &[PartLine], name: &Name) -> bool
 /// number, and its first word is read.
 fn next_part<'a>(
     alloc: Global,
+    version: Version,
     problem: &Problem,
     parts: &[PartLine],
     line: u32,
     bytes: &'a [u8],
 ) -> Result<(PartLine, &'a [u8]), CertFault>
     requires { AllPairs Precedes (names parts.now) }
-    ensures part { IfOk result (λ parsed. IsPartLine problem.now parsed.0) }
+    ensures part { IfOk result (λ parsed. IsPartLine version problem.now parsed.0) }
     ensures after { IfOk result (λ parsed. ComesAfter parts.now parsed.0.name) }
     ensures text { IfOk result (λ parsed. codes "part " ++ bytes.now ≡ part_line parsed.0 ++ parsed.1.now) }
     ensures refused { IfErr result (λ fault. (fault ≡ CertFault.Memory)
-        ⊎ IsLineFault problem.now parts.now line (codes "part " ++ bytes.now) fault) }
+        ⊎ IsLineFault version problem.now parts.now line (codes "part " ++ bytes.now) fault) }
 {
     let Some(mut parsed) = part_line(problem, bytes) else {
         return Err(CertFault::Part { line });
@@ -55,7 +57,7 @@ fn next_part<'a>(
         return Err(CertFault::Order { line });
     }
     let symbols = parsed.symbols;
-    if !are_symbols(symbols) {
+    if !are_symbols(version, symbols) {
         return Err(CertFault::Symbol { line });
     }
     let Some((tree, left)) = read_tree(alloc, &mut parsed.place, symbols)? else {
@@ -70,21 +72,22 @@ fn next_part<'a>(
 /// The parts that the lines from the first one on state, and what follows the last of these lines.
 fn all_parts<'a>(
     alloc: Global,
+    version: Version,
     problem: &Problem,
     first: u32,
     bytes: &'a [u8],
 ) -> Result<(Vec<PartLine>, &'a [u8]), CertFault>
     requires problem { IsProblem problem.now }
     requires first { first ≤ 19 }
-    ensures parts { IfOk result (λ parsed. AreParts problem.now bytes.now parsed.0.items parsed.1.now) }
+    ensures parts { IfOk result (λ parsed. AreParts version problem.now bytes.now parsed.0.items parsed.1.now) }
     ensures all { IfOk result (λ parsed. tag_at (codes "part ") parsed.1.now ≡ None) }
-    ensures refused { IfErr result (λ fault. (fault ≡ CertFault.Memory) ⊎ IsPartsFault problem.now first bytes.now fault) }
+    ensures refused { IfErr result (λ fault. (fault ≡ CertFault.Memory) ⊎ IsPartsFault version problem.now first bytes.now fault) }
 {
     let mut parts = Vec::new(alloc);
     let mut rest = bytes;
     while let Some(after) = after_tag(b"part ", rest) {
         let line = first + parts.len() as u32;
-        let (part, after) = next_part(alloc, problem, &parts, line, after)?;
+        let (part, after) = next_part(alloc, version, problem, &parts, line, after)?;
         let Ok(()) = parts.push(part) else {
             return Err(CertFault::Memory);
         };
@@ -136,7 +139,7 @@ pub fn read_cert(alloc: Global, bytes: &[u8]) -> Result<Script, CertFault>
 {
     let (head, rest) = head_and_rest(alloc, bytes)?;
     let first = head.first_part();
-    let (parts, rest) = all_parts(alloc, &head.problem, first, rest)?;
+    let (parts, rest) = all_parts(alloc, head.version, &head.problem, first, rest)?;
     let last = first + parts.len() as u32;
     let Some(rest) = after_end(parts.len(), rest) else {
         return Err(CertFault::End { line: last });

@@ -37,8 +37,11 @@ pub fn title_of(bytes: &[u8]) -> Option<(Version, &[u8])>
     if let Some(rest) = after_tag(b"CRP-CERT 1\n", bytes) {
         return Some((Version::One, rest));
     }
-    let rest = after_tag(b"CRP-CERT 2\n", bytes)?;
-    Some((Version::Two, rest))
+    if let Some(rest) = after_tag(b"CRP-CERT 2\n", bytes) {
+        return Some((Version::Two, rest));
+    }
+    let rest = after_tag(b"CRP-CERT 3\n", bytes)?;
+    Some((Version::Three, rest))
 }
 
 /// A number whose first digit is read, up to the limit, and what follows its digits.
@@ -222,7 +225,7 @@ fn first_of(version: Version, cap: u32, bytes: &[u8]) -> Option<(Claim, &[u8])>
 {
     match version {
         Version::One => None,
-        Version::Two => {
+        Version::Two | Version::Three => {
             let (bound, rest) = bound_of(b"first", cap, bytes)?;
             Some((Claim::First(bound), rest))
         }

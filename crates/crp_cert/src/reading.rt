@@ -133,8 +133,8 @@ fn read_size(
                 rows: no_rows(alloc, Version::One, bay, size, heights),
             }
         }
-        Version::Two => HeadLines::Size {
-            sized: BaySize { bay, size },
+        Version::Two | Version::Three => HeadLines::Size {
+            sized: BaySize { version, bay, size },
         },
     };
     Some((HeadRead::Lines { lines }, rest))
@@ -147,7 +147,7 @@ fn read_heights(alloc: Global, sized: BaySize, bytes: &[u8]) -> Option<(HeadRead
 {
     let (heights, rest) = heights_line_of(sized.size, bytes)?;
     let lines = HeadLines::Rows {
-        rows: no_rows(alloc, Version::Two, sized.bay, sized.size, heights),
+        rows: no_rows(alloc, sized.version, sized.bay, sized.size, heights),
     };
     Some((HeadRead::Lines { lines }, rest))
 }

@@ -8,6 +8,8 @@ pub enum Version {
     One,
     /// A height for each row.
     Two,
+    /// The same, and cuts may have their reasons.
+    Three,
 }
 
 /// The number of the first row's line, from 1.
@@ -17,6 +19,6 @@ pub fn first_row(version: Version) -> u32
 {
     match version {
         Version::One => 4,
-        Version::Two => 5,
+        Version::Two | Version::Three => 5,
     }
 }

@@ -1,22 +1,25 @@
 //! Writing a certificate.
-ghost use Rattle.std.specs.Prelude.{◌≡◌, ◌≤◌, ◌+◌, ℕ, ◌++◌, ◌∷◌, [], length, take, is_ok, if◌then◌else◌, IfOk, OnOk, OnErr, IsErrOf, IsTrue, ◌↔◌};
+ghost use Rattle.std.specs.Prelude.{◌≡◌, ◌≤◌, ◌+◌, ℕ, ◌++◌, ◌∷◌, [], length, map, take, is_ok, if◌then◌else◌, IfOk, OnOk, OnErr, IsErrOf, IsTrue, ◌↔◌};
 ghost use Rattle.std.specs.Option.{option_copied};
-ghost use Rattle.std.specs.List.{flat_map};
+ghost use Rattle.std.specs.List.{flat_map, list_any};
 ghost use Rattle.std.specs.Io.KnownBytes.{Appends};
 ghost use Rattle.crp_plan.specs.Devices.{AppendsPart, TransfersAlone};
 ghost use Rattle.crp_tree.specs.Claims.{path_in};
 ghost use Rattle.crp_tree.specs.Parts.{part_of};
 ghost use Rattle.crp_cert.specs.Text.{numbers_line, title_line, bay_line, size_line, stated_heights, size_of, row_line, claim_line, plan_line, head_text};
 ghost use Rattle.crp_tree.specs.Names.{name_text};
-ghost use Rattle.crp_cert.specs.Script.{symbols_of, part_line};
-ghost use Rattle.crp_tree.specs.Spots.{symbol_letter};
+ghost use Rattle.crp_cert.specs.Script.{symbols_of, is_reasons, has_reasons, part_line};
+ghost use Rattle.crp_tree.specs.Spots.{symbol_text};
+ghost use Rattle.crp_row.specs.Reasons.{reasons_text};
+ghost use Rattle.crp_row.specs.Rows.{symbol_of};
 ghost use Rattle.crp_cert.specs.Writing.{are_equal, version_for, version_under, head_for, text_under, certificate_text, first_certificate_text};
 
 use crate::claim::Claim;
 use crate::version::Version;
 use arrayvec::ArrayVec;
 use crp_plan::{BayName, MAX_ROWS, Plan, Problem, Sink, WriteFault, tallest, write_text};
-use crp_tree::{Cert, Name, Part, Symbol, Tree};
+use crp_row::Kind;
+use crp_tree::{Cert, Name, Part, Tree};
 use itoa::{Buffer, Integer};
 use std::alloc::{AllocError, Global};
 
@@ -118,10 +121,37 @@ fn version_of(problem: &Problem) -> Version
     Version::Two
 }
 
-/// The version in which a claim of a problem is written.
-fn version_under(problem: &Problem, claim: Claim) -> Version
-    ensures { result ≡ version_under problem.now claim }
+/// Whether one of the symbols is a cut by reasons.
+fn has_one(kinds: &[Kind]) -> bool
+    ensures { result ≡ list_any is_reasons kinds.now }
 {
+    kinds.iter().any(|kind| match kind {
+        Kind::CutB | Kind::CutL | Kind::Branch(_) | Kind::Given => false,
+        Kind::CutR(_) => true,
+    })
+}
+
+/// Whether a cut of the tree has its reasons.
+fn has_reasons(tree: &Tree) -> bool
+    ensures { result ≡ has_reasons tree.now }
+{
+    has_one(tree.symbols().kinds())
+}
+
+/// Whether a cut of these parts has its reasons.
+fn have_reasons(parts: &[Part]) -> bool
+    ensures { result ≡ list_any (λ part. has_reasons part.tree) parts.now }
+{
+    parts.iter().any(|part| has_reasons(part.tree()))
+}
+
+/// The version in which a claim of a problem with these parts is written.
+fn version_under(problem: &Problem, claim: Claim, parts: &[Part]) -> Version
+    ensures { result ≡ version_under problem.now claim (map part_of parts.now) }
+{
+    if have_reasons(parts) {
+        return Version::Three;
+    }
     match claim {
         Claim::AtLeast(_) => version_of(problem),
         Claim::First(_) => Version::Two,
@@ -135,6 +165,7 @@ fn push_title(text: &mut Vec<u8>, version: Version) -> Result<(), AllocError>
     match version {
         Version::One => text.extend_from_slice(b"CRP-CERT 1\n"),
         Version::Two => text.extend_from_slice(b"CRP-CERT 2\n"),
+        Version::Three => text.extend_from_slice(b"CRP-CERT 3\n"),
     }
 }
 
@@ -144,7 +175,11 @@ fn push_heights(text: &mut Vec<u8>, version: Version, problem: &Problem) -> Resu
 {
     match version {
         Version::One => Ok(()),
-        Version::Two => push_numbers(text, b"heights", heights_of(problem).as_slice()),
+        Version::Two | Version::Three => push_numbers(
+            text,
+            b"heights",
+            heights_of(problem).as_slice(),
+        ),
     }
 }
 
@@ -194,17 +229,17 @@ fn push_name(text: &mut Vec<u8>, name: &Name) -> Result<(), AllocError>
     Ok(())
 }
 
-/// Adds the head of a certificate, down to its plan.
+/// Adds the head of a certificate in a version, down to its plan.
 fn push_head(
     text: &mut Vec<u8>,
+    version: Version,
     bay: &BayName,
     problem: &Problem,
     claim: Claim,
     plan: Option<&Plan>,
 ) -> Result<(), AllocError>
-    ensures { OnOk result (text.new.items ≡ text.old.items ++ head_text (head_for bay.now problem.now claim (option_copied plan.entry))) }
+    ensures { OnOk result (text.new.items ≡ text.old.items ++ head_text (head_for version bay.now problem.now claim (option_copied plan.entry))) }
 {
-    let version = version_under(problem, claim);
     push_title(text, version)?;
     push_bay(text, bay)?;
     push_size(text, problem)?;
@@ -214,24 +249,39 @@ fn push_head(
     push_plan(text, plan)
 }
 
-/// The letter of a symbol.
-fn letter(symbol: Symbol) -> u8
-    ensures { result ≡ symbol_letter symbol }
+/// Adds reasons in brackets.
+fn push_reasons(text: &mut Vec<u8>, bound: u8, reasons: &[u8]) -> Result<(), AllocError>
+    ensures { OnOk result (text.new.items ≡ text.old.items ++ reasons_text bound reasons.now) }
 {
-    match symbol {
-        Symbol::CutB => b'B',
-        Symbol::CutL => b'L',
-        Symbol::Branch(_) => b'X',
-        Symbol::Given => b'G',
+    text.push(b'[')?;
+    push_decimal(text, bound)?;
+    text.push(b':')?;
+    text.extend_from_slice(reasons)?;
+    text.push(b']')?;
+    Ok(())
+}
+
+/// Adds a symbol, with the text of its reasons if it has one.
+fn push_symbol(text: &mut Vec<u8>, kind: Kind, reasons: &[u8]) -> Result<(), AllocError>
+    ensures { OnOk result (text.new.items ≡ text.old.items ++ symbol_text (symbol_of kind reasons.now)) }
+{
+    match kind {
+        Kind::CutB => text.push(b'B')?,
+        Kind::CutL => text.push(b'L')?,
+        Kind::CutR(bound) => push_reasons(text, bound, reasons)?,
+        Kind::Branch(_) => text.push(b'X')?,
+        Kind::Given => text.push(b'G')?,
     }
+    Ok(())
 }
 
 /// Adds the symbols of a tree.
 fn push_tree(text: &mut Vec<u8>, tree: &Tree) -> Result<(), AllocError>
     ensures { OnOk result (text.new.items ≡ text.old.items ++ symbols_of tree.now) }
 {
-    for symbol in tree.symbols() {
-        text.push(letter(*symbol))?;
+    let mut rest = tree.symbols();
+    while let Some((kind, reasons)) = rest.next() {
+        push_symbol(text, kind, reasons)?;
     }
     Ok(())
 }
@@ -270,7 +320,8 @@ fn text_under(
     ensures { IfOk result (λ text. text.items ≡ text_under bay.now problem.now cert.now claim (option_copied plan.entry)) }
 {
     let mut text = Vec::new(alloc);
-    push_head(&mut text, bay, problem, claim, plan)?;
+    let version = version_under(problem, claim, cert.parts());
+    push_head(&mut text, version, bay, problem, claim, plan)?;
     push_parts(&mut text, cert.parts())?;
     push_number(&mut text, b"end", cert.parts().len())?;
     Ok(text)
@@ -296,7 +347,7 @@ pub fn cert_text(
     )
 }
 
-/// The text of a certificate of a problem, in version 2, which claims the plan to be the first best
+/// The text of a certificate of a problem, in version 2 or 3, which claims the plan to be the first best
 /// one.
 pub fn first_text(
     alloc: Global,

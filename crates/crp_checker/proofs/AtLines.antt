@@ -4,6 +4,7 @@ use Rattle.std.specs.List.{flat_map}
 use Rattle.std.proofs.Math.Seq.{take-suc}
 use Rattle.crp_plan.specs.Bay.{Problem, IsProblem}
 use Rattle.crp_tree.specs.Claims.{Part}
+use Rattle.crp_cert.specs.declared.version.Version.{Version}
 use Rattle.crp_cert.specs.declared.head.Head.{Head}
 use Rattle.crp_cert.specs.declared.fault.CertFault.{CertFault}
 use Rattle.crp_cert.specs.declared.script.Script.{Script}
@@ -79,17 +80,18 @@ ended wanted before taken findings begun new count n at e is =
 
 -- no line stands there
 pub refused_line : (wanted : Option Problem) (before taken : List ℕ) (findings : Findings) (begun new : List ℕ) (count : ℕ) (fault : CertFault) → count ≡ length findings.names → IsAtLine wanted before findings begun → new ≡ begun ++ taken →
-    (IsProblem findings.problem → HasNoName findings.problem begun → (parts : List Part) → length parts ≡ count → (more : List ℕ) → IsLineFault findings.problem parts findings.line (new ++ more) fault) →
+    (IsProblem findings.problem → HasNoName findings.problem begun → (version : Version) (parts : List Part) → length parts ≡ count → (more : List ℕ) → IsLineFault version findings.problem parts findings.line (new ++ more) fault) →
     IsFaulty (before ++ taken) (Some findings.bay) fault
 refused_line wanted before taken findings begun new count fault n at e is =
     let script = at.script in
     let parts = script.parts in
+    let version = script.head.version in
     let begins = line_on wanted before taken findings begun new at e in
     let number : findings.line ≡ at.line = at.are.line_is ∙ sym begins.number in
-    let at_fault : (more : List ℕ) → IsLineFault script.head.problem parts at.line (new ++ more) fault =
-    λ more. subst (λ p. IsLineFault p parts at.line (new ++ more) fault) at.are.problem_is
-    (subst (λ l. IsLineFault findings.problem parts l (new ++ more) fault) number
-    (is (subst IsProblem (sym at.are.problem_is) begins.is_head.problem) (no_name_in wanted before findings begun at) parts (sym (counted wanted script findings count at.are n)) more)) in
+    let at_fault : (more : List ℕ) → IsLineFault version script.head.problem parts at.line (new ++ more) fault =
+    λ more. subst (λ p. IsLineFault version p parts at.line (new ++ more) fault) at.are.problem_is
+    (subst (λ l. IsLineFault version findings.problem parts l (new ++ more) fault) number
+    (is (subst IsProblem (sym at.are.problem_is) begins.is_head.problem) (no_name_in wanted before findings begun at) version parts (sym (counted wanted script findings count at.are n)) more)) in
     record {
       fault_stays = λ more. line_fault (before ++ taken) more script.head parts at.line new fault begins (at_fault more);
       bay_stays = λ more. subst (BeginsWithBay ((before ++ taken) ++ more)) (sym at.are.bay_is) (bay_known (before ++ taken) script.head parts at.line new begins more);

@@ -1,6 +1,6 @@
 -- What the symbols of a part line lead to, and what its end does.
 use Rattle.std.proofs.Common.{◌≡◌, ◌≢◌, ℕ, suc, ◌+◌, ◌-◌, ◌^◌, List, [], ◌∷◌, ◌++◌, length, min, All, Option, Some, None, refl, sym, ap, ◌∙◌, subst, arith, append_assoc, length-append}
-use Rattle.std.specs.Prelude.{codes, fold}
+use Rattle.std.specs.Prelude.{codes}
 use Rattle.std.specs.List.{AllByRecursion, flat_map}
 use Rattle.std.proofs.lemmas.List.{append-nil, map-append}
 use Rattle.std.proofs.lemmas.List.Elements.{All-from_recursion}
@@ -10,6 +10,7 @@ use Rattle.crp_tree.specs.Names.{Precedes, name_text}
 use Rattle.crp_tree.specs.Claims.{Part, names, given_by}
 use Rattle.crp_cert.specs.declared.fault.CertFault.{CertFault}
 use Rattle.crp_cert.specs.declared.fault.CertFault.TheVariants as faults
+use Rattle.crp_cert.specs.declared.version.Version.{Version}
 use Rattle.crp_cert.specs.declared.script.Script.{Script}
 use Rattle.crp_cert.specs.Script.{symbols_line, part_line}
 use Rattle.crp_cert.specs.ScriptFaults.{BeginsWithParts, IsLineFault}
@@ -31,16 +32,16 @@ use Rattle.crp_checker.specs.declared.refused.Refused.TheVariants as refused
 use Rattle.crp_checker.specs.declared.wrong.Wrong.{Wrong}
 use Rattle.crp_checker.specs.declared.wrong.Wrong.TheVariants as wrong
 use Rattle.crp_checker.specs.Refusals.{nodes_by_name, named_nodes, IsRightPart, need_in, HasRightHead, IsFirstWrongNode}
-use Rattle.crp_checker.specs.Nodes.{need_of, IsLow, IsAtEnd, IsFirstWrong}
+use Rattle.crp_checker.specs.Nodes.{need_of, IsLow, IsAtEnd, IsUnshown, IsFirstWrong}
 use Rattle.crp_checker.specs.Openings.{part_word, named_line}
 use Rattle.crp_tree.specs.Spots.{Spot}
-use Rattle.crp_checker.specs.Symbols.{after, line_begun, line_after, IsFirstOf}
-use Rattle.crp_checker.specs.Kept.{line_of, need_by}
+use Rattle.crp_checker.specs.Symbols.{IsFirstOf}
+use Rattle.crp_checker.specs.Kept.{need_by}
+use Rattle.crp_checker.specs.Lines.{LineIs}
 use Rattle.crp_checker.specs.Ends.{IsEndOfSymbols}
 use Rattle.crp_checker.specs.PartEnds.{IsNextPart, IsPartEnd}
 use Rattle.crp_checker.specs.Stages.{AreFindings, IsNote, note_after, IsOpenLine, IsAtLine, IsAtPart, IsFaulty}
 use Rattle.crp_checker.proofs.AtLines.{bay_known}
-use Rattle.crp_checker.proofs.Lines.{pieces_are_joined}
 use Rattle.crp_checker.proofs.PartEnds.{part_lines_end}
 use Rattle.crp_checker.proofs.Rising.{comes_after, after_names}
 
@@ -52,10 +53,14 @@ same_need wanted script findings are = ap (λ c. need_of c findings.need.plan) a
 
 -- some symbols more
 pub symbols_on : (wanted : Option Problem) (before taken name : List ℕ) (findings : Findings) (old new : SymbolLine) → IsAtPart wanted before findings name old → AllByRecursion (λ b. b ≢ 10) taken →
-    line_of new ≡ fold (after (need_by findings.need)) (line_of old) taken → IsAtPart wanted (before ++ taken) findings name new
+    ((top : Spot) (before : List ℕ) → LineIs (need_by findings.need) findings.need.version top before old → LineIs (need_by findings.need) findings.need.version top (before ++ taken) new) →
+    IsAtPart wanted (before ++ taken) findings name new
 symbols_on wanted before taken name findings old new at one_line fed =
     let top : Spot = record { path = name; place = at.place } in
-    let need = need_in at.script in
+    let needs = need_by findings.need in
+    let same = same_need wanted at.script findings at.are in
+    let version = at.script.head.version in
+    let old_is = subst (λ v. LineIs needs v top at.symbols old) (sym at.are.version_is) (subst (λ n. LineIs n version top at.symbols old) (sym same) at.kept_is) in
     record {
       script = at.script;
       line = at.line;
@@ -67,7 +72,7 @@ symbols_on wanted before taken name findings old new at one_line fed =
       short = at.short;
       is_at = at.is_at;
       one_line = all_both (λ b. b ≢ 10) at.symbols taken at.one_line one_line;
-      kept_is = fed ∙ ap (λ n. fold (after n) (line_of old) taken) (same_need wanted at.script findings at.are) ∙ ap (λ l. fold (after need) l taken) at.kept_is ∙ pieces_are_joined need (line_begun top) at.symbols taken;
+      kept_is = subst (λ n. LineIs n version top (at.symbols ++ taken) new) same (subst (λ v. LineIs needs v top (at.symbols ++ taken) new) at.are.version_is (fed top at.symbols old_is));
     }
 
 -- ---- the end of the line
@@ -87,7 +92,7 @@ line_ends wanted before name findings kept at =
 
 -- it has a fault, whatever follows
 at_fault : (wanted : Option Problem) (before name : List ℕ) (findings : Findings) (kept : SymbolLine) (fault : CertFault) (at : IsAtPart wanted before findings name kept) →
-    ((more : List ℕ) → IsLineFault at.script.head.problem at.script.parts at.line (symbols_line name at.symbols ++ more) fault) → IsFaulty (before ++ 10 ∷ []) (Some findings.bay) fault
+    ((more : List ℕ) → IsLineFault at.script.head.version at.script.head.problem at.script.parts at.line (symbols_line name at.symbols ++ more) fault) → IsFaulty (before ++ 10 ∷ []) (Some findings.bay) fault
 at_fault wanted before name findings kept fault at is =
     let script = at.script in
     let begins = line_ends wanted before name findings kept at in
@@ -114,24 +119,24 @@ not_in_order wanted before name findings kept at not =
 
 -- what the end of the symbols means for the line
 meant : (wanted : Option Problem) (before name : List ℕ) (findings : Findings) (kept : SymbolLine) (end : LineEnd) (at : IsAtPart wanted before findings name kept) → All (λ other. Precedes other name) findings.names →
-    ((need : List ℕ → ℕ) (top : Spot) (bytes : List ℕ) → line_of kept ≡ line_after need top bytes → IsEndOfSymbols need top bytes end) →
-    (more : List ℕ) → IsPartEnd (need_in at.script) at.script.head.problem at.script.parts at.line name (symbols_line name at.symbols ++ more) more end
+    ((need : List ℕ → ℕ) (version : Version) (top : Spot) (bytes : List ℕ) → LineIs need version top bytes kept → IsEndOfSymbols need version top bytes end) →
+    (more : List ℕ) → IsPartEnd (need_in at.script) at.script.head.version at.script.head.problem at.script.parts at.line name (symbols_line name at.symbols ++ more) more end
 meant wanted before name findings kept end at order ends more =
     let script = at.script in
     let p = script.head.problem in
     let is : IsProblem p = at.begins.is_head.problem in
     let comes = comes_after script.parts name (subst (All (λ other. Precedes other name)) at.are.names_are order) in
-    part_lines_end (need_in script) p script.parts at.line name at.place at.symbols more end is at.short at.is_at (All-from_recursion (λ b. b ≢ 10) at.symbols at.one_line) comes
-    (ends (need_in script) (record { path = name; place = at.place }) at.symbols at.kept_is)
+    part_lines_end (need_in script) script.head.version p script.parts at.line name at.place at.symbols more end is at.short at.is_at (All-from_recursion (λ b. b ≢ 10) at.symbols at.one_line) comes
+    (ends (need_in script) script.head.version (record { path = name; place = at.place }) at.symbols at.kept_is)
 
 -- a fault of the symbols
 pub symbols_fault : (wanted : Option Problem) (before name : List ℕ) (findings : Findings) (kept : SymbolLine) (end : LineEnd) (fault : CertFault) (at : IsAtPart wanted before findings name kept) →
     All (λ other. Precedes other name) findings.names →
-    ((need : List ℕ → ℕ) (top : Spot) (bytes : List ℕ) → line_of kept ≡ line_after need top bytes → IsEndOfSymbols need top bytes end) →
-    ((p : Problem) (parts : List Part) (need : List ℕ → ℕ) (line : ℕ) (bytes after : List ℕ) → line ≡ findings.line → IsPartEnd need p parts line name bytes after end → IsLineFault p parts line bytes fault) → IsFaulty (before ++ 10 ∷ []) (Some findings.bay) fault
+    ((need : List ℕ → ℕ) (version : Version) (top : Spot) (bytes : List ℕ) → LineIs need version top bytes kept → IsEndOfSymbols need version top bytes end) →
+    ((version : Version) (p : Problem) (parts : List Part) (need : List ℕ → ℕ) (line : ℕ) (bytes after : List ℕ) → line ≡ findings.line → IsPartEnd need version p parts line name bytes after end → IsLineFault version p parts line bytes fault) → IsFaulty (before ++ 10 ∷ []) (Some findings.bay) fault
 symbols_fault wanted before name findings kept end fault at order ends is =
     at_fault wanted before name findings kept fault at
-    (λ more. is at.script.head.problem at.script.parts (need_in at.script) at.line (symbols_line name at.symbols ++ more) more (number_is wanted before name findings kept at) (meant wanted before name findings kept end at order ends more))
+    (λ more. is at.script.head.version at.script.head.problem at.script.parts (need_in at.script) at.line (symbols_line name at.symbols ++ more) more (number_is wanted before name findings kept at) (meant wanted before name findings kept end at order ends more))
 
 -- ---- one part more
 
@@ -171,6 +176,7 @@ noted wanted script part name (Some (refused.Plan fault)) w named first is = is
 noted wanted script part name (Some refused.NoFirstPlan) w named first is = is
 noted wanted script part name (Some (refused.Low other k)) w named first is = (right_still wanted script part is.0, first_still (need_in script) (IsLow (need_in script)) script.head.problem script.parts part other k is.1)
 noted wanted script part name (Some (refused.Finished other k)) w named first is = (right_still wanted script part is.0, first_still (need_in script) IsAtEnd script.head.problem script.parts part other k is.1)
+noted wanted script part name (Some (refused.Unshown other k)) w named first is = (right_still wanted script part is.0, first_still (need_in script) (IsUnshown (need_in script)) script.head.problem script.parts part other k is.1)
 noted wanted script part name (Some (refused.Cert fault)) w named first is = absurd is
 noted wanted script part name (Some (refused.Missing other)) w named first is = absurd is
 noted wanted script part name (Some (refused.Unneeded other)) w named first is = absurd is
@@ -182,6 +188,7 @@ noted wanted script part name None None named first is = (
 )
 noted wanted script part name None (Some (wrong.Low k)) named first is = (right_still wanted script part is.0, first_in_last (need_in script) (IsLow (need_in script)) script.head.problem script.parts part name k named is.1 first)
 noted wanted script part name None (Some (wrong.AtEnd k)) named first is = (right_still wanted script part is.0, first_in_last (need_in script) IsAtEnd script.head.problem script.parts part name k named is.1 first)
+noted wanted script part name None (Some (wrong.Unshown k)) named first is = (right_still wanted script part is.0, first_in_last (need_in script) (IsUnshown (need_in script)) script.head.problem script.parts part name k named is.1 first)
 
 -- what is kept of one part more
 pub record IsWithPart (old new : Findings) (name : List ℕ) (w : Option Wrong) (given : Gathered) : Type 0 where
@@ -200,8 +207,8 @@ nothing_begun script = record { no_name = λ stands. let e = stands.2.1 in cc; n
 
 pub part_ended : (wanted : Option Problem) (before name : List ℕ) (old new : Findings) (kept : SymbolLine) (end : LineEnd) (begun : List ℕ) (w : Option Wrong) (given : Gathered) → IsAtPart wanted before old name kept →
     All (λ other. Precedes other name) old.names →
-    ((need : List ℕ → ℕ) (top : Spot) (bytes : List ℕ) → line_of kept ≡ line_after need top bytes → IsEndOfSymbols need top bytes end) →
-    ((p : Problem) (parts : List Part) (need : List ℕ → ℕ) (line : ℕ) (bytes after : List ℕ) → IsPartEnd need p parts line name bytes after end → IsNextPart need p parts name bytes after w given) →
+    ((need : List ℕ → ℕ) (version : Version) (top : Spot) (bytes : List ℕ) → LineIs need version top bytes kept → IsEndOfSymbols need version top bytes end) →
+    ((version : Version) (p : Problem) (parts : List Part) (need : List ℕ → ℕ) (line : ℕ) (bytes after : List ℕ) → IsPartEnd need version p parts line name bytes after end → IsNextPart need version p parts name bytes after w given) →
     IsWithPart old new name w given → begun ≡ [] → IsAtLine wanted (before ++ 10 ∷ []) new begun
 part_ended wanted before name old new kept end begun w given at order ends whole is none =
     let script = at.script in
@@ -209,16 +216,16 @@ part_ended wanted before name old new kept end begun w given at order ends whole
     let p = head.problem in
     let parts = script.parts in
     let rest = symbols_line name at.symbols in
-    let next = whole p parts (need_in script) at.line (rest ++ []) [] (meant wanted before name old kept end at order ends []) in
+    let next = whole head.version p parts (need_in script) at.line (rest ++ []) [] (meant wanted before name old kept end at order ends []) in
     let part = next.part in
     let tells = line_ends wanted before name old kept at in
     let behind : List ℕ = flat_map part_line parts ++ rest in
-    let are : AreParts p behind parts rest = record { each_part = tells.each_part; rising = tells.rising; text = refl } in
-    let more = parts_push p behind parts (parts ++ part ∷ []) part rest [] refl are next.readable next.in_order (sym (append-nil rest) ∙ next.text) in
+    let are : AreParts head.version p behind parts rest = record { each_part = tells.each_part; rising = tells.rising; text = refl } in
+    let more = parts_push head.version p behind parts (parts ++ part ∷ []) part rest [] refl are next.readable next.in_order (sym (append-nil rest) ∙ next.text) in
     let longer : length (parts ++ part ∷ []) ≡ length parts + 1 = length-append parts (part ∷ []) in
     let begins : BeginsWithParts (before ++ 10 ∷ []) head (parts ++ part ∷ []) (suc at.line) [] =
     tells_parts (before ++ 10 ∷ []) head behind (parts ++ part ∷ []) (suc at.line) [] tells.is_head tells.text more (let number = tells.number in omega arith) in
-    let few = few_parts p (parts ++ part ∷ []) tells.is_head.problem more.each_part more.rising in
+    let few = few_parts head.version p (parts ++ part ∷ []) tells.is_head.problem more.each_part more.rising in
     let early = first_few head tells.is_head in
     subst (IsAtLine wanted (before ++ 10 ∷ []) new) (sym none)
     (record {
@@ -227,6 +234,7 @@ part_ended wanted before name old new kept end begun w given at order ends whole
       are = record {
         bay_is = is.same_bay ∙ at.are.bay_is;
         problem_is = is.same_problem ∙ at.are.problem_is;
+        version_is = ap (λ (n : Need). n.version) is.same_need ∙ at.are.version_is;
         claim_is = ap (λ (n : Need). n.claim) is.same_need ∙ at.are.claim_is;
         plan_is = ap (λ (n : Need). n.plan) is.same_need ∙ at.are.plan_is;
         count_is = is.same_count ∙ at.are.count_is;

@@ -11,6 +11,7 @@ use Rattle.crp_tree.proofs.Accepted.{nodes_are}
 use Rattle.crp_tree.specs.Claims.{IsPart, IsAccepted, IsRootOrGiven, IsNeeded, nodes_in, given_by, names, Part}
 use Rattle.crp_tree.proofs.Lists.{in_flat_map, from_map}
 use Rattle.crp_tree.proofs.Certified.{distinct}
+use Rattle.crp_cert.specs.declared.version.Version.{Version}
 use Rattle.crp_cert.specs.declared.claim.Claim.{Claim}
 use Rattle.crp_cert.specs.declared.script.Script.{Script}
 use Rattle.crp_cert.specs.Text.{bound}
@@ -25,9 +26,9 @@ use Rattle.crp_checker.proofs.Shapes.{in_place_from, high_from}
 use Rattle.crp_checker.proofs.Under.{MeetNeedIn, high_under, accepted_under}
 
 -- what a part line may say, with right nodes, has its shape, if the paths that it gives are short
-part_is : (p : Problem) (need : List ℕ → ℕ) (part : Part) → IsProblem p → IsPartLine p part → IsRightPart need (named_nodes p part) →
+part_is : (version : Version) (p : Problem) (need : List ℕ → ℕ) (part : Part) → IsProblem p → IsPartLine version p part → IsRightPart need (named_nodes p part) →
     ((g : List ℕ) → Contains (given_by p part) g → length g ≤ 8) → IsPart p part
-part_is p need part is line right short = record {
+part_is version p need part is line right short = record {
   short = line.short;
   place = line.place;
   is_at = line.is_at;
@@ -41,12 +42,12 @@ part_is p need part is line right short = record {
 }
 
 -- so it is with all parts
-parts_are : (p : Problem) (need : List ℕ → ℕ) (parts : List Part) → IsProblem p → AllByRecursion (IsPartLine p) parts → AllByRecursion (IsRightPart need) (nodes_by_name p parts) →
+parts_are : (version : Version) (p : Problem) (need : List ℕ → ℕ) (parts : List Part) → IsProblem p → AllByRecursion (IsPartLine version p) parts → AllByRecursion (IsRightPart need) (nodes_by_name p parts) →
     ((part : Part) (g : List ℕ) → Contains parts part → Contains (given_by p part) g → length g ≤ 8) → AllByRecursion (IsPart p) parts
-parts_are p need [] is lines right short = tt
-parts_are p need (part ∷ parts) is lines right short = (
-  part_is p need part is lines.0 right.0 (λ g c. short part g (in_head part parts) c),
-  parts_are p need parts is lines.1 right.1 (λ r g c d. short r g (in_tail part parts r c) d),
+parts_are version p need [] is lines right short = tt
+parts_are version p need (part ∷ parts) is lines right short = (
+  part_is version p need part is lines.0 right.0 (λ g c. short part g (in_head part parts) c),
+  parts_are version p need parts is lines.1 right.1 (λ r g c d. short r g (in_tail part parts r c) d),
 )
 
 parts_met : (p : Problem) (need : List ℕ → ℕ) (parts : List Part) → AllByRecursion (IsRightPart need) (nodes_by_name p parts) → MeetNeedIn need p parts
@@ -65,7 +66,7 @@ accepted_from parsed held given readable plan its right e d same =
     let p : Problem = parsed.head.problem in
     let head = readable.is_head in
     let is : IsProblem p = head.problem in
-    let lines = recursion_from_All (IsPartLine p) parsed.parts readable.each_part in
+    let lines = recursion_from_All (IsPartLine parsed.head.version p) parsed.parts readable.each_part in
     let needed : (name : List ℕ) → Contains (names parsed.parts) name ↔ IsNeeded p parsed.parts name =
     λ name. subst (λ l. Contains (names parsed.parts) name ↔ IsRootOrGiven l name) d (subst (λ l. Contains l name ↔ IsRootOrGiven given name) e (same name)) in
     let met = parts_met p (need_in parsed) parsed.parts right in
@@ -74,19 +75,19 @@ accepted_from parsed held given readable plan its right e d same =
       is_problem = is;
       within_cap = head.claim;
       plan_is = plan;
-      each_part = All-from_recursion (IsPart p) parsed.parts (parts_are p (need_in parsed) parsed.parts is lines right (short_names parsed p readable.each_part needed));
+      each_part = All-from_recursion (IsPart p) parsed.parts (parts_are parsed.head.version p (need_in parsed) parsed.parts is lines right (short_names parsed p readable.each_part needed));
       each_cut = All-from_recursion (λ part. HasAtLeast (bound parsed.head.claim) (nodes_in p part)) parsed.parts (parts_high parsed.head.claim parsed.head.plan p parsed.parts met);
       each_once = distinct (names parsed.parts) readable.rising;
       as_needed = needed;
     } in
     accepted_under parsed.head.claim (claim_of parsed) refl ok its met
   where
-    short_names : (parsed : Script) (p : Problem) → All (IsPartLine p) parsed.parts → ((name : List ℕ) → Contains (names parsed.parts) name ↔ IsNeeded p parsed.parts name) →
+    short_names : (parsed : Script) (p : Problem) → All (IsPartLine parsed.head.version p) parsed.parts → ((name : List ℕ) → Contains (names parsed.parts) name ↔ IsNeeded p parsed.parts name) →
         (part : Part) (g : List ℕ) → Contains parsed.parts part → Contains (given_by p part) g → length g ≤ 8
     short_names parsed p each needed part g c d =
         let there : Contains (names parsed.parts) g = (needed g).1 (inr (in_flat_map (given_by p) parsed.parts part g c d)) in
         let y = from_map (λ r. r.name) parsed.parts g there in
-        let r = All-contains (IsPartLine p) parsed.parts y.0 each y.1 in
+        let r = All-contains (IsPartLine parsed.head.version p) parsed.parts y.0 each y.1 in
         subst (λ n. length n ≤ 8) y.2 r.short
 
 -- names that are refused are refused as said
@@ -108,3 +109,4 @@ names_refused script held given (refused.Plan fault) e d right plan its w = absu
 names_refused script held given refused.NoFirstPlan e d right plan its w = absurd w
 names_refused script held given (refused.Low part symbol) e d right plan its w = absurd w
 names_refused script held given (refused.Finished part symbol) e d right plan its w = absurd w
+names_refused script held given (refused.Unshown part symbol) e d right plan its w = absurd w

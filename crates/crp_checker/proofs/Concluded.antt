@@ -49,7 +49,7 @@ more_after wanted before (b ∷ bytes) findings number ended some is =
     let head = script.head in
     let parts = script.parts in
     let begins = whole_begins wanted before findings ended in
-    let few = few_parts head.problem parts begins.is_head.problem begins.each_part begins.rising in
+    let few = few_parts head.version head.problem parts begins.is_head.problem begins.each_part begins.rising in
     let early = first_few head begins.is_head in
     let line : number ≡ suc (first_part head + length parts) = let at = ended.are.line_is in is ∙ omega arith in
     record {
@@ -157,6 +157,7 @@ memory_or_not (refused.Plan fault) = inr (λ e. cc)
 memory_or_not refused.NoFirstPlan = inr (λ e. cc)
 memory_or_not (refused.Low part symbol) = inr (λ e. cc)
 memory_or_not (refused.Finished part symbol) = inr (λ e. cc)
+memory_or_not (refused.Unshown part symbol) = inr (λ e. cc)
 
 pub refused_by_names : (findings : Findings) (r : Refused) → findings.wrong ≡ None → ((list : List (List ℕ)) → findings.given ≡ gathered list → IsNamesRefusal findings.names list r) →
     (r ≡ refused.Memory) ⊎ ((wanted : Option Problem) (bytes : List ℕ) → HasEnded wanted bytes findings → IsRefusal wanted bytes r)

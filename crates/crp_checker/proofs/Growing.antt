@@ -57,13 +57,13 @@ part_opens p count line old behind b Open e is = (
 )
 part_opens p count line old behind b (Name name) e is = (is.0, λ none. e ∙ ap (λ l. part_word ++ l) is.1)
 part_opens p count line old behind b Ended e is = absurd is
-part_opens p count line old behind b (Refused fault) e is = λ problem none parts same more.
+part_opens p count line old behind b (Refused fault) e is = λ problem none version parts same more.
     let text : (old ++ b ∷ []) ++ more ≡ part_word ++ (behind ++ more) = ap (λ l. l ++ more) e ∙ append_assoc part_word behind more in
     let no_name : ¬ BeginsWith (IsName p) spelled_name behind =
     λ stands. is.2 stands.0 stands.1
     (exactly p old behind b e none stands.0 stands.2.0 stands.1 (e ∙ ap (λ l. part_word ++ l) stands.2.1 ∙ sym (append_assoc part_word (spelled_name stands.0) stands.2.0))) in
-    subst (λ l. IsLineFault p parts line l fault) (sym text)
-    (subst (IsLineFault p parts line (part_word ++ (behind ++ more))) (sym is.0)
+    subst (λ l. IsLineFault version p parts line l fault) (sym text)
+    (subst (IsLineFault version p parts line (part_word ++ (behind ++ more))) (sym is.0)
     (refl, (behind ++ more, refl), refused p problem behind more is.1 no_name))
 
 pub last_opens : (p : Problem) (count line : ℕ) (old begun : List ℕ) (b : ℕ) (r : Opening) → begun ≡ old ++ b ∷ [] → (IsBegunWith begun part_word → ⊥) → IsLastOpening count line begun r →
@@ -73,8 +73,8 @@ last_opens p count line old begun b (Name name) e other is = absurd is
 last_opens p count line old begun b Ended e other is = λ none.
     let empty = grown old b (end_line count) is.0 (sym e ∙ is.1) (λ r f. none (r, f)) in
     is.1 ∙ ap (λ l. end_line count ++ l) empty ∙ append-nil (end_line count)
-last_opens p count line old begun b (Refused fault) e other is = λ problem none parts same more.
-    subst (IsLineFault p parts line (begun ++ more)) (sym is.0)
+last_opens p count line old begun b (Refused fault) e other is = λ problem none version parts same more.
+    subst (IsLineFault version p parts line (begun ++ more)) (sym is.0)
     (inl (refl, (λ after f. (is.1 more).0 (after, f)), λ after f. (is.1 more).1 (after, f ∙ ap (λ n. end_line n ++ after) same)))
 
 -- bytes that are no front of a text, and of which it is none, are none whatever follows

@@ -7,6 +7,7 @@ pub mod OnTheWay
 pub mod OneCut
 pub mod OneRefusal
 pub mod Onward
+pub mod NextRows
 pub mod PassedOver
 pub mod OnWalks
 pub mod Paid

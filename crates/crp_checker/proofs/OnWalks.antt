@@ -1,18 +1,18 @@
 -- From symbol to symbol of a piece.
-use Rattle.std.proofs.Common.{◌≡◌, ◌⊎◌, inl, inr, ℕ, suc, ◌+◌, ◌-◌, ◌≤◌, ◌<◌, true, false, List, [], ◌∷◌, ◌++◌, length, take, drop, get_or, fold, Some, None, refl, sym, ap, ◌∙◌, subst, arith, length-append}
+use Rattle.std.proofs.Common.{◌≡◌, inl, inr, ℕ, suc, ◌+◌, ◌-◌, ◌≤◌, ◌<◌, true, List, [], ◌∷◌, ◌++◌, length, take, drop, get_or, fold, Some, None, refl, sym, ap, ◌∙◌, subst, arith, length-append}
 use Rattle.std.specs.Option.{option_or}
-use Rattle.std.proofs.lemmas.List.{length-take-le, take_more, take_all, take-append-drop, length-drop, get_or-drop}
+use Rattle.std.proofs.lemmas.List.{length-take-le, take_more, take_all, length-drop}
 use Rattle.std.proofs.lemmas.List.Elements.{length_all_zip}
 use Rattle.std.proofs.lemmas.List.Sums.{fold-append}
 use Rattle.crp_plan.specs.Bay.{Position}
 use Rattle.crp_bay.specs.Positions.{can_shift}
 use Rattle.crp_bay.specs.Back.{PlaceAndTrail}
-use Rattle.crp_tree.specs.declared.mark.Mark.{Mark}
+use Rattle.crp_tree.specs.Mark.{Mark}
 use Rattle.crp_tree.specs.Trees.{given_names}
 use Rattle.crp_checker.specs.Gathered.{gathered, joined}
 use Rattle.crp_checker.specs.declared.found.Found.{Found}
 use Rattle.crp_tree.specs.Spots.{Spot, node_at, spots_below, owed_behind}
-use Rattle.crp_checker.specs.Symbols.{Walked, Line, symbol_at, wrong_at, after}
+use Rattle.crp_checker.specs.Symbols.{Walked, symbol_at, wrong_at, after}
 use Rattle.crp_checker.specs.Pending.{up, back, rows_behind, pending, spot_at}
 use Rattle.crp_checker.specs.Passed.{IsHighCut, ArePassed, rows_from}
 use Rattle.crp_checker.specs.Walks.{walked_at, line_at, LeadTo, IsWalk, IsStopped}
@@ -146,7 +146,7 @@ walked_to need owed old above piece path new s row last taken found leads within
 }
 
 -- no symbol came, or none is owed
-pub stays : (need : List ℕ → ℕ) (owed : List Spot) (found : Found) (piece : List ℕ) → (0 < length piece → (owed ≡ []) ⊎ (symbol_at found.count (get_or piece 0 0) ≡ None)) → IsWalk need owed found piece owed found 0
+pub stays : (need : List ℕ → ℕ) (owed : List Spot) (found : Found) (piece : List ℕ) → (0 < length piece → IsStopped owed found.count (get_or piece 0 0)) → IsWalk need owed found piece owed found 0
 stays need owed found piece stopped = record { within = omega arith; walked = nothing_read need (walked_at owed found.count found); stopped = stopped }
 
 -- the first symbol of a piece, and a walk behind it
@@ -162,36 +162,6 @@ walks_on need owed between left old first found (x ∷ xs) b n taken some read m
       stopped = λ lt. w.stopped (omega (arith, lt));
     })
 
--- ---- behind trees
-
--- a symbol that no tree is owed for
-pub trails : (needs : List ℕ → ℕ) (line : Line) (b : ℕ) (mark : Mark) → IsStopped line b → line.unknown ≡ false → symbol_at line.walked.count b ≡ Some mark → line.walked.owed ≡ []
-trails needs line b mark (inl unknown) known is = absurd (cc)
-trails needs line b mark (inr (inl none)) known is = none
-trails needs line b mark (inr (inr no_symbol)) known is = absurd (cc)
-
--- a line that goes on as a walk does
-pub reads_on : (needs : List ℕ → ℕ) (old new : Line) (bytes : List ℕ) → LeadTo needs old.walked bytes new.walked → old.unknown ≡ false → new.unknown ≡ false → new.trailing ≡ old.trailing → new ≡ fold (after needs) old bytes
-reads_on needs old new bytes leads was is same =
-    let before : line_at old.walked old.trailing ≡ old = ap (λ u. record { walked = old.walked; trailing = old.trailing; unknown = u }) (sym was) in
-    let behind : new ≡ line_at new.walked old.trailing = ap (λ u. record { walked = new.walked; trailing = new.trailing; unknown = u }) is ∙ ap (line_at new.walked) same in
-    behind ∙ sym (leads old.trailing) ∙ ap (λ l. fold (after needs) l bytes) before
-
 -- what is left of a piece
 pub rest_is : (n : ℕ) (piece : List ℕ) → take (length piece - n) (drop n piece) ≡ drop n piece
 rest_is n piece = take_all (length piece - n) (drop n piece) (omega (arith, length-drop n piece))
-
-pub rest_stopped : (line : Line) (piece : List ℕ) (n : ℕ) → (n < length piece → IsStopped line (get_or piece n 0)) → 0 < length (take (length piece - n) (drop n piece)) → IsStopped line (get_or (take (length piece - n) (drop n piece)) 0 0)
-rest_stopped line piece n stopped some =
-    let lt : n < length piece = omega (arith, some, ap length (rest_is n piece), length-drop n piece) in
-    let same : n + 0 ≡ n = omega arith in
-    subst (IsStopped line) (sym (ap (λ l. get_or l 0 0) (rest_is n piece) ∙ get_or-drop n piece 0 0 ∙ ap (λ k. get_or piece k 0) same)) (stopped lt)
-
-pub rest_read : (needs : List ℕ → ℕ) (old mid new : Line) (piece : List ℕ) (n i : ℕ) → length (take (length piece - n) (drop n piece)) ≤ i → mid ≡ fold (after needs) old (take n piece) →
-    new ≡ fold (after needs) mid (take i (take (length piece - n) (drop n piece))) → new ≡ fold (after needs) old piece
-rest_read needs old mid new piece n i all front rest =
-    rest
-    ∙ ap (fold (after needs) mid) (take_all i (take (length piece - n) (drop n piece)) all ∙ rest_is n piece)
-    ∙ ap (λ l. fold (after needs) l (drop n piece)) front
-    ∙ sym (fold-append (after needs) old (take n piece) (drop n piece))
-    ∙ ap (fold (after needs) old) (take-append-drop n piece)

@@ -7,7 +7,7 @@ use Rattle.crp_plan.specs.declared.plan.PlanFault.{PlanFault}
 use Rattle.crp_plan.specs.Faults.{IsPlanPath, IsPlanFault}
 use Rattle.crp_plan.proofs.Steps.{fault_refuses}
 use Rattle.crp_plan.proofs.OneFault.{one_plan_fault}
-use Rattle.crp_tree.specs.declared.mark.Mark.TheVariants.{X}
+use Rattle.crp_tree.specs.Mark.{X}
 use Rattle.crp_tree.specs.Trees.{Node, nodes, is_cut}
 use Rattle.crp_tree.specs.Claims.{Part, IsPart, IsAccepted}
 use Rattle.crp_tree.proofs.Accepted.{nodes_are}
@@ -16,7 +16,7 @@ use Rattle.crp_cert.specs.declared.script.Script.{Script}
 use Rattle.crp_cert.specs.Script.{claim_of}
 use Rattle.crp_checker.specs.declared.refused.Refused.{Refused}
 use Rattle.crp_checker.specs.declared.refused.Refused.TheVariants as refused
-use Rattle.crp_checker.specs.Nodes.{IsLow, IsAtEnd, IsRight, IsFirstWrong}
+use Rattle.crp_checker.specs.Nodes.{Show, IsLow, IsAtEnd, IsUnshown, IsRight, IsFirstWrong}
 use Rattle.crp_checker.specs.AcceptedTexts.{IsWanted, IsAcceptedScript}
 use Rattle.crp_checker.specs.Refusals.{NamedNodes, nodes_by_name, IsRightPart, need_in, nodes_of_script, AreRightParts, IsFirstWrongNode, IsMissing, IsUnneeded, HasRightHead, IsFirstWrongClaim}
 use Rattle.crp_cert.proofs.Joined.{all_right}
@@ -57,6 +57,9 @@ not_low need node right low = right.not_low low
 not_at_end : (need : List ℕ → ℕ) (node : Node) → IsRight need node → IsAtEnd node → ⊥
 not_at_end need node right end = right.not_at_end end
 
+not_unshown : (need : List ℕ → ℕ) (node : Node) → IsRight need node → IsUnshown need node → ⊥
+not_unshown need node right unshown = unshown.1 right.shown
+
 -- a plan path has no fault
 plan_clash : (p : Problem) (plan : Option (List ℕ)) (rows : List ℕ) → IsProblem p → IfSome plan (IsPlanPath p) → plan ≡ Some rows → (fault : _) → IsPlanFault p rows fault → ⊥
 plan_clash p plan rows is path e fault f = fault_refuses p rows fault is f (subst (λ o. IfSome o (IsPlanPath p)) e path)
@@ -75,6 +78,7 @@ not_wrong wanted script r accepted asked w = clash r w
     clash refused.NoFirstPlan w = w.2 (plan_under script.head.claim (claim_of script) refl accepted)
     clash (refused.Low part symbol) w = none_met (need_in script) (IsLow (need_in script)) (nodes_of_script script) part symbol (not_low (need_in script)) (right_if_accepted script accepted) w.1
     clash (refused.Finished part symbol) w = none_met (need_in script) IsAtEnd (nodes_of_script script) part symbol (not_at_end (need_in script)) (right_if_accepted script accepted) w.1
+    clash (refused.Unshown part symbol) w = none_met (need_in script) (IsUnshown (need_in script)) (nodes_of_script script) part symbol (not_unshown (need_in script)) (right_if_accepted script accepted) w.1
     clash (refused.Missing name) w = let k = w.2 in let h = k.holds in h.1 ((ok.as_needed name).1 h.0)
     clash (refused.Unneeded name) w = let k = w.3 in let h = k.holds in h.1 ((ok.as_needed name).0 h.0)
     clash refused.Memory w = w
@@ -122,15 +126,22 @@ one_met need Wrong Other parts name other k l clash clash' a b =
       wrong_too = subst Other (sym node.1) second.wrong;
     }
 
--- no node is wrong in both ways
+-- no node is wrong in two ways
 low_or_end : (need : List ℕ → ℕ) (node : Node) → IsLow need node → IsAtEnd node → ⊥
 low_or_end need node low end = let t : is_cut X ≡ true = subst (λ m. is_cut m ≡ true) end.0 low.0 in cc
 
+low_or_unshown : (need : List ℕ → ℕ) (node : Node) → IsLow need node → IsUnshown need node → ⊥
+low_or_unshown need node low unshown = unshown.0 low
+
+end_or_unshown : (need : List ℕ → ℕ) (node : Node) → IsAtEnd node → IsUnshown need node → ⊥
+end_or_unshown need node end unshown = subst (λ m. Show m node.place → ⊥) end.0 unshown.1 tt
+
 -- so the walk does not meet both first
-not_both_met : (need : List ℕ → ℕ) (parts : List NamedNodes) (name other : List ℕ) (k l : ℕ) → IsFirstWrongNode need (IsLow need) parts name k → IsFirstWrongNode need IsAtEnd parts other l → ⊥
-not_both_met need parts name other k l a b =
-    let m = one_met need (IsLow need) IsAtEnd parts name other k l (not_low need) (not_at_end need) a b in
-    low_or_end need m.node m.wrong m.wrong_too
+not_both_met : (need : List ℕ → ℕ) (Wrong Other : Node → Type 0) (parts : List NamedNodes) (name other : List ℕ) (k l : ℕ) → ((node : Node) → IsRight need node → Wrong node → ⊥) → ((node : Node) → IsRight need node → Other node → ⊥) →
+    ((node : Node) → Wrong node → Other node → ⊥) → IsFirstWrongNode need Wrong parts name k → IsFirstWrongNode need Other parts other l → ⊥
+not_both_met need Wrong Other parts name other k l clash clash' apart a b =
+    let m = one_met need Wrong Other parts name other k l clash clash' a b in
+    apart m.node m.wrong m.wrong_too
 
 -- where some node is wrong, not all are right
 low_not_right : (need : List ℕ → ℕ) (parts : List NamedNodes) (name : List ℕ) (k : ℕ) → AllByRecursion (IsRightPart need) parts → IsFirstWrongNode need (IsLow need) parts name k → ⊥
@@ -138,6 +149,9 @@ low_not_right need parts name k right met = none_met need (IsLow need) parts nam
 
 end_not_right : (need : List ℕ → ℕ) (parts : List NamedNodes) (name : List ℕ) (k : ℕ) → AllByRecursion (IsRightPart need) parts → IsFirstWrongNode need IsAtEnd parts name k → ⊥
 end_not_right need parts name k right met = none_met need IsAtEnd parts name k (not_at_end need) right met
+
+unshown_not_right : (need : List ℕ → ℕ) (parts : List NamedNodes) (name : List ℕ) (k : ℕ) → AllByRecursion (IsRightPart need) parts → IsFirstWrongNode need (IsUnshown need) parts name k → ⊥
+unshown_not_right need parts name k right met = none_met need (IsUnshown need) parts name k (not_unshown need) right met
 
 -- a plan with a fault is none
 bad_plan : (wanted : Option Problem) (script : Script) (fault : PlanFault) → IsProblem script.head.problem → IsFirstWrongClaim wanted script (refused.Plan fault) → HasRightHead wanted script → ⊥
@@ -160,6 +174,7 @@ one_wrong wanted script refused.OtherProblem (refused.Plan f) is a b = absurd (a
 one_wrong wanted script refused.OtherProblem refused.NoFirstPlan is a b = absurd (a b.0)
 one_wrong wanted script refused.OtherProblem (refused.Low name k) is a b = absurd (let h = b.0 in a h.as_wanted)
 one_wrong wanted script refused.OtherProblem (refused.Finished name k) is a b = absurd (let h = b.0 in a h.as_wanted)
+one_wrong wanted script refused.OtherProblem (refused.Unshown name k) is a b = absurd (let h = b.0 in a h.as_wanted)
 one_wrong wanted script refused.OtherProblem (refused.Missing name) is a b = absurd (let h = b.0 in a h.as_wanted)
 one_wrong wanted script refused.OtherProblem (refused.Unneeded name) is a b = absurd (let h = b.0 in a h.as_wanted)
 one_wrong wanted script (refused.Plan f) (refused.Cert g) is a b = absurd b
@@ -172,6 +187,7 @@ one_wrong wanted script (refused.Plan f) (refused.Plan g) is a b =
 one_wrong wanted script (refused.Plan f) refused.NoFirstPlan is a b = absurd (let k = a.1 in plan_clash script.head.problem script.head.plan k.0 is b.1 k.1 f k.2)
 one_wrong wanted script (refused.Plan f) (refused.Low name k) is a b = absurd (bad_plan wanted script f is a b.0)
 one_wrong wanted script (refused.Plan f) (refused.Finished name k) is a b = absurd (bad_plan wanted script f is a b.0)
+one_wrong wanted script (refused.Plan f) (refused.Unshown name k) is a b = absurd (bad_plan wanted script f is a b.0)
 one_wrong wanted script (refused.Plan f) (refused.Missing name) is a b = absurd (bad_plan wanted script f is a b.0)
 one_wrong wanted script (refused.Plan f) (refused.Unneeded name) is a b = absurd (bad_plan wanted script f is a b.0)
 one_wrong wanted script refused.NoFirstPlan (refused.Cert g) is a b = absurd b
@@ -181,6 +197,7 @@ one_wrong wanted script refused.NoFirstPlan (refused.Plan g) is a b = absurd (le
 one_wrong wanted script refused.NoFirstPlan refused.NoFirstPlan is a b = refl
 one_wrong wanted script refused.NoFirstPlan (refused.Low name k) is a b = absurd (let h = b.0 in a.2 h.its_plan)
 one_wrong wanted script refused.NoFirstPlan (refused.Finished name k) is a b = absurd (let h = b.0 in a.2 h.its_plan)
+one_wrong wanted script refused.NoFirstPlan (refused.Unshown name k) is a b = absurd (let h = b.0 in a.2 h.its_plan)
 one_wrong wanted script refused.NoFirstPlan (refused.Missing name) is a b = absurd (let h = b.0 in a.2 h.its_plan)
 one_wrong wanted script refused.NoFirstPlan (refused.Unneeded name) is a b = absurd (let h = b.0 in a.2 h.its_plan)
 one_wrong wanted script (refused.Low name k) (refused.Cert g) is a b = absurd b
@@ -191,7 +208,10 @@ one_wrong wanted script (refused.Low name k) refused.NoFirstPlan is a b = absurd
 one_wrong wanted script (refused.Low name k) (refused.Low other l) is a b =
     let m = one_met (need_in script) (IsLow (need_in script)) (IsLow (need_in script)) (nodes_of_script script) name other k l (not_low (need_in script)) (not_low (need_in script)) a.1 b.1 in
     ap (λ x. refused.Low x k) m.same_name ∙ ap (refused.Low other) m.same_number
-one_wrong wanted script (refused.Low name k) (refused.Finished other l) is a b = absurd (not_both_met (need_in script) (nodes_of_script script) name other k l a.1 b.1)
+one_wrong wanted script (refused.Low name k) (refused.Finished other l) is a b =
+    absurd (not_both_met (need_in script) (IsLow (need_in script)) IsAtEnd (nodes_of_script script) name other k l (not_low (need_in script)) (not_at_end (need_in script)) (low_or_end (need_in script)) a.1 b.1)
+one_wrong wanted script (refused.Low name k) (refused.Unshown other l) is a b =
+    absurd (not_both_met (need_in script) (IsLow (need_in script)) (IsUnshown (need_in script)) (nodes_of_script script) name other k l (not_low (need_in script)) (not_unshown (need_in script)) (low_or_unshown (need_in script)) a.1 b.1)
 one_wrong wanted script (refused.Low name k) (refused.Missing other) is a b = absurd (low_not_right (need_in script) (nodes_of_script script) name k b.1 a.1)
 one_wrong wanted script (refused.Low name k) (refused.Unneeded other) is a b = absurd (low_not_right (need_in script) (nodes_of_script script) name k b.1 a.1)
 one_wrong wanted script (refused.Finished name k) (refused.Cert g) is a b = absurd b
@@ -199,12 +219,29 @@ one_wrong wanted script (refused.Finished name k) refused.Memory is a b = absurd
 one_wrong wanted script (refused.Finished name k) refused.OtherProblem is a b = absurd (let h = a.0 in b h.as_wanted)
 one_wrong wanted script (refused.Finished name k) (refused.Plan g) is a b = absurd (bad_plan wanted script g is b a.0)
 one_wrong wanted script (refused.Finished name k) refused.NoFirstPlan is a b = absurd (let h = a.0 in b.2 h.its_plan)
-one_wrong wanted script (refused.Finished name k) (refused.Low other l) is a b = absurd (not_both_met (need_in script) (nodes_of_script script) other name l k b.1 a.1)
+one_wrong wanted script (refused.Finished name k) (refused.Low other l) is a b =
+    absurd (not_both_met (need_in script) (IsLow (need_in script)) IsAtEnd (nodes_of_script script) other name l k (not_low (need_in script)) (not_at_end (need_in script)) (low_or_end (need_in script)) b.1 a.1)
 one_wrong wanted script (refused.Finished name k) (refused.Finished other l) is a b =
     let m = one_met (need_in script) IsAtEnd IsAtEnd (nodes_of_script script) name other k l (not_at_end (need_in script)) (not_at_end (need_in script)) a.1 b.1 in
     ap (λ x. refused.Finished x k) m.same_name ∙ ap (refused.Finished other) m.same_number
+one_wrong wanted script (refused.Finished name k) (refused.Unshown other l) is a b =
+    absurd (not_both_met (need_in script) IsAtEnd (IsUnshown (need_in script)) (nodes_of_script script) name other k l (not_at_end (need_in script)) (not_unshown (need_in script)) (end_or_unshown (need_in script)) a.1 b.1)
 one_wrong wanted script (refused.Finished name k) (refused.Missing other) is a b = absurd (end_not_right (need_in script) (nodes_of_script script) name k b.1 a.1)
 one_wrong wanted script (refused.Finished name k) (refused.Unneeded other) is a b = absurd (end_not_right (need_in script) (nodes_of_script script) name k b.1 a.1)
+one_wrong wanted script (refused.Unshown name k) (refused.Low other l) is a b =
+    absurd (not_both_met (need_in script) (IsLow (need_in script)) (IsUnshown (need_in script)) (nodes_of_script script) other name l k (not_low (need_in script)) (not_unshown (need_in script)) (low_or_unshown (need_in script)) b.1 a.1)
+one_wrong wanted script (refused.Unshown name k) (refused.Finished other l) is a b =
+    absurd (not_both_met (need_in script) IsAtEnd (IsUnshown (need_in script)) (nodes_of_script script) other name l k (not_at_end (need_in script)) (not_unshown (need_in script)) (end_or_unshown (need_in script)) b.1 a.1)
+one_wrong wanted script (refused.Unshown name k) (refused.Cert g) is a b = absurd b
+one_wrong wanted script (refused.Unshown name k) refused.Memory is a b = absurd b
+one_wrong wanted script (refused.Unshown name k) refused.OtherProblem is a b = absurd (let h = a.0 in b h.as_wanted)
+one_wrong wanted script (refused.Unshown name k) (refused.Plan g) is a b = absurd (bad_plan wanted script g is b a.0)
+one_wrong wanted script (refused.Unshown name k) refused.NoFirstPlan is a b = absurd (let h = a.0 in b.2 h.its_plan)
+one_wrong wanted script (refused.Unshown name k) (refused.Unshown other l) is a b =
+    let m = one_met (need_in script) (IsUnshown (need_in script)) (IsUnshown (need_in script)) (nodes_of_script script) name other k l (not_unshown (need_in script)) (not_unshown (need_in script)) a.1 b.1 in
+    ap (λ x. refused.Unshown x k) m.same_name ∙ ap (refused.Unshown other) m.same_number
+one_wrong wanted script (refused.Unshown name k) (refused.Missing other) is a b = absurd (unshown_not_right (need_in script) (nodes_of_script script) name k b.1 a.1)
+one_wrong wanted script (refused.Unshown name k) (refused.Unneeded other) is a b = absurd (unshown_not_right (need_in script) (nodes_of_script script) name k b.1 a.1)
 one_wrong wanted script (refused.Missing name) (refused.Cert g) is a b = absurd b
 one_wrong wanted script (refused.Missing name) refused.Memory is a b = absurd b
 one_wrong wanted script (refused.Missing name) refused.OtherProblem is a b = absurd (let h = a.0 in b h.as_wanted)
@@ -212,6 +249,7 @@ one_wrong wanted script (refused.Missing name) (refused.Plan g) is a b = absurd 
 one_wrong wanted script (refused.Missing name) refused.NoFirstPlan is a b = absurd (let h = a.0 in b.2 h.its_plan)
 one_wrong wanted script (refused.Missing name) (refused.Low other l) is a b = absurd (low_not_right (need_in script) (nodes_of_script script) other l a.1 b.1)
 one_wrong wanted script (refused.Missing name) (refused.Finished other l) is a b = absurd (end_not_right (need_in script) (nodes_of_script script) other l a.1 b.1)
+one_wrong wanted script (refused.Missing name) (refused.Unshown other l) is a b = absurd (unshown_not_right (need_in script) (nodes_of_script script) other l a.1 b.1)
 one_wrong wanted script (refused.Missing name) (refused.Missing other) is a b = ap (λ x. refused.Missing x) (one_first (IsMissing script) name other a.2 b.2)
 one_wrong wanted script (refused.Missing name) (refused.Unneeded other) is a b = absurd (let least = a.2 in b.2 name least.holds)
 one_wrong wanted script (refused.Unneeded name) (refused.Cert g) is a b = absurd b
@@ -221,5 +259,6 @@ one_wrong wanted script (refused.Unneeded name) (refused.Plan g) is a b = absurd
 one_wrong wanted script (refused.Unneeded name) refused.NoFirstPlan is a b = absurd (let h = a.0 in b.2 h.its_plan)
 one_wrong wanted script (refused.Unneeded name) (refused.Low other l) is a b = absurd (low_not_right (need_in script) (nodes_of_script script) other l a.1 b.1)
 one_wrong wanted script (refused.Unneeded name) (refused.Finished other l) is a b = absurd (end_not_right (need_in script) (nodes_of_script script) other l a.1 b.1)
+one_wrong wanted script (refused.Unneeded name) (refused.Unshown other l) is a b = absurd (unshown_not_right (need_in script) (nodes_of_script script) other l a.1 b.1)
 one_wrong wanted script (refused.Unneeded name) (refused.Missing other) is a b = absurd (let least = b.2 in a.2 other least.holds)
 one_wrong wanted script (refused.Unneeded name) (refused.Unneeded other) is a b = ap (λ x. refused.Unneeded x) (one_first (IsUnneeded script) name other a.3 b.3)

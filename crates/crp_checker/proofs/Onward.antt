@@ -10,7 +10,7 @@ use Rattle.crp_bay.specs.Back.{PlaceAndTrail}
 use Rattle.crp_bay.proofs.Tops.{top_push}
 use Rattle.crp_bay.proofs.Walked.{row_is_target}
 use Rattle.crp_tree.proofs.Followed.{legal_push}
-use Rattle.crp_tree.specs.declared.mark.Mark.TheVariants.{X}
+use Rattle.crp_tree.specs.Mark.{X}
 use Rattle.crp_tree.specs.Spots.{spots_below, owed_behind}
 use Rattle.crp_checker.specs.Pending.{up, back_on, back, rows_behind, pending, below, spot_at}
 

@@ -1,14 +1,18 @@
 -- What a symbol pays of what is owed.
-use Rattle.std.proofs.Common.{◌≡◌, ℕ, List, [], ◌∷◌, ◌++◌, refl, sym, ap, ◌∙◌, arith, append-nil}
+use Rattle.std.proofs.Common.{◌≡◌, ℕ, List, [], ◌∷◌, ◌++◌, refl, sym, ap, ◌∙◌, arith, append-nil, append_assoc}
 use Rattle.std.specs.Prelude.{codes}
 use Rattle.std.specs.List.{flat_map}
+use Rattle.std.specs.Fmt.{decimal}
+use Rattle.crp_row.specs.Reasons.{AreReasons, reasons_text}
+use Rattle.crp_cert.proofs.Readers.{once}
+use Rattle.crp_cert.proofs.Reasons.{reasons_reader}
 use Rattle.std.proofs.lemmas.List.Concat.{flat_map-append}
 use Rattle.crp_plan.specs.Bay.{Position}
 use Rattle.crp_bay.specs.Positions.{targets}
-use Rattle.crp_tree.specs.Tree.{Tree, CutB, CutL, Branch, Given, Trees, no_trees, one_and, items, row}
-use Rattle.crp_tree.specs.declared.mark.Mark.{Mark}
-use Rattle.crp_tree.specs.declared.mark.Mark.TheVariants.{B, L, X, G}
-use Rattle.crp_tree.specs.Trees.{nodes, letter, Fits}
+use Rattle.crp_tree.specs.Tree.{Tree, CutB, CutL, CutR, Branch, Given, Trees, no_trees, one_and, items, row}
+use Rattle.crp_tree.specs.Mark.{Mark}
+use Rattle.crp_tree.specs.Mark.{B, L, R, X, G}
+use Rattle.crp_tree.specs.Trees.{nodes, spelled, Fits}
 use Rattle.crp_tree.specs.Listed.{AreFit}
 use Rattle.crp_tree.proofs.Listed.{branch_of, list_fits}
 use Rattle.crp_tree.proofs.Paying.{Split, split, nodes_joined, rows_fit, nodes_of_rows}
@@ -45,7 +49,7 @@ pub record IsPaid (mark : Mark) (spot : Spot) (owed : List Spot) (trees : List T
   pub first : Tree
   pub others : List Tree
   pub pays : Fits spot.place first × Pay owed others
-  pub symbols_are : symbols_of first ++ flat_map symbols_of others ≡ letter mark ∷ flat_map symbols_of trees
+  pub symbols_are : symbols_of first ++ flat_map symbols_of others ≡ spelled mark ++ flat_map symbols_of trees
   pub nodes_are : nodes spot.path spot.place first ++ nodes_of_all owed others ≡ node_at spot mark ∷ nodes_of_all (owed_behind mark spot owed) trees
 
 -- a branch whose trees pay
@@ -67,11 +71,20 @@ branch_paid spot owed trees r =
           ∙ sym (nodes_joined below owed r.first r.second r.pays) ∙ ap (nodes_of_all (below ++ owed)) (sym r.are));
     }
 
-pub pay : (mark : Mark) (spot : Spot) (owed : List Spot) (trees : List Tree) → Pay (owed_behind mark spot owed) trees → IsPaid mark spot owed trees
-pay B spot owed trees pays = record { first = CutB; others = trees; pays = (tt, pays); symbols_are = refl; nodes_are = refl }
-pay L spot owed trees pays = record { first = CutL; others = trees; pays = (tt, pays); symbols_are = refl; nodes_are = refl }
-pay X spot owed trees pays = branch_paid spot owed trees (split (spots_below spot.path spot.place (targets spot.place)) owed trees pays)
-pay G spot owed trees pays = record { first = Given; others = trees; pays = (tt, pays); symbols_are = refl; nodes_are = refl }
+-- what may be spelled
+abbrev pub CanBe : Mark → Type 0
+CanBe B = Unit {0}
+CanBe L = Unit {0}
+CanBe (R bound text) = AreReasons bound text
+CanBe X = Unit {0}
+CanBe G = Unit {0}
+
+pub pay : (mark : Mark) (spot : Spot) (owed : List Spot) (trees : List Tree) → CanBe mark → Pay (owed_behind mark spot owed) trees → IsPaid mark spot owed trees
+pay B spot owed trees can pays = record { first = CutB; others = trees; pays = (tt, pays); symbols_are = refl; nodes_are = refl }
+pay L spot owed trees can pays = record { first = CutL; others = trees; pays = (tt, pays); symbols_are = refl; nodes_are = refl }
+pay (R bound text) spot owed trees can pays = record { first = CutR bound text; others = trees; pays = (can, pays); symbols_are = refl; nodes_are = refl }
+pay X spot owed trees can pays = branch_paid spot owed trees (split (spots_below spot.path spot.place (targets spot.place)) owed trees pays)
+pay G spot owed trees can pays = record { first = Given; others = trees; pays = (tt, pays); symbols_are = refl; nodes_are = refl }
 
 -- ---- the symbol of a tree
 
@@ -91,27 +104,42 @@ unlike x y xs ys ne e = ne (heads x y xs ys e)
 abbrev pub Behind : Mark → Spot → List Spot → List ℕ → List ℕ → Type 0
 Behind mark spot owed more rest = (trees : List Tree) × Pay (owed_behind mark spot owed) trees × (more ≡ flat_map symbols_of trees ++ rest)
 
-pub behind : (mark : Mark) (spot : Spot) (owed : List Spot) (tree : Tree) (trees : List Tree) (more rest : List ℕ) → Fits spot.place tree → Pay owed trees →
-    letter mark ∷ more ≡ (symbols_of tree ++ flat_map symbols_of trees) ++ rest → Behind mark spot owed more rest
-behind B spot owed CutB trees more rest m pays e = (trees, pays, tails 66 66 more (flat_map symbols_of trees ++ rest) e)
-behind B spot owed CutL trees more rest m pays e = absurd (unlike 66 76 more (flat_map symbols_of trees ++ rest) (λ h. omega arith) e)
-behind B spot owed (Branch all) trees more rest m pays e = absurd (unlike 66 88 more ((symbols_of_each all ++ flat_map symbols_of trees) ++ rest) (λ h. omega arith) e)
-behind B spot owed Given trees more rest m pays e = absurd (unlike 66 71 more (flat_map symbols_of trees ++ rest) (λ h. omega arith) e)
-behind L spot owed CutB trees more rest m pays e = absurd (unlike 76 66 more (flat_map symbols_of trees ++ rest) (λ h. omega arith) e)
-behind L spot owed CutL trees more rest m pays e = (trees, pays, tails 76 76 more (flat_map symbols_of trees ++ rest) e)
-behind L spot owed (Branch all) trees more rest m pays e = absurd (unlike 76 88 more ((symbols_of_each all ++ flat_map symbols_of trees) ++ rest) (λ h. omega arith) e)
-behind L spot owed Given trees more rest m pays e = absurd (unlike 76 71 more (flat_map symbols_of trees ++ rest) (λ h. omega arith) e)
-behind X spot owed CutB trees more rest m pays e = absurd (unlike 88 66 more (flat_map symbols_of trees ++ rest) (λ h. omega arith) e)
-behind X spot owed CutL trees more rest m pays e = absurd (unlike 88 76 more (flat_map symbols_of trees ++ rest) (λ h. omega arith) e)
-behind X spot owed (Branch all) trees more rest m pays e =
+-- what stands behind the bracket of reasons
+abbrev reasons_behind : ℕ → List ℕ → List ℕ
+reasons_behind bound text = decimal bound ++ (codes ":" ++ (text ++ codes "]"))
+
+pub behind : (mark : Mark) (spot : Spot) (owed : List Spot) (tree : Tree) (trees : List Tree) (more rest : List ℕ) → CanBe mark → Fits spot.place tree → Pay owed trees →
+    spelled mark ++ more ≡ (symbols_of tree ++ flat_map symbols_of trees) ++ rest → Behind mark spot owed more rest
+behind B spot owed CutB trees more rest can m pays e = (trees, pays, tails 66 66 more (flat_map symbols_of trees ++ rest) e)
+behind B spot owed CutL trees more rest can m pays e = absurd (unlike 66 76 more (flat_map symbols_of trees ++ rest) (λ h. omega arith) e)
+behind B spot owed (CutR bound' text') trees more rest can m pays e = absurd (unlike 66 91 more ((reasons_behind bound' text' ++ flat_map symbols_of trees) ++ rest) (λ h. omega arith) e)
+behind B spot owed (Branch all) trees more rest can m pays e = absurd (unlike 66 88 more ((symbols_of_each all ++ flat_map symbols_of trees) ++ rest) (λ h. omega arith) e)
+behind B spot owed Given trees more rest can m pays e = absurd (unlike 66 71 more (flat_map symbols_of trees ++ rest) (λ h. omega arith) e)
+behind L spot owed CutB trees more rest can m pays e = absurd (unlike 76 66 more (flat_map symbols_of trees ++ rest) (λ h. omega arith) e)
+behind L spot owed CutL trees more rest can m pays e = (trees, pays, tails 76 76 more (flat_map symbols_of trees ++ rest) e)
+behind L spot owed (CutR bound' text') trees more rest can m pays e = absurd (unlike 76 91 more ((reasons_behind bound' text' ++ flat_map symbols_of trees) ++ rest) (λ h. omega arith) e)
+behind L spot owed (Branch all) trees more rest can m pays e = absurd (unlike 76 88 more ((symbols_of_each all ++ flat_map symbols_of trees) ++ rest) (λ h. omega arith) e)
+behind L spot owed Given trees more rest can m pays e = absurd (unlike 76 71 more (flat_map symbols_of trees ++ rest) (λ h. omega arith) e)
+behind (R bound text) spot owed CutB trees more rest can m pays e = absurd (unlike 91 66 (reasons_behind bound text ++ more) (flat_map symbols_of trees ++ rest) (λ h. omega arith) e)
+behind (R bound text) spot owed CutL trees more rest can m pays e = absurd (unlike 91 76 (reasons_behind bound text ++ more) (flat_map symbols_of trees ++ rest) (λ h. omega arith) e)
+behind (R bound text) spot owed (CutR bound' text') trees more rest can m pays e =
+    let r = once reasons_reader (bound, text) (bound', text') more (flat_map symbols_of trees ++ rest) can m (e ∙ append_assoc (reasons_text bound' text') (flat_map symbols_of trees) rest) in
+    (trees, pays, r.1)
+behind (R bound text) spot owed (Branch all) trees more rest can m pays e = absurd (unlike 91 88 (reasons_behind bound text ++ more) ((symbols_of_each all ++ flat_map symbols_of trees) ++ rest) (λ h. omega arith) e)
+behind (R bound text) spot owed Given trees more rest can m pays e = absurd (unlike 91 71 (reasons_behind bound text ++ more) (flat_map symbols_of trees ++ rest) (λ h. omega arith) e)
+behind X spot owed CutB trees more rest can m pays e = absurd (unlike 88 66 more (flat_map symbols_of trees ++ rest) (λ h. omega arith) e)
+behind X spot owed CutL trees more rest can m pays e = absurd (unlike 88 76 more (flat_map symbols_of trees ++ rest) (λ h. omega arith) e)
+behind X spot owed (CutR bound' text') trees more rest can m pays e = absurd (unlike 88 91 more ((reasons_behind bound' text' ++ flat_map symbols_of trees) ++ rest) (λ h. omega arith) e)
+behind X spot owed (Branch all) trees more rest can m pays e =
     let below : List Tree = items all in (
       below ++ trees,
       joined (spots_below spot.path spot.place (targets spot.place)) owed below trees (each_pays spot.path spot.place (targets spot.place) below (list_fits spot.place (targets spot.place) all m)) pays,
       tails 88 88 more ((symbols_of_each all ++ flat_map symbols_of trees) ++ rest) e
           ∙ ap (λ l. l ++ rest) (ap (λ l. l ++ flat_map symbols_of trees) (each_symbols all) ∙ sym (flat_map-append symbols_of below trees)),
     )
-behind X spot owed Given trees more rest m pays e = absurd (unlike 88 71 more (flat_map symbols_of trees ++ rest) (λ h. omega arith) e)
-behind G spot owed CutB trees more rest m pays e = absurd (unlike 71 66 more (flat_map symbols_of trees ++ rest) (λ h. omega arith) e)
-behind G spot owed CutL trees more rest m pays e = absurd (unlike 71 76 more (flat_map symbols_of trees ++ rest) (λ h. omega arith) e)
-behind G spot owed (Branch all) trees more rest m pays e = absurd (unlike 71 88 more ((symbols_of_each all ++ flat_map symbols_of trees) ++ rest) (λ h. omega arith) e)
-behind G spot owed Given trees more rest m pays e = (trees, pays, tails 71 71 more (flat_map symbols_of trees ++ rest) e)
+behind X spot owed Given trees more rest can m pays e = absurd (unlike 88 71 more (flat_map symbols_of trees ++ rest) (λ h. omega arith) e)
+behind G spot owed CutB trees more rest can m pays e = absurd (unlike 71 66 more (flat_map symbols_of trees ++ rest) (λ h. omega arith) e)
+behind G spot owed CutL trees more rest can m pays e = absurd (unlike 71 76 more (flat_map symbols_of trees ++ rest) (λ h. omega arith) e)
+behind G spot owed (CutR bound' text') trees more rest can m pays e = absurd (unlike 71 91 more ((reasons_behind bound' text' ++ flat_map symbols_of trees) ++ rest) (λ h. omega arith) e)
+behind G spot owed (Branch all) trees more rest can m pays e = absurd (unlike 71 88 more ((symbols_of_each all ++ flat_map symbols_of trees) ++ rest) (λ h. omega arith) e)
+behind G spot owed Given trees more rest can m pays e = (trees, pays, tails 71 71 more (flat_map symbols_of trees ++ rest) e)

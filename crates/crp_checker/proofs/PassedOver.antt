@@ -7,8 +7,8 @@ use Rattle.std.proofs.lemmas.Bool.{le-ltb}
 use Rattle.std.proofs.lemmas.List.Elements.{AllZip-push}
 use Rattle.crp_plan.specs.Bay.{Position}
 use Rattle.crp_bounds.specs.Bounds.{blocking, stuck_now, look_ahead}
-use Rattle.crp_tree.specs.declared.mark.Mark.{Mark}
-use Rattle.crp_tree.specs.declared.mark.Mark.TheVariants.{B, L}
+use Rattle.crp_tree.specs.Mark.{Mark}
+use Rattle.crp_tree.specs.Mark.{B, L}
 use Rattle.crp_tree.specs.Trees.{given_names}
 use Rattle.crp_checker.specs.declared.found.Found.{Found}
 use Rattle.crp_checker.specs.declared.wrong.Wrong.{Wrong}

@@ -10,6 +10,7 @@ use Rattle.crp_tree.specs.Trees.{nodes, given_names, Fits}
 use Rattle.crp_tree.proofs.Accepted.{nodes_are}
 use Rattle.crp_tree.specs.Claims.{Part, nodes_in, given_by, names}
 use Rattle.crp_cert.specs.declared.head.Head.{Head}
+use Rattle.crp_cert.specs.declared.version.Version.{Version}
 use Rattle.crp_cert.specs.declared.script.Script.{Script}
 use Rattle.crp_cert.specs.Script.{IsPartLine, IsScriptOf, symbols_of}
 use Rattle.crp_cert.proofs.Scripts.{script_once}
@@ -20,7 +21,7 @@ use Rattle.crp_checker.specs.Shown.{TextShows}
 use Rattle.crp_checker.proofs.Meaning.{one_verdict_under}
 use Rattle.crp_checker.specs.declared.refused.Refused.{Refused}
 use Rattle.crp_checker.specs.declared.refused.Refused.TheVariants as refused
-use Rattle.crp_checker.specs.Nodes.{need_of, IsLow, IsAtEnd}
+use Rattle.crp_checker.specs.Nodes.{need_of, IsLow, IsAtEnd, IsUnshown}
 use Rattle.crp_checker.specs.AcceptedTexts.{IsAcceptedText, IsNotAccepted}
 use Rattle.crp_checker.specs.Refusals.{nodes_by_name, named_nodes, IsRightPart, IsFirstWrongNode, IsFirstWrongClaim, IsRefusal}
 use Rattle.crp_checker.specs.Needs.{IsWithoutPart, IsWithoutNeed}
@@ -28,27 +29,27 @@ use Rattle.crp_cert.proofs.Symbols.{one_tree}
 use Rattle.crp_checker.proofs.OneRefusal.{not_wrong, one_wrong}
 
 -- two parts with one name and the same symbols have the same nodes
-same_part : (p : Problem) (a b : Part) → IsProblem p → IsPartLine p a → IsPartLine p b → a.name ≡ b.name → symbols_of a.tree ≡ symbols_of b.tree → nodes_in p a ≡ nodes_in p b
-same_part p a b is x y name text =
+same_part : (version : Version) (p : Problem) (a b : Part) → IsProblem p → IsPartLine version p a → IsPartLine version p b → a.name ≡ b.name → symbols_of a.tree ≡ symbols_of b.tree → nodes_in p a ≡ nodes_in p b
+same_part version p a b is x y name text =
     let place : y.place ≡ x.place = same_at p a.name y.place x.place is (subst (λ n. IsAt p n y.place) (sym name) y.is_at) x.is_at in
     let there : IsAt p b.name x.place = subst (λ n. IsAt p n x.place) name x.is_at in
     let one = one_tree a.name x.place a.tree b.tree [] [] x.fits (subst (λ s. Fits s b.tree) place y.fits) (append-nil (symbols_of a.tree) ∙ text ∙ sym (append-nil (symbols_of b.tree))) in
     nodes_are p a x.place is x.is_at ∙ one.0 ∙ ap (λ n. nodes n x.place b.tree) name ∙ sym (nodes_are p b x.place is there)
 
 -- names, nodes and given names are the same for parts with the same names and symbols
-same_parts : (p : Problem) (parts others : List Part) → IsProblem p → AllByRecursion (IsPartLine p) parts → AllByRecursion (IsPartLine p) others → names parts ≡ names others → map (λ part. symbols_of part.tree) parts ≡ map (λ part. symbols_of part.tree) others →
+same_parts : (version : Version) (p : Problem) (parts others : List Part) → IsProblem p → AllByRecursion (IsPartLine version p) parts → AllByRecursion (IsPartLine version p) others → names parts ≡ names others → map (λ part. symbols_of part.tree) parts ≡ map (λ part. symbols_of part.tree) others →
     (nodes_by_name p parts ≡ nodes_by_name p others) × (flat_map (given_by p) parts ≡ flat_map (given_by p) others)
-same_parts p [] [] is x y name text = (refl, refl)
-same_parts p [] (b ∷ others) is x y name text = absurd (cc)
-same_parts p (a ∷ parts) [] is x y name text = absurd (cc)
-same_parts p (a ∷ parts) (b ∷ others) is x y name text =
+same_parts version p [] [] is x y name text = (refl, refl)
+same_parts version p [] (b ∷ others) is x y name text = absurd (cc)
+same_parts version p (a ∷ parts) [] is x y name text = absurd (cc)
+same_parts version p (a ∷ parts) (b ∷ others) is x y name text =
     let first_name : a.name ≡ b.name = cc in
     let first_text : symbols_of a.tree ≡ symbols_of b.tree = cc in
     let more_names : names parts ≡ names others = cc in
     let more_text : map (λ part. symbols_of part.tree) parts ≡ map (λ part. symbols_of part.tree) others = cc in
-    let first = same_part p a b is x.0 y.0 first_name first_text in
+    let first = same_part version p a b is x.0 y.0 first_name first_text in
     let own : named_nodes p a ≡ named_nodes p b = ap (λ n. record { name = n; nodes = nodes_in p a }) first_name ∙ ap (λ l. record { name = b.name; nodes = l }) first in
-    let more = same_parts p parts others is x.1 y.1 more_names more_text in (
+    let more = same_parts version p parts others is x.1 y.1 more_names more_text in (
       ap (λ w. w ∷ nodes_by_name p parts) own ∙ ap (λ l. named_nodes p b ∷ l) more.0,
       ap (λ l. l ++ flat_map (given_by p) parts) (ap given_names first) ∙ ap (λ l. given_by p b ++ l) more.1,
     )
@@ -67,6 +68,9 @@ wrong_too wanted head parts others (refused.Low name symbol) w n g k =
 wrong_too wanted head parts others (refused.Finished name symbol) w n g k =
     let ok = k.0 in
     (record { as_wanted = ok.as_wanted; plan_is = ok.plan_is; its_plan = ok.its_plan }, subst (λ l. IsFirstWrongNode (need_of head.claim head.plan) IsAtEnd l name symbol) w k.1)
+wrong_too wanted head parts others (refused.Unshown name symbol) w n g k =
+    let ok = k.0 in
+    (record { as_wanted = ok.as_wanted; plan_is = ok.plan_is; its_plan = ok.its_plan }, subst (λ l. IsFirstWrongNode (need_of head.claim head.plan) (IsUnshown (need_of head.claim head.plan)) l name symbol) w k.1)
 wrong_too wanted head parts others (refused.Missing name) w n g k =
     let ok = k.0 in (
       record { as_wanted = ok.as_wanted; plan_is = ok.plan_is; its_plan = ok.its_plan },
@@ -90,9 +94,9 @@ wrong_alike wanted bytes a b r x y w =
     let other = y.0 in
     let head = one.is_head in
     let p : Problem = a.head.problem in
-    let each = recursion_from_All (IsPartLine p) a.parts one.each_part in
-    let each' = subst (λ h. AllByRecursion (IsPartLine h.problem) b.parts) (sym same.0) (recursion_from_All (IsPartLine b.head.problem) b.parts other.each_part) in
-    let parts = same_parts p b.parts a.parts head.problem each' each (sym same.1) (sym same.2) in
+    let each = recursion_from_All (IsPartLine a.head.version p) a.parts one.each_part in
+    let each' = subst (λ h. AllByRecursion (IsPartLine h.version h.problem) b.parts) (sym same.0) (recursion_from_All (IsPartLine b.head.version b.head.problem) b.parts other.each_part) in
+    let parts = same_parts a.head.version p b.parts a.parts head.problem each' each (sym same.1) (sym same.2) in
     wrong_too wanted a.head b.parts a.parts r parts.0 (sym same.1) parts.1
     (subst (λ h. IsFirstWrongClaim wanted (record { head = h; parts = b.parts }) r) (sym same.0) w)
 
@@ -104,6 +108,7 @@ not_both wanted bytes parsed (refused.Plan fault) known w = not_wrong wanted par
 not_both wanted bytes parsed refused.NoFirstPlan known w = not_wrong wanted parsed refused.NoFirstPlan known.accepted known.as_wanted (wrong_alike wanted bytes parsed w.0 refused.NoFirstPlan known.is_text w.1 w.2)
 not_both wanted bytes parsed (refused.Low name k) known w = not_wrong wanted parsed (refused.Low name k) known.accepted known.as_wanted (wrong_alike wanted bytes parsed w.0 (refused.Low name k) known.is_text w.1 w.2)
 not_both wanted bytes parsed (refused.Finished name k) known w = not_wrong wanted parsed (refused.Finished name k) known.accepted known.as_wanted (wrong_alike wanted bytes parsed w.0 (refused.Finished name k) known.is_text w.1 w.2)
+not_both wanted bytes parsed (refused.Unshown name k) known w = not_wrong wanted parsed (refused.Unshown name k) known.accepted known.as_wanted (wrong_alike wanted bytes parsed w.0 (refused.Unshown name k) known.is_text w.1 w.2)
 not_both wanted bytes parsed (refused.Missing name) known w = not_wrong wanted parsed (refused.Missing name) known.accepted known.as_wanted (wrong_alike wanted bytes parsed w.0 (refused.Missing name) known.is_text w.1 w.2)
 not_both wanted bytes parsed (refused.Unneeded name) known w = not_wrong wanted parsed (refused.Unneeded name) known.accepted known.as_wanted (wrong_alike wanted bytes parsed w.0 (refused.Unneeded name) known.is_text w.1 w.2)
 not_both wanted bytes parsed refused.Memory known w = w.2

@@ -7,12 +7,12 @@ use Rattle.crp_plan.specs.Bay.{Problem, IsProblem, Position, IsAt}
 use Rattle.crp_plan.proofs.Steps.{unfinished}
 use Rattle.crp_bay.proofs.Members.{in_filter, from_filter}
 use Rattle.crp_tree.specs.Tree.{Tree}
-use Rattle.crp_tree.specs.declared.mark.Mark.{Mark}
-use Rattle.crp_tree.specs.declared.mark.Mark.TheVariants.{B, L, X, G}
+use Rattle.crp_tree.specs.Mark.{Mark}
+use Rattle.crp_tree.specs.Mark.{B, L, R, X, G}
 use Rattle.crp_tree.specs.Trees.{Node, nodes, is_cut, cuts, given_names, value, MayStand, IsInPlace}
 use Rattle.crp_tree.proofs.InLine.{from_members}
 use Rattle.crp_tree.proofs.Nodes.{nodes_at, in_given}
-use Rattle.crp_checker.specs.Nodes.{IsRight}
+use Rattle.crp_checker.specs.Nodes.{Show, IsRight}
 
 -- a node that is right may stand at its path, if that has 8 rows at most where it is given away
 placed : (p : Problem) (need : List ℕ → ℕ) (n : Node) → IsProblem p → IsAt p n.path n.place → IsRight need n → (n.mark ≡ G → length n.path ≤ 8) → IsInPlace n
@@ -21,6 +21,7 @@ placed p need n is a right short = by_mark n.mark refl
     by_mark : (m : Mark) → n.mark ≡ m → MayStand m n.path n.place
     by_mark B e = tt
     by_mark L e = tt
+    by_mark (R bound text) e = subst (λ m. Show m n.place) e right.shown
     by_mark X e = unfinished p n.path n.place a (λ done. right.not_at_end (e, done))
     by_mark G e = short e
 
@@ -53,4 +54,12 @@ right_from need list in_place high = recursion_from_All (IsRight need) list (fro
   not_at_end = λ end.
       let open' = subst (λ m. MayStand m n.path n.place) end.0 (All-contains IsInPlace list n in_place c) in
       let done = end.1 in omega arith;
+  shown = shown n.mark n.path n.place (All-contains IsInPlace list n in_place c);
 }))
+  where
+    shown : (mark : Mark) (path : List ℕ) (s : Position) → MayStand mark path s → Show mark s
+    shown B path s may = tt
+    shown L path s may = tt
+    shown (R bound text) path s may = may
+    shown X path s may = tt
+    shown G path s may = tt

@@ -16,6 +16,7 @@ pub mod Symbols
 pub mod Pending
 pub mod Passed
 pub mod Walks
+pub mod Lines
 pub mod Kept
 pub mod Ends
 pub mod PartEnds

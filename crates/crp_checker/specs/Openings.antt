@@ -6,6 +6,7 @@ use Rattle.crp_cert.specs.Faults.{BeginsWith}
 use Rattle.crp_cert.specs.Script.{end_line}
 use Rattle.crp_cert.specs.ScriptFaults.{IsLineFault}
 use Rattle.crp_cert.specs.Settled.{CanBeJudged, IsName, spelled_name, longest_name}
+use Rattle.crp_cert.specs.declared.version.Version.{Version}
 use Rattle.crp_cert.specs.declared.fault.CertFault.TheVariants as faults
 use Rattle.crp_checker.specs.declared.opening.Opening.{Opening}
 use Rattle.crp_checker.specs.declared.opening.Opening.TheVariants.{Open, Name, Ended, Refused}
@@ -49,4 +50,4 @@ IsOpening p count line old new Open = (HasNoName p old → HasNoName p new) × (
 IsOpening p count line old new (Name name) = IsName p name × (HasNoName p old → new ≡ named_line name)
 IsOpening p count line old new Ended = (IsBegunWith old (end_line count) → ⊥) → new ≡ end_line count
 IsOpening p count line old new (Refused fault) =
-    IsProblem p → HasNoName p old → (parts : List Part) → length parts ≡ count → (more : List ℕ) → IsLineFault p parts line (new ++ more) fault
+    IsProblem p → HasNoName p old → (version : Version) (parts : List Part) → length parts ≡ count → (more : List ℕ) → IsLineFault version p parts line (new ++ more) fault

@@ -13,7 +13,7 @@ use Rattle.crp_cert.specs.Script.{IsScriptOf}
 use Rattle.crp_cert.specs.ScriptFaults.{IsFirstFaultOfScript}
 use Rattle.crp_checker.specs.declared.refused.Refused.{Refused}
 use Rattle.crp_checker.specs.declared.refused.Refused.TheVariants as refused
-use Rattle.crp_checker.specs.Nodes.{need_of, IsLow, IsAtEnd, IsRight, IsFirstWrong}
+use Rattle.crp_checker.specs.Nodes.{need_of, IsLow, IsAtEnd, IsUnshown, IsRight, IsFirstWrong}
 use Rattle.crp_checker.specs.AcceptedTexts.{IsWanted}
 
 -- the name of a part, and its nodes in the order of their symbols
@@ -89,6 +89,7 @@ IsFirstWrongClaim wanted script refused.NoFirstPlan =
     IsWanted wanted script.head.problem × IfSome script.head.plan (IsPlanPath script.head.problem) × ¬ HasItsPlan script.head.claim script.head.plan
 IsFirstWrongClaim wanted script (refused.Low part symbol) = HasRightHead wanted script × IsFirstWrongIn script (IsLow (need_in script)) part symbol
 IsFirstWrongClaim wanted script (refused.Finished part symbol) = HasRightHead wanted script × IsFirstWrongIn script IsAtEnd part symbol
+IsFirstWrongClaim wanted script (refused.Unshown part symbol) = HasRightHead wanted script × IsFirstWrongIn script (IsUnshown (need_in script)) part symbol
 IsFirstWrongClaim wanted script (refused.Missing name) = HasRightHead wanted script × AreRightParts script × IsFirst (IsMissing script) name
 IsFirstWrongClaim wanted script (refused.Unneeded name) =
     HasRightHead wanted script × AreRightParts script × ((other : List ℕ) → IsMissing script other → ⊥) × IsFirst (IsUnneeded script) name

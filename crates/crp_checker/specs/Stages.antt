@@ -20,8 +20,7 @@ use Rattle.crp_checker.specs.declared.stage.Stage.TheVariants.{Head as Head', Li
 use Rattle.crp_checker.specs.declared.wrong.Wrong.{Wrong}
 use Rattle.crp_checker.specs.declared.wrong.Wrong.TheVariants as wrong
 use Rattle.crp_checker.specs.Gathered.{gathered}
-use Rattle.crp_checker.specs.Symbols.{line_after}
-use Rattle.crp_checker.specs.Kept.{line_of}
+use Rattle.crp_checker.specs.Lines.{LineIs}
 use Rattle.crp_checker.specs.Verdicts.{plan_count}
 use Rattle.crp_checker.specs.Openings.{IsBegunWith, named_line, HasNoName}
 use Rattle.crp_checker.specs.Refusals.{need_in, HasRightHead, AreRightParts, IsFirstWrongClaim}
@@ -38,6 +37,7 @@ IsNote wanted script (Some (refused.Plan fault)) = IsFirstWrongClaim wanted scri
 IsNote wanted script (Some refused.NoFirstPlan) = IsFirstWrongClaim wanted script refused.NoFirstPlan
 IsNote wanted script (Some (refused.Low part symbol)) = IsFirstWrongClaim wanted script (refused.Low part symbol)
 IsNote wanted script (Some (refused.Finished part symbol)) = IsFirstWrongClaim wanted script (refused.Finished part symbol)
+IsNote wanted script (Some (refused.Unshown part symbol)) = IsFirstWrongClaim wanted script (refused.Unshown part symbol)
 IsNote wanted script (Some r) = ⊥
 
 -- the same of a head
@@ -50,11 +50,13 @@ note_after (Some r) name w = Some r
 note_after None name None = None
 note_after None name (Some (wrong.Low k)) = Some (refused.Low name k)
 note_after None name (Some (wrong.AtEnd k)) = Some (refused.Finished name k)
+note_after None name (Some (wrong.Unshown k)) = Some (refused.Unshown name k)
 
 -- what is kept of a script, where a problem is asked for or none
 pub record AreFindings (wanted : Option Problem) (script : Script) (findings : Findings) : Type 0 where
   pub bay_is : findings.bay ≡ script.head.bay
   pub problem_is : findings.problem ≡ script.head.problem
+  pub version_is : findings.need.version ≡ script.head.version
   pub claim_is : findings.need.claim ≡ script.head.claim
   pub plan_is : findings.need.plan ≡ script.head.plan
   pub count_is : findings.count ≡ plan_count (claim_of script)
@@ -87,7 +89,7 @@ pub record IsAtPart (wanted : Option Problem) (bytes : List ℕ) (findings : Fin
   pub short : length name ≤ 8
   pub is_at : IsAt script.head.problem name place
   pub one_line : AllByRecursion (λ b. b ≢ 10) symbols
-  pub kept_is : line_of kept ≡ line_after (need_in script) (record { path = name; place = place }) symbols
+  pub kept_is : LineIs (need_in script) script.head.version (record { path = name; place = place }) symbols kept
 
 -- the bytes are the text of a script
 pub record HasEnded (wanted : Option Problem) (bytes : List ℕ) (findings : Findings) : Type 0 where

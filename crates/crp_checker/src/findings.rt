@@ -111,6 +111,7 @@ fn refused_for(
     match wrong {
         Wrong::Low { symbol } => Ok(Some(Refused::Low { part, symbol })),
         Wrong::AtEnd { symbol } => Ok(Some(Refused::Finished { part, symbol })),
+        Wrong::Unshown { symbol } => Ok(Some(Refused::Unshown { part, symbol })),
     }
 }
 
@@ -127,6 +128,7 @@ impl Findings {
             bay: head.bay,
             problem: head.problem,
             need: Need {
+                version: head.version,
                 claim: head.claim,
                 plan: head.plan,
             },

@@ -1,13 +1,15 @@
-//! The values that cuts need.
+//! What a head says of the symbols of parts.
 ghost use Rattle.std.specs.Prelude.{◌≡◌, ◌≤◌, ℕ, List};
 ghost use Rattle.crp_tree.specs.First.{need_at};
 ghost use Rattle.crp_checker.specs.Kept.{need_by};
 
-use crp_cert::{Claim, Rows};
+use crp_cert::{Claim, Rows, Version};
 
-/// What is kept of a head to state the values that cuts need.
+/// What is kept of a head to say which symbols parts may have, and the values that their cuts need.
 #[derive(Drop)]
 pub struct Need {
+    /// The version of the text.
+    pub version: Version,
     /// What is claimed.
     pub claim: Claim,
     /// The rows of the plan, if there is one.

@@ -2,8 +2,11 @@
 use crate::found::Found;
 use crate::need::Need;
 use crate::next::Next;
+use crate::paying::{Paid, pay_behind, place_behind};
+use crate::symbol::is_low;
 use crate::walking::{Walk, walk_from};
 use crp_bounds::Bounded;
+use crp_thinning::Thinned;
 use std::alloc::{AllocError, Global};
 use std::marker::Model;
 
@@ -32,7 +35,7 @@ impl Model for Owing {
 }
 
 impl Owing {
-    ghost use Rattle.std.specs.Prelude.{◌≡◌, ◌∷◌, [], true, false, List, IfOk};
+    ghost use Rattle.std.specs.Prelude.{◌≡◌, ◌+◌, ◌∷◌, [], true, false, List, length, IfOk, nat_lt};
     ghost use Rattle.crp_tree.specs.Spots.{Spot};
     ghost use Rattle.crp_checker.specs.Walks.{IsWalk};
     ghost use Rattle.crp_checker.specs.Kept.{need_by};
@@ -88,5 +91,42 @@ impl Owing {
         )?;
         self.next = next;
         Ok(taken)
+    }
+
+    /// The position where the next tree is owed; where none is, the one that is kept.
+    pub fn place_of_next(&mut self) -> Thinned
+        ensures same { self.new ≡ self.old }
+        ensures place { (spot : Spot) (owed : List Spot) → self.old ≡ spot ∷ owed → result.place ≡ spot.place }
+    {
+        match self.next {
+            Next::Behind => place_behind(&mut self.path, self.above, &mut self.place),
+            Next::Here | Next::Nowhere => Thinned::of(self.place.position()),
+        }
+    }
+
+    /// A cut with this bound comes where the next tree is owed. Whether its value is below what it needs.
+    pub fn pay(&mut self, need: &Need, bound: u8) -> bool
+        requires { (spot : Spot) × (owed : List Spot) × (self.old ≡ spot ∷ owed) }
+        ensures { (spot : Spot) (owed : List Spot) → self.old ≡ spot ∷ owed
+            → (self.new ≡ owed) × (result ≡ nat_lt (length spot.path + bound) (need_by need.now spot.path)) }
+    {
+        match self.next {
+            Next::Behind => {
+                self.next = Next::Nowhere;
+                let Paid { is_low, next } = pay_behind(
+                    need,
+                    bound,
+                    &mut self.path,
+                    self.above,
+                    &mut self.place,
+                );
+                self.next = next;
+                is_low
+            }
+            Next::Here | Next::Nowhere => {
+                self.next = Next::Nowhere;
+                is_low(need, self.path.as_slice(), u32::from(bound))
+            }
+        }
     }
 }

@@ -22,13 +22,16 @@ pub enum Refused {
     #[error("K2")]
     NoFirstPlan,
     /// The length of a cut's path and its bound are below what the cut needs: the claimed bound, and one more where the
-    /// first best plan is claimed and the path comes before the plan's. Of this fault and the next the first symbol
+    /// first best plan is claimed and the path comes before the plan's. Of this fault and the next two the first symbol
     /// decides, part by part.
     #[error("K3 at part {part} symbol {symbol}")]
     Low { part: Path, symbol: u64 },
     /// A branch stands at a finished position.
     #[error("K4 at part {part} symbol {symbol}")]
     Finished { part: Path, symbol: u64 },
+    /// The reasons of a cut do not show what they are to show.
+    #[error("K8 at part {part} symbol {symbol}")]
+    Unshown { part: Path, symbol: u64 },
     /// The least name that is needed and has no part: the root is needed, and so is each name that a part gives.
     #[error("K5 at {name}")]
     Missing { name: Path },
@@ -70,6 +73,13 @@ impl Refused {
             Refused::Finished { part, symbol } => {
                 let part = Path::from_rows(alloc, part.rows())?;
                 Ok(Refused::Finished {
+                    part,
+                    symbol: *symbol,
+                })
+            }
+            Refused::Unshown { part, symbol } => {
+                let part = Path::from_rows(alloc, part.rows())?;
+                Ok(Refused::Unshown {
                     part,
                     symbol: *symbol,
                 })

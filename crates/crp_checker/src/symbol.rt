@@ -1,36 +1,36 @@
 //! Single symbols, and what is wrong with the nodes that they stand for.
-ghost use Rattle.std.specs.Prelude.{◌≡◌, ◌+◌, ◌-◌, ◌≤◌, ◌∷◌, ℕ, List, suc, ◌==◌, true, length, nat_lt, if◌then◌else◌, Some, None, OnOk};
+ghost use Rattle.std.specs.Prelude.{◌≡◌, ◌+◌, ◌-◌, ◌≤◌, ◌∷◌, ℕ, List, suc, ◌==◌, true, length, nat_lt, if◌then◌else◌, Some, None, OnOk, option_map};
 ghost use Rattle.std.specs.Option.{option_or};
 ghost use Rattle.crp_bay.specs.Positions.{can_shift};
 ghost use Rattle.crp_bounds.specs.Bounds.{blocking as blocking_bound, look_ahead as look_ahead_bound};
 ghost use Rattle.crp_tree.specs.Spots.{owed_behind};
-ghost use Rattle.crp_checker.specs.Symbols.{symbol_at, wrong_at};
+ghost use Rattle.crp_checker.specs.Symbols.{mark_of, symbol_at, wrong_at};
 ghost use Rattle.crp_checker.specs.Pending.{back, below, spot_at, pending};
 ghost use Rattle.crp_checker.specs.Kept.{need_by};
 
+use crate::letter::Letter;
 use crate::need::Need;
 use crate::wrong::Wrong;
 use crp_bounds::Bounded;
-use crp_tree::Mark;
 use std::alloc::AllocError;
 
 /// The symbol that a byte is behind so many others of its part, which does not begin with `G`.
 #[inline]
-pub fn symbol_of(count: u64, byte: u8) -> Option<Mark>
-    ensures { result ≡ symbol_at count byte }
+pub fn symbol_of(count: u64, byte: u8) -> Option<Letter>
+    ensures { option_map mark_of result ≡ symbol_at count byte }
 {
     match byte {
-        b'B' => Some(Mark::B),
-        b'L' => Some(Mark::L),
-        b'X' => Some(Mark::X),
-        b'G' if count > 0 => Some(Mark::G),
+        b'B' => Some(Letter::B),
+        b'L' => Some(Letter::L),
+        b'X' => Some(Letter::X),
+        b'G' if count > 0 => Some(Letter::G),
         _ => None,
     }
 }
 
 /// Whether a cut at a path, with this bound, is below what it needs.
 #[inline]
-fn is_low(need: &Need, path: &[u8], bound: u32) -> bool
+pub fn is_low(need: &Need, path: &[u8], bound: u32) -> bool
     ensures { result ≡ nat_lt (length path.now + bound) (need_by need.now path.now) }
 {
     path.len() + (bound as usize) < need.at(path)
@@ -63,7 +63,7 @@ fn blocking_at(place: &Bounded, row: Option<u8>) -> u32
 
 /// Makes the position that where a tree is owed next.
 #[inline]
-fn enter(place: &mut Bounded, row: Option<u8>)
+pub fn enter(place: &mut Bounded, row: Option<u8>)
     requires { (next : ℕ) → row ≡ Some next → can_shift place.old.place next ≡ true }
     ensures place { place.new.place ≡ below row place.old.place }
     ensures back { (next : ℕ) → row ≡ Some next → back place.new ≡ place.old }
@@ -99,7 +99,7 @@ fn is_at_end(place: &Bounded) -> bool
 
 /// Notes what is wrong with a node, if it is wrong and none before it was.
 #[inline]
-fn note(first: &mut Option<Wrong>, is_wrong: bool, wrong: Wrong)
+pub fn note(first: &mut Option<Wrong>, is_wrong: bool, wrong: Wrong)
     ensures { first.new ≡ option_or first.old (if is_wrong then Some wrong else None) }
 {
     if is_wrong && first.is_none() {
@@ -113,7 +113,7 @@ fn note(first: &mut Option<Wrong>, is_wrong: bool, wrong: Wrong)
 pub fn judge(
     need: &Need,
     number: u64,
-    symbol: Mark,
+    symbol: Letter,
     row: Option<u8>,
     path: &mut Vec<u8>,
     place: &mut Bounded,
@@ -121,28 +121,28 @@ pub fn judge(
 ) -> Result<(), AllocError>
     requires { (next : ℕ) → row ≡ Some next → can_shift place.old.place next ≡ true }
     ensures first { OnOk result (first.new
-        ≡ option_or first.old (wrong_at (need_by need.now) number symbol (spot_at row path.old.items place.old.place))) }
+        ≡ option_or first.old (wrong_at (need_by need.now) number (mark_of symbol) (spot_at row path.old.items place.old.place))) }
     ensures owed { OnOk result ((above : ℕ) → above ≤ length path.old.items → (row ≡ None → length path.old.items ≤ above)
         → pending (length path.new.items - above) path.new.items place.new
-        ≡ owed_behind symbol (spot_at row path.old.items place.old.place) (pending (length path.old.items - above) path.old.items place.old)) }
+        ≡ owed_behind (mark_of symbol) (spot_at row path.old.items place.old.place) (pending (length path.old.items - above) path.old.items place.old)) }
     ensures longer { OnOk result (length path.old.items ≤ length path.new.items) }
     ensures little { OnOk result (length path.new.items ≤ length path.old.items + 1) }
 {
     match symbol {
-        Mark::B => {
+        Letter::B => {
             let is_low = is_low(need, path, blocking_at(place, row));
             note(first, is_low, Wrong::Low { symbol: number });
         }
-        Mark::L => {
+        Letter::L => {
             let is_low = is_low_at(need, path, place, row);
             note(first, is_low, Wrong::Low { symbol: number });
         }
-        Mark::X => {
+        Letter::X => {
             path.push(0)?;
             enter(place, row);
             note(first, is_at_end(place), Wrong::AtEnd { symbol: number });
         }
-        Mark::G => {}
+        Letter::G => {}
     }
     Ok(())
 }

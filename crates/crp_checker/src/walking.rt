@@ -5,19 +5,19 @@ ghost use Rattle.crp_tree.specs.Trees.{given_names};
 ghost use Rattle.crp_bay.specs.Positions.{can_shift};
 ghost use Rattle.crp_tree.specs.Spots.{Spot, node_at, owed_behind};
 ghost use Rattle.crp_checker.specs.Gathered.{gathered, joined};
-ghost use Rattle.crp_checker.specs.Symbols.{symbol_at, wrong_at};
+ghost use Rattle.crp_checker.specs.Symbols.{mark_of, symbol_at, wrong_at};
 ghost use Rattle.crp_checker.specs.Pending.{up, back, pending, spot_at, owed_by, IsSound};
 ghost use Rattle.crp_checker.specs.Kept.{need_by};
 ghost use Rattle.crp_checker.specs.Walks.{IsWalk};
 
 use crate::found::Found;
 use crate::given_names::GivenNames;
+use crate::letter::Letter;
 use crate::need::Need;
 use crate::next::Next;
 use crate::passing::{Passed, pass};
 use crate::symbol::{judge, symbol_of};
 use crp_bounds::Bounded;
-use crp_tree::Mark;
 use std::alloc::{AllocError, Global};
 
 /// How far a walk came.
@@ -30,22 +30,27 @@ pub struct Walk {
 
 /// Adds the path to where a tree is owed, if the symbol gives it to a part of its own.
 #[inline]
-fn give(alloc: Global, given: &mut GivenNames, path: &[u8], symbol: Mark) -> Result<(), AllocError>
+fn give(
+    alloc: Global,
+    given: &mut GivenNames,
+    path: &[u8],
+    symbol: Letter,
+) -> Result<(), AllocError>
     ensures { OnOk result ((spot : Spot) → spot.path ≡ path.now
-        → given.new ≡ joined given.old (gathered (given_names (node_at spot symbol ∷ [])))) }
+        → given.new ≡ joined given.old (gathered (given_names (node_at spot (mark_of symbol) ∷ [])))) }
 {
     match symbol {
-        Mark::G => given.push(alloc, path),
-        Mark::B | Mark::L | Mark::X => Ok(()),
+        Letter::G => given.push(alloc, path),
+        Letter::B | Letter::L | Letter::X => Ok(()),
     }
 }
 
 /// The symbol that stands in a piece behind so many others of its part: none at the end of the piece, and where the byte is none.
 #[inline]
-fn symbol_in(piece: &[u8], at: usize, count: u64) -> Option<Mark>
+fn symbol_in(piece: &[u8], at: usize, count: u64) -> Option<Letter>
     requires { at ≤ length piece.now }
     ensures there { IfSome result (λ symbol. at < length piece.now) }
-    ensures some { IfSome result (λ symbol. symbol_at count (slice_index piece.now at) ≡ Some symbol) }
+    ensures some { IfSome result (λ symbol. symbol_at count (slice_index piece.now at) ≡ Some (mark_of symbol)) }
     ensures none { IfNone result (at < length piece.now → symbol_at count (slice_index piece.now at) ≡ None) }
 {
     if at == piece.len() {
@@ -60,7 +65,7 @@ fn meet(
     alloc: Global,
     need: &Need,
     number: u64,
-    symbol: Mark,
+    symbol: Letter,
     row: Option<u8>,
     path: &mut Vec<u8>,
     place: &mut Bounded,
@@ -68,12 +73,12 @@ fn meet(
 ) -> Result<(), AllocError>
     requires { (next : ℕ) → row ≡ Some next → can_shift place.old.place next ≡ true }
     ensures wrong { OnOk result (found.new.wrong
-        ≡ option_or found.old.wrong (wrong_at (need_by need.now) number symbol (spot_at row path.old.items place.old.place))) }
+        ≡ option_or found.old.wrong (wrong_at (need_by need.now) number (mark_of symbol) (spot_at row path.old.items place.old.place))) }
     ensures given { OnOk result (found.new.given
-        ≡ joined found.old.given (gathered (given_names (node_at (spot_at row path.old.items place.old.place) symbol ∷ [])))) }
+        ≡ joined found.old.given (gathered (given_names (node_at (spot_at row path.old.items place.old.place) (mark_of symbol) ∷ [])))) }
     ensures owed { OnOk result ((above : ℕ) → above ≤ length path.old.items → (row ≡ None → length path.old.items ≤ above)
         → pending (length path.new.items - above) path.new.items place.new
-        ≡ owed_behind symbol (spot_at row path.old.items place.old.place) (pending (length path.old.items - above) path.old.items place.old)) }
+        ≡ owed_behind (mark_of symbol) (spot_at row path.old.items place.old.place) (pending (length path.old.items - above) path.old.items place.old)) }
     ensures longer { OnOk result (length path.old.items ≤ length path.new.items) }
     ensures little { OnOk result (length path.new.items ≤ length path.old.items + 1) }
 {
@@ -83,7 +88,7 @@ fn meet(
 
 /// Leaves the last open branch, all of whose trees came.
 #[inline]
-fn leave(path: &mut Vec<u8>, place: &mut Bounded)
+pub fn leave(path: &mut Vec<u8>, place: &mut Bounded)
     requires { 1 ≤ length path.old.items }
     ensures path { path.new.items ≡ up path.old.items }
     ensures place { place.new ≡ back place.old }

@@ -30,6 +30,7 @@ by_refusal' P number (refused.Plan fault) memory some = some (λ e. cc)
 by_refusal' P number refused.NoFirstPlan memory some = some (λ e. cc)
 by_refusal' P number (refused.Low part symbol) memory some = some (λ e. cc)
 by_refusal' P number (refused.Finished part symbol) memory some = some (λ e. cc)
+by_refusal' P number (refused.Unshown part symbol) memory some = some (λ e. cc)
 by_refusal' P number (refused.Missing name) memory some = some (λ e. cc)
 by_refusal' P number (refused.Unneeded name) memory some = some (λ e. cc)
 

@@ -83,7 +83,7 @@ const ACCEPTED: [(&str, Verdict); 11] = [
 
 /// Certificates that are refused: with those of the six below, for each fault of a text, and for each of a claim but K1.
 const REFUSED: [(&str, &str); 9] = [
-    ("CRP-CERT 3\n", "C1 at line 1"),
+    ("CRP-CERT 4\n", "C1 at line 1"),
     (
         "CRP-CERT 2\nbay A 1\nsize 3 3 4 4\nheights 2 1 2\nrow 1 4\nrow 2\nrow 3\nat least 2\nplan 3 1\npart /: L\nend 1\n",
         "C2 at line 4",
@@ -300,7 +300,7 @@ fn certificates_for_another_problem(rt: HostRuntime) -> Result<(), Fail> {
         (FOUR, SIX, "K1"),
         (FOUR, UNEQUAL, "K1"),
         (FIRST, FIRST_OF_SIX, "K1"),
-        (SIX, "CRP-CERT 3\n", "C1 at line 1"),
+        (SIX, "CRP-CERT 4\n", "C1 at line 1"),
     ];
     for (head, text, fault) in cases {
         refuses_for(&rt, head, text, fault)?;

@@ -10,7 +10,7 @@ use Rattle.crp_plan.proofs.Paths.{same_at}
 use Rattle.crp_bay.proofs.Members.{not_in_nil, in_head, in_tail, in_cons_cases}
 use Rattle.crp_tree.specs.Tree.{Tree}
 use Rattle.crp_tree.specs.Names.{Precedes}
-use Rattle.crp_tree.specs.declared.mark.Mark.TheVariants.{G, B, L}
+use Rattle.crp_tree.specs.Mark.{G, B, L}
 use Rattle.crp_tree.specs.Trees.{is_given, Node, nodes, IsInPlace, IsGivenAway, least_value}
 use Rattle.crp_tree.specs.Claims.{IsNeeded, given_by, IsPart, nodes_in}
 use Rattle.crp_tree.specs.Parts.{ProblemPart, part_of, nodes_of, given_of, branches_in, names_of, IsKeptPart, Certificate, IsCertificate, IsAbout}

@@ -6,7 +6,7 @@ use Rattle.std.proofs.lemmas.Bool.{cases_Bool, cases_lt}
 use Rattle.std.proofs.lemmas.List.Elements.{All-contains}
 use Rattle.crp_bay.proofs.Members.{in_filter, from_filter}
 use Rattle.crp_bounds.specs.Bounds.{look_ahead}
-use Rattle.crp_tree.specs.declared.mark.Mark.TheVariants.{B, L}
+use Rattle.crp_tree.specs.Mark.{B, L}
 use Rattle.crp_tree.specs.Trees.{Node, bound_by, is_cut, value}
 use Rattle.crp_tree.specs.Parts.{ProblemPart, nodes_of, cuts_in, Certificate}
 use Rattle.crp_tree.specs.First.{MeetsNeed, MeetNeeds}

@@ -6,12 +6,15 @@ use Rattle.crp_plan.specs.Bay.{Problem, IsProblem, Position, IsAt, cap}
 use Rattle.crp_bay.specs.Positions.{targets, child}
 use Rattle.crp_bay.proofs.Members.{not_in_nil, in_head, in_cons_cases}
 use Rattle.crp_bounds.specs.Bounds.{blocking, look_ahead}
-use Rattle.crp_tree.specs.declared.symbol.Symbol.{Symbol}
-use Rattle.crp_tree.specs.declared.symbol.Symbol.TheVariants as symbol
-use Rattle.crp_tree.specs.Tree.{Tree, CutB, CutL, Given, Branch, items, row}
+use Rattle.crp_row.specs.Symbol.{Symbol}
+use Rattle.crp_row.specs.Symbol as symbol
+use Rattle.crp_row.specs.declared.kind.Kind.{Kind}
+use Rattle.crp_row.specs.declared.kind.Kind.TheVariants as kind
+use Rattle.crp_row.specs.Rows.{symbol_of}
+use Rattle.crp_tree.specs.Tree.{Tree, CutB, CutL, Branch, items, row}
 use Rattle.crp_tree.specs.Symbols.{symbols, symbols_of_each, tree_of, tree_back, items_row, all_symbols, some_trees, IsLeaf, leaf, leaf_symbols, ComesFirst}
 use Rattle.crp_tree.specs.Names.{Precedes}
-use Rattle.crp_tree.specs.declared.mark.Mark.TheVariants.{B, L, G}
+use Rattle.crp_tree.specs.Mark.{B, L, R, G}
 use Rattle.crp_tree.specs.Trees.{Node, nodes, branches, Fits, IsInPlace, IsGivenAway, least_value, Begins}
 use Rattle.crp_tree.specs.Listed.{nodes_below, AreFit}
 use Rattle.crp_tree.proofs.Ordered.{goes_further}
@@ -96,19 +99,13 @@ closed_l p plan path s tree old floor tree_is floor_is ok a after low reached =
       settled = closed p plan path s old node ok a (record { after = after; reached = reached }) refl refl (inr (refl, low)) refl;
     })
 
--- a cut that is not past the plan stays, and so does a subtree that is given away
-pub stays_b : (p : Problem) (plan path : List ℕ) (s : Position) (tree old : Tree) (floor : ℕ) → old ≡ CutB → tree ≡ CutB → floor ≡ min (length path + blocking s) (cap p) → (IsPast plan path s → ⊥) →
-    IsSettledTo p plan path s (nodes path s old) tree floor
-stays_b p plan path s tree old floor old_is tree_is floor_is out =
-    let node : Node = record { path = path; place = s; mark = B } in
-    rw (old_is, tree_is) (record { fits = tt; in_place = All-cons IsInPlace node [] tt (All-nil IsInPlace); floor_is = floor_is; settled = one_stays plan node out })
-
-pub stays_given : (p : Problem) (plan path : List ℕ) (s : Position) (tree old : Tree) (floor : ℕ) → old ≡ Given → tree ≡ Given → floor ≡ cap p → All IsInPlace (nodes path s old) → (IsPast plan path s → ⊥) →
-    IsSettledTo p plan path s (nodes path s old) tree floor
-stays_given p plan path s tree old floor old_is tree_is floor_is in_place out =
-    let node : Node = record { path = path; place = s; mark = G } in
-    let short : All IsInPlace (nodes path s Given) = subst (λ t. All IsInPlace (nodes path s t)) old_is in_place in
-    rw (old_is, tree_is) (record { fits = tt; in_place = short; floor_is = floor_is; settled = one_stays plan node out })
+-- a leaf that is not past the plan stays
+leaf_stays : (plan path : List ℕ) (s : Position) (one : Symbol) → IsLeaf one → (IsPast plan path s → ⊥) → AreSettled plan (nodes path s (leaf one)) (nodes path s (leaf one))
+leaf_stays plan path s symbol.CutB is_leaf out = one_stays plan (record { path = path; place = s; mark = B }) out
+leaf_stays plan path s symbol.CutL is_leaf out = one_stays plan (record { path = path; place = s; mark = L }) out
+leaf_stays plan path s (symbol.CutR bound text) is_leaf out = one_stays plan (record { path = path; place = s; mark = R bound text }) out
+leaf_stays plan path s (symbol.Branch n) is_leaf out = absurd is_leaf
+leaf_stays plan path s symbol.Given is_leaf out = one_stays plan (record { path = path; place = s; mark = G }) out
 
 -- the first i trees of a branch are settled
 pub record BelowSettled (p : Problem) (plan path : List ℕ) (s : Position) (rows : List ℕ) (old : List Tree) (i : ℕ) (new : List Tree) (floor : ℕ) : Type 0 where
@@ -163,15 +160,30 @@ all_settled p plan path s rows old i new floor same fit done in_place out b =
 
 -- ---- their symbols
 
--- and where it stays
-pub stay_written : (p : Problem) (plan path : List ℕ) (s : Position) (here behind before after : List Symbol) (one : Symbol) (floor : ℕ) → here ≡ one ∷ behind → after ≡ before ++ one ∷ [] → IsLeaf one →
-    IsSettledTo p plan path s (nodes path s (tree_of here)) (leaf one) floor → IsWritten p plan path s (tree_of here) before after floor
-stay_written p plan path s here behind before after one floor here_is more is_leaf is = record {
-  tree = leaf one;
-  written = more ∙ ap (λ l. before ++ l) (leaf_symbols one is_leaf);
-  is = is;
-  own = λ given. subst IsGivenAway (sym (leaf_first one here behind here_is is_leaf).is) given;
-}
+-- what is no branch is a leaf
+pub no_branch : (one : Kind) (text : List ℕ) → ((n : ℕ) → one ≡ kind.Branch n → ⊥) → IsLeaf (symbol_of one text)
+no_branch kind.CutB text none = tt
+no_branch kind.CutL text none = tt
+no_branch (kind.CutR bound) text none = tt
+no_branch (kind.Branch n) text none = none n refl
+no_branch kind.Given text none = tt
+
+-- a leaf that is not past the plan is written as it is
+pub leaf_written : (p : Problem) (plan path : List ℕ) (s : Position) (here behind before after : List Symbol) (one : Symbol) (floor : ℕ) → here ≡ one ∷ behind → after ≡ before ++ one ∷ [] → IsLeaf one → Fits s (tree_of here) →
+    All IsInPlace (nodes path s (tree_of here)) → floor ≡ least_value (cap p) (nodes path s (leaf one)) → (IsPast plan path s → ⊥) → IsWritten p plan path s (tree_of here) before after floor
+leaf_written p plan path s here behind before after one floor here_is more is_leaf fits in_place floor_is out =
+    let same : tree_of here ≡ leaf one = (leaf_first one here behind here_is is_leaf).is in
+    record {
+      tree = leaf one;
+      written = more ∙ ap (λ l. before ++ l) (leaf_symbols one is_leaf);
+      is = record {
+        fits = subst (Fits s) same fits;
+        in_place = subst (λ t. All IsInPlace (nodes path s t)) same in_place;
+        floor_is = floor_is;
+        settled = subst (λ t. AreSettled plan (nodes path s t) (nodes path s (leaf one))) (sym same) (leaf_stays plan path s one is_leaf out);
+      };
+      own = λ given. subst IsGivenAway (sym same) given;
+    }
 
 -- behind symbols those of the first i trees of a branch are written that old ones become
 pub record BelowWritten (p : Problem) (plan path : List ℕ) (s : Position) (rows : List ℕ) (old : List Tree) (i : ℕ) (before after : List Symbol) (floor : ℕ) : Type 0 where

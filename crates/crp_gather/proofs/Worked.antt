@@ -5,7 +5,7 @@ use Rattle.crp_plan.specs.Bay.{Problem, IsProblem, Position, start, cap}
 use Rattle.crp_bay.specs.Positions.{settled, targets, child}
 use Rattle.crp_bay.proofs.Walked.{begins_at}
 use Rattle.crp_tree.specs.Tree.{Tree, Branch, Given, row}
-use Rattle.crp_tree.specs.declared.mark.Mark.TheVariants.{G}
+use Rattle.crp_tree.specs.Mark.{G}
 use Rattle.crp_tree.specs.Trees.{Node, nodes, cuts, value, IsInPlace, least, least_value}
 use Rattle.crp_tree.specs.Listed.{nodes_below, AreFit}
 use Rattle.crp_tree.specs.Claims.{IsPart, nodes_in}

@@ -3,11 +3,11 @@ use Rattle.std.specs.Prelude.{◌≡◌, ℕ, ◌+◌, ◌<◌, ◌≤◌, ◌�
 use Rattle.std.specs.List.{sum_by}
 use Rattle.crp_plan.specs.Bay.{Problem, Position, IsAt, cap}
 use Rattle.crp_bounds.specs.Bounds.{blocking, look_ahead}
-use Rattle.crp_tree.specs.declared.symbol.Symbol.{Symbol}
+use Rattle.crp_row.specs.Symbol.{Symbol}
 use Rattle.crp_tree.specs.Tree.{Tree}
 use Rattle.crp_tree.specs.Symbols.{symbols}
 use Rattle.crp_tree.specs.Names.{Precedes}
-use Rattle.crp_tree.specs.declared.mark.Mark.TheVariants.{B, L}
+use Rattle.crp_tree.specs.Mark.{B, L}
 use Rattle.crp_tree.specs.Trees.{Node, nodes, branches, Fits, IsInPlace, IsGivenAway, least_value}
 use Rattle.crp_tree.specs.Parts.{ProblemPart, nodes_of, branches_in, Certificate}
 

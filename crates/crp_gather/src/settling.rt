@@ -1,9 +1,11 @@
 //! A certificate settled on a plan.
-ghost use Rattle.std.specs.Prelude.{◌≡◌, ◌+◌, List, ◌∷◌, length, All, IfOk, OnOk, IfSome, IfNone, IsTrue, ◌↔◌};
+ghost use Rattle.std.specs.Prelude.{◌≡◌, ◌+◌, ℕ, List, [], ◌∷◌, length, All, IfOk, OnOk, IfSome, IfNone, IsTrue, ◌↔◌};
 ghost use Rattle.crp_plan.specs.Bay.{IsAt};
+ghost use Rattle.crp_row.specs.Symbol.{Symbol, Branch};
+ghost use Rattle.crp_row.specs.Rows.{symbol_of};
 ghost use Rattle.crp_bounds.specs.Bounds.{blocking as blocking_bound, look_ahead as look_ahead_bound};
 ghost use Rattle.crp_tree.specs.Names.{Precedes};
-ghost use Rattle.crp_tree.specs.Trees.{nodes, Fits, IsInPlace, IsGivenAway};
+ghost use Rattle.crp_tree.specs.Trees.{nodes, least_value, Fits, IsInPlace, IsGivenAway};
 ghost use Rattle.crp_tree.specs.Tree.{Tree};
 ghost use Rattle.crp_tree.specs.Symbols.{tree_of, IsLeaf, leaf, ComesFirst};
 ghost use Rattle.crp_tree.specs.Parts.{IsKeptPart, IsAbout};
@@ -13,16 +15,17 @@ ghost use Rattle.crp_gather.specs.Settled.{IsPast, IsPastPart, IsSettledPart, Is
 use arrayvec::ArrayVec;
 use crp_bounds::Bounded;
 use crp_plan::{MAX_RELOCATIONS, Plan, Problem};
-use crp_tree::{Cert, Part, Parts, Symbol, Tree, behind_trees};
+use crp_row::{Kind, Rest, Row};
+use crp_tree::{Cert, Part, Parts, Tree, pass_trees};
 use std::alloc::{AllocError, Global};
 
 /// Destination rows, from the first relocation on.
 type Path = ArrayVec<u8, MAX_RELOCATIONS>;
 
-/// What is settled where a node is closed: its symbol, and the value of the cut, or the problem's cap where that is not above it.
+/// What is settled where a node is closed: the kind of the cut, and its value, or the problem's cap where that is not above it.
 #[derive(Drop)]
 struct Closed {
-    symbol: Symbol,
+    kind: Kind,
     floor: u32,
 }
 
@@ -52,9 +55,9 @@ fn close_past(problem: &Problem, place: &Bounded, path: &Path, plan: &Plan) -> O
     requires path { IsAt problem.now path.now.items place.now.place }
     ensures past { IfSome result (λ closed. IsPast plan.now.path path.now.items place.now.place) }
     ensures settled { IfSome result (λ closed. (old : Tree)
-        → IsSettledTo problem.now plan.now.path path.now.items place.now.place (nodes path.now.items place.now.place old) (leaf closed.symbol) closed.floor) }
-    ensures leaf { IfSome result (λ closed. IsLeaf closed.symbol) }
-    ensures own { IfSome result (λ closed. IsGivenAway (leaf closed.symbol) → ⊥) }
+        → IsSettledTo problem.now plan.now.path path.now.items place.now.place (nodes path.now.items place.now.place old) (leaf (symbol_of closed.kind [])) closed.floor) }
+    ensures leaf { IfSome result (λ closed. IsLeaf (symbol_of closed.kind [])) }
+    ensures own { IfSome result (λ closed. IsGivenAway (leaf (symbol_of closed.kind [])) → ⊥) }
     ensures open { IfNone result (IsPast plan.now.path path.now.items place.now.place → ⊥) }
 {
     if !comes_after(path, plan) {
@@ -64,103 +67,99 @@ fn close_past(problem: &Problem, place: &Bounded, path: &Path, plan: &Plan) -> O
     let low = low_at(place, path);
     if low >= plan.count() {
         return Some(Closed {
-            symbol: Symbol::CutB,
+            kind: Kind::CutB,
             floor: low.min(most),
         });
     }
     let high = high_at(place, path);
     if high >= plan.count() {
         return Some(Closed {
-            symbol: Symbol::CutL,
+            kind: Kind::CutL,
             floor: high.min(most),
         });
     }
     None
 }
 
-/// Settles the tree at a path, whose symbols come first, on the plan: adds the symbols of what it becomes. Answers what is
-/// behind the tree, and the least value of the new cuts, or the problem's cap where none is below that.
-#[cycle(settling)]
-fn settle_tree<'a>(
-    problem: &Problem,
-    list: &'a [Symbol],
-    place: &mut Bounded,
-    path: &mut Path,
-    plan: &Plan,
-    settled: &mut Vec<Symbol>,
-) -> Result<(&'a [Symbol], u32), AllocError>
-    requires path { IsAt problem.now path.old.items place.old.place }
-    requires whole { (rest : List Symbol) × ComesFirst list.now rest }
-    requires fits { Fits place.old.place (tree_of list.now) }
-    requires in_place { All IsInPlace (nodes path.old.items place.old.place (tree_of list.now)) }
-    ensures settled { IfOk result (λ found. IsWritten problem.now plan.now.path path.old.items place.old.place (tree_of list.now) settled.old.items settled.new.items found.1) }
-    ensures behind { IfOk result (λ found. ComesFirst list.now found.0.now) }
-    ensures back { OnOk result ((place.new ≡ place.old) × (path.new.items ≡ path.old.items)) }
+/// What a leaf of this kind at the path shows, or `most` where that is not above it.
+fn floor_at(kind: Kind, place: &Bounded, path: &Path, most: u32) -> u32
+    ensures { (text : List ℕ) → IsLeaf (symbol_of kind text) → result ≡ least_value most (nodes path.now.items place.now.place (leaf (symbol_of kind text))) }
 {
-    if let Some(closed) = close_past(problem, place, path, plan) {
-        settled.push(closed.symbol)?;
-        return Ok((behind_trees(list, 1), closed.floor));
-    }
-    let most = problem.cap();
-    let Some((first, behind)) = list.split_first() else {
-        unreachable!()
-    };
-    match first {
-        Symbol::CutB => {
-            settled.push(Symbol::CutB)?;
-            let low = low_at(place, path);
-            Ok((behind, low.min(most)))
-        }
-        Symbol::CutL => {
-            settled.push(Symbol::CutL)?;
-            let high = high_at(place, path);
-            Ok((behind, high.min(most)))
-        }
-        Symbol::Given => {
-            settled.push(Symbol::Given)?;
-            Ok((behind, most))
-        }
-        Symbol::Branch(count) => {
-            settle_below(problem, behind, *count, place, path, plan, settled)
-        }
+    match kind {
+        Kind::CutB => low_at(place, path).min(most),
+        Kind::CutL => high_at(place, path).min(most),
+        Kind::CutR(bound) => (path.len() as u32 + bound as u32).min(most),
+        Kind::Given | Kind::Branch(_) => most,
     }
 }
 
-/// The same for a branch, whose trees these symbols begin with, at a path that is not past the plan.
+/// Settles the tree at a path, whose symbols come first, on the plan, and passes it: adds the symbols of what it becomes. Answers
+/// the least value of the new cuts, or the problem's cap where none is below that.
 #[cycle(settling)]
-fn settle_below<'a>(
+fn settle_tree(
     problem: &Problem,
-    list: &'a [Symbol],
+    rest: &mut Rest<'_>,
+    place: &mut Bounded,
+    path: &mut Path,
+    plan: &Plan,
+    settled: &mut Row,
+) -> Result<u32, AllocError>
+    requires path { IsAt problem.now path.old.items place.old.place }
+    requires whole { (behind : List Symbol) × ComesFirst rest.old behind }
+    requires fits { Fits place.old.place (tree_of rest.old) }
+    requires in_place { All IsInPlace (nodes path.old.items place.old.place (tree_of rest.old)) }
+    ensures settled { IfOk result (IsWritten problem.now plan.now.path path.old.items place.old.place (tree_of rest.old) settled.old.symbols settled.new.symbols) }
+    ensures behind { OnOk result (ComesFirst rest.old rest.new) }
+    ensures back { OnOk result ((place.new ≡ place.old) × (path.new.items ≡ path.old.items)) }
+{
+    if let Some(closed) = close_past(problem, place, path, plan) {
+        settled.push(closed.kind, &[])?;
+        pass_trees(rest, 1);
+        return Ok(closed.floor);
+    }
+    let Some((kind, text)) = rest.next() else {
+        unreachable!()
+    };
+    if let Kind::Branch(count) = kind {
+        return settle_below(problem, rest, count, place, path, plan, settled);
+    }
+    settled.push(kind, text)?;
+    Ok(floor_at(kind, place, path, problem.cap()))
+}
+
+/// The same for a branch, whose trees come first, at a path that is not past the plan.
+#[cycle(settling)]
+fn settle_below(
+    problem: &Problem,
+    rest: &mut Rest<'_>,
     count: u8,
     place: &mut Bounded,
     path: &mut Path,
     plan: &Plan,
-    settled: &mut Vec<Symbol>,
-) -> Result<(&'a [Symbol], u32), AllocError>
+    settled: &mut Row,
+) -> Result<u32, AllocError>
     requires path { IsAt problem.now path.old.items place.old.place }
     requires open { IsPast plan.now.path path.old.items place.old.place → ⊥ }
-    requires whole { (rest : List Symbol) × ComesFirst (Symbol.Branch count ∷ list.now) rest }
-    requires fits { Fits place.old.place (tree_of (Symbol.Branch count ∷ list.now)) }
-    requires in_place { All IsInPlace (nodes path.old.items place.old.place (tree_of (Symbol.Branch count ∷ list.now))) }
-    ensures settled { IfOk result (λ found. IsWritten problem.now plan.now.path path.old.items place.old.place (tree_of (Symbol.Branch count ∷ list.now)) settled.old.items settled.new.items found.1) }
-    ensures behind { IfOk result (λ found. ComesFirst (Symbol.Branch count ∷ list.now) found.0.now) }
+    requires whole { (behind : List Symbol) × ComesFirst (Branch count ∷ rest.old) behind }
+    requires fits { Fits place.old.place (tree_of (Branch count ∷ rest.old)) }
+    requires in_place { All IsInPlace (nodes path.old.items place.old.place (tree_of (Branch count ∷ rest.old))) }
+    ensures settled { IfOk result (IsWritten problem.now plan.now.path path.old.items place.old.place (tree_of (Branch count ∷ rest.old)) settled.old.symbols settled.new.symbols) }
+    ensures behind { OnOk result (ComesFirst (Branch count ∷ rest.old) rest.new) }
     ensures back { OnOk result ((place.new ≡ place.old) × (path.new.items ≡ path.old.items)) }
 {
-    settled.push(Symbol::Branch(count))?;
+    settled.push(Kind::Branch(count), &[])?;
     let targets = place.position().targets();
     let rows = targets.as_slice();
-    let mut rest = list;
     let mut floor = problem.cap();
     for row in rows {
         path.push(*row);
         let _pushed = place.push(*row);
-        let (behind, least) = settle_tree(problem, rest, place, path, plan, settled)?;
+        let least = settle_tree(problem, rest, place, path, plan, settled)?;
         let _popped = place.pop();
         let _row = path.pop();
-        rest = behind;
         floor = floor.min(least);
     }
-    Ok((rest, floor))
+    Ok(floor)
 }
 
 /// Settles a part on the plan. `None` exactly where its name is past the plan.
@@ -180,17 +179,18 @@ fn settle_part(alloc: Global, part: &Part, plan: &Plan) -> Result<Option<Part>, 
     if let Some(_closed) = close_past(problem, &place, &path, plan) {
         return Ok(None);
     }
-    let mut settled = Vec::new(alloc);
-    let (_behind, floor) = settle_tree(
+    let mut rest = part.tree().symbols();
+    let mut settled = Row::new(alloc);
+    let floor = settle_tree(
         problem,
-        part.tree().symbols(),
+        &mut rest,
         &mut place,
         &mut path,
         plan,
         &mut settled,
     )?;
     let name = part.name().copy();
-    let part = Part::new(problem, name, Tree::from_symbols(settled), floor);
+    let part = Part::new(problem, name, Tree::from_row(settled), floor);
     Ok(Some(part))
 }
 

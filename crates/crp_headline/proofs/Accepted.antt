@@ -14,6 +14,8 @@ use Rattle.crp_cert.proofs.Written.{spelled_is_script, first_is_script, claimed_
 use Rattle.crp_solve.specs.declared.answer.Answer.{Answer}
 use Rattle.crp_solve.specs.declared.answer.Answer.TheVariants as answer
 use Rattle.crp_solve.specs.declared.answer.Cause.TheVariants as cause
+use Rattle.crp_solve.specs.Chosen.{Chosen}
+use Rattle.crp_solve.specs.Solved.{IsSolved}
 use Rattle.crp_solve.specs.Answers.{cert_of, count_of, IsTrueAnswer}
 use Rattle.crp_solve.proofs.Limits.{count_low}
 use Rattle.crp_checker.specs.declared.verdict.Verdict.TheVariants as verdict
@@ -137,21 +139,26 @@ answer_accepted bay p budget found expanded named t =
 -- ---- files of certificates
 
 -- the text of a certificate ends with its first line that begins with `end `
-text_ended : (bay : YardBay) (p : Problem) (found : Answer) → IsYardBay bay → IsEnded (text_of bay p found)
-text_ended bay p (answer.Optimal plan cert) named = script_ended (script_for bay (claimed p cert (Some plan.path))) named
-text_ended bay p (answer.First plan cert) named = script_ended (first_script_for bay (claimed p cert (Some plan.path))) named
-text_ended bay p (answer.NoPlan cert) named = script_ended (script_for bay (claimed p cert None)) named
-text_ended bay p (answer.Between lower cert plan why) named = script_ended (script_for bay (claimed p cert (path_in plan))) named
+text_ended : (bay : YardBay) (p : Problem) (budget : ℕ) (found : Answer) (expanded : ℕ) → IsYardBay bay → IsTrueAnswer p budget found expanded → IsEnded (text_of bay p found)
+text_ended bay p budget found expanded named t =
+    let is = (text_accepted bay p budget found expanded named t (readable p budget found expanded t)).is_text in
+    subst IsEnded (sym is.1) (script_ended (script_of bay p found) is.0)
 
 -- so the certificates are the texts of the file
-cut : (answered : List Answered) → AllByRecursion CanBeWritten (map (λ bay. bay.stated) answered) → BeginsWithTexts (certificates_text answered) (map certificate_of answered) []
-cut [] can = refl
-cut (bay ∷ answered) can =
-    (certificates_text answered, refl, inl (text_ended bay.stated.bay bay.stated.problem bay.solved.answer can.0), cut answered can.1)
+cut : (chosen : Chosen) (answered : List Answered) → AllByRecursion CanBeWritten (map (λ bay. bay.stated) answered) → AllByRecursion (λ bay. IsSolved bay.stated.problem chosen bay.solved) answered →
+    BeginsWithTexts (certificates_text answered) (map certificate_of answered) []
+cut chosen [] can each = refl
+cut chosen (bay ∷ answered) can each = (
+  certificates_text answered,
+  refl,
+  inl (text_ended bay.stated.bay bay.stated.problem chosen.budget bay.solved.answer bay.solved.expanded can.0 each.0.answer),
+  cut chosen answered can.1 each.1,
+)
 
 pub run_cut : (chosen : RunChosen) (seen : RunSeen) (made : Made) → IsMade chosen seen made → BeginsWithTexts made.certificates (map certificate_of made.answered) []
 run_cut chosen seen made is =
     let t = is.true_answers in
     let can = recursion_from_All CanBeWritten (problems_of made.yard made.sequence) (can_be_written chosen.input.heights made.list made.yard made.sequence is.listed) in
+    let each = recursion_from_All (λ (bay : Answered). IsSolved bay.stated.problem chosen.search bay.solved) made.answered t.each_true in
     subst (λ file. BeginsWithTexts file (map certificate_of made.answered) []) (sym is.certificates)
-    (cut made.answered (subst (AllByRecursion CanBeWritten) (sym t.one_for_each) can))
+    (cut chosen.search made.answered (subst (AllByRecursion CanBeWritten) (sym t.one_for_each) can) each)

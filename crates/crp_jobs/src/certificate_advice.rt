@@ -104,6 +104,9 @@ pub(crate) fn advice_on_refused(refused: &Refused) -> &'static str
         Refused::Finished { .. } => {
             "this symbol is an X where all that are to leave have left: only B, L or G may stand there"
         }
+        Refused::Unshown { .. } => {
+            "the certificate does not show its claim: these reasons do not show as many relocations as their number says"
+        }
         Refused::Missing { .. } => {
             "the part of this name is missing: the part / must be there, and one for each G of another part"
         }

@@ -1,7 +1,7 @@
 -- A symbol more at the end of a row, or one less at its front.
-use Rattle.std.proofs.Common.{◌≡◌, ℕ, suc, true, false, List, [], ◌∷◌, ◌++◌, length, map, refl, sym, ap, ◌∙◌, arith}
+use Rattle.std.proofs.Common.{◌≡◌, ℕ, suc, false, List, [], ◌∷◌, ◌++◌, length, map, refl, sym, ap, ◌∙◌, arith}
 use Rattle.std.proofs.lemmas.List.{length-map}
-use Rattle.crp_row.specs.Symbol.{Symbol, CutB, CutL, CutR, Branch, Given}
+use Rattle.crp_row.specs.Symbol.{CutB, CutL, CutR, Branch, Given}
 use Rattle.crp_row.specs.declared.kind.Kind.{Kind}
 use Rattle.crp_row.specs.declared.kind.Kind.TheVariants as kind
 use Rattle.crp_row.specs.Rows.{symbol_of, has_text, kind_of, symbols_of, texts_in}

@@ -1,9 +1,9 @@
 -- What holds of a node where so much suffices, by its mark; and how a node closes.
-use Rattle.std.proofs.Common.{◌≡◌, ℕ, ◌+◌, ◌<◌, ◌≤◌, min, inl, List, [], ◌∷◌, ◌++◌, length, map, Option, Some, None, Result, Ok, Err, ap, arith}
+use Rattle.std.proofs.Common.{◌≡◌, ℕ, ◌+◌, ◌<◌, ◌≤◌, min, inl, List, [], ◌∷◌, ◌++◌, length, map, Option, Some, None, Result, Ok, Err, refl, ap, arith}
 use Rattle.crp_plan.specs.Bay.{Position}
 use Rattle.crp_bounds.specs.Bounds.{blocking, look_ahead}
-use Rattle.crp_tree.specs.declared.mark.Mark.TheVariants.{B, X}
-use Rattle.crp_tree.specs.declared.symbol.Symbol.TheVariants.{CutB, CutL}
+use Rattle.crp_tree.specs.Mark.{B, X}
+use Rattle.crp_row.specs.declared.kind.Kind.TheVariants.{CutB, CutL}
 use Rattle.crp_tree.specs.Trees.{Node, cuts, value, least, least_value}
 use Rattle.crp_tree.proofs.Shown.{least_most}
 use Rattle.crp_tree.proofs.Joined.{least_value-append}
@@ -36,12 +36,12 @@ floor_more most floor low met own is lower =
 -- ---- how a node closes
 
 -- by the blocking bound
-pub closed_b : (floor low : ℕ) (path : List ℕ) (s : Position) → low ≡ length path + blocking s → IsLeafAt 0 floor path s (record { symbol = CutB; floor = min low floor })
-closed_b floor low path s e = record { leaf_is = tt; given = λ away. absurd away; floor_is = ap (λ v. min v floor) e }
+pub closed_b : (floor low : ℕ) (path : List ℕ) (s : Position) → low ≡ length path + blocking s → IsLeafAt 0 floor path s (record { kind = CutB; floor = min low floor })
+closed_b floor low path s e = record { plain = refl; leaf_is = tt; given = λ away. absurd away; floor_is = ap (λ v. min v floor) e }
 
 -- by the look-ahead bound
-pub closed_l : (floor high : ℕ) (path : List ℕ) (s : Position) → high ≡ length path + look_ahead s → IsLeafAt 0 floor path s (record { symbol = CutL; floor = min high floor })
-closed_l floor high path s e = record { leaf_is = tt; given = λ away. absurd away; floor_is = ap (λ v. min v floor) e }
+pub closed_l : (floor high : ℕ) (path : List ℕ) (s : Position) → high ≡ length path + look_ahead s → IsLeafAt 0 floor path s (record { kind = CutL; floor = min high floor })
+closed_l floor high path s e = record { plain = refl; leaf_is = tt; given = λ away. absurd away; floor_is = ap (λ v. min v floor) e }
 
 -- as it does once no node was met before, and where more may be given away
 pub closes_from : {A : Type 0} {Meets : ℕ → A → Dealings → A → Dealings → List Node → Type 0} {Ends : ℕ → A → Dealings → A → Dealings → List Node → WalkEnd → Type 0} {a b c : A} {d e f : Dealings}
@@ -54,6 +54,6 @@ closes_from {path} {s} more (Ok (Some closed)) h on ends =
     let leaf = h.closed in
     record {
       met = λ rows _. on rows (met_at path s (Some closed)) (h.met rows (omega arith));
-      closed = record { leaf_is = leaf.leaf_is; given = λ away. let none = leaf.given away in absurd (omega arith); floor_is = leaf.floor_is };
+      closed = record { plain = leaf.plain; leaf_is = leaf.leaf_is; given = λ away. let none = leaf.given away in absurd (omega arith); floor_is = leaf.floor_is };
       ended = tt;
     }

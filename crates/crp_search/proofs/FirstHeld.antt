@@ -1,13 +1,13 @@
 -- A search for the first plan meets one.
-use Rattle.std.proofs.Common.{◌≡◌, ℕ, ◌+◌, ◌<◌, ◌≤◌, inl, List, [], ◌∷◌, length, Option, Some, None, refl, sym, ap, ◌∙◌, arith}
+use Rattle.std.proofs.Common.{◌≡◌, ℕ, ◌+◌, ◌<◌, ◌≤◌, inl, List, [], ◌∷◌, length, Option, Some, None, refl, sym, ap, ◌∙◌, subst, arith}
 use Rattle.std.proofs.lemmas.List.Elements.{All-nil, All-cons}
 use Rattle.crp_plan.specs.Bay.{Problem}
 use Rattle.crp_plan.specs.Faults.{IsPlanPath}
 use Rattle.crp_plan.specs.Plans.{ProblemPath}
 use Rattle.crp_plan.proofs.Covered.{relocations-path}
 use Rattle.crp_bounds.specs.Bounds.{blocking}
-use Rattle.crp_tree.specs.declared.mark.Mark.TheVariants.{B, L, X}
-use Rattle.crp_tree.specs.Trees.{Node, is_cut, bound_by, value}
+use Rattle.crp_tree.specs.Mark.{B, L, X}
+use Rattle.crp_tree.specs.Trees.{Node, is_cut, bound_by, value, MayStand}
 use Rattle.crp_search.specs.Limits.{Dealings}
 use Rattle.crp_search.specs.Searched.{IsHeld}
 use Rattle.crp_search.specs.Firsts.{IsLowerBound}
@@ -48,7 +48,7 @@ held_plan p k None plan node about least whole less here mark =
 pub first_plan_met : (p : Problem) (k split : ℕ) (old : Option ProblemPath) (plan : ProblemPath) (d : Dealings) (node : Node) → plan.problem ≡ p → IsLowerBound p k → IsPlanPath p plan.path → length plan.path < need k old → node.path ≡ plan.path → node.mark ≡ B →
     IsFirstSoFar p k split old (Some plan) d d (node ∷ [])
 first_plan_met p k split old plan d node about least whole less here mark = record {
-  dealings = met_cut split d d node (ap is_cut mark) refl refl;
+  dealings = met_cut split d d node (ap is_cut mark) (subst (λ m. MayStand m node.path node.place) (sym mark) tt) refl refl;
   claims = claims_none d.view;
   held = held_plan p k old plan node about least whole less here mark;
 }

@@ -7,8 +7,7 @@ use Rattle.crp_plan.proofs.Covered.{relocations-path}
 use Rattle.crp_bay.proofs.Members.{not_in_nil, in_head, in_cons_cases}
 use Rattle.crp_tree.specs.Tree.{Tree}
 use Rattle.crp_tree.specs.Names.{Precedes}
-use Rattle.crp_tree.specs.declared.mark.Mark.{Mark}
-use Rattle.crp_tree.specs.declared.mark.Mark.TheVariants.{B, G, X}
+use Rattle.crp_tree.specs.Mark.{Mark, B, G, X}
 use Rattle.crp_tree.specs.Trees.{Node, nodes, is_cut, is_branch, is_given, cuts, branches, value, given_names, IsInPlace, Fits, Begins}
 use Rattle.crp_tree.specs.Parts.{ProblemPart, nodes_of, given_of, IsKeptPart}
 use Rattle.crp_tree.specs.First.{MeetsNeed}

@@ -1,12 +1,11 @@
 -- What a search for the fewest relocations has met so far: nodes, one after the other.
-use Rattle.std.proofs.Common.{◌≡◌, ℕ, ◌+◌, ◌<◌, ◌≤◌, inl, inr, ⊎_elim, true, Bool, List, [], ◌∷◌, length, All, filter, sym, ap, ◌∙◌, refl, arith, append-nil}
-use Rattle.std.proofs.lemmas.List.Elements.{All-nil, All-cons, All-weaker, All-contains}
+use Rattle.std.proofs.Common.{◌≡◌, ℕ, ◌+◌, ◌<◌, ◌≤◌, inl, inr, ⊎_elim, true, Bool, List, [], ◌∷◌, ◌++◌, length, All, filter, sym, ap, ◌∙◌, refl, subst, arith, append-nil}
+use Rattle.std.proofs.lemmas.List.Elements.{All-nil, All-cons, All-same, All-weaker, All-contains}
 use Rattle.crp_plan.specs.Bay.{Problem, Position}
 use Rattle.crp_plan.specs.declared.running.View.{View}
 use Rattle.crp_bounds.specs.Bounds.{blocking}
-use Rattle.crp_tree.specs.declared.mark.Mark.{Mark}
-use Rattle.crp_tree.specs.declared.mark.Mark.TheVariants.{B, L, X, G}
-use Rattle.crp_tree.specs.Trees.{Node, is_cut, is_branch, cuts, branches, bound_by, value, IsInPlace}
+use Rattle.crp_tree.specs.Mark.{Mark, B, L, R, X, G}
+use Rattle.crp_tree.specs.Trees.{Node, is_cut, is_branch, cuts, branches, given_names, bound_by, value, MayStand, IsInPlace}
 use Rattle.crp_bay.proofs.Members.{from_filter}
 use Rattle.crp_tree.proofs.InLine.{from_members}
 use Rattle.crp_search.specs.Limits.{Advances, Dealings}
@@ -15,25 +14,24 @@ use Rattle.crp_search.specs.Searched.{Suffices, NeedsLookAhead, IsBelow, IsHeld,
 
 -- ---- what was met
 
--- a cut is met while nothing is granted or put
-cut_at : (split : ℕ) (d e : Dealings) (path : List ℕ) (s : Position) (mark : Mark) → is_cut mark ≡ true → e.view.granted ≡ d.view.granted → e.puts ≡ d.puts → IsMet split d e (record { path = path; place = s; mark = mark } ∷ [])
-cut_at split d e path s B cut granted puts = record {
-  in_place = All-cons IsInPlace (record { path = path; place = s; mark = B }) [] tt (All-nil IsInPlace);
-  grants = omega (arith, granted);
-  puts = puts ∙ sym (append-nil d.puts);
-  short = All-nil (IsShort split);
-}
-cut_at split d e path s L cut granted puts = record {
-  in_place = All-cons IsInPlace (record { path = path; place = s; mark = L }) [] tt (All-nil IsInPlace);
-  grants = omega (arith, granted);
-  puts = puts ∙ sym (append-nil d.puts);
-  short = All-nil (IsShort split);
-}
-cut_at split d e path s X cut granted puts = absurd (cc)
-cut_at split d e path s G cut granted puts = absurd (cc)
+-- a cut is no branch, and gives nothing away
+cut_alone : (path : List ℕ) (s : Position) (mark : Mark) → is_cut mark ≡ true → (branches (record { path = path; place = s; mark = mark } ∷ []) ≡ []) × (given_names (record { path = path; place = s; mark = mark } ∷ []) ≡ [])
+cut_alone path s B cut = (refl, refl)
+cut_alone path s L cut = (refl, refl)
+cut_alone path s (R bound text) cut = (refl, refl)
+cut_alone path s X cut = absurd (cc)
+cut_alone path s G cut = absurd (cc)
 
-pub met_cut : (split : ℕ) (d e : Dealings) (node : Node) → is_cut node.mark ≡ true → e.view.granted ≡ d.view.granted → e.puts ≡ d.puts → IsMet split d e (node ∷ [])
-met_cut split d e node cut granted puts = cut_at split d e node.path node.place node.mark cut granted puts
+-- it is met while nothing is granted or put
+pub met_cut : (split : ℕ) (d e : Dealings) (node : Node) → is_cut node.mark ≡ true → IsInPlace node → e.view.granted ≡ d.view.granted → e.puts ≡ d.puts → IsMet split d e (node ∷ [])
+met_cut split d e node cut stands granted puts =
+    let alone = cut_alone node.path node.place node.mark cut in
+    record {
+      in_place = All-cons IsInPlace node [] stands (All-nil IsInPlace);
+      grants = omega (arith, granted, ap length alone.0);
+      puts = puts ∙ sym (append-nil d.puts) ∙ ap (λ l. d.puts ++ l) (sym alone.1);
+      short = All-same (IsShort split) _ _ alone.1 (All-nil (IsShort split));
+    }
 
 -- a branch while one claim is granted
 pub met_branch : (split : ℕ) (d e : Dealings) (path : List ℕ) (s : Position) → s.next ≤ s.ordered → e.view.granted ≡ d.view.granted + 1 → e.puts ≡ d.puts → IsMet split d e (record { path = path; place = s; mark = X } ∷ [])
@@ -64,6 +62,7 @@ kind_of Holds Follows test met follows all =
 pub branch_is : (mark : Mark) → is_branch mark ≡ true → mark ≡ X
 branch_is B is = absurd (cc)
 branch_is L is = absurd (cc)
+branch_is (R bound text) is = absurd (cc)
 branch_is X is = refl
 branch_is G is = absurd (cc)
 
@@ -105,7 +104,7 @@ offer_met p split d e path node seen on granted puts here mark =
     let low = on.seen in
     let own : value node ≡ length path + blocking node.place = ap (λ m. length node.path + bound_by m node.place) mark ∙ ap (λ l. length l + blocking node.place) here in
     record {
-      dealings = met_cut split d e node (ap is_cut mark) granted puts;
+      dealings = met_cut split d e node (ap is_cut mark) (subst (λ m. MayStand m node.path node.place) (sym mark) tt) granted puts;
       advances = on;
       along = (
         e.view.seen,

@@ -1,5 +1,5 @@
 -- A search on its way over the tree: the symbols of the nodes that it has met, and a frame for each branch between its first node and the one that it has come to.
-use Rattle.std.proofs.Common.{◌≡◌, ℕ, suc, ◌<◌, ◌≤◌, List, [], ◌∷◌, ◌++◌, length, drop, Contains, None, refl, sym, ap, ◌∙◌, subst, arith, append_assoc, append-nil, length-append, drop-cons}
+use Rattle.std.proofs.Common.{◌≡◌, false, ℕ, suc, ◌<◌, ◌≤◌, List, [], ◌∷◌, ◌++◌, length, drop, Contains, None, refl, sym, ap, ◌∙◌, subst, arith, append_assoc, append-nil, length-append, drop-cons}
 use Rattle.std.specs.Prelude.{reverse}
 use Rattle.std.proofs.lemmas.List.{reverse-append, drop_all}
 use Rattle.crp_plan.specs.Bay.{Problem, IsProblem, Position, IsAt}
@@ -7,9 +7,12 @@ use Rattle.crp_plan.proofs.Steps.{short_path}
 use Rattle.crp_bay.specs.Positions.{targets, child}
 use Rattle.crp_bay.specs.Back.{PlaceAndTrail}
 use Rattle.crp_bay.proofs.Walked.{target_goes_on}
-use Rattle.crp_tree.specs.declared.symbol.Symbol.{Symbol}
-use Rattle.crp_tree.specs.declared.symbol.Symbol.TheVariants as symbol
-use Rattle.crp_tree.specs.Tree.{Tree, CutB, CutL, Branch, Given}
+use Rattle.crp_row.specs.Symbol.{Symbol}
+use Rattle.crp_row.specs.Symbol as symbol
+use Rattle.crp_row.specs.declared.kind.Kind.{Kind}
+use Rattle.crp_row.specs.declared.kind.Kind.TheVariants as kind
+use Rattle.crp_row.specs.Rows.{symbol_of, has_text}
+use Rattle.crp_tree.specs.Tree.{Tree, CutB, CutL, CutR, Branch, Given}
 use Rattle.crp_tree.specs.Symbols.{symbols, tree_of, tree_back, IsLeaf, leaf}
 use Rattle.crp_tree.specs.Trees.{Node, nodes, branches, Fits, IsGivenAway}
 use Rattle.crp_tree.specs.Spots.{Spot, spot_below, spots_below}
@@ -132,6 +135,7 @@ pub record Ended (first : Stand) (list : List Symbol) (met : List Node) : Type 0
 own_branch : (path : List ℕ) (s : Position) (tree : Tree) (met : List Node) → nodes path s tree ≡ met → 1 ≤ length (branches met) → IsGivenAway tree → ⊥
 own_branch path s CutB met are some is = is
 own_branch path s CutL met are some is = is
+own_branch path s (CutR bound text) met are some is = is
 own_branch path s (Branch all) met are some is = is
 own_branch path s Given met are some is = let none : 0 ≡ length (branches met) = ap (λ l. length (branches l)) are in absurd (omega arith)
 
@@ -142,7 +146,7 @@ first_walked x list met [] w =
     record { tree = whole.tree; fits = whole.fits; rest = []; is = whole.nodes_are ∙ sym (append-nil met) }
 first_walked x list met (spot ∷ owed) w =
     let one : List Node = nodes spot.path spot.place CutB in
-    let more = first_walked x (list ++ symbol.CutB ∷ []) (met ++ one) owed (walk_leaf (spot_at x) list met spot owed symbol.CutB w tt) in
+    let more = first_walked x (list ++ symbol.CutB ∷ []) (met ++ one) owed (walk_leaf (spot_at x) list met spot owed symbol.CutB w tt tt) in
     record { tree = more.tree; fits = more.fits; rest = one ++ more.rest; is = more.is ∙ append_assoc met one more.rest }
 
 -- also before the first
@@ -195,12 +199,12 @@ module _ {p : Problem} {first now : Stand} {f : Frame} {above : List Frame} {lis
     still_short is = omega (arith, short_path p (now.path ++ row ∷ []) (child now.stand.place row) is (turn_leads is), length-append now.path (row ∷ []))
 
     -- the child there is closed
-    pub stays : (path : List ℕ) (one : Symbol) → path ≡ now.path ++ row ∷ [] → IsLeaf one → IsUnderWay p first now g above (list ++ one ∷ []) (met ++ nodes path (child now.stand.place row) (leaf one))
-    stays path one deeper is =
+    pub stays : (path : List ℕ) (one : Symbol) → path ≡ now.path ++ row ∷ [] → IsLeaf one → Fits (child now.stand.place row) (leaf one) → IsUnderWay p first now g above (list ++ one ∷ []) (met ++ nodes path (child now.stand.place row) (leaf one))
+    stays path one deeper is fits =
         let k = turned p first now f g above h.owed row h.frames t in
         subst (λ l. IsUnderWay p first now g above (list ++ one ∷ []) (met ++ nodes l (child now.stand.place row) (leaf one))) (sym deeper) (record {
           owed = k.others;
-          walked = walk_leaf (spot_at first) list met (spot_below now.path now.stand.place row) k.others one (subst (IsWalked (spot_at first) list met) k.is h.walked) is;
+          walked = walk_leaf (spot_at first) list met (spot_below now.path now.stand.place row) k.others one (subst (IsWalked (spot_at first) list met) k.is h.walked) is fits;
           frames = k.frames;
           some = still_some met _ h.some;
         })
@@ -247,6 +251,14 @@ ends_as {first} {list} {met} tree end is =
     subst (IsEnd first met) same (record { fits = whole.fits; own = end.own; nodes_are = sym whole.nodes_are })
 
 -- ---- as the loop meets it
+
+-- the tree of one symbol without a text fits
+pub plain_fits : (one : Kind) (s : Position) → has_text one ≡ false → IsLeaf (symbol_of one []) → Fits s (leaf (symbol_of one []))
+plain_fits kind.CutB s plain is = tt
+plain_fits kind.CutL s plain is = tt
+plain_fits (kind.CutR bound) s plain is = cc
+plain_fits (kind.Branch n) s plain is = absurd is
+plain_fits kind.Given s plain is = tt
 
 -- the tree of one symbol
 pub leaf_tree : (none list : List Symbol) (tree : Tree) (one : Symbol) → none ≡ [] → list ≡ none ++ one ∷ [] → list ≡ symbols tree → leaf one ≡ tree

@@ -3,7 +3,7 @@ use Rattle.std.specs.Prelude.{◌≡◌, ℕ, ◌+◌, List, ◌∷◌, ◌++◌
 use Rattle.crp_plan.specs.Bay.{Problem, Position, IsAt}
 use Rattle.crp_plan.specs.Faults.{IsPlanPath}
 use Rattle.crp_plan.specs.Plans.{ProblemPath}
-use Rattle.crp_tree.specs.declared.mark.Mark.TheVariants.{B}
+use Rattle.crp_tree.specs.Mark.{B}
 use Rattle.crp_tree.specs.Trees.{Node}
 use Rattle.crp_search.specs.Limits.{Dealings}
 use Rattle.crp_search.specs.Searched.{IsHeld, IsMet, AreFirstNodes}

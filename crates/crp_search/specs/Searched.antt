@@ -4,7 +4,7 @@ use Rattle.crp_plan.specs.Bay.{Problem, Position}
 use Rattle.crp_plan.specs.declared.running.View.{View}
 use Rattle.crp_bounds.specs.Bounds.{blocking, look_ahead}
 use Rattle.crp_tree.specs.Tree.{Tree}
-use Rattle.crp_tree.specs.declared.mark.Mark.TheVariants.{L, X}
+use Rattle.crp_tree.specs.Mark.{L, X}
 use Rattle.crp_tree.specs.Trees.{Node, nodes, Fits, IsInPlace, is_cut, branches, given_names, value, least_through}
 use Rattle.crp_search.specs.Limits.{Dealings, Advances}
 

@@ -1,25 +1,32 @@
 -- What a walk over a part meets at a node, and the turns of a branch's rows.
-use Rattle.std.specs.Prelude.{◌≡◌, ℕ, ◌+◌, ◌<◌, ◌≤◌, List, [], ◌∷◌, length, slice_index, Option, Some, None, Result, IfOk, IfErr, IfSome}
+use Rattle.std.specs.Prelude.{◌≡◌, false, ℕ, ◌+◌, ◌<◌, ◌≤◌, List, [], ◌∷◌, length, slice_index, Option, Some, None, Result, IfOk, IfErr, IfSome}
 use Rattle.crp_plan.specs.Bay.{Position}
+use Rattle.crp_row.specs.Symbol.{Symbol}
+use Rattle.crp_row.specs.Rows.{symbol_of, has_text}
 use Rattle.crp_tree.specs.Symbols.{IsLeaf, leaf}
-use Rattle.crp_tree.specs.declared.mark.Mark.TheVariants.{X}
+use Rattle.crp_tree.specs.Mark.{X}
 use Rattle.crp_tree.specs.Trees.{Node, nodes, least_value, IsGivenAway}
 use Rattle.crp_search.specs.declared.frames.Closed.{Closed}
 use Rattle.crp_search.specs.declared.frames.Frame.{Frame}
 use Rattle.crp_search.specs.declared.walk_end.WalkEnd.{WalkEnd}
 use Rattle.crp_search.specs.Limits.{Dealings}
 
+-- the symbol that closes a node
+abbrev pub closing : Closed → Symbol
+closing closed = symbol_of closed.kind []
+
 -- what is met at a path: where the node is closed its one node, else a branch
 abbrev pub met_at : List ℕ → Position → Option Closed → List Node
 met_at path s None = record { path = path; place = s; mark = X } ∷ []
-met_at path s (Some closed) = nodes path s (leaf closed.symbol)
+met_at path s (Some closed) = nodes path s (leaf (closing closed))
 
--- the node is closed by a symbol that is a whole tree, which is given away only where its path has fewer than so many rows; and the floor is the value of its cut where that is
+-- the node is closed by a symbol without a text that is a whole tree, which is given away only where its path has fewer than so many rows; and the floor is the value of its cut where that is
 -- below the one before
 pub record IsLeafAt (under before : ℕ) (path : List ℕ) (s : Position) (closed : Closed) : Type 0 where
-  pub leaf_is : IsLeaf closed.symbol
-  pub given : IsGivenAway (leaf closed.symbol) → length path < under
-  pub floor_is : closed.floor ≡ least_value before (nodes path s (leaf closed.symbol))
+  pub plain : has_text closed.kind ≡ false
+  pub leaf_is : IsLeaf (closing closed)
+  pub given : IsGivenAway (leaf (closing closed)) → length path < under
+  pub floor_is : closed.floor ≡ least_value before (nodes path s (leaf (closing closed)))
 
 -- a node is closed, or an expansion is granted for it, or the walk ends there, while names of fewer than so many rows may be given away: what holds of what is met, how the node is
 -- closed, and what holds at the end

@@ -6,7 +6,8 @@ ghost use Rattle.crp_search.specs.Walked.{TakesTurn};
 use arrayvec::ArrayVec;
 use crp_bay::Position;
 use crp_plan::MAX_ROWS;
-use crp_tree::{Symbol, Tree};
+use crp_row::Kind;
+use crp_tree::Tree;
 
 /// A tree, and the least value of its cuts, or the problem's cap where none is below that.
 #[derive(Drop)]
@@ -15,10 +16,10 @@ pub struct Found {
     pub floor: u32,
 }
 
-/// What is found where a node is not a branch: its symbol, and the floor of the walk with it, which the value of a cut may lower.
+/// What is found where a node is not a branch: what its symbol is, which has no text, and the floor of the walk with it, which the value of a cut may lower.
 #[derive(Drop)]
 pub struct Closed {
-    pub symbol: Symbol,
+    pub kind: Kind,
     pub floor: u32,
 }
 
@@ -42,11 +43,11 @@ impl Frame {
         }
     }
 
-    /// The symbol of the branch.
-    pub fn symbol(&self) -> Symbol
-        ensures { result ≡ Symbol.Branch (length self.now.rows.items) }
+    /// What the symbol of the branch is.
+    pub fn kind(&self) -> Kind
+        ensures { result ≡ Kind.Branch (length self.now.rows.items) }
     {
-        Symbol::Branch(self.rows.len() as u8)
+        Kind::Branch(self.rows.len() as u8)
     }
 
     /// The row whose turn it is. `None` where each row had its turn.

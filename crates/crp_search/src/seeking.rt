@@ -3,7 +3,7 @@ ghost use Rattle.std.specs.Prelude.{◌≡◌, ℕ, ◌+◌, ◌<◌, ◌≤◌,
 ghost use Rattle.crp_plan.specs.declared.running.View.{View};
 ghost use Rattle.crp_plan.specs.Bay.{Problem as Statement};
 ghost use Rattle.crp_plan.specs.Faults.{IsPlanPath};
-ghost use Rattle.crp_tree.specs.declared.mark.Mark.TheVariants.{B};
+ghost use Rattle.crp_tree.specs.Mark.{B};
 ghost use Rattle.crp_tree.specs.Trees.{Node, IsInPlace, is_cut, value, least_through};
 ghost use Rattle.crp_search.specs.declared.walk_end.WalkEnd.{WalkEnd as WhyEnded};
 ghost use Rattle.crp_search.specs.declared.walk_end.WalkEnd.TheVariants.{Memory};
@@ -48,7 +48,7 @@ pub trait Seek {
     fn expand<L: Limit>(&mut self, limit: &mut L) -> Result<bool, WalkEnd>
         ensures granted { IfOk result (λ granted. IsTrue granted
             → (self.new ≡ self.old) × OnlyGrants (L.view limit.old) (L.view limit.new) × ((L.view limit.new).granted ≡ (L.view limit.old).granted + 1)) }
-        ensures refused { IfOk result (λ granted. IsFalse granted → (split : ℕ) (node : Node) → is_cut node.mark ≡ true → least_through node ≤ value node
+        ensures refused { IfOk result (λ granted. IsFalse granted → (split : ℕ) (node : Node) → is_cut node.mark ≡ true → IsInPlace node → least_through node ≤ value node
             → node.place.next ≤ node.place.ordered → NeedsLookAhead (bar self.old (L.view limit.old)) node
             → meets (L.problem limit.old) split self.old (dealt (L.view limit.old) (L.puts limit.old)) self.new (dealt (L.view limit.new) (L.puts limit.new)) (node ∷ [])) }
         ensures end { IfErr result (λ end. (split : ℕ)

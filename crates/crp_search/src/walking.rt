@@ -4,7 +4,7 @@ ghost use Rattle.crp_plan.specs.Bay.{IsAt, IsProblem, Position as Place, cap};
 ghost use Rattle.crp_plan.specs.Faults.{IsPlanPath};
 ghost use Rattle.crp_bay.specs.Positions.{child, targets};
 ghost use Rattle.crp_bounds.specs.Bounds.{blocking as blocking_bound, look_ahead as look_ahead_bound};
-ghost use Rattle.crp_tree.specs.declared.mark.Mark.TheVariants.{B};
+ghost use Rattle.crp_tree.specs.Mark.{B};
 ghost use Rattle.crp_tree.specs.Trees.{IsGivenAway, Fits, Node, nodes, least_value};
 ghost use Rattle.crp_tree.specs.Parts.{IsKeptPart, nodes_of};
 ghost use Rattle.crp_search.specs.Limits.{dealt};
@@ -18,16 +18,17 @@ use crate::walk_end::WalkEnd;
 use arrayvec::ArrayVec;
 use crp_bounds::Bounded;
 use crp_plan::{MAX_RELOCATIONS, Plan, Problem};
-use crp_tree::{MAX_NAME, Name, Part, Symbol, Tree};
+use crp_row::{Kind, Row};
+use crp_tree::{MAX_NAME, Name, Part, Tree};
 use std::alloc::{AllocError, Global};
 use std::mem;
 
 /// A node that is closed by a cut of the value, below a floor.
-fn cut(symbol: Symbol, value: u32, floor: u32) -> Closed
-    ensures { result ≡ record { symbol = symbol; floor = min value floor } }
+fn cut(kind: Kind, value: u32, floor: u32) -> Closed
+    ensures { result ≡ record { kind = kind; floor = min value floor } }
 {
     Closed {
-        symbol,
+        kind,
         floor: value.min(floor),
     }
 }
@@ -35,7 +36,7 @@ fn cut(symbol: Symbol, value: u32, floor: u32) -> Closed
 /// The cut by the look-ahead bound, where length plus that bound suffices. It counts no further than the floor.
 fn reaching_cut(place: &Bounded, path: &[u8], bar: u64, floor: u32) -> Option<Closed>
     requires { length path.now ≤ 672 }
-    ensures value { IfSome result (λ closed. closed ≡ record { symbol = Symbol.CutL; floor = min (length path.now + look_ahead_bound place.now.place) floor }) }
+    ensures value { IfSome result (λ closed. closed ≡ record { kind = Kind.CutL; floor = min (length path.now + look_ahead_bound place.now.place) floor }) }
     ensures reached { IfSome result (λ closed. bar ≤ length path.now + look_ahead_bound place.now.place) }
     ensures below { IfNone result (length path.now + look_ahead_bound place.now.place < bar) }
 {
@@ -44,22 +45,22 @@ fn reaching_cut(place: &Bounded, path: &[u8], bar: u64, floor: u32) -> Option<Cl
         .saturating_sub(u64::from(length))
         .min(u64::from(u32::MAX)) as u32;
     let bound = place.look_ahead_reaching(need, floor.saturating_sub(length))?;
-    Some(cut(Symbol::CutL, length + bound, floor))
+    Some(cut(Kind::CutL, length + bound, floor))
 }
 
 /// The cut where a claim was refused: by the blocking bound where the look-ahead bound is no higher.
 fn refused_cut(place: &Bounded, length: u32, low: u32, floor: u32) -> Closed
     requires length { length ≤ 672 }
     requires low { low ≡ length + blocking_bound place.now.place }
-    ensures equal { low ≡ length + look_ahead_bound place.now.place → result ≡ record { symbol = Symbol.CutB; floor = min low floor } }
+    ensures equal { low ≡ length + look_ahead_bound place.now.place → result ≡ record { kind = Kind.CutB; floor = min low floor } }
     ensures higher { (low ≡ length + look_ahead_bound place.now.place → ⊥)
-        → result ≡ record { symbol = Symbol.CutL; floor = min (length + look_ahead_bound place.now.place) floor } }
+        → result ≡ record { kind = Kind.CutL; floor = min (length + look_ahead_bound place.now.place) floor } }
 {
     let high = length + place.look_ahead();
     if low == high {
-        cut(Symbol::CutB, low, floor)
+        cut(Kind::CutB, low, floor)
     } else {
-        cut(Symbol::CutL, high, floor)
+        cut(Kind::CutL, high, floor)
     }
 }
 
@@ -107,7 +108,7 @@ fn close_below<S: Seek, L: Limit>(
 {
     if place.position().is_done() {
         take_plan(problem, path, seek, limit);
-        return Ok(Some(cut(Symbol::CutB, low, floor)));
+        return Ok(Some(cut(Kind::CutB, low, floor)));
     }
     if let Some(closed) = reaching_cut(place, path, bar, floor) {
         return Ok(Some(closed));
@@ -139,7 +140,7 @@ fn close<S: Seek, L: Limit>(
     let low = path.len() as u32 + place.blocking();
     let bar = seek.enough(limit);
     if u64::from(low) >= bar {
-        return Ok(Some(cut(Symbol::CutB, low, floor)));
+        return Ok(Some(cut(Kind::CutB, low, floor)));
     }
     close_below(problem, place, path, low, bar, floor, seek, limit)
 }
@@ -189,7 +190,7 @@ fn close_child<S: Seek, L: Limit>(
     let below = path.len() as u32 + place.blocking_after(row);
     let bar = seek.enough(limit);
     if u64::from(below) >= bar {
-        return Ok(Some(cut(Symbol::CutB, below, floor)));
+        return Ok(Some(cut(Kind::CutB, below, floor)));
     }
     let _pushed = place.push(row);
     let found = close_below(problem, place, path, below, bar, floor, seek, limit)?;
@@ -225,7 +226,7 @@ fn walk_child<S: Seek, L: Limit>(
 {
     if give(path, split, limit) {
         return Ok(Some(Closed {
-            symbol: Symbol::Given,
+            kind: Kind::Given,
             floor,
         }));
     }
@@ -269,24 +270,24 @@ fn walk_from<S: Seek, L: Limit>(
     ensures same { (L.problem limit.new ≡ L.problem limit.old) × (L.budget limit.new ≡ L.budget limit.old) }
 {
     let mut floor = problem.cap();
-    let mut list = Vec::new(alloc);
-    make_room(&mut list)?;
+    let mut list = Row::new(alloc);
+    list.make_room()?;
     let first = close(problem, place, path.as_slice(), floor, seek, limit)?;
     if let Some(closed) = first {
-        list.push_reserved(closed.symbol);
+        list.push_reserved(closed.kind);
         return Ok(Found {
-            tree: Tree::from_symbols(list),
+            tree: Tree::from_row(list),
             floor: closed.floor,
         });
     }
     let mut above = Vec::new(alloc);
     let mut frame = Frame::at(place.position());
-    list.push_reserved(frame.symbol());
+    list.push_reserved(frame.kind());
     loop {
         let Some(row) = frame.turn() else {
             let Some(upper) = above.pop() else {
                 return Ok(Found {
-                    tree: Tree::from_symbols(list),
+                    tree: Tree::from_row(list),
                     floor,
                 });
             };
@@ -295,7 +296,7 @@ fn walk_from<S: Seek, L: Limit>(
             let _popped = place.pop();
             continue;
         };
-        make_room(&mut list)?;
+        list.make_room()?;
         make_room(&mut above)?;
         path.push(row);
         let found = walk_child(
@@ -310,12 +311,12 @@ fn walk_from<S: Seek, L: Limit>(
         )?;
         let Some(closed) = found else {
             let below = Frame::at(place.position());
-            list.push_reserved(below.symbol());
+            list.push_reserved(below.kind());
             above.push_reserved(mem::replace(&mut frame, below));
             continue;
         };
         let _row = path.pop();
-        list.push_reserved(closed.symbol);
+        list.push_reserved(closed.kind);
         floor = closed.floor;
     }
 }

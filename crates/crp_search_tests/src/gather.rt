@@ -5,7 +5,8 @@ use crp_bay::Position;
 use crp_bounds::{blocking, look_ahead};
 use crp_gather::{GatherFault, gather};
 use crp_plan::Problem;
-use crp_tree::{Cert, Name, Part, Symbol, Tree};
+use crp_row::{Kind, Row};
+use crp_tree::{Cert, Name, Part, Tree};
 use std::alloc::{AllocError, Global};
 use std::test::Fail;
 
@@ -31,12 +32,12 @@ fn give_all(alloc: Global, problem: &Problem) -> Result<Option<Part>, AllocError
         return Ok(None);
     }
     let targets = place.targets();
-    let mut list = Vec::new(alloc);
-    list.push(Symbol::Branch(targets.len() as u8))?;
+    let mut row = Row::new(alloc);
+    row.push(Kind::Branch(targets.len() as u8), &[])?;
     for _ in 0..targets.len() {
-        list.push(Symbol::Given)?;
+        row.push(Kind::Given, &[])?;
     }
-    let tree = Tree::from_symbols(list);
+    let tree = Tree::from_row(row);
     let part = Part::new(problem, Name::root(), tree, problem.cap());
     Ok(Some(part))
 }
@@ -51,9 +52,9 @@ fn cut_ahead(alloc: Global, problem: &Problem, rows: &[u8]) -> Result<Option<Par
     };
     let value = name.rows().len() as u32 + look_ahead(&place);
     let floor = value.min(problem.cap());
-    let mut list = Vec::new(alloc);
-    list.push(Symbol::CutL)?;
-    let tree = Tree::from_symbols(list);
+    let mut row = Row::new(alloc);
+    row.push(Kind::CutL, &[])?;
+    let tree = Tree::from_row(row);
     Ok(Some(Part::new(problem, name, tree, floor)))
 }
 
@@ -67,9 +68,9 @@ fn cut_blocking(alloc: Global, problem: &Problem, rows: &[u8]) -> Result<Option<
     };
     let value = name.rows().len() as u32 + blocking(&place);
     let floor = value.min(problem.cap());
-    let mut list = Vec::new(alloc);
-    list.push(Symbol::CutB)?;
-    let tree = Tree::from_symbols(list);
+    let mut row = Row::new(alloc);
+    row.push(Kind::CutB, &[])?;
+    let tree = Tree::from_row(row);
     Ok(Some(Part::new(problem, name, tree, floor)))
 }
 

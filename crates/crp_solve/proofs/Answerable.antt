@@ -7,7 +7,7 @@ use Rattle.crp_bay.specs.Positions.{settled}
 use Rattle.crp_bay.proofs.Walked.{begins_at}
 use Rattle.crp_bounds.specs.Bounds.{look_ahead}
 use Rattle.crp_tree.specs.Tree.{CutL}
-use Rattle.crp_tree.specs.declared.mark.Mark.TheVariants.{L}
+use Rattle.crp_tree.specs.Mark.{L}
 use Rattle.crp_tree.specs.Trees.{IsInPlace}
 use Rattle.crp_tree.specs.Claims.{IsPart}
 use Rattle.crp_tree.specs.Parts.{ProblemPart, IsKeptPart, Certificate}

@@ -13,7 +13,7 @@ use Rattle.crp_bay.proofs.Walked.{leads_before}
 use Rattle.crp_bounds.specs.Bounds.{look_ahead}
 use Rattle.crp_bounds.proofs.Bounding.{ahead_path}
 use Rattle.crp_bounds.proofs.Floors.{cut_floor}
-use Rattle.crp_tree.specs.Tree.{Tree, CutB, CutL, Branch, Given}
+use Rattle.crp_tree.specs.Tree.{Tree, CutB, CutL, CutR, Branch, Given}
 use Rattle.crp_tree.specs.Trees.{Node, nodes, is_cut, branches, value, least_through}
 use Rattle.crp_tree.specs.Claims.{IsAccepted}
 use Rattle.crp_tree.specs.Parts.{ProblemPart, nodes_of, cuts_in, branches_in, IsKeptPart, Certificate, claimed}
@@ -188,6 +188,7 @@ no_branches x k cut = let is = k.is_part in ap branches (nodes_at_name x is.plac
     of_cut : (path : List ℕ) (s : Position) (tree : Tree) → IsCut tree → branches (nodes path s tree) ≡ []
     of_cut path s CutB cut = refl
     of_cut path s CutL cut = refl
+    of_cut path s (CutR bound text) cut = absurd cut
     of_cut path s (Branch all) cut = absurd cut
     of_cut path s Given cut = absurd cut
 

@@ -17,7 +17,8 @@ use crate::end::{Lost, Together};
 use crp_bay::Position;
 use crp_bounds::look_ahead;
 use crp_plan::{Plan, Problem};
-use crp_tree::{Cert, Name, Part, Symbol, Tree};
+use crp_row::{Kind, Row};
+use crp_tree::{Cert, Name, Part, Tree};
 use std::alloc::{AllocError, Global};
 
 /// The relocations of the plan; where there is none, the cap.
@@ -76,9 +77,9 @@ fn root_cut(alloc: Global, problem: &Problem) -> Result<Part, AllocError>
     ensures kept { IfOk result IsKeptPart }
 {
     let ahead = look_ahead(&Position::start(problem));
-    let mut list = Vec::new(alloc);
-    list.push(Symbol::CutL)?;
-    let tree = Tree::from_symbols(list);
+    let mut row = Row::new(alloc);
+    row.push(Kind::CutL, &[])?;
+    let tree = Tree::from_row(row);
     let part = Part::new(problem, Name::root(), tree, ahead.min(problem.cap()));
     Ok(part)
 }

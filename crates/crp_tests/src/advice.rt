@@ -132,7 +132,7 @@ fn root(alloc: Global) -> Path {
 }
 
 // What a check finds beside the text and the plan.
-fn claims(alloc: Global) -> [Refused; 6] {
+fn claims(alloc: Global) -> [Refused; 7] {
     [
         Refused::OtherProblem,
         Refused::NoFirstPlan,
@@ -141,6 +141,10 @@ fn claims(alloc: Global) -> [Refused; 6] {
             symbol: 2,
         },
         Refused::Finished {
+            part: root(alloc),
+            symbol: 1,
+        },
+        Refused::Unshown {
             part: root(alloc),
             symbol: 1,
         },
@@ -263,7 +267,7 @@ fn is_short(advice: &str) -> bool {
 #[test]
 fn each_line_is_short_and_of_one_code(rt: HostRuntime) -> Result<(), Fail> {
     let lines = every_advice(rt.alloc())?;
-    assert_same(&rt, &lines.len(), &97);
+    assert_same(&rt, &lines.len(), &98);
     for (i, advice) in lines.iter().enumerate() {
         assert_at(&rt, is_short(advice), advice);
         let is_new = lines[..i].iter().all(|line| line != advice);

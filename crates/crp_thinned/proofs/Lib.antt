@@ -4,7 +4,6 @@ pub mod Settling
 pub mod Stepping
 pub mod Relocating
 pub mod Thinning
-pub mod Shown
 pub mod Keeping
 pub mod Beside
 pub mod Facing

@@ -8,7 +8,6 @@ use Rattle.crp_plan.proofs.Covered.{from_at, at_sound, relocations-path}
 use Rattle.crp_bay.specs.Positions.{stack_at}
 use Rattle.crp_bay.proofs.Members.{not_in_nil, in_head, in_tail, in_cons_cases, from_filter}
 use Rattle.crp_bounds.specs.Bounds.{blocking, look_ahead}
-use Rattle.crp_tree.specs.Trees.{Begins}
 use Rattle.crp_chains.specs.Named.{family_of}
 use Rattle.crp_thinned.specs.Tree.{Tree, CutB, CutL, CutT, Branch, Thin, Free, Given, Trees, no_trees, one_and}
 use Rattle.crp_thinned.specs.Hindering.{hinders_nobody}
@@ -151,7 +150,7 @@ shows_run s t tree cost f moves sound none fits high r end =
 
 -- and over plans through a path
 pub shows_path : (p : Problem) (path : List ℕ) (s : Position) (tree : Tree) (f : ℕ) (moves : List Move) → IsProblem p → IsAt p path s → FitsThinned s tree → ReachesAll f (thinned_cuts (length path) s tree) →
-    IsPlan p moves → Begins (path_of moves) path → f ≤ relocations moves
+    IsPlan p moves → ((rest : List ℕ) × (path_of moves ≡ path ++ rest)) → f ≤ relocations moves
 shows_path p path s tree f moves is a fits high plan b =
     let r = from_at p path b.0 s moves is a plan b.1 in
     let sizes : relocations moves ≡ length path + relocations r.0 =

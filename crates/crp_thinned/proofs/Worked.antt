@@ -1,5 +1,5 @@
 -- Worked thinned trees, by the definitions.
-use Rattle.std.proofs.Common.{◌≡◌, ◌<◌, ◌≤◌, ℕ, true, false, [], ◌∷◌, map, codes, refl, sym, ap, inl, ⊎_elim, arith}
+use Rattle.std.proofs.Common.{◌≡◌, ◌<◌, ◌≤◌, ℕ, true, false, [], ◌∷◌, map, refl, sym, ap, inl, ⊎_elim, arith}
 use Rattle.std.proofs.lemmas.Bool.{cases_eq}
 use Rattle.crp_plan.specs.Rows.{occurrences}
 use Rattle.crp_plan.proofs.Lists.{times, times-cons, other_is_zero, occurrences-cons}
@@ -12,7 +12,6 @@ use Rattle.crp_chains.proofs.Blockers.{blocker_made}
 use Rattle.crp_thinned.specs.Tree.{Tree, CutB, CutL, CutT, Branch, Thin, Free, no_trees, one_and}
 use Rattle.crp_thinned.specs.Hindering.{hindered, lower_blocking, hinders_nobody}
 use Rattle.crp_thinned.specs.Thinned.{good_rows, free_rows, blocker, child_at, child_without, settled_over, cut_value, thinned_cuts, FitsThinned, shown}
-use Rattle.crp_thinned.specs.Whole.{nodes, letter, value}
 
 -- three containers that are to leave, and one that stays, in rows of two, three and three tiers: 3 is in the way of 1
 abbrev four : Position
@@ -47,13 +46,6 @@ shown_by_four = refl
 
 cuts_of_four : map cut_value (thinned_cuts 0 four thin_four) ≡ 3 ∷ 3 ∷ []
 cuts_of_four = refl
-
--- at a path of two rows it is one node, of value 5
-letters_of_four : map (λ node. letter node.mark) (nodes (1 ∷ 2 ∷ []) four thin_four) ≡ codes "R"
-letters_of_four = refl
-
-values_of_four : map value (nodes (1 ∷ 2 ∷ []) four thin_four) ≡ 5 ∷ []
-values_of_four = refl
 
 -- without the last tree it does not fit, nor with one more, nor with a branch below
 no_last : FitsThinned four (Thin (one_and CutL no_trees)) → ⊥
@@ -105,12 +97,6 @@ shown_by_five = refl
 
 cuts_of_five : map cut_value (thinned_cuts 0 five (Free CutL)) ≡ 2 ∷ []
 cuts_of_five = refl
-
-letters_of_five : map (λ node. letter node.mark) (nodes (1 ∷ []) five (Free CutL)) ≡ codes "F"
-letters_of_five = refl
-
-values_of_five : map value (nodes (1 ∷ []) five (Free CutL)) ≡ 3 ∷ []
-values_of_five = refl
 
 -- the container that stays in `four` would miss row 1: so 3 has no such row, and no branch with one tree fits there
 none_of_four : free_rows four ≡ []
@@ -164,9 +150,6 @@ fits_chained = record { chains = (chain, tt); apart = once }
 
 bounds_of_chained : (blocking chained ≡ 2) × (look_ahead chained ≡ 2) × (shown chained (CutT ((7 ∷ 8 ∷ []) ∷ [])) ≡ 3)
 bounds_of_chained = (refl, refl, refl)
-
-letters_of_chained : map (λ node. letter node.mark) (nodes (1 ∷ []) chained (CutT ((7 ∷ 8 ∷ []) ∷ []))) ≡ codes "T"
-letters_of_chained = refl
 
 cuts_of_chained : map cut_value (thinned_cuts 2 chained (CutT ((7 ∷ 8 ∷ []) ∷ []))) ≡ 5 ∷ []
 cuts_of_chained = refl

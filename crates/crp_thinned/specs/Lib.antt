@@ -6,4 +6,3 @@ pub mod Tree
 pub mod Hindering
 pub mod Thinned
 pub mod Missing
-pub mod Whole

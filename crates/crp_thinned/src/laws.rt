@@ -1,5 +1,5 @@
 //! Laws of thinned branches, for the crates above.
-ghost use Rattle.std.specs.Prelude.{◌≡◌, ℕ, ◌+◌, ◌≤◌, ◌<◌, ◌↔◌, List, length, map, All, Contains};
+ghost use Rattle.std.specs.Prelude.{◌≡◌, ℕ, ◌+◌, ◌≤◌, ◌<◌, ◌↔◌, List, ◌++◌, length, map, All, Contains};
 ghost use Rattle.crp_plan.specs.declared.moves.Move.{Move};
 ghost use Rattle.crp_plan.specs.Rows.{occurrences};
 ghost use Rattle.crp_plan.specs.Bay.{Problem, IsProblem, Position, IsSound, IsTaken, IsAt, IsPlan, Completes, relocations, path_of, cap};
@@ -7,11 +7,9 @@ ghost use Rattle.crp_bounds.specs.Bounds.{blocking, look_ahead};
 ghost use Rattle.crp_chains.specs.declared.blocker.Blocker.{Blocker};
 ghost use Rattle.crp_chains.specs.Chains.{IsFamily, gain, ranks_of, without};
 ghost use Rattle.crp_chains.specs.Named.{family_of};
-ghost use Rattle.crp_tree.specs.Trees.{Begins, Shows};
 ghost use Rattle.crp_thinned.specs.Tree.{Tree};
 ghost use Rattle.crp_thinned.specs.Thinned.{good_rows, free_row, blocker, settled_over, child_at, child_without, thinned_cuts, FitsThinned, ReachesAll, shown};
 ghost use Rattle.crp_thinned.specs.Missing.{IsThinned, IsSoundlyThin, FallsSlowly};
-ghost use Rattle.crp_thinned.specs.Whole.{nodes, Fits, IsInPlace, HasAtLeast, given_names};
 
 /// What holds in each thinned position holds in a real one where nothing can be taken, and below each row where the blocker is well
 /// placed, where it is lifted out, and below the first row where it hinders nobody.
@@ -54,7 +52,7 @@ pub fn chains_fall_slowly()
 /// can be taken; and with one from a real position, beside a thinned one, but for what blocks in the real one alone.
 pub fn thinned_trees_show()
     ensures path { (p : Problem) (path : List ℕ) (s : Position) (tree : Tree) (floor : ℕ) (moves : List Move) → IsProblem p → IsAt p path s
-        → FitsThinned s tree → ReachesAll floor (thinned_cuts (length path) s tree) → IsPlan p moves → Begins (path_of moves) path → floor ≤ relocations moves }
+        → FitsThinned s tree → ReachesAll floor (thinned_cuts (length path) s tree) → IsPlan p moves → ((rest : List ℕ) × (path_of moves ≡ path ++ rest)) → floor ≤ relocations moves }
     ensures run { (s : Position) (tree : Tree) (cost floor : ℕ) (moves : List Move) → IsSound s → ((row : ℕ) (t : Position) → IsTaken s row t → ⊥)
         → FitsThinned s tree → ReachesAll floor (thinned_cuts cost s tree) → Completes s moves → floor ≤ relocations moves + cost }
     ensures thinned { (s t : Position) (tree : Tree) (cost floor : ℕ) (moves : List Move) → IsSound s → IsThinned s t
@@ -68,10 +66,4 @@ pub fn shown_means()
         → (ReachesAll floor (thinned_cuts cost s tree) ↔ (floor ≤ cost + shown s tree)) }
     ensures bounds { (s : Position) (tree : Tree) (moves : List Move) → IsSound s → ((row : ℕ) (t : Position) → IsTaken s row t → ⊥)
         → FitsThinned s tree → Completes s moves → shown s tree ≤ relocations moves }
-{}
-
-/// A tree with thinned branches that fits at a path, and no cut of a value below the floor, shows the floor there.
-pub fn whole_trees_show()
-    ensures { (p : Problem) (name : List ℕ) (s : Position) (tree : Tree) (floor : ℕ) → IsProblem p → IsAt p name s → Fits s tree
-        → All IsInPlace (nodes name s tree) → HasAtLeast floor (nodes name s tree) → Shows p name (given_names (nodes name s tree)) floor }
 {}

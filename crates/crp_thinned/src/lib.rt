@@ -6,5 +6,5 @@ mod laws;
 
 pub use laws::{
     bounds_fall_slowly, chains_fall_slowly, shown_means, thinned_positions_stay_sound,
-    thinned_trees_show, whole_trees_show,
+    thinned_trees_show,
 };

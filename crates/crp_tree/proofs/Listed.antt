@@ -2,10 +2,10 @@
 use Rattle.std.proofs.Common.{◌≡◌, ℕ, zero, suc, ◌≤◌, ◌<◌, ◌⊎◌, ⊎_elim, List, [], ◌∷◌, ◌++◌, length, take, drop, get_or, refl, sym, ap, ◌∙◌, subst, arith, append_assoc, append-nil, Contains, All}
 use Rattle.std.proofs.lemmas.List.{drop_all}
 use Rattle.std.proofs.lemmas.List.Elements.{All-contains, Contains-append_left, Contains-append_right}
-use Rattle.crp_tree.specs.Tree.{Tree, CutB, CutL, Branch, Given, Trees, no_trees, one_and, items, row}
+use Rattle.crp_tree.specs.Tree.{Tree, CutB, CutL, CutR, Branch, Given, Trees, no_trees, one_and, items, row}
 use Rattle.crp_plan.specs.Bay.{Position}
 use Rattle.crp_bay.specs.Positions.{targets, child}
-use Rattle.crp_tree.specs.declared.mark.Mark.TheVariants.{X}
+use Rattle.crp_tree.specs.Mark.{X}
 use Rattle.crp_tree.specs.Trees.{Node, nodes, nodes_of_each, Fits, FitsEach}
 use Rattle.crp_tree.specs.Listed.{nodes_below, AreFit}
 use Rattle.crp_tree.specs.Symbols.{items_row}
@@ -15,6 +15,7 @@ use Rattle.crp_tree.proofs.InLine.{from_members}
 abbrev pub IsBranch : Tree → Type 0
 IsBranch CutB = ⊥
 IsBranch CutL = ⊥
+IsBranch (CutR bound text) = ⊥
 IsBranch (Branch all) = Unit {0}
 IsBranch Given = ⊥
 
@@ -22,6 +23,7 @@ IsBranch Given = ⊥
 abbrev pub trees_of : Tree → List Tree
 trees_of CutB = []
 trees_of CutL = []
+trees_of (CutR bound text) = []
 trees_of (Branch all) = items all
 trees_of Given = []
 
@@ -56,6 +58,7 @@ pub record IsBranchOf (tree : Tree) (trees : List Tree) : Type 0 where
 by_trees : (tree : Tree) → IsBranch tree → IsBranchOf tree (trees_of tree)
 by_trees CutB is = absurd is
 by_trees CutL is = absurd is
+by_trees (CutR bound text) is = absurd is
 by_trees Given is = absurd is
 by_trees (Branch all) is = record {
   fits = λ s h. fits_list s (targets s) all h;

@@ -11,10 +11,9 @@ use Rattle.crp_bay.proofs.Reaching.{targets_legal}
 use Rattle.crp_bay.proofs.Members.{not_in_nil, in_head, in_tail, in_cons_cases, in_filter, from_filter}
 use Rattle.crp_bounds.specs.Bounds.{look_ahead}
 use Rattle.crp_bounds.proofs.Bounding.{ahead_path}
-use Rattle.crp_tree.specs.Tree.{Tree, CutB, CutL, Branch, Given, Trees, no_trees, one_and, items}
+use Rattle.crp_tree.specs.Tree.{Tree, CutB, CutL, CutR, Branch, Given, Trees, no_trees, one_and, items}
 use Rattle.crp_tree.specs.Names.{GoesOn, Precedes}
-use Rattle.crp_tree.specs.declared.mark.Mark.{Mark}
-use Rattle.crp_tree.specs.declared.mark.Mark.TheVariants.{B, L, X, G}
+use Rattle.crp_tree.specs.Mark.{Mark, B, L, R, X, G}
 use Rattle.crp_tree.specs.Trees.{Node, nodes, nodes_of_each, Fits, FitsEach, is_branch, is_given, given_names, MayStand, IsInPlace, IsGivenAway, Begins}
 use Rattle.crp_tree.specs.Listed.{nodes_below}
 use Rattle.crp_tree.proofs.Listed.{list_nodes}
@@ -38,6 +37,7 @@ mutual
   pub at_nodes : (Q : List ℕ → Position → Type 0) → GoesOnBy Q → (path : List ℕ) (s : Position) (tree : Tree) → Q path s → All (At Q) (nodes path s tree)
   at_nodes Q on path s CutB q = All-cons (At Q) (record { path = path; place = s; mark = B }) [] q (All-nil (At Q))
   at_nodes Q on path s CutL q = All-cons (At Q) (record { path = path; place = s; mark = L }) [] q (All-nil (At Q))
+  at_nodes Q on path s (CutR bound text) q = All-cons (At Q) (record { path = path; place = s; mark = R bound text }) [] q (All-nil (At Q))
   at_nodes Q on path s Given q = All-cons (At Q) (record { path = path; place = s; mark = G }) [] q (All-nil (At Q))
   at_nodes Q on path s (Branch all) q =
       All-cons (At Q) (record { path = path; place = s; mark = X }) (nodes_of_each path s (targets s) all) q (at_each Q on path s (targets s) (λ r k. k) all q)
@@ -125,6 +125,7 @@ mutual
   nodes_in_order : (path : List ℕ) (s : Position) (tree : Tree) → InOrder Rises (nodes path s tree)
   nodes_in_order path s CutB = (λ n c. absurd (not_in_nil n c), tt)
   nodes_in_order path s CutL = (λ n c. absurd (not_in_nil n c), tt)
+  nodes_in_order path s (CutR bound text) = (λ n c. absurd (not_in_nil n c), tt)
   nodes_in_order path s Given = (λ n c. absurd (not_in_nil n c), tt)
   nodes_in_order path s (Branch all) =
       (λ n c. let g = node_goes path s (targets s) all n c in inl (goes_first path n.path g.0 g.2), each_in_order path s (targets s) (targets_in_order s) all)
@@ -159,6 +160,7 @@ HasPath list g = (n : Node) × Contains list n × (n.path ≡ g)
 pub own_node : (path : List ℕ) (s : Position) (tree : Tree) → HasPath (nodes path s tree) path
 own_node path s CutB = (_, in_head _ [], refl)
 own_node path s CutL = (_, in_head _ [], refl)
+own_node path s (CutR bound text) = (_, in_head _ [], refl)
 own_node path s Given = (_, in_head _ [], refl)
 own_node path s (Branch all) = (_, in_head _ (nodes_of_each path s (targets s) all), refl)
 
@@ -189,6 +191,7 @@ mutual
   pub child_node : (path : List ℕ) (s : Position) (tree : Tree) (n : Node) (row : ℕ) → Fits s tree → Contains (nodes path s tree) n → n.mark ≡ X → Contains (targets n.place) row → HasPath (nodes path s tree) (n.path ++ row ∷ [])
   child_node path s CutB n row fits c is r = absurd (not_branch B n path s refl c is)
   child_node path s CutL n row fits c is r = absurd (not_branch L n path s refl c is)
+  child_node path s (CutR bound text) n row fits c is r = absurd (not_branch (R bound text) n path s refl c is)
   child_node path s Given n row fits c is r = absurd (not_branch G n path s refl c is)
   child_node path s (Branch all) n row fits c is r = ⊎_elim
       (λ e. subst (λ (k : Node). HasPath (nodes path s (Branch all)) (k.path ++ row ∷ [])) e
@@ -237,6 +240,7 @@ mutual
   pub apart : (path : List ℕ) (s : Position) (tree : Tree) (m n : Node) → Contains (nodes path s tree) m → Contains (nodes path s tree) n → (m.mark ≡ X → ⊥) → Begins n.path m.path → n.path ≡ m.path
   apart path s CutB m n c d leaf b = one_path _ m n c d
   apart path s CutL m n c d leaf b = one_path _ m n c d
+  apart path s (CutR bound text) m n c d leaf b = one_path _ m n c d
   apart path s Given m n c d leaf b = one_path _ m n c d
   apart path s (Branch all) m n c d leaf b = ⊎_elim
       (λ e. absurd (leaf (sym (ap (λ (k : Node). k.mark) e))))
@@ -289,6 +293,7 @@ from_given list g c =
     is_G : (mark : Mark) → is_given mark ≡ true → mark ≡ G
     is_G B e = cc
     is_G L e = cc
+    is_G (R bound text) e = cc
     is_G X e = cc
     is_G G e = refl
 
@@ -304,6 +309,7 @@ given_begins path s tree g c = let r = from_given (nodes path s tree) g c in sub
 pub given_goes_on : (path : List ℕ) (s : Position) (tree : Tree) (g : List ℕ) → (IsGivenAway tree → ⊥) → Contains (given_names (nodes path s tree)) g → GoesOn path g
 given_goes_on path s CutB g not c = absurd (not_in_nil g c)
 given_goes_on path s CutL g not c = absurd (not_in_nil g c)
+given_goes_on path s (CutR bound text) g not c = absurd (not_in_nil g c)
 given_goes_on path s Given g not c = absurd (not tt)
 given_goes_on path s (Branch all) g not c =
     let r = from_given (nodes_of_each path s (targets s) all) g c in

@@ -2,9 +2,12 @@
 use Rattle.std.proofs.Common.{◌≡◌, ℕ, zero, suc, ◌+◌, ◌-◌, ◌<◌, ◌≤◌, List, [], ◌∷◌, ◌++◌, length, take, drop, get_or, refl, sym, ap, ◌∙◌, subst, arith, append_assoc, append-nil, zero-add, length-append, All}
 use Rattle.std.proofs.Math.Seq.{take-suc, take-add}
 use Rattle.std.proofs.lemmas.List.{append_cancel_left, take_all}
-use Rattle.crp_tree.specs.declared.symbol.Symbol.{Symbol}
-use Rattle.crp_tree.specs.declared.symbol.Symbol.TheVariants as symbol
-use Rattle.crp_tree.specs.Tree.{Tree, CutB, CutL, Branch, Given, items, row}
+use Rattle.crp_row.specs.Symbol.{Symbol}
+use Rattle.crp_row.specs.Symbol as symbol
+use Rattle.crp_row.specs.declared.kind.Kind.{Kind}
+use Rattle.crp_row.specs.declared.kind.Kind.TheVariants as kind
+use Rattle.crp_row.specs.Rows.{symbol_of}
+use Rattle.crp_tree.specs.Tree.{Tree, CutB, CutL, CutR, Branch, Given, items, row}
 use Rattle.crp_tree.specs.Symbols.{symbols, symbols_of_each, trees_of, tree_of, tree_front, items_row, all_symbols, some_trees, IsLeaf, leaf, leaf_symbols, ComesFirst, ComeFirst}
 use Rattle.crp_plan.specs.Bay.{Position}
 use Rattle.crp_bay.specs.Positions.{targets}
@@ -17,6 +20,7 @@ use Rattle.crp_tree.proofs.Paying.{row_symbols, symbols_joined}
 abbrev pub owes : Symbol → ℕ
 owes symbol.CutB = 0
 owes symbol.CutL = 0
+owes (symbol.CutR bound text) = 0
 owes (symbol.Branch n) = n
 owes symbol.Given = 0
 
@@ -83,6 +87,7 @@ pub one_first : (list rest : List Symbol) → ComesFirst list rest → ComeFirst
 one_first [] rest e = absurd (no_tree rest e)
 one_first (symbol.CutB ∷ list) rest e = record { many = refl; symbols_are = e }
 one_first (symbol.CutL ∷ list) rest e = record { many = refl; symbols_are = e }
+one_first (symbol.CutR bound text ∷ list) rest e = record { many = refl; symbols_are = e }
 one_first (symbol.Branch n ∷ list) rest e = record { many = refl; symbols_are = e ∙ ap (λ l. l ++ rest) (sym (append-nil (symbols (tree_of (symbol.Branch n ∷ list))))) }
 one_first (symbol.Given ∷ list) rest e = record { many = refl; symbols_are = e }
 
@@ -90,6 +95,7 @@ pub first_one : (list rest : List Symbol) → ComeFirst 1 list rest → ComesFir
 first_one [] rest c = let e : 0 ≡ 1 = c.many in absurd (let no : ⊥ = omega (arith, e) in no)
 first_one (symbol.CutB ∷ list) rest c = c.symbols_are
 first_one (symbol.CutL ∷ list) rest c = c.symbols_are
+first_one (symbol.CutR bound text ∷ list) rest c = c.symbols_are
 first_one (symbol.Branch n ∷ list) rest c = c.symbols_are ∙ ap (λ l. l ++ rest) (append-nil (symbols (tree_of (symbol.Branch n ∷ list))))
 first_one (symbol.Given ∷ list) rest c = c.symbols_are
 
@@ -104,6 +110,7 @@ leaf_behind list rest count many text = subst (λ n. ComeFirst n list rest) (sym
 pub behind_one : (one : Symbol) (list rest : List Symbol) (count : ℕ) → ComeFirst (suc count) (one ∷ list) rest → ComeFirst (owes one + count) list rest
 behind_one symbol.CutB list rest count c = leaf_behind list rest count (omega (arith, c.many)) (same_tail _ _ _ _ c.symbols_are)
 behind_one symbol.CutL list rest count c = leaf_behind list rest count (omega (arith, c.many)) (same_tail _ _ _ _ c.symbols_are)
+behind_one (symbol.CutR bound text) list rest count c = leaf_behind list rest count (omega (arith, c.many)) (same_tail _ _ _ _ c.symbols_are)
 behind_one symbol.Given list rest count c = leaf_behind list rest count (omega (arith, c.many)) (same_tail _ _ _ _ c.symbols_are)
 behind_one (symbol.Branch n) list rest count c =
     let below : List Tree = some_trees n list in
@@ -123,6 +130,7 @@ behind_one (symbol.Branch n) list rest count c =
 one_at_least : (tree : Tree) → 1 ≤ length (symbols tree)
 one_at_least CutB = omega arith
 one_at_least CutL = omega arith
+one_at_least (CutR bound text) = omega arith
 one_at_least (Branch trees) = omega arith
 one_at_least Given = omega arith
 
@@ -176,11 +184,12 @@ all_met count list here rest i c half done = record { many = c.many; symbols_are
 -- ---- symbol after symbol
 
 -- a symbol that is no branch owes nothing
-pub owes_none : (one : Symbol) → ((n : ℕ) → one ≡ symbol.Branch n → ⊥) → owes one ≡ 0
-owes_none symbol.CutB none = refl
-owes_none symbol.CutL none = refl
-owes_none (symbol.Branch n) none = absurd (none n refl)
-owes_none symbol.Given none = refl
+pub owes_none : (one : Kind) (text : List ℕ) → ((n : ℕ) → one ≡ kind.Branch n → ⊥) → owes (symbol_of one text) ≡ 0
+owes_none kind.CutB text none = refl
+owes_none kind.CutL text none = refl
+owes_none (kind.CutR bound) text none = refl
+owes_none (kind.Branch n) text none = absurd (none n refl)
+owes_none kind.Given text none = refl
 
 -- one symbol is passed
 pub passed : (one : Symbol) (here behind rest : List Symbol) (left next : ℕ) → 0 < left → here ≡ one ∷ behind → next ≡ left - 1 + owes one → ComeFirst left here rest → ComeFirst next behind rest

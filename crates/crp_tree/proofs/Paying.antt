@@ -2,13 +2,13 @@
 use Rattle.std.proofs.Common.{◌≡◌, ℕ, suc, List, [], ◌∷◌, ◌++◌, length, refl, sym, ap, ◌∙◌, subst, append_assoc, append-nil}
 use Rattle.crp_plan.specs.Bay.{Position}
 use Rattle.crp_bay.specs.Positions.{targets, child}
-use Rattle.crp_tree.specs.declared.symbol.Symbol.{Symbol}
-use Rattle.crp_tree.specs.declared.symbol.Symbol.TheVariants as symbol
-use Rattle.crp_tree.specs.Tree.{Tree, CutB, CutL, Branch, Given, items, row}
+use Rattle.crp_row.specs.Symbol.{Symbol}
+use Rattle.crp_row.specs.Symbol as symbol
+use Rattle.crp_tree.specs.Tree.{Tree, CutB, CutL, CutR, Branch, Given, items, row}
 use Rattle.crp_tree.specs.Symbols.{symbols, symbols_of_each, items_row, all_symbols, IsLeaf, leaf}
-use Rattle.crp_tree.specs.declared.mark.Mark.TheVariants.{B, L, X, G}
+use Rattle.crp_tree.specs.Mark.{B, L, R, X, G}
 use Rattle.crp_tree.specs.Trees.{Node, nodes, Fits}
-use Rattle.crp_tree.specs.Spots.{Spot, node_at, spots_below, mark_of, owed_behind, Pay, nodes_of_all, CountsRows, Leaves, nodes_by}
+use Rattle.crp_tree.specs.Spots.{Spot, node_at, spots_below, mark_of, owed_behind, Pay, nodes_of_all, FitsAt, Leaves, nodes_by}
 use Rattle.crp_tree.specs.Listed.{nodes_below, AreFit}
 use Rattle.crp_tree.proofs.Listed.{IsBranchOf, branch_of}
 
@@ -88,9 +88,10 @@ branch_paid n spot owed list counts r k =
           ∙ ap (λ l. l ++ nodes_of_all owed k.second) (sym (branch.nodes_are spot.path spot.place));
     }
 
-one_paid : (one : Symbol) (spot : Spot) (owed : List Spot) (list : List Symbol) → CountsRows one spot → Paid (owed_behind (mark_of one) spot owed) list → Paid (spot ∷ owed) (one ∷ list)
+one_paid : (one : Symbol) (spot : Spot) (owed : List Spot) (list : List Symbol) → FitsAt one spot → Paid (owed_behind (mark_of one) spot owed) list → Paid (spot ∷ owed) (one ∷ list)
 one_paid symbol.CutB spot owed list counts r = record { trees = CutB ∷ r.trees; at = (tt, r.at); symbols_are = ap (λ l. symbol.CutB ∷ l) r.symbols_are; nodes_are = ap (λ l. node_at spot B ∷ l) r.nodes_are }
 one_paid symbol.CutL spot owed list counts r = record { trees = CutL ∷ r.trees; at = (tt, r.at); symbols_are = ap (λ l. symbol.CutL ∷ l) r.symbols_are; nodes_are = ap (λ l. node_at spot L ∷ l) r.nodes_are }
+one_paid (symbol.CutR bound text) spot owed list counts r = record { trees = CutR bound text ∷ r.trees; at = (counts, r.at); symbols_are = ap (λ l. symbol.CutR bound text ∷ l) r.symbols_are; nodes_are = ap (λ l. node_at spot (R bound text) ∷ l) r.nodes_are }
 one_paid (symbol.Branch n) spot owed list counts r = branch_paid n spot owed list counts r (split (spots_below spot.path spot.place (targets spot.place)) owed r.trees r.at)
 one_paid symbol.Given spot owed list counts r = record { trees = Given ∷ r.trees; at = (tt, r.at); symbols_are = ap (λ l. symbol.Given ∷ l) r.symbols_are; nodes_are = ap (λ l. node_at spot G ∷ l) r.nodes_are }
 
@@ -110,7 +111,7 @@ pub record IsWalked (top : Spot) (list : List Symbol) (met : List Node) (owed : 
 pub walk_begins : (top : Spot) → IsWalked top [] [] (top ∷ [])
 walk_begins top = record { leaves = refl; nodes_are = refl }
 
-leaves_more : (from : List Spot) (list : List Symbol) (spot : Spot) (owed : List Spot) (one : Symbol) → Leaves from list (spot ∷ owed) → CountsRows one spot → Leaves from (list ++ one ∷ []) (owed_behind (mark_of one) spot owed)
+leaves_more : (from : List Spot) (list : List Symbol) (spot : Spot) (owed : List Spot) (one : Symbol) → Leaves from list (spot ∷ owed) → FitsAt one spot → Leaves from (list ++ one ∷ []) (owed_behind (mark_of one) spot owed)
 leaves_more from [] spot owed one h counts = subst (λ f. Leaves f (one ∷ []) (owed_behind (mark_of one) spot owed)) (sym h) (counts, refl)
 leaves_more [] (first ∷ list) spot owed one h counts = absurd h
 leaves_more (f ∷ from) (first ∷ list) spot owed one h counts = (h.0, leaves_more (owed_behind (mark_of first) f from) list spot owed one h.1 counts)
@@ -121,7 +122,7 @@ nodes_more [] (first ∷ list) spot owed one h = absurd h
 nodes_more (f ∷ from) (first ∷ list) spot owed one h = ap (λ l. node_at f (mark_of first) ∷ l) (nodes_more (owed_behind (mark_of first) f from) list spot owed one h.1)
 
 -- one symbol more
-pub walk_more : (top : Spot) (list : List Symbol) (met : List Node) (spot : Spot) (owed : List Spot) (one : Symbol) → IsWalked top list met (spot ∷ owed) → CountsRows one spot →
+pub walk_more : (top : Spot) (list : List Symbol) (met : List Node) (spot : Spot) (owed : List Spot) (one : Symbol) → IsWalked top list met (spot ∷ owed) → FitsAt one spot →
     IsWalked top (list ++ one ∷ []) (met ++ node_at spot (mark_of one) ∷ []) (owed_behind (mark_of one) spot owed)
 walk_more top list met spot owed one w counts = record {
   leaves = leaves_more (top ∷ []) list spot owed one w.leaves counts;
@@ -129,12 +130,13 @@ walk_more top list met spot owed one w counts = record {
 }
 
 -- one that is a whole tree
-pub walk_leaf : (top : Spot) (list : List Symbol) (met : List Node) (spot : Spot) (owed : List Spot) (one : Symbol) → IsWalked top list met (spot ∷ owed) → IsLeaf one →
+pub walk_leaf : (top : Spot) (list : List Symbol) (met : List Node) (spot : Spot) (owed : List Spot) (one : Symbol) → IsWalked top list met (spot ∷ owed) → IsLeaf one → Fits spot.place (leaf one) →
     IsWalked top (list ++ one ∷ []) (met ++ nodes spot.path spot.place (leaf one)) owed
-walk_leaf top list met spot owed symbol.CutB w is = walk_more top list met spot owed symbol.CutB w tt
-walk_leaf top list met spot owed symbol.CutL w is = walk_more top list met spot owed symbol.CutL w tt
-walk_leaf top list met spot owed (symbol.Branch n) w is = absurd is
-walk_leaf top list met spot owed symbol.Given w is = walk_more top list met spot owed symbol.Given w tt
+walk_leaf top list met spot owed symbol.CutB w is fits = walk_more top list met spot owed symbol.CutB w tt
+walk_leaf top list met spot owed symbol.CutL w is fits = walk_more top list met spot owed symbol.CutL w tt
+walk_leaf top list met spot owed (symbol.CutR bound text) w is fits = walk_more top list met spot owed (symbol.CutR bound text) w fits
+walk_leaf top list met spot owed (symbol.Branch n) w is fits = absurd is
+walk_leaf top list met spot owed symbol.Given w is fits = walk_more top list met spot owed symbol.Given w tt
 
 -- where nothing is owed any more they are those of a tree that fits there
 pub record IsTreeAt (top : Spot) (list : List Symbol) (met : List Node) : Type 0 where

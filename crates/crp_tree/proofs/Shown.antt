@@ -1,13 +1,15 @@
 -- A tree shows each floor that its cuts have.
-use Rattle.std.proofs.Common.{◌≡◌, ℕ, ◌≤◌, ◌⊎◌, inl, inr, ⊎_elim, true, List, [], ◌∷◌, ◌++◌, map, Contains, All, refl, sym, ap, ◌∙◌, arith, append_assoc}
+use Rattle.std.proofs.Common.{◌≡◌, ℕ, ◌+◌, length, ◌≤◌, ◌⊎◌, inl, inr, ⊎_elim, true, List, [], ◌∷◌, ◌++◌, map, Contains, All, refl, sym, ap, ◌∙◌, arith, append_assoc}
 use Rattle.std.proofs.lemmas.List.Elements.{All-nil, All-cons, All-head, All-tail, All-contains, Contains-append_left, Contains-append_right}
-use Rattle.crp_tree.specs.Tree.{Tree, CutB, CutL, Branch, Given, Trees, no_trees, one_and}
+use Rattle.crp_tree.specs.Tree.{Tree, CutB, CutL, CutR, Branch, Given, Trees, no_trees, one_and}
 use Rattle.crp_plan.specs.declared.moves.Move.{Move}
 use Rattle.crp_plan.specs.Bay.{Problem, IsProblem, Position, IsPlan, IsAt, relocations, path_of, cap}
 use Rattle.crp_bay.specs.Positions.{targets, child}
 use Rattle.crp_plan.proofs.Covered.{branch}
 use Rattle.crp_bounds.proofs.Floors.{cut_floor}
 use Rattle.crp_bay.proofs.Walked.{target_goes_on, every_target}
+use Rattle.crp_thinned.proofs.Thinning.{reaches, shows_path}
+use Rattle.crp_thinning.specs.Symbols.{Closes}
 use Rattle.crp_bay.proofs.Members.{not_in_nil, in_head, in_tail, in_cons_cases, in_filter}
 use Rattle.crp_tree.specs.Trees.{Node, nodes, nodes_of_each, Fits, FitsEach, is_cut, cuts, given_names, value, IsInPlace, HasShape, HasAtLeast, least, least_value, Begins, Shows}
 use Rattle.crp_tree.proofs.Nodes.{in_given}
@@ -37,6 +39,10 @@ mutual
       inl (_, cut_in list _ (sub _ (in_head _ [])) refl, record { begins = (more, e); enough = (cut_floor p path more s moves is a plan e).1 })
   left p list path more s moves is in_place a plan e CutL fits sub =
       inl (_, cut_in list _ (sub _ (in_head _ [])) refl, record { begins = (more, e); enough = (cut_floor p path more s moves is a plan e).0 })
+  left p list path more s moves is in_place a plan e (CutR bound text) fits sub =
+      let shown : Closes s bound text = in_place _ (sub _ (in_head _ [])) in
+      let high = (reaches (length path + bound) (length path) s shown.tree shown.fits).1 (omega (arith, shown.reaches)) in
+      inl (_, cut_in list _ (sub _ (in_head _ [])) refl, record { begins = (more, e); enough = shows_path p path s shown.tree (length path + bound) moves is a shown.fits high plan (more, e) })
   left p list path more s moves is in_place a plan e Given fits sub = inr (path, in_given list _ (sub _ (in_head _ [])) refl, (more, e))
   left p list path more s moves is in_place a plan e (Branch all) fits sub =
       let b = branch p path more s moves is a (in_place _ (sub _ (in_head _ (nodes_of_each path s (targets s) all)))) plan e in

@@ -1,10 +1,11 @@
 -- Worked trees, by the definitions.
 use Rattle.std.proofs.Common.{◌≡◌, List, [], ◌∷◌, map, codes, refl}
+use Rattle.std.specs.List.{flat_map}
 use Rattle.crp_plan.specs.Bay.{Problem, Position, start, cap}
 use Rattle.crp_bay.specs.Positions.{settled, targets}
 use Rattle.crp_tree.specs.Tree.{CutB, CutL, Given, Trees, no_trees, one_and}
 use Rattle.crp_tree.specs.Names.{Precedes}
-use Rattle.crp_tree.specs.Trees.{Node, nodes_of_each, FitsEach, letter, cuts, given_names, value, least_value}
+use Rattle.crp_tree.specs.Trees.{Node, nodes_of_each, FitsEach, spelled, cuts, given_names, value, least_value}
 use Rattle.crp_tree.proofs.Ordered.{less_means}
 
 -- six containers in three rows of three tiers, and the position before the first relocation
@@ -34,12 +35,12 @@ one_does_not f = f.1
 abbrev below_root : Trees → List Node
 below_root all = nodes_of_each [] before (targets before) all
 
--- cut by the look-ahead bound below row 2 and by the blocking bound below row 3, it shows 3, and their letters are L and B
+-- cut by the look-ahead bound below row 2 and by the blocking bound below row 3, it shows 3, and they are spelled L and B
 cuts_of_three : map value (cuts (below_root (one_and CutL (one_and CutB no_trees)))) ≡ 3 ∷ 3 ∷ []
 cuts_of_three = refl
 
-letters_of_two : map (λ node. letter node.mark) (below_root (one_and CutL (one_and CutB no_trees))) ≡ codes "LB"
-letters_of_two = refl
+spelled_as_two : flat_map (λ node. spelled node.mark) (below_root (one_and CutL (one_and CutB no_trees))) ≡ codes "LB"
+spelled_as_two = refl
 
 -- the blocking bound below row 2 gives 2 only
 cut_of_two : least_value (cap six) (below_root (one_and CutB (one_and CutL no_trees))) ≡ 2

@@ -4,6 +4,7 @@ pub use Rattle.crp_plan.specs.Faults
 pub use Rattle.crp_bay.specs.Positions
 pub use Rattle.crp_bounds.specs.Bounds
 pub mod Names
+pub mod Mark
 pub mod Tree
 pub mod Symbols
 pub mod Trees

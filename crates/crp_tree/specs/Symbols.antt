@@ -3,16 +3,19 @@ use Rattle.std.specs.Prelude.{◌≡◌, ℕ, Bool, true, false, List, [], ◌�
 use Rattle.std.proofs.Common.{refl, ap, sym, ◌∙◌, append_assoc, append-nil}
 use Rattle.std.proofs.Math.Seq.{take-append_seam, drop-append_seam}
 use Rattle.std.specs.Coded.{Coded, code_by, coded_list}
-use Rattle.crp_tree.specs.declared.symbol.Symbol.{Symbol}
-use Rattle.crp_tree.specs.declared.symbol.Symbol.TheVariants as symbol
-use Rattle.crp_tree.specs.contracts.symbol.Symbol as kept
-use Rattle.crp_tree.specs.Tree.{Tree, CutB, CutL, Branch, Given, Trees, no_trees, one_and, items, row}
+use Rattle.crp_row.specs.Symbol.{Symbol}
+use Rattle.crp_row.specs.Symbol as symbol
+use Rattle.crp_row.specs.declared.kind.Kind.{Kind}
+use Rattle.crp_row.specs.declared.kind.Kind.TheVariants as kind
+use Rattle.crp_row.specs.Rows.{symbol_code}
+use Rattle.crp_tree.specs.Tree.{Tree, CutB, CutL, CutR, Branch, Given, Trees, no_trees, one_and, items, row}
 
 -- the symbols of a tree
 abbrev mutual
   pub symbols : Tree → List Symbol
   symbols CutB = symbol.CutB ∷ []
   symbols CutL = symbol.CutL ∷ []
+  symbols (CutR bound text) = symbol.CutR bound text ∷ []
   symbols (Branch trees) = symbol.Branch (length (items trees)) ∷ symbols_of_each trees
   symbols Given = symbol.Given ∷ []
 
@@ -21,18 +24,20 @@ abbrev mutual
   symbols_of_each no_trees = []
   symbols_of_each (one_and tree trees) = symbols tree ++ symbols_of_each trees
 
--- the symbol of a subtree that is given away
-abbrev pub gives_away : Symbol → Bool
-gives_away symbol.CutB = false
-gives_away symbol.CutL = false
-gives_away (symbol.Branch n) = false
-gives_away symbol.Given = true
+-- what the symbol of a subtree that is given away is
+abbrev pub gives_away : Kind → Bool
+gives_away kind.CutB = false
+gives_away kind.CutL = false
+gives_away (kind.CutR bound) = false
+gives_away (kind.Branch n) = false
+gives_away kind.Given = true
 
 -- the trees whose symbols these are, one after the other
 abbrev pub trees_of : List Symbol → List Tree
 trees_of [] = []
 trees_of (symbol.CutB ∷ rest) = CutB ∷ trees_of rest
 trees_of (symbol.CutL ∷ rest) = CutL ∷ trees_of rest
+trees_of (symbol.CutR bound text ∷ rest) = CutR bound text ∷ trees_of rest
 trees_of (symbol.Branch n ∷ rest) = Branch (row (take n (trees_of rest))) ∷ drop n (trees_of rest)
 trees_of (symbol.Given ∷ rest) = Given ∷ trees_of rest
 
@@ -58,6 +63,7 @@ mutual
   pub trees_back : (tree : Tree) (rest : List Symbol) → trees_of (symbols tree ++ rest) ≡ tree ∷ trees_of rest
   trees_back CutB rest = refl
   trees_back CutL rest = refl
+  trees_back (CutR bound text) rest = refl
   trees_back Given rest = refl
   trees_back (Branch trees) rest =
       ap (λ l. Branch (row (take (length (items trees)) l)) ∷ drop (length (items trees)) l) (each_back trees rest)
@@ -82,7 +88,7 @@ tree_front tree rest = ap first (trees_back tree rest)
 
 -- so a tree is stored as its symbols
 abbrev pub tree_code : Coded Tree
-tree_code = code_by (List Symbol) (coded_list kept.the_row.coded) symbols tree_of tree_back
+tree_code = code_by (List Symbol) (coded_list symbol_code) symbols tree_of tree_back
 
 -- the symbols of a tree are those of the tree that they tell
 pub whole : (list : List Symbol) (tree : Tree) → list ≡ symbols tree → list ≡ symbols (tree_of list)
@@ -114,6 +120,7 @@ pub record ComeFirst (count : ℕ) (list rest : List Symbol) : Type 0 where
 abbrev pub IsLeaf : Symbol → Type 0
 IsLeaf symbol.CutB = Unit {0}
 IsLeaf symbol.CutL = Unit {0}
+IsLeaf (symbol.CutR bound text) = Unit {0}
 IsLeaf (symbol.Branch n) = ⊥
 IsLeaf symbol.Given = Unit {0}
 
@@ -124,5 +131,6 @@ leaf one = tree_of (one ∷ [])
 pub leaf_symbols : (one : Symbol) → IsLeaf one → one ∷ [] ≡ symbols (leaf one)
 leaf_symbols symbol.CutB is = refl
 leaf_symbols symbol.CutL is = refl
+leaf_symbols (symbol.CutR bound text) is = refl
 leaf_symbols (symbol.Branch n) is = absurd is
 leaf_symbols symbol.Given is = refl

@@ -1,12 +1,13 @@
 -- Search trees over the paths of a problem.
-use Rattle.std.specs.Prelude.{List, [], ◌∷◌}
+use Rattle.std.specs.Prelude.{ℕ, List, [], ◌∷◌}
 
--- a search was cut by the blocking bound or by the look-ahead bound; or it branched, with one tree for each legal row, rising; or the subtree was
--- given to a part of its own
+-- a search was cut by the blocking bound, by the look-ahead bound, or by reasons, which are to show so much and have a text; or it branched, with one tree
+-- for each legal row, rising; or the subtree was given to a part of its own
 mutual
   pub data Tree : Type 0 where
     CutB : Tree
     CutL : Tree
+    CutR : ℕ → List ℕ → Tree
     Branch : Trees → Tree
     Given : Tree
 

@@ -1,12 +1,13 @@
 -- Search trees over the paths of a problem: their nodes, when a tree fits, and the floors that cuts show.
-use Rattle.std.specs.Prelude.{◌≡◌, ℕ, ◌+◌, ◌≤◌, min, Bool, true, false, List, [], ◌∷◌, ◌++◌, length, map, filter, Contains, All, ⊤}
-use Rattle.crp_tree.specs.Tree.{Tree, CutB, CutL, Branch, Given, Trees, no_trees, one_and}
+use Rattle.std.specs.Prelude.{◌≡◌, ℕ, ◌+◌, ◌≤◌, min, Bool, true, false, List, [], ◌∷◌, ◌++◌, length, map, filter, Contains, All, codes, ⊤}
+use Rattle.crp_tree.specs.Tree.{Tree, CutB, CutL, CutR, Branch, Given, Trees, no_trees, one_and}
 use Rattle.crp_plan.specs.declared.moves.Move.{Move}
 use Rattle.crp_plan.specs.Bay.{Problem, Position, IsPlan, relocations, path_of}
 use Rattle.crp_bounds.specs.Bounds.{blocking, look_ahead}
 use Rattle.crp_bay.specs.Positions.{targets, child}
-use Rattle.crp_tree.specs.declared.mark.Mark.{Mark}
-use Rattle.crp_tree.specs.declared.mark.Mark.TheVariants.{B, L, X, G}
+use Rattle.crp_thinning.specs.Symbols.{Closes}
+use Rattle.crp_row.specs.Reasons.{AreReasons, reasons_text}
+use Rattle.crp_tree.specs.Mark.{Mark, B, L, R, X, G}
 
 -- a node: its path, the position there, and what it is
 pub record Node : Type 0 where
@@ -19,6 +20,7 @@ abbrev mutual
   pub nodes : List ℕ → Position → Tree → List Node
   nodes path s CutB = record { path = path; place = s; mark = B } ∷ []
   nodes path s CutL = record { path = path; place = s; mark = L } ∷ []
+  nodes path s (CutR bound text) = record { path = path; place = s; mark = R bound text } ∷ []
   nodes path s (Branch all) = record { path = path; place = s; mark = X } ∷ nodes_of_each path s (targets s) all
   nodes path s Given = record { path = path; place = s; mark = G } ∷ []
 
@@ -29,11 +31,13 @@ abbrev mutual
   nodes_of_each path s (row ∷ rows) no_trees = []
   nodes_of_each path s (row ∷ rows) (one_and tree trees) = nodes (path ++ row ∷ []) (child s row) tree ++ nodes_of_each path s rows trees
 
--- the tree fits at s: each branch has one tree for each legal row, rising; so none where the position is finished or dead
+-- the tree fits at s: each branch has one tree for each legal row, rising, so none where the position is finished or dead; and each text of reasons can
+-- be one
 abbrev mutual
   pub Fits : Position → Tree → Type 0
   Fits s CutB = ⊤
   Fits s CutL = ⊤
+  Fits s (CutR bound text) = AreReasons bound text
   Fits s (Branch all) = FitsEach s (targets s) all
   Fits s Given = ⊤
 
@@ -44,17 +48,19 @@ abbrev mutual
   FitsEach s (row ∷ rows) no_trees = ⊥
   FitsEach s (row ∷ rows) (one_and tree trees) = Fits (child s row) tree × FitsEach s rows trees
 
--- the letter of a mark
-abbrev pub letter : Mark → ℕ
-letter B = 66
-letter L = 76
-letter X = 88
-letter G = 71
+-- how a mark is spelled
+abbrev pub spelled : Mark → List ℕ
+spelled B = codes "B"
+spelled L = codes "L"
+spelled (R bound text) = reasons_text bound text
+spelled X = codes "X"
+spelled G = codes "G"
 
 -- the mark of a cut
 abbrev pub is_cut : Mark → Bool
 is_cut B = true
 is_cut L = true
+is_cut (R bound text) = true
 is_cut X = false
 is_cut G = false
 
@@ -62,6 +68,7 @@ is_cut G = false
 abbrev pub is_branch : Mark → Bool
 is_branch B = false
 is_branch L = false
+is_branch (R bound text) = false
 is_branch X = true
 is_branch G = false
 
@@ -69,6 +76,7 @@ is_branch G = false
 abbrev pub is_given : Mark → Bool
 is_given B = false
 is_given L = false
+is_given (R bound text) = false
 is_given X = false
 is_given G = true
 
@@ -88,6 +96,7 @@ given_names list = map (λ node. node.path) (filter (λ node. is_given node.mark
 abbrev pub bound_by : Mark → Position → ℕ
 bound_by B s = blocking s
 bound_by L s = look_ahead s
+bound_by (R bound text) s = bound
 bound_by X s = 0
 bound_by G s = 0
 
@@ -99,10 +108,12 @@ value node = length node.path + bound_by node.mark node.place
 abbrev pub least_through : Node → ℕ
 least_through node = length node.path + look_ahead node.place
 
--- a node may stand at a path that leads to s: a branch where that is not finished, a subtree that is given away where the path has 8 rows at most
+-- a node may stand at a path that leads to s: reasons where their text shows what they are to show, a branch where that is not finished, a subtree that
+-- is given away where the path has 8 rows at most
 abbrev pub MayStand : Mark → List ℕ → Position → Type 0
 MayStand B path s = ⊤
 MayStand L path s = ⊤
+MayStand (R bound text) path s = Closes s bound text
 MayStand X path s = s.next ≤ s.ordered
 MayStand G path s = length path ≤ 8
 
@@ -114,6 +125,7 @@ IsInPlace node = MayStand node.mark node.path node.place
 abbrev pub IsGivenAway : Tree → Type 0
 IsGivenAway CutB = ⊥
 IsGivenAway CutL = ⊥
+IsGivenAway (CutR bound text) = ⊥
 IsGivenAway (Branch all) = ⊥
 IsGivenAway Given = ⊤
 

@@ -12,7 +12,7 @@ ghost use Rattle.crp_bounds.specs.Bounds.{look_ahead};
 ghost use Rattle.crp_tree.specs.Tree.{Tree};
 ghost use Rattle.crp_tree.specs.Parts.{ProblemPart, nodes_of, given_of, IsKeptPart, Certificate, IsAbout, claimed};
 ghost use Rattle.crp_tree.specs.First.{IsFirstBest, IsFirstAccepted, MeetsNeed, MeetNeeds, need_at};
-ghost use Rattle.crp_tree.specs.declared.mark.Mark.TheVariants.{X};
+ghost use Rattle.crp_tree.specs.Mark.{X};
 ghost use Rattle.crp_tree.specs.Trees.{Node, nodes, Fits, Begins, Shows, HasShape, HasAtLeast, given_names, value, least_through, least_value};
 
 /// A tree that has its shape at a path, and no cut of a value below the floor, shows the floor there; so it shows the least of

@@ -3,13 +3,11 @@
 
 mod cert;
 mod laws;
-mod mark;
 mod name;
 mod name_list;
 mod part;
 mod part_list;
 mod path_text;
-mod symbol;
 mod tree;
 
 pub use cert::Cert;
@@ -18,11 +16,9 @@ pub use laws::{
     names_given, names_once, needs_as_numbers, needs_pass_on, nodes_of_parts, nodes_of_trees,
     one_first_best, parts_cover, trees_show, whole_part_bounds,
 };
-pub use mark::Mark;
 pub use name::{MAX_NAME, Name};
 pub use name_list::Names;
 pub use part::Part;
 pub use part_list::Parts;
 pub use path_text::PathText;
-pub use symbol::Symbol;
-pub use tree::{Tree, behind_trees};
+pub use tree::{Tree, pass_trees};

@@ -1,6 +1,7 @@
 ghost use Rattle.std.specs.List.{list_any};
 ghost use Rattle.std.specs.Prelude.{◌≡◌, List, ◌++◌, All, AllPairs, IfOk, OnOk};
 ghost use Rattle.crp_plan.specs.Bay.{IsProblem, cap};
+ghost use Rattle.crp_row.specs.Symbol.{Symbol};
 ghost use Rattle.crp_bay.specs.Positions.{targets};
 ghost use Rattle.crp_tree.specs.Names.{Precedes};
 ghost use Rattle.crp_tree.specs.Trees.{nodes, Fits, IsInPlace, given_names, least_value};
@@ -11,10 +12,10 @@ ghost use Rattle.crp_tree.specs.Parts.{given_of, IsKeptPart};
 
 use crate::name::{MAX_NAME, Name};
 use crate::name_list::Names;
-use crate::symbol::Symbol;
-use crate::tree::{Tree, behind_trees};
+use crate::tree::{Tree, pass_trees};
 use crp_bay::Position;
 use crp_plan::Problem;
+use crp_row::{Kind, Rest};
 use std::alloc::{AllocError, Global};
 use std::marker::Model;
 
@@ -102,71 +103,71 @@ impl Part {
         let Some(place) = self.name.position(&self.problem) else {
             unreachable!()
         };
-        let list = self.tree.symbols();
-        if !gives(list) {
+        let mut list = self.tree.symbols();
+        if !gives(list.kinds()) {
             return Ok(Names::from_vec(names));
         }
-        let _behind = collect(list, &self.name, &place, &mut names)?;
+        collect(&mut list, &self.name, &place, &mut names)?;
         Ok(Names::from_vec(names))
     }
 }
 
 /// Whether one of the symbols gives a subtree away.
-fn gives(list: &[Symbol]) -> bool
-    ensures { result ≡ list_any gives_away list.now }
+fn gives(kinds: &[Kind]) -> bool
+    ensures { result ≡ list_any gives_away kinds.now }
 {
-    list.iter().any(|symbol| match symbol {
-        Symbol::CutB | Symbol::CutL | Symbol::Branch(_) => false,
-        Symbol::Given => true,
+    kinds.iter().any(|kind| match kind {
+        Kind::CutB | Kind::CutL | Kind::CutR(_) | Kind::Branch(_) => false,
+        Kind::Given => true,
     })
 }
 
-/// Adds the names that the tree whose symbols come first gives at a path, and answers what is behind it. None has more than 8 rows.
+/// Adds the names that the tree whose symbols come first gives at a path, and passes it. None has more than 8 rows.
 #[cycle(collecting)]
-fn collect<'a>(
-    list: &'a [Symbol],
+fn collect(
+    rest: &mut Rest<'_>,
     name: &Name,
     place: &Position,
     names: &mut Vec<Name>,
-) -> Result<&'a [Symbol], AllocError>
-    requires whole { (rest : List Symbol) × ComesFirst list.now rest }
-    requires fits { Fits place.now.place (tree_of list.now) }
-    requires in_place { All IsInPlace (nodes name.now place.now.place (tree_of list.now)) }
-    ensures names { OnOk result (names.new.items ≡ names.old.items ++ given_names (nodes name.now place.now.place (tree_of list.now))) }
-    ensures behind { IfOk result (λ behind. ComesFirst list.now behind.now) }
+) -> Result<(), AllocError>
+    requires whole { (behind : List Symbol) × ComesFirst rest.old behind }
+    requires fits { Fits place.now.place (tree_of rest.old) }
+    requires in_place { All IsInPlace (nodes name.now place.now.place (tree_of rest.old)) }
+    ensures names { OnOk result (names.new.items ≡ names.old.items ++ given_names (nodes name.now place.now.place (tree_of rest.old))) }
+    ensures behind { OnOk result (ComesFirst rest.old rest.new) }
 {
-    let Some((first, behind)) = list.split_first() else {
+    let Some((kind, _)) = rest.next() else {
         unreachable!()
     };
-    match first {
-        Symbol::CutB | Symbol::CutL => Ok(behind),
-        Symbol::Given => {
+    match kind {
+        Kind::CutB | Kind::CutL | Kind::CutR(_) => Ok(()),
+        Kind::Given => {
             names.push(name.copy())?;
-            Ok(behind)
+            Ok(())
         }
-        Symbol::Branch(count) => collect_below(behind, *count as usize, name, place, names),
+        Kind::Branch(count) => collect_below(rest, count as usize, name, place, names),
     }
 }
 
 /// The same for the trees of a branch, one for each legal row.
 #[cycle(collecting)]
-fn collect_below<'a>(
-    list: &'a [Symbol],
+fn collect_below(
+    rest: &mut Rest<'_>,
     count: usize,
     name: &Name,
     place: &Position,
     names: &mut Vec<Name>,
-) -> Result<&'a [Symbol], AllocError>
-    requires whole { (rest : List Symbol) × ComeFirst count list.now rest }
-    requires fit { AreFit place.now.place (targets place.now.place) (some_trees count list.now) }
-    requires in_place { All IsInPlace (nodes_below name.now place.now.place (targets place.now.place) (some_trees count list.now)) }
-    ensures names { OnOk result (names.new.items ≡ names.old.items ++ given_names (nodes_below name.now place.now.place (targets place.now.place) (some_trees count list.now))) }
-    ensures behind { IfOk result (λ behind. ComeFirst count list.now behind.now) }
+) -> Result<(), AllocError>
+    requires whole { (behind : List Symbol) × ComeFirst count rest.old behind }
+    requires fit { AreFit place.now.place (targets place.now.place) (some_trees count rest.old) }
+    requires in_place { All IsInPlace (nodes_below name.now place.now.place (targets place.now.place) (some_trees count rest.old)) }
+    ensures names { OnOk result (names.new.items ≡ names.old.items ++ given_names (nodes_below name.now place.now.place (targets place.now.place) (some_trees count rest.old))) }
+    ensures behind { OnOk result (ComeFirst count rest.old rest.new) }
 {
     if name.rows().len() == MAX_NAME {
-        return Ok(behind_trees(list, count));
+        pass_trees(rest, count);
+        return Ok(());
     }
-    let mut rest = list;
     let targets = place.targets();
     let rows = targets.as_slice();
     for row in rows {
@@ -176,7 +177,7 @@ fn collect_below<'a>(
         let Some(next) = place.child(*row) else {
             unreachable!()
         };
-        rest = collect(rest, &longer, &next, names)?;
+        collect(rest, &longer, &next, names)?;
     }
-    Ok(rest)
+    Ok(())
 }

@@ -1,14 +1,15 @@
 ghost use Rattle.std.specs.Prelude.{◌≡◌, List};
+ghost use Rattle.crp_row.specs.Symbol.{Symbol};
 ghost use Rattle.crp_tree.specs.Symbols.{symbols, ComeFirst};
 ghost use Rattle.crp_tree.specs.Tree.{Tree as Shape};
 
-use crate::symbol::Symbol;
+use crp_row::{Kind, Rest, Row};
 use std::marker::Model;
 
 /// A search tree at a path of a problem, kept as its symbols in a row: a branch before its trees.
 #[derive(Drop)]
 pub struct Tree {
-    list: Vec<Symbol>,
+    row: Row,
 }
 
 impl Model for Tree {
@@ -20,46 +21,43 @@ impl Model for Tree {
 
     ghost coded = { tree_code };
 
-    ghost view = { λ tree. tree_of tree.list.items };
+    ghost view = { λ tree. tree_of tree.row.symbols };
 
-    ghost invariant = { λ tree. tree.list.items ≡ symbols (tree_of tree.list.items) };
+    ghost invariant = { λ tree. tree.row.symbols ≡ symbols (tree_of tree.row.symbols) };
 }
 
 impl Tree {
     /// The tree of these symbols, which must be those of one whole tree. It takes no memory.
-    pub fn from_symbols(list: Vec<Symbol>) -> Tree
-        requires { (tree : Shape) × (list.items ≡ symbols tree) }
-        ensures { list.items ≡ symbols result }
+    pub fn from_row(row: Row) -> Tree
+        requires { (tree : Shape) × (row.symbols ≡ symbols tree) }
+        ensures { row.symbols ≡ symbols result }
     {
-        Tree { list }
+        Tree { row }
     }
 
     /// Its symbols: a branch before its trees, and these by rising rows.
-    pub fn symbols(&self) -> &[Symbol]
-        ensures { result.now ≡ symbols self.now }
+    pub fn symbols(&self) -> Rest<'_>
+        ensures { result ≡ symbols self.now }
     {
-        self.list.as_slice()
+        self.row.symbols()
     }
 }
 
-/// What is behind so many trees, whose symbols come first.
-pub fn behind_trees(list: &[Symbol], count: usize) -> &[Symbol]
-    requires { (rest : List Symbol) × ComeFirst count list.now rest }
-    ensures { ComeFirst count list.now result.now }
+/// Passes so many trees, whose symbols come first.
+pub fn pass_trees(rest: &mut Rest<'_>, count: usize)
+    requires { (behind : List Symbol) × ComeFirst count rest.old behind }
+    ensures { ComeFirst count rest.old rest.new }
 {
-    let mut rest = list;
     let mut left = count;
     while left > 0 {
-        let Some((first, behind)) = rest.split_first() else {
+        let Some((kind, _)) = rest.next() else {
             unreachable!()
         };
         left -= 1;
-        if let Symbol::Branch(below) = first {
+        if let Kind::Branch(below) = kind {
             // For its contract alone: so many are left at most.
-            let _most = behind.iter().len();
-            left += *below as usize;
+            let _most = rest.len();
+            left += below as usize;
         }
-        rest = behind;
     }
-    rest
 }

@@ -2,7 +2,8 @@ use super::{SAID_OF_SIX, SIX_CONTAINERS, Said, assert_fault, assert_head, joined
 use crate::calls::read_cert;
 use crate::compare::{assert_same, assert_same_at};
 use crp_cert::{CertFault, Parts, Script};
-use crp_tree::{Symbol, Tree};
+use crp_row::Kind;
+use crp_tree::Tree;
 use std::alloc::{AllocError, Global};
 use std::process::Abort;
 use std::test::Fail;
@@ -17,6 +18,19 @@ const LONG_PATHS: [&[u8]; 8] = [
     b"row 2",
     b"at least 0",
     b"plan -",
+];
+
+/// The head of the six containers in the version whose cuts may have their reasons.
+const SIX_WITH_REASONS: [&[u8]; 9] = [
+    b"CRP-CERT 3",
+    b"bay A 1",
+    b"size 3 3 6 6",
+    b"heights 3 3 3",
+    b"row 1 5 4",
+    b"row 6",
+    b"row 3 2",
+    b"at least 3",
+    b"plan 2 2 1",
 ];
 
 /// The lines of a head and what follows them.
@@ -45,16 +59,22 @@ fn assert_refused(
     Ok(())
 }
 
-/// Adds what a tree is, for a branch how many trees follow.
+/// Adds what a tree is, for a branch how many trees follow, and for reasons what they show and their text.
 fn push_tree(text: &mut Vec<u8>, tree: &Tree) -> Result<(), AllocError> {
-    for symbol in tree.symbols() {
-        match symbol {
-            Symbol::CutB => text.push(b'b')?,
-            Symbol::CutL => text.push(b'l')?,
-            Symbol::Given => text.push(b'g')?,
-            Symbol::Branch(count) => {
+    let mut rest = tree.symbols();
+    while let Some((kind, reasons)) = rest.next() {
+        match kind {
+            Kind::CutB => text.push(b'b')?,
+            Kind::CutL => text.push(b'l')?,
+            Kind::CutR(bound) => {
+                text.push(b'r')?;
+                text.push(bound)?;
+                text.extend_from_slice(reasons)?;
+            }
+            Kind::Given => text.push(b'g')?,
+            Kind::Branch(count) => {
                 text.push(b'x')?;
-                text.push(*count)?;
+                text.push(count)?;
             }
         }
     }
@@ -172,17 +192,34 @@ fn a_subtree_given_at_nine_rows_is_read(rt: HostRuntime) -> Result<(), Fail> {
     )
 }
 
+#[test]
+fn reasons_that_are_read(rt: HostRuntime) -> Result<(), Fail> {
+    let texts: [(&[u8], &[u8]); 2] = [
+        (b"part /: [2:RBB]\nend 1\n", b"r\x02RBB"),
+        (
+            b"part /: X[12:T1,L;]L\npart 2: [0:]\nend 2\n",
+            b"x\x02r\x0cT1,L;l\x02r\x00",
+        ),
+    ];
+    for (rest, parts) in texts {
+        assert_parts(&rt, &SIX_WITH_REASONS, rest, parts)?;
+    }
+    Ok(())
+}
+
 // The program checks without `read_cert`, so there is a row here for each fault of the parts. Where it checks a file, what follows a last
 // line is one more certificate.
 #[test]
 fn certificates_that_are_refused(rt: HostRuntime) -> Result<(), Fail> {
-    let cases: [(&[u8], CertFault); 9] = [
+    let cases: [(&[u8], CertFault); 10] = [
         (b"part 1: B\nend 1\n", CertFault::Part { line: 9 }),
         (
             b"part /: XLB\npart 3: B\npart 2: L\nend 3\n",
             CertFault::Order { line: 11 },
         ),
         (b"part /: G\nend 1\n", CertFault::Symbol { line: 9 }),
+        // Reasons, which version 1 does not spell.
+        (b"part /: [2:RBB]\nend 1\n", CertFault::Symbol { line: 9 }),
         (b"part /: XXBB\nend 1\n", CertFault::Unfinished { line: 9 }),
         (b"part /: XLBB\nend 1\n", CertFault::Trailing { line: 9 }),
         (b"part /: XLB\nend 2\n", CertFault::End { line: 10 }),

@@ -10,7 +10,8 @@ use crate::calls::{cert_text, read_cert};
 use crate::compare::assert_same;
 use crp_cert::{Claim, PartLine, Script};
 use crp_plan::{BayName, Problem};
-use crp_tree::{Cert, Name, Part, Symbol, Tree};
+use crp_row::{Kind, Row};
+use crp_tree::{Cert, Name, Part, Tree};
 use std::alloc::{AllocError, Global};
 use std::process::Abort;
 use std::test::Fail;
@@ -33,8 +34,9 @@ fn cut_ahead(rt: &impl Abort, alloc: Global) -> Result<(Problem, Cert), AllocErr
         vec![in alloc; 3]?,
     ];
     let problem = four(rt, &stacks);
-    let list = vec![in alloc; Symbol::CutL]?;
-    let tree = Tree::from_symbols(list);
+    let mut row = Row::new(alloc);
+    row.push(Kind::CutL, b"")?;
+    let tree = Tree::from_row(row);
     let part = Part::new(&problem, Name::root(), tree, 2);
     let cert = Cert::whole(alloc, part)?;
     Ok((problem, cert))
@@ -51,7 +53,7 @@ fn text_of(rt: &impl Abort, alloc: Global, got: &(Problem, Cert)) -> Result<Vec<
 
 /// Whether a part is at the root, cut by the look-ahead bound.
 fn is_cut_ahead(part: &PartLine) -> bool {
-    part.name().rows().is_empty() && matches!(part.tree().symbols(), [Symbol::CutL])
+    part.name().rows().is_empty() && matches!(part.tree().symbols().kinds(), [Kind::CutL])
 }
 
 /// There is one such part.

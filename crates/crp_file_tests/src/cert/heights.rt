@@ -21,6 +21,11 @@ at least 2\nplan 3 1\npart /: L\nend 1\n";
 const EQUAL_UNSAID: &[u8] = b"CRP-CERT 1\nbay A 1\nsize 3 3 4 4\nrow 1 4\nrow 2\nrow 3\n\
 at least 2\nplan 3 1\npart /: L\nend 1\n";
 
+/// The same in version 3, where the cut has its reasons.
+const WITH_REASONS: &[u8] =
+    b"CRP-CERT 3\nbay A 1\nsize 3 3 4 4\nheights 3 3 3\nrow 1 4\nrow 2\nrow 3\n\
+at least 2\nplan 3 1\npart /: [2:RBB]\nend 1\n";
+
 fn script_of(alloc: Global, text: &[u8]) -> Result<Script, CertFault> {
     read_cert(alloc, text)
 }
@@ -50,11 +55,12 @@ fn assert_heights(
 
 #[test]
 fn heights_are_read(rt: HostRuntime) -> Result<(), Fail> {
-    let cases: [(&[u8], Version, &[u8]); 4] = [
+    let cases: [(&[u8], Version, &[u8]); 5] = [
         (UNEQUAL, Version::Two, &[3, 1, 3]),
         (NARROW, Version::Two, &[2, 1]),
         (EQUAL, Version::Two, &[3, 3, 3]),
         (EQUAL_UNSAID, Version::One, &[3, 3, 3]),
+        (WITH_REASONS, Version::Three, &[3, 3, 3]),
     ];
     for (text, version, heights) in cases {
         assert_heights(&rt, text, version, heights)?;

@@ -9,7 +9,8 @@ use crate::calls::write_cert;
 use crate::compare::assert_same;
 use crate::devices::make_small;
 use crp_plan::{BayName, Problem, Received, Sink, WriteFault};
-use crp_tree::{Cert, Name, Part, Symbol, Tree};
+use crp_row::{Kind, Row};
+use crp_tree::{Cert, Name, Part, Tree};
 use std::alloc::{AllocError, Global};
 use std::process::Abort;
 use std::test::Fail;
@@ -42,14 +43,13 @@ pub(super) fn branched_twice(
         vec![in alloc; 3]?,
     ];
     let problem = problem_of(rt, 3, 4, &stacks);
-    let list = vec![in alloc;
-        Symbol::Branch(2),
-        Symbol::Branch(2),
-        Symbol::CutB,
-        Symbol::CutB,
-        Symbol::CutB,
-    ]?;
-    let cert = whole(alloc, &problem, Tree::from_symbols(list), 2)?;
+    let mut row = Row::new(alloc);
+    row.push(Kind::Branch(2), b"")?;
+    row.push(Kind::Branch(2), b"")?;
+    row.push(Kind::CutB, b"")?;
+    row.push(Kind::CutB, b"")?;
+    row.push(Kind::CutB, b"")?;
+    let cert = whole(alloc, &problem, Tree::from_row(row), 2)?;
     Ok((problem, cert))
 }
 
@@ -57,8 +57,9 @@ pub(super) fn branched_twice(
 fn dead_end(rt: &impl Abort, alloc: Global) -> Result<(Problem, Cert), AllocError> {
     let stacks = [vec![in alloc; 1, 2]?];
     let problem = problem_of(rt, 3, 2, &stacks);
-    let list = vec![in alloc; Symbol::Branch(0)]?;
-    let cert = whole(alloc, &problem, Tree::from_symbols(list), 5)?;
+    let mut row = Row::new(alloc);
+    row.push(Kind::Branch(0), b"")?;
+    let cert = whole(alloc, &problem, Tree::from_row(row), 5)?;
     Ok((problem, cert))
 }
 

@@ -4,10 +4,11 @@ ghost use Rattle.std.specs.Prelude.{◌≡◌, ◌+◌, ◌^◌, ◌≤◌};
 use crate::bays::{BAYS, problem_of};
 use crate::compare::assert_at;
 use crp_plan::{Plan, Problem, Words};
+use crp_row::Kind as SymbolKind;
 use crp_search::{Limit, first_plan, search};
 use crp_solve::{Answer, Settings, solve_alone};
 use crp_steps::{Event, Kind, World};
-use crp_tree::{Name, Symbol, Tree};
+use crp_tree::{Name, Tree};
 use std::alloc::{AllocError, Global};
 use std::process::Abort;
 use std::test::Fail;
@@ -50,11 +51,11 @@ fn close(world: &mut World, looks: &[bool], number: usize) -> bool {
 
 // Of each cut of a tree, in the order of the search, whether it is by the look-ahead bound.
 fn push_looks(looks: &mut Vec<bool>, tree: &Tree) -> Result<(), AllocError> {
-    for symbol in tree.symbols() {
-        match symbol {
-            Symbol::CutB => looks.push(false)?,
-            Symbol::CutL => looks.push(true)?,
-            Symbol::Given | Symbol::Branch(_) => {}
+    for kind in tree.symbols().kinds() {
+        match kind {
+            SymbolKind::CutB | SymbolKind::CutR(_) => looks.push(false)?,
+            SymbolKind::CutL => looks.push(true)?,
+            SymbolKind::Given | SymbolKind::Branch(_) => {}
         }
     }
     Ok(())

@@ -1,7 +1,7 @@
 use Rattle.std.proofs.Common.{◌≡◌, ◌↔◌, ◌<◌, ℕ, zero, suc, [], ◌∷◌, Contains, refl, sym, subst, arith, slice_index_or}
 use Rattle.crp_plan.specs.Bay.{IsProblem, IsAt, IsLegalRow}
 use Rattle.crp_bay.specs.Positions.{child}
-use Rattle.crp_tree.specs.declared.mark.Mark.TheVariants.{B, L, X}
+use Rattle.crp_tree.specs.Mark.{B, L, X}
 use Rattle.crp_tree.specs.Trees.{Node, nodes}
 use Rattle.crp_callers.specs.SmallBays.{bay_of_four, standing, first_of_four, two_cuts}
 use Rattle.crp_callers.proofs.trees.four_may_go.Goals as goal

@@ -1,6 +1,6 @@
 use Rattle.std.proofs.Common.{[], ◌∷◌, refl, arith}
 use Rattle.crp_bay.specs.Positions.{child}
-use Rattle.crp_tree.specs.declared.mark.Mark.TheVariants.{B}
+use Rattle.crp_tree.specs.Mark.{B}
 use Rattle.crp_callers.specs.SmallBays.{first_of_four, two_cuts}
 use Rattle.crp_callers.proofs.trees.two_cuts.Goals as goal
 

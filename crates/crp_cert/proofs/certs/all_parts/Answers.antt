@@ -12,12 +12,12 @@ use Rattle.crp_cert.proofs.certs.all_parts.Goals as goal
 pub overflow_cast-line : goal.overflow_cast-line
 overflow_cast-line c =
     let inv = c.loop-after.invariant in
-    omega (arith, few_parts c.args.problem.now c.loop-after.parts.items c.requires.problem inv.each_part inv.rising)
+    omega (arith, few_parts c.args.version c.args.problem.now c.loop-after.parts.items c.requires.problem inv.each_part inv.rising)
 
 pub overflow_add-line : goal.overflow_add-line
 overflow_add-line c =
     let inv = c.loop-after.invariant in
-    omega (arith, few_parts c.args.problem.now c.loop-after.parts.items c.requires.problem inv.each_part inv.rising)
+    omega (arith, few_parts c.args.version c.args.problem.now c.loop-after.parts.items c.requires.problem inv.each_part inv.rising)
 
 pub returns-in_err-part-clause-refused : goal.returns-in_err-part-clause-refused
 returns-in_err-part-clause-refused c =
@@ -31,13 +31,13 @@ returns-in_err-part-clause-refused c =
       parts = parts;
       rest = c.loop-after.rest.now;
       are = c.loop-after.invariant;
-      why = same_line problem c.deref.result.now parts _ (c.args.first + length parts) (codes "part " ++ c.in-Some.after.now) c.loop-after.rest.now c.in_err-part.field-0.0 c.deref.ensures.value (omega arith)
+      why = same_line c.args.version problem c.deref.result.now parts _ (c.args.first + length parts) (codes "part " ++ c.in-Some.after.now) c.loop-after.rest.now c.in_err-part.field-0.0 c.deref.ensures.value (omega arith)
           (sym (tag_takes (codes "part ") c.loop-after.rest.now c.in-Some.after.now c.in-Some.ensures)) is;
     }))
     c.in_err-part.ensures.refused)
 
 pub loop-after-preserved : goal.loop-after-preserved
 loop-after-preserved c =
-    parts_push c.args.problem.now c.args.bytes.now c.loop-after.parts.items c.push.new.self.items c.in_ok-part.part c.loop-after.rest.now c.in_ok-part.after.now c.in-Ok.ensures.items c.loop-after.invariant c.in_ok-part.ensures.part
+    parts_push c.args.version c.args.problem.now c.args.bytes.now c.loop-after.parts.items c.push.new.self.items c.in_ok-part.part c.loop-after.rest.now c.in_ok-part.after.now c.in-Ok.ensures.items c.loop-after.invariant c.in_ok-part.ensures.part
     (subst (λ l. ComesAfter l c.in_ok-part.part.name) c.deref.ensures.value c.in_ok-part.ensures.after)
     (tag_takes (codes "part ") c.loop-after.rest.now c.in-Some.after.now c.in-Some.ensures ∙ c.in_ok-part.ensures.text)

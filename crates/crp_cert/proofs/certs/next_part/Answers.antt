@@ -2,6 +2,7 @@ use Rattle.std.proofs.Common.{◌≡◌, ℕ, List, ◌++◌, length, IsTrue, �
 use Rattle.std.proofs.lemmas.Bool.{eqb-false, eqb-true}
 use Rattle.crp_tree.specs.Claims.{Part}
 use Rattle.crp_cert.specs.Script.{symbols_line, part_line}
+use Rattle.crp_cert.proofs.PartTests.{none_given, can_spell}
 use Rattle.crp_cert.proofs.PartLines.{no_part, begins_with}
 use Rattle.crp_cert.proofs.PartFaults.{parsed_line, left_over, all_used}
 use Rattle.crp_cert.proofs.certs.next_part.Goals as goal
@@ -64,6 +65,21 @@ returns-then-not-is_empty-clause-refused c =
         left_over parsed.symbols.now c.in-Some-2.left.now parsed.place.place c.in-Some-2.tree r.0 r.1 (omega arith),
       ),
     )
+
+pub returns-clause-part : goal.returns-clause-part
+returns-clause-part c =
+    let parsed = c.in-Some.parsed in
+    let r = (rw c.in-Some-2.is at c.in_ok-tree.ensures).found in
+    let are = c.are_symbols.ensures.0 c.if-not-are_symbols.false in
+    rw c.new.ensures
+    (record {
+      short = (begins_with c.args.problem.now c.args.bytes.now parsed.name parsed.symbols.now parsed.rest.now c.in-Some.ensures.value).0;
+      place = parsed.place.place;
+      is_at = c.in-Some.ensures.at;
+      fits = r.0;
+      not_given = none_given c.args.version parsed.symbols.now c.in-Some-2.left.now c.in-Some-2.tree are r.1;
+      can_spell = can_spell c.args.version parsed.place.place c.in-Some-2.tree parsed.symbols.now c.in-Some-2.left.now r.0 r.1 are;
+    })
 
 pub returns-clause-text : goal.returns-clause-text
 returns-clause-text c =

@@ -12,19 +12,19 @@ use Rattle.crp_cert.proofs.certs.read_cert.Goals as goal
 pub overflow_cast-last : goal.overflow_cast-last
 overflow_cast-last c =
     let are = c.in_ok-parts.ensures.parts in
-    omega (arith, few_parts c.in_ok-head.head.problem c.in_ok-parts.parts.items c.first_part-first.ensures.problem are.each_part are.rising)
+    omega (arith, few_parts c.in_ok-head.head.version c.in_ok-head.head.problem c.in_ok-parts.parts.items c.first_part-first.ensures.problem are.each_part are.rising)
 
 pub overflow_add-last : goal.overflow_add-last
 overflow_add-last c =
     let are = c.in_ok-parts.ensures.parts in
     let most = c.first_part-first.ensures.few in
-    omega (arith, few_parts c.in_ok-head.head.problem c.in_ok-parts.parts.items c.first_part-first.ensures.problem are.each_part are.rising)
+    omega (arith, few_parts c.in_ok-head.head.version c.in_ok-head.head.problem c.in_ok-parts.parts.items c.first_part-first.ensures.problem are.each_part are.rising)
 
 pub overflow_add-result : goal.overflow_add-result
 overflow_add-result c =
     let are = c.in_ok-parts.ensures.parts in
     let most = c.first_part-first.ensures.few in
-    omega (arith, few_parts c.in_ok-head.head.problem c.in_ok-parts.parts.items c.first_part-first.ensures.problem are.each_part are.rising)
+    omega (arith, few_parts c.in_ok-head.head.version c.in_ok-head.head.problem c.in_ok-parts.parts.items c.first_part-first.ensures.problem are.each_part are.rising)
 
 pub returns-in_default-clause-refused : goal.returns-in_default-clause-refused
 returns-in_default-clause-refused c =

@@ -23,5 +23,5 @@ returns-clause-found c =
       ends = heights_short sized.size heights sized.is_size t.0;
       is = t.1;
       rows = tt;
-      leads = λ before has. stated_rows before c.no_rows.result sized.bay sized.size heights made.version made.bay made.size made.heights made.stacks t.0 has.0 has.1;
+      leads = λ before has. stated_rows before c.no_rows.result sized.version sized.bay sized.size heights sized.with_heights made.version made.bay made.size made.heights made.stacks t.0 has.0 has.1;
     }

@@ -1,8 +1,8 @@
-use Rattle.std.proofs.Common.{◌++◌, ap, ◌∙◌, append_assoc}
-use Rattle.crp_cert.specs.Text.{title_line, bay_line, size_line}
+use Rattle.std.proofs.Common.{◌≡◌, ◌⊎◌, ⊎_elim, true, ◌++◌, ap, ◌∙◌, append_assoc}
+use Rattle.crp_cert.specs.Text.{has_heights, title_line, bay_line, size_line}
 use Rattle.crp_cert.specs.declared.size.Size.{Size}
 use Rattle.crp_cert.specs.declared.version.Version.{Version}
-use Rattle.crp_cert.specs.declared.version.Version.TheVariants.{One, Two}
+use Rattle.crp_cert.specs.declared.version.Version.TheVariants.{One, Two, Three}
 use Rattle.crp_cert.proofs.Settled.{size_short}
 use Rattle.crp_cert.proofs.Heights.{heights_are}
 use Rattle.crp_cert.proofs.Readers.{size_reader, none_stands}
@@ -23,8 +23,15 @@ pub no_rows-requires-clause-heights : goal.no_rows-requires-clause-heights
 no_rows-requires-clause-heights c =
     heights_are One c.in_ok-size.size c.same_heights-heights.result.items (size_reader.takes c.args.bytes.now c.in_ok-size.size c.in_ok-size.rest.now c.in_ok-size.ensures).0 c.same_heights-heights.ensures
 
+-- versions 2 and 3 have a line of heights
+either : (version : Version) → (version ≡ Two) ⊎ (version ≡ Three) → has_heights version ≡ true
+either version is = ⊎_elim (λ e. ap has_heights e) (λ e. ap has_heights e) is
+
 pub invariant_of-lines : goal.invariant_of-lines
-invariant_of-lines c = record { is_size = (size_reader.takes c.args.bytes.now c.in_ok-size.size c.in_ok-size.rest.now c.in_ok-size.ensures).0 }
+invariant_of-lines c = record {
+  is_size = (size_reader.takes c.args.bytes.now c.in_ok-size.size c.in_ok-size.rest.now c.in_ok-size.ensures).0;
+  with_heights = either c.args.version c.in-Two.is;
+}
 
 pub returns-clause-found : goal.returns-clause-found
 returns-clause-found c =
@@ -41,7 +48,6 @@ returns-clause-found c =
                 let made = w.no_rows.ensures in
                 rw w.lines-is (sized_rows before w.no_rows.result c.args.version c.args.bay size w.same_heights-heights.result.items w.in-One.is made.version made.bay made.size made.heights made.stacks w.same_heights-heights.ensures has)
             | in-Two w ↦
-                rw w.lines-is
-                (has.0, ap (λ l. l ++ size_line size) (has.1 ∙ ap (λ (v : Version). title_line v ++ bay_line c.args.bay) w.in-Two.is) ∙ append_assoc (title_line Two) (bay_line c.args.bay) (size_line size))
+                rw w.lines-is (has.0, ap (λ l. l ++ size_line size) has.1 ∙ append_assoc (title_line c.args.version) (bay_line c.args.bay) (size_line size))
           ];
     }

@@ -1,10 +1,9 @@
-use Rattle.std.proofs.Common.{◌≡◌, ◌++◌, ap, ◌∙◌, take, map, arith}
-use Rattle.std.proofs.lemmas.List.{take_all}
-use Rattle.crp_tree.specs.Spots.{symbol_letter}
-use Rattle.crp_cert.proofs.Symbols.{spelled}
+use Rattle.std.proofs.Common.{◌++◌, sym, ap, ◌∙◌, append-nil}
+use Rattle.std.specs.List.{flat_map}
+use Rattle.crp_tree.specs.Spots.{symbol_text}
+use Rattle.crp_cert.proofs.Symbols.{symbols_spelled}
 use Rattle.crp_cert.proofs.writing.push_tree.Goals as goal
 
 pub returns : goal.returns
 returns c =
-    let all : take c.loop-symbol.symbol-index c.symbols-symbol-items.result.now ≡ c.symbols-symbol-items.result.now = take_all c.loop-symbol.symbol-index c.symbols-symbol-items.result.now (omega arith) in
-    c.loop-symbol.invariant ∙ ap (λ l. c.args.text.now.items ++ map symbol_letter l) (all ∙ c.symbols-symbol-items.ensures) ∙ ap (λ l. c.args.text.now.items ++ l) (spelled c.args.tree.now)
+    sym (append-nil c.loop-kind.text.items) ∙ ap (λ l. c.loop-kind.text.items ++ flat_map symbol_text l) (sym c.in_default.ensures.none) ∙ c.loop-kind.invariant ∙ ap (λ l. c.args.text.now.items ++ l) (symbols_spelled c.args.tree.now)

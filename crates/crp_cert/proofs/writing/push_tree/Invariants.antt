@@ -1,6 +1,11 @@
-use Rattle.std.proofs.Common.{◌≡◌, ◌++◌, map, take}
-use Rattle.crp_tree.specs.Spots.{symbol_letter}
+use Rattle.std.proofs.Common.{◌≡◌, ◌++◌, length}
+use Rattle.std.specs.List.{flat_map}
+use Rattle.crp_tree.specs.Spots.{symbol_text}
+use Rattle.crp_tree.specs.Symbols.{symbols}
 use Rattle.crp_cert.proofs.writing.push_tree.Given as goal
 
-abbrev pub invariant-loop-symbol : goal.invariant-loop-symbol
-invariant-loop-symbol l = l.text.items ≡ l.fn.text.items ++ map symbol_letter (take l.symbol-index l.symbol-items)
+abbrev pub invariant-loop-kind : goal.invariant-loop-kind
+invariant-loop-kind l = l.text.items ++ flat_map symbol_text l.rest ≡ l.fn.text.items ++ flat_map symbol_text (symbols l.tree)
+
+abbrev pub decreases-loop-kind : goal.decreases-loop-kind
+decreases-loop-kind l = length l.rest

@@ -1,9 +1,10 @@
-use Rattle.std.proofs.Common.{[], sym, ap, ◌∙◌, subst}
+use Rattle.std.proofs.Common.{[], sym, subst}
 use Rattle.std.proofs.lemmas.List.{append-nil}
 use Rattle.crp_plan.specs.Bay.{IsAt}
 use Rattle.crp_cert.specs.ScriptFaults.{BeginsWithParts}
 use Rattle.crp_checker.specs.Openings.{named_line}
-use Rattle.crp_checker.specs.Symbols.{line_begun}
+use Rattle.crp_checker.specs.Refusals.{need_in}
+use Rattle.crp_checker.specs.Lines.{LineIs}
 use Rattle.crp_checker.proofs.in_line.begin_part.Goals as goal
 
 pub returns : goal.returns
@@ -19,5 +20,5 @@ returns c wanted bytes script line are begins =
       short = c.requires.0;
       is_at = subst (λ p. IsAt p name c.in-Some.place.place) are.problem_is c.in-Some.ensures.at;
       one_line = tt;
-      kept_is = c.in_ok-line.ensures ∙ ap (λ n. line_begun (record { path = n; place = c.in-Some.place.place })) c.rows.ensures.value;
+      kept_is = subst (λ n. LineIs (need_in script) script.head.version (record { path = n; place = c.in-Some.place.place }) [] c.in_ok-line.line) c.rows.ensures.value (c.in_ok-line.ensures (need_in script) script.head.version);
     }

@@ -16,22 +16,22 @@ pub returns-in-Unknown : goal.returns-in-Unknown
 returns-in-Unknown c wanted before at =
     subst (HasCome wanted (before ++ 10 ∷ [])) (sym c.faulty-in-Unknown.ensures)
     (symbols_fault wanted before c.args.name c.args.findings c.args.line Unknown (faults.Symbol c.args.findings.line) at (c.come_before.ensures.0 c.if-not-come_before.false)
-    (λ need top bytes is. subst (IsEndOfSymbols need top bytes) c.in-Unknown.is (c.end.ensures need top bytes is))
-    (λ p parts need line bytes after number is. subst (λ n. IsLineFault p parts line bytes (faults.Symbol n)) number is))
+    (λ need version top bytes is. subst (IsEndOfSymbols need version top bytes) c.in-Unknown.is (c.end.ensures need version top bytes is))
+    (λ version p parts need line bytes after number is. subst (λ n. IsLineFault version p parts line bytes (faults.Symbol n)) number is))
 
 pub returns-in-Unfinished : goal.returns-in-Unfinished
 returns-in-Unfinished c wanted before at =
     subst (HasCome wanted (before ++ 10 ∷ [])) (sym c.faulty-in-Unfinished.ensures)
     (symbols_fault wanted before c.args.name c.args.findings c.args.line Unfinished (faults.Unfinished c.args.findings.line) at (c.come_before.ensures.0 c.if-not-come_before.false)
-    (λ need top bytes is. subst (IsEndOfSymbols need top bytes) c.in-Unfinished.is (c.end.ensures need top bytes is))
-    (λ p parts need line bytes after number is. subst (λ n. IsLineFault p parts line bytes (faults.Unfinished n)) number is))
+    (λ need version top bytes is. subst (IsEndOfSymbols need version top bytes) c.in-Unfinished.is (c.end.ensures need version top bytes is))
+    (λ version p parts need line bytes after number is. subst (λ n. IsLineFault version p parts line bytes (faults.Unfinished n)) number is))
 
 pub returns-in-Trailing : goal.returns-in-Trailing
 returns-in-Trailing c wanted before at =
     subst (HasCome wanted (before ++ 10 ∷ [])) (sym c.faulty-in-Trailing.ensures)
     (symbols_fault wanted before c.args.name c.args.findings c.args.line Trailing (faults.Trailing c.args.findings.line) at (c.come_before.ensures.0 c.if-not-come_before.false)
-    (λ need top bytes is. subst (IsEndOfSymbols need top bytes) c.in-Trailing.is (c.end.ensures need top bytes is))
-    (λ p parts need line bytes after number is. subst (λ n. IsLineFault p parts line bytes (faults.Trailing n)) number is))
+    (λ need version top bytes is. subst (IsEndOfSymbols need version top bytes) c.in-Trailing.is (c.end.ensures need version top bytes is))
+    (λ version p parts need line bytes after number is. subst (λ n. IsLineFault version p parts line bytes (faults.Trailing n)) number is))
 
 pub returns-in_ok-with_part-in-Whole : goal.returns-in_ok-with_part-in-Whole
 returns-in_ok-with_part-in-Whole c wanted before at =
@@ -39,8 +39,8 @@ returns-in_ok-with_part-in-Whole c wanted before at =
     let given = c.in-Whole.given in
     let next = c.in_ok-with_part-in-Whole in
     part_ended wanted before c.args.name c.args.findings next.field-0 c.args.line (Whole w given) c.new.result.items w given at (c.come_before.ensures.0 c.if-not-come_before.false)
-    (λ need top bytes is. subst (IsEndOfSymbols need top bytes) c.in-Whole.is (c.end.ensures need top bytes is))
-    (λ p parts need line bytes after is. is)
+    (λ need version top bytes is. subst (IsEndOfSymbols need version top bytes) c.in-Whole.is (c.end.ensures need version top bytes is))
+    (λ version p parts need line bytes after is. is)
     (record {
       same_bay = next.ensures.bay;
       same_problem = next.ensures.problem;

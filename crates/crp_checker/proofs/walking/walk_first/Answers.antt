@@ -2,7 +2,7 @@ use Rattle.std.proofs.Common.{◌≡◌, ◌≤◌, ◌+◌, ◌-◌, ◌∷◌,
 use Rattle.std.specs.Option.{option_or}
 use Rattle.crp_checker.specs.declared.found.Found.{Found}
 use Rattle.crp_tree.specs.Spots.{owed_behind}
-use Rattle.crp_checker.specs.Symbols.{wrong_at}
+use Rattle.crp_checker.specs.Symbols.{mark_of, wrong_at}
 use Rattle.crp_checker.specs.Kept.{need_by}
 use Rattle.crp_checker.specs.Pending.{pending, spot_at, owed_by}
 use Rattle.crp_checker.specs.Walks.{walked_at, LeadTo, IsWalk}
@@ -19,7 +19,7 @@ returns-clause-walk c =
     let piece = c.args.piece.now in
     let old = c.args.found.now in
     let need = need_by c.args.need.now in
-    let mark = c.in-Some-symbol_in.symbol in
+    let mark = mark_of c.in-Some-symbol_in.symbol in
     let spot = spot_at None path s.place in
     let b = get_or piece 0 0 in
     let between = pending (length c.meet.new.path.items - above) c.meet.new.path.items c.meet.new.place in

@@ -2,6 +2,7 @@ use Rattle.std.proofs.Common.{◌≡◌, ◌≤◌, ◌+◌, ◌-◌, ◌++◌, 
 use Rattle.crp_bay.specs.Positions.{can_shift}
 use Rattle.crp_bay.specs.Back.{PlaceAndTrail}
 use Rattle.crp_tree.specs.Spots.{spot_below, spots_below}
+use Rattle.crp_checker.specs.Symbols.{mark_of}
 use Rattle.crp_checker.specs.Kept.{need_by}
 use Rattle.crp_checker.specs.Pending.{back, rows_behind, pending, spot_at}
 use Rattle.crp_checker.specs.Passed.{rows_from}
@@ -129,6 +130,6 @@ open-preserved c =
     c.open.found (owes_row above path new s next is k.le)
     (subst (λ (o : Option ℕ). LeadTo need top (take taken piece) (walked_at (spots_below path s.place (rows_from o s.place) ++ pending (length path - above) path (back s)) (before + taken) c.open.found))
     c.in-Some-next.is leads) in
-    goes_among need top above before piece new c.meet.new.path.items s c.meet.new.place next taken (before + taken) _ (c.in-Some-symbol_in.symbol) c.open.found c.meet.new.found there
+    goes_among need top above before piece new c.meet.new.path.items s c.meet.new.place next taken (before + taken) _ (mark_of c.in-Some-symbol_in.symbol) c.open.found c.meet.new.found there
     (omega (arith, within, c.in_ok-meet.ensures.longer)) c.in-Some-symbol_in.ensures.there refl refl c.in-Some-symbol_in.ensures.some c.in_ok-meet.ensures.wrong c.in_ok-meet.ensures.given
     (c.in_ok-meet.ensures.owed above within (λ e. absurd (cc)))

@@ -1,5 +1,5 @@
 use Rattle.std.proofs.Common.{◌≡◌, ◌+◌, ◌-◌, ◌*◌, [], ◌∷◌, ◌++◌, length, take}
-use Rattle.crp_tree.specs.declared.symbol.Symbol.TheVariants as symbol
+use Rattle.crp_row.specs.Symbol as symbol
 use Rattle.crp_tree.specs.Symbols.{all_symbols, some_trees}
 use Rattle.crp_gather.proofs.TreesSettled.{BelowWritten}
 use Rattle.crp_gather.proofs.settling.+settling.Given as goal
@@ -15,6 +15,6 @@ abbrev pub invariant-settle_below-loop-row : goal.invariant-settle_below-loop-ro
 invariant-settle_below-loop-row l = record {
   path : l.path.items ≡ l.fn.path.items;
   place : l.place ≡ l.fn.place;
-  half : l.list ≡ all_symbols (take l.row-index (some_trees l.count l.list)) ++ l.rest;
-  below : BelowWritten l.problem l.plan.path l.fn.path.items l.fn.place.place l.rows (some_trees l.count l.list) l.row-index (l.fn.settled.items ++ symbol.Branch l.count ∷ []) l.settled.items l.floor;
+  half : l.fn.rest ≡ all_symbols (take l.row-index (some_trees l.count l.fn.rest)) ++ l.rest;
+  below : BelowWritten l.problem l.plan.path l.fn.path.items l.fn.place.place l.rows (some_trees l.count l.fn.rest) l.row-index (l.fn.settled.symbols ++ symbol.Branch l.count ∷ []) l.settled.symbols l.floor;
 }

@@ -1,6 +1,6 @@
 use Rattle.std.proofs.Common.{[], ◌∷◌, refl, arith}
 use Rattle.crp_plan.proofs.Steps.{short_path}
-use Rattle.crp_tree.specs.declared.mark.Mark.TheVariants.{B}
+use Rattle.crp_tree.specs.Mark.{B}
 use Rattle.crp_tree.specs.Trees.{Node}
 use Rattle.crp_search.specs.Limits.{dealt}
 use Rattle.crp_search.proofs.SoFar.{met_cut}
@@ -20,7 +20,7 @@ returns-then-from-bar-clause-closes g c =
     let node : Node = record { path = c.args.path.now; place = c.args.place.now.place; mark = B } in
     rw c.cut.ensures (record {
       met = λ rows _. g.met.S.Seek.onward p rows _ _ _ _ _ _ [] (node ∷ []) (c.enough-bar.ensures.met p rows)
-          (g.met.S.Seek.one p rows c.enough-bar.new.self seen seen node (met_cut rows seen seen node refl refl refl) refl (held_b _ c.args.path.now c.args.place.now.place (omega arith)));
+          (g.met.S.Seek.one p rows c.enough-bar.new.self seen seen node (met_cut rows seen seen node refl tt refl refl) refl (held_b _ c.args.path.now c.args.place.now.place (omega arith)));
       closed = closed_b c.args.floor _ c.args.path.now c.args.place.now.place (omega arith);
       ended = tt;
     })

@@ -4,7 +4,7 @@ use Rattle.crp_plan.specs.Bay.{IsFinished}
 use Rattle.crp_plan.proofs.Steps.{short_path}
 use Rattle.crp_bay.specs.Back.{PlaceAndTrail}
 use Rattle.crp_bounds.specs.Bounds.{blocking, look_ahead}
-use Rattle.crp_tree.specs.declared.mark.Mark.TheVariants.{B, L, X}
+use Rattle.crp_tree.specs.Mark.{B, L, X}
 use Rattle.crp_search.specs.Limits.{dealt}
 use Rattle.crp_search.proofs.Greedily.{complete, unfinished}
 use Rattle.crp_search.proofs.SoFar.{met_branch}
@@ -48,7 +48,7 @@ returns-clause-closes g c =
     let open' = unfinished c.args.problem.now path place c.requires.is_problem c.requires.path (λ end. let is = c.is_done.ensures.done.1 (subst (λ (v : PlaceAndTrail). IsFinished v.place) (sym c.position.ensures) end) in let test = c.if-is_done.false in cc) in
     ⊎_elim
     (λ (lt : blocking place < look_ahead place). rw (c.refused_cut.ensures.higher (λ e. omega arith), c.requires.problem)
-    (record { met = λ rows _. refused rows (record { path = path; place = place; mark = L }) refl (omega arith) open' (λ ahead. (omega arith, lt)); closed = closed_l c.args.floor _ path place (omega arith); ended = tt }))
+    (record { met = λ rows _. refused rows (record { path = path; place = place; mark = L }) refl tt (omega arith) open' (λ ahead. (omega arith, lt)); closed = closed_l c.args.floor _ path place (omega arith); ended = tt }))
     (λ (le : look_ahead place ≤ blocking place). rw (c.refused_cut.ensures.equal (omega arith), c.requires.problem)
-    (record { met = λ rows _. refused rows (record { path = path; place = place; mark = B }) refl (omega arith) open' (λ ahead. absurd (cc)); closed = closed_b c.args.floor _ path place (omega arith); ended = tt }))
+    (record { met = λ rows _. refused rows (record { path = path; place = place; mark = B }) refl tt (omega arith) open' (λ ahead. absurd (cc)); closed = closed_b c.args.floor _ path place (omega arith); ended = tt }))
     (cases_lt (blocking place) (look_ahead place))

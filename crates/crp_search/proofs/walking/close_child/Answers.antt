@@ -5,7 +5,7 @@ use Rattle.crp_bay.specs.Positions.{child}
 use Rattle.crp_bay.specs.Reached.{IsReached}
 use Rattle.crp_bay.proofs.Reaching.{can_from_target}
 use Rattle.crp_bounds.proofs.Leasts.{few_blocked}
-use Rattle.crp_tree.specs.declared.mark.Mark.TheVariants.{B}
+use Rattle.crp_tree.specs.Mark.{B}
 use Rattle.crp_tree.specs.Trees.{Node}
 use Rattle.crp_tree.proofs.Followed.{legal_push}
 use Rattle.crp_search.specs.Limits.{dealt}
@@ -32,7 +32,7 @@ returns-then-from-bar-clause-closes g c =
     let node : Node = record { path = c.args.path.now; place = next; mark = B } in
     rw c.cut.ensures (record {
       met = λ rows _. g.met.S.Seek.onward p rows _ _ _ _ _ _ [] (node ∷ []) (c.enough-bar.ensures.met p rows)
-          (g.met.S.Seek.one p rows c.enough-bar.new.self seen seen node (met_cut rows seen seen node refl refl refl) refl (held_b _ c.args.path.now next (omega arith)));
+          (g.met.S.Seek.one p rows c.enough-bar.new.self seen seen node (met_cut rows seen seen node refl tt refl refl) refl (held_b _ c.args.path.now next (omega arith)));
       closed = closed_b c.args.floor _ c.args.path.now next (omega arith);
       ended = tt;
     })

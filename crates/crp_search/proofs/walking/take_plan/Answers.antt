@@ -1,6 +1,6 @@
 use Rattle.std.proofs.Common.{sym, ap, refl}
 use Rattle.crp_plan.specs.Plans.{ProblemPath}
-use Rattle.crp_tree.specs.declared.mark.Mark.TheVariants.{B}
+use Rattle.crp_tree.specs.Mark.{B}
 use Rattle.crp_search.proofs.walking.take_plan.Goals as goal
 
 pub returns-clause-met : goal.returns-clause-met

@@ -6,17 +6,17 @@ use Rattle.crp_plan.specs.Bay.{IsAt, cap}
 use Rattle.crp_plan.proofs.Steps.{short_path}
 use Rattle.crp_bay.specs.Positions.{targets, child}
 use Rattle.crp_bay.specs.Back.{PlaceAndTrail}
-use Rattle.crp_tree.specs.declared.symbol.Symbol.{Symbol}
-use Rattle.crp_tree.specs.declared.symbol.Symbol.TheVariants as symbol
+use Rattle.crp_row.specs.Symbol as symbol
+use Rattle.crp_row.specs.Rows.{symbol_of}
 use Rattle.crp_tree.specs.Symbols.{leaf, leaf_symbols}
 use Rattle.crp_tree.specs.Trees.{nodes, IsGivenAway, least_value}
 use Rattle.crp_tree.proofs.Followed.{pop_back, back_again}
 use Rattle.crp_search.specs.declared.frames.Frame.{Frame}
 use Rattle.crp_search.specs.Limits.{dealt}
 use Rattle.crp_search.specs.Searched.{AreFirstNodes}
-use Rattle.crp_search.specs.Walked.{met_at, TakesTurn}
+use Rattle.crp_search.specs.Walked.{met_at, closing, TakesTurn}
 use Rattle.crp_search.proofs.Closing.{floor_branch, floor_more}
-use Rattle.crp_search.proofs.UnderWay.{standing, stands_at, sets_out, legal_turn, turn_leads, still_short, stays, goes_down, goes_up, ends, ends_as, first_nodes, none_yet, leaf_tree, carried, reverse_push, one_less_left}
+use Rattle.crp_search.proofs.UnderWay.{standing, stands_at, sets_out, legal_turn, turn_leads, still_short, stays, goes_down, goes_up, ends, ends_as, first_nodes, none_yet, plain_fits, leaf_tree, carried, reverse_push, one_less_left}
 use Rattle.crp_search.proofs.Owing.{left, owed, owes_less, owes_below, owes_above}
 use Rattle.crp_search.proofs.walking.walk_from.Goals as goal
 
@@ -31,15 +31,17 @@ returns-in_err-first-clause-end g c =
     let e = err_from_is_err_and c.from_residual-in_err-first.result c.from_residual-in_err-first.ensures.1 in
     rw (e.1, e.2) ([], none_yet c.args.path.now.items c.args.place.now.place, c.in_err-first.ensures.closes.ended c.args.split (omega arith))
 
-pub from_symbols-requires : goal.from_symbols-requires
-from_symbols-requires g c =
+pub from_row-requires : goal.from_row-requires
+from_row-requires g c =
     let closes = rw c.in-Some.is at c.in_ok-first.ensures.closes in
     let closed = closes.closed in
-    (leaf c.in-Some.closed.symbol, c.push_reserved.ensures.items ∙ ap (λ l. l ++ c.in-Some.closed.symbol ∷ []) (c.make_room.ensures.items ∙ c.new-list.ensures.items) ∙ leaf_symbols c.in-Some.closed.symbol closed.leaf_is)
+    let one = closing c.in-Some.closed in
+    (leaf one, c.push_reserved.ensures ∙ ap (λ l. l ++ one ∷ []) (c.make_room.ensures.symbols ∙ c.new-list.ensures) ∙ leaf_symbols one closed.leaf_is)
 
 pub returns-in-Some-clause-own : goal.returns-in-Some-clause-own
 returns-in-Some-clause-own g c =
-    let same = leaf_tree c.make_room.new.list.items c.push_reserved.new.self.items c.from_symbols.result c.in-Some.closed.symbol (c.make_room.ensures.items ∙ c.new-list.ensures.items) c.push_reserved.ensures.items c.from_symbols.ensures in
+    let one = closing c.in-Some.closed in
+    let same = leaf_tree c.make_room.new.self.symbols c.push_reserved.new.self.symbols c.from_row.result one (c.make_room.ensures.symbols ∙ c.new-list.ensures) c.push_reserved.ensures c.from_row.ensures in
     let closes = rw c.in-Some.is at c.in_ok-first.ensures.closes in
     let closed = closes.closed in
     subst (λ t. IsGivenAway t → ⊥) same (λ away. let none = closed.given away in absurd (omega arith))
@@ -47,7 +49,7 @@ returns-in-Some-clause-own g c =
 pub loop-row-init : goal.loop-row-init
 loop-row-init g c =
     let rows : c.at-frame.result.rows.items ≡ targets c.args.place.now.place = c.at-frame.ensures.rows ∙ ap (λ (v : PlaceAndTrail). targets v.place) c.position.ensures in
-    let list_is : c.push_reserved-2.new.self.items ≡ symbol.Branch (length c.at-frame.result.rows.items) ∷ [] = c.push_reserved-2.ensures.items ∙ ap (λ l. l ++ c.symbol.result ∷ []) (c.make_room.ensures.items ∙ c.new-list.ensures.items) ∙ ap (λ (x : Symbol). x ∷ []) c.symbol.ensures in
+    let list_is : c.push_reserved-2.new.self.symbols ≡ symbol.Branch (length c.at-frame.result.rows.items) ∷ [] = c.push_reserved-2.ensures ∙ ap (λ l. l ++ symbol_of c.kind.result [] ∷ []) (c.make_room.ensures.symbols ∙ c.new-list.ensures) ∙ ap (λ k. symbol_of k [] ∷ []) c.kind.ensures in
     let begun = sets_out c.args.problem.now (standing c.args.path.now.items c.args.place.now) c.at-frame.result c.as_slice.result.now _ c.requires.path c.as_slice.ensures.value rows c.at-frame.ensures.done refl in
     let closes = rw c.in_default.is at c.in_ok-first.ensures.closes in
     let branched = closes.met c.args.split (omega arith) in
@@ -61,8 +63,8 @@ loop-row-init g c =
       floor_is = c.cap-floor.ensures.value;
     }
 
-pub from_symbols-requires-in_default-pop : goal.from_symbols-requires-in_default-pop
-from_symbols-requires-in_default-pop g c =
+pub from_row-requires-in_default-pop : goal.from_row-requires-in_default-pop
+from_row-requires-in_default-pop g c =
     let empty : c.loop-row.above.items ≡ [] = nil_from_length c.loop-row.above.items (let e = c.loop-row.above.ok.0 in let z = c.in_default-pop.ensures.cases.0 in omega arith) in
     let end = ends c.loop-row.invariant.under_way (ap reverse empty) c.in_default-turn.ensures.none in
     let whole = end.whole in
@@ -71,7 +73,7 @@ from_symbols-requires-in_default-pop g c =
 pub returns-in_default-pop : goal.returns-in_default-pop
 returns-in_default-pop g c =
     let empty : c.loop-row.above.items ≡ [] = nil_from_length c.loop-row.above.items (let e = c.loop-row.above.ok.0 in let z = c.in_default-pop.ensures.cases.0 in omega arith) in
-    let end = ends_as c.from_symbols-in_default-pop.result (ends c.loop-row.invariant.under_way (ap reverse empty) c.in_default-turn.ensures.none) c.from_symbols-in_default-pop.ensures in
+    let end = ends_as c.from_row-in_default-pop.result (ends c.loop-row.invariant.under_way (ap reverse empty) c.in_default-turn.ensures.none) c.from_row-in_default-pop.ensures in
     let meets = g.S.Seek.meets c.args.problem.now c.args.split c.args.seek.now (dealt (g.L.Limit.view c.args.limit.now) (g.L.Limit.puts c.args.limit.now)) c.loop-row.seek (dealt (g.L.Limit.view c.loop-row.limit) (g.L.Limit.puts c.loop-row.limit)) in
     record {
       fits = end.fits;
@@ -157,7 +159,7 @@ loop-row-preserved-in_default-found g c =
     let closes = rw c.in_default-found.is at c.in_ok-found.ensures.closes in
     let branched = closes.met c.args.split (omega arith) in
     let rows : c.at-below.result.rows.items ≡ targets c.walk_child.new.place.place = c.at-below.ensures.rows ∙ ap (λ (v : PlaceAndTrail). targets v.place) c.position-in_default-found.ensures in
-    let list_is : c.push_reserved-in_default-found.new.self.items ≡ c.loop-row.list.items ++ symbol.Branch (length c.at-below.result.rows.items) ∷ [] = c.push_reserved-in_default-found.ensures.items ∙ ap (λ l. l ++ c.symbol-in_default-found.result ∷ []) c.make_room-in-loop-row.ensures.items ∙ ap (λ (x : Symbol). c.loop-row.list.items ++ x ∷ []) c.symbol-in_default-found.ensures in
+    let list_is : c.push_reserved-in_default-found.new.self.symbols ≡ c.loop-row.list.symbols ++ symbol.Branch (length c.at-below.result.rows.items) ∷ [] = c.push_reserved-in_default-found.ensures ∙ ap (λ l. l ++ symbol_of c.kind-in_default-found.result [] ∷ []) c.make_room-in-loop-row.ensures.symbols ∙ ap (λ k. c.loop-row.list.symbols ++ symbol_of k [] ∷ []) c.kind-in_default-found.ensures in
     let gone = goes_down c.loop-row.invariant.under_way c.in-Some-turn.ensures.turn (standing c.push.new.self.items c.walk_child.new.place) c.at-below.result path _ c.loop-row.invariant.is_problem c.as_slice-in-loop-row.ensures.value c.push.ensures.items down rows c.at-below.ensures.done refl in
     record {
       is_problem = c.loop-row.invariant.is_problem;
@@ -179,13 +181,14 @@ pub loop-row-preserved : goal.loop-row-preserved
 loop-row-preserved g c =
     let popped : c.pop-row-in-loop-row.new.self.items ≡ c.loop-row.path.items = back_again c.pop-row-in-loop-row.new.self.items c.push.new.self.items c.loop-row.path.items _ c.in-Some-turn.row refl c.push.ensures.items c.pop-row-in-loop-row.ensures.rest in
     let path = c.as_slice-in-loop-row.result.now in
-    let one = c.in-Some-found.closed.symbol in
+    let one = closing c.in-Some-found.closed in
     let back = rw c.in-Some-found.is at c.in_ok-found.ensures.back in
     let closes = rw c.in-Some-found.is at c.in_ok-found.ensures.closes in
     let closed = closes.closed in
     let own_met = closes.met c.args.split (omega arith) in
-    let list_is : c.push_reserved-in-loop-row.new.self.items ≡ c.loop-row.list.items ++ one ∷ [] = c.push_reserved-in-loop-row.ensures.items ∙ ap (λ l. l ++ one ∷ []) c.make_room-in-loop-row.ensures.items in
-    let stayed = stays c.loop-row.invariant.under_way c.in-Some-turn.ensures.turn path one (c.as_slice-in-loop-row.ensures.value ∙ c.push.ensures.items) closed.leaf_is in
+    let list_is : c.push_reserved-in-loop-row.new.self.symbols ≡ c.loop-row.list.symbols ++ one ∷ [] = c.push_reserved-in-loop-row.ensures ∙ ap (λ l. l ++ one ∷ []) c.make_room-in-loop-row.ensures.symbols in
+    let stayed = stays c.loop-row.invariant.under_way c.in-Some-turn.ensures.turn path one (c.as_slice-in-loop-row.ensures.value ∙ c.push.ensures.items) closed.leaf_is
+    (plain_fits c.in-Some-found.closed.kind (child c.loop-row.place.place c.in-Some-turn.row) closed.plain closed.leaf_is) in
     let own = nodes path (child c.loop-row.place.place c.in-Some-turn.row) (leaf one) in
     record {
       is_problem = c.loop-row.invariant.is_problem;

@@ -13,7 +13,7 @@ invariant-loop-row g l = record {
   same : (g.L.Limit.problem l.limit ≡ g.L.Limit.problem l.fn.limit) × (g.L.Limit.budget l.limit ≡ g.L.Limit.budget l.fn.limit);
   ready : g.S.Seek.ready l.problem l.seek;
   met : List Node;
-  under_way : IsUnderWay l.problem (standing l.fn.path.items l.fn.place) (standing l.path.items l.place) l.frame (reverse l.above.items) l.list.items met;
+  under_way : IsUnderWay l.problem (standing l.fn.path.items l.fn.place) (standing l.path.items l.place) l.frame (reverse l.above.items) l.list.symbols met;
   meets : g.S.Seek.meets l.problem l.split l.fn.seek (dealt (g.L.Limit.view l.fn.limit) (g.L.Limit.puts l.fn.limit)) l.seek (dealt (g.L.Limit.view l.limit) (g.L.Limit.puts l.limit)) met;
   floor_is : l.floor ≡ least_value (cap l.problem) met;
 }

@@ -1,7 +1,7 @@
 use Rattle.std.proofs.Common.{[], ◌∷◌, ◌++◌, ap, ◌∙◌}
-use Rattle.crp_tree.specs.declared.symbol.Symbol.TheVariants as symbol
+use Rattle.crp_row.specs.Symbol as symbol
 use Rattle.crp_tree.specs.Tree.{CutL}
 use Rattle.crp_search_tests.proofs.gather.cut_ahead.Goals as goal
 
-pub from_symbols-tree-requires : goal.from_symbols-tree-requires
-from_symbols-tree-requires c = (CutL, c.in_ok-push.ensures.items ∙ ap (λ l. l ++ symbol.CutL ∷ []) c.new-list.ensures.items)
+pub from_row-tree-requires : goal.from_row-tree-requires
+from_row-tree-requires c = (CutL, c.in_ok-push.ensures.symbols ∙ ap (λ l. l ++ symbol.CutL ∷ []) c.new-row.ensures)

@@ -6,8 +6,8 @@ use Rattle.crp_tree.proofs.part.+collecting.Given as goal
 
 abbrev pub invariant-collect_below-loop-row : goal.invariant-collect_below-loop-row
 invariant-collect_below-loop-row l = record {
-  half : l.list ≡ all_symbols (take l.row-index (some_trees l.count l.list)) ++ l.rest;
-  names : l.names.items ≡ l.fn.names.items ++ given_names (nodes_below l.name l.place.place (take l.row-index l.rows) (take l.row-index (some_trees l.count l.list)));
+  half : l.fn.rest ≡ all_symbols (take l.row-index (some_trees l.count l.fn.rest)) ++ l.rest;
+  names : l.names.items ≡ l.fn.names.items ++ given_names (nodes_below l.name l.place.place (take l.row-index l.rows) (take l.row-index (some_trees l.count l.fn.rest)));
 }
 
 -- each name goes on by one row, and none has more than 8

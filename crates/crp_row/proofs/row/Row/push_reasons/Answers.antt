@@ -1,4 +1,4 @@
-use Rattle.std.proofs.Common.{◌≡◌, ℕ, suc, List, [], ◌∷◌, ◌++◌, length, ap, sym, ◌∙◌, arith, length-append}
+use Rattle.std.proofs.Common.{[], ◌∷◌, ◌++◌, length, ap, ◌∙◌, arith, length-append}
 use Rattle.crp_row.specs.Symbol.{CutR}
 use Rattle.crp_row.specs.declared.kind.Kind.TheVariants as kind
 use Rattle.crp_row.specs.Rows.{Row, symbols_of, texts_in}

@@ -1,0 +1,5 @@
+pub mod Digits
+pub mod Bracketed
+pub mod Begun
+pub mod Onward
+pub mod Worked
