@@ -7,10 +7,11 @@ use Rattle.clap.specs.Words.{IsAmong, Row, Text, fault_of, first_of, one_of, sub
 use Rattle.clap.specs.Faults.{walk_fault, defaults_fault, flags_fault}
 use Rattle.clap.specs.Walk.{walked, bundle_met}
 use Rattle.clap.specs.declared.error.kind.ErrorKind.TheVariants as kind
+use Rattle.clap.specs.declared.parser.matches.ValueSource.TheVariants.{CommandLine, DefaultValue}
 use Rattle.crp_report.specs.declared.fault.Fault.TheVariants as run
 use Rattle.crp_report.specs.declared.status.Status.{Status}
 use Rattle.crp_report.specs.Runs.{SourceSeen, SinkSeen}
-use Rattle.crp_solve.specs.declared.settings.TheConstants.{MAX_BUDGET, MAX_BEAM}
+use Rattle.crp_solve.specs.declared.settings.TheConstants.{MAX_BUDGET, MAX_BEAM, MAX_THIN}
 use Rattle.crp_jobs.specs.declared.job.Job.{Job}
 use Rattle.crp_jobs.specs.declared.job.Job.TheVariants.{OneFile, Audit, Follow, Solve}
 use Rattle.crp_jobs.specs.declared.job.FileCommand.TheVariants as command
@@ -28,8 +29,8 @@ use Rattle.crp_words.specs.declared.usage.Usage.TheVariants as usage
 use Rattle.crp_words.specs.Commands.{crp}
 use Rattle.crp_words.specs.Endings.{ProgramEnds, UsageEnds}
 use Rattle.crp_words.specs.Links.{IsLinked}
-use Rattle.crp_words.specs.Words.{HasNumber, HasNumberBeyond, Refuses, WordsAsk, WordsHaveFault, IsWordsOrMemory, IsSolveFault, FindsRowHeights, MayFindHeights, heights_or, words_or_default}
-use Rattle.crp_callers.specs.AskedFor.{HasHeights, IsOfSetting}
+use Rattle.crp_words.specs.Words.{HasBeam, HasNumber, HasNumberBeyond, HasThin, IsGivenByWords, Refuses, WordsAsk, WordsHaveFault, IsWordsOrMemory, IsSolveFault, FindsRowHeights, MayFindHeights, heights_or, value_source_of, words_or_default}
+use Rattle.crp_callers.specs.AskedFor.{HasHeights, IsOfSetting, IsStrongSearch}
 use Rattle.crp_callers.proofs.Reporting.{command_reported}
 
 -- ---- statuses
@@ -189,7 +190,7 @@ linked_ends words seen errors status are one ends = ends_linked seen errors stat
 
 abbrev pub limit_words : List Text
 limit_words = codes "solve" ∷ codes "yard" ∷ codes "orders" ∷ codes "--rows" ∷ codes "12" ∷ codes "--tiers" ∷ codes "8" ∷ codes "--workers" ∷ codes "64" ∷ codes "--split"
-    ∷ codes "8" ∷ codes "--beam" ∷ codes "10000" ∷ codes "--budget" ∷ codes "1099511627776" ∷ []
+    ∷ codes "8" ∷ codes "--beam" ∷ codes "10000" ∷ codes "--thin" ∷ codes "1000000" ∷ codes "--budget" ∷ codes "1099511627776" ∷ []
 
 record AtLimits (found : List Row) : Type 0 where
   rows : one_of (codes "rows") found ≡ Some (codes "12")
@@ -198,6 +199,7 @@ record AtLimits (found : List Row) : Type 0 where
   workers : one_of (codes "workers") found ≡ Some (codes "64")
   split : one_of (codes "split") found ≡ Some (codes "8")
   beam : one_of (codes "beam") found ≡ Some (codes "10000")
+  thin : one_of (codes "thin") found ≡ Some (codes "1000000")
   budget : one_of (codes "budget") found ≡ Some (codes "1099511627776")
 
 heights_at : (found : List Row) (heights : List ℕ) → AtLimits found → FindsRowHeights found heights → heights ≡ replicate 12 8
@@ -217,7 +219,8 @@ no_fault_at : (found : List Row) → AtLimits found → (f : SettingFault) → I
 no_fault_at found at setting.Workers (inl is) = not_beyond (codes "workers") 1 64 found (codes "64") at.workers (lit≤ tt) (lit≤ tt) is
 no_fault_at found at setting.Budget (inl is) = not_beyond (codes "budget") 0 MAX_BUDGET found (codes "1099511627776") at.budget (lit≤ tt) (lit≤ tt) is.1
 no_fault_at found at setting.Split (inl is) = not_beyond (codes "split") 0 8 found (codes "8") at.split (lit≤ tt) (lit≤ tt) is.2
-no_fault_at found at setting.Beam (inl is) = not_beyond (codes "beam") 0 MAX_BEAM found (codes "10000") at.beam (lit≤ tt) (lit≤ tt) is.3
+no_fault_at found at setting.Beam (inl is) = not_beyond (codes "beam") 0 MAX_BEAM found (codes "10000") at.beam (lit≤ tt) (lit≤ tt) is.3.1
+no_fault_at found at setting.Thin (inl is) = not_beyond (codes "thin") 0 MAX_THIN found (codes "1000000") at.thin (lit≤ tt) (lit≤ tt) is.4.1
 no_fault_at found at setting.Rows (inl is) = is
 no_fault_at found at setting.Tiers (inl is) = is
 no_fault_at found at setting.Heights (inl is) = is
@@ -225,6 +228,7 @@ no_fault_at found at setting.Workers (inr (searched, is)) = is
 no_fault_at found at setting.Budget (inr (searched, is)) = is
 no_fault_at found at setting.Split (inr (searched, is)) = is
 no_fault_at found at setting.Beam (inr (searched, is)) = is
+no_fault_at found at setting.Thin (inr (searched, is)) = is
 no_fault_at found at setting.Rows (inr (searched, is)) = not_beyond (codes "rows") 1 12 found (codes "12") at.rows (lit≤ tt) (lit≤ tt) is
 no_fault_at found at setting.Tiers (inr (searched, is)) = not_beyond (codes "tiers") 1 8 found (codes "8") at.tiers (lit≤ tt) (lit≤ tt) is.1
 no_fault_at found at setting.Heights (inr (searched, is)) =
@@ -234,7 +238,7 @@ no_fault_at found at setting.Heights (inr (searched, is)) =
 pub limits_ask : (j : Job) → WordsAsk limit_words j → HasHeights (replicate 12 8) j
 unfolding walk_fault defaults_fault flags_fault walked bundle_met
 limits_ask (Solve names settings quiet progress) (free, (name, size, twice, files, has, a, b)) =
-    heights_at _ settings.input.heights (record { rows = refl; tiers = refl; heights = refl; workers = refl; split = refl; beam = refl; budget = refl }) has.1.0
+    heights_at _ settings.input.heights (record { rows = refl; tiers = refl; heights = refl; workers = refl; split = refl; beam = refl; thin = refl; budget = refl }) has.1.0
 limits_ask (OneFile file command.Replay) (free, (name, is)) = absurd (other_letter 115 114 _ _ refl name)
 limits_ask (OneFile file command.Bound) (free, (name, is)) = absurd (other_letter 115 98 _ _ refl name)
 limits_ask (OneFile file command.Check) (free, (name, is)) = absurd (other_letter 115 99 _ _ refl name)
@@ -251,7 +255,7 @@ limits_have_no_fault : (f : SettingFault) → WordsHaveFault limit_words f → �
 unfolding walk_fault defaults_fault flags_fault walked bundle_met
 limits_have_no_fault f (free, inl is) = absurd (other_letter 115 112 _ _ refl is.0)
 limits_have_no_fault f (free, inr (inl is)) =
-    no_fault_at (rows_in (subcommand_of crp (words_or_default limit_words))) (record { rows = refl; tiers = refl; heights = refl; workers = refl; split = refl; beam = refl; budget = refl }) f is.1.2
+    no_fault_at (rows_in (subcommand_of crp (words_or_default limit_words))) (record { rows = refl; tiers = refl; heights = refl; workers = refl; split = refl; beam = refl; thin = refl; budget = refl }) f is.1.2
 limits_have_no_fault f (free, inr (inr (inl is))) = absurd (other_letter 115 97 _ _ refl is.0)
 limits_have_no_fault f (free, inr (inr (inr is))) = absurd (other_letter 115 102 _ _ refl is.0)
 
@@ -261,3 +265,36 @@ limits_refused (usage.Wrong (mistake.Setting f)) (none, shows, is) of = limits_h
 limits_refused (usage.Wrong (mistake.Words text)) refuses of = of
 limits_refused (usage.Help text) refuses of = of
 limits_refused usage.Memory refuses of = of
+
+-- ---- `prove - --strong --beam 7`
+
+abbrev pub strong_words : List Text
+strong_words = codes "prove" ∷ codes "-" ∷ codes "--strong" ∷ codes "--beam" ∷ codes "7" ∷ []
+
+record IsStrongWith (found : List Row) : Type 0 where
+  strong : IsGivenByWords (codes "strong") found
+  beam_given : IsGivenByWords (codes "beam") found
+  beam : one_of (codes "beam") found ≡ Some (codes "7")
+  thin : value_source_of (codes "thin") found ≡ Some DefaultValue
+
+strong_beam : (found : List Row) → IsStrongWith found → (n : ℕ) → HasBeam found n → n ≡ 7
+strong_beam found at n (inl (left, is)) = absurd (left.1 at.beam_given)
+strong_beam found at n (inr (own, within)) = one_number (codes "beam") found (codes "7") n at.beam within.0
+
+strong_thin : (found : List Row) → IsStrongWith found → (n : ℕ) → HasThin found n → n ≡ 10000
+strong_thin found at n (inl (left, is)) = is
+strong_thin found at n (inr (own, within)) =
+    absurd (own (at.strong, λ given. let e : Some DefaultValue ≡ Some CommandLine = sym at.thin ∙ given in absurd (cc)))
+
+-- the beam is the one that is given, and all else that of --strong
+pub strong_asks : (j : Job) → WordsAsk strong_words j → IsStrongSearch 7 j
+unfolding walk_fault defaults_fault flags_fault walked bundle_met
+strong_asks (OneFile file (command.Prove settings)) (free, ((name, (workers, budget, split, beam, thin, (first, deepen, chains))), is)) =
+    let at : IsStrongWith (rows_in (subcommand_of crp (words_or_default strong_words))) = record { strong = refl; beam_given = refl; beam = refl; thin = refl } in
+    (strong_beam _ at settings.beam beam, strong_thin _ at settings.thin thin, deepen.1 (inr at.strong), chains.1 (inr at.strong))
+strong_asks (OneFile file command.Replay) (free, (name, is)) = absurd (other_letter 112 114 _ _ refl name)
+strong_asks (OneFile file command.Bound) (free, (name, is)) = absurd (other_letter 112 98 _ _ refl name)
+strong_asks (OneFile file command.Check) (free, (name, is)) = absurd (other_letter 112 99 _ _ refl name)
+strong_asks (Audit names settings) (free, (name, size, files, has)) = absurd (other_letter 112 97 _ _ refl name)
+strong_asks (Follow names settings) (free, (name, size, ordered, twice, files, has)) = absurd (other_letter 112 102 _ _ refl name)
+strong_asks (Solve names settings quiet progress) (free, (name, size, twice, files, has, a, b)) = absurd (other_letter 112 115 _ _ refl name)

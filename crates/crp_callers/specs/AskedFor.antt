@@ -1,7 +1,8 @@
 -- What words ask for, and why they are refused.
-use Rattle.std.specs.Prelude.{◌≡◌, ℕ, List}
+use Rattle.std.specs.Prelude.{◌≡◌, ℕ, IsTrue, List}
 use Rattle.crp_jobs.specs.declared.job.Job.{Job}
 use Rattle.crp_jobs.specs.declared.job.Job.TheVariants.{OneFile, Audit, Follow, Solve}
+use Rattle.crp_jobs.specs.declared.job.FileCommand.TheVariants.{Replay, Bound, Check, Prove}
 use Rattle.crp_words.specs.declared.usage.Mistake.TheVariants as mistake
 use Rattle.crp_words.specs.declared.usage.Usage.{Usage}
 use Rattle.crp_words.specs.declared.usage.Usage.TheVariants.{Help, Wrong, Memory}
@@ -12,6 +13,16 @@ HasHeights heights (Solve names settings quiet progress) = settings.input.height
 HasHeights heights (OneFile file command) = ⊥
 HasHeights heights (Audit names settings) = ⊥
 HasHeights heights (Follow names settings) = ⊥
+
+-- the job is a search that begins with a beam of this width; chains and up to 10000 thinned branches may close a position, and its limit rises
+abbrev pub IsStrongSearch : ℕ → Job → Type 0
+IsStrongSearch width (OneFile file (Prove search)) = (search.beam ≡ width) × (search.thin ≡ 10000) × IsTrue search.deepen × IsTrue search.chains
+IsStrongSearch width (OneFile file Replay) = ⊥
+IsStrongSearch width (OneFile file Bound) = ⊥
+IsStrongSearch width (OneFile file Check) = ⊥
+IsStrongSearch width (Audit names settings) = ⊥
+IsStrongSearch width (Follow names settings) = ⊥
+IsStrongSearch width (Solve names settings quiet progress) = ⊥
 
 -- the words are refused for a setting
 abbrev pub IsOfSetting : Usage → Type 0

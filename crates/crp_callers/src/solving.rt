@@ -7,7 +7,7 @@ ghost use Rattle.crp_tree.specs.Trees.{value, least_through};
 ghost use Rattle.crp_tree.specs.Parts.{Certificate, cuts_in, branches_in};
 ghost use Rattle.crp_search.specs.Greedy.{IsGreedyPath};
 ghost use Rattle.crp_solve.specs.Chosen.{Chosen};
-ghost use Rattle.crp_solve.specs.Answers.{path_in, plan_of, best_of, cert_of, count_of, IsPlanOf, SaysTrue, IsTrueAnswer};
+ghost use Rattle.crp_solve.specs.Answers.{path_in, plan_of, best_of, cert_of, count_of, IsPlanOf, SaysTrue, IsTrueAnswer, EachIsBranch};
 
 use crp_plan::{Move, Plan, Problem};
 use crp_solve::{
@@ -107,6 +107,19 @@ pub fn best_met(alloc: Global, problem: &Problem, settings: Settings) -> Result<
     ensures { IfOk result (λ solved. (lower : ℕ) (cert : Certificate) (plan : Option ProblemPath)
         → solved.answer ≡ Answer.Between lower cert plan Cause.Budget
         → All (λ part. All (λ cut. IsFinished cut.place → count_of problem.now (path_in plan) ≤ value cut) (cuts_in part)) cert.parts) }
+{
+    solve_alone(alloc, problem, settings)
+}
+
+/// Where one search is made, without thinned branches, each expansion is a branch of the certificate.
+pub fn each_is_branch(
+    alloc: Global,
+    problem: &Problem,
+    settings: Settings,
+) -> Result<Solved, AllocError>
+    requires one_search { settings.deepen ≡ false }
+    requires plain { settings.thin ≡ 0 }
+    ensures { IfOk result (λ solved. EachIsBranch solved.answer solved.expanded) }
 {
     solve_alone(alloc, problem, settings)
 }

@@ -1,7 +1,7 @@
 //! Callers of the command line, by worked words.
 ghost use Rattle.std.specs.Prelude.{◌≡◌, ◌⊎◌, Some, true, codes, replicate, IfOk, IfErr, IfSome};
 ghost use Rattle.crp_commands.specs.Check.{IsCheck};
-ghost use Rattle.crp_callers.specs.AskedFor.{HasHeights, IsOfSetting};
+ghost use Rattle.crp_callers.specs.AskedFor.{HasHeights, IsOfSetting, IsStrongSearch};
 
 use crp_commands::Terminal;
 use crp_jobs::{Files, Job};
@@ -18,7 +18,7 @@ static CHECK: [&str; 2] = ["check", "-"];
 static SOLVE_TO: [&str; 5] = ["solve", "yard", "orders", "--cert", "proofs"];
 
 // Each number at its limit.
-static AT_LIMITS: [&str; 15] = [
+static AT_LIMITS: [&str; 17] = [
     "solve",
     "yard",
     "orders",
@@ -32,9 +32,14 @@ static AT_LIMITS: [&str; 15] = [
     "8",
     "--beam",
     "10000",
+    "--thin",
+    "1000000",
     "--budget",
     "1099511627776",
 ];
+
+// A strong search that begins with a beam of its own.
+static STRONG: [&str; 5] = ["prove", "-", "--strong", "--beam", "7"];
 
 /// The words `check -` end with status 0 only where all certificates of the standard input are accepted; and then the lines of all of them
 /// stand on the standard output.
@@ -93,4 +98,11 @@ pub fn job_at_limits(alloc: Global) -> Result<Job<'static>, Usage>
     ensures within { IfErr result (λ usage. ¬ IsOfSetting usage) }
 {
     job(alloc, AT_LIMITS.as_slice())
+}
+
+/// Words with `--strong` and a beam ask for a search with this beam, and in all else for that of `--strong`.
+pub fn job_of_strong(alloc: Global) -> Result<Job<'static>, Usage>
+    ensures { IfOk result (IsStrongSearch 7) }
+{
+    job(alloc, STRONG.as_slice())
 }

@@ -15,7 +15,7 @@ pub fn played(
     alloc: Global,
     problem: &Problem,
     workers: u32,
-    events: &[Event],
+    events: &[Event<'_>],
 ) -> Result<World, AllocError>
     requires { 1 ≤ workers }
     ensures kept { IfOk result IsKeptWorld }
@@ -33,7 +33,7 @@ pub fn played_twice(
     alloc: Global,
     problem: &Problem,
     workers: u32,
-    events: &[Event],
+    events: &[Event<'_>],
 ) -> Result<(World, World), AllocError>
     requires { 1 ≤ workers }
     ensures { IfOk result (λ worlds. worlds.0 ≡ worlds.1) }

@@ -12,6 +12,8 @@ pub struct Key {
     pub start: u64,
     /// How many expansions may be claimed.
     pub budget: u64,
+    /// How many thinned branches may be tried at a node, each of which is claimed too.
+    pub thin: u32,
 }
 
 /// What the table keeps of each seat: its view, beside a copy of the key. No value of it is made.
@@ -28,6 +30,7 @@ pub(crate) struct Opening {
     pub(crate) problem: Snapshot<Problem>,
     pub(crate) start: u64,
     pub(crate) budget: u64,
+    pub(crate) thin: u32,
 }
 
 /// The rule that holds between any two steps.

@@ -55,15 +55,16 @@ pub struct Totals {
 }
 
 impl Shared {
-    /// The words as a search begins, and the seat that has all shares.
+    /// The words as a search begins, and the seat that has all shares. How many thinned branches may be tried at a node is kept for those who count claims.
     pub fn open(
         alloc: Global,
         problem: &Problem,
         start: u32,
         budget: u64,
+        thin: u32,
     ) -> Result<(Shared, Seat), AllocError>
         requires { budget ≤ most_budget }
-        ensures shared { IfOk result (λ r. r.0.key ≡ record { problem = problem.now; start = start; budget = budget }) }
+        ensures shared { IfOk result (λ r. r.0.key ≡ record { problem = problem.now; start = start; budget = budget; thin = thin }) }
         ensures seat { IfOk result (λ r. r.1 ≡ record { of = r.0; view = first_view start }) }
     {
         let start = u64::from(start);
@@ -71,6 +72,7 @@ impl Shared {
             problem: Snapshot::of(problem),
             start,
             budget,
+            thin,
         };
         let mut words = [0; WORDS];
         words[LIMIT] = start;

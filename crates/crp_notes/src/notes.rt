@@ -22,7 +22,7 @@ use edi_text::Segments;
 use std::alloc::Global;
 
 const BUDGET: &[u8] =
-    b"its budget was spent: a larger --budget decides more, more --workers are faster, and --beam 100 with --deepen helps in large bays";
+    b"its budget was spent: a larger --budget decides more, more --workers are faster, and --strong helps in large bays";
 
 const MEMORY: &[u8] = b"memory ran out: close other programs, or use a machine with more memory";
 

@@ -75,6 +75,7 @@ impl Row {
     }
 
     /// Adds a symbol, with a copy of this text if it has one.
+    #[inline]
     pub fn push(&mut self, kind: Kind, text: &[u8]) -> Result<(), AllocError>
         ensures symbols { OnOk result (self.new.symbols ≡ self.old.symbols ++ symbol_of kind text.now ∷ []) }
         ensures same { OnErr result (self.new.symbols ≡ self.old.symbols) }

@@ -3,7 +3,8 @@ use Rattle.std.proofs.Common.{◌≡◌, ℕ, ◌+◌, ◌<◌, ◌≤◌, min, 
 use Rattle.crp_plan.specs.Bay.{Position}
 use Rattle.crp_bounds.specs.Bounds.{blocking, look_ahead}
 use Rattle.crp_tree.specs.Mark.{B, X}
-use Rattle.crp_row.specs.declared.kind.Kind.TheVariants.{CutB, CutL}
+use Rattle.crp_row.specs.Reasons.{AreReasons}
+use Rattle.crp_row.specs.declared.kind.Kind.TheVariants.{CutB, CutL, CutR}
 use Rattle.crp_tree.specs.Trees.{Node, cuts, value, least, least_value}
 use Rattle.crp_tree.proofs.Shown.{least_most}
 use Rattle.crp_tree.proofs.Joined.{least_value-append}
@@ -36,24 +37,28 @@ floor_more most floor low met own is lower =
 -- ---- how a node closes
 
 -- by the blocking bound
-pub closed_b : (floor low : ℕ) (path : List ℕ) (s : Position) → low ≡ length path + blocking s → IsLeafAt 0 floor path s (record { kind = CutB; floor = min low floor })
-closed_b floor low path s e = record { plain = refl; leaf_is = tt; given = λ away. absurd away; floor_is = ap (λ v. min v floor) e }
+pub closed_b : (floor low : ℕ) (path : List ℕ) (s : Position) (text : List ℕ) → low ≡ length path + blocking s → IsLeafAt 0 floor path s text (record { kind = CutB; floor = min low floor })
+closed_b floor low path s text e = record { leaf_is = tt; fits = tt; given = λ away. absurd away; floor_is = ap (λ v. min v floor) e }
 
 -- by the look-ahead bound
-pub closed_l : (floor high : ℕ) (path : List ℕ) (s : Position) → high ≡ length path + look_ahead s → IsLeafAt 0 floor path s (record { kind = CutL; floor = min high floor })
-closed_l floor high path s e = record { plain = refl; leaf_is = tt; given = λ away. absurd away; floor_is = ap (λ v. min v floor) e }
+pub closed_l : (floor high : ℕ) (path : List ℕ) (s : Position) (text : List ℕ) → high ≡ length path + look_ahead s → IsLeafAt 0 floor path s text (record { kind = CutL; floor = min high floor })
+closed_l floor high path s text e = record { leaf_is = tt; fits = tt; given = λ away. absurd away; floor_is = ap (λ v. min v floor) e }
+
+-- by reasons
+pub closed_r : (floor high bound : ℕ) (path : List ℕ) (s : Position) (text : List ℕ) → AreReasons bound text → high ≡ length path + bound → IsLeafAt 0 floor path s text (record { kind = CutR bound; floor = min high floor })
+closed_r floor high bound path s text spelled e = record { leaf_is = tt; fits = spelled; given = λ away. absurd away; floor_is = ap (λ v. min v floor) e }
 
 -- as it does once no node was met before, and where more may be given away
 pub closes_from : {A : Type 0} {Meets : ℕ → A → Dealings → A → Dealings → List Node → Type 0} {Ends : ℕ → A → Dealings → A → Dealings → List Node → WalkEnd → Type 0} {a b c : A} {d e f : Dealings}
-    {floor : ℕ} {path : List ℕ} {s : Position} (more : ℕ) (result : Result (Option Closed) WalkEnd) → Closes Meets Ends b e c f 0 floor path s result →
+    {floor : ℕ} {path : List ℕ} {s : Position} {text : List ℕ} (more : ℕ) (result : Result (Option Closed) WalkEnd) → Closes Meets Ends b e c f 0 floor path s text result →
     ((rows : ℕ) (met : List Node) → Meets rows b e c f met → Meets rows a d c f met) → ((rows : ℕ) (end : WalkEnd) → Ends rows b e c f [] end → Ends rows a d c f [] end) →
-    Closes Meets Ends a d c f more floor path s result
+    Closes Meets Ends a d c f more floor path s text result
 closes_from more (Err end) h on ends = record { met = tt; closed = tt; ended = λ rows _. ends rows end (h.ended rows (omega arith)) }
-closes_from {path} {s} more (Ok None) h on ends = record { met = λ rows _. on rows (met_at path s None) (h.met rows (omega arith)); closed = tt; ended = tt }
-closes_from {path} {s} more (Ok (Some closed)) h on ends =
+closes_from {path} {s} {text} more (Ok None) h on ends = record { met = λ rows _. on rows (met_at path s text None) (h.met rows (omega arith)); closed = tt; ended = tt }
+closes_from {path} {s} {text} more (Ok (Some closed)) h on ends =
     let leaf = h.closed in
     record {
-      met = λ rows _. on rows (met_at path s (Some closed)) (h.met rows (omega arith));
-      closed = record { plain = leaf.plain; leaf_is = leaf.leaf_is; given = λ away. let none = leaf.given away in absurd (omega arith); floor_is = leaf.floor_is };
+      met = λ rows _. on rows (met_at path s text (Some closed)) (h.met rows (omega arith));
+      closed = record { leaf_is = leaf.leaf_is; fits = leaf.fits; given = λ away. let none = leaf.given away in absurd (omega arith); floor_is = leaf.floor_is };
       ended = tt;
     }

@@ -1,4 +1,5 @@
 pub mod Rule
+pub mod Claiming
 pub mod Choice
 pub mod Greedily
 pub mod GreedyKnown

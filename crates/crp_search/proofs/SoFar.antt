@@ -8,9 +8,12 @@ use Rattle.crp_tree.specs.Mark.{Mark, B, L, R, X, G}
 use Rattle.crp_tree.specs.Trees.{Node, is_cut, is_branch, cuts, branches, given_names, bound_by, value, MayStand, IsInPlace}
 use Rattle.crp_bay.proofs.Members.{from_filter}
 use Rattle.crp_tree.proofs.InLine.{from_members}
+use Rattle.crp_search.specs.declared.reasons.Way.{Way}
+use Rattle.crp_search.specs.declared.reasons.Way.TheVariants.{Closed, Granted, Refused}
 use Rattle.crp_search.specs.Limits.{Advances, Dealings}
-use Rattle.crp_search.specs.Meeting.{along_falls}
-use Rattle.crp_search.specs.Searched.{Suffices, NeedsLookAhead, IsBelow, IsHeld, AreHeldAlong, IsShort, IsMet, IsSearchedSoFar}
+use Rattle.crp_search.specs.Tries.{OnlyGranted, LastRefused, GoesOn}
+use Rattle.crp_search.specs.Meeting.{along_falls, held_refused}
+use Rattle.crp_search.specs.Searched.{Suffices, NeedsLookAhead, IsBelow, IsHeld, IsOnWay, Grants, AreHeldAlong, IsShort, IsMet, IsSearchedSoFar}
 
 -- ---- what was met
 
@@ -22,25 +25,42 @@ cut_alone path s (R bound text) cut = (refl, refl)
 cut_alone path s X cut = absurd (cc)
 cut_alone path s G cut = absurd (cc)
 
--- it is met while nothing is granted or put
-pub met_cut : (split : ℕ) (d e : Dealings) (node : Node) → is_cut node.mark ≡ true → IsInPlace node → e.view.granted ≡ d.view.granted → e.puts ≡ d.puts → IsMet split d e (node ∷ [])
-met_cut split d e node cut stands granted puts =
+-- a branch is one, and gives nothing away
+branch_alone : (path : List ℕ) (s : Position) (mark : Mark) → mark ≡ X → (branches (record { path = path; place = s; mark = mark } ∷ []) ≡ record { path = path; place = s; mark = mark } ∷ []) × (given_names (record { path = path; place = s; mark = mark } ∷ []) ≡ [])
+branch_alone path s mark is = rw is (refl, refl)
+
+-- a cut is met while nothing is granted but for thinned branches, and nothing is put
+pub met_cut : (split most : ℕ) (d e : Dealings) (node : Node) → is_cut node.mark ≡ true → IsInPlace node → Grants most d.view.granted 0 e.view.granted → e.puts ≡ d.puts → IsMet split most d e (node ∷ [])
+met_cut split most d e node cut stands granted puts =
     let alone = cut_alone node.path node.place node.mark cut in
     record {
       in_place = All-cons IsInPlace node [] stands (All-nil IsInPlace);
-      grants = omega (arith, granted, ap length alone.0);
+      grants = subst (λ n. Grants most d.view.granted n e.view.granted) (sym (ap length alone.0)) granted;
       puts = puts ∙ sym (append-nil d.puts) ∙ ap (λ l. d.puts ++ l) (sym alone.1);
       short = All-same (IsShort split) _ _ alone.1 (All-nil (IsShort split));
     }
 
--- a branch while one claim is granted
-pub met_branch : (split : ℕ) (d e : Dealings) (path : List ℕ) (s : Position) → s.next ≤ s.ordered → e.view.granted ≡ d.view.granted + 1 → e.puts ≡ d.puts → IsMet split d e (record { path = path; place = s; mark = X } ∷ [])
-met_branch split d e path s unfinished granted puts = record {
-  in_place = All-cons IsInPlace (record { path = path; place = s; mark = X }) [] unfinished (All-nil IsInPlace);
-  grants = granted;
-  puts = puts ∙ sym (append-nil d.puts);
-  short = All-nil (IsShort split);
-}
+-- a branch while one claim more is granted
+pub met_branch : (split most : ℕ) (d e : Dealings) (node : Node) → node.mark ≡ X → IsInPlace node → Grants most d.view.granted 1 e.view.granted → e.puts ≡ d.puts → IsMet split most d e (node ∷ [])
+met_branch split most d e node branch stands granted puts =
+    let alone = branch_alone node.path node.place node.mark branch in
+    record {
+      in_place = All-cons IsInPlace node [] stands (All-nil IsInPlace);
+      grants = subst (λ n. Grants most d.view.granted n e.view.granted) (sym (ap length alone.0)) granted;
+      puts = puts ∙ sym (append-nil d.puts) ∙ ap (λ l. d.puts ++ l) (sym alone.1);
+      short = All-same (IsShort split) _ _ alone.1 (All-nil (IsShort split));
+    }
+
+-- where nothing is granted
+pub none_granted : (most old new : ℕ) → new ≡ old → Grants most old 0 new
+none_granted most old new same = record { enough = omega arith; alone = λ none. omega arith }
+
+-- what is granted on a way on
+pub on_granted : (expansions most : ℕ) (v w : View) → OnlyGranted expansions most v w → Grants most v.granted expansions w.granted
+on_granted expansions most v w k = record { enough = k.enough; alone = λ none. let few = k.few in omega arith }
+
+pub refused_granted : (most : ℕ) (v w : View) → LastRefused most v w → Grants most v.granted 0 w.granted
+refused_granted most v w k = record { enough = let le = k.enough in omega arith; alone = λ none. let few = k.few in omega arith }
 
 -- ---- what sufficed meanwhile
 
@@ -87,24 +107,15 @@ branches_below refused from to met h =
     (λ n branch k. let below = (k.3).below (branch_is n.mark branch) in let high = k.1 in omega arith)
     (along_each refused from to met h)
 
--- ---- steps of a worker
-
--- one that is refused is counted, unless one was refused before, and does nothing else
-pub record IsRefused (v w : View) : Type 0 where
-  pub some : 0 < w.refused
-  pub no_less : v.refused ≤ w.refused
-  pub one_more : w.refused ≤ v.refused + 1
-  pub only : w ≡ record v { refused = w.refused }
-
 -- ---- as the search holds it
 
 -- a finished path's plan is offered
-pub offer_met : (p : Problem) (split : ℕ) (d e : Dealings) (path : List ℕ) (node : Node) → e.view.seen ≤ length path → Advances p d.view e.view → e.view.granted ≡ d.view.granted → e.puts ≡ d.puts → node.path ≡ path → node.mark ≡ B → IsSearchedSoFar p split d e (node ∷ [])
-offer_met p split d e path node seen on granted puts here mark =
+pub offer_met : (p : Problem) (split most : ℕ) (d e : Dealings) (path : List ℕ) (node : Node) → e.view.seen ≤ length path → Advances p d.view e.view → e.view.granted ≡ d.view.granted → e.puts ≡ d.puts → node.path ≡ path → node.mark ≡ B → IsSearchedSoFar p split most d e (node ∷ [])
+offer_met p split most d e path node seen on granted puts here mark =
     let low = on.seen in
     let own : value node ≡ length path + blocking node.place = ap (λ m. length node.path + bound_by m node.place) mark ∙ ap (λ l. length l + blocking node.place) here in
     record {
-      dealings = met_cut split d e node (ap is_cut mark) (subst (λ m. MayStand m node.path node.place) (sym mark) tt) granted puts;
+      dealings = met_cut split most d e node (ap is_cut mark) (subst (λ m. MayStand m node.path node.place) (sym mark) tt) (none_granted most d.view.granted e.view.granted granted) puts;
       advances = on;
       along = (
         e.view.seen,
@@ -117,3 +128,79 @@ offer_met p split d e path node seen on granted puts here mark =
         omega arith,
       );
     }
+
+-- ---- the node where it goes on
+
+cut_held : (bar : ℕ) (node : Node) → is_cut node.mark ≡ true → bar ≤ value node → NeedsLookAhead bar node → IsHeld 0 bar node
+cut_held bar node cut reaches needed = record { closed = λ _. inl reaches; needed = needed; below = λ branch. absurd (let no : is_cut X ≡ true = ap is_cut (sym branch) ∙ cut in cc) }
+
+branch_held : (bar : ℕ) (node : Node) → node.mark ≡ X → IsBelow bar node → IsHeld 0 bar node
+branch_held bar node branch low = record {
+  closed = λ cut. absurd (let no : is_cut X ≡ true = ap is_cut (sym branch) ∙ cut in cc);
+  needed = λ ahead. absurd (let no : X ≡ L = sym branch ∙ ahead in cc);
+  below = λ _. low;
+}
+
+-- what holds of it where no claim was refused
+pub way_held : (bar : ℕ) (way : Way) (node : Node) → IsOnWay way bar node → (way ≡ Refused → ⊥) → IsHeld 0 bar node
+way_held bar (Closed bound) node h granted = cut_held bar node h.0 h.1 h.2
+way_held bar Granted node h granted = branch_held bar node h.0 h.1
+way_held bar Refused node h granted = absurd (granted refl)
+
+-- and what was met
+pub way_met : (split most : ℕ) (way : Way) (bar : ℕ) (d e : Dealings) (node : Node) → GoesOn most way d.view e.view → e.puts ≡ d.puts → IsInPlace node → IsOnWay way bar node → IsMet split most d e (node ∷ [])
+way_met split most (Closed bound) bar d e node k puts stands h = met_cut split most d e node h.0 stands (on_granted 0 most d.view e.view k) puts
+way_met split most Granted bar d e node k puts stands h = met_branch split most d e node h.0 stands (on_granted 1 most d.view e.view k) puts
+way_met split most Refused bar d e node k puts stands h = met_cut split most d e node h.0 stands (refused_granted most d.view e.view k) puts
+
+-- claims alone keep what was seen and offered
+only_advances : (p : Problem) (expansions most : ℕ) (v w : View) → OnlyGranted expansions most v w → Advances p v w
+only_advances p expansions most v w k =
+    let enough = k.enough in
+    let seen : w.seen ≡ v.seen = ap (λ (x : View). x.seen) k.only in
+    let mine : w.mine ≡ v.mine = ap (λ (x : View). x.mine) k.only in
+    let refused : w.refused ≡ v.refused = ap (λ (x : View). x.refused) k.only in
+    record { seen = omega arith; mine = omega arith; offered = inl mine; granted = omega arith; refused = omega arith; share = ap (λ (x : View). x.share) k.only }
+
+refused_advances : (p : Problem) (most : ℕ) (v w : View) → LastRefused most v w → Advances p v w
+refused_advances p most v w k =
+    let enough = k.enough in
+    let no_less = k.no_less in
+    let seen : w.seen ≡ v.seen = ap (λ (x : View). x.seen) k.only in
+    let mine : w.mine ≡ v.mine = ap (λ (x : View). x.mine) k.only in
+    record { seen = omega arith; mine = omega arith; offered = inl mine; granted = enough; refused = no_less; share = ap (λ (x : View). x.share) k.only }
+
+-- so a search for the fewest relocations meets the node
+held_along : (bar refused : ℕ) (node : Node) (v w : View) → v.seen ≡ bar → w.seen ≡ bar → w.refused ≡ refused → IsHeld refused bar node → AreHeldAlong w.refused v.seen w.seen (node ∷ [])
+held_along bar refused node v w old new is held = (bar, omega arith, subst (λ r. IsHeld r bar node) (sym is) held, omega arith)
+
+pub go_on_met : (p : Problem) (split most : ℕ) (way : Way) (d e : Dealings) (node : Node) → GoesOn most way d.view e.view → e.puts ≡ d.puts → IsInPlace node → IsOnWay way d.view.seen node → IsSearchedSoFar p split most d e (node ∷ [])
+go_on_met p split most (Closed bound) d e node k puts stands h = record {
+  dealings = way_met split most (Closed bound) d.view.seen d e node k puts stands h;
+  advances = only_advances p 0 most d.view e.view k;
+  along = held_along d.view.seen e.view.refused node d.view e.view refl (ap (λ (x : View). x.seen) k.only) refl (held_refused 0 e.view.refused d.view.seen node (omega arith) (cut_held d.view.seen node h.0 h.1 h.2));
+}
+go_on_met p split most Granted d e node k puts stands h = record {
+  dealings = way_met split most Granted d.view.seen d e node k puts stands h;
+  advances = only_advances p 1 most d.view e.view k;
+  along = held_along d.view.seen e.view.refused node d.view e.view refl (ap (λ (x : View). x.seen) k.only) refl (held_refused 0 e.view.refused d.view.seen node (omega arith) (branch_held d.view.seen node h.0 h.1));
+}
+go_on_met p split most Refused d e node k puts stands h =
+    let held : IsHeld e.view.refused d.view.seen node = record {
+      closed = λ _. inr (k.some, h.1, h.2);
+      needed = h.3;
+      below = λ branch. absurd (let no : is_cut X ≡ true = ap is_cut (sym branch) ∙ h.0 in cc);
+    } in
+    record {
+      dealings = way_met split most Refused d.view.seen d e node k puts stands h;
+      advances = refused_advances p most d.view e.view k;
+      along = held_along d.view.seen e.view.refused node d.view e.view refl (ap (λ (x : View). x.seen) k.only) refl held;
+    }
+
+-- where memory is short it meets nothing
+pub try_met : (p : Problem) (split most : ℕ) (d e : Dealings) → OnlyGranted 0 most d.view e.view → e.puts ≡ d.puts → IsSearchedSoFar p split most d e []
+try_met p split most d e k puts = record {
+  dealings = record { in_place = All-nil IsInPlace; grants = on_granted 0 most d.view e.view k; puts = puts ∙ sym (append-nil d.puts); short = All-nil (IsShort split) };
+  advances = only_advances p 0 most d.view e.view k;
+  along = let seen : e.view.seen ≡ d.view.seen = ap (λ (x : View). x.seen) k.only in omega arith;
+}

@@ -1,5 +1,5 @@
 -- A search on its way over the tree: the symbols of the nodes that it has met, and a frame for each branch between its first node and the one that it has come to.
-use Rattle.std.proofs.Common.{◌≡◌, false, ℕ, suc, ◌<◌, ◌≤◌, List, [], ◌∷◌, ◌++◌, length, drop, Contains, None, refl, sym, ap, ◌∙◌, subst, arith, append_assoc, append-nil, length-append, drop-cons}
+use Rattle.std.proofs.Common.{◌≡◌, ℕ, suc, ◌<◌, ◌≤◌, List, [], ◌∷◌, ◌++◌, length, drop, Contains, None, refl, sym, ap, ◌∙◌, subst, arith, append_assoc, append-nil, length-append, drop-cons}
 use Rattle.std.specs.Prelude.{reverse}
 use Rattle.std.proofs.lemmas.List.{reverse-append, drop_all}
 use Rattle.crp_plan.specs.Bay.{Problem, IsProblem, Position, IsAt}
@@ -9,9 +9,6 @@ use Rattle.crp_bay.specs.Back.{PlaceAndTrail}
 use Rattle.crp_bay.proofs.Walked.{target_goes_on}
 use Rattle.crp_row.specs.Symbol.{Symbol}
 use Rattle.crp_row.specs.Symbol as symbol
-use Rattle.crp_row.specs.declared.kind.Kind.{Kind}
-use Rattle.crp_row.specs.declared.kind.Kind.TheVariants as kind
-use Rattle.crp_row.specs.Rows.{symbol_of, has_text}
 use Rattle.crp_tree.specs.Tree.{Tree, CutB, CutL, CutR, Branch, Given}
 use Rattle.crp_tree.specs.Symbols.{symbols, tree_of, tree_back, IsLeaf, leaf}
 use Rattle.crp_tree.specs.Trees.{Node, nodes, branches, Fits, IsGivenAway}
@@ -100,9 +97,9 @@ turned p first now f g (upper ∷ above) owed row h t =
 -- ---- the walk
 
 -- the first node has a frame
-pub sets_out : (p : Problem) (first : Stand) (f : Frame) (path : List ℕ) (n : ℕ) → IsAt p first.path first.stand.place → path ≡ first.path → f.rows.items ≡ targets first.stand.place → f.done ≡ 0 →
-    n ≡ length f.rows.items → IsUnderWay p first first f [] (symbol.Branch n ∷ []) (met_at path first.stand.place None)
-sets_out p first f path n at here rows done many = subst (λ l. IsUnderWay p first first f [] (symbol.Branch n ∷ []) (met_at l first.stand.place None)) (sym here) (record {
+pub sets_out : (p : Problem) (first : Stand) (f : Frame) (path text : List ℕ) (n : ℕ) → IsAt p first.path first.stand.place → path ≡ first.path → f.rows.items ≡ targets first.stand.place → f.done ≡ 0 →
+    n ≡ length f.rows.items → IsUnderWay p first first f [] (symbol.Branch n ∷ []) (met_at path first.stand.place text None)
+sets_out p first f path text n at here rows done many = subst (λ l. IsUnderWay p first first f [] (symbol.Branch n ∷ []) (met_at l first.stand.place text None)) (sym here) (record {
   owed = spots_below first.path first.stand.place (targets first.stand.place) ++ [];
   walked = walk_more (spot_at first) [] [] (spot_at first) [] (symbol.Branch n) (walk_begins (spot_at first)) (many ∙ ap length rows);
   frames = (
@@ -210,18 +207,18 @@ module _ {p : Problem} {first now : Stand} {f : Frame} {above : List Frame} {lis
         })
 
     -- or it has a frame
-    pub goes_down : (deep : Stand) (fresh : Frame) (path : List ℕ) (n : ℕ) → IsProblem p → path ≡ deep.path → deep.path ≡ now.path ++ row ∷ [] →
+    pub goes_down : (deep : Stand) (fresh : Frame) (path text : List ℕ) (n : ℕ) → IsProblem p → path ≡ deep.path → deep.path ≡ now.path ++ row ∷ [] →
         deep.stand ≡ record { place = child now.stand.place row; trail = now.stand.place ∷ now.stand.trail } → fresh.rows.items ≡ targets deep.stand.place → fresh.done ≡ 0 → n ≡ length fresh.rows.items →
-        IsUnderWay p first deep fresh (g ∷ above) (list ++ symbol.Branch n ∷ []) (met ++ met_at path (child now.stand.place row) None)
-    goes_down deep fresh path n is same deeper stand rows done many =
+        IsUnderWay p first deep fresh (g ∷ above) (list ++ symbol.Branch n ∷ []) (met ++ met_at path (child now.stand.place row) text None)
+    goes_down deep fresh path text n is same deeper stand rows done many =
         let k = turned p first now f g above h.owed row h.frames t in
         let place : deep.stand.place ≡ child now.stand.place row = ap (λ (v : PlaceAndTrail). v.place) stand in
         let spot : spot_below now.path now.stand.place row ≡ spot_at deep =
         ap (λ l. record { path = l; place = child now.stand.place row }) (sym deeper) ∙ ap (λ s. record { path = deep.path; place = s }) (sym place) in
         let owed_is : h.owed ≡ spot_at deep ∷ k.others = k.is ∙ ap (λ x. x ∷ k.others) spot in
         let at : IsAt p deep.path deep.stand.place = subst (IsAt p deep.path) (sym place) (subst (λ l. IsAt p l (child now.stand.place row)) (sym deeper) (turn_leads is)) in
-        let own : met_at deep.path deep.stand.place None ≡ met_at path (child now.stand.place row) None =
-        ap (λ s. met_at deep.path s None) place ∙ ap (λ l. met_at l (child now.stand.place row) None) (sym same) in
+        let own : met_at deep.path deep.stand.place text None ≡ met_at path (child now.stand.place row) text None =
+        ap (λ s. met_at deep.path s text None) place ∙ ap (λ l. met_at l (child now.stand.place row) text None) (sym same) in
         subst (λ l. IsUnderWay p first deep fresh (g ∷ above) (list ++ symbol.Branch n ∷ []) (met ++ l)) own (record {
           owed = spots_below deep.path deep.stand.place (targets deep.stand.place) ++ k.others;
           walked = walk_more (spot_at first) list met (spot_at deep) k.others (symbol.Branch n) (subst (IsWalked (spot_at first) list met) owed_is h.walked) (many ∙ ap length rows);
@@ -251,14 +248,6 @@ ends_as {first} {list} {met} tree end is =
     subst (IsEnd first met) same (record { fits = whole.fits; own = end.own; nodes_are = sym whole.nodes_are })
 
 -- ---- as the loop meets it
-
--- the tree of one symbol without a text fits
-pub plain_fits : (one : Kind) (s : Position) → has_text one ≡ false → IsLeaf (symbol_of one []) → Fits s (leaf (symbol_of one []))
-plain_fits kind.CutB s plain is = tt
-plain_fits kind.CutL s plain is = tt
-plain_fits (kind.CutR bound) s plain is = cc
-plain_fits (kind.Branch n) s plain is = absurd is
-plain_fits kind.Given s plain is = tt
 
 -- the tree of one symbol
 pub leaf_tree : (none list : List Symbol) (tree : Tree) (one : Symbol) → none ≡ [] → list ≡ none ++ one ∷ [] → list ≡ symbols tree → leaf one ≡ tree

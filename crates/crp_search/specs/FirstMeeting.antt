@@ -7,19 +7,20 @@ use Rattle.crp_plan.specs.declared.running.View.{View}
 use Rattle.crp_tree.specs.Trees.{Node}
 use Rattle.crp_search.specs.declared.walk_end.WalkEnd.{WalkEnd}
 use Rattle.crp_search.specs.declared.walk_end.WalkEnd.TheVariants.{Refused, Memory}
+use Rattle.crp_search.specs.declared.reasons.Thinning.{Thinning}
 use Rattle.crp_search.specs.Limits.{Dealings, OnlyGrants}
 use Rattle.crp_search.specs.Searched.{IsHeld, IsMet}
 use Rattle.crp_search.specs.Firsts.{OnlyClaims, EndsAs}
-use Rattle.crp_search.specs.FirstsFound.{need, IsMetAmong, AreHeld, IsFirstSoFar}
+use Rattle.crp_search.specs.FirstsFound.{need, IsMetAmong, AreHeld, SameSearch, IsFirstSoFar}
 use Rattle.crp_search.specs.Meeting.{met_none, met_more}
 
 -- no node yet
-held_none : (p : Problem) (k : ℕ) (plan : Option ProblemPath) → AreHeld p k plan plan []
+pub held_none : (p : Problem) (k : ℕ) (plan : Option ProblemPath) → AreHeld p k plan plan []
 held_none p k None = All-nil (IsHeld 0 (k + 1))
 held_none p k (Some plan) = (refl, All-nil (IsHeld 0 k))
 
 -- one for which no plan is met
-held_one : (p : Problem) (k : ℕ) (plan : Option ProblemPath) (node : Node) → IsHeld 0 (need k plan) node → AreHeld p k plan plan (node ∷ [])
+pub held_one : (p : Problem) (k : ℕ) (plan : Option ProblemPath) (node : Node) → IsHeld 0 (need k plan) node → AreHeld p k plan plan (node ∷ [])
 held_one p k None node h = All-cons (IsHeld 0 (k + 1)) node [] h (All-nil (IsHeld 0 (k + 1)))
 held_one p k (Some plan) node h = (refl, All-cons (IsHeld 0 k) node [] h (All-nil (IsHeld 0 k)))
 
@@ -84,25 +85,36 @@ claims_granted old new only le = record {
 
 -- ---- as the search holds it
 
-pub first_none : (p : Problem) (k split : ℕ) (plan : Option ProblemPath) (d : Dealings) → IsFirstSoFar p k split plan plan d d []
-first_none p k split plan d = record { dealings = met_none split d; claims = claims_none d.view; held = held_none p k plan }
+pub first_none : (p : Problem) (k split most : ℕ) (plan : Option ProblemPath) (d : Dealings) → IsFirstSoFar p k split most plan plan d d []
+first_none p k split most plan d = record { dealings = met_none split most d; claims = claims_none d.view; held = held_none p k plan }
 
-pub first_one : (p : Problem) (k split : ℕ) (plan : Option ProblemPath) (d e : Dealings) (node : Node) → IsMet split d e (node ∷ []) → OnlyGrants d.view e.view → IsHeld 0 (need k plan) node →
-    IsFirstSoFar p k split plan plan d e (node ∷ [])
-first_one p k split plan d e node met only held = record {
+pub first_one : (p : Problem) (k split most : ℕ) (plan : Option ProblemPath) (d e : Dealings) (node : Node) → IsMet split most d e (node ∷ []) → OnlyGrants d.view e.view → IsHeld 0 (need k plan) node →
+    IsFirstSoFar p k split most plan plan d e (node ∷ [])
+first_one p k split most plan d e node met only held = record {
   dealings = met;
-  claims = claims_granted d.view e.view only (let g = met.grants in omega arith);
+  claims = claims_granted d.view e.view only (let g = met.grants in let enough = g.enough in omega arith);
   held = held_one p k plan node held;
 }
 
-pub first_more : (p : Problem) (k j split : ℕ) (a b c : Option ProblemPath) (d e f : Dealings) (xs ys : List Node) → j ≡ k → IsFirstSoFar p k split a b d e xs → IsFirstSoFar p j split b c e f ys → IsFirstSoFar p k split a c d f (xs ++ ys)
-first_more p k j split a b c d e f xs ys same m n =
-    let own = subst (λ i. IsFirstSoFar p i split b c e f ys) same n in
-    record {
-      dealings = met_more split d e f xs ys m.dealings own.dealings;
-      claims = claims_on d.view e.view f.view m.claims own.claims;
-      held = held_append p k a b c xs ys m.held own.held;
-    }
+first_more : (p : Problem) (k split most : ℕ) (a b c : Option ProblemPath) (d e f : Dealings) (xs ys : List Node) → IsFirstSoFar p k split most a b d e xs → IsFirstSoFar p k split most b c e f ys → IsFirstSoFar p k split most a c d f (xs ++ ys)
+first_more p k split most a b c d e f xs ys m n = record {
+  dealings = met_more split most d e f xs ys m.dealings n.dealings;
+  claims = claims_on d.view e.view f.view m.claims n.claims;
+  held = held_append p k a b c xs ys m.held n.held;
+}
+
+-- the same search
+pub first_more_as : (p : Problem) (split : ℕ) {k j : ℕ} {by others : Thinning} {a b c : Option ProblemPath} {d e f : Dealings} {xs ys : List Node} → SameSearch k by j others → IsFirstSoFar p k split by.most a b d e xs →
+    IsFirstSoFar p j split others.most b c e f ys → IsFirstSoFar p k split by.most a c d f (xs ++ ys)
+first_more_as p split {k} {j} {by} {others} {a} {b} {c} {d} {e} {f} {xs} {ys} same m n =
+    first_more p k split by.most a b c d e f xs ys m
+    (subst (λ (t : Thinning). IsFirstSoFar p k split t.most b c e f ys) same.reasons (subst (λ i. IsFirstSoFar p i split others.most b c e f ys) same.count n))
+
+pub same_search : (k : ℕ) (by : Thinning) → SameSearch k by k by
+same_search k by = record { count = refl; reasons = refl }
+
+pub search_on : {k j i : ℕ} {by others last : Thinning} → SameSearch k by j others → SameSearch j others i last → SameSearch k by i last
+search_on a b = record { count = b.count ∙ a.count; reasons = b.reasons ∙ a.reasons }
 
 -- who was refused no claim before ends as he ends afterwards
 pub first_ends : (old mid new : View) (end : WalkEnd) → mid.refused ≡ old.refused → EndsAs mid new end → EndsAs old new end

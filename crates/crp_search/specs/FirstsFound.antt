@@ -5,6 +5,7 @@ use Rattle.crp_plan.specs.Faults.{IsPlanPath}
 use Rattle.crp_plan.specs.Plans.{ProblemPath}
 use Rattle.crp_tree.specs.Mark.{B}
 use Rattle.crp_tree.specs.Trees.{Node}
+use Rattle.crp_search.specs.declared.reasons.Thinning.{Thinning}
 use Rattle.crp_search.specs.Limits.{Dealings}
 use Rattle.crp_search.specs.Searched.{IsHeld, IsMet, AreFirstNodes}
 use Rattle.crp_search.specs.Firsts.{OnlyClaims}
@@ -34,17 +35,22 @@ AreHeld p k None None met = All (IsHeld 0 (k + 1)) met
 AreHeld p k None (Some plan) met = IsMetAmong p k plan met
 AreHeld p k (Some old) plan met = (plan ≡ Some old) × All (IsHeld 0 k) met
 
+-- a search for plans of so many relocations by such reasons stays so
+pub record SameSearch (k : ℕ) (by : Thinning) (later : ℕ) (others : Thinning) : Type 0 where
+  pub count : later ≡ k
+  pub reasons : others ≡ by
+
 -- what such a search holds of the nodes that it met, with the first plan before them, if any, and the second by their end
-pub record IsFirstSoFar (p : Problem) (k split : ℕ) (before after : Option ProblemPath) (old new : Dealings) (met : List Node) : Type 0 where
-  pub dealings : IsMet split old new met
+pub record IsFirstSoFar (p : Problem) (k split most : ℕ) (before after : Option ProblemPath) (old new : Dealings) (met : List Node) : Type 0 where
+  pub dealings : IsMet split most old new met
   pub claims : OnlyClaims old.view new.view
   pub held : AreHeld p k before after met
 
 -- how far it came in a part where it ended before its time: it met the first nodes of a tree, and nothing was claimed or put but for these
-pub record CameSoFar (p : Problem) (k split : ℕ) (name : List ℕ) (old new : Dealings) : Type 0 where
+pub record CameSoFar (p : Problem) (k split most : ℕ) (name : List ℕ) (old new : Dealings) : Type 0 where
   pub place : Position
   pub at : IsAt p name place
   pub met : List Node
   pub first : AreFirstNodes name place met
   pub plan : Option ProblemPath
-  pub so_far : IsFirstSoFar p k split None plan old new met
+  pub so_far : IsFirstSoFar p k split most None plan old new met

@@ -11,7 +11,9 @@ pub use Rattle.crp_tree.specs.Claims
 pub use Rattle.crp_tree.specs.Parts
 pub use Rattle.crp_tree.specs.Names
 pub use Rattle.crp_tree.specs.First
+pub use Rattle.crp_thinning.specs.Symbols
 pub mod Limits
+pub mod Tries
 pub mod Searched
 pub mod Firsts
 pub mod FirstsFound

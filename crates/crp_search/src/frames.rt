@@ -16,7 +16,7 @@ pub struct Found {
     pub floor: u32,
 }
 
-/// What is found where a node is not a branch: what its symbol is, which has no text, and the floor of the walk with it, which the value of a cut may lower.
+/// What is found where a node is not a branch: what its symbol is, and the floor of the walk with it, which the value of a cut may lower. The text of a cut by reasons is the one that was given last.
 #[derive(Drop)]
 pub struct Closed {
     pub kind: Kind,

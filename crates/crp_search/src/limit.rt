@@ -1,13 +1,14 @@
-ghost use Rattle.std.specs.Prelude.{◌≡◌, ℕ, List, [], ◌∷◌, ◌++◌, length, MatchResult};
+ghost use Rattle.std.specs.Prelude.{◌≡◌, ℕ, Bool, List, [], ◌∷◌, ◌++◌, length, MatchResult};
 ghost use Rattle.crp_plan.specs.declared.running.View.{View};
 ghost use Rattle.crp_plan.specs.Bay.{Problem as Statement};
 ghost use Rattle.crp_search.specs.Limits.{SeesLimit, OffersPlan, ClaimsExpansion};
 
 use crp_plan::Plan;
+use crp_thinning::Claims;
 use crp_tree::Name;
 
-/// What one worker of a search may do to the limit, the claims and the names that the workers share.
-pub trait Limit {
+/// What one worker of a search may do to the limit, the claims and the names that the workers share. A claim is for one expansion, or for one thinned branch.
+pub trait Limit: Claims {
     /// What the worker knows of the limit and the claims, and what it did to them.
     ghost view: { Self → View };
 
@@ -31,13 +32,12 @@ pub trait Limit {
         ensures step { OffersPlan (length plan.now.path) (view self.old) (view self.new) }
         ensures same { (problem self.new ≡ problem self.old) × (budget self.new ≡ budget self.old) × (puts self.new ≡ puts self.old) };
 
-    /// Claims one expansion, and answers whether it was granted.
-    fn claim(&mut self) -> bool
-        ensures step { ClaimsExpansion (budget self.old) (view self.old) result (view self.new) }
-        ensures same { (problem self.new ≡ problem self.old) × (budget self.new ≡ budget self.old) × (puts self.new ≡ puts self.old) };
-
     /// Puts a name where other workers may take it; a name that is refused comes back.
     fn put(&mut self, name: Name) -> Result<(), Name>
         ensures put { MatchResult result (λ _. puts self.new ≡ puts self.old ++ name ∷ []) (λ back. (back ≡ name) × (puts self.new ≡ puts self.old)) }
         ensures same { (problem self.new ≡ problem self.old) × (budget self.new ≡ budget self.old) × (view self.new ≡ view self.old) };
+
+    /// What a claim does.
+    ghost claimed: { (old new : Self) (granted : Bool) → Self.claims old granted new
+        → ClaimsExpansion (budget old) (view old) granted (view new) × ((problem new ≡ problem old) × (budget new ≡ budget old) × (puts new ≡ puts old)) };
 }

@@ -1,26 +1,32 @@
 //! What a walk over a part looks for.
-ghost use Rattle.std.specs.Prelude.{◌≡◌, ℕ, ◌+◌, ◌<◌, ◌≤◌, List, [], ◌∷◌, ◌++◌, length, true, All, IfOk, IfErr, IsTrue, IsFalse};
+ghost use Rattle.std.specs.Prelude.{◌≡◌, ℕ, ◌<◌, List, [], ◌∷◌, ◌++◌, length, All, IfOk, IfErr};
 ghost use Rattle.crp_plan.specs.declared.running.View.{View};
 ghost use Rattle.crp_plan.specs.Bay.{Problem as Statement};
 ghost use Rattle.crp_plan.specs.Faults.{IsPlanPath};
 ghost use Rattle.crp_tree.specs.Mark.{B};
-ghost use Rattle.crp_tree.specs.Trees.{Node, IsInPlace, is_cut, value, least_through};
+ghost use Rattle.crp_tree.specs.Trees.{Node, IsInPlace};
 ghost use Rattle.crp_search.specs.declared.walk_end.WalkEnd.{WalkEnd as WhyEnded};
 ghost use Rattle.crp_search.specs.declared.walk_end.WalkEnd.TheVariants.{Memory};
 ghost use Rattle.crp_search.specs.Limits.{Dealings, dealt, OnlyGrants};
-ghost use Rattle.crp_search.specs.Searched.{NeedsLookAhead, IsHeld, IsMet};
+ghost use Rattle.crp_search.specs.Searched.{IsHeld, IsMet, IsOnWay};
+ghost use Rattle.crp_search.specs.Tries.{IfCloses};
 
 use crate::limit::Limit;
+use crate::reasons::Way;
 use crate::walk_end::WalkEnd;
+use crp_bay::Position;
 use crp_plan::Plan;
 
-/// What a walk over a part looks for: what suffices at a node, what a finished path does, and what an expansion asks for.
+/// What a walk over a part looks for: what suffices at a node, what a finished path does, and how it goes on where no bound closes a node.
 pub trait Seek {
     /// What suffices: a node is closed by a bound that reaches it.
     ghost bar: { Self → View → ℕ };
 
     /// What it takes for granted of the problem.
     ghost ready: { Statement → Self → Type 0 };
+
+    /// The text of the reasons that were given last.
+    ghost text: { Self → List ℕ };
 
     /// What holds once these nodes were met, one after the other, each given name having so many rows at most.
     ghost meets: { Statement → ℕ → Self → Dealings → Self → Dealings → List Node → Type 0 };
@@ -44,22 +50,30 @@ pub trait Seek {
             → meets (L.problem limit.old) split self.old (dealt (L.view limit.old) (L.puts limit.old)) self.new (dealt (L.view limit.new) (L.puts limit.new)) (node ∷ []) }
         ensures same { (L.problem limit.new ≡ L.problem limit.old) × (L.budget limit.new ≡ L.budget limit.old) };
 
-    /// Asks for an expansion, and answers whether it was granted. Where it was not, the walk goes on after a cut.
-    fn expand<L: Limit>(&mut self, limit: &mut L) -> Result<bool, WalkEnd>
-        ensures granted { IfOk result (λ granted. IsTrue granted
-            → (self.new ≡ self.old) × OnlyGrants (L.view limit.old) (L.view limit.new) × ((L.view limit.new).granted ≡ (L.view limit.old).granted + 1)) }
-        ensures refused { IfOk result (λ granted. IsFalse granted → (split : ℕ) (node : Node) → is_cut node.mark ≡ true → IsInPlace node → least_through node ≤ value node
-            → node.place.next ≤ node.place.ordered → NeedsLookAhead (bar self.old (L.view limit.old)) node
+    /// Goes on at an unfinished node that no bound closes, where so many relocations more suffice: closes it by reasons, or asks for an
+    /// expansion. Where a claim is refused, the walk goes on after a cut, or ends.
+    fn go_on<L: Limit>(
+        &mut self,
+        position: &Position,
+        need: u64,
+        limit: &mut L,
+    ) -> Result<Way, WalkEnd>
+        ensures shown { IfOk result (IfCloses position.now.place need (text self.new)) }
+        ensures met { IfOk result (λ way. (split : ℕ) (node : Node) → IsInPlace node → IsOnWay way (bar self.old (L.view limit.old)) node
             → meets (L.problem limit.old) split self.old (dealt (L.view limit.old) (L.puts limit.old)) self.new (dealt (L.view limit.new) (L.puts limit.new)) (node ∷ [])) }
         ensures end { IfErr result (λ end. (split : ℕ)
             → ends (L.problem limit.old) split self.old (dealt (L.view limit.old) (L.puts limit.old)) self.new (dealt (L.view limit.new) (L.puts limit.new)) [] end) }
         ensures same { (L.problem limit.new ≡ L.problem limit.old) × (L.budget limit.new ≡ L.budget limit.old) × (L.puts limit.new ≡ L.puts limit.old) };
 
+    /// The text of the reasons that were given last.
+    fn text(&self) -> &[u8]
+        ensures { result.now ≡ text self.now };
+
     /// No node was met.
     ghost none: { (p : Statement) (split : ℕ) (a : Self) (d : Dealings) → meets p split a d a d [] };
 
     /// One was met for which nothing but a claim or a put was made.
-    ghost one: { (p : Statement) (split : ℕ) (a : Self) (d e : Dealings) (node : Node) → IsMet split d e (node ∷ []) → OnlyGrants d.view e.view
+    ghost one: { (p : Statement) (split : ℕ) (a : Self) (d e : Dealings) (node : Node) → IsMet split 0 d e (node ∷ []) → OnlyGrants d.view e.view
         → IsHeld 0 (bar a d.view) node → meets p split a d a e (node ∷ []) };
 
     /// Some were met, and then others.

@@ -13,6 +13,7 @@ ghost use Rattle.crp_search.specs.Walked.{Closes};
 
 use crate::frames::{Closed, Found, Frame};
 use crate::limit::Limit;
+use crate::reasons::Way;
 use crate::seeking::Seek;
 use crate::walk_end::WalkEnd;
 use arrayvec::ArrayVec;
@@ -85,7 +86,7 @@ fn take_plan<S: Seek, L: Limit>(problem: &Problem, path: &[u8], seek: &mut S, li
 /// not suffice.
 ///
 /// A finished node is a cut by the blocking bound, once its plan is taken; another is one by the look-ahead bound, where length plus
-/// that bound suffices or where the expansion is refused, unless the blocking bound is as high.
+/// that bound suffices or where a claim is refused, unless the blocking bound is as high; or one by reasons.
 fn close_below<S: Seek, L: Limit>(
     problem: &Problem,
     place: &Bounded,
@@ -103,7 +104,7 @@ fn close_below<S: Seek, L: Limit>(
     requires low { low ≡ length path.now + blocking_bound place.now.place }
     requires bar { (low < bar) × (bar ≡ S.bar seek.old (L.view limit.old)) }
     ensures closes { Closes (S.meets problem.now) (S.ends problem.now) seek.old (dealt (L.view limit.old) (L.puts limit.old)) seek.new (dealt (L.view limit.new) (L.puts limit.new))
-        0 floor path.now place.now.place result }
+        0 floor path.now place.now.place (S.text seek.new) result }
     ensures same { (L.problem limit.new ≡ L.problem limit.old) × (L.budget limit.new ≡ L.budget limit.old) }
 {
     if place.position().is_done() {
@@ -113,11 +114,12 @@ fn close_below<S: Seek, L: Limit>(
     if let Some(closed) = reaching_cut(place, path, bar, floor) {
         return Ok(Some(closed));
     }
-    let granted = seek.expand(limit)?;
-    if granted {
-        return Ok(None);
+    let length = path.len() as u32;
+    match seek.go_on(place.position(), bar - u64::from(length), limit)? {
+        Way::Granted => Ok(None),
+        Way::Closed(bound) => Ok(Some(cut(Kind::CutR(bound), length + u32::from(bound), floor))),
+        Way::Refused => Ok(Some(refused_cut(place, length, low, floor))),
     }
-    Ok(Some(refused_cut(place, path.len() as u32, low, floor)))
 }
 
 /// The same where nothing is known of the node: it is closed as well where length plus blocking bound suffices.
@@ -134,7 +136,7 @@ fn close<S: Seek, L: Limit>(
     requires ready { S.ready problem.now seek.old }
     requires path { IsAt problem.now path.now place.now.place }
     ensures closes { Closes (S.meets problem.now) (S.ends problem.now) seek.old (dealt (L.view limit.old) (L.puts limit.old)) seek.new (dealt (L.view limit.new) (L.puts limit.new))
-        0 floor path.now place.now.place result }
+        0 floor path.now place.now.place (S.text seek.new) result }
     ensures same { (L.problem limit.new ≡ L.problem limit.old) × (L.budget limit.new ≡ L.budget limit.old) }
 {
     let low = path.len() as u32 + place.blocking();
@@ -182,7 +184,7 @@ fn close_child<S: Seek, L: Limit>(
     requires path { IsAt problem.now path.now (child place.old.place row) }
     requires row { Contains (targets place.old.place) row }
     ensures closes { Closes (S.meets problem.now) (S.ends problem.now) seek.old (dealt (L.view limit.old) (L.puts limit.old)) seek.new (dealt (L.view limit.new) (L.puts limit.new))
-        0 floor path.now (child place.old.place row) result }
+        0 floor path.now (child place.old.place row) (S.text seek.new) result }
     ensures back { IfOk result (λ found. IfSome found (λ closed. place.new ≡ place.old)) }
     ensures down { IfOk result (λ found. IfNone found (place.new ≡ record { place = child place.old.place row; trail = place.old.place ∷ place.old.trail })) }
     ensures same { (L.problem limit.new ≡ L.problem limit.old) × (L.budget limit.new ≡ L.budget limit.old) }
@@ -219,7 +221,7 @@ fn walk_child<S: Seek, L: Limit>(
     requires row { Contains (targets place.old.place) row }
     requires split { split ≤ 8 }
     ensures closes { Closes (S.meets problem.now) (S.ends problem.now) seek.old (dealt (L.view limit.old) (L.puts limit.old)) seek.new (dealt (L.view limit.new) (L.puts limit.new))
-        (split + 1) floor path.now (child place.old.place row) result }
+        (split + 1) floor path.now (child place.old.place row) (S.text seek.new) result }
     ensures back { IfOk result (λ found. IfSome found (λ closed. place.new ≡ place.old)) }
     ensures down { IfOk result (λ found. IfNone found (place.new ≡ record { place = child place.old.place row; trail = place.old.place ∷ place.old.trail })) }
     ensures same { (L.problem limit.new ≡ L.problem limit.old) × (L.budget limit.new ≡ L.budget limit.old) }
@@ -274,7 +276,7 @@ fn walk_from<S: Seek, L: Limit>(
     list.make_room()?;
     let first = close(problem, place, path.as_slice(), floor, seek, limit)?;
     if let Some(closed) = first {
-        list.push_reserved(closed.kind);
+        list.push(closed.kind, seek.text())?;
         return Ok(Found {
             tree: Tree::from_row(list),
             floor: closed.floor,
@@ -316,7 +318,7 @@ fn walk_from<S: Seek, L: Limit>(
             continue;
         };
         let _row = path.pop();
-        list.push_reserved(closed.kind);
+        list.push(closed.kind, seek.text())?;
         floor = closed.floor;
     }
 }

@@ -3,7 +3,7 @@ ghost use Rattle.std.specs.Prelude.{◌≤◌};
 use crate::bays::{Bay, ONE_EMPTY, SIX, problem_of};
 use crate::compare::{assert_same, assert_same_at};
 use crp_plan::Plan;
-use crp_steps::{Event, Kind, Stopped, World};
+use crp_steps::{Bound, Event, Kind, Stopped, World};
 use std::alloc::{AllocError, Global};
 use std::process::Abort;
 use std::test::Fail;
@@ -17,7 +17,7 @@ fn shown_by(world: &World) -> Shown {
 }
 
 /// A worker, what it does, whether that is allowed then, and what the world answers after it.
-type Step = (u32, Kind, bool, Shown);
+type Step = (u32, Kind<'static>, bool, Shown);
 
 const OPEN: (bool, bool) = (false, false);
 
@@ -26,6 +26,52 @@ const CLOSED: (bool, bool) = (true, false);
 const REFUSED: (bool, bool) = (false, true);
 
 const REFUSED_AND_CLOSED: (bool, bool) = (true, true);
+
+const BY_BLOCKING: Kind<'static> = Kind::Leaf {
+    bound: Bound::Blocking,
+};
+
+const BY_LOOK_AHEAD: Kind<'static> = Kind::Leaf {
+    bound: Bound::LookAhead,
+};
+
+/// Three relocations, and symbols that show two at the root of SIX: 4 goes to the one row where it is well placed, and 5 still blocks.
+const BY_TOO_FEW: Kind<'static> = Kind::Leaf {
+    bound: Bound::Reasons {
+        number: 3,
+        text: b"RBB",
+    },
+};
+
+/// Three relocations, and symbols that break off.
+const BY_HALF_A_TREE: Kind<'static> = Kind::Leaf {
+    bound: Bound::Reasons {
+        number: 3,
+        text: b"RL",
+    },
+};
+
+/// Two relocations, and symbols that show three at the root of SIX: below the one row where 4 is well placed 5 has to block again.
+const BY_TWO: Kind<'static> = Kind::Leaf {
+    bound: Bound::Reasons {
+        number: 2,
+        text: b"RLB",
+    },
+};
+
+const BY_THREE: Kind<'static> = Kind::Leaf {
+    bound: Bound::Reasons {
+        number: 3,
+        text: b"RLB",
+    },
+};
+
+const BY_FOUR: Kind<'static> = Kind::Leaf {
+    bound: Bound::Reasons {
+        number: 4,
+        text: b"RLB",
+    },
+};
 
 /// A bay, the path of its first plan if one is given, how it is searched, and the steps.
 #[derive(Clone, Copy)]
@@ -49,10 +95,10 @@ const SHARED_BY_TWO: Search = Search {
         (0, Kind::Claim, true, ((3, 1, 13), OPEN)),
         (0, Kind::Put { index: 0 }, true, ((3, 1, 13), OPEN)),
         (1, Kind::Steal { victim: 0 }, true, ((3, 1, 13), OPEN)),
-        (1, Kind::Leaf { look: false }, true, ((3, 1, 3), OPEN)),
+        (1, BY_BLOCKING, true, ((3, 1, 3), OPEN)),
         (1, Kind::Finish, true, ((3, 1, 3), OPEN)),
-        (0, Kind::Leaf { look: false }, false, ((3, 1, 3), OPEN)),
-        (0, Kind::Leaf { look: true }, true, ((3, 1, 3), CLOSED)),
+        (0, BY_BLOCKING, false, ((3, 1, 3), OPEN)),
+        (0, BY_LOOK_AHEAD, true, ((3, 1, 3), CLOSED)),
         (0, Kind::Finish, true, ((3, 1, 3), CLOSED)),
     ],
 };
@@ -67,13 +113,43 @@ const REFUSED_ONCE: Search = Search {
         (0, Kind::Take, true, ((13, 0, 13), OPEN)),
         (0, Kind::Claim, true, ((13, 1, 13), REFUSED)),
         (0, Kind::Claim, false, ((13, 1, 13), REFUSED)),
-        (
-            0,
-            Kind::Leaf { look: false },
-            true,
-            ((13, 1, 2), REFUSED_AND_CLOSED),
-        ),
+        (0, Kind::Try, false, ((13, 1, 13), REFUSED)),
+        (0, BY_BLOCKING, true, ((13, 1, 2), REFUSED_AND_CLOSED)),
         (0, Kind::Finish, true, ((13, 1, 2), REFUSED_AND_CLOSED)),
+    ],
+};
+
+const CLOSED_BY_REASONS: Search = Search {
+    bay: SIX,
+    plan: Some(&[2, 2, 1]),
+    workers: 2,
+    budget: 1,
+    split: 0,
+    steps: &[
+        (0, Kind::Try, false, ((3, 0, 13), OPEN)),
+        (0, Kind::Take, true, ((3, 0, 13), OPEN)),
+        (0, Kind::Try, true, ((3, 1, 13), OPEN)),
+        (0, BY_TOO_FEW, false, ((3, 1, 13), OPEN)),
+        (0, BY_HALF_A_TREE, false, ((3, 1, 13), OPEN)),
+        (0, BY_FOUR, false, ((3, 1, 13), OPEN)),
+        (0, BY_TWO, false, ((3, 1, 13), OPEN)),
+        (0, BY_THREE, true, ((3, 1, 3), CLOSED)),
+        (0, Kind::Finish, true, ((3, 1, 3), CLOSED)),
+    ],
+};
+
+const REFUSED_A_TRY: Search = Search {
+    bay: SIX,
+    plan: None,
+    workers: 1,
+    budget: 0,
+    split: 0,
+    steps: &[
+        (0, Kind::Take, true, ((13, 0, 13), OPEN)),
+        (0, Kind::Try, true, ((13, 1, 13), REFUSED)),
+        (0, Kind::Claim, false, ((13, 1, 13), REFUSED)),
+        (0, BY_FOUR, false, ((13, 1, 13), REFUSED)),
+        (0, BY_TWO, true, ((13, 1, 2), REFUSED_AND_CLOSED)),
     ],
 };
 
@@ -85,7 +161,7 @@ const OFFERED_AND_CLOSED: Search = Search {
     split: 0,
     steps: &[
         (0, Kind::Claim, false, ((3, 0, 3), OPEN)),
-        (0, Kind::Leaf { look: true }, false, ((3, 0, 3), OPEN)),
+        (0, BY_LOOK_AHEAD, false, ((3, 0, 3), OPEN)),
         (0, Kind::Offer, false, ((3, 0, 3), OPEN)),
         (0, Kind::Finish, false, ((3, 0, 3), OPEN)),
         (0, Kind::Put { index: 0 }, false, ((3, 0, 3), OPEN)),
@@ -99,14 +175,15 @@ const OFFERED_AND_CLOSED: Search = Search {
         (1, Kind::Steal { victim: 0 }, false, ((3, 0, 3), OPEN)),
         (0, Kind::Finish, false, ((3, 0, 3), OPEN)),
         (0, Kind::Offer, false, ((3, 0, 3), OPEN)),
-        (0, Kind::Leaf { look: false }, false, ((3, 0, 3), OPEN)),
+        (0, BY_BLOCKING, false, ((3, 0, 3), OPEN)),
         (0, Kind::Claim, true, ((3, 1, 3), OPEN)),
         (0, Kind::Claim, false, ((3, 1, 3), OPEN)),
+        (0, Kind::Try, false, ((3, 1, 3), OPEN)),
         (0, Kind::Put { index: 0 }, false, ((3, 1, 3), OPEN)),
         (0, Kind::Put { index: 1 }, false, ((3, 1, 3), OPEN)),
-        (0, Kind::Leaf { look: false }, false, ((3, 1, 3), OPEN)),
+        (0, BY_BLOCKING, false, ((3, 1, 3), OPEN)),
         (0, Kind::Offer, true, ((1, 1, 3), OPEN)),
-        (0, Kind::Leaf { look: false }, true, ((1, 1, 1), CLOSED)),
+        (0, BY_BLOCKING, true, ((1, 1, 1), CLOSED)),
         (0, Kind::Finish, true, ((1, 1, 1), CLOSED)),
     ],
 };
@@ -167,7 +244,13 @@ fn assert_search(rt: &(impl Abort + AllocGlobal), search: &Search) -> Result<(),
 
 #[test]
 fn worked_searches_step_by_step(rt: HostRuntime) -> Result<(), Fail> {
-    for search in [SHARED_BY_TWO, REFUSED_ONCE, OFFERED_AND_CLOSED] {
+    for search in [
+        SHARED_BY_TWO,
+        REFUSED_ONCE,
+        CLOSED_BY_REASONS,
+        REFUSED_A_TRY,
+        OFFERED_AND_CLOSED,
+    ] {
         assert_search(&rt, &search)?;
     }
     Ok(())

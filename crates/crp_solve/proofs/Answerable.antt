@@ -59,7 +59,7 @@ has_answer p chosen is =
         answer = cut_is_true p chosen.budget cert best.0 0 (root_shows p (cut_at p) cert best.0 chosen.budget 0 is refl (one_certificate (cut_at p) cert refl) refl (cut_is_kept p is) refl refl tt refl best.1 (omega arith))
             (record { part = cut_at p; alone = refl; cut = tt });
         searches = tt;
-        one_search = λ alone. tt;
+        one_search = λ alone none. tt;
         second = (refl, refl);
       },
     )

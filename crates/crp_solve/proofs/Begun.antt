@@ -11,20 +11,22 @@ use Rattle.crp_pool.specs.Seats.{PoolSeat, seat_number, all_takes}
 use Rattle.crp_pool.proofs.Hands.{weigh-append}
 use Rattle.crp_solve.specs.Desks.{fixed_at, IsCountedPart}
 use Rattle.crp_solve.specs.Groups.{Crew, Keeping, with_part, root_at, IsGroup, IsUnused}
+use Rattle.crp_gather.specs.Settled.{branches_in_all}
 use Rattle.crp_solve.proofs.Tasks.{same_number, same_takes}
+use Rattle.crp_solve.proofs.Granting.{grants_first}
 
 -- at the first place, the root's name alone counts
 pub first_root : (h : List ℕ → ℕ) (s : PoolSeat) → s.number ≡ 0 → weigh h (root_at s) ≡ h []
 first_root h s e = ap (λ (n : ℕ). weigh h (root_at (record s { number = n }))) e ∙ omega arith
 
 begun_group : (keeps : Keeping) (of : Shared) (v w : View) (plan : Option ProblemPath) (q s : PoolSeat) (found : Option ProblemPart) → v.granted ≡ 0 → IsUnused q → q.number ≡ 0 →
-    fixed_at (Some s) ≡ fixed_at (Some q) → IfSome found (IsCountedPart v w (Some q) (Some s) []) → keeps of w plan (with_part [] found) →
+    fixed_at (Some s) ≡ fixed_at (Some q) → IfSome found (IsCountedPart of.key.thin v w (Some q) (Some s) []) → keeps of w plan (with_part [] found) →
     IsGroup keeps (record { of = of; view = w; plan = plan; parts = with_part [] found; places = s ∷ []; short = not (is_some found) })
 begun_group keeps of v w plan q s None none new first fixed f kept = record { kept = kept; counted = λ ok. absurd (cc) }
 begun_group keeps of v w plan q s (Some x) none new first fixed f kept = record {
   kept = kept;
   counted = λ ok. record {
-    grants = omega (arith, f.grants, sum_by-cons (λ (y : ProblemPart). length (branches_in y)) x []);
+    grants = grants_first of.key.thin v.granted (length (branches_in x)) w.granted (branches_in_all (x ∷ [])) none (omega (arith, sum_by-cons (λ (y : ProblemPart). length (branches_in y)) x [])) f.grants;
     takes = λ h. (
         let n : s.number ≡ 0 = same_number q s fixed ∙ first in let t : s.takes ≡ [] = same_takes q s fixed ∙ new.no_takes in
         let a : weigh h s.takes ≡ 0 = ap (weigh h) t in let e : h x.name ≡ h [] = ap h f.name_is in
@@ -37,7 +39,7 @@ begun_group keeps of v w plan q s (Some x) none new first fixed f kept = record 
 
 -- so the first worker is a group
 pub begun_is_group : (keeps : Keeping) (of : Shared) (v : View) (q s : PoolSeat) (found : Option ProblemPart) (new : Crew) → new.of ≡ of → v.granted ≡ 0 → IsUnused q → q.number ≡ 0 → fixed_at (Some s) ≡ fixed_at (Some q) →
-    IfSome found (IsCountedPart v new.view (Some q) (Some s) []) → keeps of new.view new.plan (with_part [] found) → new.parts ≡ with_part [] found → new.places ≡ s ∷ [] → new.short ≡ not (is_some found) → IsGroup keeps new
+    IfSome found (IsCountedPart of.key.thin v new.view (Some q) (Some s) []) → keeps of new.view new.plan (with_part [] found) → new.parts ≡ with_part [] found → new.places ≡ s ∷ [] → new.short ≡ not (is_some found) → IsGroup keeps new
 begun_is_group keeps of v q s found new at none unused first fixed counted kept parts places short =
     let g = begun_group keeps of v new.view new.plan q s found none unused first fixed counted kept in
     subst (λ o. IsGroup keeps (record { of = o; view = new.view; plan = new.plan; parts = new.parts; places = new.places; short = new.short })) (sym at)

@@ -28,8 +28,8 @@ better_count : (p : Problem) (best met better : Option ProblemPath) → IsBestMe
 better_count p best met better known is e = ap (λ o. count_of p (path_in o)) e ∙ shorter_count p best met (count_low p best known.is_problem known.plan_is) (count_low p met known.is_problem is)
 
 -- what is shown after it
-pub shown_after : (p : Problem) (budget : ℕ) (cert cert' : Certificate) (best met better : Option ProblemPath) (expanded more : ℕ) → IsShown p budget cert best expanded → IsOpen p budget cert best expanded →
-    IsFoundTogether p (budget - expanded) (cert.lower + 1) cert' met more → IfSome better (IsPlanOf p) → better ≡ shorter best met → IsShown p budget (higher cert cert') better (expanded + more)
+pub shown_after : {thin : ℕ} (p : Problem) (budget : ℕ) (cert cert' : Certificate) (best met better : Option ProblemPath) (expanded more : ℕ) → IsShown p budget cert best expanded → IsOpen p budget cert best expanded →
+    IsFoundTogether thin p (budget - expanded) (cert.lower + 1) cert' met more → IfSome better (IsPlanOf p) → better ≡ shorter best met → IsShown p budget (higher cert cert') better (expanded + more)
 shown_after p budget cert cert' best met better expanded more w o f is e =
     let found = f.ended in let about = w.about in
     let known : IsBestMet p better = no_longer_met p best better w.best_met is (omega (arith, better_count p best met better w.best_met f.best_is e)) in
@@ -48,8 +48,8 @@ met_fewer p lower reached None le low = absurd (omega (arith, le, low))
 met_fewer p lower reached (Some plan) le low = omega (arith, le, low)
 
 -- and it is nearer to the answer
-pub nearer_after : (p : Problem) (budget : ℕ) (cert cert' : Certificate) (best met better : Option ProblemPath) (expanded more : ℕ) → IsShown p budget cert best expanded → IsOpen p budget cert best expanded →
-    IsFoundTogether p (budget - expanded) (cert.lower + 1) cert' met more → better ≡ shorter best met →
+pub nearer_after : {thin : ℕ} (p : Problem) (budget : ℕ) (cert cert' : Certificate) (best met better : Option ProblemPath) (expanded more : ℕ) → IsShown p budget cert best expanded → IsOpen p budget cert best expanded →
+    IsFoundTogether thin p (budget - expanded) (cert.lower + 1) cert' met more → better ≡ shorter best met →
     IsNearer p budget (record { cert = cert; best = best; expanded = expanded }) (record { cert = higher cert cert'; best = better; expanded = expanded + more })
 nearer_after p budget cert cert' best met better expanded more w o f e =
     let found = f.ended in let known = w.best_met in

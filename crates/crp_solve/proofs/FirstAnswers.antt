@@ -36,7 +36,7 @@ first_is_true p c best plan shown more k asked known found =
         needed = tt;
       };
       searches = (best.plan, best.cert, known.searches);
-      one_search = λ alone. tt;
+      one_search = λ alone none. tt;
       second = (asked, refl, found.enough, found.within);
     }
 

@@ -58,7 +58,7 @@ pub first_of_problem : (p q : Problem) (k : ℕ) (plan : Option ProblemPath) (xs
 first_of_problem p q k plan xs e all = subst (λ r. All (IsSearchedFirst r k plan) xs) e all
 
 -- and where nothing is left, they are a whole
-pub first_whole : (p : Problem) (k : ℕ) (plan : Option ProblemPath) (view : View) (xs : List ProblemPart) → IsProblem p → All (IsSearchedFirst p k plan) xs → IsAllDone view xs → AreWhole p xs
+pub first_whole : {thin : ℕ} (p : Problem) (k : ℕ) (plan : Option ProblemPath) (view : View) (xs : List ProblemPart) → IsProblem p → All (IsSearchedFirst p k plan) xs → IsAllDone thin view xs → AreWhole p xs
 first_whole p k plan view xs is all d = parts_whole p view xs is (All-weaker (IsSearchedFirst p k plan) (λ x. x.problem ≡ p) (λ x s. s.of_problem) xs all)
     (All-weaker (IsSearchedFirst p k plan) IsKeptPart (λ x s. s.kept) xs all) d
 

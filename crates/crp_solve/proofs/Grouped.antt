@@ -16,6 +16,8 @@ use Rattle.crp_pool.proofs.Hands.{weigh-append}
 use Rattle.crp_solve.specs.Answers.{path_in, IsPlanOf}
 use Rattle.crp_solve.specs.Searches.{IsSearched}
 use Rattle.crp_solve.specs.Desks.{count_or, KeepsPlan}
+use Rattle.crp_gather.specs.Settled.{branches_in_all}
+use Rattle.crp_solve.proofs.Granting.{grants_joined}
 use Rattle.crp_solve.specs.Groups.{Crew, Keeping, root_at, roots, given_in, IsCounted, IsKeptSoFar, IsGroup}
 
 pub takes-append : (h : List ℕ → ℕ) (xs ys : List PoolSeat) → weigh h (all_takes (xs ++ ys)) ≡ weigh h (all_takes xs) + weigh h (all_takes ys)
@@ -53,9 +55,9 @@ searched_later p first old new parts seen refused all =
     parts all
 
 -- what is counted adds up
-pub counted_together : (v w : View) (xs ys : List ProblemPart) (ls ms : List PoolSeat) → IsCounted v xs ls → IsCounted w ys ms → IsCounted (view_joined v w) (xs ++ ys) (ls ++ ms)
-counted_together v w xs ys ls ms a b = record {
-  grants = (let g = a.grants in let g' = b.grants in omega (arith, sum_by-append (λ (x : ProblemPart). length (branches_in x)) xs ys));
+pub counted_together : {thin : ℕ} (v w : View) (xs ys : List ProblemPart) (ls ms : List PoolSeat) → IsCounted thin v xs ls → IsCounted thin w ys ms → IsCounted thin (view_joined v w) (xs ++ ys) (ls ++ ms)
+counted_together {thin} v w xs ys ls ms a b = record {
+  grants = grants_joined thin (branches_in_all xs) (branches_in_all ys) v.granted w.granted (branches_in_all (xs ++ ys)) (sum_by-append (λ (x : ProblemPart). length (branches_in x)) xs ys) a.grants b.grants;
   takes = λ h. (let t = a.takes h in let t' = b.takes h in
       omega (arith, takes-append h ls ms, roots-append h ls ms, names-append h xs ys, weigh-append h (roots (ls ++ ms)) (all_takes (ls ++ ms)), weigh-append h (roots ls) (all_takes ls), weigh-append h (roots ms) (all_takes ms)));
   puts = λ h. (let q = a.puts h in let q' = b.puts h in omega (arith, puts-append h ls ms, given-append h xs ys));
@@ -86,19 +88,21 @@ parts_together Holds xs ys zs true both mine e = subst Holds (sym e) both
 parts_together Holds xs ys zs false both mine e = subst Holds (sym e) mine
 
 -- so two groups make one
-pub merged : (keeps : Keeping) (a b c : Crew) (parts_fit places_fit : Bool) → IsGroup keeps a → IsGroup keeps b → c.of ≡ a.of → c.view ≡ view_joined a.view b.view →
+pub merged : (keeps : Keeping) (a b c : Crew) (parts_fit places_fit : Bool) → IsGroup keeps a → IsGroup keeps b → b.of ≡ a.of → c.of ≡ a.of → c.view ≡ view_joined a.view b.view →
     keeps a.of (view_joined a.view b.view) c.plan (a.parts ++ b.parts) → keeps a.of (view_joined a.view b.view) c.plan a.parts →
     c.parts ≡ (if parts_fit then a.parts ++ b.parts else a.parts) → c.places ≡ (if places_fit then a.places ++ b.places else a.places) →
     (c.short ≡ false → (a.short ≡ false) × (b.short ≡ false) × (parts_fit ≡ true) × (places_fit ≡ true)) → IsGroup keeps c
-merged keeps a b c parts_fit places_fit ka kb of view both mine parts places short = record {
+merged keeps a b c parts_fit places_fit ka kb one of view both mine parts places short = record {
   kept = subst (λ o. keeps o c.view c.plan c.parts) (sym of) (subst (λ v. keeps a.of v c.plan c.parts) (sym view)
       (parts_together (keeps a.of (view_joined a.view b.view) c.plan) a.parts b.parts c.parts parts_fit both mine parts));
   counted = λ ok. (
       let s = short ok in
       let xs : c.parts ≡ a.parts ++ b.parts = parts ∙ ap (λ (fit : Bool). if fit then a.parts ++ b.parts else a.parts) s.2 in
       let ls : c.places ≡ a.places ++ b.places = places ∙ ap (λ (fit : Bool). if fit then a.places ++ b.places else a.places) s.3 in
-      subst (λ v. IsCounted v c.parts c.places) (sym view) (subst (λ l. IsCounted (view_joined a.view b.view) l c.places) (sym xs) (subst (IsCounted (view_joined a.view b.view) (a.parts ++ b.parts)) (sym ls)
-      (counted_together a.view b.view a.parts b.parts a.places b.places (ka.counted s.0) (kb.counted s.1)))));
+      let t : ℕ = a.of.key.thin in
+      subst (λ (o : Shared). IsCounted o.key.thin c.view c.parts c.places) (sym of)
+      (subst (λ v. IsCounted t v c.parts c.places) (sym view) (subst (λ l. IsCounted t (view_joined a.view b.view) l c.places) (sym xs) (subst (IsCounted t (view_joined a.view b.view) (a.parts ++ b.parts)) (sym ls)
+      (counted_together a.view b.view a.parts b.parts a.places b.places (ka.counted s.0) (subst (λ (o : Shared). IsCounted o.key.thin b.view b.parts b.places) one (kb.counted s.1)))))));
 }
 
 -- what a search for the fewest relocations keeps, with the better plan: the parts of the first

@@ -1,5 +1,5 @@
 -- The state of all workers, as the thread that started them takes it.
-use Rattle.std.proofs.Common.{◌≡◌, ◌<◌, ◌≤◌, ℕ, zero, suc, ◌+◌, ◌==◌, if◌then◌else◌, ⊎_elim, Bool, true, false, List, [], ◌∷◌, length, map, All, Option, Some, sym, refl, ap, ◌∙◌, arith}
+use Rattle.std.proofs.Common.{◌≡◌, ◌<◌, ◌≤◌, ℕ, zero, suc, ◌+◌, ◌==◌, if◌then◌else◌, ⊎_elim, Bool, true, false, List, [], ◌∷◌, length, map, All, Option, Some, sym, refl, ap, ◌∙◌, subst, arith}
 use Rattle.std.specs.Prelude.{slice_get}
 use Rattle.std.proofs.lemmas.Bool.{cases_Bool, eqb-true}
 use Rattle.crp_incumbent.specs.Rule.{view_joined}
@@ -10,7 +10,10 @@ use Rattle.crp_pool.specs.Deques.{DequeId}
 use Rattle.crp_pool.specs.Seats.{PoolSeat, seat_number, numbers, IsSeatOf, IsEverySeat, all_puts, all_takes}
 use Rattle.crp_pool.proofs.Hands.{weigh-append}
 use Rattle.crp_solve.specs.Groups.{Crew, Keeping, root_at, roots, place_key, IsGroup, IsUnusedSeat}
+use Rattle.crp_search.specs.Searched.{Grants}
+use Rattle.crp_gather.specs.Settled.{branches_in_all}
 use Rattle.crp_solve.specs.Rests.{IsDoneUpTo}
+use Rattle.crp_solve.proofs.Granting.{grants_beside}
 
 -- a name of the root for each place, by its number
 abbrev root_weight : (List ℕ → ℕ) → ℕ → ℕ
@@ -43,13 +46,13 @@ pub one_root : (pool : List DequeId) (places : List PoolSeat) → 0 < length poo
 one_root pool places some every h = let e = every.1 (root_weight h) in omega (arith, roots_by_number h places, one_from h (length pool) some)
 
 -- what the pool gives back is counted, with a seat that claimed nothing
-pub done_with_left : (keeps : Keeping) (of : Shared) (left : Seat) (g : Crew) (best : Option ProblemPath) (pool : List DequeId) (puts takes : List (List ℕ)) → IsUnusedSeat of left → IsGroup keeps g → g.short ≡ false → 0 < length pool →
+pub done_with_left : (keeps : Keeping) (of : Shared) (left : Seat) (g : Crew) (best : Option ProblemPath) (pool : List DequeId) (puts takes : List (List ℕ)) → IsUnusedSeat of left → IsGroup keeps g → g.of ≡ of → g.short ≡ false → 0 < length pool →
     IsEverySeat pool g.places → keeps of (view_joined left.view g.view) best g.parts → SameNames puts (all_puts g.places) → SameNames takes (all_takes g.places) → IsDoneUpTo keeps of (view_joined left.view g.view) best g.parts puts takes
-done_with_left keeps of left g best pool puts takes new k ok some every kept put took =
+done_with_left keeps of left g best pool puts takes new k at ok some every kept put took =
     let c = k.counted ok in
     record {
       kept = kept;
-      grants = (let a = c.grants in let b = new.none_granted in omega arith);
+      grants = grants_beside of.key.thin (branches_in_all g.parts) g.view.granted left.view.granted new.none_granted (subst (λ (o : Shared). Grants o.key.thin 0 (branches_in_all g.parts) g.view.granted) at c.grants);
       taken = λ h. (let a = took h in let b = c.takes h in omega (arith, one_root pool g.places some every h, weigh-append h (roots g.places) (all_takes g.places)));
       put = λ h. put h ∙ c.puts h;
     }

@@ -22,3 +22,4 @@ pub mod Joining
 pub mod FirstKept
 pub mod FirstFound
 pub mod FirstAnswers
+pub mod Granting

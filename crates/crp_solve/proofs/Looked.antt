@@ -25,13 +25,13 @@ one_is_plan p None known is also = also
 one_is_plan p (Some plan) known is also = is
 
 -- what they found, or where they met no plan, with the plan that was met by the look
-pub after_look : (p : Problem) (look budget first : ℕ) (looked cert : Certificate) (known met best : Option ProblemPath) (few expanded : ℕ) → BeginsWithin p first → IsFoundTogether p look first looked known few →
-    IsFoundTogether p budget (count_or first (path_in known)) cert met expanded → best ≡ met_or_known met known → IsFoundTogether p budget first cert best expanded
-after_look p look budget first looked cert known met best few expanded begins before f e =
+pub after_look : {other thin : ℕ} (p : Problem) (look budget first : ℕ) (looked cert : Certificate) (known met best : Option ProblemPath) (few expanded : ℕ) → BeginsWithin p first → IsFoundTogether other p look first looked known few →
+    IsFoundTogether thin p budget (count_or first (path_in known)) cert met expanded → best ≡ met_or_known met known → IsFoundTogether thin p budget first cert best expanded
+after_look {other} {thin} p look budget first looked cert known met best few expanded begins before f e =
     let w = f.ended in let old = before.ended in
     let limit : ℕ = count_or first (path_in known) in
     let low : limit ≤ first = old.low in
-    subst (λ o. IsFoundTogether p budget first cert o expanded) (sym e) (record {
+    subst (λ o. IsFoundTogether thin p budget first cert o expanded) (sym e) (record {
       view = f.view;
       granted = f.granted;
       best_is = one_is_plan p met known f.best_is before.best_is;

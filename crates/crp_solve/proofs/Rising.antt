@@ -20,15 +20,15 @@ pub record IsRising (p : Problem) (c : Chosen) (known : Together) : Type 0 where
   pub before : Together
   pub is_before : IsKnownBefore p plan before
   pub rounds : List Round
-  pub deepen : Deepen p c.budget before rounds known
+  pub deepen : Deepen c.thin p c.budget before rounds known
 
 pub rising_begins : (p : Problem) (c : Chosen) (plan : Option ProblemPath) (before : Together) → IsStartPlan p c plan → IsKnownBefore p plan before → IsRising p c before
 rising_begins p c plan before begins known = record { plan = plan; begins = begins; before = before; is_before = known; rounds = []; deepen = refl }
 
 pub rising_shown : (p : Problem) (c : Chosen) (known : Together) → IsRising p c known → IsShown p c.budget known.cert known.best known.expanded
-rising_shown p c known r = let begins = r.begins in rounds_shown p c.budget r.before known r.rounds r.deepen (before_shown p c.budget r.plan r.before begins.best_met r.is_before)
+rising_shown p c known r = let begins = r.begins in rounds_shown c.thin p c.budget r.before known r.rounds r.deepen (before_shown p c.budget r.plan r.before begins.best_met r.is_before)
 
-pub rising_more : (p : Problem) (c : Chosen) (known next : Together) → IsRising p c known → (round : Round) × IsNextRound p c.budget known round × (next ≡ behind known round.found) → IsRising p c next
+pub rising_more : (p : Problem) (c : Chosen) (known next : Together) → IsRising p c known → (round : Round) × IsNextRound c.thin p c.budget known round × (next ≡ behind known round.found) → IsRising p c next
 rising_more p c known next r (round, is, e) = subst (IsRising p c) (sym e) (record {
   plan = r.plan;
   begins = r.begins;
@@ -44,7 +44,7 @@ rising_ends p c known asked r closed =
     record {
       plan = r.plan;
       begins = r.begins;
-      searches = subst (λ b. SearchesOf b p c.budget r.plan known) (sym asked) (record {
+      searches = subst (λ b. SearchesOf b c.thin p c.budget r.plan known) (sym asked) (record {
         before = r.before;
         known = r.is_before;
         rounds = r.rounds;
@@ -54,9 +54,9 @@ rising_ends p c known asked r closed =
     }
 
 -- a search with the rest of the budget, one relocation above the bound, is a search more
-pub one_more : (p : Problem) (budget : ℕ) (known found : Together) (cert : Certificate) (best : Option ProblemPath) → IsOpen p budget known.cert known.best known.expanded →
-    IsFoundTogether p (budget - known.expanded) (known.cert.lower + 1) found.cert found.best found.expanded → cert ≡ higher known.cert found.cert → best ≡ shorter known.best found.best →
-    (round : Round) × IsNextRound p budget known round × (record { cert = cert; best = best; expanded = known.expanded + found.expanded } ≡ behind known round.found)
+pub one_more : {thin : ℕ} (p : Problem) (budget : ℕ) (known found : Together) (cert : Certificate) (best : Option ProblemPath) → IsOpen p budget known.cert known.best known.expanded →
+    IsFoundTogether thin p (budget - known.expanded) (known.cert.lower + 1) found.cert found.best found.expanded → cert ≡ higher known.cert found.cert → best ≡ shorter known.best found.best →
+    (round : Round) × IsNextRound thin p budget known round × (record { cert = cert; best = best; expanded = known.expanded + found.expanded } ≡ behind known round.found)
 one_more p budget known found cert best undecided f e e' = (
   record { limit = known.cert.lower + 1; found = found },
   record { undecided = undecided; limit = refl; found = f },

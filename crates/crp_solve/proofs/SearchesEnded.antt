@@ -16,6 +16,7 @@ use Rattle.crp_solve.specs.Rounds.{Round, behind, IsNextRound, Deepen, IsKnownBe
 use Rattle.crp_solve.proofs.Limits.{count_low, no_longer_met}
 use Rattle.crp_solve.proofs.TrueAnswers.{count_over, search_shows, spent_below, cut_shows}
 use Rattle.crp_solve.proofs.Deepened.{shown_after}
+use Rattle.crp_solve.proofs.Granting.{grants_alone}
 
 -- the better of two plans of the problem is one
 shorter_is_plan : (p : Problem) (plan other : Option ProblemPath) → IfSome plan (IsPlanOf p) → IfSome other (IsPlanOf p) → IfSome (shorter plan other) (IsPlanOf p)
@@ -25,19 +26,19 @@ shorter_is_plan p (Some plan) (Some other) is also =
     elim (nat_lt (length other.path) (length plan.path)) as (λ b. IfSome (if b then Some other else Some plan) (IsPlanOf p)) [ true ↦ also | false ↦ is ]
 
 -- a search more in its place among the others
-pub rounds_more : (p : Problem) (budget : ℕ) (known end : Together) (rounds : List Round) (round : Round) → Deepen p budget known rounds end → IsNextRound p budget end round →
-    Deepen p budget known (rounds ++ round ∷ []) (behind end round.found)
-rounds_more p budget known end [] round e next = (subst (λ k. IsNextRound p budget k round) (sym e) next, ap (λ k. behind k round.found) e)
+pub rounds_more : {thin : ℕ} (p : Problem) (budget : ℕ) (known end : Together) (rounds : List Round) (round : Round) → Deepen thin p budget known rounds end → IsNextRound thin p budget end round →
+    Deepen thin p budget known (rounds ++ round ∷ []) (behind end round.found)
+rounds_more {thin} p budget known end [] round e next = (subst (λ k. IsNextRound thin p budget k round) (sym e) next, ap (λ k. behind k round.found) e)
 rounds_more p budget known end (first ∷ rounds) round d next = (d.0, rounds_more p budget (behind known first.found) end rounds round d.1 next)
 
 -- what is shown behind them
-pub rounds_shown : (p : Problem) (budget : ℕ) (known end : Together) (rounds : List Round) → Deepen p budget known rounds end → IsShown p budget known.cert known.best known.expanded → IsShown p budget end.cert end.best end.expanded
-rounds_shown p budget known end [] e shown = subst (λ (k : Together). IsShown p budget k.cert k.best k.expanded) e shown
-rounds_shown p budget known end (round ∷ rounds) d shown =
+pub rounds_shown : (thin : ℕ) (p : Problem) (budget : ℕ) (known end : Together) (rounds : List Round) → Deepen thin p budget known rounds end → IsShown p budget known.cert known.best known.expanded → IsShown p budget end.cert end.best end.expanded
+rounds_shown thin p budget known end [] e shown = subst (λ (k : Together). IsShown p budget k.cert k.best k.expanded) e shown
+rounds_shown thin p budget known end (round ∷ rounds) d shown =
     let next = d.0 in let met = shown.best_met in let found = round.found in
-    let f : IsFoundTogether p (budget - known.expanded) (known.cert.lower + 1) found.cert found.best found.expanded =
-    subst (λ n. IsFoundTogether p (budget - known.expanded) n found.cert found.best found.expanded) next.limit next.found in
-    rounds_shown p budget (behind known found) end rounds d.1
+    let f : IsFoundTogether thin p (budget - known.expanded) (known.cert.lower + 1) found.cert found.best found.expanded =
+    subst (λ n. IsFoundTogether thin p (budget - known.expanded) n found.cert found.best found.expanded) next.limit next.found in
+    rounds_shown thin p budget (behind known found) end rounds d.1
     (shown_after p budget known.cert found.cert known.best found.best (shorter known.best found.best) known.expanded found.expanded shown next.undecided f
     (shorter_is_plan p known.best found.best met.plan_is f.best_is) refl)
 
@@ -57,7 +58,7 @@ met_count p None known = refl
 met_count p (Some plan) known = refl
 
 -- what is known after one search, which began with the plan that was known
-once_ended : (p : Problem) (budget : ℕ) (cert : Certificate) (best known plan : Option ProblemPath) (expanded : ℕ) → IsBestMet p known → IsFoundTogether p budget (count_of p (path_in known)) cert best expanded →
+once_ended : {thin : ℕ} (p : Problem) (budget : ℕ) (cert : Certificate) (best known plan : Option ProblemPath) (expanded : ℕ) → IsBestMet p known → IsFoundTogether thin p budget (count_of p (path_in known)) cert best expanded →
     IfSome plan (IsPlanOf p) → count_of p (path_in plan) ≡ count_or (count_of p (path_in known)) (path_in best) → AreEnded p budget cert plan expanded
 once_ended p budget cert best known plan expanded met f is count =
     let first : ℕ = count_of p (path_in known) in let limit : ℕ = count_or first (path_in best) in
@@ -69,25 +70,25 @@ once_ended p budget cert best known plan expanded met f is count =
       spent = λ below. f.granted ∙ spent_below p budget first limit f.view cert w low (omega (arith, below, count));
     }
 
-searches_end : (deepen : Bool) (p : Problem) (budget : ℕ) (plan : Option ProblemPath) (end : Together) → IsBestMet p plan → SearchesOf deepen p budget plan end → AreEnded p budget end.cert end.best end.expanded
-searches_end true p budget plan end met s =
-    record { shown = rounds_shown p budget s.before end s.rounds s.deepen (before_shown p budget plan s.before met s.known); spent = s.to_end }
-searches_end false p budget plan end met s =
+searches_end : (thin : ℕ) (deepen : Bool) (p : Problem) (budget : ℕ) (plan : Option ProblemPath) (end : Together) → IsBestMet p plan → SearchesOf deepen thin p budget plan end → AreEnded p budget end.cert end.best end.expanded
+searches_end thin true p budget plan end met s =
+    record { shown = rounds_shown thin p budget s.before end s.rounds s.deepen (before_shown p budget plan s.before met s.known); spent = s.to_end }
+searches_end thin false p budget plan end met s =
     let f = s.found in
     once_ended p budget end.cert s.met plan end.best end.expanded met f (subst (λ o. IfSome o (IsPlanOf p)) (sym s.best) (met_is_plan p s.met plan f.best_is met.plan_is))
     (ap (λ o. count_of p (path_in o)) s.best ∙ met_count p s.met plan)
 
 -- so what was chosen was searched to its end
 pub searched_ended : (p : Problem) (c : Chosen) (end : Together) → AreSearched p c end → AreEnded p c.budget end.cert end.best end.expanded
-searched_ended p c end s = let begins = s.begins in searches_end c.deepen p c.budget s.plan end begins.best_met s.searches
+searched_ended p c end s = let begins = s.begins in searches_end c.thin c.deepen p c.budget s.plan end begins.best_met s.searches
 
--- and of one search each expansion is a branch
-one_search : (deepen : Bool) (p : Problem) (budget : ℕ) (plan : Option ProblemPath) (end : Together) → deepen ≡ false → SearchesOf deepen p budget plan end → end.expanded ≡ branches_of end.cert
-one_search true p budget plan end alone s = absurd (true_is_not_false alone)
+-- and of one search without thinned branches each expansion is a branch
+one_search : {thin : ℕ} (deepen : Bool) (p : Problem) (budget : ℕ) (plan : Option ProblemPath) (end : Together) → deepen ≡ false → thin ≡ 0 → SearchesOf deepen thin p budget plan end → end.expanded ≡ branches_of end.cert
+one_search true p budget plan end alone none s = absurd (true_is_not_false alone)
   where
     true_is_not_false : true ≡ false → ⊥
     true_is_not_false e = cc e
-one_search false p budget plan end alone s = let f = s.found in let ended = f.ended in f.granted ∙ ended.granted
+one_search {thin} false p budget plan end alone none s = let f = s.found in let view = f.view in let ended = f.ended in f.granted ∙ grants_alone thin (branches_of end.cert) view.granted none ended.granted
 
-pub searched_branches : (p : Problem) (c : Chosen) (end : Together) → AreSearched p c end → c.deepen ≡ false → end.expanded ≡ branches_of end.cert
-searched_branches p c end s alone = one_search c.deepen p c.budget s.plan end alone s.searches
+pub searched_branches : (p : Problem) (c : Chosen) (end : Together) → AreSearched p c end → c.deepen ≡ false → c.thin ≡ 0 → end.expanded ≡ branches_of end.cert
+searched_branches p c end s alone none = one_search c.deepen p c.budget s.plan end alone none s.searches

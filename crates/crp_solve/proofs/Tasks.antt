@@ -6,7 +6,9 @@ use Rattle.crp_plan.specs.declared.running.View.{View}
 use Rattle.crp_plan.specs.Plans.{ProblemPath}
 use Rattle.crp_tree.specs.Parts.{ProblemPart, given_of, branches_in}
 use Rattle.crp_search.specs.Limits.{Advances}
-use Rattle.crp_search.specs.Searched.{IsBelow}
+use Rattle.crp_search.specs.Searched.{Grants, IsBelow}
+use Rattle.crp_search.specs.Meeting.{grants_more}
+use Rattle.crp_gather.specs.Settled.{branches_in_all}
 use Rattle.crp_incumbent.specs.Seats.{Shared}
 use Rattle.crp_pool.specs.Weigh.{weigh, SameNames}
 use Rattle.crp_pool.specs.Seats.{PoolSeat, SameSeat, all_takes}
@@ -39,10 +41,11 @@ pub record Took (q r s : PoolSeat) (name : List ℕ) (x : ProblemPart) : Type 0 
   pub name_is : x.name ≡ name
 
 -- one part more is counted
-pub counted_more : (v w : View) (xs : List ProblemPart) (x : ProblemPart) (ls : List PoolSeat) (q r s : PoolSeat) (name : List ℕ) → IsCounted v xs (ls ++ q ∷ []) → Took q r s name x →
-    w.granted ≡ v.granted + length (branches_in x) → IsCounted w (xs ++ x ∷ []) (ls ++ s ∷ [])
-counted_more v w xs x ls q r s name k t grants = record {
-  grants = (let g = k.grants in omega (arith, sum_by-append (λ (y : ProblemPart). length (branches_in y)) xs (x ∷ []), sum_by-cons (λ (y : ProblemPart). length (branches_in y)) x []));
+pub counted_more : {thin : ℕ} (v w : View) (xs : List ProblemPart) (x : ProblemPart) (ls : List PoolSeat) (q r s : PoolSeat) (name : List ℕ) → IsCounted thin v xs (ls ++ q ∷ []) → Took q r s name x →
+    Grants thin v.granted (length (branches_in x)) w.granted → IsCounted thin w (xs ++ x ∷ []) (ls ++ s ∷ [])
+counted_more {thin} v w xs x ls q r s name k t grants = record {
+  grants = grants_more thin 0 (branches_in_all xs) v.granted (length (branches_in x)) w.granted (branches_in_all (xs ++ x ∷ []))
+      (omega (arith, sum_by-append (λ (y : ProblemPart). length (branches_in y)) xs (x ∷ []), sum_by-cons (λ (y : ProblemPart). length (branches_in y)) x [])) k.grants grants;
   takes = λ h. (
       let a = k.takes h in let b = t.takes h in let e : h x.name ≡ h name = ap h t.name_is in
       let c : weigh h (root_at s) ≡ weigh h (root_at q) = ap (λ (n : ℕ). weigh h (root_at (record q { number = n }))) t.number in
@@ -66,8 +69,8 @@ counted_more v w xs x ls q r s name k t grants = record {
       omega (arith, puts-append h ls (q ∷ []), puts-append h ls (s ∷ []), given-append h xs (x ∷ []), weigh-append h q.puts [], weigh-append h s.puts [], weigh-append h q.puts (given_of x), weigh-append h (given_of x) []));
 }
 
-took : (q r s : PoolSeat) (v w : View) (name : List ℕ) (x : ProblemPart) → SameSeat q r → r.puts ≡ q.puts → SameNames r.takes (q.takes ++ name ∷ []) → fixed_at (Some s) ≡ fixed_at (Some r) →
-    IsCountedPart v w (Some r) (Some s) name x → Took q r s name x
+took : {thin : ℕ} (q r s : PoolSeat) (v w : View) (name : List ℕ) (x : ProblemPart) → SameSeat q r → r.puts ≡ q.puts → SameNames r.takes (q.takes ++ name ∷ []) → fixed_at (Some s) ≡ fixed_at (Some r) →
+    IsCountedPart thin v w (Some r) (Some s) name x → Took q r s name x
 took q r s v w name x same puts takes fixed f = record {
   number = same_number r s fixed ∙ same.3;
   takes = λ h. (ap (weigh h) (same_takes r s fixed) ∙ takes h);
@@ -78,11 +81,12 @@ took q r s v w name x same puts takes fixed f = record {
 -- so the group keeps what it keeps
 pub task_done : (keeps : Keeping) (old new : Crew) (x : ProblemPart) (ls : List PoolSeat) (q r s : PoolSeat) (name : List ℕ) → IsGroup keeps old → new.of ≡ old.of → old.places ≡ ls ++ q ∷ [] →
     SameSeat q r → r.puts ≡ q.puts → SameNames r.takes (q.takes ++ name ∷ []) → fixed_at (Some s) ≡ fixed_at (Some r) → keeps old.of new.view new.plan (old.parts ++ x ∷ []) →
-    IsCountedPart old.view new.view (Some r) (Some s) name x → new.parts ≡ old.parts ++ x ∷ [] → new.places ≡ ls ++ s ∷ [] → new.short ≡ old.short → IsGroup keeps new
+    IsCountedPart old.of.key.thin old.view new.view (Some r) (Some s) name x → new.parts ≡ old.parts ++ x ∷ [] → new.places ≡ ls ++ s ∷ [] → new.short ≡ old.short → IsGroup keeps new
 task_done keeps old new x ls q r s name k of places same puts takes fixed kept f parts' places' short = record {
   kept = subst (λ o. keeps o new.view new.plan new.parts) (sym of) (subst (keeps old.of new.view new.plan) (sym parts') kept);
-  counted = λ ok. subst (λ l. IsCounted new.view l new.places) (sym parts') (subst (IsCounted new.view (old.parts ++ x ∷ [])) (sym places')
-      (counted_more old.view new.view old.parts x ls q r s name (subst (IsCounted old.view old.parts) places (k.counted (sym short ∙ ok))) (took q r s old.view new.view name x same puts takes fixed f) f.grants));
+  counted = λ ok. subst (λ (o : Shared). IsCounted o.key.thin new.view new.parts new.places) (sym of)
+      (subst (λ l. IsCounted old.of.key.thin new.view l new.places) (sym parts') (subst (IsCounted old.of.key.thin new.view (old.parts ++ x ∷ [])) (sym places')
+      (counted_more old.view new.view old.parts x ls q r s name (subst (IsCounted old.of.key.thin old.view old.parts) places (k.counted (sym short ∙ ok))) (took q r s old.view new.view name x same puts takes fixed f) f.grants)));
 }
 
 -- a part that was found is searched

@@ -51,7 +51,7 @@ lower_over p cert f a le all =
     omega (arith, x.2, floor_over x.0 f kept (subst (λ q. f ≤ cap q) (sym same) le) cuts)
 
 -- where no claim was refused, the bound reaches the limit in the end
-pub reaches : (p : Problem) (budget first limit : ℕ) (view : View) (cert : Certificate) → IsEndedSearch p budget first limit view cert → limit ≤ cap p → view.refused ≡ 0 → limit ≤ cert.lower
+pub reaches : {thin : ℕ} (p : Problem) (budget first limit : ℕ) (view : View) (cert : Certificate) → IsEndedSearch thin p budget first limit view cert → limit ≤ cap p → view.refused ≡ 0 → limit ≤ cert.lower
 reaches p budget first limit view cert w low none =
     lower_over p cert limit w.about low
     (λ k d lt. let s = w.searched k d lt in
@@ -60,7 +60,7 @@ reaches p budget first limit view cert w low none =
     (cuts_in (get_or cert.parts k d)) s.closed)
 
 -- so where it does not, the budget is spent
-pub spent_below : (p : Problem) (budget first limit : ℕ) (view : View) (cert : Certificate) → IsEndedSearch p budget first limit view cert → limit ≤ cap p → cert.lower < limit → view.granted ≡ budget
+pub spent_below : {thin : ℕ} (p : Problem) (budget first limit : ℕ) (view : View) (cert : Certificate) → IsEndedSearch thin p budget first limit view cert → limit ≤ cap p → cert.lower < limit → view.granted ≡ budget
 spent_below p budget first limit view cert w low below =
     ⊎_elim (λ (l : 0 < view.refused). w.refused_last l) (λ (le : view.refused ≤ 0). absurd (omega (arith, below, reaches p budget first limit view cert w low (omega arith)))) (cases_lt 0 view.refused)
 
@@ -93,7 +93,7 @@ ahead_of_root : (p : Problem) (path : List ℕ) (first s : Position) → IsProbl
 ahead_of_root p path first s is a b = omega (arith, ahead_grows p [] path first s is a b)
 
 -- the bound is never below the look-ahead bound of the first position, where the limit is not
-pub looks_ahead : (p : Problem) (budget first limit : ℕ) (view : View) (cert : Certificate) (s : Position) → IsEndedSearch p budget first limit view cert → min (cap p) (look_ahead s) ≤ limit → IsAt p [] s → min (cap p) (look_ahead s) ≤ cert.lower
+pub looks_ahead : {thin : ℕ} (p : Problem) (budget first limit : ℕ) (view : View) (cert : Certificate) (s : Position) → IsEndedSearch thin p budget first limit view cert → min (cap p) (look_ahead s) ≤ limit → IsAt p [] s → min (cap p) (look_ahead s) ≤ cert.lower
 looks_ahead p budget first limit view cert s w over at =
     let a = w.about in
     let f : ℕ = min (cap p) (look_ahead s) in
@@ -117,14 +117,14 @@ needed_branches p first view cert begun all = record {
 }
 
 -- what a search shows with a plan
-pub search_shows : (p : Problem) (budget first limit total expanded : ℕ) (view : View) (cert : Certificate) (plan : Option ProblemPath) → IsEndedSearch p budget first limit view cert → IsBestMet p plan →
+pub search_shows : {thin : ℕ} (p : Problem) (budget first limit total expanded : ℕ) (view : View) (cert : Certificate) (plan : Option ProblemPath) → IsEndedSearch thin p budget first limit view cert → IsBestMet p plan →
     ((s : Position) → IsAt p [] s → min (cap p) (look_ahead s) ≤ limit) → view.granted ≤ expanded → expanded ≤ total → IsShown p total cert plan expanded
 search_shows p budget first limit total expanded view cert plan w met over enough within = record {
   about = w.about;
   ahead = λ s at. looks_ahead p budget first limit view cert s w (over s at) at;
   needed = needed_branches p first view cert w.first_is w.searched;
   best_met = met;
-  granted = omega (arith, w.granted, enough);
+  granted = let g = w.granted in let some = g.enough in omega (arith, some, enough);
   within = within;
 }
 

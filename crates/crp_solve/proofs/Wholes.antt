@@ -1,5 +1,5 @@
 -- What many workers found together is a search of the whole problem.
-use Rattle.std.proofs.Common.{◌≡◌, ◌≤◌, ℕ, ◌+◌, min, List, [], ◌∷◌, length, All, Option, sum_by, sym, refl, ◌∙◌, arith}
+use Rattle.std.proofs.Common.{◌≡◌, ◌≤◌, ℕ, ◌+◌, min, List, [], ◌∷◌, length, All, Option, sum_by, sym, refl, ◌∙◌, subst, arith}
 use Rattle.std.specs.List.Sorted.{IsPermutation}
 use Rattle.std.proofs.lemmas.List.Sorted.{sum_by-IsPermutation, All-permutation}
 use Rattle.std.proofs.lemmas.List.Sums.{sum_by-cons}
@@ -15,6 +15,7 @@ use Rattle.crp_gather.specs.Gathers.{AreWhole}
 use Rattle.crp_gather.proofs.Wholes.{whole_balanced}
 use Rattle.crp_pool.specs.Weigh.{weigh, SameNames}
 use Rattle.crp_pool.proofs.Hands.{weigh-append}
+use Rattle.crp_search.specs.Searched.{Grants}
 use Rattle.crp_solve.specs.Answers.{path_in}
 use Rattle.crp_solve.specs.Searches.{BeginsWithin, IsSearched, IsEndedSearch}
 use Rattle.crp_solve.specs.Desks.{count_or}
@@ -31,9 +32,9 @@ given_sum h [] = refl
 given_sum h (x ∷ xs) = omega (arith, given_sum h xs, weigh-append h (given_of x) (given_in xs), sum_by-cons (λ (y : ProblemPart). weigh h (given_of y)) x xs)
 
 -- in another order all is done too
-pub done_moved : (view : View) (xs ys : List ProblemPart) → IsPermutation xs ys → IsAllDone view xs → IsAllDone view ys
-done_moved view xs ys moved d = record {
-  grants = d.grants ∙ sym (sum_by-IsPermutation (λ (x : ProblemPart). length (branches_in x)) xs ys moved);
+pub done_moved : {thin : ℕ} (view : View) (xs ys : List ProblemPart) → IsPermutation xs ys → IsAllDone thin view xs → IsAllDone thin view ys
+done_moved {thin} view xs ys moved d = record {
+  grants = subst (λ n. Grants thin 0 n view.granted) (sym (sum_by-IsPermutation (λ (x : ProblemPart). length (branches_in x)) xs ys moved)) d.grants;
   names = λ h. (
       let e = d.names h in
       omega (arith, names_sum h xs, names_sum h ys, given_sum h xs, given_sum h ys, sum_by-IsPermutation (λ (x : ProblemPart). h x.name) xs ys moved, sum_by-IsPermutation (λ (x : ProblemPart). weigh h (given_of x)) xs ys moved));
@@ -48,11 +49,11 @@ pub same_times : (n : List ℕ) (xs ys : List (List ℕ)) → SameNames xs ys �
 same_times n xs ys same = omega (arith, times_weigh n xs, times_weigh n ys, same (λ x. one_if (same_name n x)))
 
 -- the parts are a whole
-pub parts_whole : (p : Problem) (view : View) (xs : List ProblemPart) → IsProblem p → All (λ x. x.problem ≡ p) xs → All IsKeptPart xs → IsAllDone view xs → AreWhole p xs
+pub parts_whole : {thin : ℕ} (p : Problem) (view : View) (xs : List ProblemPart) → IsProblem p → All (λ x. x.problem ≡ p) xs → All IsKeptPart xs → IsAllDone thin view xs → AreWhole p xs
 parts_whole p view xs is of kept d = whole_balanced p xs is of kept (λ name. same_times name (names_of xs) ([] ∷ given_in xs) d.names)
 
 -- so are parts that were searched
-pub all_whole : (p : Problem) (first : ℕ) (view : View) (xs : List ProblemPart) → IsProblem p → All (IsSearched p first view) xs → IsAllDone view xs → AreWhole p xs
+pub all_whole : {thin : ℕ} (p : Problem) (first : ℕ) (view : View) (xs : List ProblemPart) → IsProblem p → All (IsSearched p first view) xs → IsAllDone thin view xs → AreWhole p xs
 all_whole p first view xs is all d = parts_whole p view xs is (All-weaker (IsSearched p first view) (λ x. x.problem ≡ p) (λ x s. s.of_problem) xs all)
     (All-weaker (IsSearched p first view) IsKeptPart (λ x s. s.kept) xs all) d
 
@@ -65,13 +66,13 @@ pub record IsClosedAt (start budget spent limit : ℕ) (view : View) : Type 0 wh
   pub mine : view.mine ≤ start
 
 -- so the whole problem was searched
-pub whole_together : (p : Problem) (budget first spent limit : ℕ) (view : View) (xs : List ProblemPart) (cert : Certificate) (best : Option ProblemPath) → IsProblem p → BeginsWithin p first → IsClosedAt first budget spent limit view →
-    All (IsSearched p first view) xs → IsAllDone view xs → IsPermutation xs cert.parts → IsAbout p cert → view.mine ≡ count_or first (path_in best) →
-    IsEndedSearch p budget first (count_or first (path_in best)) view cert
-whole_together p budget first spent limit view xs cert best is first_is closed all done moved about mine =
+pub whole_together : {thin : ℕ} (p : Problem) (budget first spent limit : ℕ) (view : View) (xs : List ProblemPart) (cert : Certificate) (best : Option ProblemPath) → IsProblem p → BeginsWithin p first → IsClosedAt first budget spent limit view →
+    All (IsSearched p first view) xs → IsAllDone thin view xs → IsPermutation xs cert.parts → IsAbout p cert → view.mine ≡ count_or first (path_in best) →
+    IsEndedSearch thin p budget first (count_or first (path_in best)) view cert
+whole_together {thin} p budget first spent limit view xs cert best is first_is closed all done moved about mine =
     let ys = cert.parts in
     let all' : All (IsSearched p first view) ys = All-permutation (IsSearched p first view) xs ys moved all in
-    let done' : IsAllDone view ys = done_moved view xs ys moved done in
+    let done' : IsAllDone thin view ys = done_moved view xs ys moved done in
     let low = closed.limit_is in let seen = closed.seen in let high = closed.mine in let spent_is = closed.spent_is in let granted = closed.granted in
     record {
       about = about;

@@ -41,5 +41,6 @@ pub record IsBegun (s : Search) (left : Seat) (pool : List DequeId) (known : Opt
   pub start : IsStartPlan s.of.key.problem s.chosen known
   pub first : s.of.key.start ≡ count_of s.of.key.problem (path_in known)
   pub budget : s.of.key.budget ≡ s.chosen.budget
+  pub thin : s.of.key.thin ≡ s.chosen.thin
   pub not_first : s.chosen.first ≡ false
   pub one_search : s.chosen.deepen ≡ false

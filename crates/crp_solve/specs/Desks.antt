@@ -5,7 +5,7 @@ use Rattle.crp_plan.specs.Bay.{Problem, IsProblem}
 use Rattle.crp_plan.specs.Plans.{ProblemPath}
 use Rattle.crp_incumbent.specs.Seats.{Shared, Seat}
 use Rattle.crp_tree.specs.Parts.{ProblemPart, given_of, cuts_in, branches_in, IsKeptPart}
-use Rattle.crp_search.specs.Searched.{IsClosed, IsBelow}
+use Rattle.crp_search.specs.Searched.{Grants, IsClosed, IsBelow}
 use Rattle.crp_pool.specs.Deques.{DequeId}
 use Rattle.crp_pool.specs.Seats.{PoolSeat}
 use Rattle.crp_solve.specs.Answers.{path_in, IsPlanOf}
@@ -57,23 +57,25 @@ pub record IsDesk (named of : Shared) (begun place : Option PoolSeat) (seat : Se
 abbrev pub no_words : Shared
 no_words = record {
   table = record { words = 0; slots = 0; views_name = 0; atom = 0; block = 0; offset = 0; slot_names = [] };
-  key = record { problem = record { heights = []; ordered = 0; stacks = [] }; start = 0; budget = 0 };
+  key = record { problem = record { heights = []; ordered = 0; stacks = [] }; start = 0; budget = 0; thin = 0 };
 }
 
--- what all workers of a search have in common: the words, and how many rows a name has at most that is given away
+-- what all workers of a search have in common: the words, and how many rows a name has at most that is given away; how many thinned branches may be tried
+-- at a node stands in the key of the words
 pub record Terms : Type 0 where
   pub of : Shared
   pub split : ℕ
 
-pub record IsCommon (problem : Problem) (first : ℕ) (t : Terms) : Type 0 where
+pub record IsCommon (problem : Problem) (first thin : ℕ) (t : Terms) : Type 0 where
   pub problem_is : problem ≡ t.of.key.problem
   pub first_is : first ≡ t.of.key.start
+  pub thin_is : thin ≡ t.of.key.thin
   pub short : t.split ≤ 8
 
--- a part has the name; each claim that was granted meanwhile is a branch of it, and each name that was put is one that it gives
-pub record IsCountedPart (old new : View) (before after : Option PoolSeat) (name : List ℕ) (part : ProblemPart) : Type 0 where
+-- a part has the name; each branch of it is a claim that was granted meanwhile, with at most so many thinned branches tried at a node, and each name that was put is one that it gives
+pub record IsCountedPart (thin : ℕ) (old new : View) (before after : Option PoolSeat) (name : List ℕ) (part : ProblemPart) : Type 0 where
   pub name_is : part.name ≡ name
-  pub grants : new.granted ≡ old.granted + length (branches_in part)
+  pub grants : Grants thin old.granted (length (branches_in part)) new.granted
   pub puts : puts_at after ≡ puts_at before ++ given_of part
 
 -- a part was found: each cut is closed for what is seen now, and each branch stands below what was seen at the beginning

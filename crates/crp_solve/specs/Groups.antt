@@ -11,6 +11,7 @@ use Rattle.crp_pool.specs.Weigh.{SameNames}
 use Rattle.crp_pool.specs.Deques.{DequeId}
 use Rattle.crp_pool.specs.Seats.{PoolSeat, seat_number, numbers, IsEverySeat, all_puts, all_takes}
 use Rattle.crp_gather.specs.Settled.{branches_in_all}
+use Rattle.crp_search.specs.Searched.{Grants}
 use Rattle.crp_solve.specs.Searches.{IsSearched}
 use Rattle.crp_solve.specs.Desks.{KeepsPlan}
 
@@ -36,9 +37,9 @@ roots (place ∷ places) = root_at place ++ roots places
 abbrev pub given_in : List ProblemPart → List (List ℕ)
 given_in parts = flat_map given_of parts
 
--- each claim that was granted is a branch of a part, each name that was taken is a part's, as the root's, and each that was put is one that a part gives
-pub record IsCounted (view : View) (parts : List ProblemPart) (places : List PoolSeat) : Type 0 where
-  pub grants : view.granted ≡ branches_in_all parts
+-- each branch of a part is a claim that was granted, with at most so many thinned branches tried at a node, each name that was taken is a part's, as the root's, and each that was put is one that a part gives
+pub record IsCounted (thin : ℕ) (view : View) (parts : List ProblemPart) (places : List PoolSeat) : Type 0 where
+  pub grants : Grants thin 0 (branches_in_all parts) view.granted
   pub takes : SameNames (roots places ++ all_takes places) (names_of parts)
   pub puts : SameNames (all_puts places) (given_in parts)
 
@@ -65,7 +66,7 @@ pub record IsKeptSoFar (of : Shared) (view : View) (plan : Option ProblemPath) (
 -- what a group keeps: its plan and its parts, as the search has it; and unless it is marked, nothing was lost
 pub record IsGroup (keeps : Keeping) (g : Crew) : Type 0 where
   pub kept : keeps g.of g.view g.plan g.parts
-  pub counted : g.short ≡ false → IsCounted g.view g.parts g.places
+  pub counted : g.short ≡ false → IsCounted g.of.key.thin g.view g.parts g.places
 
 -- which place of which pool
 abbrev pub place_key : PoolSeat → List DequeId × DequeId × ℕ

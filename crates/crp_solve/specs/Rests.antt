@@ -13,18 +13,19 @@ use Rattle.crp_solve.specs.Answers.{path_in, IsPlanOf}
 use Rattle.crp_solve.specs.Searches.{IsEndedSearch}
 use Rattle.crp_solve.specs.Desks.{count_or}
 use Rattle.crp_gather.specs.Settled.{branches_in_all}
+use Rattle.crp_search.specs.Searched.{Grants}
 use Rattle.crp_solve.specs.Groups.{Keeping, given_in}
 
 -- the plan and the parts are kept, and the parts are counted: they are those of the root and of the names that were taken, and the names that were put are those that they give
 pub record IsDoneUpTo (keeps : Keeping) (of : Shared) (view : View) (plan : Option ProblemPath) (parts : List ProblemPart) (puts takes : List (List ℕ)) : Type 0 where
   pub kept : keeps of view plan parts
-  pub grants : view.granted ≡ branches_in_all parts
+  pub grants : Grants of.key.thin 0 (branches_in_all parts) view.granted
   pub taken : SameNames ([] ∷ takes) (names_of parts)
   pub put : SameNames puts (given_in parts)
 
--- nothing is left: the names of the parts are the root's and those that they give, each as often
-pub record IsAllDone (view : View) (parts : List ProblemPart) : Type 0 where
-  pub grants : view.granted ≡ branches_in_all parts
+-- nothing is left, where at most so many thinned branches were tried at a node: the names of the parts are the root's and those that they give, each as often
+pub record IsAllDone (thin : ℕ) (view : View) (parts : List ProblemPart) : Type 0 where
+  pub grants : Grants thin 0 (branches_in_all parts) view.granted
   pub names : SameNames (names_of parts) ([] ∷ given_in parts)
 
 -- what workers leave when they are done: their words with this key, a seat at them that has all shares, the plan and the parts that they keep; and unless a part
@@ -34,15 +35,15 @@ pub record AreDone (keeps : Keeping) (key : Key) (of : Shared) (done : Done) : T
   pub words : done.seat.of ≡ of
   pub share : done.seat.view.share ≡ all_shares
   pub kept : keeps of done.seat.view done.best done.parts.items
-  pub all : done.short ≡ false → IsAllDone done.seat.view done.parts.items
+  pub all : done.short ≡ false → IsAllDone of.key.thin done.seat.view done.parts.items
 
--- what the workers of a search found together: a certificate of the whole problem; the limit in the end is the relocations of their best plan, or
+-- what the workers of a search found together, who tried at most so many thinned branches at a node: a certificate of the whole problem; the limit in the end is the relocations of their best plan, or
 -- where they have none, the limit at the start
-pub record IsFoundTogether (p : Problem) (budget first : ℕ) (cert : Certificate) (best : Option ProblemPath) (expanded : ℕ) : Type 0 where
+pub record IsFoundTogether (thin : ℕ) (p : Problem) (budget first : ℕ) (cert : Certificate) (best : Option ProblemPath) (expanded : ℕ) : Type 0 where
   pub view : View
   pub granted : expanded ≡ view.granted
   pub best_is : IfSome best (IsPlanOf p)
-  pub ended : IsEndedSearch p budget first (count_or first (path_in best)) view cert
+  pub ended : IsEndedSearch thin p budget first (count_or first (path_in best)) view cert
 
 -- memory ran out in a search after so many expansions; its best plan, if one is known, is one of the problem
 pub record IsCutShort (p : Problem) (budget : ℕ) (best : Option ProblemPath) (expanded : ℕ) : Type 0 where

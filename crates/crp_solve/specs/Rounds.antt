@@ -17,10 +17,10 @@ pub record IsStartPlan (p : Problem) (c : Chosen) (plan : Option ProblemPath) : 
   pub best_met : IsBestMet p plan
   pub greedy : c.beam ≡ 0 → IsFirstLimit p (count_of p (path_in plan))
 
--- one search, which begins with the relocations of that plan as its limit: the plan that it met is known in the end or, where it met none, that plan
-pub record IsOneSearch (p : Problem) (budget : ℕ) (plan : Option ProblemPath) (end : Together) : Type 0 where
+-- one search, in which at most so many thinned branches are tried at a node, and which begins with the relocations of that plan as its limit: the plan that it met is known in the end or, where it met none, that plan
+pub record IsOneSearch (thin : ℕ) (p : Problem) (budget : ℕ) (plan : Option ProblemPath) (end : Together) : Type 0 where
   pub met : Option ProblemPath
-  pub found : IsFoundTogether p budget (count_of p (path_in plan)) end.cert met end.expanded
+  pub found : IsFoundTogether thin p budget (count_of p (path_in plan)) end.cert met end.expanded
   pub best : end.best ≡ met_or_known met plan
 
 -- one of many searches: the limit that it began with, and what it found
@@ -35,15 +35,15 @@ behind known found = record { cert = higher known.cert found.cert; best = shorte
 
 -- it is made where the bound that is known is below the plan and some of the budget is left; its limit is one relocation above that bound, and it may
 -- make the expansions that are left
-pub record IsNextRound (p : Problem) (budget : ℕ) (known : Together) (round : Round) : Type 0 where
+pub record IsNextRound (thin : ℕ) (p : Problem) (budget : ℕ) (known : Together) (round : Round) : Type 0 where
   pub undecided : IsOpen p budget known.cert known.best known.expanded
   pub limit : round.limit ≡ known.cert.lower + 1
-  pub found : IsFoundTogether p (budget - known.expanded) round.limit round.found.cert round.found.best round.found.expanded
+  pub found : IsFoundTogether thin p (budget - known.expanded) round.limit round.found.cert round.found.best round.found.expanded
 
 -- searches one after the other, from what is known before them to what is known behind them
-abbrev pub Deepen : Problem → ℕ → Together → List Round → Together → Type 0
-Deepen p budget known [] end = known ≡ end
-Deepen p budget known (round ∷ rounds) end = IsNextRound p budget known round × Deepen p budget (behind known round.found) rounds end
+abbrev pub Deepen : ℕ → Problem → ℕ → Together → List Round → Together → Type 0
+Deepen thin p budget known [] end = known ≡ end
+Deepen thin p budget known (round ∷ rounds) end = IsNextRound thin p budget known round × Deepen thin p budget (behind known round.found) rounds end
 
 -- what is known before the first of them: the look-ahead bound of the first position (or the cap), by a certificate of one cut, and the plan to begin
 -- with
@@ -55,20 +55,20 @@ pub record IsKnownBefore (p : Problem) (plan : Option ProblemPath) (known : Toge
   pub none_yet : known.expanded ≡ 0
 
 -- many searches, until the bound reaches the plan (or the cap), or the budget is spent
-pub record AreRounds (p : Problem) (budget : ℕ) (plan : Option ProblemPath) (end : Together) : Type 0 where
+pub record AreRounds (thin : ℕ) (p : Problem) (budget : ℕ) (plan : Option ProblemPath) (end : Together) : Type 0 where
   pub before : Together
   pub known : IsKnownBefore p plan before
   pub rounds : List Round
-  pub deepen : Deepen p budget before rounds end
+  pub deepen : Deepen thin p budget before rounds end
   pub to_end : end.cert.lower < count_of p (path_in end.best) → end.expanded ≡ budget
 
 -- many searches where deepening is asked for, else one
-abbrev pub SearchesOf : Bool → Problem → ℕ → Option ProblemPath → Together → Type 0
-SearchesOf true p budget plan end = AreRounds p budget plan end
-SearchesOf false p budget plan end = IsOneSearch p budget plan end
+abbrev pub SearchesOf : Bool → ℕ → Problem → ℕ → Option ProblemPath → Together → Type 0
+SearchesOf true thin p budget plan end = AreRounds thin p budget plan end
+SearchesOf false thin p budget plan end = IsOneSearch thin p budget plan end
 
 -- what was chosen for a search was done, and this is known in the end
 pub record AreSearched (p : Problem) (c : Chosen) (end : Together) : Type 0 where
   pub plan : Option ProblemPath
   pub begins : IsStartPlan p c plan
-  pub searches : SearchesOf c.deepen p c.budget plan end
+  pub searches : SearchesOf c.deepen c.thin p c.budget plan end

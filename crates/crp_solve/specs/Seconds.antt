@@ -24,7 +24,7 @@ cert_before (First best) = best.cert
 pub record IsKnownBest (p : Problem) (c : Chosen) (best : Optimum) : Type 0 where
   pub answer : IsTrueAnswer p c.budget (Optimal best.plan best.cert) best.expanded
   pub searches : AreSearched p c (known_by best.cert (Some best.plan) best.expanded)
-  pub one_search : c.deepen ≡ false → best.expanded ≡ branches_of best.cert
+  pub one_search : c.deepen ≡ false → c.thin ≡ 0 → best.expanded ≡ branches_of best.cert
 
 -- nothing more is asked, and the answer stands; or the first best plan is asked for, and a best one is known
 abbrev pub IsAsked : Problem → Chosen → Asked → Type 0

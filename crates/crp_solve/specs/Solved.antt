@@ -26,15 +26,15 @@ ComesOf p c (Between lower cert plan Budget) expanded = AreSearched p c (known_b
 ComesOf p c (Between lower cert plan Memory) expanded = ⊤
 
 -- what was chosen for a search is answered: by a true answer, which gives what the searches came to; by the first best plan where that was asked for and
--- found; and without deepening each expansion is a branch
+-- found; and without deepening and without thinned branches each expansion is a branch
 pub record IsSolved (p : Problem) (c : Chosen) (s : Solved) : Type 0 where
   pub answer : IsTrueAnswer p c.budget s.answer s.expanded
   pub searches : ComesOf p c s.answer s.expanded
-  pub one_search : c.deepen ≡ false → EachIsBranch s.answer s.expanded
+  pub one_search : c.deepen ≡ false → c.thin ≡ 0 → EachIsBranch s.answer s.expanded
   pub second : EndedSecond c.budget c.first s.answer s.second s.second_expanded
 
 -- the fewest relocations were searched for as was chosen, and this is answered before any search for the first best plan
 pub record IsFirstPart (p : Problem) (c : Chosen) (s : Solved) : Type 0 where
   pub answer : IsTrueAnswer p c.budget s.answer s.expanded
   pub searches : ComesOf p c s.answer s.expanded
-  pub one_search : c.deepen ≡ false → EachIsBranch s.answer s.expanded
+  pub one_search : c.deepen ≡ false → c.thin ≡ 0 → EachIsBranch s.answer s.expanded

@@ -62,7 +62,7 @@ fn search_next<R: Wait, G: Gate, A: Aim>(
     ensures kept { A.keeps common.now.of result.1.seat.view result.1.best result.1.parts.items }
     ensures more { result.0 ≡ true
         → (result.1.short ≡ false) × IsDoneUpTo A.keeps common.now.of result.1.seat.view result.1.best result.1.parts.items rest.new.puts rest.new.takes }
-    ensures end { result.0 ≡ false → result.1.short ≡ false → IsAllDone result.1.seat.view result.1.parts.items }
+    ensures end { result.0 ≡ false → result.1.short ≡ false → IsAllDone common.now.of.key.thin result.1.seat.view result.1.parts.items }
 {
     if done.parts.reserve(1).is_err() {
         done.short = true;
@@ -101,7 +101,7 @@ fn search_rest<R: Wait, G: Gate, A: Aim>(
     ensures share { result.seat.view.share ≡ done.seat.view.share }
     ensures mine { result.seat.view.mine ≤ done.seat.view.mine }
     ensures kept { A.keeps common.now.of result.seat.view result.best result.parts.items }
-    ensures all { result.short ≡ false → IsAllDone result.seat.view result.parts.items }
+    ensures all { result.short ≡ false → IsAllDone common.now.of.key.thin result.seat.view result.parts.items }
 {
     for _ in outside.rt.forever() {
         let (more, after) = search_next::<R, G, A>(outside, common, done, &mut rest);
@@ -137,7 +137,7 @@ pub(crate) fn put_together<R: Wait, G: Gate, A: Aim>(
     ensures mine { result.seat.view.mine ≤ all.view.mine }
     ensures kept_before { A.keeps common.now.of all.view all.plan all.parts }
     ensures kept { A.keeps common.now.of result.seat.view result.best result.parts.items }
-    ensures all { result.short ≡ false → IsAllDone result.seat.view result.parts.items }
+    ensures all { result.short ≡ false → IsAllDone common.now.of.key.thin result.seat.view result.parts.items }
 {
     let Crew {
         seat,
@@ -168,8 +168,8 @@ fn ended(
     done: Done,
 ) -> Result<Together, Lost>
     requires first { BeginsWithin problem.now shared.key.start }
-    requires done { AreDone IsKeptSoFar (record { problem = problem.now; start = shared.key.start; budget = budget }) shared done }
-    ensures found { IfOk result (λ r. IsFoundTogether problem.now budget shared.key.start r.cert r.best r.expanded) }
+    requires done { AreDone IsKeptSoFar (record { problem = problem.now; start = shared.key.start; budget = budget; thin = shared.key.thin }) shared done }
+    ensures found { IfOk result (λ r. IsFoundTogether shared.key.thin problem.now budget shared.key.start r.cert r.best r.expanded) }
     ensures best { IfOk result (λ r. r.best ≡ done.best) }
     ensures best_left { IfErr result (λ lost. lost.best ≡ done.best) }
     ensures within { IfErr result (λ lost. lost.expanded ≤ budget) }
@@ -205,8 +205,8 @@ pub(crate) fn found_by<R: Wait, G: Gate>(
 ) -> Result<Together, Lost>
     requires first { BeginsWithin problem.now shared.key.start }
     requires board { outside.now.board.now ≡ problem.now }
-    requires done { AreDone IsKeptSoFar (record { problem = problem.now; start = shared.key.start; budget = budget }) shared done }
-    ensures found { IfOk result (λ r. IsFoundTogether problem.now budget shared.key.start r.cert r.best r.expanded) }
+    requires done { AreDone IsKeptSoFar (record { problem = problem.now; start = shared.key.start; budget = budget; thin = shared.key.thin }) shared done }
+    ensures found { IfOk result (λ r. IsFoundTogether shared.key.thin problem.now budget shared.key.start r.cert r.best r.expanded) }
     ensures best { IfOk result (λ r. r.best ≡ done.best) }
     ensures lost { IfErr result (λ lost. IsCutShort problem.now budget lost.best lost.expanded) }
     ensures best_left { IfErr result (λ lost. HasNoMore (path_in lost.best) (path_in done.best)) }

@@ -21,7 +21,9 @@ pub use end::{Lost, Together};
 pub use laws::{answers_agree, each_has_an_answer, one_first_limit};
 pub use rounds::with_known;
 pub use search::Search;
-pub use settings::{MAX_BEAM, MAX_BUDGET, MAX_SPLIT, MAX_WORKERS, Settings, SettingsFault};
+pub use settings::{
+    MAX_BEAM, MAX_BUDGET, MAX_SPLIT, MAX_THIN, MAX_WORKERS, Settings, SettingsFault,
+};
 pub use solver::solve;
 pub use workers::common::{Common, Gate, NoGate};
 pub use workers::group::Group;

@@ -32,8 +32,8 @@ pub fn with_known(found: Result<Together, Lost>, known: Option<Plan>) -> Result<
     ensures kind { IsOk result ↔ IsOk found }
     ensures met { IfOk found (λ f. IfOk result (λ r. r ≡ record f { best = met_or_known f.best known })) }
     ensures better { IfErr found (λ lost. IfErr result (λ r. r ≡ record lost { best = shorter lost.best known })) }
-    ensures one_search { (p : Statement) (budget : ℕ) → IfOk found (λ r. IsFoundTogether p budget (count_or_cap p (path_in known)) r.cert r.best r.expanded)
-        → IfOk result (IsOneSearch p budget known) }
+    ensures one_search { (thin : ℕ) (p : Statement) (budget : ℕ) → IfOk found (λ r. IsFoundTogether thin p budget (count_or_cap p (path_in known)) r.cert r.best r.expanded)
+        → IfOk result (IsOneSearch thin p budget known) }
     ensures one_part { IfOk found (λ r. length r.cert.parts ≡ 1) → IfOk result (λ r. length r.cert.parts ≡ 1) }
     ensures lost { (p : Statement) (budget : ℕ) → IsBestMet p known → IfErr found (λ lost. IsCutShort p budget lost.best lost.expanded)
         → IfErr result (λ lost. IsLost p budget lost.best lost.expanded) }
@@ -116,9 +116,9 @@ pub(crate) fn known_behind(
 ) -> Result<Together, Lost>
     requires known { IsShown problem.now settings.budget known.cert known.best known.expanded }
     requires undecided { IsOpen problem.now settings.budget known.cert known.best known.expanded }
-    requires found { IfOk found (λ f. IsFoundTogether problem.now (settings.budget - known.expanded) (known.cert.lower + 1) f.cert f.best f.expanded) }
+    requires found { IfOk found (λ f. IsFoundTogether settings.thin problem.now (settings.budget - known.expanded) (known.cert.lower + 1) f.cert f.best f.expanded) }
     requires lost { IfErr found (λ lost. IsCutShort problem.now (settings.budget - known.expanded) lost.best lost.expanded) }
-    ensures round { IfOk result (λ next. (round : Round) × IsNextRound problem.now settings.budget known round × (next ≡ behind known round.found)) }
+    ensures round { IfOk result (λ next. (round : Round) × IsNextRound settings.thin problem.now settings.budget known round × (next ≡ behind known round.found)) }
     ensures shown { IfOk result (λ next. IsShown problem.now settings.budget next.cert next.best next.expanded) }
     ensures nearer { IfOk result (IsNearer problem.now settings.budget known) }
     ensures one_part { length known.cert.parts ≡ 1 → IfOk found (λ f. length f.cert.parts ≡ 1) → IfOk result (λ next. length next.cert.parts ≡ 1) }

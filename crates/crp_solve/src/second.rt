@@ -137,7 +137,7 @@ fn first_ended(
     done: Done,
 ) -> Result<First, GivenUp>
     requires best { IsBest problem.now shared.key.start }
-    requires done { AreDone IsKeptFirst (record { problem = problem.now; start = shared.key.start; budget = budget }) shared done }
+    requires done { AreDone IsKeptFirst (record { problem = problem.now; start = shared.key.start; budget = budget; thin = shared.key.thin }) shared done }
     ensures found { IfOk result (λ first. IsFoundFirst problem.now budget shared.key.start first.plan first.cert first.expanded) }
     ensures given_up { IfErr result (λ end. IsGivenUp budget end.cause end.expanded) }
 {
@@ -242,6 +242,7 @@ pub(crate) fn first_alone<K: Begun>(
         count,
         &mut worker,
         settings.split(),
+        settings.thinning(),
     );
     let expanded = worker.granted();
     let memory = GivenUp {

@@ -143,11 +143,12 @@ pub(crate) fn begin<R: Wait, G: Gate, A: Aim>(
     settings: Settings,
     first: u32,
 ) -> Option<Start<A>>
-    requires begins { (of : Words) → of.key ≡ record { problem = problem.now; start = first; budget = settings.budget } → KeepsUnused A.keeps of }
-    ensures { IfSome result (λ s. IsStart (record { problem = problem.now; start = first; budget = settings.budget }) s.common.of s.left s.pool s.worker) }
+    requires begins { (of : Words) → of.key ≡ record { problem = problem.now; start = first; budget = settings.budget; thin = settings.thin } → KeepsUnused A.keeps of }
+    ensures { IfSome result (λ s. IsStart (record { problem = problem.now; start = first; budget = settings.budget; thin = settings.thin }) s.common.of s.left s.pool s.worker) }
 {
     let known = problem.copy();
-    let Ok((shared, seat)) = Shared::open(alloc, problem, first, settings.budget()) else {
+    let Ok((shared, seat)) = Shared::open(alloc, problem, first, settings.budget(), settings.thin())
+    else {
         return None;
     };
     let Ok((left, given)) = shared.split(seat) else {
@@ -163,6 +164,7 @@ pub(crate) fn begin<R: Wait, G: Gate, A: Aim>(
         open: OpenWork::new(),
         first,
         split: settings.split(),
+        thinning: settings.thinning(),
     };
     let Ok(worker) = begun::<R, G, A>(outside, &common, given, places) else {
         return None;

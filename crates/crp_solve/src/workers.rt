@@ -90,8 +90,8 @@ pub(crate) fn work_together<R: Threads + Wait + Sync, G: Gate + Sync, A: Aim + S
     settings: Settings,
     first: u32,
 ) -> Option<(Shared, Done)>
-    requires begins { (of : Words) → of.key ≡ record { problem = problem.now; start = first; budget = settings.budget } → KeepsUnused A.keeps of }
-    ensures { IfSome result (λ r. AreDone A.keeps (record { problem = problem.now; start = first; budget = settings.budget }) r.0 r.1) }
+    requires begins { (of : Words) → of.key ≡ record { problem = problem.now; start = first; budget = settings.budget; thin = settings.thin } → KeepsUnused A.keeps of }
+    ensures { IfSome result (λ r. AreDone A.keeps (record { problem = problem.now; start = first; budget = settings.budget; thin = settings.thin }) r.0 r.1) }
 {
     let Start {
         common,

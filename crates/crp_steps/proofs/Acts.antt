@@ -10,12 +10,13 @@ use Rattle.crp_plan.proofs.Lists.{get_put_same, get_put_other}
 use Rattle.crp_bay.specs.Positions.{at, targets, child}
 use Rattle.crp_bay.proofs.Members.{in_head}
 use Rattle.crp_bay.proofs.Walked.{at_reads, target_goes_on}
+use Rattle.crp_steps.specs.declared.event.Bound.{Bound}
 use Rattle.crp_steps.specs.declared.event.Kind.{Kind}
-use Rattle.crp_steps.specs.declared.event.Kind.TheVariants.{See, Take, Steal, Claim, Put, Leaf as CloseLeaf, Offer, Finish}
+use Rattle.crp_steps.specs.declared.event.Kind.TheVariants.{See, Take, Steal, Claim, Try, Put, Leaf as CloseLeaf, Offer, Finish}
 use Rattle.crp_steps.specs.declared.event.Stopped.{Stopped}
 use Rattle.crp_steps.specs.declared.event.Stopped.TheVariants.{NotNow, Memory}
 use Rattle.crp_steps.specs.Worlds.{Worker, Leaf, World, IsWorker, with_worker}
-use Rattle.crp_steps.specs.Events.{words_of, after_words, children, closed_if_dead, Steps, Takes, Steals, branched, Claims, Puts, Closes, Offers, MayClose, value_of, LeadsBy}
+use Rattle.crp_steps.specs.Events.{words_of, after_words, children, closed_if_dead, Steps, Takes, Steals, branched, Claims, Tries, Puts, Closes, Offers, MayClose, HoldsAt, value_of, LeadsBy}
 use Rattle.crp_steps.specs.Own.{IsStopped, HoldsCurrent, BranchesAt}
 use Rattle.crp_steps.proofs.One.{last_parts, same_worker, same_current}
 
@@ -154,18 +155,24 @@ can_offer w k path s h end = (
   record { worker = h.worker; acts = h.acts; others = h.others; path = path; place = s; current = h.current; finished = end; after = refl },
 )
 
-pub closes_not : (w : World) (k : ℕ) (look : Bool) (path : List ℕ) (s : Position) (value : ℕ) → IsProblem w.rules.problem → HoldsCurrent w k path s → value ≡ value_of look path s →
-    ((worker : Worker) → IsWorker w k worker → MayClose w k worker (record { path = path; value = value }) s → ⊥) → (next : World) → Closes k look w next → ⊥
-closes_not w k look path s value ok h is none next r =
+pub closes_not : (w : World) (k : ℕ) (bound : Bound) (path : List ℕ) (s : Position) (value : ℕ) → IsProblem w.rules.problem → HoldsCurrent w k path s → value ≡ value_of bound path s →
+    ((worker : Worker) → IsWorker w k worker → MayClose w k worker (record { path = path; value = value }) s → ⊥) → (next : World) → Closes k bound w next → ⊥
+closes_not w k bound path s value ok h is none next r =
     let e = same_holds w k r.path path r.place s ok (record { worker = r.worker; acts = r.acts; others = r.others; current = r.current }) h in
-    let one : MayClose w k r.worker (record { path = path; value = value_of look path r.place }) r.place = subst (λ l. MayClose w k r.worker (record { path = l; value = value_of look l r.place }) r.place) e.0 r.may in
-    let two : MayClose w k r.worker (record { path = path; value = value_of look path s }) s = subst (λ x. MayClose w k r.worker (record { path = path; value = value_of look path x }) x) e.1 one in
+    let one : MayClose w k r.worker (record { path = path; value = value_of bound path r.place }) r.place = subst (λ l. MayClose w k r.worker (record { path = l; value = value_of bound l r.place }) r.place) e.0 r.may in
+    let two : MayClose w k r.worker (record { path = path; value = value_of bound path s }) s = subst (λ x. MayClose w k r.worker (record { path = path; value = value_of bound path x }) x) e.1 one in
     none r.worker r.acts (subst (λ n. MayClose w k r.worker (record { path = path; value = n }) s) (sym is) two)
 
-pub can_close : (w : World) (k : ℕ) (look : Bool) (path : List ℕ) (s : Position) (value : ℕ) → HoldsCurrent w k path s → value ≡ value_of look path s →
-    ((worker : Worker) → IsWorker w k worker → MayClose w k worker (record { path = path; value = value }) s) → (next : World) × Closes k look w next
-can_close w k look path s value h is may = (
-  record (with_worker w k (record h.worker { hand = h.others })) { leaves = w.leaves ++ (record { path = path; value = value_of look path s }) ∷ [] },
+-- no bound closes a path where it does not hold
+pub closes_not_held : (w : World) (k : ℕ) (bound : Bound) (path : List ℕ) (s : Position) → IsProblem w.rules.problem → HoldsCurrent w k path s → (HoldsAt bound s → ⊥) → (next : World) → Closes k bound w next → ⊥
+closes_not_held w k bound path s ok h none next r =
+    let e = same_holds w k r.path path r.place s ok (record { worker = r.worker; acts = r.acts; others = r.others; current = r.current }) h in
+    none (subst (HoldsAt bound) e.1 r.holds)
+
+pub can_close : (w : World) (k : ℕ) (bound : Bound) (path : List ℕ) (s : Position) (value : ℕ) → HoldsCurrent w k path s → HoldsAt bound s → value ≡ value_of bound path s →
+    ((worker : Worker) → IsWorker w k worker → MayClose w k worker (record { path = path; value = value }) s) → (next : World) × Closes k bound w next
+can_close w k bound path s value h holds is may = (
+  record (with_worker w k (record h.worker { hand = h.others })) { leaves = w.leaves ++ (record { path = path; value = value_of bound path s }) ∷ [] },
   record {
     worker = h.worker;
     acts = h.acts;
@@ -173,6 +180,7 @@ can_close w k look path s value h is may = (
     path = path;
     place = s;
     current = h.current;
+    holds = holds;
     may = subst (λ n. MayClose w k h.worker (record { path = path; value = n }) s) is (may h.worker h.acts);
     after = refl;
   },
@@ -259,14 +267,41 @@ can_claim w k path s old h unfinished never olds = (
   },
 )
 
+-- a thinned branch is claimed
+pub tries : (w next : World) (k : ℕ) (path : List ℕ) (s : Position) (old new : Words) → HoldsCurrent w k path s → s.next ≤ s.ordered → old.view.refused ≡ 0 → ((worker : Worker) → IsWorker w k worker → old ≡ words_of w worker) →
+    new ≡ after_claim w.rules.budget old → ((worker : Worker) → IsWorker w k worker → next ≡ after_words w k worker new) → Tries k w next
+tries w next k path s old new h unfinished never olds news met =
+    let o = olds h.worker h.acts in
+    record {
+      worker = h.worker;
+      acts = h.acts;
+      never_refused = sym (ap (λ (x : Words). x.view.refused) o) ∙ never;
+      others = h.others;
+      path = path;
+      place = s;
+      current = h.current;
+      unfinished = unfinished;
+      after = met h.worker h.acts ∙ ap (after_words w k h.worker) (news ∙ ap (after_claim w.rules.budget) o);
+    }
+
+-- a thinned branch may be claimed just where an expansion may
+pub try_as_claim : (w : World) (k : ℕ) (next : World) → Tries k w next → (other : World) × Claims k w other
+try_as_claim w k next r =
+    (_, record { worker = r.worker; acts = r.acts; never_refused = r.never_refused; others = r.others; path = r.path; place = r.place; current = r.current; unfinished = r.unfinished; after = refl })
+
+pub claim_as_try : (w : World) (k : ℕ) (next : World) → Claims k w next → (other : World) × Tries k w other
+claim_as_try w k next r =
+    (_, record { worker = r.worker; acts = r.acts; never_refused = r.never_refused; others = r.others; path = r.path; place = r.place; current = r.current; unfinished = r.unfinished; after = refl })
+
 -- nobody acts by a number that is not there
 pub nobody : (w : World) (k : ℕ) (kind : Kind) (next : World) → length w.workers ≤ k → LeadsBy k kind w next → ⊥
 nobody w k See next le r = let lt = slice_get_within w.workers k r.worker r.acts in omega arith
 nobody w k Take next le r = let lt = slice_get_within w.workers k r.worker r.acts in omega arith
 nobody w k (Steal victim) next le r = let lt = slice_get_within w.workers k r.worker r.acts in omega arith
 nobody w k Claim next le r = let lt = slice_get_within w.workers k r.worker r.acts in omega arith
+nobody w k Try next le r = let lt = slice_get_within w.workers k r.worker r.acts in omega arith
 nobody w k (Put index) next le r = let lt = slice_get_within w.workers k r.worker r.acts in omega arith
-nobody w k (CloseLeaf look) next le r = let lt = slice_get_within w.workers k r.worker r.acts in omega arith
+nobody w k (CloseLeaf bound) next le r = let lt = slice_get_within w.workers k r.worker r.acts in omega arith
 nobody w k Offer next le r = let lt = slice_get_within w.workers k r.worker r.acts in omega arith
 nobody w k Finish next le r = let lt = slice_get_within w.workers k r.worker r.acts in omega arith
 

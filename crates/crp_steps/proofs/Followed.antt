@@ -1,23 +1,26 @@
 -- Each event keeps what holds.
-use Rattle.std.proofs.Common.{◌≡◌, ℕ, ◌+◌, ◌<◌, ◌≤◌, min, ◌⊎◌, inl, inr, ⊎_elim, Bool, true, false, cond, nat_lt, List, [], ◌∷◌, ◌++◌, length, Contains, Some, slice_get, slice_set, refl, sym, ap, ◌∙◌, subst, arith, append_assoc}
+use Rattle.std.proofs.Common.{◌≡◌, ℕ, ◌+◌, ◌<◌, ◌≤◌, min, ◌⊎◌, inl, inr, ⊎_elim, Bool, true, false, cond, nat_lt, List, [], ◌∷◌, ◌++◌, length, Contains, Some, slice_get, slice_set, refl, sym, ap, ◌∙◌, subst, arith, append_assoc, length-append}
 use Rattle.std.proofs.lemmas.Option.{same_Some}
 use Rattle.std.proofs.lemmas.List.Elements.{Contains-append_left, Contains-append_right, Contains-append_cases, Contains-push}
 use Rattle.std.proofs.lemmas.Bool.{cases_eq, cases_lt, cases_Bool, ltb-true, ltb-false}
 use Rattle.crp_plan.specs.declared.moves.Move.{Move}
 use Rattle.crp_plan.specs.Bay.{Problem, IsProblem, Position, IsPlan, IsAt, relocations, path_of, cap}
 use Rattle.crp_plan.proofs.Lists.{get_put_same, get_put_other}
-use Rattle.crp_plan.proofs.Covered.{branch}
+use Rattle.crp_plan.proofs.Covered.{branch, from_at, at_sound, relocations-path}
 use Rattle.crp_plan.proofs.Steps.{plan_at}
 use Rattle.crp_bay.specs.Positions.{targets, child}
 use Rattle.crp_bay.proofs.Members.{not_in_nil, in_head, in_tail, in_cons_cases}
 use Rattle.crp_bay.proofs.Walked.{every_target, target_goes_on}
 use Rattle.crp_bounds.proofs.Floors.{cut_floor}
+use Rattle.crp_thinned.proofs.Thinning.{shown_bounds}
 use Rattle.crp_tree.specs.Trees.{Begins}
+use Rattle.crp_steps.specs.declared.event.Bound.{Bound}
+use Rattle.crp_steps.specs.declared.event.Bound.TheVariants.{Blocking, LookAhead, Reasons}
 use Rattle.crp_steps.specs.declared.event.Kind.{Kind}
-use Rattle.crp_steps.specs.declared.event.Kind.TheVariants.{See, Take, Steal, Claim, Put, Leaf as CloseLeaf, Offer, Finish}
+use Rattle.crp_steps.specs.declared.event.Kind.TheVariants.{See, Take, Steal, Claim, Try, Put, Leaf as CloseLeaf, Offer, Finish}
 use Rattle.crp_steps.specs.declared.event.Event.{Event}
 use Rattle.crp_steps.specs.Worlds.{Worker, Leaf, Offered, World, IsWorker, with_worker}
-use Rattle.crp_steps.specs.Events.{Steps, Sees, Takes, Steals, IsCurrent, children, closed_if_dead, Claims, Puts, value_of, Closes, Offers, Finishes, LeadsBy, Come}
+use Rattle.crp_steps.specs.Events.{Steps, Sees, Takes, Steals, IsCurrent, children, closed_if_dead, Claims, Tries, Puts, HoldsAt, value_of, Closes, Offers, Finishes, LeadsBy, Come}
 use Rattle.crp_steps.specs.Covered.{Has, SomeRefused, LeadsSomewhere, IsKeptWorld}
 use Rattle.crp_steps.proofs.Changed.{in_one, in_pushed, changed, Rest, rest_of, kept_of, Change, rest_kept, covered_kept}
 
@@ -222,33 +225,57 @@ granted_kept w k v others path s ok low h was cur never unfinished lt =
     (in_pushed others path x (subst (λ l. Contains l x) cur.is_last i)))
     has))
 
-refused_kept : (w : World) (k : ℕ) (v : Worker) → IsKeptWorld w → IsWorker w k v → v.view.refused ≡ 0 → w.rules.budget ≤ w.spent →
-    IsKeptWorld (changed w k (record v { view = record v.view { refused = v.view.refused + 1 } }) w.limit (w.spent + 1) w.leaves w.offered)
-refused_kept w k v h was never le =
-    let v' : Worker = record v { view = record v.view { refused = v.view.refused + 1 } } in
+-- a claim that leaves the hand as it is, after which the worker has so many granted and refused
+counted_kept : (w : World) (k : ℕ) (v : Worker) (granted refused : ℕ) → IsKeptWorld w → IsWorker w k v → v.view.refused ≤ refused → refused ≤ 1 →
+    granted + min w.spent w.rules.budget ≡ v.view.granted + min (w.spent + 1) w.rules.budget →
+    (refused + min (w.spent + 1) w.rules.budget) + w.spent ≡ (v.view.refused + min w.spent w.rules.budget) + (w.spent + 1) →
+    IsKeptWorld (changed w k (record v { view = record v.view { granted = granted; refused = refused } }) w.limit (w.spent + 1) w.leaves w.offered)
+counted_kept w k v granted refused h was more once grants refuses =
+    let v' : Worker = record v { view = record v.view { granted = granted; refused = refused } } in
     let next : World = changed w k v' w.limit (w.spent + 1) w.leaves w.offered in
     let change : Change w k v v' w.limit (w.spent + 1) w.leaves w.offered = record {
       was = was;
       falls = omega arith;
       limit_is = ⊎_elim (λ e. inl e) (λ o. inr (record { offer = o.offer; offered = o.offered; size = o.size; is_plan = o.is_plan })) h.limit_is;
       sees = h.seen k v was;
-      refuses = omega arith;
+      refuses = more;
       leaves_high = λ l i. inl i;
       offers_high = λ o i. inl i;
-      granted = omega arith;
-      refused = omega arith;
-      once = omega arith;
+      granted = grants;
+      refused = refuses;
+      once = once;
       paths = λ x has. inl has;
       names = λ x d. inl d;
     } in
     kept_of next (rest_kept w k v v' w.limit (w.spent + 1) w.leaves w.offered (rest_of w h) change)
     (λ moves plan. covered_kept w next k v v' moves (h.covered moves plan) was refl (λ l i. i) (λ x has b. inr (x, has, b)))
 
+refused_kept : (w : World) (k : ℕ) (v : Worker) → IsKeptWorld w → IsWorker w k v → v.view.refused ≡ 0 → w.rules.budget ≤ w.spent →
+    IsKeptWorld (changed w k (record v { view = record v.view { refused = v.view.refused + 1 } }) w.limit (w.spent + 1) w.leaves w.offered)
+refused_kept w k v h was never le = counted_kept w k v (v.view).granted (v.view.refused + 1) h was (omega arith) (omega arith) (omega arith) (omega arith)
+
+tried_kept : (w : World) (k : ℕ) (v : Worker) → IsKeptWorld w → IsWorker w k v → v.view.refused ≡ 0 → w.spent < w.rules.budget →
+    IsKeptWorld (changed w k (record v { view = record v.view { granted = v.view.granted + 1 } }) w.limit (w.spent + 1) w.leaves w.offered)
+tried_kept w k v h was never lt = counted_kept w k v (v.view.granted + 1) (v.view).refused h was (omega arith) (omega arith) (omega arith) (omega arith)
+
+-- what the claim of a thinned branch leads to, by whether it is granted
+abbrev tried : Bool → World → ℕ → Worker → World
+tried granted w k v =
+    changed w k (record v { view = cond granted (record v.view { granted = v.view.granted + 1 }) (record v.view { refused = v.view.refused + 1 }) }) w.limit (w.spent + 1) w.leaves w.offered
+
+try_kept : (k : ℕ) (w next : World) → IsKeptWorld w → Tries k w next → IsKeptWorld next
+try_kept k w next h r =
+    let v = r.worker in
+    subst IsKeptWorld (sym r.after) (⊎_elim
+    (λ t. subst (λ b. IsKeptWorld (tried b w k v)) (sym t) (tried_kept w k v h r.acts r.never_refused (ltb-true w.spent w.rules.budget t)))
+    (λ f. subst (λ b. IsKeptWorld (tried b w k v)) (sym f) (refused_kept w k v h r.acts r.never_refused (ltb-false w.spent w.rules.budget f)))
+    (cases_Bool (nat_lt w.spent w.rules.budget)))
+
 -- what a claim leads to, by whether it is granted
 abbrev claimed : Bool → World → ℕ → Worker → List (List ℕ) → List ℕ → Position → World
 claimed granted w k v others path s = cond granted
     (changed w k (record v { hand = others ++ children path (targets s); view = cond granted (record v.view { granted = v.view.granted + 1 }) (record v.view { refused = v.view.refused + 1 }) }) w.limit (w.spent + 1) (w.leaves ++ closed_if_dead w.rules.problem path (targets s)) w.offered)
-    (changed w k (record v { view = cond granted (record v.view { granted = v.view.granted + 1 }) (record v.view { refused = v.view.refused + 1 }) }) w.limit (w.spent + 1) w.leaves w.offered)
+    (tried granted w k v)
 
 claim_kept : (k : ℕ) (w next : World) → IsProblem w.rules.problem → w.rules.start ≤ cap w.rules.problem → IsKeptWorld w → Claims k w next → IsKeptWorld next
 claim_kept k w next ok low h r =
@@ -258,15 +285,21 @@ claim_kept k w next ok low h r =
     (λ f. subst (λ b. IsKeptWorld (claimed b w k v r.others r.path r.place)) (sym f) (refused_kept w k v h r.acts r.never_refused (ltb-false w.spent w.rules.budget f)))
     (cases_Bool (nat_lt w.spent w.rules.budget)))
 
-value_low : (p : Problem) (look : Bool) (path more : List ℕ) (s : Position) (moves : List Move) → IsProblem p → IsAt p path s → IsPlan p moves → path_of moves ≡ path ++ more → value_of look path s ≤ relocations moves
-value_low p true path more s moves ok here plan e = (cut_floor p path more s moves ok here plan e).0
-value_low p false path more s moves ok here plan e = (cut_floor p path more s moves ok here plan e).1
+value_low : (p : Problem) (bound : Bound) (path more : List ℕ) (s : Position) (moves : List Move) → IsProblem p → IsAt p path s → HoldsAt bound s → IsPlan p moves → path_of moves ≡ path ++ more → value_of bound path s ≤ relocations moves
+value_low p Blocking path more s moves ok here holds plan e = (cut_floor p path more s moves ok here plan e).1
+value_low p LookAhead path more s moves ok here holds plan e = (cut_floor p path more s moves ok here plan e).0
+value_low p (Reasons number text) path more s moves ok here holds plan e =
+    let r = from_at p path more s moves ok here plan e in
+    let sizes : relocations moves ≡ length path + relocations r.0 =
+    relocations-path moves ∙ ap length e ∙ length-append path more ∙ ap (λ n. length path + n) (sym (relocations-path r.0 ∙ ap length r.2)) in
+    let enough = holds.reaches in
+    omega (arith, shown_bounds s holds.tree r.0 (at_sound p path s ok here) here.no_take holds.fits (plan.0, r.1, plan.2))
 
-leaf_kept : (k : ℕ) (look : Bool) (w next : World) → IsProblem w.rules.problem → IsKeptWorld w → Closes k look w next → IsKeptWorld next
-leaf_kept k look w next ok h r =
+leaf_kept : (k : ℕ) (bound : Bound) (w next : World) → IsProblem w.rules.problem → IsKeptWorld w → Closes k bound w next → IsKeptWorld next
+leaf_kept k bound w next ok h r =
     let p : Problem = w.rules.problem in
     let v = r.worker in
-    let value : ℕ = value_of look r.path r.place in
+    let value : ℕ = value_of bound r.path r.place in
     let new : Leaf = record { path = r.path; value = value } in
     let v' : Worker = record v { hand = r.others } in
     let to : World = changed w k v' w.limit w.spent (w.leaves ++ new ∷ []) w.offered in
@@ -299,7 +332,7 @@ leaf_kept k look w next ok h r =
     (λ i'. inr (x, inr i', b))
     (λ q.
     let b' : Begins (path_of moves) r.path = subst (Begins (path_of moves)) (sym q) b in
-    inl (record { leaf = new; closed = Contains-push w.leaves new; begins = b'; low = value_low p look r.path b'.0 r.place moves ok cur.is_at plan b'.1 }))
+    inl (record { leaf = new; closed = Contains-push w.leaves new; begins = b'; low = value_low p bound r.path b'.0 r.place moves ok cur.is_at r.holds plan b'.1 }))
     (in_pushed r.others r.path x (subst (λ l. Contains l x) cur.is_last i)))
     has)))
 
@@ -340,8 +373,9 @@ leads_by_kept k See w next ok low h r = see_kept k w next h r
 leads_by_kept k Take w next ok low h r = take_kept k w next h r
 leads_by_kept k (Steal victim) w next ok low h r = steal_kept k victim w next h r
 leads_by_kept k Claim w next ok low h r = claim_kept k w next ok low h r
+leads_by_kept k Try w next ok low h r = try_kept k w next h r
 leads_by_kept k (Put index) w next ok low h r = put_kept k index w next h r
-leads_by_kept k (CloseLeaf look) w next ok low h r = leaf_kept k look w next ok h r
+leads_by_kept k (CloseLeaf bound) w next ok low h r = leaf_kept k bound w next ok h r
 leads_by_kept k Offer w next ok low h r = offer_kept k w next ok h r
 leads_by_kept k Finish w next ok low h r = finish_kept k w next h r
 
@@ -354,8 +388,9 @@ same_rules k Claim w next r = ap (λ (x : World). x.rules) r.after ∙ ⊎_elim
     (λ t. ap (λ b. (claimed b w k r.worker r.others r.path r.place).rules) t)
     (λ f. ap (λ b. (claimed b w k r.worker r.others r.path r.place).rules) f)
     (cases_Bool (nat_lt w.spent w.rules.budget))
+same_rules k Try w next r = ap (λ (x : World). x.rules) r.after
 same_rules k (Put index) w next r = ap (λ (x : World). x.rules) r.after
-same_rules k (CloseLeaf look) w next r = ap (λ (x : World). x.rules) r.after
+same_rules k (CloseLeaf bound) w next r = ap (λ (x : World). x.rules) r.after
 same_rules k Offer w next r = ap (λ (x : World). x.rules) r.after
 same_rules k Finish w next r = ap (λ (x : World). x.rules) r.after
 

@@ -6,7 +6,7 @@ use Rattle.std.proofs.lemmas.Bool.{cases_Bool}
 use Rattle.crp_plan.specs.Running.{after_claim}
 use Rattle.crp_plan.proofs.Lists.{at_le_sum}
 use Rattle.crp_steps.specs.declared.event.Kind.{Kind}
-use Rattle.crp_steps.specs.declared.event.Kind.TheVariants.{See, Take, Steal, Claim, Put, Leaf as CloseLeaf, Offer, Finish}
+use Rattle.crp_steps.specs.declared.event.Kind.TheVariants.{See, Take, Steal, Claim, Try, Put, Leaf as CloseLeaf, Offer, Finish}
 use Rattle.crp_steps.specs.declared.event.Event.{Event}
 use Rattle.crp_steps.specs.declared.event.Stopped.{Stopped}
 use Rattle.crp_steps.specs.declared.event.Stopped.TheVariants.{NotNow, Memory}
@@ -43,8 +43,9 @@ same_size k Claim w next r =
     (λ t. subst (λ b. length (cond b yes' no').workers ≡ length w.workers) (sym t) (length-set w.workers k _))
     (λ f. subst (λ b. length (cond b yes' no').workers ≡ length w.workers) (sym f) (length-set w.workers k _))
     (cases_Bool (nat_lt w.spent w.rules.budget))
+same_size k Try w next r = ap (λ (x : World). length x.workers) r.after ∙ length-set w.workers k _
 same_size k (Put index) w next r = ap (λ (x : World). length x.workers) r.after ∙ length-set w.workers k _
-same_size k (CloseLeaf look) w next r = ap (λ (x : World). length x.workers) r.after ∙ length-set w.workers k _
+same_size k (CloseLeaf bound) w next r = ap (λ (x : World). length x.workers) r.after ∙ length-set w.workers k _
 same_size k Offer w next r = ap (λ (x : World). length x.workers) r.after ∙ length-set w.workers k _
 same_size k Finish w next r = ap (λ (x : World). length x.workers) r.after ∙ length-set w.workers k _
 

@@ -6,4 +6,7 @@ pub mod Named
 pub mod Acts
 pub mod Held
 pub mod Asked
+pub mod Finite
+pub mod ChainsDecided
+pub mod Closable
 pub mod Decided

@@ -1,14 +1,15 @@
 -- An event leads to one world at most.
-use Rattle.std.proofs.Common.{◌≡◌, ℕ, ◌+◌, ◌⊎◌, ⊎_elim, Bool, cond, List, [], ◌∷◌, ◌++◌, length, refl, sym, ap, ◌∙◌, subst, arith, length-append}
+use Rattle.std.proofs.Common.{◌≡◌, ℕ, ◌+◌, ◌⊎◌, ⊎_elim, cond, List, [], ◌∷◌, ◌++◌, length, refl, sym, ap, ◌∙◌, subst, arith, length-append}
 use Rattle.std.proofs.lemmas.Option.{same_Some}
 use Rattle.crp_plan.specs.Bay.{Problem, IsProblem, Position, IsAt}
 use Rattle.crp_plan.specs.Running.{after_see, after_offer, after_claim, is_granted}
 use Rattle.crp_plan.proofs.Paths.{same_at}
+use Rattle.crp_steps.specs.declared.event.Bound.{Bound}
 use Rattle.crp_steps.specs.declared.event.Kind.{Kind}
-use Rattle.crp_steps.specs.declared.event.Kind.TheVariants.{See, Take, Steal, Claim, Put, Leaf as CloseLeaf, Offer, Finish}
+use Rattle.crp_steps.specs.declared.event.Kind.TheVariants.{See, Take, Steal, Claim, Try, Put, Leaf as CloseLeaf, Offer, Finish}
 use Rattle.crp_steps.specs.declared.event.Event.{Event}
 use Rattle.crp_steps.specs.Worlds.{Worker, World, IsWorker, with_worker}
-use Rattle.crp_steps.specs.Events.{words_of, after_words, Steps, Sees, Takes, Steals, IsCurrent, branched, Claims, Puts, value_of, Closes, Offers, Finishes, LeadsBy, Leads, Comes, Come}
+use Rattle.crp_steps.specs.Events.{words_of, after_words, Steps, Sees, Takes, Steals, IsCurrent, branched, Claims, Tries, Puts, value_of, Closes, Offers, Finishes, LeadsBy, Leads, Comes, Come}
 use Rattle.crp_steps.proofs.Followed.{same_rules}
 
 -- a list ends in one way
@@ -81,20 +82,24 @@ one_claim k w next other ok a b =
     a.after ∙ ap (λ v. claimed w k v a.others a.path a.place) e ∙ ap (λ o. claimed w k b.worker o a.path a.place) r.0
     ∙ ap (λ x. claimed w k b.worker b.others x a.place) r.1 ∙ ap (claimed w k b.worker b.others b.path) r.2 ∙ sym b.after
 
+one_try : (k : ℕ) (w next other : World) → Tries k w next → Tries k w other → next ≡ other
+one_try k w next other a b =
+    a.after ∙ ap (λ v. after_words w k v (after_claim w.rules.budget (words_of w v))) (same_worker w k a.worker b.worker a.acts b.acts) ∙ sym b.after
+
 one_put : (split index : ℕ) (v next other : Worker) → Puts split index v next → Puts split index v other → next ≡ other
 one_put split index v next other a b =
     let r = index_parts a.before b.before a.path b.path a.behind b.behind (a.at_index ∙ sym b.at_index) (sym a.in_hand ∙ b.in_hand) in
     a.after ∙ (λ i. record v { deque = v.deque ++ r.1 i ∷ []; hand = r.0 i ++ r.2 i }) ∙ sym b.after
 
-abbrev closed : World → ℕ → Bool → Worker → List (List ℕ) → List ℕ → Position → World
-closed w k look v others path s = record (with_worker w k (record v { hand = others })) { leaves = w.leaves ++ (record { path = path; value = value_of look path s }) ∷ [] }
+abbrev closed : World → ℕ → Bound → Worker → List (List ℕ) → List ℕ → Position → World
+closed w k bound v others path s = record (with_worker w k (record v { hand = others })) { leaves = w.leaves ++ (record { path = path; value = value_of bound path s }) ∷ [] }
 
-one_leaf : (k : ℕ) (look : Bool) (w next other : World) → IsProblem w.rules.problem → Closes k look w next → Closes k look w other → next ≡ other
-one_leaf k look w next other ok a b =
+one_leaf : (k : ℕ) (bound : Bound) (w next other : World) → IsProblem w.rules.problem → Closes k bound w next → Closes k bound w other → next ≡ other
+one_leaf k bound w next other ok a b =
     let e = same_worker w k a.worker b.worker a.acts b.acts in
     let r = same_current w.rules.problem a.worker b.worker a.others b.others a.path b.path a.place b.place ok e a.current b.current in
-    a.after ∙ ap (λ v. closed w k look v a.others a.path a.place) e ∙ ap (λ o. closed w k look b.worker o a.path a.place) r.0
-    ∙ ap (λ x. closed w k look b.worker b.others x a.place) r.1 ∙ ap (closed w k look b.worker b.others b.path) r.2 ∙ sym b.after
+    a.after ∙ ap (λ v. closed w k bound v a.others a.path a.place) e ∙ ap (λ o. closed w k bound b.worker o a.path a.place) r.0
+    ∙ ap (λ x. closed w k bound b.worker b.others x a.place) r.1 ∙ ap (closed w k bound b.worker b.others b.path) r.2 ∙ sym b.after
 
 abbrev offered : World → ℕ → Worker → List ℕ → World
 offered w k v path = record (after_words w k v (after_offer (length path) (words_of w v))) { offered = w.offered ++ (record { worker = k; path = path }) ∷ [] }
@@ -110,8 +115,9 @@ one_by k See w next other ok a b = one_see k w next other a b
 one_by k Take w next other ok a b = one_steps Takes one_take k w next other a b
 one_by k (Steal victim) w next other ok a b = one_steal k victim w next other a b
 one_by k Claim w next other ok a b = one_claim k w next other ok a b
+one_by k Try w next other ok a b = one_try k w next other a b
 one_by k (Put index) w next other ok a b = one_steps (Puts w.rules.split index) (one_put w.rules.split index) k w next other a b
-one_by k (CloseLeaf look) w next other ok a b = one_leaf k look w next other ok a b
+one_by k (CloseLeaf bound) w next other ok a b = one_leaf k bound w next other ok a b
 one_by k Offer w next other ok a b = one_offer k w next other ok a b
 one_by k Finish w next other ok a b = one_steps Finishes (λ v n o c d. c.after ∙ sym d.after) k w next other a b
 

@@ -1,13 +1,16 @@
--- What each event does: a worker sees, takes, steals, claims, puts, closes a leaf, offers or finishes. See, offer and claim change the limit, the
--- claims and the worker's view as for any worker of a search.
-use Rattle.std.specs.Prelude.{◌≡◌, ◌≢◌, ℕ, ◌+◌, ◌<◌, ◌≤◌, ◌⊎◌, Bool, true, false, if◌then◌else◌, List, [], ◌∷◌, ◌++◌, length, Contains}
+-- What each event does: a worker sees, takes, steals, claims, tries, puts, closes a leaf, offers or finishes. See, offer, claim and try change the
+-- limit, the claims and the worker's view as for any worker of a search.
+use Rattle.std.specs.Prelude.{◌≡◌, ◌≢◌, ℕ, ◌+◌, ◌<◌, ◌≤◌, ◌⊎◌, true, false, if◌then◌else◌, List, [], ◌∷◌, ◌++◌, length, Contains, ⊤}
 use Rattle.crp_plan.specs.Bay.{Problem, Position, IsAt, IsFinished, cap}
 use Rattle.crp_plan.specs.declared.running.Words.{Words}
 use Rattle.crp_plan.specs.Running.{words, after_see, after_offer, after_claim, is_granted}
 use Rattle.crp_bay.specs.Positions.{targets}
 use Rattle.crp_bounds.specs.Bounds.{blocking, look_ahead}
+use Rattle.crp_thinning.specs.Symbols as symbols
+use Rattle.crp_steps.specs.declared.event.Bound.{Bound}
+use Rattle.crp_steps.specs.declared.event.Bound.TheVariants.{Blocking, LookAhead, Reasons}
 use Rattle.crp_steps.specs.declared.event.Kind.{Kind}
-use Rattle.crp_steps.specs.declared.event.Kind.TheVariants.{See, Take, Steal, Claim, Put, Leaf as CloseLeaf, Offer, Finish}
+use Rattle.crp_steps.specs.declared.event.Kind.TheVariants.{See, Take, Steal, Claim, Try, Put, Leaf as CloseLeaf, Offer, Finish}
 use Rattle.crp_steps.specs.declared.event.Event.{Event}
 use Rattle.crp_steps.specs.Worlds.{Worker, Leaf, World, IsWorker, with_worker}
 
@@ -89,6 +92,19 @@ pub record Claims (k : ℕ) (w next : World) : Type 0 where
       then branched w k worker others path place
       else after_words w k worker (after_claim w.rules.budget (words_of w worker)))
 
+-- Try: a worker that was refused none claims a thinned branch of a try to close its current path, which is not finished; granted or refused, its hand
+-- stays
+pub record Tries (k : ℕ) (w next : World) : Type 0 where
+  pub worker : Worker
+  pub acts : IsWorker w k worker
+  pub never_refused : worker.view.refused ≡ 0
+  pub others : List (List ℕ)
+  pub path : List ℕ
+  pub place : Position
+  pub current : IsCurrent w.rules.problem worker others path place
+  pub unfinished : place.next ≤ place.ordered
+  pub after : next ≡ after_words w k worker (after_claim w.rules.budget (words_of w worker))
+
 -- Put: a path of the hand, at this index from 0 and of at most `split` rows, goes to the end of the worker's deque
 pub record Puts (split index : ℕ) (worker next : Worker) : Type 0 where
   pub before : List (List ℕ)
@@ -99,9 +115,21 @@ pub record Puts (split index : ℕ) (worker next : Worker) : Type 0 where
   pub short : length path ≤ split
   pub after : next ≡ record worker { deque = worker.deque ++ path ∷ []; hand = before ++ behind }
 
--- the value of a leaf: the length of its path and a lower bound of the place that it leads to, by look-ahead or by blocking
-abbrev pub value_of : Bool → List ℕ → Position → ℕ
-value_of look path place = length path + (if look then look_ahead place else blocking place)
+-- how much a bound is at a place; reasons have a number
+abbrev pub bound_at : Bound → Position → ℕ
+bound_at Blocking place = blocking place
+bound_at LookAhead place = look_ahead place
+bound_at (Reasons number text) place = number
+
+-- the bound is one at the place: the blocking and the look-ahead bound are anywhere, and reasons where their text closes the place with their number
+abbrev pub HoldsAt : Bound → Position → Type 0
+HoldsAt Blocking place = ⊤
+HoldsAt LookAhead place = ⊤
+HoldsAt (Reasons number text) place = symbols.Closes place number text.now
+
+-- the value of a leaf: the length of its path and a lower bound of the place that it leads to
+abbrev pub value_of : Bound → List ℕ → Position → ℕ
+value_of bound path place = length path + bound_at bound place
 
 -- a worker may close a leaf: its value is at least what the worker saw; or the worker was refused a claim; or the path is finished and the worker
 -- has offered it
@@ -109,16 +137,17 @@ abbrev pub MayClose : World → ℕ → Worker → Leaf → Position → Type 0
 MayClose w k worker leaf place =
     (worker.view.seen ≤ leaf.value) ⊎ ((0 < worker.view.refused) ⊎ (IsFinished place × Contains w.offered (record { worker = k; path = leaf.path })))
 
--- Leaf: the worker closes its current path with its value, where it may
-pub record Closes (k : ℕ) (look : Bool) (w next : World) : Type 0 where
+-- Leaf: the worker closes its current path by a bound that holds there, with its value, where it may
+pub record Closes (k : ℕ) (bound : Bound) (w next : World) : Type 0 where
   pub worker : Worker
   pub acts : IsWorker w k worker
   pub others : List (List ℕ)
   pub path : List ℕ
   pub place : Position
   pub current : IsCurrent w.rules.problem worker others path place
-  pub may : MayClose w k worker (record { path = path; value = value_of look path place }) place
-  pub after : next ≡ record (with_worker w k (record worker { hand = others })) { leaves = w.leaves ++ (record { path = path; value = value_of look path place }) ∷ [] }
+  pub holds : HoldsAt bound place
+  pub may : MayClose w k worker (record { path = path; value = value_of bound path place }) place
+  pub after : next ≡ record (with_worker w k (record worker { hand = others })) { leaves = w.leaves ++ (record { path = path; value = value_of bound path place }) ∷ [] }
 
 -- Offer: the worker offers its current path, which is finished; that lowers the limit to its length if that is smaller
 pub record Offers (k : ℕ) (w next : World) : Type 0 where
@@ -143,8 +172,9 @@ LeadsBy k See w next = Sees k w next
 LeadsBy k Take w next = Steps Takes k w next
 LeadsBy k (Steal victim) w next = Steals k victim w next
 LeadsBy k Claim w next = Claims k w next
+LeadsBy k Try w next = Tries k w next
 LeadsBy k (Put index) w next = Steps (Puts w.rules.split index) k w next
-LeadsBy k (CloseLeaf look) w next = Closes k look w next
+LeadsBy k (CloseLeaf bound) w next = Closes k bound w next
 LeadsBy k Offer w next = Offers k w next
 LeadsBy k Finish w next = Steps Finishes k w next
 

@@ -3,19 +3,18 @@ ghost use Rattle.std.specs.Prelude.{◌≡◌, ℕ, [], ◌∷◌, ◌++◌, ◌
 ghost use Rattle.crp_plan.specs.Bay.{IsProblem, Position as Place};
 ghost use Rattle.crp_bay.specs.Positions.{targets};
 ghost use Rattle.crp_steps.specs.Worlds.{World as WorldValue, Worker as WorkerValue, IsWorker};
-ghost use Rattle.crp_steps.specs.Events.{words_of, after_words, MayClose, value_of};
-ghost use Rattle.crp_steps.specs.Events.{Steps, Sees, Takes, Steals, Claims, Puts, Closes, Offers, Finishes, Leads};
+ghost use Rattle.crp_steps.specs.Events.{words_of, after_words, MayClose};
+ghost use Rattle.crp_steps.specs.Events.{Steps, Sees, Takes, Steals, Claims, Tries, Puts, Closes, Offers, Finishes, Leads};
 ghost use Rattle.crp_plan.specs.Bay.{cap};
 ghost use Rattle.crp_steps.specs.Worlds.{begin, least_leaf as least_leaf_of};
 ghost use Rattle.crp_steps.specs.Covered.{IsClosedWorld, SomeRefused};
 ghost use Rattle.crp_steps.specs.Own.{IsStopped, HoldsCurrent, BranchesAt, ClosesAs, CanCount};
 
-use crate::event::{Event, Kind, Stopped};
+use crate::current::Current;
+use crate::event::{Bound, Event, Kind, Stopped};
 use crate::leaf::{Leaf, Offered};
 use crate::path::Path;
 use crate::worker::Worker;
-use crp_bay::Position;
-use crp_bounds::{blocking, look_ahead};
 use crp_plan::{Problem, Words};
 use std::alloc::{AllocError, Global};
 use std::marker::Model;
@@ -48,13 +47,6 @@ impl Model for State {
       leaves = state.leaves.items;
       offered = state.offered.items;
     } };
-}
-
-/// A worker's current path, copied, and the position that it leads to.
-#[derive(Drop)]
-struct Current {
-    path: Path,
-    place: Position,
 }
 
 impl State {
@@ -275,17 +267,20 @@ impl State {
             || (current.place.is_done() && self.has_offered(k, &current.path))
     }
 
-    /// The worker closes its current path.
-    fn leaf(&mut self, k: usize, look: bool) -> Result<(), Stopped>
+    /// The worker closes its current path by the bound.
+    fn leaf(&mut self, k: usize, bound: Bound<'_>) -> Result<(), Stopped>
         requires there { k < length self.old.workers }
-        ensures done { OnOk result (Closes k look self.old self.new) }
-        ensures stopped { IfErr result (IsStopped (Closes k look self.old)) }
+        ensures done { OnOk result (Closes k bound.entry self.old self.new) }
+        ensures stopped { IfErr result (IsStopped (Closes k bound.entry self.old)) }
         ensures same { OnErr result (self.new ≡ self.old) }
     {
         let Some(current) = self.current(k) else {
             return Err(Stopped::NotNow);
         };
-        let value = current.value(look);
+        if !current.holds(bound) {
+            return Err(Stopped::NotNow);
+        }
+        let value = current.value(bound);
         if !self.may_close(k, &current, value) {
             return Err(Stopped::NotNow);
         }
@@ -377,11 +372,34 @@ impl State {
         Ok(())
     }
 
-    /// Follows the event where it is allowed.
-    pub(crate) fn apply(&mut self, event: Event) -> Result<(), Stopped>
+    /// The worker claims a thinned branch of a try to close its current path.
+    fn try_branch(&mut self, k: usize) -> Result<(), Stopped>
+        requires there { k < length self.old.workers }
         requires few { CanCount self.old }
-        ensures followed { OnOk result (Leads event self.old self.new) }
-        ensures stopped { IfErr result (IsStopped (Leads event self.old)) }
+        ensures done { OnOk result (Tries k self.old self.new) }
+        ensures stopped { IfErr result (IsStopped (Tries k self.old)) }
+        ensures same { OnErr result (self.new ≡ self.old) }
+    {
+        let mut words = self.words(k);
+        if words.view.refused > 0 {
+            return Err(Stopped::NotNow);
+        }
+        let Some(current) = self.current(k) else {
+            return Err(Stopped::NotNow);
+        };
+        if current.place.is_done() {
+            return Err(Stopped::NotNow);
+        }
+        let _granted = words.claim(self.budget);
+        self.meet(k, words);
+        Ok(())
+    }
+
+    /// Follows the event where it is allowed.
+    pub(crate) fn apply(&mut self, event: Event<'_>) -> Result<(), Stopped>
+        requires few { CanCount self.old }
+        ensures followed { OnOk result (Leads event.entry self.old self.new) }
+        ensures stopped { IfErr result (IsStopped (Leads event.entry self.old)) }
         ensures same { OnErr result (self.new ≡ self.old) }
     {
         let k = event.worker as usize;
@@ -396,24 +414,11 @@ impl State {
             Kind::Take => self.take(k),
             Kind::Steal { victim } => self.steal(k, victim as usize),
             Kind::Claim => self.claim(k),
+            Kind::Try => self.try_branch(k),
             Kind::Put { index } => self.put(k, index as usize),
-            Kind::Leaf { look } => self.leaf(k, look),
+            Kind::Leaf { bound } => self.leaf(k, bound),
             Kind::Offer => self.offer(k),
             Kind::Finish => self.finish(k),
         }
-    }
-}
-
-impl Current {
-    /// The value of the path as a leaf.
-    fn value(&self, look: bool) -> u32
-        ensures { result ≡ value_of look self.now.path self.now.place.place }
-    {
-        let bound = if look {
-            look_ahead(&self.place)
-        } else {
-            blocking(&self.place)
-        };
-        self.path.length() + bound
     }
 }

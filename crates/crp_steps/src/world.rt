@@ -71,9 +71,9 @@ impl World {
 
     /// Follows the event, where it is allowed. `NotNow` comes exactly where it leads to no world. After either error the world is as
     /// it was before.
-    pub fn apply(&mut self, event: Event) -> Result<(), Stopped>
-        ensures followed { OnOk result (Leads event self.old self.new) }
-        ensures not_now { (result ≡ Err Stopped.NotNow) ↔ IsNotNow event self.old }
+    pub fn apply(&mut self, event: Event<'_>) -> Result<(), Stopped>
+        ensures followed { OnOk result (Leads event.entry self.old self.new) }
+        ensures not_now { (result ≡ Err Stopped.NotNow) ↔ IsNotNow event.entry self.old }
         ensures same { OnErr result (self.new ≡ self.old) }
     {
         self.state.apply(event)
@@ -81,7 +81,7 @@ impl World {
 
     /// Follows each of the events where it is allowed, and passes over it where it is not. The error says that there was no memory for
     /// one that was allowed; those before it stand.
-    pub fn run(&mut self, events: &[Event]) -> Result<(), AllocError>
+    pub fn run(&mut self, events: &[Event<'_>]) -> Result<(), AllocError>
         ensures all { OnOk result (Come events.now self.old self.new) }
         ensures part { OnErr result (ComeInPart events.now self.old self.new) }
     {
@@ -92,9 +92,9 @@ impl World {
     }
 
     /// Follows the event, or passes over it.
-    fn pass(&mut self, event: Event) -> Result<(), AllocError>
-        ensures comes { OnOk result (Comes event self.old self.new) }
-        ensures allowed { OnErr result (IsNotNow event self.old → ⊥) }
+    fn pass(&mut self, event: Event<'_>) -> Result<(), AllocError>
+        ensures comes { OnOk result (Comes event.entry self.old self.new) }
+        ensures allowed { OnErr result (IsNotNow event.entry self.old → ⊥) }
         ensures same { OnErr result (self.new ≡ self.old) }
     {
         match self.apply(event) {

@@ -24,7 +24,7 @@ fn shows_help(rt: HostRuntime) {
 }
 
 // What the help of `solve` says of its words, its options and their defaults.
-const HELP: [&str; 24] = [
+const HELP: [&str; 28] = [
     "Usage: crp solve [OPTIONS] <YARD> <MOVINS>",
     "--rows <N>",
     "1 to 12 [default: 6]",
@@ -45,6 +45,10 @@ const HELP: [&str; 24] = [
     "--beam <N>",
     "0 to 10000 [default: 0]",
     "--deepen",
+    "--thin <N>",
+    "0 to 1000000; 0 for no try [default: 0]",
+    "--chains",
+    "--strong",
     "--cert <FILE>",
     "--after <FILE>",
     "--quiet",

@@ -1,5 +1,7 @@
 -- Claims, one after the other.
-use Rattle.std.proofs.Common.{◌≡◌, ℕ, zero, suc, ◌+◌, Bool, true, false, refl, sym, subst, inl, inr, arith}
+use Rattle.std.proofs.Common.{◌≡◌, ◌≤◌, ℕ, zero, suc, ◌+◌, ◌-◌, Bool, true, false, refl, sym, subst, arith}
+use Rattle.crp_thinning.specs.declared.claims.Unclosed.{Unclosed}
+use Rattle.crp_thinning.specs.declared.claims.Unclosed.TheVariants.{Open, Refused, Memory}
 use Rattle.crp_thinning.specs.Claiming.{Granted, Claimed}
 
 pub granted_more : {X : Type 0} (claims : X → Bool → X → Type 0) (m n : ℕ) (old now new : X) → Granted claims m old now → Granted claims n now new → Granted claims (m + n) old new
@@ -10,17 +12,20 @@ granted_more claims (suc m) n old now new g h = let e : suc m + n ≡ suc (m + n
 pub granted_first : {X : Type 0} (claims : X → Bool → X → Type 0) (n : ℕ) (old now new : X) → claims old true now → Granted claims n now new → Granted claims (n + 1) old new
 granted_first claims n old now new c h = let e : n + 1 ≡ suc n = omega arith in subst (λ k. Granted claims k old new) (sym e) (now, c, h)
 
-pub none_claimed : {X : Type 0} (claims : X → Bool → X → Type 0) (old : X) → Claimed claims old old
-none_claimed claims old = record { count = 0; now = old; granted = refl; last = inl refl }
+-- the first is refused
+pub one_refused : {X : Type 0} (claims : X → Bool → X → Type 0) (most : ℕ) (old new : X) → 1 ≤ most → claims old false new → Claimed claims most Refused old new
+one_refused claims most old new some c = (0, omega arith, (old, refl, c))
 
-pub one_refused : {X : Type 0} (claims : X → Bool → X → Type 0) (old new : X) → claims old false new → Claimed claims old new
-one_refused claims old new c = record { count = 0; now = old; granted = refl; last = inr c }
+-- memory is short behind one that is granted
+pub one_granted : {X : Type 0} (claims : X → Bool → X → Type 0) (most : ℕ) (old new : X) → 1 ≤ most → claims old true new → Claimed claims most Memory old new
+one_granted claims most old new some c = (1, some, (new, c, refl))
 
-pub one_granted : {X : Type 0} (claims : X → Bool → X → Type 0) (old new : X) → claims old true new → Claimed claims old new
-one_granted claims old new c = record { count = 1; now = new; granted = (new, c, refl); last = inl refl }
+-- so many are granted before
+pub claimed_after : {X : Type 0} (claims : X → Bool → X → Type 0) (m most : ℕ) (why : Unclosed) (old now new : X) → m ≤ most → Granted claims m old now → Claimed claims (most - m) why now new → Claimed claims most why old new
+claimed_after claims m most Open old now new le g k = (m + k.0, (let few = k.1 in omega arith), granted_more claims m k.0 old now new g k.2)
+claimed_after claims m most Refused old now new le g k = (m + k.0, (let few = k.1 in omega arith), (k.2.0, granted_more claims m k.0 old now k.2.0 g k.2.1, k.2.2))
+claimed_after claims m most Memory old now new le g k = (m + k.0, (let few = k.1 in omega arith), granted_more claims m k.0 old now new g k.2)
 
-pub claimed_after : {X : Type 0} (claims : X → Bool → X → Type 0) (m : ℕ) (old now new : X) → Granted claims m old now → Claimed claims now new → Claimed claims old new
-claimed_after claims m old now new g k = record { count = m + k.count; now = k.now; granted = granted_more claims m k.count old now k.now g k.granted; last = k.last }
-
-pub claimed_first : {X : Type 0} (claims : X → Bool → X → Type 0) (old now new : X) → claims old true now → Claimed claims now new → Claimed claims old new
-claimed_first claims old now new c k = claimed_after claims 1 old now new (now, c, refl) k
+-- one is
+pub claimed_first : {X : Type 0} (claims : X → Bool → X → Type 0) (most : ℕ) (why : Unclosed) (old now new : X) → 1 ≤ most → claims old true now → Claimed claims (most - 1) why now new → Claimed claims most why old new
+claimed_first claims most why old now new some c k = claimed_after claims 1 most why old now new some (now, c, refl) k

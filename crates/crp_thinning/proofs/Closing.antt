@@ -1,5 +1,10 @@
 -- The trees of a thinned branch, one after the other.
-use Rattle.std.proofs.Common.{◌≡◌, ℕ, ◌-◌, ◌≤◌, Bool, true, false, List, [], ◌∷◌, ◌++◌, length, codes, Option, Some, IfSome, refl, sym, ap, ◌∙◌, subst, arith, append_assoc, append-nil}
+use Rattle.std.proofs.Common.{◌≡◌, ℕ, ◌+◌, ◌-◌, ◌≤◌, Bool, true, false, List, [], ◌∷◌, ◌++◌, length, take, drop, get_or, codes, refl, sym, ap, ◌∙◌, subst, arith, append_assoc, append-nil, Contains, length-drop, length-append}
+use borrow.Rule.Slice.PartMut.{put_mid, mid_of, post_of}
+use Rattle.std.specs.List.{between}
+use Rattle.std.proofs.lemmas.List.{length-take, take-take, take-append-drop, get_or-take, get_or-drop, take_at, drop_at, take_all, drop_all}
+use Rattle.std.proofs.lemmas.List.Elements.{Contains-get_or}
+use Rattle.std.proofs.lemmas.Slice.{between_is}
 use Rattle.crp_plan.specs.Bay.{Position}
 use Rattle.std.specs.Bool.{OnTrue, OnFalse}
 use Rattle.crp_bay.specs.Back.{PlaceAndTrail}
@@ -7,17 +12,39 @@ use Rattle.crp_bounds.specs.Bounds.{blocking, look_ahead}
 use Rattle.crp_thinned.specs.Tree.{CutB, CutL, Thin, Free, Trees, no_trees, one_and}
 use Rattle.crp_thinned.specs.Thinned.{good_rows, free_row, child_at, child_without, FitsEachGood, shown_by_each}
 use Rattle.crp_thinning.specs.Symbols.{symbols_of, symbols_of_each, Closes}
-
--- the text is the symbols of trees below these rows, one after the other, which all reach what is needed
-abbrev pub Front : Position → ℕ → List ℕ → List ℕ → Type 0
-Front s need [] text = text ≡ []
-Front s need (row ∷ rows) text = (here : List ℕ) × (rest : List ℕ) × Closes (child_at s row) (need - 1) here × (text ≡ here ++ rest) × Front s need rows rest
+use Rattle.crp_thinning.specs.EachRow.{AreGood, CloseEach}
 
 -- one more row
-pub front_more : (s : Position) (need : ℕ) (rows : List ℕ) (text : List ℕ) (row : ℕ) (here : List ℕ) → Front s need rows text → Closes (child_at s row) (need - 1) here → Front s need (rows ++ row ∷ []) (text ++ here)
-front_more s need [] text row here f k = (here, [], k, ap (λ l. l ++ here) f ∙ sym (append-nil here), refl)
-front_more s need (r ∷ rows) text row here f k =
-    (f.0, f.1 ++ here, f.2, ap (λ l. l ++ here) f.3 ∙ append_assoc f.0 f.1 here, front_more s need rows f.1 row here f.4 k)
+pub each_more : (s : Position) (need : ℕ) (rows : List ℕ) (text : List ℕ) (row : ℕ) (here : List ℕ) → CloseEach s need rows text → Closes (child_at s row) (need - 1) here → CloseEach s need (rows ++ row ∷ []) (text ++ here)
+each_more s need [] text row here f k = (here, [], k, ap (λ l. l ++ here) f ∙ sym (append-nil here), refl)
+each_more s need (r ∷ rows) text row here f k =
+    (f.0, f.1 ++ here, f.2, ap (λ l. l ++ here) f.3 ∙ append_assoc f.0 f.1 here, each_more s need rows f.1 row here f.4 k)
+
+-- more rows
+pub each_append : (s : Position) (need : ℕ) (rows more text texts : List ℕ) → CloseEach s need rows text → CloseEach s need more texts → CloseEach s need (rows ++ more) (text ++ texts)
+each_append s need [] more text texts f k = subst (λ l. CloseEach s need more (l ++ texts)) (sym f) k
+each_append s need (r ∷ rows) more text texts f k =
+    (f.0, f.1 ++ texts, f.2, ap (λ l. l ++ texts) f.3 ∙ append_assoc f.0 f.1 texts, each_append s need rows more f.1 texts f.4 k)
+
+-- the rows in three parts
+pub rows_in_parts : (rows : List ℕ) (i j : ℕ) → i ≤ j → (take i rows ++ between i j rows) ++ drop j rows ≡ rows
+rows_in_parts rows i j le =
+    ap (λ l. (l ++ between i j rows) ++ drop j rows) (sym (take-take i j rows le))
+    ∙ ap (λ l. (take i (take j rows) ++ l) ++ drop j rows) (between_is rows i j)
+    ∙ ap (λ l. l ++ drop j rows) (take-append-drop i (take j rows))
+    ∙ take-append-drop j rows
+
+pub good_all : (s : Position) (rows : List ℕ) → rows ≡ good_rows s → AreGood s rows
+good_all s rows e k lt = subst (λ l. Contains l (get_or rows k 0)) e (Contains-get_or rows k 0 lt)
+
+pub good_first : (s : Position) (rows : List ℕ) (i : ℕ) → AreGood s rows → AreGood s (take i rows)
+good_first s rows i h k lt = let m = length-take i rows in subst (Contains (good_rows s)) (sym (get_or-take i rows k 0 (omega arith))) (h k (omega arith))
+
+pub good_rest : (s : Position) (rows : List ℕ) (i : ℕ) → AreGood s rows → AreGood s (drop i rows)
+good_rest s rows i h k lt = let m = length-drop i rows in subst (Contains (good_rows s)) (sym (get_or-drop i rows k 0)) (h (i + k) (omega arith))
+
+pub good_between : (s : Position) (rows : List ℕ) (i j : ℕ) → AreGood s rows → AreGood s (between i j rows)
+good_between s rows i j h = subst (AreGood s) (sym (between_is rows i j)) (good_rest s (take j rows) i (good_first s rows j h))
 
 -- the trees of a whole branch
 pub record Ends (s : Position) (need : ℕ) (rows text : List ℕ) : Type 0 where
@@ -26,8 +53,8 @@ pub record Ends (s : Position) (need : ℕ) (rows text : List ℕ) : Type 0 wher
   pub reaches : need ≤ shown_by_each s rows all
   pub is_text : text ≡ symbols_of_each all
 
-pub front_ends : (s : Position) (need : ℕ) (rows text last : List ℕ) → Front s need rows text → Closes (child_without s) (need - 2) last → Ends s need rows (text ++ last)
-front_ends s need [] text last f k =
+pub each_ends : (s : Position) (need : ℕ) (rows text last : List ℕ) → CloseEach s need rows text → Closes (child_without s) (need - 2) last → Ends s need rows (text ++ last)
+each_ends s need [] text last f k =
     let r = k.reaches in
     record {
       all = one_and k.tree no_trees;
@@ -35,8 +62,8 @@ front_ends s need [] text last f k =
       reaches = omega arith;
       is_text = ap (λ l. l ++ last) f ∙ k.is_text ∙ sym (append-nil (symbols_of k.tree));
     }
-front_ends s need (row ∷ rows) text last f k =
-    let below = front_ends s need rows f.1 last f.4 k in
+each_ends s need (row ∷ rows) text last f k =
+    let below = each_ends s need rows f.1 last f.4 k in
     let r = below.reaches in let here = f.2 in let q = here.reaches in
     record {
       all = one_and here.tree below.all;
@@ -46,9 +73,9 @@ front_ends s need (row ∷ rows) text last f k =
     }
 
 -- a whole branch
-pub branch_closes : (s : Position) (need : ℕ) (text last : List ℕ) → s.next ≤ s.ordered → Front s need (good_rows s) text → Closes (child_without s) (need - 2) last → Closes s need (codes "R" ++ (text ++ last))
+pub branch_closes : (s : Position) (need : ℕ) (text last : List ℕ) → s.next ≤ s.ordered → CloseEach s need (good_rows s) text → Closes (child_without s) (need - 2) last → Closes s need (codes "R" ++ (text ++ last))
 branch_closes s need text last le f k =
-    let e = front_ends s need (good_rows s) text last f k in
+    let e = each_ends s need (good_rows s) text last f k in
     record { tree = Thin e.all; fits = (le, e.fits); reaches = e.reaches; is_text = ap (λ l. codes "R" ++ l) e.is_text }
 
 -- a branch with one tree
@@ -78,10 +105,22 @@ back_again true u v w z t e q yes_b no_b =
 back_again false u v w z t e q yes_b no_b =
     let r : u.place ∷ u.trail ≡ [] = ap (λ (x : PlaceAndTrail). x.trail) (sym (q ∙ e)) ∙ no_b in absurd (let n = ap length r in omega arith)
 
--- what holds where there is something
-pub where_some : (P : ℕ → Type 0) (o : Option ℕ) (n : ℕ) → o ≡ Some n → IfSome o P → P n
-where_some P o n e h = subst (λ (x : Option ℕ). IfSome x P) e h
-
 -- one text behind another
 pub grown_on : (old now new more text : List ℕ) → now ≡ old ++ more → new ≡ now ++ text → new ≡ old ++ (more ++ text)
 grown_on old now new more text e f = f ∙ ap (λ l. l ++ text) e ∙ append_assoc old more text
+
+-- two parts at the end change places: a write to the part of a list from `start` on, of which the first k go behind the others
+pub swapped : (before one other xs ys rest : List ℕ) (start middle len n k : ℕ) → xs ≡ before ++ (one ++ other) → length before ≡ start → length (before ++ one) ≡ middle → len ≡ length xs → n ≡ length xs - start → k ≡ middle - start →
+    ys ≡ drop k (mid_of start n xs) ++ take k (mid_of start n xs) → take len (put_mid start n xs ys ++ rest) ≡ before ++ (other ++ one)
+swapped before one other xs ys rest start middle len n k e b m l room kis turned =
+    let long : length xs ≡ length before + (length one + length other) = ap length e ∙ length-append before (one ++ other) ∙ ap (λ i. length before + i) (length-append one other) in
+    let front : take start xs ≡ before = ap (take start) e ∙ take_at before (one ++ other) start b in
+    let back : drop start xs ≡ one ++ other = ap (drop start) e ∙ drop_at before (one ++ other) start b in
+    let few : length (drop start xs) ≤ n = omega (arith, length-drop start xs) in
+    let one_is : length one ≡ k = omega (arith, length-append before one) in
+    let mid : mid_of start n xs ≡ one ++ other = take_all n (drop start xs) few ∙ back in
+    let none : post_of start n xs ≡ [] = drop_all n (drop start xs) few in
+    let y : ys ≡ other ++ one = turned ∙ ap (λ v. drop k v ++ take k v) mid ∙ ap (λ v. v ++ take k (one ++ other)) (drop_at one other k one_is) ∙ ap (λ v. other ++ v) (take_at one other k one_is) in
+    let whole : put_mid start n xs ys ≡ before ++ (other ++ one) =
+    ap (λ v. v ++ (ys ++ post_of start n xs)) front ∙ ap (λ v. before ++ (ys ++ v)) none ∙ ap (λ v. before ++ v) (append-nil ys) ∙ ap (λ v. before ++ v) y in
+    take_at (put_mid start n xs ys) rest len (ap length whole ∙ length-append before (other ++ one) ∙ omega (arith, length-append other one)) ∙ whole

@@ -190,6 +190,9 @@ onto_of count s row f c =
       free = not-true (holds_lower s.ordered (blocker s) (stack_at s (row - 1))) legal.0;
     }
 
+pub good_row : (count : ℕ) (s : Position) (row : ℕ) → IsFine count s → Contains (good_rows s) row → (1 ≤ row) × (row ≤ length s.heights)
+good_row count s row f c = let w = onto_of count s row f c in let counts = w.counts in let there = w.there in (counts, omega (arith, same_rows s.heights s.stacks f.stacks_fit))
+
 pub fine_shifted : (count : ℕ) (s : Position) (row : ℕ) → IsFine count s → IsSoundlyThin s → Contains (good_rows s) row → IsFine (suc count) (shifted s row)
 fine_shifted count s row f thin c =
     let w = onto_of count s row f c in

@@ -1,5 +1,6 @@
-pub mod Standing
+pub mod RowsOf
 pub mod Forward
+pub mod Freed
 pub mod Begun
 pub mod Over
 pub mod GoodRows

@@ -9,14 +9,14 @@ use Rattle.crp_thinned.specs.Thinned.{stands, is_missing, passed, settle_most, s
 use Rattle.crp_thinned.proofs.Settling.{step_taken, step_passed, step_stays}
 
 -- where no row is found the rank stands nowhere
-nowhere : (x : ℕ) (stacks : List (List ℕ)) → place x stacks ≡ length stacks → stands x stacks ≡ false
+pub nowhere : (x : ℕ) (stacks : List (List ℕ)) → place x stacks ≡ length stacks → stands x stacks ≡ false
 nowhere x [] h = refl
 nowhere x (y ∷ ys) h = ⊎_elim
     (λ t. let e : place x (y ∷ ys) ≡ 0 = rw t refl in absurd (omega arith))
     (λ f. let e : place x (y ∷ ys) ≡ suc (place x ys) = rw f refl in rw f (nowhere x ys (omega arith)))
     (cases_Bool (holds x y))
 
-somewhere : (x : ℕ) (stacks : List (List ℕ)) → place x stacks ≢ length stacks → stands x stacks ≡ true
+pub somewhere : (x : ℕ) (stacks : List (List ℕ)) → place x stacks ≢ length stacks → stands x stacks ≡ true
 somewhere x [] h = absurd (h refl)
 somewhere x (y ∷ ys) h = ⊎_elim
     (λ t. rw t refl)

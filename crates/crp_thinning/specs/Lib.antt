@@ -8,4 +8,5 @@ pub mod Owed
 pub mod OneChain
 pub mod Branches
 pub mod Stages
+pub mod EachRow
 pub mod Claiming

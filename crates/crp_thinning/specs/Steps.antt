@@ -1,5 +1,5 @@
 -- The steps on the way to a thinned position, and how it goes back by them.
-use Rattle.std.specs.Prelude.{◌≡◌, ℕ, suc, ◌+◌, ◌-◌, ◌<◌, ◌≤◌, Bool, true, false, List, [], ◌∷◌, ◌++◌, length, All, slice_set, slice_index_or}
+use Rattle.std.specs.Prelude.{◌≡◌, ℕ, suc, ◌+◌, ◌-◌, ◌<◌, ◌≤◌, Bool, true, false, List, [], ◌∷◌, ◌++◌, length, All, slice_set, slice_index_or, ⊤}
 use Rattle.crp_plan.specs.Rows.{occurrences, FitRows}
 use Rattle.crp_plan.specs.Bay.{Position}
 use Rattle.crp_bay.specs.Positions.{without_top, stack_at}
@@ -61,7 +61,15 @@ abbrev pub AreKept : List Step → Position → Type 0
 AreKept [] s = IsFine 0 s
 AreKept (step ∷ steps) s = IsFine (suc (length steps)) s × GoesBack step s × AreKept steps (before step s)
 
--- a thinned position between relocations, with so many of them to undo
-pub record IsThinTrack (depth : ℕ) (track : PlaceAndSteps) : Type 0 where
+-- the blocking bounds of the positions before: each is one more than that of the position after it, the first one more than so many
+abbrev pub AreFreed : ℕ → List Position → Type 0
+AreFreed count [] = ⊤
+AreFreed count (s ∷ trail) = (count + 1 ≡ blocking s) × (count < 96) × AreFreed (count + 1) trail
+
+-- a thinned position between relocations, with so many of them to undo, and with this blocking bound
+pub record IsThinTrack (depth count : ℕ) (track : PlaceAndSteps) : Type 0 where
   pub thin : IsSoundlyThin track.place
   pub deep : depth ≡ length (trail_of track.steps track.place)
+  pub blocks : count ≡ blocking track.place
+  pub few : count ≤ 96
+  pub freed : AreFreed count (trail_of track.steps track.place)

@@ -6,7 +6,6 @@ ghost use Rattle.crp_chains.specs.declared.blocker.Blocker.{Blocker as Named};
 ghost use Rattle.crp_chains.specs.Chains.{IsBlocker, ranks_of};
 
 use crate::looking::{rows, stack};
-use crate::moving::is_in;
 use crate::opening::beneath;
 use crate::scanning::least_of as least_ordered;
 use crate::track::Track;
@@ -20,12 +19,11 @@ fn row_with(track: &Track, rank: u8) -> Option<u8>
     ensures held { IfSome result (λ row. (stack : List ℕ) → slice_get track.now.place.stacks (row - 1) ≡ Some stack → holds rank stack ≡ true) }
     ensures none { IfNone result ((i : ℕ) (stack : List ℕ) → slice_get track.now.place.stacks i ≡ Some stack → holds rank stack ≡ false) }
 {
-    for row in 1..rows(track) + 1 {
-        if is_in(rank, stack(track, row)) {
-            return Some(row);
-        }
+    let row = track.place_of_rank(rank) as u8;
+    if row >= rows(track) {
+        return None;
     }
-    None
+    Some(row + 1)
 }
 
 /// The container of this rank with its turn. `None` exactly where none of this rank blocks.

@@ -20,13 +20,14 @@ mod rows;
 mod scanning;
 mod seeking;
 mod settling;
+mod stacks;
 mod stage;
 mod starting;
 mod step;
 mod thinned;
 mod track;
 
-pub use claims::Claims;
+pub use claims::{Claims, Unclosed};
 pub use close::close_thinned;
 pub use follower::{Follower, follows_thinned};
 pub use laws::closed_means;

@@ -6,7 +6,7 @@ ghost use Rattle.crp_chains.specs.Chains.{IsBlocker, StandsAbove, MayFollow, Are
 ghost use Rattle.crp_thinned.specs.Missing.{IsSoundlyThin};
 
 use crate::finding::blockers_of;
-use crate::moving::{is_in, place_of_rank};
+use crate::moving::is_in;
 use crate::opening::{beneath, open_rows};
 use crate::track::Track;
 use arrayvec::ArrayVec;
@@ -19,7 +19,7 @@ fn is_above(track: &Track, upper: Blocker, lower: u8) -> bool
     ensures { IsTrue result ↔ StandsAbove track.now.place upper.rank lower }
 {
     let stacks = track.stacks();
-    let row = place_of_rank(upper.turn, stacks);
+    let row = track.place_of_rank(upper.turn);
     is_in(lower, beneath(upper.rank, stacks[row].ranks()))
 }
 

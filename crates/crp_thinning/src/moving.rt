@@ -1,7 +1,7 @@
 //! Moves over the stacks of a bay. Rows are counted from 0.
 ghost use Rattle.std.specs.Prelude.{ℕ, ◌≡◌, ◌≤◌, ◌<◌, ◌++◌, ◌∷◌, [], length, slice_set, slice_index_or};
 ghost use Rattle.crp_plan.specs.Rows.{holds};
-ghost use Rattle.crp_bay.specs.Positions.{top, without_top, ends_in, place};
+ghost use Rattle.crp_bay.specs.Positions.{top, without_top, ends_in};
 
 use arrayvec::ArrayVec;
 use crp_plan::{MAX_ROWS, Stack};
@@ -42,16 +42,4 @@ pub fn is_in(rank: u8, stack: &[u8]) -> bool
     ensures { result ≡ holds rank stack.now }
 {
     stack.iter().any(|x| *x == rank)
-}
-
-/// The first row in which a rank stands; how many rows there are where it stands in none.
-pub fn place_of_rank(rank: u8, stacks: &[Stack]) -> usize
-    ensures value { result ≡ place rank stacks.now }
-    ensures within { result ≤ length stacks.now }
-{
-    let mut row = 0;
-    while row < stacks.len() && !is_in(rank, stacks[row].ranks()) {
-        row += 1;
-    }
-    row
 }

@@ -1,12 +1,15 @@
 //! The rows where the blocker is well placed.
-ghost use Rattle.std.specs.Prelude.{◌≡◌, ◌≤◌, ◌<◌, ◌-◌, ◌&&◌, not, nat_lt, length, slice_index, Contains};
+ghost use Rattle.std.specs.Prelude.{◌≡◌, ◌≤◌, ◌<◌, ◌-◌, ◌&&◌, not, nat_lt, [], length, slice_index, sum_by, Contains};
 ghost use Rattle.crp_bay.specs.Positions.{top, source, stack_at, can_shift};
 ghost use Rattle.crp_bounds.specs.Bounds.{holds_lower};
-ghost use Rattle.crp_thinned.specs.Hindering.{hinders_nobody as nobody};
+ghost use Rattle.crp_thinned.specs.Hindering.{lower_blocking, hinders_nobody as nobody};
 ghost use Rattle.crp_thinned.specs.Thinned.{blocker as blocker_of, is_well_placed, good_rows as rows_of, free_row as first_free};
 ghost use Rattle.crp_thinned.specs.Missing.{IsSoundlyThin};
+ghost use Rattle.crp_thinning.specs.EachRow.{AreGood};
 
-use crate::hindering::hinders_nobody;
+use crate::hindering::{count_lower, hinders_nobody};
+use crate::looking::stack;
+use crate::scanning::least_of;
 use crate::track::Track;
 use arrayvec::ArrayVec;
 use crp_plan::MAX_ROWS;
@@ -81,13 +84,34 @@ pub fn good_rows(track: &Track) -> ArrayVec<u8, MAX_ROWS>
     rows
 }
 
-/// Whether the blocker, of this rank and in this row, from 0, can go to a row, is well placed there and hinders nobody.
-fn is_free(track: &Track, from: usize, rank: u8, row: u8) -> bool
+/// At which place among these rows, from 0, the one stands whose least ordered rank is the smallest, so that the blocker fits best
+/// there; 0 where there are none.
+pub fn best_fit(track: &Track, rows: &[u8]) -> usize
+    requires { AreGood track.now.place rows.now }
+    ensures { result ≤ length rows.now }
+{
+    let mut best = 0;
+    let mut least = 255;
+    for i in 0..rows.len() {
+        let here = least_of(track.ordered(), stack(track, rows[i]));
+        if here < least {
+            best = i;
+            least = here;
+        }
+    }
+    best
+}
+
+/// Whether the blocker, of this rank and in this row, from 0, can go to a row, is well placed there and hinders nobody, where so many
+/// containers may come to stand on it.
+fn is_free(track: &Track, from: usize, rank: u8, row: u8, lower: u32) -> bool
     requires left { track.now.place.next ≤ track.now.place.ordered }
     requires source { from ≡ source track.now.place }
     requires blocker { rank ≡ blocker_of track.now.place }
     requires counts { 1 ≤ row }
     requires there { row ≤ length track.now.place.heights }
+    requires lower { lower ≡ sum_by (λ stack. lower_blocking track.now.place.ordered rank [] stack) track.now.place.stacks }
+    requires few { lower ≤ 96 }
     ensures { result ≡ (can_shift track.now.place row && is_well_placed track.now.place row
         && nobody track.now.place.ordered (blocker_of track.now.place) track.now.place.stacks (slice_index track.now.place.heights (row - 1)) (stack_at track.now.place (row - 1))) }
 {
@@ -97,7 +121,14 @@ fn is_free(track: &Track, from: usize, rank: u8, row: u8) -> bool
     let index = row as usize - 1;
     let height = track.heights()[index];
     let stacks = track.stacks();
-    hinders_nobody(track.ordered(), rank, stacks, height, stacks[index].ranks())
+    hinders_nobody(
+        track.ordered(),
+        rank,
+        stacks,
+        height,
+        stacks[index].ranks(),
+        lower,
+    )
 }
 
 /// The first legal row where it hinders nobody; 0 where there is none.
@@ -105,13 +136,15 @@ pub fn free_row(track: &Track) -> u8
     requires thin { IsSoundlyThin track.now.place }
     ensures { result ≡ first_free track.now.place }
 {
-    if track.next() > track.ordered() {
+    let ordered = track.ordered();
+    if track.next() > ordered {
         return 0;
     }
     let from = track.source();
     let rank = blocker(track);
+    let lower = count_lower(ordered, rank, track.stacks());
     for row in 1..track.heights().len() as u8 + 1 {
-        if is_free(track, from, rank, row) {
+        if is_free(track, from, rank, row, lower) {
             return row;
         }
     }

@@ -22,14 +22,14 @@ fn mark(row: u8, ranks: &[u8], row_of: &mut [u8])
 }
 
 /// The row, from 0, of each rank that stands.
-fn rows_of(stacks: &[Stack]) -> [u8; 97]
+pub fn rows_of(stacks: &[Stack]) -> [u8; 256]
     requires rows { length stacks.now ≤ 12 }
     requires once { (x : ℕ) → occurrences x stacks.now ≤ 1 }
     requires few { (x : ℕ) → 1 ≤ occurrences x stacks.now → x ≤ 96 }
     ensures rows { AreRowsOf (length stacks.now) stacks.now result }
-    ensures long { length result ≡ 97 }
+    ensures long { length result ≡ 256 }
 {
-    let mut row_of = [0u8; 97];
+    let mut row_of = [0u8; 256];
     for (row, stack) in stacks.iter().enumerate() {
         mark(row as u8, stack.ranks(), &mut row_of);
     }
@@ -63,7 +63,7 @@ pub fn least_of(ordered: u8, stack: &[u8]) -> u8
 
 /// What a row of a height with this stack offers.
 #[inline]
-fn offer_of(ordered: u8, height: u8, stack: &[u8]) -> u8
+pub fn offer_of(ordered: u8, height: u8, stack: &[u8]) -> u8
     ensures { result ≡ offer ordered height stack.now }
 {
     if height as usize <= stack.len() {
@@ -130,7 +130,7 @@ pub fn stuck_reaches(track: &Track, blocking: u32, need: u32) -> bool
         return false;
     }
     let stacks = track.stacks();
-    let row_of = rows_of(stacks);
+    let row_of = track.row_of();
     let mut left = [0u8; 16];
     let mut most = begun(ordered, track.heights(), stacks, &mut left);
     let mut again: u32 = 0;

@@ -1,10 +1,11 @@
 //! A family that may gain much. What is found is checked before it is used, so nothing is promised of it.
+ghost use Rattle.std.specs.Prelude.{◌<◌, ◌≤◌, length};
+
 use crate::looking::{height, rows, stack};
-use crate::moving::place_of_rank;
-use crate::opening::{beneath, is_open, standing};
+use crate::opening::beneath;
+use crate::scanning::{least_of, offer_of};
 use crate::track::Track;
 use arrayvec::ArrayVec;
-use crp_chains::Blocker;
 
 /// The most symbols of a family: at most 96 ranks of two digits, each with a symbol behind it.
 pub const MAX_FAMILY: usize = 300;
@@ -29,53 +30,101 @@ struct Trial {
     open: u16,
 }
 
+/// What is left of the rows when a turn comes, by the row, from 0.
+#[derive(Drop)]
+struct Left {
+    /// How many containers.
+    counts: [u8; 16],
+    /// The least ordered rank of those; 0 where the row has no room, 255 where it has and none of them is ordered.
+    offers: [u8; 16],
+}
+
 /// How many rows have a bit.
 fn count_rows(open: u16) -> u32 {
     open.count_ones()
 }
 
-/// The rows that are open to a container.
-fn open_to(track: &Track, blocker: Blocker) -> u16 {
-    let mut open: u16 = 0;
-    let mut bit: u16 = 1;
+/// The rows before the first turn.
+fn left_of(track: &Track) -> Left {
+    let mut counts = [0; 16];
+    let mut offers = [0; 16];
     for row in 1..rows(track) + 1 {
-        if is_open(
-            track.ordered(),
-            height(track, row),
-            stack(track, row),
-            blocker,
-        ) {
-            open |= bit;
+        let stack = stack(track, row);
+        let index = row as usize - 1;
+        counts[index] = stack.len() as u8;
+        offers[index] = offer_of(track.ordered(), height(track, row), stack);
+    }
+    Left { counts, offers }
+}
+
+/// The rows that are open to a container of a rank, a bit for each.
+fn open_to(rank: u8, offers: &[u8; 16]) -> u16 {
+    let mut open: u16 = 0;
+    for row in 0..16u32 {
+        if rank < offers[row as usize] {
+            open |= 1 << row;
         }
-        bit <<= 1;
     }
     open
 }
 
-/// Adds the containers of a stack whose turn is this rank, from the top down.
-fn add_turn(track: &Track, turn: u8, stack: &[u8], list: &mut ArrayVec<Item, 96>) {
-    let left = standing(turn, stack);
-    let low = beneath(turn, left).len();
-    for rank in left.iter().skip(low).rev() {
-        if *rank > turn && !list.is_full() {
-            let open = open_to(track, Blocker { rank: *rank, turn });
-            list.push(Item {
-                turn,
-                rank: *rank,
-                open,
-            });
+/// Adds these containers of a stack, whose turn is this rank, from the top down.
+fn add_items(turn: u8, upper: &[u8], offers: &[u8; 16], list: &mut ArrayVec<Item, 96>) {
+    let mut count = upper.len();
+    while count > 0 {
+        count -= 1;
+        if list.is_full() {
+            return;
         }
+        let rank = upper[count];
+        list.push(Item {
+            turn,
+            rank,
+            open: open_to(rank, offers),
+        });
     }
+}
+
+/// Adds the containers whose turn is this rank, if it still stands in its row, from 0, and what is left of the row is what stands
+/// below it.
+fn add_turn(
+    ordered: u8,
+    turn: u8,
+    row: usize,
+    stack: &[u8],
+    left: &mut Left,
+    list: &mut ArrayVec<Item, 96>,
+)
+    requires row { row < 16 }
+    requires stack { length stack.now ≤ 8 }
+{
+    let stack = &stack[..stack.len().min(left.counts[row] as usize)];
+    let low = beneath(turn, stack).len();
+    if low >= stack.len() {
+        return;
+    }
+    add_items(turn, &stack[low + 1..], &left.offers, list);
+    left.counts[row] = low as u8;
+    left.offers[row] = least_of(ordered, &stack[..low]);
 }
 
 /// The containers that block, in the order in which they come up.
 fn items_of(track: &Track) -> ArrayVec<Item, 96> {
     let mut list = ArrayVec::new();
     let stacks = track.stacks();
+    let row_of = track.row_of();
+    let mut left = left_of(track);
     for turn in track.next()..track.ordered() + 1 {
-        let row = place_of_rank(turn, stacks);
+        let row = row_of[turn as usize] as usize;
         if row < stacks.len() {
-            add_turn(track, turn, stacks[row].ranks(), &mut list);
+            add_turn(
+                track.ordered(),
+                turn,
+                row,
+                stacks[row].ranks(),
+                &mut left,
+                &mut list,
+            );
         }
     }
     list
@@ -164,7 +213,7 @@ fn add_from(
     used: &mut [bool; 256],
     text: &mut ArrayVec<u8, MAX_FAMILY>,
 ) -> bool {
-    if used[item.rank as usize] || count_rows(item.open) > most {
+    if used[item.rank as usize] {
         return false;
     }
     let mut chain = ArrayVec::new();
@@ -204,6 +253,17 @@ fn add_chains(
     left
 }
 
+/// Those of the containers that are in no chain, and to which at most so many rows are open.
+fn fitting(items: &[Item], used: &[bool; 256], most: u32) -> ArrayVec<Item, 96> {
+    let mut list = ArrayVec::new();
+    for item in items {
+        if !used[item.rank as usize] && count_rows(item.open) <= most && !list.is_full() {
+            list.push(*item);
+        }
+    }
+    list
+}
+
 /// Looks for a family whose chains gain as much, each with at most so many rows that are open to any of it, and writes its text.
 pub fn find_family(
     track: &Track,
@@ -216,9 +276,13 @@ pub fn find_family(
     let mut tries = MAX_TRIES;
     let mut left = wanted;
     for most in 0..rows as u32 + 1 {
+        if left == 0 {
+            break;
+        }
+        let few = fitting(list.as_slice(), &used, most);
         left = add_chains(
             track.ordered(),
-            list.as_slice(),
+            few.as_slice(),
             most,
             left,
             &mut tries,

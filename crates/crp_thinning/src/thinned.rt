@@ -8,10 +8,11 @@ ghost use Rattle.crp_thinned.specs.Thinned.{blocker as blocker_of, good_rows as 
 ghost use Rattle.crp_thinned.specs.Missing.{IsSoundlyThin};
 ghost use Rattle.crp_thinning.specs.Owed.{Task, EndsFamily};
 ghost use Rattle.crp_thinning.specs.OneChain.{IsFair, GoesOn, StaysFair};
+ghost use Rattle.crp_thinning.specs.EachRow.{AreGood};
 
 use crate::counting::blocking;
 use crate::reading::{Reading, Reads, read_symbol};
-use crate::rows::{blocker, free_row, good_rows};
+use crate::rows::{best_fit, blocker, free_row, good_rows};
 use crate::scanning::stuck_reaches;
 use crate::seeking::{MAX_FAMILY, find_family};
 use crate::settling::{go_back, settle};
@@ -31,6 +32,8 @@ pub struct Thinned {
     track: Track,
     // How many relocations and lifts are not undone.
     depth: u8,
+    // How many containers block: each relocation and each lift frees one.
+    blocking: u32,
 }
 
 impl Model for Thinned {
@@ -42,7 +45,7 @@ impl Model for Thinned {
 
     ghost view = { λ t. record { place = t.track.place; trail = trail_of t.track.steps t.track.place } };
 
-    ghost invariant = { λ t. IsThinTrack t.depth t.track };
+    ghost invariant = { λ t. IsThinTrack t.depth t.blocking t.track };
 }
 
 impl Thinned {
@@ -51,9 +54,12 @@ impl Thinned {
         ensures value { result ≡ record { place = position.now.place; trail = [] } }
         ensures reached { IsReached position.now.place }
     {
+        let track = Track::start(position);
+        let blocking = blocking(&track);
         Thinned {
-            track: Track::start(position),
+            track,
             depth: 0,
+            blocking,
         }
     }
 
@@ -75,6 +81,7 @@ impl Thinned {
         self.track.put(row);
         settle(&mut self.track);
         self.depth += 1;
+        self.blocking -= 1;
     }
 
     /// Lifts the blocker out.
@@ -86,6 +93,7 @@ impl Thinned {
         self.track.lift();
         settle(&mut self.track);
         self.depth += 1;
+        self.blocking -= 1;
     }
 
     /// Undoes the last relocation or lift that is not undone. Where there is none it changes nothing.
@@ -99,6 +107,7 @@ impl Thinned {
         }
         go_back(&mut self.track);
         self.depth -= 1;
+        self.blocking += 1;
         true
     }
 
@@ -125,6 +134,14 @@ impl Thinned {
         free_row(&self.track)
     }
 
+    /// At which place among some of these rows, from 0, the one stands where the blocker fits best; 0 where there are none.
+    pub(crate) fn best_fit(&self, rows: &[u8]) -> usize
+        requires { AreGood self.now.place rows.now }
+        ensures { result ≤ length rows.now }
+    {
+        best_fit(&self.track, rows)
+    }
+
     /// Reads one symbol of a family.
     pub(crate) fn read_family(&self, reading: &mut Reading, symbol: u8) -> Reads
         requires { IsFair reading.old }
@@ -149,14 +166,14 @@ impl Thinned {
         ensures value { result ≡ blocking_bound self.now.place }
         ensures few { result ≤ 96 }
     {
-        blocking(&self.track)
+        self.blocking
     }
 
     /// Whether the look-ahead bound reaches a number.
     pub fn look_ahead_reaches(&self, need: u32) -> bool
         ensures { IsTrue result ↔ (need ≤ look_ahead_bound self.now.place) }
     {
-        let blocking = blocking(&self.track);
-        stuck_reaches(&self.track, blocking, need.saturating_sub(blocking))
+        let stuck = need.saturating_sub(self.blocking);
+        stuck_reaches(&self.track, self.blocking, stuck)
     }
 }

@@ -3,14 +3,15 @@ ghost use Rattle.std.specs.Prelude.{◌≡◌, ℕ, ◌≤◌, ◌<◌, ◌↔�
 ghost use Rattle.std.specs.Bool.{OnTrue, OnFalse};
 ghost use Rattle.crp_plan.specs.Bay.{Position as Place};
 ghost use Rattle.crp_bay.specs.Positions.{place, source, can_take, can_shift, taken, shifted, stack_at, top};
+ghost use Rattle.crp_bay.specs.Located.{AreRowsOf};
 ghost use Rattle.crp_bay.specs.Reached.{IsReached};
 ghost use Rattle.crp_thinned.specs.Thinned.{is_missing, passed, lifted, good_rows};
 ghost use Rattle.crp_thinned.specs.Missing.{IsSoundlyThin};
 ghost use Rattle.crp_thinning.specs.Steps.{before, is_move, trail_of, IsFine};
 ghost use Rattle.crp_thinning.specs.declared.step.Step.TheVariants.{Took, Passed, Put, Lifted};
 
-use crate::moving::{is_on_top, land, lift, place_of_rank};
-use crate::starting::{heights_of, stacks_of};
+use crate::stacks::Stacks;
+use crate::starting::heights_of;
 use crate::step::Step;
 use arrayvec::ArrayVec;
 use crp_bay::Position;
@@ -24,7 +25,7 @@ pub const MAX_STEPS: usize = 256;
 #[derive(Drop)]
 pub struct Track {
     heights: ArrayVec<u8, MAX_ROWS>,
-    stacks: ArrayVec<Stack, MAX_ROWS>,
+    stacks: Stacks,
     ordered: u8,
     next: u8,
     steps: ArrayVec<Step, MAX_STEPS>,
@@ -37,9 +38,9 @@ impl Model for Track {
 
     ghost Value = { PlaceAndSteps };
 
-    ghost view = { λ t. record { place = place_of t.heights.items t.ordered t.next t.stacks.items; steps = reverse t.steps.items } };
+    ghost view = { λ t. record { place = place_of t.heights.items t.ordered t.next t.stacks; steps = reverse t.steps.items } };
 
-    ghost invariant = { λ t. AreKept (reverse t.steps.items) (place_of t.heights.items t.ordered t.next t.stacks.items) };
+    ghost invariant = { λ t. AreKept (reverse t.steps.items) (place_of t.heights.items t.ordered t.next t.stacks) };
 }
 
 impl Track {
@@ -50,7 +51,7 @@ impl Track {
     {
         Track {
             heights: heights_of(position),
-            stacks: stacks_of(position),
+            stacks: Stacks::of(position),
             ordered: position.ordered(),
             next: position.next(),
             steps: ArrayVec::new(),
@@ -93,12 +94,30 @@ impl Track {
         self.stacks.as_slice()
     }
 
+    /// By rank, of what stands: its row, from 0.
+    #[inline]
+    pub fn row_of(&self) -> &[u8; 256]
+        ensures { AreRowsOf (length self.now.place.stacks) self.now.place.stacks result.now }
+    {
+        self.stacks.row_of()
+    }
+
+    /// The row, from 0, in which a rank stands; how many rows there are where it stands in none.
+    #[inline]
+    pub fn place_of_rank(&self, rank: u8) -> usize
+        ensures value { result ≡ place rank self.now.place.stacks }
+        ensures within { result ≤ length self.now.place.stacks }
+        ensures few { result ≤ 12 }
+    {
+        self.stacks.place_of_rank(rank)
+    }
+
     /// The row, from 0, in which the container stands whose turn it is; how many rows there are where it is missing.
     pub fn source(&self) -> usize
         ensures value { result ≡ source self.now.place }
         ensures within { result ≤ length self.now.place.stacks }
     {
-        place_of_rank(self.next, self.stacks.as_slice())
+        self.stacks.place_of_rank(self.next)
     }
 
     /// The container whose turn it is leaves.
@@ -107,8 +126,8 @@ impl Track {
         ensures value { self.new ≡ record { place = taken self.old.place; steps = Took (source self.old.place) ∷ self.old.steps } }
         ensures trail { trail_of self.new.steps self.new.place ≡ trail_of self.old.steps self.old.place }
     {
-        let row = place_of_rank(self.next, self.stacks.as_slice());
-        let _rank = lift(row, &mut self.stacks);
+        let row = self.stacks.place_of_rank(self.next);
+        let _rank = self.stacks.lift(row);
         self.next += 1;
         self.steps.push(Step::Took { row: row as u8 });
     }
@@ -130,10 +149,10 @@ impl Track {
         ensures trail { trail_of self.new.steps self.new.place ≡ self.old.place ∷ trail_of self.old.steps self.old.place }
         ensures value { self.new ≡ record { place = shifted self.old.place row; steps = Put (source self.old.place) (row - 1) ∷ self.old.steps } }
     {
-        let from = place_of_rank(self.next, self.stacks.as_slice());
+        let from = self.stacks.place_of_rank(self.next);
         let to = row - 1;
-        let rank = lift(from, &mut self.stacks);
-        land(to as usize, rank, &mut self.stacks);
+        let rank = self.stacks.lift(from);
+        self.stacks.land(to, rank);
         self.steps.push(Step::Put {
             from: from as u8,
             to,
@@ -147,8 +166,8 @@ impl Track {
         ensures trail { trail_of self.new.steps self.new.place ≡ self.old.place ∷ trail_of self.old.steps self.old.place }
         ensures value { self.new ≡ record { place = lifted self.old.place; steps = Lifted (source self.old.place) (top (stack_at self.old.place (source self.old.place))) ∷ self.old.steps } }
     {
-        let from = place_of_rank(self.next, self.stacks.as_slice());
-        let rank = lift(from, &mut self.stacks);
+        let from = self.stacks.place_of_rank(self.next);
+        let rank = self.stacks.lift(from);
         self.steps.push(Step::Lifted {
             from: from as u8,
             rank,
@@ -167,14 +186,14 @@ impl Track {
         match step {
             Step::Took { row } => {
                 self.next -= 1;
-                land(row as usize, self.next, &mut self.stacks);
+                self.stacks.land(row, self.next);
             }
             Step::Passed => self.next -= 1,
             Step::Put { from, to } => {
-                let rank = lift(to as usize, &mut self.stacks);
-                land(from as usize, rank, &mut self.stacks);
+                let rank = self.stacks.lift(to as usize);
+                self.stacks.land(from, rank);
             }
-            Step::Lifted { from, rank } => land(from as usize, rank, &mut self.stacks),
+            Step::Lifted { from, rank } => self.stacks.land(from, rank),
         }
         Some(step)
     }

@@ -8,11 +8,12 @@ pub(crate) const REPORT: &str = "audited-report.txt";
 const OF_INPUT: [&str; 5] = ["--rows", "--tiers", "--heights", "--order", "--code"];
 
 // Its other options with a value.
-const OF_SEARCH: [&str; 6] = [
+const OF_SEARCH: [&str; 7] = [
     "--workers",
     "--budget",
     "--split",
     "--beam",
+    "--thin",
     "--after",
     "--cert",
 ];

@@ -5,7 +5,7 @@ use Rattle.std.specs.declared.num.ParseIntError.{ParseIntError}
 use Rattle.clap.specs.Words.{Row, Text}
 use Rattle.clap.specs.Matches.{ReadsOne}
 use Rattle.crp_solve.specs.Chosen.{Chosen}
-use Rattle.crp_words.specs.Words.{Asks, HasBudget, HasNumber, HasNumberBeyond, HasNumberWithin, FindsRowHeights, FindsRows, HasInput, HasSearch, HasSettings, HasSplit, HasBeam, FindsTiers, HasWorkers, MayFindHeights, IsBudgetBeyond, IsSplitBeyond, IsBeamBeyond, AreRowsBeyond, AreTiersBeyond, AreHeightsBeyond, AreWorkersBeyond, IsFault, IsInputFault, IsJust, IsSearchFault, IsNamedTwice, IsSizedTwice, IsSolveFault, IsWordsOrMemory, Lacks, NoFault, HasFiles, HasText, ReadsNumber}
+use Rattle.crp_words.specs.Words.{Asks, HasBudget, HasNumber, HasNumberBeyond, HasNumberWithin, FindsRowHeights, FindsRows, HasInput, HasSearch, HasSettings, HasSplit, HasBeam, HasThin, HasFlags, HasNumberOrStrong, HasOwnNumberBeyond, FindsTiers, HasWorkers, MayFindHeights, IsBudgetBeyond, IsSplitBeyond, IsBeamBeyond, IsThinBeyond, IsLeftToStrong, AreRowsBeyond, AreTiersBeyond, AreHeightsBeyond, AreWorkersBeyond, IsFault, IsInputFault, IsJust, IsSearchFault, IsNamedTwice, IsSizedTwice, IsSolveFault, IsWordsOrMemory, Lacks, NoFault, HasFiles, HasText, ReadsNumber}
 use Rattle.crp_jobs.specs.declared.job.Job.{Job}
 use Rattle.crp_jobs.specs.declared.job.RunFiles.{RunFiles}
 use Rattle.crp_words.specs.Heights.{IsHeightsText}
@@ -17,7 +17,7 @@ use Rattle.crp_words.specs.declared.usage.SettingFault.{SettingFault}
 use Rattle.crp_words.specs.declared.usage.SettingFault.TheVariants as setting
 use Rattle.crp_words.specs.declared.usage.Usage.{Usage}
 use Rattle.crp_words.specs.declared.usage.Usage.TheVariants as usage
-use Rattle.crp_solve.specs.declared.settings.TheConstants.{MAX_BUDGET, MAX_BEAM}
+use Rattle.crp_solve.specs.declared.settings.TheConstants.{MAX_BUDGET, MAX_BEAM, MAX_THIN}
 
 -- what u64's reading of a text gives
 abbrev Gives : List ℕ → Result ℕ ParseIntError → Type 0
@@ -54,6 +54,11 @@ not_both id least most rows n within (m, has, inl below) =
 not_both id least most rows n within (m, has, inr above) =
     let same = one_number id rows n m within.0 has in omega (arith, same, within.2, above)
 
+-- so it is with one that may be left to --strong
+pub not_both_own : (id : Text) (most strong : ℕ) (rows : List Row) (n : ℕ) → HasNumberOrStrong id most strong rows n → HasOwnNumberBeyond id most rows → ⊥
+not_both_own id most strong rows n (inl (left, is)) (own, beyond) = own left
+not_both_own id most strong rows n (inr (own, within)) beyond = not_both id 0 most rows n within beyond.1
+
 -- the refusal by words where there is nothing, and no number beyond its limits
 pub lacks : {X : Type 0} (Has : X → Type 0) (IsFirst : SettingFault → Type 0) (u : Usage) → IsWordsOrMemory u
     → ((x : X) → Has x → ⊥) → ((f : SettingFault) → IsFirst f → ⊥) → Lacks Has IsFirst u
@@ -78,6 +83,18 @@ lacks_more Has Needs F G (usage.Wrong (mistake.Words text)) needs up down lackin
 lacks_more Has Needs F G (usage.Wrong (mistake.Setting f)) needs up down lacking =
     (λ y have. lacking.0 (needs y have).0 (needs y have).1, up f lacking.1)
 
+-- a number that is lacking, and not left to --strong, is lacking with it
+pub no_own : (id : Text) (most strong : ℕ) (rows : List Row) (given : SettingFault) (u : Usage) → ¬ IsLeftToStrong id rows
+    → Lacks (HasNumberWithin id 0 most rows) (IsJust given (HasNumberBeyond id 0 most rows)) u
+    → Lacks (HasNumberOrStrong id most strong rows) (IsJust given (HasOwnNumberBeyond id most rows)) u
+no_own id most strong rows given u own = lacks_more (HasNumberWithin id 0 most rows) (HasNumberOrStrong id most strong rows)
+    (IsJust given (HasNumberBeyond id 0 most rows)) (IsJust given (HasOwnNumberBeyond id most rows)) u within
+    (λ f just. (just.0, (own, just.1))) (λ f just. inl (just.0, just.1.1))
+  where
+    within : (n : ℕ) → HasNumberOrStrong id most strong rows n → (m : ℕ) × HasNumberWithin id 0 most rows m
+    within n (inl (left, is)) = absurd (own left)
+    within n (inr (yet, has)) = (n, has)
+
 -- ---- a number within its limits is no fault
 
 no_workers_fault : (rows : List Row) (n : ℕ) → HasWorkers rows n → AreWorkersBeyond rows → ⊥
@@ -90,7 +107,10 @@ no_split_fault : (rows : List Row) (n : ℕ) → HasSplit rows n → IsSplitBeyo
 no_split_fault rows n has beyond = not_both (codes "split") 0 8 rows n has beyond
 
 no_beam_fault : (rows : List Row) (n : ℕ) → HasBeam rows n → IsBeamBeyond rows → ⊥
-no_beam_fault rows n has beyond = not_both (codes "beam") 0 MAX_BEAM rows n has beyond
+no_beam_fault rows n has beyond = not_both_own (codes "beam") MAX_BEAM 100 rows n has beyond
+
+no_thin_fault : (rows : List Row) (n : ℕ) → HasThin rows n → IsThinBeyond rows → ⊥
+no_thin_fault rows n has beyond = not_both_own (codes "thin") MAX_THIN 10000 rows n has beyond
 
 no_rows_fault : (rows : List Row) (n : ℕ) → FindsRows rows n → AreRowsBeyond rows → ⊥
 no_rows_fault rows n has beyond = not_both (codes "rows") 1 12 rows n has beyond
@@ -104,9 +124,22 @@ no_search_fault rows s has setting.Workers beyond = no_workers_fault rows s.work
 no_search_fault rows s has setting.Budget first = no_budget_fault rows s.budget has.1 first.1
 no_search_fault rows s has setting.Split first = no_split_fault rows s.split has.2 first.2
 no_search_fault rows s has setting.Beam first = no_beam_fault rows s.beam has.3 first.3
+no_search_fault rows s has setting.Thin first = no_thin_fault rows s.thin has.4 first.4
 no_search_fault rows s has setting.Rows none = none
 no_search_fault rows s has setting.Tiers none = none
 no_search_fault rows s has setting.Heights none = none
+
+-- settings of a search have these numbers, whatever their flags
+pub have_numbers : (rows : List Row) (s : Chosen) (w b t m n : ℕ) → HasWorkers rows w → HasBudget rows b → HasSplit rows t → HasBeam rows m → HasThin rows n → HasFlags rows s
+    → s ≡ record { workers = w; budget = b; split = t; first = s.first; beam = m; deepen = s.deepen; thin = n; chains = s.chains } → HasSearch rows s
+have_numbers rows s w b t m n workers budget split beam thin flags is = (
+  subst (HasWorkers rows) (sym (ap (λ (c : Chosen). c.workers) is)) workers,
+  subst (HasBudget rows) (sym (ap (λ (c : Chosen). c.budget) is)) budget,
+  subst (HasSplit rows) (sym (ap (λ (c : Chosen). c.split) is)) split,
+  subst (HasBeam rows) (sym (ap (λ (c : Chosen). c.beam) is)) beam,
+  subst (HasThin rows) (sym (ap (λ (c : Chosen). c.thin) is)) thin,
+  flags,
+)
 
 -- ---- the settings of a search, number by number
 
@@ -121,6 +154,7 @@ no_workers rows u = lacks_more (HasWorkers rows) (HasSearch rows) (IsJust settin
     down setting.Budget first = inr first.0
     down setting.Split first = inr first.0
     down setting.Beam first = inr first.0
+    down setting.Thin first = inr first.0
     down setting.Rows none = absurd none
     down setting.Tiers none = absurd none
     down setting.Heights none = absurd none
@@ -136,6 +170,7 @@ no_budget rows w u workers = lacks_more (HasBudget rows) (HasSearch rows) (IsJus
     down setting.Budget first = inl (refl, first.1)
     down setting.Split first = inr first.1
     down setting.Beam first = inr first.1
+    down setting.Thin first = inr first.1
     down setting.Rows none = absurd none
     down setting.Tiers none = absurd none
     down setting.Heights none = absurd none
@@ -151,6 +186,7 @@ no_split rows w b u workers budget = lacks_more (HasSplit rows) (HasSearch rows)
     down setting.Budget first = absurd (no_budget_fault rows b budget first.1)
     down setting.Split first = inl (refl, first.2)
     down setting.Beam first = inr first.2
+    down setting.Thin first = inr first.2
     down setting.Rows none = absurd none
     down setting.Tiers none = absurd none
     down setting.Heights none = absurd none
@@ -166,6 +202,23 @@ no_beam rows w b t u workers budget split = lacks_more (HasBeam rows) (HasSearch
     down setting.Budget first = absurd (no_budget_fault rows b budget first.1)
     down setting.Split first = absurd (no_split_fault rows t split first.2)
     down setting.Beam first = inl (refl, first.3)
+    down setting.Thin first = inr first.3
+    down setting.Rows none = absurd none
+    down setting.Tiers none = absurd none
+    down setting.Heights none = absurd none
+
+-- nor without thinned branches within their limit
+pub no_thin : (rows : List Row) (w b t m : ℕ) (u : Usage) → HasWorkers rows w → HasBudget rows b → HasSplit rows t → HasBeam rows m
+    → Lacks (HasThin rows) (IsJust setting.Thin (IsThinBeyond rows)) u → Lacks (HasSearch rows) (IsSearchFault rows) u
+no_thin rows w b t m u workers budget split beam = lacks_more (HasThin rows) (HasSearch rows) (IsJust setting.Thin (IsThinBeyond rows)) (IsSearchFault rows) u
+    (λ s has. (s.thin, has.4)) (λ f just. subst (IsSearchFault rows) (sym just.0) ((w, workers), (b, budget), (t, split), (m, beam), just.1)) down
+  where
+    down : (f : SettingFault) → IsSearchFault rows f → IsJust setting.Thin (IsThinBeyond rows) f ⊎ ((n : ℕ) × HasThin rows n)
+    down setting.Workers beyond = absurd (no_workers_fault rows w workers beyond)
+    down setting.Budget first = absurd (no_budget_fault rows b budget first.1)
+    down setting.Split first = absurd (no_split_fault rows t split first.2)
+    down setting.Beam first = absurd (no_beam_fault rows m beam first.3)
+    down setting.Thin first = inl (refl, first.4)
     down setting.Rows none = absurd none
     down setting.Tiers none = absurd none
     down setting.Heights none = absurd none
@@ -182,6 +235,7 @@ no_rows rows u = lacks_more (FindsRows rows) (FindsRowHeights rows) (IsJust sett
     down setting.Budget none = absurd none
     down setting.Split none = absurd none
     down setting.Beam none = absurd none
+    down setting.Thin none = absurd none
     down setting.Rows first = inl (refl, first)
     down setting.Tiers first = inr first.0
     down setting.Heights first = inr first.0
@@ -197,6 +251,7 @@ no_tiers rows r u has_rows = lacks_more (FindsTiers rows) (FindsRowHeights rows)
     down setting.Budget none = absurd none
     down setting.Split none = absurd none
     down setting.Beam none = absurd none
+    down setting.Thin none = absurd none
     down setting.Rows first = absurd (no_rows_fault rows r has_rows first)
     down setting.Tiers first = inl (refl, first.1)
     down setting.Heights first = inr first.1
@@ -212,6 +267,7 @@ no_heights rows r t u has_rows has_tiers = lacks_more (MayFindHeights rows) (Fin
     down setting.Budget none = absurd none
     down setting.Split none = absurd none
     down setting.Beam none = absurd none
+    down setting.Thin none = absurd none
     down setting.Rows first = absurd (no_rows_fault rows r has_rows first)
     down setting.Tiers first = absurd (no_tiers_fault rows t has_tiers first.1)
     down setting.Heights first = inl (refl, first.2)
@@ -305,6 +361,7 @@ no_size_fault rows heights has setting.Workers none = none
 no_size_fault rows heights has setting.Budget none = none
 no_size_fault rows heights has setting.Split none = none
 no_size_fault rows heights has setting.Beam none = none
+no_size_fault rows heights has setting.Thin none = none
 no_size_fault rows heights has setting.Rows beyond = no_rows_fault rows has.rows has.finds_rows beyond
 no_size_fault rows heights has setting.Tiers first = no_tiers_fault rows has.tiers has.finds_tiers first.1
 no_size_fault rows heights has setting.Heights first = no_heights_fault rows has.own has.finds_own first.2

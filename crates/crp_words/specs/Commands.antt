@@ -80,6 +80,18 @@ beam_rule = number_rule (codes "beam") (codes "0")
 abbrev pub deepen_rule : Rule
 deepen_rule = flag_rule (codes "deepen")
 
+-- the most thinned branches of a try to close a position: none where it is not given
+abbrev pub thin_rule : Rule
+thin_rule = number_rule (codes "thin") (codes "0")
+
+-- whether chains may close a position: they may not where the flag is not given
+abbrev pub chains_rule : Rule
+chains_rule = flag_rule (codes "chains")
+
+-- whether what suits large bays is asked for: it is not where the flag is not given
+abbrev pub strong_rule : Rule
+strong_rule = flag_rule (codes "strong")
+
 -- a command with one option more
 abbrev pub with_option : Rule → Shape → Shape
 with_option rule shape = record shape { rules = shape.rules ++ rule ∷ [] }
@@ -89,8 +101,12 @@ abbrev pub with_limits : Shape → Shape
 with_limits shape = with_option split_rule (with_option budget_rule (with_option workers_rule shape))
 
 -- a command with these, [--first], [--beam N] and [--deepen]
+abbrev pub with_ways : Shape → Shape
+with_ways shape = with_option deepen_rule (with_option beam_rule (with_option first_rule (with_limits shape)))
+
+-- a command with these, [--thin N], [--chains] and [--strong]
 abbrev pub with_search : Shape → Shape
-with_search shape = with_option deepen_rule (with_option beam_rule (with_option first_rule (with_limits shape)))
+with_search shape = with_option strong_rule (with_option chains_rule (with_option thin_rule (with_ways shape)))
 
 -- a command with [--rows N] [--tiers N]
 abbrev pub with_rows : Shape → Shape

@@ -26,7 +26,7 @@ use Rattle.crp_words.specs.declared.usage.SettingFault.TheVariants as setting
 use Rattle.crp_report.specs.Chosen.{InputChosen, RunChosen}
 use Rattle.crp_words.specs.declared.usage.Usage.{Usage}
 use Rattle.crp_words.specs.declared.usage.Usage.TheVariants as usage
-use Rattle.crp_solve.specs.declared.settings.TheConstants.{MAX_BUDGET, MAX_BEAM}
+use Rattle.crp_solve.specs.declared.settings.TheConstants.{MAX_BUDGET, MAX_BEAM, MAX_THIN}
 
 -- no words ask for a replay of the standard input
 abbrev pub words_or_default : List Text → List Text
@@ -63,6 +63,22 @@ HasNumberWithin id least most found n = HasNumber id found n × (least ≤ n) ×
 abbrev pub HasNumberBeyond : Text → ℕ → ℕ → List Row → Type 0
 HasNumberBeyond id least most found = (n : ℕ) × HasNumber id found n × ((n < least) ⊎ (most < n))
 
+-- the words give the flag, or --strong, which stands for it too
+abbrev pub IsGivenOrStrong : Text → List Row → Type 0
+IsGivenOrStrong id found = IsGivenByWords id found ⊎ IsGivenByWords (codes "strong") found
+
+-- the number of the option is left to --strong: the words give --strong, and not the option
+abbrev pub IsLeftToStrong : Text → List Row → Type 0
+IsLeftToStrong id found = IsGivenByWords (codes "strong") found × ¬ IsGivenByWords id found
+
+-- the number of the option: that of --strong where it is left to it, and else the one that the rows have, within its limit
+abbrev pub HasNumberOrStrong : Text → ℕ → ℕ → List Row → ℕ → Type 0
+HasNumberOrStrong id most strong found n = (IsLeftToStrong id found × (n ≡ strong)) ⊎ (¬ IsLeftToStrong id found × HasNumberWithin id 0 most found n)
+
+-- the number of the option is not left to --strong, and beyond its limit
+abbrev pub HasOwnNumberBeyond : Text → ℕ → List Row → Type 0
+HasOwnNumberBeyond id most found = ¬ IsLeftToStrong id found × HasNumberBeyond id 0 most found
+
 -- the budget that was found, at most 2^40
 abbrev pub HasBudget : List Row → ℕ → Type 0
 HasBudget found n = HasNumberWithin (codes "budget") 0 MAX_BUDGET found n
@@ -91,21 +107,38 @@ IsSplitBeyond found = HasNumberBeyond (codes "split") 0 8 found
 abbrev pub MayAskForFirst : List Row → Bool → Type 0
 MayAskForFirst found first = IsTrue first ↔ IsGivenByWords (codes "first") found
 
--- the beam that was found, at most 10000
+-- the beam that was found, at most 10000, or the 100 of --strong
 abbrev pub HasBeam : List Row → ℕ → Type 0
-HasBeam found n = HasNumberWithin (codes "beam") 0 MAX_BEAM found n
+HasBeam found n = HasNumberOrStrong (codes "beam") MAX_BEAM 100 found n
 
 -- the beam that was found is too wide
 abbrev pub IsBeamBeyond : List Row → Type 0
-IsBeamBeyond found = HasNumberBeyond (codes "beam") 0 MAX_BEAM found
+IsBeamBeyond found = HasOwnNumberBeyond (codes "beam") MAX_BEAM found
 
--- the limit rises from search to search exactly where the words give the flag
+-- the most thinned branches of a try that were found, at most 1000000, or the 10000 of --strong
+abbrev pub HasThin : List Row → ℕ → Type 0
+HasThin found n = HasNumberOrStrong (codes "thin") MAX_THIN 10000 found n
+
+-- the most thinned branches of a try that were found are too many
+abbrev pub IsThinBeyond : List Row → Type 0
+IsThinBeyond found = HasOwnNumberBeyond (codes "thin") MAX_THIN found
+
+-- the limit rises from search to search exactly where the words give the flag, or --strong
 abbrev pub MayDeepen : List Row → Bool → Type 0
-MayDeepen found deepen = IsTrue deepen ↔ IsGivenByWords (codes "deepen") found
+MayDeepen found deepen = IsTrue deepen ↔ IsGivenOrStrong (codes "deepen") found
+
+-- chains may close a position exactly where the words give the flag, or --strong
+abbrev pub MayUseChains : List Row → Bool → Type 0
+MayUseChains found chains = IsTrue chains ↔ IsGivenOrStrong (codes "chains") found
+
+-- the flags of a search that were found
+abbrev pub HasFlags : List Row → Chosen → Type 0
+HasFlags found s = MayAskForFirst found s.first × MayDeepen found s.deepen × MayUseChains found s.chains
 
 -- the settings of a search that were found, within their limits
 abbrev pub HasSearch : List Row → Chosen → Type 0
-HasSearch found s = HasWorkers found s.workers × HasBudget found s.budget × HasSplit found s.split × HasBeam found s.beam × MayAskForFirst found s.first × MayDeepen found s.deepen
+HasSearch found s =
+    HasWorkers found s.workers × HasBudget found s.budget × HasSplit found s.split × HasBeam found s.beam × HasThin found s.thin × HasFlags found s
 
 -- the rows of a bay that were found, 1 to 12
 abbrev pub FindsRows : List Row → ℕ → Type 0
@@ -243,12 +276,14 @@ Asks name found (job.Follow names settings) = (name ≡ codes "follow") × ¬ Is
 Asks name found (job.Solve names settings quiet progress) =
     (name ≡ codes "solve") × ¬ IsSizedTwice found × ¬ IsNamedTwice found × HasFiles found names × HasSettings found settings × MayBeQuiet found quiet × MayShowProgress found progress
 
--- the first number of a search beyond its limits: the workers, then the budget, then the split, then the beam
+-- the first number of a search beyond its limits: the workers, then the budget, then the split, then the beam, then the thinned branches
 abbrev pub IsSearchFault : List Row → SettingFault → Type 0
 IsSearchFault found setting.Workers = AreWorkersBeyond found
 IsSearchFault found setting.Budget = ((n : ℕ) × HasWorkers found n) × IsBudgetBeyond found
 IsSearchFault found setting.Split = ((n : ℕ) × HasWorkers found n) × ((n : ℕ) × HasBudget found n) × IsSplitBeyond found
 IsSearchFault found setting.Beam = ((n : ℕ) × HasWorkers found n) × ((n : ℕ) × HasBudget found n) × ((n : ℕ) × HasSplit found n) × IsBeamBeyond found
+IsSearchFault found setting.Thin = ((n : ℕ) × HasWorkers found n) × ((n : ℕ) × HasBudget found n) × ((n : ℕ) × HasSplit found n) × ((n : ℕ) × HasBeam found n)
+    × IsThinBeyond found
 IsSearchFault found setting.Rows = ⊥
 IsSearchFault found setting.Tiers = ⊥
 IsSearchFault found setting.Heights = ⊥

@@ -12,6 +12,7 @@ pub fn advice_on_setting(fault: &SettingFault) -> &'static str
         SettingFault::Budget => "--budget must be a number from 0 to 1099511627776",
         SettingFault::Split => "--split must be a number from 0 to 8",
         SettingFault::Beam => "--beam must be a number from 0 to 10000",
+        SettingFault::Thin => "--thin must be a number from 0 to 1000000",
         SettingFault::Rows => "--rows must be a number from 1 to 12",
         SettingFault::Tiers => "--tiers must be a number from 1 to 8",
         SettingFault::Heights => {

@@ -1,7 +1,7 @@
 //! The command line: each command with its files and options.
 ghost use Rattle.std.specs.Prelude.{◌≡◌, IfOk};
 ghost use Rattle.clap.specs.Words.{App, Shape, app_of, with_subcommand};
-ghost use Rattle.crp_words.specs.Commands.{IsArg, IsCommand, alone, audit as audit_shape, audit_files as audit_files_shape, beam_rule, budget_rule, crp, deepen_rule, file_rule, first_rule, flag_rule, follow as follow_shape, follow_files as follow_files_shape, leaf as leaf_shape, leaves, more_rule, number_rule, optional_rule, progress_rule, prove as prove_shape, quiet_rule, solve as solve_shape, solve_files as solve_files_shape, split_rule, text_rule, top_command as top_shape, with_orders, with_outputs, with_page, with_search, with_size, workers_rule};
+ghost use Rattle.crp_words.specs.Commands.{IsArg, IsCommand, alone, audit as audit_shape, audit_files as audit_files_shape, beam_rule, budget_rule, chains_rule, crp, deepen_rule, file_rule, first_rule, flag_rule, follow as follow_shape, follow_files as follow_files_shape, leaf as leaf_shape, leaves, more_rule, number_rule, optional_rule, progress_rule, prove as prove_shape, quiet_rule, solve as solve_shape, solve_files as solve_files_shape, split_rule, strong_rule, text_rule, thin_rule, top_command as top_shape, with_orders, with_outputs, with_page, with_search, with_size, with_ways, workers_rule};
 
 use clap::{Arg, ArgAction, Command, value_parser};
 use std::alloc::{AllocError, Global};
@@ -150,9 +150,40 @@ fn deepen<'a>(alloc: Global) -> Arg<'a>
     )
 }
 
-// A command with the options of a search.
-fn with_search<'a>(alloc: Global, command: Command<'a>) -> Result<Command<'a>, AllocError>
-    ensures { IfOk result (λ new. (shape : Shape) → IsCommand shape command.entry → IsCommand (with_search shape) new) }
+fn thin<'a>(alloc: Global) -> Arg<'a>
+    ensures { IsArg thin_rule result }
+{
+    number(
+        alloc,
+        "thin",
+        "0",
+        "Most thinned branches of a try to close a position, 0 to 1000000; 0 for no try",
+    )
+}
+
+fn chains<'a>(alloc: Global) -> Arg<'a>
+    ensures { IsArg chains_rule result }
+{
+    flag(
+        alloc,
+        "chains",
+        "Close positions also by chains of containers that block",
+    )
+}
+
+fn strong<'a>(alloc: Global) -> Arg<'a>
+    ensures { IsArg strong_rule result }
+{
+    flag(
+        alloc,
+        "strong",
+        "For large bays: --chains --thin 10000 --deepen --beam 100",
+    )
+}
+
+// A command with the limits of a search, and how it is made.
+fn with_ways<'a>(alloc: Global, command: Command<'a>) -> Result<Command<'a>, AllocError>
+    ensures { IfOk result (λ new. (shape : Shape) → IsCommand shape command.entry → IsCommand (with_ways shape) new) }
 {
     command
         .arg(workers(alloc))?
@@ -161,6 +192,16 @@ fn with_search<'a>(alloc: Global, command: Command<'a>) -> Result<Command<'a>, A
         .arg(first(alloc))?
         .arg(beam(alloc))?
         .arg(deepen(alloc))
+}
+
+// A command with the options of a search.
+fn with_search<'a>(alloc: Global, command: Command<'a>) -> Result<Command<'a>, AllocError>
+    ensures { IfOk result (λ new. (shape : Shape) → IsCommand shape command.entry → IsCommand (with_search shape) new) }
+{
+    with_ways(alloc, command)?
+        .arg(thin(alloc))?
+        .arg(chains(alloc))?
+        .arg(strong(alloc))
 }
 
 // The command `prove`.

@@ -1,13 +1,13 @@
 //! How a bay is searched, by the words.
-ghost use Rattle.std.specs.Prelude.{◌≡◌, IfOk, IfErr, false};
+ghost use Rattle.std.specs.Prelude.{◌≡◌, ◌↔◌, ◌≤◌, IfOk, IfErr, IsTrue, false};
 ghost use Rattle.clap.specs.Words.{found_of, rows_of};
-ghost use Rattle.crp_solve.specs.Chosen.{IsWorkers, IsBudget, IsSplitDepth, IsBeam};
-ghost use Rattle.crp_words.specs.Words.{HasSearch, IsSearchFault, Lacks};
+ghost use Rattle.crp_solve.specs.Chosen.{IsWorkers, IsBudget, IsSplitDepth, IsBeam, IsThin};
+ghost use Rattle.crp_words.specs.Words.{HasFlags, HasNumberOrStrong, HasOwnNumberBeyond, HasSearch, IsGivenOrStrong, IsJust, IsLeftToStrong, IsSearchFault, Lacks};
 
 use crate::given::{is_given, number_within};
 use crate::usage::{SettingFault, Usage};
 use clap::ArgMatches;
-use crp_solve::{MAX_BEAM, MAX_BUDGET, MAX_SPLIT, MAX_WORKERS, Settings};
+use crp_solve::{MAX_BEAM, MAX_BUDGET, MAX_SPLIT, MAX_THIN, MAX_WORKERS, Settings};
 use std::alloc::Global;
 
 // The most workers of a search.
@@ -16,16 +16,54 @@ const MOST_WORKERS: u64 = MAX_WORKERS as u64;
 // The most rows of a path at which subtrees are given away.
 const MOST_SPLIT: u64 = MAX_SPLIT as u64;
 
-// The widest beam.
-const MOST_BEAM: u64 = MAX_BEAM as u64;
+// The widest beam, and that of `--strong`.
+const BEAMS: (u64, u64) = (MAX_BEAM as u64, 100);
 
-// The settings of a search with these numbers, in which the first best plan is not asked for.
-fn settings_with(workers: u32, budget: u64, split: u8, beam: u32, deepen: bool) -> Settings
+// The most thinned branches of a try, and those of `--strong`.
+const THIN: (u64, u64) = (MAX_THIN as u64, 10_000);
+
+// Whether the words give the flag, or `--strong`.
+fn is_given_or_strong(matches: &ArgMatches<'_>, name: &str) -> bool
+    ensures { IsTrue result ↔ IsGivenOrStrong name.now (rows_of (found_of matches.now)) }
+{
+    is_given(matches, name) || is_given(matches, "strong")
+}
+
+// Whether the words give `--strong`, and not this option.
+fn is_left_to_strong(matches: &ArgMatches<'_>, name: &str) -> bool
+    ensures { IsTrue result ↔ IsLeftToStrong name.now (rows_of (found_of matches.now)) }
+{
+    is_given(matches, "strong") && !is_given(matches, name)
+}
+
+// The whole number of an option that is at most the first of these, or where it is left to `--strong` the second.
+fn number_or_strong(
+    alloc: Global,
+    matches: &ArgMatches<'_>,
+    name: &str,
+    numbers: (u64, u64),
+    fault: SettingFault,
+) -> Result<u64, Usage>
+    requires { numbers.1 ≤ numbers.0 }
+    ensures ok { IfOk result (HasNumberOrStrong name.now numbers.0 numbers.1 (rows_of (found_of matches.now))) }
+    ensures within { IfOk result (λ number. number ≤ numbers.0) }
+    ensures err { IfErr result (Lacks (HasNumberOrStrong name.now numbers.0 numbers.1 (rows_of (found_of matches.now)))
+        (IsJust fault (HasOwnNumberBeyond name.now numbers.0 (rows_of (found_of matches.now))))) }
+{
+    if is_left_to_strong(matches, name) {
+        return Ok(numbers.1);
+    }
+    number_within(alloc, matches, name, (0, numbers.0), fault)
+}
+
+// The settings of a search with these numbers, in which no flag is given.
+fn settings_with(workers: u32, budget: u64, split: u8, beam: u32, thin: u32) -> Settings
     requires workers { IsWorkers workers }
     requires budget { IsBudget budget }
     requires split { IsSplitDepth split }
     requires beam { IsBeam beam }
-    ensures { result ≡ record { workers = workers; budget = budget; split = split; first = false; beam = beam; deepen = deepen } }
+    requires thin { IsThin thin }
+    ensures { result ≡ record { workers = workers; budget = budget; split = split; first = false; beam = beam; deepen = false; thin = thin; chains = false } }
 {
     let Ok(search) = Settings::new(workers, budget, split) else {
         unreachable!()
@@ -33,7 +71,26 @@ fn settings_with(workers: u32, budget: u64, split: u8, beam: u32, deepen: bool) 
     let Ok(search) = search.with_beam(beam) else {
         unreachable!()
     };
-    search.with_deepening(deepen)
+    let Ok(search) = search.with_thinning(thin) else {
+        unreachable!()
+    };
+    search
+}
+
+// These settings, in which no flag is given, with the flags that the words give.
+fn with_flags(search: Settings, matches: &ArgMatches<'_>) -> Settings
+    requires { search.first ≡ false }
+    ensures numbers { result ≡ record search { first = result.first; deepen = result.deepen; chains = result.chains } }
+    ensures flags { HasFlags (rows_of (found_of matches.now)) result }
+{
+    let search = search
+        .with_deepening(is_given_or_strong(matches, "deepen"))
+        .with_chains(is_given_or_strong(matches, "chains"));
+    if is_given(matches, "first") {
+        search.with_first()
+    } else {
+        search
+    }
 }
 
 /// The settings of a search.
@@ -62,12 +119,14 @@ pub(crate) fn search_of(alloc: Global, matches: &ArgMatches<'_>) -> Result<Setti
         (0, MOST_SPLIT),
         SettingFault::Split,
     )?;
-    let beam = number_within(alloc, matches, "beam", (0, MOST_BEAM), SettingFault::Beam)?;
-    let deepen = is_given(matches, "deepen");
-    let search = settings_with(workers as u32, budget, split as u8, beam as u32, deepen);
-    if is_given(matches, "first") {
-        Ok(search.with_first())
-    } else {
-        Ok(search)
-    }
+    let beam = number_or_strong(alloc, matches, "beam", BEAMS, SettingFault::Beam)?;
+    let thin = number_or_strong(alloc, matches, "thin", THIN, SettingFault::Thin)?;
+    let search = settings_with(
+        workers as u32,
+        budget,
+        split as u8,
+        beam as u32,
+        thin as u32,
+    );
+    Ok(with_flags(search, matches))
 }

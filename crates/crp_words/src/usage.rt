@@ -16,6 +16,9 @@ pub enum SettingFault {
     /// The beam keeps more than 10000 positions.
     #[error("S7")]
     Beam,
+    /// A try to close a position takes more than 1000000 thinned branches.
+    #[error("S9")]
+    Thin,
     /// The rows are none or more than 12.
     #[error("S5")]
     Rows,

@@ -21,6 +21,10 @@ static NO_WORDS: [&str; 2] = ["replay", "-"];
 const NUMBERS: &str =
     "\nA number is whole and has no sign: --rows 1 to 12, --tiers 1 to 8, --workers 1 to 64, --split 0 to 8, --beam 0 to 10000, --budget 0 to 1099511627776.\n";
 
+// The same, where the words speak of `--thin`.
+const NUMBERS_AND_THIN: &str =
+    "\nA number is whole and has no sign: --rows 1 to 12, --tiers 1 to 8, --workers 1 to 64, --split 0 to 8, --beam 0 to 10000, --thin 0 to 1000000, --budget 0 to 1099511627776.\n";
+
 // The refusals of heights beside rows or tiers.
 static AUDIT_SIZED_TWICE: &str =
     "error: the argument '--heights <HEIGHTS>' cannot be used with '--rows <N>' or '--tiers <N>'\n\nUsage: crp audit [OPTIONS] <YARD> <MOVINS> <REPORT> <CERTS>\n\nFor more information, try '--help'.\n";
@@ -164,20 +168,29 @@ fn is_no_number(kind: ErrorKind, text: &str) -> bool {
     }
 }
 
-// The text of a refusal of clap's; where a number was to be given and none was, with the numbers that there are.
-fn text_of_refusal(alloc: Global, error: &Error) -> Result<String, AllocError> {
+// What numbers may be given, for these words.
+fn numbers_for(words: &[&str]) -> &'static str {
+    if words.iter().any(|word| word.starts_with("--thin")) {
+        NUMBERS_AND_THIN
+    } else {
+        NUMBERS
+    }
+}
+
+// The text of a refusal of clap's for these words; where a number was to be given and none was, with the numbers that there are.
+fn text_of_refusal(alloc: Global, words: &[&str], error: &Error) -> Result<String, AllocError> {
     let mut text = error.to_string(alloc)?;
     if is_no_number(error.kind(), text.as_str()) {
-        text.push_str(NUMBERS)?;
+        text.push_str(numbers_for(words))?;
     }
     Ok(text)
 }
 
-// The text of a refusal of clap's.
-fn usage_of(alloc: Global, error: &Error) -> Usage
+// The text of a refusal of clap's for these words.
+fn usage_of(alloc: Global, words: &[&str], error: &Error) -> Usage
     ensures { ShowsKind (kind_of error.now) result }
 {
-    let Ok(text) = text_of_refusal(alloc, error) else {
+    let Ok(text) = text_of_refusal(alloc, words, error) else {
         return Usage::Memory;
     };
     match error.kind() {
@@ -212,6 +225,6 @@ pub fn job<'a>(alloc: Global, words: &'a [&'a str]) -> Result<Job<'a>, Usage>
             Some((name, inner)) => job_of(alloc, name, inner),
             None => Err(wrong(alloc, "error: there is no command\n")),
         },
-        Err(error) => Err(usage_of(alloc, &error)),
+        Err(error) => Err(usage_of(alloc, words, &error)),
     }
 }

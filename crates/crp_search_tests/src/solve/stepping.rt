@@ -4,7 +4,7 @@ use crate::bays::{BAYS, Bay, MORE_BAYS, problem_of};
 use crate::compare::assert_same;
 use crp_plan::{Plan, Problem};
 use crp_search::first_plan;
-use crp_steps::{Event, Kind, World};
+use crp_steps::{Bound, Event, Kind, World};
 use std::alloc::{AllocError, Global};
 use std::process::Abort;
 use std::test::Fail;
@@ -28,11 +28,11 @@ impl Numbers {
     }
 
     /// One more worker than there are may be named, and paths that are not in a hand.
-    fn event(&mut self, workers: u32) -> Event
+    fn event(&mut self, workers: u32) -> Event<'static>
         requires { workers ≤ 4 }
     {
         let worker = self.below(workers + 1);
-        let kind = match self.below(12) {
+        let kind = match self.below(13) {
             0 => Kind::See,
             1 => Kind::Take,
             2 => Kind::Steal {
@@ -44,8 +44,13 @@ impl Numbers {
             4 => Kind::Offer,
             5 => Kind::Finish,
             6 | 7 => Kind::Claim,
-            8 | 9 => Kind::Leaf { look: false },
-            _ => Kind::Leaf { look: true },
+            8 => Kind::Try,
+            9 | 10 => Kind::Leaf {
+                bound: Bound::Blocking,
+            },
+            _ => Kind::Leaf {
+                bound: Bound::LookAhead,
+            },
         };
         Event { worker, kind }
     }

@@ -56,7 +56,7 @@ pub trait Aim: Drop {
         ensures share { result.seat.view.share ≡ seat.view.share }
         ensures mine { result.seat.view.mine ≤ seat.view.mine }
         ensures place { fixed_at result.place ≡ fixed_at place }
-        ensures counted { IfSome result.part (IsCountedPart seat.view result.seat.view place result.place name) }
+        ensures counted { IfSome result.part (IsCountedPart common.now.of.key.thin seat.view result.seat.view place result.place name) }
         ensures kept { (parts : List ProblemPart) → keeps common.now.of seat.view best parts → keeps common.now.of result.seat.view result.best (with_part parts result.part) };
 }
 

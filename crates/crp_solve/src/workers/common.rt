@@ -2,6 +2,7 @@
 use crate::workers::open_work::OpenWork;
 use crp_incumbent::{Board, Shared};
 use crp_plan::Problem;
+use crp_search::Thinning;
 use crp_tree::{MAX_NAME, Name};
 use std::alloc::Global;
 use std::marker::Model;
@@ -69,6 +70,7 @@ pub struct Common {
     /// The limit that the search began with.
     pub(crate) first: u32,
     pub(crate) split: u8,
+    pub(crate) thinning: Thinning,
 }
 
 impl Model for Common {
@@ -78,7 +80,7 @@ impl Model for Common {
 
     ghost view = { λ c. record { of = c.shared; split = c.split } };
 
-    ghost invariant = { λ c. IsCommon c.problem c.first (record { of = c.shared; split = c.split }) };
+    ghost invariant = { λ c. IsCommon c.problem c.first c.thinning.most (record { of = c.shared; split = c.split }) };
 }
 
 impl Common {

@@ -12,7 +12,7 @@ use crate::workers::common::{Common, Gate, Outside};
 use crp_incumbent::Seat;
 use crp_plan::Plan;
 use crp_pool::PoolSeat;
-use crp_search::{FirstPart, Limit, search, search_first};
+use crp_search::{Claims, FirstPart, Limit, search, search_first};
 use crp_tree::Name;
 use std::marker::{Brand, Model, PhantomData};
 use std::sync::Wait;
@@ -76,6 +76,27 @@ fn keep_shorter(first: u32, best: &mut Option<Plan>, plan: &Plan)
     }
 }
 
+impl<'a, R: Wait, G: Gate, K: Opened> Claims for Desk<'a, R, G, K> {
+    ghost use Rattle.std.specs.Prelude.{◌≡◌};
+    ghost use Rattle.crp_search.specs.Limits.{ClaimsExpansion};
+    ghost use Rattle.crp_solve.specs.Desks.{puts_at};
+
+    ghost claims = { λ old granted new. ClaimsExpansion old.of.key.budget old.view granted new.view
+        × ((new.of.key.problem ≡ old.of.key.problem) × (new.of.key.budget ≡ old.of.key.budget) × (puts_at new.place ≡ puts_at old.place)) };
+
+    fn claim(&mut self) -> bool {
+        let common = self.common;
+        let granted = self.seat.claim(&common.shared);
+        if granted {
+            self.claims = self.claims.wrapping_add(1);
+            if self.claims % CLAIMS == 0 {
+                self.outside.gate.claimed(CLAIMS);
+            }
+        }
+        granted
+    }
+}
+
 impl<'a, R: Wait, G: Gate, K: Opened> Limit for Desk<'a, R, G, K> {
     ghost use Rattle.crp_solve.specs.Desks.{puts_at};
 
@@ -100,17 +121,7 @@ impl<'a, R: Wait, G: Gate, K: Opened> Limit for Desk<'a, R, G, K> {
         self.outside.gate.planned(plan.count());
     }
 
-    fn claim(&mut self) -> bool {
-        let common = self.common;
-        let granted = self.seat.claim(&common.shared);
-        if granted {
-            self.claims = self.claims.wrapping_add(1);
-            if self.claims % CLAIMS == 0 {
-                self.outside.gate.claimed(CLAIMS);
-            }
-        }
-        granted
-    }
+    ghost claimed = { λ _ _ _ claim. claim };
 
     fn put(&mut self, name: Name) -> Result<(), Name> {
         let common = self.common;
@@ -194,7 +205,7 @@ pub(crate) fn search_at_desk<R: Wait, G: Gate, K: Opened>(
     ensures plan { KeepsPlan common.now.of result.seat.view result.best }
     ensures advances { Advances common.now.of.key.problem seat.view result.seat.view }
     ensures place { fixed_at result.place ≡ fixed_at place }
-    ensures counted { IfSome result.part (IsCountedPart seat.view result.seat.view place result.place name) }
+    ensures counted { IfSome result.part (IsCountedPart common.now.of.key.thin seat.view result.seat.view place result.place name) }
     ensures part { IfSome result.part (IsFoundPart common.now.of seat.view result.seat.view) }
 {
     outside.gate.begun(worker, &name);
@@ -206,6 +217,7 @@ pub(crate) fn search_at_desk<R: Wait, G: Gate, K: Opened>(
             name,
             &mut desk,
             common.longest(),
+            common.thinning,
         )
         .ok()
     } else {
@@ -236,7 +248,7 @@ pub(crate) fn first_at_desk<R: Wait, G: Gate, K: Opened>(
     ensures words { result.1.of ≡ common.now.of }
     ensures claims { OnlyClaims seat.view result.1.view }
     ensures place { fixed_at result.2 ≡ fixed_at place }
-    ensures counted { IfSome result.0 (λ found. IsCountedPart seat.view result.1.view place result.2 name found.part) }
+    ensures counted { IfSome result.0 (λ found. IsCountedPart common.now.of.key.thin seat.view result.1.view place result.2 name found.part) }
     ensures part { IfSome result.0 (λ found. IsSearchedFirst common.now.of.key.problem common.now.of.key.start found.plan found.part) }
     ensures plan { IfSome result.0 (λ found. IfSome found.plan (IsPlanOfCount common.now.of.key.problem common.now.of.key.start)) }
 {
@@ -250,6 +262,7 @@ pub(crate) fn first_at_desk<R: Wait, G: Gate, K: Opened>(
             common.first,
             &mut desk,
             common.longest(),
+            common.thinning,
         )
         .ok()
     } else {

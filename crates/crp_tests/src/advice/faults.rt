@@ -81,11 +81,12 @@ pub(super) const OF_RUNS: [Fault; 5] = [
 ];
 
 // Settings beyond their limits.
-pub(super) const OF_SETTINGS: [SettingFault; 7] = [
+pub(super) const OF_SETTINGS: [SettingFault; 8] = [
     SettingFault::Workers,
     SettingFault::Budget,
     SettingFault::Split,
     SettingFault::Beam,
+    SettingFault::Thin,
     SettingFault::Heights,
     SettingFault::Rows,
     SettingFault::Tiers,

@@ -9,7 +9,7 @@ use Rattle.crp_tree.specs.Mark.{B}
 use Rattle.crp_tree.specs.Trees.{Node}
 use Rattle.crp_tree.proofs.Followed.{legal_push}
 use Rattle.crp_search.specs.Limits.{dealt}
-use Rattle.crp_search.proofs.SoFar.{met_cut}
+use Rattle.crp_search.proofs.SoFar.{met_cut, none_granted}
 use Rattle.crp_search.proofs.Closing.{held_b, closed_b, closes_from}
 use Rattle.crp_search.proofs.walking.close_child.Goals as goal
 
@@ -32,8 +32,8 @@ returns-then-from-bar-clause-closes g c =
     let node : Node = record { path = c.args.path.now; place = next; mark = B } in
     rw c.cut.ensures (record {
       met = λ rows _. g.met.S.Seek.onward p rows _ _ _ _ _ _ [] (node ∷ []) (c.enough-bar.ensures.met p rows)
-          (g.met.S.Seek.one p rows c.enough-bar.new.self seen seen node (met_cut rows seen seen node refl tt refl refl) refl (held_b _ c.args.path.now next (omega arith)));
-      closed = closed_b c.args.floor _ c.args.path.now next (omega arith);
+          (g.met.S.Seek.one p rows c.enough-bar.new.self seen seen node (met_cut rows 0 seen seen node refl tt (none_granted 0 seen.view.granted seen.view.granted refl) refl) refl (held_b _ c.args.path.now next (omega arith)));
+      closed = closed_b c.args.floor _ c.args.path.now next _ (omega arith);
       ended = tt;
     })
 

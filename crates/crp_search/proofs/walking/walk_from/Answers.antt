@@ -16,7 +16,7 @@ use Rattle.crp_search.specs.Limits.{dealt}
 use Rattle.crp_search.specs.Searched.{AreFirstNodes}
 use Rattle.crp_search.specs.Walked.{met_at, closing, TakesTurn}
 use Rattle.crp_search.proofs.Closing.{floor_branch, floor_more}
-use Rattle.crp_search.proofs.UnderWay.{standing, stands_at, sets_out, legal_turn, turn_leads, still_short, stays, goes_down, goes_up, ends, ends_as, first_nodes, none_yet, plain_fits, leaf_tree, carried, reverse_push, one_less_left}
+use Rattle.crp_search.proofs.UnderWay.{standing, stands_at, sets_out, legal_turn, turn_leads, still_short, stays, goes_down, goes_up, ends, ends_as, first_nodes, none_yet, leaf_tree, carried, reverse_push, one_less_left}
 use Rattle.crp_search.proofs.Owing.{left, owed, owes_less, owes_below, owes_above}
 use Rattle.crp_search.proofs.walking.walk_from.Goals as goal
 
@@ -35,29 +35,40 @@ pub from_row-requires : goal.from_row-requires
 from_row-requires g c =
     let closes = rw c.in-Some.is at c.in_ok-first.ensures.closes in
     let closed = closes.closed in
-    let one = closing c.in-Some.closed in
-    (leaf one, c.push_reserved.ensures ∙ ap (λ l. l ++ one ∷ []) (c.make_room.ensures.symbols ∙ c.new-list.ensures) ∙ leaf_symbols one closed.leaf_is)
+    let one = closing (g.S.Seek.text c.close.new.seek) c.in-Some.closed in
+    (leaf one, c.in_ok-push.ensures.symbols ∙ ap (λ t. c.make_room.new.self.symbols ++ symbol_of c.in-Some.closed.kind t ∷ []) c.text.ensures ∙ ap (λ l. l ++ one ∷ []) (c.make_room.ensures.symbols ∙ c.new-list.ensures) ∙ leaf_symbols one closed.leaf_is)
 
 pub returns-in-Some-clause-own : goal.returns-in-Some-clause-own
 returns-in-Some-clause-own g c =
-    let one = closing c.in-Some.closed in
-    let same = leaf_tree c.make_room.new.self.symbols c.push_reserved.new.self.symbols c.from_row.result one (c.make_room.ensures.symbols ∙ c.new-list.ensures) c.push_reserved.ensures c.from_row.ensures in
+    let one = closing (g.S.Seek.text c.close.new.seek) c.in-Some.closed in
+    let same = leaf_tree c.make_room.new.self.symbols c.push.new.self.symbols c.from_row.result one (c.make_room.ensures.symbols ∙ c.new-list.ensures)
+    (c.in_ok-push.ensures.symbols ∙ ap (λ t. c.make_room.new.self.symbols ++ symbol_of c.in-Some.closed.kind t ∷ []) c.text.ensures) c.from_row.ensures in
     let closes = rw c.in-Some.is at c.in_ok-first.ensures.closes in
     let closed = closes.closed in
     subst (λ t. IsGivenAway t → ⊥) same (λ away. let none = closed.given away in absurd (omega arith))
 
+pub returns-in_err-push-clause-end : goal.returns-in_err-push-clause-end
+returns-in_err-push-clause-end g c =
+    let e = err_from_is_err_and c.from_residual-in_err-push.result c.from_residual-in_err-push.ensures.1 in
+    let closes = rw (c.in-Some.is, c.as_slice.ensures.value) at c.in_ok-first.ensures.closes in
+    let closed = closes.closed in
+    let one = leaf (closing (g.S.Seek.text c.close.new.seek) c.in-Some.closed) in
+    let own = nodes c.args.path.now.items c.args.place.now.place one in
+    let first : AreFirstNodes c.args.path.now.items c.args.place.now.place own = record { tree = one; fits = closed.fits; rest = []; is = sym (append-nil own) } in
+    rw (e.1, e.2) (own, first, g.met.S.Seek.short c.args.problem.now c.args.split _ _ _ _ _ (closes.met c.args.split (omega arith)))
+
 pub loop-row-init : goal.loop-row-init
 loop-row-init g c =
     let rows : c.at-frame.result.rows.items ≡ targets c.args.place.now.place = c.at-frame.ensures.rows ∙ ap (λ (v : PlaceAndTrail). targets v.place) c.position.ensures in
-    let list_is : c.push_reserved-2.new.self.symbols ≡ symbol.Branch (length c.at-frame.result.rows.items) ∷ [] = c.push_reserved-2.ensures ∙ ap (λ l. l ++ symbol_of c.kind.result [] ∷ []) (c.make_room.ensures.symbols ∙ c.new-list.ensures) ∙ ap (λ k. symbol_of k [] ∷ []) c.kind.ensures in
-    let begun = sets_out c.args.problem.now (standing c.args.path.now.items c.args.place.now) c.at-frame.result c.as_slice.result.now _ c.requires.path c.as_slice.ensures.value rows c.at-frame.ensures.done refl in
+    let list_is : c.push_reserved.new.self.symbols ≡ symbol.Branch (length c.at-frame.result.rows.items) ∷ [] = c.push_reserved.ensures ∙ ap (λ l. l ++ symbol_of c.kind.result [] ∷ []) (c.make_room.ensures.symbols ∙ c.new-list.ensures) ∙ ap (λ k. symbol_of k [] ∷ []) c.kind.ensures in
+    let begun = sets_out c.args.problem.now (standing c.args.path.now.items c.args.place.now) c.at-frame.result c.as_slice.result.now (g.S.Seek.text c.close.new.seek) _ c.requires.path c.as_slice.ensures.value rows c.at-frame.ensures.done refl in
     let closes = rw c.in_default.is at c.in_ok-first.ensures.closes in
     let branched = closes.met c.args.split (omega arith) in
     record {
       is_problem = c.cap-floor.ensures.problem;
       same = c.in_ok-first.ensures.same;
       ready = g.met.S.Seek.still c.args.problem.now c.args.split _ _ _ _ _ branched c.requires.ready;
-      met = met_at c.as_slice.result.now c.args.place.now.place None;
+      met = met_at c.as_slice.result.now c.args.place.now.place (g.S.Seek.text c.close.new.seek) None;
       under_way = carried refl refl refl (ap reverse c.new-above.ensures.items) list_is begun;
       meets = branched;
       floor_is = c.cap-floor.ensures.value;
@@ -122,14 +133,14 @@ returns-in_err-make_room-3-clause-end g c =
     let e = err_from_is_err_and c.from_residual-in_err-make_room-3.result c.from_residual-in_err-make_room-3.ensures.1 in
     rw (e.1, e.2) (c.loop-row.invariant.met, first_nodes c.loop-row.invariant.under_way, g.met.S.Seek.short c.args.problem.now c.args.split _ _ _ _ _ c.loop-row.invariant.meets)
 
-pub push-requires : goal.push-requires
-push-requires g c =
+pub push-requires-in-loop-row : goal.push-requires-in-loop-row
+push-requires-in-loop-row g c =
     let few : length c.loop-row.path.items < 672 = still_short c.loop-row.invariant.under_way c.in-Some-turn.ensures.turn c.loop-row.invariant.is_problem in
     (lit< tt, omega arith)
 
 pub walk_child-requires-clause-path : goal.walk_child-requires-clause-path
 walk_child-requires-clause-path g c =
-    subst (λ l. IsAt c.args.problem.now l (child c.loop-row.place.place c.in-Some-turn.row)) (sym (c.as_slice-in-loop-row.ensures.value ∙ c.push.ensures.items))
+    subst (λ l. IsAt c.args.problem.now l (child c.loop-row.place.place c.in-Some-turn.row)) (sym (c.as_slice-in-loop-row.ensures.value ∙ c.push-in-loop-row.ensures.items))
     (turn_leads c.loop-row.invariant.under_way c.in-Some-turn.ensures.turn c.loop-row.invariant.is_problem)
 
 pub walk_child-requires-clause-row : goal.walk_child-requires-clause-row
@@ -145,10 +156,10 @@ pub loop-row-smaller-in_default-found : goal.loop-row-smaller-in_default-found
 loop-row-smaller-in_default-found g c =
     let rev : reverse c.push_reserved-in_default-found-2.new.self.items ≡ c.turn.new.self ∷ reverse c.loop-row.above.items = ap reverse (c.push_reserved-in_default-found-2.ensures.items ∙ ap (λ (f : Frame). c.make_room-in-loop-row-2.new.list.items ++ f ∷ []) c.replace.ensures.value ∙ ap (λ (l : List Frame). l ++ c.turn.new.self ∷ []) c.make_room-in-loop-row-2.ensures.items) ∙ reverse_push c.loop-row.above.items c.turn.new.self in
     let few : length c.loop-row.path.items < 672 = still_short c.loop-row.invariant.under_way c.in-Some-turn.ensures.turn c.loop-row.invariant.is_problem in
-    let rows : length c.push.new.self.items ≡ suc (length c.loop-row.path.items) = omega (arith, ap length c.push.ensures.items, length-append c.loop-row.path.items (c.in-Some-turn.row ∷ [])) in
+    let rows : length c.push-in-loop-row.new.self.items ≡ suc (length c.loop-row.path.items) = omega (arith, ap length c.push-in-loop-row.ensures.items, length-append c.loop-row.path.items (c.in-Some-turn.row ∷ [])) in
     let low : left c.replace.new.dest ≤ 12 = subst (λ (f : Frame). left f ≤ 12) (sym c.replace.ensures.after) (let le = c.at-below.ensures.few in omega arith) in
-    subst (λ l. owed (length c.push.new.self.items) c.replace.new.dest l < owed (length c.loop-row.path.items) c.loop-row.frame (reverse c.loop-row.above.items)) (sym rev)
-    (owes_below (length c.loop-row.path.items) (length c.push.new.self.items) c.loop-row.frame c.turn.new.self c.replace.new.dest (reverse c.loop-row.above.items) rows (omega arith) (one_less_left c.in-Some-turn.ensures.turn) low)
+    subst (λ l. owed (length c.push-in-loop-row.new.self.items) c.replace.new.dest l < owed (length c.loop-row.path.items) c.loop-row.frame (reverse c.loop-row.above.items)) (sym rev)
+    (owes_below (length c.loop-row.path.items) (length c.push-in-loop-row.new.self.items) c.loop-row.frame c.turn.new.self c.replace.new.dest (reverse c.loop-row.above.items) rows (omega arith) (one_less_left c.in-Some-turn.ensures.turn) low)
 
 pub loop-row-preserved-in_default-found : goal.loop-row-preserved-in_default-found
 loop-row-preserved-in_default-found g c =
@@ -160,12 +171,12 @@ loop-row-preserved-in_default-found g c =
     let branched = closes.met c.args.split (omega arith) in
     let rows : c.at-below.result.rows.items ≡ targets c.walk_child.new.place.place = c.at-below.ensures.rows ∙ ap (λ (v : PlaceAndTrail). targets v.place) c.position-in_default-found.ensures in
     let list_is : c.push_reserved-in_default-found.new.self.symbols ≡ c.loop-row.list.symbols ++ symbol.Branch (length c.at-below.result.rows.items) ∷ [] = c.push_reserved-in_default-found.ensures ∙ ap (λ l. l ++ symbol_of c.kind-in_default-found.result [] ∷ []) c.make_room-in-loop-row.ensures.symbols ∙ ap (λ k. c.loop-row.list.symbols ++ symbol_of k [] ∷ []) c.kind-in_default-found.ensures in
-    let gone = goes_down c.loop-row.invariant.under_way c.in-Some-turn.ensures.turn (standing c.push.new.self.items c.walk_child.new.place) c.at-below.result path _ c.loop-row.invariant.is_problem c.as_slice-in-loop-row.ensures.value c.push.ensures.items down rows c.at-below.ensures.done refl in
+    let gone = goes_down c.loop-row.invariant.under_way c.in-Some-turn.ensures.turn (standing c.push-in-loop-row.new.self.items c.walk_child.new.place) c.at-below.result path (g.S.Seek.text c.walk_child.new.seek) _ c.loop-row.invariant.is_problem c.as_slice-in-loop-row.ensures.value c.push-in-loop-row.ensures.items down rows c.at-below.ensures.done refl in
     record {
       is_problem = c.loop-row.invariant.is_problem;
       same = (c.walk_child.ensures.same.0 ∙ c.loop-row.invariant.same.0, c.walk_child.ensures.same.1 ∙ c.loop-row.invariant.same.1);
       ready = g.met.S.Seek.still c.args.problem.now c.args.split _ _ _ _ _ branched c.loop-row.invariant.ready;
-      met = c.loop-row.invariant.met ++ met_at path next None;
+      met = c.loop-row.invariant.met ++ met_at path next (g.S.Seek.text c.walk_child.new.seek) None;
       under_way = carried refl refl c.replace.ensures.after rev list_is gone;
       meets = g.met.S.Seek.onward c.args.problem.now c.args.split _ _ _ _ _ _ _ _ c.loop-row.invariant.meets branched;
       floor_is = floor_branch (cap c.args.problem.now) c.loop-row.floor c.loop-row.invariant.met path next c.loop-row.invariant.floor_is;
@@ -174,21 +185,21 @@ loop-row-preserved-in_default-found g c =
 pub loop-row-smaller : goal.loop-row-smaller
 loop-row-smaller g c =
     let turn : TakesTurn c.loop-row.frame c.turn.new.self c.in-Some-turn.row = c.in-Some-turn.ensures.turn in
-    let popped : c.pop-row-in-loop-row.new.self.items ≡ c.loop-row.path.items = back_again c.pop-row-in-loop-row.new.self.items c.push.new.self.items c.loop-row.path.items _ c.in-Some-turn.row refl c.push.ensures.items c.pop-row-in-loop-row.ensures.rest in
+    let popped : c.pop-row-in-loop-row.new.self.items ≡ c.loop-row.path.items = back_again c.pop-row-in-loop-row.new.self.items c.push-in-loop-row.new.self.items c.loop-row.path.items _ c.in-Some-turn.row refl c.push-in-loop-row.ensures.items c.pop-row-in-loop-row.ensures.rest in
     rw (popped, c.make_room-in-loop-row-2.ensures.items) (owes_less (length c.loop-row.path.items) c.loop-row.frame c.turn.new.self (reverse c.loop-row.above.items) (omega arith) (one_less_left turn))
 
 pub loop-row-preserved : goal.loop-row-preserved
 loop-row-preserved g c =
-    let popped : c.pop-row-in-loop-row.new.self.items ≡ c.loop-row.path.items = back_again c.pop-row-in-loop-row.new.self.items c.push.new.self.items c.loop-row.path.items _ c.in-Some-turn.row refl c.push.ensures.items c.pop-row-in-loop-row.ensures.rest in
+    let popped : c.pop-row-in-loop-row.new.self.items ≡ c.loop-row.path.items = back_again c.pop-row-in-loop-row.new.self.items c.push-in-loop-row.new.self.items c.loop-row.path.items _ c.in-Some-turn.row refl c.push-in-loop-row.ensures.items c.pop-row-in-loop-row.ensures.rest in
     let path = c.as_slice-in-loop-row.result.now in
-    let one = closing c.in-Some-found.closed in
+    let one = closing (g.S.Seek.text c.walk_child.new.seek) c.in-Some-found.closed in
     let back = rw c.in-Some-found.is at c.in_ok-found.ensures.back in
     let closes = rw c.in-Some-found.is at c.in_ok-found.ensures.closes in
     let closed = closes.closed in
     let own_met = closes.met c.args.split (omega arith) in
-    let list_is : c.push_reserved-in-loop-row.new.self.symbols ≡ c.loop-row.list.symbols ++ one ∷ [] = c.push_reserved-in-loop-row.ensures ∙ ap (λ l. l ++ one ∷ []) c.make_room-in-loop-row.ensures.symbols in
-    let stayed = stays c.loop-row.invariant.under_way c.in-Some-turn.ensures.turn path one (c.as_slice-in-loop-row.ensures.value ∙ c.push.ensures.items) closed.leaf_is
-    (plain_fits c.in-Some-found.closed.kind (child c.loop-row.place.place c.in-Some-turn.row) closed.plain closed.leaf_is) in
+    let list_is : c.push-in-loop-row-2.new.self.symbols ≡ c.loop-row.list.symbols ++ one ∷ [] =
+    c.in_ok-push-2.ensures.symbols ∙ ap (λ t. c.make_room-in-loop-row.new.self.symbols ++ symbol_of c.in-Some-found.closed.kind t ∷ []) c.text-in-loop-row.ensures ∙ ap (λ l. l ++ one ∷ []) c.make_room-in-loop-row.ensures.symbols in
+    let stayed = stays c.loop-row.invariant.under_way c.in-Some-turn.ensures.turn path one (c.as_slice-in-loop-row.ensures.value ∙ c.push-in-loop-row.ensures.items) closed.leaf_is closed.fits in
     let own = nodes path (child c.loop-row.place.place c.in-Some-turn.row) (leaf one) in
     record {
       is_problem = c.loop-row.invariant.is_problem;
@@ -199,3 +210,17 @@ loop-row-preserved g c =
       meets = g.met.S.Seek.onward c.args.problem.now c.args.split _ _ _ _ _ _ _ _ c.loop-row.invariant.meets own_met;
       floor_is = floor_more (cap c.args.problem.now) c.loop-row.floor c.in-Some-found.closed.floor c.loop-row.invariant.met own c.loop-row.invariant.floor_is closed.floor_is;
     }
+
+pub returns-in_err-push-2-clause-end : goal.returns-in_err-push-2-clause-end
+returns-in_err-push-2-clause-end g c =
+    let e = err_from_is_err_and c.from_residual-in_err-push-2.result c.from_residual-in_err-push-2.ensures.1 in
+    let path = c.as_slice-in-loop-row.result.now in
+    let one = closing (g.S.Seek.text c.walk_child.new.seek) c.in-Some-found.closed in
+    let closes = rw c.in-Some-found.is at c.in_ok-found.ensures.closes in
+    let closed = closes.closed in
+    let stayed = stays c.loop-row.invariant.under_way c.in-Some-turn.ensures.turn path one (c.as_slice-in-loop-row.ensures.value ∙ c.push-in-loop-row.ensures.items) closed.leaf_is closed.fits in
+    rw (e.1, e.2) (
+      c.loop-row.invariant.met ++ nodes path (child c.loop-row.place.place c.in-Some-turn.row) (leaf one),
+      first_nodes stayed,
+      g.met.S.Seek.short c.args.problem.now c.args.split _ _ _ _ _ (g.met.S.Seek.onward c.args.problem.now c.args.split _ _ _ _ _ _ _ _ c.loop-row.invariant.meets (closes.met c.args.split (omega arith))),
+    )

@@ -1,7 +1,9 @@
-use Rattle.std.proofs.Common.{sym, ◌∙◌, subst}
+use Rattle.std.proofs.Common.{length, sym, ◌∙◌, subst}
 use Rattle.crp_plan.specs.Bay.{IsAt, start}
 use Rattle.crp_bay.specs.Positions.{settled}
 use Rattle.crp_bay.proofs.Walked.{begins_at}
+use Rattle.crp_tree.specs.Parts.{branches_in}
+use Rattle.crp_search.specs.Searched.{Grants}
 use Rattle.crp_solve.specs.Workers.{LoneWorker}
 use Rattle.crp_solve.proofs.Searching.{IsSearchAlone, whole_after}
 use Rattle.crp_solve.proofs.alone.search_all.Goals as goal
@@ -26,5 +28,6 @@ returns-in-Ok-whole-clause-found g c =
       on = c.search-found.ensures.advances;
     } in
     rw (c.into_best-best.ensures.value, c.granted-expanded.ensures.value)
-    (whole_after p c.args.settings.budget c.args.first old new c.in-Ok.part c.in-Ok-whole.cert searched c.requires.first f.problem (f.name ∙ c.root.ensures) f.part f.grants (sym f.puts) f.cuts f.branches
+    (whole_after p c.args.settings.budget c.args.first old new c.in-Ok.part c.in-Ok-whole.cert searched c.requires.first f.problem (f.name ∙ c.root.ensures) f.part
+    (subst (λ n. Grants n old.view.granted (length (branches_in c.in-Ok.part)) new.view.granted) c.thinning.ensures f.grants) (sym f.puts) f.cuts f.branches
     c.in-Ok-whole.ensures.value)

@@ -13,7 +13,7 @@ returns-in-Ok-clause-answered c chosen searched lost =
     (record {
       answer = given.true_answer chosen.budget r.expanded (searched_ended p chosen r s);
       searches = given.comes chosen r.expanded s;
-      one_search = λ alone. given.one_search r.expanded (searched_branches p chosen r s alone);
+      one_search = λ alone none. given.one_search r.expanded (searched_branches p chosen r s alone none);
     })
 
 pub returns-in_ok-answer-in-Err-clause-answered : goal.returns-in_ok-answer-in-Err-clause-answered
@@ -23,5 +23,5 @@ returns-in_ok-answer-in-Err-clause-answered c chosen searched lost =
     (record {
       answer = given.true_answer chosen.budget r.expanded (subst (λ o. IfErr o (λ l. IsLost p chosen.budget l.best l.expanded)) c.in-Err.is lost);
       searches = given.comes chosen r.expanded;
-      one_search = λ alone. given.is_branch r.expanded;
+      one_search = λ alone none. given.is_branch r.expanded;
     })

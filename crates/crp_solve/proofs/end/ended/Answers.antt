@@ -20,7 +20,7 @@ returns-in-Ok-clause-found c =
       seen = t.seen;
       mine = t.mine;
     } in
-    subst (λ (q : Problem). IsFoundTogether q c.args.budget key.start c.in-Ok.cert c.args.done.best c.min-expanded.result) here (record {
+    subst (λ (q : Problem). IsFoundTogether key.thin q c.args.budget key.start c.in-Ok.cert c.args.done.best c.min-expanded.result) here (record {
       view = view;
       granted = omega (arith, c.min-expanded.ensures, t.granted, budget);
       best_is = kept.plan_is;

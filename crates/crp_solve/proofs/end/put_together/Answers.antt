@@ -15,7 +15,7 @@ search_rest-requires-clause-done g c =
     let at : old.seat.of ≡ of = search rules in
     let kept = c.better_of.ensures.kept.both of c.args.left.view old.seat.view [] old.parts.items c.requires.begins (subst (λ o. keeps o old.seat.view old.best old.parts.items) at c.all.invariant.kept) in
     subst (λ (s : Seat). IsDoneUpTo keeps of s.view c.better_of.result old.parts.items c.finish.result.puts c.finish.result.takes) (sym c.join.ensures)
-    (done_with_left keeps of c.args.left _ c.better_of.result c.args.pool c.finish.result.puts c.finish.result.takes c.requires.left c.all.invariant c.if-short.false p.1 every kept c.finish.ensures.puts c.finish.ensures.takes)
+    (done_with_left keeps of c.args.left _ c.better_of.result c.args.pool c.finish.result.puts c.finish.result.takes c.requires.left c.all.invariant at c.if-short.false p.1 every kept c.finish.ensures.puts c.finish.ensures.takes)
 
 pub returns-then-short-clause-kept : goal.returns-then-short-clause-kept
 returns-then-short-clause-kept g c =

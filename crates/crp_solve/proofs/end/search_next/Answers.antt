@@ -17,7 +17,7 @@ returns-clause-kept g c =
 pub returns-clause-more : goal.returns-clause-more
 returns-clause-more g c _ =
     let new = c.search_part-part.result in let of = c.args.common.now.of in let x = c.in-Some-part.part in let old = c.args.done in let keeps = g.A.Aim.keeps in let d = c.requires.done in
-    let counted : IsCountedPart old.seat.view new.seat.view None new.place c.in-Some.name x = subst (λ o. IfSome o (IsCountedPart old.seat.view new.seat.view None new.place c.in-Some.name)) c.in-Some-part.is c.search_part-part.ensures.counted in
+    let counted : IsCountedPart of.key.thin old.seat.view new.seat.view None new.place c.in-Some.name x = subst (λ o. IfSome o (IsCountedPart of.key.thin old.seat.view new.seat.view None new.place c.in-Some.name)) c.in-Some-part.is c.search_part-part.ensures.counted in
     let kept = subst (λ o. keeps of new.seat.view new.best (with_part old.parts.items o)) c.in-Some-part.is
     (c.search_part-part.ensures.kept old.parts.items d.kept) in (
       c.requires.enough,

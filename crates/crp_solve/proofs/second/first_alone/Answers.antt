@@ -40,7 +40,7 @@ returns-clause-found g c =
     subst (λ n. IsFoundFirst p budget n plan c.in-Ok-settle.cert c.granted-expanded.result) c.count-count.ensures.value
     (found_first p budget k plan cert c.in-Ok-settle.cert c.granted-expanded.result plan_is (subst (λ o. All (IsSearchedFirst p k o) cert.parts) c.in-Some.is all.searched)
     c.in-Ok-settle.ensures.about c.in-Ok-settle.ensures.settled c.in-Ok-settle.ensures.needs
-    (omega (arith, all.branches, f.grants, c.granted-expanded.ensures.value, fresh.none_granted))
+    (let g = f.grants in let some = g.enough in omega (arith, all.branches, some, c.granted-expanded.ensures.value, fresh.none_granted))
     (omega (arith, after.within, c.granted-expanded.ensures.value, c.search_first-found.ensures.same.1, c.new-worker.ensures.budget, c.budget.ensures.value)))
 
 pub returns-clause-one_part : goal.returns-clause-one_part

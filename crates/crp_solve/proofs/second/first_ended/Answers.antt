@@ -34,4 +34,4 @@ returns-clause-found c =
     let t = c.close-totals.ensures in
     found_first p c.args.budget key.start plan cert c.in-Ok-settle.cert c.min-expanded.result is
     (All-permutation (IsSearchedFirst p key.start (Some plan)) parts cert.parts c.in-Ok.ensures.parts searched) c.in-Ok-settle.ensures.about c.in-Ok-settle.ensures.settled c.in-Ok-settle.ensures.needs
-    (omega (arith, moved.grants, c.min-expanded.ensures, t.granted, budget)) (omega (arith, c.min-expanded.ensures))
+    (let g = moved.grants in let some = g.enough in omega (arith, some, c.min-expanded.ensures, t.granted, budget)) (omega (arith, c.min-expanded.ensures))

@@ -12,12 +12,12 @@ use Rattle.crp_thinning.proofs.linking.is_above.Goals as goal
 pub bounds-stacks-row : goal.bounds-stacks-row
 bounds-stacks-row c =
     let s : Position = c.args.track.now.place in
-    omega (arith, turn_there s c.args.upper (clear_thin s c.requires.thin) c.requires.blocks, c.place_of_rank-row.ensures.value, ap (place c.args.upper.turn) c.stacks-stacks.ensures.value, ap length c.stacks-stacks.ensures.value)
+    omega (arith, turn_there s c.args.upper (clear_thin s c.requires.thin) c.requires.blocks, c.place_of_rank-row.ensures.value, ap length c.stacks-stacks.ensures.value)
 
 pub returns : goal.returns
 returns c =
     let s : Position = c.args.track.now.place in
-    let row_is : c.place_of_rank-row.result ≡ place c.args.upper.turn s.stacks = c.place_of_rank-row.ensures.value ∙ ap (place c.args.upper.turn) c.stacks-stacks.ensures.value in
+    let row_is : c.place_of_rank-row.result ≡ place c.args.upper.turn s.stacks = c.place_of_rank-row.ensures.value in
     let lt : c.place_of_rank-row.result < length s.stacks = omega (arith, turn_there s c.args.upper (clear_thin s c.requires.thin) c.requires.blocks, row_is) in
     let here : get_or s.stacks c.place_of_rank-row.result [] ≡ c.ranks.result.now =
     ap (λ l. get_or l c.place_of_rank-row.result []) (sym c.stacks-stacks.ensures.value) ∙ any_default c.stacks-stacks.result.now c.place_of_rank-row.result [] c.index-stacks-row.result (omega (arith, lt, ap length c.stacks-stacks.ensures.value)) ∙ sym c.index-stacks-row.is ∙ sym c.ranks.ensures.value in

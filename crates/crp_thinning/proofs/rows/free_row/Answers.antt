@@ -1,10 +1,16 @@
 use Rattle.std.proofs.Common.{◌≤◌, length, sym, ap, ◌∙◌, arith}
 use Rattle.crp_plan.specs.Bay.{Position}
+use Rattle.crp_plan.proofs.Steps.{same_rows}
 use Rattle.crp_thinning.proofs.GoodRows.{free_begins, free_on, free_here, free_none, no_free}
 use Rattle.crp_thinning.proofs.rows.free_row.Goals as goal
 
 pub returns-then-next-ordered : goal.returns-then-next-ordered
-returns-then-next-ordered c = sym (no_free c.args.track.now.place (omega (arith, c.next.ensures.value, c.ordered.ensures.value, c.if-next-ordered.true)))
+returns-then-next-ordered c = sym (no_free c.args.track.now.place (omega (arith, c.next.ensures.value, c.ordered-ordered.ensures.value, c.if-next-ordered.true)))
+
+pub count_lower-lower-requires : goal.count_lower-lower-requires
+count_lower-lower-requires c =
+    let s : Position = c.args.track.now.place in let f = c.stacks.ensures.fine in let few = f.few_rows in
+    omega (arith, ap length c.stacks.ensures.value, same_rows s.heights s.stacks f.stacks_fit)
 
 pub loop-row-init : goal.loop-row-init
 loop-row-init c = free_begins c.args.track.now.place

@@ -21,11 +21,6 @@ returns-then-blocking-need c =
     let s : Position = c.args.track.now.place in
     says_no c.args.need (stuck_now s) (omega (arith, most_thin _ s c.ordered-ordered.ensures.fine (omega (arith, c.requires.few, c.requires.blocking)), c.requires.blocking, c.if-blocking-need.true))
 
-pub rows_of-row_of-requires-clause-rows : goal.rows_of-row_of-requires-clause-rows
-rows_of-row_of-requires-clause-rows c =
-    let s : Position = c.args.track.now.place in let f = c.stacks-stacks.ensures.fine in let few = f.few_rows in
-    omega (arith, ap length c.stacks-stacks.ensures.value, same_rows s.heights s.stacks f.stacks_fit)
-
 pub begun-most-requires-clause-same : goal.begun-most-requires-clause-same
 begun-most-requires-clause-same c =
     let s : Position = c.args.track.now.place in let f = c.stacks-stacks.ensures.fine in
@@ -52,7 +47,7 @@ returns-then-most c =
 
 pub cut_at_rank-more-requires-clause-held : goal.cut_at_rank-more-requires-clause-held
 cut_at_rank-more-requires-clause-held c =
-    let s : Position = c.args.track.now.place in let k : ℕ = c.loop-rank.rank in let i : ℕ = get_or c.rows_of-row_of.result c.loop-rank.rank 0 in
+    let s : Position = c.args.track.now.place in let k : ℕ = c.loop-rank.rank in let i : ℕ = get_or c.row_of-row_of.result.now c.loop-rank.rank 0 in
     let le : k ≤ s.ordered = omega (arith, c.ordered-ordered.ensures.value, c.loop-rank-test.true) in
     let here : get_or s.stacks i [] ≡ c.ranks.result.now = ap (λ l. get_or l i []) (sym c.stacks-stacks.ensures.value) ∙ any_default c.stacks-stacks.result.now i [] c.index-stacks-index.result c.if-index-stacks.true ∙ sym c.index-stacks-index.is ∙ sym c.ranks.ensures.value in
     let f = c.ordered-ordered.ensures.fine in
@@ -61,7 +56,7 @@ cut_at_rank-more-requires-clause-held c =
 
 pub cut_at_rank-more-requires-clause-once : goal.cut_at_rank-more-requires-clause-once
 cut_at_rank-more-requires-clause-once c =
-    let s : Position = c.args.track.now.place in let k : ℕ = c.loop-rank.rank in let i : ℕ = get_or c.rows_of-row_of.result c.loop-rank.rank 0 in
+    let s : Position = c.args.track.now.place in let k : ℕ = c.loop-rank.rank in let i : ℕ = get_or c.row_of-row_of.result.now c.loop-rank.rank 0 in
     let le : k ≤ s.ordered = omega (arith, c.ordered-ordered.ensures.value, c.loop-rank-test.true) in
     let here : get_or s.stacks i [] ≡ c.ranks.result.now = ap (λ l. get_or l i []) (sym c.stacks-stacks.ensures.value) ∙ any_default c.stacks-stacks.result.now i [] c.index-stacks-index.result c.if-index-stacks.true ∙ sym c.index-stacks-index.is ∙ sym c.ranks.ensures.value in
     let f = c.ordered-ordered.ensures.fine in
@@ -71,7 +66,7 @@ cut_at_rank-more-requires-clause-once c =
 
 pub returns-then-need-again : goal.returns-then-need-again
 returns-then-need-again c =
-    let s : Position = c.args.track.now.place in let k : ℕ = c.loop-rank.rank in let i : ℕ = get_or c.rows_of-row_of.result c.loop-rank.rank 0 in
+    let s : Position = c.args.track.now.place in let k : ℕ = c.loop-rank.rank in let i : ℕ = get_or c.row_of-row_of.result.now c.loop-rank.rank 0 in
     let le : k ≤ s.ordered = omega (arith, c.ordered-ordered.ensures.value, c.loop-rank-test.true) in
     let here : get_or s.stacks i [] ≡ c.ranks.result.now = ap (λ l. get_or l i []) (sym c.stacks-stacks.ensures.value) ∙ any_default c.stacks-stacks.result.now i [] c.index-stacks-index.result c.if-index-stacks.true ∙ sym c.index-stacks-index.is ∙ sym c.ranks.ensures.value in
     let f = c.ordered-ordered.ensures.fine in
@@ -85,7 +80,7 @@ returns-then-need-again c =
 
 pub overflow_sub-still-then-least_of-rank-2 : goal.overflow_sub-still-then-least_of-rank-2
 overflow_sub-still-then-least_of-rank-2 c =
-    let s : Position = c.args.track.now.place in let k : ℕ = c.loop-rank.rank in let i : ℕ = get_or c.rows_of-row_of.result c.loop-rank.rank 0 in
+    let s : Position = c.args.track.now.place in let k : ℕ = c.loop-rank.rank in let i : ℕ = get_or c.row_of-row_of.result.now c.loop-rank.rank 0 in
     let le : k ≤ s.ordered = omega (arith, c.ordered-ordered.ensures.value, c.loop-rank-test.true) in
     let here : get_or s.stacks i [] ≡ c.ranks.result.now = ap (λ l. get_or l i []) (sym c.stacks-stacks.ensures.value) ∙ any_default c.stacks-stacks.result.now i [] c.index-stacks-index.result c.if-index-stacks.true ∙ sym c.index-stacks-index.is ∙ sym c.ranks.ensures.value in
     let f = c.ordered-ordered.ensures.fine in
@@ -98,7 +93,7 @@ overflow_sub-still-then-least_of-rank-2 c =
 
 pub returns-then-again-still : goal.returns-then-again-still
 returns-then-again-still c =
-    let s : Position = c.args.track.now.place in let k : ℕ = c.loop-rank.rank in let i : ℕ = get_or c.rows_of-row_of.result c.loop-rank.rank 0 in
+    let s : Position = c.args.track.now.place in let k : ℕ = c.loop-rank.rank in let i : ℕ = get_or c.row_of-row_of.result.now c.loop-rank.rank 0 in
     let le : k ≤ s.ordered = omega (arith, c.ordered-ordered.ensures.value, c.loop-rank-test.true) in
     let here : get_or s.stacks i [] ≡ c.ranks.result.now = ap (λ l. get_or l i []) (sym c.stacks-stacks.ensures.value) ∙ any_default c.stacks-stacks.result.now i [] c.index-stacks-index.result c.if-index-stacks.true ∙ sym c.index-stacks-index.is ∙ sym c.ranks.ensures.value in
     let f = c.ordered-ordered.ensures.fine in
@@ -111,13 +106,13 @@ returns-then-again-still c =
 
 pub loop-rank-preserved : goal.loop-rank-preserved
 loop-rank-preserved c =
-    let s : Position = c.args.track.now.place in let k : ℕ = c.loop-rank.rank in let i : ℕ = get_or c.rows_of-row_of.result c.loop-rank.rank 0 in
+    let s : Position = c.args.track.now.place in let k : ℕ = c.loop-rank.rank in let i : ℕ = get_or c.row_of-row_of.result.now c.loop-rank.rank 0 in
     let goes : List ℕ → ℕ → ℕ → ℕ → Type 0 = λ left most again still. Remains s.ordered s.next s.heights s.stacks (k + 1) left most again still in
     let le : k ≤ s.ordered = omega (arith, c.ordered-ordered.ensures.value, c.loop-rank-test.true) in
     let f = c.ordered-ordered.ensures.fine in
-    let are : AreRowsOf (length s.stacks) s.stacks c.rows_of-row_of.result = subst (λ l. AreRowsOf (length l) l c.rows_of-row_of.result) c.stacks-stacks.ensures.value c.rows_of-row_of.ensures.rows in
+    let are : AreRowsOf (length s.stacks) s.stacks c.row_of-row_of.result.now = c.row_of-row_of.ensures in
     let passes : holds k (part c.loop-rank.left i (get_or s.stacks i [])) ≡ false → goes c.loop-rank.left c.loop-rank.most c.loop-rank.again c.loop-rank.still = λ none.
-    remains_absent s.ordered s.next s.heights s.stacks k c.loop-rank.left c.loop-rank.most c.loop-rank.again c.loop-rank.still c.loop-rank.invariant (f.once k) le (absent_thin s.stacks c.rows_of-row_of.result c.loop-rank.left k i are refl none) in
+    remains_absent s.ordered s.next s.heights s.stacks k c.loop-rank.left c.loop-rank.most c.loop-rank.again c.loop-rank.still c.loop-rank.invariant (f.once k) le (absent_thin s.stacks c.row_of-row_of.result.now c.loop-rank.left k i are refl none) in
     elim c.if-index-stacks.branch [
       | then-index-stacks+then-least_of-rank+else-most+else-need-again+else-again-still w ↦
           let le : k ≤ s.ordered = omega (arith, c.ordered-ordered.ensures.value, c.loop-rank-test.true) in

@@ -22,8 +22,8 @@ put_together-done-requires-clause-words g c =
     together_at c.self.inside.common.of workers c.args.all c.self.invariant.workers.ready (subst (λ l. AreTogether l c.args.all) same c.requires.together)
 
 -- one search, as it was chosen
-one : (p : Problem) (c : Chosen) (known : Together) (plan : _) → c.deepen ≡ false → IsStartPlan p c plan → IsOneSearch p c.budget plan known → AreSearched p c known
-one p c known plan alone begins s = record { plan = plan; begins = begins; searches = subst (λ b. SearchesOf b p c.budget plan known) (sym alone) s }
+one : (p : Problem) (c : Chosen) (known : Together) (plan : _) → c.deepen ≡ false → IsStartPlan p c plan → IsOneSearch c.thin p c.budget plan known → AreSearched p c known
+one p c known plan alone begins s = record { plan = plan; begins = begins; searches = subst (λ b. SearchesOf b c.thin p c.budget plan known) (sym alone) s }
 
 pub returns-clause-solved : goal.returns-clause-solved
 returns-clause-solved g c =
@@ -32,10 +32,13 @@ returns-clause-solved g c =
     let problem_is : p ≡ of.key.problem = search rules in
     let shared_is : c.shared_of-shared.result.key.start ≡ of.key.start = search rules in
     let first : c.shared_of-shared.result.key.start ≡ count_of p (path_in known) = shared_is ∙ kept.first ∙ ap (λ (q : Problem). count_of q (path_in known)) (sym problem_is) in
+    let thin_is : c.shared_of-shared.result.key.thin ≡ of.key.thin = search rules in
+    let thin : c.shared_of-shared.result.key.thin ≡ chosen.thin = thin_is ∙ kept.thin in
     let start : IsStartPlan p chosen known = subst (λ (q : Problem). IsStartPlan q chosen known) (sym problem_is) kept.start in
-    let once = c.with_known.ensures.one_search p budget (subst (λ (n : ℕ). IfOk found (λ r. IsFoundTogether p budget n r.cert r.best r.expanded)) first c.found_by-found.ensures.found) in
-    let searched : IfOk c.with_known.result (AreSearched p chosen) = IfOk-weaker c.with_known.result (IsOneSearch p budget known) (AreSearched p chosen)
-    (λ k s. one p chosen k known kept.one_search start (subst (λ b. IsOneSearch p b known k) c.budget.ensures.value s)) once in
+    let once = c.with_known.ensures.one_search chosen.thin p budget (subst (λ (t : ℕ). IfOk found (λ r. IsFoundTogether t p budget (count_of p (path_in known)) r.cert r.best r.expanded)) thin
+    (subst (λ (n : ℕ). IfOk found (λ r. IsFoundTogether c.shared_of-shared.result.key.thin p budget n r.cert r.best r.expanded)) first c.found_by-found.ensures.found)) in
+    let searched : IfOk c.with_known.result (AreSearched p chosen) = IfOk-weaker c.with_known.result (IsOneSearch chosen.thin p budget known) (AreSearched p chosen)
+    (λ k s. one p chosen k known kept.one_search start (subst (λ b. IsOneSearch chosen.thin p b known k) c.budget.ensures.value s)) once in
     let lost = c.with_known.ensures.lost p budget start.best_met c.found_by-found.ensures.lost in
     let answered : IfOk c.answer_to.result (IsFirstPart p chosen) = c.answer_to.ensures.answered chosen searched (subst (λ b. IfErr c.with_known.result (λ l. IsLost p b l.best l.expanded)) c.budget.ensures.value lost) in
     let solved : IfOk c.answer_to.result (IsSolved p chosen) = both c.answer_to.result (λ s part none. unasked_is_solved p chosen s kept.not_first none part) answered c.answer_to.ensures.no_second in

@@ -17,9 +17,10 @@ invariant_of-group-2 g c =
     let here : c.args.common.now.of ≡ of = search rules in
     let name = c.in-Some-take.name in let q = c.in-Some.place in let r = c.take.new.self in let s = c.unwrap.result in let x = c.in-Some-part.part in
     let there : new.place ≡ Some s = c.unwrap.ensures in
-    let counted : IsCountedPart old.seat.view new.seat.view (Some r) (Some s) name x =
-    subst (λ o. IsCountedPart old.seat.view new.seat.view (Some r) o name x) there
-    (subst (λ o. IfSome o (IsCountedPart old.seat.view new.seat.view (Some r) new.place name)) c.in-Some-part.is c.search_part-part.ensures.counted) in
+    let counted : IsCountedPart of.key.thin old.seat.view new.seat.view (Some r) (Some s) name x =
+    subst (λ o. IsCountedPart of.key.thin old.seat.view new.seat.view (Some r) o name x) there
+    (subst (λ (w : Shared). IsCountedPart w.key.thin old.seat.view new.seat.view (Some r) new.place name x) here
+    (subst (λ o. IfSome o (IsCountedPart c.args.common.now.of.key.thin old.seat.view new.seat.view (Some r) new.place name)) c.in-Some-part.is c.search_part-part.ensures.counted)) in
     let kept : keeps of new.seat.view new.best (old.parts.items ++ x ∷ []) =
     subst (λ o. keeps o new.seat.view new.best (old.parts.items ++ x ∷ [])) here
     (subst (λ o. keeps c.args.common.now.of new.seat.view new.best (with_part old.parts.items o)) c.in-Some-part.is

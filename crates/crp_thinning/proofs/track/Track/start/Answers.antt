@@ -8,10 +8,10 @@ use Rattle.crp_thinning.proofs.track.Track.start.Goals as goal
 pub invariant_of-result : goal.invariant_of-result
 invariant_of-result c =
     let s : Position = c.args.position.now.place in
-    let u : Position = place_of c.heights_of.result.items c.ordered.result c.next.result c.stacks_of.result.items in
+    let u : Position = place_of c.heights_of.result.items c.ordered.result c.next.result c.of.result in
     let same : u ≡ s =
-    ap (λ h. place_of h c.ordered.result c.next.result c.stacks_of.result.items) c.heights_of.ensures
-    ∙ ap (λ o. place_of s.heights o c.next.result c.stacks_of.result.items) c.ordered.ensures.value
-    ∙ ap (λ n. place_of s.heights s.ordered n c.stacks_of.result.items) c.next.ensures.value
-    ∙ ap (place_of s.heights s.ordered s.next) c.stacks_of.ensures in
+    ap (λ h. place_of h c.ordered.result c.next.result c.of.result) c.heights_of.ensures
+    ∙ ap (λ o. place_of s.heights o c.next.result c.of.result) c.ordered.ensures.value
+    ∙ ap (λ n. place_of s.heights s.ordered n c.of.result) c.next.ensures.value
+    ∙ ap (place_of s.heights s.ordered s.next) c.of.ensures.value in
     subst (λ l. AreKept (reverse l) u) (sym c.new.ensures) (subst (IsFine 0) (sym same) (fine_start s c.next.ensures.reached))

@@ -9,7 +9,7 @@ invariant_of-result g c =
     let same : other.of ≡ seat.of = search rules in
     let kept = c.self.invariant.kept in
     let also = subst (λ o. keeps o other.view others.best others.parts.items) same c.other.invariant.kept in
-    merged keeps _ _ _ c.append-parts_fit.result c.append-places_fit.result c.self.invariant c.other.invariant
+    merged keeps _ _ _ c.append-parts_fit.result c.append-places_fit.result c.self.invariant c.other.invariant same
     (ap (λ (s : Seat). s.of) c.join.ensures) (ap (λ (s : Seat). s.view) c.join.ensures)
     (c.better_of.ensures.kept.both seat.of seat.view other.view mine.parts.items others.parts.items kept also)
     (c.better_of.ensures.kept.mine seat.of seat.view other.view mine.parts.items others.parts.items kept also)
