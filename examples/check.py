@@ -12,14 +12,15 @@ class Fault(Exception):
     pass
 
 
-def settle(heights, ordered, position):
-    """The position once every retrieval that is legal was made: the next rank, and the stacks."""
+def settle(ordered, position):
+    """The position once every retrieval that is legal was made: the next rank, and the stacks. A rank that is missing is passed over."""
     rank, stacks = position
     while rank <= ordered:
-        row = next(i for i, stack in enumerate(stacks) if rank in stack)
-        if stacks[row][-1] != rank:
-            break
-        stacks = stacks[:row] + (stacks[row][:-1],) + stacks[row + 1:]
+        row = next((i for i, stack in enumerate(stacks) if rank in stack), None)
+        if row is not None:
+            if stacks[row][-1] != rank:
+                break
+            stacks = stacks[:row] + (stacks[row][:-1],) + stacks[row + 1:]
         rank += 1
     return rank, stacks
 
@@ -38,7 +39,7 @@ def child(heights, ordered, position, row):
     source = next(i for i, stack in enumerate(stacks) if rank in stack)
     stacks[row - 1] += (stacks[source][-1],)
     stacks[source] = stacks[source][:-1]
-    return settle(heights, ordered, (rank, tuple(stacks)))
+    return settle(ordered, (rank, tuple(stacks)))
 
 
 def blocking(heights, ordered, position):
@@ -59,19 +60,6 @@ def look_ahead(heights, ordered, position):
     return blocking(heights, ordered, position) + again
 
 
-def settle_over(ordered, position):
-    """The same in a bay from which containers were lifted out: a rank that is missing is passed over."""
-    rank, stacks = position
-    while rank <= ordered:
-        row = next((i for i, stack in enumerate(stacks) if rank in stack), None)
-        if row is not None:
-            if stacks[row][-1] != rank:
-                break
-            stacks = stacks[:row] + (stacks[row][:-1],) + stacks[row + 1:]
-        rank += 1
-    return rank, stacks
-
-
 def lower(ordered, container, stack):
     return any(d <= ordered and d < container for d in stack)
 
@@ -85,7 +73,7 @@ def moved(ordered, position, row):
     stacks[source] = stacks[source][:-1]
     if row is not None:
         stacks[row - 1] += (container,)
-    return settle_over(ordered, (rank, tuple(stacks)))
+    return settle(ordered, (rank, tuple(stacks)))
 
 
 def hinders_nobody(ordered, container, stacks, height, onto):
@@ -190,7 +178,7 @@ def read_head(lines):
     plan = None if plan == b" -" else tuple(map(int, plan.split()))
     need(plan is None or len(plan) <= 672, f"C5 at line {at + 1}")
     bay_words = b"bay " + block + b" " + bay
-    return (bay_words, heights, ordered, settle(heights, ordered, (1, tuple(stacks))), kind, int(least), cap, plan, version), at + 1
+    return (bay_words, heights, ordered, settle(ordered, (1, tuple(stacks))), kind, int(least), cap, plan, version), at + 1
 
 
 def plan_fault(heights, ordered, position, plan):
