@@ -17,3 +17,4 @@ pub use laws::{
     chains_reach_look_ahead,
 };
 pub use linking::chain_gain_of;
+pub use standing::{beneath, is_open_to_any};

@@ -2,8 +2,7 @@
 ghost use Rattle.std.specs.Prelude.{◌≡◌, ◌≤◌, length};
 ghost use Rattle.std.specs.List.{list_any};
 ghost use Rattle.crp_plan.specs.Rows.{holds, below};
-ghost use Rattle.crp_bounds.specs.Bounds.{holds_lower};
-ghost use Rattle.crp_chains.specs.Chains.{standing_at, is_open as open_to, open_rows as rows_open};
+ghost use Rattle.crp_chains.specs.Chains.{is_open as open_to, open_rows as rows_open};
 
 use crate::blocker::Blocker;
 use crp_bay::Position;
@@ -19,17 +18,6 @@ pub fn beneath(rank: u8, stack: &[u8]) -> &[u8]
     &stack[..count]
 }
 
-/// What still stands of a stack when the turn of a rank comes.
-fn standing(turn: u8, stack: &[u8]) -> &[u8]
-    ensures { result.now ≡ standing_at turn stack.now }
-{
-    let mut count = 0;
-    while count < stack.len() && stack[count] >= turn {
-        count += 1;
-    }
-    &stack[..count]
-}
-
 /// Whether a rank stands in the list.
 pub fn has_rank(rank: u8, stack: &[u8]) -> bool
     ensures { result ≡ holds rank stack.now }
@@ -37,23 +25,22 @@ pub fn has_rank(rank: u8, stack: &[u8]) -> bool
     stack.iter().any(|y| *y == rank)
 }
 
-/// Whether an ordered container of a lower rank stands in the list.
-fn has_lower(ordered: u8, rank: u8, stack: &[u8]) -> bool
-    ensures { result ≡ holds_lower ordered rank stack.now }
-{
-    stack.iter().any(|d| *d <= ordered && *d < rank)
-}
-
 /// Whether a row of a height with this stack is open to a container.
 fn is_open(ordered: u8, height: u8, stack: &[u8], blocker: Blocker) -> bool
     ensures { result ≡ open_to ordered height stack.now blocker }
 {
-    let left = standing(blocker.turn, stack);
-    left.len() < height as usize && !has_lower(ordered, blocker.rank, left)
+    let mut count = 0;
+    while count < stack.len() && stack[count] >= blocker.turn {
+        if stack[count] <= ordered && stack[count] < blocker.rank {
+            return false;
+        }
+        count += 1;
+    }
+    count < height as usize
 }
 
 /// Whether the row is open to any of a chain.
-fn is_open_to_any(ordered: u8, height: u8, stack: &[u8], chain: &[Blocker]) -> bool
+pub fn is_open_to_any(ordered: u8, height: u8, stack: &[u8], chain: &[Blocker]) -> bool
     ensures { result ≡ list_any (open_to ordered height stack.now) chain.now }
 {
     chain

@@ -1,8 +1,9 @@
 -- Which of the legal rows the greedy rule chooses.
-use Rattle.std.proofs.Common.{◌≡◌, ℕ, zero, suc, ◌+◌, ◌-◌, add-zero, refl, ◌<◌, ◌≤◌, ◌⊎◌, inl, inr, ⊎_elim, List, length, get_or, Contains, sym, ◌∙◌, subst, arith}
+use Rattle.std.proofs.Common.{◌≡◌, ℕ, zero, suc, ◌+◌, ◌-◌, add-zero, refl, ◌<◌, ◌≤◌, ◌⊎◌, inl, inr, ⊎_elim, List, length, get_or, Contains, slice_get, Some, sym, ◌∙◌, subst, arith}
 use Rattle.std.specs.List.Sorted.{IsStrictlyIncreasing}
 use Rattle.std.proofs.lemmas.Bool.{cases_lt}
 use Rattle.std.proofs.lemmas.List.{get_or_default}
+use Rattle.std.proofs.lemmas.Option.{get_or_from_slice_get, slice_get_within}
 use Rattle.crp_plan.specs.Bay.{Problem, Position}
 use Rattle.crp_bay.specs.Positions.{targets}
 use Rattle.crp_bay.proofs.Reaching.{can_from_target, shift_needs}
@@ -155,6 +156,10 @@ best_of_all p s i best past so_far =
 -- the row at an index of the list is a legal one
 pub looked_at : (s : Position) (items : List ℕ) (i : ℕ) → items ≡ targets s → i < length items → Contains (targets s) (get_or items i 0)
 looked_at s items i same lt = rw same (target_at s i (subst (λ l. i < length l) same lt))
+
+-- the first row of the list is a legal one
+pub first_target : (s : Position) (items : List ℕ) (row : ℕ) → items ≡ targets s → slice_get items 0 ≡ Some row → Contains (targets s) row
+first_target s items row same e = subst (Contains (targets s)) (get_or_from_slice_get items 0 row 0 e) (looked_at s items 0 same (slice_get_within items 0 row e))
 
 -- the same numbers are better
 pub same_better : (c c' a a' b b' : ℕ) → c ≡ c' → a ≡ a' → b ≡ b' → IsBetter c a b → IsBetter c' a' b'

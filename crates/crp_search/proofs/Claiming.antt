@@ -1,13 +1,12 @@
 -- What claims make of a worker's view: one after the other, and one that is refused behind them.
-use Rattle.std.proofs.Common.{◌≡◌, ℕ, zero, suc, ◌+◌, ◌<◌, ◌≤◌, ⊎_elim, Bool, true, false, if◌then◌else◌, List, refl, sym, ap, ◌∙◌, subst, arith}
+use Rattle.std.proofs.Common.{◌≡◌, ℕ, zero, suc, ◌+◌, ◌<◌, ◌≤◌, ⊎_elim, Bool, true, false, if◌then◌else◌, List, sym, ap, ◌∙◌, arith}
 use Rattle.std.proofs.lemmas.Bool.{cases_lt}
 use Rattle.crp_plan.specs.Bay.{Problem}
 use Rattle.crp_plan.specs.declared.running.View.{View}
-use Rattle.crp_plan.specs.Running.{words, is_granted}
 use Rattle.crp_thinning.specs.declared.claims.Unclosed.{Unclosed}
 use Rattle.crp_thinning.specs.declared.claims.Unclosed.TheVariants.{Open, Refused, Memory}
 use Rattle.crp_thinning.specs.Claiming.{Granted, Claimed}
-use Rattle.crp_search.specs.Limits.{ClaimsExpansion, TriesClaim, OnlyGrants}
+use Rattle.crp_search.specs.Limits.{ClaimsExpansion}
 use Rattle.crp_search.specs.Tries.{OnlyGranted, LastRefused, EndsTry}
 
 -- ---- one claim

@@ -7,7 +7,7 @@ ghost use Rattle.crp_search.specs.Greedy.{blocker as blocker_of, least_rank as l
 
 use arrayvec::ArrayVec;
 use crp_bay::Position;
-use crp_plan::{MAX_RELOCATIONS, Plan, Problem, has_rank};
+use crp_plan::{MAX_RELOCATIONS, Plan, Problem};
 
 /// The rank on top of a stack, or 0.
 fn top_rank(stack: &[u8]) -> u8
@@ -21,15 +21,10 @@ fn top_rank(stack: &[u8]) -> u8
 
 /// The container that stands on top of the next one's stack.
 fn blocker(position: &Position) -> u8
+    requires { position.now.place.next ≤ position.now.place.ordered }
     ensures { result ≡ blocker_of position.now.place }
 {
-    for row in 1..position.rows() + 1 {
-        let stack = position.stack(row);
-        if has_rank(position.next(), stack) {
-            return top_rank(stack);
-        }
-    }
-    0
+    top_rank(position.stack(position.row_of(position.next())))
 }
 
 /// The least rank of a stack, or the number for an empty one.
@@ -72,10 +67,12 @@ pub(crate) fn greedy_row(problem: &Problem, position: &Position) -> Option<u8>
     let targets = position.targets();
     let mut best = *targets.first()?;
     let blocker = blocker(position);
+    let mut least = least_rank(problem, position, best);
     for row in targets.as_slice() {
         let rank = least_rank(problem, position, *row);
-        if is_better(blocker, rank, least_rank(problem, position, best)) {
+        if is_better(blocker, rank, least) {
             best = *row;
+            least = rank;
         }
     }
     Some(best)

@@ -10,3 +10,4 @@ pub mod Branches
 pub mod Stages
 pub mod EachRow
 pub mod Claiming
+pub mod Found

@@ -6,11 +6,10 @@ ghost use Rattle.crp_chains.specs.declared.blocker.Blocker.{Blocker as Named};
 ghost use Rattle.crp_chains.specs.Chains.{IsBlocker, ranks_of};
 
 use crate::looking::{rows, stack};
-use crate::opening::beneath;
 use crate::scanning::least_of as least_ordered;
 use crate::track::Track;
 use arrayvec::ArrayVec;
-use crp_chains::Blocker;
+use crp_chains::{Blocker, beneath};
 
 /// The row in which a rank stands, if any.
 fn row_with(track: &Track, rank: u8) -> Option<u8>

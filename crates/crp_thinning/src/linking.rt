@@ -7,10 +7,10 @@ ghost use Rattle.crp_thinned.specs.Missing.{IsSoundlyThin};
 
 use crate::finding::blockers_of;
 use crate::moving::is_in;
-use crate::opening::{beneath, open_rows};
+use crate::opening::open_rows;
 use crate::track::Track;
 use arrayvec::ArrayVec;
-use crp_chains::Blocker;
+use crp_chains::{Blocker, beneath};
 
 /// Whether a container that blocks stands above another.
 fn is_above(track: &Track, upper: Blocker, lower: u8) -> bool

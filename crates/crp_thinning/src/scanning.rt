@@ -36,9 +36,9 @@ pub fn rows_of(stacks: &[Stack]) -> [u8; 256]
     row_of
 }
 
-/// The least ordered rank of a stack with this container at the bottom of what has this least one.
+/// The least ordered rank of some containers, which have this least one, and one more.
 #[inline]
-fn with_bottom(ordered: u8, rank: u8, least: u8) -> u8
+pub fn least_with(ordered: u8, rank: u8, least: u8) -> u8
     ensures { result ≡ (if nat_le rank ordered then min rank least else least) }
 {
     if rank <= ordered && rank < least {
@@ -56,7 +56,7 @@ pub fn least_of(ordered: u8, stack: &[u8]) -> u8
     let mut left = stack.len();
     while left > 0 {
         left -= 1;
-        least = with_bottom(ordered, stack[left], least);
+        least = least_with(ordered, stack[left], least);
     }
     least
 }

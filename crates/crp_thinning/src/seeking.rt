@@ -2,8 +2,7 @@
 ghost use Rattle.std.specs.Prelude.{◌<◌, ◌≤◌, length};
 
 use crate::looking::{height, rows, stack};
-use crate::opening::beneath;
-use crate::scanning::{least_of, offer_of};
+use crate::scanning::least_with;
 use crate::track::Track;
 use arrayvec::ArrayVec;
 
@@ -13,11 +12,12 @@ pub const MAX_FAMILY: usize = 300;
 /// How often at most a chain is tried to go on.
 const MAX_TRIES: u32 = 4000;
 
-/// A container that blocks, with the rows that are open to it, a bit for each.
+/// A container that blocks, with the rows that are open to it, a bit for each, and their number.
 #[derive(Clone, Copy, Default, Drop)]
 struct Item {
     turn: u8,
     rank: u8,
+    count: u8,
     open: u16,
 }
 
@@ -37,24 +37,43 @@ struct Left {
     counts: [u8; 16],
     /// The least ordered rank of those; 0 where the row has no room, 255 where it has and none of them is ordered.
     offers: [u8; 16],
+    /// By rank: the least ordered rank beneath it, 255 where there is none; 0 where the rank stands nowhere.
+    under: [u8; 256],
 }
 
 /// How many rows have a bit.
-fn count_rows(open: u16) -> u32 {
-    open.count_ones()
+#[inline]
+fn count_rows(open: u16) -> u8 {
+    open.count_ones().min(16) as u8
+}
+
+/// Writes of each container of a stack the least ordered rank beneath it, and returns the least of the stack.
+fn mark_stack(ordered: u8, stack: &[u8], under: &mut [u8; 256]) -> u8 {
+    let mut least = 255;
+    for rank in stack {
+        under[*rank as usize] = least;
+        least = least_with(ordered, *rank, least);
+    }
+    least
 }
 
 /// The rows before the first turn.
 fn left_of(track: &Track) -> Left {
-    let mut counts = [0; 16];
-    let mut offers = [0; 16];
+    let mut left = Left {
+        counts: [0; 16],
+        offers: [0; 16],
+        under: [0; 256],
+    };
     for row in 1..rows(track) + 1 {
         let stack = stack(track, row);
         let index = row as usize - 1;
-        counts[index] = stack.len() as u8;
-        offers[index] = offer_of(track.ordered(), height(track, row), stack);
+        let least = mark_stack(track.ordered(), stack, &mut left.under);
+        left.counts[index] = stack.len() as u8;
+        if stack.len() < height(track, row) as usize {
+            left.offers[index] = least;
+        }
     }
-    Left { counts, offers }
+    left
 }
 
 /// The rows that are open to a container of a rank, a bit for each.
@@ -68,27 +87,24 @@ fn open_to(rank: u8, offers: &[u8; 16]) -> u16 {
     open
 }
 
-/// Adds these containers of a stack, whose turn is this rank, from the top down.
-fn add_items(turn: u8, upper: &[u8], offers: &[u8; 16], list: &mut ArrayVec<Item, 96>) {
-    let mut count = upper.len();
-    while count > 0 {
-        count -= 1;
-        if list.is_full() {
-            return;
-        }
-        let rank = upper[count];
+/// Adds a container whose turn is this rank, if at most so many rows are open to it.
+fn add_item(most: u8, turn: u8, rank: u8, offers: &[u8; 16], list: &mut ArrayVec<Item, 96>) {
+    let open = open_to(rank, offers);
+    let count = count_rows(open);
+    if count <= most && !list.is_full() {
         list.push(Item {
             turn,
             rank,
-            open: open_to(rank, offers),
+            count,
+            open,
         });
     }
 }
 
-/// Adds the containers whose turn is this rank, if it still stands in its row, from 0, and what is left of the row is what stands
-/// below it.
+/// Adds the containers whose turn is this rank, from the top down, if it stands, in this row, from 0, and no turn beneath it comes
+/// before; then what stands beneath it is left of the row.
 fn add_turn(
-    ordered: u8,
+    most: u8,
     turn: u8,
     row: usize,
     stack: &[u8],
@@ -98,18 +114,24 @@ fn add_turn(
     requires row { row < 16 }
     requires stack { length stack.now ≤ 8 }
 {
-    let stack = &stack[..stack.len().min(left.counts[row] as usize)];
-    let low = beneath(turn, stack).len();
-    if low >= stack.len() {
+    let least = left.under[turn as usize];
+    if least < turn {
         return;
     }
-    add_items(turn, &stack[low + 1..], &left.offers, list);
-    left.counts[row] = low as u8;
-    left.offers[row] = least_of(ordered, &stack[..low]);
+    let mut count = stack.len().min(left.counts[row] as usize);
+    while count > 0 {
+        count -= 1;
+        if stack[count] == turn {
+            break;
+        }
+        add_item(most, turn, stack[count], &left.offers, list);
+    }
+    left.counts[row] = count as u8;
+    left.offers[row] = least;
 }
 
-/// The containers that block, in the order in which they come up.
-fn items_of(track: &Track) -> ArrayVec<Item, 96> {
+/// The containers that block and to which at most so many rows are open, in the order in which they come up.
+fn items_of(track: &Track, most: u8) -> ArrayVec<Item, 96> {
     let mut list = ArrayVec::new();
     let stacks = track.stacks();
     let row_of = track.row_of();
@@ -117,14 +139,7 @@ fn items_of(track: &Track) -> ArrayVec<Item, 96> {
     for turn in track.next()..track.ordered() + 1 {
         let row = row_of[turn as usize] as usize;
         if row < stacks.len() {
-            add_turn(
-                track.ordered(),
-                turn,
-                row,
-                stacks[row].ranks(),
-                &mut left,
-                &mut list,
-            );
+            add_turn(most, turn, row, stacks[row].ranks(), &mut left, &mut list);
         }
     }
     list
@@ -135,15 +150,15 @@ fn extend(
     items: &[Item],
     used: &[bool; 256],
     trial: Trial,
-    most: u32,
-    left: u32,
+    most: u8,
+    left: u8,
     tries: &mut u32,
     chain: &mut ArrayVec<u8, 16>,
 ) -> bool {
     if left == 0 {
         return true;
     }
-    if trial.last > trial.ordered {
+    if trial.last > trial.ordered || items.len() < left as usize {
         return false;
     }
     for (i, item) in items.iter().enumerate() {
@@ -151,12 +166,11 @@ fn extend(
             return false;
         }
         *tries -= 1;
+        if item.rank <= trial.last || used[item.rank as usize] || chain.is_full() {
+            continue;
+        }
         let open = trial.open | item.open;
-        if used[item.rank as usize]
-            || item.rank <= trial.last
-            || chain.is_full()
-            || count_rows(open) > most
-        {
+        if open != trial.open && count_rows(open) > most {
             continue;
         }
         chain.push(item.rank);
@@ -208,7 +222,7 @@ fn add_from(
     ordered: u8,
     items: &[Item],
     item: Item,
-    most: u32,
+    most: u8,
     tries: &mut u32,
     used: &mut [bool; 256],
     text: &mut ArrayVec<u8, MAX_FAMILY>,
@@ -235,7 +249,7 @@ fn add_from(
 fn add_chains(
     ordered: u8,
     items: &[Item],
-    most: u32,
+    most: u8,
     wanted: u32,
     tries: &mut u32,
     used: &mut [bool; 256],
@@ -254,10 +268,10 @@ fn add_chains(
 }
 
 /// Those of the containers that are in no chain, and to which at most so many rows are open.
-fn fitting(items: &[Item], used: &[bool; 256], most: u32) -> ArrayVec<Item, 96> {
+fn fitting(items: &[Item], used: &[bool; 256], most: u8) -> ArrayVec<Item, 96> {
     let mut list = ArrayVec::new();
     for item in items {
-        if !used[item.rank as usize] && count_rows(item.open) <= most && !list.is_full() {
+        if !used[item.rank as usize] && item.count <= most && !list.is_full() {
             list.push(*item);
         }
     }
@@ -271,16 +285,19 @@ pub fn find_family(
     rows: u8,
     text: &mut ArrayVec<u8, MAX_FAMILY>,
 ) -> bool {
-    let list = items_of(track);
+    let list = items_of(track, rows);
     let mut used = [false; 256];
     let mut tries = MAX_TRIES;
     let mut left = wanted;
-    for most in 0..rows as u32 + 1 {
-        if left == 0 {
+    let mut unused = list.len() as u32;
+    for most in 0..rows.min(16) + 1 {
+        // Each chain that is still to come has so many containers at least.
+        let size = u32::from(most) + 1;
+        if left == 0 || unused < left.saturating_mul(size) {
             break;
         }
         let few = fitting(list.as_slice(), &used, most);
-        left = add_chains(
+        let more = add_chains(
             track.ordered(),
             few.as_slice(),
             most,
@@ -289,6 +306,8 @@ pub fn find_family(
             &mut used,
             text,
         );
+        unused = unused.saturating_sub(left.saturating_sub(more).saturating_mul(size));
+        left = more;
     }
     add(b';', text);
     left == 0

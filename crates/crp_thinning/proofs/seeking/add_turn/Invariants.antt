@@ -1,8 +1,8 @@
 use Rattle.std.proofs.Common.{◌≤◌, length}
-use Rattle.crp_thinning.proofs.seeking.add_items.Given as goal
+use Rattle.crp_thinning.proofs.seeking.add_turn.Given as goal
 
 abbrev pub invariant-loop-count : goal.invariant-loop-count
-invariant-loop-count l = l.count ≤ length l.upper
+invariant-loop-count l = l.count ≤ length l.stack
 
 abbrev pub decreases-loop-count : goal.decreases-loop-count
 decreases-loop-count l = l.count
