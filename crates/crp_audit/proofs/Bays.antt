@@ -12,7 +12,7 @@ use Rattle.crp_checker.specs.AcceptedTexts.{IsAcceptedText}
 use Rattle.crp_checker.specs.declared.unread.Unread.{Unread}
 use Rattle.crp_said.specs.declared.said.Said.{Said}
 use Rattle.crp_said.specs.declared.said.Said.TheVariants.{Optimal, First, NoPlan, Between}
-use Rattle.crp_said.specs.Said.{BaySaid, bay_line}
+use Rattle.crp_said.specs.Said.{BaySaid, bay_line, count_said}
 use Rattle.crp_said.specs.Spelled.{line_behind}
 use Rattle.crp_said.proofs.Takes.{plan_takes}
 use Rattle.crp_audit.specs.declared.fault.AuditFault.{AuditFault}
@@ -22,7 +22,7 @@ use Rattle.crp_audit.specs.declared.fault.AuditStop.TheVariants as stop
 use Rattle.crp_audit.specs.Headline.{Handed, Reported, problem_in, PrintsPlan, IsTrueOf}
 use Rattle.crp_audit.specs.LooksTrue.{LooksSo}
 use Rattle.crp_audit.specs.Printed.{ArePlanLines}
-use Rattle.crp_audit.specs.Faults.{count_said, PrintsSaid, SaysTheSame, IsItsPlan, IsBayFault, reported_as}
+use Rattle.crp_audit.specs.Faults.{PrintsSaid, SaysTheSame, IsItsPlan, IsBayFault, reported_as}
 use Rattle.crp_audit.specs.Certified.{AreRightLines, IsLinesFault, IsPlanSaid, SaysThis, IsCertificateFault}
 use Rattle.crp_audit.specs.Stops.{StopsAt}
 use Rattle.crp_audit.proofs.Deciding.{true_if_looks}

@@ -3,7 +3,7 @@ use Rattle.std.proofs.Common.{◌≡◌, ◌≢◌, ℕ, List, length, sym, ap, 
 use Rattle.crp_plan.specs.declared.moves.Move.{Move}
 use Rattle.crp_plan.specs.Bay.{Problem, Position, IsFinished, start, path_of, relocations}
 use Rattle.crp_plan.proofs.Covered.{relocations-path}
-use Rattle.crp_audit.specs.Followed.{LeadsTo}
+use Rattle.crp_audit.specs.Replayed.{LeadsTo}
 use Rattle.crp_audit.specs.Printed.{ArePlanLines}
 
 -- those of a plan

@@ -26,7 +26,7 @@ use Rattle.crp_checker.proofs.SameText.{not_both}
 use Rattle.crp_said.specs.declared.said.Said.{Said}
 use Rattle.crp_said.specs.declared.said.Said.TheVariants.{Optimal, First, NoPlan, Between}
 use Rattle.crp_said.specs.MoveLines.{AreMoveLines}
-use Rattle.crp_said.specs.Said.{BaySaid}
+use Rattle.crp_said.specs.Said.{BaySaid, count_said}
 use Rattle.crp_said.specs.Spelled.{most, AreSmall, ReportSaid, SpellsReport, front_text}
 use Rattle.crp_said.proofs.OneReport.{one_report}
 use Rattle.crp_audit.specs.declared.fault.AuditFault.{AuditFault}
@@ -36,7 +36,7 @@ use Rattle.crp_audit.specs.declared.fault.AuditStop.TheVariants as stop
 use Rattle.crp_audit.specs.Headline.{Handed, handed, Reported, numbers_in, said_of, problem_in, PrintsPlan, verdict_in, IsTrueOf, IsHeadline}
 use Rattle.crp_audit.specs.LooksTrue.{LooksSo}
 use Rattle.crp_audit.specs.Printed.{AreOtherLines}
-use Rattle.crp_audit.specs.Faults.{count_said, CountsRight, IsWrongMove, IsItsPlan, SaysTheSame, IsNextText, IsBayFault, reported_as, IsNextFault, IsFaultBehind, IsFirstFault, IsAuditRefusal}
+use Rattle.crp_audit.specs.Faults.{CountsRight, IsWrongMove, IsItsPlan, SaysTheSame, IsNextText, IsBayFault, reported_as, IsNextFault, IsFaultBehind, IsFirstFault, IsAuditRefusal}
 use Rattle.crp_audit.specs.Stops.{IsAuditStop}
 use Rattle.crp_audit.specs.Readable.{report_in}
 use Rattle.crp_audit.proofs.Apart.{plan_followed, one_plan_printed}

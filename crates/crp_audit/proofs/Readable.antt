@@ -24,8 +24,7 @@ use Rattle.crp_said.specs.declared.said.Said.{Said}
 use Rattle.crp_said.specs.declared.said.Said.TheVariants.{Optimal, First, NoPlan, Between}
 use Rattle.crp_said.specs.Said.{BaySaid, bay_text, bays_line, counts_line, is_settled}
 use Rattle.crp_said.specs.Spelled.{most, AreSmall, IsSmall, AreMoves, IsSayable, ReportSaid, SpellsReport}
-use Rattle.crp_said.proofs.Bays.{no_moves}
-use Rattle.crp_said.proofs.MoveBodies.{are_moves}
+use Rattle.crp_said.proofs.MoveBodies.{are_moves, no_moves}
 use Rattle.crp_said.proofs.OneReport.{one_report, not_both}
 use Rattle.crp_said.proofs.Takes.{plain_names}
 use Rattle.crp_said.proofs.Bytes.{IsPlain}

@@ -7,7 +7,7 @@ use Rattle.crp_plan.proofs.Covered.{runs-append, path_of-append}
 use Rattle.crp_plan.proofs.Determined.{legal_is}
 use Rattle.crp_plan.proofs.Sound.{sound_start, sound_legal}
 use Rattle.crp_said.specs.MoveLines.{move_line, AreMoveLines}
-use Rattle.crp_audit.specs.Followed.{LeadsTo}
+use Rattle.crp_audit.specs.Replayed.{LeadsTo}
 
 -- the lines before this rest lead to this place, by this path
 pub record AreFollowed (names : List (List ℕ)) (from : Position) (lines : List ℕ) (here : Position) (path rest : List ℕ) : Type 0 where

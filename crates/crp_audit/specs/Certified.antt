@@ -9,13 +9,13 @@ use Rattle.crp_checker.specs.Verdicts.{IsVerdict}
 use Rattle.crp_checker.specs.Refusals.{IsRefusal}
 use Rattle.crp_said.specs.declared.said.Said.{Said}
 use Rattle.crp_said.specs.declared.said.Said.TheVariants.{First}
-use Rattle.crp_said.specs.Said.{BaySaid}
+use Rattle.crp_said.specs.Said.{BaySaid, count_said}
 use Rattle.crp_said.specs.Spelled.{line_behind}
 use Rattle.crp_audit.specs.declared.fault.AuditFault.{AuditFault}
 use Rattle.crp_audit.specs.declared.fault.AuditFault.TheVariants as fault
 use Rattle.crp_audit.specs.Headline.{verdict_said}
-use Rattle.crp_audit.specs.Faults.{count_said, IsNextText}
-use Rattle.crp_audit.specs.Followed.{StopsBehind}
+use Rattle.crp_audit.specs.Faults.{IsNextText}
+use Rattle.crp_audit.specs.Replayed.{StopsBehind}
 use Rattle.crp_audit.specs.Printed.{AreOtherLines, ArePlanLines}
 
 -- the lines are those of a plan with these rows, and with as many relocations as are said; where no plan is said there are none

@@ -14,25 +14,18 @@ use Rattle.crp_checker.specs.Files.{BeginsWithTexts}
 use Rattle.crp_checker.specs.Refusals.{IsRefusal}
 use Rattle.crp_said.specs.MoveLines.{AreMoveLines}
 use Rattle.crp_said.specs.declared.said.Said.{Said}
-use Rattle.crp_said.specs.declared.said.Said.TheVariants.{Optimal, First, NoPlan, Between}
+use Rattle.crp_said.specs.declared.said.Said.TheVariants.{First}
 use Rattle.crp_said.specs.declared.report.ReportFault.{ReportFault}
 use Rattle.crp_said.specs.declared.report.ReportFault.TheVariants as report
-use Rattle.crp_said.specs.Said.{BaySaid, bay_line, is_settled}
+use Rattle.crp_said.specs.Said.{BaySaid, bay_line, is_settled, count_said}
 use Rattle.crp_said.specs.Spelled.{ReportSaid, SpellsReport, front_text, line_behind, IsMisspelled}
 use Rattle.crp_audit.specs.Headline.{Handed, Reported, numbers_in, said_of, problem_in, PrintsPlan, verdict_in, IsTrueOf}
-use Rattle.crp_audit.specs.Followed.{StopsBehind}
+use Rattle.crp_audit.specs.Replayed.{StopsBehind}
 use Rattle.crp_audit.specs.Printed.{AreOtherLines}
 use Rattle.crp_audit.specs.declared.fault.AuditFault.{AuditFault}
 use Rattle.crp_audit.specs.declared.fault.AuditFault.TheVariants as fault
 
 -- ---- one bay
-
--- the relocations of the plan that is said to be printed, if one is
-abbrev pub count_said : Said → Option ℕ
-count_said (Optimal count) = Some count
-count_said (First count) = Some count
-count_said NoPlan = None
-count_said (Between lower upper why) = upper
 
 -- the lines are those of a plan with the relocations that are said; where none is said there are none
 abbrev pub PrintsSaid : Handed → Reported → Type 0

@@ -3,7 +3,7 @@ use Rattle.std.specs.Prelude.{◌≡◌, ◌≢◌, ℕ, List, [], length, Optio
 use Rattle.crp_plan.specs.declared.moves.Move.{Move}
 use Rattle.crp_plan.specs.Bay.{Problem, Position, IsPlan, IsFinished, start, path_of, relocations}
 use Rattle.crp_said.specs.MoveLines.{AreMoveLines}
-use Rattle.crp_audit.specs.Followed.{LeadsTo, StopsBehind}
+use Rattle.crp_audit.specs.Replayed.{LeadsTo, StopsBehind}
 use Rattle.crp_audit.specs.declared.looking.Looked.{Looked}
 use Rattle.crp_audit.specs.declared.looking.Looked.TheVariants.{Nothing, Plan, Stopped, Other}
 

@@ -8,7 +8,7 @@ ghost use Rattle.crp_yard.specs.Naming.{FitsLine, IsNamedBay};
 ghost use Rattle.crp_yard.specs.Reading.{IsTextOf};
 ghost use Rattle.crp_order.specs.BayProblems.{bay_problem_of};
 ghost use Rattle.crp_checker.specs.Reading.{IsLeft, IsTaken};
-ghost use Rattle.crp_said.specs.Said.{bay_text, is_settled};
+ghost use Rattle.crp_said.specs.Said.{bay_text};
 ghost use Rattle.crp_said.specs.Spelled.{most, AreSmall, line_behind};
 ghost use Rattle.crp_said.specs.Views.{bay_as, report_as};
 ghost use Rattle.crp_audit.specs.Headline.{Handed, handed, IsTrueOf, IsHeadline, numbers_in, shown_in, verdict_in};
@@ -22,9 +22,7 @@ use crp_checker::{Unread, Verdict, Verdicts};
 use crp_movins::Orders;
 use crp_order::{BayProblem, Sequence, absent, problems};
 use crp_plan::{BayName, Source};
-use crp_said::{
-    Numbers, Report, Said, SaidBay, line_behind, numbers_text, push_bay_line, read_report,
-};
+use crp_said::{Numbers, Report, SaidBay, line_behind, numbers_text, push_bay_line, read_report};
 use crp_yard::Yard;
 use std::alloc::{AllocError, Global};
 
@@ -110,18 +108,11 @@ fn counts_right(report: &Report) -> bool
 {
     let mut settled: usize = 0;
     for bay in &report.bays {
-        if is_settled(bay.said) {
+        if bay.said.is_settled() {
             settled += 1;
         }
     }
     report.count as usize == report.bays.len() && report.settled as usize == settled
-}
-
-/// Whether it settles the bay.
-fn is_settled(said: Said) -> bool
-    ensures { result ≡ is_settled said }
-{
-    !matches!(said, Said::Between { .. })
 }
 
 /// That another bay is wanted behind this front of the report, or none.

@@ -6,16 +6,16 @@
 mod auditing;
 mod certified;
 mod fault;
-mod following;
 mod laws;
 mod lines_read;
 mod looking;
+mod replaying;
 
 pub use auditing::audit;
 pub use fault::{AuditFault, AuditStop, AuditStopped};
-pub use following::{Followed, follow_lines};
 pub use laws::{
     headlines_are_read, headlines_have_no_fault, headlines_show, one_list_of_verdicts,
     one_plan_is_printed, printed_plans_are_followed, true_if_it_looks_so,
 };
 pub use looking::{Looked, look_at};
+pub use replaying::{Replayed, replay_lines};

@@ -2,13 +2,12 @@
 ghost use Rattle.std.specs.Prelude.{◌≡◌, ◌++◌, IfOk, IfErr};
 ghost use Rattle.crp_said.specs.Spelled.{line_behind};
 ghost use Rattle.crp_said.specs.Views.{bay_as};
-ghost use Rattle.crp_audit.specs.Faults.{count_said};
 ghost use Rattle.crp_audit.specs.Certified.{AreRightLines, IsLinesFault};
 
 use crate::fault::AuditFault;
 use crate::looking::{Looked, look_at};
 use crp_order::BayProblem;
-use crp_said::{Said, SaidBay, line_behind, names_of};
+use crp_said::{SaidBay, line_behind, names_of};
 use std::alloc::{AllocError, Global};
 
 /// The number of the line behind these bytes and those.
@@ -18,17 +17,6 @@ fn line_behind_both(alloc: Global, front: &[u8], more: &[u8]) -> Result<u64, All
     let mut text = Vec::from_slice(alloc, front)?;
     text.extend_from_slice(more)?;
     Ok(line_behind(&text))
-}
-
-/// The relocations of the plan that is said to be printed, if one is.
-fn count_said(said: Said) -> Option<u32>
-    ensures { result ≡ count_said said }
-{
-    match said {
-        Said::Optimal(count) | Said::First(count) => Some(count),
-        Said::NoPlan => None,
-        Said::Between { upper, .. } => upper,
-    }
 }
 
 /// Reads the lines of a bay, behind this front of the report: the rows of the plan that they are, if one is said.
@@ -42,7 +30,7 @@ pub(crate) fn read_lines(
     ensures wrong { IfErr result (λ fault. IsLinesFault stated.now (bay_as said.now) front.now fault) }
 {
     let names = names_of(alloc, stated.names.list())?;
-    let count = count_said(said.said);
+    let count = said.said.count();
     match look_at(alloc, &names, &stated.problem, count, &said.lines)? {
         Looked::Nothing => Ok(Vec::new(alloc)),
         Looked::Plan { path } => Ok(path),

@@ -1,10 +1,10 @@
 //! The lines of a bay, as far as they can be looked at without its certificate.
 ghost use Rattle.std.specs.Prelude.{ℕ, List, Some, map, IfOk};
 ghost use Rattle.crp_plan.specs.Bay.{Problem as Statement, start};
-ghost use Rattle.crp_audit.specs.Followed.{IsFollowed};
+ghost use Rattle.crp_audit.specs.Replayed.{IsReplayed};
 ghost use Rattle.crp_audit.specs.Printed.{IsLookedAt};
 
-use crate::following::{Followed, follow_lines};
+use crate::replaying::{Replayed, replay_lines};
 use crp_plan::Problem;
 use std::alloc::{AllocError, Global};
 
@@ -22,13 +22,13 @@ pub enum Looked {
 }
 
 /// What lines are that lead there, of which a plan with so many relocations is said.
-fn of_plan(count: u32, followed: Followed) -> Looked
-    ensures { (names : List (List ℕ)) (p : Statement) (lines : List ℕ) → IsFollowed names (start p) lines followed
+fn of_plan(count: u32, replayed: Replayed) -> Looked
+    ensures { (names : List (List ℕ)) (p : Statement) (lines : List ℕ) → IsReplayed names (start p) lines replayed
         → IsLookedAt names p (Some count) lines result }
 {
-    match followed {
-        Followed::Stopped { read } => Looked::Stopped { read },
-        Followed::Through { path, finished } => {
+    match replayed {
+        Replayed::Stopped { read } => Looked::Stopped { read },
+        Replayed::Through { path, finished } => {
             if finished && path.len() == count as usize {
                 Looked::Plan { path }
             } else {
@@ -54,6 +54,6 @@ pub fn look_at(
         }
         return Ok(Looked::Other);
     };
-    let followed = follow_lines(alloc, names, problem, lines)?;
-    Ok(of_plan(count, followed))
+    let replayed = replay_lines(alloc, names, problem, lines)?;
+    Ok(of_plan(count, replayed))
 }

@@ -7,9 +7,7 @@ ghost use Rattle.crp_said.specs.MoveLines.{AreMoveLines};
 ghost use Rattle.crp_audit.specs.Headline.{Handed, Reported, PrintsPlan, problem_in};
 ghost use Rattle.crp_callers.specs.NoMoves.{BeginsWithNoMove};
 
-use crp_audit::{
-    Followed, Looked, follow_lines, look_at, one_plan_is_printed, printed_plans_are_followed,
-};
+use crp_audit::{Looked, Replayed, look_at, one_plan_is_printed, printed_plans_are_followed};
 use crp_plan::{Problem, one_kind};
 use std::alloc::{AllocError, Global};
 
@@ -67,8 +65,8 @@ pub fn behind_legal_moves<'a>(
         × ((before : List ℕ) × (lines.now ≡ before ++ rest.now) × BeginsWithNoMove (map (λ name. name.items) names.now) problem.now before rest.now))) }
     ensures through { IfOk result (λ found. IfNone found ((moves : List Move) × AreMoveLines (map (λ name. name.items) names.now) (start problem.now) moves lines.now)) }
 {
-    match follow_lines(alloc, names, problem, lines)? {
-        Followed::Stopped { read } => Ok(Some(&lines[read..])),
-        Followed::Through { .. } => Ok(None),
+    match replay_lines(alloc, names, problem, lines)? {
+        Replayed::Stopped { read } => Ok(Some(&lines[read..])),
+        Replayed::Through { .. } => Ok(None),
     }
 }

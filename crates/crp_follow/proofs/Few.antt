@@ -10,7 +10,8 @@ use Rattle.crp_plan.specs.BayNames.{YardBay, same_bay}
 use Rattle.crp_yard.specs.Inventory.{Inventory, StackedBay, FitBay, IsYard}
 use Rattle.crp_follow.specs.declared.followed.FollowedBay.{FollowedBay}
 use Rattle.crp_follow.specs.Crane.{Stack}
-use Rattle.crp_follow.specs.Faults.{rows_in}
+use Rattle.crp_follow.specs.Faults.{rows_in, LeadsIn}
+use Rattle.crp_follow.specs.Followed.{BayFollowed}
 use Rattle.crp_follow.specs.Table.{standing, StandFew}
 use Rattle.crp_follow.specs.Views.{bay_followed}
 
@@ -49,3 +50,8 @@ few_stand yard bay start is e =
     let few = sum_fits yard.heights start is.heights_fit fit in
     let rows : length yard.heights ≤ 12 = is.few_rows in
     omega (arith, few, rows)
+
+-- so few stand in each bay of a yard that is followed
+pub all_few : (yard : Inventory) (bays : List BayFollowed) → IsYard yard → AllByRecursion (λ b. LeadsIn yard b.stated b.start b.after) bays → AllByRecursion StandFew bays
+all_few yard [] is leads = tt
+all_few yard (b ∷ bays) is leads = (few_stand yard b.stated.bay b.start is leads.0.stands, all_few yard bays is leads.1)

@@ -1,28 +1,25 @@
 -- A text states one list of bays at most, or it has one first fault at most.
-use Rattle.std.proofs.Common.{◌≡◌, ◌∙◌, ◌⊎◌, inl, inr, ℕ, suc, ◌<◌, ◌≤◌, arith, List, [], ◌∷◌, ◌++◌, length, length-append, map, refl, sym, ap, subst, append_assoc, append-nil, Some, cond, Bool, true, false, ◌==◌}
-use Rattle.std.specs.Prelude.{codes, count_by}
+use Rattle.std.proofs.Common.{◌≡◌, ◌∙◌, ◌⊎◌, inl, inr, ℕ, suc, ◌<◌, ◌≤◌, arith, List, [], ◌∷◌, ◌++◌, length, length-append, map, refl, sym, ap, subst, append_assoc, cond, Bool, true, false, ◌==◌}
+use Rattle.std.specs.Prelude.{count_by}
 use Rattle.std.specs.List.{AllByRecursion, flat_map}
 use Rattle.std.proofs.lemmas.List.Sums.{count_by-le-length}
-use Rattle.std.proofs.lemmas.Option.{some_pair_parts}
-use Rattle.crp_plan.specs.BayNames.{YardBay, IsYardBay}
+use Rattle.crp_plan.specs.BayNames.{YardBay}
 use Rattle.crp_said.specs.declared.numbers.Numbers.{Numbers}
 use Rattle.crp_said.specs.declared.said.Said.{Said}
 use Rattle.crp_said.specs.declared.moves.SaidMove.{SaidMove}
 use Rattle.crp_said.specs.declared.moves.SaidMove.TheVariants.{Shift, Take}
-use Rattle.crp_said.specs.Said.{counts_line, bay_line, is_settled}
-use Rattle.crp_said.specs.Spelled.{AreSmall, IsSmall, CanBeStated, ended}
-use Rattle.crp_said.specs.Fields.{bay_at}
-use Rattle.crp_said.proofs.Bays.{bay_again}
+use Rattle.crp_said.specs.Said.{words_of_bay, is_settled}
+use Rattle.crp_said.specs.Spelled.{CanBeStated, ended, IsBayLine, IsLastLine}
+use Rattle.crp_said.proofs.Bays.{one_bay}
+use Rattle.crp_said.proofs.FirstLine.{counts_are, one_numbers}
 use Rattle.crp_said.proofs.StatedMoves.{one_move}
-use Rattle.crp_said.proofs.OneReport.{text_once as one_front}
 use Rattle.crp_follow.specs.declared.stated.StatedMove.{StatedMove}
 use Rattle.crp_follow.specs.declared.fault.FollowFault.{FollowFault}
 use Rattle.crp_follow.specs.declared.fault.FollowFault.TheVariants as fault
 use Rattle.crp_follow.specs.Lines.{Line, after_mark, begun_with, pieces_of, without_cr, line_unless_empty, numbered, lines_in, line_behind_all}
-use Rattle.crp_follow.specs.Stated.{most_bytes, BayStated, moves_of, words_of_bay, move_line, bay_lines, IsStatable, GoOnWith, States}
-use Rattle.crp_follow.specs.TextFaults.{IsBayLine, IsMoveLine, IsLastLine, Begins, IsBehind, IsNoOrders, IsNoLine, IsWrongCount, StopsAt, IsTextFault}
+use Rattle.crp_follow.specs.Stated.{most_bytes, BayStated, moves_of, move_line, bay_lines, IsStatable, GoOnWith, States}
+use Rattle.crp_follow.specs.TextFaults.{IsMoveLine, Begins, IsBehind, IsNoOrders, IsNoLine, IsWrongCount, StopsAt, IsTextFault}
 use Rattle.crp_follow.proofs.Cuts.{head_same, tail_same}
-use Rattle.crp_follow.proofs.Words.{bay_ended}
 
 -- ---- lines of different kinds
 
@@ -47,20 +44,6 @@ move_or_last body (Take from name, can, e) (count, settled, few, fewer, k) = let
 
 last_behind : (bays : List BayStated) (l : Line) (later : List Line) → IsLastLine l.body → IsBehind bays (l ∷ later)
 last_behind bays l later is = record { no_bay = λ bay. bay_or_last l.body bay is; no_move = λ some move. move_or_last l.body move is }
-
--- ---- what one line states
-
-bay_read : (bay : YardBay) (said : Said) → IsYardBay bay → IsSmall said → bay_at (ended (words_of_bay bay said)) ≡ Some (((bay.block, bay.bay), said), [])
-bay_read bay said named small = ap bay_at (sym (bay_ended bay said) ∙ sym (append-nil (bay_line bay said))) ∙ bay_again bay said [] named small
-
-same_bay_line : (b c : YardBay) (s t : Said) → IsYardBay b → IsYardBay c → IsSmall s → IsSmall t → words_of_bay b s ≡ words_of_bay c t → (b ≡ c) × (s ≡ t)
-same_bay_line b c s t named also small few e =
-    let p = (some_pair_parts ((b.block, b.bay), s) ((c.block, c.bay), t) [] [] (sym (bay_read b s named small) ∙ ap (λ w. bay_at (ended w)) e ∙ bay_read c t also few)).0 in
-    let bay : (List ℕ × ℕ) × Said → YardBay = λ v. record { block = v.0.0; bay = v.0.1 } in
-    let said : (List ℕ × ℕ) × Said → Said = λ v. v.1 in (ap bay p, ap said p)
-
-same_numbers : (n k : Numbers) → AreSmall n → AreSmall k → counts_line n ≡ counts_line k → n ≡ k
-same_numbers n k small few e = (one_front n k [] [] [] [] small few tt tt (ap (λ l. (l ++ []) ++ (codes "bays " ++ [])) e)).0
 
 -- ---- moves, and bays
 
@@ -99,7 +82,7 @@ bays_once (b ∷ bs) (c ∷ cs) x y a a' p q e =
     let head = head_same (at b) (at c) (map move_line b.moves ++ left) (map move_line c.moves ++ right) whole in
     let one = a.0 in
     let other = a'.0 in
-    let named = same_bay_line b.bay c.bay b.said c.said one.named other.named one.small other.small (ap (λ (l : Line). l.body) head) in
+    let named = one_bay b.bay c.bay b.said c.said one.named other.named one.small other.small (ap (λ (l : Line). l.body) head) in
     let line : b.line ≡ c.line = ap (λ (l : Line). l.number) head in
     let moves = moves_once b.moves c.moves left right one.moves other.moves (no_move_behind bs x a.1 (p.no_move (λ h. cc))) (no_move_behind cs y a'.1 (q.no_move (λ h. cc)))
     (tail_same (at b) (at c) (map move_line b.moves ++ left) (map move_line c.moves ++ right) whole) in
@@ -116,8 +99,11 @@ front_once lines n k bs cs x y f g p q =
     let left = flat_map bay_lines bs ++ x in
     let right = flat_map bay_lines cs ++ y in
     let head = head_same f.orders g.orders left right whole in
-    let bays = bays_once bs cs x y f.statable g.statable p q (tail_same f.orders g.orders left right whole) in
-    (same_numbers n k f.small g.small (sym f.orders_are ∙ ap (λ (l : Line). ended l.body) head ∙ g.orders_are), bays.0, bays.1)
+    let bays = bays_once bs cs x y f.statable g.statable p q (tail_same f.orders g.orders left right whole) in (
+      one_numbers n k f.small g.small (sym (counts_are (f.orders).body n f.orders_are) ∙ ap (λ (l : Line). l.body) head ∙ counts_are (g.orders).body k g.orders_are),
+      bays.0,
+      bays.1,
+    )
 
 -- ---- a text has fewer bays than bytes
 

@@ -6,14 +6,14 @@ use Rattle.std.proofs.lemmas.Bool.{ne_eqb}
 use Rattle.crp_said.specs.declared.moves.SaidMove.{SaidMove}
 use Rattle.crp_said.specs.declared.moves.SaidMove.TheVariants.{Shift, Take}
 use Rattle.crp_said.specs.MoveLines.{move_words}
-use Rattle.crp_said.specs.Said.{counts_line, bay_line, bays_line, bay_text}
+use Rattle.crp_said.specs.Said.{counts_line, words_of_bay, bay_line, bays_line, bay_text}
 use Rattle.crp_said.specs.Spelled.{ReportSaid, SpellsReport, CanBeStated, ended}
 use Rattle.crp_follow.specs.declared.stated.StatedMove.{StatedMove}
 use Rattle.crp_follow.specs.Lines.{after_mark, pieces_of, without_cr, line_unless_empty, numbered, lines_in}
-use Rattle.crp_follow.specs.Stated.{most_bytes, BayStated, moves_of, words_of_bay, move_line, bay_lines, IsStatable, States}
+use Rattle.crp_follow.specs.Stated.{most_bytes, BayStated, moves_of, move_line, bay_lines, IsStatable, States}
 use Rattle.crp_follow.specs.Written.{lines_of, said_by, AreMovesFrom, AreBaysFrom, SaysBays}
 use Rattle.crp_follow.proofs.Pieces.{cut_ended, line_there}
-use Rattle.crp_follow.proofs.Words.{IsPrinted, plain, move_printed, bay_printed, bay_ended, counts_words, counts_printed, counts_ended, last_words, last_printed, last_ended}
+use Rattle.crp_said.proofs.Words.{IsPrinted, plain, move_printed, bay_printed, bay_ended, counts_words, counts_printed, counts_ended, last_words, last_printed, last_ended}
 
 -- ---- one line
 

@@ -5,8 +5,7 @@ use Rattle.std.specs.Map.{lookup}
 use Rattle.crp_plan.specs.BayNames.{YardBay, same_bay}
 use Rattle.crp_yard.specs.Inventory.{Inventory}
 use Rattle.crp_said.specs.declared.numbers.Numbers.{Numbers}
-use Rattle.crp_said.specs.declared.said.Said.{Said}
-use Rattle.crp_said.specs.declared.said.Said.TheVariants.{Optimal, First, NoPlan, Between}
+use Rattle.crp_said.specs.Said.{count_said}
 use Rattle.crp_said.specs.declared.moves.SaidMove.{SaidMove}
 use Rattle.crp_said.specs.declared.moves.SaidMove.TheVariants.{Shift, Take}
 use Rattle.crp_follow.specs.declared.fault.FollowFault.{FollowFault}
@@ -30,13 +29,6 @@ is_named before bay = list_any (λ b. same_bay b.bay bay) before
 abbrev pub is_shift : SaidMove → Bool
 is_shift (Shift from to container) = true
 is_shift (Take from container) = false
-
--- the relocations of the plan that is said to be printed, if one is
-abbrev pub count_said : Said → Option ℕ
-count_said (Optimal count) = Some count
-count_said (First count) = Some count
-count_said NoPlan = None
-count_said (Between lower upper why) = upper
 
 -- as many relocations are below the line as it says; no moves are where it says that there is no plan
 abbrev pub CountsShifts : BayStated → Type 0

@@ -6,7 +6,7 @@ use Rattle.crp_said.specs.declared.numbers.Numbers.{Numbers}
 use Rattle.crp_said.specs.declared.said.Said.{Said}
 use Rattle.crp_said.specs.declared.moves.SaidMove.{SaidMove}
 use Rattle.crp_said.specs.MoveLines.{move_words}
-use Rattle.crp_said.specs.Said.{counts_line, bay_words, said_words, bays_line, is_settled}
+use Rattle.crp_said.specs.Said.{counts_line, words_of_bay, bays_line, is_settled}
 use Rattle.crp_said.specs.Spelled.{AreSmall, IsSmall, CanBeStated, ended}
 use Rattle.crp_follow.specs.declared.stated.StatedMove.{StatedMove}
 use Rattle.crp_follow.specs.Lines.{Line, lines_in}
@@ -25,10 +25,6 @@ pub record BayStated : Type 0 where
 -- its moves without the numbers of their lines
 abbrev pub moves_of : List StatedMove → List SaidMove
 moves_of moves = map (λ m. m.said) moves
-
--- the words of a bay's line
-abbrev pub words_of_bay : YardBay → Said → List ℕ
-words_of_bay bay said = bay_words bay ++ said_words said
 
 -- the line of a move
 abbrev pub move_line : StatedMove → Line

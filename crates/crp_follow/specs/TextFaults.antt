@@ -1,34 +1,17 @@
 -- Why the text of a report is refused: the first fault. All of the text is read before a move is made.
 use Rattle.std.specs.Prelude.{◌≡◌, ◌≢◌, ◌<◌, ◌≤◌, ℕ, List, [], ◌∷◌, length}
-use Rattle.crp_plan.specs.BayNames.{YardBay, IsYardBay}
 use Rattle.crp_said.specs.declared.numbers.Numbers.{Numbers}
-use Rattle.crp_said.specs.declared.said.Said.{Said}
 use Rattle.crp_said.specs.declared.moves.SaidMove.{SaidMove}
 use Rattle.crp_said.specs.MoveLines.{move_words}
-use Rattle.crp_said.specs.Said.{counts_line, bays_line}
-use Rattle.crp_said.specs.Spelled.{most, AreSmall, IsSmall, CanBeStated, ended}
+use Rattle.crp_said.specs.Spelled.{CanBeStated, IsOrdersLine, IsBayLine, IsLastLine}
 use Rattle.crp_follow.specs.declared.fault.FollowFault.{FollowFault}
 use Rattle.crp_follow.specs.declared.fault.FollowFault.TheVariants as fault
 use Rattle.crp_follow.specs.Lines.{Line, lines_in, line_behind_all}
-use Rattle.crp_follow.specs.Stated.{most_bytes, BayStated, words_of_bay, CountsBays, GoOnWith}
-
--- ---- what a line can be, by its bytes
-
--- an orders line
-abbrev pub IsOrdersLine : List ℕ → Type 0
-IsOrdersLine body = (n : Numbers) × AreSmall n × (ended body ≡ counts_line n)
-
--- the line of a bay
-abbrev pub IsBayLine : List ℕ → Type 0
-IsBayLine body = (bay : YardBay) × (said : Said) × IsYardBay bay × IsSmall said × (body ≡ words_of_bay bay said)
+use Rattle.crp_follow.specs.Stated.{most_bytes, BayStated, CountsBays, GoOnWith}
 
 -- the line of a move
 abbrev pub IsMoveLine : List ℕ → Type 0
 IsMoveLine body = (m : SaidMove) × CanBeStated m × (body ≡ move_words m)
-
--- a last line, whatever it counts
-abbrev pub IsLastLine : List ℕ → Type 0
-IsLastLine body = (count : ℕ) × (settled : ℕ) × (count ≤ most) × (settled ≤ most) × (ended body ≡ bays_line count settled)
 
 -- there is a first line, and it is so
 abbrev pub Begins : (List ℕ → Type 0) → List Line → Type 0

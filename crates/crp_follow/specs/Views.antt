@@ -4,7 +4,7 @@ use Rattle.crp_follow.specs.declared.stated.StatedBay.{StatedBay}
 use Rattle.crp_follow.specs.declared.followed.FollowedBay.{FollowedBay}
 use Rattle.crp_follow.specs.declared.taking.Taken.{Taken}
 use Rattle.crp_follow.specs.declared.columns.Columns.{Columns}
-use Rattle.crp_follow.specs.declared.lines.Unread.{Unread}
+use Rattle.crp_follow.specs.declared.lines.UnreadLines.{UnreadLines}
 use Rattle.crp_follow.specs.Lines.{Line, pieces_of, numbered}
 use Rattle.crp_follow.specs.Stated.{BayStated}
 use Rattle.crp_follow.specs.Followed.{BayFollowed}
@@ -25,5 +25,5 @@ abbrev pub columns_as : Columns → MoveColumns
 columns_as c = record { bay = c.bay.now; step = c.step; said = c.said.now; leaves = c.leaves; next = option_map (λ container. container.now) c.next; left = c.left }
 
 -- the lines that are not read yet
-abbrev pub unread_lines : Unread → List Line
+abbrev pub unread_lines : UnreadLines → List Line
 unread_lines u = numbered u.first (pieces_of u.bytes.now)

@@ -1,6 +1,6 @@
 //! Bays of a yard, and what a report states of them.
-ghost use Rattle.std.specs.Prelude.{◌≡◌, ◌<◌, ◌↔◌, Some, None, length, map, slice_get, option_map, count_by, IfOk, IfSome, IfNone, IsTrue};
-ghost use Rattle.crp_follow.specs.Faults.{rows_in, is_named, is_shift, count_said, CountsShifts};
+ghost use Rattle.std.specs.Prelude.{◌≡◌, ◌<◌, ◌≤◌, ◌↔◌, Some, None, length, map, slice_get, option_map, count_by, IfOk, IfSome, IfNone, IsTrue};
+ghost use Rattle.crp_follow.specs.Faults.{rows_in, is_named, is_shift, CountsShifts};
 ghost use Rattle.crp_follow.specs.Stated.{moves_of};
 ghost use Rattle.crp_follow.specs.Views.{bay_stated};
 
@@ -9,7 +9,7 @@ use crate::pushing::add;
 use crate::row::Row;
 use crate::stated::{StatedBay, StatedMove};
 use crp_plan::BayName;
-use crp_said::{Said, SaidMove};
+use crp_said::SaidMove;
 use crp_yard::Yard;
 use std::alloc::{AllocError, Global};
 
@@ -51,20 +51,10 @@ pub(crate) fn is_named(before: &[FollowedBay], bay: &BayName) -> bool
     false
 }
 
-/// The relocations of the plan that is said to be printed, if one is.
-fn count_said(said: Said) -> Option<u32>
-    ensures { result ≡ count_said said }
-{
-    match said {
-        Said::Optimal(count) | Said::First(count) => Some(count),
-        Said::NoPlan => None,
-        Said::Between { upper, .. } => upper,
-    }
-}
-
 /// How many of the moves are relocations.
-fn shifts_of(moves: &[StatedMove]) -> usize
-    ensures { result ≡ count_by is_shift (moves_of moves.now) }
+pub fn relocations_of(moves: &[StatedMove]) -> usize
+    ensures value { result ≡ count_by is_shift (moves_of moves.now) }
+    ensures few { result ≤ length moves.now }
 {
     let mut count: usize = 0;
     for stated in moves {
@@ -79,8 +69,8 @@ fn shifts_of(moves: &[StatedMove]) -> usize
 pub(crate) fn counts_shifts(stated: &StatedBay) -> bool
     ensures { IsTrue result ↔ CountsShifts (bay_stated stated.now) }
 {
-    match count_said(stated.said) {
-        Some(count) => shifts_of(&stated.moves) == count as usize,
+    match stated.said.count() {
+        Some(count) => relocations_of(&stated.moves) == count as usize,
         None => stated.moves.is_empty(),
     }
 }

@@ -25,7 +25,7 @@ pub struct Columns<'a> {
 }
 
 /// How many containers stand in the rows.
-fn standing(rows: &[Row]) -> u64
+pub fn standing(rows: &[Row]) -> u64
     requires { standing rows.now ≤ 96 }
     ensures { result ≡ standing rows.now }
 {

@@ -12,7 +12,6 @@ mod fault;
 mod followed;
 mod following;
 mod laws;
-mod line_reading;
 mod lines;
 mod moving;
 mod pushing;
@@ -22,7 +21,8 @@ mod stating;
 mod table;
 mod taking;
 
-pub use columns::{Columns, columns_of};
+pub use bays::relocations_of;
+pub use columns::{Columns, columns_of, standing};
 pub use fault::FollowFault;
 pub use followed::{Followed, FollowedBay};
 pub use following::follow;
@@ -30,7 +30,7 @@ pub use laws::{
     lines_are_numbered, nothing_is_lost, one_outcome, stays_within_heights, what_columns_say,
     written_is_stated,
 };
-pub use moving::make_move;
+pub use moving::{make_move, row_index};
 pub use row::Row;
 pub use stated::{StatedBay, StatedMove};
 pub use stating::MAX_BYTES;

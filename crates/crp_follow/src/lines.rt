@@ -4,9 +4,11 @@ ghost use Rattle.std.specs.List.{AllByRecursion};
 ghost use Rattle.crp_follow.specs.Lines.{after_mark, pieces_of, without_cr, numbered};
 ghost use Rattle.crp_follow.specs.Views.{unread_lines};
 
+use crp_said::cut_line;
+
 /// What is not read yet of a text: the number of its first line, and its bytes.
 #[derive(Clone, Copy)]
-pub(crate) struct Unread<'a> {
+pub(crate) struct UnreadLines<'a> {
     pub(crate) first: u64,
     pub(crate) bytes: &'a [u8],
 }
@@ -26,19 +28,6 @@ pub(crate) fn after_mark(text: &[u8]) -> &[u8]
     }
 }
 
-/// The bytes before the first LF, and those behind it.
-fn at_first_lf(bytes: &[u8]) -> Option<(&[u8], &[u8])>
-    ensures found { IfSome result (λ x. (bytes.now ≡ x.0.now ++ 10 ∷ x.1.now) × AllByRecursion (λ b. b ≢ 10) x.0.now) }
-    ensures none { IfNone result (AllByRecursion (λ b. b ≢ 10) bytes.now) }
-{
-    for (i, b) in bytes.iter().enumerate() {
-        if *b == b'\n' {
-            return Some((&bytes[..i], &bytes[i + 1..]));
-        }
-    }
-    None
-}
-
 /// The first piece of a text, and what follows its LF.
 #[tactic(auto, using(crate::proofs::Pieces::cut_ended, crate::proofs::Pieces::cut_plain))]
 fn first_piece(bytes: &[u8]) -> (&[u8], &[u8])
@@ -47,7 +36,7 @@ fn first_piece(bytes: &[u8]) -> (&[u8], &[u8])
     ensures plain { AllByRecursion (λ b. b ≢ 10) result.0.now }
     ensures fewer { length result.1.now < length bytes.now }
 {
-    match at_first_lf(bytes) {
+    match cut_line(bytes) {
         Some((piece, behind)) => (piece, behind),
         None => (bytes, b""),
     }
@@ -65,7 +54,7 @@ fn without_cr(piece: &[u8]) -> &[u8]
 
 /// The next line that is not empty: its number, its bytes, and what is not read behind it.
 #[tactic(auto, using(crate::proofs::Pieces::line_piece, crate::proofs::Pieces::empty_piece, crate::proofs::Pieces::plain_without))]
-pub(crate) fn next_line(unread: Unread<'_>) -> Option<(u64, &[u8], Unread<'_>)>
+pub(crate) fn next_line(unread: UnreadLines<'_>) -> Option<(u64, &[u8], UnreadLines<'_>)>
     requires room { unread.first + length unread.bytes.now < 2 ^ 64 }
     ensures found { IfSome result (λ x. unread_lines unread.entry ≡ record { number = x.0; body = x.1.now } ∷ unread_lines x.2) }
     ensures plain { IfSome result (λ x. AllByRecursion (λ b. b ≢ 10) x.1.now) }
@@ -78,7 +67,7 @@ pub(crate) fn next_line(unread: Unread<'_>) -> Option<(u64, &[u8], Unread<'_>)>
     while !rest.is_empty() {
         let (piece, behind) = first_piece(rest);
         let body = without_cr(piece);
-        let after = Unread {
+        let after = UnreadLines {
             first: number + 1,
             bytes: behind,
         };

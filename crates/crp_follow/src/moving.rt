@@ -13,7 +13,7 @@ use crp_said::{Place, SaidMove};
 use std::alloc::AllocError;
 
 /// The index of a row, from 0, where there are so many rows.
-fn row_index(row: u32, rows: usize) -> Option<usize>
+pub fn row_index(row: u32, rows: usize) -> Option<usize>
     ensures there { IfSome result (λ i. (row ≡ suc i) × (i < rows)) }
     ensures none { IfNone result ((i : ℕ) → row ≡ suc i → i < rows → ⊥) }
 {

@@ -1,20 +1,19 @@
 //! What a report states, line by line.
 ghost use Rattle.std.specs.Prelude.{◌≡◌, ◌≢◌, ◌⊎◌, ◌+◌, ◌++◌, ◌∷◌, ◌<◌, ◌≤◌, ◌^◌, ◌↔◌, [], ℕ, suc, length, map, flat_map, count_by, IfOk, IfErr, IfSome, IfNone, OnOk, IsTrue};
 ghost use Rattle.std.specs.List.{AllByRecursion};
-ghost use Rattle.crp_said.specs.Said.{counts_line, bays_line, is_settled};
-ghost use Rattle.crp_said.specs.Spelled.{AreSmall, CanBeStated, ended};
+ghost use Rattle.crp_said.specs.Said.{counts_line, is_settled};
+ghost use Rattle.crp_said.specs.Spelled.{AreSmall, CanBeStated, ended, IsBayLine};
 ghost use Rattle.crp_follow.specs.declared.fault.FollowFault.{FollowFault as Fault};
 ghost use Rattle.crp_follow.specs.Lines.{Line};
 ghost use Rattle.crp_follow.specs.Stated.{BayStated, moves_of, move_line, bay_lines, IsStatable, CountsBays, States};
-ghost use Rattle.crp_follow.specs.TextFaults.{Begins, IsBayLine, IsMoveLine, IsLastLine, IsBehind, IsNoOrders, IsNoLine, IsWrongCount, IsTextFault};
+ghost use Rattle.crp_follow.specs.TextFaults.{Begins, IsMoveLine, IsBehind, IsNoOrders, IsNoLine, IsWrongCount, IsTextFault};
 ghost use Rattle.crp_follow.specs.Views.{bay_stated, unread_lines};
 
 use crate::fault::FollowFault;
-use crate::line_reading::{bay_in, is_last_line, orders_in};
-use crate::lines::{Unread, after_mark, line_behind, next_line};
+use crate::lines::{UnreadLines, after_mark, line_behind, next_line};
 use crate::pushing::add;
 use crate::stated::{StatedBay, StatedMove};
-use crp_said::{Numbers, Said, last_text, read_move};
+use crp_said::{Numbers, read_bay, read_last, read_move, read_numbers};
 use std::alloc::{AllocError, Global};
 
 /// The most bytes of a report.
@@ -23,8 +22,8 @@ pub const MAX_BYTES: usize = 8388608;
 /// The move that the next line states, if it states one, and what is not read behind it.
 fn next_move<'a>(
     alloc: Global,
-    unread: Unread<'a>,
-) -> Result<Option<(StatedMove, Unread<'a>)>, AllocError>
+    unread: UnreadLines<'a>,
+) -> Result<Option<(StatedMove, UnreadLines<'a>)>, AllocError>
     requires room { unread.first + length unread.bytes.now < 2 ^ 64 }
     ensures found { IfOk result (λ read. IfSome read (λ x. CanBeStated x.0.said × (unread_lines unread.entry ≡ move_line x.0 ∷ unread_lines x.1))) }
     ensures room { IfOk result (λ read. IfSome read (λ x. x.1.first + length x.1.bytes.now ≤ unread.entry.first + length unread.entry.bytes.now)) }
@@ -43,8 +42,8 @@ fn next_move<'a>(
 /// The moves that the next lines state, and what is not read behind them.
 fn moves_from<'a>(
     alloc: Global,
-    unread: Unread<'a>,
-) -> Result<(Vec<StatedMove>, Unread<'a>), AllocError>
+    unread: UnreadLines<'a>,
+) -> Result<(Vec<StatedMove>, UnreadLines<'a>), AllocError>
     requires room { unread.first + length unread.bytes.now < 2 ^ 64 }
     ensures lines { IfOk result (λ x. unread_lines unread.entry ≡ map move_line x.0.items ++ unread_lines x.1) }
     ensures stated { IfOk result (λ x. AllByRecursion CanBeStated (moves_of x.0.items)) }
@@ -64,8 +63,8 @@ fn moves_from<'a>(
 /// The bay that the next line states, if it states one, with its moves, and what is not read behind them.
 fn next_bay<'a>(
     alloc: Global,
-    unread: Unread<'a>,
-) -> Result<Option<(StatedBay, Unread<'a>)>, AllocError>
+    unread: UnreadLines<'a>,
+) -> Result<Option<(StatedBay, UnreadLines<'a>)>, AllocError>
     requires room { unread.first + length unread.bytes.now < 2 ^ 64 }
     ensures statable { IfOk result (λ read. IfSome read (λ x. IsStatable (bay_stated x.0))) }
     ensures lines { IfOk result (λ read. IfSome read (λ x. unread_lines unread.entry ≡ bay_lines (bay_stated x.0) ++ unread_lines x.1)) }
@@ -77,7 +76,7 @@ fn next_bay<'a>(
     let Some((line, body, after)) = next_line(unread) else {
         return Ok(None);
     };
-    let Some((bay, said)) = bay_in(alloc, body)? else {
+    let Some((bay, said)) = read_bay(body) else {
         return Ok(None);
     };
     let (moves, after) = moves_from(alloc, after)?;
@@ -93,8 +92,8 @@ fn next_bay<'a>(
 /// The bays that the next lines state with their moves, and what is not read behind them.
 fn bays_from<'a>(
     alloc: Global,
-    unread: Unread<'a>,
-) -> Result<(Vec<StatedBay>, Unread<'a>), AllocError>
+    unread: UnreadLines<'a>,
+) -> Result<(Vec<StatedBay>, UnreadLines<'a>), AllocError>
     requires room { unread.first + length unread.bytes.now < 2 ^ 64 }
     ensures statable { IfOk result (λ x. AllByRecursion IsStatable (map bay_stated x.0.items)) }
     ensures lines { IfOk result (λ x. unread_lines unread.entry ≡ flat_map bay_lines (map bay_stated x.0.items) ++ unread_lines x.1) }
@@ -111,7 +110,7 @@ fn bays_from<'a>(
 }
 
 /// The three numbers of the first line, and what is not read behind it.
-fn orders_from<'a>(alloc: Global, unread: Unread<'a>) -> Result<(Numbers, Unread<'a>), FollowFault>
+fn orders_from(unread: UnreadLines<'_>) -> Result<(Numbers, UnreadLines<'_>), FollowFault>
     requires room { unread.first + length unread.bytes.now < 2 ^ 64 }
     ensures small { IfOk result (λ x. AreSmall x.0) }
     ensures line { IfOk result (λ x. (l : Line) × (ended l.body ≡ counts_line x.0) × (unread_lines unread.entry ≡ l ∷ unread_lines x.1)) }
@@ -122,17 +121,10 @@ fn orders_from<'a>(alloc: Global, unread: Unread<'a>) -> Result<(Numbers, Unread
     let Some((line, body, after)) = next_line(unread) else {
         return Err(FollowFault::Orders { line: 1 });
     };
-    match orders_in(alloc, body)? {
+    match read_numbers(body) {
         Some(numbers) => Ok((numbers, after)),
         None => Err(FollowFault::Orders { line }),
     }
-}
-
-/// Whether it settles the bay.
-fn is_settled(said: Said) -> bool
-    ensures { result ≡ is_settled said }
-{
-    !matches!(said, Said::Between { .. })
 }
 
 /// How many of the bays are settled.
@@ -141,38 +133,24 @@ fn settled_of(bays: &[StatedBay]) -> usize
 {
     let mut settled: usize = 0;
     for bay in bays {
-        if is_settled(bay.said) {
+        if bay.said.is_settled() {
             settled += 1;
         }
     }
     settled
 }
 
-/// Whether the bytes are the same.
-fn are_same(bytes: &[u8], others: &[u8]) -> bool
-    ensures { IsTrue result ↔ (bytes.now ≡ others.now) }
+/// Whether there are so many bays, and so many of them settled.
+fn are_counted(bays: &[StatedBay], count: u32, settled: u32) -> bool
+    ensures right { IsTrue result ↔ ((count ≡ length bays.now) × (settled ≡ count_by (λ b. is_settled b.said) (map bay_stated bays.now))) }
+    ensures few { length bays.now < 2 ^ 64 }
 {
-    bytes == others
+    count as usize == bays.len() && settled as usize == settled_of(bays)
 }
 
-/// Whether the line is the last line that counts these bays, and those that are decided.
-fn counts_bays(alloc: Global, bays: &[StatedBay], line: &[u8]) -> Result<bool, AllocError>
-    ensures { IfOk result (λ right. IsTrue right ↔ (ended line.now ≡ bays_line (length (map bay_stated bays.now)) (count_by (λ b. is_settled b.said) (map bay_stated bays.now)))) }
-{
-    let mut text = Vec::from_slice(alloc, line)?;
-    text.push(b'\n')?;
-    let right = last_text(alloc, bays.len(), settled_of(bays))?;
-    Ok(are_same(&text, &right))
-}
-
-/// Reads the last line behind bays. The number of the line behind all is known.
-#[tactic(auto, using(crate::proofs::Reading::more_behind))]
-fn read_last(
-    alloc: Global,
-    bays: &[StatedBay],
-    unread: Unread<'_>,
-    behind: u64,
-) -> Result<(), FollowFault>
+/// Checks the last line behind bays. The number of the line behind all is known.
+#[tactic(auto, using(crate::proofs::Reading::more_behind, crate::proofs::Reading::no_last_line, crate::proofs::Reading::right_count, crate::proofs::Reading::wrong_count))]
+fn check_last(bays: &[StatedBay], unread: UnreadLines<'_>, behind: u64) -> Result<(), FollowFault>
     requires room { unread.first + length unread.bytes.now < 2 ^ 64 }
     ensures last { OnOk result ((l : Line) × (unread_lines unread.entry ≡ l ∷ []) × CountsBays (map bay_stated bays.now) l) }
     ensures wrong { IfErr result (λ fault. (fault ≡ FollowFault.Memory)
@@ -185,10 +163,10 @@ fn read_last(
     if let Some(_) = next_line(after) {
         return Err(FollowFault::NoLine { line });
     }
-    if !is_last_line(alloc, body)? {
+    let Some((count, settled)) = read_last(body) else {
         return Err(FollowFault::NoLine { line });
-    }
-    if !counts_bays(alloc, bays, body)? {
+    };
+    if !are_counted(bays, count, settled) {
         return Err(FollowFault::Count { line });
     }
     Ok(())
@@ -203,12 +181,12 @@ pub(crate) fn state(alloc: Global, report: &[u8]) -> Result<(Numbers, Vec<Stated
         return Err(FollowFault::TooLong);
     }
     let text = after_mark(report);
-    let unread = Unread {
+    let unread = UnreadLines {
         first: 1,
         bytes: text,
     };
-    let (numbers, rest) = orders_from(alloc, unread)?;
+    let (numbers, rest) = orders_from(unread)?;
     let (bays, rest) = bays_from(alloc, rest)?;
-    read_last(alloc, &bays, rest, line_behind(text))?;
+    check_last(&bays, rest, line_behind(text))?;
     Ok((numbers, bays))
 }

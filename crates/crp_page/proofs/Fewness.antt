@@ -4,7 +4,7 @@ use Rattle.std.proofs.lemmas.List.{take_all}
 use Rattle.std.proofs.Math.Nat.{le_refl}
 use Rattle.std.specs.List.{AllByRecursion}
 use Rattle.std.proofs.lemmas.Option.{slice_get_read}
-use Rattle.crp_yard.specs.Inventory.{Inventory}
+use Rattle.crp_yard.specs.Inventory.{Inventory, IsYard}
 use Rattle.crp_yard.proofs.Lists.{member, unmapped}
 use Rattle.crp_said.specs.declared.numbers.Numbers.{Numbers}
 use Rattle.crp_follow.specs.declared.followed.FollowedBay.{FollowedBay}
@@ -15,6 +15,7 @@ use Rattle.crp_follow.specs.Table.{StandFew, standing, left_behind, takes_from}
 use Rattle.crp_said.specs.declared.moves.SaidMove.{SaidMove}
 use Rattle.crp_follow.specs.Stated.{moves_of}
 use Rattle.crp_follow.specs.Views.{bay_followed}
+use Rattle.crp_follow.proofs.Few.{all_few}
 use Rattle.crp_page.specs.Few.{LeaveFew}
 
 -- what holds of each bay holds of this one
@@ -37,5 +38,8 @@ ends law yard (b ∷ bays) few leads =
     let stand = few.0 in
     (omega (arith, left, stand), ends law yard bays few.1 leads.1)
 
-pub few_at_end : LeftBehind → (yard : Inventory) (report : List ℕ) (n : Numbers) (bays : List BayFollowed) → AllByRecursion StandFew bays → IsFollowed yard report n bays → AllByRecursion LeaveFew bays
-few_at_end law yard report n bays few followed = ends law yard bays few followed.followed.leads
+pub few_at_start : (yard : Inventory) (report : List ℕ) (n : Numbers) (bays : List BayFollowed) → IsYard yard → IsFollowed yard report n bays → AllByRecursion StandFew bays
+few_at_start yard report n bays is followed = all_few yard bays is followed.followed.leads
+
+pub few_at_end : LeftBehind → (yard : Inventory) (report : List ℕ) (n : Numbers) (bays : List BayFollowed) → IsYard yard → IsFollowed yard report n bays → AllByRecursion LeaveFew bays
+few_at_end law yard report n bays is followed = ends law yard bays (few_at_start yard report n bays is followed) followed.followed.leads

@@ -1,16 +1,11 @@
 //! What is counted of the bays of a report.
-ghost use Rattle.std.specs.Prelude.{◌≡◌, ◌≤◌, ◌-◌, ◌*◌, ◌^◌, map, length, count_by};
+ghost use Rattle.std.specs.Prelude.{◌≡◌, ◌≤◌, ◌-◌, ◌*◌, ◌^◌, map};
 ghost use Rattle.std.specs.List.{AllByRecursion};
-ghost use Rattle.crp_follow.specs.Faults.{is_shift};
-ghost use Rattle.crp_said.specs.Said.{is_settled};
-ghost use Rattle.crp_follow.specs.Stated.{moves_of};
-ghost use Rattle.crp_follow.specs.Table.{standing};
 ghost use Rattle.crp_follow.specs.Views.{bay_followed};
 ghost use Rattle.crp_page.specs.Counts.{counts_of, sums_of, decided_in};
 ghost use Rattle.crp_page.specs.Few.{LeaveFew};
 
-use crp_follow::{FollowedBay, Row, StatedMove};
-use crp_said::{Said, SaidMove};
+use crp_follow::{FollowedBay, relocations_of, standing};
 
 /// Four numbers of a bay or of all bays: its moves, how many of them are relocations, how many takes, and the containers that are left.
 #[derive(Clone, Copy)]
@@ -19,32 +14,6 @@ pub struct Counts {
     pub relocations: u128,
     pub takes: u128,
     pub left: u128,
-}
-
-/// How many of the moves are relocations.
-pub(crate) fn relocations_of(moves: &[StatedMove]) -> usize
-    ensures value { result ≡ count_by is_shift (moves_of moves.now) }
-    ensures few { result ≤ length moves.now }
-{
-    let mut count: usize = 0;
-    for stated in moves {
-        if matches!(stated.said, SaidMove::Shift { .. }) {
-            count += 1;
-        }
-    }
-    count
-}
-
-/// How many containers stand in the rows.
-pub(crate) fn standing(rows: &[Row]) -> u64
-    requires { standing rows.now ≤ 96 }
-    ensures { result ≡ standing rows.now }
-{
-    let mut count: u64 = 0;
-    for row in rows {
-        count += row.containers().len() as u64;
-    }
-    count
 }
 
 /// The numbers of a bay.
@@ -90,20 +59,13 @@ pub(crate) fn sums_of(bays: &[FollowedBay]) -> Counts
     sums
 }
 
-/// Whether a verdict is a decision.
-fn is_settled(said: Said) -> bool
-    ensures { result ≡ is_settled said }
-{
-    !matches!(said, Said::Between { .. })
-}
-
 /// How many bays are decided.
 pub(crate) fn decided_in(bays: &[FollowedBay]) -> usize
     ensures { result ≡ decided_in (map bay_followed bays.now) }
 {
     let mut count: usize = 0;
     for bay in bays {
-        if is_settled(bay.stated.said) {
+        if bay.stated.said.is_settled() {
             count += 1;
         }
     }

@@ -8,10 +8,9 @@ ghost use Rattle.crp_page.specs.Few.{LeaveFew};
 ghost use Rattle.crp_page.specs.Words.{move_item};
 ghost use Rattle.crp_page.specs.Sections.{figure_head, figure_body, figure, bay_title, start_title, frame_title, end_title, leaving_words, start_caption, frame_caption, end_caption, start_figure, frame_figure, end_figure};
 
-use crate::counting::{relocations_of, standing};
 use crate::words::{push_bay_name, push_counted, push_move, push_rows};
 use crp_cert::push_decimal;
-use crp_follow::{FollowedBay, StatedMove};
+use crp_follow::{FollowedBay, StatedMove, relocations_of, standing};
 use crp_picture::{Frame, count_blocking, push_end, push_frame, push_start};
 use std::alloc::{AllocError, Global};
 

@@ -6,11 +6,10 @@ ghost use Rattle.crp_picture.specs.Views.{frame_as};
 ghost use Rattle.crp_page.specs.Few.{LeaveFew};
 ghost use Rattle.crp_page.specs.Sections.{moves_words, section_head, section_front, frame_figure, end_part, section_end};
 
-use crate::counting::relocations_of;
 use crate::figures::{push_bay_title, push_end_figure, push_frame_figure, push_start_figure};
 use crate::words::{push_counted, push_verdict};
 use crp_cert::push_decimal;
-use crp_follow::FollowedBay;
+use crp_follow::{FollowedBay, relocations_of};
 use crp_picture::Frame;
 use std::alloc::{AllocError, Global};
 

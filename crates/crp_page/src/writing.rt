@@ -126,7 +126,6 @@ fn write_parts<W: Sink>(
 ) -> Result<(), WriteFault>
     requires passed { interruptions.old ≤ most_interruptions }
     requires followed { (report : List ℕ) × IsFollowed yard.now report followed.now.numbers (map bay_followed followed.now.bays.items) }
-    requires few { AllByRecursion StandFew (map bay_followed followed.now.bays.items) }
     ensures { Wrote result (page_text yard.now followed.now.numbers (map bay_followed followed.now.bays.items))
         (sink_now (W.contents sink.old) (W.failures sink.old) (W.interrupted sink.old) interruptions.old)
         (sink_now (W.contents sink.new) (W.failures sink.new) (W.interrupted sink.new) interruptions.new) }
@@ -155,7 +154,6 @@ pub fn write_page<W: Sink>(
 ) -> Result<(), WriteFault>
     requires passed { interruptions.old ≤ most_interruptions }
     requires followed { (report : List ℕ) × IsFollowed yard.now report followed.now.numbers (map bay_followed followed.now.bays.items) }
-    requires few { AllByRecursion StandFew (map bay_followed followed.now.bays.items) }
     ensures all { OnOk result (Appends (W.contents sink.old) (W.contents sink.new) (page_text yard.now followed.now.numbers (map bay_followed followed.now.bays.items))) }
     ensures part { IsErrOf result WriteFault.Failed
         → AppendsPart (W.contents sink.old) (W.contents sink.new) (page_text yard.now followed.now.numbers (map bay_followed followed.now.bays.items)) }

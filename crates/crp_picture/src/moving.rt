@@ -1,26 +1,14 @@
 //! Rows, and what moves make of them.
-ghost use Rattle.std.specs.Prelude.{◌≡◌, ◌<◌, ◌∷◌, ◌++◌, [], suc, ℕ, IfOk, OnOk, IfSome, IfNone};
+ghost use Rattle.std.specs.Prelude.{◌≡◌, ◌∷◌, ◌++◌, [], IfOk, OnOk};
 ghost use Rattle.crp_follow.specs.Crane.{with_stack};
 ghost use Rattle.crp_follow.specs.Stated.{moves_of};
 ghost use Rattle.crp_picture.specs.Cells.{stack_in};
 ghost use Rattle.crp_picture.specs.Frames.{lifted, set_down, made, rows_after};
 
-use crp_follow::{Row, StatedMove};
+use crp_follow::{Row, StatedMove, row_index};
 use crp_plan::Container;
 use crp_said::{Place, SaidMove};
 use std::alloc::{AllocError, Global};
-
-// The index of a row, from 0, where there are so many rows.
-fn row_index(row: u32, rows: usize) -> Option<usize>
-    ensures there { IfSome result (λ i. (row ≡ suc i) × (i < rows)) }
-    ensures none { IfNone result ((i : ℕ) → row ≡ suc i → i < rows → ⊥) }
-{
-    let row = row as usize;
-    if row == 0 || row > rows {
-        return None;
-    }
-    Some(row - 1)
-}
 
 /// What stands in a row; nothing where there is no such row.
 pub(crate) fn stack_in(rows: &[Row], row: u32) -> &[Container]

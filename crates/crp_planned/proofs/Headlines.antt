@@ -14,10 +14,9 @@ use Rattle.crp_order.specs.BayProblems.{ranked}
 use Rattle.crp_said.specs.declared.moves.SaidMove.{SaidMove}
 use Rattle.crp_said.specs.declared.said.Said.{Said}
 use Rattle.crp_said.specs.declared.said.Said.TheVariants.{Optimal, First, NoPlan, Between}
-use Rattle.crp_said.specs.Said.{report_text}
+use Rattle.crp_said.specs.Said.{count_said, report_text}
 use Rattle.crp_said.specs.Spelled.{most, AreSmall, IsSayable, SpellsReport}
 use Rattle.crp_follow.specs.Crane.{Stack}
-use Rattle.crp_follow.specs.Faults.{count_said}
 use Rattle.crp_report.specs.Runs.{AreOrders}
 use Rattle.crp_report.proofs.Counts.{numbers_small}
 use Rattle.crp_audit.specs.Headline.{Handed, Reported, numbers_in, said_of, problem_in, PrintsPlan, IsSo, IsTrueOf, IsHeadline}

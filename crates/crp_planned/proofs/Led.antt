@@ -10,10 +10,10 @@ use Rattle.crp_yard.specs.Ranks.{named}
 use Rattle.crp_order.specs.BayProblems.{leaving, ranked, problem_of}
 use Rattle.crp_said.specs.declared.moves.SaidMove.{SaidMove}
 use Rattle.crp_said.specs.MoveLines.{AreMoveLines}
-use Rattle.crp_said.specs.Said.{BaySaid}
+use Rattle.crp_said.specs.Said.{BaySaid, count_said}
 use Rattle.crp_said.specs.Spelled.{CanBeStated}
 use Rattle.crp_follow.specs.Crane.{Stack, Leads}
-use Rattle.crp_follow.specs.Faults.{is_shift, count_said}
+use Rattle.crp_follow.specs.Faults.{is_shift}
 use Rattle.crp_follow.specs.Written.{lines_of}
 use Rattle.crp_planned.specs.Planned.{AreSaid}
 use Rattle.crp_planned.proofs.Planned.{lines_said, shifts_said, plan_leads}

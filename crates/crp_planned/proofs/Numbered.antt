@@ -15,13 +15,13 @@ use Rattle.crp_yard.proofs.YardSteps.{same_bay_laws}
 use Rattle.crp_order.specs.BayProblems.{leaving, is_called}
 use Rattle.crp_said.specs.declared.numbers.Numbers.{Numbers}
 use Rattle.crp_said.specs.declared.moves.SaidMove.{SaidMove}
-use Rattle.crp_said.specs.Said.{BaySaid, bay_text, bay_line, bays_line, counts_line, is_settled, report_text}
+use Rattle.crp_said.specs.Said.{BaySaid, bay_text, bay_line, bays_line, counts_line, is_settled, count_said, report_text}
 use Rattle.crp_said.specs.Spelled.{AreSmall, CanBeStated, IsSayable, ReportSaid, SpellsReport}
 use Rattle.crp_follow.specs.declared.stated.StatedMove.{StatedMove}
 use Rattle.crp_follow.specs.Crane.{Leads}
 use Rattle.crp_follow.specs.Stated.{most_bytes, BayStated, moves_of, IsStatable, States}
 use Rattle.crp_follow.specs.Written.{lines_of, said_by, AreMovesFrom, AreBaysFrom, SaysBays}
-use Rattle.crp_follow.specs.Faults.{rows_in, is_shift, count_said, LeadsIn}
+use Rattle.crp_follow.specs.Faults.{rows_in, is_shift, LeadsIn}
 use Rattle.crp_follow.specs.Followed.{BayFollowed, IsFollowed}
 use Rattle.crp_planned.proofs.Listed.{IsListed}
 use Rattle.crp_planned.proofs.Led.{BayLed, IsLed}

@@ -20,10 +20,10 @@ use Rattle.crp_order.specs.declared.bay_problem.BayProblem.{BayProblem}
 use Rattle.crp_order.specs.BayProblems.{ranked, problem_of, bay_problem_of, is_called}
 use Rattle.crp_said.specs.declared.moves.SaidMove.{SaidMove}
 use Rattle.crp_said.specs.MoveLines.{AreMoveLines}
-use Rattle.crp_said.specs.Said.{BaySaid, report_text}
+use Rattle.crp_said.specs.Said.{BaySaid, count_said, report_text}
 use Rattle.crp_said.specs.Spelled.{IsSayable}
 use Rattle.crp_follow.specs.Crane.{Stack}
-use Rattle.crp_follow.specs.Faults.{rows_in, is_named, count_said}
+use Rattle.crp_follow.specs.Faults.{rows_in, is_named}
 use Rattle.crp_follow.specs.Followed.{BayFollowed}
 use Rattle.crp_solve.specs.declared.answer.Answer.{Answer}
 use Rattle.crp_solve.specs.declared.answer.Answer.TheVariants as answer

@@ -10,11 +10,12 @@ use Rattle.crp_yard.specs.Text.{yard_text}
 use Rattle.crp_order.specs.BayProblems.{ranked}
 use Rattle.crp_said.specs.declared.numbers.Numbers.{Numbers}
 use Rattle.crp_follow.specs.Crane.{Stack}
-use Rattle.crp_follow.specs.Faults.{rows_in, is_named, count_said}
+use Rattle.crp_said.specs.Said.{count_said}
+use Rattle.crp_follow.specs.Faults.{rows_in, is_named}
 use Rattle.crp_follow.specs.Followed.{BayFollowed, IsFollowed}
 use Rattle.crp_report.specs.Runs.{Made, numbers_of}
 use Rattle.crp_audit.specs.Headline.{Handed, Reported, numbers_in, problem_in, IsHeadline}
-use Rattle.crp_audit.specs.Followed.{LeadsTo}
+use Rattle.crp_audit.specs.Replayed.{LeadsTo}
 
 -- ---- a yard
 

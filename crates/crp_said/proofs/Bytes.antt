@@ -38,6 +38,16 @@ IsPlain bytes = AllByRecursion (λ b. b ≢ 10) bytes
 pub plain_both : (xs ys : List ℕ) → IsPlain xs → IsPlain ys → IsPlain (xs ++ ys)
 plain_both xs ys a b = all_both (λ b. b ≢ 10) xs ys a b
 
+-- lines are the same, and so is what follows their LF
+pub line_once : (l k x y : List ℕ) → IsPlain l → IsPlain k → l ++ 10 ∷ x ≡ k ++ 10 ∷ y → (l ≡ k) × (x ≡ y)
+line_once l k x y p q e =
+    let cut = cut_once (λ c. c ≢ 10) 10 10 l k x y (λ no. no refl) (λ no. no refl) p q e in (cut.0, rest_same 10 10 x y cut.1)
+
+-- no line ends in bytes without LF
+pub no_end : (line rest : List ℕ) → IsPlain (line ++ 10 ∷ rest) → ⊥
+no_end [] rest plain = plain.0 refl
+no_end (b ∷ line) rest plain = no_end line rest plain.1
+
 -- words pass a test
 pub plain_words : (bytes : List ℕ) → list_all (λ b. not (b == 10)) bytes ≡ true → IsPlain bytes
 plain_words [] e = tt

@@ -4,8 +4,10 @@ pub mod MoveBodies
 pub mod Takes
 pub mod LinesSoFar
 pub mod Digits
+pub mod Words
 pub mod FirstLine
 pub mod SaidLines
 pub mod Bays
+pub mod CutLines
 pub mod StatedMoves
 pub mod OneReport

@@ -1,14 +1,15 @@
 -- The lines of moves: each is bytes without LF, and then LF.
-use Rattle.std.proofs.Common.{◌≡◌, ℕ, zero, suc, ◌-◌, List, [], ◌∷◌, ◌++◌, length, slice_get, refl, ap, ◌∙◌, arith, append_assoc}
-use Rattle.std.specs.Prelude.{codes, unwrap_or}
+use Rattle.std.proofs.Common.{◌≡◌, ℕ, zero, suc, ◌-◌, List, [], ◌∷◌, ◌++◌, length, slice_get, refl, sym, ap, ◌∙◌, arith, append_assoc, append-nil}
+use Rattle.std.specs.Prelude.{codes, flat_map, unwrap_or}
 use Rattle.std.specs.List.{AllByRecursion}
 use Rattle.std.specs.Fmt.{decimal}
 use Rattle.crp_plan.specs.declared.moves.Move.{Move}
 use Rattle.crp_plan.specs.declared.moves.Move.TheVariants.{Shift, Take}
 use Rattle.crp_plan.specs.Bay.{Position}
+use Rattle.crp_cert.proofs.Joined.{all_both}
 use Rattle.crp_yard.specs.Ranks.{name_of_rank}
 use Rattle.crp_said.specs.MoveLines.{row_stack, top_of, move_words, move_said, move_line, AreMoveLines}
-use Rattle.crp_said.specs.Spelled.{IsMoveBody, AreMoves}
+use Rattle.crp_said.specs.Spelled.{IsMoveBody, ended, AreMoves}
 use Rattle.crp_said.proofs.Bytes.{IsPlain, plain_both, plain_words, plain_number}
 
 -- a move in words
@@ -67,3 +68,18 @@ are_moves names s (m ∷ moves) text plain (t, rest, legal, stated, is) =
       each = (move_body names s m plain, more.each);
       is = is ∙ ap (λ l. move_line names s m ++ l) more.is;
     }
+
+-- no lines, and one line more
+pub no_moves : AreMoves []
+no_moves = record { bodies = []; each = tt; is = refl }
+
+pub one_more : (text body : List ℕ) → AreMoves text → IsMoveBody body → AreMoves ((text ++ body) ++ 10 ∷ [])
+one_more text body are is = record {
+  bodies = are.bodies ++ body ∷ [];
+  each = all_both IsMoveBody are.bodies (body ∷ []) are.each (is, tt);
+  is = append_assoc text body (10 ∷ []) ∙ ap (λ l. l ++ ended body) are.is ∙ sym (joined are.bodies);
+}
+  where
+    joined : (bodies : List (List ℕ)) → flat_map ended (bodies ++ body ∷ []) ≡ flat_map ended bodies ++ ended body
+    joined [] = append-nil (ended body)
+    joined (first ∷ bodies) = ap (λ l. ended first ++ l) (joined bodies) ∙ sym (append_assoc (ended first) (flat_map ended bodies) (ended body))

@@ -1,8 +1,9 @@
--- Reading the lines of a report from the front of the bytes: what was read, and what follows it. No public clause cites this module.
-use Rattle.std.specs.Prelude.{ℕ, List, [], ◌∷◌, Bool, false, not, Option, Some, None, codes, if◌then◌else◌, ◌==◌, ◌++◌}
+-- Reading a line of a report, without its LF, and its parts from the front of the bytes. No public clause cites this module.
+use Rattle.std.specs.Prelude.{ℕ, List, [], ◌∷◌, Bool, false, not, Option, Some, None, codes, if◌then◌else◌, ◌==◌, length}
+use Rattle.std.specs.Str.{bytes_eq}
 use Rattle.crp_yard.specs.Records.{is_container}
 use Rattle.std.specs.Option.{option_or}
-use Rattle.crp_cert.specs.Reading.{◌>>=◌, tag_at, number_at, newline_at, word_at}
+use Rattle.crp_cert.specs.Reading.{◌>>=◌, tag_at, number_at, word_at}
 use Rattle.crp_said.specs.declared.numbers.Numbers.{Numbers}
 use Rattle.crp_said.specs.declared.said.SaidCause.{SaidCause}
 use Rattle.crp_said.specs.declared.said.SaidCause.TheVariants.{Budget, Memory}
@@ -13,56 +14,55 @@ use Rattle.crp_said.specs.declared.moves.SaidMove.{SaidMove}
 use Rattle.crp_said.specs.declared.moves.SaidMove.TheVariants.{Shift, Take}
 use Rattle.crp_said.specs.Spelled.{most}
 
+-- the number that all of the bytes are
+unfoldable pub number_alone_at : List ℕ → Option ℕ
+number_alone_at bytes = do
+  x ← number_at most bytes
+  if length x.1 == 0 then Some x.0 else None
+
 -- the three numbers of a first line
-unfoldable pub counts_at : List ℕ → Option (Numbers × List ℕ)
-counts_at bytes = do
-  a ← tag_at (codes "orders ") bytes
+unfoldable pub counts_at : List ℕ → Option Numbers
+counts_at line = do
+  a ← tag_at (codes "orders ") line
   orders ← number_at most a
   b ← tag_at (codes " open ") orders.1
   vacant ← number_at most b
   c ← tag_at (codes " absent ") vacant.1
-  absent ← number_at most c
-  rest ← newline_at absent.1
-  Some (record { orders = orders.0; vacant = vacant.0; absent = absent.0 }, rest)
+  absent ← number_alone_at c
+  Some (record { orders = orders.0; vacant = vacant.0; absent = absent })
 
 -- the two numbers of a last line
-unfoldable pub last_at : List ℕ → Option ((ℕ × ℕ) × List ℕ)
-last_at bytes = do
-  a ← tag_at (codes "bays ") bytes
+unfoldable pub last_at : List ℕ → Option (ℕ × ℕ)
+last_at line = do
+  a ← tag_at (codes "bays ") line
   count ← number_at most a
   b ← tag_at (codes " decided ") count.1
-  settled ← number_at most b
-  rest ← newline_at settled.1
-  Some ((count.0, settled.0), rest)
+  settled ← number_alone_at b
+  Some (count.0, settled)
 
--- the rest of a line behind the relocations of an optimal plan
-unfoldable pub optimal_at : ℕ → List ℕ → Option (Said × List ℕ)
-optimal_at count [] = None
-optimal_at count (b ∷ bytes) =
-    if b == 10 then Some (Optimal count, bytes) else (tag_at (codes " first" ++ 10 ∷ []) (b ∷ bytes) >>= λ rest. Some (First count, rest))
+-- what stands behind the relocations of an optimal plan
+abbrev pub optimal_at : ℕ → List ℕ → Option Said
+optimal_at count bytes = if bytes_eq bytes [] then Some (Optimal count) else (if bytes_eq bytes (codes " first") then Some (First count) else None)
 
 -- the relocations of a plan, or that there is none
 abbrev pub upper_at : List ℕ → Option (Option ℕ × List ℕ)
 upper_at bytes = option_or (tag_at (codes "none") bytes >>= λ rest. Some (None, rest)) (number_at most bytes >>= λ x. Some (Some x.0, x.1))
 
--- why a search ended, and the end of the line
-abbrev pub cause_at : List ℕ → Option (SaidCause × List ℕ)
-cause_at bytes =
-    option_or (tag_at (codes "budget" ++ 10 ∷ []) bytes >>= λ rest. Some (Budget, rest)) (tag_at (codes "memory" ++ 10 ∷ []) bytes >>= λ rest. Some (Memory, rest))
+-- why a search ended
+abbrev pub cause_at : List ℕ → Option SaidCause
+cause_at bytes = if bytes_eq bytes (codes "budget") then Some Budget else (if bytes_eq bytes (codes "memory") then Some Memory else None)
 
 -- what is said of the fewest relocations, by its first word
-unfoldable pub said_optimal_at : List ℕ → Option (Said × List ℕ)
+unfoldable pub said_optimal_at : List ℕ → Option Said
 said_optimal_at bytes = do
   a ← tag_at (codes "optimal ") bytes
   count ← number_at most a
   optimal_at count.0 count.1
 
-unfoldable pub said_none_at : List ℕ → Option (Said × List ℕ)
-said_none_at bytes = do
-  rest ← tag_at (codes "no plan" ++ 10 ∷ []) bytes
-  Some (NoPlan, rest)
+abbrev pub said_none_at : List ℕ → Option Said
+said_none_at bytes = if bytes_eq bytes (codes "no plan") then Some NoPlan else None
 
-unfoldable pub said_between_at : List ℕ → Option (Said × List ℕ)
+unfoldable pub said_between_at : List ℕ → Option Said
 said_between_at bytes = do
   a ← tag_at (codes "between ") bytes
   lower ← number_at most a
@@ -70,38 +70,26 @@ said_between_at bytes = do
   upper ← upper_at b
   c ← tag_at (codes ", ") upper.1
   why ← cause_at c
-  Some (Between lower.0 upper.0 why.0, why.1)
+  Some (Between lower.0 upper.0 why)
 
-abbrev pub said_at : List ℕ → Option (Said × List ℕ)
+abbrev pub said_at : List ℕ → Option Said
 said_at bytes = option_or (said_optimal_at bytes) (option_or (said_none_at bytes) (said_between_at bytes))
 
 -- the line of a bay: the block and the number, whatever they are, and what is said
-unfoldable pub bay_at : List ℕ → Option (((List ℕ × ℕ) × Said) × List ℕ)
-bay_at bytes = do
-  a ← tag_at (codes "bay ") bytes
+unfoldable pub bay_at : List ℕ → Option ((List ℕ × ℕ) × Said)
+bay_at line = do
+  a ← tag_at (codes "bay ") line
   block ← word_at a
   b ← tag_at (codes " ") block.1
   bay ← number_at most b
   c ← tag_at (codes ": ") bay.1
   said ← said_at c
-  Some (((block.0, bay.0), said.0), said.1)
-
--- the bytes before the first LF, and the others
-abbrev pub line_at : List ℕ → Option (List ℕ × List ℕ)
-line_at [] = None
-line_at (b ∷ bytes) = if b == 10 then Some ([], b ∷ bytes) else (line_at bytes >>= λ x. Some (b ∷ x.0, x.1))
+  Some ((block.0, bay.0), said)
 
 -- a line of moves may begin so
 abbrev pub is_move : List ℕ → Bool
 is_move [] = false
 is_move (b ∷ body) = not (b == 98)
-
--- a line of moves without its LF
-unfoldable pub move_at : List ℕ → Option (List ℕ × List ℕ)
-move_at bytes = do
-  x ← line_at bytes
-  rest ← newline_at x.1
-  if is_move x.0 then Some (x.0, rest) else None
 
 -- a space and a place
 unfoldable pub place_at : List ℕ → Option (Place × List ℕ)

@@ -33,6 +33,10 @@ said_words (First count) = codes "optimal " ++ (decimal count ++ codes " first")
 said_words NoPlan = codes "no plan"
 said_words (Between lower upper why) = codes "between " ++ (decimal lower ++ (codes " and " ++ (upper_words upper ++ (codes ", " ++ cause_words why))))
 
+-- the words of a bay's line
+abbrev pub words_of_bay : YardBay → Said → List ℕ
+words_of_bay bay said = bay_words bay ++ said_words said
+
 -- the line of a bay
 abbrev pub bay_line : YardBay → Said → List ℕ
 bay_line bay said = bay_words bay ++ (said_words said ++ 10 ∷ [])
@@ -43,6 +47,13 @@ is_settled (Optimal count) = true
 is_settled (First count) = true
 is_settled NoPlan = true
 is_settled (Between lower upper why) = false
+
+-- the relocations of the plan that is said to be printed, if one is
+abbrev pub count_said : Said → Option ℕ
+count_said (Optimal count) = Some count
+count_said (First count) = Some count
+count_said NoPlan = None
+count_said (Between lower upper why) = upper
 
 -- what is said of a bay: its name, its fewest relocations, and the lines of its moves
 pub record BaySaid : Type 0 where

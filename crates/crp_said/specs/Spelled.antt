@@ -9,7 +9,7 @@ use Rattle.crp_said.specs.declared.said.Said.TheVariants.{Optimal, First, NoPlan
 use Rattle.crp_said.specs.declared.moves.Place.{Place}
 use Rattle.crp_said.specs.declared.moves.SaidMove.{SaidMove}
 use Rattle.crp_said.specs.declared.moves.SaidMove.TheVariants.{Shift, Take}
-use Rattle.crp_said.specs.Said.{counts_line, bay_line, bays_line, BaySaid, bay_text}
+use Rattle.crp_said.specs.Said.{counts_line, words_of_bay, bays_line, BaySaid, bay_text}
 
 -- the most that a number of a report can be
 abbrev pub most : ℕ
@@ -87,21 +87,21 @@ SpellsReport text r = IsReportSaid r × (text ≡ spelled r)
 abbrev pub line_behind : List ℕ → ℕ
 line_behind front = 1 + count_by (λ b. b == 10) front
 
--- the text begins with a first line
-abbrev pub BeginsWithCounts : List ℕ → Type 0
-BeginsWithCounts text = (n : Numbers) × (rest : List ℕ) × AreSmall n × (text ≡ counts_line n ++ rest)
+-- what a line can be, by its bytes without its LF: that of the three numbers
+abbrev pub IsOrdersLine : List ℕ → Type 0
+IsOrdersLine line = (n : Numbers) × AreSmall n × (ended line ≡ counts_line n)
 
--- it begins with the line of a bay
-abbrev pub BeginsWithBayLine : List ℕ → Type 0
-BeginsWithBayLine text = (bay : YardBay) × (said : Said) × (rest : List ℕ) × IsYardBay bay × IsSmall said × (text ≡ bay_line bay said ++ rest)
+-- that of a bay
+abbrev pub IsBayLine : List ℕ → Type 0
+IsBayLine line = (bay : YardBay) × (said : Said) × IsYardBay bay × IsSmall said × (line ≡ words_of_bay bay said)
 
--- it begins with a line of moves
-abbrev pub BeginsWithMoveLine : List ℕ → Type 0
-BeginsWithMoveLine text = (body : List ℕ) × (rest : List ℕ) × IsMoveBody body × (text ≡ body ++ 10 ∷ rest)
+-- a last line, whatever it counts
+abbrev pub IsLastLine : List ℕ → Type 0
+IsLastLine line = (count : ℕ) × (settled : ℕ) × (count ≤ most) × (settled ≤ most) × (ended line ≡ bays_line count settled)
 
--- it begins with a last line
-abbrev pub BeginsWithLastLine : List ℕ → Type 0
-BeginsWithLastLine text = (count : ℕ) × (settled : ℕ) × (rest : List ℕ) × (count ≤ most) × (settled ≤ most) × (text ≡ bays_line count settled ++ rest)
+-- the text begins with such a line
+abbrev pub BeginsWithLine : (List ℕ → Type 0) → List ℕ → Type 0
+BeginsWithLine P text = (line : List ℕ) × (rest : List ℕ) × P line × (text ≡ line ++ 10 ∷ rest)
 
 -- the lines before this one are a first line and those of bays, and this one is none that may follow
 pub record StopsAtLine (text : List ℕ) (line : ℕ) : Type 0 where
@@ -112,9 +112,9 @@ pub record StopsAtLine (text : List ℕ) (line : ℕ) : Type 0 where
   pub sayable : AllByRecursion IsSayable bays
   pub is : text ≡ front_text numbers bays ++ rest
   pub line_is : line ≡ line_behind (front_text numbers bays)
-  pub no_bay : ¬ BeginsWithBayLine rest
-  pub no_move : bays ≢ [] → ¬ BeginsWithMoveLine rest
-  pub no_last : ¬ BeginsWithLastLine rest
+  pub no_bay : ¬ BeginsWithLine IsBayLine rest
+  pub no_move : bays ≢ [] → ¬ BeginsWithLine IsMoveBody rest
+  pub no_last : ¬ BeginsWithLine IsLastLine rest
 
 -- bytes follow the last line of a report
 pub record GoesOnBehind (text : List ℕ) (line : ℕ) : Type 0 where
@@ -127,4 +127,4 @@ pub record GoesOnBehind (text : List ℕ) (line : ℕ) : Type 0 where
 
 -- the first line of a text that is not as said
 abbrev pub IsMisspelled : List ℕ → ℕ → Type 0
-IsMisspelled text line = ((line ≡ 1) × ¬ BeginsWithCounts text) ⊎ (StopsAtLine text line ⊎ GoesOnBehind text line)
+IsMisspelled text line = ((line ≡ 1) × ¬ BeginsWithLine IsOrdersLine text) ⊎ (StopsAtLine text line ⊎ GoesOnBehind text line)

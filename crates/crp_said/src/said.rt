@@ -28,6 +28,29 @@ pub enum Said {
     },
 }
 
+impl Said {
+    ghost use Rattle.std.specs.Prelude.{◌≡◌};
+    ghost use Rattle.crp_said.specs.Said.{is_settled, count_said};
+
+    /// Whether it settles the bay.
+    pub fn is_settled(self) -> bool
+        ensures { result ≡ is_settled self }
+    {
+        !matches!(self, Said::Between { .. })
+    }
+
+    /// The relocations of the plan that is said to be printed, if one is.
+    pub fn count(self) -> Option<u32>
+        ensures { result ≡ count_said self }
+    {
+        match self {
+            Said::Optimal(count) | Said::First(count) => Some(count),
+            Said::NoPlan => None,
+            Said::Between { upper, .. } => upper,
+        }
+    }
+}
+
 /// What is said of a bay: its name, its fewest relocations, and the lines of its moves.
 #[derive(Drop)]
 pub struct SaidBay {

@@ -6,4 +6,4 @@ pub returns : goal.returns
 returns c =
     let names = map (λ name. name.items) c.args.names.now in
     subst (λ (k : Option ℕ). IsLookedAt names c.args.problem.now k c.args.lines.now c.of_plan.result) (sym c.in-Some.is)
-    (c.of_plan.ensures names c.args.problem.now c.args.lines.now c.in_ok-followed.ensures)
+    (c.of_plan.ensures names c.args.problem.now c.args.lines.now c.in_ok-replayed.ensures)

@@ -1,4 +1,4 @@
-use Rattle.crp_follow.proofs.Standing.{line_stands}
+use Rattle.crp_follow.proofs.LinesStand.{line_stands}
 use Rattle.crp_follow.proofs.laws.lines_are_numbered.Goals as goal
 
 pub returns : goal.returns

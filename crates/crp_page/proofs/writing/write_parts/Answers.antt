@@ -9,20 +9,21 @@ use Rattle.crp_page.specs.Few.{LeaveFew}
 use Rattle.crp_page.specs.Numbered.{numbered_text}
 use Rattle.crp_page.specs.Sections.{section}
 use Rattle.crp_page.specs.Page.{page_front}
-use Rattle.crp_page.proofs.Fewness.{few_at_end}
+use Rattle.crp_page.proofs.Fewness.{few_at_start, few_at_end}
 use Rattle.crp_page.proofs.Writes.{stops_before, stops_behind, writes_as, stops_as, wrote_then}
 use Rattle.crp_page.proofs.writing.write_parts.Goals as goal
 
 pub page_front-requires : goal.page_front-requires
-page_front-requires g c = few_at_end c.what_columns_say.ensures.left c.args.yard.now c.requires.followed.0 _ _ c.requires.few c.requires.followed.1
+page_front-requires g c = few_at_end c.what_columns_say.ensures.left c.args.yard.now c.requires.followed.0 _ _ c.rows-rows.ensures.yard c.requires.followed.1
 
 pub write_sections-requires-clause-few : goal.write_sections-requires-clause-few
-write_sections-requires-clause-few g c = subst (λ l. AllByRecursion StandFew (map bay_followed l)) (sym c.deref-bays.ensures.value) c.requires.few
+write_sections-requires-clause-few g c = subst (λ l. AllByRecursion StandFew (map bay_followed l)) (sym c.deref-bays.ensures.value)
+    (few_at_start c.args.yard.now c.requires.followed.0 _ _ c.rows-rows.ensures.yard c.requires.followed.1)
 
 pub write_sections-requires-clause-left : goal.write_sections-requires-clause-left
 write_sections-requires-clause-left g c =
     subst (λ l. AllByRecursion LeaveFew (map bay_followed l)) (sym c.deref-bays.ensures.value)
-    (few_at_end c.what_columns_say.ensures.left c.args.yard.now c.requires.followed.0 _ _ c.requires.few c.requires.followed.1)
+    (few_at_end c.what_columns_say.ensures.left c.args.yard.now c.requires.followed.0 _ _ c.rows-rows.ensures.yard c.requires.followed.1)
 
 pub returns-in_err-write_made : goal.returns-in_err-write_made
 returns-in_err-write_made g c =

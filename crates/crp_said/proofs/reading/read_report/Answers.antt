@@ -19,7 +19,7 @@ returns-in_default-last_line-clause-refused c =
       sayable = o.sayable;
       is = o.text;
       line_is = c.line_at.ensures (front_text n bays) o.text;
-      no_bay = c.in_default-bay_line_of.ensures.none;
+      no_bay = c.in_default-next_bay.ensures.none;
       no_move = o.no_move;
       no_last = c.in_default-last_line.ensures.none;
     } in
