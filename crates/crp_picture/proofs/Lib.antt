@@ -1,3 +1,4 @@
 pub mod Rowwise
 pub mod Drawing
 pub mod Boxed
+pub mod Lying

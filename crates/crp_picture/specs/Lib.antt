@@ -6,3 +6,4 @@ pub mod Frames
 pub mod Pictures
 pub mod Views
 pub mod Boxes
+pub mod Rectangles
