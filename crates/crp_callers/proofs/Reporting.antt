@@ -1,5 +1,5 @@
 -- What a command writes to a list of bytes that was empty.
-use Rattle.std.proofs.Common.{◌≡◌, ◌∙◌, ℕ, suc, List, [], ◌∷◌, ◌++◌, length, Some, None, Option, refl, sym, ap, subst, append_assoc}
+use Rattle.std.proofs.Common.{◌≡◌, ◌∙◌, ℕ, suc, List, [], ◌∷◌, ◌++◌, length, Some, None, Option, true, refl, sym, ap, subst, append_assoc, arith}
 use Rattle.std.specs.Prelude.{codes, decimal, MatchOption}
 use Rattle.std.specs.Io.KnownBytes.{Appends}
 use Rattle.crp_plan.specs.declared.moves.Move.{Move}
@@ -15,10 +15,11 @@ use Rattle.crp_yard.specs.Reading.{IsTextOf}
 use Rattle.crp_commands.specs.Calls.{CallSeen, IsTextWithin, WritesReport}
 use Rattle.crp_commands.specs.Performing.{Performs}
 use Rattle.crp_commands.specs.Replay.{IsReplay, IsReplayText}
-use Rattle.crp_commands.specs.Bound.{IsBound}
+use Rattle.crp_commands.specs.Bound.{IsBound, bound_lines}
 use Rattle.crp_commands.specs.Check.{IsCheck}
 use Rattle.crp_commands.specs.Prove.{IsProof}
-use Rattle.crp_callers.specs.CommandReports.{IsReportOf}
+use Rattle.crp_chains.proofs.Reading.{chains_floor}
+use Rattle.crp_callers.specs.CommandReports.{IsReportOf, EndsWithBound}
 
 -- a call that was given these bytes, and held nothing before and these bytes after
 pub record IsOverBytes (s : CallSeen) (bytes new : List ℕ) : Type 0 where
@@ -37,7 +38,7 @@ report_written IsInput IsReport bytes new s reads over (text, report, input, is,
 pub command_reported : (command : FileCommand) (ended : Status) (bytes new : List ℕ) (s : CallSeen) → IsOverBytes s bytes new
     → Performs command ended s → IsReportOf command bytes new
 command_reported Replay ended bytes new s over done = report_written IsTextOf IsReplay bytes new s (λ known text is. is) over done.1
-command_reported Bound ended bytes new s over done = report_written IsTextOf IsBound bytes new s (λ known text is. is) over done.1
+command_reported (Bound chains) ended bytes new s over done = report_written IsTextOf (IsBound chains) bytes new s (λ known text is. is) over done.1
 command_reported Check ended bytes new s over done = report_written (IsTextWithin MOST_BYTES) IsCheck bytes new s (λ known text is. is.1) over done.1
 command_reported (Prove search) ended bytes new s over done = (ended, report_written IsTextOf (IsProof search ended) bytes new s (λ known text is. is) over done)
 
@@ -66,3 +67,18 @@ rows_counted problem line (Some rows) text report e (moves, lines, plan, path, p
 
 pub relocations_counted : (bytes report : List ℕ) → IsReplay bytes report → (head : Head) × IsHeadOf bytes head × CountsRows report head.plan
 relocations_counted bytes report (head, is, (text, e, stated)) = (head, is, rows_counted head.problem (bay_line head.bay) head.plan text report e stated)
+
+-- ---- a line of chains
+
+pub bound_below_plans : (bytes report : List ℕ) → IsBound true bytes report → (head : Head) × IsHeadOf bytes head × EndsWithBound head.problem report
+bound_below_plans bytes report (head, of_head, (s, at, (line, (chains, bound, (family, names, is_family, value), is_line), is))) = (
+  head,
+  of_head,
+  record {
+    before = bay_line head.bay ++ bound_lines s;
+    bound = bound;
+    chains = chains;
+    is = is ∙ ap (λ l. bay_line head.bay ++ (bound_lines s ++ l)) is_line ∙ sym (append_assoc (bay_line head.bay) (bound_lines s) _);
+    below = λ moves plan. let low = chains_floor head.problem [] (path_of moves) s family moves of_head.0.problem at is_family plan refl in omega (arith, value, low);
+  },
+)

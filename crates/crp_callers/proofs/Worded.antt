@@ -125,7 +125,7 @@ check_is_done (OneFile file command.Check) (free, (name, is)) seen ended bytes l
 check_is_done (OneFile file command.Check) (free, (name, is)) seen ended bytes lines given held holds (source, inr (other, from), (done, few)) =
     absurd (other (sym (one_text _ _ is)))
 check_is_done (OneFile file command.Replay) (free, (name, is)) seen ended bytes lines given held holds done = absurd (other_letter 99 114 _ _ refl name)
-check_is_done (OneFile file command.Bound) (free, (name, is)) seen ended bytes lines given held holds done = absurd (other_letter 99 98 _ _ refl name)
+check_is_done (OneFile file (command.Bound chains)) (free, (name, is)) seen ended bytes lines given held holds done = absurd (other_letter 99 98 _ _ refl name.0)
 check_is_done (OneFile file (command.Prove chosen)) (free, (name, is)) seen ended bytes lines given held holds done =
     absurd (other_letter 99 112 _ _ refl name.0)
 check_is_done (Audit names settings) (free, (name, size, files, has)) seen ended bytes lines given held holds done = absurd (other_letter 99 97 _ _ refl name)
@@ -167,7 +167,7 @@ unfolding walk_fault defaults_fault flags_fault walked bundle_met
 job_is_linked known one (Solve names settings quiet progress) (free, (name, size, twice, files, has, a, b)) =
     inl (record { first = codes "proofs"; second = codes "yard"; is = sym files.2; is_other = sym files.0; one = one })
 job_is_linked known one (OneFile file command.Replay) (free, (name, is)) = absurd (other_letter 115 114 _ _ refl name)
-job_is_linked known one (OneFile file command.Bound) (free, (name, is)) = absurd (other_letter 115 98 _ _ refl name)
+job_is_linked known one (OneFile file (command.Bound chains)) (free, (name, is)) = absurd (other_letter 115 98 _ _ refl name.0)
 job_is_linked known one (OneFile file command.Check) (free, (name, is)) = absurd (other_letter 115 99 _ _ refl name)
 job_is_linked known one (OneFile file (command.Prove chosen)) (free, (name, is)) = absurd (other_letter 115 112 _ _ refl name.0)
 job_is_linked known one (Audit names settings) (free, (name, size, files, has)) = absurd (other_letter 115 97 _ _ refl name)
@@ -240,7 +240,7 @@ unfolding walk_fault defaults_fault flags_fault walked bundle_met
 limits_ask (Solve names settings quiet progress) (free, (name, size, twice, files, has, a, b)) =
     heights_at _ settings.input.heights (record { rows = refl; tiers = refl; heights = refl; workers = refl; split = refl; beam = refl; thin = refl; budget = refl }) has.1.0
 limits_ask (OneFile file command.Replay) (free, (name, is)) = absurd (other_letter 115 114 _ _ refl name)
-limits_ask (OneFile file command.Bound) (free, (name, is)) = absurd (other_letter 115 98 _ _ refl name)
+limits_ask (OneFile file (command.Bound chains)) (free, (name, is)) = absurd (other_letter 115 98 _ _ refl name.0)
 limits_ask (OneFile file command.Check) (free, (name, is)) = absurd (other_letter 115 99 _ _ refl name)
 limits_ask (OneFile file (command.Prove chosen)) (free, (name, is)) = absurd (other_letter 115 112 _ _ refl name.0)
 limits_ask (Audit names settings) (free, (name, size, files, has)) = absurd (other_letter 115 97 _ _ refl name)
@@ -293,7 +293,7 @@ strong_asks (OneFile file (command.Prove settings)) (free, ((name, (workers, bud
     let at : IsStrongWith (rows_in (subcommand_of crp (words_or_default strong_words))) = record { strong = refl; beam_given = refl; beam = refl; thin = refl } in
     (strong_beam _ at settings.beam beam, strong_thin _ at settings.thin thin, deepen.1 (inr at.strong), chains.1 (inr at.strong))
 strong_asks (OneFile file command.Replay) (free, (name, is)) = absurd (other_letter 112 114 _ _ refl name)
-strong_asks (OneFile file command.Bound) (free, (name, is)) = absurd (other_letter 112 98 _ _ refl name)
+strong_asks (OneFile file (command.Bound chains)) (free, (name, is)) = absurd (other_letter 112 98 _ _ refl name.0)
 strong_asks (OneFile file command.Check) (free, (name, is)) = absurd (other_letter 112 99 _ _ refl name)
 strong_asks (Audit names settings) (free, (name, size, files, has)) = absurd (other_letter 112 97 _ _ refl name)
 strong_asks (Follow names settings) (free, (name, size, ordered, twice, files, has)) = absurd (other_letter 112 102 _ _ refl name)

@@ -18,7 +18,7 @@ HasHeights heights (Follow names settings) = ⊥
 abbrev pub IsStrongSearch : ℕ → Job → Type 0
 IsStrongSearch width (OneFile file (Prove search)) = (search.beam ≡ width) × (search.thin ≡ 10000) × IsTrue search.deepen × IsTrue search.chains
 IsStrongSearch width (OneFile file Replay) = ⊥
-IsStrongSearch width (OneFile file Bound) = ⊥
+IsStrongSearch width (OneFile file (Bound chains)) = ⊥
 IsStrongSearch width (OneFile file Check) = ⊥
 IsStrongSearch width (Audit names settings) = ⊥
 IsStrongSearch width (Follow names settings) = ⊥

@@ -1,5 +1,7 @@
 -- What the commands write of lists of bytes.
-use Rattle.std.specs.Prelude.{◌≡◌, ℕ, List}
+use Rattle.std.specs.Prelude.{◌≡◌, ◌≤◌, ℕ, List, [], ◌∷◌, ◌++◌, codes, decimal}
+use Rattle.crp_plan.specs.declared.moves.Move.{Move}
+use Rattle.crp_plan.specs.Bay.{Problem, IsPlan, relocations}
 use Rattle.crp_yard.specs.Inventory.{Inventory}
 use Rattle.crp_yard.specs.Reading.{IsYardListOf}
 use Rattle.crp_movins.specs.LoadOrders.{LoadOrders}
@@ -14,16 +16,24 @@ use Rattle.crp_audit.specs.Headline.{Handed, handed}
 use Rattle.crp_jobs.specs.declared.job.FileCommand.{FileCommand}
 use Rattle.crp_jobs.specs.declared.job.FileCommand.TheVariants.{Replay, Bound, Check, Prove}
 use Rattle.crp_commands.specs.Replay.{IsReplay}
-use Rattle.crp_commands.specs.Bound.{IsBound}
+use Rattle.crp_commands.specs.Bound.{IsBound, chains_text}
 use Rattle.crp_commands.specs.Check.{IsCheck}
 use Rattle.crp_commands.specs.Prove.{IsSomeProof}
 
 -- the text is the command's report of the bytes: the moves of their plan, the bounds of their problem, what they show, or a certificate of their problem
 abbrev pub IsReportOf : FileCommand → List ℕ → List ℕ → Type 0
 IsReportOf Replay bytes text = IsReplay bytes text
-IsReportOf Bound bytes text = IsBound bytes text
+IsReportOf (Bound chains) bytes text = IsBound chains bytes text
 IsReportOf Check bytes text = IsCheck bytes text
 IsReportOf (Prove search) bytes text = IsSomeProof search bytes text
+
+-- the report ends with a line of chains, and no plan has fewer relocations than the number in it
+pub record EndsWithBound (p : Problem) (report : List ℕ) : Type 0 where
+  pub before : List ℕ
+  pub bound : ℕ
+  pub chains : List (List ℕ)
+  pub is : report ≡ before ++ (codes "chains " ++ (decimal bound ++ (chains_text chains ++ 10 ∷ [])))
+  pub below : (moves : List Move) → IsPlan p moves → bound ≤ relocations moves
 
 -- a yard list and a message are accepted, and this is what they say
 pub record AreInput (chosen : InputChosen) (list message : List ℕ) (yard : Inventory) (orders : LoadOrders) (sequence : List (List ℕ)) : Type 0 where

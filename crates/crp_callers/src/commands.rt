@@ -14,10 +14,10 @@ ghost use Rattle.crp_yard.specs.Naming.{IsNamedBay};
 ghost use Rattle.std.specs.List.{AllByRecursion};
 ghost use Rattle.crp_commands.specs.Audit.{audit_text};
 ghost use Rattle.crp_commands.specs.Check.{verdict_lines};
-ghost use Rattle.crp_callers.specs.CommandReports.{HoldsOfTexts, IsFollowedWhole, IsReportOf};
+ghost use Rattle.crp_callers.specs.CommandReports.{EndsWithBound, HoldsOfTexts, IsFollowedWhole, IsReportOf};
 
 use crp_audit::headlines_have_no_fault;
-use crp_commands::{FollowSettings, audit, check, follow, perform, replay};
+use crp_commands::{FollowSettings, audit, bound, check, follow, perform, replay};
 use crp_jobs::{FileCommand, ToolFault};
 use crp_plan::{Nowhere, Received};
 use crp_report::{InputSettings, Status};
@@ -49,6 +49,16 @@ pub fn replayed(alloc: Global, bytes: &[u8]) -> Result<Vec<u8>, ToolFault>
     let mut source = bytes;
     let mut out = Received::new(alloc);
     replay(alloc, &mut source, &mut out)?;
+    Ok(out.bytes)
+}
+
+/// No plan of the head's problem has fewer relocations than the number in the line of chains says.
+pub fn bounded_by_chains(alloc: Global, bytes: &[u8]) -> Result<Vec<u8>, ToolFault>
+    ensures { IfOk result (λ report. (head : HeadStated) × IsHeadOf bytes.now head × EndsWithBound head.problem report.items) }
+{
+    let mut source = bytes;
+    let mut out = Received::new(alloc);
+    bound(alloc, &mut source, &mut out, true)?;
     Ok(out.bytes)
 }
 

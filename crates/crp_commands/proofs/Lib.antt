@@ -8,3 +8,4 @@ pub mod Solved
 pub mod FollowedFiles
 pub mod Promised
 pub mod Noted
+pub mod LineOfChains

@@ -22,7 +22,7 @@ unnoted false held failures = shows_nothing held
 
 pub unnoted_in : (c : FileCommand) (held : Option (List ℕ)) (failures : ℕ) → IsNotedIn c (record { held = held; holds = held; before = failures; after = failures })
 unnoted_in command.Replay held failures = (Keeps-refl held, refl)
-unnoted_in command.Bound held failures = (Keeps-refl held, refl)
+unnoted_in (command.Bound chains) held failures = (Keeps-refl held, refl)
 unnoted_in command.Check held failures = inl (Keeps-refl held, refl)
 unnoted_in (command.Prove search) held failures = (Keeps-refl held, refl)
 
@@ -72,7 +72,7 @@ lines_then a b c m n o text (inr (part, failed)) (next, more) = inr (part_kept a
 
 noted_in_alone : (d : FileCommand) (a b c : Option (List ℕ)) (m n o : ℕ) → IsNotedIn d (seen_from a b m n) → IsLeftAlone (seen_from b c n o) → IsNotedIn d (seen_from a c m o)
 noted_in_alone command.Replay a b c m n o first next = alone_then a b c m n o first next
-noted_in_alone command.Bound a b c m n o first next = alone_then a b c m n o first next
+noted_in_alone (command.Bound chains) a b c m n o first next = alone_then a b c m n o first next
 noted_in_alone command.Check a b c m n o (inl first) next = inl (alone_then a b c m n o first next)
 noted_in_alone command.Check a b c m n o (inr first) next = inr (lines_then a b c m n o empty_note first next)
 noted_in_alone (command.Prove search) a b c m n o first next = alone_then a b c m n o first next

@@ -38,7 +38,7 @@ IsNotedBy false s = ShowsMore s.held s.holds
 abbrev pub IsNotedIn : FileCommand → SinkSeen → Type 0
 IsNotedIn command.Check s = IsLeftAlone s ⊎ GetsLines s empty_note
 IsNotedIn command.Replay s = IsLeftAlone s
-IsNotedIn command.Bound s = IsLeftAlone s
+IsNotedIn (command.Bound chains) s = IsLeftAlone s
 IsNotedIn (command.Prove search) s = IsLeftAlone s
 
 -- and an audit and what follows a report leave it alone

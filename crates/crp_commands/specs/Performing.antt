@@ -25,14 +25,14 @@ use Rattle.crp_commands.specs.declared.heads.TheConstants.{MOST_BYTES}
 -- the command was done, and ended with this status: its whole report was written, and nothing else
 abbrev pub Performs : FileCommand → Status → CallSeen → Type 0
 Performs command.Replay ended s = (ended ≡ status.Decided) × WritesReport IsTextOf IsReplay s
-Performs command.Bound ended s = (ended ≡ status.Decided) × WritesReport IsTextOf IsBound s
+Performs (command.Bound chains) ended s = (ended ≡ status.Decided) × WritesReport IsTextOf (IsBound chains) s
 Performs command.Check ended s = (ended ≡ status.Decided) × WritesReport (IsTextWithin MOST_BYTES) IsCheck s
 Performs (command.Prove search) ended s = WritesReport IsTextOf (IsProof search ended) s
 
 -- what a fault says of the command
 abbrev pub CommandFailsWith : FileCommand → CallSeen → ToolFault → Type 0
 CommandFailsWith command.Replay s f = CallFailsWith MOST_BYTES IsReplay IsNoReplay s f
-CommandFailsWith command.Bound s f = CallFailsWith MOST_BYTES IsBound IsNoBound s f
+CommandFailsWith (command.Bound chains) s f = CallFailsWith MOST_BYTES (IsBound chains) IsNoBound s f
 CommandFailsWith command.Check s f = CheckFailsWith MOST_BYTES s f
 CommandFailsWith (command.Prove search) s f = CallFailsWith MOST_BYTES (IsSomeProof search) IsNoProof s f
 

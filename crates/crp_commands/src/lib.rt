@@ -8,6 +8,7 @@
 
 mod auditing;
 mod bounding;
+mod chain_line;
 mod checking;
 mod following;
 mod heads;

@@ -39,7 +39,7 @@ pub fn perform<T: Threads + Wait + Sync, R: Source, W: Sink, E: Sink>(
 {
     match command {
         FileCommand::Replay => replay(alloc, reader, writer),
-        FileCommand::Bound => bound(alloc, reader, writer),
+        FileCommand::Bound { chains } => bound(alloc, reader, writer, *chains),
         FileCommand::Check => check(alloc, reader, writer, errors),
         FileCommand::Prove(search) => prove(rt, alloc, reader, writer, *search),
     }

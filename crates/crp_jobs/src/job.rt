@@ -9,7 +9,10 @@ pub enum FileCommand {
     /// To print the moves of the plan of a certificate's head.
     Replay,
     /// To print the lower bounds of the problem of a certificate's head.
-    Bound,
+    Bound {
+        /// Whether one by chains of containers is printed too.
+        chains: bool,
+    },
     /// To check a file of certificates.
     Check,
     /// To solve the problem of a certificate's head, by this search.

@@ -22,7 +22,7 @@ pub(crate) fn bound<R: Source, W: Sink>(
     reader: &mut R,
     writer: &mut W,
 ) -> Result<Status, ToolFault> {
-    crp_commands::bound(alloc, reader, writer)
+    crp_commands::bound(alloc, reader, writer, false)
 }
 
 pub(crate) fn check<R: Source, W: Sink>(

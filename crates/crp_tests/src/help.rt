@@ -73,4 +73,8 @@ fn help_states_options_and_defaults(rt: HostRuntime) {
     for piece in HELP {
         assert_at(&rt, says(&help, piece), &piece);
     }
+    let help = help_of(rt.alloc(), &["bound", "--help"]);
+    for piece in ["Usage: crp bound [OPTIONS] <FILE>", "--chains"] {
+        assert_at(&rt, says(&help, piece), &piece);
+    }
 }

@@ -132,6 +132,10 @@ with_outputs shape = with_option progress_rule (with_option quiet_rule (with_fil
 abbrev pub with_page : Shape → Shape
 with_page shape = with_option (optional_rule (codes "page")) shape
 
+-- bound FILE [--chains]
+abbrev pub bound : Shape
+bound = with_option chains_rule (leaf (codes "bound"))
+
 -- prove FILE, with the options of a search
 abbrev pub prove : Shape
 prove = with_search (leaf (codes "prove"))
@@ -169,11 +173,11 @@ top_command = record (new_shape (codes "crp")) {
   subcommand_required = true;
 }
 
--- crp with the commands that take a FILE, and no option
+-- crp with the commands that take a FILE, and no option of a search
 abbrev pub leaves : App
 leaves = record {
   top = record top_command { is_leaf = false };
-  subs = leaf (codes "replay") ∷ leaf (codes "bound") ∷ leaf (codes "check") ∷ [];
+  subs = leaf (codes "replay") ∷ bound ∷ leaf (codes "check") ∷ [];
 }
 
 -- the command line of crp

@@ -257,12 +257,16 @@ MayBeQuiet found quiet = IsTrue quiet ↔ IsGivenByWords (codes "quiet") found
 abbrev pub MayShowProgress : List Row → Bool → Type 0
 MayShowProgress found progress = IsTrue progress ↔ IsGivenByWords (codes "progress") found
 
+-- the line of chains is written exactly where the words give the flag
+abbrev pub MayWriteChains : List Row → Bool → Type 0
+MayWriteChains found chains = IsTrue chains ↔ IsGivenByWords (codes "chains") found
+
 -- ---- the job, or the first setting beyond its limits
 
 -- the command over one file and its rows ask for this
 abbrev pub AsksCommand : Text → List Row → FileCommand → Type 0
 AsksCommand name found command.Replay = name ≡ codes "replay"
-AsksCommand name found command.Bound = name ≡ codes "bound"
+AsksCommand name found (command.Bound chains) = (name ≡ codes "bound") × MayWriteChains found chains
 AsksCommand name found command.Check = name ≡ codes "check"
 AsksCommand name found (command.Prove search) = (name ≡ codes "prove") × HasSearch found search
 

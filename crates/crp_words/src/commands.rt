@@ -1,10 +1,13 @@
 //! The command line: each command with its files and options.
 ghost use Rattle.std.specs.Prelude.{◌≡◌, IfOk};
 ghost use Rattle.clap.specs.Words.{App, Shape, app_of, with_subcommand};
-ghost use Rattle.crp_words.specs.Commands.{IsArg, IsCommand, alone, audit as audit_shape, audit_files as audit_files_shape, beam_rule, budget_rule, chains_rule, crp, deepen_rule, file_rule, first_rule, flag_rule, follow as follow_shape, follow_files as follow_files_shape, leaf as leaf_shape, leaves, more_rule, number_rule, optional_rule, progress_rule, prove as prove_shape, quiet_rule, solve as solve_shape, solve_files as solve_files_shape, split_rule, strong_rule, text_rule, thin_rule, top_command as top_shape, with_orders, with_outputs, with_page, with_search, with_size, with_ways, workers_rule};
+ghost use Rattle.crp_words.specs.Commands.{IsArg, IsCommand, alone, audit as audit_shape, audit_files as audit_files_shape, beam_rule, bound as bound_shape, budget_rule, chains_rule, crp, deepen_rule, file_rule, first_rule, flag_rule, follow as follow_shape, follow_files as follow_files_shape, leaf as leaf_shape, leaves, more_rule, number_rule, optional_rule, progress_rule, prove as prove_shape, quiet_rule, solve as solve_shape, solve_files as solve_files_shape, split_rule, strong_rule, text_rule, thin_rule, top_command as top_shape, with_orders, with_outputs, with_page, with_search, with_size, with_ways, workers_rule};
 
 use clap::{Arg, ArgAction, Command, value_parser};
 use std::alloc::{AllocError, Global};
+
+// What a command that reads a head says of its file.
+const HEAD: &str = "Certificate, or - for the standard input";
 
 // A file that has to be named.
 fn file<'a>(alloc: Global, name: &'a str, shown: &'a str, help: &'a str) -> Arg<'a>
@@ -204,6 +207,23 @@ fn with_search<'a>(alloc: Global, command: Command<'a>) -> Result<Command<'a>, A
         .arg(strong(alloc))
 }
 
+// The command `bound`.
+fn bound<'a>(alloc: Global) -> Result<Command<'a>, AllocError>
+    ensures { IfOk result (IsCommand bound_shape) }
+{
+    let command = leaf(
+        alloc,
+        "bound",
+        "Print two lower bounds on the relocations of a certificate's bay",
+        HEAD,
+    )?;
+    command.arg(flag(
+        alloc,
+        "chains",
+        "Print also one by chains of containers that block, with their ranks",
+    ))
+}
+
 // The command `prove`.
 fn prove<'a>(alloc: Global) -> Result<Command<'a>, AllocError>
     ensures { IfOk result (IsCommand prove_shape) }
@@ -212,7 +232,7 @@ fn prove<'a>(alloc: Global) -> Result<Command<'a>, AllocError>
         alloc,
         "prove",
         "Solve the problem of a certificate's head and print a certificate",
-        "Certificate, or - for the standard input",
+        HEAD,
     )?;
     with_search(alloc, command)
 }
@@ -408,25 +428,18 @@ fn with_leaf<'a>(
     line.subcommand(leaf(alloc, name, about, help)?)
 }
 
-// crp with the commands that take a file, and no option.
+// crp with the commands that take a file, and no option of a search.
 fn with_leaves<'a>(alloc: Global) -> Result<Command<'a>, AllocError>
     ensures { IfOk result (λ line. app_of line ≡ leaves) }
 {
-    let head = "Certificate, or - for the standard input";
     let line = with_leaf(
         alloc,
         top(alloc)?,
         "replay",
         "Print the moves of a certificate's plan",
-        head,
+        HEAD,
     )?;
-    let line = with_leaf(
-        alloc,
-        line,
-        "bound",
-        "Print two lower bounds on the relocations of a certificate's bay",
-        head,
-    )?;
+    let line = line.subcommand(bound(alloc)?)?;
     with_leaf(
         alloc,
         line,

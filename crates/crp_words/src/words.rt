@@ -121,7 +121,7 @@ fn audit_of<'a>(alloc: Global, matches: &ArgMatches<'a>) -> Result<Job<'a>, Usag
     Ok(Job::Audit { files, settings })
 }
 
-// What a command without options and its matches ask for.
+// What a command without numbers and its matches ask for.
 fn leaf_of<'a>(alloc: Global, name: &str, matches: &ArgMatches<'a>) -> Result<Job<'a>, Usage>
     requires { (name.now ≢ codes "prove") × (name.now ≢ codes "solve") × (name.now ≢ codes "audit") × (name.now ≢ codes "follow") }
     ensures ok { IfOk result (Asks name.now (rows_of (found_of matches.now))) }
@@ -130,7 +130,9 @@ fn leaf_of<'a>(alloc: Global, name: &str, matches: &ArgMatches<'a>) -> Result<Jo
     let file = text_of(alloc, matches, "file")?;
     let command = match name {
         "replay" => FileCommand::Replay,
-        "bound" => FileCommand::Bound,
+        "bound" => FileCommand::Bound {
+            chains: is_given(matches, "chains"),
+        },
         "check" => FileCommand::Check,
         _ => return Err(wrong(alloc, "error: there is no such command\n")),
     };

@@ -19,12 +19,12 @@ returns-in_err-head g c =
       sink_before = g.W.Sink.failures c.args.writer.now;
       sink_after = g.W.Sink.failures c.args.writer.now;
     } in
-    rw (p.1, p.2) (no_head_reported MOST_BYTES IsBound IsNoBound seen c.in_err-head.field-0.0 (keeps_same _) (λ bytes f first. first) c.in_err-head.ensures.none, search rules)
+    rw (p.1, p.2) (no_head_reported MOST_BYTES (IsBound c.args.chains) IsNoBound seen c.in_err-head.field-0.0 (keeps_same _) (λ bytes f first. first) c.in_err-head.ensures.none, search rules)
 
 pub returns-in_err-write_all : goal.returns-in_err-write_all
 returns-in_err-write_all g c =
     let p = err_from_is_err_and c.from_residual-in_err-write_all.result c.from_residual-in_err-write_all.ensures.1 in
-    let stated = subst (IsBoundReport c.in_ok-head.head) (sym c.deref.ensures.value) c.in_ok-report.ensures in
+    let stated = subst (IsBoundReport c.args.chains c.in_ok-head.head) (sym c.deref.ensures.value) c.in_ok-report.ensures in
     let found = c.in_ok-head.ensures.found in
     rw (p.1, p.2)
     ((has_failed c.in_err-write_all.ensures.gave_up, (found.text, c.deref.result.now, found.text_is, (c.in_ok-head.head, found.head_is, stated), c.in_err-write_all.ensures.part)), search rules)
