@@ -7,7 +7,7 @@ ghost use Rattle.crp_words.specs.Endings.{ProgramEnds, UsageEnds};
 
 use crate::piped::Piped;
 use crate::terminal::ErrorTerminal;
-use crp_jobs::SystemFiles;
+use crp_files::SystemFiles;
 use crp_plan::{Counted, Sink, write_text};
 use crp_words::{Mistake, Usage, end_with_usage, run_words};
 use std::alloc::{AllocError, Global};

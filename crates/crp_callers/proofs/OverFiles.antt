@@ -1,6 +1,6 @@
 -- What a job over files says of the bytes of these files, and of a sink that was empty.
-use Rattle.std.proofs.Common.{◌≡◌, ◌≢◌, ◌∙◌, ◌⊎◌, ℕ, List, [], Some, Option, take, subst, inl, inr}
-use Rattle.std.specs.Prelude.{codes}
+use Rattle.std.proofs.Common.{◌≡◌, ◌≢◌, ◌∙◌, ◌⊎◌, ℕ, List, [], Some, Option, Result, Ok, Err, take, subst, inl, inr}
+use Rattle.std.specs.Prelude.{codes, IfOk, IfSome, IsTrue, OnOk}
 use Rattle.std.specs.Io.KnownBytes.{Keeps}
 use Rattle.crp_yard.specs.Reading.{IsTextOf, IsYardListOf}
 use Rattle.crp_report.specs.declared.fault.Output.TheVariants as output
@@ -13,6 +13,7 @@ use Rattle.crp_jobs.specs.declared.job.FileCommand.{FileCommand}
 use Rattle.crp_jobs.specs.declared.job.RunFiles.{RunFiles}
 use Rattle.crp_commands.specs.Headlines.{AreWritten, AreFrontsWritten}
 use Rattle.crp_commands.specs.Performing.{JobSeen, ReportsFile, call_of}
+use Rattle.crp_commands.specs.Solving.{AreTwo, file_of}
 use Rattle.crp_callers.specs.CommandReports.{IsReportOf}
 use Rattle.crp_callers.proofs.Reporting.{command_reported}
 use Rattle.crp_callers.proofs.WrittenTexts.{IsFilled, got}
@@ -58,3 +59,13 @@ reported_so_far names chosen seen lines filled (inr (made, headline, fronts)) =
       subst (λ (o : Option (List ℕ)). IsTextOf o made.list) fronts.over.yard.bytes fronts.is_made.given_list,
       fronts.is_made.listed,
     )
+
+-- what stands under the names that were given for the outputs
+pub files_left : {A E : Type 0} (names : RunFiles) (chosen : RunChosen) (seen : JobSeen) (answer : Result A E) → IsTrue seen.files.known.states
+    → AreTwo seen.files.known names → IfOk answer (λ _. (made : Made) × IsHeadline (handed_of made) × AreWritten names chosen seen made)
+    → OnOk answer ((made : Made) × IsHeadline (handed_of made)
+    × IfSome (file_of names output.Certificates) (λ name. seen.files.left.given name ≡ Some made.certificates)
+    × IfSome (file_of names output.YardAfter) (λ name. seen.files.left.given name ≡ Some made.yard_after))
+files_left names chosen seen (Ok ended) states two (made, headline, written) =
+    (made, headline, written.left states two output.Certificates, written.left states two output.YardAfter)
+files_left names chosen seen (Err f) states two is = tt

@@ -4,7 +4,8 @@ use Rattle.std.proofs.Math.Seq.{take-append_seam, take-nil}
 use Rattle.std.specs.Prelude.{codes, decimal, Option}
 use Rattle.std.specs.Fmt.{digits}
 use Rattle.csv.specs.Reading.{strip_bom}
-use Rattle.crp_jobs.specs.Found.{IsFront, found_in}
+use Rattle.crp_files.specs.Known.{IsFront}
+use Rattle.crp_jobs.specs.Found.{found_in}
 use Rattle.crp_jobs.specs.Placed.{IsOffsetLine, IsOfFront, is_other}
 
 abbrev message : List ℕ

@@ -17,7 +17,8 @@ use Rattle.crp_jobs.specs.declared.job.Job.TheVariants.{OneFile, Audit, Follow, 
 use Rattle.crp_jobs.specs.declared.job.FileCommand.TheVariants as command
 use Rattle.crp_jobs.specs.declared.outcome.ToolFault.{ToolFault}
 use Rattle.crp_jobs.specs.declared.outcome.ToolFault.TheVariants as fault
-use Rattle.crp_jobs.specs.Opened.{KnownFiles}
+use Rattle.crp_files.specs.Known.{KnownFiles}
+use Rattle.crp_jobs.specs.Opened.{AreFilesLeftAlone}
 use Rattle.crp_jobs.specs.Outcomes.{exit_code}
 use Rattle.crp_commands.specs.Check.{IsCheck}
 use Rattle.crp_commands.specs.Performing.{JobSeen, ReportsOverFiles, call_of}
@@ -175,7 +176,7 @@ job_is_linked known one (Follow names settings) (free, (name, size, ordered, twi
 
 -- where the two names lead to one file, the words are refused, and no file is touched
 ends_linked : (seen : JobSeen) (errors : SinkSeen) (status : ℕ) → seen.files.known.are_one (codes "proofs") (codes "yard") ≡ Some true
-    → ProgramEnds linked_words seen errors status → ((status ≡ 2) ⊎ (status ≡ 4)) × (seen.files.after ≡ seen.files.before)
+    → ProgramEnds linked_words seen errors status → ((status ≡ 2) ⊎ (status ≡ 4)) × AreFilesLeftAlone seen.files
 ends_linked seen errors status one (inl (j, asks, apart, ends)) = absurd (apart (job_is_linked seen.files.known one j asks))
 ends_linked seen errors status one (inr (inl (j, asks, linked, (u, names, ends)))) = (refused_with u seen.out errors status (names_are_no_help u names) ends.2, ends.0)
 ends_linked seen errors status one (inr (inr (u, refuses, ends))) =
@@ -183,7 +184,7 @@ ends_linked seen errors status one (inr (inr (u, refuses, ends))) =
 
 pub linked_ends : (words : List Text) (seen : JobSeen) (errors : SinkSeen) (status : ℕ) → words ≡ linked_words
     → seen.files.known.are_one (codes "proofs") (codes "yard") ≡ Some true → ProgramEnds words seen errors status
-    → ((status ≡ 2) ⊎ (status ≡ 4)) × (seen.files.after ≡ seen.files.before)
+    → ((status ≡ 2) ⊎ (status ≡ 4)) × AreFilesLeftAlone seen.files
 linked_ends words seen errors status are one ends = ends_linked seen errors status one (subst (λ (ws : List Text). ProgramEnds ws seen errors status) are ends)
 
 -- ---- each number at its limit

@@ -1,15 +1,17 @@
 //! Callers of jobs over files.
-ghost use Rattle.std.specs.Prelude.{◌≡◌, ◌≢◌, ◌⊎◌, ℕ, List, [], Some, take, codes, IfOk, IfSome};
+ghost use Rattle.std.specs.Prelude.{◌≡◌, ◌≢◌, ◌⊎◌, ℕ, List, [], Some, take, codes, option_map, IfOk, IfSome, IsTrue, OnOk};
 ghost use Rattle.crp_yard.specs.Reading.{IsTextOf, IsYardListOf};
 ghost use Rattle.crp_report.specs.Runs.{Made};
 ghost use Rattle.crp_audit.specs.Headline.{IsHeadline};
 ghost use Rattle.crp_headline.specs.Accepted.{handed_of};
+ghost use Rattle.crp_commands.specs.Solving.{AreTwo};
 ghost use Rattle.crp_callers.specs.CommandReports.{IsReportOf};
 
 use crp_commands::{Terminal, run_job};
-use crp_jobs::{FileCommand, Files, Job, RunFiles, ToolFault};
+use crp_files::Files;
+use crp_jobs::{FileCommand, Job, RunFiles, ToolFault};
 use crp_plan::{Nowhere, Received};
-use crp_report::RunSettings;
+use crp_report::{RunSettings, Status};
 use std::alloc::Global;
 use std::sync::Wait;
 use std::thread::Threads;
@@ -114,4 +116,39 @@ pub fn front_of_run<T: Threads + Wait + Sync, F: Files, S: Terminal + Sync>(
         Ok(_) => None,
         Err(_) => Some(out.bytes),
     }
+}
+
+/// Where files state what is written to them, the file that is named for the certificates holds those of a headline behind a run, and the
+/// file that is named for the yard after the list that comes of the same plans, as far as the two are known to be two files.
+pub fn files_of_run<T: Threads + Wait + Sync, F: Files, S: Terminal + Sync>(
+    threads: &T,
+    alloc: Global,
+    files: &mut F,
+    names: RunFiles<'_>,
+    settings: RunSettings,
+    terminal: &S,
+) -> Result<Status, ToolFault>
+    requires states { IsTrue (F.known files.old).states }
+    requires two { AreTwo (F.known files.old) names }
+    ensures { OnOk result ((made : Made) × IsHeadline (handed_of made)
+        × IfSome (option_map (λ name. name.now) names.entry.cert) (λ name. (F.known files.new).given name ≡ Some made.certificates)
+        × IfSome (option_map (λ name. name.now) names.entry.after) (λ name. (F.known files.new).given name ≡ Some made.yard_after)) }
+{
+    let mut standard_input: &[u8] = b"";
+    let job = Job::Solve {
+        files: names,
+        settings,
+        quiet: true,
+        progress: false,
+    };
+    run_job(
+        threads,
+        alloc,
+        files,
+        &mut standard_input,
+        &mut Nowhere,
+        &job,
+        &mut Nowhere,
+        terminal,
+    )
 }

@@ -2,7 +2,8 @@
 ghost use Rattle.std.specs.Prelude.{◌≡◌, ◌≤◌, ◌⊎◌, ◌++◌, ℕ, List, Some, codes, decimal, IfSome};
 ghost use Rattle.crp_jobs.specs.Placed.{message_named};
 
-use crp_jobs::{Files, FoundLine, Job, ToolFault, found_line};
+use crp_files::Files;
+use crp_jobs::{FoundLine, Job, ToolFault, found_line};
 use crp_report::Fault;
 use edi_text::EdiFault;
 use std::alloc::Global;

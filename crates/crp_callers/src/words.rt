@@ -4,7 +4,8 @@ ghost use Rattle.crp_commands.specs.Check.{IsCheck};
 ghost use Rattle.crp_callers.specs.AskedFor.{HasHeights, IsOfSetting, IsStrongSearch};
 
 use crp_commands::Terminal;
-use crp_jobs::{Files, Job};
+use crp_files::Files;
+use crp_jobs::Job;
 use crp_plan::{Nowhere, Received};
 use crp_words::{Usage, job, run_words};
 use std::alloc::Global;
@@ -77,7 +78,7 @@ pub fn status_of_linked<T: Threads + Wait + Sync, F: Files, S: Terminal + Sync>(
 ) -> u8
     requires { (F.known files.old).are_one (codes "proofs") (codes "yard") ≡ Some true }
     ensures refused { (result ≡ 2) ⊎ (result ≡ 4) }
-    ensures untouched { F.failures files.new ≡ F.failures files.old }
+    ensures untouched { (F.known files.new ≡ F.known files.old) × (F.failures files.new ≡ F.failures files.old) }
 {
     let mut input: &[u8] = b"";
     run_words(

@@ -11,7 +11,7 @@ use Rattle.crp_jobs.specs.declared.outcome.ToolFault.{ToolFault}
 use Rattle.crp_jobs.specs.declared.outcome.ToolFault.TheVariants as fault
 use Rattle.crp_commands.specs.Audit.{AuditSeen, AuditEnds, AuditFails, AuditFailsWith, AuditReportsOverFiles, AuditFailsOverFiles, IsHandedIn, IsInputAccepted, IsNoStatement, IsOverNamed, StopsOn, statement_of}
 use Rattle.crp_jobs.specs.Opened.{FilesSeen}
-use Rattle.crp_commands.proofs.Solved.{more_and_more}
+use Rattle.crp_commands.proofs.Finished.{more_and_more}
 
 -- a statement was not read
 pub unread : (chosen : InputChosen) (s : AuditSeen) (which : Statement) (f : ToolFault) → GetsNothing s.out → IsInputAccepted chosen s

@@ -4,6 +4,7 @@ pub mod Checked
 pub mod Audited
 pub mod Traced
 pub mod Performed
+pub mod Finished
 pub mod Solved
 pub mod FollowedFiles
 pub mod Promised

@@ -1,11 +1,17 @@
 -- A command over what a name stands for, from what a call saw of that source.
-use Rattle.std.proofs.Common.{◌≡◌, ◌≢◌, ℕ, List, Result, Ok, Err, MatchResult, codes, inl, inr, refl}
+use Rattle.std.proofs.Common.{◌≡◌, ◌≢◌, ℕ, List, Bool, Result, Ok, Err, MatchResult, codes, inl, inr, refl, sym, subst}
 use Rattle.crp_report.specs.declared.status.Status.{Status}
 use Rattle.crp_report.specs.Runs.{SourceSeen}
 use Rattle.crp_jobs.specs.declared.job.FileCommand.{FileCommand}
 use Rattle.crp_jobs.specs.declared.outcome.ToolFault.{ToolFault}
-use Rattle.crp_jobs.specs.Opened.{AreFilesLeftAlone}
-use Rattle.crp_commands.specs.Performing.{JobSeen, IsFrom, IsFromFile, call_of, PerformsIn, CommandFailsInCall, ReportsFile, FileFailsWith}
+use Rattle.crp_jobs.specs.declared.outcome.ToolFault.TheVariants as fault
+use Rattle.crp_jobs.specs.declared.job.Job.TheVariants as job
+use Rattle.crp_jobs.specs.declared.job.RunFiles.{RunFiles}
+use Rattle.crp_report.specs.declared.fault.Fault.{Fault}
+use Rattle.crp_report.specs.Chosen.{RunChosen}
+use Rattle.crp_jobs.specs.Opened.{AreFilesLeftAlone, IsSourceLeftAlone}
+use Rattle.crp_commands.specs.Solving.{RunReportsOverFiles, RunFailsOverFiles}
+use Rattle.crp_commands.specs.Performing.{ReportsOverFiles, FailsOverFiles, JobSeen, IsFrom, IsFromFile, call_of, PerformsIn, CommandFailsInCall, ReportsFile, FileFailsWith}
 
 -- how a command ended in a call from this source
 abbrev HasEnded : FileCommand → SourceSeen → JobSeen → Result Status ToolFault → Type 0
@@ -27,3 +33,12 @@ from_input name c seen answer named alone is = from_source name c seen seen.inpu
 pub from_file : (name : List ℕ) (c : FileCommand) (seen : JobSeen) (source : SourceSeen) (answer : Result Status ToolFault) → name ≢ codes "-" →
     IsFromFile name seen source → HasEnded c source seen answer → HasEndedOver name c seen answer
 from_file name c seen source answer named from is = from_source name c seen source answer (inr (named, from)) is
+
+-- a run over files is the job that was asked for
+pub solved_job : (names : RunFiles) (chosen : RunChosen) (quiet progress : Bool) (seen : JobSeen) (answer : Result Status ToolFault) → IsSourceLeftAlone seen.input
+    → MatchResult answer (RunReportsOverFiles names chosen seen.files seen.out)
+    (λ stated. (f : Fault) × (stated ≡ fault.Run f) × RunFailsOverFiles names chosen seen.files seen.out f)
+    → MatchResult answer (ReportsOverFiles (job.Solve names chosen quiet progress) seen) (FailsOverFiles (job.Solve names chosen quiet progress) seen)
+solved_job names chosen quiet progress seen (Ok ended) alone is = (alone, is)
+solved_job names chosen quiet progress seen (Err stated) alone (f, e, fails) =
+    subst (FailsOverFiles (job.Solve names chosen quiet progress) seen) (sym e) (alone, fails)

@@ -1,162 +1,248 @@
 -- How a run over files ends, from how the run over its devices does.
-use Rattle.std.proofs.Common.{◌≡◌, ℕ, ◌+◌, ◌<◌, List, Bool, Option, Some, None, IsSome, Result, Ok, Err, MatchResult, refl, sym, subst, inl, inr, lit<, arith}
-use Rattle.crp_plan.specs.Devices.{CountsMore, CountsOne, HasFailed}
+use Rattle.std.proofs.Common.{◌≡◌, ◌∙◌, ℕ, ◌+◌, ◌<◌, List, Bool, false, Option, Some, None, IsSome, Result, Ok, Err, MatchResult, refl, sym, ap, subst, inl, inr, lit<, arith}
+use Rattle.std.specs.Prelude.{IfSome, IfErr, IsTrue, MatchOption, OnOk, option_map}
+use Rattle.crp_plan.specs.Devices.{CountsMore, HasFailed}
 use Rattle.crp_report.specs.declared.fault.Fault.{Fault}
 use Rattle.crp_report.specs.declared.fault.Fault.TheVariants as run
+use Rattle.crp_report.specs.declared.fault.Output.{Output}
 use Rattle.crp_report.specs.declared.fault.Output.TheVariants as output
 use Rattle.crp_report.specs.declared.status.Status.{Status}
 use Rattle.crp_report.specs.Chosen.{RunChosen}
-use Rattle.crp_report.specs.Runs.{RunSeen, SourceSeen, SinkSeen}
+use Rattle.crp_report.specs.Runs.{RunSeen, SinkSeen, sink_of}
+use Rattle.crp_files.specs.Known.{KnownFiles, IsChangedIn}
 use Rattle.crp_jobs.specs.declared.job.RunFiles.{RunFiles}
-use Rattle.crp_jobs.specs.declared.outcome.ToolFault.{ToolFault}
-use Rattle.crp_jobs.specs.declared.outcome.ToolFault.TheVariants as fault
-use Rattle.crp_jobs.specs.Opened.{KnownFiles, FilesSeen, IsFileOpened, IsNewSink}
-use Rattle.crp_commands.specs.Solving.{RunEnds, RunFails, RunAnswers, AnswersAfter, AnswersOutputs, FailsWhereAsked, IsOfRefused, IsOutputRefused, IsOverAfter, IsOverOutputs, IsOverFiles, IsRefused, RefusesOutput, RunReportsOverFiles, RunFailsOverFiles, no_sink}
+use Rattle.crp_jobs.specs.Opened.{FilesSeen, IsFileOpened, IsWanted, IsLeft, IsOneRefused, IsLeftAlone}
+use Rattle.crp_commands.specs.Solving.{RunEnds, RunFails, Unfinished, unfinished_of, file_of, AreTwo, IsNotWritten, FailsWhereAsked, IsOverFiles, RunReportsOverFiles, RunFailsOverFiles}
+use Rattle.crp_commands.proofs.Finished.{IsWritten, Unless, unfinished_in, wanted, left, same_states, same_links, other_kept, more_and_more}
 
--- ---- counts of failures, which end at the largest u64
+-- ---- the course of a run over files
 
-pub none_more : (n : ℕ) → CountsMore 0 n n
-none_more n = omega arith
+-- what was known of the files: at first; when both inputs were open; when the first output was made; when both were, and the run began; when the first was
+-- finished; and when both were, and to the end
+pub record Times : Type 0 where
+  pub first : KnownFiles
+  pub opened : KnownFiles
+  pub one_made : KnownFiles
+  pub made : KnownFiles
+  pub one_finished : KnownFiles
+  pub finished : KnownFiles
+  pub last : KnownFiles
 
-pub more_from : (n a b c : ℕ) → b ≡ a → CountsMore n b c → CountsMore n a c
-more_from n a b c e more = subst (λ (x : ℕ). CountsMore n x c) e more
+-- how many calls had failed: before the first output was finished; behind it; when both were; when the yard list was closed; and at the end
+pub record Counts : Type 0 where
+  pub first : ℕ
+  pub one_finished : ℕ
+  pub finished : ℕ
+  pub one_closed : ℕ
+  pub last : ℕ
 
-pub more_and_more : (m n a b c : ℕ) → CountsMore m a b → CountsMore n b c → CountsMore (m + n) a c
-more_and_more m n a b c first second = omega arith
+-- the files that it writes have these names, where they are asked for
+pub record CourseOf (names : RunFiles) (cert after : Option (List ℕ)) (k : Times) (n : Counts) (u : Unfinished) (s : RunSeen) : Type 0 where
+  pub yard : IsFileOpened k.first names.yard.now s.yard
+  pub movins : IsFileOpened k.first names.movins.now s.movins
+  pub begun : k.opened ≡ k.first
+  pub certificates_made : IsChangedIn cert k.opened k.one_made
+  pub yard_after_made : IsChangedIn after k.one_made k.made
+  pub certificates : IsWritten cert k.opened k.made k.one_finished n.first n.one_finished u.certificates s.certificates
+  pub yard_after : IsWritten after k.one_made k.one_finished k.finished n.one_finished n.finished u.yard_after s.yard_after
+  pub ended : k.last ≡ k.finished
+  pub yard_closed : CountsMore s.yard.after n.finished n.one_closed
+  pub movins_closed : CountsMore s.movins.after n.one_closed n.last
 
--- ---- from a run over devices
+abbrev pub Course : RunFiles → Times → Counts → Unfinished → RunSeen → Type 0
+Course names k n u s = CourseOf names (file_of names output.Certificates) (file_of names output.YardAfter) k n u s
 
--- how a run over these devices has ended
-abbrev HasEnded : RunChosen → RunSeen → Result Status ToolFault → Type 0
-HasEnded chosen s answer = MatchResult answer (RunEnds chosen s) (λ stated. (f : Fault) × (stated ≡ fault.Run f) × RunFails chosen s f)
+-- the files, as the run saw them
+abbrev pub files_of : Times → Counts → FilesSeen
+files_of k n = record { known = k.first; left = k.last; before = n.first; after = n.last }
 
-answered : (chosen : RunChosen) (Refuses : Fault → Type 0) (Over : RunSeen → Type 0) (s : RunSeen) (answer : Result Status ToolFault) → Over s →
-    HasEnded chosen s answer → RunAnswers chosen Refuses Over answer
-answered chosen Refuses Over s (Ok ended) over ends = (s, over, ends)
-answered chosen Refuses Over s (Err stated) over (f, e, fails) = (f, e, inr (s, over, fails))
+-- of two names nothing else becomes known
+apart_still : (name other : List ℕ) (old new : KnownFiles) → new.are_one ≡ old.are_one → old.are_one name other ≡ Some false → new.are_one name other ≡ Some false
+apart_still name other old new same apart = ap (λ (f : List ℕ → List ℕ → Option Bool). f name other) same ∙ apart
 
--- what is known of the devices of a run in one way is known in another
-known_too : (chosen : RunChosen) (Refuses Refuses' : Fault → Type 0) (Over Over' : RunSeen → Type 0) (answer : Result Status ToolFault) →
-    ((f : Fault) → Refuses f → Refuses' f) → ((s : RunSeen) → Over s → Over' s) → RunAnswers chosen Refuses Over answer → RunAnswers chosen Refuses' Over' answer
-known_too chosen Refuses Refuses' Over Over' (Ok ended) refused over (s, is, ends) = (s, over s is, ends)
-known_too chosen Refuses Refuses' Over Over' (Err stated) refused over (f, e, inl refusal) = (f, e, inl (refused f refusal))
-known_too chosen Refuses Refuses' Over Over' (Err stated) refused over (f, e, inr (s, is, fails)) = (f, e, inr (s, over s is, fails))
+all_apart : (name : Option (List ℕ)) (other : List ℕ) (old new : KnownFiles) → new.are_one ≡ old.are_one → IfSome name (λ n. old.are_one n other ≡ Some false)
+    → IfSome name (λ n. new.are_one n other ≡ Some false)
+all_apart None other old new same apart = tt
+all_apart (Some n) other old new same apart = apart_still n other old new same apart
 
-pub new_no_sink : {A : Type 0} (file : Option A) → IsNewSink file no_sink
-new_no_sink (Some name) = refl
-new_no_sink None = (refl, refl)
+-- which names lead to one file is known as at first
+links_opened : (names : RunFiles) (k : Times) (n : Counts) (u : Unfinished) (s : RunSeen) → Course names k n u s → k.opened.are_one ≡ k.first.are_one
+links_opened names k n u s c = ap (λ (o : KnownFiles). o.are_one) c.begun
 
--- ---- the file of the yard after
+links_one_made : (names : RunFiles) (k : Times) (n : Counts) (u : Unfinished) (s : RunSeen) → Course names k n u s → k.one_made.are_one ≡ k.first.are_one
+links_one_made names k n u s c = same_links _ _ _ c.certificates_made ∙ links_opened names k n u s c
 
--- the devices of a run
-abbrev pub devices : SourceSeen → SourceSeen → SinkSeen → SinkSeen → SinkSeen → RunSeen
-devices yard movins report proofs left = record { yard = yard; movins = movins; report = report; certificates = proofs; yard_after = left }
+links_made : (names : RunFiles) (k : Times) (n : Counts) (u : Unfinished) (s : RunSeen) → Course names k n u s → k.made.are_one ≡ k.first.are_one
+links_made names k n u s c = same_links _ _ _ c.yard_after_made ∙ links_one_made names k n u s c
 
-pub over_after : (chosen : RunChosen) (names : RunFiles) (files : FilesSeen) (yard movins : SourceSeen) (report proofs left : SinkSeen) (answer : Result Status ToolFault) →
-    IsNewSink names.after left → CountsMore left.after files.before files.after → HasEnded chosen (devices yard movins report proofs left) answer →
-    AnswersAfter chosen names files (devices yard movins report proofs) answer
-over_after chosen names files yard movins report proofs left answer new failed ended =
-    answered chosen (RefusesOutput names files (devices yard movins report proofs no_sink)) (IsOverAfter names files (devices yard movins report proofs))
-    (devices yard movins report proofs left) answer (record { left = left; is = refl; new = new; failed = failed }) ended
+links_one_finished : (names : RunFiles) (k : Times) (n : Counts) (u : Unfinished) (s : RunSeen) → Course names k n u s → k.one_finished.are_one ≡ k.first.are_one
+links_one_finished names k n u s c = same_links _ _ _ c.certificates.changed ∙ links_made names k n u s c
 
--- ---- the file of the certificates
+-- the bytes of another file
+others_kept : (names : RunFiles) (k : Times) (n : Counts) (u : Unfinished) (s : RunSeen) → Course names k n u s → (other : List ℕ) → IsNotWritten k.first names other
+    → k.last.given other ≡ k.first.given other
+others_kept names k n u s c other apart =
+    let proofs = apart output.Certificates in
+    let after = apart output.YardAfter in
+    ap (λ (o : KnownFiles). o.given other) c.ended
+    ∙ other_kept _ _ _ other c.yard_after.changed (all_apart _ other k.first k.one_finished (links_one_finished names k n u s c) after)
+    ∙ other_kept _ _ _ other c.certificates.changed (all_apart _ other k.first k.made (links_made names k n u s c) proofs)
+    ∙ other_kept _ _ _ other c.yard_after_made (all_apart _ other k.first k.one_made (links_one_made names k n u s c) after)
+    ∙ other_kept _ _ _ other c.certificates_made (all_apart _ other k.first k.opened (links_opened names k n u s c) proofs)
+    ∙ ap (λ (o : KnownFiles). o.given other) c.begun
 
-pub over_outputs : (chosen : RunChosen) (names : RunFiles) (files middle : FilesSeen) (yard movins : SourceSeen) (report proofs : SinkSeen) (answer : Result Status ToolFault) →
-    middle.known.may_not_create ≡ files.known.may_not_create → middle.before ≡ files.before →
-    IsNewSink names.cert proofs → proofs.before ≡ 0 → CountsMore proofs.after middle.after files.after →
-    AnswersAfter chosen names middle (devices yard movins report proofs) answer → AnswersOutputs chosen names files (devices yard movins report) answer
-over_outputs chosen names files middle yard movins report proofs answer known begun new fresh closed after =
-    known_too chosen (RefusesOutput names middle (devices yard movins report proofs no_sink)) (RefusesOutput names files (devices yard movins report no_sink no_sink))
-    (IsOverAfter names middle (devices yard movins report proofs)) (IsOverOutputs names files (devices yard movins report)) answer
-    (λ f refusal.
-    let none : proofs.after ≡ 0 = omega (arith, refusal.alone.certificates.1, fresh) in
-    let one : CountsOne files.before middle.after = more_from 1 files.before middle.before middle.after begun refusal.one in
-    record {
-      sink = refusal.sink;
-      stated = refusal.stated;
-      refused = subst (λ (may : List ℕ → Bool). IsOutputRefused may names refusal.sink) known refusal.refused;
-      one = more_and_more 1 0 files.before middle.after files.after one (subst (λ (n : ℕ). CountsMore n middle.after files.after) none closed);
-      alone = record { yard = refusal.alone.yard; movins = refusal.alone.movins; report = refusal.alone.report; certificates = (tt, refl) };
-    })
-    (λ s over.
-    let failed : CountsMore (over.left.after + proofs.after) files.before files.after =
-    more_and_more over.left.after proofs.after files.before middle.after files.after (more_from over.left.after files.before middle.before middle.after begun over.failed) closed in
-    let same : over.left.after + proofs.after ≡ proofs.after + over.left.after = omega arith in
-    record {
-      proofs = proofs;
-      left = over.left;
-      is = over.is;
-      new_proofs = new;
-      new_left = over.new;
-      failed = subst (λ (n : ℕ). CountsMore n files.before files.after) same failed;
-    }) after
+-- the file of the certificates is not changed when that of the yard after is finished
+still_stands : (cert after : Option (List ℕ)) (old new : KnownFiles) → IsChangedIn after old new
+    → IfSome after (λ a. IfSome cert (λ c. old.are_one a c ≡ Some false)) → IfSome cert (λ c. new.given c ≡ old.given c)
+still_stands None after old new is two = tt
+still_stands (Some c) None old new is two = other_kept None old new c is tt
+still_stands (Some c) (Some a) old new is two = other_kept (Some a) old new c is two
 
--- ---- the inputs
+two_still : (cert after : Option (List ℕ)) (old new : KnownFiles) → new.are_one ≡ old.are_one → IfSome after (λ a. IfSome cert (λ c. old.are_one a c ≡ Some false))
+    → IfSome after (λ a. IfSome cert (λ c. new.are_one a c ≡ Some false))
+two_still cert None old new same two = tt
+two_still None (Some a) old new same two = tt
+two_still (Some c) (Some a) old new same two = apart_still a c old new same two
+
+given_at_end : (name : Option (List ℕ)) (was now end : KnownFiles) → end ≡ now → IfSome name (λ n. now.given n ≡ was.given n) → IfSome name (λ n. end.given n ≡ was.given n)
+given_at_end None was now end same kept = tt
+given_at_end (Some n) was now end same kept = ap (λ (o : KnownFiles). o.given n) same ∙ kept
+
+given_still : (name : Option (List ℕ)) (was end : KnownFiles) → end ≡ was → IfSome name (λ n. end.given n ≡ was.given n)
+given_still None was end same = tt
+given_still (Some n) was end same = ap (λ (o : KnownFiles). o.given n) same
+
+left_of : (names : RunFiles) (k : Times) (n : Counts) (u : Unfinished) (s : RunSeen) → Course names k n u s → AreTwo k.first names → (each : Output)
+    → IsLeft (files_of k n) (file_of names each) (unfinished_of u each) (sink_of s each)
+left_of names k n u s c two output.Report = tt
+left_of names k n u s c two output.Certificates =
+    let opened = ap (λ (o : KnownFiles). o.states) c.begun in
+    let states = same_states _ _ _ c.yard_after_made ∙ same_states _ _ _ c.certificates_made ∙ opened in
+    let still = two_still (file_of names output.Certificates) (file_of names output.YardAfter) k.first k.one_finished (links_one_finished names k n u s c) two in
+    left (file_of names output.Certificates) (files_of k n) k.opened k.made k.one_finished n.first n.one_finished u.certificates s.certificates states
+    (given_at_end (file_of names output.Certificates) k.one_finished k.finished k.last c.ended
+    (still_stands (file_of names output.Certificates) (file_of names output.YardAfter) k.one_finished k.finished c.yard_after.changed still)) c.certificates
+left_of names k n u s c two output.YardAfter =
+    let opened = ap (λ (o : KnownFiles). o.states) c.begun in
+    let states = same_states _ _ _ c.certificates.changed ∙ same_states _ _ _ c.yard_after_made ∙ same_states _ _ _ c.certificates_made ∙ opened in
+    left (file_of names output.YardAfter) (files_of k n) k.one_made k.one_finished k.finished n.one_finished n.finished u.yard_after s.yard_after states
+    (given_still (file_of names output.YardAfter) k.finished k.last c.ended) c.yard_after
+
+-- what is counted of the files, when all are closed
+closed_all : (x y v w : ℕ) (a b d e g : ℕ) → CountsMore x a b → CountsMore y b d → CountsMore v d e → CountsMore w e g → CountsMore (v + (w + (x + y))) a g
+closed_all x y v w a b d e g first second third fourth =
+    let all = more_and_more (x + y + v) w a e g (more_and_more (x + y) v a d e (more_and_more x y a b d first second) third) fourth in
+    let same : x + y + v + w ≡ v + (w + (x + y)) = omega arith in
+    subst (λ (n : ℕ). CountsMore n a g) same all
+
+over_course : (names : RunFiles) (k : Times) (n : Counts) (u : Unfinished) (s : RunSeen) → Course names k n u s → IsOverFiles (files_of k n) names s.report u s
+over_course names k n u s c =
+    let opened = ap (λ (o : KnownFiles). o.states) c.begun in
+    let made = same_states _ _ _ c.certificates_made ∙ opened in record {
+      yard = c.yard;
+      movins = c.movins;
+      report = refl;
+      certificates = wanted (file_of names output.Certificates) k.first k.opened k.made k.one_finished n.first n.one_finished u.certificates s.certificates opened c.certificates;
+      yard_after = wanted (file_of names output.YardAfter) k.first k.one_made k.one_finished k.finished n.one_finished n.finished u.yard_after s.yard_after made c.yard_after;
+      failed = closed_all _ _ _ _ _ _ _ _ _ c.certificates.count c.yard_after.count c.yard_closed c.movins_closed;
+      left = left_of names k n u s c;
+      others = others_kept names k n u s c;
+    }
+
+over_files : (names : RunFiles) (cert after : Option (List ℕ)) (k : Times) (n : Counts) (u : Unfinished) (s : RunSeen) → file_of names output.Certificates ≡ cert
+    → file_of names output.YardAfter ≡ after → CourseOf names cert after k n u s → IsOverFiles (files_of k n) names s.report u s
+over_files names cert after k n u s is_cert is_after c =
+    over_course names k n u s (subst (λ (a : Option (List ℕ)). CourseOf names a (file_of names output.YardAfter) k n u s) (sym is_cert)
+    (subst (λ (a : Option (List ℕ)). CourseOf names cert a k n u s) (sym is_after) c))
+
+-- ---- how it ended
 
 -- a write has failed only where its file was asked for, since no call fails where it was not
-new_failed : {A : Type 0} (file : Option A) (s : SinkSeen) → IsNewSink file s → HasFailed s.before s.after → IsSome file
-new_failed (Some name) s new failed = refl
-new_failed None s new failed = absurd (let lt : s.before < s.after = failed (rw new.0 (lit< tt)) in omega (arith, lt, new.0, new.1))
+new_failed : (known : KnownFiles) (name : Option (List ℕ)) (unfinished : ℕ) (s : SinkSeen) → IsWanted known name unfinished s → HasFailed s.before s.after → IsSome name
+new_failed known (Some n) unfinished s new failed = refl
+new_failed known None unfinished s new failed = absurd (let lt : s.before < s.after = failed (rw new.0 (lit< tt)) in omega (arith, lt, new.0, new.1))
 
-asked_for : (names : RunFiles) (chosen : RunChosen) (files : FilesSeen) (out : SinkSeen) (s : RunSeen) (f : Fault) →
-    IsOverFiles files names out s → RunFails chosen s f → FailsWhereAsked names f
-asked_for names chosen files out s (run.Write output.Report) over is = tt
-asked_for names chosen files out s (run.Write output.Certificates) over is =
+new_unfinished : (known : KnownFiles) (name : Option (List ℕ)) (unfinished : ℕ) (s : SinkSeen) → IsWanted known name unfinished s → unfinished ≡ 1 → IsSome name
+new_unfinished known (Some n) unfinished s new one = refl
+new_unfinished known None unfinished s new one = let none = new.2 in absurd (omega (arith, none, one))
+
+named_some : {A B : Type 0} (f : A → B) (o : Option A) → IsSome (option_map f o) → IsSome o
+named_some f (Some x) is = refl
+named_some f None is = is
+
+asked_for : (names : RunFiles) (chosen : RunChosen) (files : FilesSeen) (out : SinkSeen) (u : Unfinished) (s : RunSeen) (f : Fault) →
+    IsOverFiles files names out u s → RunFails chosen s f → FailsWhereAsked names f
+asked_for names chosen files out u s (run.Write output.Report) over is = tt
+asked_for names chosen files out u s (run.Write output.Certificates) over is =
     let stated = is.0 in
-    new_failed names.cert s.certificates over.certificates stated.1
-asked_for names chosen files out s (run.Write output.YardAfter) over is =
+    named_some (λ name. name.now) names.cert (new_failed files.known (file_of names output.Certificates) u.certificates s.certificates over.certificates stated.1)
+asked_for names chosen files out u s (run.Write output.YardAfter) over is =
     let stated = is.0 in
-    new_failed names.after s.yard_after over.yard_after stated.1
-asked_for names chosen files out s (run.Read source) over is = tt
-asked_for names chosen files out s (run.Yard f) over is = tt
-asked_for names chosen files out s (run.Interchange f) over is = tt
-asked_for names chosen files out s (run.Message f) over is = tt
-asked_for names chosen files out s run.Memory over is = tt
+    named_some (λ name. name.now) names.after (new_failed files.known (file_of names output.YardAfter) u.yard_after s.yard_after over.yard_after stated.1)
+asked_for names chosen files out u s (run.Read source) over is = tt
+asked_for names chosen files out u s (run.Yard f) over is = tt
+asked_for names chosen files out u s (run.Interchange f) over is = tt
+asked_for names chosen files out u s (run.Message f) over is = tt
+asked_for names chosen files out u s run.Memory over is = tt
 
-reported : (names : RunFiles) (chosen : RunChosen) (files : FilesSeen) (out : SinkSeen) (answer : Result Status ToolFault) →
-    RunAnswers chosen (IsRefused names files out) (IsOverFiles files names out) answer →
-    MatchResult answer (RunReportsOverFiles names chosen files out) (λ stated. (f : Fault) × (stated ≡ fault.Run f) × RunFailsOverFiles names chosen files out f)
-reported names chosen files out (Ok ended) is = is
-reported names chosen files out (Err stated) (f, e, inl refusal) = (f, e, inl refusal)
-reported names chosen files out (Err stated) (f, e, inr (s, over, fails)) = (f, e, inr (s, over, asked_for names chosen files out s f over fails, fails))
+run_failed : (names : RunFiles) (chosen : RunChosen) (files : FilesSeen) (out : SinkSeen) (u : Unfinished) (s : RunSeen) (f : Fault)
+    → IsOverFiles files names out u s → RunFails chosen s f → RunFailsOverFiles names chosen files out f
+run_failed names chosen files out u s f over fails = inr (s, u, over, asked_for names chosen files out u s f over fails, inl fails)
 
--- what is counted of the files, when both inputs are closed
-closed_all : (x y v : ℕ) (a b d e : ℕ) → CountsMore x a b → CountsMore y b d → CountsMore v d e → CountsMore (y + (v + x)) a e
-closed_all x y v a b d e first second third =
-    let all = more_and_more (x + y) v a d e (more_and_more x y a b d first second) third in
-    let same : (x + y) + v ≡ y + (v + x) = omega arith in
-    subst (λ (n : ℕ). CountsMore n a e) same all
+unfinished_failed : (names : RunFiles) (chosen : RunChosen) (files : FilesSeen) (out : SinkSeen) (u : Unfinished) (s : RunSeen) (ended : Status) (sink : Output)
+    → IsOverFiles files names out u s → RunEnds chosen s ended → unfinished_of u sink ≡ 1 → RunFailsOverFiles names chosen files out (run.Write sink)
+unfinished_failed names chosen files out u s ended output.Report over ends one = absurd (let e : 0 ≡ 1 = one in omega (arith, e))
+unfinished_failed names chosen files out u s ended output.Certificates over ends one =
+    let asked = named_some (λ name. name.now) names.cert (new_unfinished files.known (file_of names output.Certificates) u.certificates s.certificates over.certificates one) in
+    inr (s, u, over, asked, inr ((output.Certificates, refl, one), (ended, ends)))
+unfinished_failed names chosen files out u s ended output.YardAfter over ends one =
+    let asked = named_some (λ name. name.now) names.after (new_unfinished files.known (file_of names output.YardAfter) u.yard_after s.yard_after over.yard_after one) in
+    inr (s, u, over, asked, inr ((output.YardAfter, refl, one), (ended, ends)))
 
-pub over_inputs : (chosen : RunChosen) (names : RunFiles) (files middle : FilesSeen) (yard movins : SourceSeen) (report : SinkSeen) (between : ℕ) (answer : Result Status ToolFault) →
-    middle.known ≡ files.known → middle.before ≡ files.before →
-    IsFileOpened files.known names.yard.now yard → IsFileOpened files.known names.movins.now movins →
-    CountsMore yard.after middle.after between → CountsMore movins.after between files.after →
-    AnswersOutputs chosen names middle (devices yard movins report) answer →
-    MatchResult answer (RunReportsOverFiles names chosen files report) (λ stated. (f : Fault) × (stated ≡ fault.Run f) × RunFailsOverFiles names chosen files report f)
-over_inputs chosen names files middle yard movins report between answer known begun open_yard open_movins first second outputs =
-    reported names chosen files report answer
-    (known_too chosen (RefusesOutput names middle (devices yard movins report no_sink no_sink)) (IsRefused names files report)
-    (IsOverOutputs names middle (devices yard movins report)) (IsOverFiles files names report) answer
-    (λ f refusal.
-    let no_yard : yard.after ≡ 0 = omega (arith, refusal.alone.yard, open_yard.new) in
-    let no_movins : movins.after ≡ 0 = omega (arith, refusal.alone.movins, open_movins.new) in
-    let one : CountsOne files.before middle.after = more_from 1 files.before middle.before middle.after begun refusal.one in
-    let none : CountsMore 0 middle.after between = subst (λ (n : ℕ). CountsMore n middle.after between) no_yard first in
-    let none' : CountsMore 0 between files.after = subst (λ (n : ℕ). CountsMore n between files.after) no_movins second in
-    record {
-      stated = subst (IsOfRefused files.known names) (sym refusal.stated) (subst (λ (k : KnownFiles). IsOutputRefused k.may_not_create names refusal.sink) known refusal.refused);
-      one = closed_all 1 0 0 files.before middle.after between files.after one none none';
-      alone = refusal.alone.report;
-    })
-    (λ s over.
-    let failed : CountsMore (yard.after + (movins.after + (over.proofs.after + over.left.after))) files.before files.after =
-    closed_all (over.proofs.after + over.left.after) yard.after movins.after files.before middle.after between files.after
-    (more_from (over.proofs.after + over.left.after) files.before middle.before middle.after begun over.failed) first second in
-    subst (IsOverFiles files names report) (sym over.is) (record {
-      yard = open_yard;
-      movins = open_movins;
-      report = refl;
-      certificates = over.new_proofs;
-      yard_after = over.new_left;
-      failed = failed;
-    })) outputs)
+-- how a run over these devices has ended
+abbrev HasEnded : RunChosen → RunSeen → Result Status Fault → Type 0
+HasEnded chosen s answer = MatchResult answer (RunEnds chosen s) (RunFails chosen s)
+
+-- and over files
+abbrev pub HasEndedOver : RunFiles → RunChosen → FilesSeen → SinkSeen → Result Status Fault → Type 0
+HasEndedOver names chosen files out answer = MatchResult answer (RunReportsOverFiles names chosen files out) (RunFailsOverFiles names chosen files out)
+
+abbrev pub unfinished_by : {A E B D : Type 0} → Result A E → Result B D → Unfinished
+unfinished_by certified left = record { certificates = unfinished_in certified; yard_after = unfinished_in left }
+
+ended_so : {A E B D : Type 0} (names : RunFiles) (chosen : RunChosen) (files : FilesSeen) (s : RunSeen) (answer : Result Status Fault) (certified : Result A E)
+    (left : Result B D) (middle result : Result Status Fault) → IsOverFiles files names s.report (unfinished_by certified left) s → HasEnded chosen s answer
+    → Unless answer certified (run.Write output.Certificates) middle → Unless middle left (run.Write output.YardAfter) result
+    → HasEndedOver names chosen files s.report result
+ended_so names chosen files s (Err f) certified left middle result over is first second =
+    let then = subst (λ (m : Result Status Fault). IfErr m (λ g. result ≡ Err g)) first.failed second.failed in
+    subst (HasEndedOver names chosen files s.report) (sym then) (run_failed names chosen files s.report (unfinished_by certified left) s f over is)
+ended_so names chosen files s (Ok ended) (Err e) left middle result over is first second =
+    let then = subst (λ (m : Result Status Fault). IfErr m (λ g. result ≡ Err g)) first.unfinished second.failed in
+    subst (HasEndedOver names chosen files s.report) (sym then)
+    (unfinished_failed names chosen files s.report (record { certificates = 1; yard_after = unfinished_in left }) s ended output.Certificates over is refl)
+ended_so names chosen files s (Ok ended) (Ok a) (Err d) middle result over is first second =
+    let then = subst (λ (m : Result Status Fault). OnOk m (result ≡ Err (run.Write output.YardAfter))) first.done second.unfinished in
+    subst (HasEndedOver names chosen files s.report) (sym then)
+    (unfinished_failed names chosen files s.report (record { certificates = 0; yard_after = 1 }) s ended output.YardAfter over is refl)
+ended_so names chosen files s (Ok ended) (Ok a) (Ok b) middle result over is first second =
+    let then = subst (λ (m : Result Status Fault). OnOk m (result ≡ m)) first.done second.done in
+    subst (HasEndedOver names chosen files s.report) (sym then) (s, over, is)
+
+pub ended_over : {A E B D : Type 0} (names : RunFiles) (chosen : RunChosen) (cert after : Option (List ℕ)) (k : Times) (n : Counts) (s : RunSeen)
+    (answer : Result Status Fault) (certified : Result A E) (left : Result B D) (middle result : Result Status Fault) → file_of names output.Certificates ≡ cert
+    → file_of names output.YardAfter ≡ after → CourseOf names cert after k n (unfinished_by certified left) s
+    → MatchResult answer (RunEnds chosen s) (RunFails chosen s) → Unless answer certified (run.Write output.Certificates) middle
+    → Unless middle left (run.Write output.YardAfter) result → HasEndedOver names chosen (files_of k n) s.report result
+ended_over names chosen cert after k n s answer certified left middle result is_cert is_after course is first second =
+    ended_so names chosen (files_of k n) s answer certified left middle result
+    (over_files names cert after k n (unfinished_by certified left) s is_cert is_after course) is first second
+
+-- a file of an output was refused
+pub refused_over : (names : RunFiles) (chosen : RunChosen) (files : FilesSeen) (out : SinkSeen) (sink : Output) (name : Option (List ℕ)) → file_of names sink ≡ name
+    → MatchOption name ⊥ (λ n. IsTrue (files.known.may_not_create n)) → IsOneRefused files → IsLeftAlone out → RunFailsOverFiles names chosen files out (run.Write sink)
+refused_over names chosen files out sink name is refused one alone = inl (record {
+  stated = subst (λ (o : Option (List ℕ)). MatchOption o ⊥ (λ n. IsTrue (files.known.may_not_create n))) (sym is) refused;
+  one = one;
+  alone = alone;
+})

@@ -28,7 +28,8 @@ use Rattle.crp_jobs.specs.declared.outcome.ToolFault.{ToolFault}
 use Rattle.crp_jobs.specs.declared.outcome.ToolFault.TheVariants as fault
 use Rattle.crp_commands.specs.Calls.{IsTextWithin, failures_of_tool_fault}
 use Rattle.crp_commands.specs.Check.{verdict_lines}
-use Rattle.crp_jobs.specs.Opened.{KnownFiles, FilesSeen, FilesFail, IsFileOpened, IsOneRefused, IsLeftAlone}
+use Rattle.crp_files.specs.Known.{KnownFiles}
+use Rattle.crp_jobs.specs.Opened.{FilesSeen, FilesFail, AreFilesKept, IsFileOpened, IsOneRefused, IsLeftAlone}
 
 -- what an audit saw of its four sources, and of its sink
 pub record AuditSeen : Type 0 where
@@ -145,7 +146,7 @@ AuditFails chosen s f = AuditFailsWith chosen s f × (audit_failures s ≤ most_
 
 -- ---- over files
 
--- the sources are the files of these names; what failed of the files is what failed of them
+-- the sources are the files of these names; what failed of the files is what failed of them, and none has changed
 pub record IsOverNamed (files : FilesSeen) (names : AuditFiles) (shown : SinkSeen) (s : AuditSeen) : Type 0 where
   pub yard : IsFileOpened files.known names.yard.now s.yard
   pub movins : IsFileOpened files.known names.movins.now s.movins
@@ -153,6 +154,7 @@ pub record IsOverNamed (files : FilesSeen) (names : AuditFiles) (shown : SinkSee
   pub certificates : IsFileOpened files.known names.certificates.now s.certificates
   pub out : s.out ≡ shown
   pub failed : FilesFail files (s.yard.after + (s.movins.after + (s.report.after + s.certificates.after)))
+  pub kept : AreFilesKept files
 
 -- the fault states that a file cannot be opened, as a failed read of it
 abbrev pub IsOfUnopened : KnownFiles → AuditFiles → ToolFault → Type 0

@@ -30,7 +30,8 @@ use Rattle.crp_jobs.specs.declared.outcome.ToolFault.{ToolFault}
 use Rattle.crp_jobs.specs.declared.outcome.ToolFault.TheVariants as fault
 use Rattle.crp_commands.specs.Audit.{IsInputOf, IsNoInput}
 use Rattle.crp_commands.specs.Calls.{failures_of_tool_fault}
-use Rattle.crp_jobs.specs.Opened.{KnownFiles, FilesSeen, FilesFail, IsFileOpened, IsOneRefused, IsSourceLeftAlone, IsLeftAlone}
+use Rattle.crp_files.specs.Known.{KnownFiles, IsChangedIn}
+use Rattle.crp_jobs.specs.Opened.{FilesSeen, FilesFail, IsFileOpened, IsFileMade, IsLeft, IsOneRefused, IsSourceLeftAlone, IsLeftAlone}
 
 -- what a call saw of its sources, the yard list, the message where one is asked for, and the report; and of the sink of its table, and that of its page where
 -- one is asked for
@@ -180,33 +181,45 @@ IsMessageFrom known None None = ⊤
 IsMessageFrom known name source = ⊥
 
 -- the report that is named `-` is the standard input, any other is the file of its name; what failed of the files is what failed of those that were opened,
--- of which so many calls failed of those before the report
-abbrev pub IsReportFrom : List ℕ → FilesSeen → SourceSeen → ℕ → FollowSeen → Type 0
-IsReportFrom name files input before s = ((name ≡ codes "-") × (s.report ≡ input) × FilesFail files (before + sink_failures s.page))
-    ⊎ ((name ≢ codes "-") × IsFileOpened files.known name s.report × IsSourceLeftAlone input × FilesFail files (before + (s.report.after + sink_failures s.page)))
+-- of which so many calls failed of those before the report, and of finishing that of the page
+abbrev pub IsReportFrom : List ℕ → FilesSeen → SourceSeen → ℕ → ℕ → FollowSeen → Type 0
+IsReportFrom name files input before unfinished s =
+    ((name ≡ codes "-") × (s.report ≡ input) × FilesFail files (before + (sink_failures s.page + unfinished)))
+    ⊎ ((name ≢ codes "-") × IsFileOpened files.known name s.report × IsSourceLeftAlone input
+    × FilesFail files (before + (s.report.after + (sink_failures s.page + unfinished))))
 
--- the page goes to a sink that is opened for it exactly where a file is asked for, and none of its calls had failed before
-abbrev pub IsPageTo : {A : Type 0} → Option A → Option SinkSeen → Type 0
-IsPageTo (Some file) (Some sink) = sink.before ≡ 0
-IsPageTo None None = ⊤
-IsPageTo file page = ⊥
+-- a sink is a file that was made for the page exactly where one is asked for
+abbrev pub IsPageMade : KnownFiles → Option (List ℕ) → ℕ → Option SinkSeen → Type 0
+IsPageMade known (Some name) unfinished (Some sink) = IsFileMade known sink
+IsPageMade known None unfinished None = unfinished ≡ 0
+IsPageMade known name unfinished page = ⊥
 
--- the name of the message, if there is one
+-- the page goes to a file that was made for it exactly where one is asked for, and so often that could not be finished; what it got stands there under its
+-- name, where files state what is written to them, and it was finished; and no other file has changed
+pub record IsPageTo (files : FilesSeen) (name : Option (List ℕ)) (unfinished : ℕ) (page : Option SinkSeen) : Type 0 where
+  pub made : IsPageMade files.known name unfinished page
+  pub left : IfSome page (IsLeft files name unfinished)
+  pub changed : IsChangedIn name files.known files.left
+
+-- the name of the message, and of the page, if there is one
 abbrev pub message_name : FollowFiles → Option (List ℕ)
 message_name names = option_map (λ name. name.now) names.movins
 
+abbrev pub page_name : FollowFiles → Option (List ℕ)
+page_name names = option_map (λ name. name.now) names.page
+
 -- the sources are the files of the yard list and of the message, where one is named, and what the name of the report stands for, and the page goes to the
 -- file of its name
-pub record IsOverFollowed (names : FollowFiles) (files : FilesSeen) (input : SourceSeen) (shown : SinkSeen) (s : FollowSeen) : Type 0 where
+pub record IsOverFollowed (names : FollowFiles) (files : FilesSeen) (input : SourceSeen) (shown : SinkSeen) (unfinished : ℕ) (s : FollowSeen) : Type 0 where
   pub yard : IsFileOpened files.known names.yard.now s.yard
   pub movins : IsMessageFrom files.known (message_name names) s.movins
-  pub report : IsReportFrom names.report.now files input (s.yard.after + source_failures s.movins) s
-  pub page : IsPageTo names.page s.page
+  pub report : IsReportFrom names.report.now files input (s.yard.after + source_failures s.movins) unfinished s
+  pub page : IsPageTo files (page_name names) unfinished s.page
   pub out : s.out ≡ shown
 
 -- the file of the page, which is asked for, may be refused to who would write it
 abbrev pub IsPageRefused : (List ℕ → Bool) → FollowFiles → Type 0
-IsPageRefused may_not_create names = MatchOption names.page ⊥ (λ name. IsTrue (may_not_create name.now))
+IsPageRefused may_not_create names = MatchOption (page_name names) ⊥ (λ name. IsTrue (may_not_create name))
 
 -- the file of the message, which is asked for, may be refused to who would read it
 abbrev pub IsMessageRefused : (List ℕ → Bool) → FollowFiles → Type 0
@@ -227,13 +240,17 @@ pub record IsUnfollowed (names : FollowFiles) (files : FilesSeen) (input : Sourc
   pub unread : IsSourceLeftAlone input
   pub alone : IsLeftAlone out
 
+-- it failed so; or it was done, and then the file of the page could not be finished, which is stated as a failed write of it
+abbrev pub FollowStops : InputChosen → ℕ → FollowSeen → ToolFault → Type 0
+FollowStops chosen unfinished s f = FollowFails chosen s f ⊎ ((f ≡ fault.WritePage) × (unfinished ≡ 1) × ((ended : Status) × FollowEnds chosen s ended))
+
 -- how the job ends
 abbrev pub FollowReportsOverFiles : FollowFiles → InputChosen → FilesSeen → SourceSeen → SinkSeen → Status → Type 0
-FollowReportsOverFiles names chosen files input out ended = (s : FollowSeen) × IsOverFollowed names files input out s × FollowEnds chosen s ended
+FollowReportsOverFiles names chosen files input out ended = (s : FollowSeen) × IsOverFollowed names files input out 0 s × FollowEnds chosen s ended
 
 abbrev pub FollowFailsOverFiles : FollowFiles → InputChosen → FilesSeen → SourceSeen → SinkSeen → ToolFault → Type 0
-FollowFailsOverFiles names chosen files input out f =
-    IsUnfollowed names files input out f ⊎ ((s : FollowSeen) × IsOverFollowed names files input out s × FollowFails chosen s f)
+FollowFailsOverFiles names chosen files input out f = IsUnfollowed names files input out f
+    ⊎ ((s : FollowSeen) × (unfinished : ℕ) × IsOverFollowed names files input out unfinished s × FollowStops chosen unfinished s f)
 
 -- ---- a call some of whose devices are open. Only private clauses speak of it
 
@@ -244,9 +261,9 @@ StopsPage text page fault.Memory = IfSome page (λ sink. GetsFront sink text)
 StopsPage text page f = ⊥
 
 -- the answer of a call whose devices are these, or that refuses a file so
-abbrev pub AnswersOver : InputChosen → (FollowSeen → Type 0) → (ToolFault → Type 0) → Result Status ToolFault → Type 0
-AnswersOver chosen Is Refuses answer = MatchResult answer (λ ended. (s : FollowSeen) × Is s × FollowEnds chosen s ended)
-    (λ f. Refuses f ⊎ ((s : FollowSeen) × Is s × FollowFails chosen s f))
+abbrev pub AnswersOver : InputChosen → (ℕ → FollowSeen → Type 0) → (ToolFault → Type 0) → Result Status ToolFault → Type 0
+AnswersOver chosen Is Refuses answer = MatchResult answer (λ ended. (s : FollowSeen) × Is 0 s × FollowEnds chosen s ended)
+    (λ f. Refuses f ⊎ ((s : FollowSeen) × (unfinished : ℕ) × Is unfinished s × FollowStops chosen unfinished s f))
 
 -- the devices that are open before the report is
 pub record Opened : Type 0 where
@@ -264,24 +281,24 @@ pub record RefusesFile (names : FollowFiles) (files : FilesSeen) (devices : Open
   pub out : IsLeftAlone devices.out
 
 -- what a call saw that opens the file of the page, where it is asked for
-pub record IsOverPage (names : FollowFiles) (files : FilesSeen) (devices : Opened) (report : SourceSeen) (s : FollowSeen) : Type 0 where
+pub record IsOverPage (names : FollowFiles) (files : FilesSeen) (devices : Opened) (report : SourceSeen) (unfinished : ℕ) (s : FollowSeen) : Type 0 where
   pub page : Option SinkSeen
   pub is : s ≡ record { yard = devices.yard; movins = devices.movins; report = report; page = page; out = devices.out }
-  pub to : IsPageTo names.page page
-  pub failed : FilesFail files (sink_failures page)
+  pub to : IsPageTo files (page_name names) unfinished page
+  pub failed : FilesFail files (sink_failures page + unfinished)
 
 -- and one that opens the report, where that is a file
-pub record IsOverReport (names : FollowFiles) (files : FilesSeen) (devices : Opened) (input : SourceSeen) (s : FollowSeen) : Type 0 where
+pub record IsOverReport (names : FollowFiles) (files : FilesSeen) (devices : Opened) (input : SourceSeen) (unfinished : ℕ) (s : FollowSeen) : Type 0 where
   pub yard : s.yard ≡ devices.yard
   pub movins : s.movins ≡ devices.movins
-  pub report : IsReportFrom names.report.now files input 0 s
-  pub page : IsPageTo names.page s.page
+  pub report : IsReportFrom names.report.now files input 0 unfinished s
+  pub page : IsPageTo files (page_name names) unfinished s.page
   pub out : s.out ≡ devices.out
 
 -- and one that opens the message, where one is named
-pub record IsOverMessage (names : FollowFiles) (files : FilesSeen) (listed input : SourceSeen) (shown : SinkSeen) (s : FollowSeen) : Type 0 where
+pub record IsOverMessage (names : FollowFiles) (files : FilesSeen) (listed input : SourceSeen) (shown : SinkSeen) (unfinished : ℕ) (s : FollowSeen) : Type 0 where
   pub yard : s.yard ≡ listed
   pub movins : IsMessageFrom files.known (message_name names) s.movins
-  pub report : IsReportFrom names.report.now files input (source_failures s.movins) s
-  pub page : IsPageTo names.page s.page
+  pub report : IsReportFrom names.report.now files input (source_failures s.movins) unfinished s
+  pub page : IsPageTo files (page_name names) unfinished s.page
   pub out : s.out ≡ shown

@@ -10,7 +10,7 @@ use Rattle.crp_jobs.specs.declared.job.Job.TheVariants as job
 use Rattle.crp_jobs.specs.declared.outcome.ToolFault.{ToolFault}
 use Rattle.crp_jobs.specs.declared.outcome.ToolFault.TheVariants as fault
 use Rattle.crp_report.specs.Runs.{SourceSeen, SinkSeen}
-use Rattle.crp_jobs.specs.Opened.{FilesSeen, FilesFail, IsFileOpened, IsOneRefused, AreFilesLeftAlone, IsSourceLeftAlone, IsLeftAlone}
+use Rattle.crp_jobs.specs.Opened.{FilesSeen, FilesFail, IsFileOpened, IsOneRefused, AreFilesKept, AreFilesLeftAlone, IsSourceLeftAlone, IsLeftAlone}
 use Rattle.crp_commands.specs.Solving.{RunReportsOverFiles, RunFailsOverFiles}
 use Rattle.crp_commands.specs.Audit.{AuditReportsOverFiles, AuditFailsOverFiles}
 use Rattle.crp_commands.specs.Follow.{FollowReportsOverFiles, FollowFailsOverFiles}
@@ -67,10 +67,12 @@ pub record IsFromInput (seen : JobSeen) (source : SourceSeen) : Type 0 where
   pub is : source ≡ seen.input
   pub alone : AreFilesLeftAlone seen.files
 
--- the source is the file of this name, opened for the job: what failed of the files is what failed of it, and the standard input was left alone
+-- the source is the file of this name, opened for the job: what failed of the files is what failed of it, none has changed, and the standard input was left
+-- alone
 pub record IsFromFile (name : List ℕ) (seen : JobSeen) (source : SourceSeen) : Type 0 where
   pub opened : IsFileOpened seen.files.known name source
   pub failed : FilesFail seen.files source.after
+  pub kept : AreFilesKept seen.files
   pub alone : IsSourceLeftAlone seen.input
 
 -- the source is what the name stands for: `-` is the standard input, any other name that of a file

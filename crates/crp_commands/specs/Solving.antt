@@ -1,5 +1,5 @@
 -- What `solve` does over its files: what the run over them saw, how it ended, and which file could not be opened.
-use Rattle.std.specs.Prelude.{◌≡◌, ℕ, Bool, ◌+◌, ◌≤◌, ◌⊎◌, List, None, MatchOption, IsSome, IsTrue, Result, MatchResult, ⊤}
+use Rattle.std.specs.Prelude.{◌≡◌, ℕ, Bool, false, ◌+◌, ◌≤◌, ◌⊎◌, List, Option, Some, None, option_map, IfSome, MatchOption, IsSome, IsTrue, ⊤}
 use Rattle.crp_plan.specs.Devices.{most_interruptions}
 use Rattle.crp_report.specs.declared.fault.Fault.{Fault}
 use Rattle.crp_report.specs.declared.fault.Fault.TheVariants as run
@@ -9,11 +9,10 @@ use Rattle.crp_report.specs.declared.fault.Output.{Output}
 use Rattle.crp_report.specs.declared.fault.Output.TheVariants as output
 use Rattle.crp_report.specs.declared.status.Status.{Status}
 use Rattle.crp_report.specs.Chosen.{RunChosen}
-use Rattle.crp_report.specs.Runs.{RunSeen, SinkSeen, WritesTexts, RunFailsWith, run_failures, most_run_failures}
+use Rattle.crp_report.specs.Runs.{RunSeen, SinkSeen, WritesTexts, RunFailsWith, sink_of, run_failures, most_run_failures}
+use Rattle.crp_files.specs.Known.{KnownFiles}
 use Rattle.crp_jobs.specs.declared.job.RunFiles.{RunFiles}
-use Rattle.crp_jobs.specs.declared.outcome.ToolFault.{ToolFault}
-use Rattle.crp_jobs.specs.declared.outcome.ToolFault.TheVariants as fault
-use Rattle.crp_jobs.specs.Opened.{KnownFiles, FilesSeen, FilesFail, IsFileOpened, IsNewSink, IsOneRefused, IsSourceLeftAlone, IsLeftAlone}
+use Rattle.crp_jobs.specs.Opened.{FilesSeen, FilesFail, IsFileOpened, IsWanted, IsLeft, IsOneRefused, IsLeftAlone}
 
 -- a run over these devices ended with the status: its texts were written, and no more calls failed than may be passed over
 abbrev pub RunEnds : RunChosen → RunSeen → Status → Type 0
@@ -23,11 +22,42 @@ RunEnds chosen s ended = WritesTexts chosen s ended × (run_failures s ≤ most_
 abbrev pub RunFails : RunChosen → RunSeen → Fault → Type 0
 RunFails chosen s f = RunFailsWith chosen s f × (run_failures s ≤ most_run_failures f)
 
+-- ---- the files of the outputs
+
+-- the name of the file to which the output goes, where one is asked for; the report goes to none
+abbrev pub file_of : RunFiles → Output → Option (List ℕ)
+file_of names output.Report = None
+file_of names output.Certificates = option_map (λ name. name.now) names.cert
+file_of names output.YardAfter = option_map (λ name. name.now) names.after
+
 -- the output goes somewhere: the report always does, the certificates and the yard after where their files are asked for
 abbrev pub IsAskedFor : RunFiles → Output → Type 0
 IsAskedFor names output.Report = ⊤
 IsAskedFor names output.Certificates = IsSome names.cert
 IsAskedFor names output.YardAfter = IsSome names.after
+
+-- how often the file of each output could not be finished: of those that were, not at all, and else once
+pub record Unfinished : Type 0 where
+  pub certificates : ℕ
+  pub yard_after : ℕ
+
+abbrev pub all_finished : Unfinished
+all_finished = record { certificates = 0; yard_after = 0 }
+
+abbrev pub unfinished_of : Unfinished → Output → ℕ
+unfinished_of u output.Report = 0
+unfinished_of u output.Certificates = u.certificates
+unfinished_of u output.YardAfter = u.yard_after
+
+-- the files that the run writes, where it writes two, are known to be two
+abbrev pub AreTwo : KnownFiles → RunFiles → Type 0
+AreTwo known names = IfSome (file_of names output.YardAfter) (λ after. IfSome (file_of names output.Certificates) (λ cert. known.are_one after cert ≡ Some false))
+
+-- this name is known to lead to none of the files that the run writes
+abbrev pub IsNotWritten : KnownFiles → RunFiles → List ℕ → Type 0
+IsNotWritten known names other = (each : Output) → IfSome (file_of names each) (λ name. known.are_one name other ≡ Some false)
+
+-- ---- faults
 
 -- a failed write is one to an output that is asked for
 abbrev pub FailsWhereAsked : RunFiles → Fault → Type 0
@@ -38,16 +68,22 @@ FailsWhereAsked names (run.Interchange f) = ⊤
 FailsWhereAsked names (run.Message f) = ⊤
 FailsWhereAsked names run.Memory = ⊤
 
+-- the fault states that the file of an output could not be finished, as a failed write to it
+abbrev pub IsUnfinished : Unfinished → Fault → Type 0
+IsUnfinished u f = (sink : Output) × (f ≡ run.Write sink) × (unfinished_of u sink ≡ 1)
+
+-- a run over these devices ended with the fault; or it was done, and then a file that it wrote could not be finished
+abbrev pub RunStops : RunChosen → Unfinished → RunSeen → Fault → Type 0
+RunStops chosen u s f = RunFails chosen s f ⊎ (IsUnfinished u f × ((ended : Status) × RunEnds chosen s ended))
+
 -- the file of the input may be refused to who would read it
 abbrev pub IsInputRefused : (List ℕ → Bool) → RunFiles → Input → Type 0
 IsInputRefused may_not_open names input.Yard = IsTrue (may_not_open names.yard.now)
 IsInputRefused may_not_open names input.Movins = IsTrue (may_not_open names.movins.now)
 
--- the file of the output, which is asked for, may be refused to who would write it; the report goes to no file
+-- the file of the output, which is asked for, may be refused to who would write it
 abbrev pub IsOutputRefused : (List ℕ → Bool) → RunFiles → Output → Type 0
-IsOutputRefused may_not_create names output.Report = ⊥
-IsOutputRefused may_not_create names output.Certificates = MatchOption names.cert ⊥ (λ name. IsTrue (may_not_create name.now))
-IsOutputRefused may_not_create names output.YardAfter = MatchOption names.after ⊥ (λ name. IsTrue (may_not_create name.now))
+IsOutputRefused may_not_create names sink = MatchOption (file_of names sink) ⊥ (λ name. IsTrue (may_not_create name))
 
 -- the fault states that a file cannot be opened: an input as a failed read of it, an output as a failed write to it
 abbrev pub IsOfRefused : KnownFiles → RunFiles → Fault → Type 0
@@ -55,19 +91,24 @@ IsOfRefused known names (run.Read source) = IsInputRefused known.may_not_open na
 IsOfRefused known names (run.Write sink) = IsOutputRefused known.may_not_create names sink
 IsOfRefused known names f = ⊥
 
--- what a run saw that opens its inputs by their names, and the files of the certificates and of the yard after where they are asked for; its report
--- goes to a sink of the caller's. What failed of the files is what failed of these devices
-pub record IsOverFiles (files : FilesSeen) (names : RunFiles) (out : SinkSeen) (s : RunSeen) : Type 0 where
+-- ---- over files
+
+-- what a run saw that opens its inputs by their names, and makes the files of the certificates and of the yard after where they are asked for; its report goes
+-- to a sink of the caller's. What failed of the files is what failed of these devices, and of finishing the two. Where files state what is written to them,
+-- what each of the two sinks holds stands under the name that was given for it, unless it could not be finished; and no other file has changed
+pub record IsOverFiles (files : FilesSeen) (names : RunFiles) (out : SinkSeen) (u : Unfinished) (s : RunSeen) : Type 0 where
   pub yard : IsFileOpened files.known names.yard.now s.yard
   pub movins : IsFileOpened files.known names.movins.now s.movins
   pub report : s.report ≡ out
-  pub certificates : IsNewSink names.cert s.certificates
-  pub yard_after : IsNewSink names.after s.yard_after
-  pub failed : FilesFail files (s.yard.after + (s.movins.after + (s.certificates.after + s.yard_after.after)))
+  pub certificates : IsWanted files.known (file_of names output.Certificates) u.certificates s.certificates
+  pub yard_after : IsWanted files.known (file_of names output.YardAfter) u.yard_after s.yard_after
+  pub failed : FilesFail files (s.yard.after + (s.movins.after + ((s.certificates.after + u.certificates) + (s.yard_after.after + u.yard_after))))
+  pub left : AreTwo files.known names → (each : Output) → IsLeft files (file_of names each) (unfinished_of u each) (sink_of s each)
+  pub others : (other : List ℕ) → IsNotWritten files.known names other → files.left.given other ≡ files.known.given other
 
--- a run over files was done, and this is what it saw of the files and of the sink of its report
+-- a run over files was done, what it wrote to files was finished, and this is what it saw of them and of the sink of its report
 abbrev pub RunReportsOverFiles : RunFiles → RunChosen → FilesSeen → SinkSeen → Status → Type 0
-RunReportsOverFiles names chosen files out ended = (s : RunSeen) × IsOverFiles files names out s × RunEnds chosen s ended
+RunReportsOverFiles names chosen files out ended = (s : RunSeen) × IsOverFiles files names out all_finished s × RunEnds chosen s ended
 
 -- a file could not be opened, which the fault states; nothing else has failed, and the sink of the report was left alone
 pub record IsRefused (names : RunFiles) (files : FilesSeen) (out : SinkSeen) (f : Fault) : Type 0 where
@@ -77,56 +118,5 @@ pub record IsRefused (names : RunFiles) (files : FilesSeen) (out : SinkSeen) (f 
 
 -- what a fault says of a run over files, where this is what it saw of the files and of the sink of its report
 abbrev pub RunFailsOverFiles : RunFiles → RunChosen → FilesSeen → SinkSeen → Fault → Type 0
-RunFailsOverFiles names chosen files out f =
-    IsRefused names files out f ⊎ ((s : RunSeen) × IsOverFiles files names out s × FailsWhereAsked names f × RunFails chosen s f)
-
--- ---- a run some of whose devices are open. Only private clauses speak of it
-
--- how a run ended: for a file that is refused, or over devices of which this is known
-abbrev pub RunAnswers : RunChosen → (Fault → Type 0) → (RunSeen → Type 0) → Result Status ToolFault → Type 0
-RunAnswers chosen Refuses Over answer = MatchResult answer (λ ended. (s : RunSeen) × Over s × RunEnds chosen s ended)
-    (λ stated. (f : Fault) × (stated ≡ fault.Run f) × (Refuses f ⊎ ((s : RunSeen) × Over s × RunFails chosen s f)))
-
--- the devices that are open were left alone
-pub record AreLeftAlone (s : RunSeen) : Type 0 where
-  pub yard : IsSourceLeftAlone s.yard
-  pub movins : IsSourceLeftAlone s.movins
-  pub report : IsLeftAlone s.report
-  pub certificates : IsLeftAlone s.certificates
-
--- the file of an output cannot be opened, and the devices that are open were left alone
-pub record RefusesOutput (names : RunFiles) (files : FilesSeen) (s : RunSeen) (f : Fault) : Type 0 where
-  pub sink : Output
-  pub stated : f ≡ run.Write sink
-  pub refused : IsOutputRefused files.known.may_not_create names sink
-  pub one : IsOneRefused files
-  pub alone : AreLeftAlone s
-
--- the sink of an output for which there is no file
-abbrev pub no_sink : SinkSeen
-no_sink = record { held = None; holds = None; before = 0; after = 0 }
-
--- what a run saw that opens the file of the yard after, where it is asked for
-pub record IsOverAfter (names : RunFiles) (files : FilesSeen) (seen : SinkSeen → RunSeen) (s : RunSeen) : Type 0 where
-  pub left : SinkSeen
-  pub is : s ≡ seen left
-  pub new : IsNewSink names.after left
-  pub failed : FilesFail files left.after
-
--- what one saw that opens the files of both the certificates and the yard after, where they are asked for
-pub record IsOverOutputs (names : RunFiles) (files : FilesSeen) (seen : SinkSeen → SinkSeen → RunSeen) (s : RunSeen) : Type 0 where
-  pub proofs : SinkSeen
-  pub left : SinkSeen
-  pub is : s ≡ seen proofs left
-  pub new_proofs : IsNewSink names.cert proofs
-  pub new_left : IsNewSink names.after left
-  pub failed : FilesFail files (proofs.after + left.after)
-
--- the answer of a run that opens the file of the yard after
-abbrev pub AnswersAfter : RunChosen → RunFiles → FilesSeen → (SinkSeen → RunSeen) → Result Status ToolFault → Type 0
-AnswersAfter chosen names files seen answer = RunAnswers chosen (RefusesOutput names files (seen no_sink)) (IsOverAfter names files seen) answer
-
--- and of one that opens the files of both outputs
-abbrev pub AnswersOutputs : RunChosen → RunFiles → FilesSeen → (SinkSeen → SinkSeen → RunSeen) → Result Status ToolFault → Type 0
-AnswersOutputs chosen names files seen answer =
-    RunAnswers chosen (RefusesOutput names files (seen no_sink no_sink)) (IsOverOutputs names files seen) answer
+RunFailsOverFiles names chosen files out f = IsRefused names files out f
+    ⊎ ((s : RunSeen) × (u : Unfinished) × IsOverFiles files names out u s × FailsWhereAsked names f × RunStops chosen u s f)

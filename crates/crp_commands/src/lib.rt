@@ -10,6 +10,7 @@ mod auditing;
 mod bounding;
 mod chain_line;
 mod checking;
+mod finishing;
 mod following;
 mod heads;
 mod noting;

@@ -5,7 +5,8 @@ ghost use Rattle.crp_jobs.specs.Opened.{FilesSeen};
 ghost use Rattle.crp_commands.specs.Audit.{AuditReportsOverFiles, AuditFailsOverFiles};
 
 use crate::auditing::audit;
-use crp_jobs::{AuditFiles, Files, Statement, ToolFault};
+use crp_files::Files;
+use crp_jobs::{AuditFiles, Statement, ToolFault};
 use crp_plan::Sink;
 use crp_report::{Fault, Input, InputSettings, Status};
 use std::alloc::Global;
@@ -18,7 +19,7 @@ pub fn audit_files<F: Files, W: Sink>(
     settings: &InputSettings,
     out: &mut W,
 ) -> Result<Status, ToolFault>
-    ensures { let all : FilesSeen = record { known = F.known files.old; before = F.failures files.old; after = F.failures files.new }
+    ensures { let all : FilesSeen = record { known = F.known files.old; left = F.known files.new; before = F.failures files.old; after = F.failures files.new }
         in let shown : SinkSeen = record { held = W.contents out.old; holds = W.contents out.new; before = W.failures out.old; after = W.failures out.new }
         in MatchResult result (AuditReportsOverFiles names.now settings.now all shown) (AuditFailsOverFiles names.now settings.now all shown) }
 {

@@ -9,9 +9,10 @@ ghost use Rattle.crp_commands.specs.Headlines.{ForRun, AreWritten, AreFrontsWrit
 
 use crate::over_audit_files::audit_files;
 use crate::over_follow_files::follow_files;
-use crate::over_yard_files::solve;
+use crate::over_yard_files::{RunAsked, Watcher, solve};
 use crate::performing::perform;
-use crp_jobs::{FileCommand, Files, Job, ToolFault};
+use crp_files::Files;
+use crp_jobs::{FileCommand, Job, ToolFault};
 use crp_notes::Terminal;
 use crp_plan::{Sink, Source};
 use crp_report::Status;
@@ -32,7 +33,7 @@ fn perform_on<T: Threads + Wait + Sync, F: Files, R: Source, W: Sink, E: Sink>(
     errors: &mut E,
 ) -> Result<Status, ToolFault>
     ensures done { let seen : JobSeen = record {
-      files = record { known = F.known files.old; before = F.failures files.old; after = F.failures files.new };
+      files = record { known = F.known files.old; left = F.known files.new; before = F.failures files.old; after = F.failures files.new };
       input = record { given = R.remaining input.old; before = R.failures input.old; after = R.failures input.new };
       out = record { held = W.contents out.old; holds = W.contents out.new; before = W.failures out.old; after = W.failures out.new };
     } in MatchResult result (ReportsFile name.now command.now seen) (FileFailsWith name.now command.now seen) }
@@ -61,7 +62,7 @@ fn do_job<T: Threads + Wait + Sync, F: Files, R: Source, W: Sink, E: Sink, S: Te
     terminal: &S,
 ) -> Result<Status, ToolFault>
     ensures done { let seen : JobSeen = record {
-      files = record { known = F.known files.old; before = F.failures files.old; after = F.failures files.new };
+      files = record { known = F.known files.old; left = F.known files.new; before = F.failures files.old; after = F.failures files.new };
       input = record { given = R.remaining input.old; before = R.failures input.old; after = R.failures input.new };
       out = record { held = W.contents out.old; holds = W.contents out.new; before = W.failures out.old; after = W.failures out.new };
     } in MatchResult result (ReportsOverFiles job.now seen) (FailsOverFiles job.now seen) }
@@ -84,9 +85,15 @@ fn do_job<T: Threads + Wait + Sync, F: Files, R: Source, W: Sink, E: Sink, S: Te
             settings,
             quiet,
             progress,
-        } => solve(
-            threads, alloc, files, names, settings, out, *quiet, *progress, terminal, errors,
-        ),
+        } => {
+            let asked = RunAsked { names, settings };
+            let watcher = Watcher {
+                quiet: *quiet,
+                progress: *progress,
+                terminal,
+            };
+            solve(threads, alloc, files, &asked, out, &watcher, errors)
+        }
     }
 }
 
@@ -106,17 +113,17 @@ pub fn run_job<T: Threads + Wait + Sync, F: Files, R: Source, W: Sink, E: Sink, 
     terminal: &S,
 ) -> Result<Status, ToolFault>
     ensures done { let seen : JobSeen = record {
-      files = record { known = F.known files.old; before = F.failures files.old; after = F.failures files.new };
+      files = record { known = F.known files.old; left = F.known files.new; before = F.failures files.old; after = F.failures files.new };
       input = record { given = R.remaining input.old; before = R.failures input.old; after = R.failures input.new };
       out = record { held = W.contents out.old; holds = W.contents out.new; before = W.failures out.old; after = W.failures out.new };
     } in MatchResult result (ReportsOverFiles job.now seen) (FailsOverFiles job.now seen) }
     ensures headline { let seen : JobSeen = record {
-      files = record { known = F.known files.old; before = F.failures files.old; after = F.failures files.new };
+      files = record { known = F.known files.old; left = F.known files.new; before = F.failures files.old; after = F.failures files.new };
       input = record { given = R.remaining input.old; before = R.failures input.old; after = R.failures input.new };
       out = record { held = W.contents out.old; holds = W.contents out.new; before = W.failures out.old; after = W.failures out.new };
     } in IfOk result (λ _. ForRun job.now (λ names chosen. (made : Made) × IsHeadline (handed_of made) × AreWritten names chosen seen made)) }
     ensures headline_so_far { let seen : JobSeen = record {
-      files = record { known = F.known files.old; before = F.failures files.old; after = F.failures files.new };
+      files = record { known = F.known files.old; left = F.known files.new; before = F.failures files.old; after = F.failures files.new };
       input = record { given = R.remaining input.old; before = R.failures input.old; after = R.failures input.new };
       out = record { held = W.contents out.old; holds = W.contents out.new; before = W.failures out.old; after = W.failures out.new };
     } in IfErr result (λ _. ForRun job.now (λ names chosen. GetsNothing seen.out ⊎ ((made : Made) × IsHeadline (handed_of made) × AreFrontsWritten names chosen seen made))) }

@@ -1,17 +1,20 @@
 //! The command `follow` over its files.
-ghost use Rattle.std.specs.Prelude.{None, MatchResult};
+ghost use Rattle.std.specs.Prelude.{◌≡◌, None, MatchResult, option_map};
 ghost use Rattle.crp_report.specs.Runs.{SourceSeen, SinkSeen};
 ghost use Rattle.crp_jobs.specs.Opened.{FilesSeen};
 ghost use Rattle.crp_commands.specs.Follow.{AnswersOver, FollowReportsOverFiles, FollowFailsOverFiles, IsOverMessage, IsOverPage, IsOverReport, Opened, RefusesFile, if_asked};
 
+use crate::finishing::unless_unfinished;
 use crate::following::{FollowSettings, follow};
-use crp_jobs::{Files, FollowFiles, Statement, ToolFault};
-use crp_plan::{Nowhere, Sink, Source};
+use crp_files::{Files, Named, Wanted};
+use crp_jobs::{FollowFiles, Statement, ToolFault};
+use crp_plan::{Sink, Source};
 use crp_report::{Fault, Input, InputSettings, Status};
 use std::alloc::Global;
+use std::marker::Brand;
 
 // Makes the file of the page, if it is wanted, and follows the moves of the report.
-fn follow_to<F: Files, Y: Source, M: Source, R: Source, W: Sink>(
+fn follow_to<F: Files, Y: Source, M: Source, R: Source, W: Sink, P: Named>(
     alloc: Global,
     files: &mut F,
     names: &FollowFiles<'_>,
@@ -22,37 +25,26 @@ fn follow_to<F: Files, Y: Source, M: Source, R: Source, W: Sink>(
     settings: &InputSettings,
     out: &mut W,
 ) -> Result<Status, ToolFault>
+    requires { option_map (λ name. name.now) names.now.page ≡ P.name }
     ensures { let devices : Opened = record {
       yard = record { given = Y.remaining yard.old; before = Y.failures yard.old; after = Y.failures yard.new };
       movins = if_asked ship (record { given = M.remaining movins.old; before = M.failures movins.old; after = M.failures movins.new });
       out = record { held = W.contents out.old; holds = W.contents out.new; before = W.failures out.old; after = W.failures out.new };
     } in let from : SourceSeen = record { given = R.remaining report.old; before = R.failures report.old; after = R.failures report.new }
-        in let all : FilesSeen = record { known = F.known files.old; before = F.failures files.old; after = F.failures files.new }
+        in let all : FilesSeen = record { known = F.known files.old; left = F.known files.new; before = F.failures files.old; after = F.failures files.new }
         in AnswersOver settings.now (IsOverPage names.now all devices from) (RefusesFile names.now all devices from) result }
 {
-    match names.page {
-        Some(name) => {
-            let Ok(mut page) = files.create(name) else {
-                return Err(ToolFault::WritePage);
-            };
-            let asked = FollowSettings {
-                input: settings,
-                ship,
-                page: true,
-            };
-            let answer = follow(alloc, yard, movins, report, &asked, &mut page, out);
-            files.finish(page);
-            answer
-        }
-        None => {
-            let asked = FollowSettings {
-                input: settings,
-                ship,
-                page: false,
-            };
-            follow(alloc, yard, movins, report, &asked, &mut Nowhere, out)
-        }
-    }
+    let Ok(mut page) = Wanted::<F, P>::create(files, names.page) else {
+        return Err(ToolFault::WritePage);
+    };
+    let asked = FollowSettings {
+        input: settings,
+        ship,
+        page: names.page.is_some(),
+    };
+    let answer = follow(alloc, yard, movins, report, &asked, &mut page, out);
+    let finished = page.finish(files, names.page);
+    unless_unfinished(answer, finished, ToolFault::WritePage)
 }
 
 // Opens the report, unless it is the standard input, and then the file of the page.
@@ -72,18 +64,18 @@ fn follow_report<F: Files, Y: Source, M: Source, R: Source, W: Sink>(
       movins = if_asked ship (record { given = M.remaining movins.old; before = M.failures movins.old; after = M.failures movins.new });
       out = record { held = W.contents out.old; holds = W.contents out.new; before = W.failures out.old; after = W.failures out.new };
     } in let given : SourceSeen = record { given = R.remaining input.old; before = R.failures input.old; after = R.failures input.new }
-        in let all : FilesSeen = record { known = F.known files.old; before = F.failures files.old; after = F.failures files.new }
+        in let all : FilesSeen = record { known = F.known files.old; left = F.known files.new; before = F.failures files.old; after = F.failures files.new }
         in AnswersOver settings.now (IsOverReport names.now all devices given) (RefusesFile names.now all devices given) result }
 {
     if names.report == "-" {
-        return follow_to(
+        return follow_to::<F, Y, M, R, W, Brand>(
             alloc, files, names, ship, yard, movins, input, settings, out,
         );
     }
     let Ok(mut report) = files.open(names.report) else {
         return Err(ToolFault::ReadOf(Statement::Report));
     };
-    let answer = follow_to(
+    let answer = follow_to::<F, Y, M, F::Input, W, Brand>(
         alloc,
         files,
         names,
@@ -111,7 +103,7 @@ fn follow_message<F: Files, Y: Source, R: Source, W: Sink>(
     ensures { let listed : SourceSeen = record { given = Y.remaining yard.old; before = Y.failures yard.old; after = Y.failures yard.new }
         in let given : SourceSeen = record { given = R.remaining input.old; before = R.failures input.old; after = R.failures input.new }
         in let shown : SinkSeen = record { held = W.contents out.old; holds = W.contents out.new; before = W.failures out.old; after = W.failures out.new }
-        in let all : FilesSeen = record { known = F.known files.old; before = F.failures files.old; after = F.failures files.new }
+        in let all : FilesSeen = record { known = F.known files.old; left = F.known files.new; before = F.failures files.old; after = F.failures files.new }
         in AnswersOver settings.now (IsOverMessage names.now all listed given shown)
         (RefusesFile names.now all (record { yard = listed; movins = None; out = shown }) given) result }
 {
@@ -161,7 +153,7 @@ pub fn follow_files<F: Files, R: Source, W: Sink>(
     settings: &InputSettings,
     out: &mut W,
 ) -> Result<Status, ToolFault>
-    ensures { let all : FilesSeen = record { known = F.known files.old; before = F.failures files.old; after = F.failures files.new }
+    ensures { let all : FilesSeen = record { known = F.known files.old; left = F.known files.new; before = F.failures files.old; after = F.failures files.new }
         in let given : SourceSeen = record { given = R.remaining input.old; before = R.failures input.old; after = R.failures input.new }
         in let shown : SinkSeen = record { held = W.contents out.old; holds = W.contents out.new; before = W.failures out.old; after = W.failures out.new }
         in MatchResult result (FollowReportsOverFiles names.now settings.now all given shown) (FollowFailsOverFiles names.now settings.now all given shown) }

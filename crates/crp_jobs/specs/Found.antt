@@ -30,8 +30,3 @@ found_in front =
     if begins (codes "block") front then Some found.YardList else
     if begins (codes "Block") front then Some found.YardList else
     if begins (codes "BLOCK") front then Some found.YardList else None
-
--- what is known of a file begins with these bytes
-abbrev pub IsFront : Option (List ℕ) → List ℕ → Type 0
-IsFront None front = Unit {0}
-IsFront (Some bytes) front = (rest : List ℕ) × (bytes ≡ front ++ rest)

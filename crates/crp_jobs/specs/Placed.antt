@@ -20,8 +20,8 @@ use Rattle.crp_jobs.specs.declared.job.Job.TheVariants as job
 use Rattle.crp_jobs.specs.declared.outcome.ToolFault.{ToolFault}
 use Rattle.crp_jobs.specs.declared.outcome.ToolFault.TheVariants as fault
 use Rattle.crp_jobs.specs.declared.plain.TheConstants.{MOST_FOUND}
-use Rattle.crp_jobs.specs.Found.{IsFront, found_in, plain}
-use Rattle.crp_jobs.specs.Opened.{KnownFiles}
+use Rattle.crp_files.specs.Known.{KnownFiles, IsFront}
+use Rattle.crp_jobs.specs.Found.{found_in, plain}
 
 -- ---- what a fault names
 

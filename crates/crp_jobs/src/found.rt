@@ -5,11 +5,11 @@ ghost use Rattle.crp_jobs.specs.Placed.{IsPlacedLine, is_other};
 
 use crate::job::Job;
 use crate::named::{message_named, offset_named, record_named, segment_named, yard_named};
-use crate::opening::Files;
 use crate::outcome::ToolFault;
 use crate::placed::{is_line_end, line_front, line_on_offset, line_on_record, line_on_segment};
 use crate::plain::{FoundLine, MOST_FOUND, push_plain};
 use arrayvec::ArrayVec;
+use crp_files::Files;
 use crp_places::without_mark;
 use crp_report::Fault;
 use crp_yard::{MAX_BYTES, YardFault};

@@ -1,6 +1,6 @@
 //! What a job of the program is: what it is asked for, over which files, how it fails, and how that is explained.
 //!
-//! `Files` opens files and counts their failures, `ToolFault` says why a job did not do what it was asked for, and `exit_of` gives the
+//! `ToolFault` says why a job did not do what it was asked for, and `exit_of` gives the
 //! exit status. `advice_on` and `found_line` are the lines for the user, and `place_of` is the file or stream that failed.
 #![tactic(auto)]
 
@@ -11,7 +11,6 @@ mod follow_advice;
 mod found;
 mod job;
 mod named;
-mod opening;
 mod outcome;
 mod placed;
 mod plain;
@@ -21,6 +20,5 @@ pub use advice::advice_on;
 pub use failed::{Place, place_of};
 pub use found::{Found, found_in, found_line};
 pub use job::{AuditFiles, FileCommand, FollowFiles, Job, RunFiles};
-pub use opening::{Files, NotOpened, SystemFiles};
 pub use outcome::{Statement, ToolFault, exit_of};
 pub use plain::{FoundLine, MOST_FOUND};

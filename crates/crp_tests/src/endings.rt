@@ -2,7 +2,7 @@
 use crate::compare::assert_same;
 use crate::devices::Small;
 use crp_commands::NoTerminal;
-use crp_jobs::SystemFiles;
+use crp_files::SystemFiles;
 use crp_plan::Received;
 use crp_words::run_words;
 

@@ -2,7 +2,8 @@
 use crate::compare::{assert_at, assert_same};
 use crate::six::HEADER;
 use crp_commands::{NoTerminal, run_job};
-use crp_jobs::{SystemFiles, ToolFault};
+use crp_files::SystemFiles;
+use crp_jobs::ToolFault;
 use crp_plan::{Counted, Nowhere, Received};
 use crp_report::Status;
 use crp_words::job;

@@ -2,7 +2,7 @@
 use crate::audits::{REPORT, audit_of};
 use crate::blocks::{Block, Mark, blocks_of};
 use crp_commands::NoTerminal;
-use crp_jobs::SystemFiles;
+use crp_files::SystemFiles;
 use crp_plan::{Counted, Received, write_all};
 use crp_words::run_words;
 use std::os::unix::fs::symlink;

@@ -4,7 +4,7 @@ use Rattle.crp_jobs.specs.declared.job.Job.{Job}
 use Rattle.crp_jobs.specs.declared.job.Job.TheVariants as job
 use Rattle.crp_jobs.specs.declared.job.FollowFiles.{FollowFiles}
 use Rattle.crp_jobs.specs.declared.job.RunFiles.{RunFiles}
-use Rattle.crp_jobs.specs.Opened.{KnownFiles}
+use Rattle.crp_files.specs.Known.{KnownFiles}
 
 -- both names are given, and are known to lead to one file
 pub record AreOne (known : KnownFiles) (name other : Option (List ℕ)) : Type 0 where

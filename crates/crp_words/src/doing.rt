@@ -10,7 +10,8 @@ use crate::given::same_file;
 use crate::links::linked;
 use crate::words::job;
 use crp_commands::{Terminal, run_job};
-use crp_jobs::{Files, Job, ToolFault, exit_of, found_line, place_of};
+use crp_files::Files;
+use crp_jobs::{Job, ToolFault, exit_of, found_line, place_of};
 use crp_plan::{Sink, Source};
 use crp_report::Status;
 use std::alloc::Global;
@@ -73,7 +74,7 @@ fn end_with_job<
     terminal: &S,
 ) -> u8
     ensures { let seen : JobSeen = record {
-      files = record { known = F.known files.old; before = F.failures files.old; after = F.failures files.new };
+      files = record { known = F.known files.old; left = F.known files.new; before = F.failures files.old; after = F.failures files.new };
       input = record { given = R.remaining input.old; before = R.failures input.old; after = R.failures input.new };
       out = record { held = W.contents out.old; holds = W.contents out.new; before = W.failures out.old; after = W.failures out.new };
     } in let errors_seen : SinkSeen = record { held = E.contents errors.old; holds = E.contents errors.new; before = E.failures errors.old; after = E.failures errors.new }
@@ -105,7 +106,7 @@ pub fn run_words<
     terminal: &S,
 ) -> u8
     ensures { let seen : JobSeen = record {
-      files = record { known = F.known files.old; before = F.failures files.old; after = F.failures files.new };
+      files = record { known = F.known files.old; left = F.known files.new; before = F.failures files.old; after = F.failures files.new };
       input = record { given = R.remaining input.old; before = R.failures input.old; after = R.failures input.new };
       out = record { held = W.contents out.old; holds = W.contents out.new; before = W.failures out.old; after = W.failures out.new };
     } in let errors_seen : SinkSeen = record { held = E.contents errors.old; holds = E.contents errors.new; before = E.failures errors.old; after = E.failures errors.new }

@@ -2,7 +2,8 @@
 ghost use Rattle.std.specs.Prelude.{IfNone, IfSome, option_map};
 ghost use Rattle.crp_words.specs.Links.{AreOne, IsLinked, MayBeLinked, MayBeOne, OfPage, OfSomeWritten};
 
-use crp_jobs::{Files, FollowFiles, Job, RunFiles};
+use crp_files::Files;
+use crp_jobs::{FollowFiles, Job, RunFiles};
 
 // The two names, where both are given and lead to one file.
 fn one_file<'a, F: Files>(

@@ -1,8 +1,8 @@
 use Rattle.std.proofs.Common.{◌∙◌, ap, refl}
 use Rattle.crp_commands.specs.Audit.{AuditSeen}
-use Rattle.crp_jobs.specs.Opened.{KnownFiles}
+use Rattle.crp_files.specs.Known.{KnownFiles}
 use Rattle.crp_commands.proofs.Audited.{closed_four, over_files}
-use Rattle.crp_commands.proofs.Solved.{more_from}
+use Rattle.crp_commands.proofs.Finished.{more_from}
 use Rattle.crp_commands.proofs.over_audit_files.audit_files.Goals as goal
 
 pub returns : goal.returns
@@ -49,6 +49,7 @@ returns g c =
       };
       out = refl;
       failed = closed_four _ _ _ _ _ _ _ _ _
-          (more_from _ _ _ _ (c.in-Ok-open-3.ensures.count ∙ c.in-Ok-open-2.ensures.count ∙ c.in-Ok-open.ensures.count ∙ c.in-Ok.ensures.count) c.close.ensures)
-          c.close-2.ensures c.close-3.ensures c.close-4.ensures;
+          (more_from _ _ _ _ (c.in-Ok-open-3.ensures.count ∙ c.in-Ok-open-2.ensures.count ∙ c.in-Ok-open.ensures.count ∙ c.in-Ok.ensures.count) c.close.ensures.count)
+          c.close-2.ensures.count c.close-3.ensures.count c.close-4.ensures.count;
+      kept = c.close-4.ensures.kept ∙ c.close-3.ensures.kept ∙ c.close-2.ensures.kept ∙ c.close.ensures.kept ∙ c.open-4.ensures.kept ∙ fourth;
     }) c.audit-answer.ensures

@@ -1,4 +1,6 @@
 use Rattle.std.proofs.Common.{refl}
+use Rattle.crp_commands.specs.Performing.{JobSeen}
+use Rattle.crp_commands.proofs.Performed.{solved_job}
 use Rattle.crp_commands.proofs.Replayed.{keeps_same}
 use Rattle.crp_commands.proofs.over_files.do_job.Goals as goal
 
@@ -7,3 +9,26 @@ returns-in-Follow-clause-done g c = rw c.in-Follow.is c.follow_files.ensures
 
 pub returns-in-Follow-clause-noted : goal.returns-in-Follow-clause-noted
 returns-in-Follow-clause-noted g c = rw c.in-Follow.is (keeps_same _, refl)
+
+pub returns-in-Solve-clause-done : goal.returns-in-Solve-clause-done
+returns-in-Solve-clause-done g c =
+    let seen : JobSeen = record {
+      files = record {
+        known = g.F.Files.known c.args.files.now;
+        left = g.F.Files.known c.solve.new.files;
+        before = g.F.Files.failures c.args.files.now;
+        after = g.F.Files.failures c.solve.new.files;
+      };
+      input = record {
+        given = g.R.Source.remaining c.args.input.now;
+        before = g.R.Source.failures c.args.input.now;
+        after = g.R.Source.failures c.args.input.now;
+      };
+      out = record {
+        held = g.W.Sink.contents c.args.out.now;
+        holds = g.W.Sink.contents c.solve.new.out;
+        before = g.W.Sink.failures c.args.out.now;
+        after = g.W.Sink.failures c.solve.new.out;
+      };
+    } in
+    rw c.in-Solve.is (solved_job _ _ c.in-Solve.quiet c.in-Solve.progress seen c.solve.result refl c.solve.ensures.ended)

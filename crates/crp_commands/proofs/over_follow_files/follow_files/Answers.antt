@@ -9,5 +9,5 @@ returns g c =
       before = g.F.Input.Source.failures c.in-Ok.yard;
       after = g.F.Input.Source.failures c.follow_message-answer.new.yard;
     } in
-    over_yard c.args.settings.now c.args.names.now _ _ yard _ _ c.follow_message-answer.result c.open.ensures.kept c.in-Ok.ensures.count
-    (record { bytes = c.in-Ok.ensures.bytes; new = c.in-Ok.ensures.new }) c.close.ensures c.follow_message-answer.ensures
+    over_yard c.args.settings.now c.args.names.now _ _ yard _ _ c.follow_message-answer.result c.open.ensures.kept c.close.ensures.kept c.in-Ok.ensures.count
+    (record { bytes = c.in-Ok.ensures.bytes; new = c.in-Ok.ensures.new }) c.close.ensures.count c.follow_message-answer.ensures

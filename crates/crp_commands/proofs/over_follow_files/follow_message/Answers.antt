@@ -11,7 +11,7 @@ returns-in-Ok g c =
       after = g.F.Input.Source.failures c.follow_report-answer.new.movins;
     } in
     over_message c.args.settings.now c.args.names.now _ _ _ _ message _ _ c.follow_report-answer.result (ap (option_map (λ name. name.now)) c.in-Some.is)
-    c.open.ensures.kept c.in-Ok.ensures.count (record { bytes = c.in-Ok.ensures.bytes; new = c.in-Ok.ensures.new }) c.close.ensures
+    c.open.ensures.kept c.close.ensures.kept c.in-Ok.ensures.count (record { bytes = c.in-Ok.ensures.bytes; new = c.in-Ok.ensures.new }) c.close.ensures.count
     c.follow_report-answer.ensures
 
 pub returns-in-None : goal.returns-in-None

@@ -16,5 +16,5 @@ returns g c =
       before = g.F.Input.Source.failures c.in-Ok.report;
       after = g.F.Input.Source.failures c.follow_to-answer.new.report;
     } in
-    over_report c.args.settings.now c.args.names.now _ _ _ report _ c.follow_to-answer.result named c.open.ensures.kept c.in-Ok.ensures.count
-    (record { bytes = c.in-Ok.ensures.bytes; new = c.in-Ok.ensures.new }) refl c.close.ensures c.follow_to-answer.ensures
+    over_report c.args.settings.now c.args.names.now _ _ _ report _ c.follow_to-answer.result named c.open.ensures.kept c.close.ensures.kept c.in-Ok.ensures.count
+    (record { bytes = c.in-Ok.ensures.bytes; new = c.in-Ok.ensures.new }) refl c.close.ensures.count c.follow_to-answer.ensures

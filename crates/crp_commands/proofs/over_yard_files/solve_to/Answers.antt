@@ -1,0 +1,88 @@
+use Rattle.std.proofs.Common.{◌∙◌, ap}
+use Rattle.crp_report.specs.Runs.{RunSeen}
+use Rattle.crp_files.specs.Known.{KnownFiles}
+use Rattle.crp_commands.proofs.Finished.{written, written_from}
+use Rattle.crp_commands.proofs.Solved.{Times, Counts, ended_over}
+use Rattle.crp_commands.proofs.over_yard_files.solve_to.Goals as goal
+
+pub returns-clause-ended : goal.returns-clause-ended
+returns-clause-ended g c =
+    let names = c.args.asked.now.names.now in
+    let seen : RunSeen = record {
+      yard = record {
+        given = g.F.Input.Source.remaining c.in-Ok.yard;
+        before = g.F.Input.Source.failures c.in-Ok.yard;
+        after = g.F.Input.Source.failures c.run_watched-answer.new.yard;
+      };
+      movins = record {
+        given = g.F.Input.Source.remaining c.in-Ok-open.movins;
+        before = g.F.Input.Source.failures c.in-Ok-open.movins;
+        after = g.F.Input.Source.failures c.run_watched-answer.new.movins;
+      };
+      report = record {
+        held = g.W.Sink.contents c.args.out.now;
+        holds = g.W.Sink.contents c.run_watched-answer.new.out;
+        before = g.W.Sink.failures c.args.out.now;
+        after = g.W.Sink.failures c.run_watched-answer.new.out;
+      };
+      certificates = record {
+        held = c.in-Ok-create.certificates.contents;
+        holds = c.run_watched-answer.new.cert_out.contents;
+        before = c.in-Ok-create.certificates.failures;
+        after = c.run_watched-answer.new.cert_out.failures;
+      };
+      yard_after = record {
+        held = c.in-Ok-create-2.yard_after.contents;
+        holds = c.run_watched-answer.new.after_out.contents;
+        before = c.in-Ok-create-2.yard_after.failures;
+        after = c.run_watched-answer.new.after_out.failures;
+      };
+    } in
+    let times : Times = record {
+      first = g.F.Files.known c.args.files.now;
+      opened = g.F.Files.known c.open-2.new.self;
+      one_made = g.F.Files.known c.create.new.files;
+      made = g.F.Files.known c.create-2.new.files;
+      one_finished = g.F.Files.known c.finish-certified.new.files;
+      finished = g.F.Files.known c.finish-left.new.files;
+      last = g.F.Files.known c.close-2.new.self;
+    } in
+    let counts : Counts = record {
+      first = g.F.Files.failures c.args.files.now;
+      one_finished = g.F.Files.failures c.finish-certified.new.files;
+      finished = g.F.Files.failures c.finish-left.new.files;
+      one_closed = g.F.Files.failures c.close.new.self;
+      last = g.F.Files.failures c.close-2.new.self;
+    } in
+    let same = c.in-Ok-create-2.ensures.count ∙ c.in-Ok-create.ensures.count ∙ c.in-Ok-open.ensures.count ∙ c.in-Ok.ensures.count in
+    ended_over names c.args.asked.now.settings.now g.C.Named.name g.A.Named.name times counts seen c.run_watched-answer.result c.finish-certified.result c.finish-left.result
+    c.unless_unfinished-answer.result c.unless_unfinished.result c.requires.certificates c.requires.yard_after
+    (record {
+      yard = record { bytes = c.in-Ok.ensures.bytes; new = c.in-Ok.ensures.new };
+      movins = record {
+        bytes = c.in-Ok-open.ensures.bytes ∙ ap (λ (k : KnownFiles). k.given names.movins.now) c.in-Ok.ensures.kept;
+        new = c.in-Ok-open.ensures.new;
+      };
+      begun = c.in-Ok-open.ensures.kept ∙ c.in-Ok.ensures.kept;
+      certificates_made = c.in-Ok-create.ensures.changed;
+      yard_after_made = c.in-Ok-create-2.ensures.changed;
+      certificates = written_from g.C.Named.name times.opened times.made times.one_finished _ _ _ _ seen.certificates same (written g.C.Named.name times.opened times.made times.one_finished (g.F.Files.failures c.create-2.new.files) counts.one_finished c.finish-certified.result seen.certificates
+          c.in-Ok-create.ensures.new c.in-Ok-create.ensures.empty c.finish-certified.ensures.changed c.finish-certified.ensures.left c.finish-certified.ensures.unwanted
+          c.finish-certified.ensures.count);
+      yard_after = written g.A.Named.name times.one_made times.one_finished times.finished counts.one_finished counts.finished c.finish-left.result seen.yard_after
+          c.in-Ok-create-2.ensures.new c.in-Ok-create-2.ensures.empty c.finish-left.ensures.changed c.finish-left.ensures.left c.finish-left.ensures.unwanted
+          c.finish-left.ensures.count;
+      ended = c.close-2.ensures.kept ∙ c.close.ensures.kept;
+      yard_closed = c.close.ensures.count;
+      movins_closed = c.close-2.ensures.count;
+    }) c.run_watched-answer.ensures.written
+    (record {
+      failed = c.unless_unfinished-answer.ensures.failed;
+      done = c.unless_unfinished-answer.ensures.done;
+      unfinished = c.unless_unfinished-answer.ensures.unfinished;
+    })
+    (record {
+      failed = c.unless_unfinished.ensures.failed;
+      done = c.unless_unfinished.ensures.done;
+      unfinished = c.unless_unfinished.ensures.unfinished;
+    })
