@@ -7,7 +7,9 @@ ghost use Rattle.crp_said.specs.MoveLines.{AreMoveLines};
 ghost use Rattle.crp_audit.specs.Headline.{Handed, Reported, PrintsPlan, problem_in};
 ghost use Rattle.crp_callers.specs.NoMoves.{BeginsWithNoMove};
 
-use crp_audit::{Looked, Replayed, look_at, one_plan_is_printed, printed_plans_are_followed};
+use crp_audit::{
+    Looked, Replayed, look_at, one_plan_is_printed, printed_plans_are_followed, replay_lines,
+};
 use crp_plan::{Problem, one_kind};
 use std::alloc::{AllocError, Global};
 
