@@ -5,11 +5,13 @@ ghost use Rattle.crp_report.specs.Runs.{Made};
 ghost use Rattle.crp_audit.specs.Headline.{IsHeadline};
 ghost use Rattle.crp_headline.specs.Accepted.{handed_of};
 ghost use Rattle.crp_commands.specs.Solving.{AreTwo};
+ghost use Rattle.crp_memory_files.specs.Memory.{bytes_at, known_in, place_of};
 ghost use Rattle.crp_callers.specs.CommandReports.{IsReportOf};
 
 use crp_commands::{Terminal, run_job};
 use crp_files::Files;
 use crp_jobs::{FileCommand, Job, RunFiles, ToolFault};
+use crp_memory_files::FilesInMemory;
 use crp_plan::{Nowhere, Received};
 use crp_report::{RunSettings, Status};
 use std::alloc::Global;
@@ -151,4 +153,21 @@ pub fn files_of_run<T: Threads + Wait + Sync, F: Files, S: Terminal + Sync>(
         &mut Nowhere,
         terminal,
     )
+}
+
+/// The same of files in memory, of which all is known.
+pub fn run_in_memory<T: Threads + Wait + Sync, S: Terminal + Sync>(
+    threads: &T,
+    alloc: Global,
+    files: &mut FilesInMemory<'_>,
+    names: RunFiles<'_>,
+    settings: RunSettings,
+    terminal: &S,
+) -> Result<Status, ToolFault>
+    requires two { AreTwo (known_in files.old.stored.now files.old.written.items) names }
+    ensures { OnOk result ((made : Made) × IsHeadline (handed_of made)
+        × IfSome (option_map (λ name. name.now) names.entry.cert) (λ name. bytes_at files.new.stored.now files.new.written.items (place_of files.new.stored.now name) ≡ Some made.certificates)
+        × IfSome (option_map (λ name. name.now) names.entry.after) (λ name. bytes_at files.new.stored.now files.new.written.items (place_of files.new.stored.now name) ≡ Some made.yard_after)) }
+{
+    files_of_run(threads, alloc, files, names, settings, terminal)
 }

@@ -44,3 +44,5 @@ mod six;
 mod statuses;
 #[cfg(test)]
 mod turns;
+#[cfg(test)]
+mod unfinished;
