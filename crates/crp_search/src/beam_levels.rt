@@ -58,7 +58,8 @@ fn completion(problem: &Problem, position: &mut Position) -> u32
     cap
 }
 
-/// Adds the child at the row, and keeps its completion where that is the best plan so far, with `depth` relocations to the child.
+/// Adds the child at the row, and keeps its completion where that is the best plan so far, with `depth` relocations to the child. One
+/// that cannot lead to fewer relocations than that plan is not completed.
 fn add_child(
     problem: &Problem,
     child: &mut Position,
@@ -71,6 +72,9 @@ fn add_child(
     requires { depth ≤ 672 }
 {
     let bound = look_ahead(child);
+    if bound >= best.count.saturating_sub(depth) {
+        return Ok(());
+    }
     let completion = completion(problem, child);
     if depth + completion < best.count {
         best.path = longer(parent.1, row)?;

@@ -86,3 +86,9 @@ free_none s row lt = let n : length s.heights + 1 - row ≡ 0 = omega arith in a
 
 pub no_free : (s : Position) → s.ordered < s.next → free_row s ≡ 0
 no_free s lt = ap (λ l. first (filter (λ row. hinders_nobody s.ordered (blocker s) s.stacks (get_or s.heights (row - 1) 0) (stack_at s (row - 1))) l)) (no_rows s lt)
+
+-- nor has one that is not to leave
+pub stays_not_free : (s : Position) → s.ordered < blocker s → free_row s ≡ 0
+stays_not_free s lt =
+    let no : nat_le (blocker s) s.ordered ≡ false = false_from_ne_true (nat_le (blocker s) s.ordered) (λ t. let le = leb-true (blocker s) s.ordered t in omega arith) in
+    ap first (none_pass (λ row. hinders_nobody s.ordered (blocker s) s.stacks (get_or s.heights (row - 1) 0) (stack_at s (row - 1))) (good_rows s) (λ row. rw no refl))

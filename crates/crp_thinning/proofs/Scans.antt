@@ -1,6 +1,7 @@
 -- What the count of the look-ahead bound reads of a thinned position.
 use Rattle.std.proofs.Common.{◌≡◌, ◌≢◌, ℕ, zero, suc, ◌+◌, ◌-◌, ◌<◌, ◌≤◌, true, false, ◌==◌, max, List, [], ◌∷◌, length, take, get_or, set, Some, slice_get, count_by, nat_le, nat_lt, IsTrue, refl, sym, ap, ◌∙◌, subst, ⊎_elim, arith}
-use Rattle.std.proofs.lemmas.Bool.{cases_Bool, cases_lt, or_cases, or_left, or_right, le-leb, leb-true, both_ways, false_from_ne_true}
+use Rattle.std.proofs.lemmas.Bool.{cases_Bool, cases_eq, cases_lt, or_cases, or_left, or_right, le-leb, leb-true, both_ways, false_from_ne_true}
+use Rattle.std.proofs.lemmas.List.{get_or-set_same, get_or-set_other, take_all, take-take}
 use Rattle.std.proofs.lemmas.Option.{slice_get-get_or}
 use Rattle.crp_plan.specs.Rows.{holds, occurrences, above, below, FitRows}
 use Rattle.crp_plan.specs.Bay.{Position}
@@ -96,6 +97,33 @@ most_thin count s f few =
 -- what is left of a row
 abbrev pub part : List ℕ → ℕ → List ℕ → List ℕ
 part left i stack = take (get_or left i 0) stack
+
+-- of each row the least ordered rank of what is left is known
+abbrev pub AreLeasts : ℕ → List (List ℕ) → List ℕ → List ℕ → Type 0
+AreLeasts ordered stacks left leasts = (r : ℕ) → r < length stacks → get_or leasts r 0 ≡ least_ordered ordered (part left r (get_or stacks r []))
+
+-- where all is left
+pub leasts_begin : (ordered : ℕ) (stacks : List (List ℕ)) (left leasts : List ℕ) → ((r : ℕ) → get_or left r 0 ≡ length (get_or stacks r [])) →
+    ((r : ℕ) → r < length stacks → get_or leasts r 0 ≡ least_ordered ordered (get_or stacks r [])) → AreLeasts ordered stacks left leasts
+leasts_begin ordered stacks left leasts all are r lt = are r lt ∙ ap (least_ordered ordered) (sym (take_all (get_or left r 0) (get_or stacks r []) (omega (arith, all r))))
+
+take_few : (n : ℕ) (xs : List ℕ) → length (take n xs) ≤ n
+take_few zero xs = omega arith
+take_few (suc n) [] = omega arith
+take_few (suc n) (x ∷ xs) = omega (arith, take_few n xs)
+
+-- where one row is cut
+pub leasts_cut : (ordered : ℕ) (stacks : List (List ℕ)) (left leasts stack : List ℕ) (i kept least : ℕ) → AreLeasts ordered stacks left leasts → i < length left → i < length leasts → get_or stacks i [] ≡ stack →
+    kept < length (part left i stack) → least ≡ least_ordered ordered (take kept (part left i stack)) → AreLeasts ordered stacks (set left i kept) (set leasts i least)
+leasts_cut ordered stacks left leasts stack i kept least are low low' here lower is r lt = ⊎_elim
+    (λ same.
+    let less : kept ≤ get_or left i 0 = omega (arith, lower, take_few (get_or left i 0) stack) in
+    let new : get_or (set leasts i least) r 0 ≡ least = ap (λ x. get_or (set leasts i least) x 0) same ∙ get_or-set_same leasts i least 0 low' in
+    let cut : get_or (set left i kept) r 0 ≡ kept = ap (λ x. get_or (set left i kept) x 0) same ∙ get_or-set_same left i kept 0 low in
+    let there : get_or stacks r [] ≡ stack = ap (λ x. get_or stacks x []) same ∙ here in
+    new ∙ is ∙ ap (least_ordered ordered) (take-take kept (get_or left i 0) stack less) ∙ sym (ap (λ n. least_ordered ordered (take n stack)) cut) ∙ sym (ap (λ st. least_ordered ordered (part (set left i kept) r st)) there))
+    (λ other. get_or-set_other leasts i r least 0 other ∙ are r lt ∙ ap (λ n. least_ordered ordered (take n (get_or stacks r []))) (sym (get_or-set_other left i r kept 0 other)))
+    (cases_eq r i)
 
 pub held_take : (k n : ℕ) (xs : List ℕ) → holds k (take n xs) ≡ true → holds k xs ≡ true
 held_take k zero xs h = cc

@@ -1,17 +1,19 @@
 //! Where a container hinders nobody.
-ghost use Rattle.std.specs.Prelude.{◌≡◌, ◌≤◌, ◌&&◌, ◌||◌, [], not, nat_le, nat_lt, length, sum_by};
+ghost use Rattle.std.specs.Prelude.{◌≡◌, ℕ, ◌≤◌, ◌&&◌, ◌||◌, List, [], not, nat_le, nat_lt, length, sum_by};
 ghost use Rattle.crp_bounds.specs.Bounds.{holds_lower};
+ghost use Rattle.crp_bounds.specs.Leasts.{least_ordered};
 ghost use Rattle.crp_thinned.specs.Hindering.{hindered, lower_blocking, hinders_nobody as nobody};
 
-use crate::rows::has_lower;
+use crate::scanning::{least_of, least_with};
 use crp_plan::Stack;
 
-/// Whether a container would miss a stack if one of this rank stood there; `lower` is whether an ordered one of a lower rank than this
-/// stands below the container.
-fn misses(ordered: u8, rank: u8, onto: &[u8], lower: bool, other: u8) -> bool
-    ensures { result ≡ (nat_lt rank other && (lower && not (holds_lower ordered other onto.now))) }
+/// Whether a container would miss a stack with this least ordered rank if one of this rank stood there; `lower` is whether an ordered one
+/// of a lower rank than this stands below the container.
+#[inline]
+fn misses(rank: u8, least: u8, lower: bool, other: u8) -> bool
+    ensures { (ordered : ℕ) (onto : List ℕ) → least ≡ least_ordered ordered onto → result ≡ (nat_lt rank other && (lower && not (holds_lower ordered other onto))) }
 {
-    rank < other && (lower && !has_lower(ordered, other, onto))
+    rank < other && (lower && other <= least)
 }
 
 /// Whether one container more, or what stands below it, is ordered and of a lower rank.
@@ -22,24 +24,25 @@ fn or_lower(ordered: u8, rank: u8, other: u8, lower: bool) -> bool
     lower || (other <= ordered && other < rank)
 }
 
-/// Whether a container, where `under` stands below it, may come to stand on one of this rank.
-fn may_stand_on(ordered: u8, rank: u8, under: &[u8], other: u8) -> bool
-    ensures { result ≡ (nat_lt other rank && holds_lower ordered other under.now) }
+/// Whether a container, where the least ordered rank below it is this, may come to stand on one of this rank.
+#[inline]
+fn may_stand_on(rank: u8, least: u8, other: u8) -> bool
+    ensures { (ordered : ℕ) (under : List ℕ) → least ≡ least_ordered ordered under → result ≡ (nat_lt other rank && holds_lower ordered other under) }
 {
-    other < rank && has_lower(ordered, other, under)
+    other < rank && least < other
 }
 
-/// How many containers of a stack would miss another one, if one of this rank stood there.
-fn hindered_in(ordered: u8, rank: u8, onto: &[u8], stack: &[u8]) -> u32
+/// How many containers of a stack would miss another one with this least ordered rank, if one of this rank stood there.
+fn hindered_in(ordered: u8, rank: u8, least: u8, stack: &[u8]) -> u32
     requires { length stack.now ≤ 8 }
-    ensures value { result ≡ hindered ordered rank onto.now [] stack.now }
+    ensures value { (onto : List ℕ) → least ≡ least_ordered ordered onto → result ≡ hindered ordered rank onto [] stack.now }
     ensures few { result ≤ 8 }
 {
     let mut count: u32 = 0;
     let mut lower = false;
     for i in 0..stack.len() {
         let other = stack[i];
-        if misses(ordered, rank, onto, lower, other) {
+        if misses(rank, least, lower, other) {
             count += 1;
         }
         lower = or_lower(ordered, rank, other, lower);
@@ -54,24 +57,27 @@ fn lower_in(ordered: u8, rank: u8, stack: &[u8]) -> u32
     ensures few { result ≤ 8 }
 {
     let mut count: u32 = 0;
-    for (i, other) in stack.iter().enumerate() {
-        if may_stand_on(ordered, rank, &stack[..i], *other) {
+    let mut least = 255;
+    for i in 0..stack.len() {
+        let other = stack[i];
+        if may_stand_on(rank, least, other) {
             count += 1;
         }
+        least = least_with(ordered, other, least);
     }
     count
 }
 
-/// How many containers would miss a stack if one of this rank stood there.
-fn count_hindered(ordered: u8, rank: u8, onto: &[u8], stacks: &[Stack]) -> u32
-    requires { length stacks.now ≤ 12 }
-    ensures { result ≡ sum_by (λ stack. hindered ordered rank onto.now [] stack) stacks.now }
+/// Whether no container would miss a stack with this least ordered rank if one of this rank stood there.
+fn none_is_hindered(ordered: u8, rank: u8, least: u8, stacks: &[Stack]) -> bool
+    ensures { (onto : List ℕ) → least ≡ least_ordered ordered onto → result ≡ nat_le (sum_by (λ stack. hindered ordered rank onto [] stack) stacks.now) 0 }
 {
-    let mut count: u32 = 0;
     for stack in stacks {
-        count += hindered_in(ordered, rank, onto, stack.ranks());
+        if hindered_in(ordered, rank, least, stack.ranks()) > 0 {
+            return false;
+        }
     }
-    count
+    true
 }
 
 /// How many containers may come to stand on one of this rank.
@@ -109,6 +115,5 @@ pub fn hinders_nobody(
     if room > height as u32 {
         return false;
     }
-    let hindered = count_hindered(ordered, rank, onto, stacks);
-    hindered <= 0
+    none_is_hindered(ordered, rank, least_of(ordered, onto), stacks)
 }

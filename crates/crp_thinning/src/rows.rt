@@ -142,6 +142,9 @@ pub fn free_row(track: &Track) -> u8
     }
     let from = track.source();
     let rank = blocker(track);
+    if rank > ordered {
+        return 0;
+    }
     let lower = count_lower(ordered, rank, track.stacks());
     for row in 1..track.heights().len() as u8 + 1 {
         if is_free(track, from, rank, row, lower) {

@@ -61,32 +61,44 @@ pub fn least_of(ordered: u8, stack: &[u8]) -> u8
     least
 }
 
-/// What a row of a height with this stack offers.
+/// What a row of a height with this stack offers, of which this is the least ordered rank.
 #[inline]
-pub fn offer_of(ordered: u8, height: u8, stack: &[u8]) -> u8
+fn offer_of(ordered: u8, height: u8, stack: &[u8], least: u8) -> u8
+    requires { least ≡ least_ordered ordered stack.now }
     ensures { result ≡ offer ordered height stack.now }
 {
     if height as usize <= stack.len() {
         return 0;
     }
-    least_of(ordered, stack)
+    least
 }
 
-/// Writes how many containers stand in each row, from 0, and answers the greatest of what all rows offer.
-fn begun(ordered: u8, heights: &[u8], stacks: &[Stack], left: &mut [u8; 16]) -> u8
+/// Writes of each row, from 0, how many containers stand there and the least ordered rank of them, and answers the greatest of what all
+/// rows offer.
+fn begun(
+    ordered: u8,
+    heights: &[u8],
+    stacks: &[Stack],
+    left: &mut [u8; 16],
+    leasts: &mut [u8; 16],
+) -> u8
     requires same { length heights.now ≡ length stacks.now }
     requires few { length heights.now ≤ 12 }
     requires empty { (r : ℕ) → slice_index left.old r ≡ 0 }
     ensures left { (r : ℕ) → slice_index left.new r ≡ length (slice_index_or stacks.now r []) }
+    ensures leasts { (r : ℕ) → r < length stacks.now → slice_index leasts.new r ≡ least_ordered ordered (slice_index_or stacks.now r []) }
     ensures long { length left.new ≡ 16 }
+    ensures leasts_long { length leasts.new ≡ 16 }
     ensures most { result ≡ greatest (offers ordered heights.now stacks.now) }
 {
     let mut most: u8 = 0;
     for row in 1..heights.len() as u8 + 1 {
         let index = row as usize - 1;
         let stack = stacks[index].ranks();
+        let least = least_of(ordered, stack);
         left[index] = stack.len() as u8;
-        most = most.max(offer_of(ordered, heights[index], stack));
+        leasts[index] = least;
+        most = most.max(offer_of(ordered, heights[index], stack, least));
     }
     most
 }
@@ -132,17 +144,18 @@ pub fn stuck_reaches(track: &Track, blocking: u32, need: u32) -> bool
     let stacks = track.stacks();
     let row_of = track.row_of();
     let mut left = [0u8; 16];
-    let mut most = begun(ordered, track.heights(), stacks, &mut left);
+    let mut leasts = [0u8; 16];
+    let mut most = begun(ordered, track.heights(), stacks, &mut left, &mut leasts);
     let mut again: u32 = 0;
     let mut still = blocking;
     for rank in track.next()..ordered + 1 {
         let index = row_of[rank as usize] as usize;
         if index < stacks.len() {
-            let stack = &stacks[index].ranks()[..left[index] as usize];
-            if least_of(ordered, stack) == rank {
+            if leasts[index] == rank {
                 if most == 255 {
                     return need <= again;
                 }
+                let stack = &stacks[index].ranks()[..left[index] as usize];
                 let Cut { more, kept } = cut_at_rank(rank, most, stack);
                 again += more;
                 if need <= again {
@@ -152,8 +165,10 @@ pub fn stuck_reaches(track: &Track, blocking: u32, need: u32) -> bool
                 if again + still < need {
                     return false;
                 }
+                let least = least_of(ordered, &stack[..kept]);
                 left[index] = kept as u8;
-                most = most.max(least_of(ordered, &stack[..kept]));
+                leasts[index] = least;
+                most = most.max(least);
             }
         }
     }

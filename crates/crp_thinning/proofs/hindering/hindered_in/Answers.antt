@@ -4,6 +4,7 @@ use Rattle.std.proofs.lemmas.List.{take_more}
 use Rattle.std.proofs.lemmas.List.Folds.{list_any-append}
 use Rattle.crp_plan.proofs.Lists.{one_if}
 use Rattle.crp_bounds.specs.Bounds.{holds_lower}
+use Rattle.crp_bounds.specs.Leasts.{least_ordered}
 use Rattle.crp_thinned.specs.Hindering.{hindered}
 use Rattle.crp_thinned.proofs.Beside.{hindered_push}
 use Rattle.crp_thinning.proofs.hindering.hindered_in.Goals as goal
@@ -21,11 +22,11 @@ loop-i-preserved c =
     let y : ℕ = get_or c.args.stack.now c.loop-i.i 0 in
     let inv = c.loop-i.invariant in let few = inv.few in
     let on : take (c.loop-i.i + 1) c.args.stack.now ≡ xs ++ y ∷ [] = take_more c.args.stack.now c.loop-i.i 0 c.loop-i-test.true in
-    let more = ap (hindered c.args.ordered c.args.rank c.args.onto.now []) on in
-    let push = hindered_push c.args.ordered c.args.rank c.args.onto.now [] xs y in
-    let test = ap one_if (c.misses.ensures ∙ ap (λ (b : Bool). nat_lt c.args.rank y && (b && not (holds_lower c.args.ordered y c.args.onto.now))) inv.lower) in
+    let more = λ (onto : List ℕ). ap (hindered c.args.ordered c.args.rank onto []) on in
+    let push = λ (onto : List ℕ). hindered_push c.args.ordered c.args.rank onto [] xs y in
+    let test = λ (onto : List ℕ) (is : c.args.least ≡ least_ordered c.args.ordered onto). ap one_if (c.misses.ensures c.args.ordered onto is ∙ ap (λ (b : Bool). nat_lt c.args.rank y && (b && not (holds_lower c.args.ordered y onto))) inv.lower) in
     let lower = c.or_lower-lower.ensures ∙ ap (λ (b : Bool). b || (nat_le y c.args.ordered && nat_lt y c.args.rank)) inv.lower ∙ sym (lower_more c.args.ordered c.args.rank xs y) ∙ sym (ap (holds_lower c.args.ordered c.args.rank) on) in
     elim c.if-misses.branch [
-      | then-misses w ↦ record { value = omega (arith, more, push, test, w.count-is, inv.value, ap one_if w.if-misses.true); few = omega (arith, w.count-is, few); lower = lower }
-      | else-misses w ↦ record { value = omega (arith, more, push, test, w.count-is, inv.value, ap one_if w.if-misses.false); few = omega (arith, w.count-is, few); lower = lower }
+      | then-misses w ↦ record { value = λ onto is. omega (arith, more onto, push onto, test onto is, w.count-is, inv.value onto is, ap one_if w.if-misses.true); few = omega (arith, w.count-is, few); lower = lower }
+      | else-misses w ↦ record { value = λ onto is. omega (arith, more onto, push onto, test onto is, w.count-is, inv.value onto is, ap one_if w.if-misses.false); few = omega (arith, w.count-is, few); lower = lower }
     ]

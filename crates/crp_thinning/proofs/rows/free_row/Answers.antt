@@ -1,11 +1,14 @@
 use Rattle.std.proofs.Common.{◌≤◌, length, sym, ap, ◌∙◌, arith}
 use Rattle.crp_plan.specs.Bay.{Position}
 use Rattle.crp_plan.proofs.Steps.{same_rows}
-use Rattle.crp_thinning.proofs.GoodRows.{free_begins, free_on, free_here, free_none, no_free}
+use Rattle.crp_thinning.proofs.GoodRows.{free_begins, free_on, free_here, free_none, no_free, stays_not_free}
 use Rattle.crp_thinning.proofs.rows.free_row.Goals as goal
 
 pub returns-then-next-ordered : goal.returns-then-next-ordered
 returns-then-next-ordered c = sym (no_free c.args.track.now.place (omega (arith, c.next.ensures.value, c.ordered-ordered.ensures.value, c.if-next-ordered.true)))
+
+pub returns-then-rank-ordered : goal.returns-then-rank-ordered
+returns-then-rank-ordered c = sym (stays_not_free c.args.track.now.place (omega (arith, c.blocker-rank.ensures, c.ordered-ordered.ensures.value, c.if-rank-ordered.true)))
 
 pub count_lower-lower-requires : goal.count_lower-lower-requires
 count_lower-lower-requires c =

@@ -1,8 +1,9 @@
-use Rattle.std.proofs.Common.{◌≡◌, ℕ, suc, ◌+◌, ◌-◌, ◌<◌, List, [], drop, length, get_or, Some, ap, sym, ◌∙◌, ⊎_elim, arith, length-set}
-use Rattle.std.proofs.lemmas.Bool.{cases_lt}
-use Rattle.std.proofs.lemmas.List.{drop_all}
+use Rattle.std.proofs.Common.{◌≡◌, ℕ, suc, ◌+◌, ◌-◌, ◌<◌, List, [], drop, length, get_or, set, Some, ap, sym, ◌∙◌, ⊎_elim, arith, length-set}
+use Rattle.std.proofs.lemmas.Bool.{cases_eq, cases_lt}
+use Rattle.std.proofs.lemmas.List.{drop_all, get_or-set_same, get_or-set_other}
 use Rattle.std.proofs.lemmas.Option.{slice_get-get_or}
 use Rattle.crp_bay.proofs.Tops.{any_default}
+use Rattle.crp_bounds.specs.Leasts.{least_ordered}
 use Rattle.crp_bounds.specs.Offers.{offers, greatest}
 use Rattle.crp_bounds.proofs.Tallying.{length_offers}
 use Rattle.crp_bounds.proofs.Scanned.{beyond, offers_at, greatest_drop, one_more}
@@ -22,7 +23,14 @@ loop-row-preserved c =
     let there : row - 1 < length all = omega (arith, length_offers c.args.ordered c.args.heights.now c.args.stacks.now c.requires.same) in
     let next : row + 1 - 1 ≡ suc (row - 1) = omega (arith, c.loop-row.auto.row) in
     let more = one_more c.loop-row.left (λ r. length (get_or c.args.stacks.now r [])) row (length c.ranks-stack.result.now) (omega (arith, c.loop-row.auto.row)) (omega (arith, inv.long, c.requires.few)) inv.done inv.rest (ap length here) in
+    let least = c.least_of-least.ensures ∙ sym (ap (least_ordered c.args.ordered) here) in
     record {
+      leasts = λ r lt. ⊎_elim
+          (λ same. ap (λ x. get_or (set c.loop-row.leasts (row - 1) c.least_of-least.result) x 0) same ∙ get_or-set_same c.loop-row.leasts (row - 1) c.least_of-least.result 0 (omega (arith, inv.leasts_long, c.requires.few)) ∙ least
+          ∙ ap (λ x. least_ordered c.args.ordered (get_or c.args.stacks.now x [])) (sym same))
+          (λ other. get_or-set_other c.loop-row.leasts (row - 1) r c.least_of-least.result 0 other ∙ inv.leasts r (omega (arith, c.loop-row.auto.row)))
+          (cases_eq r (row - 1));
+      leasts_long = length-set c.loop-row.leasts (row - 1) c.least_of-least.result ∙ inv.leasts_long;
       done = more.0;
       rest = more.1;
       long = length-set c.loop-row.left (row - 1) (length c.ranks-stack.result.now) ∙ inv.long;
@@ -40,3 +48,6 @@ returns-clause-most c =
     let all : List ℕ = offers c.args.ordered c.args.heights.now c.args.stacks.now in
     let none : drop (c.loop-row.row - 1) all ≡ [] = drop_all (c.loop-row.row - 1) all (omega (arith, length_offers c.args.ordered c.args.heights.now c.args.stacks.now c.requires.same, c.loop-row-test.false, c.loop-row.auto.row)) in
     omega (arith, c.loop-row.invariant.most, ap greatest none)
+
+pub returns-clause-leasts : goal.returns-clause-leasts
+returns-clause-leasts c r lt = c.loop-row.invariant.leasts r (omega (arith, c.requires.same, c.loop-row-test.false, c.loop-row.auto.row))
