@@ -28,14 +28,14 @@ use Rattle.crp_report.specs.declared.status.Status.{Status}
 use Rattle.crp_report.specs.Answered.{Answered, AreTrueAnswers, bay_plans, status_of_all}
 use Rattle.crp_report.specs.Chosen.{RunChosen}
 use Rattle.crp_report.specs.Report.{AreLinesOfBays, certificate_of, certificates_text, decided, last_line, IsYardTextAfter}
-use Rattle.crp_report.specs.Runs.{RunSeen, Made, IsMade, IsListed, AreOrders, first_line, sink_of, Gets, GetsFront, GetsPart, text_for, AreMadePieces, WritesNothing, WritesTexts, IsYardAccepted, RunFailsWith, failures_of_fault, run_failures, most_run_failures}
+use Rattle.crp_report.specs.Runs.{RunSeen, Made, IsMade, IsListed, AreOrders, first_line, sink_of, Gets, GetsFront, GetsPart, text_for, AreMadePieces, WritesNothing, WritesTexts, IsYardAccepted, RunFailsWith, RunEnds, RunFails, failures_of_fault}
 use Rattle.crp_report.specs.Pieces.{Piece, piece, AreBayPieces, bytes_for, wanted, written}
 use Rattle.crp_report.specs.BayTexts.{AreFailuresCounted, IsNoYard, IsNoMessage}
-use Rattle.crp_report.specs.Writing.{Sinks, sinks_of, sink_now, failures_of_sinks, SinksGet, Writes, StopsWith, WritesBays, StopsBays, AreKept, IsTextAfter, end_pieces, WritesEnd, StopsEnd, AreRunPieces, WritesRun, StopsRun}
+use Rattle.crp_report.specs.Writing.{Sinks, sink_now, failures_of_sinks, SinksGet, Writes, StopsWith, WritesBays, StopsBays, AreKept, IsTextAfter, end_pieces, WritesEnd, StopsEnd, AreRunPieces, WritesRun, StopsRun}
 use Rattle.crp_report.proofs.Written.{more_for, gets_then, stops_behind, stops_before, stops_first, stop_front, stop_part}
 use Rattle.crp_report.proofs.Stating.{can_be_answered}
 use Rattle.crp_report.proofs.Leaving.{plans_are, plans_complete, plans_once}
-use Rattle.crp_report.proofs.Taken.{each_sink}
+use Rattle.crp_report.proofs.Taken.{each_sink, holding}
 
 -- a yard list that is refused
 pub list_refused : (chosen : RunChosen) (s : RunSeen) (f : Fault) → WritesNothing s → IsNoYard chosen.input.heights s.yard.given s.yard.before s.yard.after f → RunFailsWith chosen s f
@@ -260,10 +260,20 @@ made_up chosen list message yard orders sequence answered pieces are =
 -- ---- what was seen of it
 
 abbrev pub sinks_before : RunSeen → ℕ → Sinks
-sinks_before s passed = sinks_of s.report.held s.report.before s.certificates.held s.certificates.before s.yard_after.held s.yard_after.before passed
+sinks_before s passed = record {
+  report = holding s.report.held s.report.before;
+  certificates = holding s.certificates.held s.certificates.before;
+  yard_after = holding s.yard_after.held s.yard_after.before;
+  passed = passed;
+}
 
 abbrev pub sinks_after : RunSeen → ℕ → Sinks
-sinks_after s passed = sinks_of s.report.holds s.report.after s.certificates.holds s.certificates.after s.yard_after.holds s.yard_after.after passed
+sinks_after s passed = record {
+  report = holding s.report.holds s.report.after;
+  certificates = holding s.certificates.holds s.certificates.after;
+  yard_after = holding s.yard_after.holds s.yard_after.after;
+  passed = passed;
+}
 
 seen_of : (s : RunSeen) (p q : ℕ) (pieces : List Piece) (n : ℕ) → SinksGet pieces n (sinks_before s p) (sinks_after s q) → (each : Output) → Gets (sink_of s each) (bytes_for each pieces)
 seen_of s p q pieces n get = each_sink (λ each. Gets (sink_of s each) (bytes_for each pieces)) (get.got output.Report) (get.got output.Certificates) (get.got output.YardAfter)
@@ -353,7 +363,7 @@ pub run_ended : (r : Result Status Fault) (chosen : RunChosen) (s : RunSeen) (on
     → AreFailuresCounted 0 s.yard.before s.yard.after 0 one → AreFailuresCounted 0 s.movins.before s.movins.after one p → s.movins.before ≤ s.movins.after
     → MatchResult r (λ status. (answered : List Answered) × WritesRun chosen.search yard first problems (sinks_before s p) (sinks_after s q) answered × (status ≡ status_of_all answered))
     (StopsRun chosen.search yard first problems (sinks_before s p) (sinks_after s q))
-    → MatchResult r (λ status. WritesTexts chosen s status × (run_failures s ≤ most_interruptions)) (λ f. RunFailsWith chosen s f × (run_failures s ≤ most_run_failures f))
+    → MatchResult r (RunEnds chosen s) (RunFails chosen s)
 run_ended (Ok status) chosen s one p q list message yard orders sequence first problems accepted first_is problems_are of_list of_message grown (answered, written, is) =
     let here = rw (first_is, problems_are) at written in
     let k = done_counted chosen.search yard (first_line yard orders sequence) (problems_of yard sequence) s p q answered here in

@@ -1,5 +1,5 @@
 -- What a write of one piece says of all three sinks.
-use Rattle.std.proofs.Common.{◌≡◌, ℕ, ◌≤◌, List, [], ◌∷◌, Option, Result, Ok, Err, IfErr, refl, sym, subst, arith, append-nil, take}
+use Rattle.std.proofs.Common.{◌≡◌, ◌∙◌, ℕ, ◌≤◌, List, [], ◌∷◌, Option, Result, Ok, Err, IfErr, refl, sym, subst, arith, append-nil, take}
 use Rattle.std.specs.Prelude.{OnOk, OnErr, MatchResult}
 use Rattle.std.specs.Io.KnownBytes.{Appends}
 use Rattle.std.proofs.KnownBytes.{Appends-nil}
@@ -7,10 +7,11 @@ use Rattle.crp_plan.specs.Devices.{AppendsPart, most_interruptions}
 use Rattle.crp_report.specs.declared.fault.Fault.{Fault}
 use Rattle.crp_report.specs.declared.fault.Output.{Output}
 use Rattle.crp_report.specs.declared.fault.Output.TheVariants as output
+use Rattle.crp_report.specs.declared.writing.RunSinks.{RunSinks}
 use Rattle.crp_report.specs.Runs.{failures_of_fault}
 use Rattle.crp_report.specs.BayTexts.{AreFailuresCounted, IsWriteOf}
 use Rattle.crp_report.specs.Pieces.{piece, bytes_for}
-use Rattle.crp_report.specs.Writing.{SinkNow, Sinks, sink_now, SinksGet, Writes, StopsWith}
+use Rattle.crp_report.specs.Writing.{SinkNow, Sinks, sink_now, AreSameSinks, SinksGet, Writes, StopsWith}
 
 -- what holds of each of the three sinks
 pub each_sink : (P : Output → Type 0) → P output.Report → P output.Certificates → P output.YardAfter → (each : Output) → P each
@@ -75,3 +76,8 @@ piece_written (Err f) to bytes a b c d p q all (n, small, took) (is, failed) cou
       piece_got to 1 (take n bytes) a b c d p q took grown one few,
       rw (own_sink to a c d p, own_sink to b c d q) failed,
     )
+
+-- the same sinks as those that were the same
+pub same_then : {W C A : Type 0} (a b c : RunSinks W C A) → AreSameSinks a b → AreSameSinks b c → AreSameSinks a c
+same_then a b c one two =
+    record { report = two.report ∙ one.report; certificates = two.certificates ∙ one.certificates; yard_after = two.yard_after ∙ one.yard_after }

@@ -1,6 +1,6 @@
 -- A run from the bytes of a yard list and of a message to a report, certificates and the yard after: what it saw, what it wrote, and what each
 -- fault states.
-use Rattle.std.specs.Prelude.{◌≡◌, ◌≢◌, ℕ, ◌+◌, ◌-◌, ◌⊎◌, List, ◌++◌, length, Option, None, Some}
+use Rattle.std.specs.Prelude.{◌≡◌, ◌≢◌, ℕ, ◌+◌, ◌-◌, ◌≤◌, ◌⊎◌, List, ◌++◌, length, Option, None, Some}
 use Rattle.std.specs.Io.KnownBytes.{Appends, Keeps}
 use Rattle.crp_plan.specs.Devices.{AppendsFront, AppendsPart, HasFailed, most_interruptions}
 use Rattle.edi_text.specs.Parts.{SegmentParts}
@@ -42,6 +42,13 @@ pub record SinkSeen : Type 0 where
   pub holds : Option (List ℕ)
   pub before : ℕ
   pub after : ℕ
+
+-- so it is of a value of a source, and of one of a sink, by what each value states
+abbrev pub source_seen : {S : Type 0} → (S → Option (List ℕ)) → (S → ℕ) → S → S → SourceSeen
+source_seen remaining failures old new = record { given = remaining old; before = failures old; after = failures new }
+
+abbrev pub sink_seen : {S : Type 0} → (S → Option (List ℕ)) → (S → ℕ) → S → S → SinkSeen
+sink_seen contents failures old new = record { held = contents old; holds = contents new; before = failures old; after = failures new }
 
 -- what a run saw of its two sources and three sinks
 pub record RunSeen : Type 0 where
@@ -195,3 +202,11 @@ RunFailsWith chosen s (fault.Message f) = WritesNothing s × (f ≢ movins.Memor
 RunFailsWith chosen s (fault.Read source) = WritesNothing s × IsInputBeforeAccepted chosen s source × HasFailed (source_of s source).before (source_of s source).after
 RunFailsWith chosen s (fault.Write sink) = WritesFronts chosen s sink × HasFailed (sink_of s sink).before (sink_of s sink).after
 RunFailsWith chosen s fault.Memory = WritesNothing s ⊎ WritesSoFar chosen s
+
+-- a run over these devices ended with the status: its texts were written, and no more calls failed than may be passed over
+abbrev pub RunEnds : RunChosen → RunSeen → Status → Type 0
+RunEnds chosen s ended = WritesTexts chosen s ended × (run_failures s ≤ most_interruptions)
+
+-- a run over these devices ended with the fault: it is as stated, and no more calls failed than may be passed over and the one that is stated
+abbrev pub RunFails : RunChosen → RunSeen → Fault → Type 0
+RunFails chosen s f = RunFailsWith chosen s f × (run_failures s ≤ most_run_failures f)

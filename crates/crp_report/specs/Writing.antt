@@ -16,6 +16,7 @@ use Rattle.crp_report.specs.declared.fault.Fault.TheVariants as fault
 use Rattle.crp_report.specs.declared.fault.Output.{Output}
 use Rattle.crp_report.specs.declared.fault.Output.TheVariants as output
 use Rattle.crp_report.specs.declared.kept.BaysDone.{BaysDone}
+use Rattle.crp_report.specs.declared.writing.RunSinks.{RunSinks}
 use Rattle.crp_report.specs.Answered.{Answered, AreTrueAnswers, bay_plans, status_of_all}
 use Rattle.crp_report.specs.Report.{decided, IsYardTextAfter}
 use Rattle.crp_report.specs.Pieces.{Piece, piece, bytes_for, AreBayPieces, ArePieces, Stop, wanted, written}
@@ -32,13 +33,20 @@ pub record Sinks : Type 0 where
   pub yard_after : SinkNow
   pub passed : ℕ
 
-abbrev pub sinks_of : Option (List ℕ) → ℕ → Option (List ℕ) → ℕ → Option (List ℕ) → ℕ → ℕ → Sinks
-sinks_of report report_failures certificates certificates_failures yard_after yard_after_failures passed = record {
-  report = record { holds = report; failures = report_failures };
-  certificates = record { holds = certificates; failures = certificates_failures };
-  yard_after = record { holds = yard_after; failures = yard_after_failures };
-  passed = passed;
+-- so it is by what the value of each sink states
+abbrev pub sinks_of : {W C A : Type 0} → (W → Option (List ℕ)) → (W → ℕ) → (C → Option (List ℕ)) → (C → ℕ) → (A → Option (List ℕ)) → (A → ℕ) → RunSinks W C A → Sinks
+sinks_of report report_failures certificates certificates_failures yard_after yard_after_failures s = record {
+  report = record { holds = report s.report.now; failures = report_failures s.report.now };
+  certificates = record { holds = certificates s.certificates.now; failures = certificates_failures s.certificates.now };
+  yard_after = record { holds = yard_after s.yard_after.now; failures = yard_after_failures s.yard_after.now };
+  passed = s.interruptions;
 }
+
+-- they are the same sinks as before
+pub record AreSameSinks {W C A : Type 0} (before after : RunSinks W C A) : Type 0 where
+  pub report : after.report.ghost_name ≡ before.report.ghost_name
+  pub certificates : after.certificates.ghost_name ≡ before.certificates.ghost_name
+  pub yard_after : after.yard_after.ghost_name ≡ before.yard_after.ghost_name
 
 abbrev pub sink_now : Sinks → Output → SinkNow
 sink_now s output.Report = s.report

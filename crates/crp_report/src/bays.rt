@@ -2,14 +2,14 @@
 ghost use Rattle.std.specs.Prelude.{◌≡◌, ◌≤◌, All, IfErr, IfOk, MatchResult};
 ghost use Rattle.crp_plan.specs.Bay.{IsProblem};
 ghost use Rattle.crp_plan.specs.Devices.{most_interruptions};
-ghost use Rattle.crp_report.specs.Writing.{Sinks, sinks_of, WritesBay, StopsBay, WritesBays, StopsBays};
+ghost use Rattle.crp_report.specs.Writing.{Sinks, sinks_of, AreSameSinks, WritesBay, StopsBay, WritesBays, StopsBays};
 ghost use Rattle.crp_report.specs.Watching.{ShowsMore};
 
 use crate::bay_texts::texts_of_bay;
 use crate::fault::{Fault, Output};
 use crate::kept::BaysDone;
 use crate::watching::Watch;
-use crate::writing::write_piece;
+use crate::writing::{RunSinks, write_piece};
 use crp_incumbent::Board;
 use crp_order::BayProblem;
 use crp_plan::Sink;
@@ -18,49 +18,30 @@ use std::alloc::Global;
 use std::sync::Wait;
 use std::thread::Threads;
 
-// Answers the problem of a bay, behind so many others of so many in all, and writes what is stated of it.
+// Answers the problem of a bay, and writes what is stated of it.
 fn write_bay<T: Threads + Wait + Sync, W: Sink, C: Sink, A: Sink, V: Watch, E: Sink>(
     rt: &T,
     alloc: Global,
     bay: &BayProblem,
-    behind: usize,
-    bays: usize,
     settings: Settings,
-    out: &mut W,
-    cert_out: &mut C,
-    after_out: &mut A,
-    interruptions: &mut u32,
+    sinks: &mut RunSinks<'_, '_, W, C, A>,
     watch: &mut V,
     errors: &mut E,
 ) -> Result<Solved, Fault>
     requires problem { IsProblem bay.now.problem }
-    requires passed { interruptions.old ≤ most_interruptions }
-    ensures written { let before : Sinks = sinks_of (W.contents out.old) (W.failures out.old) (C.contents cert_out.old) (C.failures cert_out.old) (A.contents after_out.old) (A.failures after_out.old) interruptions.old in
-        let after : Sinks = sinks_of (W.contents out.new) (W.failures out.new) (C.contents cert_out.new) (C.failures cert_out.new) (A.contents after_out.new) (A.failures after_out.new) interruptions.new in
+    requires passed { sinks.old.interruptions ≤ most_interruptions }
+    ensures same { AreSameSinks sinks.old sinks.new }
+    ensures written { let before : Sinks = sinks_of W.contents W.failures C.contents C.failures A.contents A.failures sinks.old in
+        let after : Sinks = sinks_of W.contents W.failures C.contents C.failures A.contents A.failures sinks.new in
         MatchResult result (WritesBay settings bay.now before after) (StopsBay settings bay.now before after) }
     ensures shown { ShowsMore (E.contents errors.old) (E.contents errors.new) }
 {
-    watch.begins(alloc, bay, behind, bays, errors);
     let board = Board::new(&bay.problem);
     let solved = solve(rt, alloc, &bay.problem, settings, &board, watch.gate())?;
     watch.searched();
     let texts = texts_of_bay(alloc, bay, &solved)?;
-    write_piece(
-        out,
-        cert_out,
-        after_out,
-        Output::Report,
-        &texts.report,
-        interruptions,
-    )?;
-    write_piece(
-        out,
-        cert_out,
-        after_out,
-        Output::Certificates,
-        &texts.certificate,
-        interruptions,
-    )?;
+    write_piece(sinks, Output::Report, &texts.report)?;
+    write_piece(sinks, Output::Certificates, &texts.certificate)?;
     watch.answers(alloc, bay, &solved, &texts.certificate, errors);
     Ok(solved)
 }
@@ -71,37 +52,23 @@ pub(crate) fn write_bays<T: Threads + Wait + Sync, W: Sink, C: Sink, A: Sink, V:
     alloc: Global,
     problems: Vec<BayProblem>,
     settings: Settings,
-    out: &mut W,
-    cert_out: &mut C,
-    after_out: &mut A,
-    interruptions: &mut u32,
+    sinks: &mut RunSinks<'_, '_, W, C, A>,
     watch: &mut V,
     errors: &mut E,
 ) -> Result<BaysDone, Fault>
     requires problems { All (λ bay. IsProblem bay.problem) problems.items }
-    requires passed { interruptions.old ≤ most_interruptions }
-    ensures written { let before : Sinks = sinks_of (W.contents out.old) (W.failures out.old) (C.contents cert_out.old) (C.failures cert_out.old) (A.contents after_out.old) (A.failures after_out.old) interruptions.old in
-        let after : Sinks = sinks_of (W.contents out.new) (W.failures out.new) (C.contents cert_out.new) (C.failures cert_out.new) (A.contents after_out.new) (A.failures after_out.new) interruptions.new in
+    requires passed { sinks.old.interruptions ≤ most_interruptions }
+    ensures same { AreSameSinks sinks.old sinks.new }
+    ensures written { let before : Sinks = sinks_of W.contents W.failures C.contents C.failures A.contents A.failures sinks.old in
+        let after : Sinks = sinks_of W.contents W.failures C.contents C.failures A.contents A.failures sinks.new in
         MatchResult result (WritesBays settings problems.items before after) (StopsBays settings problems.items before after) }
     ensures shown { ShowsMore (E.contents errors.old) (E.contents errors.new) }
 {
     let mut done = BaysDone::none(alloc);
     let bays = problems.len();
     for bay in problems {
-        let solved = write_bay(
-            rt,
-            alloc,
-            &bay,
-            done.bays,
-            bays,
-            settings,
-            out,
-            cert_out,
-            after_out,
-            interruptions,
-            watch,
-            errors,
-        )?;
+        watch.begins(alloc, &bay, done.bays, bays, errors);
+        let solved = write_bay(rt, alloc, &bay, settings, sinks, watch, errors)?;
         done.push(bay, solved)?;
     }
     Ok(done)

@@ -26,7 +26,7 @@ pub use fault::{Fault, Input, Output};
 pub use input::{Message, message_from, yard_from};
 pub use laws::{first_lines_are_one, reports_mean_one_thing};
 pub use printing::print_moves;
-pub use running::{run, run_watched};
+pub use running::{Devices, run, run_watched};
 pub use settings::{InputSettings, RunFault, RunSettings};
 pub use status::Status;
 pub use watching::{Unwatched, Watch, show};

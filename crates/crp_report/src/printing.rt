@@ -3,7 +3,7 @@ ghost use Rattle.std.specs.Prelude.{◌≡◌, length, map, OnOk, IfErr, MatchRe
 ghost use Rattle.crp_plan.specs.Devices.{TransfersAlone};
 ghost use Rattle.crp_plan.specs.Rows.{total};
 ghost use Rattle.crp_report.specs.Printing.{WritesMoves, PrintingFailsWith};
-ghost use Rattle.crp_report.specs.Runs.{SinkSeen, failures_of_fault};
+ghost use Rattle.crp_report.specs.Runs.{SinkSeen, failures_of_fault, sink_seen};
 
 use crate::fault::{Fault, Output};
 use crate::lines::plan_lines;
@@ -18,12 +18,7 @@ pub fn print_moves<W: Sink>(
     names: &[Vec<u8>],
 ) -> Result<(), Fault>
     requires { length names.now ≡ total plan.now.problem.stacks }
-    ensures stated { let seen : SinkSeen = record {
-      held = W.contents sink.old;
-      holds = W.contents sink.new;
-      before = W.failures sink.old;
-      after = W.failures sink.new;
-    } in MatchResult result (λ _. WritesMoves (map (λ name. name.items) names.now) plan.now seen) (PrintingFailsWith (map (λ name. name.items) names.now) plan.now seen) }
+    ensures stated { let seen : SinkSeen = sink_seen W.contents W.failures sink.old sink.new in MatchResult result (λ _. WritesMoves (map (λ name. name.items) names.now) plan.now seen) (PrintingFailsWith (map (λ name. name.items) names.now) plan.now seen) }
     ensures done { OnOk result (TransfersAlone 0 (W.failures sink.old) (W.failures sink.new) (W.interrupted sink.old) (W.interrupted sink.new)) }
     ensures ended { IfErr result (λ fault. TransfersAlone (failures_of_fault fault) (W.failures sink.old) (W.failures sink.new) (W.interrupted sink.old) (W.interrupted sink.new)) }
 {

@@ -8,8 +8,8 @@ ghost use Rattle.crp_yard.specs.After.{IsPlanForBay, IsCompletePlan};
 ghost use Rattle.crp_order.specs.BayProblems.{IsNamed, problems_of};
 ghost use Rattle.crp_order.specs.Sequences.{IsSequence};
 ghost use Rattle.crp_report.specs.Answered.{Answered, status_of_all};
-ghost use Rattle.crp_report.specs.Runs.{RunSeen, run_failures, most_run_failures, first_line, WritesTexts, RunFailsWith};
-ghost use Rattle.crp_report.specs.Writing.{Sinks, sinks_of, IsTextAfter, WritesEnd, StopsEnd, WritesRun, StopsRun};
+ghost use Rattle.crp_report.specs.Runs.{RunSeen, source_seen, sink_seen, first_line, RunEnds, RunFails};
+ghost use Rattle.crp_report.specs.Writing.{Sinks, sinks_of, AreSameSinks, IsTextAfter, WritesEnd, StopsEnd, WritesRun, StopsRun};
 ghost use Rattle.crp_report.specs.Watching.{ShowsMore};
 
 use crate::bays::write_bays;
@@ -19,7 +19,7 @@ use crate::kept::BaysDone;
 use crate::settings::RunSettings;
 use crate::status::Status;
 use crate::watching::{Unwatched, Watch};
-use crate::writing::write_piece;
+use crate::writing::{RunSinks, write_piece};
 use crp_movins::Orders;
 use crp_order::{BayProblem, Sequence, absent, problems, sequence};
 use crp_plan::{Nowhere, Sink, Source};
@@ -33,6 +33,8 @@ use std::thread::Threads;
 // What is known before a byte is written.
 #[derive(Drop)]
 struct Work {
+    // The yard that is listed.
+    yard: Yard,
     // The containers in the order in which they leave.
     sequence: Sequence,
     // The first line of the report.
@@ -44,14 +46,15 @@ struct Work {
 // What is to be done in a yard.
 fn work_of(
     alloc: Global,
-    yard: &Yard,
+    yard: Yard,
     orders: Orders,
     settings: &RunSettings,
 ) -> Result<Work, AllocError>
+    ensures yard { IfOk result (λ work. work.yard ≡ yard) }
     ensures sequence { IfOk result (λ work. IsSequence settings.now.input.mode orders.list work.sequence) }
-    ensures first { IfOk result (λ work. work.first.items ≡ first_line yard.now orders work.sequence) }
-    ensures problems { IfOk result (λ work. work.problems.items ≡ problems_of yard.now work.sequence) }
-    ensures named { IfOk result (λ work. All (IsNamed yard.now) work.problems.items) }
+    ensures first { IfOk result (λ work. work.first.items ≡ first_line yard orders work.sequence) }
+    ensures problems { IfOk result (λ work. work.problems.items ≡ problems_of yard work.sequence) }
+    ensures named { IfOk result (λ work. All (IsNamed yard) work.problems.items) }
     ensures once { IfOk result (λ work. IsDistinct same_bay (map (λ made. made.bay) work.problems.items)) }
 {
     let (listed, vacant) = (orders.list().len(), orders.vacant());
@@ -59,11 +62,12 @@ fn work_of(
     let numbers = Numbers {
         orders: listed as u64,
         vacant: vacant as u64,
-        absent: absent(yard, &sequence) as u64,
+        absent: absent(&yard, &sequence) as u64,
     };
     let first = numbers_text(alloc, numbers)?;
-    let problems = problems(alloc, yard, &sequence)?;
+    let problems = problems(alloc, &yard, &sequence)?;
     Ok(Work {
+        yard,
         sequence,
         first,
         problems,
@@ -85,86 +89,67 @@ fn write_end<W: Sink, C: Sink, A: Sink>(
     alloc: Global,
     yard: &Yard,
     done: &BaysDone,
-    out: &mut W,
-    cert_out: &mut C,
-    after_out: &mut A,
-    interruptions: &mut u32,
+    sinks: &mut RunSinks<'_, '_, W, C, A>,
 ) -> Result<(), Fault>
     requires plans { All (IsPlanForBay yard.now) done.now.plans.items }
     requires complete { All IsCompletePlan done.now.plans.items }
     requires once { IsDistinct same_bay (map (λ plan. plan.bay) done.now.plans.items) }
-    requires passed { interruptions.old ≤ most_interruptions }
-    ensures { let before : Sinks = sinks_of (W.contents out.old) (W.failures out.old) (C.contents cert_out.old) (C.failures cert_out.old) (A.contents after_out.old) (A.failures after_out.old) interruptions.old in
-        let after : Sinks = sinks_of (W.contents out.new) (W.failures out.new) (C.contents cert_out.new) (C.failures cert_out.new) (A.contents after_out.new) (A.failures after_out.new) interruptions.new in
+    requires passed { sinks.old.interruptions ≤ most_interruptions }
+    ensures same { AreSameSinks sinks.old sinks.new }
+    ensures written { let before : Sinks = sinks_of W.contents W.failures C.contents C.failures A.contents A.failures sinks.old in
+        let after : Sinks = sinks_of W.contents W.failures C.contents C.failures A.contents A.failures sinks.new in
         MatchResult result (λ _. WritesEnd yard.now done.now before after) (StopsEnd yard.now done.now before after) }
 {
     let last = last_text(alloc, done.bays, done.decided)?;
     let yard_after = text_after(alloc, yard, &done.plans)?;
-    write_piece(
-        out,
-        cert_out,
-        after_out,
-        Output::Report,
-        &last,
-        interruptions,
-    )?;
-    write_piece(
-        out,
-        cert_out,
-        after_out,
-        Output::YardAfter,
-        &yard_after,
-        interruptions,
-    )
+    write_piece(sinks, Output::Report, &last)?;
+    write_piece(sinks, Output::YardAfter, &yard_after)
 }
 
 // Writes the first line, bay by bay what is stated of it, and the end.
 fn write_run<T: Threads + Wait + Sync, W: Sink, C: Sink, A: Sink, V: Watch, E: Sink>(
     rt: &T,
     alloc: Global,
-    yard: &Yard,
-    first: &[u8],
-    problems: Vec<BayProblem>,
+    work: Work,
     settings: Settings,
-    out: &mut W,
-    cert_out: &mut C,
-    after_out: &mut A,
-    interruptions: &mut u32,
+    sinks: &mut RunSinks<'_, '_, W, C, A>,
     watch: &mut V,
     errors: &mut E,
 ) -> Result<Status, Fault>
-    requires named { All (IsNamed yard.now) problems.items }
-    requires once { IsDistinct same_bay (map (λ made. made.bay) problems.items) }
-    requires passed { interruptions.old ≤ most_interruptions }
-    ensures written { let before : Sinks = sinks_of (W.contents out.old) (W.failures out.old) (C.contents cert_out.old) (C.failures cert_out.old) (A.contents after_out.old) (A.failures after_out.old) interruptions.old in
-        let after : Sinks = sinks_of (W.contents out.new) (W.failures out.new) (C.contents cert_out.new) (C.failures cert_out.new) (A.contents after_out.new) (A.failures after_out.new) interruptions.new in
+    requires named { All (IsNamed work.yard) work.problems.items }
+    requires once { IsDistinct same_bay (map (λ made. made.bay) work.problems.items) }
+    requires passed { sinks.old.interruptions ≤ most_interruptions }
+    ensures same { AreSameSinks sinks.old sinks.new }
+    ensures written { let before : Sinks = sinks_of W.contents W.failures C.contents C.failures A.contents A.failures sinks.old in
+        let after : Sinks = sinks_of W.contents W.failures C.contents C.failures A.contents A.failures sinks.new in
         MatchResult result
-        (λ status. (answered : List Answered) × WritesRun settings yard.now first.now problems.items before after answered × (status ≡ status_of_all answered))
-        (StopsRun settings yard.now first.now problems.items before after) }
+        (λ status. (answered : List Answered) × WritesRun settings work.yard work.first.items work.problems.items before after answered × (status ≡ status_of_all answered))
+        (StopsRun settings work.yard work.first.items work.problems.items before after) }
     ensures shown { ShowsMore (E.contents errors.old) (E.contents errors.new) }
 {
-    write_piece(
-        out,
-        cert_out,
-        after_out,
-        Output::Report,
+    let Work {
+        yard,
+        sequence: _sequence,
         first,
-        interruptions,
-    )?;
-    let done = write_bays(
-        rt,
-        alloc,
         problems,
-        settings,
-        out,
-        cert_out,
-        after_out,
-        interruptions,
-        watch,
-        errors,
-    )?;
-    write_end(alloc, yard, &done, out, cert_out, after_out, interruptions)?;
+    } = work;
+    write_piece(sinks, Output::Report, &first)?;
+    let done = write_bays(rt, alloc, problems, settings, sinks, watch, errors)?;
+    write_end(alloc, &yard, &done, sinks)?;
     Ok(done.status)
+}
+
+/// The devices of a run beside the sink of its report: what is read, and where the certificates and the yard after the plans go.
+#[derive(Drop)]
+pub struct Devices<Y, M, C, A> {
+    /// The yard list.
+    pub yard: Y,
+    /// The message.
+    pub movins: M,
+    /// Gets the certificates.
+    pub certificates: C,
+    /// Gets the yard list after the plans.
+    pub yard_after: A,
 }
 
 /// Reads a yard list and a message with load orders, answers the problem of each bay from which an ordered container leaves,
@@ -185,51 +170,56 @@ pub fn run_watched<
 >(
     rt: &T,
     alloc: Global,
-    yard: &mut Y,
-    movins: &mut M,
+    devices: &mut Devices<Y, M, C, A>,
     settings: &RunSettings,
     out: &mut W,
-    cert_out: &mut C,
-    after_out: &mut A,
     watch: &mut V,
     errors: &mut E,
 ) -> Result<Status, Fault>
     ensures written { let seen : RunSeen = record {
-      yard = record { given = Y.remaining yard.old; before = Y.failures yard.old; after = Y.failures yard.new };
-      movins = record { given = M.remaining movins.old; before = M.failures movins.old; after = M.failures movins.new };
-      report = record { held = W.contents out.old; holds = W.contents out.new; before = W.failures out.old; after = W.failures out.new };
-      certificates = record { held = C.contents cert_out.old; holds = C.contents cert_out.new; before = C.failures cert_out.old; after = C.failures cert_out.new };
-      yard_after = record { held = A.contents after_out.old; holds = A.contents after_out.new; before = A.failures after_out.old; after = A.failures after_out.new };
-    } in MatchResult result (λ status. WritesTexts settings.now seen status × (run_failures seen ≤ most_interruptions))
-        (λ fault. RunFailsWith settings.now seen fault × (run_failures seen ≤ most_run_failures fault)) }
+      yard = source_seen Y.remaining Y.failures devices.old.yard devices.new.yard;
+      movins = source_seen M.remaining M.failures devices.old.movins devices.new.movins;
+      report = sink_seen W.contents W.failures out.old out.new;
+      certificates = sink_seen C.contents C.failures devices.old.certificates devices.new.certificates;
+      yard_after = sink_seen A.contents A.failures devices.old.yard_after devices.new.yard_after;
+    } in MatchResult result (RunEnds settings.now seen) (RunFails settings.now seen) }
     ensures shown { ShowsMore (E.contents errors.old) (E.contents errors.new) }
 {
     let mut interruptions = 0;
     let input = settings.input();
-    let listed = yard_from(alloc, yard, input.heights(), &mut interruptions)?;
+    let yard = yard_from(
+        alloc,
+        &mut devices.yard,
+        input.heights(),
+        &mut interruptions,
+    )?;
     let Message { segments, orders } = message_from(
         alloc,
-        movins,
+        &mut devices.movins,
         input.code(),
         &mut interruptions,
     )?;
-    let Work {
-        sequence,
-        first,
-        problems,
-    } = work_of(alloc, &listed, orders, settings)?;
-    watch.accepts(alloc, &listed, &segments, &sequence, settings, errors);
+    let work = work_of(alloc, yard, orders, settings)?;
+    watch.accepts(
+        alloc,
+        &work.yard,
+        &segments,
+        &work.sequence,
+        settings,
+        errors,
+    );
+    let mut sinks = RunSinks {
+        report: out,
+        certificates: &mut devices.certificates,
+        yard_after: &mut devices.yard_after,
+        interruptions,
+    };
     let ended = write_run(
         rt,
         alloc,
-        &listed,
-        &first,
-        problems,
+        work,
         settings.search(),
-        out,
-        cert_out,
-        after_out,
-        &mut interruptions,
+        &mut sinks,
         watch,
         errors,
     );
@@ -241,31 +231,24 @@ pub fn run_watched<
 pub fn run<T: Threads + Wait + Sync, Y: Source, M: Source, W: Sink, C: Sink, A: Sink>(
     rt: &T,
     alloc: Global,
-    yard: &mut Y,
-    movins: &mut M,
+    devices: &mut Devices<Y, M, C, A>,
     settings: &RunSettings,
     out: &mut W,
-    cert_out: &mut C,
-    after_out: &mut A,
 ) -> Result<Status, Fault>
     ensures { let seen : RunSeen = record {
-      yard = record { given = Y.remaining yard.old; before = Y.failures yard.old; after = Y.failures yard.new };
-      movins = record { given = M.remaining movins.old; before = M.failures movins.old; after = M.failures movins.new };
-      report = record { held = W.contents out.old; holds = W.contents out.new; before = W.failures out.old; after = W.failures out.new };
-      certificates = record { held = C.contents cert_out.old; holds = C.contents cert_out.new; before = C.failures cert_out.old; after = C.failures cert_out.new };
-      yard_after = record { held = A.contents after_out.old; holds = A.contents after_out.new; before = A.failures after_out.old; after = A.failures after_out.new };
-    } in MatchResult result (λ status. WritesTexts settings.now seen status × (run_failures seen ≤ most_interruptions))
-        (λ fault. RunFailsWith settings.now seen fault × (run_failures seen ≤ most_run_failures fault)) }
+      yard = source_seen Y.remaining Y.failures devices.old.yard devices.new.yard;
+      movins = source_seen M.remaining M.failures devices.old.movins devices.new.movins;
+      report = sink_seen W.contents W.failures out.old out.new;
+      certificates = sink_seen C.contents C.failures devices.old.certificates devices.new.certificates;
+      yard_after = sink_seen A.contents A.failures devices.old.yard_after devices.new.yard_after;
+    } in MatchResult result (RunEnds settings.now seen) (RunFails settings.now seen) }
 {
     run_watched(
         rt,
         alloc,
-        yard,
-        movins,
+        devices,
         settings,
         out,
-        cert_out,
-        after_out,
         &mut Unwatched::new(),
         &mut Nowhere,
     )

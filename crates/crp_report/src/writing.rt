@@ -5,10 +5,19 @@ ghost use Rattle.crp_plan.specs.Devices.{AppendsPart, most_interruptions};
 ghost use Rattle.crp_report.specs.Runs.{failures_of_fault};
 ghost use Rattle.crp_report.specs.Pieces.{piece};
 ghost use Rattle.crp_report.specs.BayTexts.{AreFailuresCounted, IsWriteOf};
-ghost use Rattle.crp_report.specs.Writing.{Sinks, sinks_of, Writes, StopsWith};
+ghost use Rattle.crp_report.specs.Writing.{Sinks, sinks_of, AreSameSinks, Writes, StopsWith};
 
 use crate::fault::{Fault, Output};
 use crp_plan::{Sink, write_all};
+
+/// The sinks of a run, and how many interruptions it has passed over.
+#[derive(Drop)]
+pub(crate) struct RunSinks<'r, 'd, W, C, A> {
+    pub report: &'r mut W,
+    pub certificates: &'d mut C,
+    pub yard_after: &'d mut A,
+    pub interruptions: u32,
+}
 
 // Writes a piece to the sink that it goes to.
 fn write_to<W: Sink>(
@@ -34,21 +43,34 @@ fn write_to<W: Sink>(
 
 /// Writes one piece.
 pub(crate) fn write_piece<W: Sink, C: Sink, A: Sink>(
-    out: &mut W,
-    cert_out: &mut C,
-    after_out: &mut A,
+    sinks: &mut RunSinks<'_, '_, W, C, A>,
     to: Output,
     bytes: &[u8],
-    interruptions: &mut u32,
 ) -> Result<(), Fault>
-    requires { interruptions.old ≤ most_interruptions }
-    ensures { let before : Sinks = sinks_of (W.contents out.old) (W.failures out.old) (C.contents cert_out.old) (C.failures cert_out.old) (A.contents after_out.old) (A.failures after_out.old) interruptions.old in
-        let after : Sinks = sinks_of (W.contents out.new) (W.failures out.new) (C.contents cert_out.new) (C.failures cert_out.new) (A.contents after_out.new) (A.failures after_out.new) interruptions.new in
+    requires { sinks.old.interruptions ≤ most_interruptions }
+    ensures same { AreSameSinks sinks.old sinks.new }
+    ensures written { let before : Sinks = sinks_of W.contents W.failures C.contents C.failures A.contents A.failures sinks.old in
+        let after : Sinks = sinks_of W.contents W.failures C.contents C.failures A.contents A.failures sinks.new in
         MatchResult result (λ _. Writes (piece to bytes.now ∷ []) before after) (StopsWith (piece to bytes.now ∷ []) before after) }
 {
     match to {
-        Output::Report => write_to(out, bytes, Output::Report, interruptions),
-        Output::Certificates => write_to(cert_out, bytes, Output::Certificates, interruptions),
-        Output::YardAfter => write_to(after_out, bytes, Output::YardAfter, interruptions),
+        Output::Report => write_to(
+            sinks.report,
+            bytes,
+            Output::Report,
+            &mut sinks.interruptions,
+        ),
+        Output::Certificates => write_to(
+            sinks.certificates,
+            bytes,
+            Output::Certificates,
+            &mut sinks.interruptions,
+        ),
+        Output::YardAfter => write_to(
+            sinks.yard_after,
+            bytes,
+            Output::YardAfter,
+            &mut sinks.interruptions,
+        ),
     }
 }

@@ -1,6 +1,5 @@
 use Rattle.std.proofs.lemmas.Result.{err_from_is_err_and}
 use Rattle.crp_report.proofs.Answering.{bay_not_answered, bay_not_stated, lines_not_written, certificate_not_written, bay_written}
-use Rattle.crp_report.proofs.Shown.{shows_then}
 use Rattle.crp_report.proofs.bays.write_bay.Goals as goal
 
 pub returns-in_err-solved-clause-written : goal.returns-in_err-solved-clause-written
@@ -17,19 +16,16 @@ pub returns-in_err-write_piece-clause-written : goal.returns-in_err-write_piece-
 returns-in_err-write_piece-clause-written g c =
     let p = err_from_is_err_and c.from_residual-in_err-write_piece.result c.from_residual-in_err-write_piece.ensures.1 in
     rw (p.1, p.2) (lines_not_written c.args.settings c.args.bay.now c.in_ok-solved.solved c.in_ok-texts.texts.report.items _ _ c.in_err-write_piece.field-0.0 c.in_ok-solved.ensures.solved
-    c.in_ok-texts.ensures.report (rw c.deref.ensures.value at c.in_err-write_piece.ensures))
+    c.in_ok-texts.ensures.report (rw c.deref.ensures.value at c.in_err-write_piece.ensures.written))
 
 pub returns-in_err-write_piece-2-clause-written : goal.returns-in_err-write_piece-2-clause-written
 returns-in_err-write_piece-2-clause-written g c =
     let p = err_from_is_err_and c.from_residual-in_err-write_piece-2.result c.from_residual-in_err-write_piece-2.ensures.1 in
     rw (p.1, p.2) (certificate_not_written c.args.settings c.args.bay.now c.in_ok-solved.solved c.in_ok-texts.texts.report.items c.in_ok-texts.texts.certificate.items _ _ _
     c.in_err-write_piece-2.field-0.0 c.in_ok-solved.ensures.solved c.in_ok-texts.ensures.report c.in_ok-texts.ensures.certificate
-    (rw c.deref.ensures.value at c.in_ok-write_piece.ensures) (rw c.deref-2.ensures.value at c.in_err-write_piece-2.ensures))
+    (rw c.deref.ensures.value at c.in_ok-write_piece.ensures.written) (rw c.deref-2.ensures.value at c.in_err-write_piece-2.ensures.written))
 
 pub returns-clause-written : goal.returns-clause-written
 returns-clause-written g c =
     bay_written c.args.settings c.args.bay.now c.in_ok-solved.solved c.in_ok-texts.texts.report.items c.in_ok-texts.texts.certificate.items _ _ _ c.in_ok-solved.ensures.solved
-    c.in_ok-texts.ensures.report c.in_ok-texts.ensures.certificate (rw c.deref.ensures.value at c.in_ok-write_piece.ensures) (rw c.deref-2.ensures.value at c.in_ok-write_piece-2.ensures)
-
-pub returns-clause-shown : goal.returns-clause-shown
-returns-clause-shown g c = shows_then _ _ _ c.begins.ensures c.answers.ensures
+    c.in_ok-texts.ensures.report c.in_ok-texts.ensures.certificate (rw c.deref.ensures.value at c.in_ok-write_piece.ensures.written) (rw c.deref-2.ensures.value at c.in_ok-write_piece-2.ensures.written)

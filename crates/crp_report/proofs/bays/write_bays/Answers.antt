@@ -1,18 +1,19 @@
-use Rattle.std.proofs.Common.{◌≡◌, ◌∙◌, List, [], ◌∷◌, ◌++◌, length, ap, sym, arith, rules, append_assoc, length-append}
+use Rattle.std.proofs.Common.{◌≡◌, ◌∙◌, List, [], ◌∷◌, ◌++◌, length, ap, refl, sym, arith, rules, append_assoc, length-append}
 use Rattle.std.proofs.lemmas.Result.{err_from_is_err_and}
 use Rattle.crp_order.specs.declared.bay_problem.BayProblem.{BayProblem}
 use Rattle.crp_report.specs.declared.fault.Fault.TheVariants as fault
 use Rattle.crp_report.proofs.Answering.{problems_behind, no_bays, bays_more, bays_stop, bay_not_kept, as_many, fewer_decided}
 use Rattle.crp_report.proofs.Shown.{shows_nothing, shows_then}
+use Rattle.crp_report.proofs.Taken.{same_then}
 use Rattle.crp_report.proofs.bays.write_bays.Goals as goal
 
 pub loop-bay-init : goal.loop-bay-init
 loop-bay-init g c =
-    ([], search rules, no_bays c.args.settings _ c.none-done.result c.requires.passed c.none-done.ensures, shows_nothing (g.E.Sink.contents c.args.errors.now))
+    ([], search rules, no_bays c.args.settings _ c.none-done.result c.requires.passed c.none-done.ensures, shows_nothing (g.E.Sink.contents c.args.errors.now), record { report = refl; certificates = refl; yard_after = refl })
 
 pub write_bay-requires-clause-problem : goal.write_bay-requires-clause-problem
 write_bay-requires-clause-problem g c =
-    let (before, split, written, shown) = c.loop-bay.invariant in
+    let (before, split, written, shown, same) = c.loop-bay.invariant in
     let bay = c.in-Some.bay in
     let rest = c.next.new.self.rest.items in
     let next : c.loop-bay.bay-iterator.rest.items ≡ bay ∷ rest = c.in-Some.ensures.steps.0 in
@@ -22,7 +23,7 @@ write_bay-requires-clause-problem g c =
 
 pub returns-in_err-solved-clause-written : goal.returns-in_err-solved-clause-written
 returns-in_err-solved-clause-written g c =
-    let (before, split, written, shown) = c.loop-bay.invariant in
+    let (before, split, written, shown, same) = c.loop-bay.invariant in
     let bay = c.in-Some.bay in
     let rest = c.next.new.self.rest.items in
     let next : c.loop-bay.bay-iterator.rest.items ≡ bay ∷ rest = c.in-Some.ensures.steps.0 in
@@ -32,12 +33,12 @@ returns-in_err-solved-clause-written g c =
 
 pub returns-in_err-solved-clause-shown : goal.returns-in_err-solved-clause-shown
 returns-in_err-solved-clause-shown g c =
-    let (before, split, written, shown) = c.loop-bay.invariant in
-    shows_then _ _ _ shown c.in_err-solved.ensures.shown
+    let (before, split, written, shown, same) = c.loop-bay.invariant in
+    shows_then _ _ _ (shows_then _ _ _ shown c.begins.ensures) c.in_err-solved.ensures.shown
 
 pub push-requires-clause-few : goal.push-requires-clause-few
 push-requires-clause-few g c =
-    let (before, split, written, shown) = c.loop-bay.invariant in
+    let (before, split, written, shown, same) = c.loop-bay.invariant in
     let bay = c.in-Some.bay in
     let rest = c.next.new.self.rest.items in
     let next : c.loop-bay.bay-iterator.rest.items ≡ bay ∷ rest = c.in-Some.ensures.steps.0 in
@@ -46,12 +47,12 @@ push-requires-clause-few g c =
 
 pub push-requires-clause-within : goal.push-requires-clause-within
 push-requires-clause-within g c =
-    let (before, split, written, shown) = c.loop-bay.invariant in
+    let (before, split, written, shown, same) = c.loop-bay.invariant in
     fewer_decided c.args.settings before _ _ c.loop-bay.done written
 
 pub returns-in_err-push-clause-written : goal.returns-in_err-push-clause-written
 returns-in_err-push-clause-written g c =
-    let (before, split, written, shown) = c.loop-bay.invariant in
+    let (before, split, written, shown, same) = c.loop-bay.invariant in
     let bay = c.in-Some.bay in
     let rest = c.next.new.self.rest.items in
     let next : c.loop-bay.bay-iterator.rest.items ≡ bay ∷ rest = c.in-Some.ensures.steps.0 in
@@ -62,17 +63,18 @@ returns-in_err-push-clause-written g c =
 
 pub returns-in_err-push-clause-shown : goal.returns-in_err-push-clause-shown
 returns-in_err-push-clause-shown g c =
-    let (before, split, written, shown) = c.loop-bay.invariant in
-    shows_then _ _ _ shown c.in_ok-solved.ensures.shown
+    let (before, split, written, shown, same) = c.loop-bay.invariant in
+    shows_then _ _ _ (shows_then _ _ _ shown c.begins.ensures) c.in_ok-solved.ensures.shown
 
 pub loop-bay-preserved : goal.loop-bay-preserved
 loop-bay-preserved g c =
-    let (before, split, written, shown) = c.loop-bay.invariant in
+    let (before, split, written, shown, same) = c.loop-bay.invariant in
     let bay = c.in-Some.bay in
     let rest = c.next.new.self.rest.items in
     let next : c.loop-bay.bay-iterator.rest.items ≡ bay ∷ rest = c.in-Some.ensures.steps.0 in (
       before ++ bay ∷ [],
       append_assoc before (bay ∷ []) rest ∙ ap (λ (l : List BayProblem). before ++ l) (sym next) ∙ split,
       bays_more c.args.settings before bay c.in_ok-solved.solved _ _ _ _ _ written c.in_ok-solved.ensures.written c.in_ok-push.ensures,
-      shows_then _ _ _ shown c.in_ok-solved.ensures.shown,
+      shows_then _ _ _ (shows_then _ _ _ shown c.begins.ensures) c.in_ok-solved.ensures.shown,
+      same_then _ _ _ same c.in_ok-solved.ensures.same,
     )
