@@ -1,5 +1,5 @@
 -- Files by their names: what is known of them, and what of that a call changes.
-use Rattle.std.specs.Prelude.{◌≡◌, ℕ, Bool, true, false, ◌++◌, List, Option, Some, None, ⊤}
+use Rattle.std.specs.Prelude.{◌≡◌, ℕ, Bool, true, false, ◌++◌, List, Option, Some, None, IfSome, ⊤}
 
 -- what is known of files: whether the bytes that are written to them are stated; by its name the bytes of each, where they are known, and whether it may be
 -- refused to who would read or write it; and of two names whether they lead to one file, where that is known
@@ -32,6 +32,20 @@ pub record IsChangedAt (name : List ℕ) (old new : KnownFiles) : Type 0 where
 abbrev pub IsChangedIn : Option (List ℕ) → KnownFiles → KnownFiles → Type 0
 IsChangedIn None old new = new ≡ old
 IsChangedIn (Some name) old new = IsChangedAt name old new
+
+-- what was known of the bytes of any file is so still
+abbrev pub KeepsBytes : KnownFiles → KnownFiles → Type 0
+KeepsBytes old new = (name : List ℕ) → IfSome (old.given name) (λ bytes. new.given name ≡ Some bytes)
+
+-- a file of this name was made if none was there
+pub record IsPreparedAt (name : List ℕ) (old new : KnownFiles) : Type 0 where
+  pub changed : IsChangedAt name old new
+  pub kept : KeepsBytes old new
+
+-- the same of a file that is named where one is asked for; where none is, nothing has changed
+abbrev pub IsPreparedIn : Option (List ℕ) → KnownFiles → KnownFiles → Type 0
+IsPreparedIn None old new = new ≡ old
+IsPreparedIn (Some name) old new = IsPreparedAt name old new
 
 -- what is known of a file begins with these bytes
 abbrev pub IsFront : Option (List ℕ) → List ℕ → Type 0

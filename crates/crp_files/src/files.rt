@@ -1,7 +1,7 @@
 //! How files are opened by their names and given back.
 ghost use Rattle.std.specs.Prelude.{◌≡◌, ◌≤◌, ◌+◌, ℕ, [], Some, IsTrue, IfOk, IfErr, IfSome, OnOk, MatchResult, vec_len};
 ghost use Rattle.crp_plan.specs.Devices.{CountsMore, CountsOne};
-ghost use Rattle.crp_files.specs.Known.{KnownFiles, IsChangedAt, IsFront, nothing_known};
+ghost use Rattle.crp_files.specs.Known.{KnownFiles, IsChangedAt, IsPreparedAt, IsFront, nothing_known};
 
 use crp_plan::{Sink, Source};
 use std::alloc::Global;
@@ -28,8 +28,8 @@ pub trait Files {
     // How many files could not be opened or finished, and how many calls of those that were closed have failed, up to the largest u64.
     ghost failures: { Self → ℕ };
 
-    /// Whether two names lead to one file, by a link of whatever kind, as far as that can be seen without opening it. A file that is not
-    /// there is no other.
+    /// Whether two names lead to one plain file that is there, by a link of whatever kind or as what stands behind a standard stream, as far
+    /// as that can be seen without opening it. A pipe, a terminal and other devices have no bytes to lose, and are no other.
     fn is_one_file(&self, name: &str, other: &str) -> bool
         ensures { IfSome ((known self.now).are_one name.now other.now) (λ one. result ≡ one) };
 
@@ -46,6 +46,12 @@ pub trait Files {
         ensures refused { IfErr result (λ _. IsTrue ((known self.old).may_not_open name.now)) }
         ensures kept { known self.new ≡ known self.old }
         ensures count { MatchResult result (λ _. failures self.new ≡ failures self.old) (λ _. CountsOne (failures self.old) (failures self.new)) };
+
+    /// Makes an empty file of this name where nothing is there, also where the name is a link that leads to nothing. What is there stays as
+    /// it is, and is not opened. It counts no failure: where no file can be made, `create` will say so.
+    fn prepare(&mut self, name: &str)
+        ensures prepared { IsPreparedAt name.now (known self.old) (known self.new) }
+        ensures count { failures self.new ≡ failures self.old };
 
     /// Makes a file, or empties the one that is there, to write it.
     fn create(&mut self, name: &str) -> Result<Self::Output, NotOpened>

@@ -4,7 +4,7 @@ ghost use Rattle.std.specs.Prelude.{◌≡◌};
 use crate::files::{Files, NotFinished, NotOpened};
 use crp_plan::{Counted, read_all};
 use std::alloc::Global;
-use std::fs::{self, File};
+use std::fs::{self, File, OpenOptions};
 use std::io::{self, ErrorKind, Read};
 use std::os::unix::fs::MetadataExt;
 
@@ -50,7 +50,10 @@ impl Files for SystemFiles<'_> {
         let Ok(second) = fs::metadata(self.rt, other) else {
             return false;
         };
-        first.dev() == second.dev() && first.ino() == second.ino()
+        first.is_file()
+            && second.is_file()
+            && first.dev() == second.dev()
+            && first.ino() == second.ino()
     }
 
     fn begins(&self, alloc: Global, name: &str, most: usize) -> Option<Vec<u8>> {
@@ -76,6 +79,14 @@ impl Files for SystemFiles<'_> {
                 self.failed = self.failed.saturating_add(1);
                 Err(NotOpened)
             }
+        }
+    }
+
+    fn prepare(&mut self, name: &str) {
+        if fs::metadata(self.rt, name).is_err() {
+            let mut making = OpenOptions::new();
+            making.write(true).create(true);
+            let _made = making.open(self.rt, name);
         }
     }
 

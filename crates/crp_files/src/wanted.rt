@@ -1,11 +1,21 @@
 //! A file that is written where one is asked for.
 ghost use Rattle.std.specs.Prelude.{◌≡◌, ◌+◌, [], Some, None, IsTrue, IsSome, IfOk, IfErr, IfSome, OnOk, MatchOption, MatchResult, option_map};
 ghost use Rattle.crp_plan.specs.Devices.{CountsMore, CountsOne};
-ghost use Rattle.crp_files.specs.Known.{IsChangedIn};
+ghost use Rattle.crp_files.specs.Known.{IsChangedIn, IsPreparedIn};
 
 use crate::files::{Files, NotFinished, NotOpened};
 use crp_plan::{Failure, Sink};
 use std::marker::{Brand, Model, PhantomData};
+
+/// Makes an empty file of this name where one is asked for and nothing is there. What is there stays as it is.
+pub fn prepare_wanted<F: Files>(files: &mut F, name: Option<&str>)
+    ensures prepared { IsPreparedIn (option_map (λ name. name.now) name.entry) (F.known files.old) (F.known files.new) }
+    ensures count { F.failures files.new ≡ F.failures files.old }
+{
+    if let Some(name) = name {
+        files.prepare(name);
+    }
+}
 
 /// The name of a file that is written, if one is. Who opens it picks that, by the type `Brand`.
 pub trait Named {

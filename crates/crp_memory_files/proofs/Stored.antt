@@ -1,6 +1,7 @@
 -- Files in memory, of which one was written.
-use Rattle.std.proofs.Common.{◌≡◌, ◌≢◌, ℕ, ◌<◌, zero, suc, Bool, true, false, List, [], ◌∷◌, length, take, drop, set, slice_get, Option, Some, None, option_map, if◌then◌else◌, refl, ap, subst, sym, arith, tests}
+use Rattle.std.proofs.Common.{◌≡◌, ◌≢◌, ◌∙◌, ℕ, ◌<◌, inl, inr, IfSome, zero, suc, Bool, true, false, List, [], ◌∷◌, length, take, drop, set, slice_get, Option, Some, None, option_map, if◌then◌else◌, refl, ap, subst, sym, arith, tests}
 use Rattle.std.proofs.lemmas.List.{take-append-drop}
+use Rattle.std.proofs.lemmas.Bool.Decides.{eqb_tells}
 use Rattle.crp_files.specs.Known.{IsFront}
 use Rattle.crp_memory_files.specs.declared.memory.StoredFile.{StoredFile}
 use Rattle.crp_memory_files.specs.declared.memory.Written.{Written}
@@ -59,3 +60,18 @@ stands stored written place now begun within among =
     subst (λ (f : Option StoredFile). bytes_of f (slice_get (set written place now) place) ≡ Some now.bytes.items) (sym is)
     (subst (λ (w : Option Written). bytes_of (Some file) w ≡ Some now.bytes.items) (sym (get_same written place now among))
     (subst (λ (b : Bool). (if b then Some now.bytes.items else option_map (λ bytes. bytes.now) file.given) ≡ Some now.bytes.items) (sym begun) refl))
+
+-- a file that was made where none was: what was known of the bytes of each is so still
+still_known : (old new : Option (List ℕ)) → new ≡ old → IfSome old (λ bytes. new ≡ Some bytes)
+still_known None new same = tt
+still_known (Some bytes) new same = same
+
+pub made_kept : (stored : List StoredFile) (written : List Written) (place : ℕ) (now : Written) (other : Option ℕ) → bytes_at stored written (Some place) ≡ None
+    → IfSome (bytes_at stored written other) (λ bytes. bytes_at stored (set written place now) other ≡ Some bytes)
+made_kept stored written place now None none = tt
+made_kept stored written place now (Some other) none = elim (eqb_tells other place) [
+  | inl (is, same) ↦ subst (λ (o : Option (List ℕ)). IfSome o (λ bytes. bytes_at stored (set written place now) (Some other) ≡ Some bytes))
+      (sym (ap (λ (i : ℕ). bytes_at stored written (Some i)) same ∙ none)) tt
+  | inr (is, apart) ↦ still_known (bytes_at stored written (Some other)) (bytes_at stored (set written place now) (Some other))
+      (ap (bytes_of (slice_get stored other)) (get_other written place other now apart))
+]

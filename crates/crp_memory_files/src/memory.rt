@@ -22,7 +22,7 @@ pub struct StoredFile<'a> {
 /// What was written to a file.
 #[derive(Drop)]
 pub struct Written {
-    /// Whether it was made to be written, and so was emptied.
+    /// Whether it was made, or emptied, to be written.
     pub begun: bool,
     /// The bytes that it then got, once it was finished.
     pub bytes: Vec<u8>,
@@ -126,6 +126,19 @@ impl<'a> Files for FilesInMemory<'a> {
                 self.failed = self.failed.saturating_add(1);
                 Err(NotOpened)
             }
+        }
+    }
+
+    #[tactic(auto, using(crate::proofs::Stored::other_kept, crate::proofs::Stored::made_kept))]
+    fn prepare(&mut self, name: &str) {
+        let Some(place) = place_of(self.stored, name) else {
+            return;
+        };
+        if self.stored[place].given.is_none() && !self.written[place].begun {
+            self.written[place] = Written {
+                begun: true,
+                bytes: Vec::new(self.alloc),
+            };
         }
     }
 

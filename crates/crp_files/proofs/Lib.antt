@@ -1,0 +1,3 @@
+-- What is proved of files as devices.
+pub mod Sharing
+pub mod Prepared
