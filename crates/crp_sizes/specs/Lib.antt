@@ -1,0 +1,4 @@
+pub mod Heights
+pub mod Records
+pub mod Faults
+pub mod Reading

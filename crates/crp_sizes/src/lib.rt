@@ -1,0 +1,21 @@
+//! Reads lists of sizes: for each bay that is not of the yard's common size, how many tiers each of its rows has.
+//!
+//! A list of sizes is CSV with a header and a record for each bay. `read_sizes` answers what the records give exactly where none has a
+//! fault, and else the first fault with the number of its record. What a text of heights is is said in `specs/Heights.antt`, what a list is
+//! in `specs/Records.antt`, and which fault is the first in `specs/Faults.antt`.
+#![tactic(auto)]
+
+mod fault;
+mod fields;
+mod heights;
+mod laws;
+mod reading;
+mod records;
+mod row_heights;
+mod sizes;
+
+pub use fault::SizesFault;
+pub use heights::heights_in;
+pub use laws::{one_list, one_outcome, sized_as_listed};
+pub use reading::{read_sizes, sizes_from};
+pub use sizes::Sizes;
