@@ -8,7 +8,7 @@ use Rattle.crp_sizes.specs.Heights.{behind_points, IsHeightsText, HasHeightAt}
 -- ---- from heights to their text
 
 -- two bytes for each
-length_behind : (heights : List ℕ) → length (behind_points heights) ≡ 2 * length heights
+pub length_behind : (heights : List ℕ) → length (behind_points heights) ≡ 2 * length heights
 length_behind [] = refl
 length_behind (height ∷ heights) = let e = length_behind heights in omega (arith, e)
 
@@ -29,7 +29,7 @@ digit_at (height ∷ heights) (suc k) within =
     subst (λ (i : ℕ). get_or (behind_points (height ∷ heights)) i 0 ≡ 48 + get_or heights k 0) n (digit_at heights k (omega arith))
 
 -- with a point before it the text is their digits, each behind a point
-with_point : (heights : List ℕ) (text : List ℕ) → IsHeightsText heights text → 46 ∷ text ≡ behind_points heights
+pub with_point : (heights : List ℕ) (text : List ℕ) → IsHeightsText heights text → 46 ∷ text ≡ behind_points heights
 with_point [] text is = absurd (omega (arith, is.0.0.0))
 with_point (height ∷ heights) text is = ap (λ (t : List ℕ). 46 ∷ t) is.1
 

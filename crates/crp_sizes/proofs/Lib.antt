@@ -4,3 +4,4 @@ pub mod BaySteps
 pub mod SizeSteps
 pub mod RowSteps
 pub mod HeaderSteps
+pub mod Outcomes

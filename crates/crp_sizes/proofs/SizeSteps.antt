@@ -59,7 +59,7 @@ next_size (f ∷ before) (s ∷ front) fields after (size ∷ sizes) is all =
 abbrev names : List BaySize → List YardBay
 names sizes = map (λ (size : BaySize). size.0) sizes
 
-turned : (a b : YardBay) → same_bay a b ≡ false → same_bay b a ≡ false
+pub turned : (a b : YardBay) → same_bay a b ≡ false → same_bay b a ≡ false
 turned a b e = sym (same_bay_laws.symm a b) ∙ e
 
 -- and the sizes before it have not its bay

@@ -1,6 +1,6 @@
 //! Laws of the definitions. Each is the contract of a function that does nothing.
 
-ghost use Rattle.std.specs.Prelude.{◌≡◌, ◌↔◌, ◌∷◌, [], ℕ, List, Some, codes, slice_get};
+ghost use Rattle.std.specs.Prelude.{◌≡◌, ◌↔◌, ◌⊎◌, ◌∷◌, [], ℕ, List, Some, codes, slice_get};
 ghost use Rattle.crp_plan.specs.BayNames.{YardBay};
 ghost use Rattle.crp_sizes.specs.Heights.{IsHeightsText};
 ghost use Rattle.crp_sizes.specs.Records.{BaySize, heights_of, IsSizesList};
@@ -14,8 +14,9 @@ pub fn one_list()
     ensures sizes { (text : List ℕ) (sizes others : List BaySize) → IsSizesList text sizes → IsSizesList text others → sizes ≡ others }
 {}
 
-/// A text has one first fault at most, and none where it lists sizes.
+/// A text lists sizes or has a first fault, and never both, nor two first faults.
 pub fn one_outcome()
+    ensures some { (text : List ℕ) → ((sizes : List BaySize) × IsSizesList text sizes) ⊎ ((fault : SizesFault) × IsFirstFault text fault) }
     ensures fault { (text : List ℕ) (fault other : SizesFault) → IsFirstFault text fault → IsFirstFault text other → fault ≡ other }
     ensures either { (text : List ℕ) (sizes : List BaySize) (fault : SizesFault) → IsSizesList text sizes → IsFirstFault text fault → ⊥ }
 {}
