@@ -5,3 +5,4 @@ pub mod SizeSteps
 pub mod RowSteps
 pub mod HeaderSteps
 pub mod Outcomes
+pub mod Cases

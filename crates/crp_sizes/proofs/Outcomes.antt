@@ -1,9 +1,8 @@
 -- Each text lists sizes or has a first fault.
-use Prim.Native.Nat.{zero}
-use Rattle.std.proofs.Common.{◌≡◌, ◌∙◌, ◌⊎◌, inl, inr, ⊎_elim, ◌≤◌, ◌<◌, ℕ, suc, ◌+◌, ◌-◌, Bool, true, false, List, [], ◌∷◌, ◌++◌, map, length, drop, Option, Some, None, refl, sym, ap, subst, arith, append_assoc, append-nil, get_or, cond}
+use Rattle.std.proofs.Common.{◌≡◌, ◌∙◌, ◌⊎◌, inl, inr, ⊎_elim, ◌<◌, ℕ, ◌+◌, ◌-◌, Bool, true, false, List, [], ◌∷◌, ◌++◌, map, length, drop, Option, Some, None, refl, sym, ap, subst, arith, append_assoc, append-nil, get_or, cond}
 use Rattle.std.specs.Prelude.{IsTrue, IsSome}
 use Rattle.std.specs.List.{IsDistinct, AllByRecursion}
-use Rattle.std.proofs.lemmas.Bool.{cases_lt, cases_eq, false≢true, true≢false}
+use Rattle.std.proofs.lemmas.Bool.{cases_lt, cases_eq, false≢true}
 use Rattle.std.proofs.lemmas.List.Elements.{All-from_recursion, recursion_from_All}
 use Rattle.std.proofs.lemmas.Map.Keys.{IsDistinct-head, IsDistinct-tail, IsDistinct-cons}
 use Rattle.crp_plan.specs.BayNames.{YardBay, same_bay}
@@ -14,7 +13,7 @@ use Rattle.crp_sizes.specs.declared.fault.SizesFault.{SizesFault}
 use Rattle.crp_sizes.specs.declared.fault.SizesFault.TheVariants.{Header, Fields, Digits, Heights, Twice, TooLarge}
 use Rattle.crp_sizes.specs.Heights.{behind_points, IsHeightsText}
 use Rattle.crp_sizes.specs.Records.{BaySize, heights_of, header, is_header, is_well_formed, has_number, bay_named, GivesSize, AreSizes, AreListed, IsSizesList}
-use Rattle.crp_sizes.specs.Faults.{IsFault, HasFault, IsFaultIn, IsFirstFault}
+use Rattle.crp_sizes.specs.Faults.{IsFault, IsFaultIn, IsFirstFault}
 use Rattle.crp_sizes.proofs.HeaderSteps.{header_is, no_header, none_there}
 use Rattle.crp_sizes.proofs.HeightSteps.{length_behind, with_point}
 use Rattle.crp_sizes.proofs.SizeSteps.{turned, one_size_more, faulty_next}
@@ -45,14 +44,14 @@ one_more point digit text (inl some) =
     elim (cases_eq point 46) [
       | inr other ↦ inr (λ heights all e. not_point heights e other)
       | inl is ↦ elim (cases_lt digit 49) [
-          | inl low ↦ inr (λ heights all e. not_digit heights all e (inl low))
-          | inr least ↦ elim (cases_lt 56 digit) [
-              | inl high ↦ inr (λ heights all e. not_digit heights all e (inr high))
-              | inr most ↦
-                  let same : digit ≡ 48 + (digit - 48) = omega arith in
-                  inl ((digit - 48) ∷ some.0, ((omega arith, omega arith), some.1), λ i. is i ∷ same i ∷ some.2 i)
-            ]
+        | inl low ↦ inr (λ heights all e. not_digit heights all e (inl low))
+        | inr least ↦ elim (cases_lt 56 digit) [
+          | inl high ↦ inr (λ heights all e. not_digit heights all e (inr high))
+          | inr most ↦
+              let same : digit ≡ 48 + (digit - 48) = omega arith in
+              inl ((digit - 48) ∷ some.0, ((omega arith, omega arith), some.1), λ i. is i ∷ same i ∷ some.2 i)
         ]
+      ]
     ]
   where
     not_point : (heights : List ℕ) → point ∷ digit ∷ text ≡ behind_points heights → (point ≡ 46 → ⊥) → ⊥
@@ -100,12 +99,12 @@ size_or_fault sizes fields n =
     elim (either (is_well_formed fields)) [
       | inr lacks ↦ inr (Fields n, (refl, not_true (is_well_formed fields) lacks))
       | inl formed ↦ elim (either (has_number fields)) [
-          | inr lacks ↦ inr (Digits n, (refl, formed, not_true (has_number fields) lacks))
-          | inl numbered ↦ elim (heights_or_none (field_of fields 2)) [
-              | inr none ↦ inr (Heights n, (refl, formed, numbered, none))
-              | inl some ↦ listed (bay_named fields, some.0) (record { formed = formed; numbered = numbered; bay = refl; heights = some.1 }) (heights_of sizes (bay_named fields)) refl
-            ]
+        | inr lacks ↦ inr (Digits n, (refl, formed, not_true (has_number fields) lacks))
+        | inl numbered ↦ elim (heights_or_none (field_of fields 2)) [
+          | inr none ↦ inr (Heights n, (refl, formed, numbered, none))
+          | inl some ↦ listed (bay_named fields, some.0) (record { formed = formed; numbered = numbered; bay = refl; heights = some.1 }) (heights_of sizes (bay_named fields)) refl
         ]
+      ]
     ]
   where
     listed : (size : BaySize) → GivesSize fields size → (there : Option (List ℕ)) → heights_of sizes size.0 ≡ there

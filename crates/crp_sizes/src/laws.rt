@@ -6,7 +6,7 @@ ghost use Rattle.crp_sizes.specs.Heights.{IsHeightsText};
 ghost use Rattle.crp_sizes.specs.Records.{BaySize, heights_of, IsSizesList};
 ghost use Rattle.crp_sizes.specs.Faults.{IsFirstFault};
 ghost use Rattle.crp_sizes.specs.declared.fault.SizesFault.{SizesFault};
-ghost use Rattle.crp_sizes.specs.declared.fault.SizesFault.TheVariants.{Header, Heights, Twice};
+ghost use Rattle.crp_sizes.specs.declared.fault.SizesFault.TheVariants.{Header, Digits, Heights, Twice};
 
 /// A text is that of one list of heights at most, and lists one list of sizes at most.
 pub fn one_list()
@@ -25,4 +25,17 @@ pub fn one_outcome()
 pub fn sized_as_listed()
     ensures { (text : List ℕ) (sizes : List BaySize) (bay : YardBay) (heights : List ℕ) → IsSizesList text sizes
         → (heights_of sizes bay ≡ Some heights) ↔ ((i : ℕ) × (slice_get sizes i ≡ Some (bay, heights))) }
+{}
+
+/// Some texts by hand: two sizes, a header alone, a height of 9, the bay 7 a second time as 07, the bay 0 before a record without fields,
+/// thirteen heights, and no header.
+pub fn worked_cases()
+    ensures listed { IsSizesList (codes "block,bay,heights\nA,7,5.5.5.5.4\nB,12,3\n")
+        ((record { block = codes "A"; bay = 7 }, 5 ∷ 5 ∷ 5 ∷ 5 ∷ 4 ∷ []) ∷ (record { block = codes "B"; bay = 12 }, 3 ∷ []) ∷ []) }
+    ensures empty { IsSizesList (codes "block,bay,heights\n") [] }
+    ensures nine { IsFirstFault (codes "block,bay,heights\nA,7,3\nA,8,3.9\n") (Heights 3) }
+    ensures again { IsFirstFault (codes "block,bay,heights\nA,7,3\nA,07,2.2\n") (Twice 3) }
+    ensures zero { IsFirstFault (codes "block,bay,heights\nA,0,3\nA\n") (Digits 2) }
+    ensures thirteen { IsFirstFault (codes "block,bay,heights\nA,7,1.1.1.1.1.1.1.1.1.1.1.1.1\n") (Heights 2) }
+    ensures bare { IsFirstFault (codes "A,7,3\n") (Header 1) }
 {}

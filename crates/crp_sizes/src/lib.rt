@@ -16,6 +16,6 @@ mod sizes;
 
 pub use fault::SizesFault;
 pub use heights::heights_in;
-pub use laws::{one_list, one_outcome, sized_as_listed};
+pub use laws::{one_list, one_outcome, sized_as_listed, worked_cases};
 pub use reading::{read_sizes, sizes_from};
 pub use sizes::Sizes;
