@@ -1,5 +1,5 @@
 -- Each text lists sizes or has a first fault.
-use Rattle.std.proofs.Common.{◌≡◌, ◌∙◌, ◌⊎◌, inl, inr, ⊎_elim, ◌<◌, ℕ, ◌+◌, ◌-◌, Bool, true, false, List, [], ◌∷◌, ◌++◌, map, length, drop, Option, Some, None, refl, sym, ap, subst, arith, append_assoc, append-nil, get_or, cond}
+use Rattle.std.proofs.Common.{◌≡◌, ◌∙◌, ◌⊎◌, inl, inr, ⊎_elim, ◌<◌, ℕ, ◌+◌, ◌-◌, Bool, true, false, List, [], ◌∷◌, ◌++◌, length, drop, Option, Some, None, refl, sym, ap, subst, arith, append_assoc, append-nil, get_or, cond}
 use Rattle.std.specs.Prelude.{IsTrue, IsSome}
 use Rattle.std.specs.List.{IsDistinct, AllByRecursion}
 use Rattle.std.proofs.lemmas.Bool.{cases_lt, cases_eq, false≢true}
@@ -16,7 +16,7 @@ use Rattle.crp_sizes.specs.Records.{BaySize, heights_of, header, is_header, is_w
 use Rattle.crp_sizes.specs.Faults.{IsFault, IsFaultIn, IsFirstFault}
 use Rattle.crp_sizes.proofs.HeaderSteps.{header_is, no_header, none_there}
 use Rattle.crp_sizes.proofs.HeightSteps.{length_behind, with_point}
-use Rattle.crp_sizes.proofs.SizeSteps.{turned, one_size_more, faulty_next}
+use Rattle.crp_sizes.proofs.SizeSteps.{names, turned, one_size_more, faulty_next}
 
 either : (b : Bool) → (b ≡ true) ⊎ (b ≡ false)
 either true = inl refl
@@ -111,9 +111,6 @@ size_or_fault sizes fields n =
         → ((size : BaySize) × GivesSize fields size × (heights_of sizes size.0 ≡ None)) ⊎ ((fault : SizesFault) × IsFault sizes fields n fault)
     listed size gives None e = inl (size, gives, e)
     listed size gives (Some x) e = inr (Twice n, (refl, size, gives, subst IsSome (sym e) refl))
-
-abbrev names : List BaySize → List YardBay
-names sizes = map (λ (size : BaySize). size.0) sizes
 
 apart_from : (sizes : List BaySize) (bay : YardBay) (size : BaySize) → heights_of (size ∷ sizes) bay ≡ None → (same_bay bay size.0 ≡ false) × (heights_of sizes bay ≡ None)
 apart_from sizes bay size e = by (same_bay bay size.0) e

@@ -56,7 +56,7 @@ next_size (f ∷ before) (s ∷ front) fields after (size ∷ sizes) is all =
     let found = next_size before front fields after sizes is.1 all.1 in
     (found.0, found.1, found.2, ap₂ (λ x xs. x ∷ xs) (same_size f size s all.0 is.0) found.3)
 
-abbrev names : List BaySize → List YardBay
+abbrev pub names : List BaySize → List YardBay
 names sizes = map (λ (size : BaySize). size.0) sizes
 
 pub turned : (a b : YardBay) → same_bay a b ≡ false → same_bay b a ≡ false

@@ -20,7 +20,7 @@ heights_of sizes bay = lookup (same_bay bay) sizes
 abbrev pub header : List (List ℕ)
 header = codes "block" ∷ codes "bay" ∷ codes "heights" ∷ []
 
--- the fields are those
+-- the fields are those. Only private clauses speak of it.
 abbrev pub is_header : List (List ℕ) → Bool
 is_header fields =
     (length fields == 3)
