@@ -175,6 +175,14 @@ message_failed : (message : SourceSeen) (seen : Option SourceSeen) → seen ≡ 
 message_failed message seen is new =
     subst (λ (o : Option SourceSeen). message.after + 0 ≡ source_failures o) (sym is) (let same : message.after + 0 ≡ message.after - message.before = omega arith in same)
 
+-- whether there is one is known
+pub asked_so : (chosen : InputChosen) (names : FollowFiles) (files : FilesSeen) (yard input message : SourceSeen) (out : SinkSeen) (a b : Bool) (answer : Result Status ToolFault)
+    → a ≡ b → AnswersOver chosen (IsOverReport names files (opened yard (if_asked a message) out) input) (RefusesFile names files (opened yard (if_asked a message) out) input) answer
+    → AnswersOver chosen (IsOverReport names files (opened yard (if_asked b message) out) input) (RefusesFile names files (opened yard (if_asked b message) out) input) answer
+asked_so chosen names files yard input message out a b answer is over =
+    subst (λ (asked : Bool). AnswersOver chosen (IsOverReport names files (opened yard (if_asked asked message) out) input)
+    (RefusesFile names files (opened yard (if_asked asked message) out) input) answer) is over
+
 -- read from its file
 pub over_message : (chosen : InputChosen) (names : FollowFiles) (files middle : FilesSeen) (yard input message : SourceSeen) (out : SinkSeen) (name : List ℕ)
     (answer : Result Status ToolFault) → message_name names ≡ Some name → middle.known ≡ files.known → files.left ≡ middle.left → middle.before ≡ files.before

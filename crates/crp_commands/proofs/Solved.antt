@@ -8,11 +8,11 @@ use Rattle.crp_report.specs.declared.fault.Output.{Output}
 use Rattle.crp_report.specs.declared.fault.Output.TheVariants as output
 use Rattle.crp_report.specs.declared.status.Status.{Status}
 use Rattle.crp_report.specs.Chosen.{RunChosen}
-use Rattle.crp_report.specs.Runs.{RunSeen, SinkSeen, sink_of}
+use Rattle.crp_report.specs.Runs.{RunEnds, RunFails, RunSeen, SinkSeen, sink_of}
 use Rattle.crp_files.specs.Known.{KnownFiles, IsChangedIn}
 use Rattle.crp_jobs.specs.declared.job.RunFiles.{RunFiles}
 use Rattle.crp_jobs.specs.Opened.{FilesSeen, IsFileOpened, IsWanted, IsLeft, IsOneRefused, IsLeftAlone}
-use Rattle.crp_commands.specs.Solving.{RunEnds, RunFails, Unfinished, unfinished_of, file_of, AreTwo, IsNotWritten, FailsWhereAsked, IsOverFiles, RunReportsOverFiles, RunFailsOverFiles}
+use Rattle.crp_commands.specs.Solving.{Unfinished, unfinished_of, file_of, AreTwo, IsNotWritten, FailsWhereAsked, IsOverFiles, RunReportsOverFiles, RunFailsOverFiles}
 use Rattle.crp_commands.proofs.Finished.{IsWritten, Unless, unfinished_in, wanted, left, same_states, same_links, other_kept, more_and_more}
 
 -- ---- the course of a run over files

@@ -1,5 +1,5 @@
 -- What a job does: a command over the bytes of one file, and any job, as its files, the standard input and the sink of its report see it.
-use Rattle.std.specs.Prelude.{◌≡◌, ◌≢◌, ℕ, ◌≤◌, ◌⊎◌, List, codes, IsTrue}
+use Rattle.std.specs.Prelude.{◌≡◌, ◌≢◌, ℕ, ◌≤◌, ◌⊎◌, List, Option, codes, IsTrue}
 use Rattle.crp_plan.specs.Devices.{most_interruptions}
 use Rattle.crp_report.specs.declared.status.Status.{Status}
 use Rattle.crp_report.specs.declared.status.Status.TheVariants as status
@@ -9,7 +9,7 @@ use Rattle.crp_jobs.specs.declared.job.Job.{Job}
 use Rattle.crp_jobs.specs.declared.job.Job.TheVariants as job
 use Rattle.crp_jobs.specs.declared.outcome.ToolFault.{ToolFault}
 use Rattle.crp_jobs.specs.declared.outcome.ToolFault.TheVariants as fault
-use Rattle.crp_report.specs.Runs.{SourceSeen, SinkSeen}
+use Rattle.crp_report.specs.Runs.{SourceSeen, SinkSeen, source_seen, sink_seen}
 use Rattle.crp_jobs.specs.Opened.{FilesSeen, FilesFail, IsFileOpened, IsOneRefused, AreFilesKept, AreFilesLeftAlone, IsSourceLeftAlone, IsLeftAlone}
 use Rattle.crp_commands.specs.Solving.{RunReportsOverFiles, RunFailsOverFiles}
 use Rattle.crp_commands.specs.Audit.{AuditReportsOverFiles, AuditFailsOverFiles}
@@ -20,7 +20,9 @@ use Rattle.crp_commands.specs.Replay.{IsReplay, IsNoReplay}
 use Rattle.crp_commands.specs.Bound.{IsBound, IsNoBound}
 use Rattle.crp_commands.specs.Check.{IsCheck, CheckFailsWith}
 use Rattle.crp_commands.specs.Prove.{IsProof, IsSomeProof, IsNoProof}
+use Rattle.crp_files.specs.Known.{KnownFiles}
 use Rattle.crp_commands.specs.declared.heads.TheConstants.{MOST_BYTES}
+use Rattle.crp_commands.specs.declared.streams.Streams.{Streams}
 
 -- the command was done, and ended with this status: its whole report was written, and nothing else
 abbrev pub Performs : FileCommand → Status → CallSeen → Type 0
@@ -61,6 +63,15 @@ pub record JobSeen : Type 0 where
   pub files : FilesSeen
   pub input : SourceSeen
   pub out : SinkSeen
+
+-- so it is of the values of the files and of the streams, by what each states
+abbrev pub job_seen : {F R W E : Type 0} → (F → KnownFiles) → (F → ℕ) → (R → Option (List ℕ)) → (R → ℕ) → (W → Option (List ℕ)) → (W → ℕ) → F → F → Streams R W E → Streams R W E
+    → JobSeen
+job_seen known files_failed remaining read_failed contents write_failed files left streams after = record {
+  files = record { known = known files; left = known left; before = files_failed files; after = files_failed left };
+  input = source_seen remaining read_failed streams.input after.input;
+  out = sink_seen contents write_failed streams.out after.out;
+}
 
 -- the source is the standard input, and the files were left alone
 pub record IsFromInput (seen : JobSeen) (source : SourceSeen) : Type 0 where

@@ -1,6 +1,5 @@
 -- What `solve` does over its files: what the run over them saw, how it ended, and which file could not be opened.
-use Rattle.std.specs.Prelude.{◌≡◌, ℕ, Bool, false, ◌+◌, ◌≤◌, ◌⊎◌, List, Option, Some, None, option_map, IfSome, MatchOption, IsSome, IsTrue, ⊤}
-use Rattle.crp_plan.specs.Devices.{most_interruptions}
+use Rattle.std.specs.Prelude.{◌≡◌, ℕ, Bool, false, ◌+◌, ◌⊎◌, List, Option, Some, None, option_map, IfSome, MatchOption, IsSome, IsTrue, ⊤}
 use Rattle.crp_report.specs.declared.fault.Fault.{Fault}
 use Rattle.crp_report.specs.declared.fault.Fault.TheVariants as run
 use Rattle.crp_report.specs.declared.fault.Input.{Input}
@@ -9,18 +8,10 @@ use Rattle.crp_report.specs.declared.fault.Output.{Output}
 use Rattle.crp_report.specs.declared.fault.Output.TheVariants as output
 use Rattle.crp_report.specs.declared.status.Status.{Status}
 use Rattle.crp_report.specs.Chosen.{RunChosen}
-use Rattle.crp_report.specs.Runs.{RunSeen, SinkSeen, WritesTexts, RunFailsWith, sink_of, run_failures, most_run_failures}
+use Rattle.crp_report.specs.Runs.{RunSeen, SinkSeen, RunEnds, RunFails, sink_of}
 use Rattle.crp_files.specs.Known.{KnownFiles}
 use Rattle.crp_jobs.specs.declared.job.RunFiles.{RunFiles}
 use Rattle.crp_jobs.specs.Opened.{FilesSeen, FilesFail, IsFileOpened, IsWanted, IsLeft, IsOneRefused, IsLeftAlone}
-
--- a run over these devices ended with the status: its texts were written, and no more calls failed than may be passed over
-abbrev pub RunEnds : RunChosen → RunSeen → Status → Type 0
-RunEnds chosen s ended = WritesTexts chosen s ended × (run_failures s ≤ most_interruptions)
-
--- a run over these devices ended with the fault: it is as stated, and no more calls failed than may be passed over and the one that is stated
-abbrev pub RunFails : RunChosen → RunSeen → Fault → Type 0
-RunFails chosen s f = RunFailsWith chosen s f × (run_failures s ≤ most_run_failures f)
 
 -- ---- the files of the outputs
 

@@ -6,7 +6,7 @@ ghost use Rattle.crp_yard.specs.Naming.{IsNamedBay};
 ghost use Rattle.crp_yard.specs.Reading.{IsTextOf};
 ghost use Rattle.crp_order.specs.Sequences.{IsSequence};
 ghost use Rattle.crp_report.specs.BayTexts.{AreFailuresCounted};
-ghost use Rattle.crp_report.specs.Runs.{SourceSeen, SinkSeen, Gets, GetsNothing, failures_of_fault};
+ghost use Rattle.crp_report.specs.Runs.{SourceSeen, SinkSeen, Gets, GetsNothing, failures_of_fault, sink_seen, source_seen};
 ghost use Rattle.crp_audit.specs.Headline.{Handed, handed, IsHeadline, shown_in};
 ghost use Rattle.crp_audit.specs.Stops.{IsAuditStop, failures_of_stop};
 ghost use Rattle.crp_commands.specs.declared.heads.TheConstants.{MOST_BYTES};
@@ -38,7 +38,7 @@ fn report_from<S: Source>(
 ) -> Result<Vec<u8>, ToolFault>
     requires { interruptions.old ≤ most_interruptions }
     ensures read { IfOk result (λ text. IsTextWithin MOST_REPORT (S.remaining source.old) text.items) }
-    ensures refused { IfErr result (IsNoStatement Statement.Report (record { given = S.remaining source.old; before = S.failures source.old; after = S.failures source.new })) }
+    ensures refused { IfErr result (IsNoStatement Statement.Report (source_seen S.remaining S.failures source.old source.new)) }
     ensures counted { MatchResult result
         (λ _. AreFailuresCounted 0 (S.failures source.old) (S.failures source.new) interruptions.old interruptions.new)
         (λ fault. AreFailuresCounted (failures_of_tool_fault fault) (S.failures source.old) (S.failures source.new) interruptions.old interruptions.new) }
@@ -84,12 +84,12 @@ pub(crate) fn input_from<Y: Source, M: Source>(
 ) -> Result<InputRead, Fault>
     requires first { interruptions.old ≡ 0 }
     ensures read { IfOk result (λ input. IsInputOf settings.now
-        (record { given = Y.remaining yard.old; before = Y.failures yard.old; after = Y.failures yard.new })
-        (record { given = M.remaining movins.old; before = M.failures movins.old; after = M.failures movins.new }) input.yard input.orders input.sequence) }
+        (source_seen Y.remaining Y.failures yard.old yard.new)
+        (source_seen M.remaining M.failures movins.old movins.new) input.yard input.orders input.sequence) }
     ensures named { IfOk result (λ input. AllByRecursion IsNamedBay input.yard.bays) }
     ensures refused { IfErr result (IsNoInput settings.now
-        (record { given = Y.remaining yard.old; before = Y.failures yard.old; after = Y.failures yard.new })
-        (record { given = M.remaining movins.old; before = M.failures movins.old; after = M.failures movins.new })) }
+        (source_seen Y.remaining Y.failures yard.old yard.new)
+        (source_seen M.remaining M.failures movins.old movins.new)) }
     ensures counted { MatchResult result
         (λ _. (Y.failures yard.new - Y.failures yard.old) + (M.failures movins.new - M.failures movins.old) ≤ interruptions.new)
         (λ fault. (Y.failures yard.new - Y.failures yard.old) + (M.failures movins.new - M.failures movins.old) ≤ interruptions.new + failures_of_fault fault) }
@@ -131,7 +131,7 @@ fn stop<W: Sink>(
     interruptions: &mut u32,
 ) -> ToolFault
     requires { interruptions.old ≤ most_interruptions }
-    ensures stated { let out_seen : SinkSeen = record { held = W.contents out.old; holds = W.contents out.new; before = W.failures out.old; after = W.failures out.new } in
+    ensures stated { let out_seen : SinkSeen = sink_seen W.contents W.failures out.old out.new in
         (h : Handed) (given : Option (List ℕ)) (before after : ℕ) → IsTextOf given h.certificates → IsAuditStop h MOST_BYTES before after stopped.before stopped.stop
         → (GetsNothing out_seen × IsNoStatement Statement.Certificates (record { given = given; before = before; after = after }) result) ⊎ StopsOn h out_seen result }
     ensures counted { W.failures out.new + interruptions.old + failures_of_stop stopped.stop ≤ W.failures out.old + interruptions.new + failures_of_tool_fault result }
@@ -164,8 +164,8 @@ fn audit_input<C: Source, W: Sink>(
 ) -> Result<(), ToolFault>
     requires named { AllByRecursion IsNamedBay input.now.yard.bays }
     requires passed { interruptions.old ≤ most_interruptions }
-    ensures ended { let out_seen : SinkSeen = record { held = W.contents out.old; holds = W.contents out.new; before = W.failures out.old; after = W.failures out.new } in
-        let given : SourceSeen = record { given = C.remaining certificates.old; before = C.failures certificates.old; after = C.failures certificates.new } in
+    ensures ended { let out_seen : SinkSeen = sink_seen W.contents W.failures out.old out.new in
+        let given : SourceSeen = source_seen C.remaining C.failures certificates.old certificates.new in
         MatchResult result
         (λ _. (text : List ℕ) × IsTextWithin MOST_BYTES given.given text × ((is : IsHeadline (handed input.now.yard input.now.orders input.now.sequence report.now text))
         × Gets out_seen (audit_text (shown_in (handed input.now.yard input.now.orders input.now.sequence report.now text) is))))
@@ -209,11 +209,11 @@ pub fn audit<Y: Source, M: Source, R: Source, C: Source, W: Sink>(
     out: &mut W,
 ) -> Result<Status, ToolFault>
     ensures { let seen : AuditSeen = record {
-      yard = record { given = Y.remaining yard.old; before = Y.failures yard.old; after = Y.failures yard.new };
-      movins = record { given = M.remaining movins.old; before = M.failures movins.old; after = M.failures movins.new };
-      report = record { given = R.remaining report.old; before = R.failures report.old; after = R.failures report.new };
-      certificates = record { given = C.remaining certificates.old; before = C.failures certificates.old; after = C.failures certificates.new };
-      out = record { held = W.contents out.old; holds = W.contents out.new; before = W.failures out.old; after = W.failures out.new };
+      yard = source_seen Y.remaining Y.failures yard.old yard.new;
+      movins = source_seen M.remaining M.failures movins.old movins.new;
+      report = source_seen R.remaining R.failures report.old report.new;
+      certificates = source_seen C.remaining C.failures certificates.old certificates.new;
+      out = sink_seen W.contents W.failures out.old out.new;
     } in MatchResult result (AuditEnds settings.now seen) (AuditFails settings.now seen) }
 {
     let mut interruptions = 0;

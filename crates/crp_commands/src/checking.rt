@@ -5,7 +5,7 @@ ghost use Rattle.crp_commands.specs.declared.heads.TheConstants.{MOST_BYTES};
 ghost use Rattle.crp_plan.specs.Devices.{most_interruptions};
 ghost use Rattle.crp_commands.specs.Calls.{CallSeen, call_failures, failures_of_tool_fault, most_call_failures, IsTextWithin, WritesReport};
 ghost use Rattle.crp_commands.specs.Check.{plan_words, verdict_words, verdict_line, fault_of_refusal, IsCheck, CheckFailsWith};
-ghost use Rattle.crp_report.specs.Runs.{SinkSeen};
+ghost use Rattle.crp_report.specs.Runs.{SinkSeen, sink_seen};
 ghost use Rattle.crp_jobs.specs.Opened.{IsLeftAlone};
 ghost use Rattle.crp_commands.specs.Noted.{TellsWhetherEmpty};
 ghost use Rattle.crp_commands.specs.Checks.{TextFailsWith, IsChecking, ChecksPiece, PieceFailsWith, CheckHasGoneOn, CheckStopsAt};
@@ -230,8 +230,8 @@ pub fn check<R: Source, W: Sink, E: Sink>(
     } in MatchResult result
         (λ status. ((status ≡ Status.Decided) × WritesReport (IsTextWithin MOST_BYTES) IsCheck seen) × (call_failures seen ≤ most_interruptions))
         (λ fault. CheckFailsWith MOST_BYTES seen fault × (call_failures seen ≤ most_call_failures fault)) }
-    ensures noted { let lines : SinkSeen = record { held = W.contents writer.old; holds = W.contents writer.new; before = W.failures writer.old; after = W.failures writer.new }
-        in let noted : SinkSeen = record { held = E.contents errors.old; holds = E.contents errors.new; before = E.failures errors.old; after = E.failures errors.new }
+    ensures noted { let lines : SinkSeen = sink_seen W.contents W.failures writer.old writer.new
+        in let noted : SinkSeen = sink_seen E.contents E.failures errors.old errors.new
         in MatchResult result (λ _. TellsWhetherEmpty lines noted) (λ _. IsLeftAlone noted) }
 {
     let mut files = FileChecker::new(alloc);

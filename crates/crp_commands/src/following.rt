@@ -11,7 +11,7 @@ ghost use Rattle.crp_follow.specs.Views.{bay_followed};
 ghost use Rattle.crp_loading.specs.Faults.{IsFirst};
 ghost use Rattle.crp_page.specs.Page.{page_text};
 ghost use Rattle.crp_report.specs.BayTexts.{AreFailuresCounted};
-ghost use Rattle.crp_report.specs.Runs.{SourceSeen, SinkSeen, failures_of_fault};
+ghost use Rattle.crp_report.specs.Runs.{SourceSeen, SinkSeen, failures_of_fault, sink_seen, source_seen};
 ghost use Rattle.crp_commands.specs.Calls.{failures_of_tool_fault};
 ghost use Rattle.crp_commands.specs.Follow.{FollowSeen, FollowEnds, FollowFails, IsFollowInput, IsNoFollowInput, IsNoReport, StopsFollowing, StopsPage, WritesPage, WritesTexts, if_asked, loading_faults, source_failures, table_for};
 
@@ -55,13 +55,13 @@ fn follow_input<Y: Source, M: Source>(
 ) -> Result<FollowInput, Fault>
     requires first { interruptions.old ≡ 0 }
     ensures read { IfOk result (λ input. IsFollowInput settings.now.input.now
-        (record { given = Y.remaining yard.old; before = Y.failures yard.old; after = Y.failures yard.new })
-        (if_asked settings.now.ship (record { given = M.remaining movins.old; before = M.failures movins.old; after = M.failures movins.new })) input.yard input.ship) }
+        (source_seen Y.remaining Y.failures yard.old yard.new)
+        (if_asked settings.now.ship (source_seen M.remaining M.failures movins.old movins.new)) input.yard input.ship) }
     ensures refused { IfErr result (IsNoFollowInput settings.now.input.now
-        (record { given = Y.remaining yard.old; before = Y.failures yard.old; after = Y.failures yard.new })
-        (if_asked settings.now.ship (record { given = M.remaining movins.old; before = M.failures movins.old; after = M.failures movins.new }))) }
+        (source_seen Y.remaining Y.failures yard.old yard.new)
+        (if_asked settings.now.ship (source_seen M.remaining M.failures movins.old movins.new))) }
     ensures alone { OnFalse settings.now.ship (movins.new ≡ movins.old) }
-    ensures counted { let message : SourceSeen = record { given = M.remaining movins.old; before = M.failures movins.old; after = M.failures movins.new }
+    ensures counted { let message : SourceSeen = source_seen M.remaining M.failures movins.old movins.new
         in MatchResult result
         (λ _. (Y.failures yard.new - Y.failures yard.old) + source_failures (if_asked settings.now.ship message) ≤ interruptions.new)
         (λ fault. (Y.failures yard.new - Y.failures yard.old) + source_failures (if_asked settings.now.ship message) ≤ interruptions.new + failures_of_fault fault) }
@@ -93,7 +93,7 @@ fn report_from<R: Source>(
 ) -> Result<Vec<u8>, ToolFault>
     requires { interruptions.old ≤ most_interruptions }
     ensures read { IfOk result (λ text. IsTextOf (R.remaining source.old) text.items) }
-    ensures refused { IfErr result (IsNoReport (record { given = R.remaining source.old; before = R.failures source.old; after = R.failures source.new })) }
+    ensures refused { IfErr result (IsNoReport (source_seen R.remaining R.failures source.old source.new)) }
     ensures counted { MatchResult result
         (λ _. AreFailuresCounted 0 (R.failures source.old) (R.failures source.new) interruptions.old interruptions.new)
         (λ fault. AreFailuresCounted (failures_of_tool_fault fault) (R.failures source.old) (R.failures source.new) interruptions.old interruptions.new) }
@@ -119,9 +119,8 @@ fn write_page_if<P: Sink>(
 ) -> Result<(), ToolFault>
     requires passed { interruptions.old ≤ most_interruptions }
     requires followed { (report : List ℕ) × IsFollowed yard.now report followed.now.numbers (map bay_followed followed.now.bays.items) }
-    requires few { AllByRecursion StandFew (map bay_followed followed.now.bays.items) }
     ensures ended { let text = page_text yard.now followed.now.numbers (map bay_followed followed.now.bays.items)
-        in let seen = if_asked asked (record { held = P.contents page.old; holds = P.contents page.new; before = P.failures page.old; after = P.failures page.new })
+        in let seen = if_asked asked (sink_seen P.contents P.failures page.old page.new)
         in MatchResult result (λ _. WritesPage text seen) (StopsPage text seen) }
     ensures alone { OnFalse asked (page.new ≡ page.old) }
     ensures counted { MatchResult result
@@ -168,8 +167,8 @@ fn follow_text<P: Sink, W: Sink>(
     interruptions: &mut u32,
 ) -> Result<(), ToolFault>
     requires { interruptions.old ≤ most_interruptions }
-    ensures ended { let seen = if_asked asked (record { held = P.contents page.old; holds = P.contents page.new; before = P.failures page.old; after = P.failures page.new })
-        in let out_seen : SinkSeen = record { held = W.contents out.old; holds = W.contents out.new; before = W.failures out.old; after = W.failures out.new }
+    ensures ended { let seen = if_asked asked (sink_seen P.contents P.failures page.old page.new)
+        in let out_seen : SinkSeen = sink_seen W.contents W.failures out.old out.new
         in MatchResult result (λ _. WritesTexts input.now.ship input.now.yard report.now seen out_seen) (StopsFollowing input.now.ship input.now.yard report.now seen out_seen) }
     ensures alone { OnFalse asked (page.new ≡ page.old) }
     ensures counted { MatchResult result
@@ -201,11 +200,11 @@ pub fn follow<Y: Source, M: Source, R: Source, P: Sink, W: Sink>(
     out: &mut W,
 ) -> Result<Status, ToolFault>
     ensures ended { let seen : FollowSeen = record {
-      yard = record { given = Y.remaining yard.old; before = Y.failures yard.old; after = Y.failures yard.new };
-      movins = if_asked settings.now.ship (record { given = M.remaining movins.old; before = M.failures movins.old; after = M.failures movins.new });
-      report = record { given = R.remaining report.old; before = R.failures report.old; after = R.failures report.new };
-      page = if_asked settings.now.page (record { held = P.contents page.old; holds = P.contents page.new; before = P.failures page.old; after = P.failures page.new });
-      out = record { held = W.contents out.old; holds = W.contents out.new; before = W.failures out.old; after = W.failures out.new };
+      yard = source_seen Y.remaining Y.failures yard.old yard.new;
+      movins = if_asked settings.now.ship (source_seen M.remaining M.failures movins.old movins.new);
+      report = source_seen R.remaining R.failures report.old report.new;
+      page = if_asked settings.now.page (sink_seen P.contents P.failures page.old page.new);
+      out = sink_seen W.contents W.failures out.old out.new;
     } in MatchResult result (FollowEnds settings.now.input.now seen) (FollowFails settings.now.input.now seen) }
     ensures unread { OnFalse settings.now.ship (movins.new ≡ movins.old) }
     ensures alone { OnFalse settings.now.page (page.new ≡ page.old) }

@@ -21,6 +21,7 @@ mod over_yard_files;
 mod performing;
 mod proving;
 mod replaying;
+mod streams;
 
 pub use auditing::{MOST_REPORT, audit};
 pub use bounding::bound;
@@ -32,3 +33,4 @@ pub use over_files::run_job;
 pub use performing::perform;
 pub use proving::prove;
 pub use replaying::replay;
+pub use streams::Streams;

@@ -1,6 +1,6 @@
 //! The command `audit` over its files.
 ghost use Rattle.std.specs.Prelude.{MatchResult};
-ghost use Rattle.crp_report.specs.Runs.{SinkSeen};
+ghost use Rattle.crp_report.specs.Runs.{SinkSeen, sink_seen};
 ghost use Rattle.crp_jobs.specs.Opened.{FilesSeen};
 ghost use Rattle.crp_commands.specs.Audit.{AuditReportsOverFiles, AuditFailsOverFiles};
 
@@ -20,7 +20,7 @@ pub fn audit_files<F: Files, W: Sink>(
     out: &mut W,
 ) -> Result<Status, ToolFault>
     ensures { let all : FilesSeen = record { known = F.known files.old; left = F.known files.new; before = F.failures files.old; after = F.failures files.new }
-        in let shown : SinkSeen = record { held = W.contents out.old; holds = W.contents out.new; before = W.failures out.old; after = W.failures out.new }
+        in let shown : SinkSeen = sink_seen W.contents W.failures out.old out.new
         in MatchResult result (AuditReportsOverFiles names.now settings.now all shown) (AuditFailsOverFiles names.now settings.now all shown) }
 {
     let Ok(mut yard) = files.open(names.yard) else {

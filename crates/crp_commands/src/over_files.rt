@@ -2,15 +2,16 @@
 ghost use Rattle.std.specs.Prelude.{◌≡◌, ◌⊎◌, IfOk, IfErr, MatchResult};
 ghost use Rattle.crp_audit.specs.Headline.{IsHeadline};
 ghost use Rattle.crp_headline.specs.Accepted.{handed_of};
-ghost use Rattle.crp_report.specs.Runs.{Made, GetsNothing};
+ghost use Rattle.crp_report.specs.Runs.{Made, GetsNothing, sink_seen};
 ghost use Rattle.crp_commands.specs.Noted.{IsNoted, IsNotedIn};
-ghost use Rattle.crp_commands.specs.Performing.{JobSeen, ReportsFile, FileFailsWith, ReportsOverFiles, FailsOverFiles};
+ghost use Rattle.crp_commands.specs.Performing.{JobSeen, job_seen, ReportsFile, FileFailsWith, ReportsOverFiles, FailsOverFiles};
 ghost use Rattle.crp_commands.specs.Headlines.{ForRun, AreWritten, AreFrontsWritten};
 
 use crate::over_audit_files::audit_files;
 use crate::over_follow_files::follow_files;
 use crate::over_yard_files::{RunAsked, Watcher, solve};
 use crate::performing::perform;
+use crate::streams::Streams;
 use crp_files::Files;
 use crp_jobs::{FileCommand, Job, ToolFault};
 use crp_notes::Terminal;
@@ -26,26 +27,35 @@ fn perform_on<T: Threads + Wait + Sync, F: Files, R: Source, W: Sink, E: Sink>(
     threads: &T,
     alloc: Global,
     files: &mut F,
-    input: &mut R,
-    out: &mut W,
+    streams: &mut Streams<R, W, E>,
     name: &str,
     command: &FileCommand,
-    errors: &mut E,
 ) -> Result<Status, ToolFault>
-    ensures done { let seen : JobSeen = record {
-      files = record { known = F.known files.old; left = F.known files.new; before = F.failures files.old; after = F.failures files.new };
-      input = record { given = R.remaining input.old; before = R.failures input.old; after = R.failures input.new };
-      out = record { held = W.contents out.old; holds = W.contents out.new; before = W.failures out.old; after = W.failures out.new };
-    } in MatchResult result (ReportsFile name.now command.now seen) (FileFailsWith name.now command.now seen) }
-    ensures noted { IsNotedIn command.now (record { held = E.contents errors.old; holds = E.contents errors.new; before = E.failures errors.old; after = E.failures errors.new }) }
+    ensures done { let seen : JobSeen = job_seen F.known F.failures R.remaining R.failures W.contents W.failures files.old files.new streams.old streams.new
+        in MatchResult result (ReportsFile name.now command.now seen) (FileFailsWith name.now command.now seen) }
+    ensures noted { IsNotedIn command.now (sink_seen E.contents E.failures streams.old.errors streams.new.errors) }
 {
     if name == "-" {
-        return perform(threads, alloc, command, input, out, errors);
+        return perform(
+            threads,
+            alloc,
+            command,
+            &mut streams.input,
+            &mut streams.out,
+            &mut streams.errors,
+        );
     }
     let Ok(mut source) = files.open(name) else {
         return Err(ToolFault::Read);
     };
-    let answer = perform(threads, alloc, command, &mut source, out, errors);
+    let answer = perform(
+        threads,
+        alloc,
+        command,
+        &mut source,
+        &mut streams.out,
+        &mut streams.errors,
+    );
     files.close(source);
     answer
 }
@@ -55,31 +65,33 @@ fn do_job<T: Threads + Wait + Sync, F: Files, R: Source, W: Sink, E: Sink, S: Te
     threads: &T,
     alloc: Global,
     files: &mut F,
-    input: &mut R,
-    out: &mut W,
+    streams: &mut Streams<R, W, E>,
     job: &Job<'_>,
-    errors: &mut E,
     terminal: &S,
 ) -> Result<Status, ToolFault>
-    ensures done { let seen : JobSeen = record {
-      files = record { known = F.known files.old; left = F.known files.new; before = F.failures files.old; after = F.failures files.new };
-      input = record { given = R.remaining input.old; before = R.failures input.old; after = R.failures input.new };
-      out = record { held = W.contents out.old; holds = W.contents out.new; before = W.failures out.old; after = W.failures out.new };
-    } in MatchResult result (ReportsOverFiles job.now seen) (FailsOverFiles job.now seen) }
-    ensures noted { IsNoted job.now (record { held = E.contents errors.old; holds = E.contents errors.new; before = E.failures errors.old; after = E.failures errors.new }) }
+    ensures done { let seen : JobSeen = job_seen F.known F.failures R.remaining R.failures W.contents W.failures files.old files.new streams.old streams.new
+        in MatchResult result (ReportsOverFiles job.now seen) (FailsOverFiles job.now seen) }
+    ensures noted { IsNoted job.now (sink_seen E.contents E.failures streams.old.errors streams.new.errors) }
 {
     match job {
         Job::OneFile { file, command } => {
-            perform_on(threads, alloc, files, input, out, file, command, errors)
+            perform_on(threads, alloc, files, streams, file, command)
         }
         Job::Audit {
             files: names,
             settings,
-        } => audit_files(alloc, files, names, settings, out),
+        } => audit_files(alloc, files, names, settings, &mut streams.out),
         Job::Follow {
             files: names,
             settings,
-        } => follow_files(alloc, files, input, names, settings, out),
+        } => follow_files(
+            alloc,
+            files,
+            &mut streams.input,
+            names,
+            settings,
+            &mut streams.out,
+        ),
         Job::Solve {
             files: names,
             settings,
@@ -92,42 +104,39 @@ fn do_job<T: Threads + Wait + Sync, F: Files, R: Source, W: Sink, E: Sink, S: Te
                 progress: *progress,
                 terminal,
             };
-            solve(threads, alloc, files, &asked, out, &watcher, errors)
+            solve(
+                threads,
+                alloc,
+                files,
+                &asked,
+                &mut streams.out,
+                &watcher,
+                &mut streams.errors,
+            )
         }
     }
 }
 
-/// Does a job over its files, and writes its report to `out`. A job over the file `-`, and one that follows a report named `-`, reads
-/// `input`, the standard input. A run over a yard that is not to be quiet writes its notes to `errors`, as a check does that finds no
-/// certificate, and shows on the terminal how far it is.
+/// Does a job over its files, and writes its report to the standard output. A job over the file `-`, and one that follows a report named
+/// `-`, reads the standard input. A run over a yard that is not to be quiet writes its notes to the standard error, as a check does that
+/// finds no certificate, and shows on the terminal how far it is.
 ///
 /// Of a run over a yard the headline holds: of the texts that it wrote, and where it ended with a fault of those whose fronts it wrote.
 pub fn run_job<T: Threads + Wait + Sync, F: Files, R: Source, W: Sink, E: Sink, S: Terminal + Sync>(
     threads: &T,
     alloc: Global,
     files: &mut F,
-    input: &mut R,
-    out: &mut W,
+    streams: &mut Streams<R, W, E>,
     job: &Job<'_>,
-    errors: &mut E,
     terminal: &S,
 ) -> Result<Status, ToolFault>
-    ensures done { let seen : JobSeen = record {
-      files = record { known = F.known files.old; left = F.known files.new; before = F.failures files.old; after = F.failures files.new };
-      input = record { given = R.remaining input.old; before = R.failures input.old; after = R.failures input.new };
-      out = record { held = W.contents out.old; holds = W.contents out.new; before = W.failures out.old; after = W.failures out.new };
-    } in MatchResult result (ReportsOverFiles job.now seen) (FailsOverFiles job.now seen) }
-    ensures headline { let seen : JobSeen = record {
-      files = record { known = F.known files.old; left = F.known files.new; before = F.failures files.old; after = F.failures files.new };
-      input = record { given = R.remaining input.old; before = R.failures input.old; after = R.failures input.new };
-      out = record { held = W.contents out.old; holds = W.contents out.new; before = W.failures out.old; after = W.failures out.new };
-    } in IfOk result (λ _. ForRun job.now (λ names chosen. (made : Made) × IsHeadline (handed_of made) × AreWritten names chosen seen made)) }
-    ensures headline_so_far { let seen : JobSeen = record {
-      files = record { known = F.known files.old; left = F.known files.new; before = F.failures files.old; after = F.failures files.new };
-      input = record { given = R.remaining input.old; before = R.failures input.old; after = R.failures input.new };
-      out = record { held = W.contents out.old; holds = W.contents out.new; before = W.failures out.old; after = W.failures out.new };
-    } in IfErr result (λ _. ForRun job.now (λ names chosen. GetsNothing seen.out ⊎ ((made : Made) × IsHeadline (handed_of made) × AreFrontsWritten names chosen seen made))) }
-    ensures noted { IsNoted job.now (record { held = E.contents errors.old; holds = E.contents errors.new; before = E.failures errors.old; after = E.failures errors.new }) }
+    ensures done { let seen : JobSeen = job_seen F.known F.failures R.remaining R.failures W.contents W.failures files.old files.new streams.old streams.new
+        in MatchResult result (ReportsOverFiles job.now seen) (FailsOverFiles job.now seen) }
+    ensures headline { let seen : JobSeen = job_seen F.known F.failures R.remaining R.failures W.contents W.failures files.old files.new streams.old streams.new
+        in IfOk result (λ _. ForRun job.now (λ names chosen. (made : Made) × IsHeadline (handed_of made) × AreWritten names chosen seen made)) }
+    ensures headline_so_far { let seen : JobSeen = job_seen F.known F.failures R.remaining R.failures W.contents W.failures files.old files.new streams.old streams.new
+        in IfErr result (λ _. ForRun job.now (λ names chosen. GetsNothing seen.out ⊎ ((made : Made) × IsHeadline (handed_of made) × AreFrontsWritten names chosen seen made))) }
+    ensures noted { IsNoted job.now (sink_seen E.contents E.failures streams.old.errors streams.new.errors) }
 {
-    do_job(threads, alloc, files, input, out, job, errors, terminal)
+    do_job(threads, alloc, files, streams, job, terminal)
 }

@@ -14,7 +14,9 @@ use crp_files::{Files, Named, Wanted};
 use crp_jobs::{RunFiles, ToolFault};
 use crp_notes::{Notes, Terminal};
 use crp_plan::{Nowhere, Sink};
-use crp_report::{Fault, Input, Output, RunSettings, Status, Unwatched, Watch, run_watched};
+use crp_report::{
+    Devices, Fault, Input, Output, RunSettings, Status, Unwatched, Watch, run_watched,
+};
 use std::alloc::Global;
 use std::marker::Brand;
 use std::sync::Wait;
@@ -60,34 +62,37 @@ fn solve_to<T: Threads + Wait + Sync, F: Files, W: Sink, V: Watch, E: Sink, C: N
     ensures shown { ShowsMore (E.contents errors.old) (E.contents errors.new) }
 {
     let names = asked.names;
-    let Ok(mut yard) = files.open(names.yard) else {
+    let Ok(yard) = files.open(names.yard) else {
         return Err(Fault::Read(Input::Yard));
     };
-    let Ok(mut movins) = files.open(names.movins) else {
+    let Ok(movins) = files.open(names.movins) else {
         return Err(Fault::Read(Input::Movins));
     };
-    let Ok(mut certificates) = Wanted::<F, C>::create(files, names.cert) else {
+    let Ok(certificates) = Wanted::<F, C>::create(files, names.cert) else {
         return Err(Fault::Write(Output::Certificates));
     };
-    let Ok(mut yard_after) = Wanted::<F, A>::create(files, names.after) else {
+    let Ok(yard_after) = Wanted::<F, A>::create(files, names.after) else {
         return Err(Fault::Write(Output::YardAfter));
+    };
+    let mut devices = Devices {
+        yard,
+        movins,
+        certificates,
+        yard_after,
     };
     let answer = run_watched(
         threads,
         alloc,
-        &mut yard,
-        &mut movins,
+        &mut devices,
         asked.settings,
         out,
-        &mut certificates,
-        &mut yard_after,
         watch,
         errors,
     );
-    let certified = certificates.finish(files, names.cert);
-    let left = yard_after.finish(files, names.after);
-    files.close(yard);
-    files.close(movins);
+    let certified = devices.certificates.finish(files, names.cert);
+    let left = devices.yard_after.finish(files, names.after);
+    files.close(devices.yard);
+    files.close(devices.movins);
     let answer = unless_unfinished(answer, certified, Fault::Write(Output::Certificates));
     unless_unfinished(answer, left, Fault::Write(Output::YardAfter))
 }

@@ -1,5 +1,6 @@
 //! What a command does with the bytes of one file.
 ghost use Rattle.std.specs.Prelude.{MatchResult};
+ghost use Rattle.crp_report.specs.Runs.{sink_seen};
 ghost use Rattle.crp_commands.specs.Calls.{CallSeen};
 ghost use Rattle.crp_commands.specs.Noted.{IsNotedIn};
 ghost use Rattle.crp_commands.specs.Performing.{PerformsIn, CommandFailsInCall};
@@ -35,7 +36,7 @@ pub fn perform<T: Threads + Wait + Sync, R: Source, W: Sink, E: Sink>(
       sink_before = W.failures writer.old;
       sink_after = W.failures writer.new;
     } in MatchResult result (PerformsIn command.now seen) (CommandFailsInCall command.now seen) }
-    ensures noted { IsNotedIn command.now (record { held = E.contents errors.old; holds = E.contents errors.new; before = E.failures errors.old; after = E.failures errors.new }) }
+    ensures noted { IsNotedIn command.now (sink_seen E.contents E.failures errors.old errors.new) }
 {
     match command {
         FileCommand::Replay => replay(alloc, reader, writer),

@@ -1,6 +1,7 @@
 use Rattle.std.proofs.Common.{⊎_elim, List, ℕ, arith, refl, sym, subst}
 use Rattle.std.proofs.lemmas.Result.{err_from_is_err_and}
 use Rattle.crp_audit.specs.Headline.{Handed, handed}
+use Rattle.crp_report.specs.Runs.{sink_seen, source_seen}
 use Rattle.crp_commands.specs.Audit.{AuditSeen, IsHandedIn}
 use Rattle.crp_commands.specs.Calls.{IsTextWithin}
 use Rattle.crp_commands.specs.declared.auditing.TheConstants.{MOST_REPORT}
@@ -14,15 +15,11 @@ returns-in_err-said g c =
     let p = err_from_is_err_and c.from_residual-in_err-said.result c.from_residual-in_err-said.ensures.1 in
     let input = c.in_ok-input.input in
     let seen : AuditSeen = record {
-      yard = record { given = g.Y.Source.remaining c.args.yard.now; before = g.Y.Source.failures c.args.yard.now; after = g.Y.Source.failures c.input_from.new.yard };
-      movins = record { given = g.M.Source.remaining c.args.movins.now; before = g.M.Source.failures c.args.movins.now; after = g.M.Source.failures c.input_from.new.movins };
-      report = record { given = g.R.Source.remaining c.args.report.now; before = g.R.Source.failures c.args.report.now; after = g.R.Source.failures c.report_from.new.source };
-      certificates = record {
-        given = g.C.Source.remaining c.args.certificates.now;
-        before = g.C.Source.failures c.args.certificates.now;
-        after = g.C.Source.failures c.args.certificates.now;
-      };
-      out = record { held = g.W.Sink.contents c.args.out.now; holds = g.W.Sink.contents c.args.out.now; before = g.W.Sink.failures c.args.out.now; after = g.W.Sink.failures c.args.out.now };
+      yard = source_seen g.Y.Source.remaining g.Y.Source.failures c.args.yard.now c.input_from.new.yard;
+      movins = source_seen g.M.Source.remaining g.M.Source.failures c.args.movins.now c.input_from.new.movins;
+      report = source_seen g.R.Source.remaining g.R.Source.failures c.args.report.now c.report_from.new.source;
+      certificates = source_seen g.C.Source.remaining g.C.Source.failures c.args.certificates.now c.args.certificates.now;
+      out = sink_seen g.W.Sink.contents g.W.Sink.failures c.args.out.now c.args.out.now;
     } in
     rw (p.1, p.2) (
       unread c.args.settings.now seen statement.Report c.in_err-said.field-0.0 (keeps_same _) (input.yard, input.orders, input.sequence, c.in_ok-input.ensures.read) c.in_err-said.ensures.refused,
@@ -35,15 +32,11 @@ returns-in_err-audit_input g c =
     let input = c.in_ok-input.input in
     let report : List ℕ = c.deref.result.now in
     let seen : AuditSeen = record {
-      yard = record { given = g.Y.Source.remaining c.args.yard.now; before = g.Y.Source.failures c.args.yard.now; after = g.Y.Source.failures c.input_from.new.yard };
-      movins = record { given = g.M.Source.remaining c.args.movins.now; before = g.M.Source.failures c.args.movins.now; after = g.M.Source.failures c.input_from.new.movins };
-      report = record { given = g.R.Source.remaining c.args.report.now; before = g.R.Source.failures c.args.report.now; after = g.R.Source.failures c.report_from.new.source };
-      certificates = record {
-        given = g.C.Source.remaining c.args.certificates.now;
-        before = g.C.Source.failures c.args.certificates.now;
-        after = g.C.Source.failures c.audit_input.new.certificates;
-      };
-      out = record { held = g.W.Sink.contents c.args.out.now; holds = g.W.Sink.contents c.audit_input.new.out; before = g.W.Sink.failures c.args.out.now; after = g.W.Sink.failures c.audit_input.new.out };
+      yard = source_seen g.Y.Source.remaining g.Y.Source.failures c.args.yard.now c.input_from.new.yard;
+      movins = source_seen g.M.Source.remaining g.M.Source.failures c.args.movins.now c.input_from.new.movins;
+      report = source_seen g.R.Source.remaining g.R.Source.failures c.args.report.now c.report_from.new.source;
+      certificates = source_seen g.C.Source.remaining g.C.Source.failures c.args.certificates.now c.audit_input.new.certificates;
+      out = sink_seen g.W.Sink.contents g.W.Sink.failures c.args.out.now c.audit_input.new.out;
     } in
     let f = c.in_err-audit_input.field-0.0 in
     let said = subst (IsTextWithin MOST_REPORT seen.report.given) (sym c.deref.ensures.value) c.in_ok-said.ensures.read in
@@ -71,15 +64,11 @@ returns g c =
     let input = c.in_ok-input.input in
     let report : List ℕ = c.deref.result.now in
     let seen : AuditSeen = record {
-      yard = record { given = g.Y.Source.remaining c.args.yard.now; before = g.Y.Source.failures c.args.yard.now; after = g.Y.Source.failures c.input_from.new.yard };
-      movins = record { given = g.M.Source.remaining c.args.movins.now; before = g.M.Source.failures c.args.movins.now; after = g.M.Source.failures c.input_from.new.movins };
-      report = record { given = g.R.Source.remaining c.args.report.now; before = g.R.Source.failures c.args.report.now; after = g.R.Source.failures c.report_from.new.source };
-      certificates = record {
-        given = g.C.Source.remaining c.args.certificates.now;
-        before = g.C.Source.failures c.args.certificates.now;
-        after = g.C.Source.failures c.audit_input.new.certificates;
-      };
-      out = record { held = g.W.Sink.contents c.args.out.now; holds = g.W.Sink.contents c.audit_input.new.out; before = g.W.Sink.failures c.args.out.now; after = g.W.Sink.failures c.audit_input.new.out };
+      yard = source_seen g.Y.Source.remaining g.Y.Source.failures c.args.yard.now c.input_from.new.yard;
+      movins = source_seen g.M.Source.remaining g.M.Source.failures c.args.movins.now c.input_from.new.movins;
+      report = source_seen g.R.Source.remaining g.R.Source.failures c.args.report.now c.report_from.new.source;
+      certificates = source_seen g.C.Source.remaining g.C.Source.failures c.args.certificates.now c.audit_input.new.certificates;
+      out = sink_seen g.W.Sink.contents g.W.Sink.failures c.args.out.now c.audit_input.new.out;
     } in
     let (text, within, done) = c.in_ok-audit_input.ensures.ended in
     let h : Handed = handed input.yard input.orders input.sequence report text in

@@ -1,7 +1,7 @@
 use Rattle.std.proofs.Common.{◌∙◌, ⊎_elim, ap, inl, inr, subst}
 use Rattle.std.proofs.lemmas.Result.{err_from_is_err_and}
 use Rattle.crp_plan.proofs.Interruptions.{has_failed}
-use Rattle.crp_report.specs.Runs.{SinkSeen, Gets}
+use Rattle.crp_report.specs.Runs.{SinkSeen, Gets, sink_seen}
 use Rattle.crp_audit.specs.Headline.{handed}
 use Rattle.crp_commands.specs.Audit.{audit_text}
 use Rattle.crp_commands.proofs.auditing.audit_input.Goals as goal
@@ -24,12 +24,7 @@ pub returns-in_ok-write_all-in-Ok-clause-ended : goal.returns-in_ok-write_all-in
 returns-in_ok-write_all-in-Ok-clause-ended g c =
     let (text, within, given, done) = c.in-Ok.ensures.accepted in
     let (is, shown) = done in
-    let out : SinkSeen = record {
-      held = g.W.Sink.contents c.args.out.now;
-      holds = g.W.Sink.contents c.write_all.new.writer;
-      before = g.W.Sink.failures c.args.out.now;
-      after = g.W.Sink.failures c.write_all.new.writer;
-    } in
+    let out : SinkSeen = sink_seen g.W.Sink.contents g.W.Sink.failures c.args.out.now c.write_all.new.writer in
     (text, (within, given), (is, subst (Gets out) (c.deref.ensures.value ∙ c.in_ok-text-in-Ok.ensures ∙ ap audit_text shown) c.in_ok-write_all-in-Ok.ensures.all))
 
 pub returns-in-Err-clause-ended : goal.returns-in-Err-clause-ended

@@ -1,7 +1,7 @@
 use Rattle.std.proofs.Common.{arith, refl, subst, sym}
 use Rattle.std.proofs.lemmas.Result.{err_from_is_err_and}
 use Rattle.crp_yard.specs.Reading.{IsTextOf}
-use Rattle.crp_report.specs.Runs.{SourceSeen, SinkSeen}
+use Rattle.crp_report.specs.Runs.{SourceSeen, SinkSeen, sink_seen, source_seen}
 use Rattle.crp_commands.specs.Follow.{FollowSeen, if_asked}
 use Rattle.crp_commands.proofs.Replayed.{keeps_same}
 use Rattle.crp_commands.proofs.Traced.{asked_failures, asked_nothing, no_report, no_texts}
@@ -10,14 +10,14 @@ use Rattle.crp_commands.proofs.following.follow.Goals as goal
 pub returns-in_err-text-clause-ended : goal.returns-in_err-text-clause-ended
 returns-in_err-text-clause-ended g c =
     let p = err_from_is_err_and c.from_residual-in_err-text.result c.from_residual-in_err-text.ensures.1 in
-    let page : SinkSeen = record { held = g.P.Sink.contents c.args.page.now; holds = g.P.Sink.contents c.args.page.now; before = g.P.Sink.failures c.args.page.now; after = g.P.Sink.failures c.args.page.now } in
-    let message : SourceSeen = record { given = g.M.Source.remaining c.args.movins.now; before = g.M.Source.failures c.args.movins.now; after = g.M.Source.failures c.follow_input.new.movins } in
+    let page : SinkSeen = sink_seen g.P.Sink.contents g.P.Sink.failures c.args.page.now c.args.page.now in
+    let message : SourceSeen = source_seen g.M.Source.remaining g.M.Source.failures c.args.movins.now c.follow_input.new.movins in
     let seen : FollowSeen = record {
-      yard = record { given = g.Y.Source.remaining c.args.yard.now; before = g.Y.Source.failures c.args.yard.now; after = g.Y.Source.failures c.follow_input.new.yard };
+      yard = source_seen g.Y.Source.remaining g.Y.Source.failures c.args.yard.now c.follow_input.new.yard;
       movins = if_asked c.args.settings.now.ship message;
-      report = record { given = g.R.Source.remaining c.args.report.now; before = g.R.Source.failures c.args.report.now; after = g.R.Source.failures c.report_from.new.source };
+      report = source_seen g.R.Source.remaining g.R.Source.failures c.args.report.now c.report_from.new.source;
       page = if_asked c.args.settings.now.page page;
-      out = record { held = g.W.Sink.contents c.args.out.now; holds = g.W.Sink.contents c.args.out.now; before = g.W.Sink.failures c.args.out.now; after = g.W.Sink.failures c.args.out.now };
+      out = sink_seen g.W.Sink.contents g.W.Sink.failures c.args.out.now c.args.out.now;
     } in
     let few = asked_failures c.args.settings.now.page page in
     rw (p.1, p.2) (
@@ -29,14 +29,14 @@ returns-in_err-text-clause-ended g c =
 pub returns-in_err-follow_text-clause-ended : goal.returns-in_err-follow_text-clause-ended
 returns-in_err-follow_text-clause-ended g c =
     let p = err_from_is_err_and c.from_residual-in_err-follow_text.result c.from_residual-in_err-follow_text.ensures.1 in
-    let page : SinkSeen = record { held = g.P.Sink.contents c.args.page.now; holds = g.P.Sink.contents c.follow_text.new.page; before = g.P.Sink.failures c.args.page.now; after = g.P.Sink.failures c.follow_text.new.page } in
-    let message : SourceSeen = record { given = g.M.Source.remaining c.args.movins.now; before = g.M.Source.failures c.args.movins.now; after = g.M.Source.failures c.follow_input.new.movins } in
+    let page : SinkSeen = sink_seen g.P.Sink.contents g.P.Sink.failures c.args.page.now c.follow_text.new.page in
+    let message : SourceSeen = source_seen g.M.Source.remaining g.M.Source.failures c.args.movins.now c.follow_input.new.movins in
     let seen : FollowSeen = record {
-      yard = record { given = g.Y.Source.remaining c.args.yard.now; before = g.Y.Source.failures c.args.yard.now; after = g.Y.Source.failures c.follow_input.new.yard };
+      yard = source_seen g.Y.Source.remaining g.Y.Source.failures c.args.yard.now c.follow_input.new.yard;
       movins = if_asked c.args.settings.now.ship message;
-      report = record { given = g.R.Source.remaining c.args.report.now; before = g.R.Source.failures c.args.report.now; after = g.R.Source.failures c.report_from.new.source };
+      report = source_seen g.R.Source.remaining g.R.Source.failures c.args.report.now c.report_from.new.source;
       page = if_asked c.args.settings.now.page page;
-      out = record { held = g.W.Sink.contents c.args.out.now; holds = g.W.Sink.contents c.follow_text.new.out; before = g.W.Sink.failures c.args.out.now; after = g.W.Sink.failures c.follow_text.new.out };
+      out = sink_seen g.W.Sink.contents g.W.Sink.failures c.args.out.now c.follow_text.new.out;
     } in
     let given = subst (IsTextOf seen.report.given) (sym c.deref.ensures.value) c.in_ok-text.ensures.read in
     let few = asked_failures c.args.settings.now.page page in
@@ -58,7 +58,7 @@ returns-in_err-follow_text-clause-ended g c =
 
 pub returns-clause-ended : goal.returns-clause-ended
 returns-clause-ended g c =
-    let page : SinkSeen = record { held = g.P.Sink.contents c.args.page.now; holds = g.P.Sink.contents c.follow_text.new.page; before = g.P.Sink.failures c.args.page.now; after = g.P.Sink.failures c.follow_text.new.page } in
+    let page : SinkSeen = sink_seen g.P.Sink.contents g.P.Sink.failures c.args.page.now c.follow_text.new.page in
     let given = subst (IsTextOf (g.R.Source.remaining c.args.report.now)) (sym c.deref.ensures.value) c.in_ok-text.ensures.read in
     let few = asked_failures c.args.settings.now.page page in (
       refl,

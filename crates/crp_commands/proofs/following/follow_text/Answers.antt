@@ -2,7 +2,7 @@ use Rattle.std.proofs.Common.{◌∙◌, map, subst}
 use Rattle.std.proofs.lemmas.Result.{err_from_is_err_and}
 use Rattle.crp_plan.proofs.Interruptions.{has_failed}
 use Rattle.crp_follow.specs.Views.{bay_followed}
-use Rattle.crp_report.specs.Runs.{SinkSeen, Gets, GetsPart}
+use Rattle.crp_report.specs.Runs.{SinkSeen, Gets, GetsPart, sink_seen}
 use Rattle.crp_commands.specs.Follow.{if_asked}
 use Rattle.crp_commands.proofs.Replayed.{keeps_same}
 use Rattle.crp_commands.proofs.Traced.{asked_nothing, no_page, not_followed, not_loaded}
@@ -16,18 +16,8 @@ returns-in_err-followed-clause-ended g c =
 pub returns-in_err-table-clause-ended : goal.returns-in_err-table-clause-ended
 returns-in_err-table-clause-ended g c =
     let p = err_from_is_err_and c.from_residual-in_err-table.result c.from_residual-in_err-table.ensures.1 in
-    let page : SinkSeen = record {
-      held = g.P.Sink.contents c.args.page.now;
-      holds = g.P.Sink.contents c.args.page.now;
-      before = g.P.Sink.failures c.args.page.now;
-      after = g.P.Sink.failures c.args.page.now;
-    } in
-    let out : SinkSeen = record {
-      held = g.W.Sink.contents c.args.out.now;
-      holds = g.W.Sink.contents c.args.out.now;
-      before = g.W.Sink.failures c.args.out.now;
-      after = g.W.Sink.failures c.args.out.now;
-    } in
+    let page : SinkSeen = sink_seen g.P.Sink.contents g.P.Sink.failures c.args.page.now c.args.page.now in
+    let out : SinkSeen = sink_seen g.W.Sink.contents g.W.Sink.failures c.args.out.now c.args.out.now in
     let followed = c.in_ok-followed.followed in
     rw (p.1, p.2) (not_loaded c.args.input.now.ship c.args.input.now.yard c.args.report.now followed.numbers (map bay_followed followed.bays.items) (if_asked c.args.asked page) out
     c.in_err-table.field-0.0 (asked_nothing c.args.asked page (keeps_same _), keeps_same _) c.in_ok-followed.ensures.followed c.in_err-table.ensures.refused)
@@ -36,30 +26,15 @@ pub returns-in_err-write_page_if-clause-ended : goal.returns-in_err-write_page_i
 returns-in_err-write_page_if-clause-ended g c =
     let p = err_from_is_err_and c.from_residual-in_err-write_page_if.result c.from_residual-in_err-write_page_if.ensures.1 in
     let followed = c.in_ok-followed.followed in
-    let page : SinkSeen = record {
-      held = g.P.Sink.contents c.args.page.now;
-      holds = g.P.Sink.contents c.write_page_if.new.page;
-      before = g.P.Sink.failures c.args.page.now;
-      after = g.P.Sink.failures c.write_page_if.new.page;
-    } in
-    let out : SinkSeen = record {
-      held = g.W.Sink.contents c.args.out.now;
-      holds = g.W.Sink.contents c.args.out.now;
-      before = g.W.Sink.failures c.args.out.now;
-      after = g.W.Sink.failures c.args.out.now;
-    } in
+    let page : SinkSeen = sink_seen g.P.Sink.contents g.P.Sink.failures c.args.page.now c.write_page_if.new.page in
+    let out : SinkSeen = sink_seen g.W.Sink.contents g.W.Sink.failures c.args.out.now c.args.out.now in
     rw (p.1, p.2) (no_page c.args.input.now.ship c.args.input.now.yard c.args.report.now followed.numbers (map bay_followed followed.bays.items) (if_asked c.args.asked page) out
     c.in_err-write_page_if.field-0.0 (c.in_ok-followed.ensures.followed, c.in_ok-table.ensures.faultless) (keeps_same _) c.in_err-write_page_if.ensures.ended)
 
 pub returns-in_default-clause-ended : goal.returns-in_default-clause-ended
 returns-in_default-clause-ended g c =
     let followed = c.in_ok-followed.followed in
-    let out : SinkSeen = record {
-      held = g.W.Sink.contents c.args.out.now;
-      holds = g.W.Sink.contents c.write_all.new.writer;
-      before = g.W.Sink.failures c.args.out.now;
-      after = g.W.Sink.failures c.write_all.new.writer;
-    } in (
+    let out : SinkSeen = sink_seen g.W.Sink.contents g.W.Sink.failures c.args.out.now c.write_all.new.writer in (
       has_failed c.in_default.ensures.gave_up,
       (
         followed.numbers,
@@ -73,12 +48,7 @@ returns-in_default-clause-ended g c =
 pub returns-clause-ended : goal.returns-clause-ended
 returns-clause-ended g c =
     let followed = c.in_ok-followed.followed in
-    let out : SinkSeen = record {
-      held = g.W.Sink.contents c.args.out.now;
-      holds = g.W.Sink.contents c.write_all.new.writer;
-      before = g.W.Sink.failures c.args.out.now;
-      after = g.W.Sink.failures c.write_all.new.writer;
-    } in (
+    let out : SinkSeen = sink_seen g.W.Sink.contents g.W.Sink.failures c.args.out.now c.write_all.new.writer in (
       followed.numbers,
       map bay_followed followed.bays.items,
       (c.in_ok-followed.ensures.followed, c.in_ok-table.ensures.faultless),

@@ -1,4 +1,5 @@
 use Rattle.std.proofs.Common.{◌∙◌, ap, refl}
+use Rattle.crp_report.specs.Runs.{sink_seen, source_seen}
 use Rattle.crp_commands.specs.Audit.{AuditSeen}
 use Rattle.crp_files.specs.Known.{KnownFiles}
 use Rattle.crp_commands.proofs.Audited.{closed_four, over_files}
@@ -8,32 +9,11 @@ use Rattle.crp_commands.proofs.over_audit_files.audit_files.Goals as goal
 pub returns : goal.returns
 returns g c =
     let seen : AuditSeen = record {
-      yard = record {
-        given = g.F.Input.Source.remaining c.in-Ok.yard;
-        before = g.F.Input.Source.failures c.in-Ok.yard;
-        after = g.F.Input.Source.failures c.audit-answer.new.yard;
-      };
-      movins = record {
-        given = g.F.Input.Source.remaining c.in-Ok-open.movins;
-        before = g.F.Input.Source.failures c.in-Ok-open.movins;
-        after = g.F.Input.Source.failures c.audit-answer.new.movins;
-      };
-      report = record {
-        given = g.F.Input.Source.remaining c.in-Ok-open-2.report;
-        before = g.F.Input.Source.failures c.in-Ok-open-2.report;
-        after = g.F.Input.Source.failures c.audit-answer.new.report;
-      };
-      certificates = record {
-        given = g.F.Input.Source.remaining c.in-Ok-open-3.certificates;
-        before = g.F.Input.Source.failures c.in-Ok-open-3.certificates;
-        after = g.F.Input.Source.failures c.audit-answer.new.certificates;
-      };
-      out = record {
-        held = g.W.Sink.contents c.args.out.now;
-        holds = g.W.Sink.contents c.audit-answer.new.out;
-        before = g.W.Sink.failures c.args.out.now;
-        after = g.W.Sink.failures c.audit-answer.new.out;
-      };
+      yard = source_seen g.F.Input.Source.remaining g.F.Input.Source.failures c.in-Ok.yard c.audit-answer.new.yard;
+      movins = source_seen g.F.Input.Source.remaining g.F.Input.Source.failures c.in-Ok-open.movins c.audit-answer.new.movins;
+      report = source_seen g.F.Input.Source.remaining g.F.Input.Source.failures c.in-Ok-open-2.report c.audit-answer.new.report;
+      certificates = source_seen g.F.Input.Source.remaining g.F.Input.Source.failures c.in-Ok-open-3.certificates c.audit-answer.new.certificates;
+      out = sink_seen g.W.Sink.contents g.W.Sink.failures c.args.out.now c.audit-answer.new.out;
     } in
     let names = c.args.names.now in
     let second = c.open.ensures.kept in

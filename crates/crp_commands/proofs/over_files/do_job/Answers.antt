@@ -1,4 +1,5 @@
 use Rattle.std.proofs.Common.{refl}
+use Rattle.crp_report.specs.Runs.{source_seen, sink_seen}
 use Rattle.crp_commands.specs.Performing.{JobSeen}
 use Rattle.crp_commands.proofs.Performed.{solved_job}
 use Rattle.crp_commands.proofs.Replayed.{keeps_same}
@@ -19,16 +20,7 @@ returns-in-Solve-clause-done g c =
         before = g.F.Files.failures c.args.files.now;
         after = g.F.Files.failures c.solve.new.files;
       };
-      input = record {
-        given = g.R.Source.remaining c.args.input.now;
-        before = g.R.Source.failures c.args.input.now;
-        after = g.R.Source.failures c.args.input.now;
-      };
-      out = record {
-        held = g.W.Sink.contents c.args.out.now;
-        holds = g.W.Sink.contents c.solve.new.out;
-        before = g.W.Sink.failures c.args.out.now;
-        after = g.W.Sink.failures c.solve.new.out;
-      };
+      input = source_seen g.R.Source.remaining g.R.Source.failures c.args.streams.now.input c.args.streams.now.input;
+      out = sink_seen g.W.Sink.contents g.W.Sink.failures c.args.streams.now.out c.solve.new.out;
     } in
     rw c.in-Solve.is (solved_job _ _ c.in-Solve.quiet c.in-Solve.progress seen c.solve.result refl c.solve.ensures.ended)

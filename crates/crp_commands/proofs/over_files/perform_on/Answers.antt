@@ -1,5 +1,5 @@
 use Rattle.std.proofs.Common.{◌≡◌, ◌≢◌, ◌∙◌, codes, refl, rules}
-use Rattle.crp_report.specs.Runs.{SourceSeen}
+use Rattle.crp_report.specs.Runs.{SourceSeen, source_seen}
 use Rattle.crp_commands.proofs.Performed.{from_input, from_file}
 use Rattle.crp_commands.proofs.Finished.{more_from}
 use Rattle.crp_commands.proofs.over_files.perform_on.Goals as goal
@@ -12,11 +12,7 @@ returns-then-eq-clause-done g c =
 pub returns-clause-done : goal.returns-clause-done
 returns-clause-done g c =
     let named : c.args.name.now ≢ codes "-" = search rules in
-    let source : SourceSeen = record {
-      given = g.F.Input.Source.remaining c.in-Ok.source;
-      before = g.F.Input.Source.failures c.in-Ok.source;
-      after = g.F.Input.Source.failures c.perform-answer.new.reader;
-    } in
+    let source : SourceSeen = source_seen g.F.Input.Source.remaining g.F.Input.Source.failures c.in-Ok.source c.perform-answer.new.reader in
     from_file c.args.name.now c.args.command.now _ source c.perform-answer.result named (record {
       opened = record { bytes = c.in-Ok.ensures.bytes; new = c.in-Ok.ensures.new };
       failed = more_from _ _ _ _ c.in-Ok.ensures.count c.close.ensures.count;

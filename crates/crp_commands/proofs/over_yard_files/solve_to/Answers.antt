@@ -1,5 +1,5 @@
 use Rattle.std.proofs.Common.{◌∙◌, ap}
-use Rattle.crp_report.specs.Runs.{RunSeen}
+use Rattle.crp_report.specs.Runs.{RunSeen, sink_seen, source_seen}
 use Rattle.crp_files.specs.Known.{KnownFiles}
 use Rattle.crp_commands.proofs.Finished.{written, written_from}
 use Rattle.crp_commands.proofs.Solved.{Times, Counts, ended_over}
@@ -9,33 +9,20 @@ pub returns-clause-ended : goal.returns-clause-ended
 returns-clause-ended g c =
     let names = c.args.asked.now.names.now in
     let seen : RunSeen = record {
-      yard = record {
-        given = g.F.Input.Source.remaining c.in-Ok.yard;
-        before = g.F.Input.Source.failures c.in-Ok.yard;
-        after = g.F.Input.Source.failures c.run_watched-answer.new.yard;
-      };
-      movins = record {
-        given = g.F.Input.Source.remaining c.in-Ok-open.movins;
-        before = g.F.Input.Source.failures c.in-Ok-open.movins;
-        after = g.F.Input.Source.failures c.run_watched-answer.new.movins;
-      };
-      report = record {
-        held = g.W.Sink.contents c.args.out.now;
-        holds = g.W.Sink.contents c.run_watched-answer.new.out;
-        before = g.W.Sink.failures c.args.out.now;
-        after = g.W.Sink.failures c.run_watched-answer.new.out;
-      };
+      yard = source_seen g.F.Input.Source.remaining g.F.Input.Source.failures c.in-Ok.yard c.run_watched-answer.new.devices.yard;
+      movins = source_seen g.F.Input.Source.remaining g.F.Input.Source.failures c.in-Ok-open.movins c.run_watched-answer.new.devices.movins;
+      report = sink_seen g.W.Sink.contents g.W.Sink.failures c.args.out.now c.run_watched-answer.new.out;
       certificates = record {
         held = c.in-Ok-create.certificates.contents;
-        holds = c.run_watched-answer.new.cert_out.contents;
+        holds = c.run_watched-answer.new.devices.certificates.contents;
         before = c.in-Ok-create.certificates.failures;
-        after = c.run_watched-answer.new.cert_out.failures;
+        after = c.run_watched-answer.new.devices.certificates.failures;
       };
       yard_after = record {
         held = c.in-Ok-create-2.yard_after.contents;
-        holds = c.run_watched-answer.new.after_out.contents;
+        holds = c.run_watched-answer.new.devices.yard_after.contents;
         before = c.in-Ok-create-2.yard_after.failures;
-        after = c.run_watched-answer.new.after_out.failures;
+        after = c.run_watched-answer.new.devices.yard_after.failures;
       };
     } in
     let times : Times = record {
