@@ -1,15 +1,15 @@
 //! What the words of the command line ask for, done.
 ghost use Rattle.std.specs.Prelude.{MatchResult, map};
-ghost use Rattle.crp_report.specs.Runs.{SinkSeen};
+ghost use Rattle.crp_report.specs.Runs.{SinkSeen, sink_seen};
 ghost use Rattle.crp_jobs.specs.Opened.{IsLeftAlone};
-ghost use Rattle.crp_commands.specs.Performing.{JobSeen};
+ghost use Rattle.crp_commands.specs.Performing.{JobSeen, job_seen};
 ghost use Rattle.crp_words.specs.Endings.{IsExplainedOf, JobEnds, ProgramEnds};
 
 use crate::ending::{end_with_usage, explain_fault, explain_found};
 use crate::given::same_file;
 use crate::links::linked;
 use crate::words::job;
-use crp_commands::{Terminal, run_job};
+use crp_commands::{Streams, Terminal, run_job};
 use crp_files::Files;
 use crp_jobs::{Job, ToolFault, exit_of, found_line, place_of};
 use crp_plan::{Sink, Source};
@@ -26,7 +26,7 @@ fn explain_of<F: Files, E: Sink>(
     job: &Job<'_>,
     fault: &ToolFault,
 )
-    ensures { let seen : SinkSeen = record { held = E.contents errors.old; holds = E.contents errors.new; before = E.failures errors.old; after = E.failures errors.new }
+    ensures { let seen : SinkSeen = sink_seen E.contents E.failures errors.old errors.new
         in IsExplainedOf job.now fault.now seen }
 {
     let Some(place) = place_of(job, fault) else {
@@ -46,7 +46,7 @@ fn explain_answer<F: Files, E: Sink>(
     job: &Job<'_>,
     answer: &Result<Status, ToolFault>,
 )
-    ensures { let seen : SinkSeen = record { held = E.contents errors.old; holds = E.contents errors.new; before = E.failures errors.old; after = E.failures errors.new }
+    ensures { let seen : SinkSeen = sink_seen E.contents E.failures errors.old errors.new
         in MatchResult answer.now (λ _. IsLeftAlone seen) (λ fault. IsExplainedOf job.now fault seen) }
 {
     match answer {
@@ -67,27 +67,22 @@ fn end_with_job<
     threads: &T,
     alloc: Global,
     files: &mut F,
-    input: &mut R,
-    out: &mut W,
-    errors: &mut E,
+    streams: &mut Streams<R, W, E>,
     job: &Job<'_>,
     terminal: &S,
 ) -> u8
-    ensures { let seen : JobSeen = record {
-      files = record { known = F.known files.old; left = F.known files.new; before = F.failures files.old; after = F.failures files.new };
-      input = record { given = R.remaining input.old; before = R.failures input.old; after = R.failures input.new };
-      out = record { held = W.contents out.old; holds = W.contents out.new; before = W.failures out.old; after = W.failures out.new };
-    } in let errors_seen : SinkSeen = record { held = E.contents errors.old; holds = E.contents errors.new; before = E.failures errors.old; after = E.failures errors.new }
+    ensures { let seen : JobSeen = job_seen F.known F.failures R.remaining R.failures W.contents W.failures files.old files.new streams.old streams.new
+        in let errors_seen : SinkSeen = sink_seen E.contents E.failures streams.old.errors streams.new.errors
         in JobEnds job.now seen errors_seen result }
 {
-    let answer = run_job(threads, alloc, files, input, out, job, errors, terminal);
-    explain_answer(alloc, files, errors, job, &answer);
+    let answer = run_job(threads, alloc, files, streams, job, terminal);
+    explain_answer(alloc, files, &mut streams.errors, job, &answer);
     exit_of(&answer)
 }
 
-/// Does what the words of the command line ask for, those behind the program's name: a job over its files, where a file named `-` is
-/// `input`; or help, on `out`. A job that writes a file which is another one of its files too, by a link, is refused. Notes and what went
-/// wrong go to `errors`; how far a run is, is shown on the terminal. Returns the exit status.
+/// Does what the words of the command line ask for, those behind the program's name: a job over its files, where a file named `-` is the
+/// standard input; or help, on the standard output. A job that writes a file which is another one of its files too, by a link, is refused.
+/// Notes and what went wrong go to the standard error; how far a run is, is shown on the terminal. Returns the exit status.
 pub fn run_words<
     T: Threads + Wait + Sync,
     F: Files,
@@ -99,24 +94,23 @@ pub fn run_words<
     threads: &T,
     alloc: Global,
     files: &mut F,
-    input: &mut R,
-    out: &mut W,
-    errors: &mut E,
+    streams: &mut Streams<R, W, E>,
     words: &[&str],
     terminal: &S,
 ) -> u8
-    ensures { let seen : JobSeen = record {
-      files = record { known = F.known files.old; left = F.known files.new; before = F.failures files.old; after = F.failures files.new };
-      input = record { given = R.remaining input.old; before = R.failures input.old; after = R.failures input.new };
-      out = record { held = W.contents out.old; holds = W.contents out.new; before = W.failures out.old; after = W.failures out.new };
-    } in let errors_seen : SinkSeen = record { held = E.contents errors.old; holds = E.contents errors.new; before = E.failures errors.old; after = E.failures errors.new }
+    ensures { let seen : JobSeen = job_seen F.known F.failures R.remaining R.failures W.contents W.failures files.old files.new streams.old streams.new
+        in let errors_seen : SinkSeen = sink_seen E.contents E.failures streams.old.errors streams.new.errors
         in ProgramEnds (map (λ w. w.now) words.now) seen errors_seen result }
 {
     match job(alloc, words) {
         Ok(job) => match linked(files, &job) {
-            Some(names) => end_with_usage(&same_file(alloc, names), out, errors),
-            None => end_with_job(threads, alloc, files, input, out, errors, &job, terminal),
+            Some(names) => end_with_usage(
+                &same_file(alloc, names),
+                &mut streams.out,
+                &mut streams.errors,
+            ),
+            None => end_with_job(threads, alloc, files, streams, &job, terminal),
         },
-        Err(usage) => end_with_usage(&usage, out, errors),
+        Err(usage) => end_with_usage(&usage, &mut streams.out, &mut streams.errors),
     }
 }

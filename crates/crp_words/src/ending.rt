@@ -1,6 +1,6 @@
 //! How the program ends: the lines for the user, and the exit status.
 ghost use Rattle.std.specs.Prelude.{Some, flat_map, option_map};
-ghost use Rattle.crp_report.specs.Runs.{SinkSeen};
+ghost use Rattle.crp_report.specs.Runs.{SinkSeen, sink_seen};
 ghost use Rattle.crp_jobs.specs.Advice.{place_words};
 ghost use Rattle.crp_commands.specs.Noted.{GetsLines};
 ghost use Rattle.crp_jobs.specs.Found.{IsPlainText};
@@ -44,7 +44,7 @@ fn text_of<D: Display>(fault: &D) -> FaultText {
 
 // Writes the pieces, one after the other, as far as the sink takes them.
 fn write_pieces<W: Sink>(sink: &mut W, pieces: &[&[u8]])
-    ensures { let seen : SinkSeen = record { held = W.contents sink.old; holds = W.contents sink.new; before = W.failures sink.old; after = W.failures sink.new }
+    ensures { let seen : SinkSeen = sink_seen W.contents W.failures sink.old sink.new
         in GetsLines seen (flat_map (λ piece. piece.now) pieces.now) }
 {
     let mut interruptions = 0;
@@ -55,7 +55,7 @@ fn write_pieces<W: Sink>(sink: &mut W, pieces: &[&[u8]])
 
 // Writes the lines of a fault of a read or a write: its text, and the advice behind the place.
 fn explain_at<W: Sink>(sink: &mut W, text: &[u8], place: &Place<'_>, advice: &[u8])
-    ensures { let seen : SinkSeen = record { held = W.contents sink.old; holds = W.contents sink.new; before = W.failures sink.old; after = W.failures sink.new }
+    ensures { let seen : SinkSeen = sink_seen W.contents W.failures sink.old sink.new
         in GetsLines seen (fault_lines text.now (Some (place_words place.now)) advice.now) }
 {
     match place {
@@ -96,7 +96,7 @@ fn explain_at<W: Sink>(sink: &mut W, text: &[u8], place: &Place<'_>, advice: &[u
 
 // Writes the lines of a fault: its text, and the advice behind the place, if there is one.
 fn explain<W: Sink>(sink: &mut W, text: &[u8], place: Option<Place<'_>>, advice: &str)
-    ensures { let seen : SinkSeen = record { held = W.contents sink.old; holds = W.contents sink.new; before = W.failures sink.old; after = W.failures sink.new }
+    ensures { let seen : SinkSeen = sink_seen W.contents W.failures sink.old sink.new
         in GetsLines seen (fault_lines text.now (option_map place_words place.entry) advice.now) }
 {
     let advice = advice.as_bytes();
@@ -111,7 +111,7 @@ fn explain<W: Sink>(sink: &mut W, text: &[u8], place: Option<Place<'_>>, advice:
 
 /// Writes the two lines of a fault: what it is, and what to look at.
 pub(crate) fn explain_fault<W: Sink>(sink: &mut W, fault: &ToolFault, place: Option<Place<'_>>)
-    ensures { let seen : SinkSeen = record { held = W.contents sink.old; holds = W.contents sink.new; before = W.failures sink.old; after = W.failures sink.new }
+    ensures { let seen : SinkSeen = sink_seen W.contents W.failures sink.old sink.new
         in IsExplained (option_map place_words place.entry) seen }
 {
     let text = text_of(fault);
@@ -120,7 +120,7 @@ pub(crate) fn explain_fault<W: Sink>(sink: &mut W, fault: &ToolFault, place: Opt
 
 // Writes the lines of a fault: its text, the advice, and what was found.
 fn explain_with<W: Sink>(sink: &mut W, text: &[u8], advice: &str, found: &[u8])
-    ensures { let seen : SinkSeen = record { held = W.contents sink.old; holds = W.contents sink.new; before = W.failures sink.old; after = W.failures sink.new }
+    ensures { let seen : SinkSeen = sink_seen W.contents W.failures sink.old sink.new
         in GetsLines seen (three_lines text.now advice.now found.now) }
 {
     let advice = advice.as_bytes();
@@ -131,7 +131,7 @@ fn explain_with<W: Sink>(sink: &mut W, text: &[u8], advice: &str, found: &[u8])
 /// Writes the lines of a fault for which no read or write is the cause: what it is, what to look at, and what was found.
 pub(crate) fn explain_found<W: Sink>(sink: &mut W, fault: &ToolFault, found: &[u8])
     requires { IsPlainText found.now }
-    ensures { let seen : SinkSeen = record { held = W.contents sink.old; holds = W.contents sink.new; before = W.failures sink.old; after = W.failures sink.new }
+    ensures { let seen : SinkSeen = sink_seen W.contents W.failures sink.old sink.new
         in IsExplainedWithFound seen }
 {
     let text = text_of(fault);
@@ -139,8 +139,8 @@ pub(crate) fn explain_found<W: Sink>(sink: &mut W, fault: &ToolFault, found: &[u
 }
 
 fn show_help<W: Sink, E: Sink>(text: &str, out: &mut W, errors: &mut E) -> u8
-    ensures { let out_seen : SinkSeen = record { held = W.contents out.old; holds = W.contents out.new; before = W.failures out.old; after = W.failures out.new }
-        in let errors_seen : SinkSeen = record { held = E.contents errors.old; holds = E.contents errors.new; before = E.failures errors.old; after = E.failures errors.new }
+    ensures { let out_seen : SinkSeen = sink_seen W.contents W.failures out.old out.new
+        in let errors_seen : SinkSeen = sink_seen E.contents E.failures errors.old errors.new
         in HelpEnds text.now out_seen errors_seen result }
 {
     let Ok(()) = write_text(out, text.as_bytes()) else {
@@ -153,8 +153,8 @@ fn show_help<W: Sink, E: Sink>(text: &str, out: &mut W, errors: &mut E) -> u8
 /// Ends the program whose words ask for nothing: shows help on the standard output, or says on the standard error what is wrong. Returns
 /// the exit status.
 pub fn end_with_usage<W: Sink, E: Sink>(usage: &Usage, out: &mut W, errors: &mut E) -> u8
-    ensures { let out_seen : SinkSeen = record { held = W.contents out.old; holds = W.contents out.new; before = W.failures out.old; after = W.failures out.new }
-        in let errors_seen : SinkSeen = record { held = E.contents errors.old; holds = E.contents errors.new; before = E.failures errors.old; after = E.failures errors.new }
+    ensures { let out_seen : SinkSeen = sink_seen W.contents W.failures out.old out.new
+        in let errors_seen : SinkSeen = sink_seen E.contents E.failures errors.old errors.new
         in UsageEnds usage.now out_seen errors_seen result }
 {
     match usage {
