@@ -7,6 +7,7 @@ ghost use Rattle.crp_words.specs.Endings.{ProgramEnds, UsageEnds};
 
 use crate::piped::Piped;
 use crate::terminal::ErrorTerminal;
+use crp_commands::Streams;
 use crp_files::SystemFiles;
 use crp_plan::{Counted, Sink, write_text};
 use crp_words::{Mistake, Usage, end_with_usage, run_words};
@@ -76,33 +77,34 @@ pub fn run<T: Threads + Wait + Sync>(rt: &HostRuntime, threads: &T) -> u8
         ⊎ ((why : Unused) × (out : SinkSeen) × (errors : SinkSeen) × UsageEnds why out errors result) }
 {
     let alloc = rt.alloc();
-    let mut out = Counted::new(Piped::new(rt.stdout()));
-    let mut errors = Counted::new(rt.stderr());
+    let mut streams = Streams {
+        input: Counted::new(rt.stdin()),
+        out: Counted::new(Piped::new(rt.stdout())),
+        errors: Counted::new(rt.stderr()),
+    };
     let words = match words_of(rt) {
         Ok(words) => words,
         Err(error) => {
             let usage = usage_without_words(alloc, &error);
-            return end_without_words(&usage, &mut out, &mut errors);
+            return end_without_words(&usage, &mut streams.out, &mut streams.errors);
         }
     };
     let Ok(texts) = texts_of(alloc, &words) else {
-        return end_without_words(&Usage::Memory, &mut out, &mut errors);
+        return end_without_words(&Usage::Memory, &mut streams.out, &mut streams.errors);
     };
     if texts.is_empty() && rt.stdin().is_terminal() {
-        say(&mut errors, AWAITED);
+        say(&mut streams.errors, AWAITED);
     }
     let status = run_words(
         threads,
         alloc,
         &mut SystemFiles::new(rt),
-        &mut Counted::new(rt.stdin()),
-        &mut out,
-        &mut errors,
+        &mut streams,
         &texts,
         &ErrorTerminal::new(rt),
     );
-    if out.device.is_broken() {
-        say(&mut errors, READER_ENDED);
+    if streams.out.device.is_broken() {
+        say(&mut streams.errors, READER_ENDED);
     }
     status
 }

@@ -8,7 +8,7 @@ ghost use Rattle.crp_commands.specs.Solving.{AreTwo};
 ghost use Rattle.crp_memory_files.specs.Memory.{bytes_at, known_in, place_of};
 ghost use Rattle.crp_callers.specs.CommandReports.{IsReportOf};
 
-use crp_commands::{Terminal, run_job};
+use crp_commands::{Streams, Terminal, run_job};
 use crp_files::Files;
 use crp_jobs::{FileCommand, Job, RunFiles, ToolFault};
 use crp_memory_files::FilesInMemory;
@@ -31,23 +31,18 @@ pub fn report_of_file<T: Threads + Wait + Sync, F: Files, S: Terminal + Sync>(
     requires { name.now ≢ codes "-" }
     ensures { (bytes : List ℕ) → (F.known files.old).given name.now ≡ Some bytes → IfOk result (λ report. IsReportOf command bytes report.items) }
 {
-    let mut standard_input = input;
-    let mut out = Received::new(alloc);
+    let out = Received::new(alloc);
+    let mut streams = Streams {
+        input,
+        out,
+        errors: Nowhere,
+    };
     let job = Job::OneFile {
         file: name,
         command,
     };
-    run_job(
-        threads,
-        alloc,
-        files,
-        &mut standard_input,
-        &mut out,
-        &job,
-        &mut Nowhere,
-        terminal,
-    )?;
-    Ok(out.bytes)
+    run_job(threads, alloc, files, &mut streams, &job, terminal)?;
+    Ok(streams.out.bytes)
 }
 
 /// A run over the files of a yard writes its report, and no other text, to the standard output: one of a headline, of the yard that the
@@ -63,25 +58,21 @@ pub fn report_of_run<T: Threads + Wait + Sync, F: Files, S: Terminal + Sync>(
     ensures { IfOk result (λ report. (made : Made) × IsHeadline (handed_of made) × (report.items ≡ made.report)
         × IsTextOf ((F.known files.old).given names.entry.yard.now) made.list × IsYardListOf settings.input.heights made.list made.yard) }
 {
-    let mut standard_input: &[u8] = b"";
-    let mut out = Received::new(alloc);
+    let input: &[u8] = b"";
+    let out = Received::new(alloc);
+    let mut streams = Streams {
+        input,
+        out,
+        errors: Nowhere,
+    };
     let job = Job::Solve {
         files: names,
         settings,
         quiet: true,
         progress: false,
     };
-    run_job(
-        threads,
-        alloc,
-        files,
-        &mut standard_input,
-        &mut out,
-        &job,
-        &mut Nowhere,
-        terminal,
-    )?;
-    Ok(out.bytes)
+    run_job(threads, alloc, files, &mut streams, &job, terminal)?;
+    Ok(streams.out.bytes)
 }
 
 /// What stands on the standard output, and was not there before, where a run over the files of a yard ends with a fault: nothing, or a front
@@ -97,26 +88,22 @@ pub fn front_of_run<T: Threads + Wait + Sync, F: Files, S: Terminal + Sync>(
     ensures { IfSome result (λ lines. (lines.items ≡ []) ⊎ ((made : Made) × IsHeadline (handed_of made) × ((n : ℕ) × (lines.items ≡ take n made.report))
         × IsTextOf ((F.known files.old).given names.entry.yard.now) made.list × IsYardListOf settings.input.heights made.list made.yard)) }
 {
-    let mut standard_input: &[u8] = b"";
-    let mut out = Received::new(alloc);
+    let input: &[u8] = b"";
+    let out = Received::new(alloc);
+    let mut streams = Streams {
+        input,
+        out,
+        errors: Nowhere,
+    };
     let job = Job::Solve {
         files: names,
         settings,
         quiet: true,
         progress: false,
     };
-    match run_job(
-        threads,
-        alloc,
-        files,
-        &mut standard_input,
-        &mut out,
-        &job,
-        &mut Nowhere,
-        terminal,
-    ) {
+    match run_job(threads, alloc, files, &mut streams, &job, terminal) {
         Ok(_) => None,
-        Err(_) => Some(out.bytes),
+        Err(_) => Some(streams.out.bytes),
     }
 }
 
@@ -136,23 +123,19 @@ pub fn files_of_run<T: Threads + Wait + Sync, F: Files, S: Terminal + Sync>(
         × IfSome (option_map (λ name. name.now) names.entry.cert) (λ name. (F.known files.new).given name ≡ Some made.certificates)
         × IfSome (option_map (λ name. name.now) names.entry.after) (λ name. (F.known files.new).given name ≡ Some made.yard_after)) }
 {
-    let mut standard_input: &[u8] = b"";
+    let input: &[u8] = b"";
+    let mut streams = Streams {
+        input,
+        out: Nowhere,
+        errors: Nowhere,
+    };
     let job = Job::Solve {
         files: names,
         settings,
         quiet: true,
         progress: false,
     };
-    run_job(
-        threads,
-        alloc,
-        files,
-        &mut standard_input,
-        &mut Nowhere,
-        &job,
-        &mut Nowhere,
-        terminal,
-    )
+    run_job(threads, alloc, files, &mut streams, &job, terminal)
 }
 
 /// The same of files in memory, of which all is known.

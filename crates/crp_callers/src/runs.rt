@@ -7,7 +7,7 @@ ghost use Rattle.crp_report.specs.Runs.{Made};
 ghost use Rattle.crp_callers.specs.InStep.{IsMadeOf, EndsFor};
 
 use crp_plan::{Nowhere, Plan, Received};
-use crp_report::{Fault, Output, RunSettings, Status, print_moves, run};
+use crp_report::{Devices, Fault, Output, RunSettings, Status, print_moves, run};
 use std::alloc::Global;
 use std::sync::Wait;
 use std::thread::Threads;
@@ -17,32 +17,19 @@ use std::thread::Threads;
 pub fn run_in_memory<T: Threads + Wait + Sync>(
     rt: &T,
     alloc: Global,
-    yard: &[u8],
-    movins: &[u8],
+    devices: &mut Devices<&[u8], &[u8], Received, Nowhere>,
     settings: &RunSettings,
     report: &mut Received,
-    certificates: &mut Received,
 ) -> Result<Status, Fault>
-    ensures written { OnOk result ((m : Made) × IsMadeOf settings.now yard.now movins.now m
+    ensures written { OnOk result ((m : Made) × IsMadeOf settings.now devices.old.yard.now devices.old.movins.now m
         × (report.new.bytes.items ≡ report.old.bytes.items ++ m.report)
-        × (certificates.new.bytes.items ≡ certificates.old.bytes.items ++ certificates_text m.answered)) }
+        × (devices.new.certificates.bytes.items ≡ devices.old.certificates.bytes.items ++ certificates_text m.answered)) }
     ensures ended { IfErr result (λ fault. (lines : List ℕ) × (parts : List ℕ)
         × (report.new.bytes.items ≡ report.old.bytes.items ++ lines)
-        × (certificates.new.bytes.items ≡ certificates.old.bytes.items ++ parts)
-        × EndsFor settings.now yard.now movins.now fault lines parts) }
+        × (devices.new.certificates.bytes.items ≡ devices.old.certificates.bytes.items ++ parts)
+        × EndsFor settings.now devices.old.yard.now devices.old.movins.now fault lines parts) }
 {
-    let mut list = yard;
-    let mut message = movins;
-    run(
-        rt,
-        alloc,
-        &mut list,
-        &mut message,
-        settings,
-        report,
-        certificates,
-        &mut Nowhere,
-    )
+    run(rt, alloc, devices, settings, report)
 }
 
 /// Writes the moves of a plan behind what the sink has. It gets their lines; or, where the sink finds no memory, a front that is not all of them, and one

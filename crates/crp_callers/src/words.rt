@@ -3,7 +3,7 @@ ghost use Rattle.std.specs.Prelude.{◌≡◌, ◌⊎◌, Some, true, codes, rep
 ghost use Rattle.crp_commands.specs.Check.{IsCheck};
 ghost use Rattle.crp_callers.specs.AskedFor.{HasHeights, IsOfSetting, IsStrongSearch};
 
-use crp_commands::Terminal;
+use crp_commands::{Streams, Terminal};
 use crp_files::Files;
 use crp_jobs::Job;
 use crp_plan::{Nowhere, Received};
@@ -53,19 +53,25 @@ pub fn lines_of_check<T: Threads + Wait + Sync, F: Files, S: Terminal + Sync>(
 ) -> Option<Vec<u8>>
     ensures { IfSome result (λ lines. IsCheck certificates.now lines.items) }
 {
-    let mut input = certificates;
-    let mut out = Received::new(alloc);
+    let out = Received::new(alloc);
+    let mut streams = Streams {
+        input: certificates,
+        out,
+        errors: Nowhere,
+    };
     let status = run_words(
         threads,
         alloc,
         files,
-        &mut input,
-        &mut out,
-        &mut Nowhere,
+        &mut streams,
         CHECK.as_slice(),
         terminal,
     );
-    if status == 0 { Some(out.bytes) } else { None }
+    if status == 0 {
+        Some(streams.out.bytes)
+    } else {
+        None
+    }
 }
 
 /// Where the file `proofs` is known to be the yard list itself, by a link, words that would write certificates to it end with status 2, or
@@ -80,14 +86,17 @@ pub fn status_of_linked<T: Threads + Wait + Sync, F: Files, S: Terminal + Sync>(
     ensures refused { (result ≡ 2) ⊎ (result ≡ 4) }
     ensures untouched { (F.known files.new ≡ F.known files.old) × (F.failures files.new ≡ F.failures files.old) }
 {
-    let mut input: &[u8] = b"";
+    let input: &[u8] = b"";
+    let mut streams = Streams {
+        input,
+        out: Nowhere,
+        errors: Nowhere,
+    };
     run_words(
         threads,
         alloc,
         files,
-        &mut input,
-        &mut Nowhere,
-        &mut Nowhere,
+        &mut streams,
         SOLVE_TO.as_slice(),
         terminal,
     )

@@ -4,7 +4,7 @@ use crate::compare::assert_same;
 use crate::six::{Choice, SIX_CONTAINERS, SIX_ORDERS, message, settings_of};
 use crp_order::{BayProblem, Mode, Sequence};
 use crp_plan::{Failure, Nowhere, Sink};
-use crp_report::{RunSettings, Status, Watch, show};
+use crp_report::{Devices, RunSettings, Status, Watch, show};
 use crp_solve::{NoGate, Solved};
 use crp_yard::Yard;
 use edi_text::Segments;
@@ -139,15 +139,18 @@ fn the_first_bay_is_written_before_the_second_begins(rt: HostRuntime) -> Result<
         list: &list,
         failed: 0,
     };
+    let mut devices = Devices {
+        yard: yard.as_slice(),
+        movins: movins.as_slice(),
+        certificates: Nowhere,
+        yard_after: Nowhere,
+    };
     let answer = run_watched(
         &rt,
         alloc,
-        &mut yard.as_slice(),
-        &mut movins.as_slice(),
+        &mut devices,
         &settings,
         &mut out,
-        &mut Nowhere,
-        &mut Nowhere,
         &mut Marks { gate: NoGate },
         &mut errors,
     );

@@ -2,7 +2,7 @@
 use crp_commands::FollowSettings;
 use crp_jobs::{Job, ToolFault};
 use crp_plan::{Nowhere, Sink, Source};
-use crp_report::{Fault, RunSettings, Status, Watch};
+use crp_report::{Devices, Fault, RunSettings, Status, Watch};
 use crp_solve::Settings;
 use crp_words::Usage;
 use std::alloc::Global;
@@ -46,14 +46,11 @@ pub(crate) fn prove<T: Threads + Wait + Sync, R: Source, W: Sink>(
 pub(crate) fn run<T: Threads + Wait + Sync, Y: Source, M: Source, W: Sink, C: Sink, A: Sink>(
     rt: &T,
     alloc: Global,
-    yard: &mut Y,
-    movins: &mut M,
+    devices: &mut Devices<Y, M, C, A>,
     settings: &RunSettings,
     out: &mut W,
-    cert_out: &mut C,
-    after_out: &mut A,
 ) -> Result<Status, Fault> {
-    crp_report::run(rt, alloc, yard, movins, settings, out, cert_out, after_out)
+    crp_report::run(rt, alloc, devices, settings, out)
 }
 
 pub(crate) fn run_watched<
@@ -68,18 +65,13 @@ pub(crate) fn run_watched<
 >(
     rt: &T,
     alloc: Global,
-    yard: &mut Y,
-    movins: &mut M,
+    devices: &mut Devices<Y, M, C, A>,
     settings: &RunSettings,
     out: &mut W,
-    cert_out: &mut C,
-    after_out: &mut A,
     watch: &mut V,
     errors: &mut E,
 ) -> Result<Status, Fault> {
-    crp_report::run_watched(
-        rt, alloc, yard, movins, settings, out, cert_out, after_out, watch, errors,
-    )
+    crp_report::run_watched(rt, alloc, devices, settings, out, watch, errors)
 }
 
 pub(crate) fn exit_of(answer: &Result<Status, ToolFault>) -> u8 {

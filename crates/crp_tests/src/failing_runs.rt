@@ -5,7 +5,7 @@ use crate::devices::{Slow, Small};
 use crate::six::{Choice, SIX_CONTAINERS, SIX_ORDERS, message, settings_of};
 use crp_order::Mode;
 use crp_plan::{Nowhere, Plan, Problem, Received};
-use crp_report::{Fault, Input, Output, Status, print_moves};
+use crp_report::{Devices, Fault, Input, Output, Status, print_moves};
 use std::alloc::Global;
 use std::sync::Wait;
 use std::test::Fail;
@@ -34,28 +34,23 @@ fn with_slow<T: Threads + Wait + Sync>(
         mode: Mode::Listed,
     };
     let settings = settings_of(alloc, &choice)?;
-    let mut yard = Slow {
-        interrupted: interrupted.0,
-        rest: SIX_CONTAINERS,
-        fails: false,
-        failed: 0,
+    let mut devices = Devices {
+        yard: Slow {
+            interrupted: interrupted.0,
+            rest: SIX_CONTAINERS,
+            fails: false,
+            failed: 0,
+        },
+        movins: Slow {
+            interrupted: interrupted.1,
+            rest: movins,
+            fails: false,
+            failed: 0,
+        },
+        certificates: Nowhere,
+        yard_after: Nowhere,
     };
-    let mut message = Slow {
-        interrupted: interrupted.1,
-        rest: movins,
-        fails: false,
-        failed: 0,
-    };
-    Ok(run(
-        rt,
-        alloc,
-        &mut yard,
-        &mut message,
-        &settings,
-        &mut Nowhere,
-        &mut Nowhere,
-        &mut Nowhere,
-    ))
+    Ok(run(rt, alloc, &mut devices, &settings, &mut Nowhere))
 }
 
 #[test]

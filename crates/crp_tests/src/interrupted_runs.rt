@@ -6,7 +6,7 @@ use crate::six::{Choice, SIX_CONTAINERS, SIX_ORDERS, message, settings_of};
 use crp_jobs::ToolFault;
 use crp_order::Mode;
 use crp_plan::{Plan, Problem, Source};
-use crp_report::{Fault, Output, Status, print_moves};
+use crp_report::{Devices, Fault, Output, Status, print_moves};
 use std::alloc::Global;
 use std::sync::Wait;
 use std::test::Fail;
@@ -20,11 +20,11 @@ fn busy(interrupted: u32) -> Busy {
 }
 
 // How a run over these sources ends whose sinks are interrupted so often.
-fn ended<T: Threads + Wait + Sync, Y: Source, M: Source>(
+fn ended<T: Threads + Wait + Sync, Y: Source + Drop, M: Source + Drop>(
     rt: &T,
     alloc: Global,
-    yard: &mut Y,
-    movins: &mut M,
+    yard: Y,
+    movins: M,
     interrupted: [u32; 3],
 ) -> Result<Result<Status, Fault>, Fail> {
     let choice = Choice {
@@ -34,15 +34,18 @@ fn ended<T: Threads + Wait + Sync, Y: Source, M: Source>(
         mode: Mode::Listed,
     };
     let settings = settings_of(alloc, &choice)?;
+    let mut devices = Devices {
+        yard,
+        movins,
+        certificates: busy(interrupted[1]),
+        yard_after: busy(interrupted[2]),
+    };
     Ok(run(
         rt,
         alloc,
-        yard,
-        movins,
+        &mut devices,
         &settings,
         &mut busy(interrupted[0]),
-        &mut busy(interrupted[1]),
-        &mut busy(interrupted[2]),
     ))
 }
 
@@ -58,14 +61,13 @@ fn a_thousand_interruptions_are_passed_over(rt: HostRuntime) -> Result<(), Fail>
         (250, [250, 250, 251], Err(Fault::Write(Output::YardAfter))),
     ];
     for (reads, writes, answer) in cases {
-        let mut yard = Slow {
+        let yard = Slow {
             interrupted: reads,
             rest: SIX_CONTAINERS,
             fails: false,
             failed: 0,
         };
-        let mut message = movins.as_slice();
-        let got = ended(&rt, rt.alloc(), &mut yard, &mut message, writes)?;
+        let got = ended(&rt, rt.alloc(), yard, movins.as_slice(), writes)?;
         assert_same(&rt, &got, &answer);
     }
     Ok(())
@@ -98,12 +100,10 @@ fn refused(alloc: Global, got: Result<Status, Fault>) -> Result<(String, u8), Fa
 #[test]
 fn sources_that_never_end(rt: HostRuntime) -> Result<(), Fail> {
     let movins = message(rt.alloc(), &[SIX_ORDERS], b"16")?;
-    let mut message = movins.as_slice();
-    let got = ended(&rt, rt.alloc(), &mut Endless, &mut message, [0, 0, 0])?;
+    let got = ended(&rt, rt.alloc(), Endless, movins.as_slice(), [0, 0, 0])?;
     let (line, status) = refused(rt.alloc(), got)?;
     assert!(rt; line.as_str() == "Y10 at record 0" && status == 3);
-    let mut yard = SIX_CONTAINERS;
-    let got = ended(&rt, rt.alloc(), &mut yard, &mut Endless, [0, 0, 0])?;
+    let got = ended(&rt, rt.alloc(), SIX_CONTAINERS, Endless, [0, 0, 0])?;
     let (line, status) = refused(rt.alloc(), got)?;
     assert!(rt; line.as_str() == "E7 at offset 8388608" && status == 3);
     Ok(())

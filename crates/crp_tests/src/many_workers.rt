@@ -1,7 +1,7 @@
 //! A yard of many bays, solved over files by one worker and by several.
 use crate::compare::{assert_at, assert_same};
 use crate::six::HEADER;
-use crp_commands::{NoTerminal, run_job};
+use crp_commands::{NoTerminal, Streams, run_job};
 use crp_files::SystemFiles;
 use crp_jobs::ToolFault;
 use crp_plan::{Counted, Nowhere, Received};
@@ -94,20 +94,22 @@ pub(crate) fn run_words<T: Threads + Wait + Sync>(
     threads: &T,
     words: &[&str],
 ) -> Result<(Result<Status, ToolFault>, Vec<u8>), Fail> {
-    let mut out = Received::new(rt.alloc());
+    let mut streams = Streams {
+        input: Counted::new(rt.stdin()),
+        out: Received::new(rt.alloc()),
+        errors: Nowhere,
+    };
     match job(rt.alloc(), words) {
         Ok(job) => {
             let answer = run_job(
                 threads,
                 rt.alloc(),
                 &mut SystemFiles::new(rt),
-                &mut Counted::new(rt.stdin()),
-                &mut out,
+                &mut streams,
                 &job,
-                &mut Nowhere,
                 &NoTerminal,
             );
-            Ok((answer, out.bytes))
+            Ok((answer, streams.out.bytes))
         }
         Err(_) => Err(Fail::from("the words ask for nothing")),
     }

@@ -8,7 +8,7 @@ use crate::six::{
 };
 use crp_order::Mode;
 use crp_plan::Source;
-use crp_report::{Fault, Input, Output, Status};
+use crp_report::{Devices, Fault, Input, Output, Status};
 use std::alloc::Global;
 use std::process::Abort;
 use std::sync::Wait;
@@ -37,31 +37,26 @@ fn small(alloc: Global, room: usize) -> Small {
 }
 
 // How a run ends over these sources, and what its sinks hold then, which have so much room and take a byte a call.
-fn ended<T: Threads + Wait + Sync, Y: Source, M: Source>(
+fn ended<T: Threads + Wait + Sync, Y: Source + Drop, M: Source + Drop>(
     rt: &T,
     alloc: Global,
-    yard: &mut Y,
-    movins: &mut M,
+    yard: Y,
+    movins: M,
     rooms: [usize; 3],
 ) -> Result<Texts, Fail> {
     let settings = settings_of(alloc, &CHOICE)?;
     let mut out = small(alloc, rooms[0]);
-    let mut cert_out = small(alloc, rooms[1]);
-    let mut after_out = small(alloc, rooms[2]);
-    let answer = run(
-        rt,
-        alloc,
+    let mut devices = Devices {
         yard,
         movins,
-        &settings,
-        &mut out,
-        &mut cert_out,
-        &mut after_out,
-    );
+        certificates: small(alloc, rooms[1]),
+        yard_after: small(alloc, rooms[2]),
+    };
+    let answer = run(rt, alloc, &mut devices, &settings, &mut out);
     Ok(Texts {
         report: out.bytes,
-        certificates: cert_out.bytes,
-        yard_after: after_out.bytes,
+        certificates: devices.certificates.bytes,
+        yard_after: devices.yard_after.bytes,
         answer,
     })
 }
@@ -114,12 +109,11 @@ fn held_of(output: Output, room: usize) -> [usize; 3] {
 fn assert_unwritten<T: Threads + Wait + Abort + Sync>(
     rt: &T,
     alloc: Global,
-    mut movins: &[u8],
+    movins: &[u8],
     output: Output,
     room: usize,
 ) -> Result<(), Fail> {
-    let mut yard = SIX_CONTAINERS;
-    let got = ended(rt, alloc, &mut yard, &mut movins, rooms_of(output, room))?;
+    let got = ended(rt, alloc, SIX_CONTAINERS, movins, rooms_of(output, room))?;
     let fault = Err(Fault::Write(output));
     assert_ended(rt, &got, &fault, held_of(output, room), room);
     Ok(())
@@ -159,8 +153,8 @@ fn assert_unread<T: Threads + Wait + Abort + Sync>(
     input: Input,
     at: usize,
 ) -> Result<(), Fail> {
-    let (mut yard, mut movins) = sources;
-    let got = ended(rt, alloc, &mut yard, &mut movins, [ROOM; 3])?;
+    let (yard, movins) = sources;
+    let got = ended(rt, alloc, yard, movins, [ROOM; 3])?;
     assert_ended(rt, &got, &Err(Fault::Read(input)), [0; 3], at);
     Ok(())
 }
@@ -197,8 +191,8 @@ fn a_byte_a_call(rt: HostRuntime) -> Result<(), Fail> {
     let got = ended(
         &rt,
         rt.alloc(),
-        &mut slow(SIX_CONTAINERS, false),
-        &mut slow(&movins, false),
+        slow(SIX_CONTAINERS, false),
+        slow(&movins, false),
         [ROOM; 3],
     )?;
     assert_ended(&rt, &got, &Ok(Status::Decided), [ROOM; 3], 0);

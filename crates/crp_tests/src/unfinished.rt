@@ -1,7 +1,7 @@
 //! Files that were written and cannot be finished: their bytes were taken, and closing them fails.
 use crate::compare::assert_same_at;
 use crate::six::{SIX_ANSWERED, SIX_CONTAINERS, SIX_ORDERS, message};
-use crp_commands::NoTerminal;
+use crp_commands::{NoTerminal, Streams};
 use crp_memory_files::{FilesInMemory, StoredFile};
 use crp_plan::{Nowhere, Received};
 use crp_words::run_words;
@@ -94,20 +94,26 @@ fn files_that_cannot_be_finished(rt: HostRuntime) -> Result<(), Fail> {
             output("page", case.name),
         ];
         let mut files = FilesInMemory::new(rt.alloc(), &stored)?;
-        let mut answered: &[u8] = SIX_ANSWERED;
-        let mut errors = Received::new(rt.alloc());
+        let mut streams = Streams {
+            input: SIX_ANSWERED,
+            out: Nowhere,
+            errors: Received::new(rt.alloc()),
+        };
         let status = run_words(
             &rt,
             rt.alloc(),
             &mut files,
-            &mut answered,
-            &mut Nowhere,
-            &mut errors,
+            &mut streams,
             case.words,
             &NoTerminal,
         );
         assert_same_at(&rt, &status, &5, &case.name);
-        assert_same_at(&rt, &errors.bytes.as_slice(), &case.explained, &case.name);
+        assert_same_at(
+            &rt,
+            &streams.errors.bytes.as_slice(),
+            &case.explained,
+            &case.name,
+        );
     }
     Ok(())
 }

@@ -1,7 +1,7 @@
 //! A transcript, played block by block.
 use crate::audits::{REPORT, audit_of};
 use crate::blocks::{Block, Mark, blocks_of};
-use crp_commands::NoTerminal;
+use crp_commands::{NoTerminal, Streams};
 use crp_files::SystemFiles;
 use crp_plan::{Counted, Received, write_all};
 use crp_words::run_words;
@@ -62,19 +62,20 @@ fn is_accepted<T: Threads + Wait + Sync>(
     threads: &T,
     words: &[&str],
 ) -> io::Result<bool> {
-    let mut shown = Received::new(rt.alloc());
-    let mut errors = Received::new(rt.alloc());
+    let mut streams = Streams {
+        input: b"".as_slice(),
+        out: Received::new(rt.alloc()),
+        errors: Received::new(rt.alloc()),
+    };
     let status = run_words(
         threads,
         rt.alloc(),
         &mut SystemFiles::new(rt),
-        &mut b"".as_slice(),
-        &mut shown,
-        &mut errors,
+        &mut streams,
         words,
         &NoTerminal,
     );
-    show(rt, &errors.bytes);
+    show(rt, &streams.errors.bytes);
     Ok(status == 0)
 }
 
@@ -111,23 +112,25 @@ fn run<T: Threads + Wait + Sync>(
 ) -> io::Result<bool> {
     let (words, input) = words_of(rt, block.words)?;
     let input = input_of(rt, input)?;
-    let mut out = Received::new(rt.alloc());
-    let mut errors = Received::new(rt.alloc());
+    let mut streams = Streams {
+        input: input.as_slice(),
+        out: Received::new(rt.alloc()),
+        errors: Received::new(rt.alloc()),
+    };
     played.status = run_words(
         threads,
         rt.alloc(),
         &mut SystemFiles::new(rt),
-        &mut input.as_slice(),
-        &mut out,
-        &mut errors,
+        &mut streams,
         &words,
         &NoTerminal,
     );
-    played.errors = errors.bytes;
+    played.errors = streams.errors.bytes;
+    let written = streams.out.bytes;
     played.runs = played.runs.saturating_add(1);
     Ok(
-        is_same(rt, block.line, &out.bytes, &block.text)?
-            && audit(rt, threads, played, block.line, &words, &out.bytes)?,
+        is_same(rt, block.line, &written, &block.text)?
+            && audit(rt, threads, played, block.line, &words, &written)?,
     )
 }
 

@@ -4,4 +4,4 @@ use Rattle.crp_callers.proofs.files.front_of_run.Goals as goal
 
 pub returns-in-Err : goal.returns-in-Err
 returns-in-Err g c =
-    reported_so_far c.args.names c.args.settings _ c.run_job.new.out.bytes.items (record { held = ap Some c.new-out.ensures.bytes; holds = refl }) c.in-Err.ensures.headline_so_far
+    reported_so_far c.args.names c.args.settings _ c.run_job.new.streams.out.bytes.items (record { held = ap Some c.new-out.ensures.bytes; holds = refl }) c.in-Err.ensures.headline_so_far

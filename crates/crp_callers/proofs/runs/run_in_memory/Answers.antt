@@ -6,8 +6,8 @@ pub returns-clause-ended : goal.returns-clause-ended
 returns-clause-ended g c =
     let old = c.args.report.now in
     let new = c.run.new.out in
-    let before = c.args.certificates.now in
-    let after = c.run.new.cert_out in
+    let before = c.args.devices.now.certificates in
+    let after = c.run.new.devices.certificates in
     of_error c.run.result _ _ _
-    (λ f is. ended c.args.settings.now c.args.yard.now c.args.movins.now old.bytes.items new.bytes.items before.bytes.items after.bytes.items 0 0 0 0 old.failed new.failed before.failed after.failed 0 0 f is.0)
+    (λ f is. ended c.args.settings.now c.args.devices.now.yard.now c.args.devices.now.movins.now old.bytes.items new.bytes.items before.bytes.items after.bytes.items 0 0 0 0 old.failed new.failed before.failed after.failed 0 0 f is.0)
     c.run.ensures
