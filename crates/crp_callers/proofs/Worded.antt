@@ -17,10 +17,16 @@ use Rattle.crp_jobs.specs.declared.job.Job.TheVariants.{OneFile, Audit, Follow, 
 use Rattle.crp_jobs.specs.declared.job.FileCommand.TheVariants as command
 use Rattle.crp_jobs.specs.declared.outcome.ToolFault.{ToolFault}
 use Rattle.crp_jobs.specs.declared.outcome.ToolFault.TheVariants as fault
-use Rattle.crp_files.specs.Known.{KnownFiles}
-use Rattle.crp_jobs.specs.Opened.{AreFilesLeftAlone}
+use Rattle.crp_jobs.specs.declared.job.RunFiles.{RunFiles}
+use Rattle.crp_jobs.specs.Names.{named_in_run}
+use Rattle.crp_files.specs.declared.roles.Role.TheVariants as role
+use Rattle.crp_files.specs.Known.{KnownFiles, KeepsBytes}
+use Rattle.crp_files.specs.Roles.{IsShared}
+use Rattle.crp_files.proofs.Prepared.{prepared_keeps}
 use Rattle.crp_jobs.specs.Outcomes.{exit_code}
 use Rattle.crp_commands.specs.Check.{IsCheck}
+use Rattle.crp_commands.specs.Solving.{SolveFailsOverFiles}
+use Rattle.crp_report.specs.Chosen.{RunChosen}
 use Rattle.crp_commands.specs.Performing.{JobSeen, ReportsOverFiles, call_of}
 use Rattle.crp_words.specs.declared.usage.Mistake.TheVariants as mistake
 use Rattle.crp_words.specs.declared.usage.SettingFault.{SettingFault}
@@ -28,9 +34,8 @@ use Rattle.crp_words.specs.declared.usage.SettingFault.TheVariants as setting
 use Rattle.crp_words.specs.declared.usage.Usage.{Usage}
 use Rattle.crp_words.specs.declared.usage.Usage.TheVariants as usage
 use Rattle.crp_words.specs.Commands.{crp}
-use Rattle.crp_words.specs.Endings.{ProgramEnds, UsageEnds}
-use Rattle.crp_words.specs.Links.{IsLinked}
-use Rattle.crp_words.specs.Words.{HasBeam, HasNumber, HasNumberBeyond, HasThin, IsGivenByWords, Refuses, WordsAsk, WordsHaveFault, IsWordsOrMemory, IsSolveFault, FindsRowHeights, MayFindHeights, heights_or, value_source_of, words_or_default}
+use Rattle.crp_words.specs.Endings.{JobEnds, ProgramEnds, UsageEnds}
+use Rattle.crp_words.specs.Words.{HasBeam, HasNumber, HasNumberBeyond, HasThin, IsGivenByWords, Refuses, WordsAsk, WordsHaveFault, IsSolveFault, FindsRowHeights, MayFindHeights, heights_or, value_source_of, words_or_default}
 use Rattle.crp_callers.specs.AskedFor.{HasHeights, IsOfSetting, IsStrongSearch}
 use Rattle.crp_callers.proofs.Reporting.{command_reported}
 
@@ -48,6 +53,7 @@ never_zero (fault.ReadOf which) e = absurd (omega arith)
 never_zero fault.Write e = absurd (omega arith)
 never_zero fault.WriteTable e = absurd (omega arith)
 never_zero fault.WritePage e = absurd (omega arith)
+never_zero (fault.OneFile both) e = absurd (omega arith)
 never_zero (fault.Run (run.Yard f)) e = absurd (omega arith)
 never_zero (fault.Run (run.Interchange f)) e = absurd (omega arith)
 never_zero (fault.Run (run.Message f)) e = absurd (omega arith)
@@ -71,11 +77,6 @@ refused_with (usage.Help text) out errors status other ends = absurd other
 refused_with (usage.Wrong (mistake.Words text)) out errors status other (alone, lines, is) = inl is
 refused_with (usage.Wrong (mistake.Setting f)) out errors status other (alone, lines, is) = inl is
 refused_with usage.Memory out errors status other (alone, lines, is) = inr is
-
-names_are_no_help : (u : Usage) → IsWordsOrMemory u → IsNoHelp u
-names_are_no_help (usage.Help text) is = absurd is
-names_are_no_help (usage.Wrong m) is = tt
-names_are_no_help usage.Memory is = tt
 
 -- words without a fault get no help
 words_get_no_help : (words : List Text) → fault_of crp (words_or_default words) ≡ [] → (u : Usage) → Refuses words u → IsNoHelp u
@@ -141,12 +142,10 @@ not_two_or_four status e (inr four) = absurd (omega arith)
 -- with status 0 the certificates of the standard input are accepted, and their lines stand on the standard output
 ends_check : (seen : JobSeen) (errors : SinkSeen) (status : ℕ) (bytes lines : List ℕ) → ProgramEnds check_words seen errors status → status ≡ 0
     → seen.input.given ≡ Some bytes → seen.out.held ≡ Some [] → seen.out.holds ≡ Some lines → IsCheck bytes lines
-ends_check seen errors status bytes lines (inl (j, asks, apart, inl (ended, done, kept, noted, is))) e given held holds =
+ends_check seen errors status bytes lines (inl (j, asks, inl (ended, done, kept, noted, is))) e given held holds =
     check_is_done j asks seen ended bytes lines given held holds done
-ends_check seen errors status bytes lines (inl (j, asks, apart, inr (f, failed, kept, behind, is))) e given held holds = absurd (never_zero f (sym is ∙ e))
-ends_check seen errors status bytes lines (inr (inl (j, asks, linked, (u, names, ends)))) e given held holds =
-    absurd (not_two_or_four status e (refused_with u seen.out errors status (names_are_no_help u names) ends.2))
-ends_check seen errors status bytes lines (inr (inr (u, refuses, ends))) e given held holds =
+ends_check seen errors status bytes lines (inl (j, asks, inr (f, failed, kept, behind, is))) e given held holds = absurd (never_zero f (sym is ∙ e))
+ends_check seen errors status bytes lines (inr (u, refuses, ends)) e given held holds =
     absurd (not_two_or_four status e (refused_with u seen.out errors status (words_get_no_help check_words check_is_free u refuses) ends.2))
 
 pub check_ends : (words : List Text) (seen : JobSeen) (errors : SinkSeen) (status : ℕ) (bytes lines : List ℕ) → words ≡ check_words → ProgramEnds words seen errors status
@@ -163,28 +162,70 @@ linked_is_free : fault_of crp (words_or_default linked_words) ≡ []
 unfolding walk_fault defaults_fault flags_fault walked bundle_met
 linked_is_free = refl
 
-job_is_linked : (known : KnownFiles) → known.are_one (codes "proofs") (codes "yard") ≡ Some true → (j : Job) → WordsAsk linked_words j → IsLinked known j
-unfolding walk_fault defaults_fault flags_fault walked bundle_met
-job_is_linked known one (Solve names settings quiet progress) (free, (name, size, twice, files, has, a, b)) =
-    inl (record { first = codes "proofs"; second = codes "yard"; is = sym files.2; is_other = sym files.0; one = one })
-job_is_linked known one (OneFile file command.Replay) (free, (name, is)) = absurd (other_letter 115 114 _ _ refl name)
-job_is_linked known one (OneFile file (command.Bound chains)) (free, (name, is)) = absurd (other_letter 115 98 _ _ refl name.0)
-job_is_linked known one (OneFile file command.Check) (free, (name, is)) = absurd (other_letter 115 99 _ _ refl name)
-job_is_linked known one (OneFile file (command.Prove chosen)) (free, (name, is)) = absurd (other_letter 115 112 _ _ refl name.0)
-job_is_linked known one (Audit names settings) (free, (name, size, files, has)) = absurd (other_letter 115 97 _ _ refl name)
-job_is_linked known one (Follow names settings) (free, (name, size, ordered, twice, files, has)) = absurd (other_letter 115 102 _ _ refl name)
+-- how a job ends whose file of certificates is the yard list: it fails, no file is emptied, and only an input that cannot be opened comes before
+abbrev EndsUnemptied : JobSeen → ℕ → Type 0
+EndsUnemptied seen status = ((status ≡ 2) ⊎ ((status ≡ 4) ⊎ (status ≡ 5))) × KeepsBytes seen.files.known seen.files.left
 
--- where the two names lead to one file, the words are refused, and no file is touched
+kept_all : (known left : KnownFiles) → left ≡ known → KeepsBytes known left
+kept_all known left same = prepared_keeps None known left same
+
+shared_fails : (names : RunFiles) (chosen : RunChosen) (seen : JobSeen) (status : ℕ) (f : ToolFault) → IsShared seen.files.known (named_in_run names)
+    → SolveFailsOverFiles names chosen seen.files seen.out f → status ≡ exit_code (Err f) → EndsUnemptied seen status
+shared_fails names chosen seen status (fault.OneFile both) shared is e = (inl e, is.unemptied.kept)
+shared_fails names chosen seen status (fault.Run (run.Read source)) shared (inl refused) e = (inr (inr e), kept_all _ _ refused.stated.1)
+shared_fails names chosen seen status (fault.Run (run.Write sink)) shared (inl refused) e = absurd (refused.stated.1 shared)
+shared_fails names chosen seen status (fault.Run (run.Yard f)) shared (inl refused) e = absurd refused.stated
+shared_fails names chosen seen status (fault.Run (run.Interchange f)) shared (inl refused) e = absurd refused.stated
+shared_fails names chosen seen status (fault.Run (run.Message f)) shared (inl refused) e = absurd refused.stated
+shared_fails names chosen seen status (fault.Run run.Memory) shared (inl refused) e = absurd refused.stated
+shared_fails names chosen seen status (fault.Run f) shared (inr (s, u, over, rest)) e = absurd (over.apart shared)
+shared_fails names chosen seen status (fault.Cert f) shared is e = absurd is
+shared_fails names chosen seen status (fault.Plan f) shared is e = absurd is
+shared_fails names chosen seen status (fault.Checked number refused) shared is e = absurd is
+shared_fails names chosen seen status (fault.Audited f) shared is e = absurd is
+shared_fails names chosen seen status (fault.Followed f) shared is e = absurd is
+shared_fails names chosen seen status (fault.Loaded f) shared is e = absurd is
+shared_fails names chosen seen status (fault.ReadOf which) shared is e = absurd is
+shared_fails names chosen seen status (fault.TooLargeOf which) shared is e = absurd is
+shared_fails names chosen seen status fault.Read shared is e = absurd is
+shared_fails names chosen seen status fault.Write shared is e = absurd is
+shared_fails names chosen seen status fault.WriteTable shared is e = absurd is
+shared_fails names chosen seen status fault.WritePage shared is e = absurd is
+shared_fails names chosen seen status fault.TooLarge shared is e = absurd is
+shared_fails names chosen seen status fault.Memory shared is e = absurd is
+
+job_is_linked : (seen : JobSeen) (errors : SinkSeen) (status : ℕ) → seen.files.known.are_one (codes "proofs") (codes "yard") ≡ Some true → (j : Job)
+    → WordsAsk linked_words j → JobEnds j seen errors status → EndsUnemptied seen status
+unfolding walk_fault defaults_fault flags_fault walked bundle_met
+job_is_linked seen errors status one (Solve names settings quiet progress) (free, (name, size, twice, files, has, a, b)) ends =
+    let shared : IsShared seen.files.known (named_in_run names) =
+    (role.Certificates, role.YardList, (refl, record { first = codes "proofs"; second = codes "yard"; is = sym files.2; is_other = sym files.0; one = one })) in
+    elim ends [
+      | inl (ended, (alone, (s, over, done)), rest) ↦ absurd (over.apart shared)
+      | inr (f, (alone, fails), so_far, behind, is) ↦ shared_fails names settings seen status f shared fails is
+    ]
+job_is_linked seen errors status one (OneFile file command.Replay) (free, (name, is)) ends = absurd (other_letter 115 114 _ _ refl name)
+job_is_linked seen errors status one (OneFile file (command.Bound chains)) (free, (name, is)) ends = absurd (other_letter 115 98 _ _ refl name.0)
+job_is_linked seen errors status one (OneFile file command.Check) (free, (name, is)) ends = absurd (other_letter 115 99 _ _ refl name)
+job_is_linked seen errors status one (OneFile file (command.Prove chosen)) (free, (name, is)) ends = absurd (other_letter 115 112 _ _ refl name.0)
+job_is_linked seen errors status one (Audit names settings) (free, (name, size, files, has)) ends = absurd (other_letter 115 97 _ _ refl name)
+job_is_linked seen errors status one (Follow names settings) (free, (name, size, ordered, twice, files, has)) ends = absurd (other_letter 115 102 _ _ refl name)
+
+two_four_or_five : (status : ℕ) → (status ≡ 2) ⊎ (status ≡ 4) → (status ≡ 2) ⊎ ((status ≡ 4) ⊎ (status ≡ 5))
+two_four_or_five status (inl two) = inl two
+two_four_or_five status (inr four) = inr (inl four)
+
 ends_linked : (seen : JobSeen) (errors : SinkSeen) (status : ℕ) → seen.files.known.are_one (codes "proofs") (codes "yard") ≡ Some true
-    → ProgramEnds linked_words seen errors status → ((status ≡ 2) ⊎ (status ≡ 4)) × AreFilesLeftAlone seen.files
-ends_linked seen errors status one (inl (j, asks, apart, ends)) = absurd (apart (job_is_linked seen.files.known one j asks))
-ends_linked seen errors status one (inr (inl (j, asks, linked, (u, names, ends)))) = (refused_with u seen.out errors status (names_are_no_help u names) ends.2, ends.0)
-ends_linked seen errors status one (inr (inr (u, refuses, ends))) =
-    (refused_with u seen.out errors status (words_get_no_help linked_words linked_is_free u refuses) ends.2, ends.0)
+    → ProgramEnds linked_words seen errors status → EndsUnemptied seen status
+ends_linked seen errors status one (inl (j, asks, ends)) = job_is_linked seen errors status one j asks ends
+ends_linked seen errors status one (inr (u, refuses, ends)) = (
+  two_four_or_five status (refused_with u seen.out errors status (words_get_no_help linked_words linked_is_free u refuses) ends.2),
+  kept_all seen.files.known seen.files.left ends.0.0,
+)
 
 pub linked_ends : (words : List Text) (seen : JobSeen) (errors : SinkSeen) (status : ℕ) → words ≡ linked_words
     → seen.files.known.are_one (codes "proofs") (codes "yard") ≡ Some true → ProgramEnds words seen errors status
-    → ((status ≡ 2) ⊎ (status ≡ 4)) × AreFilesLeftAlone seen.files
+    → ((status ≡ 2) ⊎ ((status ≡ 4) ⊎ (status ≡ 5))) × KeepsBytes seen.files.known seen.files.left
 linked_ends words seen errors status are one ends = ends_linked seen errors status one (subst (λ (ws : List Text). ProgramEnds ws seen errors status) are ends)
 
 -- ---- each number at its limit

@@ -1,6 +1,7 @@
 //! Callers of the command line, by worked words.
 ghost use Rattle.std.specs.Prelude.{◌≡◌, ◌⊎◌, Some, true, codes, replicate, IfOk, IfErr, IfSome};
 ghost use Rattle.crp_commands.specs.Check.{IsCheck};
+ghost use Rattle.crp_files.specs.Known.{KeepsBytes};
 ghost use Rattle.crp_callers.specs.AskedFor.{HasHeights, IsOfSetting, IsStrongSearch};
 
 use crp_commands::{Streams, Terminal};
@@ -75,7 +76,7 @@ pub fn lines_of_check<T: Threads + Wait + Sync, F: Files, S: Terminal + Sync>(
 }
 
 /// Where the file `proofs` is known to be the yard list itself, by a link, words that would write certificates to it end with status 2, or
-/// with 4 where memory runs out, and no file is touched.
+/// with 5 where an input cannot be opened, or with 4 where memory runs out; and what was known of the bytes of each file is so still.
 pub fn status_of_linked<T: Threads + Wait + Sync, F: Files, S: Terminal + Sync>(
     threads: &T,
     alloc: Global,
@@ -83,8 +84,8 @@ pub fn status_of_linked<T: Threads + Wait + Sync, F: Files, S: Terminal + Sync>(
     terminal: &S,
 ) -> u8
     requires { (F.known files.old).are_one (codes "proofs") (codes "yard") ≡ Some true }
-    ensures refused { (result ≡ 2) ⊎ (result ≡ 4) }
-    ensures untouched { (F.known files.new ≡ F.known files.old) × (F.failures files.new ≡ F.failures files.old) }
+    ensures refused { (result ≡ 2) ⊎ ((result ≡ 4) ⊎ (result ≡ 5)) }
+    ensures unemptied { KeepsBytes (F.known files.old) (F.known files.new) }
 {
     let input: &[u8] = b"";
     let mut streams = Streams {

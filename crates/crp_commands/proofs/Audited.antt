@@ -32,6 +32,7 @@ unread chosen s which fault.Read nothing input is = absurd is
 unread chosen s which fault.Write nothing input is = absurd is
 unread chosen s which fault.WriteTable nothing input is = absurd is
 unread chosen s which fault.WritePage nothing input is = absurd is
+unread chosen s which (fault.OneFile both) nothing input is = absurd is
 unread chosen s which fault.TooLarge nothing input is = absurd is
 
 -- the audit stopped on what was handed in

@@ -105,6 +105,7 @@ line_stops held holds new before after file piece verdicts stated files number (
 line_stops held holds new before after file piece verdicts stated files number (fault.Loaded f) has ended why = absurd why
 line_stops held holds new before after file piece verdicts stated files number fault.WriteTable has ended why = absurd why
 line_stops held holds new before after file piece verdicts stated files number fault.WritePage has ended why = absurd why
+line_stops held holds new before after file piece verdicts stated files number (fault.OneFile both) has ended why = absurd why
 
 -- a certificate that is refused
 pub refusal_stops : (held holds : Option (List ℕ)) (before after : ℕ) (file piece : List ℕ) (verdicts : List (YardBay × Verdict)) (files : FileChecker) (number : ℕ) (why : Refused) (f : ToolFault) →
@@ -158,6 +159,7 @@ earlier_bytes held holds first before after bytes (fault.Followed f) le grows te
 earlier_bytes held holds first before after bytes (fault.Loaded f) le grows tells = absurd tells
 earlier_bytes held holds first before after bytes fault.WriteTable le grows tells = absurd tells
 earlier_bytes held holds first before after bytes fault.WritePage le grows tells = absurd tells
+earlier_bytes held holds first before after bytes (fault.OneFile both) le grows tells = absurd tells
 
 -- a fault after a piece that was checked
 pub stops_after : (one two all : List ℕ) (a b c : Option (List ℕ)) (f g : FileChecker) (m n first before after : ℕ) (why : ToolFault) → one ++ two ≡ all → first ≤ before → before ≤ after →
@@ -229,6 +231,7 @@ bytes_stop limit s bytes (fault.Followed f) is within tells = absurd tells
 bytes_stop limit s bytes (fault.Loaded f) is within tells = absurd tells
 bytes_stop limit s bytes fault.WriteTable is within tells = absurd tells
 bytes_stop limit s bytes fault.WritePage is within tells = absurd tells
+bytes_stop limit s bytes (fault.OneFile both) is within tells = absurd tells
 
 -- a line was written for each certificate that has ended in the file
 pub wrote_each : (s : CallSeen) (file : List ℕ) (verdicts : List (YardBay × Verdict)) (files : FileChecker) (number : ℕ) → IsReadFrom s.given file → HasChecked s.held s.holds file verdicts files number → WritesEach s file
@@ -259,6 +262,7 @@ earlier_check limit given held holds source before after sink first last (fault.
 earlier_check limit given held holds source before after sink first last (fault.Loaded f) a b c d tells = absurd tells
 earlier_check limit given held holds source before after sink first last fault.WriteTable a b c d tells = absurd tells
 earlier_check limit given held holds source before after sink first last fault.WritePage a b c d tells = absurd tells
+earlier_check limit given held holds source before after sink first last (fault.OneFile both) a b c d tells = absurd tells
 
 -- at the last line
 pub last_stops : (limit : ℕ) (s : CallSeen) (holds : Option (List ℕ)) (file : List ℕ) (verdicts : List (YardBay × Verdict)) (stated : YardBay × Verdict) (files : FileChecker) (number : ℕ) (f : ToolFault) →
@@ -281,6 +285,7 @@ last_stops limit s holds file verdicts stated files number (fault.Followed f) te
 last_stops limit s holds file verdicts stated files number (fault.Loaded f) text is has shows why = absurd why
 last_stops limit s holds file verdicts stated files number fault.WriteTable text is has shows why = absurd why
 last_stops limit s holds file verdicts stated files number fault.WritePage text is has shows why = absurd why
+last_stops limit s holds file verdicts stated files number (fault.OneFile both) text is has shows why = absurd why
 
 -- at the last certificate
 pub last_refused : (limit : ℕ) (s : CallSeen) (file : List ℕ) (verdicts : List (YardBay × Verdict)) (files : FileChecker) (number : ℕ) (why : Refused) (f : ToolFault) →

@@ -1,7 +1,7 @@
 -- How a report is followed over files, from how it is over its devices.
 use Rattle.std.proofs.Common.{◌≡◌, ◌≢◌, ◌∙◌, ℕ, ◌+◌, ◌-◌, List, Bool, Option, Some, None, Result, Ok, Err, MatchResult, codes, refl, sym, ap, subst, inl, inr, arith}
-use Rattle.std.specs.Prelude.{IfSome, is_some, option_map}
-use Rattle.crp_plan.specs.Devices.{CountsMore, CountsOne}
+use Rattle.std.specs.Prelude.{IfSome, IsTrue, MatchOption, is_some, option_map}
+use Rattle.crp_plan.specs.Devices.{CountsMore}
 use Rattle.crp_report.specs.declared.status.Status.{Status}
 use Rattle.crp_report.specs.Chosen.{InputChosen}
 use Rattle.crp_report.specs.Runs.{SourceSeen, SinkSeen}
@@ -9,9 +9,14 @@ use Rattle.crp_jobs.specs.declared.job.FollowFiles.{FollowFiles}
 use Rattle.crp_jobs.specs.declared.outcome.ToolFault.{ToolFault}
 use Rattle.crp_commands.specs.Follow.{FollowSeen, FollowEnds, FollowFails, FollowReportsOverFiles, FollowFailsOverFiles, AnswersOver, IsMessageFrom, IsOfUnfollowed, IsOverFollowed, IsOverMessage, IsOverPage, IsOverReport, IsPageMade, IsPageTo, IsReportFrom, IsUnfollowed, Opened, RefusesFile, if_asked, message_name, page_name, sink_failures, source_failures}
 use Rattle.crp_jobs.specs.declared.outcome.ToolFault.TheVariants as fault
-use Rattle.crp_files.specs.Known.{KnownFiles, IsChangedIn}
+use Rattle.crp_commands.specs.Calls.{failures_of_tool_fault}
+use Rattle.crp_files.specs.declared.roles.Shared.{Shared}
+use Rattle.crp_files.specs.Known.{KnownFiles, IsChangedIn, IsPreparedIn}
+use Rattle.crp_files.specs.Roles.{IsShared, MayBeOne, Share}
+use Rattle.crp_files.proofs.Prepared.{prepared_changes, prepared_keeps, shared_still, may_share_before}
+use Rattle.crp_jobs.specs.Names.{named_in_follow}
 use Rattle.crp_jobs.specs.Opened.{FilesSeen, IsFileOpened, IsLeft}
-use Rattle.crp_commands.proofs.Finished.{IsWritten, Unless, changed_twice, left, more_from, same_states, unfinished_in}
+use Rattle.crp_commands.proofs.Finished.{IsWritten, Unless, changed_twice, left, more_from, same_leave, same_links, same_states, unfinished_in}
 
 -- what is known of its devices in one way is known in another
 known_so : (chosen : InputChosen) (Is Is' : ℕ → FollowSeen → Type 0) (Refuses Refuses' : ToolFault → Type 0) (answer : Result Status ToolFault)
@@ -55,26 +60,74 @@ abbrev pub with_page : Opened → SourceSeen → Option SinkSeen → FollowSeen
 with_page devices report page = record { yard = devices.yard; movins = devices.movins; report = report; page = page; out = devices.out }
 
 over_page : (names : FollowFiles) (files : FilesSeen) (devices : Opened) (report : SourceSeen) (sink : SinkSeen) (was : KnownFiles) (f unfinished : ℕ)
-    → f ≡ files.before → IsChangedIn (page_name names) files.known was → IsWritten (page_name names) files.known was files.left f files.after unfinished sink
+    → f ≡ files.before → (IsShared files.known (named_in_follow names) → ⊥) → IsChangedIn (page_name names) files.known was
+    → IsWritten (page_name names) files.known was files.left f files.after unfinished sink
     → IsOverPage names files devices report unfinished (with_page devices report (page_seen (page_name names) sink))
-over_page names files devices report sink was f unfinished begun made is = record {
+over_page names files devices report sink was f unfinished begun apart made is = record {
   page = page_seen (page_name names) sink;
   is = refl;
   to = record {
     made = page_made (page_name names) sink files.known was files.left f files.after unfinished is;
     left = page_left (page_name names) sink files.known was files.left f files.after unfinished files refl refl (same_states (page_name names) files.known was made) is;
     changed = changed_twice (page_name names) files.known was files.left made is.changed;
+    apart = apart;
   };
   failed = more_from _ _ _ _ begun (page_failed (page_name names) sink files.known was files.left f files.after unfinished is);
 }
 
-pub over_named_page : (names : FollowFiles) (files : FilesSeen) (devices : Opened) (report : SourceSeen) (sink : SinkSeen) (was : KnownFiles) (f unfinished : ℕ)
-    (name : Option (List ℕ)) → page_name names ≡ name → f ≡ files.before → IsChangedIn name files.known was
-    → IsWritten name files.known was files.left f files.after unfinished sink
+-- a file that was made when the same was known of the states of files
+made_before : (name : Option (List ℕ)) (sink : SinkSeen) (old made was now : KnownFiles) (f g unfinished : ℕ) → made.states ≡ old.states
+    → IsWritten name made was now f g unfinished sink → IsWritten name old was now f g unfinished sink
+made_before name sink old made was now f g unfinished same is = record {
+  new = is.new;
+  empty = λ some stated. is.empty some (subst (λ (b : Bool). IsTrue b) (sym same) stated);
+  changed = is.changed;
+  stands = is.stands;
+  unwanted = is.unwanted;
+  count = is.count;
+}
+
+-- the page was there, and then made and finished
+pub over_named_page : (names : FollowFiles) (files : FilesSeen) (devices : Opened) (report : SourceSeen) (sink : SinkSeen) (there was : KnownFiles) (f unfinished : ℕ)
+    (name : Option (List ℕ)) → page_name names ≡ name → f ≡ files.before → IsPreparedIn (page_name names) files.known there
+    → (IsShared there (named_in_follow names) → ⊥) → IsChangedIn name there was → IsWritten name there was files.left f files.after unfinished sink
     → IsOverPage names files devices report unfinished (with_page devices report (page_seen (page_name names) sink))
-over_named_page names files devices report sink was f unfinished name named begun made is =
-    over_page names files devices report sink was f unfinished begun (subst (λ (o : Option (List ℕ)). IsChangedIn o files.known was) (sym named) made)
-    (subst (λ (o : Option (List ℕ)). IsWritten o files.known was files.left f files.after unfinished sink) (sym named) is)
+over_named_page names files devices report sink there was f unfinished name named begun prepared apart made is =
+    let changes = prepared_changes (page_name names) files.known there prepared in
+    over_page names files devices report sink was f unfinished begun
+    (λ shared. apart (shared_still (named_in_follow names) files.known there (same_links (page_name names) files.known there changes) shared))
+    (changed_twice (page_name names) files.known there was changes (subst (λ (o : Option (List ℕ)). IsChangedIn o there was) (sym named) made))
+    (made_before (page_name names) sink files.known there was files.left f files.after unfinished (same_states (page_name names) files.known there changes)
+    (subst (λ (o : Option (List ℕ)). IsWritten o there was files.left f files.after unfinished sink) (sym named) is))
+
+-- ---- a file of the page that was not made, or not emptied
+
+may_not_before : (name : Option (List ℕ)) (old new : KnownFiles) → new.may_not_create ≡ old.may_not_create → MatchOption name ⊥ (λ n. IsTrue (new.may_not_create n))
+    → MatchOption name ⊥ (λ n. IsTrue (old.may_not_create n))
+may_not_before name old new same refused = subst (λ (f : List ℕ → Bool). MatchOption name ⊥ (λ n. IsTrue (f n))) same refused
+
+pub page_refused : (names : FollowFiles) (known there left : KnownFiles) (name : Option (List ℕ)) → page_name names ≡ name → IsPreparedIn (page_name names) known there
+    → (IsShared there (named_in_follow names) → ⊥) → MatchOption name ⊥ (λ n. IsTrue (there.may_not_create n)) → IsOfUnfollowed known left names fault.WritePage
+page_refused names known there left name named prepared apart refused =
+    let changes = prepared_changes (page_name names) known there prepared in (
+      may_not_before (page_name names) known there (same_leave (page_name names) known there changes)
+      (subst (λ (o : Option (List ℕ)). MatchOption o ⊥ (λ n. IsTrue (there.may_not_create n))) (sym named) refused),
+      λ shared. apart (shared_still (named_in_follow names) known there (same_links (page_name names) known there changes) shared),
+    )
+
+pub page_shared : (names : FollowFiles) (known there : KnownFiles) (s : Shared) → IsPreparedIn (page_name names) known there
+    → Share (MayBeOne there) (named_in_follow names) s.written s.other → IsOfUnfollowed known there names (fault.OneFile s)
+page_shared names known there s prepared shared =
+    let changes = prepared_changes (page_name names) known there prepared in record {
+      shared = may_share_before (named_in_follow names) known there s.written s.other (same_links (page_name names) known there changes) shared;
+      kept = prepared_keeps (page_name names) known there prepared;
+    }
+
+-- what is said of the files then is said of those that were opened before them
+stated_too : (names : FollowFiles) (files middle : FilesSeen) (f : ToolFault) → middle.known ≡ files.known → files.left ≡ middle.left
+    → IsOfUnfollowed middle.known middle.left names f → IsOfUnfollowed files.known files.left names f
+stated_too names files middle f known end is =
+    subst (λ (k : KnownFiles). IsOfUnfollowed files.known k names f) (sym end) (subst (λ (k : KnownFiles). IsOfUnfollowed k middle.left names f) known is)
 
 -- a page is seen exactly where a name is given for it
 page_if : {X : Type 0} (f : X → List ℕ) (o : Option X) (sink : SinkSeen) → if_asked (is_some o) sink ≡ page_seen (option_map f o) sink
@@ -105,12 +158,12 @@ page_ended chosen names files devices report sink asked answer finished result i
     (subst (λ (o : Option SinkSeen). IsOverPage names files devices report (unfinished_in finished) (with_page devices report o)) (sym page) over) is unless
 
 -- the page of a file that is opened behind others: what was known before it was known at first, and what is left by it is left at the end
-page_too : (name : Option (List ℕ)) (files middle : FilesSeen) (unfinished : ℕ) (page : Option SinkSeen) → middle.known ≡ files.known → files.left ≡ middle.left
-    → IsPageTo middle name unfinished page → IsPageTo files name unfinished page
-page_too name files middle unfinished page known end is =
-    let with_known = subst (λ (k : KnownFiles). IsPageTo (record { known = k; left = middle.left; before = middle.before; after = middle.after }) name unfinished page) known is in
-    let with_left = subst (λ (k : KnownFiles). IsPageTo (record { known = files.known; left = k; before = middle.before; after = middle.after }) name unfinished page) (sym end) with_known in
-    record { made = with_left.made; left = with_left.left; changed = with_left.changed }
+page_too : (names : FollowFiles) (files middle : FilesSeen) (unfinished : ℕ) (page : Option SinkSeen) → middle.known ≡ files.known → files.left ≡ middle.left
+    → IsPageTo middle names unfinished page → IsPageTo files names unfinished page
+page_too names files middle unfinished page known end is =
+    let with_known = subst (λ (k : KnownFiles). IsPageTo (record { known = k; left = middle.left; before = middle.before; after = middle.after }) names unfinished page) known is in
+    let with_left = subst (λ (k : KnownFiles). IsPageTo (record { known = files.known; left = k; before = middle.before; after = middle.after }) names unfinished page) (sym end) with_known in
+    record { made = with_left.made; left = with_left.left; changed = with_left.changed; apart = with_left.apart }
 
 -- ---- what is opened before others: what fails of it comes to what fails of those
 
@@ -122,10 +175,10 @@ more_before name files middle input before n unfinished s known begun more (inl 
 more_before name files middle input before n unfinished s known begun more (inr (named, opened, unread, failed)) =
     inr (named, subst (λ (k : KnownFiles). IsFileOpened k name s.report) known opened, unread, omega (arith, begun, more, failed))
 
--- one file was refused, and of one that was open nothing has failed
-one_too : (source : SourceSeen) (files middle : FilesSeen) → source.before ≡ 0 → source.after ≡ source.before → middle.before ≡ files.before
-    → CountsMore source.after middle.after files.after → CountsOne middle.before middle.after → CountsOne files.before files.after
-one_too source files middle new alone begun closed one = omega (arith, new, alone, begun, closed, one)
+-- so much has failed, and of one that was open nothing has
+one_too : (n : ℕ) (source : SourceSeen) (files middle : FilesSeen) → source.before ≡ 0 → source.after ≡ source.before → middle.before ≡ files.before
+    → CountsMore source.after middle.after files.after → CountsMore n middle.before middle.after → CountsMore n files.before files.after
+one_too n source files middle new alone begun closed one = omega (arith, new, alone, begun, closed, one)
 
 -- ---- the report
 
@@ -152,12 +205,12 @@ over_report chosen names files middle devices report input answer named known en
       yard = refl;
       movins = refl;
       report = inr (named, opened, unread, omega (arith, begun, closed, over.failed));
-      page = page_too (page_name names) files middle n over.page known end over.to;
+      page = page_too names files middle n over.page known end over.to;
       out = refl;
     }))
     (λ f refusal. record {
-      stated = subst (λ (k : KnownFiles). IsOfUnfollowed k names f) known refusal.stated;
-      one = one_too report files middle opened.new refusal.unread begun closed refusal.one;
+      stated = stated_too names files middle f known end refusal.stated;
+      failed = one_too (failures_of_tool_fault f) report files middle opened.new refusal.unread begun closed refusal.failed;
       yard = refusal.yard;
       movins = refusal.movins;
       unread = unread;
@@ -198,12 +251,12 @@ over_message chosen names files middle yard input message out name answer named 
           (subst (λ (o : Option (List ℕ)). IsMessageFrom files.known o (Some message)) (sym named) is);
       report = subst (λ (m : ℕ). IsReportFrom names.report.now files input m n s) (message_failed message s.movins over.movins is.new)
           (more_before names.report.now files middle input 0 message.after n s known begun closed over.report);
-      page = page_too (page_name names) files middle n s.page known end over.page;
+      page = page_too names files middle n s.page known end over.page;
       out = over.out;
     })
     (λ f refusal. record {
-      stated = subst (λ (k : KnownFiles). IsOfUnfollowed k names f) known refusal.stated;
-      one = one_too message files middle is.new refusal.movins begun closed refusal.one;
+      stated = stated_too names files middle f known end refusal.stated;
+      failed = one_too (failures_of_tool_fault f) message files middle is.new refusal.movins begun closed refusal.failed;
       yard = refusal.yard;
       movins = tt;
       unread = refusal.unread;
@@ -241,12 +294,12 @@ over_yard chosen names files middle yard input out answer known end begun is clo
       movins = subst (λ (k : KnownFiles). IsMessageFrom k (message_name names) s.movins) known over.movins;
       report = subst (λ (source : SourceSeen). IsReportFrom names.report.now files input (source.after + source_failures s.movins) n s) (sym over.yard)
           (more_before names.report.now files middle input (source_failures s.movins) yard.after n s known begun closed over.report);
-      page = page_too (page_name names) files middle n s.page known end over.page;
+      page = page_too names files middle n s.page known end over.page;
       out = over.out;
     })
     (λ f refusal. record {
-      stated = subst (λ (k : KnownFiles). IsOfUnfollowed k names f) known refusal.stated;
-      one = one_too yard files middle is.new refusal.yard begun closed refusal.one;
+      stated = stated_too names files middle f known end refusal.stated;
+      failed = one_too (failures_of_tool_fault f) yard files middle is.new refusal.yard begun closed refusal.failed;
       unread = refusal.unread;
       alone = refusal.out;
     })

@@ -10,7 +10,7 @@ use Rattle.crp_jobs.specs.declared.job.RunFiles.{RunFiles}
 use Rattle.crp_report.specs.declared.fault.Fault.{Fault}
 use Rattle.crp_report.specs.Chosen.{RunChosen}
 use Rattle.crp_jobs.specs.Opened.{AreFilesLeftAlone, IsSourceLeftAlone}
-use Rattle.crp_commands.specs.Solving.{RunReportsOverFiles, RunFailsOverFiles}
+use Rattle.crp_commands.specs.Solving.{RunReportsOverFiles, SolveFailsOverFiles}
 use Rattle.crp_commands.specs.Performing.{ReportsOverFiles, FailsOverFiles, JobSeen, IsFrom, IsFromFile, call_of, PerformsIn, CommandFailsInCall, ReportsFile, FileFailsWith}
 
 -- how a command ended in a call from this source
@@ -36,9 +36,7 @@ from_file name c seen source answer named from is = from_source name c seen sour
 
 -- a run over files is the job that was asked for
 pub solved_job : (names : RunFiles) (chosen : RunChosen) (quiet progress : Bool) (seen : JobSeen) (answer : Result Status ToolFault) → IsSourceLeftAlone seen.input
-    → MatchResult answer (RunReportsOverFiles names chosen seen.files seen.out)
-    (λ stated. (f : Fault) × (stated ≡ fault.Run f) × RunFailsOverFiles names chosen seen.files seen.out f)
+    → MatchResult answer (RunReportsOverFiles names chosen seen.files seen.out) (SolveFailsOverFiles names chosen seen.files seen.out)
     → MatchResult answer (ReportsOverFiles (job.Solve names chosen quiet progress) seen) (FailsOverFiles (job.Solve names chosen quiet progress) seen)
 solved_job names chosen quiet progress seen (Ok ended) alone is = (alone, is)
-solved_job names chosen quiet progress seen (Err stated) alone (f, e, fails) =
-    subst (FailsOverFiles (job.Solve names chosen quiet progress) seen) (sym e) (alone, fails)
+solved_job names chosen quiet progress seen (Err f) alone is = (alone, is)

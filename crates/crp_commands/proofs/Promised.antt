@@ -20,7 +20,7 @@ use Rattle.crp_jobs.specs.declared.outcome.ToolFault.{ToolFault}
 use Rattle.crp_jobs.specs.declared.outcome.ToolFault.TheVariants as fault
 use Rattle.crp_commands.specs.Performing.{JobSeen, ReportsOverFiles, FailsOverFiles}
 use Rattle.crp_jobs.specs.Opened.{FilesSeen, IsWanted, IsLeft}
-use Rattle.crp_commands.specs.Solving.{Unfinished, IsOverFiles, RunFailsOverFiles, AreTwo, all_finished, file_of, unfinished_of}
+use Rattle.crp_commands.specs.Solving.{Unfinished, IsOverFiles, RunFailsOverFiles, SolveFailsOverFiles, AreTwo, all_finished, file_of, unfinished_of}
 use Rattle.crp_commands.specs.Headlines.{AreFrontsWritten, KeepsHeadline, KeepsHeadlineSoFar}
 
 each_gets : (s : RunSeen) (m : Made) → Gets s.report m.report → Gets s.certificates m.certificates → Gets s.yard_after m.yard_after →
@@ -131,25 +131,29 @@ run_so_far names chosen seen (run.Yard f) (inr (s, u, over, asked, inl (stated, 
 run_so_far names chosen seen (run.Interchange f) (inr (s, u, over, asked, inl (stated, few))) = nothing_yet names chosen seen u s over stated.0
 run_so_far names chosen seen (run.Message f) (inr (s, u, over, asked, inl (stated, few))) = nothing_yet names chosen seen u s over stated.0
 
+solve_so_far : (names : RunFiles) (chosen : RunChosen) (seen : JobSeen) (f : ToolFault) → SolveFailsOverFiles names chosen seen.files seen.out f → HeadlineSoFar names chosen seen
+solve_so_far names chosen seen (fault.Run f) is = run_so_far names chosen seen f is
+solve_so_far names chosen seen (fault.OneFile both) is = inl is.alone.0
+solve_so_far names chosen seen (fault.Cert f) is = absurd is
+solve_so_far names chosen seen (fault.Plan f) is = absurd is
+solve_so_far names chosen seen (fault.Checked number refused) is = absurd is
+solve_so_far names chosen seen (fault.Audited f) is = absurd is
+solve_so_far names chosen seen (fault.Followed f) is = absurd is
+solve_so_far names chosen seen (fault.Loaded f) is = absurd is
+solve_so_far names chosen seen (fault.ReadOf which) is = absurd is
+solve_so_far names chosen seen (fault.TooLargeOf which) is = absurd is
+solve_so_far names chosen seen fault.Read is = absurd is
+solve_so_far names chosen seen fault.Write is = absurd is
+solve_so_far names chosen seen fault.WriteTable is = absurd is
+solve_so_far names chosen seen fault.WritePage is = absurd is
+solve_so_far names chosen seen fault.TooLarge is = absurd is
+solve_so_far names chosen seen fault.Memory is = absurd is
+
 headline_so_far : (j : Job) (seen : JobSeen) (f : ToolFault) → FailsOverFiles j seen f → KeepsHeadlineSoFar j seen
 headline_so_far (job.OneFile file command) seen f is = tt
 headline_so_far (job.Audit names settings) seen f is = tt
 headline_so_far (job.Follow names heights) seen f is = tt
-headline_so_far (job.Solve names chosen quiet progress) seen (fault.Run f) (alone, is) = run_so_far names chosen seen f is
-headline_so_far (job.Solve names chosen quiet progress) seen (fault.Cert f) is = absurd is
-headline_so_far (job.Solve names chosen quiet progress) seen (fault.Plan f) is = absurd is
-headline_so_far (job.Solve names chosen quiet progress) seen (fault.Checked number refused) is = absurd is
-headline_so_far (job.Solve names chosen quiet progress) seen (fault.Audited f) is = absurd is
-headline_so_far (job.Solve names chosen quiet progress) seen (fault.Followed f) is = absurd is
-headline_so_far (job.Solve names chosen quiet progress) seen (fault.Loaded f) is = absurd is
-headline_so_far (job.Solve names chosen quiet progress) seen (fault.ReadOf which) is = absurd is
-headline_so_far (job.Solve names chosen quiet progress) seen (fault.TooLargeOf which) is = absurd is
-headline_so_far (job.Solve names chosen quiet progress) seen fault.Read is = absurd is
-headline_so_far (job.Solve names chosen quiet progress) seen fault.Write is = absurd is
-headline_so_far (job.Solve names chosen quiet progress) seen fault.WriteTable is = absurd is
-headline_so_far (job.Solve names chosen quiet progress) seen fault.WritePage is = absurd is
-headline_so_far (job.Solve names chosen quiet progress) seen fault.TooLarge is = absurd is
-headline_so_far (job.Solve names chosen quiet progress) seen fault.Memory is = absurd is
+headline_so_far (job.Solve names chosen quiet progress) seen f is = solve_so_far names chosen seen f is.1
 
 -- of any job, from how it ended
 pub ended_with_headline : (j : Job) (seen : JobSeen) (answer : Result Status ToolFault) → MatchResult answer (ReportsOverFiles j seen) (FailsOverFiles j seen) → IfOk answer (λ _. KeepsHeadline j seen)

@@ -49,6 +49,7 @@ no_head_reported limit IsReport IsRefused seen (fault.Followed f) keeps refuses 
 no_head_reported limit IsReport IsRefused seen (fault.Loaded f) keeps refuses none = absurd none
 no_head_reported limit IsReport IsRefused seen fault.WriteTable keeps refuses none = absurd none
 no_head_reported limit IsReport IsRefused seen fault.WritePage keeps refuses none = absurd none
+no_head_reported limit IsReport IsRefused seen (fault.OneFile both) keeps refuses none = absurd none
 
 -- a replay without a report states why, where nothing was written
 pub no_report_reported : (limit : ℕ) (seen : CallSeen) (bytes : List ℕ) (head : Head) (f : ToolFault) → Keeps seen.held seen.holds → IsTextOf seen.given bytes → IsHeadOf bytes head → IsNoReport head f →
@@ -68,6 +69,7 @@ no_report_reported limit seen bytes head (fault.Followed f) keeps given is none 
 no_report_reported limit seen bytes head (fault.Loaded f) keeps given is none = absurd none
 no_report_reported limit seen bytes head fault.WriteTable keeps given is none = absurd none
 no_report_reported limit seen bytes head fault.WritePage keeps given is none = absurd none
+no_report_reported limit seen bytes head (fault.OneFile both) keeps given is none = absurd none
 
 -- the certificate of a true answer, as it was made and as it is written
 pub proof_of : (chosen : Chosen) (head : Head) (solved : Solved) (made written : List ℕ) → IsHead head → IsSolved head.problem chosen solved →

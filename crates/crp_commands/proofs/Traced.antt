@@ -109,6 +109,7 @@ no_page ship yard report numbers bays page out fault.WriteTable loaded nothing s
 no_page ship yard report numbers bays page out fault.Read loaded nothing stops = absurd stops
 no_page ship yard report numbers bays page out fault.Write loaded nothing stops = absurd stops
 no_page ship yard report numbers bays page out fault.TooLarge loaded nothing stops = absurd stops
+no_page ship yard report numbers bays page out (fault.OneFile both) loaded nothing stops = absurd stops
 
 -- ---- over the sources
 
@@ -139,6 +140,7 @@ no_report chosen s yard ship (fault.Run f) nothing input none = absurd none
 no_report chosen s yard ship (fault.TooLargeOf which) nothing input none = absurd none
 no_report chosen s yard ship fault.WriteTable nothing input none = absurd none
 no_report chosen s yard ship fault.WritePage nothing input none = absurd none
+no_report chosen s yard ship (fault.OneFile both) nothing input none = absurd none
 no_report chosen s yard ship fault.Read nothing input none = absurd none
 no_report chosen s yard ship fault.Write nothing input none = absurd none
 no_report chosen s yard ship fault.TooLarge nothing input none = absurd none
@@ -161,3 +163,4 @@ no_texts chosen s yard ship report (fault.TooLargeOf which) input given stops = 
 no_texts chosen s yard ship report fault.Read input given stops = absurd stops
 no_texts chosen s yard ship report fault.Write input given stops = absurd stops
 no_texts chosen s yard ship report fault.TooLarge input given stops = absurd stops
+no_texts chosen s yard ship report (fault.OneFile both) input given stops = absurd stops

@@ -31,7 +31,9 @@ use Rattle.crp_jobs.specs.declared.outcome.ToolFault.TheVariants as fault
 use Rattle.crp_commands.specs.Audit.{IsInputOf, IsNoInput}
 use Rattle.crp_commands.specs.Calls.{failures_of_tool_fault}
 use Rattle.crp_files.specs.Known.{KnownFiles, IsChangedIn}
-use Rattle.crp_jobs.specs.Opened.{FilesSeen, FilesFail, IsFileOpened, IsFileMade, IsLeft, IsOneRefused, IsSourceLeftAlone, IsLeftAlone}
+use Rattle.crp_files.specs.Roles.{IsShared}
+use Rattle.crp_jobs.specs.Names.{named_in_follow}
+use Rattle.crp_jobs.specs.Opened.{FilesSeen, FilesFail, AreUnemptied, IsFileOpened, IsFileMade, IsLeft, IsSourceLeftAlone, IsLeftAlone}
 
 -- what a call saw of its sources, the yard list, the message where one is asked for, and the report; and of the sink of its table, and that of its page where
 -- one is asked for
@@ -194,13 +196,6 @@ IsPageMade known (Some name) unfinished (Some sink) = IsFileMade known sink
 IsPageMade known None unfinished None = unfinished ≡ 0
 IsPageMade known name unfinished page = ⊥
 
--- the page goes to a file that was made for it exactly where one is asked for, and so often that could not be finished; what it got stands there under its
--- name, where files state what is written to them, and it was finished; and no other file has changed
-pub record IsPageTo (files : FilesSeen) (name : Option (List ℕ)) (unfinished : ℕ) (page : Option SinkSeen) : Type 0 where
-  pub made : IsPageMade files.known name unfinished page
-  pub left : IfSome page (IsLeft files name unfinished)
-  pub changed : IsChangedIn name files.known files.left
-
 -- the name of the message, and of the page, if there is one
 abbrev pub message_name : FollowFiles → Option (List ℕ)
 message_name names = option_map (λ name. name.now) names.movins
@@ -208,13 +203,22 @@ message_name names = option_map (λ name. name.now) names.movins
 abbrev pub page_name : FollowFiles → Option (List ℕ)
 page_name names = option_map (λ name. name.now) names.page
 
+-- the page goes to a file that was made for it exactly where one is asked for, and so often that could not be finished; what it got stands there under its
+-- name, where files state what is written to them, and it was finished; and no other file has changed. Its file is not known to be another one that is named,
+-- or to stand behind a standard stream
+pub record IsPageTo (files : FilesSeen) (names : FollowFiles) (unfinished : ℕ) (page : Option SinkSeen) : Type 0 where
+  pub made : IsPageMade files.known (page_name names) unfinished page
+  pub left : IfSome page (IsLeft files (page_name names) unfinished)
+  pub changed : IsChangedIn (page_name names) files.known files.left
+  pub apart : IsShared files.known (named_in_follow names) → ⊥
+
 -- the sources are the files of the yard list and of the message, where one is named, and what the name of the report stands for, and the page goes to the
 -- file of its name
 pub record IsOverFollowed (names : FollowFiles) (files : FilesSeen) (input : SourceSeen) (shown : SinkSeen) (unfinished : ℕ) (s : FollowSeen) : Type 0 where
   pub yard : IsFileOpened files.known names.yard.now s.yard
   pub movins : IsMessageFrom files.known (message_name names) s.movins
   pub report : IsReportFrom names.report.now files input (s.yard.after + source_failures s.movins) unfinished s
-  pub page : IsPageTo files (page_name names) unfinished s.page
+  pub page : IsPageTo files names unfinished s.page
   pub out : s.out ≡ shown
 
 -- the file of the page, which is asked for, may be refused to who would write it
@@ -225,18 +229,21 @@ IsPageRefused may_not_create names = MatchOption (page_name names) ⊥ (λ name.
 abbrev pub IsMessageRefused : (List ℕ → Bool) → FollowFiles → Type 0
 IsMessageRefused may_not_open names = MatchOption names.movins ⊥ (λ name. IsTrue (may_not_open name.now))
 
--- the fault states that a file cannot be opened: one that is read as a failed read of it, that of the page as a failed write to it
-abbrev pub IsOfUnfollowed : KnownFiles → FollowFiles → ToolFault → Type 0
-IsOfUnfollowed known names (fault.Run (run.Read input.Yard)) = IsTrue (known.may_not_open names.yard.now)
-IsOfUnfollowed known names (fault.Run (run.Read input.Movins)) = IsMessageRefused known.may_not_open names
-IsOfUnfollowed known names (fault.ReadOf statement.Report) = (names.report.now ≢ codes "-") × IsTrue (known.may_not_open names.report.now)
-IsOfUnfollowed known names fault.WritePage = IsPageRefused known.may_not_create names
-IsOfUnfollowed known names f = ⊥
+-- the fault states that a file cannot be opened: one that is read as a failed read of it, and then the files are as they were; that of the page as a failed
+-- write to it, and then it is not known to be another one. Or it states that the file of the page may be another one, and then no file was emptied
+abbrev pub IsOfUnfollowed : KnownFiles → KnownFiles → FollowFiles → ToolFault → Type 0
+IsOfUnfollowed known left names (fault.Run (run.Read input.Yard)) = IsTrue (known.may_not_open names.yard.now) × (left ≡ known)
+IsOfUnfollowed known left names (fault.Run (run.Read input.Movins)) = IsMessageRefused known.may_not_open names × (left ≡ known)
+IsOfUnfollowed known left names (fault.ReadOf statement.Report) =
+    (names.report.now ≢ codes "-") × IsTrue (known.may_not_open names.report.now) × (left ≡ known)
+IsOfUnfollowed known left names fault.WritePage = IsPageRefused known.may_not_create names × (IsShared known (named_in_follow names) → ⊥)
+IsOfUnfollowed known left names (fault.OneFile s) = AreUnemptied (named_in_follow names) known left s
+IsOfUnfollowed known left names f = ⊥
 
--- a file could not be opened, which the fault states; nothing else has failed, and the standard input and the sink were left alone
+-- a file could not be opened, or was not emptied, which the fault states; nothing else has failed, and the standard input and the sink were left alone
 pub record IsUnfollowed (names : FollowFiles) (files : FilesSeen) (input : SourceSeen) (out : SinkSeen) (f : ToolFault) : Type 0 where
-  pub stated : IsOfUnfollowed files.known names f
-  pub one : IsOneRefused files
+  pub stated : IsOfUnfollowed files.known files.left names f
+  pub failed : FilesFail files (failures_of_tool_fault f)
   pub unread : IsSourceLeftAlone input
   pub alone : IsLeftAlone out
 
@@ -271,10 +278,10 @@ pub record Opened : Type 0 where
   pub movins : Option SourceSeen
   pub out : SinkSeen
 
--- a file could not be opened, and the devices that are open were left alone, and so was what is read as the report
+-- a file could not be opened, or was not emptied, and the devices that are open were left alone, and so was what is read as the report
 pub record RefusesFile (names : FollowFiles) (files : FilesSeen) (devices : Opened) (report : SourceSeen) (f : ToolFault) : Type 0 where
-  pub stated : IsOfUnfollowed files.known names f
-  pub one : IsOneRefused files
+  pub stated : IsOfUnfollowed files.known files.left names f
+  pub failed : FilesFail files (failures_of_tool_fault f)
   pub yard : IsSourceLeftAlone devices.yard
   pub movins : IfSome devices.movins IsSourceLeftAlone
   pub unread : IsSourceLeftAlone report
@@ -284,7 +291,7 @@ pub record RefusesFile (names : FollowFiles) (files : FilesSeen) (devices : Open
 pub record IsOverPage (names : FollowFiles) (files : FilesSeen) (devices : Opened) (report : SourceSeen) (unfinished : ℕ) (s : FollowSeen) : Type 0 where
   pub page : Option SinkSeen
   pub is : s ≡ record { yard = devices.yard; movins = devices.movins; report = report; page = page; out = devices.out }
-  pub to : IsPageTo files (page_name names) unfinished page
+  pub to : IsPageTo files names unfinished page
   pub failed : FilesFail files (sink_failures page + unfinished)
 
 -- and one that opens the report, where that is a file
@@ -292,7 +299,7 @@ pub record IsOverReport (names : FollowFiles) (files : FilesSeen) (devices : Ope
   pub yard : s.yard ≡ devices.yard
   pub movins : s.movins ≡ devices.movins
   pub report : IsReportFrom names.report.now files input 0 unfinished s
-  pub page : IsPageTo files (page_name names) unfinished s.page
+  pub page : IsPageTo files names unfinished s.page
   pub out : s.out ≡ devices.out
 
 -- and one that opens the message, where one is named
@@ -300,5 +307,5 @@ pub record IsOverMessage (names : FollowFiles) (files : FilesSeen) (listed input
   pub yard : s.yard ≡ listed
   pub movins : IsMessageFrom files.known (message_name names) s.movins
   pub report : IsReportFrom names.report.now files input (source_failures s.movins) unfinished s
-  pub page : IsPageTo files (page_name names) unfinished s.page
+  pub page : IsPageTo files names unfinished s.page
   pub out : s.out ≡ shown

@@ -11,7 +11,7 @@ use Rattle.crp_jobs.specs.declared.outcome.ToolFault.{ToolFault}
 use Rattle.crp_jobs.specs.declared.outcome.ToolFault.TheVariants as fault
 use Rattle.crp_report.specs.Runs.{SourceSeen, SinkSeen, source_seen, sink_seen}
 use Rattle.crp_jobs.specs.Opened.{FilesSeen, FilesFail, IsFileOpened, IsOneRefused, AreFilesKept, AreFilesLeftAlone, IsSourceLeftAlone, IsLeftAlone}
-use Rattle.crp_commands.specs.Solving.{RunReportsOverFiles, RunFailsOverFiles}
+use Rattle.crp_commands.specs.Solving.{RunReportsOverFiles, SolveFailsOverFiles}
 use Rattle.crp_commands.specs.Audit.{AuditReportsOverFiles, AuditFailsOverFiles}
 use Rattle.crp_commands.specs.Follow.{FollowReportsOverFiles, FollowFailsOverFiles}
 use Rattle.crp_commands.specs.Calls.{CallSeen, call_failures, most_call_failures, IsTextWithin, WritesReport, CallFailsWith}
@@ -120,5 +120,4 @@ abbrev pub FailsOverFiles : Job → JobSeen → ToolFault → Type 0
 FailsOverFiles (job.OneFile file c) seen f = FileFailsWith file.now c seen f
 FailsOverFiles (job.Audit names settings) seen f = IsSourceLeftAlone seen.input × AuditFailsOverFiles names settings seen.files seen.out f
 FailsOverFiles (job.Follow names settings) seen f = FollowFailsOverFiles names settings seen.files seen.input seen.out f
-FailsOverFiles (job.Solve names settings quiet progress) seen (fault.Run f) = IsSourceLeftAlone seen.input × RunFailsOverFiles names settings seen.files seen.out f
-FailsOverFiles (job.Solve names settings quiet progress) seen f = ⊥
+FailsOverFiles (job.Solve names settings quiet progress) seen f = IsSourceLeftAlone seen.input × SolveFailsOverFiles names settings seen.files seen.out f

@@ -10,8 +10,13 @@ use Rattle.crp_report.specs.declared.status.Status.{Status}
 use Rattle.crp_report.specs.Chosen.{RunChosen}
 use Rattle.crp_report.specs.Runs.{RunSeen, SinkSeen, RunEnds, RunFails, sink_of}
 use Rattle.crp_files.specs.Known.{KnownFiles}
+use Rattle.crp_files.specs.Roles.{IsShared}
+use Rattle.crp_files.specs.declared.roles.Shared.{Shared}
 use Rattle.crp_jobs.specs.declared.job.RunFiles.{RunFiles}
-use Rattle.crp_jobs.specs.Opened.{FilesSeen, FilesFail, IsFileOpened, IsWanted, IsLeft, IsOneRefused, IsLeftAlone}
+use Rattle.crp_jobs.specs.declared.outcome.ToolFault.{ToolFault}
+use Rattle.crp_jobs.specs.declared.outcome.ToolFault.TheVariants as fault
+use Rattle.crp_jobs.specs.Names.{named_in_run}
+use Rattle.crp_jobs.specs.Opened.{FilesSeen, FilesFail, AreFilesKept, AreUnemptied, IsFileOpened, IsWanted, IsLeft, IsOneRefused, IsLeftAlone}
 
 -- ---- the files of the outputs
 
@@ -76,17 +81,19 @@ IsInputRefused may_not_open names input.Movins = IsTrue (may_not_open names.movi
 abbrev pub IsOutputRefused : (List ℕ → Bool) → RunFiles → Output → Type 0
 IsOutputRefused may_not_create names sink = MatchOption (file_of names sink) ⊥ (λ name. IsTrue (may_not_create name))
 
--- the fault states that a file cannot be opened: an input as a failed read of it, an output as a failed write to it
-abbrev pub IsOfRefused : KnownFiles → RunFiles → Fault → Type 0
-IsOfRefused known names (run.Read source) = IsInputRefused known.may_not_open names source
-IsOfRefused known names (run.Write sink) = IsOutputRefused known.may_not_create names sink
-IsOfRefused known names f = ⊥
+-- the fault states that a file cannot be opened: an input as a failed read of it, and then the files are as they were; an output as a failed write to it, and
+-- then no file that is written is known to be another one
+abbrev pub IsOfRefused : FilesSeen → RunFiles → Fault → Type 0
+IsOfRefused files names (run.Read source) = IsInputRefused files.known.may_not_open names source × AreFilesKept files
+IsOfRefused files names (run.Write sink) = IsOutputRefused files.known.may_not_create names sink × (IsShared files.known (named_in_run names) → ⊥)
+IsOfRefused files names f = ⊥
 
 -- ---- over files
 
 -- what a run saw that opens its inputs by their names, and makes the files of the certificates and of the yard after where they are asked for; its report goes
 -- to a sink of the caller's. What failed of the files is what failed of these devices, and of finishing the two. Where files state what is written to them,
--- what each of the two sinks holds stands under the name that was given for it, unless it could not be finished; and no other file has changed
+-- what each of the two sinks holds stands under the name that was given for it, unless it could not be finished; and no other file has changed. No file that it
+-- writes is known to be another one of its files, or to stand behind a standard stream
 pub record IsOverFiles (files : FilesSeen) (names : RunFiles) (out : SinkSeen) (u : Unfinished) (s : RunSeen) : Type 0 where
   pub yard : IsFileOpened files.known names.yard.now s.yard
   pub movins : IsFileOpened files.known names.movins.now s.movins
@@ -96,6 +103,7 @@ pub record IsOverFiles (files : FilesSeen) (names : RunFiles) (out : SinkSeen) (
   pub failed : FilesFail files (s.yard.after + (s.movins.after + ((s.certificates.after + u.certificates) + (s.yard_after.after + u.yard_after))))
   pub left : AreTwo files.known names → (each : Output) → IsLeft files (file_of names each) (unfinished_of u each) (sink_of s each)
   pub others : (other : List ℕ) → IsNotWritten files.known names other → files.left.given other ≡ files.known.given other
+  pub apart : IsShared files.known (named_in_run names) → ⊥
 
 -- a run over files was done, what it wrote to files was finished, and this is what it saw of them and of the sink of its report
 abbrev pub RunReportsOverFiles : RunFiles → RunChosen → FilesSeen → SinkSeen → Status → Type 0
@@ -103,7 +111,7 @@ RunReportsOverFiles names chosen files out ended = (s : RunSeen) × IsOverFiles 
 
 -- a file could not be opened, which the fault states; nothing else has failed, and the sink of the report was left alone
 pub record IsRefused (names : RunFiles) (files : FilesSeen) (out : SinkSeen) (f : Fault) : Type 0 where
-  pub stated : IsOfRefused files.known names f
+  pub stated : IsOfRefused files names f
   pub one : IsOneRefused files
   pub alone : IsLeftAlone out
 
@@ -111,3 +119,15 @@ pub record IsRefused (names : RunFiles) (files : FilesSeen) (out : SinkSeen) (f 
 abbrev pub RunFailsOverFiles : RunFiles → RunChosen → FilesSeen → SinkSeen → Fault → Type 0
 RunFailsOverFiles names chosen files out f = IsRefused names files out f
     ⊎ ((s : RunSeen) × (u : Unfinished) × IsOverFiles files names out u s × FailsWhereAsked names f × RunStops chosen u s f)
+
+-- a file that the run would write may be another one, and so nothing was done: no call of a file has failed, and the sink of the report was left alone
+pub record IsSharedInRun (names : RunFiles) (files : FilesSeen) (out : SinkSeen) (s : Shared) : Type 0 where
+  pub unemptied : AreUnemptied (named_in_run names) files.known files.left s
+  pub none_failed : files.after ≡ files.before
+  pub alone : IsLeftAlone out
+
+-- what a fault says of the job
+abbrev pub SolveFailsOverFiles : RunFiles → RunChosen → FilesSeen → SinkSeen → ToolFault → Type 0
+SolveFailsOverFiles names chosen files out (fault.Run f) = RunFailsOverFiles names chosen files out f
+SolveFailsOverFiles names chosen files out (fault.OneFile s) = IsSharedInRun names files out s
+SolveFailsOverFiles names chosen files out f = ⊥

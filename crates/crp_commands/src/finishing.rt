@@ -1,8 +1,10 @@
 //! How a call ends that wrote files.
-ghost use Rattle.std.specs.Prelude.{◌≡◌, Err, IfErr, OnOk, OnErr};
+ghost use Rattle.std.specs.Prelude.{◌≡◌, Ok, Err, IfOk, IfErr, OnOk, OnErr};
+ghost use Rattle.crp_jobs.specs.declared.outcome.ToolFault.TheVariants.{Run};
 
 use crp_files::NotFinished;
-use crp_report::Status;
+use crp_jobs::ToolFault;
+use crp_report::{Fault, Status};
 
 /// The answer, but where all was done and then a file could not be finished, this fault.
 pub fn unless_unfinished<E: Drop>(
@@ -18,5 +20,16 @@ pub fn unless_unfinished<E: Drop>(
     match finished {
         Ok(()) => Ok(status),
         Err(_) => Err(fault),
+    }
+}
+
+/// How a run ended, as its job states it.
+pub fn of_job(answer: Result<Status, Fault>) -> Result<Status, ToolFault>
+    ensures done { IfOk answer (λ ended. result ≡ Ok ended) }
+    ensures failed { IfErr answer (λ f. result ≡ Err (Run f)) }
+{
+    match answer {
+        Ok(status) => Ok(status),
+        Err(fault) => Err(ToolFault::Run(fault)),
     }
 }

@@ -6,7 +6,7 @@ ghost use Rattle.crp_commands.specs.Follow.{AnswersOver, FollowReportsOverFiles,
 
 use crate::finishing::unless_unfinished;
 use crate::following::{FollowSettings, follow};
-use crp_files::{Files, Named, Wanted};
+use crp_files::{Files, Named, Wanted, first_shared, prepare_wanted};
 use crp_jobs::{FollowFiles, Statement, ToolFault};
 use crp_plan::{Sink, Source};
 use crp_report::{Fault, Input, InputSettings, Status};
@@ -20,7 +20,7 @@ struct FollowAsked<'a> {
     settings: &'a InputSettings,
 }
 
-// Makes the file of the page, if it is wanted, and follows the moves of the report.
+// Makes the file of the page, if it is wanted and is no other one, and follows the moves of the report.
 fn follow_to<F: Files, Y: Source, M: Source, R: Source, W: Sink, P: Named>(
     alloc: Global,
     files: &mut F,
@@ -40,6 +40,10 @@ fn follow_to<F: Files, Y: Source, M: Source, R: Source, W: Sink, P: Named>(
         in AnswersOver asked.now.settings.now (IsOverPage asked.now.names.now all devices from) (RefusesFile asked.now.names.now all devices from) result }
 {
     let names = asked.names;
+    prepare_wanted(files, names.page);
+    if let Some(shared) = first_shared(files, names) {
+        return Err(ToolFault::OneFile(shared));
+    }
     let Ok(mut page) = Wanted::<F, P>::create(files, names.page) else {
         return Err(ToolFault::WritePage);
     };
@@ -122,8 +126,9 @@ fn follow_message<F: Files, Y: Source, R: Source, W: Sink>(
     }
 }
 
-/// Opens the files, before anything is read: the yard list, the message, if there is one, the report and the file of the page. Then
-/// follows the moves of the report. One named `-` is `input`, the standard input. The table goes to `out`.
+/// Opens the files, before anything is read: the yard list, the message, if there is one, the report and the file of the page. Where that
+/// is another one of these, or stands behind a standard stream, no file is emptied, and that is the fault. Else follows the moves of the
+/// report. One named `-` is `input`, the standard input. The table goes to `out`.
 pub fn follow_files<F: Files, R: Source, W: Sink>(
     alloc: Global,
     files: &mut F,

@@ -1,16 +1,14 @@
 //! The command `solve`: opens its files, and runs over them.
 ghost use Rattle.std.specs.Prelude.{◌≡◌, MatchResult, option_map};
-ghost use Rattle.crp_report.specs.declared.fault.Fault.{Fault};
 ghost use Rattle.crp_report.specs.Runs.{SinkSeen};
 ghost use Rattle.crp_report.specs.Watching.{ShowsMore};
-ghost use Rattle.crp_jobs.specs.declared.outcome.ToolFault.TheVariants.{Run};
 ghost use Rattle.crp_jobs.specs.Opened.{FilesSeen};
 ghost use Rattle.crp_commands.specs.Noted.{IsNotedBy};
-ghost use Rattle.crp_commands.specs.Solving.{RunReportsOverFiles, RunFailsOverFiles};
+ghost use Rattle.crp_commands.specs.Solving.{RunReportsOverFiles, SolveFailsOverFiles};
 
-use crate::finishing::unless_unfinished;
+use crate::finishing::{of_job, unless_unfinished};
 use crate::heads::MOST_BYTES;
-use crp_files::{Files, Named, Wanted};
+use crp_files::{Files, Named, Wanted, first_shared, prepare_wanted};
 use crp_jobs::{RunFiles, ToolFault};
 use crp_notes::{Notes, Terminal};
 use crp_plan::{Nowhere, Sink};
@@ -43,7 +41,7 @@ pub struct Watcher<'a, S> {
 }
 
 // Opens the files, before anything is read, and runs over them. The files that are written, where they are asked for, are those of these
-// names.
+// names: they are made where they are not there, and emptied once it is seen that none is another one of the files.
 fn solve_to<T: Threads + Wait + Sync, F: Files, W: Sink, V: Watch, E: Sink, C: Named, A: Named>(
     threads: &T,
     alloc: Global,
@@ -52,27 +50,32 @@ fn solve_to<T: Threads + Wait + Sync, F: Files, W: Sink, V: Watch, E: Sink, C: N
     out: &mut W,
     watch: &mut V,
     errors: &mut E,
-) -> Result<Status, Fault>
+) -> Result<Status, ToolFault>
     requires certificates { option_map (λ name. name.now) asked.now.names.now.cert ≡ C.name }
     requires yard_after { option_map (λ name. name.now) asked.now.names.now.after ≡ A.name }
     ensures ended { let all : FilesSeen = record { known = F.known files.old; left = F.known files.new; before = F.failures files.old; after = F.failures files.new }
         in let report : SinkSeen = record { held = W.contents out.old; holds = W.contents out.new; before = W.failures out.old; after = W.failures out.new }
         in MatchResult result (RunReportsOverFiles asked.now.names.now asked.now.settings.now all report)
-        (RunFailsOverFiles asked.now.names.now asked.now.settings.now all report) }
+        (SolveFailsOverFiles asked.now.names.now asked.now.settings.now all report) }
     ensures shown { ShowsMore (E.contents errors.old) (E.contents errors.new) }
 {
     let names = asked.names;
     let Ok(yard) = files.open(names.yard) else {
-        return Err(Fault::Read(Input::Yard));
+        return Err(ToolFault::Run(Fault::Read(Input::Yard)));
     };
     let Ok(movins) = files.open(names.movins) else {
-        return Err(Fault::Read(Input::Movins));
+        return Err(ToolFault::Run(Fault::Read(Input::Movins)));
     };
+    prepare_wanted(files, names.cert);
+    prepare_wanted(files, names.after);
+    if let Some(shared) = first_shared(files, names) {
+        return Err(ToolFault::OneFile(shared));
+    }
     let Ok(certificates) = Wanted::<F, C>::create(files, names.cert) else {
-        return Err(Fault::Write(Output::Certificates));
+        return Err(ToolFault::Run(Fault::Write(Output::Certificates)));
     };
     let Ok(yard_after) = Wanted::<F, A>::create(files, names.after) else {
-        return Err(Fault::Write(Output::YardAfter));
+        return Err(ToolFault::Run(Fault::Write(Output::YardAfter)));
     };
     let mut devices = Devices {
         yard,
@@ -94,7 +97,7 @@ fn solve_to<T: Threads + Wait + Sync, F: Files, W: Sink, V: Watch, E: Sink, C: N
     files.close(devices.yard);
     files.close(devices.movins);
     let answer = unless_unfinished(answer, certified, Fault::Write(Output::Certificates));
-    unless_unfinished(answer, left, Fault::Write(Output::YardAfter))
+    of_job(unless_unfinished(answer, left, Fault::Write(Output::YardAfter)))
 }
 
 // As many bytes of certificates as `check` takes, if they go to a file.
@@ -106,7 +109,8 @@ fn largest_file(names: &RunFiles<'_>) -> usize {
 }
 
 /// Opens the files, before anything is read: the yard list, the message, the file of the certificates and that of the yard after the
-/// plans. Then runs over them, and writes the report to `out` and, unless it is to be quiet, notes to `errors`; and shows how far it is on
+/// plans. Where one that is written is another one of these, or stands behind a standard stream, no file is emptied, and that is the
+/// fault. Else runs over them, and writes the report to `out` and, unless it is to be quiet, notes to `errors`; and shows how far it is on
 /// the terminal or, where there is none and that is asked for, by a line for each bay to `errors`. At the end the files that were written
 /// are finished; one that cannot be is a failed write to it.
 #[tactic(auto, using(crate::proofs::Noted::unnoted))]
@@ -122,11 +126,11 @@ pub fn solve<T: Threads + Wait + Sync, F: Files, W: Sink, E: Sink, S: Terminal +
     ensures ended { let all : FilesSeen = record { known = F.known files.old; left = F.known files.new; before = F.failures files.old; after = F.failures files.new }
         in let report : SinkSeen = record { held = W.contents out.old; holds = W.contents out.new; before = W.failures out.old; after = W.failures out.new }
         in MatchResult result (RunReportsOverFiles asked.now.names.now asked.now.settings.now all report)
-        (λ fault. (f : Fault) × (fault ≡ Run f) × RunFailsOverFiles asked.now.names.now asked.now.settings.now all report f) }
+        (SolveFailsOverFiles asked.now.names.now asked.now.settings.now all report) }
     ensures noted { IsNotedBy watcher.now.quiet (record { held = E.contents errors.old; holds = E.contents errors.new; before = E.failures errors.old; after = E.failures errors.new }) }
 {
     if watcher.quiet {
-        let status = solve_to::<T, F, W, Unwatched, Nowhere, Brand, Brand>(
+        return solve_to::<T, F, W, Unwatched, Nowhere, Brand, Brand>(
             threads,
             alloc,
             files,
@@ -134,8 +138,7 @@ pub fn solve<T: Threads + Wait + Sync, F: Files, W: Sink, E: Sink, S: Terminal +
             out,
             &mut Unwatched::new(),
             &mut Nowhere,
-        )?;
-        return Ok(status);
+        );
     }
     let mut notes = Notes::new(
         alloc,
@@ -143,8 +146,7 @@ pub fn solve<T: Threads + Wait + Sync, F: Files, W: Sink, E: Sink, S: Terminal +
         watcher.terminal,
         watcher.progress,
     );
-    let status = solve_to::<T, F, W, Notes<'_, S>, E, Brand, Brand>(
+    solve_to::<T, F, W, Notes<'_, S>, E, Brand, Brand>(
         threads, alloc, files, asked, out, &mut notes, errors,
-    )?;
-    Ok(status)
+    )
 }

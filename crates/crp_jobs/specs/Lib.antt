@@ -1,6 +1,7 @@
 -- What a job is asked for, over which files, how it fails, and how that is explained.
 pub mod Outcomes
 pub mod Opened
+pub mod Names
 pub mod Advice
 pub mod Found
 pub mod Placed

@@ -1,7 +1,10 @@
 -- Files that a job opens by their names, and devices that a call leaves alone.
 use Rattle.std.specs.Prelude.{◌≡◌, ℕ, List, [], Option, Some, None, IfSome, IsTrue}
 use Rattle.crp_plan.specs.Devices.{CountsMore, CountsOne}
-use Rattle.crp_files.specs.Known.{KnownFiles}
+use Rattle.crp_files.specs.declared.roles.Role.{Role}
+use Rattle.crp_files.specs.declared.roles.Shared.{Shared}
+use Rattle.crp_files.specs.Known.{KnownFiles, KeepsBytes}
+use Rattle.crp_files.specs.Roles.{MayBeOne, Share}
 use Rattle.crp_report.specs.Runs.{SourceSeen, SinkSeen, GetsNothing}
 
 -- what a call saw of files: what was known of them before, and is known of what it left, and the count of their failures before and after
@@ -46,6 +49,12 @@ IsWanted known None unfinished s = (s.before ≡ 0) × (s.after ≡ 0) × (unfin
 -- what the sink holds stands under this name, if one is given, where files state what is written to them, and this one could be finished
 abbrev pub IsLeft : FilesSeen → Option (List ℕ) → ℕ → SinkSeen → Type 0
 IsLeft files name unfinished s = IfSome name (λ n. IsTrue files.known.states → unfinished ≡ 0 → files.left.given n ≡ s.holds)
+
+-- a file that would be written may be another one of the job too, by the names that it has for them; so none was emptied: what was known of the bytes of each
+-- is so still
+pub record AreUnemptied (named : Role → Option (List ℕ)) (known left : KnownFiles) (s : Shared) : Type 0 where
+  pub shared : Share (MayBeOne known) named s.written s.other
+  pub kept : KeepsBytes known left
 
 -- the source was left alone: none of its calls has failed
 abbrev pub IsSourceLeftAlone : SourceSeen → Type 0

@@ -38,12 +38,13 @@ abbrev pub fault_of_loading : LoadingFault → ToolFault
 fault_of_loading loading.Memory = fault.Memory
 fault_of_loading f = fault.Loaded f
 
--- the exit status of the program: 0 decided, 1 a budget ended, 3 input refused, 4 lack of memory, 5 a read or write fault, 6 a certificate,
+-- the exit status of the program: 0 decided, 1 a budget ended, 2 two names of one file, 3 input refused, 4 lack of memory, 5 a read or write fault, 6 a certificate,
 -- head or plan refused, or a report with its certificates
 abbrev pub exit_code : Result Status ToolFault → ℕ
 exit_code (Ok status.Decided) = 0
 exit_code (Ok status.Budget) = 1
 exit_code (Ok status.Memory) = 4
+exit_code (Err (fault.OneFile s)) = 2
 exit_code (Err fault.TooLarge) = 3
 exit_code (Err (fault.TooLargeOf which)) = 3
 exit_code (Err (fault.Followed f)) = 3

@@ -86,6 +86,9 @@ pub fn advice_on(fault: &ToolFault) -> &'static str
             "the page could not be written: the folder must be there and let you write, and its disk must not be full"
         }
         ToolFault::TooLarge => CERTIFICATES_TOO_LARGE,
+        ToolFault::OneFile(_) => {
+            "each file needs a name of its own, since what is written is emptied first"
+        }
         ToolFault::Memory => MEMORY,
     }
 }

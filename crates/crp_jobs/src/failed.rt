@@ -1,13 +1,14 @@
-//! Where a read or a write of a job failed: the file by its name, or the standard input or output.
+//! Where a read or a write of a job failed, the file by its name or the standard input or output; and which of its files are one.
 ghost use Rattle.std.specs.Prelude.{◌≡◌, Some, option_map};
-ghost use Rattle.crp_jobs.specs.Advice.{failed_in_audit, failed_in_file, failed_in_follow, failed_in_run, failed_words, place_words, source_words};
+ghost use Rattle.crp_jobs.specs.Advice.{failed_in_audit, failed_in_file, failed_in_follow, failed_in_run, failed_words, place_words, shared_words, source_words, stream_words};
 
 use crate::job::{AuditFiles, FollowFiles, Job, RunFiles};
 use crate::outcome::{Statement, ToolFault};
+use crp_files::{JobNames, Role, Shared};
 use crp_report::{Fault, Input, Output};
 use std::fmt::{self, Display, Formatter, Write};
 
-/// Where a read or a write failed.
+/// Where a read or a write failed, or which files are one, as the line of advice begins.
 #[derive(Clone, Copy, Debug)]
 pub enum Place<'a> {
     /// A file, by its name.
@@ -16,6 +17,10 @@ pub enum Place<'a> {
     StandardInput,
     /// The standard output.
     StandardOutput,
+    /// One file, by two names.
+    Names(&'a str, &'a str),
+    /// One file, by a name, and as what stands behind a stream, in words.
+    NameAndStream(&'a str, &'a str),
 }
 
 impl Display for Place<'_> {
@@ -23,9 +28,15 @@ impl Display for Place<'_> {
 
     fn fmt<W: Write>(&self, f: &mut Formatter<W>) -> fmt::Result {
         match self {
-            Place::File(name) => write!(f, "the file {name}"),
-            Place::StandardInput => f.write_str("the standard input"),
-            Place::StandardOutput => f.write_str("the standard output"),
+            Place::File(name) => write!(f, "look at the file {name}"),
+            Place::StandardInput => f.write_str("look at the standard input"),
+            Place::StandardOutput => f.write_str("look at the standard output"),
+            Place::Names(name, other) => {
+                write!(f, "the names {name} and {other} are of one file")
+            }
+            Place::NameAndStream(name, stream) => {
+                write!(f, "the name {name} and {stream} are of one file")
+            }
         }
     }
 }
@@ -59,8 +70,33 @@ fn place_in_file<'a>(file: &'a str, fault: &ToolFault) -> Option<Place<'a>>
         | ToolFault::ReadOf(_)
         | ToolFault::TooLargeOf(_)
         | ToolFault::TooLarge
+        | ToolFault::OneFile(_)
         | ToolFault::Memory => None,
     }
+}
+
+// A standard stream, in words.
+fn stream_words(role: Role) -> Option<&'static str>
+    ensures { option_map (λ words. words.now) result ≡ stream_words role }
+{
+    match role {
+        Role::StandardInput => Some("the standard input"),
+        Role::StandardOutput => Some("the standard output"),
+        Role::StandardError => Some("the standard error"),
+        _ => None,
+    }
+}
+
+// The two names of one file, or its name and the stream behind which it stands.
+fn place_shared<'a, N: JobNames>(names: &'a N, shared: &Shared) -> Option<Place<'a>>
+    ensures { option_map place_words result ≡ shared_words (N.named names.now) shared.now }
+{
+    let name = names.name_of(shared.written)?;
+    if let Some(stream) = stream_words(shared.other) {
+        return Some(Place::NameAndStream(name, stream));
+    }
+    let other = names.name_of(shared.other)?;
+    Some(Place::Names(name, other))
 }
 
 // What a run over these files could not read or write.
@@ -105,19 +141,22 @@ fn place_in_follow<'a>(names: &FollowFiles<'a>, fault: &ToolFault) -> Option<Pla
     }
 }
 
-/// What the job could not read or write, where the fault is that a read or a write failed, or that a file could not be opened.
-pub fn place_of<'a>(job: &Job<'a>, fault: &ToolFault) -> Option<Place<'a>>
+/// What the job could not read or write, where the fault is that a read or a write failed, or that a file could not be opened; or which of
+/// its files are one, where that is the fault.
+pub fn place_of<'a>(job: &'a Job<'_>, fault: &ToolFault) -> Option<Place<'a>>
     ensures { option_map place_words result ≡ failed_words job.now fault.now }
 {
     match job {
         Job::OneFile { file, .. } => place_in_file(file, fault),
         Job::Audit { files, .. } => place_in_audit(files, fault),
-        Job::Follow { files, .. } => place_in_follow(files, fault),
-        Job::Solve { files, .. } => {
-            if let ToolFault::Run(fault) = fault {
-                return place_in_run(files, fault);
-            }
-            None
-        }
+        Job::Follow { files, .. } => match fault {
+            ToolFault::OneFile(shared) => place_shared(files, shared),
+            _ => place_in_follow(files, fault),
+        },
+        Job::Solve { files, .. } => match fault {
+            ToolFault::Run(fault) => place_in_run(files, fault),
+            ToolFault::OneFile(shared) => place_shared(files, shared),
+            _ => None,
+        },
     }
 }

@@ -11,6 +11,7 @@ mod follow_advice;
 mod found;
 mod job;
 mod named;
+mod names;
 mod outcome;
 mod placed;
 mod plain;

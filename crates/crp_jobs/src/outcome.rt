@@ -7,6 +7,7 @@ ghost use Rattle.crp_jobs.specs.Outcomes.{exit_code};
 use crp_audit::AuditFault;
 use crp_cert::CertFault;
 use crp_checker::Refused;
+use crp_files::Shared;
 use crp_follow::FollowFault;
 use crp_loading::LoadingFault;
 use crp_plan::{PlanFault, ReadFailed, ReadFault, WriteFailed};
@@ -80,6 +81,9 @@ pub enum ToolFault {
     /// The input has more bytes than are allowed.
     #[error("the input is too large")]
     TooLarge,
+    /// A file that is written is another one of the job's files, or stands behind a standard stream. It was not emptied.
+    #[error("S8")]
+    OneFile(Shared),
     /// No memory is left.
     #[error("no memory is left")]
     Memory,
@@ -219,6 +223,7 @@ pub fn exit_of(answer: &Result<Status, ToolFault>) -> u8
     match answer {
         Ok(Status::Decided) => 0,
         Ok(Status::Budget) => 1,
+        Err(ToolFault::OneFile(_)) => 2,
         Err(
             ToolFault::TooLarge
             | ToolFault::TooLargeOf(_)

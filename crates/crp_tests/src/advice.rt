@@ -8,6 +8,7 @@ use crate::advice::faults::{
 use crate::compare::{assert_at, assert_same, assert_same_at};
 use crp_audit::AuditFault;
 use crp_checker::{Path, Refused};
+use crp_files::{Role, Shared};
 use crp_follow::FollowFault;
 use crp_jobs::{Statement, ToolFault, advice_on};
 use crp_loading::LoadingFault;
@@ -243,6 +244,10 @@ fn every_fault(alloc: Global) -> Result<Vec<ToolFault>, AllocError> {
     faults.push(ToolFault::Read)?;
     faults.push(ToolFault::Write)?;
     faults.push(ToolFault::TooLarge)?;
+    faults.push(ToolFault::OneFile(Shared {
+        written: Role::Page,
+        other: Role::YardList,
+    }))?;
     faults.push(ToolFault::Memory)?;
     Ok(faults)
 }

@@ -15,17 +15,17 @@ use Rattle.crp_commands.specs.Noted.{GetsLines, IsNoted}
 use Rattle.crp_words.specs.declared.usage.Mistake.TheVariants as mistake
 use Rattle.crp_words.specs.declared.usage.Usage.{Usage}
 use Rattle.crp_words.specs.declared.usage.Usage.TheVariants as usage
-use Rattle.crp_words.specs.Links.{IsLinked, MayBeLinked}
-use Rattle.crp_words.specs.Words.{WordsAsk, Refuses, IsWordsOrMemory}
+use Rattle.crp_words.specs.Words.{WordsAsk, Refuses}
 
 -- ---- lines for the user
 
--- what stands before the advice where a read or a write has failed: where to look
+-- what stands before the advice where a read or a write has failed, or files are one: where to look, or which they are
 abbrev pub place_part : Option (List ℕ) → List ℕ
 place_part None = []
-place_part (Some place) = codes "look at " ++ (place ++ codes ": ")
+place_part (Some place) = place ++ codes ": "
 
--- the two lines that explain what went wrong: what it is, behind `crp: `, and the advice, behind the place where a read or a write has failed
+-- the two lines that explain what went wrong: what it is, behind `crp: `, and the advice, behind the place where a read or a write has failed, or behind the
+-- names of one file
 abbrev pub fault_lines : List ℕ → Option (List ℕ) → List ℕ → List ℕ
 fault_lines text place advice = codes "crp: " ++ (text ++ (10 ∷ (place_part place ++ (advice ++ 10 ∷ []))))
 
@@ -41,7 +41,8 @@ three_lines text advice found = codes "crp: " ++ (text ++ (10 ∷ (advice ++ (10
 abbrev pub IsExplainedWithFound : SinkSeen → Type 0
 IsExplainedWithFound s = (text : List ℕ) × (advice : List ℕ) × (found : List ℕ) × IsPlainLine advice × IsPlainText found × GetsLines s (three_lines text advice found)
 
--- the sink got the two lines of a fault of the job, with the place where a read or a write has failed; or, where none has, a third one on what was found
+-- the sink got the two lines of a fault of the job, with the place where a read or a write has failed, or the names of one file; or, where there is no such
+-- place, a third one on what was found
 abbrev pub IsExplainedOf : Job → ToolFault → SinkSeen → Type 0
 IsExplainedOf j f s = IsExplained (failed_words j f) s ⊎ ((failed_words j f ≡ None) × IsExplainedWithFound s)
 
@@ -50,7 +51,7 @@ IsExplainedOf j f s = IsExplained (failed_words j f) s ⊎ ((failed_words j f �
 -- help was shown, with status 0; or a write of it has failed, with status 5
 abbrev pub HelpEnds : List ℕ → SinkSeen → SinkSeen → ℕ → Type 0
 HelpEnds text out errors status = (Gets out text × IsLeftAlone errors × (status ≡ 0))
-    ⊎ (GetsPart out text × HasFailed out.before out.after × IsExplained (Some (codes "the standard output")) errors × (status ≡ 5))
+    ⊎ (GetsPart out text × HasFailed out.before out.after × IsExplained (Some (codes "look at the standard output")) errors × (status ≡ 5))
 
 -- how the program ends whose words ask for nothing: help goes to the standard output; what is wrong with the words is written to the standard error,
 -- with status 2; and so is that memory is lacking, with status 4
@@ -82,10 +83,7 @@ JobEnds j seen errors status =
 abbrev pub EndsUntouched : Usage → JobSeen → SinkSeen → ℕ → Type 0
 EndsUntouched u seen errors status = AreFilesLeftAlone seen.files × IsSourceLeftAlone seen.input × UsageEnds u seen.out errors status
 
--- how the program ends by these words: they ask for a job, none of whose files is known to be written in the place of another, and it is done or fails;
--- or a file that it writes may be another one of its files, and then it is refused untouched, or for want of memory; or they ask for nothing
+-- how the program ends by these words: they ask for a job, and it is done or fails; or they ask for nothing
 abbrev pub ProgramEnds : List (List ℕ) → JobSeen → SinkSeen → ℕ → Type 0
 ProgramEnds words seen errors status =
-    ((j : Job) × WordsAsk words j × ¬ IsLinked seen.files.known j × JobEnds j seen errors status)
-    ⊎ (((j : Job) × WordsAsk words j × MayBeLinked seen.files.known j × ((u : Usage) × IsWordsOrMemory u × EndsUntouched u seen errors status))
-    ⊎ ((u : Usage) × Refuses words u × EndsUntouched u seen errors status))
+    ((j : Job) × WordsAsk words j × JobEnds j seen errors status) ⊎ ((u : Usage) × Refuses words u × EndsUntouched u seen errors status)

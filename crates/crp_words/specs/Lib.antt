@@ -2,5 +2,4 @@
 pub mod Commands
 pub mod Heights
 pub mod Words
-pub mod Links
 pub mod Endings

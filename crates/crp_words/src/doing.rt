@@ -6,8 +6,6 @@ ghost use Rattle.crp_commands.specs.Performing.{JobSeen, job_seen};
 ghost use Rattle.crp_words.specs.Endings.{IsExplainedOf, JobEnds, ProgramEnds};
 
 use crate::ending::{end_with_usage, explain_fault, explain_found};
-use crate::given::same_file;
-use crate::links::linked;
 use crate::words::job;
 use crp_commands::{Streams, Terminal, run_job};
 use crp_files::Files;
@@ -18,7 +16,8 @@ use std::alloc::Global;
 use std::sync::Wait;
 use std::thread::Threads;
 
-// Explains the fault of a job: the place where a read or a write has failed, and else what was found, where that tells more.
+// Explains the fault of a job: the place where a read or a write has failed, or which files are one; and else what was found, where that
+// tells more.
 fn explain_of<F: Files, E: Sink>(
     alloc: Global,
     files: &F,
@@ -81,8 +80,8 @@ fn end_with_job<
 }
 
 /// Does what the words of the command line ask for, those behind the program's name: a job over its files, where a file named `-` is the
-/// standard input; or help, on the standard output. A job that writes a file which is another one of its files too, by a link, is refused.
-/// Notes and what went wrong go to the standard error; how far a run is, is shown on the terminal. Returns the exit status.
+/// standard input; or help, on the standard output. Notes and what went wrong go to the standard error; how far a run is, is shown on the
+/// terminal. Returns the exit status.
 pub fn run_words<
     T: Threads + Wait + Sync,
     F: Files,
@@ -103,14 +102,7 @@ pub fn run_words<
         in ProgramEnds (map (λ w. w.now) words.now) seen errors_seen result }
 {
     match job(alloc, words) {
-        Ok(job) => match linked(files, &job) {
-            Some(names) => end_with_usage(
-                &same_file(alloc, names),
-                &mut streams.out,
-                &mut streams.errors,
-            ),
-            None => end_with_job(threads, alloc, files, streams, &job, terminal),
-        },
+        Ok(job) => end_with_job(threads, alloc, files, streams, &job, terminal),
         Err(usage) => end_with_usage(&usage, &mut streams.out, &mut streams.errors),
     }
 }

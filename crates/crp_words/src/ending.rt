@@ -53,7 +53,7 @@ fn write_pieces<W: Sink>(sink: &mut W, pieces: &[&[u8]])
     };
 }
 
-// Writes the lines of a fault of a read or a write: its text, and the advice behind the place.
+// Writes the lines of a fault of a read or a write, or of two files that are one: its text, and the advice behind the place.
 fn explain_at<W: Sink>(sink: &mut W, text: &[u8], place: &Place<'_>, advice: &[u8])
     ensures { let seen : SinkSeen = sink_seen W.contents W.failures sink.old sink.new
         in GetsLines seen (fault_lines text.now (Some (place_words place.now)) advice.now) }
@@ -86,6 +86,34 @@ fn explain_at<W: Sink>(sink: &mut W, text: &[u8], place: &Place<'_>, advice: &[u
                 b"crp: ",
                 text,
                 b"\nlook at the standard output: ",
+                advice,
+                b"\n",
+            ];
+            write_pieces(sink, &pieces);
+        }
+        Place::Names(name, other) => {
+            let pieces: [&[u8]; 9] = [
+                b"crp: ",
+                text,
+                b"\nthe names ",
+                name.as_bytes(),
+                b" and ",
+                other.as_bytes(),
+                b" are of one file: ",
+                advice,
+                b"\n",
+            ];
+            write_pieces(sink, &pieces);
+        }
+        Place::NameAndStream(name, stream) => {
+            let pieces: [&[u8]; 9] = [
+                b"crp: ",
+                text,
+                b"\nthe name ",
+                name.as_bytes(),
+                b" and ",
+                stream.as_bytes(),
+                b" are of one file: ",
                 advice,
                 b"\n",
             ];

@@ -12,7 +12,6 @@ mod ending;
 mod follow_words;
 mod given;
 mod input_words;
-mod links;
 mod search_words;
 mod usage;
 mod words;

@@ -45,7 +45,7 @@ fn assert_place(
 fn the_standard_input_that_is_not_read_is_named(rt: HostRuntime) -> Result<(), Fail> {
     let standard_input: [&[&str]; 2] = [&["check", "-"], &[]];
     for words in standard_input {
-        let place = "the standard input";
+        let place = "look at the standard input";
         assert_place(&rt, rt.alloc(), words, &ToolFault::Read, place)?;
     }
     Ok(())
@@ -54,7 +54,7 @@ fn the_standard_input_that_is_not_read_is_named(rt: HostRuntime) -> Result<(), F
 #[test]
 fn the_report_of_one_file_goes_to_the_standard_output(rt: HostRuntime) -> Result<(), Fail> {
     for words in ONE_FILE {
-        let place = "the standard output";
+        let place = "look at the standard output";
         assert_place(&rt, rt.alloc(), words, &ToolFault::Write, place)?;
     }
     Ok(())
@@ -77,7 +77,7 @@ const SOLVE_WITHOUT_OUTPUTS: [&str; 3] = ["solve", "yard.csv", "ship.edi"];
 fn the_report_of_a_run_goes_to_the_standard_output(rt: HostRuntime) -> Result<(), Fail> {
     let (fault, place) = (
         ToolFault::Run(Fault::Write(Output::Report)),
-        "the standard output",
+        "look at the standard output",
     );
     assert_place(&rt, rt.alloc(), &SOLVE, &fault, place)?;
     assert_place(&rt, rt.alloc(), &SOLVE_WITHOUT_OUTPUTS, &fault, place)

@@ -7,7 +7,7 @@ returns-clause-refused g c =
     let words : map (λ w. w.now) c.as_slice.result.now ≡ linked_words = search rules in
     (linked_ends _ _ _ c.run_words.result words c.requires c.run_words.ensures).0
 
-pub returns-clause-untouched : goal.returns-clause-untouched
-returns-clause-untouched g c =
+pub returns-clause-unemptied : goal.returns-clause-unemptied
+returns-clause-unemptied g c =
     let words : map (λ w. w.now) c.as_slice.result.now ≡ linked_words = search rules in
     (linked_ends _ _ _ c.run_words.result words c.requires c.run_words.ensures).1

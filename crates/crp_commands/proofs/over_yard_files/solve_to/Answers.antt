@@ -1,9 +1,20 @@
-use Rattle.std.proofs.Common.{◌∙◌, ap}
+use Rattle.std.proofs.Common.{◌∙◌, ap, refl}
 use Rattle.crp_report.specs.Runs.{RunSeen, sink_seen, source_seen}
 use Rattle.crp_files.specs.Known.{KnownFiles}
-use Rattle.crp_commands.proofs.Finished.{written, written_from}
-use Rattle.crp_commands.proofs.Solved.{Times, Counts, ended_over}
+use Rattle.crp_commands.proofs.Finished.{more_from, written, written_from}
+use Rattle.crp_commands.proofs.Replayed.{keeps_same}
+use Rattle.crp_commands.proofs.Solved.{Times, Counts, ended_job, ended_over, there_from, yard_after_refused}
 use Rattle.crp_commands.proofs.over_yard_files.solve_to.Goals as goal
+
+pub returns-in_default-create-2-clause-ended : goal.returns-in_default-create-2-clause-ended
+returns-in_default-create-2-clause-ended g c =
+    let opened = c.in-Ok-open.ensures.count ∙ c.in-Ok.ensures.count in
+    yard_after_refused c.args.asked.now.names.now c.args.asked.now.settings.now _ _ (g.F.Files.known c.prepare_wanted-2.new.files) (g.F.Files.known c.create.new.files)
+    g.C.Named.name g.A.Named.name c.requires.yard_after
+    (there_from _ _ _ _ _ _ (c.in-Ok-open.ensures.kept ∙ c.in-Ok.ensures.kept) c.prepare_wanted.ensures.prepared c.prepare_wanted-2.ensures.prepared)
+    c.in_default-first_shared.ensures.none c.in-Ok-create.ensures.changed c.in_default-create-2.ensures.refused
+    (more_from _ _ _ _ (c.in-Ok-create.ensures.count ∙ c.prepare_wanted-2.ensures.count ∙ c.prepare_wanted.ensures.count ∙ opened) c.in_default-create-2.ensures.count)
+    (keeps_same _, refl)
 
 pub returns-clause-ended : goal.returns-clause-ended
 returns-clause-ended g c =
@@ -27,7 +38,7 @@ returns-clause-ended g c =
     } in
     let times : Times = record {
       first = g.F.Files.known c.args.files.now;
-      opened = g.F.Files.known c.open-2.new.self;
+      opened = g.F.Files.known c.prepare_wanted-2.new.files;
       one_made = g.F.Files.known c.create.new.files;
       made = g.F.Files.known c.create-2.new.files;
       one_finished = g.F.Files.known c.finish-certified.new.files;
@@ -41,8 +52,10 @@ returns-clause-ended g c =
       one_closed = g.F.Files.failures c.close.new.self;
       last = g.F.Files.failures c.close-2.new.self;
     } in
-    let same = c.in-Ok-create-2.ensures.count ∙ c.in-Ok-create.ensures.count ∙ c.in-Ok-open.ensures.count ∙ c.in-Ok.ensures.count in
-    ended_over names c.args.asked.now.settings.now g.C.Named.name g.A.Named.name times counts seen c.run_watched-answer.result c.finish-certified.result c.finish-left.result
+    let opened = c.in-Ok-open.ensures.count ∙ c.in-Ok.ensures.count in
+    let same = c.in-Ok-create-2.ensures.count ∙ c.in-Ok-create.ensures.count ∙ c.prepare_wanted-2.ensures.count ∙ c.prepare_wanted.ensures.count ∙ opened in
+    ended_job names c.args.asked.now.settings.now _ _ c.unless_unfinished.result c.of_job.result c.of_job.ensures.done c.of_job.ensures.failed
+    (ended_over names c.args.asked.now.settings.now g.C.Named.name g.A.Named.name times counts seen c.run_watched-answer.result c.finish-certified.result c.finish-left.result
     c.unless_unfinished-answer.result c.unless_unfinished.result c.requires.certificates c.requires.yard_after
     (record {
       yard = record { bytes = c.in-Ok.ensures.bytes; new = c.in-Ok.ensures.new };
@@ -50,7 +63,9 @@ returns-clause-ended g c =
         bytes = c.in-Ok-open.ensures.bytes ∙ ap (λ (k : KnownFiles). k.given names.movins.now) c.in-Ok.ensures.kept;
         new = c.in-Ok-open.ensures.new;
       };
-      begun = c.in-Ok-open.ensures.kept ∙ c.in-Ok.ensures.kept;
+      begun = there_from _ _ times.first _ _ times.opened (c.in-Ok-open.ensures.kept ∙ c.in-Ok.ensures.kept) c.prepare_wanted.ensures.prepared
+          c.prepare_wanted-2.ensures.prepared;
+      apart = c.in_default-first_shared.ensures.none;
       certificates_made = c.in-Ok-create.ensures.changed;
       yard_after_made = c.in-Ok-create-2.ensures.changed;
       certificates = written_from g.C.Named.name times.opened times.made times.one_finished _ _ _ _ seen.certificates same (written g.C.Named.name times.opened times.made times.one_finished (g.F.Files.failures c.create-2.new.files) counts.one_finished c.finish-certified.result seen.certificates
@@ -72,4 +87,4 @@ returns-clause-ended g c =
       failed = c.unless_unfinished.ensures.failed;
       done = c.unless_unfinished.ensures.done;
       unfinished = c.unless_unfinished.ensures.unfinished;
-    })
+    }))
