@@ -121,10 +121,10 @@ check_is_free = refl
 check_is_done : (j : Job) → WordsAsk check_words j → (seen : JobSeen) (ended : Status) (bytes lines : List ℕ) → seen.input.given ≡ Some bytes
     → seen.out.held ≡ Some [] → seen.out.holds ≡ Some lines → ReportsOverFiles j seen ended → IsCheck bytes lines
 unfolding walk_fault defaults_fault flags_fault walked bundle_met
-check_is_done (OneFile file command.Check) (free, (name, is)) seen ended bytes lines given held holds (source, inl (dash, from), (done, few)) =
-    command_reported command.Check ended bytes lines (call_of source seen.out)
+check_is_done (OneFile file (command.Check any_size)) (free, (name, is)) seen ended bytes lines given held holds (source, inl (dash, from), (done, few)) =
+    command_reported (command.Check any_size) ended bytes lines (call_of source seen.out)
     (record { given = ap (λ (s : SourceSeen). s.given) from.is ∙ given; held = held; holds = holds }) done
-check_is_done (OneFile file command.Check) (free, (name, is)) seen ended bytes lines given held holds (source, inr (other, from), (done, few)) =
+check_is_done (OneFile file (command.Check any_size)) (free, (name, is)) seen ended bytes lines given held holds (source, inr (other, from), (done, few)) =
     absurd (other (sym (one_text _ _ is)))
 check_is_done (OneFile file command.Replay) (free, (name, is)) seen ended bytes lines given held holds done = absurd (other_letter 99 114 _ _ refl name)
 check_is_done (OneFile file (command.Bound chains)) (free, (name, is)) seen ended bytes lines given held holds done = absurd (other_letter 99 98 _ _ refl name.0)
@@ -206,7 +206,7 @@ job_is_linked seen errors status one (Solve names settings quiet progress) (free
     ]
 job_is_linked seen errors status one (OneFile file command.Replay) (free, (name, is)) ends = absurd (other_letter 115 114 _ _ refl name)
 job_is_linked seen errors status one (OneFile file (command.Bound chains)) (free, (name, is)) ends = absurd (other_letter 115 98 _ _ refl name.0)
-job_is_linked seen errors status one (OneFile file command.Check) (free, (name, is)) ends = absurd (other_letter 115 99 _ _ refl name)
+job_is_linked seen errors status one (OneFile file (command.Check any_size)) (free, (name, is)) ends = absurd (other_letter 115 99 _ _ refl name.0)
 job_is_linked seen errors status one (OneFile file (command.Prove chosen)) (free, (name, is)) ends = absurd (other_letter 115 112 _ _ refl name.0)
 job_is_linked seen errors status one (Audit names settings) (free, (name, size, files, has)) ends = absurd (other_letter 115 97 _ _ refl name)
 job_is_linked seen errors status one (Follow names settings) (free, (name, size, ordered, twice, files, has)) ends = absurd (other_letter 115 102 _ _ refl name)
@@ -283,7 +283,7 @@ limits_ask (Solve names settings quiet progress) (free, (name, size, twice, file
     heights_at _ settings.input.heights (record { rows = refl; tiers = refl; heights = refl; workers = refl; split = refl; beam = refl; thin = refl; budget = refl }) has.1.0
 limits_ask (OneFile file command.Replay) (free, (name, is)) = absurd (other_letter 115 114 _ _ refl name)
 limits_ask (OneFile file (command.Bound chains)) (free, (name, is)) = absurd (other_letter 115 98 _ _ refl name.0)
-limits_ask (OneFile file command.Check) (free, (name, is)) = absurd (other_letter 115 99 _ _ refl name)
+limits_ask (OneFile file (command.Check any_size)) (free, (name, is)) = absurd (other_letter 115 99 _ _ refl name.0)
 limits_ask (OneFile file (command.Prove chosen)) (free, (name, is)) = absurd (other_letter 115 112 _ _ refl name.0)
 limits_ask (Audit names settings) (free, (name, size, files, has)) = absurd (other_letter 115 97 _ _ refl name)
 limits_ask (Follow names settings) (free, (name, size, ordered, twice, files, has)) = absurd (other_letter 115 102 _ _ refl name)
@@ -336,7 +336,7 @@ strong_asks (OneFile file (command.Prove settings)) (free, ((name, (workers, bud
     (strong_beam _ at settings.beam beam, strong_thin _ at settings.thin thin, deepen.1 (inr at.strong), chains.1 (inr at.strong))
 strong_asks (OneFile file command.Replay) (free, (name, is)) = absurd (other_letter 112 114 _ _ refl name)
 strong_asks (OneFile file (command.Bound chains)) (free, (name, is)) = absurd (other_letter 112 98 _ _ refl name.0)
-strong_asks (OneFile file command.Check) (free, (name, is)) = absurd (other_letter 112 99 _ _ refl name)
+strong_asks (OneFile file (command.Check any_size)) (free, (name, is)) = absurd (other_letter 112 99 _ _ refl name.0)
 strong_asks (Audit names settings) (free, (name, size, files, has)) = absurd (other_letter 112 97 _ _ refl name)
 strong_asks (Follow names settings) (free, (name, size, ordered, twice, files, has)) = absurd (other_letter 112 102 _ _ refl name)
 strong_asks (Solve names settings quiet progress) (free, (name, size, twice, files, has, a, b)) = absurd (other_letter 112 115 _ _ refl name)

@@ -19,7 +19,7 @@ abbrev pub IsStrongSearch : ℕ → Job → Type 0
 IsStrongSearch width (OneFile file (Prove search)) = (search.beam ≡ width) × (search.thin ≡ 10000) × IsTrue search.deepen × IsTrue search.chains
 IsStrongSearch width (OneFile file Replay) = ⊥
 IsStrongSearch width (OneFile file (Bound chains)) = ⊥
-IsStrongSearch width (OneFile file Check) = ⊥
+IsStrongSearch width (OneFile file (Check any_size)) = ⊥
 IsStrongSearch width (Audit names settings) = ⊥
 IsStrongSearch width (Follow names settings) = ⊥
 IsStrongSearch width (Solve names settings quiet progress) = ⊥

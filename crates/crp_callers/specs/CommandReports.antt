@@ -24,7 +24,7 @@ use Rattle.crp_commands.specs.Prove.{IsSomeProof}
 abbrev pub IsReportOf : FileCommand → List ℕ → List ℕ → Type 0
 IsReportOf Replay bytes text = IsReplay bytes text
 IsReportOf (Bound chains) bytes text = IsBound chains bytes text
-IsReportOf Check bytes text = IsCheck bytes text
+IsReportOf (Check any_size) bytes text = IsCheck bytes text
 IsReportOf (Prove search) bytes text = IsSomeProof search bytes text
 
 -- the report ends with a line of chains, and no plan has fewer relocations than the number in it

@@ -77,7 +77,7 @@ pub fn checked(
     ensures noted { OnOk result (lines.new.bytes.items ≢ [] → notes.new.bytes.items ≡ []) }
 {
     let mut source = certificates;
-    check(alloc, &mut source, lines, notes)
+    check(alloc, &mut source, lines, notes, false)
 }
 
 /// An audit over texts ends well where they are a headline, and then its text is written; where it refuses them, they have that first fault,

@@ -20,7 +20,7 @@ use Rattle.crp_audit.specs.Faults.{IsAuditRefusal}
 use Rattle.crp_audit.specs.declared.fault.AuditFault.{AuditFault}
 use Rattle.crp_audit.specs.declared.fault.AuditFault.TheVariants as audited
 use Rattle.crp_commands.specs.declared.auditing.TheConstants.{MOST_REPORT}
-use Rattle.crp_commands.specs.declared.heads.TheConstants.{MOST_BYTES}
+use Rattle.crp_commands.specs.declared.heads.TheConstants.{ANY_SIZE}
 use Rattle.crp_jobs.specs.declared.job.AuditFiles.{AuditFiles}
 use Rattle.crp_jobs.specs.declared.outcome.Statement.{Statement}
 use Rattle.crp_jobs.specs.declared.outcome.Statement.TheVariants as statement
@@ -57,7 +57,7 @@ pub record IsInputOf (chosen : InputChosen) (yard movins : SourceSeen) (stands :
 -- the most bytes that are read of what is audited
 abbrev pub most_of : Statement → ℕ
 most_of statement.Report = MOST_REPORT
-most_of statement.Certificates = MOST_BYTES
+most_of statement.Certificates = ANY_SIZE
 
 -- this is what the sources had: the input, a report, and certificates, however many bytes these are
 pub record IsHandedIn (chosen : InputChosen) (s : AuditSeen) (h : Handed) : Type 0 where
@@ -84,7 +84,7 @@ IsAuditText h text = ((is : IsHeadline h) × (text ≡ audit_text (shown_in h is
 
 -- what is handed in is a headline, with no more certificates than are read, its text was written, and nothing else
 abbrev pub Audits : InputChosen → AuditSeen → Type 0
-Audits chosen s = (h : Handed) × IsHandedIn chosen s h × (length h.certificates ≤ MOST_BYTES) × ((is : IsHeadline h) × Gets s.out (audit_text (shown_in h is)))
+Audits chosen s = (h : Handed) × IsHandedIn chosen s h × (length h.certificates ≤ ANY_SIZE) × ((is : IsHeadline h) × Gets s.out (audit_text (shown_in h is)))
 
 -- ---- a no
 

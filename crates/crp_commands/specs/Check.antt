@@ -1,5 +1,5 @@
 -- What `check` writes: a line for each certificate of a file as it ends, and what its faults state.
-use Rattle.std.specs.Prelude.{◌≡◌, ◌≢◌, ℕ, ◌<◌, ◌≤◌, ◌⊎◌, List, [], ◌∷◌, ◌++◌, length, Option, Some, None, IfSome, codes, decimal}
+use Rattle.std.specs.Prelude.{◌≡◌, ◌≢◌, ℕ, ◌<◌, ◌≤◌, ◌⊎◌, Bool, if◌then◌else◌, List, [], ◌∷◌, ◌++◌, length, Option, Some, None, IfSome, codes, decimal}
 use Rattle.std.specs.List.{AllByRecursion, flat_map}
 use Rattle.std.specs.Io.KnownBytes.{Appends}
 use Rattle.crp_plan.specs.BayNames.{YardBay}
@@ -14,6 +14,7 @@ use Rattle.crp_checker.specs.FedFiles.{IsEndedFront}
 use Rattle.crp_jobs.specs.declared.outcome.ToolFault.{ToolFault}
 use Rattle.crp_jobs.specs.declared.outcome.ToolFault.TheVariants as fault
 use Rattle.crp_said.specs.Said.{bay_words}
+use Rattle.crp_commands.specs.declared.heads.TheConstants.{ANY_SIZE, MOST_BYTES}
 use Rattle.crp_commands.specs.Calls.{CallSeen, IsTextWithin}
 
 -- the relocations of the plan, if there is one
@@ -35,6 +36,10 @@ verdict_line stated = bay_words stated.0 ++ (verdict_words stated.1 ++ 10 ∷ []
 -- a line for each, in order
 abbrev pub verdict_lines : List (YardBay × Verdict) → List ℕ
 verdict_lines stated = flat_map verdict_line stated
+
+-- the most bytes of a file of certificates that is checked: where it may have any size, more than any file has
+abbrev pub most_bytes : Bool → ℕ
+most_bytes any_size = if any_size then ANY_SIZE else MOST_BYTES
 
 -- the lines of a file whose certificates are all accepted
 abbrev pub IsCheck : List ℕ → List ℕ → Type 0

@@ -18,7 +18,7 @@ use Rattle.crp_commands.specs.Calls.{CallSeen, call_failures, most_call_failures
 use Rattle.crp_yard.specs.Reading.{IsTextOf}
 use Rattle.crp_commands.specs.Replay.{IsReplay, IsNoReplay}
 use Rattle.crp_commands.specs.Bound.{IsBound, IsNoBound}
-use Rattle.crp_commands.specs.Check.{IsCheck, CheckFailsWith}
+use Rattle.crp_commands.specs.Check.{IsCheck, CheckFailsWith, most_bytes}
 use Rattle.crp_commands.specs.Prove.{IsProof, IsSomeProof, IsNoProof}
 use Rattle.crp_files.specs.Known.{KnownFiles}
 use Rattle.crp_commands.specs.declared.heads.TheConstants.{MOST_BYTES}
@@ -28,14 +28,14 @@ use Rattle.crp_commands.specs.declared.streams.Streams.{Streams}
 abbrev pub Performs : FileCommand → Status → CallSeen → Type 0
 Performs command.Replay ended s = (ended ≡ status.Decided) × WritesReport IsTextOf IsReplay s
 Performs (command.Bound chains) ended s = (ended ≡ status.Decided) × WritesReport IsTextOf (IsBound chains) s
-Performs command.Check ended s = (ended ≡ status.Decided) × WritesReport (IsTextWithin MOST_BYTES) IsCheck s
+Performs (command.Check any_size) ended s = (ended ≡ status.Decided) × WritesReport (IsTextWithin (most_bytes any_size)) IsCheck s
 Performs (command.Prove search) ended s = WritesReport IsTextOf (IsProof search ended) s
 
 -- what a fault says of the command
 abbrev pub CommandFailsWith : FileCommand → CallSeen → ToolFault → Type 0
 CommandFailsWith command.Replay s f = CallFailsWith MOST_BYTES IsReplay IsNoReplay s f
 CommandFailsWith (command.Bound chains) s f = CallFailsWith MOST_BYTES (IsBound chains) IsNoBound s f
-CommandFailsWith command.Check s f = CheckFailsWith MOST_BYTES s f
+CommandFailsWith (command.Check any_size) s f = CheckFailsWith (most_bytes any_size) s f
 CommandFailsWith (command.Prove search) s f = CallFailsWith MOST_BYTES (IsSomeProof search) IsNoProof s f
 
 -- what a call saw, of a source and of a sink

@@ -9,13 +9,13 @@ ghost use Rattle.crp_report.specs.BayTexts.{AreFailuresCounted};
 ghost use Rattle.crp_report.specs.Runs.{SourceSeen, SinkSeen, Gets, GetsNothing, failures_of_fault, sink_seen, source_seen};
 ghost use Rattle.crp_audit.specs.Headline.{Handed, handed, IsHeadline, shown_in};
 ghost use Rattle.crp_audit.specs.Stops.{IsAuditStop, failures_of_stop};
-ghost use Rattle.crp_commands.specs.declared.heads.TheConstants.{MOST_BYTES};
+ghost use Rattle.crp_commands.specs.declared.heads.TheConstants.{ANY_SIZE};
 ghost use Rattle.crp_commands.specs.Audit.{AuditSeen, AuditEnds, AuditFails, IsInputOf, IsNoInput, IsNoStatement, StopsOn, audit_text};
 ghost use Rattle.crp_commands.specs.Calls.{IsTextWithin, failures_of_tool_fault};
 ghost use Rattle.crp_commands.specs.Check.{verdict_lines};
 
 use crate::checking::push_verdict;
-use crate::heads::MOST_BYTES;
+use crate::heads::ANY_SIZE;
 use crp_audit::{AuditStop, AuditStopped};
 use crp_cert::push_decimal;
 use crp_checker::Verdicts;
@@ -132,7 +132,7 @@ fn stop<W: Sink>(
 ) -> ToolFault
     requires { interruptions.old ≤ most_interruptions }
     ensures stated { let out_seen : SinkSeen = sink_seen W.contents W.failures out.old out.new in
-        (h : Handed) (given : Option (List ℕ)) (before after : ℕ) → IsTextOf given h.certificates → IsAuditStop h MOST_BYTES before after stopped.before stopped.stop
+        (h : Handed) (given : Option (List ℕ)) (before after : ℕ) → IsTextOf given h.certificates → IsAuditStop h ANY_SIZE before after stopped.before stopped.stop
         → (GetsNothing out_seen × IsNoStatement Statement.Certificates (record { given = given; before = before; after = after }) result) ⊎ StopsOn h out_seen result }
     ensures counted { W.failures out.new + interruptions.old + failures_of_stop stopped.stop ≤ W.failures out.old + interruptions.new + failures_of_tool_fault result }
     ensures count { W.failures out.old ≤ W.failures out.new }
@@ -167,7 +167,7 @@ fn audit_input<C: Source, W: Sink>(
     ensures ended { let out_seen : SinkSeen = sink_seen W.contents W.failures out.old out.new in
         let given : SourceSeen = source_seen C.remaining C.failures certificates.old certificates.new in
         MatchResult result
-        (λ _. (text : List ℕ) × IsTextWithin MOST_BYTES given.given text × ((is : IsHeadline (handed input.now.yard input.now.orders input.now.sequence report.now text))
+        (λ _. (text : List ℕ) × IsTextWithin ANY_SIZE given.given text × ((is : IsHeadline (handed input.now.yard input.now.orders input.now.sequence report.now text))
         × Gets out_seen (audit_text (shown_in (handed input.now.yard input.now.orders input.now.sequence report.now text) is))))
         (λ fault. (GetsNothing out_seen × IsNoStatement Statement.Certificates given fault)
         ⊎ ((text : List ℕ) × IsTextOf given.given text × StopsOn (handed input.now.yard input.now.orders input.now.sequence report.now text) out_seen fault)) }
@@ -185,7 +185,7 @@ fn audit_input<C: Source, W: Sink>(
         &input.sequence,
         report,
         certificates,
-        MOST_BYTES,
+        ANY_SIZE,
         interruptions,
     ) {
         Ok(shown) => {

@@ -1,16 +1,15 @@
 //! The command `check`: from the bytes of a file of certificates to a line for each.
 ghost use Rattle.std.specs.Prelude.{◌≡◌, ◌≤◌, ◌<◌, ◌+◌, ◌^◌, ◌++◌, true, false, length, take, IfOk, IfErr, OnOk, MatchResult};
 ghost use Rattle.std.specs.Io.KnownBytes.{Appends, IsAtEnd};
-ghost use Rattle.crp_commands.specs.declared.heads.TheConstants.{MOST_BYTES};
 ghost use Rattle.crp_plan.specs.Devices.{most_interruptions};
 ghost use Rattle.crp_commands.specs.Calls.{CallSeen, call_failures, failures_of_tool_fault, most_call_failures, IsTextWithin, WritesReport};
-ghost use Rattle.crp_commands.specs.Check.{plan_words, verdict_words, verdict_line, fault_of_refusal, IsCheck, CheckFailsWith};
+ghost use Rattle.crp_commands.specs.Check.{plan_words, verdict_words, verdict_line, fault_of_refusal, IsCheck, CheckFailsWith, most_bytes};
 ghost use Rattle.crp_report.specs.Runs.{SinkSeen, sink_seen};
 ghost use Rattle.crp_jobs.specs.Opened.{IsLeftAlone};
 ghost use Rattle.crp_commands.specs.Noted.{TellsWhetherEmpty};
 ghost use Rattle.crp_commands.specs.Checks.{TextFailsWith, IsChecking, ChecksPiece, PieceFailsWith, CheckHasGoneOn, CheckStopsAt};
 
-use crate::heads::MOST_BYTES;
+use crate::heads::{ANY_SIZE, MOST_BYTES};
 use crate::noting::note_if_none;
 use crp_cert::push_decimal;
 use crp_checker::{Fed, FileChecker, Refused, Verdict};
@@ -211,6 +210,14 @@ fn check_next<R: Source, W: Sink>(
     Ok(true)
 }
 
+/// The most bytes of a file of certificates that is checked.
+fn most_bytes(any_size: bool) -> usize
+    ensures value { result ≡ most_bytes any_size }
+    ensures few { result < 2 ^ 64 - 1 }
+{
+    if any_size { ANY_SIZE } else { MOST_BYTES }
+}
+
 /// Writes for each certificate of a source's bytes whose it is and what it shows, as soon as it has ended. A fault comes after
 /// the lines of the certificates that ended before. Where no certificate is there, `errors` gets a note that says so, and nothing else.
 pub fn check<R: Source, W: Sink, E: Sink>(
@@ -218,6 +225,7 @@ pub fn check<R: Source, W: Sink, E: Sink>(
     reader: &mut R,
     writer: &mut W,
     errors: &mut E,
+    any_size: bool,
 ) -> Result<Status, ToolFault>
     ensures done { let seen : CallSeen = record {
       given = R.remaining reader.old;
@@ -228,15 +236,15 @@ pub fn check<R: Source, W: Sink, E: Sink>(
       sink_before = W.failures writer.old;
       sink_after = W.failures writer.new;
     } in MatchResult result
-        (λ status. ((status ≡ Status.Decided) × WritesReport (IsTextWithin MOST_BYTES) IsCheck seen) × (call_failures seen ≤ most_interruptions))
-        (λ fault. CheckFailsWith MOST_BYTES seen fault × (call_failures seen ≤ most_call_failures fault)) }
+        (λ status. ((status ≡ Status.Decided) × WritesReport (IsTextWithin (most_bytes any_size)) IsCheck seen) × (call_failures seen ≤ most_interruptions))
+        (λ fault. CheckFailsWith (most_bytes any_size) seen fault × (call_failures seen ≤ most_call_failures fault)) }
     ensures noted { let lines : SinkSeen = sink_seen W.contents W.failures writer.old writer.new
         in let noted : SinkSeen = sink_seen E.contents E.failures errors.old errors.new
         in MatchResult result (λ _. TellsWhetherEmpty lines noted) (λ _. IsLeftAlone noted) }
 {
     let mut files = FileChecker::new(alloc);
     let mut number = 1;
-    let mut left = MOST_BYTES;
+    let mut left = most_bytes(any_size);
     let mut interruptions = 0;
     while check_next(
         alloc,

@@ -13,6 +13,9 @@ use std::alloc::Global;
 /// The most bytes of a certificate file.
 pub const MOST_BYTES: usize = 268_435_456;
 
+/// More bytes than any file has.
+pub const ANY_SIZE: usize = 9_223_372_036_854_775_808;
+
 /// The head that a source's bytes begin with.
 pub fn head_from<R: Source>(
     alloc: Global,

@@ -28,7 +28,7 @@ pub use bounding::bound;
 pub use checking::check;
 pub use crp_notes::{NoTerminal, Terminal};
 pub use following::{FollowSettings, follow};
-pub use heads::MOST_BYTES;
+pub use heads::{ANY_SIZE, MOST_BYTES};
 pub use over_files::run_job;
 pub use performing::perform;
 pub use proving::prove;

@@ -41,7 +41,7 @@ pub fn perform<T: Threads + Wait + Sync, R: Source, W: Sink, E: Sink>(
     match command {
         FileCommand::Replay => replay(alloc, reader, writer),
         FileCommand::Bound { chains } => bound(alloc, reader, writer, *chains),
-        FileCommand::Check => check(alloc, reader, writer, errors),
+        FileCommand::Check { any_size } => check(alloc, reader, writer, errors, *any_size),
         FileCommand::Prove(search) => prove(rt, alloc, reader, writer, *search),
     }
 }

@@ -13,8 +13,6 @@ pub(crate) const MEMORY: &str =
 const CERTIFICATE_NOT_READ: &str =
     "the certificate could not be read: it must be there, be a file and no folder, and you must be allowed to read it";
 
-const CERTIFICATES_TOO_LARGE: &str = "a file of certificates may have at most 268435456 bytes";
-
 // Of a report and its certificates.
 fn advice_on_audit(fault: &AuditFault) -> &'static str
     ensures { IsPlainLine result.now }
@@ -74,7 +72,9 @@ pub fn advice_on(fault: &ToolFault) -> &'static str
         }
         ToolFault::ReadOf(Statement::Certificates) => CERTIFICATE_NOT_READ,
         ToolFault::TooLargeOf(Statement::Report) => "a report may have at most 16777216 bytes",
-        ToolFault::TooLargeOf(Statement::Certificates) => CERTIFICATES_TOO_LARGE,
+        ToolFault::TooLargeOf(Statement::Certificates) => {
+            "certificates may have at most 9223372036854775808 bytes"
+        }
         ToolFault::Read => CERTIFICATE_NOT_READ,
         ToolFault::Write => {
             "the output could not be written: its disk must not be full, and the program that reads it must not have ended"
@@ -85,7 +85,7 @@ pub fn advice_on(fault: &ToolFault) -> &'static str
         ToolFault::WritePage => {
             "the page could not be written: the folder must be there and let you write, and its disk must not be full"
         }
-        ToolFault::TooLarge => CERTIFICATES_TOO_LARGE,
+        ToolFault::TooLarge => "a file of certificates may have at most 268435456 bytes",
         ToolFault::OneFile(_) => {
             "each file needs a name of its own, since what is written is emptied first"
         }

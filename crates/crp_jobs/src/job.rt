@@ -14,7 +14,10 @@ pub enum FileCommand {
         chains: bool,
     },
     /// To check a file of certificates.
-    Check,
+    Check {
+        /// Whether it may have any size.
+        any_size: bool,
+    },
     /// To solve the problem of a certificate's head, by this search.
     Prove(Settings),
 }

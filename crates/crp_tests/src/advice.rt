@@ -76,7 +76,7 @@ fn unseen() -> [(ToolFault, &'static str, &'static str); 14] {
         (
             ToolFault::TooLargeOf(Statement::Certificates),
             "the certificates: too many bytes",
-            "a file of certificates may have at most 268435456 bytes",
+            "certificates may have at most 9223372036854775808 bytes",
         ),
         (
             ToolFault::Followed(FollowFault::TooLong),

@@ -30,7 +30,15 @@ pub(crate) fn check<R: Source, W: Sink>(
     reader: &mut R,
     writer: &mut W,
 ) -> Result<Status, ToolFault> {
-    crp_commands::check(alloc, reader, writer, &mut Nowhere)
+    crp_commands::check(alloc, reader, writer, &mut Nowhere, false)
+}
+
+pub(crate) fn check_any<R: Source, W: Sink>(
+    alloc: Global,
+    reader: &mut R,
+    writer: &mut W,
+) -> Result<Status, ToolFault> {
+    crp_commands::check(alloc, reader, writer, &mut Nowhere, true)
 }
 
 pub(crate) fn prove<T: Threads + Wait + Sync, R: Source, W: Sink>(

@@ -1,7 +1,7 @@
 //! Checks of as many bytes as a file of certificates may have, and of more.
 ghost use Rattle.std.specs.Prelude.{None};
 
-use crate::calls::check;
+use crate::calls::{check, check_any};
 use crate::compare::{assert_same, assert_same_at};
 use crp_cert::CertFault;
 use crp_checker::Refused;
@@ -165,5 +165,15 @@ fn one_byte_more_is_too_large(rt: HostRuntime) -> Result<(), Fail> {
         assert_same_at(&rt, &answer, &Err(fault), &length);
         assert_same_at(&rt, &lines.all, &1, &length);
     }
+    Ok(())
+}
+
+#[test]
+fn a_file_of_any_size(rt: HostRuntime) -> Result<(), Fail> {
+    let mut lines = Lines { all: 0, right: 0 };
+    let mut source = Long::of(ONE_MORE, 268435457);
+    let answer = check_any(rt.alloc(), &mut source, &mut lines);
+    assert_same(&rt, &answer, &Err(REFUSED));
+    assert_same(&rt, &lines.all, &1);
     Ok(())
 }

@@ -19,7 +19,7 @@ follow_asks : (rows : List Row) (j : Job) → Asks (codes "follow") rows j
     → IsClear rows × ((s : InputChosen) × HasInput rows s) × ((names : FollowFiles) × HasFollowFiles rows names)
 follow_asks rows (job.OneFile file command.Replay) asks = absurd (other_name 102 114 _ _ (omega arith) asks.0)
 follow_asks rows (job.OneFile file (command.Bound chains)) asks = absurd (other_name 102 98 _ _ (omega arith) asks.0.0)
-follow_asks rows (job.OneFile file command.Check) asks = absurd (other_name 102 99 _ _ (omega arith) asks.0)
+follow_asks rows (job.OneFile file (command.Check any_size)) asks = absurd (other_name 102 99 _ _ (omega arith) asks.0.0)
 follow_asks rows (job.OneFile file (command.Prove search)) asks = absurd (other_name 102 112 _ _ (omega arith) asks.0.0)
 follow_asks rows (job.Audit names settings) asks = absurd (other_name 102 97 _ _ (omega arith) asks.0)
 follow_asks rows (job.Follow names settings) asks = ((asks.1, asks.2, asks.3), (settings, asks.5), (names, asks.4))

@@ -136,6 +136,10 @@ with_page shape = with_option (optional_rule (codes "page")) shape
 abbrev pub bound : Shape
 bound = with_option chains_rule (leaf (codes "bound"))
 
+-- check FILE [--any-size]
+abbrev pub check : Shape
+check = with_option (flag_rule (codes "any-size")) (leaf (codes "check"))
+
 -- prove FILE, with the options of a search
 abbrev pub prove : Shape
 prove = with_search (leaf (codes "prove"))
@@ -177,7 +181,7 @@ top_command = record (new_shape (codes "crp")) {
 abbrev pub leaves : App
 leaves = record {
   top = record top_command { is_leaf = false };
-  subs = leaf (codes "replay") ∷ bound ∷ leaf (codes "check") ∷ [];
+  subs = leaf (codes "replay") ∷ bound ∷ check ∷ [];
 }
 
 -- the command line of crp

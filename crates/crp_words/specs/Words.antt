@@ -261,13 +261,17 @@ MayShowProgress found progress = IsTrue progress ↔ IsGivenByWords (codes "prog
 abbrev pub MayWriteChains : List Row → Bool → Type 0
 MayWriteChains found chains = IsTrue chains ↔ IsGivenByWords (codes "chains") found
 
+-- a file of certificates may have any size exactly where the words give the flag
+abbrev pub MayBeAnySize : List Row → Bool → Type 0
+MayBeAnySize found any_size = IsTrue any_size ↔ IsGivenByWords (codes "any-size") found
+
 -- ---- the job, or the first setting beyond its limits
 
 -- the command over one file and its rows ask for this
 abbrev pub AsksCommand : Text → List Row → FileCommand → Type 0
 AsksCommand name found command.Replay = name ≡ codes "replay"
 AsksCommand name found (command.Bound chains) = (name ≡ codes "bound") × MayWriteChains found chains
-AsksCommand name found command.Check = name ≡ codes "check"
+AsksCommand name found (command.Check any_size) = (name ≡ codes "check") × MayBeAnySize found any_size
 AsksCommand name found (command.Prove search) = (name ≡ codes "prove") × HasSearch found search
 
 -- the command and its rows ask for this

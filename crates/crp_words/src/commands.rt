@@ -1,7 +1,7 @@
 //! The command line: each command with its files and options.
 ghost use Rattle.std.specs.Prelude.{◌≡◌, IfOk};
 ghost use Rattle.clap.specs.Words.{App, Shape, app_of, with_subcommand};
-ghost use Rattle.crp_words.specs.Commands.{IsArg, IsCommand, alone, audit as audit_shape, audit_files as audit_files_shape, beam_rule, bound as bound_shape, budget_rule, chains_rule, crp, deepen_rule, file_rule, first_rule, flag_rule, follow as follow_shape, follow_files as follow_files_shape, leaf as leaf_shape, leaves, more_rule, number_rule, optional_rule, progress_rule, prove as prove_shape, quiet_rule, solve as solve_shape, solve_files as solve_files_shape, split_rule, strong_rule, text_rule, thin_rule, top_command as top_shape, with_orders, with_outputs, with_page, with_search, with_size, with_ways, workers_rule};
+ghost use Rattle.crp_words.specs.Commands.{IsArg, IsCommand, alone, audit as audit_shape, audit_files as audit_files_shape, beam_rule, budget_rule, chains_rule, crp, deepen_rule, file_rule, first_rule, flag_rule, follow as follow_shape, follow_files as follow_files_shape, leaf as leaf_shape, leaves, more_rule, number_rule, optional_rule, progress_rule, prove as prove_shape, quiet_rule, solve as solve_shape, solve_files as solve_files_shape, split_rule, strong_rule, text_rule, thin_rule, top_command as top_shape, with_option, with_orders, with_outputs, with_page, with_search, with_size, with_ways, workers_rule};
 
 use clap::{Arg, ArgAction, Command, value_parser};
 use std::alloc::{AllocError, Global};
@@ -207,21 +207,19 @@ fn with_search<'a>(alloc: Global, command: Command<'a>) -> Result<Command<'a>, A
         .arg(strong(alloc))
 }
 
-// The command `bound`.
-fn bound<'a>(alloc: Global) -> Result<Command<'a>, AllocError>
-    ensures { IfOk result (IsCommand bound_shape) }
+// A command that takes a file, and this flag alone.
+fn leaf_with_flag<'a>(
+    alloc: Global,
+    name: &'a str,
+    about: &'a str,
+    help: &'a str,
+    flagged: &'a str,
+    flag_help: &'a str,
+) -> Result<Command<'a>, AllocError>
+    ensures { IfOk result (IsCommand (with_option (flag_rule flagged.entry.now) (leaf_shape name.entry.now))) }
 {
-    let command = leaf(
-        alloc,
-        "bound",
-        "Print two lower bounds on the relocations of a certificate's bay",
-        HEAD,
-    )?;
-    command.arg(flag(
-        alloc,
-        "chains",
-        "Print also one by chains of containers that block, with their ranks",
-    ))
+    let command = leaf(alloc, name, about, help)?;
+    command.arg(flag(alloc, flagged, flag_help))
 }
 
 // The command `prove`.
@@ -439,14 +437,22 @@ fn with_leaves<'a>(alloc: Global) -> Result<Command<'a>, AllocError>
         "Print the moves of a certificate's plan",
         HEAD,
     )?;
-    let line = line.subcommand(bound(alloc)?)?;
-    with_leaf(
+    line.subcommand(leaf_with_flag(
         alloc,
-        line,
+        "bound",
+        "Print two lower bounds on the relocations of a certificate's bay",
+        HEAD,
+        "chains",
+        "Print also one by chains of containers that block, with their ranks",
+    )?)?
+    .subcommand(leaf_with_flag(
+        alloc,
         "check",
         "Check a file of certificates",
         "Certificates, or - for the standard input",
-    )
+        "any-size",
+        "Take more than 268435456 bytes too",
+    )?)
 }
 
 /// The whole command line.

@@ -133,7 +133,9 @@ fn leaf_of<'a>(alloc: Global, name: &str, matches: &ArgMatches<'a>) -> Result<Jo
         "bound" => FileCommand::Bound {
             chains: is_given(matches, "chains"),
         },
-        "check" => FileCommand::Check,
+        "check" => FileCommand::Check {
+            any_size: is_given(matches, "any-size"),
+        },
         _ => return Err(wrong(alloc, "error: there is no such command\n")),
     };
     Ok(Job::OneFile { file, command })

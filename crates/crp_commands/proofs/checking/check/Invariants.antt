@@ -1,8 +1,8 @@
 -- What was read of the source was checked.
 use Rattle.std.proofs.Common.{◌+◌, ◌≤◌}
 use Rattle.crp_plan.specs.Devices.{most_interruptions}
+use Rattle.crp_commands.specs.Check.{most_bytes}
 use Rattle.crp_commands.specs.Checks.{StandsAfter}
-use Rattle.crp_commands.specs.declared.heads.TheConstants.{MOST_BYTES}
 use Rattle.crp_commands.proofs.checking.check.Given as goal
 
 abbrev pub invariant-loop-files : goal.invariant-loop-files
@@ -12,8 +12,8 @@ invariant-loop-files g l =
     let contents = g.W.Sink.contents in
     let writes = g.W.Sink.failures in
     record {
-      stands : StandsAfter (remaining l.initial.reader) (contents l.initial.writer) MOST_BYTES (record { remaining = remaining l.reader; holds = contents l.writer; files = l.files; number = l.number; left = l.left });
-      room : l.number + l.left ≤ MOST_BYTES + 1;
+      stands : StandsAfter (remaining l.initial.reader) (contents l.initial.writer) (most_bytes l.any_size) (record { remaining = remaining l.reader; holds = contents l.writer; files = l.files; number = l.number; left = l.left });
+      room : l.number + l.left ≤ (most_bytes l.any_size) + 1;
       counted : reads l.reader + writes l.writer ≤ reads l.initial.reader + writes l.initial.writer + l.interruptions;
       source : reads l.initial.reader ≤ reads l.reader;
       sink : writes l.initial.writer ≤ writes l.writer;
