@@ -1,0 +1,3 @@
+mod Repeating
+mod Saying
+mod InForce

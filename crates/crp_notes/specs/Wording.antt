@@ -37,6 +37,10 @@ messages_note messages = note_of (
     codes "the interchange has " ∷ decimal messages
     ∷ codes " messages, and --order stowage mixes their containers: put each into a file of its own if they are for different ships" ∷ [])
 
+-- so many orders name a slot that another order of their message names too, and the first of these slots
+abbrev pub slots_note : ℕ → List (List ℕ) → Bool → List ℕ
+slots_note count slots more = note_of (decimal count ∷ codes " orders name a slot that another order of their message names too: " ∷ listed slots more ∷ [])
+
 -- ordered containers are not in the yard: so many, and the first of them
 abbrev pub absent_note : ℕ → List (List ℕ) → Bool → List ℕ
 absent_note count names more = note_of (
@@ -57,6 +61,12 @@ rows_note rows highest = note_of (
 -- a bay is left open
 abbrev pub open_note : YardBay → List ℕ → List ℕ
 open_note bay advice = note_of (codes "bay " ∷ bay.block ∷ codes " " ∷ decimal bay.bay ∷ codes " is left open, since " ∷ advice ∷ [])
+
+-- a bay has no plan
+abbrev pub no_plan_note : YardBay → List ℕ
+no_plan_note bay = note_of (
+    codes "bay " ∷ bay.block ∷ codes " " ∷ decimal bay.bay
+    ∷ codes " has no plan, since its rows and tiers leave no room to reach what is ordered: if it has more, say so by --rows, --tiers or --heights, or choose another order of leaving by --order" ∷ [])
 
 -- the file of certificates has grown past so many bytes
 abbrev pub size_note : ℕ → YardBay → List ℕ

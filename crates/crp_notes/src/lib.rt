@@ -1,15 +1,20 @@
 //! What a run noticed of its input and its bays, as lines for the planner.
 //!
 //! `Notes` watches a run and writes its notes to standard error, and how far it is to a `Terminal`; nothing of the report rests on them. How each note is worded is said
-//! in `specs/Wording.antt`, and which names are alike in `specs/Alike.antt`.
+//! in `specs/Wording.antt`, which names are alike in `specs/Alike.antt`, which slots several orders of a message name in
+//! `specs/Slots.antt`, and what is noted of a bay in `specs/Bays.antt`.
 #![tactic(auto)]
 
+mod bays;
 mod containers;
 mod lines;
 mod message;
+mod naming;
 mod notes;
 mod progress;
 mod rows;
+mod slots;
+mod standing;
 mod terminal;
 mod wording;
 

@@ -1,7 +1,11 @@
 //! What the messages of an interchange say of themselves.
-ghost use Rattle.std.specs.Prelude.{◌≤◌, ◌<◌, ◌+◌, ◌^◌, length};
+ghost use Rattle.std.specs.Prelude.{◌≡◌, ◌≤◌, ◌<◌, ◌+◌, ◌^◌, length, codes};
+ghost use Rattle.std.specs.Str.{bytes_eq};
+ghost use Rattle.crp_movins.specs.Kinds.{names_slot, names_container};
+ghost use Rattle.crp_movins.specs.Places.{segment_numbered};
+ghost use Rattle.crp_notes.specs.Messages.{IsSaid};
 
-use edi_text::Segments;
+use edi_text::{Segment, Segments};
 use std::alloc::{AllocError, Global};
 
 /// The most names that a note lists.
@@ -70,26 +74,90 @@ pub(crate) enum Says<'a> {
     Function(&'a [u8]),
     /// This handling code is in force from here on.
     Code(&'a [u8]),
+    /// A group of orders to this slot of the ship begins.
+    Slot(&'a [u8]),
+    /// A container belongs to the group.
+    Container,
     /// Something else.
     Other,
 }
 
-/// What the segment with this number says.
-pub(crate) fn said_by(segments: &Segments, number: usize) -> Says<'_> {
-    let Some(segment) = segments.segment(number) else {
-        return Says::Other;
-    };
+// The bytes are this text.
+fn is_text(bytes: &[u8], text: &[u8]) -> bool
+    ensures { result ≡ bytes_eq bytes.now text.now }
+{
+    bytes == text
+}
+
+// A place on board of the ship.
+fn names_slot(segment: &Segment) -> bool
+    ensures { result ≡ names_slot segment.now }
+{
+    is_text(segment.component(1, 1), b"147")
+}
+
+// A container with a name.
+fn names_container(segment: &Segment) -> bool
+    ensures { result ≡ names_container segment.now }
+{
+    is_text(segment.component(1, 1), b"CN") && !segment.component(2, 1).is_empty()
+}
+
+// What a LOC says.
+fn slot_said<'a>(segment: &Segment<'a>) -> Says<'a>
+    requires { segment.now.tag ≡ codes "LOC" }
+    ensures { IsSaid segment.now result }
+{
+    if names_slot(segment) {
+        Says::Slot(segment.component(2, 1))
+    } else {
+        Says::Other
+    }
+}
+
+// What an EQD says.
+fn container_said<'a>(segment: &Segment<'a>) -> Says<'a>
+    requires { segment.now.tag ≡ codes "EQD" }
+    ensures { IsSaid segment.now result }
+{
+    if names_container(segment) {
+        Says::Container
+    } else {
+        Says::Other
+    }
+}
+
+// What a segment says.
+fn said<'a>(segment: &Segment<'a>) -> Says<'a>
+    ensures { IsSaid segment.now result }
+{
     let tag = segment.tag();
-    if tag == b"UNH".as_slice() {
+    if is_text(tag, b"UNH") {
         return Says::Begins;
     }
-    if tag == b"BGM".as_slice() {
+    if is_text(tag, b"BGM") {
         return Says::Function(segment.component(3, 1));
     }
-    if tag == b"HAN".as_slice() {
+    if is_text(tag, b"HAN") {
         return Says::Code(segment.component(1, 1));
     }
+    if is_text(tag, b"LOC") {
+        return slot_said(segment);
+    }
+    if is_text(tag, b"EQD") {
+        return container_said(segment);
+    }
     Says::Other
+}
+
+/// What the segment with this number says.
+pub(crate) fn said_by(segments: &Segments, number: usize) -> Says<'_>
+    ensures { IsSaid (segment_numbered segments.now number) result }
+{
+    match segments.segment(number) {
+        Some(segment) => said(&segment),
+        None => Says::Other,
+    }
 }
 
 /// How many messages have begun, with the segment that says this.
@@ -99,7 +167,8 @@ pub(crate) fn counted(messages: usize, says: &Says<'_>) -> usize
 {
     match says {
         Says::Begins => messages + 1,
-        Says::Function(_) | Says::Code(_) | Says::Other => messages,
+        Says::Function(_) | Says::Code(_) | Says::Slot(_) | Says::Container | Says::Other =>
+            messages,
     }
 }
 

@@ -1,30 +1,28 @@
 //! The notes of a run.
 ghost use Rattle.crp_report.specs.Watching.{ShowsMore};
 
+use crate::bays::bay_note;
 use crate::containers::{absent_names, alike};
 use crate::lines::Lines;
 use crate::message::{
     MAX_LISTED, Says, counted, handling_codes, is_original, messages, said_by, words_of,
 };
+use crate::naming::namings;
 use crate::progress::{Progress, bay_line};
 use crate::rows::highest_row;
+use crate::slots::shared_slots;
 use crate::terminal::Terminal;
 use crate::wording::{
-    absent_note, alike_note, codes_note, function_note, messages_note, no_codes_note, open_note,
-    rows_note, size_note,
+    absent_note, alike_note, codes_note, function_note, messages_note, no_codes_note, rows_note,
+    size_note, slots_note,
 };
 use crp_order::{BayProblem, Mode, Sequence};
 use crp_plan::Sink;
 use crp_report::{RunSettings, Watch, show};
-use crp_solve::{Answer, Cause, Solved};
+use crp_solve::{Answer, Solved};
 use crp_yard::Yard;
 use edi_text::Segments;
 use std::alloc::Global;
-
-const BUDGET: &[u8] =
-    b"its budget was spent: a larger --budget decides more, more --workers are faster, and --strong helps in large bays";
-
-const MEMORY: &[u8] = b"memory ran out: close other programs, or use a machine with more memory";
 
 /// The notes of a run: what was noticed of its input and of its bays; and how far it is.
 #[derive(Drop)]
@@ -110,6 +108,25 @@ impl<'a, T: Terminal> Notes<'a, T> {
         }
     }
 
+    // Slots that several orders of one message name.
+    fn slots<E: Sink>(&mut self, alloc: Global, segments: &Segments, code: &[u8], errors: &mut E)
+        ensures { ShowsMore (E.contents errors.old) (E.contents errors.new) }
+    {
+        let Ok(namings) = namings(alloc, segments, code) else {
+            return;
+        };
+        let Ok((orders, slots)) = shared_slots(alloc, &namings) else {
+            return;
+        };
+        if slots.is_empty() {
+            return;
+        }
+        let first = &slots[..slots.len().min(MAX_LISTED)];
+        let more = slots.len() > MAX_LISTED;
+        self.lines
+            .note(errors, slots_note(alloc, orders, first, more));
+    }
+
     // A name that is like that of an absent container.
     fn alike_one<E: Sink>(&mut self, alloc: Global, yard: &Yard, name: &[u8], errors: &mut E)
         ensures { ShowsMore (E.contents errors.old) (E.contents errors.new) }
@@ -156,16 +173,12 @@ impl<'a, T: Terminal> Notes<'a, T> {
         }
     }
 
-    // A bay that is left open.
-    fn open<E: Sink>(&mut self, alloc: Global, bay: &BayProblem, answer: &Answer, errors: &mut E)
+    // A bay that is left open, or has no plan.
+    fn bay<E: Sink>(&mut self, alloc: Global, bay: &BayProblem, answer: &Answer, errors: &mut E)
         ensures { ShowsMore (E.contents errors.old) (E.contents errors.new) }
     {
-        if let Answer::Between { cause, .. } = answer {
-            let advice = match cause {
-                Cause::Budget => BUDGET,
-                Cause::Memory => MEMORY,
-            };
-            self.lines.note(errors, open_note(alloc, &bay.bay, advice));
+        if let Ok(Some(note)) = bay_note(alloc, &bay.bay, answer) {
+            self.lines.note(errors, Ok(note));
         }
     }
 
@@ -198,9 +211,11 @@ impl<'a, T: Terminal + Sync> Watch for Notes<'a, T> {
         settings: &RunSettings,
         errors: &mut E,
     ) {
+        let code = settings.input().code();
         self.functions(alloc, segments, errors);
-        self.codes(alloc, segments, sequence, settings.input().code(), errors);
+        self.codes(alloc, segments, sequence, code, errors);
         self.mixed(alloc, segments, settings.input().mode(), errors);
+        self.slots(alloc, segments, code, errors);
         self.absent(alloc, yard, sequence, errors);
         self.rows(alloc, yard, errors);
     }
@@ -234,7 +249,7 @@ impl<'a, T: Terminal + Sync> Watch for Notes<'a, T> {
         certificate: &[u8],
         errors: &mut E,
     ) {
-        self.open(alloc, bay, &solved.answer, errors);
+        self.bay(alloc, bay, &solved.answer, errors);
         self.size(alloc, bay, certificate, errors);
     }
 

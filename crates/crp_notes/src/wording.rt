@@ -1,6 +1,6 @@
 //! Words the notes.
 ghost use Rattle.std.specs.Prelude.{◌≡◌, [], ◌++◌, IfOk, OnOk, length, take, map, flat_map, nat_lt, codes, if◌then◌else◌};
-ghost use Rattle.crp_notes.specs.Wording.{note_of, quoted, listed, function_note, no_codes_note, codes_note, messages_note, absent_note, alike_note, rows_note, open_note, size_note, more_note};
+ghost use Rattle.crp_notes.specs.Wording.{note_of, quoted, listed, function_note, no_codes_note, codes_note, messages_note, absent_note, alike_note, rows_note, slots_note, open_note, no_plan_note, size_note, more_note};
 
 use crp_plan::BayName;
 use itoa::Buffer;
@@ -150,6 +150,25 @@ pub(crate) fn messages_note(alloc: Global, messages: usize) -> Result<Vec<u8>, A
     note_of(alloc, parts.as_slice())
 }
 
+/// So many orders name a slot that another order of their message names too, these slots first.
+pub(crate) fn slots_note(
+    alloc: Global,
+    count: usize,
+    slots: &[&[u8]],
+    more: bool,
+) -> Result<Vec<u8>, AllocError>
+    ensures { IfOk result (λ text. text.items ≡ slots_note count (map (λ slot. slot.now) slots.now) more) }
+{
+    let mut digits = Buffer::new();
+    let slots = listed(alloc, slots, more)?;
+    let parts: [&[u8]; 3] = [
+        digits.format(count).as_bytes(),
+        b" orders name a slot that another order of their message names too: ",
+        &slots,
+    ];
+    note_of(alloc, parts.as_slice())
+}
+
 // Behind the number of ordered containers that are not in the yard.
 fn absent_words(count: usize) -> &'static [u8]
     ensures { result.now ≡ (if nat_lt 1 count then codes " ordered containers are not in the yard: " else codes " ordered container is not in the yard: ") }
@@ -222,6 +241,21 @@ pub(crate) fn open_note(alloc: Global, bay: &BayName, advice: &[u8]) -> Result<V
         digits.format(bay.bay()).as_bytes(),
         b" is left open, since ",
         advice,
+    ];
+    note_of(alloc, parts.as_slice())
+}
+
+/// A bay has no plan.
+pub(crate) fn no_plan_note(alloc: Global, bay: &BayName) -> Result<Vec<u8>, AllocError>
+    ensures { IfOk result (λ text. text.items ≡ no_plan_note bay.now) }
+{
+    let mut digits = Buffer::new();
+    let parts: [&[u8]; 5] = [
+        b"bay ",
+        bay.block(),
+        b" ",
+        digits.format(bay.bay()).as_bytes(),
+        b" has no plan, since its rows and tiers leave no room to reach what is ordered: if it has more, say so by --rows, --tiers or --heights, or choose another order of leaving by --order",
     ];
     note_of(alloc, parts.as_slice())
 }

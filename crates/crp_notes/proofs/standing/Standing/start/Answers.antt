@@ -1,0 +1,8 @@
+use Rattle.std.proofs.Common.{refl}
+use Rattle.crp_movins.specs.Kinds.{kind_of}
+use Rattle.crp_movins.specs.Places.{kind_at}
+use Rattle.crp_notes.proofs.standing.Standing.start.Goals as goal
+
+pub returns : goal.returns
+unfolding kind_at kind_of
+returns c segments code = record { messages = refl; loading = refl; group = refl; container = refl }

@@ -1,0 +1,20 @@
+-- What is noted of a bay.
+use Rattle.std.specs.Prelude.{ℕ, List, Option, Some, None, codes}
+use Rattle.crp_plan.specs.BayNames.{YardBay}
+use Rattle.crp_solve.specs.declared.answer.Answer.{Answer}
+use Rattle.crp_solve.specs.declared.answer.Answer.TheVariants as answer
+use Rattle.crp_solve.specs.declared.answer.Cause.{Cause}
+use Rattle.crp_solve.specs.declared.answer.Cause.TheVariants as cause
+use Rattle.crp_notes.specs.Wording.{open_note, no_plan_note}
+
+-- why a search ended early, and what helps
+abbrev pub advice_on : Cause → List ℕ
+advice_on cause.Budget = codes "its budget was spent: a larger --budget decides more, more --workers are faster, and --strong helps in large bays"
+advice_on cause.Memory = codes "memory ran out: close other programs, or use a machine with more memory"
+
+-- the note on a bay with this answer, if there is one
+abbrev pub bay_note : YardBay → Answer → Option (List ℕ)
+bay_note bay (answer.Optimal plan cert) = None
+bay_note bay (answer.First plan cert) = None
+bay_note bay (answer.NoPlan cert) = Some (no_plan_note bay)
+bay_note bay (answer.Between lower cert plan why) = Some (open_note bay (advice_on why))

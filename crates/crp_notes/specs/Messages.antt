@@ -1,0 +1,35 @@
+-- What a segment says to the notes. Only the clauses of private functions speak of it.
+use Rattle.std.specs.Prelude.{◌≡◌, ℕ, Bool, true, false, ◌||◌, List}
+use Rattle.std.specs.Option.{option_map}
+use Rattle.edi_text.specs.Parts.{SegmentParts, component_of}
+use Rattle.crp_movins.specs.Kinds.{kind_of, is_message_header, is_handling, settles_code, is_slot_group, ends_group, is_equipment}
+use Rattle.crp_movins.specs.Places.{text_at, count_before, is_loading, loading_group}
+use Rattle.crp_notes.specs.declared.message.Says.{Says}
+use Rattle.crp_notes.specs.declared.message.Says.TheVariants.{Begins, Function, Code, Slot, Container, Other}
+use Rattle.crp_notes.specs.declared.standing.Standing.{Standing}
+use Rattle.crp_notes.specs.Slots.{has_container}
+
+-- whether the segment is a UNH, a HAN, a LOC 147, an EQD CN with a container
+pub record IsKind (segment : SegmentParts) (header handling slot_group equipment : Bool) : Type 0 where
+  pub begins : is_message_header (kind_of segment) ≡ header
+  pub handles : is_handling (kind_of segment) ≡ handling
+  pub opens : is_slot_group (kind_of segment) ≡ slot_group
+  pub contains : is_equipment (kind_of segment) ≡ equipment
+  pub settles : settles_code (kind_of segment) ≡ (header || handling)
+  pub ends : ends_group (kind_of segment) ≡ ((header || handling) || slot_group)
+
+-- the segment says so
+abbrev pub IsSaid : SegmentParts → Says → Type 0
+IsSaid segment Begins = IsKind segment true false false false
+IsSaid segment (Function function) = IsKind segment false false false false
+IsSaid segment (Code code) = IsKind segment false true false false × (code.now ≡ component_of segment 1 1)
+IsSaid segment (Slot slot) = IsKind segment false false true false × (slot.now ≡ component_of segment 2 1)
+IsSaid segment Container = IsKind segment false false false true
+IsSaid segment Other = IsKind segment false false false false
+
+-- what the segments before this one leave in force
+pub record IsStanding (segments : List SegmentParts) (code : List ℕ) (i : ℕ) (standing : Standing) : Type 0 where
+  pub messages : standing.messages ≡ count_before is_message_header segments i
+  pub loading : standing.is_loading ≡ is_loading segments code i
+  pub group : option_map (λ slot. slot.now) standing.group ≡ option_map (λ j. text_at segments j 2 1) (loading_group segments code i)
+  pub container : standing.has_container ≡ has_container segments i
