@@ -1,4 +1,4 @@
--- Sets of namings. Only private clauses speak of it.
+-- Sets of slots that are named. Only the clauses of private functions speak of it.
 use Rattle.std.specs.Prelude.{◌≡◌, ℕ, nat_lt, List, map}
 use Rattle.std.specs.List.{list_any}
 use denote.Ref.{Bor}

@@ -58,20 +58,24 @@ rows_note rows highest = note_of (
     codes "the settings have " ∷ decimal rows ∷ codes " rows, and no container stands beyond row " ∷ decimal highest
     ∷ codes ": if the bays end there, say so by --rows or --heights, or plans use rows that are not there" ∷ [])
 
+-- a bay by its name
+abbrev pub bay_words : YardBay → List ℕ
+bay_words bay = codes "bay " ++ (bay.block ++ (codes " " ++ decimal bay.bay))
+
 -- a bay is left open
 abbrev pub open_note : YardBay → List ℕ → List ℕ
-open_note bay advice = note_of (codes "bay " ∷ bay.block ∷ codes " " ∷ decimal bay.bay ∷ codes " is left open, since " ∷ advice ∷ [])
+open_note bay advice = note_of (bay_words bay ∷ codes " is left open, since " ∷ advice ∷ [])
 
 -- a bay has no plan
 abbrev pub no_plan_note : YardBay → List ℕ
 no_plan_note bay = note_of (
-    codes "bay " ∷ bay.block ∷ codes " " ∷ decimal bay.bay
+    bay_words bay
     ∷ codes " has no plan, since its rows and tiers leave no room to reach what is ordered: if it has more, say so by --rows, --tiers or --heights, or choose another order of leaving by --order" ∷ [])
 
 -- the file of certificates has grown past so many bytes
 abbrev pub size_note : ℕ → YardBay → List ℕ
 size_note largest bay = note_of (
-    codes "with bay " ∷ bay.block ∷ codes " " ∷ decimal bay.bay ∷ codes " the certificates have more than " ∷ decimal largest
+    codes "with " ∷ bay_words bay ∷ codes " the certificates have more than " ∷ decimal largest
     ∷ codes " bytes, and crp check takes no larger file: cut it behind a line that begins with end" ∷ [])
 
 -- so many notes are left out

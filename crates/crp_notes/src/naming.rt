@@ -12,7 +12,7 @@ use std::alloc::{AllocError, Global};
 use std::hash::{Hash, Hasher};
 
 /// A slot that an order names, in seven digits, and the number of its message.
-#[derive(Debug, PartialEq, Eq, Hash, Drop)]
+#[derive(PartialEq, Eq, Hash, Drop)]
 pub(crate) struct Naming {
     pub message: usize,
     pub slot: Vec<u8>,

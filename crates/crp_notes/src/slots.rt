@@ -1,14 +1,13 @@
 //! Slots of the ship that several orders of one message name.
-ghost use Rattle.std.specs.Prelude.{◌≡◌, ℕ, List, IfOk, length, map, filter, nat_lt, OnOk};
-ghost use Rattle.std.specs.List.{list_any};
-ghost use Rattle.crp_notes.specs.Slots.{is_same, times, shared, kept_with, each_once};
+ghost use Rattle.std.specs.Prelude.{◌≡◌, ℕ, List, IfOk, OnOk, length, map};
+ghost use Rattle.crp_notes.specs.Slots.{shared, kept_with, each_once};
 ghost use Rattle.crp_notes.specs.Namings.{named, HasNamed, AreKept};
 
 use crate::naming::Naming;
 use std::alloc::{AllocError, Global};
 use std::collections::HashSet;
 
-/// The namings that are there more than once.
+// The namings that are there more than once.
 fn repeated<'a>(alloc: Global, namings: &'a [Naming]) -> Result<HashSet<&'a Naming>, AllocError>
     ensures { IfOk result (λ again. HasNamed 1 again.keys namings.now) }
 {

@@ -1,6 +1,6 @@
 //! Words the notes.
 ghost use Rattle.std.specs.Prelude.{◌≡◌, [], ◌++◌, IfOk, OnOk, length, take, map, flat_map, nat_lt, codes, if◌then◌else◌};
-ghost use Rattle.crp_notes.specs.Wording.{note_of, quoted, listed, function_note, no_codes_note, codes_note, messages_note, absent_note, alike_note, rows_note, slots_note, open_note, no_plan_note, size_note, more_note};
+ghost use Rattle.crp_notes.specs.Wording.{note_of, quoted, listed, function_note, no_codes_note, codes_note, messages_note, absent_note, alike_note, rows_note, slots_note, bay_words, open_note, no_plan_note, size_note, more_note};
 
 use crp_plan::BayName;
 use itoa::Buffer;
@@ -229,19 +229,24 @@ pub(crate) fn rows_note(alloc: Global, rows: u8, highest: u8) -> Result<Vec<u8>,
     note_of(alloc, parts.as_slice())
 }
 
+// A bay by its name.
+fn bay_words(alloc: Global, bay: &BayName) -> Result<Vec<u8>, AllocError>
+    ensures { IfOk result (λ text. text.items ≡ bay_words bay.now) }
+{
+    let mut digits = Buffer::new();
+    let mut text = Vec::from_slice(alloc, b"bay ")?;
+    text.extend_from_slice(bay.block())?;
+    text.push(b' ')?;
+    text.extend_from_slice(digits.format(bay.bay()).as_bytes())?;
+    Ok(text)
+}
+
 /// A bay is left open, for this reason.
 pub(crate) fn open_note(alloc: Global, bay: &BayName, advice: &[u8]) -> Result<Vec<u8>, AllocError>
     ensures { IfOk result (λ text. text.items ≡ open_note bay.now advice.now) }
 {
-    let mut digits = Buffer::new();
-    let parts: [&[u8]; 6] = [
-        b"bay ",
-        bay.block(),
-        b" ",
-        digits.format(bay.bay()).as_bytes(),
-        b" is left open, since ",
-        advice,
-    ];
+    let bay = bay_words(alloc, bay)?;
+    let parts: [&[u8]; 3] = [&bay, b" is left open, since ", advice];
     note_of(alloc, parts.as_slice())
 }
 
@@ -249,12 +254,9 @@ pub(crate) fn open_note(alloc: Global, bay: &BayName, advice: &[u8]) -> Result<V
 pub(crate) fn no_plan_note(alloc: Global, bay: &BayName) -> Result<Vec<u8>, AllocError>
     ensures { IfOk result (λ text. text.items ≡ no_plan_note bay.now) }
 {
-    let mut digits = Buffer::new();
-    let parts: [&[u8]; 5] = [
-        b"bay ",
-        bay.block(),
-        b" ",
-        digits.format(bay.bay()).as_bytes(),
+    let bay = bay_words(alloc, bay)?;
+    let parts: [&[u8]; 2] = [
+        &bay,
         b" has no plan, since its rows and tiers leave no room to reach what is ordered: if it has more, say so by --rows, --tiers or --heights, or choose another order of leaving by --order",
     ];
     note_of(alloc, parts.as_slice())
@@ -264,12 +266,11 @@ pub(crate) fn no_plan_note(alloc: Global, bay: &BayName) -> Result<Vec<u8>, Allo
 pub(crate) fn size_note(alloc: Global, largest: usize, bay: &BayName) -> Result<Vec<u8>, AllocError>
     ensures { IfOk result (λ text. text.items ≡ size_note largest bay.now) }
 {
-    let (mut number, mut most) = (Buffer::new(), Buffer::new());
-    let parts: [&[u8]; 7] = [
-        b"with bay ",
-        bay.block(),
-        b" ",
-        number.format(bay.bay()).as_bytes(),
+    let mut most = Buffer::new();
+    let bay = bay_words(alloc, bay)?;
+    let parts: [&[u8]; 5] = [
+        b"with ",
+        &bay,
         b" the certificates have more than ",
         most.format(largest).as_bytes(),
         b" bytes, and crp check takes no larger file: cut it behind a line that begins with end",

@@ -1,10 +1,11 @@
-use Rattle.std.proofs.Common.{◌≡◌, ◌∙◌, ap}
+use Rattle.std.proofs.Common.{◌≡◌, ◌∙◌}
 use Rattle.std.specs.Prelude.{decimal}
+use Rattle.crp_notes.specs.Wording.{bay_words}
 use Rattle.crp_notes.proofs.wording.size_note.Goals as goal
 
 pub returns : goal.returns
 returns c =
-    let b : c.block.result.now ≡ c.args.bay.now.block = c.block.ensures.value in
-    let e : c.as_bytes.result.now ≡ decimal c.args.bay.now.bay = c.as_bytes.ensures.value ∙ c.format.ensures.text ∙ ap decimal c.bay.ensures.value in
-    let d : c.as_bytes-2.result.now ≡ decimal c.args.largest = c.as_bytes-2.ensures.value ∙ c.format-2.ensures.text in
-    rw (← b, ← e, ← d) (rw c.as_slice.ensures at c.note_of.ensures)
+    let b : c.deref.result.now ≡ bay_words c.args.bay.now = c.deref.ensures.value ∙ c.in_ok-bay.ensures in
+    let d : c.as_bytes.result.now ≡ decimal c.args.largest = c.as_bytes.ensures.value ∙ c.format.ensures.text in
+    let note = rw c.as_slice.ensures at c.note_of.ensures in
+    rw (b, d) at note
