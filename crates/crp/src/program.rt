@@ -43,14 +43,7 @@ fn say<E: Sink>(errors: &mut E, text: &[u8])
 }
 
 // Does what the words ask for; before, where there are none and somebody sits before the standard input, it says what is awaited there.
-fn start<
-    T: Threads + Wait + Sync,
-    F: Files,
-    R: Source,
-    W: Sink,
-    E: Sink,
-    S: Terminal + Sync,
->(
+fn start<T: Threads + Wait + Sync, F: Files, R: Source, W: Sink, E: Sink, S: Terminal + Sync>(
     threads: &T,
     alloc: Global,
     files: &mut F,

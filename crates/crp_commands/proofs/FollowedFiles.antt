@@ -111,7 +111,7 @@ pub page_refused : (names : FollowFiles) (known there left : KnownFiles) (name :
 page_refused names known there left name named prepared apart refused =
     let changes = prepared_changes (page_name names) known there prepared in (
       may_not_before (page_name names) known there (same_leave (page_name names) known there changes)
-      (subst (λ (o : Option (List ℕ)). MatchOption o ⊥ (λ n. IsTrue (there.may_not_create n))) (sym named) refused),
+          (subst (λ (o : Option (List ℕ)). MatchOption o ⊥ (λ n. IsTrue (there.may_not_create n))) (sym named) refused),
       λ shared. apart (shared_still (named_in_follow names) known there (same_links (page_name names) known there changes) shared),
     )
 

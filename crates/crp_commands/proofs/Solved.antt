@@ -293,7 +293,7 @@ refused_at : (names : RunFiles) (chosen : RunChosen) (files : FilesSeen) (out : 
 refused_at names chosen files out there now sink name is begun apart leave refused one alone = inl (record {
   stated = (
     subst (λ (o : Option (List ℕ)). MatchOption o ⊥ (λ n. IsTrue (files.known.may_not_create n))) (sym is)
-    (may_not_before name files.known now (leave ∙ there_leave _ _ _ _ begun) refused),
+        (may_not_before name files.known now (leave ∙ there_leave _ _ _ _ begun) refused),
     λ shared. apart (shared_still (named_in_run names) files.known there (there_links _ _ _ _ begun) shared),
   );
   one = one;
