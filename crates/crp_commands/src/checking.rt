@@ -213,7 +213,7 @@ fn check_next<R: Source, W: Sink>(
 /// The most bytes of a file of certificates that is checked.
 fn most_bytes(any_size: bool) -> usize
     ensures value { result ≡ most_bytes any_size }
-    ensures few { result < 2 ^ 64 - 1 }
+    ensures few { result + 1 < 2 ^ 64 }
 {
     if any_size { ANY_SIZE } else { MOST_BYTES }
 }
