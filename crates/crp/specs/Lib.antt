@@ -1,2 +1,0 @@
--- How the program ends that is given words, files and streams.
-pub mod Running
