@@ -10,13 +10,12 @@ use Rattle.crp_cert.specs.Text.{bay_line, IsHeadOf}
 use Rattle.crp_report.specs.declared.status.Status.{Status}
 use Rattle.crp_jobs.specs.declared.job.FileCommand.{FileCommand}
 use Rattle.crp_jobs.specs.declared.job.FileCommand.TheVariants.{Replay, Bound, Check, Prove}
-use Rattle.crp_commands.specs.declared.heads.TheConstants.{MOST_BYTES}
 use Rattle.crp_yard.specs.Reading.{IsTextOf}
 use Rattle.crp_commands.specs.Calls.{CallSeen, IsTextWithin, WritesReport}
 use Rattle.crp_commands.specs.Performing.{Performs}
 use Rattle.crp_commands.specs.Replay.{IsReplay, IsReplayText}
 use Rattle.crp_commands.specs.Bound.{IsBound, bound_lines}
-use Rattle.crp_commands.specs.Check.{IsCheck}
+use Rattle.crp_commands.specs.Check.{IsCheck, most_bytes}
 use Rattle.crp_commands.specs.Prove.{IsProof}
 use Rattle.crp_chains.proofs.Reading.{chains_floor}
 use Rattle.crp_callers.specs.CommandReports.{IsReportOf, EndsWithBound}
@@ -39,7 +38,7 @@ pub command_reported : (command : FileCommand) (ended : Status) (bytes new : Lis
     → Performs command ended s → IsReportOf command bytes new
 command_reported Replay ended bytes new s over done = report_written IsTextOf IsReplay bytes new s (λ known text is. is) over done.1
 command_reported (Bound chains) ended bytes new s over done = report_written IsTextOf (IsBound chains) bytes new s (λ known text is. is) over done.1
-command_reported Check ended bytes new s over done = report_written (IsTextWithin MOST_BYTES) IsCheck bytes new s (λ known text is. is.1) over done.1
+command_reported (Check any_size) ended bytes new s over done = report_written (IsTextWithin (most_bytes any_size)) IsCheck bytes new s (λ known text is. is.1) over done.1
 command_reported (Prove search) ended bytes new s over done = (ended, report_written IsTextOf (IsProof search ended) bytes new s (λ known text is. is) over done)
 
 -- ---- a replay
