@@ -178,7 +178,7 @@ shared_fails names chosen seen status (fault.Run (run.Yard f)) shared (inl refus
 shared_fails names chosen seen status (fault.Run (run.Interchange f)) shared (inl refused) e = absurd refused.stated
 shared_fails names chosen seen status (fault.Run (run.Message f)) shared (inl refused) e = absurd refused.stated
 shared_fails names chosen seen status (fault.Run run.Memory) shared (inl refused) e = absurd refused.stated
-shared_fails names chosen seen status (fault.Run f) shared (inr stops) e = absurd (stops.1.1.0.apart shared)
+shared_fails names chosen seen status (fault.Run f) shared (inr stops) e = absurd (stops.2.apart shared)
 shared_fails names chosen seen status (fault.Cert f) shared is e = absurd is
 shared_fails names chosen seen status (fault.Plan f) shared is e = absurd is
 shared_fails names chosen seen status (fault.Checked number refused) shared is e = absurd is
@@ -201,7 +201,7 @@ job_is_linked seen errors status one (Solve names settings quiet progress) (free
     let shared : IsShared seen.files.known (named_in_run names) =
     (role.Certificates, role.YardList, (refl, record { first = codes "proofs"; second = codes "yard"; is = sym files.2; is_other = sym files.0; one = one })) in
     elim ends [
-      | inl done ↦ absurd (done.1.0.1.1.0.apart shared)
+      | inl done ↦ absurd (done.1.1.1.apart shared)
       | inr (f, (alone, fails), so_far, behind, is) ↦ shared_fails names settings seen status f shared fails is
     ]
 job_is_linked seen errors status one (OneFile file command.Replay) (free, (name, is)) ends = absurd (other_letter 115 114 _ _ refl name)
