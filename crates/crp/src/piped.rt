@@ -1,5 +1,12 @@
 //! A writer that knows whether its reader has ended.
+use crp_plan::Counted;
 use std::io::{self, ErrorKind, Write};
+
+/// Where somebody reads what is written, who may end before all is.
+pub trait ReadBy {
+    /// Whether the last write failed because the reader has ended.
+    fn has_no_reader(&self) -> bool;
+}
 
 /// A writer that remembers whether a write to it failed because the program that reads it has ended.
 #[derive(Drop)]
@@ -16,10 +23,11 @@ impl<W: Write> Piped<W> {
             is_broken: false,
         }
     }
+}
 
-    /// Whether the last write failed because its reader has ended.
-    pub fn is_broken(&self) -> bool {
-        self.is_broken
+impl<W: Write> ReadBy for Counted<Piped<W>> {
+    fn has_no_reader(&self) -> bool {
+        self.device.is_broken
     }
 }
 

@@ -1,0 +1,2 @@
+-- How the program ends that is given words, files and streams.
+pub mod Running
