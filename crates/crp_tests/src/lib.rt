@@ -39,8 +39,6 @@ mod mistakes;
 #[cfg(test)]
 mod run_settings;
 #[cfg(test)]
-mod shared;
-#[cfg(test)]
 mod six;
 #[cfg(test)]
 mod statuses;
