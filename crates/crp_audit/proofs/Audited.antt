@@ -32,7 +32,7 @@ pub record AreRight (h : Handed) (shown : List (YardBay × Verdict)) (front : Li
   pub before : List Reported
   pub later : List StackedBay
   pub called : filter (is_called h.sequence) h.yard.bays ≡ map (λ b. b.bay) before ++ later
-  pub stated_are : stated ≡ map (bay_problem_of h.yard.heights h.sequence) later
+  pub stated_are : stated ≡ map (bay_problem_of h.yard.sizes h.sequence) later
   pub bays : report.bays ≡ map said_of before ++ more
   pub certificates : BeginsWithTexts h.certificates (map (λ b. b.certificate) before) left
   pub each_true : AllByRecursion (IsTrueOf h) before
@@ -91,10 +91,10 @@ RightBay h bay s left verdict rest =
 
 pub one_right : (h : Handed) (shown wide : List (YardBay × Verdict)) (front new : List ℕ) (stated behind : List BayProblem) (next : BayProblem) (more after : List BaySaid) (s : BaySaid)
     (left rest : List ℕ) (verdict : Verdict) → AreRight h shown front stated more left → stated ≡ next ∷ behind → more ≡ s ∷ after → s.bay ≡ next.bay
-    → ((bay : StackedBay) → next ≡ bay_problem_of h.yard.heights h.sequence bay → RightBay h bay s left verdict rest) → new ≡ front ++ bay_text s
+    → ((bay : StackedBay) → next ≡ bay_problem_of h.yard.sizes h.sequence bay → RightBay h bay s left verdict rest) → new ≡ front ++ bay_text s
     → wide ≡ shown ++ (next.bay, verdict) ∷ [] → AreRight h wide new behind after rest
 one_right h shown wide front new stated behind next more after s left rest verdict so is-next is-said name right longer wider =
-    let of = next_of (bay_problem_of h.yard.heights h.sequence) next behind so.later (sym is-next ∙ so.stated_are) in
+    let of = next_of (bay_problem_of h.yard.sizes h.sequence) next behind so.later (sym is-next ∙ so.stated_are) in
     let (text, begins, true_of, verdict-is) = right of.bay of.next_is in
     let b : Reported = reported_as of.bay s text in
     let same : next.bay ≡ of.bay.0 = ap (λ (p : BayProblem). p.bay) of.next_is in
@@ -193,9 +193,9 @@ bay_next h r bay later s more left front f e is = (e, is)
 
 pub refused_bay : (h : Handed) (shown : List (YardBay × Verdict)) (front : List ℕ) (stated behind : List BayProblem) (next : BayProblem) (more after : List BaySaid) (s : BaySaid) (left : List ℕ)
     (f : AuditFault) → AreRight h shown front stated more left → stated ≡ next ∷ behind → more ≡ s ∷ after → s.bay ≡ next.bay
-    → ((bay : StackedBay) → next ≡ bay_problem_of h.yard.heights h.sequence bay → s.bay ≡ bay.0 → (f ≡ fault.Memory) ⊎ IsBayFault h (reported_as bay s []) left front f) → IsAuditRefusal h shown f
+    → ((bay : StackedBay) → next ≡ bay_problem_of h.yard.sizes h.sequence bay → s.bay ≡ bay.0 → (f ≡ fault.Memory) ⊎ IsBayFault h (reported_as bay s []) left front f) → IsAuditRefusal h shown f
 refused_bay h shown front stated behind next more after s left f so is-next is-said name wrong =
-    let of = next_of (bay_problem_of h.yard.heights h.sequence) next behind so.later (sym is-next ∙ so.stated_are) in
+    let of = next_of (bay_problem_of h.yard.sizes h.sequence) next behind so.later (sym is-next ∙ so.stated_are) in
     let same : s.bay ≡ of.bay.0 = name ∙ ap (λ (p : BayProblem). p.bay) of.next_is in
     ⊎_elim (λ memory. subst (IsAuditRefusal h shown) (sym memory) (out_of_memory h shown front stated more left so))
     (λ is. refused h shown front stated more left f so
@@ -212,7 +212,7 @@ called_next f stated later are same next behind e =
 pub refused_name : (h : Handed) (shown : List (YardBay × Verdict)) (front : List ℕ) (stated behind : List BayProblem) (next : BayProblem) (more : List BaySaid) (left : List ℕ)
     → AreRight h shown front stated more left → stated ≡ next ∷ behind → next_said more ≢ Some next.bay → IsAuditRefusal h shown (fault.Bay (line_behind front) (Some next.bay))
 refused_name h shown front stated behind next more left so is-next apart =
-    let wanted = called_next (bay_problem_of h.yard.heights h.sequence) stated so.later so.stated_are (λ bay. refl) next behind is-next in
+    let wanted = called_next (bay_problem_of h.yard.sizes h.sequence) stated so.later so.stated_are (λ bay. refl) next behind is-next in
     refused h shown front stated more left (fault.Bay (line_behind front) (Some next.bay)) so (refl, wanted, λ e. apart (e ∙ sym wanted))
 
 none_later : (f : StackedBay → BayProblem) (later : List StackedBay) → [] ≡ map f later → later ≡ []
@@ -222,7 +222,7 @@ none_later f (bay ∷ later) e = cc
 pub refused_more : (h : Handed) (shown : List (YardBay × Verdict)) (front : List ℕ) (stated : List BayProblem) (more : List BaySaid) (left : List ℕ)
     → AreRight h shown front stated more left → stated ≡ [] → more ≢ [] → IsAuditRefusal h shown (fault.Bay (line_behind front) None)
 refused_more h shown front stated more left so none some =
-    let no : so.later ≡ [] = none_later (bay_problem_of h.yard.heights h.sequence) so.later (sym none ∙ so.stated_are) in
+    let no : so.later ≡ [] = none_later (bay_problem_of h.yard.sizes h.sequence) so.later (sym none ∙ so.stated_are) in
     let wanted : None ≡ next_called so.later = ap next_called (sym no) in
     refused h shown front stated more left (fault.Bay (line_behind front) None) so (refl, wanted, λ e. some (no_said more (e ∙ sym wanted)))
   where
@@ -236,7 +236,7 @@ refused_more h shown front stated more left so none some =
 at_end : (h : Handed) (shown : List (YardBay × Verdict)) (front : List ℕ) (stated : List BayProblem) (more : List BaySaid) (left : List ℕ) (f : AuditFault)
     → (so : AreRight h shown front stated more left) → stated ≡ [] → more ≡ [] → IsNextFault h so.report [] [] left front f → IsAuditRefusal h shown f
 at_end h shown front stated more left f so none ended is =
-    let end : so.later ≡ [] = none_later (bay_problem_of h.yard.heights h.sequence) so.later (sym none ∙ so.stated_are) in
+    let end : so.later ≡ [] = none_later (bay_problem_of h.yard.sizes h.sequence) so.later (sym none ∙ so.stated_are) in
     refused h shown front stated more left f so (subst (λ l. IsNextFault h so.report so.later l left front f) (sym ended) (subst (λ l. IsNextFault h so.report l [] left front f) (sym end) is))
 
 pub left_over : (h : Handed) (shown : List (YardBay × Verdict)) (front : List ℕ) (stated : List BayProblem) (more : List BaySaid) (left : List ℕ)
@@ -250,7 +250,7 @@ wrong_count h shown front stated more left so none ended nothing wrong = at_end 
 pub all_right : (h : Handed) (shown : List (YardBay × Verdict)) (front : List ℕ) (stated : List BayProblem) (more : List BaySaid) (left : List ℕ)
     → (so : AreRight h shown front stated more left) → stated ≡ [] → more ≡ [] → left ≡ [] → CountsRight so.report → (is : IsHeadline h) × (shown ≡ shown_in h is)
 all_right h shown front stated more left so none ended nothing counts =
-    let end : so.later ≡ [] = none_later (bay_problem_of h.yard.heights h.sequence) so.later (sym none ∙ so.stated_are) in
+    let end : so.later ≡ [] = none_later (bay_problem_of h.yard.sizes h.sequence) so.later (sym none ∙ so.stated_are) in
     let bays : so.report.bays ≡ map said_of so.before = so.bays ∙ ap (λ l. map said_of so.before ++ l) ended ∙ append-nil (map said_of so.before) in
     let r : ReportSaid = so.report in
     let text : h.report ≡ report_text r.numbers r.bays =

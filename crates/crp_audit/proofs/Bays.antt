@@ -29,7 +29,7 @@ use Rattle.crp_audit.proofs.Deciding.{true_if_looks}
 use Rattle.crp_audit.proofs.Results.{match_by}
 
 abbrev stated_in : Handed → StackedBay → BayProblem
-stated_in h bay = bay_problem_of h.yard.heights h.sequence bay
+stated_in h bay = bay_problem_of h.yard.sizes h.sequence bay
 
 -- ---- the lines
 

@@ -108,7 +108,7 @@ moves_said h b NoPlan plain so = nothing_moves b.lines so.1
 moves_said h b (Between lower None why) plain so = nothing_moves b.lines so.1
 moves_said h b (Between lower (Some count) why) plain so = printed_moves h b count plain so.1
 
-sayable : (h : Handed) (bays : List Reported) → AllByRecursion IsNamedProblem (map (bay_problem_of h.yard.heights h.sequence) (map (λ (b : Reported). b.bay) bays))
+sayable : (h : Handed) (bays : List Reported) → AllByRecursion IsNamedProblem (map (bay_problem_of h.yard.sizes h.sequence) (map (λ (b : Reported). b.bay) bays))
     → AllByRecursion (IsTrueOf h) bays → AllByRecursion IsSayable (map said_of bays)
 sayable h [] named all = tt
 sayable h (b ∷ bays) named all =
@@ -125,8 +125,8 @@ sayable h (b ∷ bays) named all =
 pub spelled_as : (h : Handed) (is : IsHeadline h) → AllByRecursion IsNamedBay h.yard.bays → length h.yard.bays ≤ most → AreSmall (numbers_in h) → SpellsReport h.report (report_in h is)
 spelled_as h is named few small =
     let r : ReportSaid = report_in h is in
-    let problems : problems_of h.yard h.sequence ≡ map (bay_problem_of h.yard.heights h.sequence) (map (λ (b : Reported). b.bay) is.bays) =
-    ap (map (bay_problem_of h.yard.heights h.sequence)) (sym is.called) in
+    let problems : problems_of h.yard h.sequence ≡ map (bay_problem_of h.yard.sizes h.sequence) (map (λ (b : Reported). b.bay) is.bays) =
+    ap (map (bay_problem_of h.yard.sizes h.sequence)) (sym is.called) in
     let names = subst (AllByRecursion IsNamedProblem) problems (problems_named h.yard h.sequence named) in
     let many : length r.bays ≤ length h.yard.bays =
     let a : length r.bays ≡ length is.bays = length-map is.bays said_of in

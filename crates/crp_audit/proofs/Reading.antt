@@ -57,7 +57,7 @@ none_so_far of given limit shown front stated more u whole begins room right = r
 pub one_more : (of : List ℕ → Handed) (given : Option (List ℕ)) (limit : ℕ) (shown wide : List (YardBay × Verdict)) (front new : List ℕ) (stated behind : List BayProblem) (next : BayProblem)
     (more after : List BaySaid) (s : BaySaid) (known later : Option (List ℕ)) (u v : Unread) (text : List ℕ) (verdict : Verdict) → AreRightSoFar of given limit shown front stated more known u
     → stated ≡ next ∷ behind → more ≡ s ∷ after → s.bay ≡ next.bay → IsTaken known u text later v
-    → ((h : Handed) (bay : StackedBay) → next ≡ bay_problem_of h.yard.heights h.sequence bay → IsTrueOf h (reported_as bay s text) × (verdict ≡ verdict_in h (reported_as bay s text)))
+    → ((h : Handed) (bay : StackedBay) → next ≡ bay_problem_of h.yard.sizes h.sequence bay → IsTrueOf h (reported_as bay s text) × (verdict ≡ verdict_in h (reported_as bay s text)))
     → new ≡ front ++ bay_text s → wide ≡ shown ++ (next.bay, verdict) ∷ [] → AreRightSoFar of given limit wide new behind after later v
 one_more of given limit shown wide front new stated behind next more after s known later u v text verdict so is-next is-said name taken true_of longer wider =
     let took = taken.taken in
@@ -111,7 +111,7 @@ pub stopped_at : {i j : ℕ} {x y : Option ℕ} (yard : Inventory) (orders : Loa
     → AreRightSoFar (handed yard orders sequence report) given limit shown front stated more known u → Transfers (failures_of_stop why) i j before after x y
     → stated ≡ next ∷ behind → more ≡ s ∷ rest → s.bay ≡ next.bay
     → StopsAt known u
-    (λ left f. (h : Handed) (bay : StackedBay) → next ≡ bay_problem_of h.yard.heights h.sequence bay → s.bay ≡ bay.0 → (f ≡ fault.Memory) ⊎ IsBayFault h (reported_as bay s []) left front f) why
+    (λ left f. (h : Handed) (bay : StackedBay) → next ≡ bay_problem_of h.yard.sizes h.sequence bay → s.bay ≡ bay.0 → (f ≡ fault.Memory) ⊎ IsBayFault h (reported_as bay s []) left front f) why
     → IsStoppedAt (handed yard orders sequence report) given limit before after shown why
 stopped_at yard orders sequence report given limit before after shown front stated behind next more rest s known u (stop.Fault f) so count is-next is-said name (left, is, wrong) =
     let old = so.right left is in

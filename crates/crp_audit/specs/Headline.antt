@@ -6,6 +6,7 @@ use Rattle.crp_plan.specs.declared.moves.Move.{Move}
 use Rattle.crp_plan.specs.Bay.{Problem, cap, start, IsPlan, path_of, relocations}
 use Rattle.crp_plan.specs.BayNames.{YardBay}
 use Rattle.crp_tree.specs.First.{IsFirstBest}
+use Rattle.crp_sizes.specs.Sizes.{heights_at}
 use Rattle.crp_yard.specs.Inventory.{Inventory, StackedBay}
 use Rattle.crp_movins.specs.LoadOrders.{LoadOrders}
 use Rattle.crp_order.specs.BayProblems.{leaving, ranked, problem_of, is_called, absent_of}
@@ -50,9 +51,9 @@ pub record Reported : Type 0 where
 abbrev pub said_of : Reported → BaySaid
 said_of b = record { bay = b.bay.0; said = b.said; lines = b.lines }
 
--- its problem: its rows have the heights of the yard's, and the containers of the sequence that stand in it are to leave, in the order of the sequence
+-- its problem: its rows have the heights that the yard has for the bay, and the containers of the sequence that stand in it are to leave, in the order of the sequence
 abbrev pub problem_in : Handed → Reported → Problem
-problem_in h b = problem_of h.yard.heights h.sequence b.bay.1
+problem_in h b = problem_of (heights_at h.yard.sizes b.bay.0) h.sequence b.bay.1
 
 -- the printed lines are those of a complete plan, with so many relocations, and its take lines name the containers of the sequence that stand in
 -- the bay, in the order of the sequence

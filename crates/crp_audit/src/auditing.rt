@@ -42,10 +42,10 @@ fn audit_bay<R: Source>(
     requires passed { interruptions.old ≤ most_interruptions }
     ensures front { OnOk result (front.new.items ≡ front.old.items ++ bay_text (bay_as said.now)) }
     ensures right { IfOk result (λ found. (text : List ℕ) × IsTaken (R.remaining source.old) unread text (R.remaining source.new) found.1
-        × ((h : Handed) (bay : StackedBay) → stated.now ≡ bay_problem_of h.yard.heights h.sequence bay → IsTrueOf h (reported_as bay (bay_as said.now) text)
+        × ((h : Handed) (bay : StackedBay) → stated.now ≡ bay_problem_of h.yard.sizes h.sequence bay → IsTrueOf h (reported_as bay (bay_as said.now) text)
         × (found.0 ≡ verdict_in h (reported_as bay (bay_as said.now) text)))) }
     ensures wrong { IfErr result (StopsAt (R.remaining source.old) unread
-        (λ left fault. (h : Handed) (bay : StackedBay) → stated.now ≡ bay_problem_of h.yard.heights h.sequence bay
+        (λ left fault. (h : Handed) (bay : StackedBay) → stated.now ≡ bay_problem_of h.yard.sizes h.sequence bay
         → said.now.bay ≡ bay.0 → (fault ≡ AuditFault.Memory) ⊎ IsBayFault h (reported_as bay (bay_as said.now) []) left front.old.items fault)) }
     ensures done { OnOk result (Transfers 0 interruptions.old interruptions.new (R.failures source.old) (R.failures source.new) (R.interrupted source.old) (R.interrupted source.new)) }
     ensures stopped { IfErr result (λ stop. Transfers (failures_of_stop stop) interruptions.old interruptions.new (R.failures source.old) (R.failures source.new) (R.interrupted source.old) (R.interrupted source.new)) }

@@ -4,6 +4,7 @@ use Rattle.std.specs.List.{AllByRecursion, AllZip}
 use Rattle.std.proofs.lemmas.List.Elements.{recursion_from_All}
 use Rattle.crp_plan.specs.Bay.{Problem}
 use Rattle.crp_plan.specs.BayNames.{YardBay}
+use Rattle.crp_sizes.specs.Sizes.{heights_at}
 use Rattle.crp_yard.specs.Inventory.{StackedBay}
 use Rattle.crp_cert.specs.declared.script.Script.{Script}
 use Rattle.crp_checker.specs.declared.verdict.Verdict.{Verdict}
@@ -38,7 +39,7 @@ abbrev pub VerdictsSay : Type 0
 VerdictsSay = (script : Script) (verdict : Verdict) → IsAcceptedScript script → IsVerdict script verdict → Says script.head.problem verdict
 
 abbrev pub IsSaidOf : Handed → StackedBay → (YardBay × Verdict) → Type 0
-IsSaidOf h bay shown = (shown.0 ≡ bay.0) × Says (problem_of h.yard.heights h.sequence bay.1) shown.1
+IsSaidOf h bay shown = (shown.0 ≡ bay.0) × Says (problem_of (heights_at h.yard.sizes bay.0) h.sequence bay.1) shown.1
 
 each_said : VerdictsSay → (h : Handed) (bays : List Reported) → AllByRecursion (IsTrueOf h) bays
     → AllZip (IsSaidOf h) (map (λ (b : Reported). b.bay) bays) (map (λ (b : Reported). (b.bay.0, verdict_in h b)) bays)

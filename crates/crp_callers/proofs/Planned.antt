@@ -118,4 +118,4 @@ bays_left one_path one_end (a ∷ b ∷ []) ((name, (ranks, leaves, stacks)), ((
 pub leaves_this : OnePath → OneEnd → (left : Inventory) → IsAfter two_bays (plan_for_first ∷ []) left → left ≡ yard_left
 leaves_this one_path one_end left after =
     let bays = bays_left one_path one_end left.bays after.bays in
-    λ i. record { heights = after.same_heights i; tiers = after.same_tiers i; bays = bays i }
+    λ i. record { sizes = after.same_sizes i; bays = bays i }

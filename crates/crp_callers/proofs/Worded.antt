@@ -1,13 +1,15 @@
 -- What worked words ask for, and how the program ends by them.
 use Rattle.std.proofs.Common.{◌≡◌, ◌≤◌, ◌⊎◌, ◌∙◌, ℕ, List, [], ◌∷◌, Some, None, Option, Err, inl, inr, refl, sym, ap, subst, arith, lit≤, ◌==◌, false}
 use Rattle.std.proofs.lemmas.Bool.Decides.{nat_tests}
-use Rattle.std.specs.Prelude.{codes, replicate, true}
+use Rattle.std.specs.Prelude.{codes, replicate, true, IsSomeAnd, option_map}
+use denote.Ref.{Bor}
 use Rattle.std.specs.Str.Parse.{digits_value, without_leading_plus}
 use Rattle.clap.specs.Words.{IsAmong, Row, Text, fault_of, first_of, one_of, subcommand_of}
 use Rattle.clap.specs.Faults.{walk_fault, defaults_fault, flags_fault}
 use Rattle.clap.specs.Walk.{walked, bundle_met}
 use Rattle.clap.specs.declared.error.kind.ErrorKind.TheVariants as kind
 use Rattle.clap.specs.declared.parser.matches.ValueSource.TheVariants.{CommandLine, DefaultValue}
+use Rattle.crp_sizes.specs.Sizes.{YardSizes, one_size}
 use Rattle.crp_report.specs.declared.fault.Fault.TheVariants as run
 use Rattle.crp_report.specs.declared.status.Status.{Status}
 use Rattle.crp_report.specs.Runs.{SourceSeen, SinkSeen}
@@ -26,8 +28,9 @@ use Rattle.crp_files.proofs.Prepared.{prepared_keeps}
 use Rattle.crp_jobs.specs.Outcomes.{exit_code}
 use Rattle.crp_commands.specs.Check.{IsCheck}
 use Rattle.crp_commands.specs.Solving.{SolveFailsOverFiles}
-use Rattle.crp_report.specs.Chosen.{RunChosen}
-use Rattle.crp_commands.specs.Performing.{JobSeen, ReportsOverFiles, call_of}
+use Rattle.crp_report.specs.Chosen.{InputChosen, RunChosen}
+use Rattle.crp_commands.specs.Performing.{JobSeen, call_of}
+use Rattle.crp_commands.specs.Sized.{IsDone, behind}
 use Rattle.crp_words.specs.declared.usage.Mistake.TheVariants as mistake
 use Rattle.crp_words.specs.declared.usage.SettingFault.{SettingFault}
 use Rattle.crp_words.specs.declared.usage.SettingFault.TheVariants as setting
@@ -35,8 +38,9 @@ use Rattle.crp_words.specs.declared.usage.Usage.{Usage}
 use Rattle.crp_words.specs.declared.usage.Usage.TheVariants as usage
 use Rattle.crp_words.specs.Commands.{crp}
 use Rattle.crp_words.specs.Endings.{JobEnds, ProgramEnds, UsageEnds}
-use Rattle.crp_words.specs.Words.{HasBeam, HasNumber, HasNumberBeyond, HasThin, IsGivenByWords, Refuses, WordsAsk, WordsHaveFault, IsSolveFault, FindsRowHeights, MayFindHeights, heights_or, value_source_of, words_or_default}
+use Rattle.crp_words.specs.Words.{HasBeam, HasNumber, HasNumberBeyond, HasThin, IsGivenByWords, Refuses, WordsAsk, WordsHaveFault, IsSolveFault, FindsSizes, MayFindHeights, heights_or, value_source_of, words_or_default}
 use Rattle.crp_callers.specs.AskedFor.{HasHeights, IsOfSetting, IsStrongSearch}
+use Rattle.crp_callers.proofs.OverFiles.{Done, Failed, as_run}
 use Rattle.crp_callers.proofs.Reporting.{command_reported}
 
 -- ---- statuses
@@ -47,6 +51,8 @@ never_zero fault.TooLarge e = absurd (omega arith)
 never_zero (fault.TooLargeOf which) e = absurd (omega arith)
 never_zero (fault.Followed f) e = absurd (omega arith)
 never_zero (fault.Loaded f) e = absurd (omega arith)
+never_zero (fault.Sizes f) e = absurd (omega arith)
+never_zero fault.ReadSizes e = absurd (omega arith)
 never_zero fault.Memory e = absurd (omega arith)
 never_zero fault.Read e = absurd (omega arith)
 never_zero (fault.ReadOf which) e = absurd (omega arith)
@@ -119,12 +125,12 @@ check_is_free = refl
 
 -- what the job did that they ask for: a check of the standard input, and nothing else
 check_is_done : (j : Job) → WordsAsk check_words j → (seen : JobSeen) (ended : Status) (bytes lines : List ℕ) → seen.input.given ≡ Some bytes
-    → seen.out.held ≡ Some [] → seen.out.holds ≡ Some lines → ReportsOverFiles j seen ended → IsCheck bytes lines
+    → seen.out.held ≡ Some [] → seen.out.holds ≡ Some lines → IsDone j seen ended → IsCheck bytes lines
 unfolding walk_fault defaults_fault flags_fault walked bundle_met
-check_is_done (OneFile file (command.Check any_size)) (free, (name, is)) seen ended bytes lines given held holds (source, inl (dash, from), (done, few)) =
+check_is_done (OneFile file (command.Check any_size)) (free, (name, is)) seen ended bytes lines given held holds ((source, inl (dash, from), (done, few)), kept) =
     command_reported (command.Check any_size) ended bytes lines (call_of source seen.out)
     (record { given = ap (λ (s : SourceSeen). s.given) from.is ∙ given; held = held; holds = holds }) done
-check_is_done (OneFile file (command.Check any_size)) (free, (name, is)) seen ended bytes lines given held holds (source, inr (other, from), (done, few)) =
+check_is_done (OneFile file (command.Check any_size)) (free, (name, is)) seen ended bytes lines given held holds ((source, inr (other, from), (done, few)), kept) =
     absurd (other (sym (one_text _ _ is)))
 check_is_done (OneFile file command.Replay) (free, (name, is)) seen ended bytes lines given held holds done = absurd (other_letter 99 114 _ _ refl name)
 check_is_done (OneFile file (command.Bound chains)) (free, (name, is)) seen ended bytes lines given held holds done = absurd (other_letter 99 98 _ _ refl name.0)
@@ -142,9 +148,9 @@ not_two_or_four status e (inr four) = absurd (omega arith)
 -- with status 0 the certificates of the standard input are accepted, and their lines stand on the standard output
 ends_check : (seen : JobSeen) (errors : SinkSeen) (status : ℕ) (bytes lines : List ℕ) → ProgramEnds check_words seen errors status → status ≡ 0
     → seen.input.given ≡ Some bytes → seen.out.held ≡ Some [] → seen.out.holds ≡ Some lines → IsCheck bytes lines
-ends_check seen errors status bytes lines (inl (j, asks, inl (ended, done, kept, noted, is))) e given held holds =
+ends_check seen errors status bytes lines (inl (j, asks, inl (ended, done, noted, is))) e given held holds =
     check_is_done j asks seen ended bytes lines given held holds done
-ends_check seen errors status bytes lines (inl (j, asks, inr (f, failed, kept, behind, is))) e given held holds = absurd (never_zero f (sym is ∙ e))
+ends_check seen errors status bytes lines (inl (j, asks, inr (f, failed, behind, is))) e given held holds = absurd (never_zero f (sym is ∙ e))
 ends_check seen errors status bytes lines (inr (u, refuses, ends)) e given held holds =
     absurd (not_two_or_four status e (refused_with u seen.out errors status (words_get_no_help check_words check_is_free u refuses) ends.2))
 
@@ -185,6 +191,8 @@ shared_fails names chosen seen status (fault.Checked number refused) shared is e
 shared_fails names chosen seen status (fault.Audited f) shared is e = absurd is
 shared_fails names chosen seen status (fault.Followed f) shared is e = absurd is
 shared_fails names chosen seen status (fault.Loaded f) shared is e = absurd is
+shared_fails names chosen seen status (fault.Sizes f) shared is e = absurd is
+shared_fails names chosen seen status fault.ReadSizes shared is e = absurd is
 shared_fails names chosen seen status (fault.ReadOf which) shared is e = absurd is
 shared_fails names chosen seen status (fault.TooLargeOf which) shared is e = absurd is
 shared_fails names chosen seen status fault.Read shared is e = absurd is
@@ -194,6 +202,12 @@ shared_fails names chosen seen status fault.WritePage shared is e = absurd is
 shared_fails names chosen seen status fault.TooLarge shared is e = absurd is
 shared_fails names chosen seen status fault.Memory shared is e = absurd is
 
+-- words without a list of sizes name none
+no_list : (o : Option (Bor (List ℕ))) (input : InputChosen) (P : (List ℕ × InputChosen) → Type 0) → None ≡ option_map (λ text. text.now) o
+    → IsSomeAnd (option_map (λ name. (name.now, input)) o) P → ⊥
+no_list None input P none there = there
+no_list (Some name) input P none there = let k : None ≡ Some name.now = none in cc
+
 job_is_linked : (seen : JobSeen) (errors : SinkSeen) (status : ℕ) → seen.files.known.are_one (codes "proofs") (codes "yard") ≡ Some true → (j : Job)
     → WordsAsk linked_words j → JobEnds j seen errors status → EndsUnemptied seen status
 unfolding walk_fault defaults_fault flags_fault walked bundle_met
@@ -201,8 +215,11 @@ job_is_linked seen errors status one (Solve names settings quiet progress) (free
     let shared : IsShared seen.files.known (named_in_run names) =
     (role.Certificates, role.YardList, (refl, record { first = codes "proofs"; second = codes "yard"; is = sym files.2; is_other = sym files.0; one = one })) in
     elim ends [
-      | inl done ↦ absurd (done.1.1.1.apart shared)
-      | inr (f, (alone, fails), so_far, behind, is) ↦ shared_fails names settings seen status f shared fails is
+      | inl (ended, done, noted, is) ↦ absurd ((as_run names settings quiet progress seen (Done ended) done).holds.0.1.1.apart shared)
+      | inr (f, inl unsized, explained, is) ↦ absurd (no_list names.sizes settings.input _ files.4 unsized.list)
+      | inr (f, inr failed, explained, is) ↦
+          let run = as_run names settings quiet progress seen (Failed f) failed in
+          shared_fails names _ (behind run.failures seen) status f shared run.holds.0.1 is
     ]
 job_is_linked seen errors status one (OneFile file command.Replay) (free, (name, is)) ends = absurd (other_letter 115 114 _ _ refl name)
 job_is_linked seen errors status one (OneFile file (command.Bound chains)) (free, (name, is)) ends = absurd (other_letter 115 98 _ _ refl name.0)
@@ -244,8 +261,8 @@ record AtLimits (found : List Row) : Type 0 where
   thin : one_of (codes "thin") found ≡ Some (codes "1000000")
   budget : one_of (codes "budget") found ≡ Some (codes "1099511627776")
 
-heights_at : (found : List Row) (heights : List ℕ) → AtLimits found → FindsRowHeights found heights → heights ≡ replicate 12 8
-heights_at found heights at finds = by_own finds.own finds.finds_own finds.are
+sizes_at : (found : List Row) (sizes : YardSizes) → AtLimits found → FindsSizes found sizes → sizes ≡ one_size (replicate 12 8)
+sizes_at found sizes at finds = by_own finds.own finds.finds_own finds.are
   where
     twelve : finds.rows ≡ 12
     twelve = one_number (codes "rows") found (codes "12") finds.rows at.rows finds.finds_rows.0
@@ -253,8 +270,8 @@ heights_at found heights at finds = by_own finds.own finds.finds_own finds.are
     eight : finds.tiers ≡ 8
     eight = one_number (codes "tiers") found (codes "8") finds.tiers at.tiers finds.finds_tiers.0
 
-    by_own : (own : Option (List ℕ)) → MayFindHeights found own → heights ≡ heights_or own finds.rows finds.tiers → heights ≡ replicate 12 8
-    by_own None none are = are ∙ ap (λ (n : ℕ). replicate n finds.tiers) twelve ∙ ap (λ (n : ℕ). replicate 12 n) eight
+    by_own : (own : Option (List ℕ)) → MayFindHeights found own → sizes ≡ one_size (heights_or own finds.rows finds.tiers) → sizes ≡ one_size (replicate 12 8)
+    by_own None none are = are ∙ ap (λ (n : ℕ). one_size (replicate n finds.tiers)) twelve ∙ ap (λ (n : ℕ). one_size (replicate 12 n)) eight
     by_own (Some list) (text, has, is) are = let k : None ≡ Some text = sym at.heights ∙ has in cc
 
 no_fault_at : (found : List Row) → AtLimits found → (f : SettingFault) → IsSolveFault found f → ⊥
@@ -280,7 +297,7 @@ no_fault_at found at setting.Heights (inr (searched, is)) =
 pub limits_ask : (j : Job) → WordsAsk limit_words j → HasHeights (replicate 12 8) j
 unfolding walk_fault defaults_fault flags_fault walked bundle_met
 limits_ask (Solve names settings quiet progress) (free, (name, size, twice, files, has, a, b)) =
-    heights_at _ settings.input.heights (record { rows = refl; tiers = refl; heights = refl; workers = refl; split = refl; beam = refl; thin = refl; budget = refl }) has.1.0
+    sizes_at _ settings.input.sizes (record { rows = refl; tiers = refl; heights = refl; workers = refl; split = refl; beam = refl; thin = refl; budget = refl }) has.1.0
 limits_ask (OneFile file command.Replay) (free, (name, is)) = absurd (other_letter 115 114 _ _ refl name)
 limits_ask (OneFile file (command.Bound chains)) (free, (name, is)) = absurd (other_letter 115 98 _ _ refl name.0)
 limits_ask (OneFile file (command.Check any_size)) (free, (name, is)) = absurd (other_letter 115 99 _ _ refl name.0)

@@ -54,7 +54,7 @@ pub record AreAudited (s : AuditSeen) (list message report certificates : List �
 input_is : (chosen : InputChosen) (listing messages : SourceSeen) (list message : List ℕ) (yard : Inventory) (orders : LoadOrders) (sequence : List (List ℕ))
     → listing.given ≡ Some list → messages.given ≡ Some message → IsInputOf chosen listing messages yard orders sequence → AreInput chosen list message yard orders sequence
 input_is chosen listing messages list message yard orders sequence e f is = record {
-  listed = subst (λ (t : List ℕ). IsYardListOf chosen.heights t yard) (given_is listing.given list is.list e is.given_list) is.listed;
+  listed = subst (λ (t : List ℕ). IsYardListOf chosen.sizes t yard) (given_is listing.given list is.list e is.given_list) is.listed;
   ordered = subst (λ (t : List ℕ). AreOrders chosen.code t orders) (given_is messages.given message is.message f is.given_message) is.ordered;
   in_sequence = is.in_sequence;
 }

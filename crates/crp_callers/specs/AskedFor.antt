@@ -1,5 +1,6 @@
 -- What words ask for, and why they are refused.
 use Rattle.std.specs.Prelude.{◌≡◌, ℕ, IsTrue, List}
+use Rattle.crp_sizes.specs.Sizes.{one_size}
 use Rattle.crp_jobs.specs.declared.job.Job.{Job}
 use Rattle.crp_jobs.specs.declared.job.Job.TheVariants.{OneFile, Audit, Follow, Solve}
 use Rattle.crp_jobs.specs.declared.job.FileCommand.TheVariants.{Replay, Bound, Check, Prove}
@@ -9,7 +10,7 @@ use Rattle.crp_words.specs.declared.usage.Usage.TheVariants.{Help, Wrong, Memory
 
 -- the job is a run over bays whose rows have these heights
 abbrev pub HasHeights : List ℕ → Job → Type 0
-HasHeights heights (Solve names settings quiet progress) = settings.input.heights ≡ heights
+HasHeights heights (Solve names settings quiet progress) = settings.input.sizes ≡ one_size heights
 HasHeights heights (OneFile file command) = ⊥
 HasHeights heights (Audit names settings) = ⊥
 HasHeights heights (Follow names settings) = ⊥

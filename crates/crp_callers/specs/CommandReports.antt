@@ -1,9 +1,12 @@
 -- What the commands write of lists of bytes.
-use Rattle.std.specs.Prelude.{◌≡◌, ◌≤◌, ℕ, List, [], ◌∷◌, ◌++◌, codes, decimal}
+use Rattle.std.specs.Prelude.{◌≡◌, ◌≤◌, ℕ, List, [], ◌∷◌, ◌++◌, Option, Some, None, codes, decimal}
 use Rattle.crp_plan.specs.declared.moves.Move.{Move}
 use Rattle.crp_plan.specs.Bay.{Problem, IsPlan, relocations}
+use Rattle.crp_sizes.specs.Sizes.{YardSizes}
+use Rattle.crp_sizes.specs.Records.{IsSizesListOf}
 use Rattle.crp_yard.specs.Inventory.{Inventory}
-use Rattle.crp_yard.specs.Reading.{IsYardListOf}
+use Rattle.crp_yard.specs.Reading.{IsTextOf, IsYardListOf}
+use Rattle.crp_files.specs.Known.{KnownFiles}
 use Rattle.crp_movins.specs.LoadOrders.{LoadOrders}
 use Rattle.crp_order.specs.Sequences.{IsSequence}
 use Rattle.crp_said.specs.declared.numbers.Numbers.{Numbers}
@@ -27,6 +30,12 @@ IsReportOf (Bound chains) bytes text = IsBound chains bytes text
 IsReportOf (Check any_size) bytes text = IsCheck bytes text
 IsReportOf (Prove search) bytes text = IsSomeProof search bytes text
 
+-- the yard is that of the list, where its bays have the chosen sizes, or where a list of sizes is named those that it has, as far as the bytes of its file are known
+abbrev pub IsSizedList : KnownFiles → Option (List ℕ) → YardSizes → List ℕ → Inventory → Type 0
+IsSizedList known None chosen list yard = IsYardListOf chosen list yard
+IsSizedList known (Some name) chosen list yard =
+    (text : List ℕ) × (sizes : YardSizes) × IsTextOf (known.given name) text × IsSizesListOf chosen.common text sizes × IsYardListOf sizes list yard
+
 -- the report ends with a line of chains, and no plan has fewer relocations than the number in it
 pub record EndsWithBound (p : Problem) (report : List ℕ) : Type 0 where
   pub before : List ℕ
@@ -37,7 +46,7 @@ pub record EndsWithBound (p : Problem) (report : List ℕ) : Type 0 where
 
 -- a yard list and a message are accepted, and this is what they say
 pub record AreInput (chosen : InputChosen) (list message : List ℕ) (yard : Inventory) (orders : LoadOrders) (sequence : List (List ℕ)) : Type 0 where
-  pub listed : IsYardListOf chosen.heights list yard
+  pub listed : IsYardListOf chosen.sizes list yard
   pub ordered : AreOrders chosen.code message orders
   pub in_sequence : IsSequence chosen.mode orders.list sequence
 

@@ -2,6 +2,7 @@ pub mod SmallBays
 pub mod Released
 pub mod TwoBays
 pub mod TwoOrders
+pub mod TwoSizes
 pub mod SmallBay
 pub mod SmallReport
 pub mod SmallFrame

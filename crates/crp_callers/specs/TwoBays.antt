@@ -2,12 +2,16 @@
 use Rattle.std.specs.Prelude.{ℕ, List, [], ◌∷◌, codes}
 use Rattle.crp_plan.specs.Bay.{Problem}
 use Rattle.crp_plan.specs.BayNames.{YardBay}
+use Rattle.crp_sizes.specs.Sizes.{YardSizes, one_size}
 use Rattle.crp_yard.specs.declared.bay_plan.BayPlan.{BayPlan}
 use Rattle.crp_yard.specs.Records.{Entry}
 use Rattle.crp_yard.specs.Inventory.{Inventory, StackedBay}
 
 abbrev pub heights : List ℕ
 heights = 2 ∷ 3 ∷ []
+
+abbrev pub sizes : YardSizes
+sizes = one_size heights
 
 -- bays of the block A
 abbrev pub bay : ℕ → YardBay
@@ -22,11 +26,11 @@ second_bay = (bay 2, [] ∷ (codes "ALONE" ∷ []) ∷ [])
 
 -- the yard
 abbrev pub two_bays : Inventory
-two_bays = record { heights = heights; tiers = 3; bays = first_bay ∷ second_bay ∷ [] }
+two_bays = record { sizes = sizes; bays = first_bay ∷ second_bay ∷ [] }
 
 -- the same with a bay between in which nothing stands
 abbrev pub with_empty_bay : Inventory
-with_empty_bay = record { heights = heights; tiers = 3; bays = first_bay ∷ (bay 3, [] ∷ [] ∷ []) ∷ second_bay ∷ [] }
+with_empty_bay = record { sizes = sizes; bays = first_bay ∷ (bay 3, [] ∷ [] ∷ []) ∷ second_bay ∷ [] }
 
 -- the first record of a list
 abbrev pub first_record : List (List ℕ)
@@ -75,7 +79,7 @@ twice_faulty =
 
 -- a yard of one container, whose name has a comma and a quote
 abbrev pub quoted_yard : Inventory
-quoted_yard = record { heights = 1 ∷ []; tiers = 1; bays = (bay 1, (codes "A,\"B" ∷ []) ∷ []) ∷ [] }
+quoted_yard = record { sizes = one_size (1 ∷ []); bays = (bay 1, (codes "A,\"B" ∷ []) ∷ []) ∷ [] }
 
 -- its text
 abbrev pub quoted_text : List ℕ
@@ -91,7 +95,7 @@ plan_for_first = record {
 
 -- the yard as it leaves it
 abbrev pub yard_left : Inventory
-yard_left = record { heights = heights; tiers = 3; bays = (bay 1, [] ∷ (codes "UPPER" ∷ codes "LINGERS" ∷ codes "STAYS" ∷ []) ∷ []) ∷ second_bay ∷ [] }
+yard_left = record { sizes = sizes; bays = (bay 1, [] ∷ (codes "UPPER" ∷ codes "LINGERS" ∷ codes "STAYS" ∷ []) ∷ []) ∷ second_bay ∷ [] }
 
 -- the problem of the first bay, of which LOWER and UPPER are to leave
 abbrev pub problem_of_first : Problem

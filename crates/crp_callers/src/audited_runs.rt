@@ -3,6 +3,7 @@ ghost use Rattle.std.specs.Prelude.{◌≡◌, ◌≤◌, ℕ, List, Some, false
 ghost use Rattle.std.specs.List.{AllByRecursion, AllZip};
 ghost use Rattle.crp_plan.specs.Bay.{cap};
 ghost use Rattle.crp_plan.specs.BayNames.{YardBay, IsYardBay};
+ghost use Rattle.crp_sizes.specs.Sizes.{YardSizes};
 ghost use Rattle.crp_yard.specs.Inventory.{Inventory};
 ghost use Rattle.crp_yard.specs.Naming.{IsNamedBay};
 ghost use Rattle.crp_yard.specs.Reading.{IsYardListOf};
@@ -87,7 +88,7 @@ pub fn follow_of_headline(
     yard: &Yard,
     report: &[u8],
 ) -> Result<Followed, FollowFault>
-    ensures { (heights code list message : List ℕ) (mode : Mode) (h : Handed) (is : IsHeadline h) → IsYardListOf heights list h.yard
+    ensures { (sizes : YardSizes) (code list message : List ℕ) (mode : Mode) (h : Handed) (is : IsHeadline h) → IsYardListOf sizes list h.yard
         → AreOrders code message h.orders → IsSequence mode h.orders.list h.sequence → yard.now ≡ h.yard → report.now ≡ h.report
         → MatchResult result (λ followed. AllZip (EndsAsPrinted h) is.bays (map bay_followed followed.bays.items)) (λ fault. fault ≡ Fault.Memory) }
 {
@@ -106,7 +107,7 @@ pub fn runs_name_their_bays()
 
 /// No line of a headline's report names a bay that its yard lacks.
 pub fn headlines_name_their_bays()
-    ensures { (heights code list message : List ℕ) (mode : Mode) (h : Handed) (line : ℕ) → IsHeadline h → IsYardListOf heights list h.yard
+    ensures { (sizes : YardSizes) (code list message : List ℕ) (mode : Mode) (h : Handed) (line : ℕ) → IsHeadline h → IsYardListOf sizes list h.yard
         → AreOrders code message h.orders → IsSequence mode h.orders.list h.sequence → IsFirstFault h.yard h.report (Fault.NoBay line) → ⊥ }
 {
     headlines_are_followed();

@@ -1,6 +1,7 @@
 //! Callers of the audit of a report and its certificates.
 ghost use Rattle.std.specs.Prelude.{◌≡◌, ◌≤◌, List, length, map, filter, IfOk, IfSome, IfNone};
 ghost use Rattle.std.specs.List.{AllByRecursion, AllZip};
+ghost use Rattle.crp_sizes.specs.Sizes.{heights_at};
 ghost use Rattle.crp_yard.specs.Naming.{IsNamedBay};
 ghost use Rattle.crp_order.specs.BayProblems.{is_called, problem_of};
 ghost use Rattle.crp_checker.specs.Verdicts.{Says};
@@ -71,7 +72,7 @@ pub fn shown_of_each(
     certificates: &[u8],
 ) -> Result<Verdicts, AuditStopped>
     requires { AllByRecursion IsNamedBay yard.now.bays }
-    ensures says { IfOk result (AllZip (λ bay shown. (shown.0 ≡ bay.0) × Says (problem_of yard.now.heights sequence.now bay.1) shown.1)
+    ensures says { IfOk result (AllZip (λ bay shown. (shown.0 ≡ bay.0) × Says (problem_of (heights_at yard.now.sizes bay.0) sequence.now bay.1) shown.1)
         (filter (is_called sequence.now) yard.now.bays)) }
     ensures file { IfOk result (FileShows certificates.now) }
     ensures lines { IfOk result (λ shown. (said : List BaySaid)

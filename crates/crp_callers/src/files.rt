@@ -1,12 +1,12 @@
 //! Callers of jobs over files.
 ghost use Rattle.std.specs.Prelude.{◌≡◌, ◌≢◌, ◌⊎◌, ℕ, List, [], Some, take, codes, option_map, IfOk, IfSome, IsTrue, OnOk};
-ghost use Rattle.crp_yard.specs.Reading.{IsTextOf, IsYardListOf};
+ghost use Rattle.crp_yard.specs.Reading.{IsTextOf};
 ghost use Rattle.crp_report.specs.Runs.{Made};
 ghost use Rattle.crp_audit.specs.Headline.{IsHeadline};
 ghost use Rattle.crp_headline.specs.Accepted.{handed_of};
 ghost use Rattle.crp_commands.specs.Solving.{AreTwo};
 ghost use Rattle.crp_memory_files.specs.Memory.{bytes_at, known_in, place_of};
-ghost use Rattle.crp_callers.specs.CommandReports.{IsReportOf};
+ghost use Rattle.crp_callers.specs.CommandReports.{IsReportOf, IsSizedList};
 
 use crp_commands::{Streams, Terminal, run_job};
 use crp_files::Files;
@@ -46,7 +46,7 @@ pub fn report_of_file<T: Threads + Wait + Sync, F: Files, S: Terminal + Sync>(
 }
 
 /// A run over the files of a yard writes its report, and no other text, to the standard output: one of a headline, of the yard that the
-/// file lists.
+/// file lists, whose bays have the sizes that were chosen, or those of the list of sizes that is named.
 pub fn report_of_run<T: Threads + Wait + Sync, F: Files, S: Terminal + Sync>(
     threads: &T,
     alloc: Global,
@@ -56,7 +56,7 @@ pub fn report_of_run<T: Threads + Wait + Sync, F: Files, S: Terminal + Sync>(
     terminal: &S,
 ) -> Result<Vec<u8>, ToolFault>
     ensures { IfOk result (λ report. (made : Made) × IsHeadline (handed_of made) × (report.items ≡ made.report)
-        × IsTextOf ((F.known files.old).given names.entry.yard.now) made.list × IsYardListOf settings.input.heights made.list made.yard) }
+        × IsTextOf ((F.known files.old).given names.entry.yard.now) made.list × IsSizedList (F.known files.old) (option_map (λ name. name.now) names.entry.sizes) settings.input.sizes made.list made.yard) }
 {
     let input: &[u8] = b"";
     let out = Received::new(alloc);
@@ -86,7 +86,7 @@ pub fn front_of_run<T: Threads + Wait + Sync, F: Files, S: Terminal + Sync>(
     terminal: &S,
 ) -> Option<Vec<u8>>
     ensures { IfSome result (λ lines. (lines.items ≡ []) ⊎ ((made : Made) × IsHeadline (handed_of made) × ((n : ℕ) × (lines.items ≡ take n made.report))
-        × IsTextOf ((F.known files.old).given names.entry.yard.now) made.list × IsYardListOf settings.input.heights made.list made.yard)) }
+        × IsTextOf ((F.known files.old).given names.entry.yard.now) made.list × IsSizedList (F.known files.old) (option_map (λ name. name.now) names.entry.sizes) settings.input.sizes made.list made.yard)) }
 {
     let input: &[u8] = b"";
     let out = Received::new(alloc);

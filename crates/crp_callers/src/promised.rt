@@ -3,6 +3,7 @@ ghost use Rattle.std.specs.Prelude.{◌≡◌, ℕ, List, Some};
 ghost use Rattle.crp_plan.specs.declared.moves.Move.{Move};
 ghost use Rattle.crp_plan.specs.Bay.{IsBest, IsProblem, path_of, start};
 ghost use Rattle.crp_tree.specs.First.{IsFirstBest};
+ghost use Rattle.crp_sizes.specs.Sizes.{heights_at};
 ghost use Rattle.crp_yard.specs.Inventory.{StackedBay};
 ghost use Rattle.crp_order.specs.BayProblems.{problem_of, ranked};
 ghost use Rattle.crp_cert.specs.declared.script.Script.{Script};
@@ -19,7 +20,7 @@ use crp_audit::{one_plan_is_printed, true_if_it_looks_so};
 pub fn printed_and_accepted_is_best()
     ensures { (h : Handed) (bay : StackedBay) (lines certificate : List ℕ) (count : ℕ)
         → LooksTrue h (record { bay = bay; said = Optimal count; lines = lines; certificate = certificate })
-        → IsBest (problem_of h.yard.heights h.sequence bay.1) count }
+        → IsBest (problem_of (heights_at h.yard.sizes bay.0) h.sequence bay.1) count }
 {
     true_if_it_looks_so();
 }
@@ -28,14 +29,14 @@ pub fn printed_and_accepted_is_best()
 /// certificate has the rows of that plan.
 pub fn printed_plan_is_certified()
     ensures first { (h : Handed) (bay : StackedBay) (lines certificate : List ℕ) (count : ℕ) (moves : List Move)
-        → IsProblem (problem_of h.yard.heights h.sequence bay.1)
+        → IsProblem (problem_of (heights_at h.yard.sizes bay.0) h.sequence bay.1)
         → IsTrueOf h (record { bay = bay; said = First count; lines = lines; certificate = certificate })
-        → AreMoveLines (ranked h.sequence bay.1) (start (problem_of h.yard.heights h.sequence bay.1)) moves lines
-        → IsFirstBest (problem_of h.yard.heights h.sequence bay.1) (path_of moves) }
+        → AreMoveLines (ranked h.sequence bay.1) (start (problem_of (heights_at h.yard.sizes bay.0) h.sequence bay.1)) moves lines
+        → IsFirstBest (problem_of (heights_at h.yard.sizes bay.0) h.sequence bay.1) (path_of moves) }
     ensures stated { (h : Handed) (bay : StackedBay) (lines certificate : List ℕ) (count : ℕ) (moves : List Move)
-        → IsProblem (problem_of h.yard.heights h.sequence bay.1)
+        → IsProblem (problem_of (heights_at h.yard.sizes bay.0) h.sequence bay.1)
         → IsTrueOf h (record { bay = bay; said = First count; lines = lines; certificate = certificate })
-        → AreMoveLines (ranked h.sequence bay.1) (start (problem_of h.yard.heights h.sequence bay.1)) moves lines
+        → AreMoveLines (ranked h.sequence bay.1) (start (problem_of (heights_at h.yard.sizes bay.0) h.sequence bay.1)) moves lines
         → (script : Script) × IsScriptOf certificate script × (script.head.plan ≡ Some (path_of moves)) }
 {
     true_if_it_looks_so();

@@ -3,27 +3,25 @@
 ghost use Rattle.std.specs.Prelude.{◌≡◌, ◌<◌, ◌≤◌, ◌+◌, ◌-◌, ◌++◌, ◌⊎◌, ℕ, Some, IfOk, IfErr, OnOk, IsErrOf, length, take, replicate};
 ghost use Rattle.std.specs.List.{AllByRecursion};
 ghost use Rattle.crp_plan.specs.Devices.{CountsOne};
-ghost use Rattle.crp_plan.specs.Faults.{AreHeights};
+ghost use Rattle.crp_sizes.specs.Sizes.{one_size};
 ghost use Rattle.crp_yard.specs.Faults.{fault_of_text};
 ghost use Rattle.crp_yard.specs.Naming.{IsNamedBay};
 ghost use Rattle.crp_yard.specs.Reading.{IsYardList, IsYardListOf, failures_of_yard};
 ghost use Rattle.crp_yard.specs.Text.{yard_text};
 
 use crp_plan::{Received, Source, WriteFault};
-use crp_yard::{Yard, YardFault, read_yard, read_yard_heights, write_yard};
+use crp_sizes::Sizes;
+use crp_yard::{Yard, YardFault, read_yard, read_yard_sizes, write_yard};
 use std::alloc::Global;
 
 /// The yard that these bytes state, and else their first fault. No read of bytes fails.
-pub fn yard_of_bytes(alloc: Global, bytes: &[u8], heights: &[u8]) -> Result<Yard, YardFault>
-    requires some_rows { 1 ≤ length heights.now }
-    requires few_rows { length heights.now ≤ 12 }
-    requires heights { AreHeights heights.now }
-    ensures accepted { IfOk result (λ yard. IsYardListOf heights.now bytes.now yard) }
+pub fn yard_of_bytes(alloc: Global, bytes: &[u8], sizes: &Sizes) -> Result<Yard, YardFault>
+    ensures accepted { IfOk result (λ yard. IsYardListOf sizes.now bytes.now yard) }
     ensures named { IfOk result (λ yard. AllByRecursion IsNamedBay yard.bays) }
-    ensures refused { IfErr result (λ fault. (fault ≡ YardFault.Memory) ⊎ (fault_of_text heights.now bytes.now ≡ Some fault)) }
+    ensures refused { IfErr result (λ fault. (fault ≡ YardFault.Memory) ⊎ (fault_of_text sizes.now bytes.now ≡ Some fault)) }
 {
     let mut source = bytes;
-    read_yard_heights(alloc, &mut source, heights)
+    read_yard_sizes(alloc, &mut source, sizes)
 }
 
 /// The same where all rows have as many tiers.
@@ -39,7 +37,7 @@ pub fn even_yard_of_bytes(
     requires few_tiers { tiers ≤ 8 }
     ensures accepted { IfOk result (λ yard. IsYardList rows tiers bytes.now yard) }
     ensures named { IfOk result (λ yard. AllByRecursion IsNamedBay yard.bays) }
-    ensures refused { IfErr result (λ fault. (fault ≡ YardFault.Memory) ⊎ (fault_of_text (replicate rows tiers) bytes.now ≡ Some fault)) }
+    ensures refused { IfErr result (λ fault. (fault ≡ YardFault.Memory) ⊎ (fault_of_text (one_size (replicate rows tiers)) bytes.now ≡ Some fault)) }
 {
     let mut source = bytes;
     read_yard(alloc, &mut source, rows, tiers)
@@ -51,12 +49,9 @@ pub fn even_yard_of_bytes(
 pub fn read_from_start<R: Source>(
     alloc: Global,
     source: &mut R,
-    heights: &[u8],
+    sizes: &Sizes,
 ) -> Result<Yard, YardFault>
-    requires some_rows { 1 ≤ length heights.now }
-    requires few_rows { length heights.now ≤ 12 }
-    requires heights { AreHeights heights.now }
-    requires fresh { R.failures source.old ≡ 0 }
+    requires { R.failures source.old ≡ 0 }
     ensures few { OnOk result (R.failures source.new ≤ 1000) }
     ensures interruptions { OnOk result (R.interrupted source.old ≡ Some 0 → R.interrupted source.new ≡ Some (R.failures source.new)) }
     ensures some_more { IfErr result (λ fault. failures_of_yard fault ≤ R.failures source.new) }
@@ -64,7 +59,7 @@ pub fn read_from_start<R: Source>(
     ensures failed { IsErrOf result YardFault.Read → R.interrupted source.old ≡ Some 0
         → (R.failures source.new ≡ 1001) ⊎ (R.interrupted source.new ≡ Some (R.failures source.new - 1)) }
 {
-    read_yard_heights(alloc, source, heights)
+    read_yard_sizes(alloc, source, sizes)
 }
 
 /// The same where all rows have as many tiers.

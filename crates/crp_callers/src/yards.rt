@@ -10,7 +10,7 @@ ghost use Rattle.crp_yard.specs.ByPlaces.{StandsAt, NamesFirst, FloatsFirst, Non
 ghost use Rattle.crp_yard.specs.Faults.{fault_at, first_fault};
 ghost use Rattle.crp_yard.specs.Text.{yard_text};
 ghost use Rattle.crp_yard.specs.After.{IsPlanForBay, IsAfter};
-ghost use Rattle.crp_callers.specs.TwoBays.{heights, bay, two_bays, with_empty_bay, first_record, stating, listed, placed, entries, two_float, twice_faulty, quoted_yard, quoted_text, plan_for_first, yard_left};
+ghost use Rattle.crp_callers.specs.TwoBays.{sizes, bay, two_bays, with_empty_bay, first_record, stating, listed, placed, entries, two_float, twice_faulty, quoted_yard, quoted_text, plan_for_first, yard_left};
 
 use crp_plan::{one_kind, path_decides};
 use crp_yard::{
@@ -26,7 +26,7 @@ pub fn yard_of_a_list()
         → (i : ℕ) × (slice_get entries i ≡ Some (place, container)) }
     ensures named { (i : ℕ) × NamesFirst entries (bay 2) i }
     ensures first_seen { (i j : ℕ) → NamesFirst entries (bay 1) i → NamesFirst entries (bay 2) j → i < j }
-    ensures second { (records : List (List (List ℕ))) (i : ℕ) (container : List ℕ) → first_fault heights records ≡ None
+    ensures second { (records : List (List (List ℕ))) (i : ℕ) (container : List ℕ) → first_fault sizes records ≡ None
         → slice_get (entries_of records) i ≡ Some (placed 1 1 2 container)
         → slice_get (stack_up_to (entries_of records) (bay 1) 1 2) 1 ≡ Some container }
 {
@@ -37,10 +37,10 @@ pub fn yard_of_a_list()
 /// Of two containers that stand on nothing the first one floats, and no other. In a list without a fault none
 /// floats.
 pub fn first_to_float()
-    ensures first { FloatsFirst heights two_float 3 }
-    ensures one { (n : ℕ) → FloatsFirst heights two_float n → n ≡ 3 }
-    ensures none { NoneFloats heights listed }
-    ensures some { NoneFloats heights two_float → ⊥ }
+    ensures first { FloatsFirst sizes two_float 3 }
+    ensures one { (n : ℕ) → FloatsFirst sizes two_float n → n ≡ 3 }
+    ensures none { NoneFloats sizes listed }
+    ensures some { NoneFloats sizes two_float → ⊥ }
 {
     floating_by_places();
 }
@@ -48,9 +48,9 @@ pub fn first_to_float()
 /// Of two faulty records the first is stated, and before it stands none. Where no fault is stated, no record
 /// is faulty.
 pub fn first_faulty_record()
-    ensures first { (i : ℕ) × (1 ≤ i) × (i ≤ 4) × (fault_at heights twice_faulty i ≡ Some (PlaceTaken 3))
-        × ((k : ℕ) → 1 ≤ k → k < i → fault_at heights twice_faulty k ≡ None) }
-    ensures none { (k : ℕ) → 1 ≤ k → k ≤ 6 → fault_at heights listed k ≡ None }
+    ensures first { (i : ℕ) × (1 ≤ i) × (i ≤ 4) × (fault_at sizes twice_faulty i ≡ Some (PlaceTaken 3))
+        × ((k : ℕ) → 1 ≤ k → k < i → fault_at sizes twice_faulty k ≡ None) }
+    ensures none { (k : ℕ) → 1 ≤ k → k ≤ 6 → fault_at sizes listed k ≡ None }
 {
     first_fault_is_least();
 }
@@ -66,7 +66,7 @@ pub fn quoted_name()
 /// A bay in which nothing stands is not written. The yard that is read lacks it, and all else stands where it
 /// stood.
 pub fn empty_bay()
-    ensures read { IsYardListOf heights (yard_text with_empty_bay) two_bays }
+    ensures read { IsYardListOf sizes (yard_text with_empty_bay) two_bays }
     ensures same { (place : YardPlace) (container : List ℕ)
         → StandsAt with_empty_bay place container ↔ StandsAt two_bays place container }
 {

@@ -103,6 +103,8 @@ line_stops held holds new before after file piece verdicts stated files number (
 line_stops held holds new before after file piece verdicts stated files number (fault.TooLargeOf which) has ended why = absurd why
 line_stops held holds new before after file piece verdicts stated files number (fault.Followed f) has ended why = absurd why
 line_stops held holds new before after file piece verdicts stated files number (fault.Loaded f) has ended why = absurd why
+line_stops held holds new before after file piece verdicts stated files number (fault.Sizes f) has ended why = absurd why
+line_stops held holds new before after file piece verdicts stated files number fault.ReadSizes has ended why = absurd why
 line_stops held holds new before after file piece verdicts stated files number fault.WriteTable has ended why = absurd why
 line_stops held holds new before after file piece verdicts stated files number fault.WritePage has ended why = absurd why
 line_stops held holds new before after file piece verdicts stated files number (fault.OneFile both) has ended why = absurd why
@@ -157,6 +159,8 @@ earlier_bytes held holds first before after bytes (fault.ReadOf which) le grows 
 earlier_bytes held holds first before after bytes (fault.TooLargeOf which) le grows tells = absurd tells
 earlier_bytes held holds first before after bytes (fault.Followed f) le grows tells = absurd tells
 earlier_bytes held holds first before after bytes (fault.Loaded f) le grows tells = absurd tells
+earlier_bytes held holds first before after bytes (fault.Sizes f) le grows tells = absurd tells
+earlier_bytes held holds first before after bytes fault.ReadSizes le grows tells = absurd tells
 earlier_bytes held holds first before after bytes fault.WriteTable le grows tells = absurd tells
 earlier_bytes held holds first before after bytes fault.WritePage le grows tells = absurd tells
 earlier_bytes held holds first before after bytes (fault.OneFile both) le grows tells = absurd tells
@@ -229,6 +233,8 @@ bytes_stop limit s bytes (fault.ReadOf which) is within tells = absurd tells
 bytes_stop limit s bytes (fault.TooLargeOf which) is within tells = absurd tells
 bytes_stop limit s bytes (fault.Followed f) is within tells = absurd tells
 bytes_stop limit s bytes (fault.Loaded f) is within tells = absurd tells
+bytes_stop limit s bytes (fault.Sizes f) is within tells = absurd tells
+bytes_stop limit s bytes fault.ReadSizes is within tells = absurd tells
 bytes_stop limit s bytes fault.WriteTable is within tells = absurd tells
 bytes_stop limit s bytes fault.WritePage is within tells = absurd tells
 bytes_stop limit s bytes (fault.OneFile both) is within tells = absurd tells
@@ -260,6 +266,8 @@ earlier_check limit given held holds source before after sink first last (fault.
 earlier_check limit given held holds source before after sink first last (fault.TooLargeOf which) a b c d tells = absurd tells
 earlier_check limit given held holds source before after sink first last (fault.Followed f) a b c d tells = absurd tells
 earlier_check limit given held holds source before after sink first last (fault.Loaded f) a b c d tells = absurd tells
+earlier_check limit given held holds source before after sink first last (fault.Sizes f) a b c d tells = absurd tells
+earlier_check limit given held holds source before after sink first last fault.ReadSizes a b c d tells = absurd tells
 earlier_check limit given held holds source before after sink first last fault.WriteTable a b c d tells = absurd tells
 earlier_check limit given held holds source before after sink first last fault.WritePage a b c d tells = absurd tells
 earlier_check limit given held holds source before after sink first last (fault.OneFile both) a b c d tells = absurd tells
@@ -283,6 +291,8 @@ last_stops limit s holds file verdicts stated files number (fault.ReadOf which) 
 last_stops limit s holds file verdicts stated files number (fault.TooLargeOf which) text is has shows why = absurd why
 last_stops limit s holds file verdicts stated files number (fault.Followed f) text is has shows why = absurd why
 last_stops limit s holds file verdicts stated files number (fault.Loaded f) text is has shows why = absurd why
+last_stops limit s holds file verdicts stated files number (fault.Sizes f) text is has shows why = absurd why
+last_stops limit s holds file verdicts stated files number fault.ReadSizes text is has shows why = absurd why
 last_stops limit s holds file verdicts stated files number fault.WriteTable text is has shows why = absurd why
 last_stops limit s holds file verdicts stated files number fault.WritePage text is has shows why = absurd why
 last_stops limit s holds file verdicts stated files number (fault.OneFile both) text is has shows why = absurd why

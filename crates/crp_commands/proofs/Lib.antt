@@ -8,5 +8,6 @@ pub mod Finished
 pub mod Solved
 pub mod FollowedFiles
 pub mod Promised
+pub mod AsSized
 pub mod Noted
 pub mod LineOfChains

@@ -1,6 +1,6 @@
 -- The headline holds of what a run over files wrote.
-use Rattle.std.proofs.Common.{◌≡◌, ◌∙◌, ◌⊎◌, ℕ, List, [], Option, Some, None, Result, Ok, Err, MatchResult, refl, sym, ap, subst, inl, inr, take, length}
-use Rattle.std.specs.Prelude.{IfOk, IfErr, IfSome, IsTrue}
+use Rattle.std.proofs.Common.{◌≡◌, ◌∙◌, ◌⊎◌, ℕ, List, [], Option, Some, None, refl, sym, ap, subst, inl, inr, take, length}
+use Rattle.std.specs.Prelude.{IfSome, IsTrue}
 use Rattle.std.specs.Io.KnownBytes.{Appends}
 use Rattle.std.proofs.Math.Seq.{take-length}
 use Rattle.crp_audit.specs.Headline.{IsHeadline}
@@ -76,7 +76,7 @@ whole_front s text gets = (length text, subst (λ (l : List ℕ). Appends s.held
 -- ---- the headline
 
 -- of one that has ended
-headline_kept : (j : Job) (seen : JobSeen) (ended : Status) → ReportsOverFiles j seen ended → KeepsHeadline j seen
+pub headline_kept : (j : Job) (seen : JobSeen) (ended : Status) → ReportsOverFiles j seen ended → KeepsHeadline j seen
 headline_kept (job.OneFile file command) seen ended is = tt
 headline_kept (job.Audit names settings) seen ended is = tt
 headline_kept (job.Follow names heights) seen ended is = tt
@@ -140,6 +140,8 @@ solve_so_far names chosen seen (fault.Checked number refused) is = absurd is
 solve_so_far names chosen seen (fault.Audited f) is = absurd is
 solve_so_far names chosen seen (fault.Followed f) is = absurd is
 solve_so_far names chosen seen (fault.Loaded f) is = absurd is
+solve_so_far names chosen seen (fault.Sizes f) is = absurd is
+solve_so_far names chosen seen fault.ReadSizes is = absurd is
 solve_so_far names chosen seen (fault.ReadOf which) is = absurd is
 solve_so_far names chosen seen (fault.TooLargeOf which) is = absurd is
 solve_so_far names chosen seen fault.Read is = absurd is
@@ -149,18 +151,8 @@ solve_so_far names chosen seen fault.WritePage is = absurd is
 solve_so_far names chosen seen fault.TooLarge is = absurd is
 solve_so_far names chosen seen fault.Memory is = absurd is
 
-headline_so_far : (j : Job) (seen : JobSeen) (f : ToolFault) → FailsOverFiles j seen f → KeepsHeadlineSoFar j seen
+pub headline_so_far : (j : Job) (seen : JobSeen) (f : ToolFault) → FailsOverFiles j seen f → KeepsHeadlineSoFar j seen
 headline_so_far (job.OneFile file command) seen f is = tt
 headline_so_far (job.Audit names settings) seen f is = tt
 headline_so_far (job.Follow names heights) seen f is = tt
 headline_so_far (job.Solve names chosen quiet progress) seen f is = solve_so_far names chosen seen f is.1
-
--- of any job, from how it ended
-pub ended_with_headline : (j : Job) (seen : JobSeen) (answer : Result Status ToolFault) → MatchResult answer (ReportsOverFiles j seen) (FailsOverFiles j seen) → IfOk answer (λ _. KeepsHeadline j seen)
-ended_with_headline j seen (Ok ended) is = headline_kept j seen ended is
-ended_with_headline j seen (Err f) is = tt
-
-pub failed_with_headline : (j : Job) (seen : JobSeen) (answer : Result Status ToolFault) → MatchResult answer (ReportsOverFiles j seen) (FailsOverFiles j seen) →
-    IfErr answer (λ _. KeepsHeadlineSoFar j seen)
-failed_with_headline j seen (Ok ended) is = tt
-failed_with_headline j seen (Err f) is = headline_so_far j seen f is

@@ -102,6 +102,8 @@ no_page ship yard report numbers bays page out (fault.Checked number why) loaded
 no_page ship yard report numbers bays page out (fault.Audited f) loaded nothing stops = absurd stops
 no_page ship yard report numbers bays page out (fault.Followed f) loaded nothing stops = absurd stops
 no_page ship yard report numbers bays page out (fault.Loaded f) loaded nothing stops = absurd stops
+no_page ship yard report numbers bays page out (fault.Sizes f) loaded nothing stops = absurd stops
+no_page ship yard report numbers bays page out fault.ReadSizes loaded nothing stops = absurd stops
 no_page ship yard report numbers bays page out (fault.Run f) loaded nothing stops = absurd stops
 no_page ship yard report numbers bays page out (fault.ReadOf which) loaded nothing stops = absurd stops
 no_page ship yard report numbers bays page out (fault.TooLargeOf which) loaded nothing stops = absurd stops
@@ -136,6 +138,8 @@ no_report chosen s yard ship (fault.Plan f) nothing input none = absurd none
 no_report chosen s yard ship (fault.Checked number why) nothing input none = absurd none
 no_report chosen s yard ship (fault.Audited f) nothing input none = absurd none
 no_report chosen s yard ship (fault.Loaded f) nothing input none = absurd none
+no_report chosen s yard ship (fault.Sizes f) nothing input none = absurd none
+no_report chosen s yard ship fault.ReadSizes nothing input none = absurd none
 no_report chosen s yard ship (fault.Run f) nothing input none = absurd none
 no_report chosen s yard ship (fault.TooLargeOf which) nothing input none = absurd none
 no_report chosen s yard ship fault.WriteTable nothing input none = absurd none
@@ -150,6 +154,8 @@ pub no_texts : (chosen : InputChosen) (s : FollowSeen) (yard : Inventory) (ship 
     → StopsFollowing ship yard report s.page s.out f → FollowFailsWith chosen s f
 no_texts chosen s yard ship report (fault.Followed f) input given stops = (yard, ship, report, input, given, stops)
 no_texts chosen s yard ship report (fault.Loaded f) input given stops = (yard, ship, report, input, given, stops)
+no_texts chosen s yard ship report (fault.Sizes f) input given stops = absurd stops
+no_texts chosen s yard ship report fault.ReadSizes input given stops = absurd stops
 no_texts chosen s yard ship report fault.WriteTable input given stops = (yard, ship, report, input, given, stops)
 no_texts chosen s yard ship report fault.WritePage input given stops = (yard, ship, report, input, given, stops)
 no_texts chosen s yard ship report fault.Memory input given stops = (stops.0, followed_front_or chosen s yard ship report s.page input given stops.1)

@@ -50,7 +50,7 @@ pub record IsInputOf (chosen : InputChosen) (yard movins : SourceSeen) (stands :
   pub message : List ℕ
   pub given_list : IsTextOf yard.given list
   pub given_message : IsTextOf movins.given message
-  pub listed : IsYardListOf chosen.heights list stands
+  pub listed : IsYardListOf chosen.sizes list stands
   pub ordered : AreOrders chosen.code message orders
   pub in_sequence : IsSequence chosen.mode orders.list sequence
 
@@ -102,11 +102,11 @@ StopsOn h out f = ⊥
 
 -- the yard list that the source had is accepted
 abbrev pub IsListAccepted : InputChosen → SourceSeen → Type 0
-IsListAccepted chosen yard = (list : List ℕ) × (stands : Inventory) × IsTextOf yard.given list × IsYardListOf chosen.heights list stands
+IsListAccepted chosen yard = (list : List ℕ) × (stands : Inventory) × IsTextOf yard.given list × IsYardListOf chosen.sizes list stands
 
 -- why there is no input: the fault of the yard list, or where that is accepted of the message, as a run states them
 abbrev pub IsNoInput : InputChosen → SourceSeen → SourceSeen → Fault → Type 0
-IsNoInput chosen yard movins f = IsNoYard chosen.heights yard.given yard.before yard.after f
+IsNoInput chosen yard movins f = IsNoYard chosen.sizes yard.given yard.before yard.after f
     ⊎ (IsListAccepted chosen yard × IsNoMessage chosen.code movins.given movins.before movins.after f)
 
 -- the input is accepted

@@ -2,6 +2,7 @@
 -- loaded where a message is asked for, and their page where one is asked for.
 use Rattle.std.specs.Prelude.{◌≡◌, ◌≢◌, ℕ, Bool, true, false, ◌+◌, ◌-◌, ◌<◌, ◌≤◌, ◌⊎◌, List, [], length, codes, Option, Some, None, option_map, IfSome, IsSomeAnd, MatchOption, IsTrue, Result, MatchResult, ⊤}
 use Rattle.crp_plan.specs.Devices.{HasFailed, most_interruptions}
+use Rattle.crp_sizes.specs.Sizes.{YardSizes}
 use Rattle.crp_yard.specs.Inventory.{Inventory}
 use Rattle.crp_yard.specs.Reading.{IsTextOf, IsYardListOf}
 use Rattle.crp_movins.specs.LoadOrders.{LoadOrders}
@@ -70,19 +71,19 @@ follow_failures s = (s.yard.after - s.yard.before) + (source_failures s.movins +
 abbrev pub Ship : Type 0
 Ship = LoadOrders × List (List ℕ)
 
--- the source had a yard list whose rows have these heights, it is accepted, and this stands in the yard
-abbrev pub IsYardIn : List ℕ → SourceSeen → Inventory → Type 0
-IsYardIn heights source yard = (list : List ℕ) × IsTextOf source.given list × IsYardListOf heights list yard
+-- the source had a yard list whose bays have these sizes, it is accepted, and this stands in the yard
+abbrev pub IsYardIn : YardSizes → SourceSeen → Inventory → Type 0
+IsYardIn sizes source yard = (list : List ℕ) × IsTextOf source.given list × IsYardListOf sizes list yard
 
 -- the sources had a yard list and, where one is asked for, a message, both accepted: what stands in the yard, and what the ship is to get
 abbrev pub IsFollowInput : InputChosen → SourceSeen → Option SourceSeen → Inventory → Option Ship → Type 0
-IsFollowInput chosen source None yard None = IsYardIn chosen.heights source yard
+IsFollowInput chosen source None yard None = IsYardIn chosen.sizes source yard
 IsFollowInput chosen source (Some message) yard (Some ship) = IsInputOf chosen source message yard ship.0 ship.1
 IsFollowInput chosen source message yard ship = ⊥
 
 -- why there is no input: the fault of the yard list or, where a message is asked for and that is accepted, of the message
 abbrev pub IsNoFollowInput : InputChosen → SourceSeen → Option SourceSeen → Fault → Type 0
-IsNoFollowInput chosen source None f = IsNoYard chosen.heights source.given source.before source.after f
+IsNoFollowInput chosen source None f = IsNoYard chosen.sizes source.given source.before source.after f
 IsNoFollowInput chosen source (Some message) f = IsNoInput chosen source message f
 
 -- why no report was read of a source: a read has failed, there are too many bytes, or memory is lacking

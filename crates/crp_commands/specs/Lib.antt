@@ -10,4 +10,5 @@ pub mod Checks
 pub mod Solving
 pub mod Performing
 pub mod Headlines
+pub mod Sized
 pub mod Noted

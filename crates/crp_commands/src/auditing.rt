@@ -95,7 +95,7 @@ pub(crate) fn input_from<Y: Source, M: Source>(
         (λ fault. (Y.failures yard.new - Y.failures yard.old) + (M.failures movins.new - M.failures movins.old) ≤ interruptions.new + failures_of_fault fault) }
     ensures passed { interruptions.new ≤ most_interruptions }
 {
-    let listed = yard_from(alloc, yard, settings.heights(), interruptions)?;
+    let listed = yard_from(alloc, yard, settings.sizes(), interruptions)?;
     let message = message_from(alloc, movins, settings.code(), interruptions)?;
     let input = sequenced(alloc, listed, message.orders, settings.mode())?;
     Ok(input)

@@ -78,7 +78,7 @@ fn follow_input<Y: Source, M: Source>(
             ship: Some((orders, sequence)),
         });
     }
-    let listed = yard_from(alloc, yard, settings.input.heights(), interruptions)?;
+    let listed = yard_from(alloc, yard, settings.input.sizes(), interruptions)?;
     Ok(FollowInput {
         yard: listed,
         ship: None,

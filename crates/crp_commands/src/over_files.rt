@@ -1,11 +1,14 @@
 //! A job over its files.
-ghost use Rattle.std.specs.Prelude.{◌≡◌, ◌⊎◌, IfOk, IfErr, MatchResult};
-ghost use Rattle.crp_audit.specs.Headline.{IsHeadline};
-ghost use Rattle.crp_headline.specs.Accepted.{handed_of};
-ghost use Rattle.crp_report.specs.Runs.{Made, GetsNothing, sink_seen};
+ghost use Rattle.std.specs.Prelude.{◌≡◌, ◌≤◌, ℕ, List, IfOk, OnOk, IfErr, MatchResult};
+ghost use Rattle.crp_plan.specs.Devices.{CountsMore, most_interruptions};
+ghost use Rattle.crp_sizes.specs.Fields.{IsTextOf};
+ghost use Rattle.crp_sizes.specs.Heights.{CanBeHeights};
+ghost use Rattle.crp_sizes.specs.Records.{IsSizesListOf};
+ghost use Rattle.crp_report.specs.Runs.{sink_seen};
+ghost use Rattle.crp_jobs.specs.Opened.{FilesSeen};
 ghost use Rattle.crp_commands.specs.Noted.{IsNoted, IsNotedIn};
 ghost use Rattle.crp_commands.specs.Performing.{JobSeen, job_seen, ReportsFile, FileFailsWith, ReportsOverFiles, FailsOverFiles};
-ghost use Rattle.crp_commands.specs.Headlines.{ForRun, AreWritten, AreFrontsWritten};
+ghost use Rattle.crp_commands.specs.Sized.{IsNoList, IsDone, IsFailed};
 
 use crate::over_audit_files::audit_files;
 use crate::over_follow_files::follow_files;
@@ -17,6 +20,7 @@ use crp_jobs::{FileCommand, Job, ToolFault};
 use crp_notes::Terminal;
 use crp_plan::{Sink, Source};
 use crp_report::Status;
+use crp_sizes::{Sizes, sizes_from};
 use std::alloc::Global;
 use std::sync::Wait;
 use std::thread::Threads;
@@ -117,11 +121,35 @@ fn do_job<T: Threads + Wait + Sync, F: Files, R: Source, W: Sink, E: Sink, S: Te
     }
 }
 
+// The sizes that the list of this name has, and the common ones of bays that it has not.
+fn sizes_of<F: Files>(
+    alloc: Global,
+    files: &mut F,
+    name: &str,
+    common: &[u8],
+) -> Result<Sizes, ToolFault>
+    requires { CanBeHeights common.now }
+    ensures accepted { IfOk result (λ sizes. (text : List ℕ) × IsTextOf ((F.known files.old).given name.now) text × IsSizesListOf common.now text sizes) }
+    ensures read { OnOk result ((n : ℕ) × (n ≤ most_interruptions) × CountsMore n (F.failures files.old) (F.failures files.new)) }
+    ensures refused { let seen : FilesSeen = record { known = F.known files.old; left = F.known files.new; before = F.failures files.old; after = F.failures files.new }
+        in IfErr result (IsNoList seen name.now) }
+    ensures kept { F.known files.new ≡ F.known files.old }
+{
+    let Ok(mut list) = files.open(name) else {
+        return Err(ToolFault::ReadSizes);
+    };
+    let sizes = sizes_from(alloc, &mut list, common);
+    files.close(list);
+    Ok(sizes?)
+}
+
 /// Does a job over its files, and writes its report to the standard output. A job over the file `-`, and one that follows a report named
 /// `-`, reads the standard input. A run over a yard that is not to be quiet writes its notes to the standard error, as a check does that
-/// finds no certificate, and shows on the terminal how far it is.
+/// finds no certificate, and shows on the terminal how far it is. A list of sizes, where the job names one, is read before any other file
+/// is opened, and the bays of the yard have these sizes.
 ///
 /// Of a run over a yard the headline holds: of the texts that it wrote, and where it ended with a fault of those whose fronts it wrote.
+#[tactic(auto, using(crate::proofs::AsSized::unnoted_job))]
 pub fn run_job<T: Threads + Wait + Sync, F: Files, R: Source, W: Sink, E: Sink, S: Terminal + Sync>(
     threads: &T,
     alloc: Global,
@@ -131,12 +159,13 @@ pub fn run_job<T: Threads + Wait + Sync, F: Files, R: Source, W: Sink, E: Sink, 
     terminal: &S,
 ) -> Result<Status, ToolFault>
     ensures done { let seen : JobSeen = job_seen F.known F.failures R.remaining R.failures W.contents W.failures files.old files.new streams.old streams.new
-        in MatchResult result (ReportsOverFiles job.now seen) (FailsOverFiles job.now seen) }
-    ensures headline { let seen : JobSeen = job_seen F.known F.failures R.remaining R.failures W.contents W.failures files.old files.new streams.old streams.new
-        in IfOk result (λ _. ForRun job.now (λ names chosen. (made : Made) × IsHeadline (handed_of made) × AreWritten names chosen seen made)) }
-    ensures headline_so_far { let seen : JobSeen = job_seen F.known F.failures R.remaining R.failures W.contents W.failures files.old files.new streams.old streams.new
-        in IfErr result (λ _. ForRun job.now (λ names chosen. GetsNothing seen.out ⊎ ((made : Made) × IsHeadline (handed_of made) × AreFrontsWritten names chosen seen made))) }
+        in MatchResult result (IsDone job.now seen) (IsFailed job.now seen) }
     ensures noted { IsNoted job.now (sink_seen E.contents E.failures streams.old.errors streams.new.errors) }
 {
-    do_job(threads, alloc, files, streams, job, terminal)
+    let Some((name, input)) = job.list_of_sizes() else {
+        return do_job(threads, alloc, files, streams, job, terminal);
+    };
+    let sizes = sizes_of(alloc, files, name, input.sizes().common())?;
+    let sized = job.with_sizes(alloc, sizes)?;
+    do_job(threads, alloc, files, streams, &sized, terminal)
 }

@@ -7,21 +7,23 @@ use Rattle.crp_files.specs.declared.roles.Role.TheVariants as role
 -- where each stands among all
 abbrev pub place : Role → ℕ
 place role.YardList = 0
-place role.Report = 1
-place role.Message = 2
-place role.Certificates = 3
-place role.YardAfter = 4
-place role.Page = 5
-place role.StandardInput = 6
-place role.StandardOutput = 7
-place role.StandardError = 8
+place role.Sizes = 1
+place role.Report = 2
+place role.Message = 3
+place role.Certificates = 4
+place role.YardAfter = 5
+place role.Page = 6
+place role.StandardInput = 7
+place role.StandardOutput = 8
+place role.StandardError = 9
 
 abbrev all_roles : List Role
 all_roles =
-    role.YardList ∷ role.Report ∷ role.Message ∷ role.Certificates ∷ role.YardAfter ∷ role.Page ∷ role.StandardInput ∷ role.StandardOutput ∷ role.StandardError ∷ []
+    role.YardList ∷ role.Sizes ∷ role.Report ∷ role.Message ∷ role.Certificates ∷ role.YardAfter ∷ role.Page ∷ role.StandardInput ∷ role.StandardOutput ∷ role.StandardError ∷ []
 
 at_place : (r d : Role) → slice_index_or all_roles (place r) d ≡ r
 at_place role.YardList d = refl
+at_place role.Sizes d = refl
 at_place role.Report d = refl
 at_place role.Message d = refl
 at_place role.Certificates d = refl
@@ -31,8 +33,9 @@ at_place role.StandardInput d = refl
 at_place role.StandardOutput d = refl
 at_place role.StandardError d = refl
 
-place_within : (r : Role) → place r < 9
+place_within : (r : Role) → place r < 10
 place_within role.YardList = omega arith
+place_within role.Sizes = omega arith
 place_within role.Report = omega arith
 place_within role.Message = omega arith
 place_within role.Certificates = omega arith
@@ -55,5 +58,5 @@ one_more Holds n d not so_far r before holds = elim (eq-or-lt_of_le {n = place r
   | inr earlier ↦ so_far r earlier holds
 ]
 
-pub none_at_all : (Holds : Role → Type 0) (n : ℕ) → 9 ≤ n → NoneBefore Holds n → (r : Role) → Holds r → ⊥
+pub none_at_all : (Holds : Role → Type 0) (n : ℕ) → 10 ≤ n → NoneBefore Holds n → (r : Role) → Holds r → ⊥
 none_at_all Holds n whole so_far r holds = let within = place_within r in so_far r (omega (arith, whole, within)) holds

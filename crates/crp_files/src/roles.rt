@@ -19,6 +19,8 @@ pub const STANDARD_ERROR: &str = "/dev/stderr";
 pub enum Role {
     /// The yard list, which is read.
     YardList,
+    /// The list of sizes, which is read.
+    Sizes,
     /// The report, which is read.
     Report,
     /// The message, which is read.
@@ -37,8 +39,9 @@ pub enum Role {
     StandardError,
 }
 
-const ROLES: [Role; 9] = [
+const ROLES: [Role; 10] = [
     Role::YardList,
+    Role::Sizes,
     Role::Report,
     Role::Message,
     Role::Certificates,

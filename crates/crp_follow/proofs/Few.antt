@@ -1,5 +1,5 @@
 -- Bays in which no more containers stand than a bay of a yard can have.
-use Rattle.std.proofs.Common.{◌≡◌, ℕ, zero, suc, ◌*◌, ◌<◌, ◌≤◌, arith, Bool, true, false, cond, Option, Some, List, [], ◌∷◌, length, map, get_or, sym, subst}
+use Rattle.std.proofs.Common.{◌≡◌, ℕ, zero, suc, ◌*◌, ◌<◌, ◌≤◌, arith, Bool, true, false, cond, Option, Some, List, [], ◌∷◌, length, map, get_or, refl, sym, subst}
 use Rattle.std.specs.Prelude.{All}
 use Rattle.std.specs.Map.{lookup}
 use Rattle.std.specs.List.{AllByRecursion}
@@ -7,6 +7,8 @@ use Rattle.std.proofs.lemmas.Option.{same_Some, none-some}
 use Rattle.std.proofs.lemmas.List.Elements.{recursion_from_All, All-from_recursion}
 use Rattle.std.proofs.lemmas.List.Sums.{sum_by-cons}
 use Rattle.crp_plan.specs.BayNames.{YardBay, same_bay}
+use Rattle.crp_sizes.specs.Sizes.{YardSizes, heights_at}
+use Rattle.crp_sizes.proofs.Bays.{heights_can_be, same_bay_is}
 use Rattle.crp_yard.specs.Inventory.{Inventory, StackedBay, FitBay, IsYard}
 use Rattle.crp_follow.specs.declared.followed.FollowedBay.{FollowedBay}
 use Rattle.crp_follow.specs.Crane.{Stack}
@@ -14,6 +16,7 @@ use Rattle.crp_follow.specs.Faults.{rows_in, LeadsIn}
 use Rattle.crp_follow.specs.Followed.{BayFollowed}
 use Rattle.crp_follow.specs.Table.{standing, StandFew}
 use Rattle.crp_follow.specs.Views.{bay_followed}
+use Rattle.crp_follow.proofs.InYard.{Fits}
 
 -- the bay at this place
 pub few_at : (bays : List FollowedBay) (i : ℕ) (b : FollowedBay) → AllByRecursion StandFew (map bay_followed bays) → i < length bays → b ≡ get_or bays i b → StandFew (bay_followed b)
@@ -34,21 +37,22 @@ sum_fits (h ∷ heights) (stack ∷ rows) all fit =
     let sum = sum_by-cons length stack rows in
     omega (arith, rest, low, high, sum)
 
-either_way : {V : Type 0} (t : Bool) (x : V) (o : Option V) (y : V) (P : V → Type 0) → cond t (Some x) o ≡ Some y → P x → (o ≡ Some y → P y) → P y
-either_way true x o y P e here there = subst P (same_Some x y e) here
+either_way : {V : Type 0} (t : Bool) (x : V) (o : Option V) (y : V) (P : V → Type 0) → cond t (Some x) o ≡ Some y → (t ≡ true → P x) → (o ≡ Some y → P y) → P y
+either_way true x o y P e here there = subst P (same_Some x y e) (here refl)
 either_way false x o y P e here there = there e
 
-found_fits : (heights : List ℕ) (bay : YardBay) (start : List Stack) (bays : List StackedBay) → AllByRecursion (λ (b : StackedBay). FitBay heights b.1) bays → lookup (same_bay bay) bays ≡ Some start
-    → FitBay heights start
-found_fits heights bay start [] all none = absurd (none-some start none)
-found_fits heights bay start (b ∷ bays) all found =
-    either_way (same_bay bay b.0) b.1 (lookup (same_bay bay) bays) start (FitBay heights) found all.0 (λ h. found_fits heights bay start bays all.1 h)
+found_fits : (sizes : YardSizes) (bay : YardBay) (start : List Stack) (bays : List StackedBay) → AllByRecursion (Fits sizes) bays → lookup (same_bay bay) bays ≡ Some start
+    → FitBay (heights_at sizes bay) start
+found_fits sizes bay start [] all none = absurd (none-some start none)
+found_fits sizes bay start (b ∷ bays) all found =
+    either_way (same_bay bay b.0) b.1 (lookup (same_bay bay) bays) start (FitBay (heights_at sizes bay)) found
+    (λ same. subst (λ (n : YardBay). FitBay (heights_at sizes n) b.1) (sym (same_bay_is bay b.0 same)) all.0) (λ h. found_fits sizes bay start bays all.1 h)
 
 pub few_stand : (yard : Inventory) (bay : YardBay) (start : List Stack) → IsYard yard → rows_in yard bay ≡ Some start → standing start ≤ 96
 few_stand yard bay start is e =
-    let fit : FitBay yard.heights start = found_fits yard.heights bay start yard.bays (recursion_from_All (λ (b : StackedBay). FitBay yard.heights b.1) yard.bays is.bays_fit) e in
-    let few = sum_fits yard.heights start is.heights_fit fit in
-    let rows : length yard.heights ≤ 12 = is.few_rows in
+    let can = heights_can_be yard.sizes is.sizes_fit bay in
+    let few = sum_fits (heights_at yard.sizes bay) start can.1 (found_fits yard.sizes bay start yard.bays (recursion_from_All (Fits yard.sizes) yard.bays is.bays_fit) e) in
+    let rows : length (heights_at yard.sizes bay) ≤ 12 = can.0.1 in
     omega (arith, few, rows)
 
 -- so few stand in each bay of a yard that is followed

@@ -6,14 +6,18 @@ use Rattle.std.specs.Option.{option_map, option_and_then}
 use Rattle.std.proofs.lemmas.List.Elements.{recursion_from_All}
 use Rattle.std.proofs.lemmas.Option.{same_Some, none-some, slice_get_read}
 use Rattle.crp_plan.specs.BayNames.{YardBay, same_bay}
-use Rattle.crp_yard.specs.Inventory.{Inventory, StackedBay, name_at, stack_in_bay, FitBay, IsYard}
-use Rattle.crp_yard.proofs.Lists.{looked_up, member}
-use Rattle.crp_yard.proofs.OnceSteps.{same_bay_is, same_bay_self}
-use Rattle.crp_yard.proofs.YardSteps.{same_bay_laws}
+use Rattle.crp_sizes.specs.Sizes.{YardSizes, heights_at}
+use Rattle.crp_sizes.proofs.Bays.{same_bay_laws, same_bay_is, same_bay_self}
+use Rattle.crp_sizes.proofs.Lists.{looked_up, member}
+use Rattle.crp_yard.specs.Inventory.{Inventory, StackedBay, name_at, heights_in_bay, stack_in_bay, FitBay, IsYard}
 use Rattle.crp_yard.proofs.BuildingSteps.{take_next}
 use Rattle.crp_follow.specs.Crane.{Stack}
 use Rattle.crp_follow.specs.Stated.{BayStated}
 use Rattle.crp_follow.specs.Faults.{rows_in, is_named}
+
+-- the bay fits under the heights of its rows
+abbrev pub Fits : YardSizes → StackedBay → Type 0
+Fits sizes b = FitBay (heights_at sizes b.0) b.1
 
 -- the bay with a number, if it has this name
 pub record IsBayAt (yard : Inventory) (i : ℕ) (name : YardBay) : Type 0 where
@@ -33,6 +37,9 @@ found yard i bay name is e same =
     let at = bay_at yard i name e in
     let looked : lookup (same_bay name) yard.bays ≡ Some at.rows = looked_up same_bay same_bay_laws yard.bays i (name, at.rows) same_bay_self is.bays_once at.is in
     ap (rows_in yard) (same_bay_is bay name same) ∙ looked ∙ sym (ap (option_map (λ (b : StackedBay). b.1)) at.is)
+
+pub heights_of_found : (yard : Inventory) (i : ℕ) (bay name : YardBay) → name_at yard i ≡ Some name → same_bay bay name ≡ true → heights_in_bay yard i ≡ Some (heights_at yard.sizes bay)
+heights_of_found yard i bay name e same = ap (option_map (heights_at yard.sizes)) e ∙ ap (λ n. Some (heights_at yard.sizes n)) (sym (same_bay_is bay name same))
 
 or_none : {V : Type 0} (t : Bool) (x : V) (a b : Option V) → cond t (Some x) a ≡ None → (a ≡ None → b ≡ None) → cond t (Some x) b ≡ None
 or_none true x a b e h = absurd (none-some x (sym e))
@@ -79,16 +86,19 @@ take_all xs n e = ap (λ k. take k xs) e ∙ whole xs
     whole [] = refl
     whole (x ∷ xs) = ap (λ l. x ∷ l) (whole xs)
 
-all_rows_of : (heights : List ℕ) (o : Option StackedBay) (rows : List Stack) (n : ℕ) → ((b : StackedBay) → o ≡ Some b → FitBay heights b.1) → n ≡ length heights
+all_rows_of : (sizes : YardSizes) (o : Option StackedBay) (heights : List ℕ) (rows : List Stack) (n : ℕ) → ((b : StackedBay) → o ≡ Some b → Fits sizes b)
+    → option_map (heights_at sizes) (option_map (λ (b : StackedBay). b.0) o) ≡ Some heights → n ≡ length heights
     → option_map (λ (b : StackedBay). take n b.1) o ≡ Some rows → option_map (λ (b : StackedBay). b.1) o ≡ Some rows
-all_rows_of heights None rows n fit count e = absurd (none-some rows e)
-all_rows_of heights (Some b) rows n fit count e = ap Some (sym (take_all b.1 n (count ∙ sym (as_many_rows heights b.1 (fit b refl))))) ∙ e
+all_rows_of sizes None heights rows n fit is count e = absurd (none-some rows e)
+all_rows_of sizes (Some b) heights rows n fit is count e =
+    let so_many : length b.1 ≡ n = as_many_rows (heights_at sizes b.0) b.1 (fit b refl) ∙ ap length (same_Some (heights_at sizes b.0) heights is) ∙ sym count in
+    ap Some (sym (take_all b.1 n (sym so_many))) ∙ e
 
-pub all_rows : (yard : Inventory) (bay : ℕ) (rows : List Stack) (n : ℕ) → IsYard yard → n ≡ length yard.heights → option_map (λ (b : StackedBay). take n b.1) (slice_get yard.bays bay) ≡ Some rows
-    → option_map (λ (b : StackedBay). b.1) (slice_get yard.bays bay) ≡ Some rows
-all_rows yard bay rows n is count e =
-    all_rows_of yard.heights (slice_get yard.bays bay) rows n
-    (λ b at. member (λ (x : StackedBay). FitBay yard.heights x.1) yard.bays bay b (recursion_from_All (λ (x : StackedBay). FitBay yard.heights x.1) yard.bays is.bays_fit) at) count e
+pub all_rows : (yard : Inventory) (bay : ℕ) (heights : List ℕ) (rows : List Stack) (n : ℕ) → IsYard yard → heights_in_bay yard bay ≡ Some heights → n ≡ length heights
+    → option_map (λ (b : StackedBay). take n b.1) (slice_get yard.bays bay) ≡ Some rows → option_map (λ (b : StackedBay). b.1) (slice_get yard.bays bay) ≡ Some rows
+all_rows yard bay heights rows n is there count e =
+    all_rows_of yard.sizes (slice_get yard.bays bay) heights rows n
+    (λ b at. member (Fits yard.sizes) yard.bays bay b (recursion_from_All (Fits yard.sizes) yard.bays is.bays_fit) at) there count e
 
 -- ---- names that were met
 

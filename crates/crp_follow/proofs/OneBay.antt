@@ -5,6 +5,7 @@ use Rattle.std.specs.List.{AllByRecursion, IsDistinct}
 use Rattle.std.proofs.lemmas.Option.{same_Some, none-some}
 use Rattle.std.proofs.lemmas.Map.Keys.{IsDistinct-head, IsDistinct-tail, IsDistinct-cons}
 use Rattle.crp_plan.specs.BayNames.{YardBay, same_bay}
+use Rattle.crp_sizes.specs.Sizes.{heights_at}
 use Rattle.crp_yard.specs.Inventory.{Inventory}
 use Rattle.crp_follow.specs.declared.fault.FollowFault.{FollowFault}
 use Rattle.crp_follow.specs.declared.fault.FollowFault.TheVariants as fault
@@ -58,7 +59,7 @@ WrongBay yard before b f =
     ((f ≡ fault.NoBay b.line) × (rows_in yard b.bay ≡ None))
     ⊎ (((f ≡ fault.Again b.line) × IsSome (rows_in yard b.bay) × (is_named before b.bay ≡ true))
     ⊎ (((f ≡ fault.Relocations b.line) × IsSome (rows_in yard b.bay) × (is_named before b.bay ≡ false) × ¬ CountsShifts b)
-    ⊎ ((start : List Stack) × (rows_in yard b.bay ≡ Some start) × (is_named before b.bay ≡ false) × CountsShifts b × StopsWith yard.heights start b.moves f)))
+    ⊎ ((start : List Stack) × (rows_in yard b.bay ≡ Some start) × (is_named before b.bay ≡ false) × CountsShifts b × StopsWith (heights_at yard.sizes b.bay) start b.moves f)))
 
 wrong_bay : (yard : Inventory) (before : List BayStated) (b : BayStated) (f : FollowFault) → IsBayFault yard before b f → WrongBay yard before b f
 wrong_bay yard before b (fault.NoBay line) w = inl (ap fault.NoBay w.0, w.1)
@@ -77,7 +78,7 @@ apart yard before b f start after (inr (inl (e, some, named))) fresh leads = tru
 apart yard before b f start after (inr (inr (inl (e, some, fresh, not)))) also leads = not leads.counts
 apart yard before b f start after (inr (inr (inr (begin, stands, fresh, counts, stops)))) also leads =
     let same : begin ≡ start = same_Some begin start (sym stands ∙ leads.stands) in
-    stops_apart yard.heights start b.moves f after (subst (λ (s : List Stack). StopsWith yard.heights s b.moves f) same stops) leads.leads
+    stops_apart (heights_at yard.sizes b.bay) start b.moves f after (subst (λ (s : List Stack). StopsWith (heights_at yard.sizes b.bay) s b.moves f) same stops) leads.leads
 
 pub bay_apart : (yard : Inventory) (before : List BayStated) (b : BayStated) (f : FollowFault) (start after : List Stack) → IsBayFault yard before b f → is_named before b.bay ≡ false
     → LeadsIn yard b start after → ⊥
@@ -101,7 +102,7 @@ same_wrong yard before b f g (inr (inr (inr (start, stands, p, counts, stops))))
 same_wrong yard before b f g (inr (inr (inr (start, stands, p, counts, stops)))) (inr (inr (inl (k, also, q, non)))) = absurd (non counts)
 same_wrong yard before b f g (inr (inr (inr (start, stands, p, counts, stops)))) (inr (inr (inr (begin, there, q, also, ends)))) =
     let same : begin ≡ start = same_Some begin start (sym there ∙ stands) in
-    stops_once yard.heights start b.moves f g stops (subst (λ (s : List Stack). StopsWith yard.heights s b.moves g) same ends)
+    stops_once (heights_at yard.sizes b.bay) start b.moves f g stops (subst (λ (s : List Stack). StopsWith (heights_at yard.sizes b.bay) s b.moves g) same ends)
 
 -- ---- bays one after the other
 
@@ -140,8 +141,9 @@ same_rows yard b c e p q =
     let made : BayStated → List Stack → List Stack → BayFollowed = λ s start after. record { stated = s; start = start; after = after } in
     let p' : LeadsIn yard c.stated b.start b.after = subst (λ (s : BayStated). LeadsIn yard s b.start b.after) e p in
     let start : b.start ≡ c.start = same_Some b.start c.start (sym p'.stands ∙ q.stands) in
-    let leads : Leads yard.heights c.start (moves_of c.stated.moves) b.after = subst (λ (s : List Stack). Leads yard.heights s (moves_of c.stated.moves) b.after) start p'.leads in
-    let after : b.after ≡ c.after = leads_once yard.heights c.start (moves_of c.stated.moves) b.after c.after leads q.leads in
+    let heights = heights_at yard.sizes c.stated.bay in
+    let leads : Leads heights c.start (moves_of c.stated.moves) b.after = subst (λ (s : List Stack). Leads heights s (moves_of c.stated.moves) b.after) start p'.leads in
+    let after : b.after ≡ c.after = leads_once heights c.start (moves_of c.stated.moves) b.after c.after leads q.leads in
     ap (λ s. made s b.start b.after) e ∙ ap (λ s. made c.stated s b.after) start ∙ ap (made c.stated c.start) after
 
 pub followed_once : (yard : Inventory) (bs cs : List BayFollowed) → AllByRecursion (λ b. LeadsIn yard b.stated b.start b.after) bs → AllByRecursion (λ b. LeadsIn yard b.stated b.start b.after) cs

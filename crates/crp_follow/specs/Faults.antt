@@ -3,6 +3,7 @@ use Rattle.std.specs.Prelude.{◌≡◌, ◌⊎◌, ℕ, Bool, true, false, List
 use Rattle.std.specs.List.{AllByRecursion, IsDistinct, list_any}
 use Rattle.std.specs.Map.{lookup}
 use Rattle.crp_plan.specs.BayNames.{YardBay, same_bay}
+use Rattle.crp_sizes.specs.Sizes.{heights_at}
 use Rattle.crp_yard.specs.Inventory.{Inventory}
 use Rattle.crp_said.specs.declared.numbers.Numbers.{Numbers}
 use Rattle.crp_said.specs.Said.{count_said}
@@ -40,15 +41,15 @@ IsBayFault yard before b (fault.NoBay line) = (line ≡ b.line) × (rows_in yard
 IsBayFault yard before b (fault.Again line) = (line ≡ b.line) × IsSome (rows_in yard b.bay) × (is_named before b.bay ≡ true)
 IsBayFault yard before b (fault.Relocations line) = (line ≡ b.line) × IsSome (rows_in yard b.bay) × (is_named before b.bay ≡ false) × ¬ CountsShifts b
 IsBayFault yard before b f =
-    (start : List Stack) × (rows_in yard b.bay ≡ Some start) × (is_named before b.bay ≡ false) × CountsShifts b × StopsWith yard.heights start b.moves f
+    (start : List Stack) × (rows_in yard b.bay ≡ Some start) × (is_named before b.bay ≡ false) × CountsShifts b × StopsWith (heights_at yard.sizes b.bay) start b.moves f
 
 -- ---- the whole
 
--- a bay of the yard whose line counts its relocations, and whose moves the crane can make from this start to this end
+-- a bay of the yard whose line counts its relocations, and whose moves the crane can make from this start to this end, over rows of the bay's own heights
 pub record LeadsIn (yard : Inventory) (b : BayStated) (start after : List Stack) : Type 0 where
   pub stands : rows_in yard b.bay ≡ Some start
   pub counts : CountsShifts b
-  pub leads : Leads yard.heights start (moves_of b.moves) after
+  pub leads : Leads (heights_at yard.sizes b.bay) start (moves_of b.moves) after
 
 -- the bays before it are followed, each of another name, and then comes the fault
 pub record IsBaysFault (yard : Inventory) (bays : List BayStated) (f : FollowFault) : Type 0 where

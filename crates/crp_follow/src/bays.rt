@@ -1,5 +1,7 @@
 //! Bays of a yard, and what a report states of them.
 ghost use Rattle.std.specs.Prelude.{◌≡◌, ◌<◌, ◌≤◌, ◌↔◌, Some, None, length, map, slice_get, option_map, count_by, IfOk, IfSome, IfNone, IsTrue};
+ghost use Rattle.crp_sizes.specs.Sizes.{heights_at};
+ghost use Rattle.crp_yard.specs.Inventory.{heights_in_bay};
 ghost use Rattle.crp_follow.specs.Faults.{rows_in, is_named, is_shift, CountsShifts};
 ghost use Rattle.crp_follow.specs.Stated.{moves_of};
 ghost use Rattle.crp_follow.specs.Views.{bay_stated};
@@ -15,7 +17,8 @@ use std::alloc::{AllocError, Global};
 
 /// The number of the bay of this name, from 0, if the yard has one.
 pub(crate) fn find(yard: &Yard, bay: &BayName) -> Option<usize>
-    ensures there { IfSome result (λ i. (i < length yard.now.bays) × (rows_in yard.now bay.now ≡ option_map (λ b. b.1) (slice_get yard.now.bays i))) }
+    ensures there { IfSome result (λ i. (i < length yard.now.bays) × (heights_in_bay yard.now i ≡ Some (heights_at yard.now.sizes bay.now))
+        × (rows_in yard.now bay.now ≡ option_map (λ b. b.1) (slice_get yard.now.bays i))) }
     ensures none { IfNone result (rows_in yard.now bay.now ≡ None) }
 {
     for i in 0..yard.count() {
@@ -31,8 +34,9 @@ pub(crate) fn rows_of(alloc: Global, yard: &Yard, bay: usize) -> Result<Vec<Row>
     requires { bay < length yard.now.bays }
     ensures { IfOk result (λ rows. option_map (λ b. b.1) (slice_get yard.now.bays bay) ≡ Some rows.items) }
 {
+    let heights = yard.heights(bay);
     let mut rows = Vec::new(alloc);
-    for i in 0..yard.rows() {
+    for i in 0..heights.len() as u8 {
         let row = Row::of(alloc, yard.stack(bay, i + 1))?;
         add(&mut rows, row)?;
     }

@@ -44,7 +44,7 @@ fn follow_bay(
     }
     let start = rows_of(alloc, yard, bay)?;
     let mut after = rows_of(alloc, yard, bay)?;
-    make_moves(yard.heights(), &mut after, &stated.moves)?;
+    make_moves(yard.heights(bay), &mut after, &stated.moves)?;
     Ok(FollowedBay {
         stated,
         start,

@@ -158,7 +158,7 @@ cut chosen (bay ∷ answered) can each = (
 pub run_cut : (chosen : RunChosen) (seen : RunSeen) (made : Made) → IsMade chosen seen made → BeginsWithTexts made.certificates (map certificate_of made.answered) []
 run_cut chosen seen made is =
     let t = is.true_answers in
-    let can = recursion_from_All CanBeWritten (problems_of made.yard made.sequence) (can_be_written chosen.input.heights made.list made.yard made.sequence is.listed) in
+    let can = recursion_from_All CanBeWritten (problems_of made.yard made.sequence) (can_be_written chosen.input.sizes made.list made.yard made.sequence is.listed) in
     let each = recursion_from_All (λ (bay : Answered). IsSolved bay.stated.problem chosen.search bay.solved) made.answered t.each_true in
     subst (λ file. BeginsWithTexts file (map certificate_of made.answered) []) (sym is.certificates)
     (cut chosen.search made.answered (subst (AllByRecursion CanBeWritten) (sym t.one_for_each) can) each)

@@ -81,7 +81,7 @@ answer_so h b budget (answer.Between lower cert plan why) expanded t stated fit 
 abbrev pub reported : StackedBay → Answered → BaySaid → Reported
 reported bay a s = record { bay = bay; said = s.said; lines = s.lines; certificate = certificate_of a }
 
-bay_true : (h : Handed) (chosen : Chosen) (bay : StackedBay) (a : Answered) (s : BaySaid) → a.stated ≡ bay_problem_of h.yard.heights h.sequence bay
+bay_true : (h : Handed) (chosen : Chosen) (bay : StackedBay) (a : Answered) (s : BaySaid) → a.stated ≡ bay_problem_of h.yard.sizes h.sequence bay
     → IsSolved a.stated.problem chosen a.solved → IsNamedProblem a.stated → IsSaidOf a s → IsTrueOf h (reported bay a s)
 bay_true h chosen bay a s e t named said =
     let b = reported bay a s in
@@ -111,18 +111,18 @@ both_same : {X : Type 0} (x y : X) (xs ys : List X) → x ∷ xs ≡ y ∷ ys �
 both_same x y xs ys e = (cc, cc)
 
 all_reported : (h : Handed) (chosen : Chosen) (called : List StackedBay) (answered : List Answered) (said : List BaySaid)
-    → map (λ bay. bay.stated) answered ≡ map (bay_problem_of h.yard.heights h.sequence) called
+    → map (λ bay. bay.stated) answered ≡ map (bay_problem_of h.yard.sizes h.sequence) called
     → AllByRecursion (λ bay. IsSolved bay.stated.problem chosen bay.solved) answered → AllByRecursion IsNamedProblem (map (λ bay. bay.stated) answered)
     → AllZip IsSaidOf answered said → AreReported h called answered said
 all_reported h chosen [] [] [] e t named says = record { bays = []; called_are = refl; said_are = refl; certificates_are = refl; each = tt }
 all_reported h chosen [] [] (s ∷ said) e t named says = absurd says
 all_reported h chosen [] (a ∷ answered) said e t named says = absurd (let no : a.stated ∷ map (λ (bay : Answered). bay.stated) answered ≡ [] = e in cc)
 all_reported h chosen (bay ∷ called) [] said e t named says =
-    absurd (let no : [] ≡ bay_problem_of h.yard.heights h.sequence bay ∷ map (bay_problem_of h.yard.heights h.sequence) called = e in cc)
+    absurd (let no : [] ≡ bay_problem_of h.yard.sizes h.sequence bay ∷ map (bay_problem_of h.yard.sizes h.sequence) called = e in cc)
 all_reported h chosen (bay ∷ called) (a ∷ answered) [] e t named says = absurd says
 all_reported h chosen (bay ∷ called) (a ∷ answered) (s ∷ said) e t named says =
-    let problem = bay_problem_of h.yard.heights h.sequence bay in
-    let same = both_same a.stated problem (map (λ (bay : Answered). bay.stated) answered) (map (bay_problem_of h.yard.heights h.sequence) called) e in
+    let problem = bay_problem_of h.yard.sizes h.sequence bay in
+    let same = both_same a.stated problem (map (λ (bay : Answered). bay.stated) answered) (map (bay_problem_of h.yard.sizes h.sequence) called) e in
     let more = all_reported h chosen called answered said same.1 t.1 named.1 says.1 in
     let is = says.0 in
     let name : bay.0 ≡ a.stated.bay = sym (ap (λ (stated : BayProblem). stated.bay) same.0) in

@@ -95,6 +95,7 @@ failed_in_audit names (fault.Run (run.Read input.Yard)) = Some (file_words names
 failed_in_audit names (fault.Run (run.Read input.Movins)) = Some (file_words names.movins.now)
 failed_in_audit names (fault.ReadOf statement.Report) = Some (file_words names.report.now)
 failed_in_audit names (fault.ReadOf statement.Certificates) = Some (file_words names.certificates.now)
+failed_in_audit names fault.ReadSizes = option_map (λ name. file_words name.now) names.sizes
 failed_in_audit names fault.Write = Some (codes "look at the standard output")
 failed_in_audit names f = None
 
@@ -103,6 +104,7 @@ abbrev pub failed_in_follow : FollowFiles → ToolFault → Option (List ℕ)
 failed_in_follow names (fault.Run (run.Read input.Yard)) = Some (file_words names.yard.now)
 failed_in_follow names (fault.Run (run.Read input.Movins)) = option_map (λ name. file_words name.now) names.movins
 failed_in_follow names (fault.ReadOf statement.Report) = Some (source_words names.report.now)
+failed_in_follow names fault.ReadSizes = option_map (λ name. file_words name.now) names.sizes
 failed_in_follow names fault.WriteTable = Some (codes "look at the standard output")
 failed_in_follow names fault.WritePage = option_map (λ name. file_words name.now) names.page
 failed_in_follow names f = None
@@ -115,4 +117,5 @@ failed_words (job.Follow names settings) (fault.OneFile s) = shared_words (named
 failed_words (job.Follow names settings) f = failed_in_follow names f
 failed_words (job.Solve names settings quiet progress) (fault.Run f) = failed_in_run names f
 failed_words (job.Solve names settings quiet progress) (fault.OneFile s) = shared_words (named_in_run names) s
+failed_words (job.Solve names settings quiet progress) fault.ReadSizes = option_map (λ name. file_words name.now) names.sizes
 failed_words (job.Solve names settings quiet progress) f = None

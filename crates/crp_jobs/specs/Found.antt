@@ -1,5 +1,5 @@
 -- What the file looks like that was refused in the place of another.
-use Rattle.std.specs.Prelude.{◌≡◌, ℕ, Bool, IsTrue, ◌==◌, ◌++◌, List, length, take, if◌then◌else◌, Option, Some, None, codes}
+use Rattle.std.specs.Prelude.{ℕ, Bool, IsTrue, ◌==◌, List, length, take, if◌then◌else◌, Option, Some, None, codes}
 use Rattle.std.specs.List.{list_all}
 use Rattle.std.specs.Str.{bytes_eq}
 use Rattle.crp_jobs.specs.declared.found.Found.{Found}

@@ -2,6 +2,7 @@
 pub mod Outcomes
 pub mod Opened
 pub mod Names
+pub mod Sized
 pub mod Advice
 pub mod Found
 pub mod Placed

@@ -6,9 +6,10 @@ use Rattle.crp_files.specs.declared.roles.Role.TheVariants as role
 use Rattle.crp_jobs.specs.declared.job.FollowFiles.{FollowFiles}
 use Rattle.crp_jobs.specs.declared.job.RunFiles.{RunFiles}
 
--- of a run over a yard: it reads the yard list and the message, and writes its report to the standard output and notes to the standard error
+-- of a run over a yard: it reads the yard list, the list of sizes and the message, and writes its report to the standard output and notes to the standard error
 abbrev pub named_in_run : RunFiles → Role → Option (List ℕ)
 named_in_run names role.YardList = Some names.yard.now
+named_in_run names role.Sizes = option_map (λ name. name.now) names.sizes
 named_in_run names role.Message = Some names.movins.now
 named_in_run names role.Certificates = option_map (λ name. name.now) names.cert
 named_in_run names role.YardAfter = option_map (λ name. name.now) names.after
@@ -27,6 +28,7 @@ input_name name = if bytes_eq name (codes "-") then Some (codes "/dev/stdin") el
 -- where a report is followed: the table goes to the standard output, and what is wrong is written to the standard error
 abbrev pub named_in_follow : FollowFiles → Role → Option (List ℕ)
 named_in_follow names role.YardList = Some names.yard.now
+named_in_follow names role.Sizes = option_map (λ name. name.now) names.sizes
 named_in_follow names role.Report = report_name names.report.now
 named_in_follow names role.Message = option_map (λ name. name.now) names.movins
 named_in_follow names role.Page = option_map (λ name. name.now) names.page

@@ -10,6 +10,8 @@ use Rattle.crp_follow.specs.declared.fault.FollowFault.{FollowFault}
 use Rattle.crp_follow.specs.declared.fault.FollowFault.TheVariants as followed
 use Rattle.crp_loading.specs.declared.fault.LoadingFault.{LoadingFault}
 use Rattle.crp_loading.specs.declared.fault.LoadingFault.TheVariants as loading
+use Rattle.crp_sizes.specs.declared.fault.SizesFault.{SizesFault}
+use Rattle.crp_sizes.specs.declared.fault.SizesFault.TheVariants as sizes
 use Rattle.crp_report.specs.declared.fault.Fault.TheVariants as run
 use Rattle.crp_report.specs.declared.status.Status.{Status}
 use Rattle.crp_report.specs.declared.status.Status.TheVariants as status
@@ -38,6 +40,11 @@ abbrev pub fault_of_loading : LoadingFault → ToolFault
 fault_of_loading loading.Memory = fault.Memory
 fault_of_loading f = fault.Loaded f
 
+abbrev pub fault_of_sizes : SizesFault → ToolFault
+fault_of_sizes sizes.Memory = fault.Memory
+fault_of_sizes sizes.Read = fault.ReadSizes
+fault_of_sizes f = fault.Sizes f
+
 -- the exit status of the program: 0 decided, 1 a budget ended, 2 two names of one file, 3 input refused, 4 lack of memory, 5 a read or write fault, 6 a certificate,
 -- head or plan refused, or a report with its certificates
 abbrev pub exit_code : Result Status ToolFault → ℕ
@@ -49,9 +56,11 @@ exit_code (Err fault.TooLarge) = 3
 exit_code (Err (fault.TooLargeOf which)) = 3
 exit_code (Err (fault.Followed f)) = 3
 exit_code (Err (fault.Loaded f)) = 3
+exit_code (Err (fault.Sizes f)) = 3
 exit_code (Err fault.Memory) = 4
 exit_code (Err fault.Read) = 5
 exit_code (Err (fault.ReadOf which)) = 5
+exit_code (Err fault.ReadSizes) = 5
 exit_code (Err fault.Write) = 5
 exit_code (Err fault.WriteTable) = 5
 exit_code (Err fault.WritePage) = 5

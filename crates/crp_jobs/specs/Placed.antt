@@ -7,6 +7,8 @@ use Rattle.edi_text.specs.declared.fault.EdiFault.TheVariants as edi
 use Rattle.edi_text.specs.Reading.{is_line_end}
 use Rattle.crp_movins.specs.declared.fault.MovinsFault.{MovinsFault}
 use Rattle.crp_movins.specs.declared.fault.MovinsFault.TheVariants as movins
+use Rattle.crp_sizes.specs.declared.fault.SizesFault.{SizesFault}
+use Rattle.crp_sizes.specs.declared.fault.SizesFault.TheVariants as sizes
 use Rattle.crp_yard.specs.declared.fault.YardFault.{YardFault}
 use Rattle.crp_yard.specs.declared.fault.YardFault.TheVariants as yard
 use Rattle.crp_places.specs.Lines.{line_of}
@@ -38,6 +40,17 @@ record_named (yard.Header n) = None
 record_named yard.Read = None
 record_named yard.TooLarge = None
 record_named yard.Memory = None
+
+-- and that of a list of sizes
+abbrev pub size_named : SizesFault → Option ℕ
+size_named (sizes.Fields n) = Some n
+size_named (sizes.Digits n) = Some n
+size_named (sizes.Heights n) = Some n
+size_named (sizes.Twice n) = Some n
+size_named (sizes.Header n) = None
+size_named sizes.TooLarge = None
+size_named sizes.Read = None
+size_named sizes.Memory = None
 
 -- the offset in a message that the fault names
 abbrev pub offset_named : EdiFault → Option ℕ
@@ -73,6 +86,13 @@ yard_named (job.OneFile file command) = None
 yard_named (job.Audit names settings) = Some names.yard.now
 yard_named (job.Follow names settings) = Some names.yard.now
 yard_named (job.Solve names settings quiet progress) = Some names.yard.now
+
+-- its list of sizes
+abbrev pub sizes_named : Job → Option (List ℕ)
+sizes_named (job.OneFile file command) = None
+sizes_named (job.Audit names settings) = option_map (λ name. name.now) names.sizes
+sizes_named (job.Follow names settings) = option_map (λ name. name.now) names.sizes
+sizes_named (job.Solve names settings quiet progress) = option_map (λ name. name.now) names.sizes
 
 -- its message
 abbrev pub message_named : Job → Option (List ℕ)
@@ -138,6 +158,8 @@ is_other None = false
 abbrev pub IsPlacedLine : KnownFiles → Job → ToolFault → List ℕ → Type 0
 IsPlacedLine known j (fault.Run (run.Yard f)) line =
     IfSome (record_named f) (λ n. IfSome (yard_named j) (λ name. IsOfFront (known.given name) (λ text. IsRecordLine n text line)))
+IsPlacedLine known j (fault.Sizes f) line =
+    IfSome (size_named f) (λ n. IfSome (sizes_named j) (λ name. IsOfFront (known.given name) (λ text. IsRecordLine n text line)))
 IsPlacedLine known j (fault.Run (run.Message f)) line =
     IfSome (segment_named f) (λ n. IfSome (message_named j) (λ name. IsOfFront (known.given name) (λ text. IsSegmentLine n text line)))
 IsPlacedLine known j (fault.Run (run.Interchange f)) line =

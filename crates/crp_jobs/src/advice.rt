@@ -5,6 +5,7 @@ use crate::certificate_advice::{advice_on_certificate, advice_on_plan, advice_on
 use crate::follow_advice::{advice_on_follow, advice_on_loading};
 use crate::outcome::{Statement, ToolFault};
 use crate::run_advice::advice_on_run;
+use crate::sizes_advice::{SIZES_NOT_READ, advice_on_sizes};
 use crp_audit::AuditFault;
 
 pub(crate) const MEMORY: &str =
@@ -66,11 +67,13 @@ pub fn advice_on(fault: &ToolFault) -> &'static str
         ToolFault::Audited(fault) => advice_on_audit(fault),
         ToolFault::Followed(fault) => advice_on_follow(fault),
         ToolFault::Loaded(fault) => advice_on_loading(fault),
+        ToolFault::Sizes(fault) => advice_on_sizes(fault),
         ToolFault::Run(fault) => advice_on_run(fault),
         ToolFault::ReadOf(Statement::Report) => {
             "the report could not be read: it must be there, be a file and no folder, and you must be allowed to read it"
         }
         ToolFault::ReadOf(Statement::Certificates) => CERTIFICATE_NOT_READ,
+        ToolFault::ReadSizes => SIZES_NOT_READ,
         ToolFault::TooLargeOf(Statement::Report) => "a report may have at most 16777216 bytes",
         ToolFault::TooLargeOf(Statement::Certificates) => {
             "certificates may have at most 9223372036854775808 bytes"

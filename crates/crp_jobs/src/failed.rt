@@ -64,6 +64,8 @@ fn place_in_file<'a>(file: &'a str, fault: &ToolFault) -> Option<Place<'a>>
         | ToolFault::Audited(_)
         | ToolFault::Followed(_)
         | ToolFault::Loaded(_)
+        | ToolFault::Sizes(_)
+        | ToolFault::ReadSizes
         | ToolFault::Run(_)
         | ToolFault::WriteTable
         | ToolFault::WritePage
@@ -122,6 +124,7 @@ fn place_in_audit<'a>(names: &AuditFiles<'a>, fault: &ToolFault) -> Option<Place
         ToolFault::Run(Fault::Read(Input::Movins)) => Some(Place::File(names.movins)),
         ToolFault::ReadOf(Statement::Report) => Some(Place::File(names.report)),
         ToolFault::ReadOf(Statement::Certificates) => Some(Place::File(names.certificates)),
+        ToolFault::ReadSizes => names.sizes.map(Place::File),
         ToolFault::Write => Some(Place::StandardOutput),
         _ => None,
     }
@@ -135,6 +138,7 @@ fn place_in_follow<'a>(names: &FollowFiles<'a>, fault: &ToolFault) -> Option<Pla
         ToolFault::Run(Fault::Read(Input::Yard)) => Some(Place::File(names.yard)),
         ToolFault::Run(Fault::Read(Input::Movins)) => names.movins.map(Place::File),
         ToolFault::ReadOf(Statement::Report) => Some(source_of(names.report)),
+        ToolFault::ReadSizes => names.sizes.map(Place::File),
         ToolFault::WriteTable => Some(Place::StandardOutput),
         ToolFault::WritePage => names.page.map(Place::File),
         _ => None,
@@ -156,6 +160,7 @@ pub fn place_of<'a>(job: &'a Job<'_>, fault: &ToolFault) -> Option<Place<'a>>
         Job::Solve { files, .. } => match fault {
             ToolFault::Run(fault) => place_in_run(files, fault),
             ToolFault::OneFile(shared) => place_shared(files, shared),
+            ToolFault::ReadSizes => files.sizes.map(Place::File),
             _ => None,
         },
     }

@@ -4,7 +4,9 @@ ghost use Rattle.crp_jobs.specs.Found.{IsPlainText, found_in};
 ghost use Rattle.crp_jobs.specs.Placed.{IsPlacedLine, is_other};
 
 use crate::job::Job;
-use crate::named::{message_named, offset_named, record_named, segment_named, yard_named};
+use crate::named::{
+    message_named, offset_named, record_named, segment_named, size_named, sizes_named, yard_named,
+};
 use crate::outcome::ToolFault;
 use crate::placed::{is_line_end, line_front, line_on_offset, line_on_record, line_on_segment};
 use crate::plain::{FoundLine, MOST_FOUND, push_plain};
@@ -12,6 +14,7 @@ use arrayvec::ArrayVec;
 use crp_files::Files;
 use crp_places::without_mark;
 use crp_report::Fault;
+use crp_sizes::SizesFault;
 use crp_yard::{MAX_BYTES, YardFault};
 use edi_text::MAX_TEXT;
 use std::alloc::Global;
@@ -90,7 +93,7 @@ fn wrong_with(header: &[u8]) -> &'static str {
     ""
 }
 
-// What stands in the place of a yard list's header.
+// What stands in the place of a list's header.
 fn line_on_list(front: &[u8]) -> FoundLine
     ensures { IsPlainText result.items }
 {
@@ -133,7 +136,7 @@ fn line_on_message(front: &[u8]) -> Option<FoundLine>
     Some(line)
 }
 
-/// What the fault of an input is about, in a line. Of a yard list without its header, and of a message that is no interchange, what the
+/// What the fault of an input is about, in a line. Of a list without its header, and of a message that is no interchange, what the
 /// file looks like where that may tell more than the fault; otherwise the line of the file in which the record, the segment or the offset
 /// stands that the fault names, and what stands there.
 pub fn found_line<F: Files>(
@@ -153,6 +156,15 @@ pub fn found_line<F: Files>(
         ToolFault::Run(Fault::Yard(fault)) => {
             let number = record_named(fault)?;
             let text = files.begins(alloc, yard_named(job)?, MAX_BYTES)?;
+            line_on_record(alloc, number, text.as_slice()).ok()
+        }
+        ToolFault::Sizes(SizesFault::Header { .. }) => {
+            let front = files.begins(alloc, sizes_named(job)?, FRONT)?;
+            Some(line_on_list(without_mark(front.as_slice())))
+        }
+        ToolFault::Sizes(fault) => {
+            let number = size_named(fault)?;
+            let text = files.begins(alloc, sizes_named(job)?, MAX_BYTES)?;
             line_on_record(alloc, number, text.as_slice()).ok()
         }
         ToolFault::Run(Fault::Interchange(fault)) => {

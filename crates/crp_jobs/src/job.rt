@@ -1,7 +1,12 @@
 //! What the program may be asked for.
 
+ghost use Rattle.std.specs.Prelude.{◌≡◌, IfOk, option_map};
+ghost use Rattle.crp_jobs.specs.Sized.{list_named, with_sizes};
+
 use crp_report::{InputSettings, RunSettings};
+use crp_sizes::Sizes;
 use crp_solve::Settings;
+use std::alloc::{AllocError, Global};
 
 /// What is done with the bytes of one file.
 #[derive(Clone, Copy)]
@@ -27,6 +32,8 @@ pub enum FileCommand {
 pub struct RunFiles<'a> {
     /// The yard list.
     pub yard: &'a str,
+    /// The list of sizes, if bays have others than the common one.
+    pub sizes: Option<&'a str>,
     /// The message.
     pub movins: &'a str,
     /// What gets the certificates, if they are wanted.
@@ -40,6 +47,8 @@ pub struct RunFiles<'a> {
 pub struct AuditFiles<'a> {
     /// The yard list.
     pub yard: &'a str,
+    /// The list of sizes, if bays have others than the common one.
+    pub sizes: Option<&'a str>,
     /// The message.
     pub movins: &'a str,
     /// The report.
@@ -53,6 +62,8 @@ pub struct AuditFiles<'a> {
 pub struct FollowFiles<'a> {
     /// The yard list.
     pub yard: &'a str,
+    /// The list of sizes, if bays have others than the common one.
+    pub sizes: Option<&'a str>,
     /// The report. One named `-` is the standard input.
     pub report: &'a str,
     /// The message, in whose order the table is to be, if there is one.
@@ -96,4 +107,56 @@ pub enum Job<'a> {
         /// Whether a line says that each bay begins, where there is no terminal.
         progress: bool,
     },
+}
+
+impl<'a> Job<'a> {
+    /// The list of sizes that the job names, if it names one, and what its input means without that.
+    pub fn list_of_sizes(&self) -> Option<(&'a str, &InputSettings)>
+        ensures { option_map (λ list. (list.0.now, list.1.now)) result ≡ list_named self.now }
+    {
+        match self {
+            Job::OneFile { .. } => None,
+            Job::Audit { files, settings } => Some((files.sizes?, settings)),
+            Job::Follow { files, settings } => Some((files.sizes?, settings)),
+            Job::Solve {
+                files,
+                settings,
+                ..
+            } => Some((files.sizes?, settings.input())),
+        }
+    }
+
+    /// The same job over a yard whose bays have these sizes.
+    pub fn with_sizes(&self, alloc: Global, sizes: Sizes) -> Result<Job<'a>, AllocError>
+        ensures { IfOk result (λ job. job ≡ with_sizes sizes self.now) }
+    {
+        Ok(match self {
+            Job::OneFile { file, command } => Job::OneFile {
+                file: *file,
+                command: *command,
+            },
+            Job::Audit { files, settings } => Job::Audit {
+                files: *files,
+                settings: settings.sized(alloc, sizes)?,
+            },
+            Job::Follow { files, settings } => Job::Follow {
+                files: *files,
+                settings: settings.sized(alloc, sizes)?,
+            },
+            Job::Solve {
+                files,
+                settings,
+                quiet,
+                progress,
+            } => Job::Solve {
+                files: *files,
+                settings: RunSettings::new(
+                    settings.search(),
+                    settings.input().sized(alloc, sizes)?,
+                ),
+                quiet: *quiet,
+                progress: *progress,
+            },
+        })
+    }
 }

@@ -16,6 +16,7 @@ mod outcome;
 mod placed;
 mod plain;
 mod run_advice;
+mod sizes_advice;
 
 pub use advice::advice_on;
 pub use failed::{Place, place_of};

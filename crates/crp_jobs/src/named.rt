@@ -1,9 +1,10 @@
 //! What a fault of an input names of its text: a record, an offset or a segment; and whose text that is.
 ghost use Rattle.std.specs.Prelude.{◌≡◌, option_map};
-ghost use Rattle.crp_jobs.specs.Placed.{message_named, offset_named, record_named, segment_named, yard_named};
+ghost use Rattle.crp_jobs.specs.Placed.{message_named, offset_named, record_named, segment_named, size_named, sizes_named, yard_named};
 
 use crate::job::Job;
 use crp_movins::MovinsFault;
+use crp_sizes::SizesFault;
 use crp_yard::YardFault;
 use edi_text::EdiFault;
 
@@ -22,6 +23,20 @@ pub(crate) fn record_named(fault: &YardFault) -> Option<usize>
         YardFault::Header { .. } | YardFault::Read | YardFault::TooLarge | YardFault::Memory => {
             None
         }
+    }
+}
+
+/// The record of a list of sizes that is named, from 1. Where the first is no header, another line tells more.
+pub(crate) fn size_named(fault: &SizesFault) -> Option<usize>
+    ensures { result ≡ size_named fault.now }
+{
+    match fault {
+        SizesFault::Fields { record }
+        | SizesFault::Digits { record }
+        | SizesFault::Heights { record }
+        | SizesFault::Twice { record } => Some(*record),
+        SizesFault::Header { .. } | SizesFault::TooLarge | SizesFault::Read | SizesFault::Memory =>
+            None,
     }
 }
 
@@ -71,6 +86,18 @@ pub(crate) fn yard_named<'a>(job: &Job<'a>) -> Option<&'a str>
         Job::Solve { files, .. } => Some(files.yard),
         Job::Audit { files, .. } => Some(files.yard),
         Job::Follow { files, .. } => Some(files.yard),
+        Job::OneFile { .. } => None,
+    }
+}
+
+/// Its list of sizes.
+pub(crate) fn sizes_named<'a>(job: &Job<'a>) -> Option<&'a str>
+    ensures { option_map (λ name. name.now) result ≡ sizes_named job.now }
+{
+    match job {
+        Job::Solve { files, .. } => files.sizes,
+        Job::Audit { files, .. } => files.sizes,
+        Job::Follow { files, .. } => files.sizes,
         Job::OneFile { .. } => None,
     }
 }

@@ -31,6 +31,7 @@ impl JobNames for RunFiles<'_> {
     fn name_of(&self, role: Role) -> Option<&str> {
         match role {
             Role::YardList => Some(self.yard),
+            Role::Sizes => self.sizes,
             Role::Message => Some(self.movins),
             Role::Certificates => self.cert,
             Role::YardAfter => self.after,
@@ -49,6 +50,7 @@ impl JobNames for FollowFiles<'_> {
     fn name_of(&self, role: Role) -> Option<&str> {
         match role {
             Role::YardList => Some(self.yard),
+            Role::Sizes => self.sizes,
             Role::Report => report_name(self.report),
             Role::Message => self.movins,
             Role::Page => self.page,

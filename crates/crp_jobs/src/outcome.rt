@@ -12,6 +12,7 @@ use crp_follow::FollowFault;
 use crp_loading::LoadingFault;
 use crp_plan::{PlanFault, ReadFailed, ReadFault, WriteFailed};
 use crp_report::{Fault, Status};
+use crp_sizes::SizesFault;
 use std::alloc::AllocError;
 use std::fmt::{self, Display, Formatter, Write};
 use thiserror::Error;
@@ -60,6 +61,12 @@ pub enum ToolFault {
     /// A run over a yard did not do what it was asked for.
     #[error("{0}")]
     Run(Fault),
+    /// A list of sizes is refused, with its first fault.
+    #[error("{0}")]
+    Sizes(SizesFault),
+    /// A read of a list of sizes failed, or was interrupted once too often; also a file that cannot be opened.
+    #[error("a read of the list of sizes failed")]
+    ReadSizes,
     /// A read failed, or was interrupted once too often; also a file that cannot be opened.
     #[error("a read failed")]
     Read,
@@ -185,6 +192,20 @@ impl From<LoadingFault> for ToolFault {
     }
 }
 
+impl From<SizesFault> for ToolFault {
+    ghost use Rattle.crp_jobs.specs.Outcomes.{fault_of_sizes};
+
+    ghost from_gives = { λ error fault. fault ≡ fault_of_sizes error };
+
+    fn from(error: SizesFault) -> ToolFault {
+        match error {
+            SizesFault::Memory => ToolFault::Memory,
+            SizesFault::Read => ToolFault::ReadSizes,
+            other => ToolFault::Sizes(other),
+        }
+    }
+}
+
 impl From<PlanFault> for ToolFault {
     ghost use Rattle.crp_jobs.specs.declared.outcome.ToolFault.TheVariants.{Plan};
 
@@ -228,12 +249,14 @@ pub fn exit_of(answer: &Result<Status, ToolFault>) -> u8
             ToolFault::TooLarge
             | ToolFault::TooLargeOf(_)
             | ToolFault::Followed(_)
-            | ToolFault::Loaded(_),
+            | ToolFault::Loaded(_)
+            | ToolFault::Sizes(_),
         ) => 3,
         Ok(Status::Memory) | Err(ToolFault::Memory) => 4,
         Err(
             ToolFault::Read
             | ToolFault::ReadOf(_)
+            | ToolFault::ReadSizes
             | ToolFault::Write
             | ToolFault::WriteTable
             | ToolFault::WritePage,

@@ -1,3 +1,5 @@
 mod Repeating
 mod Saying
 mod InForce
+mod Placed
+mod SizeWords

@@ -5,4 +5,6 @@ pub mod Slots
 pub mod Messages
 pub mod Namings
 pub mod Bays
+pub mod Beyond
+pub mod Used
 pub use Rattle.crp_report.specs.Watching

@@ -1,5 +1,6 @@
 -- How notes are worded. A note is one line.
-use Rattle.std.specs.Prelude.{ℕ, nat_lt, List, [], ◌∷◌, ◌++◌, length, take, flat_map, if◌then◌else◌, Bool, codes, decimal}
+use Rattle.std.specs.Prelude.{ℕ, nat_lt, ◌==◌, List, [], ◌∷◌, ◌++◌, length, take, flat_map, if◌then◌else◌, Bool, codes, decimal}
+use Rattle.std.specs.List.{list_all}
 use Rattle.crp_plan.specs.BayNames.{YardBay}
 
 -- the line of a note that has these parts
@@ -52,15 +53,34 @@ abbrev pub alike_note : List ℕ → List ℕ → List ℕ
 alike_note ordered standing = note_of (
     quoted ordered ∷ codes " differs from " ∷ quoted standing ∷ codes " in the yard by blanks, dashes or small letters alone: write both alike" ∷ [])
 
--- no container stands in the last rows
-abbrev pub rows_note : ℕ → ℕ → List ℕ
-rows_note rows highest = note_of (
-    codes "the settings have " ∷ decimal rows ∷ codes " rows, and no container stands beyond row " ∷ decimal highest
-    ∷ codes ": if the bays end there, say so by --rows or --heights, or plans use rows that are not there" ∷ [])
+-- a bay by its name, and with the word before it
+abbrev pub bay_name : YardBay → List ℕ
+bay_name bay = bay.block ++ (codes " " ++ decimal bay.bay)
 
--- a bay by its name
 abbrev pub bay_words : YardBay → List ℕ
-bay_words bay = codes "bay " ++ (bay.block ++ (codes " " ++ decimal bay.bay))
+bay_words bay = codes "bay " ++ bay_name bay
+
+-- the tiers of rows: `8 tiers` where each has so many, else those of each row, as `8.8.5 tiers`
+abbrev pub tiers_words : List ℕ → List ℕ
+tiers_words [] = []
+tiers_words (height ∷ heights) = decimal height ++ (
+    if list_all (λ other. other == height) heights then (if nat_lt 1 height then codes " tiers" else codes " tier")
+    else flat_map (λ other. 46 ∷ decimal other) heights ++ codes " tiers")
+
+-- so many bays; by its name where there is one
+abbrev pub which_words : YardBay → ℕ → List ℕ
+which_words first bays = if nat_lt 1 bays then decimal bays ++ codes " bays" else bay_words first
+
+-- which of them is the first
+abbrev pub first_words : YardBay → ℕ → List ℕ
+first_words first bays = if nat_lt 1 bays then codes " (" ++ (bay_name first ++ codes " is the first): if they end") else codes ": if it ends"
+
+-- nothing stands beyond this row or this tier of so many bays of these heights, of which this one is the first
+abbrev pub beyond_note : List ℕ → YardBay → ℕ → ℕ → ℕ → List ℕ
+beyond_note heights first bays row tier = note_of (
+    codes "nothing stands beyond row " ∷ decimal row ∷ codes " or tier " ∷ decimal tier ∷ codes " of the " ∷ which_words first bays
+    ∷ codes " of " ∷ decimal (length heights) ∷ codes " rows of " ∷ tiers_words heights ∷ first_words first bays
+    ∷ codes " there, say so by --rows, --tiers, --heights or --sizes, or plans use places that are not there" ∷ [])
 
 -- a bay is left open
 abbrev pub open_note : YardBay → List ℕ → List ℕ

@@ -73,7 +73,7 @@ fn alike_in_bay<'a>(
     requires { bay < length yard.now.bays }
     ensures { IfOk result (λ found. IfSome found (λ other. plain other.now ≡ name.now)) }
 {
-    for i in 0..yard.rows() {
+    for i in 0..yard.heights(bay).len() as u8 {
         let found = alike_in_stack(alloc, yard.stack(bay, i + 1), name)?;
         if let Some(other) = found {
             return Ok(Some(other));

@@ -2,7 +2,7 @@
 //!
 //! `Notes` watches a run and writes its notes to standard error, and how far it is to a `Terminal`; nothing of the report rests on them. How each note is worded is said
 //! in `specs/Wording.antt`, which names are alike in `specs/Alike.antt`, which slots several orders of a message name in
-//! `specs/Slots.antt`, and what is noted of a bay in `specs/Bays.antt`.
+//! `specs/Slots.antt`, what is noted of the bays of one size in `specs/Beyond.antt`, and of a bay in `specs/Bays.antt`.
 #![tactic(auto)]
 
 mod bays;
@@ -16,6 +16,7 @@ mod rows;
 mod slots;
 mod standing;
 mod terminal;
+mod tiers;
 mod wording;
 
 pub use notes::Notes;

@@ -9,12 +9,12 @@ use crate::message::{
 };
 use crate::naming::namings;
 use crate::progress::{Progress, bay_line};
-use crate::rows::highest_row;
+use crate::rows::{size_beyond, sizes_of};
 use crate::slots::shared_slots;
 use crate::terminal::Terminal;
 use crate::wording::{
-    absent_note, alike_note, codes_note, function_note, messages_note, no_codes_note, rows_note,
-    size_note, slots_note,
+    absent_note, alike_note, codes_note, function_note, messages_note, no_codes_note, size_note,
+    slots_note,
 };
 use crp_order::{BayProblem, Mode, Sequence};
 use crp_plan::Sink;
@@ -162,14 +162,24 @@ impl<'a, T: Terminal> Notes<'a, T> {
         self.alike(alloc, yard, first, errors);
     }
 
-    // Rows in which no container stands.
-    fn rows<E: Sink>(&mut self, alloc: Global, yard: &Yard, errors: &mut E)
+    // Rows of the bays of one size in which no container stands.
+    fn beyond_one<E: Sink>(&mut self, alloc: Global, yard: &Yard, heights: &[u8], errors: &mut E)
         ensures { ShowsMore (E.contents errors.old) (E.contents errors.new) }
     {
-        let highest = highest_row(yard);
-        if 0 < highest && highest < yard.rows() {
-            self.lines
-                .note(errors, rows_note(alloc, yard.rows(), highest));
+        if let Ok(Some(note)) = size_beyond(alloc, yard, heights) {
+            self.lines.note(errors, Ok(note));
+        }
+    }
+
+    // Rows in which no container stands.
+    fn beyond<E: Sink>(&mut self, alloc: Global, yard: &Yard, errors: &mut E)
+        ensures { ShowsMore (E.contents errors.old) (E.contents errors.new) }
+    {
+        let Ok(sizes) = sizes_of(alloc, yard) else {
+            return;
+        };
+        for heights in &sizes {
+            self.beyond_one(alloc, yard, heights, errors);
         }
     }
 
@@ -217,7 +227,7 @@ impl<'a, T: Terminal + Sync> Watch for Notes<'a, T> {
         self.mixed(alloc, segments, settings.input().mode(), errors);
         self.slots(alloc, segments, code, errors);
         self.absent(alloc, yard, sequence, errors);
-        self.rows(alloc, yard, errors);
+        self.beyond(alloc, yard, errors);
     }
 
     fn begins<E: Sink>(

@@ -1,7 +1,8 @@
 //! Words the notes.
 ghost use Rattle.std.specs.Prelude.{◌≡◌, [], ◌++◌, IfOk, OnOk, length, take, map, flat_map, nat_lt, codes, if◌then◌else◌};
-ghost use Rattle.crp_notes.specs.Wording.{note_of, quoted, listed, function_note, no_codes_note, codes_note, messages_note, absent_note, alike_note, rows_note, slots_note, bay_words, open_note, no_plan_note, size_note, more_note};
+ghost use Rattle.crp_notes.specs.Wording.{note_of, quoted, listed, function_note, no_codes_note, codes_note, messages_note, absent_note, alike_note, slots_note, bay_name, bay_words, which_words, first_words, beyond_note, open_note, no_plan_note, size_note, more_note};
 
+use crate::tiers::tiers_words;
 use crp_plan::BayName;
 use itoa::Buffer;
 use std::alloc::{AllocError, Global};
@@ -214,31 +215,84 @@ pub(crate) fn alike_note(
     note_of(alloc, parts.as_slice())
 }
 
-/// Of so many rows no container stands beyond this one.
-pub(crate) fn rows_note(alloc: Global, rows: u8, highest: u8) -> Result<Vec<u8>, AllocError>
-    ensures { IfOk result (λ text. text.items ≡ rows_note rows highest) }
-{
-    let (mut all, mut last) = (Buffer::new(), Buffer::new());
-    let parts: [&[u8]; 5] = [
-        b"the settings have ",
-        all.format(rows).as_bytes(),
-        b" rows, and no container stands beyond row ",
-        last.format(highest).as_bytes(),
-        b": if the bays end there, say so by --rows or --heights, or plans use rows that are not there",
-    ];
-    note_of(alloc, parts.as_slice())
-}
-
 // A bay by its name.
-fn bay_words(alloc: Global, bay: &BayName) -> Result<Vec<u8>, AllocError>
-    ensures { IfOk result (λ text. text.items ≡ bay_words bay.now) }
+fn bay_name(alloc: Global, bay: &BayName) -> Result<Vec<u8>, AllocError>
+    ensures { IfOk result (λ text. text.items ≡ bay_name bay.now) }
 {
     let mut digits = Buffer::new();
-    let mut text = Vec::from_slice(alloc, b"bay ")?;
-    text.extend_from_slice(bay.block())?;
+    let mut text = Vec::from_slice(alloc, bay.block())?;
     text.push(b' ')?;
     text.extend_from_slice(digits.format(bay.bay()).as_bytes())?;
     Ok(text)
+}
+
+// The same with the word before it.
+fn bay_words(alloc: Global, bay: &BayName) -> Result<Vec<u8>, AllocError>
+    ensures { IfOk result (λ text. text.items ≡ bay_words bay.now) }
+{
+    let name = bay_name(alloc, bay)?;
+    let mut text = Vec::from_slice(alloc, b"bay ")?;
+    text.extend_from_slice(&name)?;
+    Ok(text)
+}
+
+// So many bays.
+fn which_words(alloc: Global, first: &BayName, bays: usize) -> Result<Vec<u8>, AllocError>
+    ensures { IfOk result (λ text. text.items ≡ which_words first.now bays) }
+{
+    if bays <= 1 {
+        return bay_words(alloc, first);
+    }
+    let mut digits = Buffer::new();
+    let mut text = Vec::from_slice(alloc, digits.format(bays).as_bytes())?;
+    text.extend_from_slice(b" bays")?;
+    Ok(text)
+}
+
+// Which of them is the first.
+fn first_words(alloc: Global, first: &BayName, bays: usize) -> Result<Vec<u8>, AllocError>
+    ensures { IfOk result (λ text. text.items ≡ first_words first.now bays) }
+{
+    if bays <= 1 {
+        return Vec::from_slice(alloc, b": if it ends");
+    }
+    let name = bay_name(alloc, first)?;
+    let mut text = Vec::from_slice(alloc, b" (")?;
+    text.extend_from_slice(&name)?;
+    text.extend_from_slice(b" is the first): if they end")?;
+    Ok(text)
+}
+
+/// Nothing stands beyond this row or this tier of so many bays of these heights, of which this one is the first.
+pub(crate) fn beyond_note(
+    alloc: Global,
+    heights: &[u8],
+    first: &BayName,
+    bays: usize,
+    row: u8,
+    tier: usize,
+) -> Result<Vec<u8>, AllocError>
+    ensures { IfOk result (λ text. text.items ≡ beyond_note heights.now first.now bays row tier) }
+{
+    let (mut last, mut top, mut all) = (Buffer::new(), Buffer::new(), Buffer::new());
+    let which = which_words(alloc, first, bays)?;
+    let tiers = tiers_words(alloc, heights)?;
+    let first = first_words(alloc, first, bays)?;
+    let parts: [&[u8]; 12] = [
+        b"nothing stands beyond row ",
+        last.format(row).as_bytes(),
+        b" or tier ",
+        top.format(tier).as_bytes(),
+        b" of the ",
+        &which,
+        b" of ",
+        all.format(heights.len()).as_bytes(),
+        b" rows of ",
+        &tiers,
+        &first,
+        b" there, say so by --rows, --tiers, --heights or --sizes, or plans use places that are not there",
+    ];
+    note_of(alloc, parts.as_slice())
 }
 
 /// A bay is left open, for this reason.

@@ -4,6 +4,7 @@ use Rattle.std.specs.Prelude.{◌||◌, filter, not}
 use Rattle.std.specs.List.{AllByRecursion}
 use Rattle.std.specs.Str.{bytes_eq}
 use Rattle.std.proofs.lemmas.Bool.{false≢true}
+use Rattle.crp_sizes.specs.Sizes.{YardSizes}
 use Rattle.crp_yard.specs.Inventory.{Inventory, StackedBay, is_among}
 use Rattle.crp_yard.specs.Naming.{FitsLine, IsNamedBay}
 use Rattle.crp_yard.proofs.NamedBays.{all_both}
@@ -43,12 +44,12 @@ ranked_fit sequence stacks fit =
     (passing FitsLine (is_among (standing stacks)) sequence (λ name e. among_fits (standing stacks) name fit e))
     (kept FitsLine (λ name. not (is_among sequence name)) (standing stacks) fit)
 
-all_named : (heights : List ℕ) (sequence : List (List ℕ)) (bays : List StackedBay) → AllByRecursion IsNamedBay bays → AllByRecursion IsNamedProblem (map (bay_problem_of heights sequence) bays)
-all_named heights sequence [] named = tt
-all_named heights sequence (bay ∷ bays) all =
+all_named : (sizes : YardSizes) (sequence : List (List ℕ)) (bays : List StackedBay) → AllByRecursion IsNamedBay bays → AllByRecursion IsNamedProblem (map (bay_problem_of sizes sequence) bays)
+all_named sizes sequence [] named = tt
+all_named sizes sequence (bay ∷ bays) all =
     let first = all.0 in
-    (record { bay = first.name; names = ranked_fit sequence bay.1 first.containers }, all_named heights sequence bays all.1)
+    (record { bay = first.name; names = ranked_fit sequence bay.1 first.containers }, all_named sizes sequence bays all.1)
 
 pub problems_named : (yard : Inventory) (sequence : List (List ℕ)) → AllByRecursion IsNamedBay yard.bays → AllByRecursion IsNamedProblem (problems_of yard sequence)
 problems_named yard sequence named =
-    all_named yard.heights sequence (filter (is_called sequence) yard.bays) (kept IsNamedBay (is_called sequence) yard.bays named)
+    all_named yard.sizes sequence (filter (is_called sequence) yard.bays) (kept IsNamedBay (is_called sequence) yard.bays named)

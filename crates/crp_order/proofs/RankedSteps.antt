@@ -7,6 +7,7 @@ use Rattle.std.specs.Str.{bytes_eq}
 use Rattle.std.proofs.lemmas.Bool.{eqb-true, true≢false}
 use Rattle.std.proofs.lemmas.List.{append-nil}
 use Rattle.std.proofs.lemmas.Option.{same_Some, slice_get-map, slice_get_within, get_or_from_slice_get}
+use Rattle.crp_sizes.specs.Sizes.{heights_at}
 use Rattle.crp_yard.specs.Inventory.{Inventory, StackedBay, IsYard, times, is_among}
 use Rattle.crp_yard.proofs.ListingSteps.{times_absent}
 use Rattle.crp_yard.proofs.Seams.{in_front}
@@ -139,7 +140,7 @@ module _ (heights : List ℕ) (sequence : List (List ℕ)) (stacks : List (List 
   }
 
 pub are_ranked : (yard : Inventory) (sequence : List (List ℕ)) (number : ℕ) (bay : StackedBay) → IsYard yard → AreSequenced sequence → slice_get yard.bays number ≡ Some bay
-    → AreRanked sequence bay.1 (problem_of yard.heights sequence bay.1)
+    → AreRanked sequence bay.1 (problem_of (heights_at yard.sizes bay.0) sequence bay.1)
 are_ranked yard sequence number bay is sequenced at =
-    bay_ranked yard.heights sequence bay.1 (once sequence sequenced.once)
+    bay_ranked (heights_at yard.sizes bay.0) sequence bay.1 (once sequence sequenced.once)
     (subst (λ s. (c : List ℕ) → times c (standing s) ≤ 1) (stacks_of_bay yard number bay at) (stands_once yard number is (slice_get_within yard.bays number bay at)))

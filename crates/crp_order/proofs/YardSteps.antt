@@ -1,14 +1,17 @@
 -- The bays of a yard by their numbers.
 use Prim.Native.Nat.{zero}
-use Rattle.std.proofs.Common.{◌≡◌, ◌≤◌, ◌<◌, ◌+◌, ◌-◌, ℕ, suc, true, List, [], ◌∷◌, ◌++◌, length, take, get_or, Option, Some, None, slice_get, sym, ap, ◌∙◌, subst, arith}
-use Rattle.std.specs.Prelude.{option_and_then}
+use Rattle.std.proofs.Common.{◌≡◌, ◌≤◌, ◌<◌, ◌+◌, ◌-◌, ℕ, suc, true, List, [], ◌∷◌, ◌++◌, length, take, get_or, Option, Some, None, slice_get, ap, ◌∙◌, subst, arith}
+use Rattle.std.specs.Prelude.{option_and_then, option_map, unwrap_or}
 use Rattle.std.specs.Option.{option_map_or}
 use Rattle.std.proofs.lemmas.List.{take_all}
 use Rattle.std.proofs.lemmas.List.Elements.{All-get_or}
 use Rattle.std.proofs.lemmas.Option.{slice_get_within, get_or_from_slice_get, slice_get-get_or, same_Some}
+use Rattle.crp_sizes.specs.Heights.{CanBeHeights}
+use Rattle.crp_sizes.specs.Sizes.{heights_at}
+use Rattle.crp_sizes.proofs.Bays.{heights_can_be}
 use Rattle.crp_yard.specs.Inventory.{Inventory, StackedBay, IsYard, FitBay, times, is_among, stack_in_bay, containers_of}
 use Rattle.crp_order.specs.BayProblems.{standing}
-use Rattle.crp_order.specs.Groups.{stacks_numbered}
+use Rattle.crp_order.specs.Groups.{stacks_numbered, heights_numbered}
 use Rattle.crp_yard.proofs.ListingSteps.{times-append}
 use Rattle.crp_order.proofs.Once.{some_times}
 
@@ -29,6 +32,12 @@ at_bay yard i h =
 pub stacks_of_bay : (yard : Inventory) (i : ℕ) (bay : StackedBay) → slice_get yard.bays i ≡ Some bay → stacks_numbered yard i ≡ bay.1
 stacks_of_bay yard i bay e = ap (λ found. option_map_or (λ b. b.1) found []) e
 
+pub heights_of_bay : (yard : Inventory) (i : ℕ) (bay : StackedBay) → slice_get yard.bays i ≡ Some bay → heights_numbered yard i ≡ heights_at yard.sizes bay.0
+heights_of_bay yard i bay e = ap (λ found. unwrap_or (option_map (heights_at yard.sizes) (option_map (λ b. b.0) found)) []) e
+
+pub can_be : (yard : Inventory) (i : ℕ) → IsYard yard → i < length yard.bays → CanBeHeights (heights_numbered yard i)
+can_be yard i is h = let at : AtBay yard i = at_bay yard i h in rw (heights_of_bay yard i at.bay at.here) (heights_can_be yard.sizes is.sizes_fit at.bay.0)
+
 pub stack_of_bay : (yard : Inventory) (i row : ℕ) (stack : List (List ℕ)) → stack_in_bay yard i row ≡ Some stack → slice_get (stacks_numbered yard i) (row - 1) ≡ Some stack
 stack_of_bay yard i row stack e = by (slice_get yard.bays i) e
   where
@@ -39,12 +48,12 @@ stack_of_bay yard i row stack e = by (slice_get yard.bays i) e
 pub take_next : {X : Type 0} (xs : List X) (i : ℕ) (x : X) → slice_get xs i ≡ Some x → take (i + 1) xs ≡ take i xs ++ x ∷ []
 take_next xs i x e = Rattle.std.proofs.lemmas.List.take_more xs i x (slice_get_within xs i x e) ∙ ap (λ y. take i xs ++ y ∷ []) (get_or_from_slice_get xs i x x e)
 
-pub fits : (yard : Inventory) (i : ℕ) → IsYard yard → i < length yard.bays → FitBay yard.heights (stacks_numbered yard i)
+pub fits : (yard : Inventory) (i : ℕ) → IsYard yard → i < length yard.bays → FitBay (heights_numbered yard i) (stacks_numbered yard i)
 fits yard i is h =
     let at : AtBay yard i = at_bay yard i h in
-    let fit : FitBay yard.heights (get_or yard.bays i at.bay).1 = All-get_or (λ bay. FitBay yard.heights bay.1) yard.bays i at.bay h is.bays_fit in
-    let e : (get_or yard.bays i at.bay).1 ≡ stacks_numbered yard i = ap (λ bay. bay.1) (get_or_from_slice_get yard.bays i at.bay at.bay at.here) ∙ sym at.stacks in
-    subst (FitBay yard.heights) e fit
+    rw (heights_of_bay yard i at.bay at.here, at.stacks)
+    (subst (λ bay. FitBay (heights_at yard.sizes bay.0) bay.1) (get_or_from_slice_get yard.bays i at.bay at.bay at.here)
+    (All-get_or (λ bay. FitBay (heights_at yard.sizes bay.0) bay.1) yard.bays i at.bay h is.bays_fit))
 
 -- a container stands in a bay as often as in the yard at most, and in two bays together
 in_one : (bays : List StackedBay) (c : List ℕ) (i : ℕ) (bay : StackedBay) → slice_get bays i ≡ Some bay → times c (standing bay.1) ≤ times c (containers_of bays)

@@ -6,6 +6,7 @@ use Rattle.crp_plan.specs.Bay.{Problem, IsProblem}
 use Rattle.crp_plan.specs.BayNames.{IsYardBay}
 use Rattle.crp_plan.specs.Rows.{total}
 use Rattle.crp_plan.specs.Faults.{stated_with}
+use Rattle.crp_sizes.specs.Sizes.{YardSizes, heights_at}
 use Rattle.crp_yard.specs.Inventory.{Inventory, StackedBay, is_among, stands}
 use Rattle.crp_yard.specs.Naming.{FitsLine}
 use Rattle.crp_yard.specs.Ranks.{named}
@@ -41,11 +42,11 @@ ranks_in names stacks = map (λ stack. map (rank_in names) stack) stacks
 abbrev pub problem_of : List ℕ → List (List ℕ) → List (List (List ℕ)) → Problem
 problem_of heights sequence stacks = stated_with heights (length (leaving sequence stacks)) (ranks_in (ranked sequence stacks) stacks)
 
--- the same with the bay's name and the container of each rank
-abbrev pub bay_problem_of : List ℕ → List (List ℕ) → StackedBay → BayProblem
-bay_problem_of heights sequence bay = record {
+-- the same under the heights that the bay has, with its name and the container of each rank
+abbrev pub bay_problem_of : YardSizes → List (List ℕ) → StackedBay → BayProblem
+bay_problem_of sizes sequence bay = record {
   bay = bay.0;
-  problem = problem_of heights sequence bay.1;
+  problem = problem_of (heights_at sizes bay.0) sequence bay.1;
   names = ranked sequence bay.1;
 }
 
@@ -55,7 +56,7 @@ is_called sequence bay = list_any (is_among (standing bay.1)) sequence
 
 -- the problems of the bays in which some container of the sequence stands, in the yard's order
 abbrev pub problems_of : Inventory → List (List ℕ) → List BayProblem
-problems_of yard sequence = map (bay_problem_of yard.heights sequence) (filter (is_called sequence) yard.bays)
+problems_of yard sequence = map (bay_problem_of yard.sizes sequence) (filter (is_called sequence) yard.bays)
 
 -- how many containers of the sequence stand nowhere in the yard
 abbrev pub absent_of : Inventory → List (List ℕ) → ℕ
@@ -65,7 +66,7 @@ absent_of yard sequence = count_by (λ container. not (stands yard.bays containe
 -- each container
 pub record IsNamed (yard : Inventory) (made : BayProblem) : Type 0 where
   pub is_problem : IsProblem made.problem
-  pub heights : made.problem.heights ≡ yard.heights
+  pub heights : made.problem.heights ≡ heights_at yard.sizes made.bay
   pub stands : stacks_at yard.bays made.bay ≡ Some (named made.names made.problem.stacks)
   pub each_rank : length made.names ≡ total made.problem.stacks
 

@@ -1,17 +1,21 @@
 -- What is kept while the problems are stated. Only private clauses speak of it.
-use Rattle.std.specs.Prelude.{◌≡◌, ◌<◌, ◌≤◌, ◌==◌, ℕ, Bool, true, false, not, List, [], ◌++◌, length, map, filter, Option, Some, None, IfSome, slice_get, if◌then◌else◌}
+use Rattle.std.specs.Prelude.{◌≡◌, ◌<◌, ◌≤◌, ◌==◌, ℕ, Bool, true, false, not, List, [], ◌++◌, length, map, filter, Option, Some, None, IfSome, slice_get, unwrap_or, if◌then◌else◌}
 use Rattle.std.specs.Option.{option_map_or}
 use Rattle.std.specs.Map.{lookup}
 use Rattle.std.specs.Str.{bytes_eq}
 use denote.Ref.{Bor}
 use Rattle.crp_plan.specs.Faults.{stated_with}
-use Rattle.crp_yard.specs.Inventory.{Inventory, StackedBay, is_among, times, name_at}
+use Rattle.crp_yard.specs.Inventory.{Inventory, StackedBay, is_among, times, name_at, heights_in_bay}
 use Rattle.crp_order.specs.declared.bay_problem.BayProblem.{BayProblem}
 use Rattle.crp_order.specs.BayProblems.{standing, leaving, ranks_in}
 
 -- the stacks of the bay with this number, from 0
 abbrev pub stacks_numbered : Inventory → ℕ → List (List (List ℕ))
 stacks_numbered yard i = option_map_or (λ bay. bay.1) (slice_get yard.bays i) []
+
+-- the heights of its rows
+abbrev pub heights_numbered : Inventory → ℕ → List ℕ
+heights_numbered yard i = unwrap_or (heights_in_bay yard i) []
 
 -- what references point to
 abbrev pub pointed : {X : Type 0} → List (Bor X) → List X
@@ -54,4 +58,4 @@ pub record CanLeave (left : List (List ℕ)) (stacks : List (List (List ℕ))) :
 pub record IsStated (yard : Inventory) (i : ℕ) (left : List (List ℕ)) (made : BayProblem) : Type 0 where
   pub bay : name_at yard i ≡ Some made.bay
   pub names : made.names ≡ names_behind left (stacks_numbered yard i)
-  pub problem : made.problem ≡ stated_with yard.heights (length left) (ranks_in (names_behind left (stacks_numbered yard i)) (stacks_numbered yard i))
+  pub problem : made.problem ≡ stated_with (heights_numbered yard i) (length left) (ranks_in (names_behind left (stacks_numbered yard i)) (stacks_numbered yard i))

@@ -19,7 +19,8 @@ pub(crate) fn stacks_of<'a>(
     ensures { IfOk result (λ stacks. pointed stacks.items ≡ stacks_numbered yard.now bay) }
 {
     let mut stacks = Vec::new(alloc);
-    for i in 0..yard.rows() {
+    let rows = yard.heights(bay).len() as u8;
+    for i in 0..rows {
         stacks.push(yard.stack(bay, i + 1))?;
     }
     Ok(stacks)

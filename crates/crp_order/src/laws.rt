@@ -4,6 +4,7 @@ ghost use Rattle.std.specs.Prelude.{◌≡◌, ◌<◌, ℕ, List, Some, slice_g
 ghost use Rattle.crp_movins.specs.declared.order.Order.{Order};
 ghost use Rattle.crp_order.specs.declared.sequences.Mode.{Mode};
 ghost use Rattle.crp_order.specs.declared.sequences.Mode.TheVariants.{Stowage};
+ghost use Rattle.crp_sizes.specs.Sizes.{heights_at};
 ghost use Rattle.crp_yard.specs.Inventory.{Inventory, StackedBay, IsYard};
 ghost use Rattle.crp_order.specs.Slots.{IsBeneath};
 ghost use Rattle.crp_order.specs.Sequences.{IsSequence};
@@ -32,5 +33,5 @@ pub fn one_sequence()
 pub fn ranks_by_places()
     ensures { (yard : Inventory) (sequence : List (List ℕ)) (number : ℕ) (bay : StackedBay)
         → IsYard yard → AreSequenced sequence → slice_get yard.bays number ≡ Some bay
-        → AreRanked sequence bay.1 (problem_of yard.heights sequence bay.1) }
+        → AreRanked sequence bay.1 (problem_of (heights_at yard.sizes bay.0) sequence bay.1) }
 {}

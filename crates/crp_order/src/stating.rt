@@ -27,7 +27,7 @@ fn problem_of(
     requires leaving { CanLeave (pointed leaving.now) (stacks_numbered yard.now bay) }
     ensures { IfOk result (IsStated yard.now bay (pointed leaving.now)) }
 {
-    let heights = yard.heights();
+    let heights = yard.heights(bay);
     let stacks = stacks_of(alloc, yard, bay)?;
     let names = names_by_rank(alloc, leaving, &stacks)?;
     let ranks = stacks_by_rank(alloc, &names, &stacks)?;

@@ -4,8 +4,9 @@ use Rattle.std.proofs.lemmas.List.{take_all}
 use Rattle.std.proofs.Math.Nat.{le_refl}
 use Rattle.std.specs.List.{AllByRecursion}
 use Rattle.std.proofs.lemmas.Option.{slice_get_read}
+use Rattle.crp_sizes.specs.Sizes.{heights_at}
+use Rattle.crp_sizes.proofs.Lists.{member, unmapped}
 use Rattle.crp_yard.specs.Inventory.{Inventory, IsYard}
-use Rattle.crp_yard.proofs.Lists.{member, unmapped}
 use Rattle.crp_said.specs.declared.numbers.Numbers.{Numbers}
 use Rattle.crp_follow.specs.declared.followed.FollowedBay.{FollowedBay}
 use Rattle.crp_follow.specs.Faults.{LeadsIn}
@@ -34,7 +35,8 @@ ends law yard [] few leads = tt
 ends law yard (b ∷ bays) few leads =
     let moves : List SaidMove = moves_of b.stated.moves in
     let all : take (length moves) moves ≡ moves = take_all (length moves) moves (le_refl (length moves)) in
-    let left = law yard.heights b.start b.after moves (length moves) (subst (λ l. Leads yard.heights b.start l b.after) (sym all) leads.0.leads) in
+    let heights = heights_at yard.sizes b.stated.bay in
+    let left = law heights b.start b.after moves (length moves) (subst (λ l. Leads heights b.start l b.after) (sym all) leads.0.leads) in
     let stand = few.0 in
     (omega (arith, left, stand), ends law yard bays few.1 leads.1)
 

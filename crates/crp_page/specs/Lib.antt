@@ -3,6 +3,7 @@ pub mod Numbered
 pub mod Few
 pub mod Counts
 pub mod Words
+pub mod Grounds
 pub mod Summary
 pub mod Sections
 pub mod Page

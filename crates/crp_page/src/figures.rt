@@ -8,29 +8,37 @@ ghost use Rattle.crp_page.specs.Few.{LeaveFew};
 ghost use Rattle.crp_page.specs.Words.{move_item};
 ghost use Rattle.crp_page.specs.Sections.{figure_head, figure_body, figure, bay_title, start_title, frame_title, end_title, leaving_words, start_caption, frame_caption, end_caption, start_figure, frame_figure, end_figure};
 
+use crate::grounds::Ground;
 use crate::words::{push_bay_name, push_counted, push_move, push_rows};
 use crp_cert::push_decimal;
 use crp_follow::{FollowedBay, StatedMove, relocations_of, standing};
-use crp_picture::{Frame, count_blocking, push_end, push_frame, push_start};
+use crp_picture::{Frame, count_blocking, push_end, push_frame, push_ground_name, push_start};
 use std::alloc::{AllocError, Global};
 
-/// Adds where a figure begins, of so many rows and tiers.
-fn push_figure_head(text: &mut Vec<u8>, rows: u8, tiers: u8) -> Result<(), AllocError>
-    ensures { OnOk result (text.new.items ≡ text.old.items ++ figure_head rows tiers) }
+/// Adds where a figure begins.
+fn push_figure_head(text: &mut Vec<u8>, on: Ground) -> Result<(), AllocError>
+    ensures { OnOk result (text.new.items ≡ text.old.items ++ figure_head on) }
 {
     text.extend_from_slice(b"<figure><svg viewBox=\"0 0 ")?;
-    push_decimal(text, 22 + 40 * (rows as u32))?;
+    push_decimal(text, 22 + 40 * u128::from(on.rows))?;
     text.push(b' ')?;
-    push_decimal(text, 43 + 32 * (tiers as u32))?;
+    push_decimal(text, 43 + 32 * u32::from(on.tiers))?;
     text.extend_from_slice(b"\" role=\"img\"><title>")?;
     Ok(())
 }
 
 /// Adds what stands behind the title of a figure.
-fn push_figure_body(text: &mut Vec<u8>, picture: &[u8], caption: &[u8]) -> Result<(), AllocError>
-    ensures { OnOk result (text.new.items ≡ text.old.items ++ figure_body picture.now caption.now) }
+fn push_figure_body(
+    text: &mut Vec<u8>,
+    number: Option<u64>,
+    picture: &[u8],
+    caption: &[u8],
+) -> Result<(), AllocError>
+    ensures { OnOk result (text.new.items ≡ text.old.items ++ figure_body number picture.now caption.now) }
 {
-    text.extend_from_slice(b"</title><use href=\"#g\"/>")?;
+    text.extend_from_slice(b"</title><use href=\"#")?;
+    push_ground_name(text, number)?;
+    text.extend_from_slice(b"\"/>")?;
     text.extend_from_slice(picture)?;
     text.extend_from_slice(b"</svg><figcaption>")?;
     text.extend_from_slice(caption)?;
@@ -38,20 +46,19 @@ fn push_figure_body(text: &mut Vec<u8>, picture: &[u8], caption: &[u8]) -> Resul
     Ok(())
 }
 
-/// Adds a figure of so many rows and tiers, with this title, picture and caption.
+/// Adds a figure with this title, picture and caption.
 fn push_figure(
     text: &mut Vec<u8>,
-    rows: u8,
-    tiers: u8,
+    on: Ground,
     title: &[u8],
     picture: &[u8],
     caption: &[u8],
 ) -> Result<(), AllocError>
-    ensures { OnOk result (text.new.items ≡ text.old.items ++ figure rows tiers title.now picture.now caption.now) }
+    ensures { OnOk result (text.new.items ≡ text.old.items ++ figure on title.now picture.now caption.now) }
 {
-    push_figure_head(text, rows, tiers)?;
+    push_figure_head(text, on)?;
     text.extend_from_slice(title)?;
-    push_figure_body(text, picture, caption)
+    push_figure_body(text, on.number, picture, caption)
 }
 
 /// Adds what the page calls a bay.
@@ -163,52 +170,49 @@ fn push_end_caption(text: &mut Vec<u8>, bay: &FollowedBay) -> Result<(), AllocEr
 pub(crate) fn push_start_figure(
     alloc: Global,
     text: &mut Vec<u8>,
-    rows: u8,
-    tiers: u8,
+    on: Ground,
     bay: &FollowedBay,
 ) -> Result<(), AllocError>
     requires { StandFew (bay_followed bay.now) }
-    ensures { OnOk result (text.new.items ≡ text.old.items ++ start_figure rows tiers (bay_followed bay.now)) }
+    ensures { OnOk result (text.new.items ≡ text.old.items ++ start_figure on (bay_followed bay.now)) }
 {
     let (mut title, mut picture, mut caption) = (Vec::new(alloc), Vec::new(alloc), Vec::new(alloc));
     push_start_title(&mut title, bay)?;
-    push_start(alloc, &mut picture, tiers, bay)?;
+    push_start(alloc, &mut picture, on.tiers, bay)?;
     push_start_caption(alloc, &mut caption, bay)?;
-    push_figure(text, rows, tiers, &title, &picture, &caption)
+    push_figure(text, on, &title, &picture, &caption)
 }
 
 /// Adds the figure of a frame.
 pub(crate) fn push_frame_figure(
     alloc: Global,
     text: &mut Vec<u8>,
-    rows: u8,
-    tiers: u8,
+    on: Ground,
     bay: &FollowedBay,
     frame: &Frame<'_>,
 ) -> Result<(), AllocError>
-    ensures { OnOk result (text.new.items ≡ text.old.items ++ frame_figure rows tiers (bay_followed bay.now) (frame_as frame.now)) }
+    ensures { OnOk result (text.new.items ≡ text.old.items ++ frame_figure on (bay_followed bay.now) (frame_as frame.now)) }
 {
     let (mut title, mut picture, mut caption) = (Vec::new(alloc), Vec::new(alloc), Vec::new(alloc));
     push_frame_title(&mut title, bay, frame)?;
-    push_frame(alloc, &mut picture, tiers, bay, frame)?;
+    push_frame(alloc, &mut picture, on.tiers, bay, frame)?;
     push_frame_caption(&mut caption, frame)?;
-    push_figure(text, rows, tiers, &title, &picture, &caption)
+    push_figure(text, on, &title, &picture, &caption)
 }
 
 /// Adds the figure of the end.
 pub(crate) fn push_end_figure(
     alloc: Global,
     text: &mut Vec<u8>,
-    rows: u8,
-    tiers: u8,
+    on: Ground,
     bay: &FollowedBay,
 ) -> Result<(), AllocError>
     requires { LeaveFew (bay_followed bay.now) }
-    ensures { OnOk result (text.new.items ≡ text.old.items ++ end_figure rows tiers (bay_followed bay.now)) }
+    ensures { OnOk result (text.new.items ≡ text.old.items ++ end_figure on (bay_followed bay.now)) }
 {
     let (mut title, mut picture, mut caption) = (Vec::new(alloc), Vec::new(alloc), Vec::new(alloc));
     push_end_title(&mut title, bay)?;
-    push_end(alloc, &mut picture, tiers, bay)?;
+    push_end(alloc, &mut picture, on.tiers, bay)?;
     push_end_caption(&mut caption, bay)?;
-    push_figure(text, rows, tiers, &title, &picture, &caption)
+    push_figure(text, on, &title, &picture, &caption)
 }

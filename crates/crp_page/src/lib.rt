@@ -1,13 +1,15 @@
 //! The page of a report that is followed: one HTML text that needs nothing besides itself.
 //!
 //! `write_page` writes it. What it says is defined in `specs/Page.antt`, what it says of all bays in `specs/Summary.antt`, the section of a
-//! bay in `specs/Sections.antt`, and its words in `specs/Words.antt`; the pictures are those of crp_picture.
+//! bay in `specs/Sections.antt`, what its figures stand on in `specs/Grounds.antt`, and its words in `specs/Words.antt`; the pictures are
+//! those of crp_picture.
 #![tactic(auto)]
 
 mod constants;
 mod counting;
 mod figures;
 mod front;
+mod grounds;
 mod section;
 mod summary;
 mod words;

@@ -15,10 +15,12 @@ ghost use Rattle.crp_page.specs.Page.{page_text};
 ghost use Rattle.crp_page.specs.Writing.{SinkNow, sink_now, Wrote};
 
 use crate::front::page_front;
+use crate::grounds::{Ground, ground_of};
 use crate::section::{frame_text, section_end, section_front};
 use crp_follow::{Followed, FollowedBay, what_columns_say};
 use crp_picture::{Frame, frames};
 use crp_plan::{Sink, WriteFault, write_all};
+use crp_sizes::Sizes;
 use crp_yard::Yard;
 use std::alloc::{AllocError, Global};
 
@@ -43,24 +45,19 @@ fn write_made<W: Sink>(
 fn write_frames<W: Sink>(
     alloc: Global,
     sink: &mut W,
-    rows: u8,
-    tiers: u8,
+    on: Ground,
     bay: &FollowedBay,
     frames: &[Frame<'_>],
     interruptions: &mut u32,
 ) -> Result<(), WriteFault>
     requires { interruptions.old ≤ most_interruptions }
-    ensures wrote { Wrote result (flat_map (frame_figure rows tiers (bay_followed bay.now)) (map frame_as frames.now))
+    ensures wrote { Wrote result (flat_map (frame_figure on (bay_followed bay.now)) (map frame_as frames.now))
         (sink_now (W.contents sink.old) (W.failures sink.old) (W.interrupted sink.old) interruptions.old)
         (sink_now (W.contents sink.new) (W.failures sink.new) (W.interrupted sink.new) interruptions.new) }
     ensures passed { interruptions.new ≤ most_interruptions }
 {
     for frame in frames {
-        write_made(
-            sink,
-            frame_text(alloc, rows, tiers, bay, frame),
-            interruptions,
-        )?;
+        write_made(sink, frame_text(alloc, on, bay, frame), interruptions)?;
     }
     Ok(())
 }
@@ -69,8 +66,7 @@ fn write_frames<W: Sink>(
 fn write_section<W: Sink>(
     alloc: Global,
     sink: &mut W,
-    rows: u8,
-    tiers: u8,
+    sizes: &Sizes,
     number: u64,
     bay: &FollowedBay,
     interruptions: &mut u32,
@@ -78,40 +74,40 @@ fn write_section<W: Sink>(
     requires passed { interruptions.old ≤ most_interruptions }
     requires few { StandFew (bay_followed bay.now) }
     requires left { LeaveFew (bay_followed bay.now) }
-    ensures wrote { Wrote result (section rows tiers number (bay_followed bay.now))
+    ensures wrote { Wrote result (section sizes.now number (bay_followed bay.now))
         (sink_now (W.contents sink.old) (W.failures sink.old) (W.interrupted sink.old) interruptions.old)
         (sink_now (W.contents sink.new) (W.failures sink.new) (W.interrupted sink.new) interruptions.new) }
     ensures passed { interruptions.new ≤ most_interruptions }
 {
     let frames = frames(alloc, bay)?;
+    let on = ground_of(sizes, number, &bay.stated.bay);
     write_made(
         sink,
-        section_front(alloc, rows, tiers, number, bay),
+        section_front(alloc, sizes, number, bay),
         interruptions,
     )?;
-    write_frames(alloc, sink, rows, tiers, bay, &frames, interruptions)?;
-    write_made(sink, section_end(alloc, rows, tiers, bay), interruptions)
+    write_frames(alloc, sink, on, bay, &frames, interruptions)?;
+    write_made(sink, section_end(alloc, on, bay), interruptions)
 }
 
 /// Writes the sections of bays.
 fn write_sections<W: Sink>(
     alloc: Global,
     sink: &mut W,
-    rows: u8,
-    tiers: u8,
+    sizes: &Sizes,
     bays: &[FollowedBay],
     interruptions: &mut u32,
 ) -> Result<(), WriteFault>
     requires passed { interruptions.old ≤ most_interruptions }
     requires few { AllByRecursion StandFew (map bay_followed bays.now) }
     requires left { AllByRecursion LeaveFew (map bay_followed bays.now) }
-    ensures wrote { Wrote result (numbered_text (section rows tiers) 1 (map bay_followed bays.now))
+    ensures wrote { Wrote result (numbered_text (section sizes.now) 1 (map bay_followed bays.now))
         (sink_now (W.contents sink.old) (W.failures sink.old) (W.interrupted sink.old) interruptions.old)
         (sink_now (W.contents sink.new) (W.failures sink.new) (W.interrupted sink.new) interruptions.new) }
     ensures passed { interruptions.new ≤ most_interruptions }
 {
     for (i, bay) in bays.iter().enumerate() {
-        write_section(alloc, sink, rows, tiers, i as u64 + 1, bay, interruptions)?;
+        write_section(alloc, sink, sizes, i as u64 + 1, bay, interruptions)?;
     }
     Ok(())
 }
@@ -131,11 +127,10 @@ fn write_parts<W: Sink>(
         (sink_now (W.contents sink.new) (W.failures sink.new) (W.interrupted sink.new) interruptions.new) }
 {
     what_columns_say();
-    let rows = yard.rows();
-    let tiers = yard.tiers();
+    let sizes = yard.sizes();
     let bays: &[FollowedBay] = &followed.bays;
     write_made(sink, page_front(alloc, yard, followed), interruptions)?;
-    write_sections(alloc, sink, rows, tiers, bays, interruptions)?;
+    write_sections(alloc, sink, sizes, bays, interruptions)?;
     write_made(
         sink,
         Vec::from_slice(alloc, b"</main></body></html>\n"),

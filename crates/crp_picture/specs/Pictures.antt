@@ -223,5 +223,10 @@ ground_parts tiers heights =
     path (codes "f") (places_to tiers heights (length heights))
     ++ (path (codes "g") (floor_of tiers (length heights)) ++ (line 113 1 (40 + 32 * tiers) (length heights) (row_numbers (length heights)) ++ tiers_text tiers))
 
-abbrev pub ground_picture : List ℕ → List ℕ
-ground_picture heights = codes "<g id=\"g\">" ++ (ground_parts (tallest heights) heights ++ codes "</g>")
+-- the name of the ground with this number, or of the one without a number
+abbrev pub ground_name : Option ℕ → List ℕ
+ground_name None = codes "g"
+ground_name (Some number) = codes "g" ++ decimal number
+
+abbrev pub ground_picture : Option ℕ → List ℕ → List ℕ
+ground_picture number heights = codes "<g id=\"" ++ (ground_name number ++ (codes "\">" ++ (ground_parts (tallest heights) heights ++ codes "</g>")))

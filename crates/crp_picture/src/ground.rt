@@ -1,6 +1,6 @@
 //! The ground on which every picture stands.
 ghost use Rattle.std.specs.Prelude.{◌≡◌, ◌++◌, ◌+◌, ◌*◌, ◌∷◌, length, codes, decimal, IfOk, OnOk};
-ghost use Rattle.crp_picture.specs.Pictures.{places_of_row, places_to, row_numbers, tier_lefts, tier_heights, tier_numbers, tiers_head, tiers_text, floor_of, ground_parts, ground_picture};
+ghost use Rattle.crp_picture.specs.Pictures.{places_of_row, places_to, row_numbers, tier_lefts, tier_heights, tier_numbers, tiers_head, tiers_text, floor_of, ground_parts, ground_name, ground_picture};
 
 use crate::grid::{push_bar, push_path, push_text_line, y_of};
 use crate::labels::push_number;
@@ -125,12 +125,30 @@ fn push_parts(
     Ok(())
 }
 
-/// Adds the ground of rows with these heights: the empty places, and the numbers of rows and tiers. It is the element g, which every
-/// picture uses.
-pub fn push_ground(alloc: Global, text: &mut Vec<u8>, heights: &[u8]) -> Result<(), AllocError>
-    ensures { OnOk result (text.new.items ≡ text.old.items ++ ground_picture heights.now) }
+/// Adds the name of the ground with this number, or of the one without a number.
+pub fn push_ground_name(text: &mut Vec<u8>, number: Option<u64>) -> Result<(), AllocError>
+    ensures { OnOk result (text.new.items ≡ text.old.items ++ ground_name number) }
 {
-    text.extend_from_slice(b"<g id=\"g\">")?;
+    text.push(b'g')?;
+    match number {
+        Some(number) => push_decimal(text, number),
+        None => Ok(()),
+    }
+}
+
+/// Adds the ground of rows with these heights: the empty places, and the numbers of rows and tiers. It is the element of its name, which
+/// the pictures on it use.
+pub fn push_ground(
+    alloc: Global,
+    text: &mut Vec<u8>,
+    number: Option<u64>,
+    heights: &[u8],
+) -> Result<(), AllocError>
+    ensures { OnOk result (text.new.items ≡ text.old.items ++ ground_picture number heights.now) }
+{
+    text.extend_from_slice(b"<g id=\"")?;
+    push_ground_name(text, number)?;
+    text.extend_from_slice(b"\">")?;
     push_parts(alloc, text, tallest(heights), heights)?;
     text.extend_from_slice(b"</g>")?;
     Ok(())

@@ -27,6 +27,6 @@ pub use cells::count_blocking;
 pub use escaping::{cut_name, push_escaped};
 pub use frame::Frame;
 pub use framing::frames;
-pub use ground::push_ground;
+pub use ground::{push_ground, push_ground_name};
 pub use laws::{each_is_drawn_once, places_lie_apart};
 pub use picture::{push_end, push_frame, push_start};

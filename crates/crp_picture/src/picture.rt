@@ -189,7 +189,7 @@ fn push_position(
     Ok(())
 }
 
-/// Adds the picture of a bay before its first move. The highest row of the yard has so many tiers.
+/// Adds the picture of a bay before its first move. The highest row of the bay has so many tiers.
 pub fn push_start(
     alloc: Global,
     text: &mut Vec<u8>,

@@ -8,9 +8,8 @@ use Rattle.crp_plan.specs.Plans.{ProblemPath}
 use Rattle.crp_yard.specs.declared.bay_plan.BayPlan.{BayPlan}
 use Rattle.crp_yard.specs.Inventory.{StackedBay}
 use Rattle.crp_yard.specs.After.{plan_for, LeavesNamed, IsBayAfter, AreBaysAfter}
-use Rattle.crp_yard.proofs.OnceSteps.{same_bay_is, same_bay_self}
-use Rattle.crp_yard.proofs.YardSteps.{same_bay_laws}
-use Rattle.crp_yard.proofs.Lists.{unmapped}
+use Rattle.crp_sizes.proofs.Bays.{same_bay_laws, same_bay_is, same_bay_self}
+use Rattle.crp_sizes.proofs.Lists.{unmapped}
 use Rattle.crp_report.specs.Answered.{Answered, plan_in, bay_plan_in, bay_plans}
 
 -- what is left of these rows of a bay

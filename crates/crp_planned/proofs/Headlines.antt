@@ -3,11 +3,12 @@ use Rattle.std.proofs.Common.{◌≡◌, ◌∙◌, ◌≤◌, ◌+◌, ℕ, suc
 use Rattle.std.specs.List.{AllByRecursion, AllZip}
 use Rattle.std.proofs.lemmas.List.Elements.{recursion_from_All}
 use Rattle.crp_plan.specs.Bay.{IsProblem}
+use Rattle.crp_sizes.specs.Sizes.{YardSizes, heights_at}
 use Rattle.crp_yard.specs.Inventory.{StackedBay, FitBay}
 use Rattle.crp_yard.specs.Naming.{IsNamedBay}
 use Rattle.crp_yard.specs.Ranks.{named}
 use Rattle.crp_yard.specs.Reading.{IsYardListOf}
-use Rattle.crp_yard.proofs.Lists.{each_of}
+use Rattle.crp_sizes.proofs.Lists.{each_of}
 use Rattle.crp_order.specs.declared.sequences.Mode.{Mode}
 use Rattle.crp_order.specs.Sequences.{IsSequence}
 use Rattle.crp_order.specs.BayProblems.{ranked}
@@ -37,15 +38,15 @@ AreRead = (h : Handed) (is : IsHeadline h) → AllByRecursion IsNamedBay h.yard.
 record BayEnds (h : Handed) (b : Reported) : Type 0 where
   moves : List SaidMove
   end : List Stack
-  led : IsLed h.yard.heights h.sequence (record { bay = b.bay; said = said_of b; moves = moves; end = end })
+  led : IsLed h.yard.sizes h.sequence (record { bay = b.bay; said = said_of b; moves = moves; end = end })
   ends : MatchOption (count_said b.said) (end ≡ b.bay.1) (λ count. IsLeftByPlan h b end)
 
-module _ (keep : KeepsHeights) (h : Handed) (b : Reported) (fit : FitBay h.yard.heights b.bay.1) (names : AreNamed b.bay.1) (problem : IsProblem (problem_in h b)) where
+module _ (keep : KeepsHeights) (h : Handed) (b : Reported) (fit : FitBay (heights_at h.yard.sizes b.bay.0) b.bay.1) (names : AreNamed b.bay.1) (problem : IsProblem (problem_in h b)) where
   plan_ends : (count : ℕ) → count_said b.said ≡ Some count → PrintsPlan h b count → BayEnds h b
   plan_ends count is prints =
       let (place, runs, finished) = prints.complete in
       let end : List Stack = named (ranked h.sequence b.bay.1) place.stacks in
-      let l = plan_led keep h.yard.heights h.sequence b.bay (said_of b) count prints.moves place fit names refl is prints.counted problem runs finished prints.printed in
+      let l = plan_led keep h.yard.sizes h.sequence b.bay (said_of b) count prints.moves place fit names refl is prints.counted problem runs finished prints.printed in
       let left : IsLeftByPlan h b end = (prints.moves, place, record { runs = runs; printed = prints.printed }, finished, refl) in
       record {
         moves = l.0;
@@ -58,7 +59,7 @@ module _ (keep : KeepsHeights) (h : Handed) (b : Reported) (fit : FitBay h.yard.
   none_ends is lines = record {
     moves = [];
     end = b.bay.1;
-    led = unmoved h.yard.heights h.sequence b.bay (said_of b) refl is lines;
+    led = unmoved h.yard.sizes h.sequence b.bay (said_of b) refl is lines;
     ends = subst (λ (o : Option ℕ). MatchOption o (b.bay.1 ≡ b.bay.1) (λ k. IsLeftByPlan h b b.bay.1)) (sym is) refl;
   }
 
@@ -69,7 +70,7 @@ module _ (keep : KeepsHeights) (h : Handed) (b : Reported) (fit : FitBay h.yard.
   said_ends (Between lower None why) e so = none_ends (ap count_said e) so.1
   said_ends (Between lower (Some count) why) e so = plan_ends count (ap count_said e) so.1
 
-bay_ends : KeepsHeights → (h : Handed) (b : Reported) → FitBay h.yard.heights b.bay.1 → AreNamed b.bay.1 → IsTrueOf h b → BayEnds h b
+bay_ends : KeepsHeights → (h : Handed) (b : Reported) → FitBay (heights_at h.yard.sizes b.bay.0) b.bay.1 → AreNamed b.bay.1 → IsTrueOf h b → BayEnds h b
 bay_ends keep h b fit names is =
     let (script, accepted, name, shows) = is.shown in
     let parsed = accepted.is_text.0 in
@@ -83,10 +84,10 @@ record BaysEnd (h : Handed) (bays : List Reported) : Type 0 where
   led : List BayLed
   called : map (λ (b : BayLed). b.bay) led ≡ map (λ (b : Reported). b.bay) bays
   said : map (λ (b : BayLed). b.said) led ≡ map said_of bays
-  each : AllByRecursion (IsLed h.yard.heights h.sequence) led
+  each : AllByRecursion (IsLed h.yard.sizes h.sequence) led
   ends : (line : ℕ) → AllZip (EndsAsPrinted h) bays (bays_at line led)
 
-bays_end : KeepsHeights → (h : Handed) (bays : List Reported) → AllByRecursion (λ (bay : StackedBay). FitBay h.yard.heights bay.1) (map (λ (b : Reported). b.bay) bays)
+bays_end : KeepsHeights → (h : Handed) (bays : List Reported) → AllByRecursion (λ (bay : StackedBay). FitBay (heights_at h.yard.sizes bay.0) bay.1) (map (λ (b : Reported). b.bay) bays)
     → AllByRecursion (λ (bay : StackedBay). AreNamed bay.1) (map (λ (b : Reported). b.bay) bays) → AllByRecursion (IsTrueOf h) bays → BaysEnd h bays
 bays_end keep h [] fit names all = record { led = []; called = refl; said = refl; each = tt; ends = λ line. tt }
 bays_end keep h (b ∷ bays) fit names all =
@@ -101,17 +102,17 @@ bays_end keep h (b ∷ bays) fit names all =
       ends = λ line. (record { named = refl; start = refl; end = one.ends }, more.ends (suc line + length (moves_at (suc line) one.moves)));
     }
 
-pub headline_followed : KeepsHeights → IsStatedAsWritten → AreRead → (heights code list message : List ℕ) (mode : Mode) (h : Handed) (is : IsHeadline h) → IsYardListOf heights list h.yard
+pub headline_followed : KeepsHeights → IsStatedAsWritten → AreRead → (sizes : YardSizes) (code list message : List ℕ) (mode : Mode) (h : Handed) (is : IsHeadline h) → IsYardListOf sizes list h.yard
     → AreOrders code message h.orders → IsSequence mode h.orders.list h.sequence → IsHeadlineFollowed h is
-headline_followed keep states read heights code list message mode h is list-is orders sequence =
-    let listed = yard_listed heights list h.yard list-is in
+headline_followed keep states read sizes code list message mode h is list-is orders sequence =
+    let listed = yard_listed sizes list h.yard list-is in
     let many = listed.few in
     let small = numbers_small mode code message h.yard h.orders h.sequence orders sequence in
     let spells = read h is listed.bay_names (omega (arith, many)) small in
     let can = spells.0 in
     let few = few_sequenced mode orders.segments code h.orders h.sequence orders.faultless orders.orders_are sequence in
     let calls = map (λ (b : Reported). b.bay) is.bays in
-    let fit = on_called (λ (bay : StackedBay). FitBay h.yard.heights bay.1) h.yard h.sequence calls is.called (each_of (λ (bay : StackedBay). FitBay h.yard.heights bay.1) h.yard.bays listed.fit) in
+    let fit = on_called (λ (bay : StackedBay). FitBay (heights_at h.yard.sizes bay.0) bay.1) h.yard h.sequence calls is.called (each_of (λ (bay : StackedBay). FitBay (heights_at h.yard.sizes bay.0) bay.1) h.yard.bays listed.fit) in
     let names = on_called (λ (bay : StackedBay). AreNamed bay.1) h.yard h.sequence calls is.called listed.names in
     let all = bays_end keep h is.bays fit names (recursion_from_All (IsTrueOf h) is.bays is.each_true) in (
       bays_at 2 all.led,

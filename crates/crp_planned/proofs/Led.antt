@@ -5,6 +5,7 @@ use Rattle.std.specs.List.{AllByRecursion}
 use Rattle.crp_plan.specs.declared.moves.Move.{Move}
 use Rattle.crp_plan.specs.Bay.{Problem, IsProblem, Position, IsFinished, Runs, start, relocations}
 use Rattle.crp_plan.proofs.Paths.{runs_is}
+use Rattle.crp_sizes.specs.Sizes.{YardSizes, heights_at}
 use Rattle.crp_yard.specs.Inventory.{StackedBay, FitBay}
 use Rattle.crp_yard.specs.Ranks.{named}
 use Rattle.crp_order.specs.BayProblems.{leaving, ranked, problem_of}
@@ -29,18 +30,18 @@ pub record BayLed : Type 0 where
   pub moves : List SaidMove
   pub end : List Stack
 
-pub record IsLed (heights : List ℕ) (sequence : List (List ℕ)) (b : BayLed) : Type 0 where
+pub record IsLed (sizes : YardSizes) (sequence : List (List ℕ)) (b : BayLed) : Type 0 where
   pub named : b.said.bay ≡ b.bay.0
   pub lines : b.said.lines ≡ lines_of b.moves
   pub counts : MatchOption (count_said b.said.said) (b.moves ≡ []) (λ count. count_by is_shift b.moves ≡ count)
-  pub leads : Leads heights b.bay.1 b.moves b.end
+  pub leads : Leads (heights_at sizes b.bay.0) b.bay.1 b.moves b.end
   pub statable : AllByRecursion CanBeStated b.moves
   pub short : length (lines_of b.moves) ≤ 665 * length (leaving sequence b.bay.1)
 
 -- without a plan nothing moves
-pub unmoved : (heights : List ℕ) (sequence : List (List ℕ)) (bay : StackedBay) (s : BaySaid) → s.bay ≡ bay.0 → count_said s.said ≡ None → s.lines ≡ []
-    → IsLed heights sequence (record { bay = bay; said = s; moves = []; end = bay.1 })
-unmoved heights sequence bay s name none lines =
+pub unmoved : (sizes : YardSizes) (sequence : List (List ℕ)) (bay : StackedBay) (s : BaySaid) → s.bay ≡ bay.0 → count_said s.said ≡ None → s.lines ≡ []
+    → IsLed sizes sequence (record { bay = bay; said = s; moves = []; end = bay.1 })
+unmoved sizes sequence bay s name none lines =
     let moves : List SaidMove = [] in
     record {
       named = name;
@@ -52,20 +53,20 @@ unmoved heights sequence bay s name none lines =
     }
 
 -- a complete plan, whose lines these are, leads to what it leaves
-pub plan_led : KeepsHeights → (heights : List ℕ) (sequence : List (List ℕ)) (bay : StackedBay) (s : BaySaid) (count : ℕ) (moves : List Move) (place : Position)
-    → FitBay heights bay.1 → AreNamed bay.1 → s.bay ≡ bay.0 → count_said s.said ≡ Some count → relocations moves ≡ count → IsProblem (problem_of heights sequence bay.1)
-    → Runs (start (problem_of heights sequence bay.1)) moves place → IsFinished place → AreMoveLines (ranked sequence bay.1) (start (problem_of heights sequence bay.1)) moves s.lines
-    → (said : List SaidMove) × IsLed heights sequence (record { bay = bay; said = s; moves = said; end = named (ranked sequence bay.1) place.stacks })
-plan_led keep heights sequence bay s count moves place fit names name is counted problem runs finished lines =
-    let p : Problem = problem_of heights sequence bay.1 in
+pub plan_led : KeepsHeights → (sizes : YardSizes) (sequence : List (List ℕ)) (bay : StackedBay) (s : BaySaid) (count : ℕ) (moves : List Move) (place : Position)
+    → FitBay (heights_at sizes bay.0) bay.1 → AreNamed bay.1 → s.bay ≡ bay.0 → count_said s.said ≡ Some count → relocations moves ≡ count → IsProblem (problem_of (heights_at sizes bay.0) sequence bay.1)
+    → Runs (start (problem_of (heights_at sizes bay.0) sequence bay.1)) moves place → IsFinished place → AreMoveLines (ranked sequence bay.1) (start (problem_of (heights_at sizes bay.0) sequence bay.1)) moves s.lines
+    → (said : List SaidMove) × IsLed sizes sequence (record { bay = bay; said = s; moves = said; end = named (ranked sequence bay.1) place.stacks })
+plan_led keep sizes sequence bay s count moves place fit names name is counted problem runs finished lines =
+    let p : Problem = problem_of (heights_at sizes bay.0) sequence bay.1 in
     let ranks = ranked sequence bay.1 in
     let l = lines_said ranks (start p) moves s.lines lines in
     let said = l.said in
     let there : l.end ≡ place = runs_is (start p) moves l.end place l.runs runs in
     let are : AreSaid ranks (start p) moves said place = subst (λ (t : Position). AreSaid ranks (start p) moves said t) there l.are in
     let end = named ranks place.stacks in
-    let leads : Leads heights bay.1 said end = subst (λ rows. Leads heights rows said end) (bay_named sequence bay.1) (plan_leads ranks (start p) place moves said are) in
-    let can = moves_stated keep heights bay.1 said end (record { few = problem.few_rows; tiers = problem.heights_fit; fit = fit; named = names }) leads in
+    let leads : Leads (heights_at sizes bay.0) bay.1 said end = subst (λ rows. Leads (heights_at sizes bay.0) rows said end) (bay_named sequence bay.1) (plan_leads ranks (start p) place moves said are) in
+    let can = moves_stated keep (heights_at sizes bay.0) bay.1 said end (record { few = problem.few_rows; tiers = problem.heights_fit; fit = fit; named = names }) leads in
     let shifts : count_by is_shift said ≡ count = shifts_said ranks (start p) place moves said are ∙ counted in (
       said,
       record {

@@ -7,6 +7,7 @@ use Rattle.std.proofs.Math.Seq.{take-suc}
 use Rattle.std.proofs.lemmas.Bool.{and_parts, leb-false}
 use Rattle.std.proofs.lemmas.List.{length-map, map-append, take_all}
 use Rattle.crp_plan.specs.BayNames.{YardBay, same_bay}
+use Rattle.crp_sizes.specs.Sizes.{YardSizes, heights_at}
 use Rattle.crp_yard.specs.Places.{YardPlace, same_place}
 use Rattle.crp_yard.specs.Records.{Entry, is_block, is_container, is_well_formed, has_numbers, place_named, is_within, field_of, entry_of, entries_of, records_of, height_of}
 use Rattle.crp_yard.specs.Faults.{max_containers, max_bytes, is_taken, is_named, fault_of, fault_behind, fault_at, first_fault, first_fault_up_to}
@@ -44,12 +45,12 @@ none_first : {X : Type 0} (t : Bool) (x : X) (rest : Option X) → cond t (Some 
 none_first true x rest e = absurd (cc)
 none_first false x rest e = (refl, e)
 
-good_entry : (heights : List ℕ) (entries : List Entry) (n : ℕ) (fields : List (List ℕ)) → fault_of heights entries n fields ≡ None → IsGoodEntry entries (entry_of fields)
+good_entry : (sizes : YardSizes) (entries : List Entry) (n : ℕ) (fields : List (List ℕ)) → fault_of sizes entries n fields ≡ None → IsGoodEntry entries (entry_of fields)
 unfolding fault_of entry_of
-good_entry heights entries n fields e =
+good_entry sizes entries n fields e =
     let formed = none_first (not (is_well_formed fields)) _ _ e in
     let numbers = none_first (not (has_numbers fields)) _ _ formed.1 in
-    let outside = none_first (not (is_within heights (place_named fields))) _ _ numbers.1 in
+    let outside = none_first (not (is_within (heights_at sizes (place_named fields).bay) (place_named fields))) _ _ numbers.1 in
     let taken = none_first (is_taken entries (place_named fields)) _ _ outside.1 in
     let named = none_first (is_named entries (field_of fields 4)) _ _ taken.1 in
     let full = none_first (nat_le max_containers (length entries)) _ _ named.1 in
@@ -57,19 +58,19 @@ good_entry heights entries n fields e =
     let last = and_parts (is_block (field_of fields 0)) (is_container (field_of fields 4)) both.1 in
     record { name = last.1; fresh = named.0; room = leb-false max_containers (length entries) full.0 }
 
-good_behind : (heights : List ℕ) (entries : List Entry) (n : ℕ) (fields : List (List ℕ)) → fault_behind heights entries (suc (suc n)) fields ≡ None → IsGoodEntry entries (entry_of fields)
+good_behind : (sizes : YardSizes) (entries : List Entry) (n : ℕ) (fields : List (List ℕ)) → fault_behind sizes entries (suc (suc n)) fields ≡ None → IsGoodEntry entries (entry_of fields)
 unfolding fault_behind
-good_behind heights entries n fields e = let other : (suc (suc n) == 1) ≡ false = not_one n in good_entry heights entries (suc (suc n)) fields (rw other at e)
+good_behind sizes entries n fields e = let other : (suc (suc n) == 1) ≡ false = not_one n in good_entry sizes entries (suc (suc n)) fields (rw other at e)
 
-good_record : (heights : List ℕ) (first : List (List ℕ)) (records : List (List (List ℕ))) → first_fault heights (first ∷ records) ≡ None → (i : ℕ) → i < length records
+good_record : (sizes : YardSizes) (first : List (List ℕ)) (records : List (List (List ℕ))) → first_fault sizes (first ∷ records) ≡ None → (i : ℕ) → i < length records
     → IsGoodEntry (map entry_of (take i records)) (entry_of (get_or records i []))
 unfolding first_fault fault_at
-good_record heights first records e i below =
-    let parts = neither (first_fault_up_to heights (first ∷ records) (max 1 (length (first ∷ records)))) _ e in
+good_record sizes first records e i below =
+    let parts = neither (first_fault_up_to sizes (first ∷ records) (max 1 (length (first ∷ records)))) _ e in
     let top : max 1 (length (first ∷ records)) ≡ suc (length records) = omega arith in
-    let none = faultless-up_to heights (first ∷ records) (suc (length records)) (rw top at parts.0) (suc (suc i)) (omega arith) (omega arith) in
+    let none = faultless-up_to sizes (first ∷ records) (suc (length records)) (rw top at parts.0) (suc (suc i)) (omega arith) (omega arith) in
     let number : suc (suc i) - 1 ≡ suc i = omega arith in
-    good_behind heights (map entry_of (take i records)) i (get_or records i []) (rw number at none)
+    good_behind sizes (map entry_of (take i records)) i (get_or records i []) (rw number at none)
 
 -- ---- all records
 
@@ -90,18 +91,18 @@ good_more entries entry before own = record {
   few = let room = own.room in omega (arith, room, length-append entries (entry ∷ []));
 }
 
-good_front : (heights : List ℕ) (first : List (List ℕ)) (records : List (List (List ℕ))) → first_fault heights (first ∷ records) ≡ None → (k : ℕ) → k ≤ length records
+good_front : (sizes : YardSizes) (first : List (List ℕ)) (records : List (List (List ℕ))) → first_fault sizes (first ∷ records) ≡ None → (k : ℕ) → k ≤ length records
     → AreGood (map entry_of (take k records))
-good_front heights first [] e zero within = good_none
-good_front heights first (x ∷ records) e zero within = good_none
-good_front heights first records e (suc k) within =
+good_front sizes first [] e zero within = good_none
+good_front sizes first (x ∷ records) e zero within = good_none
+good_front sizes first records e (suc k) within =
     subst AreGood (sym (ap (map entry_of) (take-suc records k [] (omega arith)) ∙ map-append entry_of (take k records) (get_or records k [] ∷ [])))
-    (good_more (map entry_of (take k records)) (entry_of (get_or records k [])) (good_front heights first records e k (omega arith)) (good_record heights first records e k (omega arith)))
+    (good_more (map entry_of (take k records)) (entry_of (get_or records k [])) (good_front sizes first records e k (omega arith)) (good_record sizes first records e k (omega arith)))
 
-good_entries : (heights : List ℕ) (records : List (List (List ℕ))) → first_fault heights records ≡ None → AreGood (entries_of records)
-good_entries heights [] e = good_none
-good_entries heights (first ∷ records) e =
-    subst (λ l. AreGood (map entry_of l)) (take_all (length records) records (omega arith)) (good_front heights first records e (length records) (omega arith))
+good_entries : (sizes : YardSizes) (records : List (List (List ℕ))) → first_fault sizes records ≡ None → AreGood (entries_of records)
+good_entries sizes [] e = good_none
+good_entries sizes (first ∷ records) e =
+    subst (λ l. AreGood (map entry_of l)) (take_all (length records) records (omega arith)) (good_front sizes first records e (length records) (omega arith))
 
 -- ---- the yard
 
@@ -125,10 +126,10 @@ stacks_named entries bay heights (suc row) names =
     all_both (AllByRecursion IsName) (stacks_up_to entries bay heights row) (stack_up_to entries bay (suc row) (height_of heights (suc row)) ∷ [])
     (stacks_named entries bay heights row names) (stack_named entries bay (suc row) (height_of heights (suc row)) names, tt)
 
-bays_named : (heights : List ℕ) (entries : List Entry) (bays : List YardBay) → AllByRecursion (λ entry. IsName entry.1) entries
-    → AllByRecursion (λ (bay : StackedBay). AreNamed bay.1) (map (stacked heights entries) bays)
-bays_named heights entries [] names = tt
-bays_named heights entries (bay ∷ bays) names = (stacks_named entries bay heights (length heights) names, bays_named heights entries bays names)
+bays_named : (sizes : YardSizes) (entries : List Entry) (bays : List YardBay) → AllByRecursion (λ entry. IsName entry.1) entries
+    → AllByRecursion (λ (bay : StackedBay). AreNamed bay.1) (map (stacked sizes entries) bays)
+bays_named sizes entries [] names = tt
+bays_named sizes entries (bay ∷ bays) names = (stacks_named entries bay (heights_at sizes bay) (length (heights_at sizes bay)) names, bays_named sizes entries bays names)
 
 few_seen : (seen bays : List YardBay) → length (fold with_bay seen bays) ≤ length seen + length bays
 few_seen seen [] = omega arith
@@ -138,39 +139,39 @@ few_seen seen (bay ∷ bays) = let one = by (list_any (same_bay bay) seen) in om
     by true = omega arith
     by false = omega (arith, length-append seen (bay ∷ []))
 
-names_stay : (heights : List ℕ) (entries : List Entry) (bays : List YardBay) → map (λ (b : StackedBay). b.0) (map (stacked heights entries) bays) ≡ bays
-names_stay heights entries [] = refl
-names_stay heights entries (bay ∷ bays) = ap (λ l. bay ∷ l) (names_stay heights entries bays)
+names_stay : (sizes : YardSizes) (entries : List Entry) (bays : List YardBay) → map (λ (b : StackedBay). b.0) (map (stacked sizes entries) bays) ≡ bays
+names_stay sizes entries [] = refl
+names_stay sizes entries (bay ∷ bays) = ap (λ l. bay ∷ l) (names_stay sizes entries bays)
 
 -- what an accepted list says of a yard
 pub record IsListed (yard : Inventory) : Type 0 where
   pub bay_names : AllByRecursion IsNamedBay yard.bays
   pub names : AllByRecursion (λ bay. AreNamed bay.1) yard.bays
-  pub fit : All (λ bay. FitBay yard.heights bay.1) yard.bays
+  pub fit : All (λ bay. FitBay (heights_at yard.sizes bay.0) bay.1) yard.bays
   pub bays_once : IsDistinct same_bay (map (λ bay. bay.0) yard.bays)
   pub containers_once : (container : List ℕ) → times container (containers_of yard.bays) ≤ 1
   pub few : length yard.bays ≤ max_containers
 
-listed_entries : (heights : List ℕ) (entries : List Entry) → AreGood entries → AllByRecursion IsNamedBay (inventory_of heights entries).bays → IsListed (inventory_of heights entries)
-listed_entries heights entries good named =
+listed_entries : (sizes : YardSizes) (entries : List Entry) → AreGood entries → AllByRecursion IsNamedBay (inventory_of sizes entries).bays → IsListed (inventory_of sizes entries)
+listed_entries sizes entries good named =
     let bays = bays_of entries in
     let apart = first_seen_once (map (λ (e : Entry). e.0.bay) entries) in
     record {
       bay_names = named;
-      names = bays_named heights entries bays good.names;
-      fit = all_fit heights entries bays;
-      bays_once = subst (IsDistinct same_bay) (sym (names_stay heights entries bays)) apart;
-      containers_once = λ c. subst (λ n. n ≤ 1) (sym (bays_times heights entries c bays)) (below_then (few_times heights entries c bays apart) (good.once c));
-      few = let many = good.few in omega (arith, many, length-map bays (stacked heights entries), few_seen [] (map (λ (e : Entry). e.0.bay) entries), length-map entries (λ (e : Entry). e.0.bay));
+      names = bays_named sizes entries bays good.names;
+      fit = all_fit sizes entries bays;
+      bays_once = subst (IsDistinct same_bay) (sym (names_stay sizes entries bays)) apart;
+      containers_once = λ c. subst (λ n. n ≤ 1) (sym (bays_times sizes entries c bays)) (below_then (few_times sizes entries c bays apart) (good.once c));
+      few = let many = good.few in omega (arith, many, length-map bays (stacked sizes entries), few_seen [] (map (λ (e : Entry). e.0.bay) entries), length-map entries (λ (e : Entry). e.0.bay));
     }
 
-pub yard_listed : (heights text : List ℕ) (yard : Inventory) → IsYardListOf heights text yard → IsListed yard
-yard_listed heights text yard is =
+pub yard_listed : (sizes : YardSizes) (text : List ℕ) (yard : Inventory) → IsYardListOf sizes text yard → IsListed yard
+yard_listed sizes text yard is =
     let entries = entries_of (records_of text) in
-    let good = good_entries heights (records_of text) (not_long (nat_le (length text) max_bytes) is.faultless) in
-    let named = subst (λ (y : Inventory). AllByRecursion IsNamedBay y.bays) is.stands (yard_named heights text yard is) in
-    subst IsListed (sym is.stands) (listed_entries heights entries good named)
+    let good = good_entries sizes (records_of text) (not_long (nat_le (length text) max_bytes) is.faultless) in
+    let named = subst (λ (y : Inventory). AllByRecursion IsNamedBay y.bays) is.stands (yard_named sizes text yard is) in
+    subst IsListed (sym is.stands) (listed_entries sizes entries good named)
   where
-    not_long : (t : Bool) → cond t (first_fault heights (records_of text)) (Some TooLarge) ≡ None → first_fault heights (records_of text) ≡ None
+    not_long : (t : Bool) → cond t (first_fault sizes (records_of text)) (Some TooLarge) ≡ None → first_fault sizes (records_of text) ≡ None
     not_long true e = e
     not_long false e = absurd (cc)

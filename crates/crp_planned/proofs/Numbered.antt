@@ -9,9 +9,10 @@ use Rattle.std.proofs.lemmas.Map.Entries.{lookup_from_place}
 use Rattle.std.proofs.lemmas.Map.Made.{IsDistinct-keys_filter}
 use Rattle.crp_plan.specs.BayNames.{IsYardBay, same_bay}
 use Rattle.crp_plan.proofs.Lists.{one_if}
+use Rattle.crp_sizes.specs.Sizes.{YardSizes, heights_at}
 use Rattle.crp_yard.specs.Inventory.{Inventory, StackedBay, times, containers_of}
-use Rattle.crp_yard.proofs.Lists.{all_of, each_of, each_at}
-use Rattle.crp_yard.proofs.YardSteps.{same_bay_laws}
+use Rattle.crp_sizes.proofs.Lists.{all_of, each_of, each_at}
+use Rattle.crp_sizes.proofs.Bays.{same_bay_laws}
 use Rattle.crp_order.specs.BayProblems.{leaving, is_called}
 use Rattle.crp_said.specs.declared.numbers.Numbers.{Numbers}
 use Rattle.crp_said.specs.declared.moves.SaidMove.{SaidMove}
@@ -71,8 +72,8 @@ long_at line (b ∷ bays) = ap suc (long_at (suc line + length (moves_at (suc li
 
 -- ---- what is said
 
-module _ (heights : List ℕ) (sequence : List (List ℕ)) where
-  said_back : (line : ℕ) (bays : List BayLed) → AllByRecursion (IsLed heights sequence) bays → map said_by (stated_from line bays) ≡ map (λ (b : BayLed). b.said) bays
+module _ (sizes : YardSizes) (sequence : List (List ℕ)) where
+  said_back : (line : ℕ) (bays : List BayLed) → AllByRecursion (IsLed sizes sequence) bays → map said_by (stated_from line bays) ≡ map (λ (b : BayLed). b.said) bays
   said_back line [] all = refl
   said_back line (b ∷ bays) all =
       let is = all.0 in
@@ -81,7 +82,7 @@ module _ (heights : List ℕ) (sequence : List (List ℕ)) where
       let rest = said_back (suc line + length (moves_at (suc line) b.moves)) bays all.1 in
       λ i. first i ∷ rest i
 
-  all_statable : (line : ℕ) (bays : List BayLed) → AllByRecursion (IsLed heights sequence) bays → AllByRecursion IsSayable (map (λ b. b.said) bays)
+  all_statable : (line : ℕ) (bays : List BayLed) → AllByRecursion (IsLed sizes sequence) bays → AllByRecursion IsSayable (map (λ b. b.said) bays)
       → AllByRecursion IsStatable (stated_from line bays)
   all_statable line [] all can = tt
   all_statable line (b ∷ bays) all can =
@@ -96,7 +97,7 @@ module _ (heights : List ℕ) (sequence : List (List ℕ)) where
       )
 
   -- the lines of the bays are few where few containers leave them
-  bays_long : (bays : List BayLed) → AllByRecursion (IsLed heights sequence) bays → AllByRecursion IsSayable (map (λ b. b.said) bays)
+  bays_long : (bays : List BayLed) → AllByRecursion (IsLed sizes sequence) bays → AllByRecursion IsSayable (map (λ b. b.said) bays)
       → AllByRecursion (λ bay. 1 ≤ length (leaving sequence bay.1)) (map (λ b. b.bay) bays)
       → length (flat_map bay_text (map (λ b. b.said) bays)) ≤ 741 * leave_all sequence (map (λ b. b.bay) bays)
   bays_long [] all can some = omega arith
@@ -122,7 +123,7 @@ shifts_counted : (o : Option ℕ) (line : ℕ) (moves : List SaidMove) → Match
 shifts_counted None line moves e = ap (moves_at line) e
 shifts_counted (Some count) line moves e = ap (count_by is_shift) (moves_back line moves) ∙ e
 
-all_lead : (yard : Inventory) (sequence : List (List ℕ)) (line : ℕ) (bays : List BayLed) → AllByRecursion (IsLed yard.heights sequence) bays
+all_lead : (yard : Inventory) (sequence : List (List ℕ)) (line : ℕ) (bays : List BayLed) → AllByRecursion (IsLed yard.sizes sequence) bays
     → AllByRecursion (λ bay. rows_in yard bay.0 ≡ Some bay.1) (map (λ b. b.bay) bays)
     → AllByRecursion (λ f. LeadsIn yard f.stated f.start f.after) (bays_at line bays)
 all_lead yard sequence line [] all stand = tt
@@ -131,7 +132,7 @@ all_lead yard sequence line (b ∷ bays) all stand =
       record {
         stands = stand.0;
         counts = shifts_counted (count_said b.said.said) (suc line) b.moves is.counts;
-        leads = subst (λ moves. Leads yard.heights b.bay.1 moves b.end) (sym (moves_back (suc line) b.moves)) is.leads;
+        leads = subst (λ moves. Leads (heights_at yard.sizes b.bay.0) b.bay.1 moves b.end) (sym (moves_back (suc line) b.moves)) is.leads;
       },
       all_lead yard sequence (suc line + length (moves_at (suc line) b.moves)) bays all.1 stand.1,
     )
@@ -171,7 +172,7 @@ each_leaves yard sequence called e =
 -- ---- the whole
 
 pub bays_followed : IsStatedAsWritten → (yard : Inventory) (sequence : List (List ℕ)) (n : Numbers) (text : List ℕ) (bays : List BayLed) → IsListed yard → length sequence ≤ 10000
-    → AreSmall n → map (λ b. b.bay) bays ≡ filter (is_called sequence) yard.bays → AllByRecursion (IsLed yard.heights sequence) bays → AllByRecursion IsSayable (map (λ b. b.said) bays)
+    → AreSmall n → map (λ b. b.bay) bays ≡ filter (is_called sequence) yard.bays → AllByRecursion (IsLed yard.sizes sequence) bays → AllByRecursion IsSayable (map (λ b. b.said) bays)
     → text ≡ report_text n (map (λ b. b.said) bays) → IsFollowed yard text n (bays_at 2 bays)
 bays_followed states yard sequence n text bays listed few small called all can is =
     let calls : List StackedBay = map (λ (b : BayLed). b.bay) bays in
@@ -179,7 +180,7 @@ bays_followed states yard sequence n text bays listed few small called all can i
     let stated : List BayStated = stated_from 2 bays in
     let settled : ℕ = count_by (λ (b : BaySaid). is_settled b.said) said in
     let r : ReportSaid = record { numbers = n; bays = said; count = length said; settled = settled } in
-    let back = said_back yard.heights sequence 2 bays all in
+    let back = said_back yard.sizes sequence 2 bays all in
     let many : length said ≤ 20000 =
     let a : length said ≡ length bays = length-map bays (λ (b : BayLed). b.said) in
     let b : length calls ≡ length bays = length-map bays (λ (x : BayLed). x.bay) in
@@ -192,7 +193,7 @@ bays_followed states yard sequence n text bays listed few small called all can i
     let once : (c : List ℕ) → times c (containers_of calls) ≤ 1 = λ c. subst (λ l. times c (containers_of l) ≤ 1) (sym called)
     (omega (arith, fewer_stand (is_called sequence) yard.bays c, listed.containers_once c)) in
     let leave = few_leave sequence calls once in
-    let long = bays_long yard.heights sequence bays all can (each_leaves yard sequence calls called) in
+    let long = bays_long yard.sizes sequence bays all can (each_leaves yard sequence calls called) in
     let whole : length text ≤ 8388608 =
     let e : length text ≡ length (report_text n said) = ap length is in
     omega (
@@ -211,7 +212,7 @@ bays_followed states yard sequence n text bays listed few small called all can i
       is ∙ sym (append_assoc (counts_line n) (flat_map bay_text said) (bays_line (length said) settled)),
     ) in
     let says : SaysBays r stated = record {
-      statable = all_statable yard.heights sequence 2 bays all can;
+      statable = all_statable yard.sizes sequence 2 bays all can;
       bays_are = sym back;
       numbered = bays_numbered 2 bays;
       count_is = length-map bays (λ (b : BayLed). b.said) ∙ sym (length-map (bays_at 2 bays) (λ (f : BayFollowed). f.stated) ∙ long_at 2 bays);

@@ -11,11 +11,12 @@ use Rattle.crp_plan.specs.BayNames.{YardBay, same_bay}
 use Rattle.crp_plan.specs.Plans.{ProblemPath}
 use Rattle.crp_plan.proofs.Covered.{relocations-path}
 use Rattle.crp_plan.proofs.Paths.{same_plan}
+use Rattle.crp_sizes.specs.Sizes.{YardSizes, heights_at}
 use Rattle.crp_yard.specs.declared.bay_plan.BayPlan.{BayPlan}
 use Rattle.crp_yard.specs.Inventory.{Inventory, StackedBay, FitBay}
 use Rattle.crp_yard.specs.Ranks.{named}
 use Rattle.crp_yard.specs.After.{plan_for, LeavesNamed, AreBaysAfter}
-use Rattle.crp_yard.proofs.Lists.{each_of}
+use Rattle.crp_sizes.proofs.Lists.{each_of}
 use Rattle.crp_order.specs.declared.bay_problem.BayProblem.{BayProblem}
 use Rattle.crp_order.specs.BayProblems.{ranked, problem_of, bay_problem_of, is_called}
 use Rattle.crp_said.specs.declared.moves.SaidMove.{SaidMove}
@@ -58,12 +59,12 @@ said_count (answer.Between lower cert plan why) = refl
 record BayLeft (yard : Inventory) (sequence : List (List ℕ)) (news : List StackedBay) (bay : StackedBay) (s : BaySaid) : Type 0 where
   moves : List SaidMove
   end : List Stack
-  led : IsLed yard.heights sequence (record { bay = bay; said = s; moves = moves; end = end })
+  led : IsLed yard.sizes sequence (record { bay = bay; said = s; moves = moves; end = end })
   there : lookup (same_bay bay.0) news ≡ Some end
 
 module _ (keep : KeepsHeights) (yard : Inventory) (sequence : List (List ℕ)) (plans : List BayPlan) (news : List StackedBay) (after : AreBaysAfter plans yard.bays news) where
-  module _ (bay : StackedBay) (a : Answered) (s : BaySaid) (fit : FitBay yard.heights bay.1) (names : AreNamed bay.1) (stands : rows_in yard bay.0 ≡ Some bay.1)
-      (own : plan_for plans a.stated.bay ≡ bay_plan_in a) (stated : a.stated ≡ bay_problem_of yard.heights sequence bay) (said : IsSaidOf a s) where
+  module _ (bay : StackedBay) (a : Answered) (s : BaySaid) (fit : FitBay (heights_at yard.sizes bay.0) bay.1) (names : AreNamed bay.1) (stands : rows_in yard bay.0 ≡ Some bay.1)
+      (own : plan_for plans a.stated.bay ≡ bay_plan_in a) (stated : a.stated ≡ bay_problem_of yard.sizes sequence bay) (said : IsSaidOf a s) where
     name : a.stated.bay ≡ bay.0
     name = ap (λ (b : BayProblem). b.bay) stated
 
@@ -85,14 +86,14 @@ module _ (keep : KeepsHeights) (yard : Inventory) (sequence : List (List ℕ)) (
         record {
           moves = [];
           end = bay.1;
-          led = unmoved yard.heights sequence bay s (said.bay_is ∙ name) (counted None e) (lines_are None e);
+          led = unmoved yard.sizes sequence bay s (said.bay_is ∙ name) (counted None e) (lines_are None e);
           there = left.there ∙ ap Some same;
         }
 
     plan_left : (plan : ProblemPath) → plan_in a.solved.answer ≡ Some plan → IsPlanOf a.stated.problem plan → BayLeft yard sequence news bay s
     plan_left plan e of_plan =
         let left = has_after plans yard.bays news bay.0 bay.1 after stands in
-        let p : Problem = problem_of yard.heights sequence bay.1 in
+        let p : Problem = problem_of (heights_at yard.sizes bay.0) sequence bay.1 in
         let (ranks, leaves, rows) = subst (λ (o : Option BayPlan). MatchOption o (left.left ≡ bay.1) (λ q. LeavesNamed q left.left)) (as_planned (Some plan) e) left.are in
         let (moves, complete, path, printed) = lines_are (Some plan) e in
         let q : plan.problem ≡ p = of_plan.of_problem ∙ ap (λ (b : BayProblem). b.problem) stated in
@@ -103,7 +104,7 @@ module _ (keep : KeepsHeights) (yard : Inventory) (sequence : List (List ℕ)) (
         subst (λ (problem : Problem). Runs (start problem) moves leaves.end) q (subst (λ (ms : List Move). Runs (start plan.problem) ms leaves.end) same leaves.runs) in
         let lines : AreMoveLines (ranked sequence bay.1) (start p) moves s.lines =
         subst (λ (problem : Problem). AreMoveLines (ranked sequence bay.1) (start problem) moves s.lines) q (subst (λ ns. AreMoveLines ns (start plan.problem) moves s.lines) ranked_is printed) in
-        let l = plan_led keep yard.heights sequence bay s (length plan.path) moves leaves.end fit names (said.bay_is ∙ name) (counted (Some plan) e) (relocations-path moves ∙ ap length path)
+        let l = plan_led keep yard.sizes sequence bay s (length plan.path) moves leaves.end fit names (said.bay_is ∙ name) (counted (Some plan) e) (relocations-path moves ∙ ap length path)
         (subst IsProblem q leaves.is_problem) runs leaves.finished lines in
         record {
           moves = l.0;
@@ -130,28 +131,28 @@ record BaysLeft (yard : Inventory) (sequence : List (List ℕ)) (after : Invento
   led : List BayLed
   called_are : map (λ (b : BayLed). b.bay) led ≡ called
   said_are : map (λ (b : BayLed). b.said) led ≡ said
-  each : AllByRecursion (IsLed yard.heights sequence) led
+  each : AllByRecursion (IsLed yard.sizes sequence) led
   ends : (line : ℕ) → AllByRecursion (λ (f : BayFollowed). rows_in after f.stated.bay ≡ Some f.after) (bays_at line led)
   others : (line : ℕ) (bay : YardBay) → is_named (stated_from line led) bay ≡ false → AllByRecursion (λ (a : Answered). same_bay bay a.stated.bay ≡ false) answered
 
 -- what is known of a bay of the yard that is called, and of its answer
 record IsCalledBay (yard : Inventory) (bay : StackedBay) : Type 0 where
-  fit : FitBay yard.heights bay.1
+  fit : FitBay (heights_at yard.sizes bay.0) bay.1
   names : AreNamed bay.1
   stands : rows_in yard bay.0 ≡ Some bay.1
 
 module _ (keep : KeepsHeights) (yard : Inventory) (sequence : List (List ℕ)) (chosen : Chosen) (plans : List BayPlan) (after : Inventory) (is : AreBaysAfter plans yard.bays after.bays) where
-  bays_left : (called : List StackedBay) (answered : List Answered) (said : List BaySaid) → map (λ (a : Answered). a.stated) answered ≡ map (bay_problem_of yard.heights sequence) called
+  bays_left : (called : List StackedBay) (answered : List Answered) (said : List BaySaid) → map (λ (a : Answered). a.stated) answered ≡ map (bay_problem_of yard.sizes sequence) called
       → AllByRecursion (IsCalledBay yard) called → AllByRecursion (λ (a : Answered). IsSolved a.stated.problem chosen a.solved) answered
       → AllByRecursion (λ (a : Answered). plan_for plans a.stated.bay ≡ bay_plan_in a) answered → AllZip IsSaidOf answered said → BaysLeft yard sequence after called answered said
   bays_left [] [] [] e known solved own says = record { led = []; called_are = refl; said_are = refl; each = tt; ends = λ line. tt; others = λ line bay e. tt }
   bays_left [] [] (s ∷ said) e known solved own says = absurd says
   bays_left [] (a ∷ answered) said e known solved own says = absurd (let no : a.stated ∷ map (λ (b : Answered). b.stated) answered ≡ [] = e in cc)
   bays_left (bay ∷ called) [] said e known solved own says =
-      absurd (let no : [] ≡ bay_problem_of yard.heights sequence bay ∷ map (bay_problem_of yard.heights sequence) called = e in cc)
+      absurd (let no : [] ≡ bay_problem_of yard.sizes sequence bay ∷ map (bay_problem_of yard.sizes sequence) called = e in cc)
   bays_left (bay ∷ called) (a ∷ answered) [] e known solved own says = absurd says
   bays_left (bay ∷ called) (a ∷ answered) (s ∷ said) e known solved own says =
-      let same = both_same a.stated (bay_problem_of yard.heights sequence bay) (map (λ (b : Answered). b.stated) answered) (map (bay_problem_of yard.heights sequence) called) e in
+      let same = both_same a.stated (bay_problem_of yard.sizes sequence bay) (map (λ (b : Answered). b.stated) answered) (map (bay_problem_of yard.sizes sequence) called) e in
       let here = known.0 in
       let true_answer = solved.0.answer in
       let found = a.solved.answer in
@@ -187,15 +188,15 @@ module _ (keep : KeepsHeights) (yard : Inventory) (sequence : List (List ℕ)) (
 
 -- ---- the run
 
-names_of_problems : (heights : List ℕ) (sequence : List (List ℕ)) (bays : List StackedBay) → map (λ (b : BayProblem). b.bay) (map (bay_problem_of heights sequence) bays) ≡ map (λ (b : StackedBay). b.0) bays
-names_of_problems heights sequence [] = refl
-names_of_problems heights sequence (bay ∷ bays) = ap (λ l. bay.0 ∷ l) (names_of_problems heights sequence bays)
+names_of_problems : (sizes : YardSizes) (sequence : List (List ℕ)) (bays : List StackedBay) → map (λ (b : BayProblem). b.bay) (map (bay_problem_of sizes sequence) bays) ≡ map (λ (b : StackedBay). b.0) bays
+names_of_problems sizes sequence [] = refl
+names_of_problems sizes sequence (bay ∷ bays) = ap (λ l. bay.0 ∷ l) (names_of_problems sizes sequence bays)
 
 names_of_answers : (answered : List Answered) → map (λ (a : Answered). a.stated.bay) answered ≡ map (λ (b : BayProblem). b.bay) (map (λ (a : Answered). a.stated) answered)
 names_of_answers [] = refl
 names_of_answers (a ∷ answered) = ap (λ l. a.stated.bay ∷ l) (names_of_answers answered)
 
-all_known : (yard : Inventory) (bays : List StackedBay) → AllByRecursion (λ (bay : StackedBay). FitBay yard.heights bay.1) bays → AllByRecursion (λ (bay : StackedBay). AreNamed bay.1) bays
+all_known : (yard : Inventory) (bays : List StackedBay) → AllByRecursion (λ (bay : StackedBay). FitBay (heights_at yard.sizes bay.0) bay.1) bays → AllByRecursion (λ (bay : StackedBay). AreNamed bay.1) bays
     → AllByRecursion (λ (bay : StackedBay). rows_in yard bay.0 ≡ Some bay.1) bays → AllByRecursion (IsCalledBay yard) bays
 all_known yard [] fit names stand = tt
 all_known yard (bay ∷ bays) fit names stand = (record { fit = fit.0; names = names.0; stands = stand.0 }, all_known yard bays fit.1 names.1 stand.1)
@@ -210,16 +211,16 @@ run_followed keep states chosen seen m is =
     let says = run.said in
     let n = numbers_of yard m.orders m.sequence in
     let small = small_numbers chosen seen m is in
-    let listed = yard_listed chosen.input.heights m.list yard is.listed in
+    let listed = yard_listed chosen.input.sizes m.list yard is.listed in
     let ordered = is.ordered in
     let few = few_sequenced chosen.input.mode ordered.segments chosen.input.code m.orders m.sequence ordered.faultless ordered.orders_are is.in_sequence in
     let (after, left, text) = is.yard_after in
     let known = all_known yard called
-    (on_called (λ (bay : StackedBay). FitBay yard.heights bay.1) yard m.sequence called refl (each_of (λ (bay : StackedBay). FitBay yard.heights bay.1) yard.bays listed.fit))
+    (on_called (λ (bay : StackedBay). FitBay (heights_at yard.sizes bay.0) bay.1) yard m.sequence called refl (each_of (λ (bay : StackedBay). FitBay (heights_at yard.sizes bay.0) bay.1) yard.bays listed.fit))
     (on_called (λ (bay : StackedBay). AreNamed bay.1) yard m.sequence called refl listed.names)
     (on_called (λ (bay : StackedBay). rows_in yard bay.0 ≡ Some bay.1) yard m.sequence called refl (each_stands yard listed)) in
     let once : IsDistinct same_bay (map (λ (a : Answered). a.stated.bay) m.answered) =
-    subst (IsDistinct same_bay) (sym (names_of_answers m.answered ∙ ap (map (λ (b : BayProblem). b.bay)) t.one_for_each ∙ names_of_problems yard.heights m.sequence called))
+    subst (IsDistinct same_bay) (sym (names_of_answers m.answered ∙ ap (map (λ (b : BayProblem). b.bay)) t.one_for_each ∙ names_of_problems yard.sizes m.sequence called))
     (IsDistinct-keys_filter same_bay (is_called m.sequence) yard.bays listed.bays_once) in
     let all = bays_left keep yard m.sequence chosen.search (bay_plans m.answered) after left.bays called m.answered run.bays t.one_for_each known solved (own_plans m.answered once) says.of_each in (
       after,
@@ -227,8 +228,7 @@ run_followed keep states chosen seen m is =
         bays = bays_at 2 all.led;
         followed = bays_followed states yard m.sequence n m.report all.led listed few small all.called_are all.each (subst (AllByRecursion IsSayable) (sym all.said_are) run.sayable)
             (says.report ∙ ap (report_text n) (sym all.said_are));
-        same_heights = left.same_heights;
-        same_tiers = left.same_tiers;
+        same_sizes = left.same_sizes;
         same_bays = same_bays (bay_plans m.answered) yard.bays after.bays left.bays;
         ends = all.ends 2;
         others = λ bay apart. left_alone keep yard m.sequence chosen.search (bay_plans m.answered) after left.bays m.answered bay refl (all.others 2 bay apart);

@@ -5,7 +5,7 @@ use Rattle.std.proofs.lemmas.List.Elements.{recursion_from_All}
 use Rattle.std.proofs.lemmas.Option.{none-some, slice_get_within}
 use Rattle.crp_plan.specs.Faults.{AreHeights}
 use Rattle.crp_yard.specs.Inventory.{FitBay}
-use Rattle.crp_yard.proofs.Lists.{member}
+use Rattle.crp_sizes.proofs.Lists.{member}
 use Rattle.crp_yard.proofs.NamedBays.{all_both}
 use Rattle.crp_yard.proofs.YardSteps.{fit_rows, low_stacks}
 use Rattle.crp_said.specs.declared.moves.SaidMove.{SaidMove}

@@ -19,13 +19,12 @@ use Rattle.crp_audit.specs.Replayed.{LeadsTo}
 
 -- ---- a yard
 
--- the report is followed over the yard to its end, and then this is the yard: it has the same bays in the same order, and rows of the same heights; in
+-- the report is followed over the yard to its end, and then this is the yard: it has the same bays in the same order, with the same sizes; in
 -- each bay of the report stands what its moves lead to; and in each other bay what stood there
 pub record LeadsToYard (yard : Inventory) (text : List ℕ) (numbers : Numbers) (after : Inventory) : Type 0 where
   pub bays : List BayFollowed
   pub followed : IsFollowed yard text numbers bays
-  pub same_heights : after.heights ≡ yard.heights
-  pub same_tiers : after.tiers ≡ yard.tiers
+  pub same_sizes : after.sizes ≡ yard.sizes
   pub same_bays : map (λ bay. bay.0) after.bays ≡ map (λ bay. bay.0) yard.bays
   pub ends : AllByRecursion (λ b. rows_in after b.stated.bay ≡ Some b.after) bays
   pub others : (bay : YardBay) → is_named (map (λ b. b.stated) bays) bay ≡ false → rows_in after bay ≡ rows_in yard bay

@@ -2,6 +2,7 @@
 ghost use Rattle.std.specs.Prelude.{ℕ, List};
 ghost use Rattle.crp_plan.specs.declared.moves.Move.{Move};
 ghost use Rattle.crp_plan.specs.Bay.{Position};
+ghost use Rattle.crp_sizes.specs.Sizes.{YardSizes};
 ghost use Rattle.crp_yard.specs.Ranks.{named};
 ghost use Rattle.crp_yard.specs.Reading.{IsYardListOf};
 ghost use Rattle.crp_order.specs.declared.sequences.Mode.{Mode};
@@ -43,10 +44,10 @@ pub fn runs_are_followed()
 /// that are accepted, the report is followed over the yard to its end, bay by bay, each from what stands in it to what its printed plan
 /// leaves; and no first fault is found in it.
 pub fn headlines_are_followed()
-    ensures followed { (heights code list message : List ℕ) (mode : Mode) (h : Handed) (is : IsHeadline h) → IsYardListOf heights list h.yard
+    ensures followed { (sizes : YardSizes) (code list message : List ℕ) (mode : Mode) (h : Handed) (is : IsHeadline h) → IsYardListOf sizes list h.yard
         → AreOrders code message h.orders → IsSequence mode h.orders.list h.sequence → IsHeadlineFollowed h is }
-    ensures faultless { (heights code list message : List ℕ) (mode : Mode) (h : Handed) (fault : FollowFault) → IsHeadline h
-        → IsYardListOf heights list h.yard → AreOrders code message h.orders → IsSequence mode h.orders.list h.sequence
+    ensures faultless { (sizes : YardSizes) (code list message : List ℕ) (mode : Mode) (h : Handed) (fault : FollowFault) → IsHeadline h
+        → IsYardListOf sizes list h.yard → AreOrders code message h.orders → IsSequence mode h.orders.list h.sequence
         → ¬ IsFirstFault h.yard h.report fault }
 {
     headlines_are_read();

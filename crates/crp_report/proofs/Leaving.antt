@@ -2,7 +2,7 @@
 use Rattle.std.proofs.Common.{◌≡◌, ℕ, false, List, [], ◌∷◌, map, Option, Some, None, All, IfSome, sym, subst}
 use Rattle.std.specs.List.{IsDistinct, AllByRecursion, cons_option}
 use Rattle.std.specs.Option.{option_map}
-use Rattle.crp_yard.proofs.Lists.{all_of, each_of}
+use Rattle.crp_sizes.proofs.Lists.{all_of, each_of}
 use Rattle.crp_plan.specs.Bay.{Problem, IsProblem}
 use Rattle.crp_plan.specs.BayNames.{YardBay, same_bay}
 use Rattle.crp_plan.specs.Plans.{ProblemPath}

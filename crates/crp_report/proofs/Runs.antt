@@ -38,7 +38,7 @@ use Rattle.crp_report.proofs.Leaving.{plans_are, plans_complete, plans_once}
 use Rattle.crp_report.proofs.Taken.{each_sink, holding}
 
 -- a yard list that is refused
-pub list_refused : (chosen : RunChosen) (s : RunSeen) (f : Fault) → WritesNothing s → IsNoYard chosen.input.heights s.yard.given s.yard.before s.yard.after f → RunFailsWith chosen s f
+pub list_refused : (chosen : RunChosen) (s : RunSeen) (f : Fault) → WritesNothing s → IsNoYard chosen.input.sizes s.yard.given s.yard.before s.yard.after f → RunFailsWith chosen s f
 list_refused chosen s (fault.Yard f) nothing (read, memory, first) = (nothing, read, memory, first)
 list_refused chosen s (fault.Read input.Yard) nothing failed = (nothing, tt, failed)
 list_refused chosen s (fault.Read input.Movins) nothing none = absurd none

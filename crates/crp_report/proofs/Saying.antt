@@ -126,7 +126,7 @@ readable chosen (bay ∷ answered) named t =
 pub answered_named : (chosen : RunChosen) (seen : RunSeen) (m : Made) → IsMade chosen seen m → AllByRecursion IsNamedProblem (map (λ bay. bay.stated) m.answered)
 answered_named chosen seen m is =
     let t = is.true_answers in
-    subst (AllByRecursion IsNamedProblem) (sym t.one_for_each) (problems_named m.yard m.sequence (yard_named chosen.input.heights m.list m.yard is.listed))
+    subst (AllByRecursion IsNamedProblem) (sym t.one_for_each) (problems_named m.yard m.sequence (yard_named chosen.input.sizes m.list m.yard is.listed))
 
 -- what a run says, and that it can be said
 pub record HasSaid (m : Made) : Type 0 where

@@ -1,6 +1,7 @@
 -- How a run states what went wrong in a layer below, and the texts that it keeps of a bay. Only private clauses speak of it.
 use Rattle.std.specs.Prelude.{◌≡◌, ◌≢◌, ℕ, ◌+◌, ◌≤◌, List, Option, Some}
 use Rattle.crp_plan.specs.Devices.{HasFailed}
+use Rattle.crp_sizes.specs.Sizes.{YardSizes}
 use Rattle.crp_yard.specs.declared.fault.YardFault.{YardFault}
 use Rattle.crp_yard.specs.declared.fault.YardFault.TheVariants as yard_fault
 use Rattle.crp_yard.specs.Reading.{IsTextOf}
@@ -43,13 +44,13 @@ AreFailuresCounted besides failed_before failed_after counted_before counted_aft
 abbrev pub IsWriteOf : Output → ℕ → ℕ → Fault → Type 0
 IsWriteOf sink before after f = (f ≡ fault.Write sink) × HasFailed before after
 
--- why no yard whose rows have these heights was read of a source that had these bytes, with its count of failures before and after
-abbrev pub IsNoYard : List ℕ → Option (List ℕ) → ℕ → ℕ → Fault → Type 0
-IsNoYard heights given before after (fault.Yard f) = (f ≢ yard_fault.Read) × (f ≢ yard_fault.Memory)
-    × ((text : List ℕ) × IsTextOf given text × (fault_of_text heights text ≡ Some f))
-IsNoYard heights given before after (fault.Read input.Yard) = HasFailed before after
-IsNoYard heights given before after fault.Memory = Unit {0}
-IsNoYard heights given before after f = ⊥
+-- why no yard of bays of these sizes was read of a source that had these bytes, with its count of failures before and after
+abbrev pub IsNoYard : YardSizes → Option (List ℕ) → ℕ → ℕ → Fault → Type 0
+IsNoYard sizes given before after (fault.Yard f) = (f ≢ yard_fault.Read) × (f ≢ yard_fault.Memory)
+    × ((text : List ℕ) × IsTextOf given text × (fault_of_text sizes text ≡ Some f))
+IsNoYard sizes given before after (fault.Read input.Yard) = HasFailed before after
+IsNoYard sizes given before after fault.Memory = Unit {0}
+IsNoYard sizes given before after f = ⊥
 
 -- why this text gives no load orders under this code
 abbrev pub IsNoOrders : List ℕ → List ℕ → Fault → Type 0

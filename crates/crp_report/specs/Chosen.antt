@@ -1,14 +1,15 @@
 -- What a planner chooses for a run.
-use Rattle.std.specs.Prelude.{ℕ, ◌≤◌, List, length}
-use Rattle.crp_plan.specs.Faults.{HasTiers, AreHeights}
+use Rattle.std.specs.Prelude.{ℕ, ◌≤◌, List}
+use Rattle.crp_plan.specs.Faults.{HasTiers}
+use Rattle.crp_sizes.specs.Sizes.{YardSizes}
 use Rattle.crp_order.specs.declared.sequences.Mode.{Mode}
 use Rattle.crp_solve.specs.Chosen.{Chosen}
 use Rattle.crp_report.specs.declared.settings.RunFault.{RunFault}
 use Rattle.crp_report.specs.declared.settings.RunFault.TheVariants.{Rows, Tiers, Heights, Memory}
 
--- what the input means: the height of each row of the bays, how the orders are put in sequence, and the loading code
+-- what the input means: the sizes of the bays, how the orders are put in sequence, and the loading code
 pub record InputChosen : Type 0 where
-  pub heights : List ℕ
+  pub sizes : YardSizes
   pub mode : Mode
   pub code : List ℕ
 
@@ -20,10 +21,6 @@ pub record RunChosen : Type 0 where
 -- so many rows can be chosen
 abbrev pub IsRowCount : ℕ → Type 0
 IsRowCount rows = (1 ≤ rows) × (rows ≤ 12)
-
--- these heights of the rows can be chosen: so many rows, and in each from 1 to 8 tiers
-abbrev pub CanBeHeights : List ℕ → Type 0
-CanBeHeights heights = IsRowCount (length heights) × AreHeights heights
 
 -- why settings with so many rows of so many tiers are refused: for the rows, or for the tiers where the rows are right; memory runs out only where
 -- both are

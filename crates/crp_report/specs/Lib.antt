@@ -2,6 +2,8 @@ pub use Rattle.crp_plan.specs.Bay
 pub use Rattle.crp_plan.specs.Plans
 pub use Rattle.crp_plan.specs.Devices
 pub use Rattle.crp_plan.specs.BayNames
+pub use Rattle.crp_sizes.specs.Heights
+pub use Rattle.crp_sizes.specs.Sizes
 pub use Rattle.crp_said.specs.MoveLines
 pub mod Answered
 pub mod Report

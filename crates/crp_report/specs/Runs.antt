@@ -58,9 +58,9 @@ pub record RunSeen : Type 0 where
   pub certificates : SinkSeen
   pub yard_after : SinkSeen
 
--- the text is a yard list, of bays whose rows have the chosen heights
+-- the text is a yard list, of bays of the chosen sizes
 abbrev pub IsListed : RunChosen → List ℕ → Inventory → Type 0
-IsListed chosen text yard = IsYardListOf chosen.input.heights text yard
+IsListed chosen text yard = IsYardListOf chosen.input.sizes text yard
 
 -- the text is an interchange, and these are its load orders under the code
 pub record AreOrders (code text : List ℕ) (orders : LoadOrders) : Type 0 where
@@ -194,7 +194,7 @@ most_run_failures f = most_interruptions + failures_of_fault f
 -- that write, and not all of the text whose write failed; or where memory ran out behind the input: the pieces up to there.
 abbrev pub RunFailsWith : RunChosen → RunSeen → Fault → Type 0
 RunFailsWith chosen s (fault.Yard f) = WritesNothing s × (f ≢ yard_fault.Read) × (f ≢ yard_fault.Memory)
-    × ((text : List ℕ) × IsTextOf s.yard.given text × (fault_of_text chosen.input.heights text ≡ Some f))
+    × ((text : List ℕ) × IsTextOf s.yard.given text × (fault_of_text chosen.input.sizes text ≡ Some f))
 RunFailsWith chosen s (fault.Interchange f) = WritesNothing s × (f ≢ edi.Memory) × IsYardAccepted chosen s
     × ((text : List ℕ) × IsTextOf s.movins.given text × IsFirstFault text f)
 RunFailsWith chosen s (fault.Message f) = WritesNothing s × (f ≢ movins.Memory) × IsYardAccepted chosen s

@@ -2,28 +2,27 @@
 ghost use Rattle.std.specs.Prelude.{ℕ, ◌≤◌, List, IfOk, IfErr, MatchResult};
 ghost use Rattle.crp_plan.specs.Devices.{most_interruptions};
 ghost use Rattle.crp_yard.specs.Reading.{IsTextOf, IsYardListOf};
-ghost use Rattle.crp_report.specs.Chosen.{CanBeHeights};
 ghost use Rattle.crp_report.specs.Runs.{AreOrders, failures_of_fault};
 ghost use Rattle.crp_report.specs.BayTexts.{AreFailuresCounted, IsNoYard, IsNoOrders, IsNoMessage};
 
 use crate::fault::{Fault, Input};
 use crp_movins::{Orders, load_orders};
 use crp_plan::{ReadFault, Source, read_all};
-use crp_yard::{MAX_BYTES, Yard, YardFault, yard_of_heights};
+use crp_sizes::Sizes;
+use crp_yard::{MAX_BYTES, Yard, YardFault, yard_of_sizes};
 use edi_text::{EdiFault, MAX_TEXT, Segments, read_segments};
 use std::alloc::Global;
 
-/// The yard that the bytes of a source list, of bays with a row for each of the heights.
+/// The yard that the bytes of a source list, of bays of these sizes.
 pub fn yard_from<Y: Source>(
     alloc: Global,
     source: &mut Y,
-    heights: &[u8],
+    sizes: &Sizes,
     interruptions: &mut u32,
 ) -> Result<Yard, Fault>
-    requires heights { CanBeHeights heights.now }
-    requires passed { interruptions.old ≤ most_interruptions }
-    ensures accepted { IfOk result (λ yard. (text : List ℕ) × IsTextOf (Y.remaining source.old) text × IsYardListOf heights.now text yard) }
-    ensures refused { IfErr result (IsNoYard heights.now (Y.remaining source.old) (Y.failures source.old) (Y.failures source.new)) }
+    requires { interruptions.old ≤ most_interruptions }
+    ensures accepted { IfOk result (λ yard. (text : List ℕ) × IsTextOf (Y.remaining source.old) text × IsYardListOf sizes.now text yard) }
+    ensures refused { IfErr result (IsNoYard sizes.now (Y.remaining source.old) (Y.failures source.old) (Y.failures source.new)) }
     ensures counted { MatchResult result
         (λ _. AreFailuresCounted 0 (Y.failures source.old) (Y.failures source.new) interruptions.old interruptions.new)
         (λ fault. AreFailuresCounted (failures_of_fault fault) (Y.failures source.old) (Y.failures source.new) interruptions.old interruptions.new) }
@@ -35,7 +34,7 @@ pub fn yard_from<Y: Source>(
         Err(ReadFault::TooLarge) => return Err(Fault::Yard(YardFault::TooLarge)),
         Err(ReadFault::Memory) => return Err(Fault::Memory),
     };
-    let yard = yard_of_heights(alloc, &text, heights)?;
+    let yard = yard_of_sizes(alloc, &text, sizes)?;
     Ok(yard)
 }
 

@@ -187,12 +187,7 @@ pub fn run_watched<
 {
     let mut interruptions = 0;
     let input = settings.input();
-    let yard = yard_from(
-        alloc,
-        &mut devices.yard,
-        input.heights(),
-        &mut interruptions,
-    )?;
+    let yard = yard_from(alloc, &mut devices.yard, input.sizes(), &mut interruptions)?;
     let Message { segments, orders } = message_from(
         alloc,
         &mut devices.movins,

@@ -1,12 +1,14 @@
 //! What a planner chooses for a run.
-ghost use Rattle.std.specs.Prelude.{◌≡◌, ◌≤◌, ◌↔◌, IfOk, IfErr, IsTrue, length, replicate};
+ghost use Rattle.std.specs.Prelude.{◌≡◌, ◌↔◌, IfOk, IfErr, IsTrue, replicate};
 ghost use Rattle.crp_plan.specs.Faults.{HasTiers, AreHeights};
-ghost use Rattle.crp_report.specs.Chosen.{IsRowCount, CanBeHeights, IsRunFault};
+ghost use Rattle.crp_sizes.specs.Heights.{CanBeHeights};
+ghost use Rattle.crp_sizes.specs.Sizes.{CanBeSizes, one_size};
+ghost use Rattle.crp_report.specs.Chosen.{IsRowCount, IsRunFault};
 ghost use Rattle.crp_report.specs.declared.settings.RunFault.TheVariants.{Heights, Memory};
 
-use arrayvec::ArrayVec;
 use crp_order::Mode;
 use crp_plan::{MAX_ROWS, MAX_TIERS};
+use crp_sizes::Sizes;
 use crp_solve::Settings;
 use std::alloc::{AllocError, Global};
 use std::marker::Model;
@@ -46,34 +48,20 @@ fn are_heights(heights: &[u8]) -> bool
         .all(|height| *height >= 1 && *height as usize <= MAX_TIERS)
 }
 
-// The heights in a list of their own.
-fn listed(heights: &[u8]) -> ArrayVec<u8, MAX_ROWS>
-    requires { length heights.now ≤ 12 }
-    ensures { result.items ≡ heights.now }
-{
-    let mut list = ArrayVec::new();
-    let Ok(()) = list.try_extend_from_slice(heights) else {
-        unreachable!()
-    };
-    list
-}
-
 /// What a planner chooses for the input of a run: what its yard list and its message mean.
 #[derive(Drop)]
 pub struct InputSettings {
-    heights: ArrayVec<u8, MAX_ROWS>,
+    sizes: Sizes,
     mode: Mode,
     code: Vec<u8>,
 }
 
 impl Model for InputSettings {
-    ghost use Rattle.crp_report.specs.Chosen.{InputChosen, CanBeHeights};
+    ghost use Rattle.crp_report.specs.Chosen.{InputChosen};
 
     ghost Value = { InputChosen };
 
-    ghost view = { λ s. record { heights = s.heights.items; mode = s.mode; code = s.code.items } };
-
-    ghost invariant = { λ s. CanBeHeights s.heights.items };
+    ghost view = { λ s. record { sizes = s.sizes; mode = s.mode; code = s.code.items } };
 }
 
 impl InputSettings {
@@ -87,7 +75,7 @@ impl InputSettings {
         code: &[u8],
     ) -> Result<InputSettings, RunFault>
         ensures accepted { IfOk result (λ settings. IsRowCount rows × HasTiers tiers) }
-        ensures value { IfOk result (λ settings. settings ≡ record { heights = replicate rows tiers; mode = mode; code = code.now }) }
+        ensures value { IfOk result (λ settings. settings ≡ record { sizes = one_size (replicate rows tiers); mode = mode; code = code.now }) }
         ensures refused { IfErr result (IsRunFault rows tiers) }
     {
         if rows == 0 || rows as usize > MAX_ROWS {
@@ -99,32 +87,46 @@ impl InputSettings {
         let code = Vec::from_slice(alloc, code)?;
         let same = [tiers; MAX_ROWS];
         Ok(InputSettings {
-            heights: listed(&same[..rows as usize]),
+            sizes: Sizes::of_heights(alloc, &same[..rows as usize]),
             mode,
             code,
         })
     }
 
-    /// These settings with a height for each row, in place of rows of one height. Refused exactly where there are not 1 to 12
-    /// heights, or one of them is not 1 to 8. No memory is taken.
+    /// These settings with bays that have a height for each row. Refused exactly where there are not 1 to 12 heights, or one of
+    /// them is not 1 to 8. No memory is taken.
     pub fn with_heights(mut self, heights: &[u8]) -> Result<InputSettings, RunFault>
         ensures accepted { IfOk result (λ settings. CanBeHeights heights.now) }
-        ensures value { IfOk result (λ settings. settings ≡ record self { heights = heights.now }) }
+        ensures value { IfOk result (λ settings. settings ≡ record self { sizes = one_size heights.now }) }
         ensures refused { IfErr result (λ fault. (fault ≡ Heights) × ¬ CanBeHeights heights.now) }
     {
         if heights.is_empty() || heights.len() > MAX_ROWS || !are_heights(heights) {
             return Err(RunFault::Heights);
         }
-        self.heights = listed(heights);
+        self.sizes = Sizes::of_heights(*self.code.allocator(), heights);
         Ok(self)
     }
 
-    /// How many tiers each row of a bay has, from row 1: 1 to 12 rows of 1 to 8 tiers.
-    pub fn heights(&self) -> &[u8]
-        ensures value { result.now ≡ self.now.heights }
-        ensures chosen { CanBeHeights self.now.heights }
+    /// A copy of these settings, with these sizes of the bays.
+    pub fn sized(&self, alloc: Global, sizes: Sizes) -> Result<InputSettings, AllocError>
+        ensures { IfOk result (λ settings. settings ≡ record self.now { sizes = sizes }) }
     {
-        self.heights.as_slice()
+        let code = Vec::from_slice(alloc, &self.code)?;
+        Ok(InputSettings {
+            sizes,
+            mode: self.mode,
+            code,
+        })
+    }
+
+    /// The sizes of the bays: how many tiers each row of a bay has, from row 1, 1 to 12 rows of 1 to 8 tiers.
+    pub fn sizes(&self) -> &Sizes
+        ensures value { result.now ≡ self.now.sizes }
+        ensures chosen { CanBeSizes self.now.sizes }
+    {
+        // Each value of Sizes can be sizes of bays, and says so.
+        let _common = self.sizes.common();
+        &self.sizes
     }
 
     /// The order in which the ordered containers leave.
@@ -150,13 +152,11 @@ pub struct RunSettings {
 }
 
 impl Model for RunSettings {
-    ghost use Rattle.crp_report.specs.Chosen.{RunChosen, CanBeHeights};
+    ghost use Rattle.crp_report.specs.Chosen.{RunChosen};
 
     ghost Value = { RunChosen };
 
     ghost view = { λ s. record { search = s.search; input = s.input } };
-
-    ghost invariant = { λ s. CanBeHeights s.input.heights };
 }
 
 impl RunSettings {
@@ -177,7 +177,6 @@ impl RunSettings {
     /// What the input means.
     pub fn input(&self) -> &InputSettings
         ensures value { result.now ≡ self.now.input }
-        ensures chosen { CanBeHeights self.now.input.heights }
     {
         &self.input
     }

@@ -6,10 +6,11 @@ use Rattle.std.proofs.lemmas.Bool.{false≢true}
 use Rattle.std.proofs.lemmas.List.Elements.{All-from_recursion}
 use Rattle.csv.proofs.OnLiterals.{csv_on_literals}
 use Rattle.crp_plan.specs.Faults.{HasTiers}
-use Rattle.crp_yard.specs.Records.{records_of}
+use Rattle.crp_sizes.specs.Fields.{records_of}
 use Rattle.crp_sizes.specs.declared.fault.SizesFault.TheVariants.{Header, Digits, Heights, Twice}
 use Rattle.crp_sizes.specs.Heights.{IsHeightsText, heights_text}
-use Rattle.crp_sizes.specs.Records.{BaySize, GivesSize, AreSizes, IsSizesList}
+use Rattle.crp_sizes.specs.Sizes.{BaySize}
+use Rattle.crp_sizes.specs.Records.{GivesSize, AreSizes, IsSizesList}
 use Rattle.crp_sizes.specs.Faults.{IsFirstFault}
 use Rattle.crp_sizes.proofs.HeaderSteps.{no_header}
 use Rattle.crp_sizes.proofs.HeightSteps.{none_there, none_so_long}

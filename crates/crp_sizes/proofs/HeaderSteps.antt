@@ -4,7 +4,7 @@ use Rattle.std.specs.Prelude.{◌==◌, codes}
 use Rattle.std.specs.Str.{bytes_eq}
 use Rattle.std.proofs.lemmas.Bool.{eqb-true, false≢true}
 use Rattle.std.proofs.lemmas.Slice.Eq.{bytes_eq-Decides}
-use Rattle.crp_yard.proofs.BaySteps.{both}
+use Rattle.crp_sizes.proofs.BaySteps.{both}
 use Rattle.crp_sizes.specs.Records.{header, is_header}
 use Rattle.crp_sizes.specs.Faults.{LacksHeader}
 

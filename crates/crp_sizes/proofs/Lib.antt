@@ -1,4 +1,8 @@
--- Lemmas on lists of sizes.
+-- Lemmas on lists of sizes, and on records and bays.
+pub mod Lists
+pub mod Bays
+pub mod FieldSteps
+pub mod CsvSteps
 pub mod HeightSteps
 pub mod BaySteps
 pub mod SizeSteps

@@ -1,22 +1,22 @@
 -- Each text lists sizes or has a first fault.
-use Rattle.std.proofs.Common.{◌≡◌, ◌∙◌, ◌⊎◌, inl, inr, ⊎_elim, ◌<◌, ℕ, ◌+◌, ◌-◌, Bool, true, false, List, [], ◌∷◌, ◌++◌, length, drop, Option, Some, None, refl, sym, ap, subst, arith, append_assoc, append-nil, get_or, cond}
+use Rattle.std.proofs.Common.{◌≡◌, ◌∙◌, ◌⊎◌, inl, inr, ⊎_elim, ◌<◌, ℕ, ◌+◌, ◌-◌, Bool, true, false, List, [], ◌∷◌, ◌++◌, length, drop, Option, Some, None, refl, sym, ap, subst, arith, append_assoc, append-nil, get_or}
 use Rattle.std.specs.Prelude.{IsTrue, IsSome}
 use Rattle.std.specs.List.{IsDistinct, AllByRecursion}
 use Rattle.std.proofs.lemmas.Bool.{cases_lt, cases_eq, false≢true}
 use Rattle.std.proofs.lemmas.List.Elements.{All-from_recursion, recursion_from_All}
-use Rattle.std.proofs.lemmas.Map.Keys.{IsDistinct-head, IsDistinct-tail, IsDistinct-cons}
-use Rattle.crp_plan.specs.BayNames.{YardBay, same_bay}
 use Rattle.crp_plan.specs.Faults.{HasTiers}
-use Rattle.crp_yard.specs.Faults.{max_bytes}
-use Rattle.crp_yard.specs.Records.{records_of, field_of}
+use Rattle.crp_sizes.specs.Fields.{max_bytes}
+use Rattle.crp_sizes.specs.Fields.{records_of, field_of}
 use Rattle.crp_sizes.specs.declared.fault.SizesFault.{SizesFault}
 use Rattle.crp_sizes.specs.declared.fault.SizesFault.TheVariants.{Header, Fields, Digits, Heights, Twice, TooLarge}
 use Rattle.crp_sizes.specs.Heights.{behind_points, IsHeightsText}
-use Rattle.crp_sizes.specs.Records.{BaySize, heights_of, header, is_header, is_well_formed, has_number, bay_named, GivesSize, AreSizes, AreListed, IsSizesList}
+use Rattle.crp_sizes.specs.Sizes.{BaySize, heights_of}
+use Rattle.crp_sizes.specs.Fields.{has_number, bay_named}
+use Rattle.crp_sizes.specs.Records.{header, is_header, is_well_formed, GivesSize, AreSizes, AreListed, IsSizesList}
 use Rattle.crp_sizes.specs.Faults.{IsFault, IsFaultIn, IsFirstFault}
 use Rattle.crp_sizes.proofs.HeaderSteps.{header_is, no_header, none_there}
 use Rattle.crp_sizes.proofs.HeightSteps.{length_behind, with_point}
-use Rattle.crp_sizes.proofs.SizeSteps.{names, turned, one_size_more, faulty_next}
+use Rattle.crp_sizes.proofs.SizeSteps.{once_more, one_size_more, faulty_next}
 
 either : (b : Bool) → (b ≡ true) ⊎ (b ≡ false)
 either true = inl refl
@@ -111,25 +111,6 @@ size_or_fault sizes fields n =
         → ((size : BaySize) × GivesSize fields size × (heights_of sizes size.0 ≡ None)) ⊎ ((fault : SizesFault) × IsFault sizes fields n fault)
     listed size gives None e = inl (size, gives, e)
     listed size gives (Some x) e = inr (Twice n, (refl, size, gives, subst IsSome (sym e) refl))
-
-apart_from : (sizes : List BaySize) (bay : YardBay) (size : BaySize) → heights_of (size ∷ sizes) bay ≡ None → (same_bay bay size.0 ≡ false) × (heights_of sizes bay ≡ None)
-apart_from sizes bay size e = by (same_bay bay size.0) e
-  where
-    by : (b : Bool) → cond b (Some size.1) (heights_of sizes bay) ≡ None → (b ≡ false) × (heights_of sizes bay ≡ None)
-    by true e = absurd (cc)
-    by false e = (refl, e)
-
--- a bay more that is not there yet
-once_more : (sizes : List BaySize) (size : BaySize) → IsDistinct same_bay (names sizes) → heights_of sizes size.0 ≡ None → IsDistinct same_bay (names (sizes ++ size ∷ []))
-once_more [] size once fresh = IsDistinct-cons same_bay size.0 [] tt once
-once_more (s ∷ sizes) size once fresh =
-    let parts = apart_from sizes size.0 s fresh in
-    IsDistinct-cons same_bay s.0 (names (sizes ++ size ∷ [])) (each sizes (IsDistinct-head same_bay s.0 (names sizes) once) (turned size.0 s.0 parts.0))
-    (once_more sizes size (IsDistinct-tail same_bay s.0 (names sizes) once) parts.1)
-  where
-    each : (sizes : List BaySize) → AllByRecursion (λ y. same_bay s.0 y ≡ false) (names sizes) → same_bay s.0 size.0 ≡ false → AllByRecursion (λ y. same_bay s.0 y ≡ false) (names (sizes ++ size ∷ []))
-    each [] all h = (h, tt)
-    each (x ∷ sizes) all h = (all.0, each sizes all.1 h)
 
 -- records behind those of these sizes
 from_here : (before : List (List (List ℕ))) (sizes : List BaySize) (rest : List (List (List ℕ))) → AreSizes before sizes

@@ -5,9 +5,9 @@ use Rattle.csv.specs.declared.iter.ByteRecordsIntoIter.{ByteRecordsIntoIter}
 use Rattle.csv.specs.declared.parser.State.TheVariants as st
 use Rattle.csv.specs.declared.reader.Trim.TheVariants as trim
 use Rattle.csv.proofs.ReadFacts.{rows-more}
-use Rattle.crp_yard.specs.Listings.{IsAtStart}
-use Rattle.crp_yard.specs.Records.{records_of}
-use Rattle.crp_yard.proofs.CsvSteps.{records-next, records-ended}
+use Rattle.crp_sizes.specs.Rows.{IsAtStart}
+use Rattle.crp_sizes.specs.Fields.{records_of}
+use Rattle.crp_sizes.proofs.CsvSteps.{records-next, records-ended}
 
 -- csv's reader has read these records of the text, takes none for a header, and leaves the fields of the next as they are
 pub record HasRead (text : List ℕ) (records : List (List (List ℕ))) (rows : ByteRecordsIntoIter (Bor (List ℕ))) : Type 0 where

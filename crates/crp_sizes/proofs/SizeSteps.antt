@@ -1,17 +1,17 @@
 -- Sizes and faults of records: each record gives one size at most or has one fault, and never both.
-use Rattle.std.proofs.Common.{◌≡◌, ◌∙◌, ◌⊎◌, inl, inr, ⊎_elim, ℕ, suc, ◌+◌, Bool, true, false, cond, List, [], ◌∷◌, ◌++◌, map, length, drop, Option, Some, None, refl, sym, ap, ap₂, subst, arith}
+use Rattle.std.proofs.Common.{◌≡◌, ◌∙◌, ◌⊎◌, inl, inr, ⊎_elim, ℕ, zero, suc, ◌+◌, Bool, true, false, cond, List, [], ◌∷◌, ◌++◌, map, length, take, drop, Option, Some, None, refl, sym, ap, ap₂, subst, arith}
 use Rattle.std.specs.Prelude.{IsSome, slice_get}
 use Rattle.std.specs.List.{IsDistinct, AllByRecursion}
 use Rattle.std.proofs.lemmas.Bool.{false≢true}
-use Rattle.std.proofs.lemmas.Map.Keys.{IsDistinct-head, IsDistinct-tail}
+use Rattle.std.proofs.lemmas.Map.Keys.{IsDistinct-head, IsDistinct-tail, IsDistinct-cons}
 use Rattle.crp_plan.specs.BayNames.{YardBay, same_bay}
-use Rattle.crp_yard.proofs.Lists.{looked_up}
-use Rattle.crp_yard.proofs.YardSteps.{same_bay_laws}
-use Rattle.crp_yard.proofs.OnceSteps.{same_bay_is, same_bay_self}
+use Rattle.crp_sizes.proofs.Lists.{looked_up}
+use Rattle.crp_sizes.proofs.Bays.{same_bay_laws, same_bay_is, same_bay_self}
 use Rattle.crp_sizes.specs.declared.fault.SizesFault.{SizesFault}
 use Rattle.crp_sizes.specs.declared.fault.SizesFault.TheVariants.{Header, Fields, Digits, Heights, Twice}
-use Rattle.crp_sizes.specs.Records.{BaySize, heights_of, header, GivesSize, GiveSizes, AreSizes, AreListed, IsSizesList}
-use Rattle.crp_yard.specs.Records.{records_of, field_of}
+use Rattle.crp_sizes.specs.Sizes.{BaySize, heights_of}
+use Rattle.crp_sizes.specs.Records.{header, GivesSize, GiveSizes, AreSizes, AreListed, IsSizesList}
+use Rattle.crp_sizes.specs.Fields.{records_of, field_of}
 use Rattle.crp_sizes.specs.Faults.{IsFault, HasFault, LacksHeader, IsFaultIn, IsFirstFault}
 use Rattle.crp_sizes.proofs.HeightSteps.{one_heights}
 
@@ -72,6 +72,45 @@ apart (s ∷ front) size rest once =
     at : (front : List BaySize) (size : BaySize) (rest : List BaySize) → AllByRecursion (λ y. same_bay s.0 y ≡ false) (names (front ++ size ∷ rest)) → same_bay s.0 size.0 ≡ false
     at [] size rest all = all.0
     at (x ∷ front) size rest all = at front size rest all.1
+
+apart_from : (sizes : List BaySize) (bay : YardBay) (size : BaySize) → heights_of (size ∷ sizes) bay ≡ None → (same_bay bay size.0 ≡ false) × (heights_of sizes bay ≡ None)
+apart_from sizes bay size e = by (same_bay bay size.0) e
+  where
+    by : (b : Bool) → cond b (Some size.1) (heights_of sizes bay) ≡ None → (b ≡ false) × (heights_of sizes bay ≡ None)
+    by true e = absurd (cc)
+    by false e = (refl, e)
+
+-- a bay more that is not there yet
+pub once_more : (sizes : List BaySize) (size : BaySize) → IsDistinct same_bay (names sizes) → heights_of sizes size.0 ≡ None → IsDistinct same_bay (names (sizes ++ size ∷ []))
+once_more [] size once fresh = IsDistinct-cons same_bay size.0 [] tt once
+once_more (s ∷ sizes) size once fresh =
+    let parts = apart_from sizes size.0 s fresh in
+    IsDistinct-cons same_bay s.0 (names (sizes ++ size ∷ [])) (each sizes (IsDistinct-head same_bay s.0 (names sizes) once) (turned size.0 s.0 parts.0))
+    (once_more sizes size (IsDistinct-tail same_bay s.0 (names sizes) once) parts.1)
+  where
+    each : (sizes : List BaySize) → AllByRecursion (λ y. same_bay s.0 y ≡ false) (names sizes) → same_bay s.0 size.0 ≡ false → AllByRecursion (λ y. same_bay s.0 y ≡ false) (names (sizes ++ size ∷ []))
+    each [] all h = (h, tt)
+    each (x ∷ sizes) all h = (all.0, each sizes all.1 h)
+
+-- the sizes up to that with a number
+split_at : (sizes : List BaySize) (i : ℕ) (size : BaySize) → slice_get sizes i ≡ Some size → (rest : List BaySize) × (sizes ≡ take i sizes ++ size ∷ rest)
+split_at [] i size e = absurd (cc)
+split_at (s ∷ sizes) zero size e = let same : s ≡ size = cc in (sizes, ap (λ x. x ∷ sizes) same)
+split_at (s ∷ sizes) (suc i) size e = let more = split_at sizes i size e in (more.0, ap (λ l. s ∷ l) more.1)
+
+pub fresh_at : (sizes : List BaySize) (i : ℕ) (size : BaySize) → IsDistinct same_bay (names sizes) → slice_get sizes i ≡ Some size → heights_of (take i sizes) size.0 ≡ None
+fresh_at sizes i size once e =
+    let parts = split_at sizes i size e in
+    apart (take i sizes) size parts.0 (subst (λ (l : List BaySize). IsDistinct same_bay (names l)) parts.1 once)
+
+taken : (sizes : List BaySize) (i : ℕ) (size : BaySize) → slice_get sizes i ≡ Some size → take (suc i) sizes ≡ take i sizes ++ size ∷ []
+taken [] i size e = absurd (cc)
+taken (s ∷ []) zero size e = let same : s ≡ size = cc in ap (λ x. x ∷ []) same
+taken (s ∷ t ∷ sizes) zero size e = let same : s ≡ size = cc in ap (λ x. x ∷ []) same
+taken (s ∷ sizes) (suc i) size e = ap (λ l. s ∷ l) (taken sizes i size e)
+
+pub next_taken : (sizes : List BaySize) (i : ℕ) (size : BaySize) → slice_get sizes i ≡ Some size → take (i + 1) sizes ≡ take i sizes ++ size ∷ []
+next_taken sizes i size e = let n : i + 1 ≡ suc i = omega arith in ap (λ k. take k sizes) n ∙ taken sizes i size e
 
 -- ---- faults
 

@@ -1,11 +1,13 @@
 -- Which fault of a list of sizes is the first: the first faulty record decides, and within it the order of the table below.
 use Rattle.std.specs.Prelude.{◌≡◌, ◌<◌, ◌≤◌, ◌⊎◌, ◌+◌, ℕ, List, ◌∷◌, ◌++◌, length, IsTrue, IsSome}
-use Rattle.crp_yard.specs.Faults.{max_bytes}
-use Rattle.crp_yard.specs.Records.{records_of, field_of}
+use Rattle.crp_sizes.specs.Fields.{max_bytes}
+use Rattle.crp_sizes.specs.Fields.{records_of, field_of}
 use Rattle.crp_sizes.specs.declared.fault.SizesFault.{SizesFault}
 use Rattle.crp_sizes.specs.declared.fault.SizesFault.TheVariants.{Header, Fields, Digits, Heights, Twice, TooLarge, Read, Memory}
 use Rattle.crp_sizes.specs.Heights.{IsHeightsText}
-use Rattle.crp_sizes.specs.Records.{BaySize, heights_of, header, is_well_formed, has_number, GivesSize, AreSizes}
+use Rattle.crp_sizes.specs.Sizes.{BaySize, heights_of}
+use Rattle.crp_sizes.specs.Fields.{has_number}
+use Rattle.crp_sizes.specs.Records.{header, is_well_formed, GivesSize, AreSizes}
 
 -- the fault of a record with this number behind those that give the sizes
 abbrev pub IsFault : List BaySize → List (List ℕ) → ℕ → SizesFault → Type 0

@@ -1,8 +1,8 @@
 -- What a fault says of a source.
 use Rattle.std.specs.Prelude.{◌<◌, ℕ, List, length, Option, IfSome}
 use Rattle.crp_plan.specs.Devices.{HasFailed}
-use Rattle.crp_yard.specs.Faults.{max_bytes}
-use Rattle.crp_yard.specs.Reading.{IsTextOf}
+use Rattle.crp_sizes.specs.Fields.{max_bytes}
+use Rattle.crp_sizes.specs.Fields.{IsTextOf}
 use Rattle.crp_sizes.specs.declared.fault.SizesFault.{SizesFault}
 use Rattle.crp_sizes.specs.declared.fault.SizesFault.TheVariants.{Header, Fields, Digits, Heights, Twice, TooLarge, Read, Memory}
 use Rattle.crp_sizes.specs.Faults.{IsFirstFault}

@@ -1,20 +1,11 @@
 -- What text is a list of sizes.
-use Rattle.std.specs.Prelude.{◌≡◌, ◌≤◌, ℕ, Bool, ◌&&◌, ◌==◌, nat_le, List, [], ◌∷◌, length, map, Option, codes, IsTrue, ⊤}
+use Rattle.std.specs.Prelude.{◌≡◌, ◌≤◌, ℕ, Bool, ◌&&◌, ◌==◌, List, [], ◌∷◌, length, map, codes, IsTrue, ⊤}
 use Rattle.std.specs.List.{IsDistinct}
-use Rattle.std.specs.Map.{lookup}
 use Rattle.std.specs.Str.{bytes_eq}
-use Rattle.crp_plan.specs.BayNames.{YardBay, same_bay}
-use Rattle.crp_yard.specs.Faults.{max_bytes}
-use Rattle.crp_yard.specs.Records.{records_of, field_of, is_block, is_number, number_of}
+use Rattle.crp_plan.specs.BayNames.{same_bay}
+use Rattle.crp_sizes.specs.Fields.{max_bytes, records_of, field_of, is_block, has_number, bay_named}
+use Rattle.crp_sizes.specs.Sizes.{BaySize, YardSizes}
 use Rattle.crp_sizes.specs.Heights.{IsHeightsText}
-
--- a bay, and the height of each of its rows
-abbrev pub BaySize : Type 0
-BaySize = YardBay × List ℕ
-
--- the heights that the sizes have for a bay; none where they have not the bay
-abbrev pub heights_of : List BaySize → YardBay → Option (List ℕ)
-heights_of sizes bay = lookup (same_bay bay) sizes
 
 -- the fields of the first record: `block,bay,heights`
 abbrev pub header : List (List ℕ)
@@ -29,14 +20,6 @@ is_header fields =
 -- three fields, of which the first is a block
 abbrev pub is_well_formed : List (List ℕ) → Bool
 is_well_formed fields = (length fields == 3) && is_block (field_of fields 0)
-
--- the second field is a number, and not 0
-abbrev pub has_number : List (List ℕ) → Bool
-has_number fields = is_number (field_of fields 1) && nat_le 1 (number_of (field_of fields 1))
-
--- the bay that a record names
-abbrev pub bay_named : List (List ℕ) → YardBay
-bay_named fields = record { block = field_of fields 0; bay = number_of (field_of fields 1) }
 
 -- the record gives this bay these heights
 pub record GivesSize (fields : List (List ℕ)) (size : BaySize) : Type 0 where
@@ -67,3 +50,8 @@ pub record AreListed (records : List (List (List ℕ))) (sizes : List BaySize) :
 pub record IsSizesList (text : List ℕ) (sizes : List BaySize) : Type 0 where
   pub short : length text ≤ max_bytes
   pub listed : AreListed (records_of text) sizes
+
+-- the text is a list of sizes, and bays that it has not have the common ones
+pub record IsSizesListOf (common text : List ℕ) (sizes : YardSizes) : Type 0 where
+  pub others : sizes.common ≡ common
+  pub list : IsSizesList text sizes.listed

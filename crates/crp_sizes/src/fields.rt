@@ -1,17 +1,18 @@
 //! The fields of a record.
 
-ghost use Rattle.std.specs.Prelude.{◌≡◌, ◌<◌, ◌^◌, IsTrue};
+ghost use Rattle.std.specs.Prelude.{◌≡◌, IsTrue};
 ghost use Rattle.std.specs.List.{list_all};
-ghost use Rattle.std.specs.Char.{is_ascii_digit, is_ascii_graphic};
+ghost use Rattle.std.specs.Char.{is_ascii_graphic};
 ghost use Rattle.csv.specs.Records.{fields_of};
-ghost use Rattle.crp_yard.specs.Records.{field_of, is_block, is_number, number_of};
-ghost use Rattle.crp_sizes.specs.Records.{is_header, is_well_formed, has_number, bay_named};
+ghost use Rattle.crp_sizes.specs.Fields.{field_of, is_block, has_number, bay_named};
+ghost use Rattle.crp_sizes.specs.Records.{is_header, is_well_formed};
 
+use crate::digits::{is_number, number_of};
 use crp_plan::BayName;
 use csv::ByteRecord;
 
 /// The field with this number, from 0; no bytes where there is none.
-pub(crate) fn field(fields: &ByteRecord, i: usize) -> &[u8]
+pub fn field(fields: &ByteRecord, i: usize) -> &[u8]
     ensures { result.now ≡ field_of (fields_of fields.now) i }
 {
     match fields.get(i) {
@@ -35,35 +36,11 @@ fn are_printed(bytes: &[u8]) -> bool
     bytes.iter().all(|b| b.is_ascii_graphic())
 }
 
-fn is_block(bytes: &[u8]) -> bool
+/// The bytes are 1 to 17 bytes from 0x21 to 0x7E.
+pub fn is_block(bytes: &[u8]) -> bool
     ensures { result ≡ is_block bytes.now }
 {
     !bytes.is_empty() && bytes.len() <= 17 && are_printed(bytes)
-}
-
-fn are_digits(bytes: &[u8]) -> bool
-    ensures { result ≡ list_all is_ascii_digit bytes.now }
-{
-    bytes.iter().all(|b| b.is_ascii_digit())
-}
-
-fn is_number(bytes: &[u8]) -> bool
-    ensures { result ≡ is_number bytes.now }
-{
-    !bytes.is_empty() && bytes.len() <= 4 && are_digits(bytes)
-}
-
-/// The number that they write.
-fn number_of(bytes: &[u8]) -> u16
-    requires { IsTrue (is_number bytes.now) }
-    ensures value { result ≡ number_of bytes.now }
-    ensures small { result < 10 ^ 4 }
-{
-    let mut number = 0;
-    for byte in bytes {
-        number = number * 10 + u16::from(*byte - b'0');
-    }
-    number
 }
 
 /// There are three fields, of which the first is a block.
@@ -81,9 +58,9 @@ pub(crate) fn has_number(fields: &ByteRecord) -> bool
     is_number(bay) && number_of(bay) > 0
 }
 
-/// The bay that the record names.
-pub(crate) fn bay_of(fields: &ByteRecord) -> BayName
-    requires formed { IsTrue (is_well_formed (fields_of fields.now)) }
+/// The bay that the first two fields name.
+pub fn bay_of(fields: &ByteRecord) -> BayName
+    requires block { IsTrue (is_block (field_of (fields_of fields.now) 0)) }
     requires numbered { IsTrue (has_number (fields_of fields.now)) }
     ensures { result ≡ bay_named (fields_of fields.now) }
 {

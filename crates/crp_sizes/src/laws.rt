@@ -3,7 +3,8 @@
 ghost use Rattle.std.specs.Prelude.{◌≡◌, ◌↔◌, ◌⊎◌, ◌∷◌, [], ℕ, List, Some, codes, slice_get};
 ghost use Rattle.crp_plan.specs.BayNames.{YardBay};
 ghost use Rattle.crp_sizes.specs.Heights.{IsHeightsText};
-ghost use Rattle.crp_sizes.specs.Records.{BaySize, heights_of, IsSizesList};
+ghost use Rattle.crp_sizes.specs.Sizes.{BaySize, heights_of};
+ghost use Rattle.crp_sizes.specs.Records.{IsSizesList};
 ghost use Rattle.crp_sizes.specs.Faults.{IsFirstFault};
 ghost use Rattle.crp_sizes.specs.declared.fault.SizesFault.{SizesFault};
 ghost use Rattle.crp_sizes.specs.declared.fault.SizesFault.TheVariants.{Header, Digits, Heights, Twice};

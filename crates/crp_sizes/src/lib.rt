@@ -5,6 +5,7 @@
 //! in `specs/Records.antt`, and which fault is the first in `specs/Faults.antt`.
 #![tactic(auto)]
 
+mod digits;
 mod fault;
 mod fields;
 mod heights;
@@ -12,10 +13,14 @@ mod laws;
 mod reading;
 mod records;
 mod row_heights;
+mod rows;
 mod sizes;
 
+pub use digits::{is_number, number_of};
 pub use fault::SizesFault;
+pub use fields::{bay_of, field, is_block};
 pub use heights::heights_in;
 pub use laws::{one_list, one_outcome, sized_as_listed, worked_cases};
-pub use reading::{read_sizes, sizes_from};
+pub use reading::{MAX_BYTES, read_sizes, sizes_from};
+pub use rows::rows_of;
 pub use sizes::Sizes;

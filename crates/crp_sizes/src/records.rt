@@ -4,24 +4,28 @@ ghost use Rattle.std.specs.Prelude.{◌≡◌, ◌⊎◌, ◌+◌, ◌++◌, ◌
 ghost use Rattle.std.specs.List.{IsDistinct};
 ghost use Rattle.csv.specs.Records.{fields_of};
 ghost use Rattle.crp_plan.specs.BayNames.{same_bay};
-ghost use Rattle.crp_yard.specs.Records.{records_of};
-ghost use Rattle.crp_yard.specs.Listings.{IsAtStart};
-ghost use Rattle.crp_sizes.specs.Records.{BaySize, heights_of, GivesSize, AreListed};
+ghost use Rattle.crp_sizes.specs.Fields.{records_of};
+ghost use Rattle.crp_sizes.specs.Heights.{CanBeHeights};
+ghost use Rattle.crp_sizes.specs.Sizes.{BaySize, heights_of};
+ghost use Rattle.crp_sizes.specs.Records.{GivesSize, AreListed};
 ghost use Rattle.crp_sizes.specs.Faults.{IsFault, IsFaultIn};
 ghost use Rattle.crp_sizes.specs.declared.fault.SizesFault.TheVariants.{Memory};
 
 use crate::fault::SizesFault;
 use crate::fields::{bay_of, field, has_number, is_header, is_well_formed};
 use crate::heights::heights_in;
+use crate::row_heights::RowHeights;
+use crate::rows::rows_of;
 use crate::sizes::Sizes;
-use csv::{ByteRecord, ByteRecordsIntoIter, ReaderBuilder};
+use csv::ByteRecord;
 use std::alloc::Global;
 
 /// Takes the size that the next record behind those of the sizes gives, or says its fault.
 fn take(sizes: &mut Sizes, fields: &ByteRecord) -> Result<(), SizesFault>
-    ensures taken { OnOk result ((size : BaySize) × GivesSize (fields_of fields.now) size × (heights_of sizes.old size.0 ≡ None) × (sizes.new ≡ sizes.old ++ size ∷ [])) }
-    ensures once { OnOk result (IsDistinct same_bay (map (λ size. size.0) sizes.new)) }
-    ensures refused { IfErr result (λ fault. (fault ≡ Memory) ⊎ IsFault sizes.old (fields_of fields.now) (length sizes.old + 2) fault) }
+    ensures taken { OnOk result ((size : BaySize) × GivesSize (fields_of fields.now) size × (heights_of sizes.old.listed size.0 ≡ None) × (sizes.new.listed ≡ sizes.old.listed ++ size ∷ [])) }
+    ensures common { OnOk result (sizes.new.common ≡ sizes.old.common) }
+    ensures once { OnOk result (IsDistinct same_bay (map (λ size. size.0) sizes.new.listed)) }
+    ensures refused { IfErr result (λ fault. (fault ≡ Memory) ⊎ IsFault sizes.old.listed (fields_of fields.now) (length sizes.old.listed + 2) fault) }
 {
     let record = sizes.len() + 2;
     if !is_well_formed(fields) {
@@ -38,24 +42,15 @@ fn take(sizes: &mut Sizes, fields: &ByteRecord) -> Result<(), SizesFault>
         Some(_) => return Err(SizesFault::Twice { record }),
         None => {}
     }
-    sizes.push(bay, heights)?;
+    sizes.push(bay, RowHeights::new(heights))?;
     Ok(())
 }
 
-/// The records of a text, as csv reads them in turn. Its header row is one of them, and they may differ in length.
-fn rows_of<'a>(alloc: Global, text: &'a [u8]) -> ByteRecordsIntoIter<&'a [u8]>
-    ensures { IsAtStart text.entry.now result }
-{
-    let reader = ReaderBuilder::new()
-        .has_headers(false)
-        .flexible(true)
-        .from_reader(alloc, text);
-    reader.into_byte_records()
-}
-
-/// The sizes that the records of a text give, and else the first fault of the records.
-pub(crate) fn listed_in(alloc: Global, text: &[u8]) -> Result<Sizes, SizesFault>
-    ensures accepted { IfOk result (AreListed (records_of text.now)) }
+/// The sizes that the records of a text give, with the common ones, and else the first fault of the records.
+pub(crate) fn listed_in(alloc: Global, text: &[u8], common: &[u8]) -> Result<Sizes, SizesFault>
+    requires { CanBeHeights common.now }
+    ensures common { IfOk result (λ sizes. sizes.common ≡ common.now) }
+    ensures accepted { IfOk result (λ sizes. AreListed (records_of text.now) sizes.listed) }
     ensures refused { IfErr result (λ fault. (fault ≡ Memory) ⊎ IsFaultIn (records_of text.now) fault) }
 {
     let mut rows = rows_of(alloc, text);
@@ -68,7 +63,7 @@ pub(crate) fn listed_in(alloc: Global, text: &[u8]) -> Result<Sizes, SizesFault>
         Some(Err(_)) => return Err(SizesFault::Memory),
         None => return Err(SizesFault::Header { record: 1 }),
     }
-    let mut sizes = Sizes::new(alloc);
+    let mut sizes = Sizes::of_heights(alloc, common);
     for row in rows {
         let Ok(fields) = row else {
             return Err(SizesFault::Memory);

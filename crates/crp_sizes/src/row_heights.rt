@@ -32,6 +32,17 @@ impl RowHeights {
         RowHeights { list }
     }
 
+    pub fn of(heights: &[u8]) -> RowHeights
+        requires { CanBeHeights heights.now }
+        ensures { result ≡ heights.now }
+    {
+        let mut list = ArrayVec::new();
+        let Ok(()) = list.try_extend_from_slice(heights) else {
+            unreachable!()
+        };
+        RowHeights { list }
+    }
+
     pub fn list(&self) -> &[u8]
         ensures value { result.now ≡ self.now }
         ensures heights { CanBeHeights self.now }

@@ -3,7 +3,8 @@ mod faults;
 mod places;
 
 use crate::advice::faults::{
-    OF_CERTIFICATES, OF_INTERCHANGES, OF_MESSAGES, OF_PLANS, OF_RUNS, OF_SETTINGS, OF_YARD_LISTS,
+    OF_CERTIFICATES, OF_INTERCHANGES, OF_MESSAGES, OF_PLANS, OF_RUNS, OF_SETTINGS, OF_SIZES,
+    OF_YARD_LISTS,
 };
 use crate::compare::{assert_at, assert_same, assert_same_at};
 use crp_audit::AuditFault;
@@ -15,6 +16,7 @@ use crp_loading::LoadingFault;
 use crp_movins::MovinsFault;
 use crp_plan::BayName;
 use crp_report::{Fault, Output};
+use crp_sizes::SizesFault;
 use crp_words::advice_on_setting;
 use crp_yard::YardFault;
 use edi_text::EdiFault;
@@ -26,7 +28,7 @@ fn checked(refused: Refused) -> ToolFault {
 }
 
 // Faults that no small input and no command shows, each with its line and the line after it.
-fn unseen() -> [(ToolFault, &'static str, &'static str); 14] {
+fn unseen() -> [(ToolFault, &'static str, &'static str); 15] {
     [
         (
             ToolFault::Run(Fault::Interchange(EdiFault::TooLong { offset: 6 })),
@@ -47,6 +49,11 @@ fn unseen() -> [(ToolFault, &'static str, &'static str); 14] {
             ToolFault::Run(Fault::Yard(YardFault::TooLarge)),
             "Y10 at record 0",
             "a yard list may have at most 8388608 bytes",
+        ),
+        (
+            ToolFault::Sizes(SizesFault::TooLarge),
+            "Z6 at record 0",
+            "a list of sizes may have at most 8388608 bytes",
         ),
         (
             checked(Refused::OtherProblem),
@@ -121,6 +128,10 @@ fn add_runs(faults: &mut Vec<ToolFault>) -> Result<(), AllocError> {
     for fault in OF_YARD_LISTS {
         faults.push(ToolFault::Run(Fault::Yard(fault)))?;
     }
+    for fault in OF_SIZES {
+        faults.push(ToolFault::Sizes(fault))?;
+    }
+    faults.push(ToolFault::ReadSizes)?;
     for fault in OF_RUNS {
         faults.push(ToolFault::Run(fault))?;
     }
@@ -272,7 +283,7 @@ fn is_short(advice: &str) -> bool {
 #[test]
 fn each_line_is_short_and_of_one_code(rt: HostRuntime) -> Result<(), Fail> {
     let lines = every_advice(rt.alloc())?;
-    assert_same(&rt, &lines.len(), &100);
+    assert_same(&rt, &lines.len(), &107);
     for (i, advice) in lines.iter().enumerate() {
         assert_at(&rt, is_short(advice), advice);
         let is_new = lines[..i].iter().all(|line| line != advice);

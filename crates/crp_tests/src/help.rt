@@ -24,13 +24,14 @@ fn shows_help(rt: HostRuntime) {
 }
 
 // What the help of `solve` says of its words, its options and their defaults.
-const HELP: [&str; 28] = [
+const HELP: [&str; 29] = [
     "Usage: crp solve [OPTIONS] <YARD> <MOVINS>",
     "--rows <N>",
     "1 to 12 [default: 6]",
     "--tiers <N>",
     "1 to 8 [default: 5]",
     "--heights <HEIGHTS>",
+    "--sizes <FILE>",
     "--order <ORDER>",
     "[default: listed]",
     "--code <TEXT>",

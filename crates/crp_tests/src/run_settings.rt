@@ -54,7 +54,7 @@ fn with_heights(alloc: Global, heights: &[u8]) -> Result<InputSettings, RunFault
 // Settings that are made have these heights.
 fn assert_heights(rt: &impl Abort, settings: &Result<InputSettings, RunFault>, heights: &[u8]) {
     if let Ok(settings) = settings {
-        assert_same(rt, &settings.heights(), &heights);
+        assert_same(rt, &settings.sizes().common(), &heights);
     }
 }
 

@@ -5,7 +5,14 @@ use std::alloc::{AllocError, Global};
 pub(crate) const REPORT: &str = "audited-report.txt";
 
 // The options of `solve` that say what its input means.
-const OF_INPUT: [&str; 5] = ["--rows", "--tiers", "--heights", "--order", "--code"];
+const OF_INPUT: [&str; 6] = [
+    "--rows",
+    "--tiers",
+    "--heights",
+    "--sizes",
+    "--order",
+    "--code",
+];
 
 // Its other options with a value.
 const OF_SEARCH: [&str; 7] = [

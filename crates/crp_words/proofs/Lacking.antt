@@ -5,10 +5,11 @@ use Rattle.std.specs.declared.num.ParseIntError.{ParseIntError}
 use Rattle.clap.specs.Words.{Row, Text}
 use Rattle.clap.specs.Matches.{ReadsOne}
 use Rattle.crp_solve.specs.Chosen.{Chosen}
-use Rattle.crp_words.specs.Words.{Asks, HasBudget, HasNumber, HasNumberBeyond, HasNumberWithin, FindsRowHeights, FindsRows, HasInput, HasSearch, HasSettings, HasSplit, HasBeam, HasThin, HasFlags, HasNumberOrStrong, HasOwnNumberBeyond, FindsTiers, HasWorkers, MayFindHeights, IsBudgetBeyond, IsSplitBeyond, IsBeamBeyond, IsThinBeyond, IsLeftToStrong, AreRowsBeyond, AreTiersBeyond, AreHeightsBeyond, AreWorkersBeyond, IsFault, IsInputFault, IsJust, IsSearchFault, IsNamedTwice, IsSizedTwice, IsSolveFault, IsWordsOrMemory, Lacks, NoFault, HasFiles, HasText, ReadsNumber}
+use Rattle.crp_words.specs.Words.{Asks, HasBudget, HasNumber, HasNumberBeyond, HasNumberWithin, FindsSizes, FindsRows, HasInput, HasSearch, HasSettings, HasSplit, HasBeam, HasThin, HasFlags, HasNumberOrStrong, HasOwnNumberBeyond, FindsTiers, HasWorkers, MayFindHeights, IsBudgetBeyond, IsSplitBeyond, IsBeamBeyond, IsThinBeyond, IsLeftToStrong, AreRowsBeyond, AreTiersBeyond, AreHeightsBeyond, AreWorkersBeyond, IsFault, IsInputFault, IsJust, IsSearchFault, IsNamedTwice, IsSizedTwice, IsSolveFault, IsWordsOrMemory, Lacks, NoFault, HasFiles, HasText, ReadsNumber}
 use Rattle.crp_jobs.specs.declared.job.Job.{Job}
 use Rattle.crp_jobs.specs.declared.job.RunFiles.{RunFiles}
-use Rattle.crp_words.specs.Heights.{IsHeightsText}
+use Rattle.crp_sizes.specs.Heights.{IsHeightsText}
+use Rattle.crp_sizes.specs.Sizes.{YardSizes}
 use Rattle.crp_report.specs.Chosen.{InputChosen, RunChosen}
 use Rattle.crp_jobs.specs.declared.job.FileCommand.TheVariants as command
 use Rattle.crp_jobs.specs.declared.job.Job.TheVariants as job
@@ -226,8 +227,8 @@ no_thin rows w b t m u workers budget split beam = lacks_more (HasThin rows) (Ha
 -- ---- what the input means
 
 -- without rows within their limits there are no heights of rows
-pub no_rows : (rows : List Row) (u : Usage) → Lacks (FindsRows rows) (IsJust setting.Rows (AreRowsBeyond rows)) u → Lacks (FindsRowHeights rows) (IsInputFault rows) u
-no_rows rows u = lacks_more (FindsRows rows) (FindsRowHeights rows) (IsJust setting.Rows (AreRowsBeyond rows)) (IsInputFault rows) u
+pub no_rows : (rows : List Row) (u : Usage) → Lacks (FindsRows rows) (IsJust setting.Rows (AreRowsBeyond rows)) u → Lacks (FindsSizes rows) (IsInputFault rows) u
+no_rows rows u = lacks_more (FindsRows rows) (FindsSizes rows) (IsJust setting.Rows (AreRowsBeyond rows)) (IsInputFault rows) u
     (λ heights has. (has.rows, has.finds_rows)) (λ f just. subst (IsInputFault rows) (sym just.0) just.1) down
   where
     down : (f : SettingFault) → IsInputFault rows f → IsJust setting.Rows (AreRowsBeyond rows) f ⊎ ((n : ℕ) × FindsRows rows n)
@@ -242,8 +243,8 @@ no_rows rows u = lacks_more (FindsRows rows) (FindsRowHeights rows) (IsJust sett
 
 -- nor are there without tiers within their limits
 pub no_tiers : (rows : List Row) (r : ℕ) (u : Usage) → FindsRows rows r → Lacks (FindsTiers rows) (IsJust setting.Tiers (AreTiersBeyond rows)) u
-    → Lacks (FindsRowHeights rows) (IsInputFault rows) u
-no_tiers rows r u has_rows = lacks_more (FindsTiers rows) (FindsRowHeights rows) (IsJust setting.Tiers (AreTiersBeyond rows)) (IsInputFault rows) u
+    → Lacks (FindsSizes rows) (IsInputFault rows) u
+no_tiers rows r u has_rows = lacks_more (FindsTiers rows) (FindsSizes rows) (IsJust setting.Tiers (AreTiersBeyond rows)) (IsInputFault rows) u
     (λ heights has. (has.tiers, has.finds_tiers)) (λ f just. subst (IsInputFault rows) (sym just.0) ((r, has_rows), just.1)) down
   where
     down : (f : SettingFault) → IsInputFault rows f → IsJust setting.Tiers (AreTiersBeyond rows) f ⊎ ((n : ℕ) × FindsTiers rows n)
@@ -258,8 +259,8 @@ no_tiers rows r u has_rows = lacks_more (FindsTiers rows) (FindsRowHeights rows)
 
 -- nor without heights that can be chosen, where heights are given
 pub no_heights : (rows : List Row) (r t : ℕ) (u : Usage) → FindsRows rows r → FindsTiers rows t
-    → Lacks (MayFindHeights rows) (IsJust setting.Heights (AreHeightsBeyond rows)) u → Lacks (FindsRowHeights rows) (IsInputFault rows) u
-no_heights rows r t u has_rows has_tiers = lacks_more (MayFindHeights rows) (FindsRowHeights rows) (IsJust setting.Heights (AreHeightsBeyond rows)) (IsInputFault rows) u
+    → Lacks (MayFindHeights rows) (IsJust setting.Heights (AreHeightsBeyond rows)) u → Lacks (FindsSizes rows) (IsInputFault rows) u
+no_heights rows r t u has_rows has_tiers = lacks_more (MayFindHeights rows) (FindsSizes rows) (IsJust setting.Heights (AreHeightsBeyond rows)) (IsInputFault rows) u
     (λ heights has. (has.own, has.finds_own)) (λ f just. subst (IsInputFault rows) (sym just.0) ((r, has_rows), (t, has_tiers), just.1)) down
   where
     down : (f : SettingFault) → IsInputFault rows f → IsJust setting.Heights (AreHeightsBeyond rows) f ⊎ ((heights : Option (List ℕ)) × MayFindHeights rows heights)
@@ -273,8 +274,8 @@ no_heights rows r t u has_rows has_tiers = lacks_more (MayFindHeights rows) (Fin
     down setting.Heights first = inl (refl, first.2)
 
 -- without heights of rows there is no input
-pub no_size : (rows : List Row) (u : Usage) → Lacks (FindsRowHeights rows) (IsInputFault rows) u → Lacks (HasInput rows) (IsInputFault rows) u
-no_size rows u = lacks_more (FindsRowHeights rows) (HasInput rows) (IsInputFault rows) (IsInputFault rows) u (λ s has. (s.heights, has.0)) (λ f first. first) (λ f first. inl first)
+pub no_size : (rows : List Row) (u : Usage) → Lacks (FindsSizes rows) (IsInputFault rows) u → Lacks (HasInput rows) (IsInputFault rows) u
+no_size rows u = lacks_more (FindsSizes rows) (HasInput rows) (IsInputFault rows) (IsInputFault rows) u (λ s has. (s.sizes, has.0)) (λ f first. first) (λ f first. inl first)
 
 -- ---- the settings of solve
 
@@ -356,7 +357,7 @@ no_heights_fault rows (Some heights) (text, has, is) (other, found, none) =
     let same : text ≡ other = cc in
     none heights (subst (IsHeightsText heights) same is)
 
-no_size_fault : (rows : List Row) (heights : List ℕ) → FindsRowHeights rows heights → (f : SettingFault) → IsInputFault rows f → ⊥
+no_size_fault : (rows : List Row) (sizes : YardSizes) → FindsSizes rows sizes → (f : SettingFault) → IsInputFault rows f → ⊥
 no_size_fault rows heights has setting.Workers none = none
 no_size_fault rows heights has setting.Budget none = none
 no_size_fault rows heights has setting.Split none = none
@@ -367,7 +368,7 @@ no_size_fault rows heights has setting.Tiers first = no_tiers_fault rows has.tie
 no_size_fault rows heights has setting.Heights first = no_heights_fault rows has.own has.finds_own first.2
 
 pub no_input_fault : (rows : List Row) (s : InputChosen) → HasInput rows s → (f : SettingFault) → IsInputFault rows f → ⊥
-no_input_fault rows s has = no_size_fault rows s.heights has.0
+no_input_fault rows s has = no_size_fault rows s.sizes has.0
 
 no_settings_fault : (rows : List Row) (s : RunChosen) → HasSettings rows s → (f : SettingFault) → IsSolveFault rows f → ⊥
 no_settings_fault rows s has f (inl first) = no_search_fault rows s.search has.0 f first

@@ -112,9 +112,9 @@ with_search shape = with_option strong_rule (with_option chains_rule (with_optio
 abbrev pub with_rows : Shape → Shape
 with_rows shape = with_option (number_rule (codes "tiers") (codes "5")) (with_option (number_rule (codes "rows") (codes "6")) shape)
 
--- a command with these, and [--heights HEIGHTS] in place of them
+-- a command with these, [--heights HEIGHTS] in place of them, and [--sizes FILE]
 abbrev pub with_size : Shape → Shape
-with_size shape = with_option (optional_rule (codes "heights")) (with_rows shape)
+with_size shape = with_option (optional_rule (codes "sizes")) (with_option (optional_rule (codes "heights")) (with_rows shape))
 
 -- a command with [--order listed|stowage] [--code TEXT]
 abbrev pub with_orders : Shape → Shape

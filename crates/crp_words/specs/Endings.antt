@@ -9,8 +9,8 @@ use Rattle.crp_jobs.specs.Advice.{IsPlainLine, failed_words}
 use Rattle.crp_jobs.specs.Found.{IsPlainText}
 use Rattle.crp_jobs.specs.Outcomes.{exit_code}
 use Rattle.crp_jobs.specs.Opened.{AreFilesLeftAlone, IsSourceLeftAlone, IsLeftAlone}
-use Rattle.crp_commands.specs.Performing.{JobSeen, ReportsOverFiles, FailsOverFiles}
-use Rattle.crp_commands.specs.Headlines.{KeepsHeadline, KeepsHeadlineSoFar}
+use Rattle.crp_commands.specs.Performing.{JobSeen}
+use Rattle.crp_commands.specs.Sized.{IsDone, IsFailed}
 use Rattle.crp_commands.specs.Noted.{GetsLines, IsNoted}
 use Rattle.crp_words.specs.declared.usage.Mistake.TheVariants as mistake
 use Rattle.crp_words.specs.declared.usage.Usage.{Usage}
@@ -74,8 +74,8 @@ pub record BehindNotes (j : Job) (Then : SinkSeen → Type 0) (s : SinkSeen) : T
 -- with a fault, which is explained there behind the notes, and then the headline holds of the texts whose fronts a run wrote
 abbrev pub JobEnds : Job → JobSeen → SinkSeen → ℕ → Type 0
 JobEnds j seen errors status =
-    ((ended : Status) × ReportsOverFiles j seen ended × KeepsHeadline j seen × IsNoted j errors × (status ≡ exit_code (Ok ended)))
-    ⊎ ((f : ToolFault) × FailsOverFiles j seen f × KeepsHeadlineSoFar j seen × BehindNotes j (IsExplainedOf j f) errors × (status ≡ exit_code (Err f)))
+    ((ended : Status) × IsDone j seen ended × IsNoted j errors × (status ≡ exit_code (Ok ended)))
+    ⊎ ((f : ToolFault) × IsFailed j seen f × BehindNotes j (IsExplainedOf j f) errors × (status ≡ exit_code (Err f)))
 
 -- ---- the program
 

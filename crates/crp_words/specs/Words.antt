@@ -2,6 +2,7 @@
 use Rattle.std.specs.Prelude.{◌≡◌, ℕ, ◌≢◌, ◌↔◌, Bool, IsTrue, ◌⊎◌, ◌==◌, ◌<◌, ◌≤◌, ◌^◌, List, [], ◌∷◌, length, take, drop, if◌then◌else◌, codes, Option, Some, None, option_map, option_and_then, find, replicate, ⊤}
 use Rattle.std.specs.Str.{bytes_eq}
 use Rattle.std.specs.Str.Parse.{IsNumeral, digits_value, without_leading_plus}
+use denote.Ref.{Bor}
 use Rattle.clap.specs.Words.{IsAmong, Kinds, Row, Text, fault_of, first_of, one_of, subcommand_of}
 use Rattle.clap.specs.declared.parser.matches.ValueSource.{ValueSource}
 use Rattle.clap.specs.declared.parser.matches.ValueSource.TheVariants.{CommandLine}
@@ -9,7 +10,8 @@ use Rattle.clap.specs.declared.error.kind.ErrorKind.{ErrorKind}
 use Rattle.clap.specs.declared.error.kind.ErrorKind.TheVariants as kind
 use Rattle.crp_solve.specs.Chosen.{Chosen}
 use Rattle.crp_words.specs.Commands.{crp}
-use Rattle.crp_words.specs.Heights.{IsHeightsText}
+use Rattle.crp_sizes.specs.Heights.{IsHeightsText}
+use Rattle.crp_sizes.specs.Sizes.{YardSizes, one_size}
 use Rattle.crp_jobs.specs.declared.job.FileCommand.{FileCommand}
 use Rattle.crp_jobs.specs.declared.job.FileCommand.TheVariants as command
 use Rattle.crp_jobs.specs.declared.job.Job.{Job}
@@ -187,40 +189,45 @@ abbrev pub heights_or : Option (List ℕ) → ℕ → ℕ → List ℕ
 heights_or (Some heights) rows tiers = heights
 heights_or None rows tiers = replicate rows tiers
 
--- the heights of the rows of a bay that were found: each for itself, where they are, or else as many rows as were found, with as many tiers each
-pub record FindsRowHeights (found : List Row) (heights : List ℕ) : Type 0 where
+-- the sizes of the bays that were found, which have no list yet: all bays have rows of these heights, each for itself, where they are, or else as many rows as
+-- were found, with as many tiers each
+pub record FindsSizes (found : List Row) (sizes : YardSizes) : Type 0 where
   pub rows : ℕ
   pub tiers : ℕ
   pub own : Option (List ℕ)
   pub finds_rows : FindsRows found rows
   pub finds_tiers : FindsTiers found tiers
   pub finds_own : MayFindHeights found own
-  pub are : heights ≡ heights_or own rows tiers
+  pub are : sizes ≡ one_size (heights_or own rows tiers)
 
 -- what the input means, as it was found, within its limits
 abbrev pub HasInput : List Row → InputChosen → Type 0
-HasInput found s = FindsRowHeights found s.heights × HasOrder found s.mode × HasText (codes "code") found s.code
+HasInput found s = FindsSizes found s.sizes × HasOrder found s.mode × HasText (codes "code") found s.code
 
 -- the settings of solve that were found, within their limits
 abbrev pub HasSettings : List Row → RunChosen → Type 0
 HasSettings found s = HasSearch found s.search × HasInput found s.input
 
--- the files of solve that were found: the two inputs, and the outputs that are wanted
+-- the list of sizes that was found, if one was
+abbrev pub MayNameSizes : List Row → Option (Bor Text) → Type 0
+MayNameSizes found name = first_of (codes "sizes") found ≡ option_map (λ text. text.now) name
+
+-- the files of solve that were found: the two inputs, the list of sizes, if there is one, and the outputs that are wanted
 abbrev pub HasFiles : List Row → RunFiles → Type 0
 HasFiles found names = HasText (codes "yard") found names.yard.now × HasText (codes "movins") found names.movins.now
     × (first_of (codes "cert") found ≡ option_map (λ text. text.now) names.cert)
-    × (first_of (codes "after") found ≡ option_map (λ text. text.now) names.after)
+    × (first_of (codes "after") found ≡ option_map (λ text. text.now) names.after) × MayNameSizes found names.sizes
 
--- the files of audit that were found
+-- the files of audit that were found, and the list of sizes, if there is one
 abbrev pub HasAuditFiles : List Row → AuditFiles → Type 0
 HasAuditFiles found names = HasText (codes "yard") found names.yard.now × HasText (codes "movins") found names.movins.now
-    × HasText (codes "report") found names.report.now × HasText (codes "certificates") found names.certificates.now
+    × HasText (codes "report") found names.report.now × HasText (codes "certificates") found names.certificates.now × MayNameSizes found names.sizes
 
--- the files of follow that were found: the yard list and the report, the message, if there is one, and the page, if it is wanted
+-- the files of follow that were found: the yard list and the report, the message and the list of sizes, if there are any, and the page, if it is wanted
 abbrev pub HasFollowFiles : List Row → FollowFiles → Type 0
 HasFollowFiles found names = HasText (codes "yard") found names.yard.now × HasText (codes "report") found names.report.now
     × (first_of (codes "movins") found ≡ option_map (λ text. text.now) names.movins)
-    × (first_of (codes "page") found ≡ option_map (λ text. text.now) names.page)
+    × (first_of (codes "page") found ≡ option_map (λ text. text.now) names.page) × MayNameSizes found names.sizes
 
 -- the name of a file without `./` in front
 abbrev pub plain_name : Text → Text

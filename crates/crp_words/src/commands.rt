@@ -257,7 +257,13 @@ fn with_size<'a>(alloc: Global, command: Command<'a>) -> Result<Command<'a>, All
         "HEIGHTS",
         "Tiers of each row, as 3.1.3, in place of --rows and --tiers",
     );
-    command.arg(rows)?.arg(tiers)?.arg(heights)
+    let sizes = optional(
+        alloc,
+        "sizes",
+        "FILE",
+        "Sizes of bays that have another (CSV: block,bay,heights)",
+    );
+    command.arg(rows)?.arg(tiers)?.arg(heights)?.arg(sizes)
 }
 
 // A command with the order of leaving, and what is to be loaded.

@@ -61,6 +61,7 @@ pub(crate) fn follow_of<'a>(alloc: Global, matches: &ArgMatches<'a>) -> Result<J
     let report = text_of(alloc, matches, "report")?;
     let files = FollowFiles {
         yard,
+        sizes: matches.get_str("sizes"),
         report,
         movins: matches.get_str("movins"),
         page: matches.get_str("page"),

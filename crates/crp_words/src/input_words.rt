@@ -1,12 +1,13 @@
 //! What a yard list and a message mean, by the words: the heights of the rows, the order of leaving, and the handling code.
-ghost use Rattle.std.specs.Prelude.{◌≡◌, ◌↔◌, ◌<◌, ◌*◌, ℕ, List, length, IfOk, IfErr, IfSome, IfNone, IsTrue, option_map};
+ghost use Rattle.std.specs.Prelude.{◌≡◌, ◌↔◌, IfOk, IfErr, IfSome, IsTrue, option_map};
 ghost use Rattle.clap.specs.Words.{found_of, rows_of};
 ghost use Rattle.crp_plan.specs.Faults.{HasTiers};
-ghost use Rattle.crp_report.specs.Chosen.{CanBeHeights, IsRowCount};
+ghost use Rattle.crp_sizes.specs.Heights.{CanBeHeights};
+ghost use Rattle.crp_sizes.specs.Sizes.{one_size};
+ghost use Rattle.crp_report.specs.Chosen.{IsRowCount};
 ghost use Rattle.crp_words.specs.declared.usage.SettingFault.TheVariants as setting;
 ghost use Rattle.crp_words.specs.declared.usage.Usage.TheVariants as usage;
-ghost use Rattle.crp_words.specs.Heights.{HasHeightAt, IsHeightsText};
-ghost use Rattle.crp_words.specs.Words.{AreHeightsBeyond, FindsRowHeights, FindsRows, FindsTiers, HasInput, HasOrder, IsInputFault, IsJust, IsSizedTwice, Lacks, MayFindHeights, NoFault, heights_or};
+ghost use Rattle.crp_words.specs.Words.{AreHeightsBeyond, FindsSizes, FindsRows, FindsTiers, HasInput, HasOrder, IsInputFault, IsJust, IsSizedTwice, Lacks, MayFindHeights, NoFault, heights_or};
 
 use crate::given::{is_given, number_within, text_of, wrong};
 use crate::usage::{Mistake, SettingFault, Usage};
@@ -15,6 +16,7 @@ use clap::ArgMatches;
 use crp_order::Mode;
 use crp_plan::MAX_ROWS;
 use crp_report::{InputSettings, RunFault};
+use crp_sizes::heights_in;
 use std::alloc::Global;
 
 // The most rows of a bay.
@@ -22,43 +24,6 @@ const MOST_ROWS: u64 = 12;
 
 // The most tiers of a bay.
 const MOST_TIERS: u64 = 8;
-
-// The most bytes of the heights of rows.
-const MOST_BYTES: usize = 2 * MAX_ROWS - 1;
-
-// The height that stands in the text behind so many others, behind a point if it is not the first.
-fn height_at(text: &[u8], before: usize) -> Option<u8>
-    requires { 2 * before < length text.now }
-    ensures some { IfSome result (HasHeightAt text.now before) }
-    ensures none { IfNone result ((height : ℕ) → HasHeightAt text.now before height → ⊥) }
-{
-    if before > 0 && text[2 * before - 1] != b'.' {
-        return None;
-    }
-    let digit = text[2 * before];
-    if digit < b'1' || digit > b'8' {
-        return None;
-    }
-    Some(digit - b'0')
-}
-
-// The heights that a text states: digits from 1 to 8 joined by points.
-fn heights_in(text: &[u8]) -> Option<ArrayVec<u8, MAX_ROWS>>
-    ensures some { IfSome result (λ heights. IsHeightsText heights.items text.now) }
-    ensures none { IfNone result ((heights : List ℕ) → IsHeightsText heights text.now → ⊥) }
-{
-    if text.len() % 2 == 0 || text.len() > MOST_BYTES {
-        return None;
-    }
-    let mut heights = ArrayVec::new();
-    for before in 0..text.len() / 2 + 1 {
-        let Some(height) = height_at(text, before) else {
-            return None;
-        };
-        heights.push(height);
-    }
-    Some(heights)
-}
 
 // The heights of the rows, if they are given.
 fn heights_of(matches: &ArgMatches<'_>) -> Result<Option<ArrayVec<u8, MAX_ROWS>>, Usage>
@@ -108,7 +73,7 @@ fn size_of(alloc: Global, matches: &ArgMatches<'_>) -> Result<Size, Usage>
     ensures rows { IfOk result (λ size. FindsRows (rows_of (found_of matches.now)) size.rows) }
     ensures tiers { IfOk result (λ size. FindsTiers (rows_of (found_of matches.now)) size.tiers) }
     ensures own { IfOk result (λ size. MayFindHeights (rows_of (found_of matches.now)) (option_map (λ list. list.items) size.heights)) }
-    ensures err { IfErr result (Lacks (FindsRowHeights (rows_of (found_of matches.now))) (IsInputFault (rows_of (found_of matches.now)))) }
+    ensures err { IfErr result (Lacks (FindsSizes (rows_of (found_of matches.now))) (IsInputFault (rows_of (found_of matches.now)))) }
 {
     let rows = number_within(alloc, matches, "rows", (1, MOST_ROWS), SettingFault::Rows)?;
     let tiers = number_within(
@@ -131,7 +96,7 @@ fn input_with(alloc: Global, size: &Size, order: Mode, code: &str) -> Result<Inp
     requires rows { IsRowCount size.now.rows }
     requires tiers { HasTiers size.now.tiers }
     requires own { IfSome size.now.heights (λ list. CanBeHeights list.items) }
-    ensures ok { IfOk result (λ settings. settings ≡ record { heights = heights_or (option_map (λ list. list.items) size.now.heights) size.now.rows size.now.tiers; mode = order; code = code.now }) }
+    ensures ok { IfOk result (λ settings. settings ≡ record { sizes = one_size (heights_or (option_map (λ list. list.items) size.now.heights) size.now.rows size.now.tiers); mode = order; code = code.now }) }
     ensures err { IfErr result (λ fault. fault ≡ usage.Memory) }
 {
     let settings = match InputSettings::new(alloc, size.rows, size.tiers, order, code.as_bytes()) {

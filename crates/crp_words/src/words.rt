@@ -92,6 +92,7 @@ fn solve_of<'a>(alloc: Global, matches: &ArgMatches<'a>) -> Result<Job<'a>, Usag
     let files = RunFiles {
         yard,
         movins,
+        sizes: matches.get_str("sizes"),
         cert: matches.get_str("cert"),
         after: matches.get_str("after"),
     };
@@ -114,6 +115,7 @@ fn audit_of<'a>(alloc: Global, matches: &ArgMatches<'a>) -> Result<Job<'a>, Usag
     let settings = input_of(alloc, matches)?;
     let files = AuditFiles {
         yard: text_of(alloc, matches, "yard")?,
+        sizes: matches.get_str("sizes"),
         movins: text_of(alloc, matches, "movins")?,
         report: text_of(alloc, matches, "report")?,
         certificates: text_of(alloc, matches, "certificates")?,

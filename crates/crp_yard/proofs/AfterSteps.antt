@@ -9,17 +9,16 @@ use Rattle.std.proofs.lemmas.List.{map-append, take_more, take-append-drop}
 use Rattle.indexmap.specs.IndexMap.{IndexMap, insert_entry}
 use Rattle.indexmap.proofs.CallerLemmas.{insert_entry-new}
 use Rattle.crp_plan.specs.BayNames.{YardBay, same_bay}
-use Rattle.crp_plan.specs.Rows.{tallest}
+use Rattle.crp_sizes.specs.Sizes.{YardSizes, heights_at}
 use Rattle.crp_yard.specs.declared.bay_plan.BayPlan.{BayPlan}
 use Rattle.crp_yard.specs.Inventory.{Inventory, StackedBay, FitBay, IsYard, times, containers_of}
 use Rattle.crp_yard.specs.Ranks.{named}
 use Rattle.crp_yard.specs.PlansByBay.{plans_in, AreByBay}
 use Rattle.crp_yard.specs.After.{IsPlanForBay, plan_for, stacks_at, LeavesNamed, IsBayAfter, AreBaysAfter, IsAfter}
-use Rattle.crp_yard.proofs.Lists.{all_of, each_of, each_push, each_at, found_in, not_before, not_yet, looked_up, looked}
+use Rattle.crp_sizes.proofs.Lists.{all_of, each_of, each_push, each_at, found_in, not_before, not_yet, looked_up, looked}
 use Rattle.crp_yard.proofs.ListingSteps.{times-append, no_value}
 use Rattle.crp_yard.proofs.BuildingSteps.{take_next}
-use Rattle.crp_yard.proofs.OnceSteps.{same_bay_is, same_bay_self}
-use Rattle.crp_yard.proofs.YardSteps.{same_bay_laws}
+use Rattle.crp_sizes.proofs.Bays.{same_bay_laws, same_bay_is, same_bay_self}
 use Rattle.crp_yard.proofs.LeftSteps.{IsLeft, left_fits}
 
 module _ (plans : List BayPlan) where
@@ -85,16 +84,16 @@ one_plan_more plans i m new key plan put named once within at before =
     some_mapped (Some x) = refl
 
 -- what the plans leave of the bays
-pub record AreKept (heights : List ℕ) (old new : List StackedBay) : Type 0 where
+pub record AreKept (sizes : YardSizes) (old new : List StackedBay) : Type 0 where
   pub names : map (λ (b : StackedBay). b.0) new ≡ map (λ (b : StackedBay). b.0) old
-  pub fits : AllByRecursion (λ (b : StackedBay). FitBay heights b.1) new
+  pub fits : AllByRecursion (λ (b : StackedBay). FitBay (heights_at sizes b.0) b.1) new
   pub fewer : (c : List ℕ) → times c (containers_of new) ≤ times c (containers_of old)
 
 one_kept : (yard : Inventory) (plans : List BayPlan) (old new : StackedBay) → AllByRecursion (IsPlanForBay yard) plans
-    → FitBay yard.heights old.1 → stacks_at yard.bays old.0 ≡ Some old.1 → IsBayAfter plans old new → IsLeft yard.heights old.1 new.1
+    → FitBay (heights_at yard.sizes old.0) old.1 → stacks_at yard.bays old.0 ≡ Some old.1 → IsBayAfter plans old new → IsLeft (heights_at yard.sizes old.0) old.1 new.1
 one_kept yard plans old new of fit at h = by (plan_for plans old.0) refl h.1
   where
-    by : (o : Option BayPlan) → plan_for plans old.0 ≡ o → MatchOption (plan_for plans old.0) (new.1 ≡ old.1) (λ p. LeavesNamed p new.1) → IsLeft yard.heights old.1 new.1
+    by : (o : Option BayPlan) → plan_for plans old.0 ≡ o → MatchOption (plan_for plans old.0) (new.1 ≡ old.1) (λ p. LeavesNamed p new.1) → IsLeft (heights_at yard.sizes old.0) old.1 new.1
     by None e k =
         let same : new.1 ≡ old.1 = rw e at k in
         rw same (record { fits = fit; fewer = λ c. omega arith })
@@ -104,11 +103,11 @@ one_kept yard plans old new of fit at h = by (plan_for plans old.0) refl h.1
         let bay : old.0 ≡ p.bay = same_bay_is old.0 p.bay own.1 in
         let both : Some old.1 ≡ Some (named p.names p.plan.problem.stacks) = sym at ∙ ap (stacks_at yard.bays) bay ∙ own.0.stands in
         let before : old.1 ≡ named p.names p.plan.problem.stacks = cc both in
-        rw (before, leaves.2) (left_fits p.plan p.names leaves.0 yard.heights leaves.1.is_problem own.0.heights leaves.1)
+        rw (before, leaves.2) (left_fits p.plan p.names leaves.0 (heights_at yard.sizes old.0) leaves.1.is_problem (own.0.heights ∙ ap (heights_at yard.sizes) (sym bay)) leaves.1)
 
 pub all_kept : (yard : Inventory) (plans : List BayPlan) (olds news : List StackedBay) → AllByRecursion (IsPlanForBay yard) plans
-    → AllByRecursion (λ (b : StackedBay). FitBay yard.heights b.1) olds → AllByRecursion (λ (b : StackedBay). stacks_at yard.bays b.0 ≡ Some b.1) olds
-    → AreBaysAfter plans olds news → AreKept yard.heights olds news
+    → AllByRecursion (λ (b : StackedBay). FitBay (heights_at yard.sizes b.0) b.1) olds → AllByRecursion (λ (b : StackedBay). stacks_at yard.bays b.0 ≡ Some b.1) olds
+    → AreBaysAfter plans olds news → AreKept yard.sizes olds news
 all_kept yard plans [] [] of fits at h = record { names = refl; fits = tt; fewer = λ c. omega arith }
 all_kept yard plans [] (new ∷ news) of fits at h = absurd h
 all_kept yard plans (old ∷ olds) [] of fits at h = absurd h
@@ -117,29 +116,25 @@ all_kept yard plans (old ∷ olds) (new ∷ news) of fits at h =
     let own = one_kept yard plans old new of fits.0 at.0 h.0 in
     record {
       names = rw (h.0.0, rest.names) refl;
-      fits = (own.fits, rest.fits);
+      fits = (subst (λ (name : YardBay). FitBay (heights_at yard.sizes name) new.1) (sym h.0.0) own.fits, rest.fits);
       fewer = λ c. omega (arith, times-append c (flat_map (λ (s : List (List ℕ)). s) new.1) (containers_of news), times-append c (flat_map (λ (s : List (List ℕ)). s) old.1) (containers_of olds), own.fewer c, rest.fewer c);
     }
 
 pub after_is_yard : (yard : Inventory) (plans : List BayPlan) (news : List StackedBay) → IsYard yard → All (IsPlanForBay yard) plans → AreBaysAfter plans yard.bays news
-    → IsYard (record { heights = yard.heights; tiers = tallest yard.heights; bays = news })
+    → IsYard (record { sizes = yard.sizes; bays = news })
 after_is_yard yard plans news sound of done =
     let at = each_at (λ (b : StackedBay). stacks_at yard.bays b.0 ≡ Some b.1) yard.bays (λ i b e. looked_up same_bay same_bay_laws yard.bays i b same_bay_self sound.bays_once e) in
-    let kept = all_kept yard plans yard.bays news (each_of (IsPlanForBay yard) plans of) (each_of (λ (b : StackedBay). FitBay yard.heights b.1) yard.bays sound.bays_fit) at done in
+    let kept = all_kept yard plans yard.bays news (each_of (IsPlanForBay yard) plans of) (each_of (λ (b : StackedBay). FitBay (heights_at yard.sizes b.0) b.1) yard.bays sound.bays_fit) at done in
     record {
-      some_rows = sound.some_rows;
-      few_rows = sound.few_rows;
-      heights_fit = sound.heights_fit;
-      tiers_are = refl;
-      bays_fit = all_of (λ (b : StackedBay). FitBay yard.heights b.1) news kept.fits;
+      sizes_fit = sound.sizes_fit;
+      bays_fit = all_of (λ (b : StackedBay). FitBay (heights_at yard.sizes b.0) b.1) news kept.fits;
       bays_once = rw kept.names sound.bays_once;
       containers_once = λ c. omega (arith, kept.fewer c, sound.containers_once c);
     }
 
-pub after_all : (yard after : Inventory) (plans : List BayPlan) (heights : List ℕ) (bays : List StackedBay) → heights ≡ yard.heights → IsYard yard → AreBaysAfter plans yard.bays bays
-    → after ≡ record { heights = heights; tiers = tallest heights; bays = bays } → IsAfter yard plans after
-after_all yard after plans heights bays same_heights is done e = record {
-  same_heights = ap (λ y. y.heights) e ∙ same_heights;
-  same_tiers = ap (λ y. y.tiers) e ∙ ap tallest same_heights ∙ sym is.tiers_are;
+pub after_all : (yard after : Inventory) (plans : List BayPlan) (sizes : YardSizes) (bays : List StackedBay) → sizes ≡ yard.sizes → AreBaysAfter plans yard.bays bays
+    → after ≡ record { sizes = sizes; bays = bays } → IsAfter yard plans after
+after_all yard after plans sizes bays same done e = record {
+  same_sizes = ap (λ y. y.sizes) e ∙ same;
   bays = subst (AreBaysAfter plans yard.bays) (sym (ap (λ y. y.bays) e)) done;
 }

@@ -7,6 +7,7 @@ use Rattle.std.proofs.lemmas.List.{map-append}
 use Rattle.indexmap.specs.IndexMap.{IndexMap, get, insert_entry}
 use Rattle.indexmap.proofs.CallerLemmas.{insert_entry-new}
 use Rattle.crp_plan.specs.BayNames.{YardBay, same_bay}
+use Rattle.crp_sizes.specs.Sizes.{YardSizes, heights_at}
 use Rattle.crp_yard.specs.Records.{Entry}
 use Rattle.crp_yard.specs.Inventory.{StackedBay, bays_of, with_bay, stacked, stacks_up_to}
 use Rattle.crp_yard.proofs.ListingSteps.{no_value}
@@ -23,31 +24,31 @@ fold_push f y (z ∷ xs) x = fold_push f (f y z) xs x
 bays-more : (entries : List Entry) (entry : Entry) → bays_of (entries ++ entry ∷ []) ≡ with_bay (bays_of entries) entry.0.bay
 bays-more entries entry = rw (map-append (λ e. e.0.bay) entries (entry ∷ [])) (fold_push with_bay [] (map (λ e. e.0.bay) entries) entry.0.bay)
 
-found : (heights : List ℕ) (entries : List Entry) (seen : List YardBay) (bay : YardBay) → is_some (lookup (same_bay bay) (map (stacked heights entries) seen)) ≡ list_any (same_bay bay) seen
-found heights entries [] bay = refl
-found heights entries (b ∷ seen) bay = by (same_bay bay b) (found heights entries seen bay)
+found : (sizes : YardSizes) (entries : List Entry) (seen : List YardBay) (bay : YardBay) → is_some (lookup (same_bay bay) (map (stacked sizes entries) seen)) ≡ list_any (same_bay bay) seen
+found sizes entries [] bay = refl
+found sizes entries (b ∷ seen) bay = by (same_bay bay b) (found sizes entries seen bay)
   where
-    by : (t : Bool) → is_some (lookup (same_bay bay) (map (stacked heights entries) seen)) ≡ list_any (same_bay bay) seen
-        → is_some (cond t (Some (stacked heights entries b).1) (lookup (same_bay bay) (map (stacked heights entries) seen))) ≡ (t || list_any (same_bay bay) seen)
+    by : (t : Bool) → is_some (lookup (same_bay bay) (map (stacked sizes entries) seen)) ≡ list_any (same_bay bay) seen
+        → is_some (cond t (Some (stacked sizes entries b).1) (lookup (same_bay bay) (map (stacked sizes entries) seen))) ≡ (t || list_any (same_bay bay) seen)
     by true h = refl
     by false h = h
 
-module _ (heights : List ℕ) (entries : List Entry) (i : ℕ) (entry : Entry) (at : slice_get entries i ≡ Some entry) where
+module _ (sizes : YardSizes) (entries : List Entry) (i : ℕ) (entry : Entry) (at : slice_get entries i ≡ Some entry) where
   -- the bays of one entry more
-  next : map (stacked heights entries) (bays_of (take (i + 1) entries)) ≡ map (stacked heights entries) (with_bay (bays_of (take i entries)) entry.0.bay)
-  next = ap (map (stacked heights entries)) (rw (add-one i, take_next entries i entry at) (bays-more (take i entries) entry))
+  next : map (stacked sizes entries) (bays_of (take (i + 1) entries)) ≡ map (stacked sizes entries) (with_bay (bays_of (take i entries)) entry.0.bay)
+  next = ap (map (stacked sizes entries)) (rw (add-one i, take_next entries i entry at) (bays-more (take i entries) entry))
 
-  pub bays-kept : (bays : List StackedBay) → bays ≡ map (stacked heights entries) (bays_of (take i entries)) → is_some (lookup (same_bay entry.0.bay) bays) ≡ true
-      → bays ≡ map (stacked heights entries) (bays_of (take (i + 1) entries))
+  pub bays-kept : (bays : List StackedBay) → bays ≡ map (stacked sizes entries) (bays_of (take i entries)) → is_some (lookup (same_bay entry.0.bay) bays) ≡ true
+      → bays ≡ map (stacked sizes entries) (bays_of (take (i + 1) entries))
   bays-kept bays e there =
-      let seen : list_any (same_bay entry.0.bay) (bays_of (take i entries)) ≡ true = sym (found heights entries (bays_of (take i entries)) entry.0.bay) ∙ (rw e at there) in
+      let seen : list_any (same_bay entry.0.bay) (bays_of (take i entries)) ≡ true = sym (found sizes entries (bays_of (take i entries)) entry.0.bay) ∙ (rw e at there) in
       rw (next, seen) e
 
-  pub bays-added : {S : Type 0} (m : IndexMap YardBay (List (List (List ℕ))) S) (new : List StackedBay) → m.entries ≡ map (stacked heights entries) (bays_of (take i entries))
-      → is_some (lookup (same_bay entry.0.bay) m.entries) ≡ false → new ≡ insert_entry same_bay m.entries entry.0.bay (stacks_up_to entries entry.0.bay heights (length heights))
-      → new ≡ map (stacked heights entries) (bays_of (take (i + 1) entries))
+  pub bays-added : {S : Type 0} (m : IndexMap YardBay (List (List (List ℕ))) S) (new : List StackedBay) → m.entries ≡ map (stacked sizes entries) (bays_of (take i entries))
+      → is_some (lookup (same_bay entry.0.bay) m.entries) ≡ false → new ≡ insert_entry same_bay m.entries entry.0.bay (stacks_up_to entries entry.0.bay (heights_at sizes entry.0.bay) (length (heights_at sizes entry.0.bay)))
+      → new ≡ map (stacked sizes entries) (bays_of (take (i + 1) entries))
   bays-added m new e absent added =
-      let seen : list_any (same_bay entry.0.bay) (bays_of (take i entries)) ≡ false = sym (found heights entries (bays_of (take i entries)) entry.0.bay) ∙ (rw e at absent) in
+      let seen : list_any (same_bay entry.0.bay) (bays_of (take i entries)) ≡ false = sym (found sizes entries (bays_of (take i entries)) entry.0.bay) ∙ (rw e at absent) in
       let none : get same_bay m entry.0.bay ≡ None = no_value (lookup (same_bay entry.0.bay) m.entries) absent in
-      added ∙ insert_entry-new same_bay m entry.0.bay (stacks_up_to entries entry.0.bay heights (length heights)) none
-      ∙ rw (next, seen, map-append (stacked heights entries) (bays_of (take i entries)) (entry.0.bay ∷ []), e) refl
+      added ∙ insert_entry-new same_bay m entry.0.bay (stacks_up_to entries entry.0.bay (heights_at sizes entry.0.bay) (length (heights_at sizes entry.0.bay))) none
+      ∙ rw (next, seen, map-append (stacked sizes entries) (bays_of (take i entries)) (entry.0.bay ∷ []), e) refl

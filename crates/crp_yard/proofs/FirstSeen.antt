@@ -9,7 +9,7 @@ use Rattle.crp_plan.specs.BayNames.{YardBay, same_bay}
 use Rattle.crp_yard.specs.Records.{Entry}
 use Rattle.crp_yard.specs.Inventory.{with_bay, bays_of}
 use Rattle.crp_yard.specs.ByPlaces.{NamesFirst}
-use Rattle.crp_yard.proofs.OnceSteps.{same_bay_is, same_bay_self}
+use Rattle.crp_sizes.proofs.Bays.{same_bay_is, same_bay_self}
 use Rattle.crp_yard.proofs.Seams.{at_seam, in_front, of_mapped, in_mapped, of_taken, in_taken, fold_joined, any_at, any_from}
 
 with_stays : (seen : List YardBay) (z : YardBay) (k : ℕ) (bay : YardBay) → slice_get seen k ≡ Some bay → slice_get (with_bay seen z) k ≡ Some bay

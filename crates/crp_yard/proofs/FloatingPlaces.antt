@@ -4,13 +4,14 @@ use Rattle.std.proofs.Common.{◌≡◌, ℕ, suc, ◌<◌, ◌≤◌, ◌+◌, 
 use Rattle.std.specs.Prelude.{if◌then◌else◌, ◌&&◌, nat_le}
 use Rattle.std.proofs.lemmas.Bool.{cases_lt, true≢false, false≢true, leb-true, le-leb}
 use Rattle.std.proofs.lemmas.Option.{cond_some, slice_get_within}
+use Rattle.crp_sizes.specs.Sizes.{YardSizes}
 use Rattle.crp_yard.specs.declared.fault.YardFault.{YardFault}
 use Rattle.crp_yard.specs.declared.fault.YardFault.TheVariants.{Floating}
 use Rattle.crp_yard.specs.Places.{YardPlace, same_place}
 use Rattle.crp_yard.specs.Records.{Entry, entries_of}
 use Rattle.crp_yard.specs.Faults.{fault_at, first_fault, first_fault_up_to, floating_before, floats, is_floating, is_taken, one_tier_lower}
 use Rattle.crp_yard.specs.ByPlaces.{IsBorne, FloatsFirst, NoneFloats}
-use Rattle.crp_yard.proofs.Lists.{looked}
+use Rattle.crp_sizes.proofs.Lists.{looked}
 use Rattle.crp_yard.proofs.Seams.{in_mapped, any_from}
 use Rattle.crp_yard.proofs.Least.{neither, either, faultless-up_to}
 use Rattle.crp_yard.proofs.Standing.{said, same_place_self, none_floats, not_false}
@@ -88,27 +89,27 @@ none-before entries (suc n) borne =
 borne-by_none : (entries : List Entry) (n k : ℕ) (entry : Entry) → floating_before entries n ≡ None → k < n → slice_get entries k ≡ Some entry → IsBorne entries entry.0
 borne-by_none entries n k entry none below at = let held = none_floats entries n none k below in borne-means entries entry.0 (rw at at held)
 
-none-up_to : (heights : List ℕ) (records : List (List (List ℕ))) (n : ℕ) → ((k : ℕ) → 1 ≤ k → k ≤ n → fault_at heights records k ≡ None) → first_fault_up_to heights records n ≡ None
-none-up_to heights records zero h = refl
-none-up_to heights records (suc n) h =
-    let before = none-up_to heights records n (λ k counts within. h k counts (omega arith)) in
+none-up_to : (sizes : YardSizes) (records : List (List (List ℕ))) (n : ℕ) → ((k : ℕ) → 1 ≤ k → k ≤ n → fault_at sizes records k ≡ None) → first_fault_up_to sizes records n ≡ None
+none-up_to sizes records zero h = refl
+none-up_to sizes records (suc n) h =
+    let before = none-up_to sizes records n (λ k counts within. h k counts (omega arith)) in
     let here = h (suc n) (omega arith) (omega arith) in
     rw (before, here) refl
 
-module _ (heights : List ℕ) (records : List (List (List ℕ))) where
+module _ (sizes : YardSizes) (records : List (List (List ℕ))) where
   abbrev all : List Entry
   all = entries_of records
 
-  pub first-means : (n : ℕ) → first_fault heights records ≡ Some (Floating n) → FloatsFirst heights records n
+  pub first-means : (n : ℕ) → first_fault sizes records ≡ Some (Floating n) → FloatsFirst sizes records n
   unfolding first_fault
-  first-means n e = elim (either (first_fault_up_to heights records (max 1 (length records))) (floating_before all (length all)) (Floating n) e) [
-    | inl own ↦ absurd (none_floating heights records (max 1 (length records)) n own)
+  first-means n e = elim (either (first_fault_up_to sizes records (max 1 (length records))) (floating_before all (length all)) (Floating n) e) [
+    | inl own ↦ absurd (none_floating sizes records (max 1 (length records)) n own)
     | inr floating ↦
         let found = found_floating all (length all) (Floating n) floating.1 in
         let number : found.0 + 2 ≡ n = cc (found.5) in
         let place : n - 2 ≡ found.0 = omega arith in
         record {
-          faultless = faultless-up_to heights records (max 1 (length records)) floating.0;
+          faultless = faultless-up_to sizes records (max 1 (length records)) floating.0;
           behind_header = omega arith;
           entry = found.1;
           there = ap (slice_get all) place ∙ found.2;
@@ -117,27 +118,27 @@ module _ (heights : List ℕ) (records : List (List (List ℕ))) where
         }
   ]
 
-  pub first-given : (n : ℕ) → FloatsFirst heights records n → first_fault heights records ≡ Some (Floating n)
+  pub first-given : (n : ℕ) → FloatsFirst sizes records n → first_fault sizes records ≡ Some (Floating n)
   first-given n h =
-      let none = none-up_to heights records (max 1 (length records)) h.faultless in
+      let none = none-up_to sizes records (max 1 (length records)) h.faultless in
       let floats : is_floating all h.entry.0 ≡ true = by (is_floating all h.entry.0) refl in
       let place : n - 2 + 2 ≡ n = let behind = h.behind_header in omega arith in
       let found = floating-faulty all (n - 2) h.entry (none-before all (n - 2) h.borne_before) (slice_get_within all (n - 2) h.entry h.there) h.there floats in
-      floating-whole heights records (Some (Floating n)) none (sym (found ∙ ap (λ i. Some (Floating i)) place))
+      floating-whole sizes records (Some (Floating n)) none (sym (found ∙ ap (λ i. Some (Floating i)) place))
     where
       by : (b : Bool) → is_floating all h.entry.0 ≡ b → b ≡ true
       by true e = refl
       by false e = absurd (h.floats (borne-means all h.entry.0 e))
 
-  pub none-means : first_fault heights records ≡ None → NoneFloats heights records
+  pub none-means : first_fault sizes records ≡ None → NoneFloats sizes records
   unfolding first_fault
   none-means e =
-      let parts = neither (first_fault_up_to heights records (max 1 (length records))) (floating_before all (length all)) e in
+      let parts = neither (first_fault_up_to sizes records (max 1 (length records))) (floating_before all (length all)) e in
       record {
-        faultless = faultless-up_to heights records (max 1 (length records)) parts.0;
+        faultless = faultless-up_to sizes records (max 1 (length records)) parts.0;
         borne = λ k entry at. borne-by_none all (length all) k entry parts.1 (slice_get_within all k entry at) at;
       }
 
-  pub none-given : NoneFloats heights records → first_fault heights records ≡ None
+  pub none-given : NoneFloats sizes records → first_fault sizes records ≡ None
   none-given h =
-      floating-whole heights records None (none-up_to heights records (max 1 (length records)) h.faultless) (sym (none-before all (length all) (λ k entry below at. h.borne k entry at)))
+      floating-whole sizes records None (none-up_to sizes records (max 1 (length records)) h.faultless) (sym (none-before all (length all) (λ k entry below at. h.borne k entry at)))

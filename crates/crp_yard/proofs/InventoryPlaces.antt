@@ -6,13 +6,14 @@ use Rattle.std.specs.Map.{lookup}
 use Rattle.std.specs.Str.{bytes_eq}
 use Rattle.std.proofs.lemmas.Bool.{cases_eq, leb-true}
 use Rattle.crp_plan.specs.BayNames.{YardBay}
+use Rattle.crp_sizes.specs.Sizes.{YardSizes, heights_at}
 use Rattle.crp_yard.specs.Places.{YardPlace, same_place}
 use Rattle.crp_yard.specs.Records.{Entry, entry_of, entries_of, height_of}
 use Rattle.crp_yard.specs.Inventory.{Inventory, StackedBay, stands as stands_in, container_at, bays_of, stack_up_to, stacks_up_to, stacked, inventory_of}
 use Rattle.crp_yard.specs.Faults.{first_fault, floating_before, is_named}
 use Rattle.crp_yard.specs.Listings.{AreEntriesOf}
 use Rattle.crp_yard.specs.ByPlaces.{StandsAt, HasEntries}
-use Rattle.crp_yard.proofs.BaySteps.{both}
+use Rattle.crp_sizes.proofs.BaySteps.{both}
 use Rattle.crp_yard.proofs.Seams.{at_seam, in_front, at_end, of_mapped, in_mapped, any_at, any_from, any_in_flat, any_of_flat, same_test}
 use Rattle.crp_yard.proofs.RecordSteps.{floating-whole}
 use Rattle.crp_yard.proofs.FirstSeen.{all_seen, named_first, in_order}
@@ -58,11 +59,12 @@ module _ (entries : List Entry) (bay : YardBay) (heights : List ℕ) where
         | inr other ↦ in_front (stacks_up_to entries bay heights n) (last ∷ []) k _ (row_there n k (omega arith))
       ]
 
-module _ (heights : List ℕ) (entries : List Entry) (sound : AreSound heights entries) where
-  stands : (i : ℕ) (entry : Entry) → slice_get entries i ≡ Some entry → StandsAt (inventory_of heights entries) entry.0 entry.1
+module _ (sizes : YardSizes) (entries : List Entry) (sound : AreSound sizes entries) where
+  stands : (i : ℕ) (entry : Entry) → slice_get entries i ≡ Some entry → StandsAt (inventory_of sizes entries) entry.0 entry.1
   stands i entry at =
       let bay = entry.0.bay in
       let row = entry.0.row in
+      let heights = heights_at sizes bay in
       let seen = all_seen [] (map (λ (e : Entry). e.0.bay) entries) i bay (in_mapped (λ (e : Entry). e.0.bay) entries i entry at) in
       let within = both (nat_le 1 row && nat_le row (length heights)) (nat_le 1 entry.0.tier && nat_le entry.0.tier (height_of heights row)) (sound.within i entry at) in
       let rows = both (nat_le 1 row) (nat_le row (length heights)) within.0 in
@@ -73,52 +75,53 @@ module _ (heights : List ℕ) (entries : List Entry) (sound : AreSound heights e
       record {
         number = seen.0;
         rows = stacks_up_to entries bay heights (length heights);
-        bay_there = in_mapped (stacked heights entries) (bays_of entries) seen.0 bay seen.1;
+        bay_there = in_mapped (stacked sizes entries) (bays_of entries) seen.0 bay seen.1;
         row_counts = counts;
         tiers = stack_up_to entries bay row (height_of heights row);
         row_there = subst (λ (r : ℕ). slice_get (stacks_up_to entries bay heights (length heights)) (row - 1) ≡ Some (stack_up_to entries bay r (height_of heights r))) number
             (row_there entries bay heights (length heights) (row - 1) (omega arith));
         tier_counts = leb-true 1 entry.0.tier tiers.0;
-        container_there = stands_there heights entries sound i entry at;
+        container_there = stands_there sizes entries sound i entry at;
       }
 
-  stated : (place : YardPlace) (container : List ℕ) → StandsAt (inventory_of heights entries) place container → (i : ℕ) × (slice_get entries i ≡ Some (place, container))
+  stated : (place : YardPlace) (container : List ℕ) → StandsAt (inventory_of sizes entries) place container → (i : ℕ) × (slice_get entries i ≡ Some (place, container))
   stated place container h =
-      let found = of_mapped (stacked heights entries) (bays_of entries) h.number (place.bay, h.rows) h.bay_there in
+      let found = of_mapped (stacked sizes entries) (bays_of entries) h.number (place.bay, h.rows) h.bay_there in
       let bay : found.0 ≡ place.bay = ap (λ (b : StackedBay). b.0) found.2 in
-      let own : stacks_up_to entries found.0 heights (length heights) ≡ h.rows = ap (λ (b : StackedBay). b.1) found.2 in
-      let rows : stacks_up_to entries place.bay heights (length heights) ≡ h.rows = ap (λ (b : YardBay). stacks_up_to entries b heights (length heights)) (sym bay) ∙ own in
+      let heights = heights_at sizes place.bay in
+      let own : stacks_up_to entries found.0 (heights_at sizes found.0) (length (heights_at sizes found.0)) ≡ h.rows = ap (λ (b : StackedBay). b.1) found.2 in
+      let rows : stacks_up_to entries place.bay heights (length heights) ≡ h.rows = ap (λ (b : YardBay). stacks_up_to entries b (heights_at sizes b) (length (heights_at sizes b))) (sym bay) ∙ own in
       let in_row : slice_get (stacks_up_to entries place.bay heights (length heights)) (place.row - 1) ≡ Some h.tiers = ap (λ (l : List (List (List ℕ))). slice_get l (place.row - 1)) rows ∙ h.row_there in
       let row : suc (place.row - 1) ≡ place.row = let counts = h.row_counts in omega arith in
       let tier : suc (place.tier - 1) ≡ place.tier = let counts = h.tier_counts in omega arith in
       let tiers = row_of entries place.bay heights (length heights) (place.row - 1) h.tiers in_row in
       let there = ap (λ (l : List (List ℕ)). slice_get l (place.tier - 1)) tiers ∙ h.container_there in
-      let read = tier_of heights entries sound place.bay (suc (place.row - 1)) (height_of heights (suc (place.row - 1))) (place.tier - 1) container there in
+      let read = tier_of sizes entries sound place.bay (suc (place.row - 1)) (height_of heights (suc (place.row - 1))) (place.tier - 1) container there in
       let whole : ◌≡◌ {A = YardPlace} (record { bay = place.bay; row = suc (place.row - 1); tier = suc (place.tier - 1) }) place = λ i. record { bay = place.bay; row = row i; tier = tier i } in
       said_there place entries container (ap (container_at entries) (sym whole) ∙ read)
 
-  pub has_entries : HasEntries entries (inventory_of heights entries)
+  pub has_entries : HasEntries entries (inventory_of sizes entries)
   has_entries = record {
     stands = stands;
     stated = stated;
     named = λ number bay e.
-        let found = of_mapped (stacked heights entries) (bays_of entries) number bay e in
+        let found = of_mapped (stacked sizes entries) (bays_of entries) number bay e in
         let same : found.0 ≡ bay.0 = ap (λ (b : StackedBay). b.0) found.2 in
         named_first entries number bay.0 (found.1 ∙ ap Some same);
     first_seen = λ a b i j first second below at_a at_b.
-        let one = of_mapped (stacked heights entries) (bays_of entries) a first at_a in
-        let other = of_mapped (stacked heights entries) (bays_of entries) b second at_b in
+        let one = of_mapped (stacked sizes entries) (bays_of entries) a first at_a in
+        let other = of_mapped (stacked sizes entries) (bays_of entries) b second at_b in
         let this : one.0 ≡ first.0 = ap (λ (s : StackedBay). s.0) one.2 in
         let that : other.0 ≡ second.0 = ap (λ (s : StackedBay). s.0) other.2 in
         in_order entries a b i j first.0 second.0 below (one.1 ∙ ap Some this) (other.1 ∙ ap Some that);
   }
 
-no_entries : (heights : List ℕ) → AreSound heights []
-no_entries heights = record { within = λ i e at. absurd (cc); free = λ i e at. absurd (cc); borne = λ i e at. absurd (cc) }
+no_entries : (sizes : YardSizes) → AreSound sizes []
+no_entries sizes = record { within = λ i e at. absurd (cc); free = λ i e at. absurd (cc); borne = λ i e at. absurd (cc) }
 
-pub all_places : (heights : List ℕ) (records : List (List (List ℕ))) → first_fault heights records ≡ None → HasEntries (entries_of records) (inventory_of heights (entries_of records))
-all_places heights [] e = has_entries heights [] (no_entries heights)
-all_places heights (first ∷ records) e = has_entries heights (map entry_of records) (sound_entries heights first records e)
+pub all_places : (sizes : YardSizes) (records : List (List (List ℕ))) → first_fault sizes records ≡ None → HasEntries (entries_of records) (inventory_of sizes (entries_of records))
+all_places sizes [] e = has_entries sizes [] (no_entries sizes)
+all_places sizes (first ∷ records) e = has_entries sizes (map entry_of records) (sound_entries sizes first records e)
 
 -- a container is named by an entry where it stands in the yard
 pub names_stand : (entries : List Entry) (yard : Inventory) → HasEntries entries yard → (c : List ℕ) → is_named entries c ≡ stands_in yard.bays c
@@ -153,9 +156,9 @@ names_stand entries yard has c = same_test (is_named entries c) (stands_in yard.
         any_from (λ (e : Entry). bytes_eq c e.1) entries found.0 (place, tier.1) found.1 tier.3
 
 -- the entries of a text whose records have no fault but by floating, where none floats
-pub names_of_entries : (heights : List ℕ) (records : List (List (List ℕ))) (entries : List Entry) → AreEntriesOf heights records entries → floating_before entries (length entries) ≡ None
-    → (c : List ℕ) → is_named entries c ≡ stands_in (inventory_of heights entries).bays c
-names_of_entries heights records entries are none c =
+pub names_of_entries : (sizes : YardSizes) (records : List (List (List ℕ))) (entries : List Entry) → AreEntriesOf sizes records entries → floating_before entries (length entries) ≡ None
+    → (c : List ℕ) → is_named entries c ≡ stands_in (inventory_of sizes entries).bays c
+names_of_entries sizes records entries are none c =
     let floating : None ≡ floating_before (entries_of records) (length (entries_of records)) = sym none ∙ ap (λ (es : List Entry). floating_before es (length es)) are.said in
-    let has = all_places heights records (floating-whole heights records None are.faultless floating) in
-    names_stand entries (inventory_of heights entries) (subst (λ (es : List Entry). HasEntries es (inventory_of heights es)) (sym are.said) has) c
+    let has = all_places sizes records (floating-whole sizes records None are.faultless floating) in
+    names_stand entries (inventory_of sizes entries) (subst (λ (es : List Entry). HasEntries es (inventory_of sizes es)) (sym are.said) has) c

@@ -4,6 +4,7 @@ use Rattle.std.proofs.Common.{◌≡◌, ℕ, suc, ◌<◌, ◌≤◌, List, Opt
 use Rattle.std.specs.Prelude.{◌⊎◌}
 use Rattle.std.proofs.lemmas.Bool.{cases_eq}
 use Rattle.std.specs.Option.{option_or}
+use Rattle.crp_sizes.specs.Sizes.{YardSizes}
 use Rattle.crp_yard.specs.declared.fault.YardFault.{YardFault}
 use Rattle.crp_yard.specs.Faults.{fault_at, first_fault_up_to}
 
@@ -15,20 +16,20 @@ pub either : (first second : Option YardFault) (fault : YardFault) → option_or
 either None second fault h = inr (refl, h)
 either (Some faulty) second fault h = inl h
 
-pub faultless-up_to : (heights : List ℕ) (records : List (List (List ℕ))) (n : ℕ) → first_fault_up_to heights records n ≡ None → (k : ℕ) → 1 ≤ k → k ≤ n → fault_at heights records k ≡ None
-faultless-up_to heights records zero h k counts within = absurd (omega arith)
-faultless-up_to heights records (suc n) h k counts within =
-    let parts = neither (first_fault_up_to heights records n) (fault_at heights records (suc n)) h in
+pub faultless-up_to : (sizes : YardSizes) (records : List (List (List ℕ))) (n : ℕ) → first_fault_up_to sizes records n ≡ None → (k : ℕ) → 1 ≤ k → k ≤ n → fault_at sizes records k ≡ None
+faultless-up_to sizes records zero h k counts within = absurd (omega arith)
+faultless-up_to sizes records (suc n) h k counts within =
+    let parts = neither (first_fault_up_to sizes records n) (fault_at sizes records (suc n)) h in
     elim (cases_eq k (suc n)) [
-      | inl e ↦ subst (λ (x : ℕ). fault_at heights records x ≡ None) (sym e) parts.1
-      | inr ne ↦ faultless-up_to heights records n parts.0 k counts (omega arith)
+      | inl e ↦ subst (λ (x : ℕ). fault_at sizes records x ≡ None) (sym e) parts.1
+      | inr ne ↦ faultless-up_to sizes records n parts.0 k counts (omega arith)
     ]
 
-pub first-least : (heights : List ℕ) (records : List (List (List ℕ))) (n : ℕ) (fault : YardFault) → first_fault_up_to heights records n ≡ Some fault
-    → (i : ℕ) × (1 ≤ i) × (i ≤ n) × (fault_at heights records i ≡ Some fault) × ((k : ℕ) → 1 ≤ k → k < i → fault_at heights records k ≡ None)
-first-least heights records zero fault h = absurd (cc)
-first-least heights records (suc n) fault h =
-    elim (either (first_fault_up_to heights records n) (fault_at heights records (suc n)) fault h) [
-      | inl before ↦ let found = first-least heights records n fault before in (found.0, found.1, omega (arith, found.2), found.3, found.4)
-      | inr here ↦ (suc n, omega arith, omega arith, here.1, λ k counts below. faultless-up_to heights records n here.0 k counts (omega arith))
+pub first-least : (sizes : YardSizes) (records : List (List (List ℕ))) (n : ℕ) (fault : YardFault) → first_fault_up_to sizes records n ≡ Some fault
+    → (i : ℕ) × (1 ≤ i) × (i ≤ n) × (fault_at sizes records i ≡ Some fault) × ((k : ℕ) → 1 ≤ k → k < i → fault_at sizes records k ≡ None)
+first-least sizes records zero fault h = absurd (cc)
+first-least sizes records (suc n) fault h =
+    elim (either (first_fault_up_to sizes records n) (fault_at sizes records (suc n)) fault h) [
+      | inl before ↦ let found = first-least sizes records n fault before in (found.0, found.1, omega (arith, found.2), found.3, found.4)
+      | inr here ↦ (suc n, omega arith, omega arith, here.1, λ k counts below. faultless-up_to sizes records n here.0 k counts (omega arith))
     ]

@@ -1,10 +1,6 @@
 -- Lemmas on yard lists.
-pub mod Lists
 pub mod Seams
-pub mod FieldSteps
-pub mod BaySteps
 pub mod ListingSteps
-pub mod CsvSteps
 pub mod RecordSteps
 pub mod FloatingSteps
 pub mod BuildingSteps

@@ -9,6 +9,8 @@ use Rattle.std.proofs.lemmas.List.{get_or_default}
 use Rattle.std.proofs.lemmas.List.Concat.{flat_map-append}
 use Rattle.std.proofs.lemmas.List.Elements.{All-from_recursion, recursion_from_All, All-map}
 use Rattle.crp_plan.specs.BayNames.{YardBay, IsYardBay, same_bay}
+use Rattle.crp_sizes.specs.Sizes.{YardSizes, heights_at}
+use Rattle.crp_sizes.specs.Fields.{has_number}
 use Rattle.crp_yard.specs.Places.{YardPlace, same_place}
 use Rattle.crp_yard.specs.Records.{Entry, is_block, is_container, is_number, number_of, is_well_formed, has_numbers, field_of, entry_of, entries_of, records_of, height_of}
 use Rattle.crp_yard.specs.Faults.{fault_of, fault_behind, fault_at, first_fault, first_fault_up_to, max_bytes}
@@ -16,7 +18,7 @@ use Rattle.crp_yard.specs.Inventory.{Inventory, bays_of, with_bay, stacked, stac
 use Rattle.crp_yard.specs.Naming.{FitsLine, IsNamedBay}
 use Rattle.crp_yard.specs.Reading.{IsYardListOf}
 use Rattle.crp_yard.specs.declared.fault.YardFault.TheVariants.{TooLarge}
-use Rattle.crp_yard.proofs.BaySteps.{named}
+use Rattle.crp_sizes.proofs.BaySteps.{named}
 use Rattle.crp_yard.proofs.Least.{neither, faultless-up_to}
 use Rattle.crp_yard.proofs.RecordSteps.{not_one}
 
@@ -65,9 +67,9 @@ pub record HasGoodNames (entry : Entry) : Type 0 where
   pub bay : IsYardBay entry.0.bay
   pub container : FitsLine entry.1
 
-good_entry : (heights : List ℕ) (entries : List Entry) (n : ℕ) (fields : List (List ℕ)) → fault_of heights entries n fields ≡ None → HasGoodNames (entry_of fields)
+good_entry : (sizes : YardSizes) (entries : List Entry) (n : ℕ) (fields : List (List ℕ)) → fault_of sizes entries n fields ≡ None → HasGoodNames (entry_of fields)
 unfolding fault_of entry_of
-good_entry heights entries n fields e =
+good_entry sizes entries n fields e =
     let formed = passed (is_well_formed fields) _ _ e in
     let numbers = passed (has_numbers fields) _ _ formed.1 in
     let three = and_parts (is_number (field_of fields 1) && (is_number (field_of fields 2) && is_number (field_of fields 3))) (nat_le 1 (number_of (field_of fields 1))) numbers.0 in
@@ -75,32 +77,33 @@ good_entry heights entries n fields e =
     let both = and_parts (length fields == 5) (is_block (field_of fields 0) && is_container (field_of fields 4)) formed.0 in
     let last = and_parts (is_block (field_of fields 0)) (is_container (field_of fields 4)) both.1 in
     let name = and_parts (nat_le 1 (length (field_of fields 4)) && nat_le (length (field_of fields 4)) 35) (list_all (λ b. nat_le 32 b) (field_of fields 4)) last.1 in
+    let number : has_number fields ≡ true = rw (first.0, three.1) refl in
     record {
-      bay = named fields (number_of (field_of fields 1)) formed.0 numbers.0 refl (number_small (field_of fields 1) first.0);
+      bay = named fields (number_of (field_of fields 1)) last.0 number refl (number_small (field_of fields 1) first.0);
       container = All-from_recursion (λ b. 32 ≤ b) (field_of fields 4) (high_bytes (field_of fields 4) name.1);
     }
 
 -- ---- so do all records of a list without a fault
 
-good_behind : (heights : List ℕ) (entries : List Entry) (n : ℕ) (fields : List (List ℕ)) → fault_behind heights entries (suc (suc n)) fields ≡ None → HasGoodNames (entry_of fields)
+good_behind : (sizes : YardSizes) (entries : List Entry) (n : ℕ) (fields : List (List ℕ)) → fault_behind sizes entries (suc (suc n)) fields ≡ None → HasGoodNames (entry_of fields)
 unfolding fault_behind
-good_behind heights entries n fields e = let other : (suc (suc n) == 1) ≡ false = not_one n in good_entry heights entries (suc (suc n)) fields (rw other at e)
+good_behind sizes entries n fields e = let other : (suc (suc n) == 1) ≡ false = not_one n in good_entry sizes entries (suc (suc n)) fields (rw other at e)
 
-good_record : (heights : List ℕ) (first : List (List ℕ)) (records : List (List (List ℕ))) → first_fault heights (first ∷ records) ≡ None → (i : ℕ) → i < length records → HasGoodNames (entry_of (get_or records i []))
+good_record : (sizes : YardSizes) (first : List (List ℕ)) (records : List (List (List ℕ))) → first_fault sizes (first ∷ records) ≡ None → (i : ℕ) → i < length records → HasGoodNames (entry_of (get_or records i []))
 unfolding first_fault fault_at
-good_record heights first records e i below =
-    let parts = neither (first_fault_up_to heights (first ∷ records) (max 1 (length (first ∷ records)))) _ e in
+good_record sizes first records e i below =
+    let parts = neither (first_fault_up_to sizes (first ∷ records) (max 1 (length (first ∷ records)))) _ e in
     let top : max 1 (length (first ∷ records)) ≡ suc (length records) = omega arith in
-    let none = faultless-up_to heights (first ∷ records) (suc (length records)) (rw top at parts.0) (suc (suc i)) (omega arith) (omega arith) in
+    let none = faultless-up_to sizes (first ∷ records) (suc (length records)) (rw top at parts.0) (suc (suc i)) (omega arith) (omega arith) in
     let number : suc (suc i) - 1 ≡ suc i = omega arith in
-    good_behind heights (map entry_of (take i records)) i (get_or records i []) (rw number at none)
+    good_behind sizes (map entry_of (take i records)) i (get_or records i []) (rw number at none)
 
-good_entries : (heights : List ℕ) (records : List (List (List ℕ))) → first_fault heights records ≡ None → AllByRecursion HasGoodNames (entries_of records)
-good_entries heights [] e = tt
-good_entries heights (first ∷ records) e =
+good_entries : (sizes : YardSizes) (records : List (List (List ℕ))) → first_fault sizes records ≡ None → AllByRecursion HasGoodNames (entries_of records)
+good_entries sizes [] e = tt
+good_entries sizes (first ∷ records) e =
     recursion_from_All HasGoodNames (map entry_of records)
     (All-map HasGoodNames entry_of records
-    (λ i d below. subst (λ fields. HasGoodNames (entry_of fields)) (get_or_default records i [] d below) (good_record heights first records e i below)))
+    (λ i d below. subst (λ fields. HasGoodNames (entry_of fields)) (get_or_default records i [] d below) (good_record sizes first records e i below)))
 
 -- ---- and all bays of the yard
 
@@ -141,18 +144,18 @@ stacks_fit entries bay heights (suc row) good =
     (all_both FitsLine (flat_map (λ stack. stack) before) (flat_map (λ stack. stack) (last ∷ [])) (stacks_fit entries bay heights row good)
     (all_both FitsLine last [] (stack_fits entries bay (suc row) (height_of heights (suc row)) good) tt))
 
-stacked_named : (heights : List ℕ) (entries : List Entry) (bays : List YardBay) → AllByRecursion HasGoodNames entries → AllByRecursion IsYardBay bays → AllByRecursion IsNamedBay (map (stacked heights entries) bays)
-stacked_named heights entries [] good names = tt
-stacked_named heights entries (bay ∷ bays) good names =
-    (record { name = names.0; containers = stacks_fit entries bay heights (length heights) good }, stacked_named heights entries bays good names.1)
+stacked_named : (sizes : YardSizes) (entries : List Entry) (bays : List YardBay) → AllByRecursion HasGoodNames entries → AllByRecursion IsYardBay bays → AllByRecursion IsNamedBay (map (stacked sizes entries) bays)
+stacked_named sizes entries [] good names = tt
+stacked_named sizes entries (bay ∷ bays) good names =
+    (record { name = names.0; containers = stacks_fit entries bay (heights_at sizes bay) (length (heights_at sizes bay)) good }, stacked_named sizes entries bays good names.1)
 
-pub yard_named : (heights : List ℕ) (text : List ℕ) (yard : Inventory) → IsYardListOf heights text yard → AllByRecursion IsNamedBay yard.bays
-yard_named heights text yard is =
+pub yard_named : (sizes : YardSizes) (text : List ℕ) (yard : Inventory) → IsYardListOf sizes text yard → AllByRecursion IsNamedBay yard.bays
+yard_named sizes text yard is =
     let entries = entries_of (records_of text) in
-    let good = good_entries heights (records_of text) (not_long (nat_le (length text) max_bytes) is.faultless) in
+    let good = good_entries sizes (records_of text) (not_long (nat_le (length text) max_bytes) is.faultless) in
     subst (λ (y : Inventory). AllByRecursion IsNamedBay y.bays) (sym is.stands)
-    (stacked_named heights entries (bays_of entries) good (once_each IsYardBay [] (map (λ entry. entry.0.bay) entries) tt (bays_named entries good)))
+    (stacked_named sizes entries (bays_of entries) good (once_each IsYardBay [] (map (λ entry. entry.0.bay) entries) tt (bays_named entries good)))
   where
-    not_long : (t : Bool) → cond t (first_fault heights (records_of text)) (Some TooLarge) ≡ None → first_fault heights (records_of text) ≡ None
+    not_long : (t : Bool) → cond t (first_fault sizes (records_of text)) (Some TooLarge) ≡ None → first_fault sizes (records_of text) ≡ None
     not_long true e = e
     not_long false e = absurd (cc e)

@@ -4,28 +4,18 @@ use Rattle.std.proofs.Common.{◌≡◌, ◌≤◌, ◌+◌, ℕ, suc, Bool, tru
 use Rattle.std.specs.Prelude.{◌==◌, ◌&&◌, option_to_list}
 use Rattle.std.specs.List.{IsDistinct, AllByRecursion}
 use Rattle.std.specs.Str.{bytes_eq}
-use Rattle.std.proofs.lemmas.Bool.{true≢false, eqb-true, eq-eqb}
-use Rattle.std.proofs.lemmas.Slice.Eq.{bytes_eq-Decides}
+use Rattle.std.proofs.lemmas.Bool.{true≢false}
 use Rattle.std.proofs.lemmas.List.Concat.{flat_map-append}
 use Rattle.std.proofs.lemmas.List.{append-nil}
 use Rattle.crp_plan.specs.BayNames.{YardBay, same_bay}
+use Rattle.crp_sizes.proofs.Bays.{same_bay_is, same_bay_self}
+use Rattle.crp_sizes.specs.Sizes.{YardSizes, heights_at}
 use Rattle.crp_yard.specs.Places.{same_place}
 use Rattle.crp_yard.specs.Records.{Entry, height_of}
 use Rattle.crp_yard.specs.Inventory.{container_at, stack_up_to, stacks_up_to, stacked, times, containers_of}
 use Rattle.crp_yard.specs.Listings.{entry_names}
-use Rattle.crp_yard.proofs.BaySteps.{both}
 use Rattle.crp_yard.proofs.ListingSteps.{times-append}
 use Rattle.crp_yard.proofs.Sums.{up_sum, list_sum, when, up_split, up_below, up_none, list_split, list_below, at_one_place, below_then}
-
-pub same_bay_is : (a b : YardBay) → same_bay a b ≡ true → a ≡ b
-same_bay_is a b e =
-    let parts = both (bytes_eq a.block b.block) (a.bay == b.bay) e in
-    let block : a.block ≡ b.block = (bytes_eq-Decides a.block b.block).0 parts.0 in
-    let bay : a.bay ≡ b.bay = eqb-true a.bay b.bay parts.1 in
-    λ i. record { block = block i; bay = bay i }
-
-pub same_bay_self : (a : YardBay) → same_bay a a ≡ true
-same_bay_self a = rw ((bytes_eq-Decides a.block a.block).1 refl, eq-eqb a.bay a.bay refl) refl
 
 -- how often the container stands at the place
 abbrev pub hit : List Entry → List ℕ → YardBay → ℕ → ℕ → ℕ
@@ -45,13 +35,13 @@ stacks_times entries c bay heights (suc n) =
     let before = stacks_up_to entries bay heights n in
     rw (flat_map-append (λ (s : List (List ℕ)). s) before (last ∷ []), append-nil last, times-append c (flat_map (λ (s : List (List ℕ)). s) before) last, stacks_times entries c bay heights n, stack_times entries c bay (suc n) (height_of heights (suc n))) refl
 
-abbrev pub total : List ℕ → List Entry → List ℕ → List YardBay → ℕ
-total heights entries c bays = list_sum (λ bay. up_sum (λ row. up_sum (hit entries c bay row) (height_of heights row)) (length heights)) bays
+abbrev pub total : YardSizes → List Entry → List ℕ → List YardBay → ℕ
+total sizes entries c bays = list_sum (λ bay. up_sum (λ row. up_sum (hit entries c bay row) (height_of (heights_at sizes bay) row)) (length (heights_at sizes bay))) bays
 
-pub bays_times : (heights : List ℕ) (entries : List Entry) (c : List ℕ) (bays : List YardBay) → times c (containers_of (map (stacked heights entries) bays)) ≡ total heights entries c bays
-bays_times heights entries c [] = refl
-bays_times heights entries c (bay ∷ bays) =
-    rw (times-append c (flat_map (λ (s : List (List ℕ)). s) (stacks_up_to entries bay heights (length heights))) (containers_of (map (stacked heights entries) bays)), stacks_times entries c bay heights (length heights), bays_times heights entries c bays) refl
+pub bays_times : (sizes : YardSizes) (entries : List Entry) (c : List ℕ) (bays : List YardBay) → times c (containers_of (map (stacked sizes entries) bays)) ≡ total sizes entries c bays
+bays_times sizes entries c [] = refl
+bays_times sizes entries c (bay ∷ bays) =
+    rw (times-append c (flat_map (λ (s : List (List ℕ)). s) (stacks_up_to entries bay (heights_at sizes bay) (length (heights_at sizes bay)))) (containers_of (map (stacked sizes entries) bays)), stacks_times entries c bay (heights_at sizes bay) (length (heights_at sizes bay)), bays_times sizes entries c bays) refl
 
 -- what one entry adds at the place
 abbrev put : Entry → List ℕ → YardBay → ℕ → ℕ → ℕ
@@ -96,27 +86,27 @@ one_bay k w (bay ∷ bays) d = by (same_bay bay k) refl (no_other bay k w bays) 
     by true e none rest = let rest_none : list_sum (λ y. when (same_bay y k) w) bays ≡ 0 = none e d.0 in rw e (omega (arith, rest_none))
     by false e none rest = rw e (omega (arith, rest))
 
-put_once : (heights : List ℕ) (entry : Entry) (c : List ℕ) (bays : List YardBay) → IsDistinct same_bay bays
-    → list_sum (λ bay. up_sum (λ row. up_sum (put entry c bay row) (height_of heights row)) (length heights)) bays ≤ when (bytes_eq c entry.1) 1
-put_once heights entry c bays once =
+put_once : (sizes : YardSizes) (entry : Entry) (c : List ℕ) (bays : List YardBay) → IsDistinct same_bay bays
+    → list_sum (λ bay. up_sum (λ row. up_sum (put entry c bay row) (height_of (heights_at sizes bay) row)) (length (heights_at sizes bay))) bays ≤ when (bytes_eq c entry.1) 1
+put_once sizes entry c bays once =
     let w = when (bytes_eq c entry.1) 1 in
     let k = entry.0 in
     let in_row = λ (bay : YardBay) (row : ℕ).
-    below_then (up_below (put entry c bay row) (λ tier. when (tier == k.tier) (when (row == k.row) (when (same_bay bay k.bay) w))) (put_apart entry c bay row) (height_of heights row)) (at_one_place k.tier (when (row == k.row) (when (same_bay bay k.bay) w)) (height_of heights row)) in
+    below_then (up_below (put entry c bay row) (λ tier. when (tier == k.tier) (when (row == k.row) (when (same_bay bay k.bay) w))) (put_apart entry c bay row) (height_of (heights_at sizes bay) row)) (at_one_place k.tier (when (row == k.row) (when (same_bay bay k.bay) w)) (height_of (heights_at sizes bay) row)) in
     let in_bay = λ (bay : YardBay).
-    below_then (up_below (λ row. up_sum (put entry c bay row) (height_of heights row)) (λ row. when (row == k.row) (when (same_bay bay k.bay) w)) (in_row bay) (length heights)) (at_one_place k.row (when (same_bay bay k.bay) w) (length heights)) in
-    below_then (list_below (λ bay. up_sum (λ row. up_sum (put entry c bay row) (height_of heights row)) (length heights)) (λ bay. when (same_bay bay k.bay) w) in_bay bays) (one_bay k.bay w bays once)
+    below_then (up_below (λ row. up_sum (put entry c bay row) (height_of (heights_at sizes bay) row)) (λ row. when (row == k.row) (when (same_bay bay k.bay) w)) (in_row bay) (length (heights_at sizes bay))) (at_one_place k.row (when (same_bay bay k.bay) w) (length (heights_at sizes bay))) in
+    below_then (list_below (λ bay. up_sum (λ row. up_sum (put entry c bay row) (height_of (heights_at sizes bay) row)) (length (heights_at sizes bay))) (λ bay. when (same_bay bay k.bay) w) in_bay bays) (one_bay k.bay w bays once)
 
-none_stand : (heights : List ℕ) (c : List ℕ) (bays : List YardBay) → total heights [] c bays ≡ 0
-none_stand heights c [] = refl
-none_stand heights c (bay ∷ bays) = omega (arith, none_stand heights c bays, up_below (λ row. up_sum (hit [] c bay row) (height_of heights row)) (λ _. 0) (λ row. omega (arith, up_none (height_of heights row))) (length heights), up_none (length heights))
+none_stand : (sizes : YardSizes) (c : List ℕ) (bays : List YardBay) → total sizes [] c bays ≡ 0
+none_stand sizes c [] = refl
+none_stand sizes c (bay ∷ bays) = omega (arith, none_stand sizes c bays, up_below (λ row. up_sum (hit [] c bay row) (height_of (heights_at sizes bay) row)) (λ _. 0) (λ row. omega (arith, up_none (height_of (heights_at sizes bay) row))) (length (heights_at sizes bay)), up_none (length (heights_at sizes bay)))
 
 -- in an inventory a container stands as often as its entries name it, at most
-pub few_times : (heights : List ℕ) (entries : List Entry) (c : List ℕ) (bays : List YardBay) → IsDistinct same_bay bays → total heights entries c bays ≤ times c (entry_names entries)
-few_times heights [] c bays once = omega (arith, none_stand heights c bays)
-few_times heights (entry ∷ entries) c bays once =
-    let parted : total heights (entry ∷ entries) c bays ≤ list_sum (λ bay. up_sum (λ row. up_sum (put entry c bay row) (height_of heights row)) (length heights)) bays + total heights entries c bays =
-    list_split (λ bay. up_sum (λ row. up_sum (hit (entry ∷ entries) c bay row) (height_of heights row)) (length heights)) (λ bay. up_sum (λ row. up_sum (put entry c bay row) (height_of heights row)) (length heights)) (λ bay. up_sum (λ row. up_sum (hit entries c bay row) (height_of heights row)) (length heights))
-    (λ bay. up_split (λ row. up_sum (hit (entry ∷ entries) c bay row) (height_of heights row)) (λ row. up_sum (put entry c bay row) (height_of heights row)) (λ row. up_sum (hit entries c bay row) (height_of heights row))
-    (λ row. up_split (hit (entry ∷ entries) c bay row) (put entry c bay row) (hit entries c bay row) (hit_split entry entries c bay row) (height_of heights row)) (length heights)) bays in
-    omega (arith, parted, put_once heights entry c bays once, few_times heights entries c bays once)
+pub few_times : (sizes : YardSizes) (entries : List Entry) (c : List ℕ) (bays : List YardBay) → IsDistinct same_bay bays → total sizes entries c bays ≤ times c (entry_names entries)
+few_times sizes [] c bays once = omega (arith, none_stand sizes c bays)
+few_times sizes (entry ∷ entries) c bays once =
+    let parted : total sizes (entry ∷ entries) c bays ≤ list_sum (λ bay. up_sum (λ row. up_sum (put entry c bay row) (height_of (heights_at sizes bay) row)) (length (heights_at sizes bay))) bays + total sizes entries c bays =
+    list_split (λ bay. up_sum (λ row. up_sum (hit (entry ∷ entries) c bay row) (height_of (heights_at sizes bay) row)) (length (heights_at sizes bay))) (λ bay. up_sum (λ row. up_sum (put entry c bay row) (height_of (heights_at sizes bay) row)) (length (heights_at sizes bay))) (λ bay. up_sum (λ row. up_sum (hit entries c bay row) (height_of (heights_at sizes bay) row)) (length (heights_at sizes bay)))
+    (λ bay. up_split (λ row. up_sum (hit (entry ∷ entries) c bay row) (height_of (heights_at sizes bay) row)) (λ row. up_sum (put entry c bay row) (height_of (heights_at sizes bay) row)) (λ row. up_sum (hit entries c bay row) (height_of (heights_at sizes bay) row))
+    (λ row. up_split (hit (entry ∷ entries) c bay row) (put entry c bay row) (hit entries c bay row) (hit_split entry entries c bay row) (height_of (heights_at sizes bay) row)) (length (heights_at sizes bay))) bays in
+    omega (arith, parted, put_once sizes entry c bays once, few_times sizes entries c bays once)

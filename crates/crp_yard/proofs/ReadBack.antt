@@ -11,7 +11,7 @@ use Rattle.crp_plan.specs.BayNames.{YardBay}
 use Rattle.crp_yard.specs.Records.{records_of}
 use Rattle.crp_yard.specs.Inventory.{Inventory, StackedBay}
 use Rattle.crp_yard.specs.Text.{records_of_stack, records_of_rows, records_of_yard, text_of_records, yard_text}
-use Rattle.crp_yard.proofs.CsvSteps.{records-are}
+use Rattle.crp_sizes.proofs.CsvSteps.{records-are}
 
 -- a record of at least one field
 abbrev HasFields : List (List ℕ) → Type 0

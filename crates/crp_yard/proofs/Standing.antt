@@ -7,13 +7,14 @@ use Rattle.std.specs.Map.{lookup}
 use Rattle.std.proofs.lemmas.List.{length-map}
 use Rattle.std.proofs.lemmas.Bool.{cases_eq, false≢true, true≢false, leb-true, le-leb, eqb-true, eq-eqb}
 use Rattle.crp_plan.specs.BayNames.{YardBay, same_bay}
+use Rattle.crp_sizes.specs.Sizes.{YardSizes, heights_at}
 use Rattle.crp_yard.specs.declared.fault.YardFault.{YardFault}
 use Rattle.crp_yard.specs.Places.{YardPlace, same_place}
-use Rattle.crp_yard.specs.Records.{Entry, entry_of, entries_of, place_named, height_of, is_within}
+use Rattle.crp_yard.specs.Records.{Entry, entry_of, entries_of, bay_named, place_named, height_of, is_within}
 use Rattle.crp_yard.specs.Inventory.{container_at, stack_up_to}
 use Rattle.crp_yard.specs.Faults.{faults_of, fault_of, fault_behind, fault_at, first_of, first_fault, first_fault_up_to, floating_before, floats, is_floating, is_taken}
-use Rattle.crp_yard.proofs.BaySteps.{both}
-use Rattle.crp_yard.proofs.OnceSteps.{same_bay_is, same_bay_self}
+use Rattle.crp_sizes.proofs.BaySteps.{both}
+use Rattle.crp_sizes.proofs.Bays.{same_bay_is, same_bay_self}
 use Rattle.crp_yard.specs.declared.fault.YardFault.TheVariants.{Floating}
 use Rattle.crp_yard.proofs.RecordSteps.{not_one}
 use Rattle.crp_yard.proofs.Least.{neither, faultless-up_to}
@@ -52,8 +53,8 @@ read_there (f ∷ entries) (suc i) e at free = by (same_place e.0 f.0) free (rea
     by false h rest = rest h
 
 -- entries none of which has a fault
-pub record AreSound (heights : List ℕ) (entries : List Entry) : Type 0 where
-  pub within : (i : ℕ) (e : Entry) → slice_get entries i ≡ Some e → is_within heights e.0 ≡ true
+pub record AreSound (sizes : YardSizes) (entries : List Entry) : Type 0 where
+  pub within : (i : ℕ) (e : Entry) → slice_get entries i ≡ Some e → is_within (heights_at sizes e.0.bay) e.0 ≡ true
   pub free : (i : ℕ) (e : Entry) → slice_get entries i ≡ Some e → is_taken (take i entries) e.0 ≡ false
   pub borne : (i : ℕ) (e : Entry) → slice_get entries i ≡ Some e → is_floating entries e.0 ≡ false
 
@@ -61,7 +62,7 @@ one_of : {X : Type 0} (o : Option X) → is_some o ≡ true → length (option_t
 one_of None h = absurd (false≢true h)
 one_of (Some x) h = refl
 
-module _ (heights : List ℕ) (entries : List Entry) (sound : AreSound heights entries) (bay : YardBay) (row : ℕ) where
+module _ (sizes : YardSizes) (entries : List Entry) (sound : AreSound sizes entries) (bay : YardBay) (row : ℕ) where
   abbrev at_tier : ℕ → Option (List ℕ)
   at_tier tier = container_at entries (record { bay = bay; row = row; tier = tier })
 
@@ -115,11 +116,11 @@ module _ (heights : List ℕ) (entries : List Entry) (sound : AreSound heights e
             subst (λ (k : ℕ). at_tier (suc k) ≡ Some c) (sym here) (h ∙ ap Some last.1)
       ]
 
-pub stands_there : (heights : List ℕ) (entries : List Entry) → AreSound heights entries → (i : ℕ) (e : Entry) → slice_get entries i ≡ Some e
-    → slice_get (stack_up_to entries e.0.bay e.0.row (height_of heights e.0.row)) (e.0.tier - 1) ≡ Some e.1
-stands_there heights entries sound i e at =
-    let tiers = height_of heights e.0.row in
-    let within = both (nat_le 1 e.0.row && nat_le e.0.row (length heights)) (nat_le 1 e.0.tier && nat_le e.0.tier tiers) (sound.within i e at) in
+pub stands_there : (sizes : YardSizes) (entries : List Entry) → AreSound sizes entries → (i : ℕ) (e : Entry) → slice_get entries i ≡ Some e
+    → slice_get (stack_up_to entries e.0.bay e.0.row (height_of (heights_at sizes e.0.bay) e.0.row)) (e.0.tier - 1) ≡ Some e.1
+stands_there sizes entries sound i e at =
+    let tiers = height_of (heights_at sizes e.0.bay) e.0.row in
+    let within = both (nat_le 1 e.0.row && nat_le e.0.row (length (heights_at sizes e.0.bay))) (nat_le 1 e.0.tier && nat_le e.0.tier tiers) (sound.within i e at) in
     let ends = both (nat_le 1 e.0.tier) (nat_le e.0.tier tiers) within.1 in
     let low : 1 ≤ e.0.tier = leb-true 1 e.0.tier ends.0 in
     let high : e.0.tier ≤ tiers = leb-true e.0.tier tiers ends.1 in
@@ -128,7 +129,7 @@ stands_there heights entries sound i e at =
     let read = read_there entries i e at (sound.free i e at) in
     let here : container_at entries (record { bay = e.0.bay; row = e.0.row; tier = suc (e.0.tier - 1) }) ≡ Some e.1 = subst (λ t. container_at entries (record { bay = e.0.bay; row = e.0.row; tier = t }) ≡ Some e.1) tier read in
     subst (λ n. slice_get (stack_up_to entries e.0.bay e.0.row n) (e.0.tier - 1) ≡ Some e.1) (sym all)
-    (stays heights entries sound e.0.bay e.0.row (tiers - e.0.tier) (suc (e.0.tier - 1)) (e.0.tier - 1) e.1 (top heights entries sound e.0.bay e.0.row (e.0.tier - 1) e.1 here))
+    (stays sizes entries sound e.0.bay e.0.row (tiers - e.0.tier) (suc (e.0.tier - 1)) (e.0.tier - 1) e.1 (top sizes entries sound e.0.bay e.0.row (e.0.tier - 1) e.1 here))
 
 -- of a list of faults none of which is stated none is there
 none_found : (faults : List (Bool × YardFault)) → first_of faults ≡ None → AllByRecursion (λ fault. fault.0 ≡ false) faults
@@ -143,19 +144,19 @@ pub not_false : (b : Bool) → not b ≡ false → b ≡ true
 not_false true e = refl
 not_false false e = absurd (true≢false e)
 
-record Passes (heights : List ℕ) (entries : List Entry) (fields : List (List ℕ)) : Type 0 where
-  pub within : is_within heights (place_named fields) ≡ true
+record Passes (sizes : YardSizes) (entries : List Entry) (fields : List (List ℕ)) : Type 0 where
+  pub within : is_within (heights_at sizes (bay_named fields)) (place_named fields) ≡ true
   pub free : is_taken entries (place_named fields) ≡ false
 
-passes : (heights : List ℕ) (entries : List Entry) (n : ℕ) (fields : List (List ℕ)) → fault_of heights entries n fields ≡ None → Passes heights entries fields
+passes : (sizes : YardSizes) (entries : List Entry) (n : ℕ) (fields : List (List ℕ)) → fault_of sizes entries n fields ≡ None → Passes sizes entries fields
 unfolding fault_of
-passes heights entries n fields e =
-    let all = none_found (faults_of heights entries n fields) e in
-    record { within = not_false (is_within heights (place_named fields)) all.1.1.0; free = all.1.1.1.0 }
+passes sizes entries n fields e =
+    let all = none_found (faults_of sizes entries n fields) e in
+    record { within = not_false (is_within (heights_at sizes (bay_named fields)) (place_named fields)) all.1.1.0; free = all.1.1.1.0 }
 
-behind : (heights : List ℕ) (entries : List Entry) (n : ℕ) (fields : List (List ℕ)) → fault_behind heights entries (suc (suc n)) fields ≡ None → fault_of heights entries (suc (suc n)) fields ≡ None
+behind : (sizes : YardSizes) (entries : List Entry) (n : ℕ) (fields : List (List ℕ)) → fault_behind sizes entries (suc (suc n)) fields ≡ None → fault_of sizes entries (suc (suc n)) fields ≡ None
 unfolding fault_behind
-behind heights entries n fields e = let other : (suc (suc n) == 1) ≡ false = not_one n in rw other at e
+behind sizes entries n fields e = let other : (suc (suc n) == 1) ≡ false = not_one n in rw other at e
 
 map-take : {X Y : Type 0} (f : X → Y) (xs : List X) (n : ℕ) → map f (take n xs) ≡ take n (map f xs)
 map-take f [] zero = refl
@@ -187,37 +188,37 @@ none_floats entries (suc n) e i below =
     not_there true fault h = absurd (cc h)
     not_there false fault h = refl
 
-module _ (heights : List ℕ) (first : List (List ℕ)) (records : List (List (List ℕ))) (e : first_fault heights (first ∷ records) ≡ None) where
-  parts : (first_fault_up_to heights (first ∷ records) (max 1 (length (first ∷ records))) ≡ None) × (floating_before (map entry_of records) (length (map entry_of records)) ≡ None)
+module _ (sizes : YardSizes) (first : List (List ℕ)) (records : List (List (List ℕ))) (e : first_fault sizes (first ∷ records) ≡ None) where
+  parts : (first_fault_up_to sizes (first ∷ records) (max 1 (length (first ∷ records))) ≡ None) × (floating_before (map entry_of records) (length (map entry_of records)) ≡ None)
   unfolding first_fault
   parts = neither _ _ e
 
-  faultless : (i : ℕ) → i < length records → fault_of heights (take i (map entry_of records)) (suc (suc i)) (get_or records i []) ≡ None
+  faultless : (i : ℕ) → i < length records → fault_of sizes (take i (map entry_of records)) (suc (suc i)) (get_or records i []) ≡ None
   unfolding fault_at
   faultless i below =
       let top : max 1 (length (first ∷ records)) ≡ suc (length records) = omega arith in
-      let none = faultless-up_to heights (first ∷ records) (suc (length records)) (rw top at parts.0) (suc (suc i)) (omega arith) (omega arith) in
+      let none = faultless-up_to sizes (first ∷ records) (suc (length records)) (rw top at parts.0) (suc (suc i)) (omega arith) (omega arith) in
       let number : suc (suc i) - 1 ≡ suc i = omega arith in
-      behind heights (take i (map entry_of records)) i (get_or records i []) (rw (← map-take entry_of records i) (rw number at none))
+      behind sizes (take i (map entry_of records)) i (get_or records i []) (rw (← map-take entry_of records i) (rw number at none))
 
-  sound_entry : (i : ℕ) (entry : Entry) → slice_get (map entry_of records) i ≡ Some entry → Passes heights (take i (map entry_of records)) (get_or records i [])
+  sound_entry : (i : ℕ) (entry : Entry) → slice_get (map entry_of records) i ≡ Some entry → Passes sizes (take i (map entry_of records)) (get_or records i [])
   sound_entry i entry at =
       let long : length (map entry_of records) ≡ length records = length-map records entry_of in
       let below = within_list (map entry_of records) i entry at in
-      passes heights (take i (map entry_of records)) (suc (suc i)) (get_or records i []) (faultless i (omega arith))
+      passes sizes (take i (map entry_of records)) (suc (suc i)) (get_or records i []) (faultless i (omega arith))
 
   place_is : (i : ℕ) (entry : Entry) → slice_get (map entry_of records) i ≡ Some entry → place_named (get_or records i []) ≡ entry.0
   unfolding entry_of
   place_is i entry at = ap (λ (f : Entry). f.0) (fault_by entry_of records i entry [] at)
 
-  pub sound_entries : AreSound heights (map entry_of records)
+  pub sound_entries : AreSound sizes (map entry_of records)
   sound_entries = record {
     within = λ i entry at. rw (← place_is i entry at) (sound_entry i entry at).within;
     free = λ i entry at. rw (← place_is i entry at) (sound_entry i entry at).free;
     borne = λ i entry at. let f = none_floats (map entry_of records) (length (map entry_of records)) parts.1 i (within_list (map entry_of records) i entry at) in rw at at f;
   }
 
-pub each_stands : (heights : List ℕ) (records : List (List (List ℕ))) (i : ℕ) (entry : Entry) → first_fault heights records ≡ None → slice_get (entries_of records) i ≡ Some entry
-    → slice_get (stack_up_to (entries_of records) entry.0.bay entry.0.row (height_of heights entry.0.row)) (entry.0.tier - 1) ≡ Some entry.1
-each_stands heights [] i entry e at = cc
-each_stands heights (first ∷ records) i entry e at = stands_there heights (map entry_of records) (sound_entries heights first records e) i entry at
+pub each_stands : (sizes : YardSizes) (records : List (List (List ℕ))) (i : ℕ) (entry : Entry) → first_fault sizes records ≡ None → slice_get (entries_of records) i ≡ Some entry
+    → slice_get (stack_up_to (entries_of records) entry.0.bay entry.0.row (height_of (heights_at sizes entry.0.bay) entry.0.row)) (entry.0.tier - 1) ≡ Some entry.1
+each_stands sizes [] i entry e at = cc
+each_stands sizes (first ∷ records) i entry e at = stands_there sizes (map entry_of records) (sound_entries sizes first records e) i entry at

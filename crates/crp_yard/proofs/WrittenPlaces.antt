@@ -9,6 +9,8 @@ use Rattle.std.proofs.lemmas.Str.Parse.{IsNumeralModel, numerals_by_fold}
 use Rattle.std.proofs.lemmas.List.Elements.{All-get_or}
 use Rattle.std.proofs.lemmas.Option.{slice_get_within, get_or_from_slice_get}
 use Rattle.crp_plan.specs.BayNames.{YardBay, IsYardBay}
+use Rattle.crp_sizes.proofs.Bays.{heights_can_be}
+use Rattle.crp_sizes.specs.Sizes.{YardSizes, heights_at}
 use Rattle.crp_yard.specs.declared.fault.YardFault.TheVariants.{TooLarge}
 use Rattle.crp_yard.specs.Places.{YardPlace}
 use Rattle.crp_yard.specs.Records.{Entry, number_of, entry_of, entries_of, records_of}
@@ -131,10 +133,12 @@ module _ (yard : Inventory) (is : IsYard yard) (named : All (λ (bay : StackedBa
   few number r k bay stack c at there stands =
       let name : IsYardBay (get_or yard.bays number bay).0 = All-get_or (λ (b : StackedBay). IsYardBay b.0) yard.bays number bay (slice_get_within yard.bays number bay at) named in
       let bay_is : IsYardBay bay.0 = subst (λ (b : StackedBay). IsYardBay b.0) (get_or_from_slice_get yard.bays number bay bay at) name in
-      let fit = fit_at yard.heights yard.bays number bay is.bays_fit (sym at) in
-      let low : length (get_or bay.1 r stack) ≤ 8 = All-get_or (λ (s : List (List ℕ)). length s ≤ 8) bay.1 r stack (slice_get_within bay.1 r stack there) (low_stacks yard.heights bay.1 fit is.heights_fit) in
+      let heights = heights_at yard.sizes bay.0 in
+      let can = heights_can_be yard.sizes is.sizes_fit bay.0 in
+      let fit = fit_at yard.sizes yard.bays number bay is.bays_fit (sym at) in
+      let low : length (get_or bay.1 r stack) ≤ 8 = All-get_or (λ (s : List (List ℕ)). length s ≤ 8) bay.1 r stack (slice_get_within bay.1 r stack there) (low_stacks heights bay.1 fit can.1) in
       let short : length stack ≤ 8 = subst (λ (s : List (List ℕ)). length s ≤ 8) (get_or_from_slice_get bay.1 r stack stack there) low in
-      (bay_is.four_digits, omega (arith, fit_rows yard.heights bay.1 fit, is.few_rows, slice_get_within bay.1 r stack there), omega (arith, short, slice_get_within stack k c stands))
+      (bay_is.four_digits, omega (arith, fit_rows heights bay.1 fit, can.0.1, slice_get_within bay.1 r stack there), omega (arith, short, slice_get_within stack k c stands))
 
   said : (place : YardPlace) (c : List ℕ) → StandsAt yard place c → IsIn (map entry_of written) (place, c)
   said place c at =
@@ -171,21 +175,21 @@ module _ (yard : Inventory) (is : IsYard yard) (named : All (λ (bay : StackedBa
       } in
       subst (λ (e : Entry). StandsAt yard e.0 e.1) entry here
 
-  pub read_back : (heights : List ℕ) (read : Inventory) → IsYardListOf heights (yard_text yard) read → (place : YardPlace) (c : List ℕ) → StandsAt yard place c ↔ StandsAt read place c
-  read_back heights read list place c = (
+  pub read_back : (sizes : YardSizes) (read : Inventory) → IsYardListOf sizes (yard_text yard) read → (place : YardPlace) (c : List ℕ) → StandsAt yard place c ↔ StandsAt read place c
+  read_back sizes read list place c = (
     λ at. let found = said place c at in has.stands found.0 (place, c) found.1,
     λ at. let found = has.stated place c at in stands place c found.0 found.1,
   )
     where
-      faultless : first_fault heights (records_of (yard_text yard)) ≡ None
+      faultless : first_fault sizes (records_of (yard_text yard)) ≡ None
       faultless = by (nat_le (length (yard_text yard)) max_bytes) list.faultless
         where
-          by : (b : Bool) → (if b then first_fault heights (records_of (yard_text yard)) else Some TooLarge) ≡ None → first_fault heights (records_of (yard_text yard)) ≡ None
+          by : (b : Bool) → (if b then first_fault sizes (records_of (yard_text yard)) else Some TooLarge) ≡ None → first_fault sizes (records_of (yard_text yard)) ≡ None
           by true e = e
           by false e = absurd (cc e)
 
       has : HasEntries (map entry_of written) read
       has =
-          let own = all_places heights (records_of (yard_text yard)) faultless in
+          let own = all_places sizes (records_of (yard_text yard)) faultless in
           let made = subst (λ (r : Inventory). HasEntries (entries_of (records_of (yard_text yard))) r) (sym list.stands) own in
           subst (λ (es : List Entry). HasEntries es read) (ap entries_of (reads_back yard)) made

@@ -6,7 +6,7 @@ use Rattle.crp_yard.specs.declared.bay_plan.BayPlan.{BayPlan}
 use Rattle.crp_yard.specs.Inventory.{Inventory, StackedBay}
 use Rattle.crp_yard.specs.Ranks.{named}
 use Rattle.crp_yard.specs.After.{IsCompletePlan, plan_for, LeavesNamed, IsBayAfter, AreBaysAfter, IsAfter}
-use Rattle.crp_yard.proofs.Lists.{each_of, found_in}
+use Rattle.crp_sizes.proofs.Lists.{each_of, found_in}
 
 stacks_left : (plan : BayPlan) → IsCompletePlan plan → (stacks : List (List (List ℕ))) × LeavesNamed plan stacks
 stacks_left plan is =
@@ -31,4 +31,4 @@ bays_left plans (old ∷ olds) all =
 pub yard_left : (yard : Inventory) (plans : List BayPlan) → All IsCompletePlan plans → (left : Inventory) × IsAfter yard plans left
 yard_left yard plans all =
     let news = bays_left plans yard.bays (each_of IsCompletePlan plans all) in
-    (record yard { bays = news.0 }, record { same_heights = refl; same_tiers = refl; bays = news.1 })
+    (record yard { bays = news.0 }, record { same_sizes = refl; bays = news.1 })

@@ -1,10 +1,9 @@
 -- The inventory that entries give is a yard.
 use Prim.Native.Nat.{zero}
-use Rattle.std.proofs.Common.{◌≡◌, ◌≤◌, ◌-◌, ◌++◌, ℕ, suc, take, sym, subst, Bool, true, false, List, [], ◌∷◌, map, length, length-append, All, fold, get_or, Option, Some, None, refl, ap, ◌∙◌, arith, rules}
+use Rattle.std.proofs.Common.{◌≡◌, ◌≤◌, ◌-◌, ◌++◌, ℕ, suc, take, sym, subst, Bool, true, false, List, [], ◌∷◌, map, length, length-append, All, fold, get_or, Option, Some, None, refl, ap, ◌∙◌, arith}
 use Rattle.std.specs.Prelude.{option_to_list, option_and_then, slice_get}
 use Rattle.std.specs.List.{IsDistinct, AllByRecursion, list_any}
 use Rattle.std.specs.Cmp.{IsEquivalence}
-use Rattle.std.specs.Cmp.Rules.{comparing}
 use Rattle.std.proofs.Math.Seq.{take-suc}
 use Rattle.std.proofs.lemmas.List.{take_all}
 use Rattle.std.proofs.lemmas.List.Elements.{All-map, All-get_or, All-from_recursion, recursion_from_All}
@@ -12,14 +11,13 @@ use Rattle.std.proofs.lemmas.Map.Keys.{IsDistinct-push}
 use Rattle.std.proofs.lemmas.Option.{get_or_from_slice_get, slice_get_within}
 use Rattle.crp_plan.specs.BayNames.{YardBay, same_bay}
 use Rattle.crp_plan.specs.Faults.{HasTiers, AreHeights}
+use Rattle.crp_sizes.proofs.Bays.{same_bay_laws}
+use Rattle.crp_sizes.specs.Sizes.{YardSizes, CanBeSizes, heights_at}
 use Rattle.crp_yard.specs.Records.{Entry, height_of}
 use Rattle.crp_yard.specs.Inventory.{Inventory, StackedBay, stack_in_bay, FitBay, IsYard, inventory_of, bays_of, first_seen, with_bay, stack_up_to, stacks_up_to, stacked, container_at, times}
 use Rattle.crp_yard.specs.Listings.{entry_names}
 use Rattle.crp_yard.proofs.OnceSteps.{few_times, bays_times}
 use Rattle.crp_yard.proofs.Sums.{below_then}
-
-pub same_bay_laws : IsEquivalence same_bay
-same_bay_laws = search (comparing, rules)
 
 few_in_option : {X : Type 0} (o : Option X) → length (option_to_list o) ≤ 1
 few_in_option None = omega arith
@@ -43,9 +41,11 @@ pub low_stacks : (heights : List ℕ) (stacks : List (List (List ℕ))) → FitB
 low_stacks heights stacks fit are = All-from_recursion (λ stack. length stack ≤ 8) stacks (low_bay heights stacks fit (recursion_from_All (λ height. HasTiers height) heights are))
 
 -- what holds of all bays holds of that with a number
-pub fit_at : (heights : List ℕ) (bays : List StackedBay) (i : ℕ) (bay : StackedBay) → All (λ (b : StackedBay). FitBay heights b.1) bays → Some bay ≡ slice_get bays i → FitBay heights bay.1
-fit_at heights bays i bay all e =
-    subst (λ (b : StackedBay). FitBay heights b.1) (get_or_from_slice_get bays i bay bay (sym e)) (All-get_or (λ (b : StackedBay). FitBay heights b.1) bays i bay (slice_get_within bays i bay (sym e)) all)
+pub fit_at : (sizes : YardSizes) (bays : List StackedBay) (i : ℕ) (bay : StackedBay) → All (λ (b : StackedBay). FitBay (heights_at sizes b.0) b.1) bays → Some bay ≡ slice_get bays i
+    → FitBay (heights_at sizes bay.0) bay.1
+fit_at sizes bays i bay all e =
+    let fits : StackedBay → Type 0 = λ b. FitBay (heights_at sizes b.0) b.1 in
+    subst fits (get_or_from_slice_get bays i bay bay (sym e)) (All-get_or fits bays i bay (slice_get_within bays i bay (sym e)) all)
 
 -- the stack of a row of a bay
 pub stack_there : (yard : Inventory) (i row : ℕ) (bay : StackedBay) (stack : List (List ℕ)) → Some bay ≡ slice_get yard.bays i → slice_get bay.1 (row - 1) ≡ Some stack → stack_in_bay yard i row ≡ Some stack
@@ -92,23 +92,22 @@ pub first_seen_once : (bays : List YardBay) → IsDistinct same_bay (first_seen 
 unfolding Rattle.std.specs.List.IsDistinct
 first_seen_once bays = distinct_from [] bays tt
 
-names_stay : (heights : List ℕ) (entries : List Entry) (bays : List YardBay) → map (λ (b : StackedBay). b.0) (map (stacked heights entries) bays) ≡ bays
-names_stay heights entries [] = refl
-names_stay heights entries (bay ∷ bays) = ap (λ l. bay ∷ l) (names_stay heights entries bays)
+names_stay : (sizes : YardSizes) (entries : List Entry) (bays : List YardBay) → map (λ (b : StackedBay). b.0) (map (stacked sizes entries) bays) ≡ bays
+names_stay sizes entries [] = refl
+names_stay sizes entries (bay ∷ bays) = ap (λ l. bay ∷ l) (names_stay sizes entries bays)
 
-pub all_fit : (heights : List ℕ) (entries : List Entry) (bays : List YardBay) → All (λ (b : StackedBay). FitBay heights b.1) (map (stacked heights entries) bays)
-all_fit heights entries bays =
-    All-map (λ (b : StackedBay). FitBay heights b.1) (stacked heights entries) bays
-    (λ k d h. subst (λ l. FitBay l (stacks_up_to entries (get_or bays k d) heights (length heights))) (take_all (length heights) heights (omega arith)) (stacks_fit entries (get_or bays k d) heights (length heights) (omega arith)))
+pub all_fit : (sizes : YardSizes) (entries : List Entry) (bays : List YardBay) → All (λ (b : StackedBay). FitBay (heights_at sizes b.0) b.1) (map (stacked sizes entries) bays)
+all_fit sizes entries bays =
+    All-map (λ (b : StackedBay). FitBay (heights_at sizes b.0) b.1) (stacked sizes entries) bays
+    (λ k d h.
+    let bay = get_or bays k d in
+    let heights = heights_at sizes bay in
+    subst (λ l. FitBay l (stacks_up_to entries bay heights (length heights))) (take_all (length heights) heights (omega arith)) (stacks_fit entries bay heights (length heights) (omega arith)))
 
-pub inventory_is_yard : (heights : List ℕ) (entries : List Entry) → 1 ≤ length heights → length heights ≤ 12 → AreHeights heights → ((c : List ℕ) → times c (entry_names entries) ≤ 1)
-    → IsYard (inventory_of heights entries)
-inventory_is_yard heights entries some_rows few_rows heights_fit once = record {
-  some_rows = some_rows;
-  few_rows = few_rows;
-  heights_fit = heights_fit;
-  tiers_are = refl;
-  bays_fit = all_fit heights entries (bays_of entries);
-  bays_once = rw (names_stay heights entries (bays_of entries)) (first_seen_once (map (λ e. e.0.bay) entries));
-  containers_once = λ c. rw (bays_times heights entries c (bays_of entries)) (below_then (few_times heights entries c (bays_of entries) (first_seen_once (map (λ e. e.0.bay) entries))) (once c));
+pub inventory_is_yard : (sizes : YardSizes) (entries : List Entry) → CanBeSizes sizes → ((c : List ℕ) → times c (entry_names entries) ≤ 1) → IsYard (inventory_of sizes entries)
+inventory_is_yard sizes entries can once = record {
+  sizes_fit = can;
+  bays_fit = all_fit sizes entries (bays_of entries);
+  bays_once = rw (names_stay sizes entries (bays_of entries)) (first_seen_once (map (λ e. e.0.bay) entries));
+  containers_once = λ c. rw (bays_times sizes entries c (bays_of entries)) (below_then (few_times sizes entries c (bays_of entries) (first_seen_once (map (λ e. e.0.bay) entries))) (once c));
 }

@@ -5,6 +5,7 @@ use Rattle.std.specs.Map.{lookup}
 use Rattle.crp_plan.specs.Bay.{IsProblem}
 use Rattle.crp_plan.specs.Faults.{IsPlanPath}
 use Rattle.crp_plan.specs.BayNames.{YardBay, same_bay}
+use Rattle.crp_sizes.specs.Sizes.{heights_at}
 use Rattle.crp_yard.specs.declared.bay_plan.BayPlan.{BayPlan}
 use Rattle.crp_yard.specs.Inventory.{Inventory, StackedBay}
 use Rattle.crp_yard.specs.Ranks.{named, Leaves}
@@ -15,7 +16,7 @@ stacks_at bays bay = lookup (same_bay bay) bays
 
 -- the plan's problem, its ranks read as names, is its bay as it stands in the yard
 pub record IsPlanForBay (yard : Inventory) (plan : BayPlan) : Type 0 where
-  pub heights : plan.plan.problem.heights ≡ yard.heights
+  pub heights : plan.plan.problem.heights ≡ heights_at yard.sizes plan.bay
   pub stands : stacks_at yard.bays plan.bay ≡ Some (named plan.names plan.plan.problem.stacks)
 
 -- the plan is a complete one, of a problem
@@ -43,6 +44,5 @@ AreBaysAfter plans (old ∷ olds) (new ∷ news) = IsBayAfter plans old new × A
 
 -- the yard after the plans
 pub record IsAfter (yard : Inventory) (plans : List BayPlan) (after : Inventory) : Type 0 where
-  pub same_heights : after.heights ≡ yard.heights
-  pub same_tiers : after.tiers ≡ yard.tiers
+  pub same_sizes : after.sizes ≡ yard.sizes
   pub bays : AreBaysAfter plans yard.bays after.bays

@@ -1,6 +1,7 @@
 -- What stands in a yard, and what floats, said as relations of places.
 use Rattle.std.specs.Prelude.{◌≡◌, ◌≢◌, ◌<◌, ◌≤◌, ◌+◌, ◌-◌, ◌⊎◌, ℕ, max, List, length, Some, None, slice_get}
 use Rattle.crp_plan.specs.BayNames.{YardBay}
+use Rattle.crp_sizes.specs.Sizes.{YardSizes}
 use Rattle.crp_yard.specs.Places.{YardPlace}
 use Rattle.crp_yard.specs.Records.{Entry, entries_of}
 use Rattle.crp_yard.specs.Inventory.{Inventory, StackedBay}
@@ -44,13 +45,13 @@ abbrev pub IsBorne : List Entry → YardPlace → Type 0
 IsBorne entries place = (place.tier ≤ 1) ⊎ ((k : ℕ) × (below : Entry) × (slice_get entries k ≡ Some below) × IsRightBelow below.0 place)
 
 -- no record has a fault by what it says and what those before it say; a list without records lacks the header
-abbrev pub AreFaultless : List ℕ → List (List (List ℕ)) → Type 0
-AreFaultless heights records = (k : ℕ) → 1 ≤ k → k ≤ max 1 (length records) → fault_at heights records k ≡ None
+abbrev pub AreFaultless : YardSizes → List (List (List ℕ)) → Type 0
+AreFaultless sizes records = (k : ℕ) → 1 ≤ k → k ≤ max 1 (length records) → fault_at sizes records k ≡ None
 
 -- no record has such a fault, and the container of the record with this number floats: it stands on nothing, and those of all records
 -- before it stand on something
-pub record FloatsFirst (heights : List ℕ) (records : List (List (List ℕ))) (n : ℕ) : Type 0 where
-  pub faultless : AreFaultless heights records
+pub record FloatsFirst (sizes : YardSizes) (records : List (List (List ℕ))) (n : ℕ) : Type 0 where
+  pub faultless : AreFaultless sizes records
   pub behind_header : 2 ≤ n
   pub entry : Entry
   pub there : slice_get (entries_of records) (n - 2) ≡ Some entry
@@ -58,6 +59,6 @@ pub record FloatsFirst (heights : List ℕ) (records : List (List (List ℕ))) (
   pub borne_before : (k : ℕ) (other : Entry) → k < n - 2 → slice_get (entries_of records) k ≡ Some other → IsBorne (entries_of records) other.0
 
 -- no record has such a fault, and each container stands on something
-pub record NoneFloats (heights : List ℕ) (records : List (List (List ℕ))) : Type 0 where
-  pub faultless : AreFaultless heights records
+pub record NoneFloats (sizes : YardSizes) (records : List (List (List ℕ))) : Type 0 where
+  pub faultless : AreFaultless sizes records
   pub borne : (k : ℕ) (entry : Entry) → slice_get (entries_of records) k ≡ Some entry → IsBorne (entries_of records) entry.0

@@ -1,12 +1,11 @@
 -- What stands in a yard.
 use Prim.Native.Nat.{zero}
-use Rattle.std.specs.Prelude.{ℕ, suc, Bool, List, [], ◌∷◌, ◌++◌, map, fold, Option, option_to_list, if◌then◌else◌, ◌≡◌, ◌+◌, ◌≤◌, ◌-◌, All, length, flat_map, slice_get, option_map, option_and_then, ⊤}
+use Rattle.std.specs.Prelude.{ℕ, suc, Bool, List, [], ◌∷◌, ◌++◌, map, fold, Option, option_to_list, if◌then◌else◌, ◌+◌, ◌≤◌, ◌-◌, All, length, flat_map, slice_get, option_map, option_and_then, ⊤}
 use Rattle.std.specs.List.{list_any, IsDistinct}
 use Rattle.std.specs.Str.{bytes_eq}
 use Rattle.std.specs.Map.{lookup}
 use Rattle.crp_plan.specs.BayNames.{YardBay, same_bay}
-use Rattle.crp_plan.specs.Rows.{tallest}
-use Rattle.crp_plan.specs.Faults.{AreHeights}
+use Rattle.crp_sizes.specs.Sizes.{YardSizes, CanBeSizes, heights_at}
 use Rattle.crp_yard.specs.Places.{YardPlace, same_place}
 use Rattle.crp_yard.specs.Records.{Entry, height_of}
 
@@ -14,10 +13,9 @@ use Rattle.crp_yard.specs.Records.{Entry, height_of}
 abbrev pub StackedBay : Type 0
 StackedBay = YardBay × List (List (List ℕ))
 
--- how many tiers each row of a bay has, the most of them, and the bays with their stacks
+-- the size of each bay, and the bays with their stacks
 pub record Inventory : Type 0 where
-  pub heights : List ℕ
-  pub tiers : ℕ
+  pub sizes : YardSizes
   pub bays : List StackedBay
 
 -- the map from places to containers that the entries give
@@ -48,12 +46,12 @@ stacks_up_to entries bay heights zero = []
 stacks_up_to entries bay heights (suc row) = stacks_up_to entries bay heights row ++ stack_up_to entries bay (suc row) (height_of heights (suc row)) ∷ []
 
 -- a bay with the stacks that the entries give it
-abbrev pub stacked : List ℕ → List Entry → YardBay → StackedBay
-stacked heights entries bay = (bay, stacks_up_to entries bay heights (length heights))
+abbrev pub stacked : YardSizes → List Entry → YardBay → StackedBay
+stacked sizes entries bay = (bay, stacks_up_to entries bay (heights_at sizes bay) (length (heights_at sizes bay)))
 
--- the inventory of a yard whose rows have these heights, by its entries
-abbrev pub inventory_of : List ℕ → List Entry → Inventory
-inventory_of heights entries = record { heights = heights; tiers = tallest heights; bays = map (stacked heights entries) (bays_of entries) }
+-- the inventory of a yard whose bays have these sizes, by its entries
+abbrev pub inventory_of : YardSizes → List Entry → Inventory
+inventory_of sizes entries = record { sizes = sizes; bays = map (stacked sizes entries) (bays_of entries) }
 
 -- all containers of the bays: bay by bay, row by row, from bottom to top
 abbrev pub containers_of : List StackedBay → List (List ℕ)
@@ -76,6 +74,10 @@ stands bays container = is_among (containers_of bays) container
 abbrev pub name_at : Inventory → ℕ → Option YardBay
 name_at yard i = option_map (λ bay. bay.0) (slice_get yard.bays i)
 
+-- how many tiers each row of the bay with this number has
+abbrev pub heights_in_bay : Inventory → ℕ → Option (List ℕ)
+heights_in_bay yard i = option_map (heights_at yard.sizes) (name_at yard i)
+
 -- the stack of a row, from 1, of the bay with this number
 abbrev pub stack_in_bay : Inventory → ℕ → ℕ → Option (List (List ℕ))
 stack_in_bay yard i row = option_and_then (λ bay. slice_get bay.1 (row - 1)) (slice_get yard.bays i)
@@ -87,12 +89,9 @@ FitBay [] (stack ∷ stacks) = ⊥
 FitBay (height ∷ heights) [] = ⊥
 FitBay (height ∷ heights) (stack ∷ stacks) = (length stack ≤ height) × FitBay heights stacks
 
--- what holds of each yard: 1 to 12 rows of 1 to 8 tiers, which each bay has; each bay once; and each container in one place
+-- what holds of each yard: each bay has 1 to 12 rows of 1 to 8 tiers, and its containers fit; each bay once; and each container in one place
 pub record IsYard (yard : Inventory) : Type 0 where
-  pub some_rows : 1 ≤ length yard.heights
-  pub few_rows : length yard.heights ≤ 12
-  pub heights_fit : AreHeights yard.heights
-  pub tiers_are : yard.tiers ≡ tallest yard.heights
-  pub bays_fit : All (λ bay. FitBay yard.heights bay.1) yard.bays
+  pub sizes_fit : CanBeSizes yard.sizes
+  pub bays_fit : All (λ bay. FitBay (heights_at yard.sizes bay.0) bay.1) yard.bays
   pub bays_once : IsDistinct same_bay (map (λ bay. bay.0) yard.bays)
   pub containers_once : (container : List ℕ) → times container (containers_of yard.bays) ≤ 1

@@ -1,27 +1,13 @@
 -- What the reader keeps of the records before a record. Only private clauses speak of it.
-use Rattle.std.specs.Prelude.{◌≡◌, ◌<◌, ◌≤◌, ◌==◌, ℕ, List, [], ◌∷◌, ◌++◌, Vec, None, Some, true, map, max, length, if◌then◌else◌, Bool, ◌||◌}
+use Rattle.std.specs.Prelude.{◌≡◌, ◌≤◌, ◌==◌, ℕ, List, [], ◌∷◌, ◌++◌, Vec, None, map, max, length, if◌then◌else◌, Bool, ◌||◌}
 use Rattle.std.specs.List.{list_any}
 use Rattle.std.specs.Str.{bytes_eq}
 use Rattle.std.specs.declared.alloc.Global.{Global}
-use denote.Ref.{Bor}
-use Rattle.csv.specs.Reading.{Ready, default_config, is_flexible, owned_rows_left, owned_rows_reader, reader_config, reader_state, reader_trim, source_of, strip_bom}
-use Rattle.csv.specs.declared.iter.ByteRecordsIntoIter.{ByteRecordsIntoIter}
-use Rattle.csv.specs.declared.parser.State.TheVariants as st
-use Rattle.csv.specs.declared.reader.Trim.TheVariants as trim
+use Rattle.crp_sizes.specs.Sizes.{YardSizes}
 use Rattle.crp_yard.specs.Places.{YardPlace}
 use Rattle.crp_yard.specs.Records.{Entry, entry_of, entries_of}
 use Rattle.crp_yard.specs.Inventory.{Inventory, StackedBay, times, stands, is_among, IsYard}
 use Rattle.crp_yard.specs.Faults.{max_containers, first_fault_up_to}
-
--- csv's reader stands before the first record of the text, takes none for a header, and leaves its fields as they are
-pub record IsAtStart (text : List ℕ) (rows : ByteRecordsIntoIter (Bor (List ℕ))) : Type 0 where
-  pub trim : reader_trim (owned_rows_reader rows) ≡ trim.None
-  pub ready : Ready (owned_rows_reader rows)
-  pub left : 0 < owned_rows_left rows
-  pub config : reader_config (owned_rows_reader rows) ≡ default_config
-  pub flexible : is_flexible (owned_rows_reader rows) ≡ true
-  pub source : source_of (λ s. Some s.now) (owned_rows_reader rows) ≡ Some (strip_bom text)
-  pub state : reader_state (owned_rows_reader rows) ≡ st.StartRecord
 
 -- the containers of the entries
 abbrev pub entry_names : List Entry → List (List ℕ)
@@ -40,8 +26,8 @@ pub record IsListing (places : List YardPlace) (names : List (Vec ℕ Global)) :
   pub few : length names ≤ max_containers
 
 -- records that have no fault but by floating say these entries
-pub record AreEntriesOf (heights : List ℕ) (records : List (List (List ℕ))) (entries : List Entry) : Type 0 where
-  pub faultless : first_fault_up_to heights records (max 1 (length records)) ≡ None
+pub record AreEntriesOf (sizes : YardSizes) (records : List (List (List ℕ))) (entries : List Entry) : Type 0 where
+  pub faultless : first_fault_up_to sizes records (max 1 (length records)) ≡ None
   pub said : entries ≡ entries_of records
 
 -- the entries behind a record with this number: the first is the header, which gives none
@@ -49,8 +35,8 @@ abbrev pub entries_behind : List Entry → ℕ → List (List ℕ) → List Entr
 entries_behind entries n fields = if n == 1 then entries else entries ++ entry_of fields ∷ []
 
 -- so many records were read, none of which has a fault, and these entries are what they say
-pub record IsRead (heights : List ℕ) (records : List (List (List ℕ))) (entries : List Entry) (n : ℕ) : Type 0 where
-  pub faultless : first_fault_up_to heights records (length records) ≡ None
+pub record IsRead (sizes : YardSizes) (records : List (List (List ℕ))) (entries : List Entry) (n : ℕ) : Type 0 where
+  pub faultless : first_fault_up_to sizes records (length records) ≡ None
   pub said : entries ≡ entries_of records
   pub counted : n ≡ length records
 

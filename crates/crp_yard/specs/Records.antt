@@ -1,19 +1,9 @@
 -- What the records of a yard list say.
-use Rattle.std.specs.Prelude.{ℕ, ◌+◌, ◌-◌, ◌*◌, Bool, ◌&&◌, ◌==◌, nat_le, List, [], length, map, drop, fold, slice_index_or, codes}
+use Rattle.std.specs.Prelude.{ℕ, ◌-◌, Bool, ◌&&◌, ◌==◌, nat_le, List, length, map, drop, slice_index_or, codes}
 use Rattle.std.specs.List.{list_all}
-use Rattle.std.specs.Char.{is_ascii_digit, is_ascii_graphic}
 use Rattle.std.specs.Str.{bytes_eq}
-use Rattle.csv.specs.Reading.{default_config, records, strip_bom}
+pub use Rattle.crp_sizes.specs.Fields.{records_of, field_of, is_block, is_number, number_of, bay_named}
 use Rattle.crp_yard.specs.Places.{YardPlace}
-
--- the records of a text, as csv reads them by its defaults, where a byte order mark at the start of the text is no part of it; each is
--- the list of its fields
-abbrev pub records_of : List ℕ → List (List (List ℕ))
-records_of text = records default_config (strip_bom text)
-
--- the field with this number, from 0; no bytes where there is none
-abbrev pub field_of : List (List ℕ) → ℕ → List ℕ
-field_of fields i = slice_index_or fields i []
 
 -- the fields are `block,bay,row,tier,container`
 abbrev pub is_header : List (List ℕ) → Bool
@@ -22,21 +12,9 @@ is_header fields =
     && ((bytes_eq (field_of fields 0) (codes "block") && bytes_eq (field_of fields 1) (codes "bay"))
     && (bytes_eq (field_of fields 2) (codes "row") && (bytes_eq (field_of fields 3) (codes "tier") && bytes_eq (field_of fields 4) (codes "container"))))
 
--- 1 to 17 bytes from 0x21 to 0x7E
-abbrev pub is_block : List ℕ → Bool
-is_block bytes = (nat_le 1 (length bytes) && nat_le (length bytes) 17) && list_all is_ascii_graphic bytes
-
 -- 1 to 35 bytes from 0x20 to 0xFF
 abbrev pub is_container : List ℕ → Bool
 is_container bytes = (nat_le 1 (length bytes) && nat_le (length bytes) 35) && list_all (λ b. nat_le 32 b) bytes
-
--- 1 to 4 digits, leading zeros among them
-abbrev pub is_number : List ℕ → Bool
-is_number bytes = (nat_le 1 (length bytes) && nat_le (length bytes) 4) && list_all is_ascii_digit bytes
-
--- the number that the digits write
-abbrev pub number_of : List ℕ → ℕ
-number_of digits = fold (λ n b. n * 10 + (b - 48)) 0 digits
 
 -- five fields, of which the first is a block and the last a container
 abbrev pub is_well_formed : List (List ℕ) → Bool
@@ -50,7 +28,7 @@ has_numbers fields =
 -- the place that a record names
 abbrev pub place_named : List (List ℕ) → YardPlace
 place_named fields = record {
-  bay = record { block = field_of fields 0; bay = number_of (field_of fields 1) };
+  bay = bay_named fields;
   row = number_of (field_of fields 2);
   tier = number_of (field_of fields 3);
 }

@@ -103,5 +103,5 @@ pub fn after(alloc: Global, yard: &Yard, plans: &[BayPlan]) -> Result<Yard, Allo
 {
     let plans = by_bay(alloc, plans)?;
     let bays = bays_after(alloc, yard, &plans)?;
-    Yard::new(alloc, yard.heights(), bays)
+    Yard::new(alloc, yard.sizes().copy(alloc)?, bays)
 }

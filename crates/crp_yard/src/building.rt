@@ -8,6 +8,7 @@ use crate::listing::Listing;
 use crate::place::Place;
 use crate::stacks::Stacks;
 use crp_plan::{BayName, Container};
+use crp_sizes::Sizes;
 use indexmap::IndexMap;
 use std::alloc::{AllocError, Global};
 
@@ -50,16 +51,15 @@ fn stacks_of(
 pub(crate) fn bays_of(
     alloc: Global,
     listing: &Listing,
-    heights: &[u8],
+    sizes: &Sizes,
 ) -> Result<IndexMap<BayName, Stacks>, AllocError>
-    requires { length heights.now ≤ 12 }
-    ensures { IfOk result (λ bays. bays.entries ≡ map (stacked heights.now listing.now) (bays_of listing.now)) }
+    ensures { IfOk result (λ bays. bays.entries ≡ map (stacked sizes.now listing.now) (bays_of listing.now)) }
 {
     let mut bays = IndexMap::new(alloc);
     for i in 0..listing.len() {
         let bay = listing.place(i).bay();
         if !bays.contains_key(bay) {
-            let stacks = stacks_of(alloc, listing, bay, heights)?;
+            let stacks = stacks_of(alloc, listing, bay, sizes.heights_at(bay))?;
             bays.insert(bay.copy(), stacks)?;
         }
     }

@@ -2,24 +2,12 @@
 
 ghost use Rattle.std.specs.Prelude.{◌≡◌, ◌≤◌, ◌&&◌, nat_le, length, IsTrue};
 ghost use Rattle.std.specs.List.{list_all};
-ghost use Rattle.std.specs.Char.{is_ascii_graphic};
 ghost use Rattle.csv.specs.Records.{fields_of};
-ghost use Rattle.crp_yard.specs.Records.{field_of, is_header, is_block, is_container, is_well_formed, has_numbers, is_within, number_of, place_named};
+ghost use Rattle.crp_yard.specs.Records.{is_header, is_container, is_well_formed, has_numbers, is_within, place_named};
 
-use crate::digits::{is_number, number_of};
 use crate::place::Place;
-use crp_plan::BayName;
+use crp_sizes::{bay_of, field, is_block, is_number, number_of};
 use csv::ByteRecord;
-
-/// The field with this number, from 0; no bytes where there is none.
-pub(crate) fn field(fields: &ByteRecord, i: usize) -> &[u8]
-    ensures { result.now ≡ field_of (fields_of fields.now) i }
-{
-    match fields.get(i) {
-        Some(bytes) => bytes,
-        None => b"",
-    }
-}
 
 /// The fields are `block,bay,row,tier,container`.
 pub(crate) fn is_header(fields: &ByteRecord) -> bool
@@ -30,18 +18,6 @@ pub(crate) fn is_header(fields: &ByteRecord) -> bool
         && (field(fields, 2) == b"row".as_slice()
             && (field(fields, 3) == b"tier".as_slice()
                 && field(fields, 4) == b"container".as_slice()))
-}
-
-fn is_block(bytes: &[u8]) -> bool
-    ensures { result ≡ is_block bytes.now }
-{
-    !bytes.is_empty() && bytes.len() <= 17 && are_printed(bytes)
-}
-
-fn are_printed(bytes: &[u8]) -> bool
-    ensures { result ≡ list_all is_ascii_graphic bytes.now }
-{
-    bytes.iter().all(|b| b.is_ascii_graphic())
 }
 
 fn is_container(bytes: &[u8]) -> bool
@@ -79,19 +55,6 @@ pub(crate) fn is_within(fields: &ByteRecord, heights: &[u8]) -> bool
     let (row, tier) = (number_of(field(fields, 2)), number_of(field(fields, 3)));
     let row = row as usize;
     row >= 1 && row <= heights.len() && tier >= 1 && tier <= u16::from(heights[row - 1])
-}
-
-/// The bay that the record names.
-fn bay_of(fields: &ByteRecord) -> BayName
-    requires formed { IsTrue (is_well_formed (fields_of fields.now)) }
-    requires numbers { IsTrue (has_numbers (fields_of fields.now)) }
-    ensures { result ≡ (place_named (fields_of fields.now)).bay }
-{
-    let (block, number) = (field(fields, 0), number_of(field(fields, 1)));
-    match BayName::new(block, number) {
-        Some(name) => name,
-        None => unreachable!(),
-    }
 }
 
 /// The place that the record names.

@@ -9,7 +9,6 @@
 mod bay_plan;
 mod building;
 mod containers;
-mod digits;
 mod fault;
 mod fields;
 mod floating;
@@ -26,12 +25,13 @@ mod yard;
 
 pub use bay_plan::{BayPlan, after};
 pub use containers::Containers;
+pub use crp_sizes::MAX_BYTES;
 pub use fault::YardFault;
 pub use laws::{
     each_stands_in_its_place, first_fault_is_least, floating_by_places, inventory_by_places,
     places_read_back, plans_leave_a_yard, text_reads_back,
 };
-pub use reading::{MAX_BYTES, read_yard, read_yard_heights, yard_of, yard_of_heights};
+pub use reading::{read_yard, read_yard_sizes, yard_of, yard_of_sizes};
 pub use records::MAX_CONTAINERS;
 pub use writing::{write_yard, yard_text};
 pub use yard::Yard;

@@ -4,14 +4,15 @@ ghost use Rattle.std.specs.Prelude.{◌≡◌, ◌⊎◌, ◌<◌, ◌≤◌, �
 ghost use Rattle.csv.specs.Records.{fields_of};
 ghost use Rattle.crp_yard.specs.Records.{records_of, place_named, field_of, entries_of};
 ghost use Rattle.crp_yard.specs.Faults.{max_containers, is_taken, is_named, fault_of, fault_behind, first_fault_up_to, first_fault};
-ghost use Rattle.crp_yard.specs.Listings.{IsAtStart, entries_behind};
+ghost use Rattle.crp_yard.specs.Listings.{entries_behind};
 ghost use Rattle.crp_yard.specs.declared.fault.YardFault.TheVariants.{Memory};
 
 use crate::fault::YardFault;
-use crate::fields::{field, has_numbers, is_header, is_well_formed, is_within, place_of};
+use crate::fields::{has_numbers, is_header, is_well_formed, is_within, place_of};
 use crate::listing::Listing;
 use crate::place::Place;
-use csv::{ByteRecord, ByteRecordsIntoIter, ReaderBuilder};
+use crp_sizes::{Sizes, bay_of, field, rows_of};
+use csv::ByteRecord;
 use std::alloc::Global;
 
 /// More containers are not read.
@@ -22,16 +23,15 @@ pub const MAX_CONTAINERS: usize = 20000;
 fn accepted_place(
     listing: &Listing,
     fields: &ByteRecord,
-    heights: &[u8],
+    sizes: &Sizes,
     number: usize,
 ) -> Result<Place, YardFault>
-    requires rows { length heights.now ≤ 12 }
-    ensures faultless { OnOk result (fault_of heights.now listing.now number (fields_of fields.now) ≡ None) }
+    ensures faultless { OnOk result (fault_of sizes.now listing.now number (fields_of fields.now) ≡ None) }
     ensures place { IfOk result (λ place. place ≡ place_named (fields_of fields.now)) }
     ensures free { IfOk result (λ place. is_taken listing.now place ≡ false) }
     ensures fresh { OnOk result (is_named listing.now (field_of (fields_of fields.now) 4) ≡ false) }
     ensures room { OnOk result (length listing.now < max_containers) }
-    ensures refused { IfErr result (λ fault. fault_of heights.now listing.now number (fields_of fields.now) ≡ Some fault) }
+    ensures refused { IfErr result (λ fault. fault_of sizes.now listing.now number (fields_of fields.now) ≡ Some fault) }
 {
     if !is_well_formed(fields) {
         return Err(YardFault::Fields { record: number });
@@ -39,6 +39,8 @@ fn accepted_place(
     if !has_numbers(fields) {
         return Err(YardFault::Digits { record: number });
     }
+    let bay = bay_of(fields);
+    let heights = sizes.heights_at(&bay);
     if !is_within(fields, heights) {
         return Err(YardFault::Outside { record: number });
     }
@@ -61,16 +63,15 @@ fn take(
     alloc: Global,
     listing: &mut Listing,
     fields: &ByteRecord,
-    heights: &[u8],
+    sizes: &Sizes,
     number: usize,
 ) -> Result<(), YardFault>
     requires room { length listing.old ≤ max_containers }
-    requires rows { length heights.now ≤ 12 }
     ensures few { OnOk result (length listing.new ≤ max_containers) }
-    ensures faultless { OnOk result (fault_behind heights.now listing.old number (fields_of fields.now) ≡ None) }
+    ensures faultless { OnOk result (fault_behind sizes.now listing.old number (fields_of fields.now) ≡ None) }
     ensures taken { OnOk result (listing.new ≡ entries_behind listing.old number (fields_of fields.now)) }
     ensures refused { IfErr result (λ fault. (fault ≡ Memory)
-        ⊎ (fault_behind heights.now listing.old number (fields_of fields.now) ≡ Some fault)) }
+        ⊎ (fault_behind sizes.now listing.old number (fields_of fields.now) ≡ Some fault)) }
 {
     if number == 1 {
         if is_header(fields) {
@@ -78,29 +79,17 @@ fn take(
         }
         return Err(YardFault::Header { record: 1 });
     }
-    let place = accepted_place(listing, fields, heights, number)?;
+    let place = accepted_place(listing, fields, sizes, number)?;
     listing.push(alloc, place, field(fields, 4))?;
     Ok(())
 }
 
-/// The records of a text, as csv reads them in turn. Its header row is one of them, and they may differ in length.
-fn rows_of<'a>(alloc: Global, text: &'a [u8]) -> ByteRecordsIntoIter<&'a [u8]>
-    ensures { IsAtStart text.entry.now result }
-{
-    let reader = ReaderBuilder::new()
-        .has_headers(false)
-        .flexible(true)
-        .from_reader(alloc, text);
-    reader.into_byte_records()
-}
-
 /// What the records of a text say, where none is faulty but by floating.
-pub(crate) fn listing_of(alloc: Global, text: &[u8], heights: &[u8]) -> Result<Listing, YardFault>
-    requires rows { length heights.now ≤ 12 }
-    ensures faultless { OnOk result (first_fault_up_to heights.now (records_of text.now) (max 1 (length (records_of text.now))) ≡ None) }
+pub(crate) fn listing_of(alloc: Global, text: &[u8], sizes: &Sizes) -> Result<Listing, YardFault>
+    ensures faultless { OnOk result (first_fault_up_to sizes.now (records_of text.now) (max 1 (length (records_of text.now))) ≡ None) }
     ensures said { IfOk result (λ listing. listing ≡ entries_of (records_of text.now)) }
     ensures refused { IfErr result (λ fault. (fault ≡ Memory)
-        ⊎ (first_fault heights.now (records_of text.now) ≡ Some fault)) }
+        ⊎ (first_fault sizes.now (records_of text.now) ≡ Some fault)) }
 {
     let mut listing = Listing::new(alloc);
     let mut number = 0;
@@ -109,7 +98,7 @@ pub(crate) fn listing_of(alloc: Global, text: &[u8], heights: &[u8]) -> Result<L
             return Err(YardFault::Memory);
         };
         number += 1;
-        take(alloc, &mut listing, &fields, heights, number)?;
+        take(alloc, &mut listing, &fields, sizes, number)?;
     }
     if number == 0 {
         return Err(YardFault::Header { record: 1 });

@@ -1,24 +1,24 @@
 //! What stands in a yard.
 
-ghost use Rattle.std.specs.Prelude.{◌≡◌, ◌<◌, ◌≤◌, All, IfOk, Some, length, slice_get};
-ghost use Rattle.crp_plan.specs.Rows.{tallest};
-ghost use Rattle.crp_yard.specs.Inventory.{name_at, stack_in_bay, stands, IsYard};
+ghost use Rattle.std.specs.Prelude.{◌≡◌, ◌<◌, ◌≤◌, All, IfOk, IfSome, Some, length, slice_get};
+ghost use Rattle.crp_sizes.specs.Heights.{CanBeHeights};
+ghost use Rattle.crp_yard.specs.Inventory.{name_at, heights_in_bay, stack_in_bay, stands, IsYard};
 ghost use Rattle.crp_yard.specs.Listings.{HasNames};
 
 use crate::containers::Containers;
 use crate::names::names_of;
 use crate::stacks::Stacks;
-use crp_plan::{BayName, Container, tallest};
+use crp_plan::{BayName, Container};
+use crp_sizes::Sizes;
 use indexmap::{IndexMap, IndexSet};
 use std::alloc::{AllocError, Global};
 use std::marker::Model;
 
-/// The bays of a yard in first-seen order, and what stands in them. Each bay has the same rows, each with
-/// its height; no container stands in two places.
+/// The bays of a yard in first-seen order, and what stands in them. Each bay has its rows, each with its
+/// height; no container stands in two places.
 #[derive(Drop)]
 pub struct Yard {
-    heights: Vec<u8>,
-    tiers: u8,
+    sizes: Sizes,
     bays: IndexMap<BayName, Stacks>,
     names: IndexSet<Vec<u8>>,
 }
@@ -29,68 +29,54 @@ impl Model for Yard {
 
     ghost Value = { Inventory };
 
-    ghost view = { λ a. record { heights = a.heights.items; tiers = a.tiers; bays = a.bays.entries } };
+    ghost view = { λ a. record { sizes = a.sizes; bays = a.bays.entries } };
 
-    ghost invariant = { λ a. IsKept (record { heights = a.heights.items; tiers = a.tiers; bays = a.bays.entries }) a.names.keys };
+    ghost invariant = { λ a. IsKept (record { sizes = a.sizes; bays = a.bays.entries }) a.names.keys };
 }
 
 impl Yard {
     /// The yard of these bays.
     pub(crate) fn new(
         alloc: Global,
-        heights: &[u8],
+        sizes: Sizes,
         bays: IndexMap<BayName, Stacks>,
     ) -> Result<Yard, AllocError>
-        requires { IsYard (record { heights = heights.now; tiers = tallest heights.now; bays = bays.entries }) }
-        ensures { IfOk result (λ yard. yard ≡ record { heights = heights.now; tiers = tallest heights.now; bays = bays.entries }) }
+        requires { IsYard (record { sizes = sizes; bays = bays.entries }) }
+        ensures { IfOk result (λ yard. yard ≡ record { sizes = sizes; bays = bays.entries }) }
     {
         let names = names_of(alloc, &bays)?;
-        Yard::with_names(alloc, heights, bays, names)
+        Ok(Yard::with_names(sizes, bays, names))
     }
 
     /// The yard of these bays, where the set has their containers.
     pub(crate) fn with_names(
-        alloc: Global,
-        heights: &[u8],
+        sizes: Sizes,
         bays: IndexMap<BayName, Stacks>,
         names: IndexSet<Vec<u8>>,
-    ) -> Result<Yard, AllocError>
-        requires yard { IsYard (record { heights = heights.now; tiers = tallest heights.now; bays = bays.entries }) }
+    ) -> Yard
+        requires yard { IsYard (record { sizes = sizes; bays = bays.entries }) }
         requires names { HasNames bays.entries names.keys }
-        ensures { IfOk result (λ yard. yard ≡ record { heights = heights.now; tiers = tallest heights.now; bays = bays.entries }) }
+        ensures { result ≡ record { sizes = sizes; bays = bays.entries } }
     {
-        let tiers = tallest(heights);
-        let heights = Vec::from_slice(alloc, heights)?;
-        Ok(Yard {
-            heights,
-            tiers,
-            bays,
-            names,
-        })
+        Yard { sizes, bays, names }
     }
 
-    /// How many rows each bay has, 1 to 12.
-    pub fn rows(&self) -> u8
-        ensures value { result ≡ length self.now.heights }
+    /// The size of each bay.
+    pub fn sizes(&self) -> &Sizes
+        ensures value { result.now ≡ self.now.sizes }
         ensures yard { IsYard self.now }
     {
-        self.heights.len() as u8
+        &self.sizes
     }
 
-    /// How many tiers each row has, 1 to 8, from row 1.
-    pub fn heights(&self) -> &[u8]
-        ensures value { result.now ≡ self.now.heights }
+    /// How many tiers each row of a bay has, from row 1: 1 to 12 rows of 1 to 8 tiers. Bays are numbered from 0 in first-seen order.
+    pub fn heights(&self, bay: usize) -> &[u8]
+        requires { bay < length self.now.bays }
+        ensures value { heights_in_bay self.now bay ≡ Some result.now }
+        ensures heights { CanBeHeights result.now }
         ensures yard { IsYard self.now }
     {
-        &self.heights
-    }
-
-    /// The most tiers of a row, 1 to 8.
-    pub fn tiers(&self) -> u8
-        ensures value { result ≡ self.now.tiers }
-        ensures yard { IsYard self.now }
-    {
-        self.tiers
+        self.sizes.heights_at(self.name(bay))
     }
 
     /// How many bays there are.
@@ -130,7 +116,7 @@ impl Yard {
     pub fn stack(&self, bay: usize, row: u8) -> &[Container]
         requires bay { bay < length self.now.bays }
         requires counts { 1 ≤ row }
-        requires there { row ≤ length self.now.heights }
+        requires there { IfSome (heights_in_bay self.now bay) (λ heights. row ≤ length heights) }
         ensures { stack_in_bay self.now bay row ≡ Some result.now }
     {
         match self.bays.get_index(bay) {

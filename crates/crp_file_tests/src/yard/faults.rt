@@ -1,4 +1,5 @@
 use crate::compare::assert_same;
+use crp_sizes::SizesFault;
 use crp_yard::YardFault;
 use std::alloc::AllocError;
 use std::process::Abort;
@@ -24,6 +25,14 @@ fn texts_of_faults(rt: HostRuntime) -> Result<(), Fail> {
     ];
     for (fault, want) in faults {
         assert_text(&rt, fault, want)?;
+    }
+    let faults = [
+        (SizesFault::Read, "Z7 at record 0"),
+        (SizesFault::Memory, "no memory is left"),
+    ];
+    for (fault, want) in faults {
+        let text = fault.to_string(rt.alloc())?;
+        assert_same(&rt, &text.as_str(), &want);
     }
     Ok(())
 }

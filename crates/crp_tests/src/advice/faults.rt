@@ -3,6 +3,7 @@ use crp_cert::CertFault;
 use crp_movins::MovinsFault;
 use crp_plan::PlanFault;
 use crp_report::{Fault, Input, Output};
+use crp_sizes::SizesFault;
 use crp_words::SettingFault;
 use crp_yard::YardFault;
 use edi_text::EdiFault;
@@ -46,6 +47,16 @@ pub(super) const OF_YARD_LISTS: [YardFault; 9] = [
     YardFault::StandsAlready { record: 7 },
     YardFault::TooMany { record: 8 },
     YardFault::TooLarge,
+];
+
+// Faults of a list of sizes.
+pub(super) const OF_SIZES: [SizesFault; 6] = [
+    SizesFault::Header { record: 1 },
+    SizesFault::Fields { record: 2 },
+    SizesFault::Digits { record: 3 },
+    SizesFault::Heights { record: 4 },
+    SizesFault::Twice { record: 5 },
+    SizesFault::TooLarge,
 ];
 
 // Faults of the text of a certificate.

@@ -2,6 +2,7 @@ use Rattle.std.proofs.Common.{List, subst}
 use Rattle.crp_plan.specs.declared.moves.Move.{Move}
 use Rattle.crp_plan.specs.Bay.{path_of}
 use Rattle.crp_tree.specs.First.{IsFirstBest}
+use Rattle.crp_sizes.specs.Sizes.{heights_at}
 use Rattle.crp_order.specs.BayProblems.{problem_of}
 use Rattle.crp_said.specs.declared.said.Said.TheVariants.{First}
 use Rattle.crp_audit.specs.Headline.{Reported}
@@ -13,7 +14,7 @@ returns-clause-first c = λ h bay lines certificate count moves is promised prin
     let b : Reported = record { bay = bay; said = First count; lines = lines; certificate = certificate } in
     let prints = promised.so.0 in
     let one = c.one_plan_is_printed.ensures h b prints.plan.moves moves is prints.plan.printed printed in
-    subst (λ (ms : List Move). IsFirstBest (problem_of h.yard.heights h.sequence bay.1) (path_of ms)) one prints.first
+    subst (λ (ms : List Move). IsFirstBest (problem_of (heights_at h.yard.sizes bay.0) h.sequence bay.1) (path_of ms)) one prints.first
 
 pub returns-clause-stated : goal.returns-clause-stated
 returns-clause-stated c = λ h bay lines certificate count moves is promised printed.

@@ -1,7 +1,5 @@
 use Rattle.std.proofs.Common.{◌≡◌, ◌∙◌, List, [], ◌∷◌, map, refl, sym}
 use Rattle.std.specs.List.{AllZip}
-use Rattle.crp_plan.specs.BayNames.{YardBay}
-use Rattle.crp_said.specs.declared.said.Said.{Said}
 use Rattle.crp_said.specs.Said.{BaySaid}
 use Rattle.crp_report.specs.Answered.{Answered}
 use Rattle.crp_report.specs.Said.{IsSaidOf}

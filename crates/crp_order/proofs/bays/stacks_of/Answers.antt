@@ -1,7 +1,8 @@
-use Rattle.std.proofs.Common.{◌≡◌, ◌+◌, ◌-◌, ◌∙◌, ap, sym, arith, Some, [], ◌∷◌, ◌++◌, slice_get}
+use Rattle.std.proofs.Common.{◌≡◌, ◌+◌, ◌-◌, ◌∙◌, ap, sym, arith, Some, [], ◌∷◌, ◌++◌, length, slice_get}
+use Rattle.std.specs.Prelude.{unwrap_or}
 use Rattle.std.proofs.lemmas.List.{map-append, take_all}
 use Rattle.crp_yard.proofs.YardSteps.{fit_rows}
-use Rattle.crp_order.specs.Groups.{pointed, stacks_numbered}
+use Rattle.crp_order.specs.Groups.{pointed, stacks_numbered, heights_numbered}
 use Rattle.crp_order.proofs.YardSteps.{stack_of_bay, take_next, fits}
 use Rattle.crp_order.proofs.bays.stacks_of.Goals as goal
 
@@ -17,5 +18,6 @@ loop-i-preserved c =
 
 pub returns : goal.returns
 returns c =
-    let fit = fits c.args.yard.now c.args.bay c.rows-i-end.ensures.yard c.requires in
-    c.loop-i.invariant ∙ take_all c.loop-i.i (stacks_numbered c.args.yard.now c.args.bay) (omega (arith, fit_rows c.args.yard.now.heights (stacks_numbered c.args.yard.now c.args.bay) fit, c.rows-i-end.ensures.value, c.loop-i-test.false))
+    let fit = fit_rows (heights_numbered c.args.yard.now c.args.bay) (stacks_numbered c.args.yard.now c.args.bay) (fits c.args.yard.now c.args.bay c.heights.ensures.yard c.requires) in
+    let heights : heights_numbered c.args.yard.now c.args.bay ≡ c.heights.result.now = ap (λ h. unwrap_or h []) c.heights.ensures.value in
+    c.loop-i.invariant ∙ take_all c.loop-i.i (stacks_numbered c.args.yard.now c.args.bay) (omega (arith, fit, ap length heights, c.loop-i-test.false))

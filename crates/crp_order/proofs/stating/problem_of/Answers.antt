@@ -1,10 +1,11 @@
-use Rattle.std.proofs.Common.{◌≡◌, ◌≤◌, ◌∙◌, ap, arith, length}
+use Rattle.std.proofs.Common.{◌≡◌, ◌≤◌, ◌∙◌, ap, arith, length, []}
+use Rattle.std.specs.Prelude.{unwrap_or}
 use Rattle.std.proofs.lemmas.List.{length-map}
 use Rattle.std.proofs.lemmas.Bool.{false≢true}
 use Rattle.crp_plan.specs.Bay.{IsProblem}
 use Rattle.crp_plan.specs.Faults.{stated_with, stacks_of}
 use Rattle.crp_order.specs.BayProblems.{ranks_in}
-use Rattle.crp_order.specs.Groups.{pointed, stacks_numbered, names_behind}
+use Rattle.crp_order.specs.Groups.{pointed, stacks_numbered, heights_numbered, names_behind}
 use Rattle.crp_order.proofs.StatingSteps.{bay_is_problem, few_names, few_left}
 use Rattle.crp_order.proofs.stating.problem_of.Goals as goal
 
@@ -30,6 +31,7 @@ unreachable-requires c =
     let names : c.deref-2.result.now ≡ names_behind left own = c.deref-2.ensures.value ∙ c.in_ok-names.ensures ∙ ap (names_behind left) stacks in
     let ranks : stacks_of c.deref-4.result.now ≡ ranks_in (names_behind left own) own =
     ap stacks_of c.deref-4.ensures.value ∙ c.in_ok-ranks.ensures ∙ ap (λ n. ranks_in n (pointed c.deref-3.result.now)) names ∙ ap (ranks_in (names_behind left own)) again in
+    let heights : heights_numbered c.args.yard.now c.args.bay ≡ c.heights-heights.result.now = ap (λ h. unwrap_or h []) c.heights-heights.ensures.value in
     let is : IsProblem (stated_with c.heights-heights.result.now (length c.args.leaving.now) (stacks_of c.deref-4.result.now)) =
-    rw (c.heights-heights.ensures.value, ranks, ← length-map c.args.leaving.now (λ reference. reference.now)) (bay_is_problem c.args.yard.now c.args.bay left c.heights-heights.ensures.yard c.requires.bay c.requires.leaving) in
+    rw (← heights, ranks, ← length-map c.args.leaving.now (λ reference. reference.now)) (bay_is_problem c.args.yard.now c.args.bay left c.heights-heights.ensures.yard c.requires.bay c.requires.leaving) in
     false≢true (c.in-Err.ensures.accepted.1 is)

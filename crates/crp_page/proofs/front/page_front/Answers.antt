@@ -15,10 +15,9 @@ returns c =
       c.in_ok-push_paragraph.ensures,
       c.in_ok-push_page_head.ensures,
       c.new-text.ensures.items,
-      c.rows.ensures.value,
-      c.tiers.ensures.value,
       c.count.ensures.value,
       c.deref.ensures.value,
-      c.heights.ensures.value,
+      c.common-heights.ensures.value,
+      c.sizes.ensures.value,
     )
-    (regroup4 [] (page_head (length yard.heights) yard.tiers) (paragraph (length yard.bays) c.args.followed.now.numbers bays) (table bays) (page_key yard.heights))
+    (regroup4 [] (page_head yard.sizes.common) (paragraph (length yard.bays) c.args.followed.now.numbers bays) (table bays) (page_key yard.sizes.common))

@@ -10,7 +10,7 @@ use Rattle.crp_page.proofs.writing.write_frames.Given as goal
 
 abbrev pub invariant-loop-frame : goal.invariant-loop-frame
 invariant-loop-frame g l = record {
-  wrote : Writes (flat_map (frame_figure l.rows l.tiers (bay_followed l.bay)) (map frame_as (take l.frame-index l.frames)))
+  wrote : Writes (flat_map (frame_figure l.on (bay_followed l.bay)) (map frame_as (take l.frame-index l.frames)))
       (sink_now (g.W.Sink.contents l.initial.sink) (g.W.Sink.failures l.initial.sink) (g.W.Sink.interrupted l.initial.sink) l.initial.interruptions)
       (sink_now (g.W.Sink.contents l.sink) (g.W.Sink.failures l.sink) (g.W.Sink.interrupted l.sink) l.interruptions);
   passed : l.interruptions ≤ most_interruptions;

@@ -1,7 +1,8 @@
-use Rattle.std.proofs.Common.{◌∙◌, ℕ, List, length, map, ap, subst, sym}
+use Rattle.std.proofs.Common.{◌∙◌, List, map, ap, subst, sym}
 use Rattle.std.specs.Prelude.{codes}
 use Rattle.std.specs.List.{AllByRecursion}
 use Rattle.std.proofs.lemmas.Result.{err_from_is_err_and}
+use Rattle.crp_sizes.specs.Sizes.{YardSizes}
 use Rattle.crp_follow.specs.Views.{bay_followed}
 use Rattle.crp_follow.specs.declared.followed.FollowedBay.{FollowedBay}
 use Rattle.crp_follow.specs.Table.{StandFew}
@@ -14,16 +15,16 @@ use Rattle.crp_page.proofs.Writes.{stops_before, stops_behind, writes_as, stops_
 use Rattle.crp_page.proofs.writing.write_parts.Goals as goal
 
 pub page_front-requires : goal.page_front-requires
-page_front-requires g c = few_at_end c.what_columns_say.ensures.left c.args.yard.now c.requires.followed.0 _ _ c.rows-rows.ensures.yard c.requires.followed.1
+page_front-requires g c = few_at_end c.what_columns_say.ensures.left c.args.yard.now c.requires.followed.0 _ _ c.sizes-sizes.ensures.yard c.requires.followed.1
 
 pub write_sections-requires-clause-few : goal.write_sections-requires-clause-few
 write_sections-requires-clause-few g c = subst (λ l. AllByRecursion StandFew (map bay_followed l)) (sym c.deref-bays.ensures.value)
-    (few_at_start c.args.yard.now c.requires.followed.0 _ _ c.rows-rows.ensures.yard c.requires.followed.1)
+    (few_at_start c.args.yard.now c.requires.followed.0 _ _ c.sizes-sizes.ensures.yard c.requires.followed.1)
 
 pub write_sections-requires-clause-left : goal.write_sections-requires-clause-left
 write_sections-requires-clause-left g c =
     subst (λ l. AllByRecursion LeaveFew (map bay_followed l)) (sym c.deref-bays.ensures.value)
-    (few_at_end c.what_columns_say.ensures.left c.args.yard.now c.requires.followed.0 _ _ c.rows-rows.ensures.yard c.requires.followed.1)
+    (few_at_end c.what_columns_say.ensures.left c.args.yard.now c.requires.followed.0 _ _ c.sizes-sizes.ensures.yard c.requires.followed.1)
 
 pub returns-in_err-write_made : goal.returns-in_err-write_made
 returns-in_err-write_made g c =
@@ -37,19 +38,15 @@ returns-in_err-write_sections g c =
     let p = err_from_is_err_and c.from_residual-in_err-write_sections.result c.from_residual-in_err-write_sections.ensures.1 in
     let bays = c.args.followed.now.bays.items in
     let front = page_front c.args.yard.now c.args.followed.now.numbers (map bay_followed bays) in
-    let texts = λ (r t : ℕ) (l : List FollowedBay). numbered_text (section r t) 1 (map bay_followed l) in
-    let heights = c.args.yard.now.heights in
-    let same = ap (λ r. texts r c.tiers-tiers.result c.deref-bays.result.now) c.rows-rows.ensures.value ∙ ap (λ t. texts (length heights) t c.deref-bays.result.now) c.tiers-tiers.ensures.value
-    ∙ ap (λ l. texts (length heights) c.args.yard.now.tiers l) c.deref-bays.ensures.value in
+    let texts = λ (sizes : YardSizes) (l : List FollowedBay). numbered_text (section sizes) 1 (map bay_followed l) in
+    let same = ap (λ sizes. texts sizes c.deref-bays.result.now) c.sizes-sizes.ensures.value ∙ ap (texts c.args.yard.now.sizes) c.deref-bays.ensures.value in
     rw (p.1, p.2) (stops_behind front _ _ _ _ _ (c.in_ok-write_made.ensures.wrote front c.page_front.ensures) (stops_before _ _ _ _ _ (stops_as same c.in_err-write_sections.ensures.wrote)))
 
 pub returns : goal.returns
 returns g c =
     let bays = c.args.followed.now.bays.items in
     let front = page_front c.args.yard.now c.args.followed.now.numbers (map bay_followed bays) in
-    let texts = λ (r t : ℕ) (l : List FollowedBay). numbered_text (section r t) 1 (map bay_followed l) in
-    let heights = c.args.yard.now.heights in
-    let same = ap (λ r. texts r c.tiers-tiers.result c.deref-bays.result.now) c.rows-rows.ensures.value ∙ ap (λ t. texts (length heights) t c.deref-bays.result.now) c.tiers-tiers.ensures.value
-    ∙ ap (λ l. texts (length heights) c.args.yard.now.tiers l) c.deref-bays.ensures.value in
+    let texts = λ (sizes : YardSizes) (l : List FollowedBay). numbered_text (section sizes) 1 (map bay_followed l) in
+    let same = ap (λ sizes. texts sizes c.deref-bays.result.now) c.sizes-sizes.ensures.value ∙ ap (texts c.args.yard.now.sizes) c.deref-bays.ensures.value in
     wrote_then c.write_made-2.result front _ _ _ _ (c.in_ok-write_made.ensures.wrote front c.page_front.ensures)
     (wrote_then c.write_made-2.result _ _ _ _ _ (writes_as same c.in_ok-write_sections.ensures.wrote) (c.write_made-2.ensures.wrote (codes "</main></body></html>\n") c.from_slice.ensures.items))

@@ -1,5 +1,6 @@
 use Rattle.std.proofs.Common.{MatchResult, inl, rules, arith}
 use Rattle.std.proofs.lemmas.Result.{err_from_is_err_and}
+use Rattle.std.proofs.KnownBytes.{Keeps-refl}
 use Rattle.std.proofs.Math.Path.{subst⁻¹}
 use Rattle.crp_report.specs.Runs.{RunSeen, RunEnds, RunFails, source_seen, sink_seen}
 use Rattle.crp_report.proofs.Runs.{list_refused, message_refused, run_ended}
@@ -10,7 +11,7 @@ pub returns-in_err-yard-clause-written : goal.returns-in_err-yard-clause-written
 returns-in_err-yard-clause-written g c =
     let p = err_from_is_err_and c.from_residual.result c.from_residual.ensures.1 in
     rw (p.1, p.2) (
-      list_refused c.args.settings.now _ c.in_err-yard.field-0.0 (search rules) (rw c.input-input.ensures.value at (rw c.heights.ensures.value at c.in_err-yard.ensures.refused)),
+      list_refused c.args.settings.now _ c.in_err-yard.field-0.0 (search rules) (rw c.input-input.ensures.value at (rw c.sizes.ensures.value at c.in_err-yard.ensures.refused)),
       omega (arith, c.in_err-yard.ensures.counted, c.in_err-yard.ensures.passed),
     )
 
@@ -22,7 +23,9 @@ returns-in_err-segments-clause-written g c =
     let p = err_from_is_err_and c.from_residual-in_err-segments.result c.from_residual-in_err-segments.ensures.1 in
     let (list, given, listed) = c.in_ok-yard.ensures.accepted in
     rw (p.1, p.2) (
-      message_refused c.args.settings.now _ c.in_err-segments.field-0.0 (search rules) (list, c.in_ok-yard.yard, given, rw c.input-input.ensures.value at (rw c.heights.ensures.value at listed))
+      message_refused c.args.settings.now _ c.in_err-segments.field-0.0
+          (Keeps-refl (g.W.Sink.contents c.args.out.now), Keeps-refl (g.C.Sink.contents c.args.devices.now.certificates), Keeps-refl (g.A.Sink.contents c.args.devices.now.yard_after))
+          (list, c.in_ok-yard.yard, given, rw c.input-input.ensures.value at (rw c.sizes.ensures.value at listed))
           (rw c.input-input.ensures.value at (rw c.code.ensures at c.in_err-segments.ensures.refused)),
       omega (arith, c.in_ok-yard.ensures.counted, c.in_err-segments.ensures.counted, c.in_err-segments.ensures.passed),
     )
@@ -55,7 +58,7 @@ returns-clause-written g c =
     c.in_ok-work.work.first.items _ (record {
       given_list = given_list;
       given_message = given_message;
-      listed = rw c.input-input.ensures.value at (rw c.heights.ensures.value at listed);
+      listed = rw c.input-input.ensures.value at (rw c.sizes.ensures.value at listed);
       ordered = rw c.input-input.ensures.value at (rw c.code.ensures at ordered);
       in_sequence = c.in_ok-work.ensures.sequence;
     }) c.in_ok-work.ensures.first c.in_ok-work.ensures.problems c.in_ok-yard.ensures.counted c.in_ok-segments.ensures.counted

@@ -1,7 +1,7 @@
 use Rattle.std.proofs.Common.{sym}
 use Rattle.csv.specs.Records.{fields_of}
 use Rattle.csv.proofs.RecordFacts.{field-get}
-use Rattle.crp_yard.proofs.FieldSteps.{no_field}
+use Rattle.crp_sizes.proofs.FieldSteps.{no_field}
 use Rattle.crp_sizes.proofs.fields.field.Goals as goal
 
 pub returns-in-Some : goal.returns-in-Some

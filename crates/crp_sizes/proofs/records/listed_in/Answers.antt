@@ -1,7 +1,7 @@
 use Rattle.std.proofs.Common.{◌∷◌, ◌++◌, [], refl, sym, ◌∙◌, inl, inr, ⊎_elim, subst}
 use Rattle.std.proofs.lemmas.Result.{err_from_is_err_and}
 use Rattle.csv.specs.Records.{fields_of}
-use Rattle.crp_yard.specs.Records.{records_of}
+use Rattle.crp_sizes.specs.Fields.{records_of}
 use Rattle.crp_sizes.specs.Records.{header, GiveSizes}
 use Rattle.crp_sizes.proofs.HeaderSteps.{header_is, no_header, none_there}
 use Rattle.crp_sizes.proofs.RowSteps.{started, read_more, read_next, read_all}
@@ -33,7 +33,7 @@ loop-row-init c =
     let begun = read_more c.args.text.now [] fields c.rows_of-rows.result c.next.new.self at read.0 read.1 read.2 step.3 in
     let is = header_is fields (sym c.is_header.ensures ∙ c.if-not-is_header.false) in
     let start = c.into_iter-row-iterator.ensures.into_iter_gives ∙ refl in
-    ([], rw start (rw is at begun), rw c.new-sizes.ensures (record { given = tt; once = tt }))
+    ([], rw start (rw is at begun), rw c.of_heights-sizes.ensures (record { given = tt; once = tt }), rw c.of_heights-sizes.ensures refl)
 
 pub returns-in_err-take-clause-refused : goal.returns-in_err-take-clause-refused
 returns-in_err-take-clause-refused c =
@@ -44,7 +44,7 @@ returns-in_err-take-clause-refused c =
     let fields = fields_of c.in-Ok.fields in
     let text = c.args.text.now in
     let next = read_next text (header ∷ inv.0) fields c.next-in-loop-row.new.self (read_more text (header ∷ inv.0) fields c.loop-row.row-iterator c.next-in-loop-row.new.self inv.1 read.0 read.1 read.2 step.3) in
-    rw (p.1, p.2) (⊎_elim (λ h. inl h) (λ h. inr (faulty_next (records_of text) inv.0 c.loop-row.sizes fields _ next inv.2 h)) c.in_err-take.ensures.refused)
+    rw (p.1, p.2) (⊎_elim (λ h. inl h) (λ h. inr (faulty_next (records_of text) inv.0 c.loop-row.sizes.listed fields _ next inv.2 h)) c.in_err-take.ensures.refused)
 
 pub loop-row-preserved : goal.loop-row-preserved
 loop-row-preserved c =
@@ -56,9 +56,10 @@ loop-row-preserved c =
       inv.0 ++ fields ∷ [],
       read_more c.args.text.now (header ∷ inv.0) fields c.loop-row.row-iterator c.next-in-loop-row.new.self inv.1 read.0 read.1 read.2 step.3,
       record {
-        given = subst (GiveSizes (inv.0 ++ fields ∷ [])) (sym taken.3) (one_size_more inv.0 c.loop-row.sizes fields taken.0 inv.2.given taken.1);
+        given = subst (GiveSizes (inv.0 ++ fields ∷ [])) (sym taken.3) (one_size_more inv.0 c.loop-row.sizes.listed fields taken.0 inv.2.given taken.1);
         once = c.in_ok-take.ensures.once;
       },
+      c.in_ok-take.ensures.common ∙ inv.3,
     )
 
 pub returns-clause-accepted : goal.returns-clause-accepted
@@ -70,3 +71,6 @@ returns-clause-accepted c =
       begun = read_all c.args.text.now (header ∷ inv.0) c.loop-row.row-iterator c.next-in-loop-row.new.self inv.1 read;
       sized = inv.2;
     }
+
+pub returns-clause-common : goal.returns-clause-common
+returns-clause-common c = c.loop-row.invariant.3

@@ -1,7 +1,8 @@
 use Rattle.std.proofs.Common.{rules, ap, refl, ◌+◌, inr, subst}
 use Rattle.std.specs.Prelude.{IsSome}
 use Rattle.csv.specs.Records.{fields_of}
-use Rattle.crp_sizes.specs.Records.{BaySize, GivesSize}
+use Rattle.crp_sizes.specs.Sizes.{BaySize}
+use Rattle.crp_sizes.specs.Records.{GivesSize}
 use Rattle.crp_sizes.proofs.records.take.Goals as goal
 
 pub returns-in-Some-heights_of-clause-refused : goal.returns-in-Some-heights_of-clause-refused

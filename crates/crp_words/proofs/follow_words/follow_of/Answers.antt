@@ -46,8 +46,9 @@ returns-clause-ok c = (
   (
     c.in_ok-yard.ensures.ok,
     c.in_ok-report.ensures.ok,
-    sym (first_value-rows (found_of c.args.matches.now) (codes "movins")) ∙ sym c.get_str.ensures,
-    sym (first_value-rows (found_of c.args.matches.now) (codes "page")) ∙ sym c.get_str-2.ensures,
+    sym (first_value-rows (found_of c.args.matches.now) (codes "movins")) ∙ sym c.get_str-2.ensures,
+    sym (first_value-rows (found_of c.args.matches.now) (codes "page")) ∙ sym c.get_str-3.ensures,
+    sym (first_value-rows (found_of c.args.matches.now) (codes "sizes")) ∙ sym c.get_str.ensures,
   ),
   c.in_ok-settings.ensures.ok,
 )

@@ -1,7 +1,7 @@
 use Rattle.std.proofs.Common.{◌≡◌, ◌∙◌, Bor, List, ℕ, Some, ap, codes, option_map, refl, sym}
 use Rattle.clap.specs.Words.{first_value, found_of}
 use Rattle.clap.proofs.WalkLemmas.{first_value-rows}
-use Rattle.crp_words.specs.Heights.{IsHeightsText}
+use Rattle.crp_sizes.specs.Heights.{IsHeightsText}
 use Rattle.crp_words.proofs.HeightSteps.{found_heights, none_found, found_beyond}
 use Rattle.crp_words.proofs.input_words.heights_of.Goals as goal
 

@@ -1,7 +1,8 @@
-use Rattle.std.proofs.Common.{◌∙◌, sym}
+use Rattle.std.proofs.Common.{◌∙◌, codes, refl, sym}
 use Rattle.std.proofs.lemmas.Bool.{false≢true}
 use Rattle.std.proofs.lemmas.Result.{err_from_is_err_and}
 use Rattle.clap.specs.Words.{found_of, rows_of}
+use Rattle.clap.proofs.WalkLemmas.{first_value-rows}
 use Rattle.crp_words.specs.Words.{IsSizedTwice}
 use Rattle.crp_words.proofs.Lacking.{no_audit, audit_sized_twice}
 use Rattle.crp_words.proofs.words.audit_of.Goals as goal
@@ -15,3 +16,17 @@ returns-in_err-settings-clause-err c =
     let once : ¬ IsSizedTwice (rows_of (found_of c.args.matches.now)) = λ twice. false≢true (sym c.if-is_sized_twice.false ∙ c.is_sized_twice.ensures.1 twice) in
     let p = err_from_is_err_and c.from_residual.result c.from_residual.ensures.1 in
     rw (p.1, p.2) (no_audit (rows_of (found_of c.args.matches.now)) c.in_err-settings.field-0.0 once c.in_err-settings.ensures.err)
+
+pub returns-clause-ok : goal.returns-clause-ok
+returns-clause-ok c = (
+  refl,
+  (λ twice. false≢true (sym c.if-is_sized_twice.false ∙ c.is_sized_twice.ensures.1 twice)),
+  (
+    c.in_ok-text_of.ensures.ok,
+    c.in_ok-text_of-2.ensures.ok,
+    c.in_ok-text_of-3.ensures.ok,
+    c.in_ok-text_of-4.ensures.ok,
+    sym (first_value-rows (found_of c.args.matches.now) (codes "sizes")) ∙ sym c.get_str.ensures,
+  ),
+  c.in_ok-settings.ensures.ok,
+)

@@ -38,8 +38,9 @@ returns-clause-ok c = (
   (
     c.in_ok-yard.ensures.ok,
     c.in_ok-movins.ensures.ok,
-    sym (first_value-rows (found_of c.args.matches.now) (codes "cert")) ∙ sym c.get_str.ensures,
-    sym (first_value-rows (found_of c.args.matches.now) (codes "after")) ∙ sym c.get_str-2.ensures,
+    sym (first_value-rows (found_of c.args.matches.now) (codes "cert")) ∙ sym c.get_str-2.ensures,
+    sym (first_value-rows (found_of c.args.matches.now) (codes "after")) ∙ sym c.get_str-3.ensures,
+    sym (first_value-rows (found_of c.args.matches.now) (codes "sizes")) ∙ sym c.get_str.ensures,
   ),
   c.in_ok-settings.ensures.ok,
   c.is_given.ensures,

@@ -13,4 +13,4 @@ invariant-loop-row l =
     × (l.row-iterator.rdr.flexible ≡ true) × (length l.listing ≤ max_containers)
     × (y : List ℕ) × (source_of (λ s. Some s.now) l.row-iterator.rdr ≡ Some y)
     × (records : List (List (List ℕ))) × Reached default_config st.StartRecord (strip_bom l.fn.text) records l.row-iterator.rdr.state y
-    × IsRead l.fn.heights records l.listing l.number
+    × IsRead l.fn.sizes records l.listing l.number
