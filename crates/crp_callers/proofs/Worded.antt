@@ -137,7 +137,7 @@ check_is_done (OneFile file (command.Bound chains)) (free, (name, is)) seen ende
 check_is_done (OneFile file (command.Prove chosen)) (free, (name, is)) seen ended bytes lines given held holds done =
     absurd (other_letter 99 112 _ _ refl name.0)
 check_is_done (Audit names settings) (free, (name, size, files, has)) seen ended bytes lines given held holds done = absurd (other_letter 99 97 _ _ refl name)
-check_is_done (Follow names settings) (free, (name, size, ordered, twice, files, has)) seen ended bytes lines given held holds done = absurd (other_letter 99 102 _ _ refl name)
+check_is_done (Follow names settings) (free, (name, clear, files, has)) seen ended bytes lines given held holds done = absurd (other_letter 99 102 _ _ refl name)
 check_is_done (Solve names settings quiet progress) (free, (name, size, twice, files, has, a, b)) seen ended bytes lines given held holds done =
     absurd (other_letter 99 115 _ _ refl name)
 
@@ -226,7 +226,7 @@ job_is_linked seen errors status one (OneFile file (command.Bound chains)) (free
 job_is_linked seen errors status one (OneFile file (command.Check any_size)) (free, (name, is)) ends = absurd (other_letter 115 99 _ _ refl name.0)
 job_is_linked seen errors status one (OneFile file (command.Prove chosen)) (free, (name, is)) ends = absurd (other_letter 115 112 _ _ refl name.0)
 job_is_linked seen errors status one (Audit names settings) (free, (name, size, files, has)) ends = absurd (other_letter 115 97 _ _ refl name)
-job_is_linked seen errors status one (Follow names settings) (free, (name, size, ordered, twice, files, has)) ends = absurd (other_letter 115 102 _ _ refl name)
+job_is_linked seen errors status one (Follow names settings) (free, (name, clear, files, has)) ends = absurd (other_letter 115 102 _ _ refl name)
 
 two_four_or_five : (status : ℕ) → (status ≡ 2) ⊎ (status ≡ 4) → (status ≡ 2) ⊎ ((status ≡ 4) ⊎ (status ≡ 5))
 two_four_or_five status (inl two) = inl two
@@ -303,7 +303,7 @@ limits_ask (OneFile file (command.Bound chains)) (free, (name, is)) = absurd (ot
 limits_ask (OneFile file (command.Check any_size)) (free, (name, is)) = absurd (other_letter 115 99 _ _ refl name.0)
 limits_ask (OneFile file (command.Prove chosen)) (free, (name, is)) = absurd (other_letter 115 112 _ _ refl name.0)
 limits_ask (Audit names settings) (free, (name, size, files, has)) = absurd (other_letter 115 97 _ _ refl name)
-limits_ask (Follow names settings) (free, (name, size, ordered, twice, files, has)) = absurd (other_letter 115 102 _ _ refl name)
+limits_ask (Follow names settings) (free, (name, clear, files, has)) = absurd (other_letter 115 102 _ _ refl name)
 
 -- the rows of a command, if there is one
 abbrev rows_in : Option (Text × List Row) → List Row
@@ -355,5 +355,5 @@ strong_asks (OneFile file command.Replay) (free, (name, is)) = absurd (other_let
 strong_asks (OneFile file (command.Bound chains)) (free, (name, is)) = absurd (other_letter 112 98 _ _ refl name.0)
 strong_asks (OneFile file (command.Check any_size)) (free, (name, is)) = absurd (other_letter 112 99 _ _ refl name.0)
 strong_asks (Audit names settings) (free, (name, size, files, has)) = absurd (other_letter 112 97 _ _ refl name)
-strong_asks (Follow names settings) (free, (name, size, ordered, twice, files, has)) = absurd (other_letter 112 102 _ _ refl name)
+strong_asks (Follow names settings) (free, (name, clear, files, has)) = absurd (other_letter 112 102 _ _ refl name)
 strong_asks (Solve names settings quiet progress) (free, (name, size, twice, files, has, a, b)) = absurd (other_letter 112 115 _ _ refl name)

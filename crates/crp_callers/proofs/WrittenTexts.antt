@@ -1,6 +1,6 @@
 -- What the commands `audit` and `follow` say of lists of bytes.
-use Rattle.std.proofs.Common.{◌≡◌, ◌≢◌, ◌≤◌, ℕ, List, [], length, Some, None, Option, Result, Ok, Err, subst}
-use Rattle.std.specs.Prelude.{MatchResult, OnOk}
+use Rattle.std.proofs.Common.{◌≡◌, ◌≢◌, ◌≤◌, ◌∙◌, ℕ, List, [], length, Some, None, Option, Result, Ok, Err, refl, subst, sym}
+use Rattle.std.specs.Prelude.{MatchResult, OnOk, IsTrue, is_some}
 use Rattle.std.specs.Io.KnownBytes.{Appends}
 use Rattle.std.specs.List.{AllByRecursion}
 use Rattle.crp_plan.specs.BayNames.{YardBay}
@@ -10,6 +10,7 @@ use Rattle.crp_yard.specs.Reading.{IsTextOf, IsYardListOf}
 use Rattle.crp_movins.specs.LoadOrders.{LoadOrders}
 use Rattle.crp_checker.specs.declared.verdict.Verdict.{Verdict}
 use Rattle.crp_said.specs.Spelled.{most, AreSmall}
+use Rattle.crp_follow.specs.Behind.{IsListBehind}
 use Rattle.crp_follow.specs.Followed.{IsFollowed}
 use Rattle.crp_report.specs.Chosen.{InputChosen}
 use Rattle.crp_report.specs.Runs.{SourceSeen, SinkSeen, AreOrders, Gets}
@@ -20,8 +21,8 @@ use Rattle.crp_audit.specs.Headline.{Reported, numbers_in, Handed, handed, IsHea
 use Rattle.crp_jobs.specs.declared.outcome.ToolFault.{ToolFault}
 use Rattle.crp_jobs.specs.declared.outcome.ToolFault.TheVariants as fault
 use Rattle.crp_commands.specs.Audit.{AuditSeen, Audits, AuditFailsWith, IsInputOf, audit_text}
-use Rattle.crp_commands.specs.Follow.{FollowSeen, Follows, IsFollowInput, Ship, WritesTexts}
-use Rattle.crp_callers.specs.CommandReports.{AreInput, HoldsOfTexts, IsFollowedWhole}
+use Rattle.crp_commands.specs.Follow.{FollowChosen, FollowSeen, Follows, IsFollowInput, Ship, WritesTexts, WritesWhole, made_for}
+use Rattle.crp_callers.specs.CommandReports.{AreInput, HoldsOfTexts, IsFollowedWhole, IsWhole}
 
 pub on_ok : {T E : Type 0} (r : Result T E) (P : T → Type 0) (Q : E → Type 0) (R : Type 0) → MatchResult r P Q → ((x : T) → P x → R) → OnOk r R
 on_ok (Ok x) P Q R is by = by x is
@@ -96,40 +97,47 @@ refused_texts law chosen s list message report certificates x f e over fails =
 
 -- ---- `follow`
 
--- the three texts that a call of `follow` had, and what its two sinks got
-pub record AreFollowed (s : FollowSeen) (list message report page table : List ℕ) : Type 0 where
+-- the three texts that a call of `follow` had, and what its three sinks got
+pub record AreFollowed (s : FollowSeen) (list message report page left table : List ℕ) : Type 0 where
   pub messages : SourceSeen
   pub pages : SinkSeen
+  pub lists : SinkSeen
   pub list_given : s.yard.given ≡ Some list
   pub asked : s.movins ≡ Some messages
   pub message_given : messages.given ≡ Some message
   pub report_given : s.report.given ≡ Some report
-  pub wanted : s.page ≡ Some pages
+  pub page_wanted : s.texts.page ≡ Some pages
+  pub list_wanted : s.texts.list ≡ Some lists
   pub page_got : IsFilled pages page
-  pub table_got : IsFilled s.out table
+  pub list_got : IsFilled lists left
+  pub table_got : IsFilled s.texts.table table
 
-whole_for : (chosen : InputChosen) (s : FollowSeen) (list message report page table said : List ℕ) (messages : SourceSeen) (pages : SinkSeen) (yard : Inventory) (ship : Option Ship)
-    → s.yard.given ≡ Some list → messages.given ≡ Some message → said ≡ report → IsFilled pages page → IsFilled s.out table
-    → IsFollowInput chosen s.yard (Some messages) yard ship → WritesTexts ship yard said (Some pages) s.out → IsFollowedWhole chosen list message report page table
-whole_for chosen s list message report page table said messages pages yard None e f g shown told input writes = absurd input
-whole_for chosen s list message report page table said messages pages yard (Some ship) e f g shown told input (numbers, bays, loaded, paged, tabled) = (
-  yard,
-  ship.0,
-  ship.1,
-  input_is chosen s.yard messages list message yard ship.0 ship.1 e f input,
-  record {
-    numbers = numbers;
-    bays = bays;
-    follows = subst (λ (t : List ℕ). IsFollowed yard t numbers bays) g loaded.0;
-    page_is = got pages page _ shown paged;
-    table_is = got s.out table _ told tabled;
-  },
-)
+-- what the texts of a report are that were written
+whole_texts : (chosen : FollowChosen) (s : FollowSeen) (list message report page left table : List ℕ) (yard : Inventory) (ship : Ship) (said : List ℕ)
+    → AreFollowed s list message report page left table → said ≡ report → AreInput chosen.input list message yard ship.0 ship.1
+    → WritesTexts (Some ship) chosen.loaded yard said s.texts → IsWhole yard ship.0 ship.1 chosen.loaded report page left table
+whole_texts chosen s list message report page left table yard ship said over same input (x, are, writes) =
+    let paged = subst (λ (o : Option SinkSeen). WritesWhole x.page o) over.page_wanted writes.0 in
+    let listed = subst (λ (o : Option SinkSeen). WritesWhole x.list o) over.list_wanted writes.1 in
+    let behind = are.list (subst (λ (o : Option SinkSeen). IsTrue (is_some o)) (sym over.list_wanted) refl) in record {
+      numbers = are.numbers;
+      bays = are.bays;
+      follows = subst (λ (t : List ℕ). IsFollowed yard t are.numbers are.bays) same are.is_loaded.0;
+      page_is = got over.pages page _ over.page_got paged ∙ are.page;
+      left_is = subst (IsListBehind yard (made_for (Some ship) chosen.loaded are.bays)) (sym (got over.lists left _ over.list_got listed)) behind;
+      table_is = got s.texts.table table _ over.table_got writes.2 ∙ are.table;
+    }
 
-pub followed_whole : (chosen : InputChosen) (s : FollowSeen) (list message report page table : List ℕ) → AreFollowed s list message report page table → Follows chosen s
-    → IsFollowedWhole chosen list message report page table
-followed_whole chosen s list message report page table over (yard, ship, said, input, given, writes) =
-    whole_for chosen s list message report page table said over.messages over.pages yard ship over.list_given over.message_given
-    (given_is s.report.given report said over.report_given given) over.page_got over.table_got
-    (subst (λ (o : Option SourceSeen). IsFollowInput chosen s.yard o yard ship) over.asked input)
-    (subst (λ (o : Option SinkSeen). WritesTexts ship yard said o s.out) over.wanted writes)
+whole_for : (chosen : FollowChosen) (s : FollowSeen) (list message report page left table : List ℕ) (yard : Inventory) (ship : Option Ship) (said : List ℕ)
+    → (over : AreFollowed s list message report page left table) → said ≡ report → IsFollowInput chosen.input s.yard (Some over.messages) yard ship
+    → WritesTexts ship chosen.loaded yard said s.texts → IsFollowedWhole chosen.input chosen.loaded list message report page left table
+whole_for chosen s list message report page left table yard None said over same input writes = absurd input
+whole_for chosen s list message report page left table yard (Some ship) said over same input writes =
+    let says = input_is chosen.input s.yard over.messages list message yard ship.0 ship.1 over.list_given over.message_given input in
+    (yard, ship.0, ship.1, says, whole_texts chosen s list message report page left table yard ship said over same says writes)
+
+pub followed_whole : (chosen : FollowChosen) (s : FollowSeen) (list message report page left table : List ℕ) → AreFollowed s list message report page left table
+    → Follows chosen s → IsFollowedWhole chosen.input chosen.loaded list message report page left table
+followed_whole chosen s list message report page left table over (yard, ship, said, given, writes) =
+    whole_for chosen s list message report page left table yard ship said over (given_is s.report.given report said over.report_given given.report_given)
+    (subst (λ (o : Option SourceSeen). IsFollowInput chosen.input s.yard o yard ship) over.asked given.input) writes

@@ -10,17 +10,19 @@ use Rattle.crp_files.specs.Known.{KnownFiles}
 use Rattle.crp_movins.specs.LoadOrders.{LoadOrders}
 use Rattle.crp_order.specs.Sequences.{IsSequence}
 use Rattle.crp_said.specs.declared.numbers.Numbers.{Numbers}
+use Rattle.crp_follow.specs.Behind.{IsListBehind}
 use Rattle.crp_follow.specs.Followed.{BayFollowed, IsFollowed}
 use Rattle.crp_loading.specs.Loading.{load_text}
 use Rattle.crp_page.specs.Page.{page_text}
 use Rattle.crp_report.specs.Chosen.{InputChosen}
-use Rattle.crp_report.specs.Runs.{AreOrders}
+use Rattle.crp_report.specs.Runs.{AreOrders, numbers_of}
 use Rattle.crp_audit.specs.Headline.{Handed, handed}
 use Rattle.crp_jobs.specs.declared.job.FileCommand.{FileCommand}
 use Rattle.crp_jobs.specs.declared.job.FileCommand.TheVariants.{Replay, Bound, Check, Prove}
 use Rattle.crp_commands.specs.Replay.{IsReplay}
 use Rattle.crp_commands.specs.Bound.{IsBound, chains_text}
 use Rattle.crp_commands.specs.Check.{IsCheck}
+use Rattle.crp_commands.specs.Follow.{made_for}
 use Rattle.crp_commands.specs.Prove.{IsSomeProof}
 
 -- the text is the command's report of the bytes: the moves of their plan, the bounds of their problem, what they show, or a certificate of their problem
@@ -55,15 +57,17 @@ abbrev pub HoldsOfTexts : InputChosen → List ℕ → List ℕ → List ℕ →
 HoldsOfTexts chosen list message report certificates P = (yard : Inventory) × (orders : LoadOrders) × (sequence : List (List ℕ))
     × AreInput chosen list message yard orders sequence × P (handed yard orders sequence report certificates)
 
--- the whole report is followed, and these are its page, and its table in the order in which the ship is loaded
-pub record IsWhole (yard : Inventory) (orders : LoadOrders) (sequence : List (List ℕ)) (report page table : List ℕ) : Type 0 where
+-- the whole report is followed, and these are its page, the list of the yard behind its moves up to so many containers of the ship, or behind all, and its
+-- table in the order in which the ship is loaded
+pub record IsWhole (yard : Inventory) (orders : LoadOrders) (sequence : List (List ℕ)) (loaded : Option ℕ) (report page left table : List ℕ) : Type 0 where
   pub numbers : Numbers
   pub bays : List BayFollowed
   pub follows : IsFollowed yard report numbers bays
-  pub page_is : page ≡ page_text yard numbers bays
+  pub page_is : page ≡ page_text yard (numbers_of yard orders sequence) bays
+  pub left_is : IsListBehind yard (made_for (Some (orders, sequence)) loaded bays) left
   pub table_is : table ≡ load_text sequence orders.list bays
 
 -- the same over what a yard list and a message say
-abbrev pub IsFollowedWhole : InputChosen → List ℕ → List ℕ → List ℕ → List ℕ → List ℕ → Type 0
-IsFollowedWhole chosen list message report page table = (yard : Inventory) × (orders : LoadOrders) × (sequence : List (List ℕ))
-    × AreInput chosen list message yard orders sequence × IsWhole yard orders sequence report page table
+abbrev pub IsFollowedWhole : InputChosen → Option ℕ → List ℕ → List ℕ → List ℕ → List ℕ → List ℕ → List ℕ → Type 0
+IsFollowedWhole chosen loaded list message report page left table = (yard : Inventory) × (orders : LoadOrders) × (sequence : List (List ℕ))
+    × AreInput chosen list message yard orders sequence × IsWhole yard orders sequence loaded report page left table

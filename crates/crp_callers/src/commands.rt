@@ -17,7 +17,9 @@ ghost use Rattle.crp_commands.specs.Check.{verdict_lines};
 ghost use Rattle.crp_callers.specs.CommandReports.{EndsWithBound, HoldsOfTexts, IsFollowedWhole, IsReportOf};
 
 use crp_audit::headlines_have_no_fault;
-use crp_commands::{FollowSettings, audit, bound, check, follow, perform, replay};
+use crp_commands::{
+    FollowSettings, Listed, TextFiles, audit, bound, check, follow, perform, replay,
+};
 use crp_jobs::{FileCommand, ToolFault};
 use crp_plan::{Nowhere, Received};
 use crp_report::{InputSettings, Status};
@@ -116,36 +118,43 @@ pub fn audited(
     }
 }
 
-/// Where a report is followed with a message and a page, all of the report is followed, the whole page is written, and the table is in the
-/// order in which the ship is loaded.
+/// Where a report is followed with a message, a page and a list, all of the report is followed, the whole page is written, the list is that
+/// of the yard as its moves leave it, up to so many containers of the ship or all of them, and the table is in the order in which the ship
+/// is loaded.
 pub fn followed(
     alloc: Global,
     list: &[u8],
     message: &[u8],
     report: &[u8],
-    settings: &InputSettings,
-    page: &mut Received,
+    asked: (&InputSettings, Option<u64>),
+    texts: &mut TextFiles<Received, Received>,
     table: &mut Received,
 ) -> Result<Status, ToolFault>
-    requires no_page { page.old.bytes.items ≡ [] }
+    requires no_page { texts.old.page.bytes.items ≡ [] }
+    requires no_list { texts.old.list.bytes.items ≡ [] }
     requires no_table { table.old.bytes.items ≡ [] }
-    ensures { OnOk result (IsFollowedWhole settings.now list.now message.now report.now page.new.bytes.items table.new.bytes.items) }
+    ensures { OnOk result (IsFollowedWhole asked.entry.0.now asked.entry.1 list.now message.now report.now texts.new.page.bytes.items texts.new.list.bytes.items table.new.bytes.items) }
 {
-    let mut yard_from = list;
-    let mut orders_from = message;
+    let (settings, loaded) = asked;
+    let mut listed = Listed {
+        yard: list,
+        movins: message,
+    };
     let mut report_from = report;
     let asked = FollowSettings {
         input: settings,
         ship: true,
         page: true,
+        list: true,
+        loaded,
     };
     follow(
         alloc,
-        &mut yard_from,
-        &mut orders_from,
+        &mut listed,
         &mut report_from,
         &asked,
-        page,
+        texts,
         table,
+        &mut Nowhere,
     )
 }

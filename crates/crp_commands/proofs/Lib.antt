@@ -5,6 +5,7 @@ pub mod Audited
 pub mod Traced
 pub mod Performed
 pub mod Finished
+pub mod TwoFiles
 pub mod Solved
 pub mod FollowedFiles
 pub mod Promised

@@ -1,5 +1,6 @@
 -- What was shown, and nothing more.
 use Rattle.std.proofs.Common.{◌≡◌, ◌<◌, ◌≤◌, ◌+◌, ◌∙◌, ℕ, List, [], ◌∷◌, ◌++◌, length, Option, Some, None, Bool, true, false, Result, Ok, Err, MatchResult, inl, inr, refl, arith}
+use Rattle.std.specs.Prelude.{is_some, not}
 use Rattle.std.specs.Io.KnownBytes.{Appends, Keeps}
 use Rattle.std.proofs.KnownBytes.{Keeps-refl, Keeps-trans}
 use Rattle.crp_plan.specs.BayNames.{YardBay}
@@ -77,10 +78,13 @@ noted_in_alone (command.Check any_size) a b c m n o (inl first) next = inl (alon
 noted_in_alone (command.Check any_size) a b c m n o (inr first) next = inr (lines_then a b c m n o empty_note first next)
 noted_in_alone (command.Prove search) a b c m n o first next = alone_then a b c m n o first next
 
+noted_by_alone : (quiet : Bool) (a b c : Option (List ℕ)) (m n o : ℕ) → IsNotedBy quiet (seen_from a b m n) → IsLeftAlone (seen_from b c n o) → IsNotedBy quiet (seen_from a c m o)
+noted_by_alone true a b c m n o first next = alone_then a b c m n o first next
+noted_by_alone false a b c m n o (text, first) (next, more) = (text, shows_kept a b c text first next)
+
 -- the notes of a job, and nothing more
 pub noted_alone : (j : Job) (a b c : Option (List ℕ)) (m n o : ℕ) → IsNoted j (seen_from a b m n) → IsLeftAlone (seen_from b c n o) → IsNoted j (seen_from a c m o)
 noted_alone (job.OneFile file command) a b c m n o first next = noted_in_alone command a b c m n o first next
 noted_alone (job.Audit names settings) a b c m n o first next = alone_then a b c m n o first next
-noted_alone (job.Follow names heights) a b c m n o first next = alone_then a b c m n o first next
-noted_alone (job.Solve names settings true progress) a b c m n o first next = alone_then a b c m n o first next
-noted_alone (job.Solve names settings false progress) a b c m n o (text, first) (next, more) = (text, shows_kept a b c text first next)
+noted_alone (job.Follow names settings) a b c m n o first next = noted_by_alone (not (is_some names.movins)) a b c m n o first next
+noted_alone (job.Solve names settings quiet progress) a b c m n o first next = noted_by_alone quiet a b c m n o first next

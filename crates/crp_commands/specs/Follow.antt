@@ -1,6 +1,6 @@
 -- What `follow` does: the moves of a report, whoever wrote it, are followed over a yard, and the table of them is written, in the order in which the ship is
--- loaded where a message is asked for, and their page where one is asked for.
-use Rattle.std.specs.Prelude.{◌≡◌, ◌≢◌, ℕ, Bool, true, false, ◌+◌, ◌-◌, ◌<◌, ◌≤◌, ◌⊎◌, List, [], length, codes, Option, Some, None, option_map, IfSome, IsSomeAnd, MatchOption, IsTrue, Result, MatchResult, ⊤}
+-- loaded where a message is asked for; and their page, and the list of the yard as they leave it, where these are asked for.
+use Rattle.std.specs.Prelude.{◌≡◌, ◌≢◌, ℕ, Bool, true, false, ◌+◌, ◌-◌, ◌<◌, ◌≤◌, ◌⊎◌, List, [], length, codes, Option, Some, None, option_map, option_and_then, IfSome, IsSomeAnd, MatchOption, IsTrue, is_some, Result, MatchResult, ⊤}
 use Rattle.crp_plan.specs.Devices.{HasFailed, most_interruptions}
 use Rattle.crp_sizes.specs.Sizes.{YardSizes}
 use Rattle.crp_yard.specs.Inventory.{Inventory}
@@ -12,38 +12,50 @@ use Rattle.crp_follow.specs.Stated.{most_bytes}
 use Rattle.crp_follow.specs.Followed.{BayFollowed, IsFollowed}
 use Rattle.crp_follow.specs.Faults.{IsFirstFault}
 use Rattle.crp_follow.specs.Table.{table_text}
+use Rattle.crp_follow.specs.Behind.{Made, IsListBehind, all_moves}
 use Rattle.crp_loading.specs.declared.fault.LoadingFault.{LoadingFault}
 use Rattle.crp_loading.specs.declared.fault.LoadingFault.TheVariants as loading
 use Rattle.crp_loading.specs.Faults.{faults_of, IsFirst}
 use Rattle.crp_loading.specs.Loading.{load_text}
+use Rattle.crp_loading.specs.Loaded.{made_up_to}
 use Rattle.crp_page.specs.Page.{page_text}
 use Rattle.crp_report.specs.declared.fault.Fault.{Fault}
 use Rattle.crp_report.specs.declared.fault.Fault.TheVariants as run
 use Rattle.crp_report.specs.declared.fault.Input.TheVariants as input
+use Rattle.crp_report.specs.declared.fault.Output.TheVariants as output
 use Rattle.crp_report.specs.declared.status.Status.{Status}
 use Rattle.crp_report.specs.declared.status.Status.TheVariants as status
 use Rattle.crp_report.specs.BayTexts.{IsNoYard}
 use Rattle.crp_report.specs.Chosen.{InputChosen}
-use Rattle.crp_report.specs.Runs.{SourceSeen, SinkSeen, Gets, GetsFront, GetsPart, GetsNothing}
+use Rattle.crp_report.specs.Runs.{SourceSeen, SinkSeen, Gets, GetsFront, GetsPart, GetsNothing, numbers_of}
 use Rattle.crp_jobs.specs.declared.job.FollowFiles.{FollowFiles}
 use Rattle.crp_jobs.specs.declared.outcome.Statement.TheVariants as statement
 use Rattle.crp_jobs.specs.declared.outcome.ToolFault.{ToolFault}
 use Rattle.crp_jobs.specs.declared.outcome.ToolFault.TheVariants as fault
 use Rattle.crp_commands.specs.Audit.{IsInputOf, IsNoInput}
 use Rattle.crp_commands.specs.Calls.{failures_of_tool_fault}
-use Rattle.crp_files.specs.Known.{KnownFiles, IsChangedIn}
+use Rattle.crp_files.specs.Known.{KnownFiles}
 use Rattle.crp_files.specs.Roles.{IsShared}
-use Rattle.crp_jobs.specs.Names.{named_in_follow}
+use Rattle.crp_jobs.specs.Names.{after_name, named_in_follow}
 use Rattle.crp_jobs.specs.Opened.{FilesSeen, FilesFail, AreUnemptied, IsFileOpened, IsFileMade, IsLeft, IsSourceLeftAlone, IsLeftAlone}
 
--- what a call saw of its sources, the yard list, the message where one is asked for, and the report; and of the sink of its table, and that of its page where
--- one is asked for
+-- what is asked for: what the input means, and how many containers the ship has got, if the yard after is that of then
+pub record FollowChosen : Type 0 where
+  pub input : InputChosen
+  pub loaded : Option ℕ
+
+-- what a call saw of the sinks of its texts: that of the page and that of the list, where these are asked for, and that of the table
+pub record TextsSeen : Type 0 where
+  pub page : Option SinkSeen
+  pub list : Option SinkSeen
+  pub table : SinkSeen
+
+-- and of its sources: the yard list, the message where one is asked for, and the report
 pub record FollowSeen : Type 0 where
   pub yard : SourceSeen
   pub movins : Option SourceSeen
   pub report : SourceSeen
-  pub page : Option SinkSeen
-  pub out : SinkSeen
+  pub texts : TextsSeen
 
 -- what was seen of a device for which something is asked, or nothing
 abbrev pub if_asked : {A : Type 0} → Bool → A → Option A
@@ -60,10 +72,14 @@ abbrev pub sink_failures : Option SinkSeen → ℕ
 sink_failures (Some sink) = sink.after - sink.before
 sink_failures None = 0
 
--- so many calls of them have failed
+-- so many calls of the sinks of the page and of the list have failed
+abbrev pub file_failures : TextsSeen → ℕ
+file_failures t = sink_failures t.page + sink_failures t.list
+
+-- so many calls of all of them
 abbrev pub follow_failures : FollowSeen → ℕ
 follow_failures s = (s.yard.after - s.yard.before) + (source_failures s.movins + ((s.report.after - s.report.before)
-    + (sink_failures s.page + (s.out.after - s.out.before))))
+    + (file_failures s.texts + (s.texts.table.after - s.texts.table.before))))
 
 -- ---- what goes in
 
@@ -109,70 +125,103 @@ loading_faults (Some ship) bays = faults_of ship.1 bays
 abbrev pub IsLoaded : Option Ship → Inventory → List ℕ → Numbers → List BayFollowed → Type 0
 IsLoaded ship yard report numbers bays = IsFollowed yard report numbers bays × (loading_faults ship bays ≡ [])
 
--- nothing was written to the sinks of the page and of the table
-abbrev pub WritesNothing : Option SinkSeen → SinkSeen → Type 0
-WritesNothing page out = IfSome page GetsNothing × GetsNothing out
+-- the numbers on the page: those of the yard and the message, where there is one, and else those that the report states
+abbrev pub numbers_for : Option Ship → Inventory → Numbers → Numbers
+numbers_for None yard stated = stated
+numbers_for (Some ship) yard stated = numbers_of yard ship.0 ship.1
 
--- the page, where one is asked for, was written, and nothing else
-abbrev pub WritesPage : List ℕ → Option SinkSeen → Type 0
-WritesPage text page = IfSome page (λ sink. Gets sink text)
+-- the moves that were made in the yard after: those up to so many containers of the ship, where that is asked for, and else all
+abbrev pub made_for : Option Ship → Option ℕ → List BayFollowed → List Made
+made_for (Some ship) (Some n) bays = made_up_to ship.1 n bays
+made_for (Some ship) None bays = all_moves bays
+made_for None loaded bays = all_moves bays
 
--- the report is followed and loads the ship; its page, where one is asked for, and its table were written, and nothing else
-abbrev pub WritesTexts : Option Ship → Inventory → List ℕ → Option SinkSeen → SinkSeen → Type 0
-WritesTexts ship yard report page out = (numbers : Numbers) × (bays : List BayFollowed) × IsLoaded ship yard report numbers bays
-    × WritesPage (page_text yard numbers bays) page × Gets out (table_for ship bays)
+-- the texts of a report: its page, the list of the yard behind its moves, and the table of them
+pub record Texts : Type 0 where
+  pub page : List ℕ
+  pub list : List ℕ
+  pub table : List ℕ
+
+-- the report is followed over the yard and loads the ship, and these are its texts, that of the list where it is wanted
+pub record AreTextsOf (ship : Option Ship) (loaded : Option ℕ) (yard : Inventory) (report : List ℕ) (wanted : Bool) (x : Texts) : Type 0 where
+  pub numbers : Numbers
+  pub bays : List BayFollowed
+  pub is_loaded : IsLoaded ship yard report numbers bays
+  pub page : x.page ≡ page_text yard (numbers_for ship yard numbers) bays
+  pub list : IsTrue wanted → IsListBehind yard (made_for ship loaded bays) x.list
+  pub table : x.table ≡ table_for ship bays
+
+-- why a report has no texts: its first fault, or where it is followed the first fault of its takes, or lack of memory
+abbrev pub HasNoTexts : Option Ship → Inventory → List ℕ → ToolFault → Type 0
+HasNoTexts ship yard report (fault.Followed f) = (f ≢ followed.Memory) × IsFirstFault yard report f
+HasNoTexts ship yard report (fault.Loaded f) =
+    (f ≢ loading.Memory) × ((numbers : Numbers) × (bays : List BayFollowed) × IsFollowed yard report numbers bays × IsFirst (loading_faults ship bays) f)
+HasNoTexts ship yard report fault.Memory = ⊤
+HasNoTexts ship yard report f = ⊥
+
+-- nothing was written
+abbrev pub WritesNothing : TextsSeen → Type 0
+WritesNothing t = IfSome t.page GetsNothing × IfSome t.list GetsNothing × GetsNothing t.table
+
+-- the text was written, where it is asked for, and nothing else
+abbrev pub WritesWhole : List ℕ → Option SinkSeen → Type 0
+WritesWhole text sink = IfSome sink (λ s. Gets s text)
+
+-- a write of the text, which is asked for, has failed, after a front of it that is not all of it
+abbrev pub WritesPart : List ℕ → Option SinkSeen → Type 0
+WritesPart text sink = IsSomeAnd sink (λ s. HasFailed s.before s.after × GetsPart s text)
+
+-- the texts were written, where they are asked for, and nothing else
+abbrev pub WritesAll : Texts → TextsSeen → Type 0
+WritesAll x t = WritesWhole x.page t.page × WritesWhole x.list t.list × Gets t.table x.table
+
+-- why they were not all written: a write of one of them has failed, behind all of those before it, and before the others; or memory is lacking, behind a front
+-- of the page
+abbrev pub StopsWriting : Texts → TextsSeen → ToolFault → Type 0
+StopsWriting x t fault.WritePage = WritesPart x.page t.page × IfSome t.list GetsNothing × GetsNothing t.table
+StopsWriting x t (fault.Run (run.Write output.YardAfter)) = WritesWhole x.page t.page × WritesPart x.list t.list × GetsNothing t.table
+StopsWriting x t fault.WriteTable = WritesWhole x.page t.page × WritesWhole x.list t.list × (HasFailed t.table.before t.table.after × GetsPart t.table x.table)
+StopsWriting x t fault.Memory = IfSome t.page (λ s. GetsFront s x.page) × IfSome t.list GetsNothing × GetsNothing t.table
+StopsWriting x t f = ⊥
+
+-- the texts of the report were written
+abbrev pub WritesTexts : Option Ship → Option ℕ → Inventory → List ℕ → TextsSeen → Type 0
+WritesTexts ship loaded yard report t = (x : Texts) × AreTextsOf ship loaded yard report (is_some t.list) x × WritesAll x t
+
+-- why they were not: there are none, and nothing was written; or not all of them were
+abbrev pub StopsFollowing : Option Ship → Option ℕ → Inventory → List ℕ → TextsSeen → ToolFault → Type 0
+StopsFollowing ship loaded yard report t f = (HasNoTexts ship yard report f × WritesNothing t)
+    ⊎ ((x : Texts) × AreTextsOf ship loaded yard report (is_some t.list) x × StopsWriting x t f)
+
+-- the sources had this input and this report
+pub record AreGiven (chosen : FollowChosen) (s : FollowSeen) (yard : Inventory) (ship : Option Ship) (report : List ℕ) : Type 0 where
+  pub input : IsFollowInput chosen.input s.yard s.movins yard ship
+  pub report_given : IsTextOf s.report.given report
 
 -- the sources had an input and a report that is followed: its texts were written, and nothing else
-abbrev pub Follows : InputChosen → FollowSeen → Type 0
-Follows chosen s = (yard : Inventory) × (ship : Option Ship) × (report : List ℕ) × IsFollowInput chosen s.yard s.movins yard ship × IsTextOf s.report.given report
-    × WritesTexts ship yard report s.page s.out
+abbrev pub Follows : FollowChosen → FollowSeen → Type 0
+Follows chosen s = (yard : Inventory) × (ship : Option Ship) × (report : List ℕ) × AreGiven chosen s yard ship report
+    × WritesTexts ship chosen.loaded yard report s.texts
 
--- the report is followed and loads the ship, and the sink got a front of its page, and nothing else
-abbrev pub GetsPageFront : Option Ship → Inventory → List ℕ → SinkSeen → Type 0
-GetsPageFront ship yard report page =
-    (numbers : Numbers) × (bays : List BayFollowed) × IsLoaded ship yard report numbers bays × GetsFront page (page_text yard numbers bays)
+-- why there is no input, as a run states it, or where it is accepted no report
+abbrev pub IsNotRead : FollowChosen → FollowSeen → ToolFault → Type 0
+IsNotRead chosen s f = ((g : Fault) × (f ≡ fault.Run g) × IsNoFollowInput chosen.input s.yard s.movins g)
+    ⊎ (((yard : Inventory) × (ship : Option Ship) × IsFollowInput chosen.input s.yard s.movins yard ship) × IsNoReport s.report f)
 
--- why the texts of a report were not all written: its first fault, or where it is followed the first fault of its takes, and then nothing was; a write of the
--- page, which is asked for, that has failed, after a front of it that is not all of it, and then nothing of the table was written; a write of the table that
--- has failed, after a front of it that is not all of it, and behind the whole page; or lack of memory, and then nothing of the table was written, and of the
--- page nothing or a front
-abbrev pub StopsFollowing : Option Ship → Inventory → List ℕ → Option SinkSeen → SinkSeen → ToolFault → Type 0
-StopsFollowing ship yard report page out (fault.Followed f) = (f ≢ followed.Memory) × IsFirstFault yard report f × WritesNothing page out
-StopsFollowing ship yard report page out (fault.Loaded f) = (f ≢ loading.Memory)
-    × ((numbers : Numbers) × (bays : List BayFollowed) × IsFollowed yard report numbers bays × IsFirst (loading_faults ship bays) f) × WritesNothing page out
-StopsFollowing ship yard report page out fault.WritePage = GetsNothing out
-    × ((numbers : Numbers) × (bays : List BayFollowed) × IsLoaded ship yard report numbers bays
-    × IsSomeAnd page (λ sink. HasFailed sink.before sink.after × GetsPart sink (page_text yard numbers bays)))
-StopsFollowing ship yard report page out fault.WriteTable = HasFailed out.before out.after
-    × ((numbers : Numbers) × (bays : List BayFollowed) × IsLoaded ship yard report numbers bays × WritesPage (page_text yard numbers bays) page
-    × GetsPart out (table_for ship bays))
-StopsFollowing ship yard report page out fault.Memory =
-    GetsNothing out × IfSome page (λ sink. GetsNothing sink ⊎ GetsPageFront ship yard report sink)
-StopsFollowing ship yard report page out f = ⊥
-
--- the sources had an input and a report that is followed, and the sink got a front of its page, and nothing else
-abbrev pub GetsFollowedFront : InputChosen → FollowSeen → SinkSeen → Type 0
-GetsFollowedFront chosen s page = (yard : Inventory) × (ship : Option Ship) × (report : List ℕ) × IsFollowInput chosen s.yard s.movins yard ship
-    × IsTextOf s.report.given report × GetsPageFront ship yard report page
-
--- what a fault says of a call: why there is no input, as a run states it; a failed read of the report where the input is accepted; lack of memory; or why the
--- texts of an input and a report that the sources had were not all written
-abbrev pub FollowFailsWith : InputChosen → FollowSeen → ToolFault → Type 0
-FollowFailsWith chosen s (fault.Run f) = WritesNothing s.page s.out × IsNoFollowInput chosen s.yard s.movins f
-FollowFailsWith chosen s (fault.ReadOf which) = WritesNothing s.page s.out
-    × ((yard : Inventory) × (ship : Option Ship) × IsFollowInput chosen s.yard s.movins yard ship) × IsNoReport s.report (fault.ReadOf which)
-FollowFailsWith chosen s fault.Memory = GetsNothing s.out × IfSome s.page (λ sink. GetsNothing sink ⊎ GetsFollowedFront chosen s sink)
-FollowFailsWith chosen s f = (yard : Inventory) × (ship : Option Ship) × (report : List ℕ) × IsFollowInput chosen s.yard s.movins yard ship
-    × IsTextOf s.report.given report × StopsFollowing ship yard report s.page s.out f
+-- what a fault says of a call: why nothing was read, and nothing was written; or why the texts of an input and a report that the sources had were not
+abbrev pub FollowFailsWith : FollowChosen → FollowSeen → ToolFault → Type 0
+FollowFailsWith chosen s f = (IsNotRead chosen s f × WritesNothing s.texts)
+    ⊎ ((yard : Inventory) × (ship : Option Ship) × (report : List ℕ) × AreGiven chosen s yard ship report
+    × StopsFollowing ship chosen.loaded yard report s.texts f)
 
 -- ---- with its failures
 
 -- it was done, and no more calls failed than may be passed over
-abbrev pub FollowEnds : InputChosen → FollowSeen → Status → Type 0
+abbrev pub FollowEnds : FollowChosen → FollowSeen → Status → Type 0
 FollowEnds chosen s ended = (ended ≡ status.Decided) × Follows chosen s × (follow_failures s ≤ most_interruptions)
 
 -- it failed so, and no more calls failed than may be passed over and the one that is stated
-abbrev pub FollowFails : InputChosen → FollowSeen → ToolFault → Type 0
+abbrev pub FollowFails : FollowChosen → FollowSeen → ToolFault → Type 0
 FollowFails chosen s f = FollowFailsWith chosen s f × (follow_failures s ≤ most_interruptions + failures_of_tool_fault f)
 
 -- ---- over files
@@ -183,61 +232,90 @@ IsMessageFrom known (Some name) (Some source) = IsFileOpened known name source
 IsMessageFrom known None None = ⊤
 IsMessageFrom known name source = ⊥
 
+-- how often the file of the page, and that of the list, could not be finished: of those that were, not at all, and else once
+pub record Unended : Type 0 where
+  pub page : ℕ
+  pub list : ℕ
+
+abbrev pub all_ended : Unended
+all_ended = record { page = 0; list = 0 }
+
+-- the fault states that one of them could not be finished, as a failed write of it
+abbrev pub IsUnended : Unended → ToolFault → Type 0
+IsUnended u f = ((f ≡ fault.WritePage) × (u.page ≡ 1)) ⊎ ((f ≡ fault.Run (run.Write output.YardAfter)) × (u.list ≡ 1))
+
+-- what failed of the files that are written
+abbrev pub ends_failed : TextsSeen → Unended → ℕ
+ends_failed t u = file_failures t + (u.page + u.list)
+
 -- the report that is named `-` is the standard input, any other is the file of its name; what failed of the files is what failed of those that were opened,
--- of which so many calls failed of those before the report, and of finishing that of the page
-abbrev pub IsReportFrom : List ℕ → FilesSeen → SourceSeen → ℕ → ℕ → FollowSeen → Type 0
-IsReportFrom name files input before unfinished s =
-    ((name ≡ codes "-") × (s.report ≡ input) × FilesFail files (before + (sink_failures s.page + unfinished)))
-    ⊎ ((name ≢ codes "-") × IsFileOpened files.known name s.report × IsSourceLeftAlone input
-    × FilesFail files (before + (s.report.after + (sink_failures s.page + unfinished))))
+-- of which so many calls failed of those before the report, and of finishing those that are written
+abbrev pub IsReportFrom : List ℕ → FilesSeen → SourceSeen → ℕ → Unended → FollowSeen → Type 0
+IsReportFrom name files input before u s = ((name ≡ codes "-") × (s.report ≡ input) × FilesFail files (before + ends_failed s.texts u))
+    ⊎ ((name ≢ codes "-") × IsFileOpened files.known name s.report × IsSourceLeftAlone input × FilesFail files (before + (s.report.after + ends_failed s.texts u)))
 
--- a sink is a file that was made for the page exactly where one is asked for
-abbrev pub IsPageMade : KnownFiles → Option (List ℕ) → ℕ → Option SinkSeen → Type 0
-IsPageMade known (Some name) unfinished (Some sink) = IsFileMade known sink
-IsPageMade known None unfinished None = unfinished ≡ 0
-IsPageMade known name unfinished page = ⊥
+-- a sink is a file that was made for a text exactly where one is asked for
+abbrev pub IsTextMade : KnownFiles → Option (List ℕ) → ℕ → Option SinkSeen → Type 0
+IsTextMade known (Some name) unfinished (Some sink) = IsFileMade known sink
+IsTextMade known None unfinished None = unfinished ≡ 0
+IsTextMade known name unfinished sink = ⊥
 
--- the name of the message, and of the page, if there is one
+-- the name of the message, of the page, and of the list, if there is one
 abbrev pub message_name : FollowFiles → Option (List ℕ)
 message_name names = option_map (λ name. name.now) names.movins
 
 abbrev pub page_name : FollowFiles → Option (List ℕ)
 page_name names = option_map (λ name. name.now) names.page
 
--- the page goes to a file that was made for it exactly where one is asked for, and so often that could not be finished; what it got stands there under its
--- name, where files state what is written to them, and it was finished; and no other file has changed. Its file is not known to be another one that is named,
--- or to stand behind a standard stream
-pub record IsPageTo (files : FilesSeen) (names : FollowFiles) (unfinished : ℕ) (page : Option SinkSeen) : Type 0 where
-  pub made : IsPageMade files.known (page_name names) unfinished page
-  pub left : IfSome page (IsLeft files (page_name names) unfinished)
-  pub changed : IsChangedIn (page_name names) files.known files.left
+abbrev pub list_name : FollowFiles → Option (List ℕ)
+list_name names = after_name names.after
+
+-- the two files that are written, where both are, are known to be two
+abbrev pub AreTwo : KnownFiles → Option (List ℕ) → Option (List ℕ) → Type 0
+AreTwo known one two = IfSome two (λ t. IfSome one (λ o. known.are_one t o ≡ Some false))
+
+-- this name is known to lead to neither of them
+abbrev pub IsNeither : KnownFiles → Option (List ℕ) → Option (List ℕ) → List ℕ → Type 0
+IsNeither known one two other = IfSome one (λ name. known.are_one name other ≡ Some false) × IfSome two (λ name. known.are_one name other ≡ Some false)
+
+-- the page and the list go to files that were made for them exactly where they are asked for, and so often these could not be finished; what they got stands
+-- there under their names, where files state what is written to them and these are two, and they were finished; and no other file has changed. None of them
+-- is known to be another one that is named, or to stand behind a standard stream
+pub record AreTextsTo (files : FilesSeen) (names : FollowFiles) (u : Unended) (t : TextsSeen) : Type 0 where
+  pub page_made : IsTextMade files.known (page_name names) u.page t.page
+  pub list_made : IsTextMade files.known (list_name names) u.list t.list
+  pub page_left : AreTwo files.known (page_name names) (list_name names) → IfSome t.page (IsLeft files (page_name names) u.page)
+  pub list_left : IfSome t.list (IsLeft files (list_name names) u.list)
+  pub others : (other : List ℕ) → IsNeither files.known (page_name names) (list_name names) other → files.left.given other ≡ files.known.given other
   pub apart : IsShared files.known (named_in_follow names) → ⊥
 
--- the sources are the files of the yard list and of the message, where one is named, and what the name of the report stands for, and the page goes to the
--- file of its name
-pub record IsOverFollowed (names : FollowFiles) (files : FilesSeen) (input : SourceSeen) (shown : SinkSeen) (unfinished : ℕ) (s : FollowSeen) : Type 0 where
+-- the sources are the files of the yard list and of the message, where one is named, and what the name of the report stands for, and the page and the list go
+-- to the files of their names
+pub record IsOverFollowed (names : FollowFiles) (files : FilesSeen) (input : SourceSeen) (shown : SinkSeen) (u : Unended) (s : FollowSeen) : Type 0 where
   pub yard : IsFileOpened files.known names.yard.now s.yard
   pub movins : IsMessageFrom files.known (message_name names) s.movins
-  pub report : IsReportFrom names.report.now files input (s.yard.after + source_failures s.movins) unfinished s
-  pub page : IsPageTo files names unfinished s.page
-  pub out : s.out ≡ shown
+  pub report : IsReportFrom names.report.now files input (s.yard.after + source_failures s.movins) u s
+  pub texts : AreTextsTo files names u s.texts
+  pub table : s.texts.table ≡ shown
 
--- the file of the page, which is asked for, may be refused to who would write it
-abbrev pub IsPageRefused : (List ℕ → Bool) → FollowFiles → Type 0
-IsPageRefused may_not_create names = MatchOption (page_name names) ⊥ (λ name. IsTrue (may_not_create name))
+-- the file of a text, which is asked for, may be refused to who would write it
+abbrev pub IsTextRefused : (List ℕ → Bool) → Option (List ℕ) → Type 0
+IsTextRefused may_not_create name = MatchOption name ⊥ (λ n. IsTrue (may_not_create n))
 
 -- the file of the message, which is asked for, may be refused to who would read it
 abbrev pub IsMessageRefused : (List ℕ → Bool) → FollowFiles → Type 0
 IsMessageRefused may_not_open names = MatchOption names.movins ⊥ (λ name. IsTrue (may_not_open name.now))
 
--- the fault states that a file cannot be opened: one that is read as a failed read of it, and then the files are as they were; that of the page as a failed
--- write to it, and then it is not known to be another one. Or it states that the file of the page may be another one, and then no file was emptied
+-- the fault states that a file cannot be opened: one that is read as a failed read of it, and then the files are as they were; one that is written as a failed
+-- write to it, and then none is known to be another one. Or it states that one that is written may be another one, and then no file was emptied
 abbrev pub IsOfUnfollowed : KnownFiles → KnownFiles → FollowFiles → ToolFault → Type 0
 IsOfUnfollowed known left names (fault.Run (run.Read input.Yard)) = IsTrue (known.may_not_open names.yard.now) × (left ≡ known)
 IsOfUnfollowed known left names (fault.Run (run.Read input.Movins)) = IsMessageRefused known.may_not_open names × (left ≡ known)
 IsOfUnfollowed known left names (fault.ReadOf statement.Report) =
     (names.report.now ≢ codes "-") × IsTrue (known.may_not_open names.report.now) × (left ≡ known)
-IsOfUnfollowed known left names fault.WritePage = IsPageRefused known.may_not_create names × (IsShared known (named_in_follow names) → ⊥)
+IsOfUnfollowed known left names fault.WritePage = IsTextRefused known.may_not_create (page_name names) × (IsShared known (named_in_follow names) → ⊥)
+IsOfUnfollowed known left names (fault.Run (run.Write output.YardAfter)) =
+    IsTextRefused known.may_not_create (list_name names) × (IsShared known (named_in_follow names) → ⊥)
 IsOfUnfollowed known left names (fault.OneFile s) = AreUnemptied (named_in_follow names) known left s
 IsOfUnfollowed known left names f = ⊥
 
@@ -248,30 +326,33 @@ pub record IsUnfollowed (names : FollowFiles) (files : FilesSeen) (input : Sourc
   pub unread : IsSourceLeftAlone input
   pub alone : IsLeftAlone out
 
--- it failed so; or it was done, and then the file of the page could not be finished, which is stated as a failed write of it
-abbrev pub FollowStops : InputChosen → ℕ → FollowSeen → ToolFault → Type 0
-FollowStops chosen unfinished s f = FollowFails chosen s f ⊎ ((f ≡ fault.WritePage) × (unfinished ≡ 1) × ((ended : Status) × FollowEnds chosen s ended))
+-- it failed so; or it was done, and then a file that was written could not be finished, which is stated as a failed write of it
+abbrev pub FollowStops : FollowChosen → Unended → FollowSeen → ToolFault → Type 0
+FollowStops chosen u s f = FollowFails chosen s f ⊎ (IsUnended u f × ((ended : Status) × FollowEnds chosen s ended))
+
+-- what is asked for by these names, where the input means this
+abbrev pub chosen_by : FollowFiles → InputChosen → FollowChosen
+chosen_by names input = record { input = input; loaded = option_and_then (λ file. file.loaded) names.after }
 
 -- how the job ends
 abbrev pub FollowReportsOverFiles : FollowFiles → InputChosen → FilesSeen → SourceSeen → SinkSeen → Status → Type 0
-FollowReportsOverFiles names chosen files input out ended = (s : FollowSeen) × IsOverFollowed names files input out 0 s × FollowEnds chosen s ended
+FollowReportsOverFiles names input files given out ended =
+    (s : FollowSeen) × IsOverFollowed names files given out all_ended s × FollowEnds (chosen_by names input) s ended
 
 abbrev pub FollowFailsOverFiles : FollowFiles → InputChosen → FilesSeen → SourceSeen → SinkSeen → ToolFault → Type 0
-FollowFailsOverFiles names chosen files input out f = IsUnfollowed names files input out f
-    ⊎ ((s : FollowSeen) × (unfinished : ℕ) × IsOverFollowed names files input out unfinished s × FollowStops chosen unfinished s f)
+FollowFailsOverFiles names input files given out f = IsUnfollowed names files given out f
+    ⊎ ((s : FollowSeen) × (u : Unended) × IsOverFollowed names files given out u s × FollowStops (chosen_by names input) u s f)
 
 -- ---- a call some of whose devices are open. Only private clauses speak of it
 
--- why a page was not written: a write of it, which is asked for, has failed, after a front of it that is not all of it; or memory is lacking, behind a front
+-- why a page was not written: a write of it has failed, or memory is lacking, behind a front of it
 abbrev pub StopsPage : List ℕ → Option SinkSeen → ToolFault → Type 0
-StopsPage text page fault.WritePage = IsSomeAnd page (λ sink. HasFailed sink.before sink.after × GetsPart sink text)
-StopsPage text page fault.Memory = IfSome page (λ sink. GetsFront sink text)
-StopsPage text page f = ⊥
+StopsPage text page f = ((f ≡ fault.WritePage) × WritesPart text page) ⊎ ((f ≡ fault.Memory) × IfSome page (λ sink. GetsFront sink text))
 
 -- the answer of a call whose devices are these, or that refuses a file so
-abbrev pub AnswersOver : InputChosen → (ℕ → FollowSeen → Type 0) → (ToolFault → Type 0) → Result Status ToolFault → Type 0
-AnswersOver chosen Is Refuses answer = MatchResult answer (λ ended. (s : FollowSeen) × Is 0 s × FollowEnds chosen s ended)
-    (λ f. Refuses f ⊎ ((s : FollowSeen) × (unfinished : ℕ) × Is unfinished s × FollowStops chosen unfinished s f))
+abbrev pub AnswersOver : FollowChosen → (Unended → FollowSeen → Type 0) → (ToolFault → Type 0) → Result Status ToolFault → Type 0
+AnswersOver chosen Is Refuses answer = MatchResult answer (λ ended. (s : FollowSeen) × Is all_ended s × FollowEnds chosen s ended)
+    (λ f. Refuses f ⊎ ((s : FollowSeen) × (u : Unended) × Is u s × FollowStops chosen u s f))
 
 -- the devices that are open before the report is
 pub record Opened : Type 0 where
@@ -288,25 +369,26 @@ pub record RefusesFile (names : FollowFiles) (files : FilesSeen) (devices : Open
   pub unread : IsSourceLeftAlone report
   pub out : IsLeftAlone devices.out
 
--- what a call saw that opens the file of the page, where it is asked for
-pub record IsOverPage (names : FollowFiles) (files : FilesSeen) (devices : Opened) (report : SourceSeen) (unfinished : ℕ) (s : FollowSeen) : Type 0 where
-  pub page : Option SinkSeen
-  pub is : s ≡ record { yard = devices.yard; movins = devices.movins; report = report; page = page; out = devices.out }
-  pub to : IsPageTo files names unfinished page
-  pub failed : FilesFail files (sink_failures page + unfinished)
+-- what a call saw that makes the files of the page and of the list, where they are asked for
+pub record IsOverTexts (names : FollowFiles) (files : FilesSeen) (devices : Opened) (report : SourceSeen) (u : Unended) (s : FollowSeen) : Type 0 where
+  pub texts : TextsSeen
+  pub is : s ≡ record { yard = devices.yard; movins = devices.movins; report = report; texts = texts }
+  pub table : texts.table ≡ devices.out
+  pub to : AreTextsTo files names u texts
+  pub failed : FilesFail files (ends_failed texts u)
 
 -- and one that opens the report, where that is a file
-pub record IsOverReport (names : FollowFiles) (files : FilesSeen) (devices : Opened) (input : SourceSeen) (unfinished : ℕ) (s : FollowSeen) : Type 0 where
+pub record IsOverReport (names : FollowFiles) (files : FilesSeen) (devices : Opened) (input : SourceSeen) (u : Unended) (s : FollowSeen) : Type 0 where
   pub yard : s.yard ≡ devices.yard
   pub movins : s.movins ≡ devices.movins
-  pub report : IsReportFrom names.report.now files input 0 unfinished s
-  pub page : IsPageTo files names unfinished s.page
-  pub out : s.out ≡ devices.out
+  pub report : IsReportFrom names.report.now files input 0 u s
+  pub texts : AreTextsTo files names u s.texts
+  pub table : s.texts.table ≡ devices.out
 
 -- and one that opens the message, where one is named
-pub record IsOverMessage (names : FollowFiles) (files : FilesSeen) (listed input : SourceSeen) (shown : SinkSeen) (unfinished : ℕ) (s : FollowSeen) : Type 0 where
+pub record IsOverMessage (names : FollowFiles) (files : FilesSeen) (listed input : SourceSeen) (shown : SinkSeen) (u : Unended) (s : FollowSeen) : Type 0 where
   pub yard : s.yard ≡ listed
   pub movins : IsMessageFrom files.known (message_name names) s.movins
-  pub report : IsReportFrom names.report.now files input (source_failures s.movins) unfinished s
-  pub page : IsPageTo files names unfinished s.page
-  pub out : s.out ≡ shown
+  pub report : IsReportFrom names.report.now files input (source_failures s.movins) u s
+  pub texts : AreTextsTo files names u s.texts
+  pub table : s.texts.table ≡ shown

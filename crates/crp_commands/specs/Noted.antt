@@ -1,5 +1,5 @@
 -- What a job shows on the sink of its notes.
-use Rattle.std.specs.Prelude.{◌⊎◌, ℕ, Bool, true, false, List, [], ◌∷◌, codes}
+use Rattle.std.specs.Prelude.{◌⊎◌, ℕ, Bool, true, false, not, is_some, List, [], ◌∷◌, codes}
 use Rattle.crp_plan.specs.BayNames.{YardBay}
 use Rattle.crp_plan.specs.Devices.{HasFailed}
 use Rattle.crp_checker.specs.declared.verdict.Verdict.{Verdict}
@@ -41,9 +41,9 @@ IsNotedIn command.Replay s = IsLeftAlone s
 IsNotedIn (command.Bound chains) s = IsLeftAlone s
 IsNotedIn (command.Prove search) s = IsLeftAlone s
 
--- and an audit and what follows a report leave it alone
+-- an audit leaves it alone, and so does what follows a report without a message
 abbrev pub IsNoted : Job → SinkSeen → Type 0
 IsNoted (job.OneFile file command) s = IsNotedIn command s
 IsNoted (job.Audit names settings) s = IsLeftAlone s
-IsNoted (job.Follow names settings) s = IsLeftAlone s
+IsNoted (job.Follow names settings) s = IsNotedBy (not (is_some names.movins)) s
 IsNoted (job.Solve names settings quiet progress) s = IsNotedBy quiet s

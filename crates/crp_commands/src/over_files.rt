@@ -88,14 +88,7 @@ fn do_job<T: Threads + Wait + Sync, F: Files, R: Source, W: Sink, E: Sink, S: Te
         Job::Follow {
             files: names,
             settings,
-        } => follow_files(
-            alloc,
-            files,
-            &mut streams.input,
-            names,
-            settings,
-            &mut streams.out,
-        ),
+        } => follow_files(alloc, files, streams, names, settings),
         Job::Solve {
             files: names,
             settings,
@@ -145,7 +138,7 @@ fn sizes_of<F: Files>(
 
 /// Does a job over its files, and writes its report to the standard output. A job over the file `-`, and one that follows a report named
 /// `-`, reads the standard input. A run over a yard that is not to be quiet writes its notes to the standard error, as a check does that
-/// finds no certificate, and shows on the terminal how far it is. A list of sizes, where the job names one, is read before any other file
+/// finds no certificate, and what follows a report with a message; and it shows on the terminal how far it is. A list of sizes, where the job names one, is read before any other file
 /// is opened, and the bays of the yard have these sizes.
 ///
 /// Of a run over a yard the headline holds: of the texts that it wrote, and where it ended with a fault of those whose fronts it wrote.

@@ -1,15 +1,18 @@
 //! The command `follow` over its files.
-ghost use Rattle.std.specs.Prelude.{◌≡◌, None, MatchResult, is_some, option_map};
-ghost use Rattle.crp_report.specs.Runs.{SourceSeen, SinkSeen};
+ghost use Rattle.std.specs.Prelude.{◌≡◌, MatchResult, is_some, not, option_map, option_and_then};
+ghost use Rattle.crp_report.specs.Runs.{SourceSeen, SinkSeen, sink_seen, source_seen};
+ghost use Rattle.crp_jobs.specs.Names.{after_name};
 ghost use Rattle.crp_jobs.specs.Opened.{FilesSeen};
-ghost use Rattle.crp_commands.specs.Follow.{AnswersOver, FollowReportsOverFiles, FollowFailsOverFiles, IsOverMessage, IsOverPage, IsOverReport, Opened, RefusesFile, if_asked};
+ghost use Rattle.crp_commands.specs.Follow.{AnswersOver, FollowReportsOverFiles, FollowFailsOverFiles, IsOverTexts, IsOverReport, Opened, RefusesFile, chosen_by, if_asked};
+ghost use Rattle.crp_commands.specs.Noted.{IsNotedBy};
 
 use crate::finishing::unless_unfinished;
-use crate::following::{FollowSettings, follow};
+use crate::following::{FollowSettings, Listed, TextFiles, follow};
+use crate::streams::Streams;
 use crp_files::{Files, Named, Wanted, first_shared, prepare_wanted};
 use crp_jobs::{FollowFiles, Statement, ToolFault};
 use crp_plan::{Sink, Source};
-use crp_report::{Fault, Input, InputSettings, Status};
+use crp_report::{Fault, Input, InputSettings, Output, Status};
 use std::alloc::Global;
 use std::marker::Brand;
 
@@ -20,133 +23,157 @@ struct FollowAsked<'a> {
     settings: &'a InputSettings,
 }
 
-// Makes the file of the page, if it is wanted and is no other one, and follows the moves of the report.
-fn follow_to<F: Files, Y: Source, M: Source, R: Source, W: Sink, P: Named>(
+// The file of the yard behind the moves, if it is wanted, and how many containers the ship has got then, if that is said.
+fn list_of<'a>(names: &FollowFiles<'a>) -> (Option<&'a str>, Option<u64>)
+    ensures name { option_map (λ name. name.now) result.0 ≡ after_name names.now.after }
+    ensures loaded { result.1 ≡ option_and_then (λ file. file.loaded) names.now.after }
+{
+    match names.after {
+        Some(after) => (Some(after.name), after.loaded),
+        None => (None, None),
+    }
+}
+
+// Makes the files of the page and of the list, if they are wanted and are no other ones, and follows the moves of the report.
+#[tactic(auto, using(crate::proofs::Noted::unnoted))]
+fn follow_to<F: Files, Y: Source, M: Source, R: Source, W: Sink, E: Sink, P: Named, A: Named>(
     alloc: Global,
     files: &mut F,
     asked: &FollowAsked<'_>,
-    yard: &mut Y,
-    movins: &mut M,
+    listed: &mut Listed<Y, M>,
     report: &mut R,
     out: &mut W,
+    errors: &mut E,
 ) -> Result<Status, ToolFault>
-    requires { option_map (λ name. name.now) asked.now.names.now.page ≡ P.name }
-    ensures { let devices : Opened = record {
-      yard = record { given = Y.remaining yard.old; before = Y.failures yard.old; after = Y.failures yard.new };
-      movins = if_asked (is_some asked.now.names.now.movins) (record { given = M.remaining movins.old; before = M.failures movins.old; after = M.failures movins.new });
-      out = record { held = W.contents out.old; holds = W.contents out.new; before = W.failures out.old; after = W.failures out.new };
-    } in let from : SourceSeen = record { given = R.remaining report.old; before = R.failures report.old; after = R.failures report.new }
+    requires page { option_map (λ name. name.now) asked.now.names.now.page ≡ P.name }
+    requires list { after_name asked.now.names.now.after ≡ A.name }
+    ensures ended { let devices : Opened = record {
+      yard = source_seen Y.remaining Y.failures listed.old.yard listed.new.yard;
+      movins = if_asked (is_some asked.now.names.now.movins) (source_seen M.remaining M.failures listed.old.movins listed.new.movins);
+      out = sink_seen W.contents W.failures out.old out.new;
+    } in let from : SourceSeen = source_seen R.remaining R.failures report.old report.new
         in let all : FilesSeen = record { known = F.known files.old; left = F.known files.new; before = F.failures files.old; after = F.failures files.new }
-        in AnswersOver asked.now.settings.now (IsOverPage asked.now.names.now all devices from) (RefusesFile asked.now.names.now all devices from) result }
+        in AnswersOver (chosen_by asked.now.names.now asked.now.settings.now) (IsOverTexts asked.now.names.now all devices from)
+        (RefusesFile asked.now.names.now all devices from) result }
+    ensures noted { IsNotedBy (not (is_some asked.now.names.now.movins)) (sink_seen E.contents E.failures errors.old errors.new) }
 {
     let names = asked.names;
+    let (after, loaded) = list_of(names);
     prepare_wanted(files, names.page);
+    prepare_wanted(files, after);
     if let Some(shared) = first_shared(files, names) {
         return Err(ToolFault::OneFile(shared));
     }
-    let Ok(mut page) = Wanted::<F, P>::create(files, names.page) else {
+    let Ok(page) = Wanted::<F, P>::create(files, names.page) else {
         return Err(ToolFault::WritePage);
     };
+    let Ok(list) = Wanted::<F, A>::create(files, after) else {
+        return Err(ToolFault::Run(Fault::Write(Output::YardAfter)));
+    };
+    let mut texts = TextFiles { page, list };
     let settings = FollowSettings {
         input: asked.settings,
         ship: names.movins.is_some(),
         page: names.page.is_some(),
+        list: names.after.is_some(),
+        loaded,
     };
-    let answer = follow(alloc, yard, movins, report, &settings, &mut page, out);
-    let finished = page.finish(files, names.page);
-    unless_unfinished(answer, finished, ToolFault::WritePage)
+    let answer = follow(alloc, listed, report, &settings, &mut texts, out, errors);
+    let paged = texts.page.finish(files, names.page);
+    let left = texts.list.finish(files, after);
+    let answer = unless_unfinished(answer, paged, ToolFault::WritePage);
+    unless_unfinished(
+        answer,
+        left,
+        ToolFault::Run(Fault::Write(Output::YardAfter)),
+    )
 }
 
-// Opens the report, unless it is the standard input, and then the file of the page.
-fn follow_report<F: Files, Y: Source, M: Source, R: Source, W: Sink>(
+// Opens the report, unless it is the standard input, and then the files of the page and of the list.
+#[tactic(auto, using(crate::proofs::Noted::unnoted))]
+fn follow_report<F: Files, Y: Source, M: Source, R: Source, W: Sink, E: Sink>(
     alloc: Global,
     files: &mut F,
     asked: &FollowAsked<'_>,
-    yard: &mut Y,
-    movins: &mut M,
-    input: &mut R,
-    out: &mut W,
+    listed: &mut Listed<Y, M>,
+    streams: &mut Streams<R, W, E>,
 ) -> Result<Status, ToolFault>
-    ensures { let devices : Opened = record {
-      yard = record { given = Y.remaining yard.old; before = Y.failures yard.old; after = Y.failures yard.new };
-      movins = if_asked (is_some asked.now.names.now.movins) (record { given = M.remaining movins.old; before = M.failures movins.old; after = M.failures movins.new });
-      out = record { held = W.contents out.old; holds = W.contents out.new; before = W.failures out.old; after = W.failures out.new };
-    } in let given : SourceSeen = record { given = R.remaining input.old; before = R.failures input.old; after = R.failures input.new }
+    ensures ended { let devices : Opened = record {
+      yard = source_seen Y.remaining Y.failures listed.old.yard listed.new.yard;
+      movins = if_asked (is_some asked.now.names.now.movins) (source_seen M.remaining M.failures listed.old.movins listed.new.movins);
+      out = sink_seen W.contents W.failures streams.old.out streams.new.out;
+    } in let given : SourceSeen = source_seen R.remaining R.failures streams.old.input streams.new.input
         in let all : FilesSeen = record { known = F.known files.old; left = F.known files.new; before = F.failures files.old; after = F.failures files.new }
-        in AnswersOver asked.now.settings.now (IsOverReport asked.now.names.now all devices given) (RefusesFile asked.now.names.now all devices given) result }
+        in AnswersOver (chosen_by asked.now.names.now asked.now.settings.now) (IsOverReport asked.now.names.now all devices given)
+        (RefusesFile asked.now.names.now all devices given) result }
+    ensures noted { IsNotedBy (not (is_some asked.now.names.now.movins)) (sink_seen E.contents E.failures streams.old.errors streams.new.errors) }
 {
     if asked.names.report == "-" {
-        return follow_to::<F, Y, M, R, W, Brand>(alloc, files, asked, yard, movins, input, out);
+        return follow_to::<F, Y, M, R, W, E, Brand, Brand>(
+            alloc,
+            files,
+            asked,
+            listed,
+            &mut streams.input,
+            &mut streams.out,
+            &mut streams.errors,
+        );
     }
     let Ok(mut report) = files.open(asked.names.report) else {
         return Err(ToolFault::ReadOf(Statement::Report));
     };
-    let answer = follow_to::<F, Y, M, F::Input, W, Brand>(
+    let answer = follow_to::<F, Y, M, F::Input, W, E, Brand, Brand>(
         alloc,
         files,
         asked,
-        yard,
-        movins,
+        listed,
         &mut report,
-        out,
+        &mut streams.out,
+        &mut streams.errors,
     );
     files.close(report);
     answer
 }
 
-// Opens the message, if one is named, and then the report and the file of the page.
-fn follow_message<F: Files, Y: Source, R: Source, W: Sink>(
+/// Opens the files, before anything is read: the yard list, the message, if there is one, the report, and the files of the page and of the
+/// yard after, which are made where they are not there. Where one that is written is another one of these, or stands behind a standard
+/// stream, no file is emptied, and that is the fault. Else follows the moves of the report. One named `-` is the standard input. The table
+/// goes to the standard output, and with a message notes go to the standard error.
+#[tactic(auto, using(crate::proofs::Noted::unnoted))]
+pub fn follow_files<F: Files, R: Source, W: Sink, E: Sink>(
     alloc: Global,
     files: &mut F,
-    asked: &FollowAsked<'_>,
-    yard: &mut Y,
-    input: &mut R,
-    out: &mut W,
-) -> Result<Status, ToolFault>
-    ensures { let listed : SourceSeen = record { given = Y.remaining yard.old; before = Y.failures yard.old; after = Y.failures yard.new }
-        in let given : SourceSeen = record { given = R.remaining input.old; before = R.failures input.old; after = R.failures input.new }
-        in let shown : SinkSeen = record { held = W.contents out.old; holds = W.contents out.new; before = W.failures out.old; after = W.failures out.new }
-        in let all : FilesSeen = record { known = F.known files.old; left = F.known files.new; before = F.failures files.old; after = F.failures files.new }
-        in AnswersOver asked.now.settings.now (IsOverMessage asked.now.names.now all listed given shown)
-        (RefusesFile asked.now.names.now all (record { yard = listed; movins = None; out = shown }) given) result }
-{
-    match asked.names.movins {
-        Some(name) => {
-            let Ok(mut movins) = files.open(name) else {
-                return Err(ToolFault::Run(Fault::Read(Input::Movins)));
-            };
-            let answer = follow_report(alloc, files, asked, yard, &mut movins, input, out);
-            files.close(movins);
-            answer
-        }
-        None => {
-            let mut unread: &[u8] = b"";
-            follow_report(alloc, files, asked, yard, &mut unread, input, out)
-        }
-    }
-}
-
-/// Opens the files, before anything is read: the yard list, the message, if there is one, the report and the file of the page. Where that
-/// is another one of these, or stands behind a standard stream, no file is emptied, and that is the fault. Else follows the moves of the
-/// report. One named `-` is `input`, the standard input. The table goes to `out`.
-pub fn follow_files<F: Files, R: Source, W: Sink>(
-    alloc: Global,
-    files: &mut F,
-    input: &mut R,
+    streams: &mut Streams<R, W, E>,
     names: &FollowFiles<'_>,
     settings: &InputSettings,
-    out: &mut W,
 ) -> Result<Status, ToolFault>
-    ensures { let all : FilesSeen = record { known = F.known files.old; left = F.known files.new; before = F.failures files.old; after = F.failures files.new }
-        in let given : SourceSeen = record { given = R.remaining input.old; before = R.failures input.old; after = R.failures input.new }
-        in let shown : SinkSeen = record { held = W.contents out.old; holds = W.contents out.new; before = W.failures out.old; after = W.failures out.new }
+    ensures ended { let all : FilesSeen = record { known = F.known files.old; left = F.known files.new; before = F.failures files.old; after = F.failures files.new }
+        in let given : SourceSeen = source_seen R.remaining R.failures streams.old.input streams.new.input
+        in let shown : SinkSeen = sink_seen W.contents W.failures streams.old.out streams.new.out
         in MatchResult result (FollowReportsOverFiles names.now settings.now all given shown) (FollowFailsOverFiles names.now settings.now all given shown) }
+    ensures noted { IsNotedBy (not (is_some names.now.movins)) (sink_seen E.contents E.failures streams.old.errors streams.new.errors) }
 {
-    let Ok(mut yard) = files.open(names.yard) else {
+    let Ok(yard) = files.open(names.yard) else {
         return Err(ToolFault::Run(Fault::Read(Input::Yard)));
     };
     let asked = FollowAsked { names, settings };
-    let answer = follow_message(alloc, files, &asked, &mut yard, input, out);
-    files.close(yard);
-    answer
+    match names.movins {
+        Some(name) => {
+            let Ok(movins) = files.open(name) else {
+                return Err(ToolFault::Run(Fault::Read(Input::Movins)));
+            };
+            let mut listed = Listed { yard, movins };
+            let answer = follow_report(alloc, files, &asked, &mut listed, streams);
+            files.close(listed.movins);
+            files.close(listed.yard);
+            answer
+        }
+        None => {
+            let movins: &[u8] = b"";
+            let mut listed = Listed { yard, movins };
+            let answer = follow_report(alloc, files, &asked, &mut listed, streams);
+            files.close(listed.yard);
+            answer
+        }
+    }
 }

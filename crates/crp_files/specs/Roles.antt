@@ -14,6 +14,7 @@ is_written r = false
 -- the first is written, and must be another file than the second: one that is read, what stands behind a stream, or the other one that is written
 abbrev pub must_differ : Role → Role → Bool
 must_differ role.YardAfter role.Certificates = true
+must_differ role.YardAfter role.Page = true
 must_differ written other = is_written written && not (is_written other)
 
 -- both names are given, and are known to lead to one file

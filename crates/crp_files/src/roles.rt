@@ -27,7 +27,7 @@ pub enum Role {
     Message,
     /// The certificates, which are written.
     Certificates,
-    /// The yard after the plans, which is written.
+    /// The yard after the plans, or after the moves of a report, which is written.
     YardAfter,
     /// The page, which is written.
     Page,
@@ -79,7 +79,7 @@ fn must_differ(written: Role, other: Role) -> bool
     ensures { result ≡ must_differ written other }
 {
     match (written, other) {
-        (Role::YardAfter, Role::Certificates) => true,
+        (Role::YardAfter, Role::Certificates | Role::Page) => true,
         (_, Role::Certificates | Role::YardAfter | Role::Page) => false,
         (Role::Certificates | Role::YardAfter | Role::Page, _) => true,
         _ => false,

@@ -16,3 +16,7 @@ pub mod Few
 pub mod TableSteps
 mod KeptLaws
 mod Leaving
+pub mod FirstMoves
+mod BehindSteps
+mod YardBehind
+mod StoppingSteps

@@ -7,6 +7,8 @@ pub mod TextFaults
 pub mod MoveFaults
 pub mod Faults
 pub mod Followed
+pub mod Behind
 pub mod Kept
 pub mod Table
+pub mod Stopping
 pub mod Views

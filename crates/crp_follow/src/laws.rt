@@ -1,6 +1,6 @@
 //! Laws of reports that are followed. Each is the contract of a function that does nothing.
 ghost use Rattle.std.specs.Prelude.{◌≡◌, ◌+◌, ◌≤◌, ◌∷◌, ◌++◌, ℕ, List, take, length, Some, None};
-ghost use Rattle.crp_yard.specs.Inventory.{Inventory, FitBay, times};
+ghost use Rattle.crp_yard.specs.Inventory.{Inventory, FitBay, IsYard, times};
 ghost use Rattle.crp_said.specs.declared.numbers.Numbers.{Numbers};
 ghost use Rattle.crp_said.specs.declared.moves.SaidMove.{SaidMove};
 ghost use Rattle.crp_follow.specs.declared.fault.FollowFault.{FollowFault};
@@ -13,6 +13,7 @@ ghost use Rattle.crp_follow.specs.Kept.{taken_by, times_in, IsTakenAt, IsNextToL
 ghost use Rattle.crp_follow.specs.Table.{takes_from, leaves_at, next_to_leave, standing, left_behind};
 ghost use Rattle.crp_follow.specs.Faults.{IsFirstFault};
 ghost use Rattle.crp_follow.specs.Followed.{BayFollowed, IsFollowed};
+ghost use Rattle.crp_follow.specs.Behind.{Made, IsYardBehind};
 
 /// A report is followed in one way at most; then it has no first fault; and it has one first fault at most.
 pub fn one_outcome()
@@ -64,4 +65,10 @@ pub fn written_is_stated()
 /// the end of the text behind it; and its number is one more than the LF before it.
 pub fn lines_are_numbered()
     ensures { (text : List ℕ) (before later : List Line) (line : Line) → lines_in text ≡ before ++ line ∷ later → StandsIn (after_mark text) line }
+{}
+
+/// What moves leave of a yard is a yard, and one yard only.
+pub fn moves_leave_a_yard()
+    ensures yard { (yard after : Inventory) (made : List Made) → IsYard yard → IsYardBehind yard made after → IsYard after }
+    ensures one { (yard one other : Inventory) (made : List Made) → IsYardBehind yard made one → IsYardBehind yard made other → one ≡ other }
 {}

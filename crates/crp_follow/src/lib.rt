@@ -3,10 +3,12 @@
 //! `follow` says where the moves of each bay lead, or the first fault. What a crane can do is said in `specs/Crane.antt`, what the lines of a
 //! report are, whichever editor wrote it, in `specs/Lines.antt`, what it states line by line in `specs/Stated.antt`, what a report is that
 //! is followed in `specs/Followed.antt`, and why one is not in `specs/TextFaults.antt` and `specs/Faults.antt`. `write_table` writes the
-//! table of the moves, which `specs/Table.antt` defines.
+//! table of the moves, which `specs/Table.antt` defines, and `list_behind` the list of the yard as it stands when moves were made
+//! (`specs/Behind.antt`).
 #![tactic(auto)]
 
 mod bays;
+mod behind;
 mod columns;
 mod fault;
 mod followed;
@@ -18,20 +20,23 @@ mod pushing;
 mod row;
 mod stated;
 mod stating;
+mod stopping;
 mod table;
 mod taking;
 
 pub use bays::relocations_of;
+pub use behind::{list_behind, move_counts};
 pub use columns::{Columns, columns_of, standing};
 pub use fault::FollowFault;
 pub use followed::{Followed, FollowedBay};
 pub use following::follow;
 pub use laws::{
-    lines_are_numbered, nothing_is_lost, one_outcome, stays_within_heights, what_columns_say,
-    written_is_stated,
+    lines_are_numbered, moves_leave_a_yard, nothing_is_lost, one_outcome, stays_within_heights,
+    what_columns_say, written_is_stated,
 };
 pub use moving::{make_move, row_index};
 pub use row::Row;
 pub use stated::{StatedBay, StatedMove};
 pub use stating::MAX_BYTES;
+pub use stopping::{Stopping, stopping_at_line};
 pub use table::{Table, number_field, table_text, write_table};

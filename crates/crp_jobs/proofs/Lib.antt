@@ -1,2 +1,4 @@
 -- Lemmas on the lines about a fault.
 pub mod Shown
+pub mod LineSteps
+pub mod FirstSteps

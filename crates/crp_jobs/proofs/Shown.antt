@@ -1,5 +1,5 @@
 -- As much of a text as a line has room for, byte by byte.
-use Rattle.std.proofs.Common.{◌≡◌, ◌≢◌, ◌<◌, ◌≤◌, ◌+◌, ◌-◌, ℕ, Option, Some, None, Bool, true, false, List, [], ◌∷◌, ◌++◌, length, take, drop, map, get_or, subst, refl, sym, ap, ◌∙◌, IsTrue, arith, append_assoc, length-append, length-take, tests}
+use Rattle.std.proofs.Common.{◌≡◌, ◌≢◌, ◌<◌, ◌≤◌, ◌+◌, ◌-◌, ℕ, zero, suc, Option, Some, None, Bool, true, false, List, [], ◌∷◌, ◌++◌, length, take, drop, map, get_or, subst, refl, sym, ap, ◌∙◌, IsTrue, arith, append_assoc, length-append, length-take, tests}
 use Rattle.std.proofs.lemmas.List.{append-nil, map-append, take-append-drop, take-append-le, take_all, take_more}
 use Rattle.std.proofs.lemmas.List.Folds.{list_all-append}
 use Rattle.std.proofs.Math.Seq.{take-append_seam}
@@ -10,6 +10,7 @@ use Rattle.crp_places.proofs.SegmentSteps.{segment-there}
 use Rattle.std.specs.Prelude.{codes}
 use Rattle.crp_jobs.specs.Advice.{is_printable}
 use Rattle.crp_jobs.specs.Found.{IsPlainText, plain}
+use Rattle.crp_jobs.specs.declared.plain.TheConstants.{MOST_FOUND}
 use Rattle.crp_jobs.specs.Placed.{IsSegmentLine, end_text, line_front, place_text, shown}
 
 -- nothing is added yet
@@ -65,6 +66,17 @@ pub six_pieces : (a b c d e f t u v w x y z : List ℕ) → t ≡ [] → u ≡ t
     → z ≡ a ++ (b ++ (c ++ (d ++ (e ++ f))))
 six_pieces a b c d e f t u v w x y z g h i j k l m = rw (m, l, k, j, i, h, g) (simp append_assoc)
 
+-- two to four pieces behind others
+pub two_more : (old a b y z : List ℕ) → y ≡ old ++ a → z ≡ y ++ b → z ≡ old ++ (a ++ b)
+two_more old a b y z e f = f ∙ ap (λ (t : List ℕ). t ++ b) e ∙ append_assoc old a b
+
+pub three_more : (old a b c x y z : List ℕ) → x ≡ old ++ a → y ≡ x ++ b → z ≡ y ++ c → z ≡ old ++ (a ++ (b ++ c))
+three_more old a b c x y z e f g =
+    g ∙ ap (λ (t : List ℕ). t ++ c) (two_more old a b x y e f) ∙ append_assoc old (a ++ b) c ∙ ap (λ (t : List ℕ). old ++ t) (append_assoc a b c)
+
+pub four_more : (old a b c d w x y z : List ℕ) → w ≡ old ++ a → x ≡ w ++ b → y ≡ x ++ c → z ≡ y ++ d → z ≡ old ++ (a ++ (b ++ (c ++ d)))
+four_more old a b c d w x y z e f g h = three_more old a b (c ++ d) w x z e f (two_more x c d y z g h)
+
 -- the line on a segment that is there
 pub segment-line : (n at line end : ℕ) (text bytes said items : List ℕ) → line ≡ line_of text at → bytes ≡ line_front (take (end - at) (drop at text))
     → said ≡ place_text (codes "segment ") n line bytes → items ≡ shown said → ((number : ℕ) (own : List ℕ) → IsSegmentText text number at own → end ≡ at + length own)
@@ -88,3 +100,19 @@ segment-line-none n text said items of_said of_items place = record {
   there = λ offset own of. (let e = place offset of.at in absurd cc);
   none = λ count spelled less. of_items ∙ ap shown of_said;
 }
+
+-- a text more behind one that is shown
+take_of_take : (n : ℕ) (xs ys : List ℕ) → take n (take n xs ++ ys) ≡ take n (xs ++ ys)
+take_of_take zero xs ys = refl
+take_of_take (suc n) [] ys = refl
+take_of_take (suc n) (x ∷ xs) ys = ap (λ (l : List ℕ). x ∷ l) (take_of_take n xs ys)
+
+pub shown_more : (old text line : List ℕ) → line ≡ take MOST_FOUND (shown old ++ map plain text) → line ≡ shown (old ++ text)
+shown_more old text line is =
+    is ∙ take_of_take MOST_FOUND (map plain old) (map plain text) ∙ ap (take MOST_FOUND) (sym (map-append plain old text))
+
+-- the same of a line to which a text is added, where it has room
+pub pushed_more : (old text line next : List ℕ) → line ≡ shown old → (length line ≤ MOST_FOUND → next ≡ take MOST_FOUND (line ++ map plain text)) → next ≡ shown (old ++ text)
+pushed_more old text line next is more =
+    let few : length line ≤ MOST_FOUND = omega (arith, ap (λ (x : List ℕ). length x) is, length-take MOST_FOUND (map plain old)) in
+    shown_more old text next (more few ∙ ap (λ (l : List ℕ). take MOST_FOUND (l ++ map plain text)) is)

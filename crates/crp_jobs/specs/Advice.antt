@@ -18,7 +18,7 @@ use Rattle.crp_jobs.specs.declared.outcome.ToolFault.TheVariants as fault
 use Rattle.crp_files.specs.declared.roles.Role.{Role}
 use Rattle.crp_files.specs.declared.roles.Role.TheVariants as role
 use Rattle.crp_files.specs.declared.roles.Shared.{Shared}
-use Rattle.crp_jobs.specs.Names.{named_in_follow, named_in_run}
+use Rattle.crp_jobs.specs.Names.{after_name, named_in_follow, named_in_run}
 use Rattle.crp_jobs.specs.declared.failed.Place.{Place}
 use Rattle.crp_jobs.specs.declared.failed.Place.TheVariants as place
 
@@ -99,10 +99,11 @@ failed_in_audit names fault.ReadSizes = option_map (λ name. file_words name.now
 failed_in_audit names fault.Write = Some (codes "look at the standard output")
 failed_in_audit names f = None
 
--- the same where a report of these files is followed: the page, if it is wanted, goes to its file, and the table to the standard output
+-- the same where a report of these files is followed: the page and the yard after, if they are wanted, go to their files, and the table to the standard output
 abbrev pub failed_in_follow : FollowFiles → ToolFault → Option (List ℕ)
 failed_in_follow names (fault.Run (run.Read input.Yard)) = Some (file_words names.yard.now)
 failed_in_follow names (fault.Run (run.Read input.Movins)) = option_map (λ name. file_words name.now) names.movins
+failed_in_follow names (fault.Run (run.Write output.YardAfter)) = option_map file_words (after_name names.after)
 failed_in_follow names (fault.ReadOf statement.Report) = Some (source_words names.report.now)
 failed_in_follow names fault.ReadSizes = option_map (λ name. file_words name.now) names.sizes
 failed_in_follow names fault.WriteTable = Some (codes "look at the standard output")

@@ -6,3 +6,12 @@ pub mod Sized
 pub mod Advice
 pub mod Found
 pub mod Placed
+pub mod Instead
+pub mod Headers
+pub mod Firsts
+pub mod ListLines
+pub mod MessageLines
+pub mod ReportLines
+pub mod Moves
+pub mod ReportFaults
+pub mod FaultLines

@@ -3,6 +3,7 @@ use Rattle.std.specs.Prelude.{ℕ, List, Option, Some, None, option_map, codes, 
 use Rattle.std.specs.Str.{bytes_eq}
 use Rattle.crp_files.specs.declared.roles.Role.{Role}
 use Rattle.crp_files.specs.declared.roles.Role.TheVariants as role
+use Rattle.crp_jobs.specs.declared.job.AfterFile.{AfterFile}
 use Rattle.crp_jobs.specs.declared.job.FollowFiles.{FollowFiles}
 use Rattle.crp_jobs.specs.declared.job.RunFiles.{RunFiles}
 
@@ -25,6 +26,10 @@ report_name name = if bytes_eq name (codes "-") then None else Some name
 abbrev pub input_name : List ℕ → Option (List ℕ)
 input_name name = if bytes_eq name (codes "-") then Some (codes "/dev/stdin") else None
 
+-- the name of what gets the yard after the moves of a report
+abbrev pub after_name : Option AfterFile → Option (List ℕ)
+after_name after = option_map (λ file. file.name.now) after
+
 -- where a report is followed: the table goes to the standard output, and what is wrong is written to the standard error
 abbrev pub named_in_follow : FollowFiles → Role → Option (List ℕ)
 named_in_follow names role.YardList = Some names.yard.now
@@ -32,6 +37,7 @@ named_in_follow names role.Sizes = option_map (λ name. name.now) names.sizes
 named_in_follow names role.Report = report_name names.report.now
 named_in_follow names role.Message = option_map (λ name. name.now) names.movins
 named_in_follow names role.Page = option_map (λ name. name.now) names.page
+named_in_follow names role.YardAfter = after_name names.after
 named_in_follow names role.StandardInput = input_name names.report.now
 named_in_follow names role.StandardOutput = Some (codes "/dev/stdout")
 named_in_follow names role.StandardError = Some (codes "/dev/stderr")

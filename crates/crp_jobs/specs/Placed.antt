@@ -1,56 +1,23 @@
 -- Where what a fault names stands in its file, and what stands there, as a line says it.
-use Rattle.std.specs.Prelude.{◌≡◌, ◌⊎◌, ℕ, ◌<◌, Bool, true, false, nat_lt, List, [], ◌∷◌, ◌++◌, length, map, take, drop, position, unwrap_or, IsTrue, Option, Some, None, IfSome, if◌then◌else◌, codes, option_map}
+use Rattle.std.specs.Prelude.{◌≡◌, ℕ, ◌<◌, nat_lt, List, [], ◌∷◌, ◌++◌, length, map, take, drop, position, unwrap_or, Option, Some, None, if◌then◌else◌, codes, option_map}
 use Rattle.std.specs.Fmt.{decimal}
-use Rattle.csv.specs.Reading.{strip_bom}
 use Rattle.edi_text.specs.declared.fault.EdiFault.{EdiFault}
 use Rattle.edi_text.specs.declared.fault.EdiFault.TheVariants as edi
 use Rattle.edi_text.specs.Reading.{is_line_end}
 use Rattle.crp_movins.specs.declared.fault.MovinsFault.{MovinsFault}
 use Rattle.crp_movins.specs.declared.fault.MovinsFault.TheVariants as movins
-use Rattle.crp_sizes.specs.declared.fault.SizesFault.{SizesFault}
-use Rattle.crp_sizes.specs.declared.fault.SizesFault.TheVariants as sizes
-use Rattle.crp_yard.specs.declared.fault.YardFault.{YardFault}
-use Rattle.crp_yard.specs.declared.fault.YardFault.TheVariants as yard
+use Rattle.crp_sizes.specs.Sizes.{YardSizes}
 use Rattle.crp_places.specs.Lines.{line_of}
 use Rattle.crp_places.specs.Records.{record_start}
 use Rattle.crp_places.specs.Segments.{IsSegmentText, IsSpelledBy}
-use Rattle.crp_report.specs.declared.fault.Fault.TheVariants as run
-use Rattle.crp_jobs.specs.declared.found.Found.{Found}
-use Rattle.crp_jobs.specs.declared.found.Found.TheVariants as found
 use Rattle.crp_jobs.specs.declared.job.Job.{Job}
 use Rattle.crp_jobs.specs.declared.job.Job.TheVariants as job
-use Rattle.crp_jobs.specs.declared.outcome.ToolFault.{ToolFault}
-use Rattle.crp_jobs.specs.declared.outcome.ToolFault.TheVariants as fault
 use Rattle.crp_jobs.specs.declared.plain.TheConstants.{MOST_FOUND}
-use Rattle.crp_files.specs.Known.{KnownFiles, IsFront}
-use Rattle.crp_jobs.specs.Found.{found_in, plain}
+use Rattle.crp_files.specs.Known.{IsFront}
+use Rattle.crp_jobs.specs.Found.{plain}
+use Rattle.crp_jobs.specs.Names.{report_name}
 
 -- ---- what a fault names
-
--- the record of a yard list that the fault names; of a wrong header another line tells more
-abbrev pub record_named : YardFault → Option ℕ
-record_named (yard.Fields n) = Some n
-record_named (yard.Digits n) = Some n
-record_named (yard.Outside n) = Some n
-record_named (yard.PlaceTaken n) = Some n
-record_named (yard.Floating n) = Some n
-record_named (yard.StandsAlready n) = Some n
-record_named (yard.TooMany n) = Some n
-record_named (yard.Header n) = None
-record_named yard.Read = None
-record_named yard.TooLarge = None
-record_named yard.Memory = None
-
--- and that of a list of sizes
-abbrev pub size_named : SizesFault → Option ℕ
-size_named (sizes.Fields n) = Some n
-size_named (sizes.Digits n) = Some n
-size_named (sizes.Heights n) = Some n
-size_named (sizes.Twice n) = Some n
-size_named (sizes.Header n) = None
-size_named sizes.TooLarge = None
-size_named sizes.Read = None
-size_named sizes.Memory = None
 
 -- the offset in a message that the fault names
 abbrev pub offset_named : EdiFault → Option ℕ
@@ -94,12 +61,26 @@ sizes_named (job.Audit names settings) = option_map (λ name. name.now) names.si
 sizes_named (job.Follow names settings) = option_map (λ name. name.now) names.sizes
 sizes_named (job.Solve names settings quiet progress) = option_map (λ name. name.now) names.sizes
 
+-- the sizes of bays that it was given: those of all, where it names no list
+abbrev pub sizes_of : Job → Option YardSizes
+sizes_of (job.OneFile file command) = None
+sizes_of (job.Audit names settings) = Some settings.sizes
+sizes_of (job.Follow names settings) = Some settings.sizes
+sizes_of (job.Solve names settings quiet progress) = Some settings.input.sizes
+
 -- its message
 abbrev pub message_named : Job → Option (List ℕ)
 message_named (job.OneFile file command) = None
 message_named (job.Audit names settings) = Some names.movins.now
 message_named (job.Follow names settings) = option_map (λ name. name.now) names.movins
 message_named (job.Solve names settings quiet progress) = Some names.movins.now
+
+-- its report; one that is followed and is read from the standard input has no name
+abbrev pub report_named : Job → Option (List ℕ)
+report_named (job.OneFile file command) = None
+report_named (job.Audit names settings) = Some names.report.now
+report_named (job.Follow names settings) = report_name names.report.now
+report_named (job.Solve names settings quiet progress) = None
 
 -- ---- what is said of it
 
@@ -143,26 +124,3 @@ pub record IsSegmentLine (n : ℕ) (text line : List ℕ) : Type 0 where
 -- the line is made of what the file begins with, as far as its bytes are known
 abbrev pub IsOfFront : Option (List ℕ) → (List ℕ → Type 0) → Type 0
 IsOfFront known Holds = (front : List ℕ) × IsFront known front × Holds front
-
--- what is no message by its first bytes
-abbrev pub is_other : Option Found → Bool
-is_other (Some found.Archive) = true
-is_other (Some found.Pdf) = true
-is_other (Some found.YardList) = true
-is_other (Some found.Nothing) = false
-is_other (Some found.Interchange) = false
-is_other None = false
-
--- the line on the fault of an input: on the record, the segment or the offset that it names, in the file of the job; where that is no message by its
--- first bytes, another line takes its place
-abbrev pub IsPlacedLine : KnownFiles → Job → ToolFault → List ℕ → Type 0
-IsPlacedLine known j (fault.Run (run.Yard f)) line =
-    IfSome (record_named f) (λ n. IfSome (yard_named j) (λ name. IsOfFront (known.given name) (λ text. IsRecordLine n text line)))
-IsPlacedLine known j (fault.Sizes f) line =
-    IfSome (size_named f) (λ n. IfSome (sizes_named j) (λ name. IsOfFront (known.given name) (λ text. IsRecordLine n text line)))
-IsPlacedLine known j (fault.Run (run.Message f)) line =
-    IfSome (segment_named f) (λ n. IfSome (message_named j) (λ name. IsOfFront (known.given name) (λ text. IsSegmentLine n text line)))
-IsPlacedLine known j (fault.Run (run.Interchange f)) line =
-    IfSome (offset_named f) (λ n. IfSome (message_named j) (λ name.
-    IsOfFront (known.given name) (λ text. IsOffsetLine n text line) ⊎ IsOfFront (known.given name) (λ text. IsTrue (is_other (found_in (strip_bom text))))))
-IsPlacedLine known j f line = Unit {0}

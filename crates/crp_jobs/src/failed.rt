@@ -3,6 +3,7 @@ ghost use Rattle.std.specs.Prelude.{◌≡◌, Some, option_map};
 ghost use Rattle.crp_jobs.specs.Advice.{failed_in_audit, failed_in_file, failed_in_follow, failed_in_run, failed_words, place_words, shared_words, source_words, stream_words};
 
 use crate::job::{AuditFiles, FollowFiles, Job, RunFiles};
+use crate::names::after_name;
 use crate::outcome::{Statement, ToolFault};
 use crp_files::{JobNames, Role, Shared};
 use crp_report::{Fault, Input, Output};
@@ -137,6 +138,7 @@ fn place_in_follow<'a>(names: &FollowFiles<'a>, fault: &ToolFault) -> Option<Pla
     match fault {
         ToolFault::Run(Fault::Read(Input::Yard)) => Some(Place::File(names.yard)),
         ToolFault::Run(Fault::Read(Input::Movins)) => names.movins.map(Place::File),
+        ToolFault::Run(Fault::Write(Output::YardAfter)) => after_name(names.after).map(Place::File),
         ToolFault::ReadOf(Statement::Report) => Some(source_of(names.report)),
         ToolFault::ReadSizes => names.sizes.map(Place::File),
         ToolFault::WriteTable => Some(Place::StandardOutput),

@@ -57,6 +57,15 @@ pub struct AuditFiles<'a> {
     pub certificates: &'a str,
 }
 
+/// What gets the yard as the moves of a report leave it.
+#[derive(Clone, Copy)]
+pub struct AfterFile<'a> {
+    /// Its name.
+    pub name: &'a str,
+    /// How many containers the ship has got, if no more moves are made than until then.
+    pub loaded: Option<u64>,
+}
+
 /// The files of a report that is followed, by their names.
 #[derive(Clone, Copy)]
 pub struct FollowFiles<'a> {
@@ -70,6 +79,8 @@ pub struct FollowFiles<'a> {
     pub movins: Option<&'a str>,
     /// What gets the page of its moves, if it is wanted.
     pub page: Option<&'a str>,
+    /// What gets the yard as its moves leave it, if it is wanted.
+    pub after: Option<AfterFile<'a>>,
 }
 
 /// What the program is to do.

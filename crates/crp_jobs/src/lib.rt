@@ -5,22 +5,36 @@
 #![tactic(auto)]
 
 mod advice;
+mod bay_words;
 mod certificate_advice;
+mod detailed;
 mod failed;
+mod firsts;
 mod follow_advice;
 mod found;
+mod headers;
+mod instead;
 mod job;
+mod kinds;
+mod list_lines;
+mod message_lines;
+mod move_words;
+mod moves;
 mod named;
 mod names;
 mod outcome;
 mod placed;
 mod plain;
+mod records;
+mod report_faults;
+mod report_lines;
 mod run_advice;
 mod sizes_advice;
 
 pub use advice::advice_on;
 pub use failed::{Place, place_of};
-pub use found::{Found, found_in, found_line};
-pub use job::{AuditFiles, FileCommand, FollowFiles, Job, RunFiles};
+pub use found::found_line;
+pub use job::{AfterFile, AuditFiles, FileCommand, FollowFiles, Job, RunFiles};
+pub use kinds::{Found, found_in};
 pub use outcome::{Statement, ToolFault, exit_of};
 pub use plain::{FoundLine, MOST_FOUND};

@@ -1,44 +1,12 @@
-//! What a fault of an input names of its text: a record, an offset or a segment; and whose text that is.
+//! What a fault of a message names of its text, an offset or a segment; and the files of a job, by their names.
 ghost use Rattle.std.specs.Prelude.{◌≡◌, option_map};
-ghost use Rattle.crp_jobs.specs.Placed.{message_named, offset_named, record_named, segment_named, size_named, sizes_named, yard_named};
+ghost use Rattle.crp_jobs.specs.Names.{report_name};
+ghost use Rattle.crp_jobs.specs.Placed.{message_named, offset_named, report_named, segment_named, sizes_named, sizes_of, yard_named};
 
 use crate::job::Job;
 use crp_movins::MovinsFault;
-use crp_sizes::SizesFault;
-use crp_yard::YardFault;
+use crp_sizes::Sizes;
 use edi_text::EdiFault;
-
-/// The record that is named, from 1. Where the first is no header, another line tells more.
-pub(crate) fn record_named(fault: &YardFault) -> Option<usize>
-    ensures { result ≡ record_named fault.now }
-{
-    match fault {
-        YardFault::Fields { record }
-        | YardFault::Digits { record }
-        | YardFault::Outside { record }
-        | YardFault::PlaceTaken { record }
-        | YardFault::Floating { record }
-        | YardFault::StandsAlready { record }
-        | YardFault::TooMany { record } => Some(*record),
-        YardFault::Header { .. } | YardFault::Read | YardFault::TooLarge | YardFault::Memory => {
-            None
-        }
-    }
-}
-
-/// The record of a list of sizes that is named, from 1. Where the first is no header, another line tells more.
-pub(crate) fn size_named(fault: &SizesFault) -> Option<usize>
-    ensures { result ≡ size_named fault.now }
-{
-    match fault {
-        SizesFault::Fields { record }
-        | SizesFault::Digits { record }
-        | SizesFault::Heights { record }
-        | SizesFault::Twice { record } => Some(*record),
-        SizesFault::Header { .. } | SizesFault::TooLarge | SizesFault::Read | SizesFault::Memory =>
-            None,
-    }
-}
 
 /// The offset that is named, in bytes from 0.
 pub(crate) fn offset_named(fault: &EdiFault) -> Option<usize>
@@ -102,6 +70,18 @@ pub(crate) fn sizes_named<'a>(job: &Job<'a>) -> Option<&'a str>
     }
 }
 
+/// The sizes of bays that it was given: those of all, where it names no list.
+pub(crate) fn sizes_of<'a>(job: &'a Job<'_>) -> Option<&'a Sizes>
+    ensures { option_map (λ sizes. sizes.now) result ≡ sizes_of job.now }
+{
+    match job {
+        Job::Solve { settings, .. } => Some(settings.input().sizes()),
+        Job::Audit { settings, .. } => Some(settings.sizes()),
+        Job::Follow { settings, .. } => Some(settings.sizes()),
+        Job::OneFile { .. } => None,
+    }
+}
+
 /// Its message.
 pub(crate) fn message_named<'a>(job: &Job<'a>) -> Option<&'a str>
     ensures { option_map (λ name. name.now) result ≡ message_named job.now }
@@ -111,5 +91,23 @@ pub(crate) fn message_named<'a>(job: &Job<'a>) -> Option<&'a str>
         Job::Audit { files, .. } => Some(files.movins),
         Job::Follow { files, .. } => files.movins,
         Job::OneFile { .. } => None,
+    }
+}
+
+// A report that is followed, unless it is read from the standard input.
+fn report_name(report: &str) -> Option<&str>
+    ensures { option_map (λ name. name.now) result ≡ report_name report.now }
+{
+    if report == "-" { None } else { Some(report) }
+}
+
+/// Its report.
+pub(crate) fn report_named<'a>(job: &Job<'a>) -> Option<&'a str>
+    ensures { option_map (λ name. name.now) result ≡ report_named job.now }
+{
+    match job {
+        Job::Audit { files, .. } => Some(files.report),
+        Job::Follow { files, .. } => report_name(files.report),
+        Job::OneFile { .. } | Job::Solve { .. } => None,
     }
 }

@@ -1,8 +1,8 @@
 //! The names of the files of a job, by what they are to it.
 ghost use Rattle.std.specs.Prelude.{◌≡◌, option_map};
-ghost use Rattle.crp_jobs.specs.Names.{input_name, report_name};
+ghost use Rattle.crp_jobs.specs.Names.{after_name, input_name, report_name};
 
-use crate::job::{FollowFiles, RunFiles};
+use crate::job::{AfterFile, FollowFiles, RunFiles};
 use crp_files::{JobNames, Role, STANDARD_ERROR, STANDARD_INPUT, STANDARD_OUTPUT};
 
 // The file of a report that is followed. One named `-` is none.
@@ -20,6 +20,16 @@ fn input_name(report: &str) -> Option<&'static str>
         Some(STANDARD_INPUT)
     } else {
         None
+    }
+}
+
+/// The file of the yard after the moves of a report, if it is wanted.
+pub(crate) fn after_name(after: Option<AfterFile<'_>>) -> Option<&str>
+    ensures { option_map (λ name. name.now) result ≡ after_name after.entry }
+{
+    match after {
+        Some(after) => Some(after.name),
+        None => None,
     }
 }
 
@@ -54,10 +64,11 @@ impl JobNames for FollowFiles<'_> {
             Role::Report => report_name(self.report),
             Role::Message => self.movins,
             Role::Page => self.page,
+            Role::YardAfter => after_name(self.after),
             Role::StandardInput => input_name(self.report),
             Role::StandardOutput => Some(STANDARD_OUTPUT),
             Role::StandardError => Some(STANDARD_ERROR),
-            Role::Certificates | Role::YardAfter => None,
+            Role::Certificates => None,
         }
     }
 }

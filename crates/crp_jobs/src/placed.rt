@@ -34,8 +34,8 @@ pub(crate) fn line_front(text: &[u8]) -> &[u8]
     }
 }
 
-// The words on what stands in this line, and the bytes that stand there; there may be none.
-fn place_text(
+/// The words on what stands in this line, and the bytes that stand there; there may be none.
+pub(crate) fn place_text(
     alloc: Global,
     what: &[u8],
     number: usize,
@@ -59,8 +59,8 @@ fn place_text(
     Ok(said)
 }
 
-// The words on the end of a text.
-fn end_text(alloc: Global, text: &[u8]) -> Result<Vec<u8>, AllocError>
+/// The words on the end of a text.
+pub(crate) fn end_text(alloc: Global, text: &[u8]) -> Result<Vec<u8>, AllocError>
     ensures { IfOk result (λ said. said.items ≡ end_text text.now) }
 {
     let mut said = Vec::new(alloc);
@@ -89,8 +89,8 @@ fn said_at(
     }
 }
 
-// A text as a line shows it.
-fn shown(text: &[u8]) -> FoundLine
+/// A text as a line shows it.
+pub(crate) fn shown(text: &[u8]) -> FoundLine
     ensures shown { result.items ≡ shown text.now }
     ensures plain { IsPlainText result.items }
 {

@@ -8,6 +8,9 @@ use arrayvec::ArrayVec;
 /// The most bytes of a line on what was found.
 pub const MOST_FOUND: usize = 160;
 
+/// How many bytes of a file show what it looks like.
+pub(crate) const FRONT: usize = 64;
+
 /// A line on what was found.
 pub type FoundLine = ArrayVec<u8, MOST_FOUND>;
 

@@ -97,7 +97,7 @@ fn advice_on_yard(fault: &YardFault) -> &'static str
             "bay, row and tier must be numbers of one to four digits, and the bay must not be 0"
         }
         YardFault::Outside { .. } => {
-            "the bays have no such row or tier (both count from 1): look at --rows and --tiers (by default 6 and 5) or --heights"
+            "the bays have no such row or tier (both from 1): look at --rows and --tiers (by default 6 and 5), --heights or --sizes"
         }
         YardFault::PlaceTaken { .. } => {
             "a record before this one names the same place (block, bay, row and tier)"

@@ -6,3 +6,4 @@ mod SlotSteps
 mod CheckSteps
 mod RecordSteps
 mod SameRecords
+mod FirstTurns

@@ -2,4 +2,5 @@
 pub mod Turns
 pub mod Faults
 pub mod Loading
+pub mod Loaded
 pub mod Views

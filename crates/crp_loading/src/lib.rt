@@ -2,12 +2,14 @@
 //!
 //! `load_table` writes the records of the moves by the turns of the containers that leave, or says the first take that does not fit the
 //! ship's order. What the turn and the slot of a container are is said in `specs/Turns.antt`, what the table is in `specs/Loading.antt`,
-//! and what is refused in `specs/Faults.antt`.
+//! and what is refused in `specs/Faults.antt`. `counts_up_to` says how many moves are made when the ship has its first containers
+//! (`specs/Loaded.antt`).
 #![tactic(auto)]
 
 mod checking;
 mod fault;
 mod laws;
+mod loaded;
 mod loading;
 mod recording;
 mod ship;
@@ -15,5 +17,6 @@ mod slot_digits;
 mod turning;
 
 pub use fault::LoadingFault;
-pub use laws::{same_records, slots_are_as_ordered};
+pub use laws::{loaded_moves_have_turns, same_records, slots_are_as_ordered};
+pub use loaded::counts_up_to;
 pub use loading::load_table;

@@ -3,3 +3,4 @@ mod Saying
 mod InForce
 mod Placed
 mod SizeWords
+mod Leaving

@@ -42,12 +42,22 @@ last_row-push (other ∷ stacks) stack true e =
     rw (last_row-push stacks stack true e, some) one
 last_row-push (other ∷ stacks) stack false e = rw (last_row-push stacks stack false e) refl
 
+-- a stack of it
+stack_at : (yard : Inventory) (bay i : ℕ) (stack : List (List ℕ)) (b : StackedBay) → slice_get yard.bays bay ≡ Some b → stack_in_bay yard bay (i + 1) ≡ Some stack → slice_get b.1 i ≡ Some stack
+stack_at yard bay i stack b at is =
+    let this : (i + 1) - 1 ≡ i = omega arith in
+    ap (slice_get b.1) (sym this) ∙ ap (option_and_then (λ (x : StackedBay). slice_get x.1 ((i + 1) - 1))) (sym at) ∙ is
+
+-- its stacks up to one more
+pub stacks_more : (yard : Inventory) (bay i : ℕ) (stack : List (List ℕ)) (b : StackedBay) → slice_get yard.bays bay ≡ Some b → stack_in_bay yard bay (i + 1) ≡ Some stack
+    → take (i + 1) b.1 ≡ take i b.1 ++ stack ∷ []
+stacks_more yard bay i stack b at is = next b.1 i stack (stack_at yard bay i stack b at is)
+
 -- of its rows one more
 pub row_more : (yard : Inventory) (bay i : ℕ) (stack : List (List ℕ)) (b : StackedBay) → slice_get yard.bays bay ≡ Some b → stack_in_bay yard bay (i + 1) ≡ Some stack → (t : Bool)
     → nat_lt 0 (length stack) ≡ t → (last_row (take (i + 1) b.1) ≡ cond t (i + 1) (last_row (take i b.1))) × (top_tier (take (i + 1) b.1) ≡ max (top_tier (take i b.1)) (length stack))
 row_more yard bay i stack b at is t e =
-    let this : (i + 1) - 1 ≡ i = omega arith in
-    let there : slice_get b.1 i ≡ Some stack = ap (slice_get b.1) (sym this) ∙ ap (option_and_then (λ (x : StackedBay). slice_get x.1 ((i + 1) - 1))) (sym at) ∙ is in
+    let there = stack_at yard bay i stack b at is in
     let more : take (i + 1) b.1 ≡ take i b.1 ++ stack ∷ [] = next b.1 i stack there in
     let long : length (take i b.1) ≡ i = length-take-le i b.1 (let within = slice_get_within b.1 i stack there in omega (arith, within)) in (
       ap last_row more ∙ last_row-push (take i b.1) stack t e ∙ ap (λ n. cond t (n + 1) (last_row (take i b.1))) long,
@@ -57,6 +67,10 @@ row_more yard bay i stack b at is t e =
 size_is : (yard : Inventory) (bay : ℕ) (heights : List ℕ) (b : StackedBay) → slice_get yard.bays bay ≡ Some b → heights_in_bay yard bay ≡ Some heights → size_of yard b ≡ heights
 size_is yard bay heights b at e =
     same_Some (size_of yard b) heights (ap (λ (o : Option StackedBay). option_map (heights_at yard.sizes) (option_map (λ (x : StackedBay). x.0) o)) (sym at) ∙ e)
+
+-- its name
+pub name_is : (yard : Inventory) (bay : ℕ) (name : YardBay) (b : StackedBay) → slice_get yard.bays bay ≡ Some b → name_at yard bay ≡ Some name → name ≡ b.0
+name_is yard bay name b at is = same_Some name b.0 (sym is ∙ ap (option_map (λ (x : StackedBay). x.0)) at)
 
 -- all of its rows
 pub all_rows : (yard : Inventory) (bay i : ℕ) (heights : List ℕ) (b : StackedBay) → IsYard yard → slice_get yard.bays bay ≡ Some b → heights_in_bay yard bay ≡ Some heights

@@ -7,4 +7,6 @@ pub mod Namings
 pub mod Bays
 pub mod Beyond
 pub mod Used
+pub mod Left
+pub mod LeftNames
 pub use Rattle.crp_report.specs.Watching

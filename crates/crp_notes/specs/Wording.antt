@@ -90,13 +90,26 @@ open_note bay advice = note_of (bay_words bay ∷ codes " is left open, since " 
 abbrev pub no_plan_note : YardBay → List ℕ
 no_plan_note bay = note_of (
     bay_words bay
-    ∷ codes " has no plan, since its rows and tiers leave no room to reach what is ordered: if it has more, say so by --rows, --tiers or --heights, or choose another order of leaving by --order" ∷ [])
+    ∷ codes " has no plan, since its rows and tiers leave no room to reach what is ordered: if it has more, say so by --rows, --tiers, --heights or --sizes, or choose another order of leaving by --order" ∷ [])
 
 -- the file of certificates has grown past so many bytes
 abbrev pub size_note : ℕ → YardBay → List ℕ
 size_note largest bay = note_of (
     codes "with " ∷ bay_words bay ∷ codes " the certificates have more than " ∷ decimal largest
     ∷ codes " bytes, and crp check takes no larger file: cut it behind a line that begins with end" ∷ [])
+
+-- a report that is followed does not take these ordered containers of a bay: how many, and the first of them
+abbrev pub left_note : YardBay → List (List ℕ) → List ℕ
+left_note bay names = note_of (
+    bay_words bay ∷ codes ": the report does not take " ∷ decimal (length names)
+    ∷ (if nat_lt 1 (length names) then codes " ordered containers: " else codes " ordered container: ") ∷ listed (take 10 names) (nat_lt 10 (length names)) ∷ [])
+
+-- the ship gets fewer containers than are said to be loaded
+abbrev pub loaded_note : ℕ → ℕ → List ℕ
+loaded_note loaded sequenced = note_of (
+    codes "the message orders " ∷ decimal sequenced
+    ∷ (if sequenced == 1 then codes " container, and --loaded says " else codes " containers, and --loaded says ") ∷ decimal loaded
+    ∷ codes ": all moves up to the last of them are made" ∷ [])
 
 -- so many notes are left out
 abbrev pub more_note : ℕ → List ℕ

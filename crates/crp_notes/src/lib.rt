@@ -3,10 +3,12 @@
 //! `Notes` watches a run and writes its notes to standard error, and how far it is to a `Terminal`; nothing of the report rests on them. How each note is worded is said
 //! in `specs/Wording.antt`, which names are alike in `specs/Alike.antt`, which slots several orders of a message name in
 //! `specs/Slots.antt`, what is noted of the bays of one size in `specs/Beyond.antt`, and of a bay in `specs/Bays.antt`.
+//! `note_left` notes what a report that is followed leaves of what is ordered: `specs/Left.antt`.
 #![tactic(auto)]
 
 mod bays;
 mod containers;
+mod left;
 mod lines;
 mod message;
 mod naming;
@@ -19,6 +21,7 @@ mod terminal;
 mod tiers;
 mod wording;
 
+pub use left::note_left;
 pub use notes::Notes;
 pub use progress::Progress;
 pub use terminal::{NoTerminal, Terminal};

@@ -1,7 +1,8 @@
 //! Words the notes.
-ghost use Rattle.std.specs.Prelude.{◌≡◌, [], ◌++◌, IfOk, OnOk, length, take, map, flat_map, nat_lt, codes, if◌then◌else◌};
-ghost use Rattle.crp_notes.specs.Wording.{note_of, quoted, listed, function_note, no_codes_note, codes_note, messages_note, absent_note, alike_note, slots_note, bay_name, bay_words, which_words, first_words, beyond_note, open_note, no_plan_note, size_note, more_note};
+ghost use Rattle.std.specs.Prelude.{◌≡◌, ◌==◌, [], ◌++◌, IfOk, OnOk, length, take, map, flat_map, nat_lt, codes, if◌then◌else◌};
+ghost use Rattle.crp_notes.specs.Wording.{note_of, quoted, listed, function_note, no_codes_note, codes_note, messages_note, absent_note, alike_note, slots_note, bay_name, bay_words, which_words, first_words, beyond_note, open_note, no_plan_note, size_note, left_note, loaded_note, more_note};
 
+use crate::message::MAX_LISTED;
 use crate::tiers::tiers_words;
 use crp_plan::BayName;
 use itoa::Buffer;
@@ -311,7 +312,7 @@ pub(crate) fn no_plan_note(alloc: Global, bay: &BayName) -> Result<Vec<u8>, Allo
     let bay = bay_words(alloc, bay)?;
     let parts: [&[u8]; 2] = [
         &bay,
-        b" has no plan, since its rows and tiers leave no room to reach what is ordered: if it has more, say so by --rows, --tiers or --heights, or choose another order of leaving by --order",
+        b" has no plan, since its rows and tiers leave no room to reach what is ordered: if it has more, say so by --rows, --tiers, --heights or --sizes, or choose another order of leaving by --order",
     ];
     note_of(alloc, parts.as_slice())
 }
@@ -328,6 +329,76 @@ pub(crate) fn size_note(alloc: Global, largest: usize, bay: &BayName) -> Result<
         b" the certificates have more than ",
         most.format(largest).as_bytes(),
         b" bytes, and crp check takes no larger file: cut it behind a line that begins with end",
+    ];
+    note_of(alloc, parts.as_slice())
+}
+
+// Behind the number of ordered containers that a report does not take.
+fn left_words(count: usize) -> &'static [u8]
+    ensures { result.now ≡ (if nat_lt 1 count then codes " ordered containers: " else codes " ordered container: ") }
+{
+    if 1 < count {
+        b" ordered containers: "
+    } else {
+        b" ordered container: "
+    }
+}
+
+// The first ten of the names, and whether there are more.
+fn first_listed(alloc: Global, names: &[&[u8]]) -> Result<Vec<u8>, AllocError>
+    ensures { IfOk result (λ text. text.items ≡ listed (take 10 (map (λ name. name.now) names.now)) (nat_lt 10 (length names.now))) }
+{
+    let most = names.len().min(MAX_LISTED);
+    listed(alloc, &names[..most], most < names.len())
+}
+
+/// A report does not take these ordered containers of a bay.
+pub(crate) fn left_note(
+    alloc: Global,
+    bay: &BayName,
+    names: &[&[u8]],
+) -> Result<Vec<u8>, AllocError>
+    ensures { IfOk result (λ text. text.items ≡ left_note bay.now (map (λ name. name.now) names.now)) }
+{
+    let mut digits = Buffer::new();
+    let bay = bay_words(alloc, bay)?;
+    let listed = first_listed(alloc, names)?;
+    let parts: [&[u8]; 5] = [
+        &bay,
+        b": the report does not take ",
+        digits.format(names.len()).as_bytes(),
+        left_words(names.len()),
+        &listed,
+    ];
+    note_of(alloc, parts.as_slice())
+}
+
+// Behind the number of containers that a message orders.
+fn loaded_words(sequenced: usize) -> &'static [u8]
+    ensures { result.now ≡ (if sequenced == 1 then codes " container, and --loaded says " else codes " containers, and --loaded says ") }
+{
+    if sequenced == 1 {
+        b" container, and --loaded says "
+    } else {
+        b" containers, and --loaded says "
+    }
+}
+
+/// So many containers are said to be loaded, and fewer are ordered.
+pub(crate) fn loaded_note(
+    alloc: Global,
+    loaded: u64,
+    sequenced: usize,
+) -> Result<Vec<u8>, AllocError>
+    ensures { IfOk result (λ text. text.items ≡ loaded_note loaded sequenced) }
+{
+    let (mut says, mut orders) = (Buffer::new(), Buffer::new());
+    let parts: [&[u8]; 5] = [
+        b"the message orders ",
+        orders.format(sequenced).as_bytes(),
+        loaded_words(sequenced),
+        says.format(loaded).as_bytes(),
+        b": all moves up to the last of them are made",
     ];
     note_of(alloc, parts.as_slice())
 }

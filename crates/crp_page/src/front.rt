@@ -9,6 +9,7 @@ use crate::constants::{HEAD_OF_PAGE, KEY};
 use crate::grounds::{push_hidden_ground, push_sizes};
 use crate::summary::{push_paragraph, push_table};
 use crp_follow::Followed;
+use crp_said::Numbers;
 use crp_yard::Yard;
 use std::alloc::{AllocError, Global};
 
@@ -34,15 +35,16 @@ fn push_page_key(alloc: Global, text: &mut Vec<u8>, heights: &[u8]) -> Result<()
 pub(crate) fn page_front(
     alloc: Global,
     yard: &Yard,
+    numbers: Numbers,
     followed: &Followed,
 ) -> Result<Vec<u8>, AllocError>
     requires { AllByRecursion LeaveFew (map bay_followed followed.now.bays.items) }
-    ensures { IfOk result (λ text. text.items ≡ page_front yard.now followed.now.numbers (map bay_followed followed.now.bays.items)) }
+    ensures { IfOk result (λ text. text.items ≡ page_front yard.now numbers (map bay_followed followed.now.bays.items)) }
 {
     let heights = yard.sizes().common();
     let mut text = Vec::new(alloc);
     push_page_head(&mut text, heights)?;
-    push_paragraph(&mut text, yard.count(), followed)?;
+    push_paragraph(&mut text, yard.count(), numbers, followed)?;
     push_table(&mut text, &followed.bays)?;
     push_page_key(alloc, &mut text, heights)?;
     Ok(text)

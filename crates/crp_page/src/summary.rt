@@ -48,20 +48,21 @@ fn push_taken(text: &mut Vec<u8>, numbers: Numbers, takes: u128) -> Result<(), A
     push_not_taken(text, numbers.orders as u128, takes + numbers.absent as u128)
 }
 
-/// Adds the paragraph of counts, of a yard of so many bays.
+/// Adds the paragraph of these counts and those of the bays, of a yard of so many bays.
 pub(crate) fn push_paragraph(
     text: &mut Vec<u8>,
     count: usize,
+    numbers: Numbers,
     followed: &Followed,
 ) -> Result<(), AllocError>
     requires { AllByRecursion LeaveFew (map bay_followed followed.now.bays.items) }
-    ensures { OnOk result (text.new.items ≡ text.old.items ++ paragraph count followed.now.numbers (map bay_followed followed.now.bays.items)) }
+    ensures { OnOk result (text.new.items ≡ text.old.items ++ paragraph count numbers (map bay_followed followed.now.bays.items)) }
 {
     let takes = sums_of(&followed.bays).takes;
     let others = count.saturating_sub(followed.bays.len());
     text.extend_from_slice(b"<p>")?;
-    push_ordered(text, followed.numbers)?;
-    push_taken(text, followed.numbers, takes)?;
+    push_ordered(text, numbers)?;
+    push_taken(text, numbers, takes)?;
     text.extend_from_slice(b". ")?;
     push_counted(text, others as u64, b"bay")?;
     text.extend_from_slice(b" of the yard not in the report.</p>\n")?;

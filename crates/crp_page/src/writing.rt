@@ -20,6 +20,7 @@ use crate::section::{frame_text, section_end, section_front};
 use crp_follow::{Followed, FollowedBay, what_columns_say};
 use crp_picture::{Frame, frames};
 use crp_plan::{Sink, WriteFault, write_all};
+use crp_said::Numbers;
 use crp_sizes::Sizes;
 use crp_yard::Yard;
 use std::alloc::{AllocError, Global};
@@ -117,19 +118,24 @@ fn write_parts<W: Sink>(
     alloc: Global,
     sink: &mut W,
     yard: &Yard,
+    numbers: Numbers,
     followed: &Followed,
     interruptions: &mut u32,
 ) -> Result<(), WriteFault>
     requires passed { interruptions.old ≤ most_interruptions }
     requires followed { (report : List ℕ) × IsFollowed yard.now report followed.now.numbers (map bay_followed followed.now.bays.items) }
-    ensures { Wrote result (page_text yard.now followed.now.numbers (map bay_followed followed.now.bays.items))
+    ensures { Wrote result (page_text yard.now numbers (map bay_followed followed.now.bays.items))
         (sink_now (W.contents sink.old) (W.failures sink.old) (W.interrupted sink.old) interruptions.old)
         (sink_now (W.contents sink.new) (W.failures sink.new) (W.interrupted sink.new) interruptions.new) }
 {
     what_columns_say();
     let sizes = yard.sizes();
     let bays: &[FollowedBay] = &followed.bays;
-    write_made(sink, page_front(alloc, yard, followed), interruptions)?;
+    write_made(
+        sink,
+        page_front(alloc, yard, numbers, followed),
+        interruptions,
+    )?;
     write_sections(alloc, sink, sizes, bays, interruptions)?;
     write_made(
         sink,
@@ -138,27 +144,28 @@ fn write_parts<W: Sink>(
     )
 }
 
-/// Writes the page of a report that is followed over the yard, figure by figure. An interrupted call is tried again, and counted. Where
+/// Writes the page of a report that is followed over the yard, with these numbers of what is ordered, figure by figure. An interrupted call is tried again, and counted. Where
 /// memory runs out, a front of the page is written.
 pub fn write_page<W: Sink>(
     alloc: Global,
     sink: &mut W,
     yard: &Yard,
+    numbers: Numbers,
     followed: &Followed,
     interruptions: &mut u32,
 ) -> Result<(), WriteFault>
     requires passed { interruptions.old ≤ most_interruptions }
     requires followed { (report : List ℕ) × IsFollowed yard.now report followed.now.numbers (map bay_followed followed.now.bays.items) }
-    ensures all { OnOk result (Appends (W.contents sink.old) (W.contents sink.new) (page_text yard.now followed.now.numbers (map bay_followed followed.now.bays.items))) }
+    ensures all { OnOk result (Appends (W.contents sink.old) (W.contents sink.new) (page_text yard.now numbers (map bay_followed followed.now.bays.items))) }
     ensures part { IsErrOf result WriteFault.Failed
-        → AppendsPart (W.contents sink.old) (W.contents sink.new) (page_text yard.now followed.now.numbers (map bay_followed followed.now.bays.items)) }
+        → AppendsPart (W.contents sink.old) (W.contents sink.new) (page_text yard.now numbers (map bay_followed followed.now.bays.items)) }
     ensures memory { IsErrOf result WriteFault.Memory
-        → AppendsFront (W.contents sink.old) (W.contents sink.new) (page_text yard.now followed.now.numbers (map bay_followed followed.now.bays.items)) }
+        → AppendsFront (W.contents sink.old) (W.contents sink.new) (page_text yard.now numbers (map bay_followed followed.now.bays.items)) }
     ensures done { OnOk result (Transfers 0 interruptions.old interruptions.new (W.failures sink.old) (W.failures sink.new) (W.interrupted sink.old) (W.interrupted sink.new)) }
     ensures gave_up { IsErrOf result WriteFault.Failed
         → Transfers 1 interruptions.old interruptions.new (W.failures sink.old) (W.failures sink.new) (W.interrupted sink.old) (W.interrupted sink.new) }
     ensures stopped { IsErrOf result WriteFault.Memory
         → Transfers 0 interruptions.old interruptions.new (W.failures sink.old) (W.failures sink.new) (W.interrupted sink.old) (W.interrupted sink.new) }
 {
-    write_parts(alloc, sink, yard, followed, interruptions)
+    write_parts(alloc, sink, yard, numbers, followed, interruptions)
 }

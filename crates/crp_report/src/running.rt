@@ -16,14 +16,15 @@ use crate::bays::write_bays;
 use crate::fault::{Fault, Output};
 use crate::input::{Message, message_from, yard_from};
 use crate::kept::BaysDone;
+use crate::numbers::numbers_with;
 use crate::settings::RunSettings;
 use crate::status::Status;
 use crate::watching::{Unwatched, Watch};
 use crate::writing::{RunSinks, write_piece};
 use crp_movins::Orders;
-use crp_order::{BayProblem, Sequence, absent, problems, sequence};
+use crp_order::{BayProblem, Sequence, problems, sequence};
 use crp_plan::{Nowhere, Sink, Source};
-use crp_said::{Numbers, last_text, numbers_text};
+use crp_said::{last_text, numbers_text};
 use crp_solve::Settings;
 use crp_yard::{BayPlan, Yard, after, yard_text};
 use std::alloc::{AllocError, Global};
@@ -59,11 +60,7 @@ fn work_of(
 {
     let (listed, vacant) = (orders.list().len(), orders.vacant());
     let sequence = sequence(alloc, orders, settings.input().mode())?;
-    let numbers = Numbers {
-        orders: listed as u64,
-        vacant: vacant as u64,
-        absent: absent(&yard, &sequence) as u64,
-    };
+    let numbers = numbers_with(&yard, listed, vacant, &sequence);
     let first = numbers_text(alloc, numbers)?;
     let problems = problems(alloc, &yard, &sequence)?;
     Ok(Work {

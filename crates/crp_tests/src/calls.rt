@@ -1,5 +1,5 @@
 //! The calls that the tests make, each in a function with no clause: so a test knows nothing of what is promised, and is soon checked.
-use crp_commands::FollowSettings;
+use crp_commands::{FollowSettings, Listed, TextFiles};
 use crp_jobs::{Job, ToolFault};
 use crp_plan::{Nowhere, Sink, Source};
 use crp_report::{Devices, Fault, RunSettings, Status, Watch};
@@ -90,14 +90,13 @@ pub(crate) fn job<'a>(alloc: Global, words: &'a [&'a str]) -> Result<Job<'a>, Us
     crp_words::job(alloc, words)
 }
 
-pub(crate) fn follow<Y: Source, M: Source, R: Source, P: Sink, W: Sink>(
+pub(crate) fn follow<Y: Source, M: Source, R: Source, P: Sink, A: Sink, W: Sink>(
     alloc: Global,
-    yard: &mut Y,
-    movins: &mut M,
+    listed: &mut Listed<Y, M>,
     report: &mut R,
     settings: &FollowSettings<'_>,
-    page: &mut P,
+    files: &mut TextFiles<P, A>,
     out: &mut W,
 ) -> Result<Status, ToolFault> {
-    crp_commands::follow(alloc, yard, movins, report, settings, page, out)
+    crp_commands::follow(alloc, listed, report, settings, files, out, &mut Nowhere)
 }

@@ -2,12 +2,12 @@
 use crate::calls::follow;
 use crate::compare::assert_same_at;
 use crate::devices::{Busy, Endless, Slow, Small};
-use crp_commands::FollowSettings;
+use crp_commands::{FollowSettings, Listed, TextFiles};
 use crp_follow::FollowFault;
 use crp_jobs::{Statement, ToolFault};
 use crp_order::Mode;
 use crp_plan::{Sink, Source};
-use crp_report::{Fault, Input, InputSettings, Status};
+use crp_report::{Fault, Input, InputSettings, Output, Status};
 use std::alloc::Global;
 use std::test::Fail;
 
@@ -20,6 +20,8 @@ const TABLE: &[u8] =
     b"block,bay,step,move,container,from_row,from_tier,to_row,to_tier,leaves,for,left\n\
         B,2,1,shift,Y,1,2,2,1,,X,2\n\
         B,2,2,take,X,1,1,,,2,X,1\n";
+
+const LEFT: &[u8] = b"block,bay,row,tier,container\nB,2,2,1,Y\n";
 
 const MESSAGE: &[u8] = b"UNB+UNOA:1+YARD+SHIP+250101:0800+1'UNH+1+MOVINS:D:95B:UN'BGM++8+9'HAN+LOA'\
         LOC+147+0010182'EQD+CN+X'UNT+6+1'UNZ+1+1'";
@@ -39,6 +41,7 @@ const PAGE_ROOM: usize = 100000;
 struct Ended {
     answer: Result<Status, ToolFault>,
     page: Vec<u8>,
+    list: Vec<u8>,
     held: Vec<u8>,
 }
 
@@ -50,71 +53,83 @@ fn small(alloc: Global, room: usize) -> Small {
     }
 }
 
-// How a report is followed over a yard of three rows of three tiers, with a message where one is given, and sinks of the page and of the
-// table.
-fn followed_to<Y: Source, R: Source, P: Sink, W: Sink>(
+// How a report is followed over a yard of three rows of three tiers, with a message where one is given, and sinks of the page, of the list
+// of the yard behind the moves, where they are asked for, and of the table.
+fn followed_to<R: Source, P: Sink, W: Sink>(
     alloc: Global,
-    yard: &mut Y,
-    message: Option<Slow<'_>>,
+    listed: (Slow<'_>, Option<Slow<'_>>),
     report: &mut R,
-    asked: bool,
-    page: &mut P,
+    asked: (bool, bool),
+    files: &mut TextFiles<P, Small>,
     out: &mut W,
 ) -> Result<Result<Status, ToolFault>, Fail> {
     let input = InputSettings::new(alloc, 3, 3, Mode::Listed, b"LOA")?;
+    let (yard, message) = listed;
+    let (page, list) = asked;
     let settings = FollowSettings {
         input: &input,
         ship: message.is_some(),
-        page: asked,
+        page,
+        list,
+        loaded: None,
     };
-    let mut movins = message.unwrap_or(whole(b""));
-    Ok(follow(alloc, yard, &mut movins, report, &settings, page, out))
+    let mut listed = Listed {
+        yard,
+        movins: message.unwrap_or(whole(b"")),
+    };
+    Ok(follow(alloc, &mut listed, report, &settings, files, out))
 }
 
-// The same, with sinks that have so much room; without room for a page none is asked for.
+// The same, with sinks that have so much room; without room for a page, or for a list, none is asked for.
 fn followed<R: Source + Drop>(
     alloc: Global,
-    mut yard: Slow<'_>,
+    listed: (Slow<'_>, Option<Slow<'_>>),
     mut report: R,
-    page_room: Option<usize>,
+    rooms: (Option<usize>, Option<usize>),
     room: usize,
 ) -> Result<Ended, Fail> {
-    let mut page = small(alloc, page_room.unwrap_or(PAGE_ROOM));
+    let (page_room, list_room) = rooms;
+    let mut files = TextFiles {
+        page: small(alloc, page_room.unwrap_or(PAGE_ROOM)),
+        list: small(alloc, list_room.unwrap_or(ROOM)),
+    };
     let mut out = small(alloc, room);
     let answer = followed_to(
         alloc,
-        &mut yard,
-        None,
+        listed,
         &mut report,
-        page_room.is_some(),
-        &mut page,
+        (page_room.is_some(), list_room.is_some()),
+        &mut files,
         &mut out,
     )?;
     Ok(Ended {
         answer,
-        page: page.bytes,
+        page: files.page.bytes,
+        list: files.list.bytes,
         held: out.bytes,
     })
+}
+
+// The same over the list and the report, without a message, and with a page that has so much room, if one is asked for.
+fn paged(alloc: Global, page_room: Option<usize>, room: usize) -> Result<Ended, Fail> {
+    followed(
+        alloc,
+        (whole(LIST), None),
+        whole(REPORT),
+        (page_room, None),
+        room,
+    )
 }
 
 // The same with a message, and without a page.
 fn loaded(alloc: Global, message: Slow<'_>, room: usize) -> Result<Ended, Fail> {
-    let mut page = small(alloc, PAGE_ROOM);
-    let mut out = small(alloc, room);
-    let answer = followed_to(
+    followed(
         alloc,
-        &mut whole(LIST),
-        Some(message),
-        &mut whole(REPORT),
-        false,
-        &mut page,
-        &mut out,
-    )?;
-    Ok(Ended {
-        answer,
-        page: page.bytes,
-        held: out.bytes,
-    })
+        (whole(LIST), Some(message)),
+        whole(REPORT),
+        (None, None),
+        room,
+    )
 }
 
 fn front(text: &[u8], length: usize) -> &[u8] {
@@ -137,7 +152,7 @@ fn whole(text: &[u8]) -> Slow<'_> {
 
 // The page of the report.
 fn whole_page(alloc: Global) -> Result<Vec<u8>, Fail> {
-    let got = followed(alloc, whole(LIST), whole(REPORT), Some(PAGE_ROOM), ROOM)?;
+    let got = paged(alloc, Some(PAGE_ROOM), ROOM)?;
     Ok(got.page)
 }
 
@@ -150,17 +165,11 @@ fn each_write_of_a_table_fails_in_turn(rt: HostRuntime) -> Result<(), Fail> {
         } else {
             Ok(Status::Decided)
         };
-        let got = followed(rt.alloc(), whole(LIST), whole(REPORT), None, room)?;
+        let got = paged(rt.alloc(), None, room)?;
         assert_same_at(&rt, &got.answer, &answer, &room);
         assert_same_at(&rt, &got.held.as_slice(), &front(TABLE, room), &room);
         assert_same_at(&rt, &got.page.len(), &0, &room);
-        let beside = followed(
-            rt.alloc(),
-            whole(LIST),
-            whole(REPORT),
-            Some(PAGE_ROOM),
-            room,
-        )?;
+        let beside = paged(rt.alloc(), Some(PAGE_ROOM), room)?;
         assert_same_at(&rt, &beside.answer, &answer, &room);
         assert_same_at(&rt, &beside.held.as_slice(), &front(TABLE, room), &room);
         assert_same_at(&rt, &beside.page.as_slice(), &page.as_slice(), &room);
@@ -173,22 +182,36 @@ fn writes_of_a_page_fail_in_turn(rt: HostRuntime) -> Result<(), Fail> {
     let page = whole_page(rt.alloc())?;
     for part in 0..80 {
         let room = 101 * part;
-        let got = followed(rt.alloc(), whole(LIST), whole(REPORT), Some(room), ROOM)?;
+        let got = paged(rt.alloc(), Some(room), ROOM)?;
         assert_same_at(&rt, &got.answer, &Err(ToolFault::WritePage), &room);
         assert_same_at(&rt, &got.page.as_slice(), &front(&page, room), &room);
         assert_same_at(&rt, &got.held.len(), &0, &room);
     }
     let room = page.len();
-    let got = followed(
-        rt.alloc(),
-        whole(LIST),
-        whole(REPORT),
-        Some(room.saturating_sub(1)),
-        ROOM,
-    )?;
+    let got = paged(rt.alloc(), Some(room.saturating_sub(1)), ROOM)?;
     assert_same_at(&rt, &got.answer, &Err(ToolFault::WritePage), &room);
-    let got = followed(rt.alloc(), whole(LIST), whole(REPORT), Some(room), ROOM)?;
+    let got = paged(rt.alloc(), Some(room), ROOM)?;
     assert_same_at(&rt, &got.answer, &Ok(Status::Decided), &room);
+    Ok(())
+}
+
+#[test]
+fn writes_of_a_list_fail_in_turn(rt: HostRuntime) -> Result<(), Fail> {
+    let page = whole_page(rt.alloc())?;
+    for room in 0..LEFT.len() + 1 {
+        let rooms = (Some(PAGE_ROOM), Some(room));
+        let got = followed(rt.alloc(), (whole(LIST), None), whole(REPORT), rooms, ROOM)?;
+        let (answer, table) = if room < LEFT.len() {
+            let fault = Fault::Write(Output::YardAfter);
+            (Err(ToolFault::Run(fault)), b"".as_slice())
+        } else {
+            (Ok(Status::Decided), TABLE)
+        };
+        assert_same_at(&rt, &got.answer, &answer, &room);
+        assert_same_at(&rt, &got.page.as_slice(), &page.as_slice(), &room);
+        assert_same_at(&rt, &got.list.as_slice(), &front(LEFT, room), &room);
+        assert_same_at(&rt, &got.held.as_slice(), &table, &room);
+    }
     Ok(())
 }
 
@@ -201,21 +224,21 @@ fn a_page_and_a_table_share_a_thousand_interruptions(rt: HostRuntime) -> Result<
         (600, 401, Err(ToolFault::WriteTable)),
     ];
     for (of_page, of_table, answer) in &cases {
-        let mut page = Busy {
+        let page = Busy {
             interrupted: *of_page,
             failed: 0,
         };
+        let list = small(rt.alloc(), ROOM);
         let mut out = Busy {
             interrupted: *of_table,
             failed: 0,
         };
         let got = followed_to(
             rt.alloc(),
-            &mut whole(LIST),
-            None,
+            (whole(LIST), None),
             &mut whole(REPORT),
-            true,
-            &mut page,
+            (true, false),
+            &mut TextFiles { page, list },
             &mut out,
         )?;
         assert_same_at(&rt, &got, answer, of_table);
@@ -227,7 +250,8 @@ fn a_page_and_a_table_share_a_thousand_interruptions(rt: HostRuntime) -> Result<
 fn each_read_of_a_followed_report_fails_in_turn(rt: HostRuntime) -> Result<(), Fail> {
     for given in 0..REPORT.len() + 1 {
         let report = slow(REPORT, given, true);
-        let got = followed(rt.alloc(), whole(LIST), report, Some(PAGE_ROOM), ROOM)?;
+        let listed = (whole(LIST), None);
+        let got = followed(rt.alloc(), listed, report, (Some(PAGE_ROOM), None), ROOM)?;
         let answer = Err(ToolFault::ReadOf(Statement::Report));
         assert_same_at(&rt, &got.answer, &answer, &given);
         assert_same_at(&rt, &got.held.len(), &0, &given);
@@ -235,7 +259,8 @@ fn each_read_of_a_followed_report_fails_in_turn(rt: HostRuntime) -> Result<(), F
     }
     for given in 0..LIST.len() + 1 {
         let list = slow(LIST, given, true);
-        let got = followed(rt.alloc(), list, whole(REPORT), Some(PAGE_ROOM), ROOM)?;
+        let rooms = (Some(PAGE_ROOM), None);
+        let got = followed(rt.alloc(), (list, None), whole(REPORT), rooms, ROOM)?;
         let answer = Err(ToolFault::Run(Fault::Read(Input::Yard)));
         assert_same_at(&rt, &got.answer, &answer, &given);
         assert_same_at(&rt, &got.held.len(), &0, &given);
@@ -268,7 +293,8 @@ fn reads_of_a_message_and_writes_of_its_table_fail_in_turn(rt: HostRuntime) -> R
 
 #[test]
 fn a_report_that_never_ends(rt: HostRuntime) -> Result<(), Fail> {
-    let got = followed(rt.alloc(), whole(LIST), Endless, Some(PAGE_ROOM), ROOM)?;
+    let listed = (whole(LIST), None);
+    let got = followed(rt.alloc(), listed, Endless, (Some(PAGE_ROOM), None), ROOM)?;
     let answer = Err(ToolFault::Followed(FollowFault::TooLong));
     assert_same_at(&rt, &got.answer, &answer, &ROOM);
     assert_same_at(&rt, &got.held.len(), &0, &ROOM);

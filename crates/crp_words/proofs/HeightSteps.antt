@@ -1,7 +1,8 @@
 -- Where the text of an option comes from, and which heights it has.
-use Rattle.std.proofs.Common.{◌≡◌, ◌∙◌, ℕ, List, refl, sym, ap, subst}
-use Rattle.std.specs.Prelude.{codes, option_map, option_and_then, Option, Some, None, find}
-use Rattle.clap.specs.Words.{Text, Row, rows_of, matched_of, first_value}
+use Rattle.std.proofs.Common.{◌≡◌, ◌↔◌, ◌∙◌, Bool, true, false, Bor, IsTrue, ℕ, List, refl, sym, ap, subst}
+use Rattle.std.proofs.lemmas.Bool.{false≢true}
+use Rattle.std.specs.Prelude.{codes, option_map, option_and_then, Option, Some, None, find, is_some, not}
+use Rattle.clap.specs.Words.{Text, Row, rows_of, matched_of, first_of, first_value}
 use Rattle.clap.specs.Facts.{Entry}
 use Rattle.clap.specs.Walk.{row_of}
 use Rattle.std.specs.Str.{bytes_eq}
@@ -30,6 +31,14 @@ given f id source is by = sym (source_rows f id) ∙ sym is ∙ by
 pub not_given : (f : Found) (id : Text) (source : Option ValueSource) → source ≡ option_and_then (λ (a : MatchedArg). a.source) (matched_of f id)
     → (source ≡ Some CommandLine → ⊥) → IsGivenByWords id (rows_of f) → ⊥
 not_given f id source is other by = other (is ∙ source_rows f id ∙ by)
+
+-- and whether there is a text
+pub missing : (f : Found) (id : Text) (text : Option (Bor Text)) (none : Bool) → option_map (λ (t : Bor Text). t.now) text ≡ first_value f id → is_some text ≡ not none
+    → IsTrue none ↔ (first_of id (rows_of f) ≡ None)
+missing f id None true has is = (λ yes. sym (first_value-rows f id) ∙ sym has, λ absent. refl)
+missing f id None false has is = absurd (false≢true is)
+missing f id (Some t) true has is = absurd (false≢true (sym is))
+missing f id (Some t) false has is = (λ yes. absurd (false≢true yes), λ absent. let e : Some t.now ≡ None = has ∙ first_value-rows f id ∙ absent in absurd (cc))
 
 -- the heights of a text are those that were found
 pub found_heights : (f : Found) (text : Text) (heights : List ℕ) → first_value f (codes "heights") ≡ Some text → IsHeightsText heights text

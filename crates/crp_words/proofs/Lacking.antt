@@ -2,10 +2,10 @@
 use Rattle.std.proofs.Common.{◌≡◌, ◌≢◌, ◌∙◌, ◌⊎◌, ◌<◌, ◌^◌, ◌∷◌, ℕ, List, Option, Some, None, IfSome, IfNone, Result, refl, sym, subst, inl, inr, ap, arith, codes, slice_index}
 use Rattle.std.specs.Str.Parse.{ParsesUnsigned, ExplainsUnsignedError, HasUnsignedDigitsIfOk, digits_value, without_leading_plus}
 use Rattle.std.specs.declared.num.ParseIntError.{ParseIntError}
-use Rattle.clap.specs.Words.{Row, Text}
+use Rattle.clap.specs.Words.{Row, Text, first_of}
 use Rattle.clap.specs.Matches.{ReadsOne}
 use Rattle.crp_solve.specs.Chosen.{Chosen}
-use Rattle.crp_words.specs.Words.{Asks, HasBudget, HasNumber, HasNumberBeyond, HasNumberWithin, FindsSizes, FindsRows, HasInput, HasSearch, HasSettings, HasSplit, HasBeam, HasThin, HasFlags, HasNumberOrStrong, HasOwnNumberBeyond, FindsTiers, HasWorkers, MayFindHeights, IsBudgetBeyond, IsSplitBeyond, IsBeamBeyond, IsThinBeyond, IsLeftToStrong, AreRowsBeyond, AreTiersBeyond, AreHeightsBeyond, AreWorkersBeyond, IsFault, IsInputFault, IsJust, IsSearchFault, IsNamedTwice, IsSizedTwice, IsSolveFault, IsWordsOrMemory, Lacks, NoFault, HasFiles, HasText, ReadsNumber}
+use Rattle.crp_words.specs.Words.{Asks, HasBudget, HasNumber, HasNumberBeyond, HasNumberWithin, FindsSizes, FindsRows, HasInput, HasSearch, HasSettings, HasSplit, HasBeam, HasThin, HasFlags, HasNumberOrStrong, HasOwnNumberBeyond, FindsTiers, HasWorkers, MayFindHeights, IsBudgetBeyond, IsSplitBeyond, IsBeamBeyond, IsThinBeyond, IsLeftToStrong, AreRowsBeyond, AreTiersBeyond, AreHeightsBeyond, AreWorkersBeyond, IsFault, IsInputFault, IsJust, IsSearchFault, IsNamedTwice, IsSizedTwice, IsSolveFault, IsWordsOrMemory, Lacks, MayHaveNumber, NoFault, HasFiles, HasText, ReadsNumber}
 use Rattle.crp_jobs.specs.declared.job.Job.{Job}
 use Rattle.crp_jobs.specs.declared.job.RunFiles.{RunFiles}
 use Rattle.crp_sizes.specs.Heights.{IsHeightsText}
@@ -67,6 +67,15 @@ lacks Has IsFirst usage.Memory words none faultless = tt
 lacks Has IsFirst (usage.Help text) words none faultless = absurd words
 lacks Has IsFirst (usage.Wrong (mistake.Words text)) words none faultless = (none, faultless)
 lacks Has IsFirst (usage.Wrong (mistake.Setting f)) words none faultless = absurd words
+
+-- the refusal by words where there is a text, and no number
+pub no_number : (id : Text) (rows : List Row) (u : Usage) → IsWordsOrMemory u → ¬ (first_of id rows ≡ None)
+    → ((n : ℕ) → HasNumber id rows n → ⊥) → Lacks (MayHaveNumber id rows) NoFault u
+no_number id rows u words found none = lacks (MayHaveNumber id rows) NoFault u words without (λ f at. at)
+  where
+    without : (number : Option ℕ) → MayHaveNumber id rows number → ⊥
+    without None absent = found absent
+    without (Some n) has = none n has
 
 -- what needs a thing that lacks, lacks too
 pub lacks_more : {X Y : Type 0} (Has : X → Type 0) (Needs : Y → Type 0) (F G : SettingFault → Type 0) (u : Usage)

@@ -32,6 +32,10 @@ number_rule name default = record (text_rule name default) { parser = Some (vp.U
 abbrev pub optional_rule : Text → Rule
 optional_rule name = record (new_rule name) { long = Some name; value_names = 1 }
 
+-- an option that takes a whole number below 2^64, and has none where it is not given
+abbrev pub optional_number_rule : Text → Rule
+optional_number_rule name = record (optional_rule name) { parser = Some (vp.Unsigned 0 18446744073709551615) }
+
 -- an option that takes no text, and is given or not
 abbrev pub flag_rule : Text → Rule
 flag_rule name = record (new_rule name) { long = Some name; action = Some action.SetTrue }
@@ -132,6 +136,10 @@ with_outputs shape = with_option progress_rule (with_option quiet_rule (with_fil
 abbrev pub with_page : Shape → Shape
 with_page shape = with_option (optional_rule (codes "page")) shape
 
+-- a command with [--after FILE] and [--loaded N]
+abbrev pub with_after : Shape → Shape
+with_after shape = with_option (optional_number_rule (codes "loaded")) (with_option (optional_rule (codes "after")) shape)
+
 -- bound FILE [--chains]
 abbrev pub bound : Shape
 bound = with_option chains_rule (leaf (codes "bound"))
@@ -165,9 +173,9 @@ audit = with_orders (with_size audit_files)
 abbrev pub follow_files : Shape
 follow_files = command (codes "follow") (file_rule (codes "yard") ∷ file_rule (codes "report") ∷ more_rule (codes "movins") ∷ [])
 
--- follow, with its options: the size of the bays, the order of leaving, and the page
+-- follow, with its options: the size of the bays, the order of leaving, the page, and the yard after
 abbrev pub follow : Shape
-follow = with_page (with_orders (with_size follow_files))
+follow = with_after (with_page (with_orders (with_size follow_files)))
 
 -- crp itself, with a version, and a command that is required
 abbrev pub top_command : Shape

@@ -16,6 +16,7 @@ use Rattle.crp_jobs.specs.declared.job.FileCommand.{FileCommand}
 use Rattle.crp_jobs.specs.declared.job.FileCommand.TheVariants as command
 use Rattle.crp_jobs.specs.declared.job.Job.{Job}
 use Rattle.crp_jobs.specs.declared.job.Job.TheVariants as job
+use Rattle.crp_jobs.specs.declared.job.AfterFile.{AfterFile}
 use Rattle.crp_jobs.specs.declared.job.AuditFiles.{AuditFiles}
 use Rattle.crp_jobs.specs.declared.job.FollowFiles.{FollowFiles}
 use Rattle.crp_jobs.specs.declared.job.RunFiles.{RunFiles}
@@ -56,6 +57,11 @@ IsGivenByWords id found = value_source_of id found ≡ Some CommandLine
 -- the rows have this whole number for the option: as it was given, or else its default
 abbrev pub HasNumber : Text → List Row → ℕ → Type 0
 HasNumber id found n = ReadsNumber (one_of id found) n
+
+-- the same, or that none is wanted
+abbrev pub MayHaveNumber : Text → List Row → Option ℕ → Type 0
+MayHaveNumber id found None = first_of id found ≡ None
+MayHaveNumber id found (Some n) = HasNumber id found n
 
 -- the rows have this whole number for the option, and it is within the limits
 abbrev pub HasNumberWithin : Text → ℕ → ℕ → List Row → ℕ → Type 0
@@ -223,11 +229,17 @@ abbrev pub HasAuditFiles : List Row → AuditFiles → Type 0
 HasAuditFiles found names = HasText (codes "yard") found names.yard.now × HasText (codes "movins") found names.movins.now
     × HasText (codes "report") found names.report.now × HasText (codes "certificates") found names.certificates.now × MayNameSizes found names.sizes
 
--- the files of follow that were found: the yard list and the report, the message and the list of sizes, if there are any, and the page, if it is wanted
+-- the file of the yard after that was found, if one was, and how many containers the ship has by then, if that was found
+abbrev pub MayNameAfter : List Row → Option AfterFile → Type 0
+MayNameAfter found None = first_of (codes "after") found ≡ None
+MayNameAfter found (Some file) = HasText (codes "after") found file.name.now × MayHaveNumber (codes "loaded") found file.loaded
+
+-- the files of follow that were found: the yard list and the report, the message and the list of sizes, if there are any, and the page and the yard after,
+-- if they are wanted
 abbrev pub HasFollowFiles : List Row → FollowFiles → Type 0
 HasFollowFiles found names = HasText (codes "yard") found names.yard.now × HasText (codes "report") found names.report.now
     × (first_of (codes "movins") found ≡ option_map (λ text. text.now) names.movins)
-    × (first_of (codes "page") found ≡ option_map (λ text. text.now) names.page) × MayNameSizes found names.sizes
+    × (first_of (codes "page") found ≡ option_map (λ text. text.now) names.page) × MayNameSizes found names.sizes × MayNameAfter found names.after
 
 -- the name of a file without `./` in front
 abbrev pub plain_name : Text → Text
@@ -247,14 +259,20 @@ IsNamedTwice found = IsOneFile (codes "cert") (codes "yard") found
     ⊎ (IsOneFile (codes "cert") (codes "movins") found ⊎ (IsOneFile (codes "after") (codes "yard") found
     ⊎ (IsOneFile (codes "after") (codes "movins") found ⊎ IsOneFile (codes "after") (codes "cert") found)))
 
--- the page that follow writes, which is emptied before anything is read, is a file that it reads
-abbrev pub IsPageNamedTwice : List Row → Type 0
-IsPageNamedTwice found =
-    IsOneFile (codes "page") (codes "yard") found ⊎ (IsOneFile (codes "page") (codes "report") found ⊎ IsOneFile (codes "page") (codes "movins") found)
+-- a file that follow writes, which is emptied before anything is read, is one that it reads, or the other one that it writes
+abbrev pub IsFollowNamedTwice : List Row → Type 0
+IsFollowNamedTwice found = IsOneFile (codes "page") (codes "yard") found
+    ⊎ (IsOneFile (codes "page") (codes "report") found ⊎ (IsOneFile (codes "page") (codes "movins") found
+    ⊎ (IsOneFile (codes "after") (codes "yard") found ⊎ (IsOneFile (codes "after") (codes "report") found
+    ⊎ (IsOneFile (codes "after") (codes "movins") found ⊎ IsOneFile (codes "after") (codes "page") found)))))
 
 -- the order of leaving or the handling code is given, and no message that they are about
 abbrev pub IsOrderedAlone : List Row → Type 0
 IsOrderedAlone found = (first_of (codes "movins") found ≡ None) × (IsGivenByWords (codes "order") found ⊎ IsGivenByWords (codes "code") found)
+
+-- the containers that the ship has are counted, and the yard after is not wanted, or no message says which they are
+abbrev pub IsLoadedAlone : List Row → Type 0
+IsLoadedAlone found = IsGivenByWords (codes "loaded") found × ((first_of (codes "after") found ≡ None) ⊎ (first_of (codes "movins") found ≡ None))
 
 -- notes are left out exactly where the words give the flag
 abbrev pub MayBeQuiet : List Row → Bool → Type 0
@@ -272,6 +290,10 @@ MayWriteChains found chains = IsTrue chains ↔ IsGivenByWords (codes "chains") 
 abbrev pub MayBeAnySize : List Row → Bool → Type 0
 MayBeAnySize found any_size = IsTrue any_size ↔ IsGivenByWords (codes "any-size") found
 
+-- the size of follow stands there once, an order or a code beside a message, a count beside a message and the yard after, and each file that is written apart
+abbrev pub AreFollowWordsClear : List Row → Type 0
+AreFollowWordsClear found = ¬ IsSizedTwice found × ¬ IsOrderedAlone found × ¬ IsLoadedAlone found × ¬ IsFollowNamedTwice found
+
 -- ---- the job, or the first setting beyond its limits
 
 -- the command over one file and its rows ask for this
@@ -286,8 +308,7 @@ abbrev pub Asks : Text → List Row → Job → Type 0
 Asks name found (job.OneFile file c) = AsksCommand name found c × HasText (codes "file") found file.now
 Asks name found (job.Audit names settings) =
     (name ≡ codes "audit") × ¬ IsSizedTwice found × HasAuditFiles found names × HasInput found settings
-Asks name found (job.Follow names settings) = (name ≡ codes "follow") × ¬ IsSizedTwice found × ¬ IsOrderedAlone found × ¬ IsPageNamedTwice found
-    × HasFollowFiles found names × HasInput found settings
+Asks name found (job.Follow names settings) = (name ≡ codes "follow") × AreFollowWordsClear found × HasFollowFiles found names × HasInput found settings
 Asks name found (job.Solve names settings quiet progress) =
     (name ≡ codes "solve") × ¬ IsSizedTwice found × ¬ IsNamedTwice found × HasFiles found names × HasSettings found settings × MayBeQuiet found quiet × MayShowProgress found progress
 
@@ -318,7 +339,7 @@ IsSolveFault found f = IsSearchFault found f ⊎ (((s : Chosen) × HasSearch fou
 abbrev pub IsFault : Text → List Row → SettingFault → Type 0
 IsFault name found f = ((name ≡ codes "prove") × IsSearchFault found f) ⊎ (((name ≡ codes "solve") × (¬ IsSizedTwice found × ¬ IsNamedTwice found × IsSolveFault found f))
     ⊎ (((name ≡ codes "audit") × (¬ IsSizedTwice found × IsInputFault found f))
-    ⊎ ((name ≡ codes "follow") × (¬ IsSizedTwice found × ¬ IsOrderedAlone found × ¬ IsPageNamedTwice found × IsInputFault found f))))
+    ⊎ ((name ≡ codes "follow") × (AreFollowWordsClear found × IsInputFault found f))))
 
 -- the command, if there is one, and its rows ask for this
 abbrev pub AsksFor : Option (Text × List Row) → Job → Type 0

@@ -1,7 +1,7 @@
 //! What clap's matches give, and the refusals of words.
-ghost use Rattle.std.specs.Prelude.{◌≡◌, ◌↔◌, ℕ, IfOk, IfErr, IfSome, IfNone, IsTrue};
-ghost use Rattle.clap.specs.Words.{found_of, rows_of};
-ghost use Rattle.crp_words.specs.Words.{HasNumber, HasNumberBeyond, HasNumberWithin, HasText, IsGivenByWords, IsJust, IsOneFile, IsWordsOrMemory, Lacks, NoFault, plain_name};
+ghost use Rattle.std.specs.Prelude.{◌≡◌, ◌↔◌, ℕ, None, IfOk, IfErr, IfSome, IfNone, IsTrue};
+ghost use Rattle.clap.specs.Words.{first_of, found_of, rows_of};
+ghost use Rattle.crp_words.specs.Words.{HasNumber, HasNumberBeyond, HasNumberWithin, HasText, IsGivenByWords, IsJust, IsOneFile, IsWordsOrMemory, Lacks, MayHaveNumber, NoFault, plain_name};
 
 use crate::usage::{Mistake, SettingFault, Usage};
 use clap::ArgMatches;
@@ -33,12 +33,37 @@ pub(crate) fn text_of<'a>(
     }
 }
 
+/// Whether there is no text for the file or the option.
+pub(crate) fn is_missing(matches: &ArgMatches<'_>, name: &str) -> bool
+    ensures { IsTrue result ↔ (first_of name.now (rows_of (found_of matches.now)) ≡ None) }
+{
+    matches.get_str(name).is_none()
+}
+
 // The whole number of an option.
 fn number_of(matches: &ArgMatches<'_>, name: &str) -> Option<u64>
     ensures some { IfSome result (HasNumber name.now (rows_of (found_of matches.now))) }
     ensures none { IfNone result ((n : ℕ) → HasNumber name.now (rows_of (found_of matches.now)) n → ⊥) }
 {
     matches.get_one::<u64>(name)
+}
+
+/// The whole number of an option, if there is one.
+pub(crate) fn optional_number_of(
+    alloc: Global,
+    matches: &ArgMatches<'_>,
+    name: &str,
+) -> Result<Option<u64>, Usage>
+    ensures ok { IfOk result (MayHaveNumber name.now (rows_of (found_of matches.now))) }
+    ensures err { IfErr result (Lacks (MayHaveNumber name.now (rows_of (found_of matches.now))) NoFault) }
+{
+    if is_missing(matches, name) {
+        return Ok(None);
+    }
+    match number_of(matches, name) {
+        Some(number) => Ok(Some(number)),
+        None => Err(wrong(alloc, "error: a number is not given\n")),
+    }
 }
 
 /// The whole number of an option, within its limits.

@@ -12,6 +12,7 @@ mod ending;
 mod follow_words;
 mod given;
 mod input_words;
+mod options;
 mod search_words;
 mod usage;
 mod words;

@@ -25,6 +25,10 @@ const NUMBERS: &str =
 const NUMBERS_AND_THIN: &str =
     "\nA number is whole and has no sign: --rows 1 to 12, --tiers 1 to 8, --workers 1 to 64, --split 0 to 8, --beam 0 to 10000, --thin 0 to 1000000, --budget 0 to 1099511627776.\n";
 
+// Those of `follow`, where the words speak of `--loaded`.
+const NUMBERS_AND_LOADED: &str =
+    "\nA number is whole and has no sign: --rows 1 to 12, --tiers 1 to 8, --loaded 0 to 18446744073709551615.\n";
+
 // The refusals of heights beside rows or tiers.
 static AUDIT_SIZED_TWICE: &str =
     "error: the argument '--heights <HEIGHTS>' cannot be used with '--rows <N>' or '--tiers <N>'\n\nUsage: crp audit [OPTIONS] <YARD> <MOVINS> <REPORT> <CERTS>\n\nFor more information, try '--help'.\n";
@@ -178,6 +182,8 @@ fn is_no_number(kind: ErrorKind, text: &str) -> bool {
 fn numbers_for(words: &[&str]) -> &'static str {
     if words.iter().any(|word| word.starts_with("--thin")) {
         NUMBERS_AND_THIN
+    } else if words.iter().any(|word| word.starts_with("--loaded")) {
+        NUMBERS_AND_LOADED
     } else {
         NUMBERS
     }

@@ -33,5 +33,5 @@ pub use laws::{
 };
 pub use reading::{read_yard, read_yard_sizes, yard_of, yard_of_sizes};
 pub use records::MAX_CONTAINERS;
-pub use writing::{write_yard, yard_text};
+pub use writing::{YardList, write_yard, yard_text};
 pub use yard::Yard;

@@ -2,14 +2,13 @@ use Rattle.std.proofs.Common.{refl}
 use Rattle.crp_report.specs.Runs.{source_seen, sink_seen}
 use Rattle.crp_commands.specs.Performing.{JobSeen}
 use Rattle.crp_commands.proofs.Performed.{solved_job}
-use Rattle.crp_commands.proofs.Replayed.{keeps_same}
 use Rattle.crp_commands.proofs.over_files.do_job.Goals as goal
 
 pub returns-in-Follow-clause-done : goal.returns-in-Follow-clause-done
-returns-in-Follow-clause-done g c = rw c.in-Follow.is c.follow_files.ensures
+returns-in-Follow-clause-done g c = rw c.in-Follow.is c.follow_files.ensures.ended
 
 pub returns-in-Follow-clause-noted : goal.returns-in-Follow-clause-noted
-returns-in-Follow-clause-noted g c = rw c.in-Follow.is (keeps_same _, refl)
+returns-in-Follow-clause-noted g c = rw c.in-Follow.is c.follow_files.ensures.noted
 
 pub returns-in-Solve-clause-done : goal.returns-in-Solve-clause-done
 returns-in-Solve-clause-done g c =

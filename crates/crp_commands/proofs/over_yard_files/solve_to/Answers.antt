@@ -3,7 +3,8 @@ use Rattle.crp_report.specs.Runs.{RunSeen, sink_seen, source_seen}
 use Rattle.crp_files.specs.Known.{KnownFiles}
 use Rattle.crp_commands.proofs.Finished.{more_from, written, written_from}
 use Rattle.crp_commands.proofs.Replayed.{keeps_same}
-use Rattle.crp_commands.proofs.Solved.{Times, Counts, ended_job, ended_over, there_from, yard_after_refused}
+use Rattle.crp_commands.proofs.Solved.{Counts, ended_job, ended_over, yard_after_refused}
+use Rattle.crp_commands.proofs.TwoFiles.{Times, there_from}
 use Rattle.crp_commands.proofs.over_yard_files.solve_to.Goals as goal
 
 pub returns-in_default-create-2-clause-ended : goal.returns-in_default-create-2-clause-ended
@@ -11,7 +12,7 @@ returns-in_default-create-2-clause-ended g c =
     let opened = c.in-Ok-open.ensures.count ∙ c.in-Ok.ensures.count in
     yard_after_refused c.args.asked.now.names.now c.args.asked.now.settings.now _ _ (g.F.Files.known c.prepare_wanted-2.new.files) (g.F.Files.known c.create.new.files)
     g.C.Named.name g.A.Named.name c.requires.yard_after
-    (there_from _ _ _ _ _ _ (c.in-Ok-open.ensures.kept ∙ c.in-Ok.ensures.kept) c.prepare_wanted.ensures.prepared c.prepare_wanted-2.ensures.prepared)
+    (there_from _ _ _ _ _ _ _ _ refl refl (c.in-Ok-open.ensures.kept ∙ c.in-Ok.ensures.kept) c.prepare_wanted.ensures.prepared c.prepare_wanted-2.ensures.prepared)
     c.in_default-first_shared.ensures.none c.in-Ok-create.ensures.changed c.in_default-create-2.ensures.refused
     (more_from _ _ _ _ (c.in-Ok-create.ensures.count ∙ c.prepare_wanted-2.ensures.count ∙ c.prepare_wanted.ensures.count ∙ opened) c.in_default-create-2.ensures.count)
     (keeps_same _, refl)
@@ -63,18 +64,20 @@ returns-clause-ended g c =
         bytes = c.in-Ok-open.ensures.bytes ∙ ap (λ (k : KnownFiles). k.given names.movins.now) c.in-Ok.ensures.kept;
         new = c.in-Ok-open.ensures.new;
       };
-      begun = there_from _ _ times.first _ _ times.opened (c.in-Ok-open.ensures.kept ∙ c.in-Ok.ensures.kept) c.prepare_wanted.ensures.prepared
-          c.prepare_wanted-2.ensures.prepared;
       apart = c.in_default-first_shared.ensures.none;
-      certificates_made = c.in-Ok-create.ensures.changed;
-      yard_after_made = c.in-Ok-create-2.ensures.changed;
-      certificates = written_from g.C.Named.name times.opened times.made times.one_finished _ _ _ _ seen.certificates same (written g.C.Named.name times.opened times.made times.one_finished (g.F.Files.failures c.create-2.new.files) counts.one_finished c.finish-certified.result seen.certificates
-          c.in-Ok-create.ensures.new c.in-Ok-create.ensures.empty c.finish-certified.ensures.changed c.finish-certified.ensures.left c.finish-certified.ensures.unwanted
-          c.finish-certified.ensures.count);
-      yard_after = written g.A.Named.name times.one_made times.one_finished times.finished counts.one_finished counts.finished c.finish-left.result seen.yard_after
-          c.in-Ok-create-2.ensures.new c.in-Ok-create-2.ensures.empty c.finish-left.ensures.changed c.finish-left.ensures.left c.finish-left.ensures.unwanted
-          c.finish-left.ensures.count;
-      ended = c.close-2.ensures.kept ∙ c.close.ensures.kept;
+      written = record {
+        begun = there_from _ _ g.C.Named.name g.A.Named.name times.first _ _ times.opened c.requires.certificates c.requires.yard_after (c.in-Ok-open.ensures.kept ∙ c.in-Ok.ensures.kept) c.prepare_wanted.ensures.prepared
+            c.prepare_wanted-2.ensures.prepared;
+        one_changed = c.in-Ok-create.ensures.changed;
+        two_changed = c.in-Ok-create-2.ensures.changed;
+        one_written = written_from g.C.Named.name times.opened times.made times.one_finished _ _ _ _ seen.certificates same (written g.C.Named.name times.opened times.made times.one_finished (g.F.Files.failures c.create-2.new.files) counts.one_finished c.finish-certified.result seen.certificates
+            c.in-Ok-create.ensures.new c.in-Ok-create.ensures.empty c.finish-certified.ensures.changed c.finish-certified.ensures.left c.finish-certified.ensures.unwanted
+            c.finish-certified.ensures.count);
+        two_written = written g.A.Named.name times.one_made times.one_finished times.finished counts.one_finished counts.finished c.finish-left.result seen.yard_after
+            c.in-Ok-create-2.ensures.new c.in-Ok-create-2.ensures.empty c.finish-left.ensures.changed c.finish-left.ensures.left c.finish-left.ensures.unwanted
+            c.finish-left.ensures.count;
+        ended = c.close-2.ensures.kept ∙ c.close.ensures.kept;
+      };
       yard_closed = c.close.ensures.count;
       movins_closed = c.close-2.ensures.count;
     }) c.run_watched-answer.ensures.written

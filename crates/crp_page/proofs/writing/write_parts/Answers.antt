@@ -30,14 +30,14 @@ pub returns-in_err-write_made : goal.returns-in_err-write_made
 returns-in_err-write_made g c =
     let p = err_from_is_err_and c.from_residual.result c.from_residual.ensures.1 in
     let bays = c.args.followed.now.bays.items in
-    let front = page_front c.args.yard.now c.args.followed.now.numbers (map bay_followed bays) in
+    let front = page_front c.args.yard.now c.args.numbers (map bay_followed bays) in
     rw (p.1, p.2) (stops_before front _ _ _ _ (c.in_err-write_made.ensures.wrote front c.page_front.ensures))
 
 pub returns-in_err-write_sections : goal.returns-in_err-write_sections
 returns-in_err-write_sections g c =
     let p = err_from_is_err_and c.from_residual-in_err-write_sections.result c.from_residual-in_err-write_sections.ensures.1 in
     let bays = c.args.followed.now.bays.items in
-    let front = page_front c.args.yard.now c.args.followed.now.numbers (map bay_followed bays) in
+    let front = page_front c.args.yard.now c.args.numbers (map bay_followed bays) in
     let texts = λ (sizes : YardSizes) (l : List FollowedBay). numbered_text (section sizes) 1 (map bay_followed l) in
     let same = ap (λ sizes. texts sizes c.deref-bays.result.now) c.sizes-sizes.ensures.value ∙ ap (texts c.args.yard.now.sizes) c.deref-bays.ensures.value in
     rw (p.1, p.2) (stops_behind front _ _ _ _ _ (c.in_ok-write_made.ensures.wrote front c.page_front.ensures) (stops_before _ _ _ _ _ (stops_as same c.in_err-write_sections.ensures.wrote)))
@@ -45,7 +45,7 @@ returns-in_err-write_sections g c =
 pub returns : goal.returns
 returns g c =
     let bays = c.args.followed.now.bays.items in
-    let front = page_front c.args.yard.now c.args.followed.now.numbers (map bay_followed bays) in
+    let front = page_front c.args.yard.now c.args.numbers (map bay_followed bays) in
     let texts = λ (sizes : YardSizes) (l : List FollowedBay). numbered_text (section sizes) 1 (map bay_followed l) in
     let same = ap (λ sizes. texts sizes c.deref-bays.result.now) c.sizes-sizes.ensures.value ∙ ap (texts c.args.yard.now.sizes) c.deref-bays.ensures.value in
     wrote_then c.write_made-2.result front _ _ _ _ (c.in_ok-write_made.ensures.wrote front c.page_front.ensures)
