@@ -12,3 +12,5 @@ pub mod NamedSteps
 pub mod NamedProblems
 pub mod RankedSteps
 pub mod StowageSteps
+pub mod ChosenSteps
+pub mod AbsentSteps
