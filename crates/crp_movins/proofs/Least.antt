@@ -4,6 +4,7 @@ use Rattle.std.proofs.Common.{◌≡◌, ℕ, suc, ◌<◌, ◌⊎◌, Bool, tru
 use Rattle.std.proofs.lemmas.Bool.{cases_eq}
 use Rattle.std.specs.Option.{option_or}
 use Rattle.edi_text.specs.Parts.{SegmentParts}
+use Rattle.crp_movins.specs.Loading.{Loading}
 use Rattle.crp_movins.specs.declared.fault.MovinsFault.{MovinsFault}
 use Rattle.crp_movins.specs.declared.kind.Kind.{Kind}
 use Rattle.crp_movins.specs.Places.{kind_at, last_before}
@@ -17,21 +18,21 @@ either : (first second : Option MovinsFault) (fault : MovinsFault) → option_or
 either None second fault h = inr (refl, h)
 either (Some faulty) second fault h = inl h
 
-pub faultless-before : (segments : List SegmentParts) (code : List ℕ) (n : ℕ) → first_fault_before segments code n ≡ None → (k : ℕ) → k < n → fault_at segments code k ≡ None
-faultless-before segments code zero h k below = absurd (omega arith)
-faultless-before segments code (suc n) h k below =
-    let parts = neither (first_fault_before segments code n) (fault_at segments code n) h in
+pub faultless-before : (segments : List SegmentParts) (loading : Loading) (n : ℕ) → first_fault_before segments loading n ≡ None → (k : ℕ) → k < n → fault_at segments loading k ≡ None
+faultless-before segments loading zero h k below = absurd (omega arith)
+faultless-before segments loading (suc n) h k below =
+    let parts = neither (first_fault_before segments loading n) (fault_at segments loading n) h in
     elim (cases_eq k n) [
-      | inl e ↦ subst (λ (x : ℕ). fault_at segments code x ≡ None) (sym e) parts.1
-      | inr ne ↦ faultless-before segments code n parts.0 k (omega arith)
+      | inl e ↦ subst (λ (x : ℕ). fault_at segments loading x ≡ None) (sym e) parts.1
+      | inr ne ↦ faultless-before segments loading n parts.0 k (omega arith)
     ]
 
-pub first-least : (segments : List SegmentParts) (code : List ℕ) (n : ℕ) (fault : MovinsFault) → first_fault_before segments code n ≡ Some fault → (i : ℕ) × (i < n) × (fault_at segments code i ≡ Some fault) × ((k : ℕ) → k < i → fault_at segments code k ≡ None)
-first-least segments code zero fault h = absurd (cc)
-first-least segments code (suc n) fault h =
-    elim (either (first_fault_before segments code n) (fault_at segments code n) fault h) [
-      | inl before ↦ let found = first-least segments code n fault before in (found.0, omega (arith, found.1), found.2, found.3)
-      | inr here ↦ (n, omega arith, here.1, faultless-before segments code n here.0)
+pub first-least : (segments : List SegmentParts) (loading : Loading) (n : ℕ) (fault : MovinsFault) → first_fault_before segments loading n ≡ Some fault → (i : ℕ) × (i < n) × (fault_at segments loading i ≡ Some fault) × ((k : ℕ) → k < i → fault_at segments loading k ≡ None)
+first-least segments loading zero fault h = absurd (cc)
+first-least segments loading (suc n) fault h =
+    elim (either (first_fault_before segments loading n) (fault_at segments loading n) fault h) [
+      | inl before ↦ let found = first-least segments loading n fault before in (found.0, omega (arith, found.1), found.2, found.3)
+      | inr here ↦ (n, omega arith, here.1, faultless-before segments loading n here.0)
     ]
 
 passed : (b : Bool) (i : ℕ) (rest : Option ℕ) → cond b (Some i) rest ≡ None → (b ≡ false) × (rest ≡ None)

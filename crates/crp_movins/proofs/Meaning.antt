@@ -6,13 +6,14 @@ use Rattle.std.specs.Str.{bytes_eq}
 use Rattle.std.proofs.lemmas.Bool.{cases_eq}
 use Rattle.std.proofs.lemmas.Slice.Eq.{bytes_eq-Decides}
 use Rattle.edi_text.specs.Parts.{SegmentParts}
+use Rattle.crp_movins.specs.Loading.{Loading, reads}
 use Rattle.crp_movins.specs.declared.kind.Kind.{Kind}
 use Rattle.crp_movins.specs.declared.order.Order.{Order}
 use Rattle.crp_movins.specs.Digits.{slot_of}
-use Rattle.crp_movins.specs.Kinds.{is_handling, settles_code, is_slot_group, ends_group, is_equipment}
-use Rattle.crp_movins.specs.Places.{kind_at, text_at, last_before, where_holds, is_loading, opens_loading_group, loading_group, ordered_group}
+use Rattle.crp_movins.specs.Kinds.{is_message_header, bounds_message, is_handling, settles_code, is_slot_group, ends_group, is_equipment}
+use Rattle.crp_movins.specs.Places.{kind_at, text_at, last_before, where_holds, open_message, is_read, is_loading, opens_loading_group, loading_group, ordered_group}
 use Rattle.crp_movins.specs.LoadOrders.{order_at}
-use Rattle.crp_movins.specs.ByPlaces.{IsLast, IsLoadingGroup, StandsInGroup, IsOrdered}
+use Rattle.crp_movins.specs.ByPlaces.{IsLast, IsRead, IsLoadingGroup, StandsInGroup, IsOrdered}
 use Rattle.crp_movins.proofs.Least.{last-last}
 
 is_last : (test : Kind → Bool) (segments : List SegmentParts) (i j : ℕ) → last_before test segments i ≡ Some j → IsLast test segments i j
@@ -54,54 +55,74 @@ pub and-both : (a b : Bool) → (a && b) ≡ true → (a ≡ true) × (b ≡ tru
 and-both true b h = (refl, h)
 and-both false b h = absurd (cc)
 
-pub group-means : (segments : List SegmentParts) (code : List ℕ) (group : ℕ) → opens_loading_group segments code group ≡ true → IsLoadingGroup segments code group
-group-means segments code group h =
-    let parts = and-both (is_slot_group (kind_at segments group)) (is_loading segments code group) h in
-    let settled = held (λ (j : ℕ). is_handling (kind_at segments j) && bytes_eq (text_at segments j 1 1) code) (last_before settles_code segments group) parts.1 in
+read-means : (segments : List SegmentParts) (loading : Loading) (i : ℕ) → is_read segments loading i ≡ true → IsRead segments loading i
+read-means segments loading i h =
+    let found = held (λ (j : ℕ). reads loading.messages (text_at segments j 1 1)) (open_message segments i) h in
+    let opened = kept (λ (j : ℕ). is_message_header (kind_at segments j)) (last_before bounds_message segments i) found.0 found.1 in
+    record {
+      header = found.0;
+      last_header = is_last bounds_message segments i found.0 opened.0;
+      opens = opened.1;
+      chosen = found.2;
+    }
+
+read-given : (segments : List SegmentParts) (loading : Loading) (i : ℕ) → IsRead segments loading i → is_read segments loading i ≡ true
+read-given segments loading i h =
+    let last = last_is bounds_message segments i h.header h.last_header in
+    let found : open_message segments i ≡ Some h.header = rw (last, h.opens) refl in
+    rw (found, h.chosen) refl
+
+pub group-means : (segments : List SegmentParts) (loading : Loading) (group : ℕ) → opens_loading_group segments loading group ≡ true → IsLoadingGroup segments loading group
+group-means segments loading group h =
+    let parts = and-both (is_slot_group (kind_at segments group)) (is_loading segments loading group) h in
+    let settled = held (λ (j : ℕ). is_handling (kind_at segments j) && (bytes_eq (text_at segments j 1 1) loading.code && is_read segments loading j)) (last_before settles_code segments group) parts.1 in
     let setting = settled.0 in
-    let coded = and-both (is_handling (kind_at segments setting)) (bytes_eq (text_at segments setting 1 1) code) settled.2 in
+    let handled = and-both (is_handling (kind_at segments setting)) (bytes_eq (text_at segments setting 1 1) loading.code && is_read segments loading setting) settled.2 in
+    let coded = and-both (bytes_eq (text_at segments setting 1 1) loading.code) (is_read segments loading setting) handled.1 in
     record {
       slot_group = parts.0;
       setting = setting;
       last_setting = is_last settles_code segments group setting settled.1;
-      handling = coded.0;
-      loading = (bytes_eq-Decides (text_at segments setting 1 1) code).0 coded.1;
+      handling = handled.0;
+      coded = (bytes_eq-Decides (text_at segments setting 1 1) loading.code).0 coded.0;
+      read = read-means segments loading setting coded.1;
     }
 
-pub group-given : (segments : List SegmentParts) (code : List ℕ) (group : ℕ) → IsLoadingGroup segments code group → opens_loading_group segments code group ≡ true
-group-given segments code group h =
+pub group-given : (segments : List SegmentParts) (loading : Loading) (group : ℕ) → IsLoadingGroup segments loading group → opens_loading_group segments loading group ≡ true
+group-given segments loading group h =
     let setting = last_is settles_code segments group h.setting h.last_setting in
-    let same = (bytes_eq-Decides (text_at segments h.setting 1 1) code).1 h.loading in
-    let loading : is_loading segments code group ≡ true = rw (setting, h.handling, same) refl in
-    rw (h.slot_group, loading) refl
+    let same = (bytes_eq-Decides (text_at segments h.setting 1 1) loading.code).1 h.coded in
+    let read = read-given segments loading h.setting h.read in
+    let under : is_loading segments loading group ≡ true = rw (setting, h.handling, same, read) refl in
+    rw (h.slot_group, under) refl
 
 -- the segment orders a container to the slot of the group
-pub filling-means : (segments : List SegmentParts) (code : List ℕ) (i group : ℕ) → ordered_group segments code i ≡ Some group → StandsInGroup segments i group × (opens_loading_group segments code group ≡ true)
-filling-means segments code i group h =
-    let grouped = taken_then (is_equipment (kind_at segments i)) (loading_group segments code i) group h in
-    let opened = kept (opens_loading_group segments code) (last_before ends_group segments i) group grouped.1 in
+pub filling-means : (segments : List SegmentParts) (loading : Loading) (i group : ℕ) → ordered_group segments loading i ≡ Some group → StandsInGroup segments i group × (opens_loading_group segments loading group ≡ true)
+filling-means segments loading i group h =
+    let grouped = taken_then (is_equipment (kind_at segments i)) (loading_group segments loading i) group h in
+    let opened = kept (opens_loading_group segments loading) (last_before ends_group segments i) group grouped.1 in
     (record { equipment = grouped.0; last_group = is_last ends_group segments i group opened.0 }, opened.1)
 
-pub filling-given : (segments : List SegmentParts) (code : List ℕ) (i group : ℕ) → StandsInGroup segments i group → opens_loading_group segments code group ≡ true → ordered_group segments code i ≡ Some group
-filling-given segments code i group h opens =
+pub filling-given : (segments : List SegmentParts) (loading : Loading) (i group : ℕ) → StandsInGroup segments i group → opens_loading_group segments loading group ≡ true → ordered_group segments loading i ≡ Some group
+filling-given segments loading i group h opens =
     let last = last_is ends_group segments i group h.last_group in
-    let grouped : loading_group segments code i ≡ Some group = rw (last, opens) refl in
+    let grouped : loading_group segments loading i ≡ Some group = rw (last, opens) refl in
     rw (h.equipment, grouped) refl
 
-pub order-means : (segments : List SegmentParts) (code : List ℕ) (i : ℕ) (order : Order) → order_at segments code i ≡ Some order → IsOrdered segments code i order
-order-means segments code i order h =
-    let made = mapped (λ (j : ℕ). let given : Order = record { container = text_at segments i 2 1; slot = slot_of (text_at segments j 2 1) } in given) (ordered_group segments code i) order h in
+pub order-means : (segments : List SegmentParts) (loading : Loading) (i : ℕ) (order : Order) → order_at segments loading i ≡ Some order → IsOrdered segments loading i order
+order-means segments loading i order h =
+    let made = mapped (λ (j : ℕ). let given : Order = record { container = text_at segments i 2 1; slot = slot_of (text_at segments j 2 1) } in given) (ordered_group segments loading i) order h in
     let group = made.0 in
-    let filled = filling-means segments code i group made.1 in
+    let filled = filling-means segments loading i group made.1 in
     record {
       group = group;
       stands = filled.0;
-      loading_group = group-means segments code group filled.1;
+      loading_group = group-means segments loading group filled.1;
       container = sym (ap (λ (x : Order). x.container) made.2);
       slot = sym (ap (λ (x : Order). x.slot) made.2);
     }
 
-pub order-given : (segments : List SegmentParts) (code : List ℕ) (i : ℕ) (order : Order) → IsOrdered segments code i order → order_at segments code i ≡ Some order
-order-given segments code i order h =
-    let ordered = filling-given segments code i h.group h.stands (group-given segments code h.group h.loading_group) in
+pub order-given : (segments : List SegmentParts) (loading : Loading) (i : ℕ) (order : Order) → IsOrdered segments loading i order → order_at segments loading i ≡ Some order
+order-given segments loading i order h =
+    let ordered = filling-given segments loading i h.group h.stands (group-given segments loading h.group h.loading_group) in
     rw (ordered, ← h.container, ← h.slot) refl

@@ -5,6 +5,7 @@ use Rattle.std.specs.Prelude.{ℕ, suc, ◌+◌, Bool, false, ◌&&◌, List, le
 use Rattle.std.specs.Option.{option_map_or}
 use Rattle.std.specs.Str.{bytes_eq}
 use Rattle.edi_text.specs.Parts.{SegmentParts, no_segment, segment_at, component_of}
+use Rattle.crp_movins.specs.Loading.{Loading, reads}
 use Rattle.crp_movins.specs.declared.kind.Kind.{Kind}
 use Rattle.crp_movins.specs.Kinds.{kind_of, is_message_header, bounds_message, is_handling, settles_code, is_slot_group, ends_group, is_equipment}
 
@@ -47,19 +48,23 @@ where_holds test (Some i) = if test i then Some i else None
 abbrev pub open_message : List SegmentParts → ℕ → Option ℕ
 open_message segments i = where_holds (λ j. is_message_header (kind_at segments j)) (last_before bounds_message segments i)
 
--- the loading code is in force: the last of UNH and HAN is a HAN with this code
-abbrev pub is_loading : List SegmentParts → List ℕ → ℕ → Bool
-is_loading segments code i = holds_at (λ j. is_handling (kind_at segments j) && bytes_eq (text_at segments j 1 1) code) (last_before settles_code segments i)
+-- the message that is open at the segment is read
+abbrev pub is_read : List SegmentParts → Loading → ℕ → Bool
+is_read segments loading i = holds_at (λ j. reads loading.messages (text_at segments j 1 1)) (open_message segments i)
+
+-- the loading code is in force: the last of UNH and HAN is a HAN with this code, in a message that is read
+abbrev pub is_loading : List SegmentParts → Loading → ℕ → Bool
+is_loading segments loading i = holds_at (λ j. is_handling (kind_at segments j) && (bytes_eq (text_at segments j 1 1) loading.code && is_read segments loading j)) (last_before settles_code segments i)
 
 -- the segment opens a loading slot group: a LOC 147 under the loading code
-abbrev pub opens_loading_group : List SegmentParts → List ℕ → ℕ → Bool
-opens_loading_group segments code i = is_slot_group (kind_at segments i) && is_loading segments code i
+abbrev pub opens_loading_group : List SegmentParts → Loading → ℕ → Bool
+opens_loading_group segments loading i = is_slot_group (kind_at segments i) && is_loading segments loading i
 
 -- the number of the LOC 147 whose loading slot group is open: the last of UNH, HAN and LOC 147, if that
 -- is a LOC 147 under the loading code
-abbrev pub loading_group : List SegmentParts → List ℕ → ℕ → Option ℕ
-loading_group segments code i = where_holds (opens_loading_group segments code) (last_before ends_group segments i)
+abbrev pub loading_group : List SegmentParts → Loading → ℕ → Option ℕ
+loading_group segments loading i = where_holds (opens_loading_group segments loading) (last_before ends_group segments i)
 
 -- the number of the LOC 147 to whose slot the segment orders a container
-abbrev pub ordered_group : List SegmentParts → List ℕ → ℕ → Option ℕ
-ordered_group segments code i = if is_equipment (kind_at segments i) then loading_group segments code i else None
+abbrev pub ordered_group : List SegmentParts → Loading → ℕ → Option ℕ
+ordered_group segments loading i = if is_equipment (kind_at segments i) then loading_group segments loading i else None

@@ -44,9 +44,9 @@ pub enum MovinsFault {
     /// The slot of a loading group is not six or seven digits.
     #[error("V11 at segment {segment}")]
     SlotNumber { segment: usize },
-    /// A container is ordered a second time.
+    /// A container is ordered a second time; `first` is the number of the segment that orders it before.
     #[error("V12 at segment {segment}")]
-    OrderedTwice { segment: usize },
+    OrderedTwice { segment: usize, first: usize },
     /// There are more orders than are read.
     #[error("V13 at segment {segment}")]
     TooManyOrders { segment: usize },

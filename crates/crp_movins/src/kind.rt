@@ -2,7 +2,7 @@
 
 ghost use Rattle.std.specs.Prelude.{◌≡◌};
 ghost use Rattle.std.specs.Str.{bytes_eq};
-ghost use Rattle.crp_movins.specs.Kinds.{kind_of, names_container, names_slot, is_interchange_header, is_message_header, is_functional_group, belongs_outside, may_follow};
+ghost use Rattle.crp_movins.specs.Kinds.{kind_of, names_container, names_slot, is_interchange_header, is_message_header, is_functional_group, belongs_outside, may_follow, is_equipment};
 ghost use Rattle.crp_movins.specs.Places.{kind_at, text_at, elements_at};
 
 use edi_text::{Segment, Segments};
@@ -47,6 +47,12 @@ impl Kind {
         ensures { result ≡ is_functional_group self }
     {
         matches!(self, Kind::FunctionalGroup)
+    }
+
+    pub fn is_equipment(self) -> bool
+        ensures { result ≡ is_equipment self }
+    {
+        matches!(self, Kind::Equipment)
     }
 
     /// UNB, UNH or UNZ, which may not stand inside a message.

@@ -2,6 +2,7 @@
 
 ghost use Rattle.std.specs.Prelude.{◌≡◌, ◌<◌, ℕ, List, Bool, true, false, Some, None, length, map};
 ghost use Rattle.edi_text.specs.Parts.{SegmentParts};
+ghost use Rattle.crp_movins.specs.Loading.{Loading};
 ghost use Rattle.crp_movins.specs.Places.{kind_at, last_before};
 ghost use Rattle.crp_movins.specs.LoadOrders.{order_at, load_orders_of};
 ghost use Rattle.crp_movins.specs.ByPlaces.{IsOrdered, AreOrdered, AreVacant};
@@ -13,13 +14,13 @@ ghost use Rattle.crp_movins.specs.declared.kind.Kind.{Kind};
 /// The first fault is that of a segment before which none is faulty; and where there is no first fault,
 /// no segment is faulty.
 pub fn first_fault_is_least()
-    ensures faulty { (segments : List SegmentParts) (code : List ℕ) (n : ℕ) (fault : MovinsFault)
-        → first_fault_before segments code n ≡ Some fault
-        → (i : ℕ) × (i < n) × (fault_at segments code i ≡ Some fault)
-        × ((k : ℕ) → k < i → fault_at segments code k ≡ None) }
-    ensures faultless { (segments : List SegmentParts) (code : List ℕ) (n : ℕ)
-        → first_fault_before segments code n ≡ None
-        → (k : ℕ) → k < n → fault_at segments code k ≡ None }
+    ensures faulty { (segments : List SegmentParts) (loading : Loading) (n : ℕ) (fault : MovinsFault)
+        → first_fault_before segments loading n ≡ Some fault
+        → (i : ℕ) × (i < n) × (fault_at segments loading i ≡ Some fault)
+        × ((k : ℕ) → k < i → fault_at segments loading k ≡ None) }
+    ensures faultless { (segments : List SegmentParts) (loading : Loading) (n : ℕ)
+        → first_fault_before segments loading n ≡ None
+        → (k : ℕ) → k < n → fault_at segments loading k ≡ None }
 {}
 
 /// The last segment of some kind before a place is of that kind, and none between is; and where there
@@ -37,28 +38,28 @@ pub fn last_is_last()
 /// The order of a segment, as it is computed, is what the relation of places says, and the other way
 /// round.
 pub fn orders_by_places()
-    ensures means { (segments : List SegmentParts) (code : List ℕ) (i : ℕ) (order : Order)
-        → order_at segments code i ≡ Some order → IsOrdered segments code i order }
-    ensures given { (segments : List SegmentParts) (code : List ℕ) (i : ℕ) (order : Order)
-        → IsOrdered segments code i order → order_at segments code i ≡ Some order }
+    ensures means { (segments : List SegmentParts) (loading : Loading) (i : ℕ) (order : Order)
+        → order_at segments loading i ≡ Some order → IsOrdered segments loading i order }
+    ensures given { (segments : List SegmentParts) (loading : Loading) (i : ℕ) (order : Order)
+        → IsOrdered segments loading i order → order_at segments loading i ≡ Some order }
 {}
 
 /// The orders stand by the places of the segments that give them: one list, and no other, has each segment
 /// that orders, once and by its number, with its order, and of nothing else; and its orders are those of the
 /// message.
 pub fn orders_stand_by_place()
-    ensures placed { (segments : List SegmentParts) (code : List ℕ)
-        → (placed : List (ℕ × Order)) × AreOrdered segments code placed
-        × ((load_orders_of segments code).list ≡ map (λ p. p.1) placed) }
-    ensures one_list { (segments : List SegmentParts) (code : List ℕ) (placed others : List (ℕ × Order))
-        → AreOrdered segments code placed → AreOrdered segments code others → placed ≡ others }
+    ensures placed { (segments : List SegmentParts) (loading : Loading)
+        → (placed : List (ℕ × Order)) × AreOrdered segments loading placed
+        × ((load_orders_of segments loading).list ≡ map (λ p. p.1) placed) }
+    ensures one_list { (segments : List SegmentParts) (loading : Loading) (placed others : List (ℕ × Order))
+        → AreOrdered segments loading placed → AreOrdered segments loading others → placed ≡ others }
 {}
 
 /// As many vacant groups are counted as there are by the relation of places: one list, and no other, has
 /// the number of each vacant group, once, and of nothing else, and it is as long as the count.
 pub fn vacant_by_places()
-    ensures counted { (segments : List SegmentParts) (code : List ℕ)
-        → (groups : List ℕ) × AreVacant segments code groups × ((load_orders_of segments code).vacant ≡ length groups) }
-    ensures one_list { (segments : List SegmentParts) (code : List ℕ) (groups others : List ℕ)
-        → AreVacant segments code groups → AreVacant segments code others → groups ≡ others }
+    ensures counted { (segments : List SegmentParts) (loading : Loading)
+        → (groups : List ℕ) × AreVacant segments loading groups × ((load_orders_of segments loading).vacant ≡ length groups) }
+    ensures one_list { (segments : List SegmentParts) (loading : Loading) (groups others : List ℕ)
+        → AreVacant segments loading groups → AreVacant segments loading others → groups ≡ others }
 {}

@@ -11,7 +11,9 @@ mod digits;
 mod fault;
 mod kind;
 mod laws;
+mod loading;
 mod order;
+mod ordering;
 mod reading;
 mod slot;
 mod standing;
@@ -20,6 +22,7 @@ pub use fault::MovinsFault;
 pub use laws::{
     first_fault_is_least, last_is_last, orders_by_places, orders_stand_by_place, vacant_by_places,
 };
+pub use loading::{Loading, Reference};
 pub use order::{Order, Orders};
 pub use reading::{MAX_ORDERS, load_orders};
 pub use slot::Slot;

@@ -8,6 +8,7 @@ ghost use Rattle.crp_movins.specs.declared.fault.MovinsFault.TheVariants.{Memory
 use crate::collected::Collected;
 use crate::fault::MovinsFault;
 use crate::kind::kind_at;
+use crate::loading::Loading;
 use crate::order::Orders;
 use crate::standing::{Place, Standing};
 use edi_text::Segments;
@@ -16,14 +17,18 @@ use std::alloc::Global;
 /// More orders are not read.
 pub const MAX_ORDERS: usize = 10000;
 
-/// The load orders under this handling code, by place, and else the first fault (UN/EDIFACT D.95B
+/// The load orders that are read, by place, and else the first fault (UN/EDIFACT D.95B
 /// MOVINS; of the message's segment table HAN, LOC and EQD alone are looked at).
-pub fn load_orders(alloc: Global, segments: &Segments, code: &[u8]) -> Result<Orders, MovinsFault>
+pub fn load_orders(
+    alloc: Global,
+    segments: &Segments,
+    loading: &Loading,
+) -> Result<Orders, MovinsFault>
     // Orders come exactly where no segment is faulty and there is a UNZ, unless memory runs out.
-    ensures accepted { IfOk result (λ orders. first_fault segments.now code.now ≡ None) }
-    ensures orders { IfOk result (λ orders. orders ≡ load_orders_of segments.now code.now) }
+    ensures accepted { IfOk result (λ orders. first_fault segments.now loading.now ≡ None) }
+    ensures orders { IfOk result (λ orders. orders ≡ load_orders_of segments.now loading.now) }
     ensures refused { IfErr result (λ fault. (fault ≡ Memory)
-        ⊎ (first_fault segments.now code.now ≡ Some fault)) }
+        ⊎ (first_fault segments.now loading.now ≡ Some fault)) }
 {
     let mut standing = Standing::start();
     let mut orders = Collected::new(alloc);
@@ -31,7 +36,7 @@ pub fn load_orders(alloc: Global, segments: &Segments, code: &[u8]) -> Result<Or
     'segments: while number <= segments.count() {
         let at = Place {
             segments,
-            code,
+            loading,
             number,
         };
         let kind = kind_at(segments, number);

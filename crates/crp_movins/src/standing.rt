@@ -1,11 +1,13 @@
 //! What is in force at a place of an interchange, and the fault of the segment there.
 
-ghost use Rattle.std.specs.Prelude.{◌≡◌, ◌<◌, ◌^◌, ℕ, ◌+◌, List, ◌++◌, None, OnOk, IfErr, option_to_list};
+ghost use Rattle.std.specs.Prelude.{◌≡◌, ◌≤◌, ◌<◌, ◌^◌, ℕ, ◌+◌, ◌&&◌, List, ◌++◌, None, OnOk, IfErr, option_to_list};
+ghost use Rattle.std.specs.Str.{bytes_eq};
 ghost use Rattle.edi_text.specs.Parts.{SegmentParts};
+ghost use Rattle.crp_movins.specs.Loading.{Loading};
 ghost use Rattle.crp_movins.specs.Kinds.{is_message_header};
-ghost use Rattle.crp_movins.specs.Places.{kind_at, text_at, is_loading, count_before, open_message};
+ghost use Rattle.crp_movins.specs.Places.{kind_at, text_at, is_read, is_loading, count_before, open_message};
 ghost use Rattle.crp_movins.specs.LoadOrders.{orders_before, order_at};
-ghost use Rattle.crp_movins.specs.Faults.{is_out_of_place, is_movins, own_faults, first_of, fault_at};
+ghost use Rattle.crp_movins.specs.Faults.{is_out_of_place, is_movins, own_faults, first_of, fault_at, first_fault_before};
 ghost use Rattle.crp_movins.specs.Standings.{standing_before, open_slot};
 ghost use Rattle.crp_movins.specs.declared.fault.MovinsFault.TheVariants.{Memory};
 ghost use Rattle.crp_movins.specs.declared.kind.Kind.TheVariants.{InterchangeHeader, MessageHeader, MessageTrailer, InterchangeTrailer, SlotGroup, Equipment};
@@ -14,21 +16,23 @@ use crate::collected::Collected;
 use crate::digits::counts;
 use crate::fault::MovinsFault;
 use crate::kind::{Kind, elements_at, is_text, text_at};
+use crate::loading::Loading;
+use crate::ordering::ordering_before;
 use crate::reading::MAX_ORDERS;
 use crate::slot::{Slot, slot_of};
 use edi_text::Segments;
 use std::alloc::Global;
 
-/// A segment by its number in an interchange that is read for this handling code.
+/// A segment by its number in an interchange of which this is read.
 #[derive(Clone, Copy, Drop)]
 pub(crate) struct Place<'a> {
     pub segments: &'a Segments,
-    pub code: &'a [u8],
+    pub loading: &'a Loading,
     pub number: usize,
 }
 
 impl<'a> Place<'a> {
-    fn text(&self, element: usize, component: usize) -> &'a [u8]
+    pub fn text(&self, element: usize, component: usize) -> &'a [u8]
         ensures { result.now ≡ text_at self.now.segments.now self.now.number element component }
     {
         text_at(self.segments, self.number, element, component)
@@ -57,7 +61,7 @@ pub(crate) struct Standing {
 impl Standing {
     /// At the first segment.
     pub fn start() -> Standing
-        ensures { (segments : List SegmentParts) (code : List ℕ) → result ≡ standing_before segments code 1 }
+        ensures { (segments : List SegmentParts) (loading : Loading) → result ≡ standing_before segments loading 1 }
     {
         Standing {
             is_closed: false,
@@ -74,10 +78,12 @@ impl Standing {
     #[tactic(auto, unfolding(crate::specs::Faults::fault_at))]
     pub fn fault(&self, at: &Place, kind: Kind, orders: &Collected) -> Option<MovinsFault>
         requires kind { kind ≡ kind_at at.now.segments.now at.now.number }
-        requires here { self.now ≡ standing_before at.now.segments.now at.now.code.now at.now.number }
-        requires orders { orders.now ≡ orders_before at.now.segments.now at.now.code.now at.now.number }
+        requires here { self.now ≡ standing_before at.now.segments.now at.now.loading.now at.now.number }
+        requires orders { orders.now ≡ orders_before at.now.segments.now at.now.loading.now at.now.number }
+        requires numbered { 1 ≤ at.now.number }
+        requires faultless { first_fault_before at.now.segments.now at.now.loading.now at.now.number ≡ None }
         requires small { at.now.number < 2 ^ 63 }
-        ensures { result ≡ fault_at at.now.segments.now at.now.code.now at.now.number }
+        ensures { result ≡ fault_at at.now.segments.now at.now.loading.now at.now.number }
     {
         let segment = at.number;
         if self.is_closed {
@@ -105,10 +111,10 @@ impl Standing {
         orders: &mut Collected<'a>,
     ) -> Result<(), MovinsFault>
         requires kind { kind ≡ kind_at at.now.segments.now at.now.number }
-        requires here { self.now.group ≡ open_slot at.now.segments.now at.now.code.now at.now.number }
-        requires orders { orders.old ≡ orders_before at.now.segments.now at.now.code.now at.now.number }
-        requires faultless { fault_at at.now.segments.now at.now.code.now at.now.number ≡ None }
-        ensures taken { OnOk result (orders.new ≡ orders.old ++ option_to_list (order_at at.now.segments.now at.now.code.now at.now.number)) }
+        requires here { self.now.group ≡ open_slot at.now.segments.now at.now.loading.now at.now.number }
+        requires orders { orders.old ≡ orders_before at.now.segments.now at.now.loading.now at.now.number }
+        requires faultless { fault_at at.now.segments.now at.now.loading.now at.now.number ≡ None }
+        ensures taken { OnOk result (orders.new ≡ orders.old ++ option_to_list (order_at at.now.segments.now at.now.loading.now at.now.number)) }
         ensures refused { IfErr result (λ fault. fault ≡ Memory) }
     {
         if let (Kind::Equipment, Some(slot)) = (kind, self.group) {
@@ -120,10 +126,10 @@ impl Standing {
     /// What the segment leaves in force.
     pub fn after(self, at: &Place, kind: Kind) -> Standing
         requires kind { kind ≡ kind_at at.now.segments.now at.now.number }
-        requires here { self ≡ standing_before at.now.segments.now at.now.code.now at.now.number }
-        requires faultless { fault_at at.now.segments.now at.now.code.now at.now.number ≡ None }
+        requires here { self ≡ standing_before at.now.segments.now at.now.loading.now at.now.number }
+        requires faultless { fault_at at.now.segments.now at.now.loading.now at.now.number ≡ None }
         requires small { at.now.number < 2 ^ 63 }
-        ensures { result ≡ standing_before at.now.segments.now at.now.code.now (at.now.number + 1) }
+        ensures { result ≡ standing_before at.now.segments.now at.now.loading.now (at.now.number + 1) }
     {
         match kind {
             Kind::InterchangeTrailer => Standing {
@@ -143,7 +149,7 @@ impl Standing {
                 ..self
             },
             Kind::Handling => Standing {
-                is_loading: is_text(at.text(1, 1), at.code),
+                is_loading: self.loads(at),
                 group: None,
                 is_filled: false,
                 ..self
@@ -154,13 +160,32 @@ impl Standing {
         }
     }
 
+    /// The message that is open at the segment is read.
+    fn is_read(&self, at: &Place) -> bool
+        requires here { self.now.message ≡ open_message at.now.segments.now at.now.number }
+        ensures { result ≡ is_read at.now.segments.now at.now.loading.now at.now.number }
+    {
+        match self.message {
+            Some(header) => at.loading.reads(text_at(at.segments, header, 1, 1)),
+            None => false,
+        }
+    }
+
+    /// The segment, a HAN, brings the loading code into force.
+    fn loads(&self, at: &Place) -> bool
+        requires here { self.now.message ≡ open_message at.now.segments.now at.now.number }
+        ensures { result ≡ (bytes_eq (text_at at.now.segments.now at.now.number 1 1) at.now.loading.now.code && is_read at.now.segments.now at.now.loading.now at.now.number) }
+    {
+        is_text(at.text(1, 1), at.loading.code()) && self.is_read(at)
+    }
+
     /// The segment opens a slot group.
     fn with_group(self, at: &Place) -> Standing
         requires kind { kind_at at.now.segments.now at.now.number ≡ SlotGroup }
-        requires here { self ≡ standing_before at.now.segments.now at.now.code.now at.now.number }
-        requires faultless { fault_at at.now.segments.now at.now.code.now at.now.number ≡ None }
+        requires here { self ≡ standing_before at.now.segments.now at.now.loading.now at.now.number }
+        requires faultless { fault_at at.now.segments.now at.now.loading.now at.now.number ≡ None }
         requires small { at.now.number < 2 ^ 63 }
-        ensures { result ≡ standing_before at.now.segments.now at.now.code.now (at.now.number + 1) }
+        ensures { result ≡ standing_before at.now.segments.now at.now.loading.now (at.now.number + 1) }
     {
         if !self.is_loading {
             return Standing {
@@ -180,8 +205,8 @@ impl Standing {
     /// The segment orders a container to the open loading group, if there is one.
     fn with_order(self, at: &Place) -> Standing
         requires kind { kind_at at.now.segments.now at.now.number ≡ Equipment }
-        requires here { self ≡ standing_before at.now.segments.now at.now.code.now at.now.number }
-        ensures { result ≡ standing_before at.now.segments.now at.now.code.now (at.now.number + 1) }
+        requires here { self ≡ standing_before at.now.segments.now at.now.loading.now at.now.number }
+        ensures { result ≡ standing_before at.now.segments.now at.now.loading.now (at.now.number + 1) }
     {
         if let None = self.group {
             return self;
@@ -213,10 +238,12 @@ impl Standing {
 
     /// The fault that only a segment of this kind may have.
     fn own_fault(&self, at: &Place, kind: Kind, orders: &Collected) -> Option<MovinsFault>
-        requires here { self.now ≡ standing_before at.now.segments.now at.now.code.now at.now.number }
-        requires orders { orders.now ≡ orders_before at.now.segments.now at.now.code.now at.now.number }
+        requires here { self.now ≡ standing_before at.now.segments.now at.now.loading.now at.now.number }
+        requires orders { orders.now ≡ orders_before at.now.segments.now at.now.loading.now at.now.number }
+        requires numbered { 1 ≤ at.now.number }
+        requires faultless { first_fault_before at.now.segments.now at.now.loading.now at.now.number ≡ None }
         requires small { at.now.number < 2 ^ 63 }
-        ensures { result ≡ first_of (own_faults kind at.now.segments.now at.now.code.now at.now.number) }
+        ensures { result ≡ first_of (own_faults kind at.now.segments.now at.now.loading.now at.now.number) }
     {
         match kind {
             Kind::InterchangeHeader => header_fault(at),
@@ -232,7 +259,7 @@ impl Standing {
     fn trailer_fault(&self, at: &Place) -> Option<MovinsFault>
         requires here { self.now.message ≡ open_message at.now.segments.now at.now.number }
         requires small { at.now.number < 2 ^ 63 }
-        ensures { result ≡ first_of (own_faults MessageTrailer at.now.segments.now at.now.code.now at.now.number) }
+        ensures { result ≡ first_of (own_faults MessageTrailer at.now.segments.now at.now.loading.now at.now.number) }
     {
         let segment = at.number;
         let header = self.message.unwrap_or(0);
@@ -247,7 +274,7 @@ impl Standing {
 
     fn closing_fault(&self, at: &Place) -> Option<MovinsFault>
         requires here { self.now.messages ≡ count_before is_message_header at.now.segments.now at.now.number }
-        ensures { result ≡ first_of (own_faults InterchangeTrailer at.now.segments.now at.now.code.now at.now.number) }
+        ensures { result ≡ first_of (own_faults InterchangeTrailer at.now.segments.now at.now.loading.now at.now.number) }
     {
         let segment = at.number;
         if !counts(at.text(1, 1), self.messages) {
@@ -260,8 +287,8 @@ impl Standing {
     }
 
     fn slot_fault(&self, at: &Place) -> Option<MovinsFault>
-        requires here { self.now.is_loading ≡ is_loading at.now.segments.now at.now.code.now at.now.number }
-        ensures { result ≡ first_of (own_faults SlotGroup at.now.segments.now at.now.code.now at.now.number) }
+        requires here { self.now.is_loading ≡ is_loading at.now.segments.now at.now.loading.now at.now.number }
+        ensures { result ≡ first_of (own_faults SlotGroup at.now.segments.now at.now.loading.now at.now.number) }
     {
         let segment = at.number;
         if self.is_loading && slot_of(at.text(2, 1)).is_none() {
@@ -271,16 +298,20 @@ impl Standing {
     }
 
     fn order_fault(&self, at: &Place, orders: &Collected) -> Option<MovinsFault>
-        requires here { self.now.group ≡ open_slot at.now.segments.now at.now.code.now at.now.number }
-        requires orders { orders.now ≡ orders_before at.now.segments.now at.now.code.now at.now.number }
-        ensures { result ≡ first_of (own_faults Equipment at.now.segments.now at.now.code.now at.now.number) }
+        requires here { self.now.group ≡ open_slot at.now.segments.now at.now.loading.now at.now.number }
+        requires orders { orders.now ≡ orders_before at.now.segments.now at.now.loading.now at.now.number }
+        requires numbered { 1 ≤ at.now.number }
+        requires faultless { first_fault_before at.now.segments.now at.now.loading.now at.now.number ≡ None }
+        requires small { at.now.number < 2 ^ 63 }
+        ensures { result ≡ first_of (own_faults Equipment at.now.segments.now at.now.loading.now at.now.number) }
     {
         let segment = at.number;
         if self.group.is_none() {
             return None;
         }
         if orders.has(at.text(2, 1)) {
-            return Some(MovinsFault::OrderedTwice { segment });
+            let first = ordering_before(at, at.text(2, 1));
+            return Some(MovinsFault::OrderedTwice { segment, first });
         }
         if orders.len() >= MAX_ORDERS {
             return Some(MovinsFault::TooManyOrders { segment });
@@ -291,7 +322,7 @@ impl Standing {
 
 /// The fault of a UNB by itself.
 fn header_fault(at: &Place) -> Option<MovinsFault>
-    ensures { result ≡ first_of (own_faults InterchangeHeader at.now.segments.now at.now.code.now at.now.number) }
+    ensures { result ≡ first_of (own_faults InterchangeHeader at.now.segments.now at.now.loading.now at.now.number) }
 {
     let segment = at.number;
     if elements_at(at.segments, segment) < 5 || at.text(5, 1).is_empty() {
@@ -302,7 +333,7 @@ fn header_fault(at: &Place) -> Option<MovinsFault>
 
 /// The fault of a UNH by itself.
 fn message_fault(at: &Place) -> Option<MovinsFault>
-    ensures { result ≡ first_of (own_faults MessageHeader at.now.segments.now at.now.code.now at.now.number) }
+    ensures { result ≡ first_of (own_faults MessageHeader at.now.segments.now at.now.loading.now at.now.number) }
 {
     let segment = at.number;
     if is_movins(at) {

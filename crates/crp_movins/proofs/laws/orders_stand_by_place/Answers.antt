@@ -6,4 +6,4 @@ use Rattle.crp_movins.proofs.Listed.{orders-placed}
 use Rattle.crp_movins.proofs.laws.orders_stand_by_place.Goals as goal
 
 pub returns : goal.returns
-returns c = record { placed = orders-placed; one_list = λ segments code. one_list (ℕ × Order) (λ p. p.0) (λ p. IsOrdered segments code p.0 p.1) }
+returns c = record { placed = orders-placed; one_list = λ segments loading. one_list (ℕ × Order) (λ p. p.0) (λ p. IsOrdered segments loading p.0 p.1) }

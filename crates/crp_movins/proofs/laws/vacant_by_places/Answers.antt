@@ -5,4 +5,4 @@ use Rattle.crp_movins.proofs.Listed.{vacant-counted}
 use Rattle.crp_movins.proofs.laws.vacant_by_places.Goals as goal
 
 pub returns : goal.returns
-returns c = record { counted = vacant-counted; one_list = λ segments code. one_list ℕ (λ group. group) (IsVacant segments code) }
+returns c = record { counted = vacant-counted; one_list = λ segments loading. one_list ℕ (λ group. group) (IsVacant segments loading) }

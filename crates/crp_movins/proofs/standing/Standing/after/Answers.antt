@@ -11,22 +11,22 @@ overflow_add-result c =
 pub returns-in-InterchangeTrailer : goal.returns-in-InterchangeTrailer
 returns-in-InterchangeTrailer c =
     let kind = sym c.requires.kind ∙ c.in-InterchangeTrailer.is in
-    rw c.requires.here (after-closing c.args.at.now.segments.now c.args.at.now.code.now c.args.at.now.number kind)
+    rw c.requires.here (after-closing c.args.at.now.segments.now c.args.at.now.loading.now c.args.at.now.number kind)
 
 pub returns-in-MessageHeader : goal.returns-in-MessageHeader
 returns-in-MessageHeader c =
     let kind = sym c.requires.kind ∙ c.in-MessageHeader.is in
-    rw c.requires.here (after-header c.args.at.now.segments.now c.args.at.now.code.now c.args.at.now.number kind)
+    rw c.requires.here (after-header c.args.at.now.segments.now c.args.at.now.loading.now c.args.at.now.number kind)
 
 pub returns-in-MessageTrailer : goal.returns-in-MessageTrailer
 returns-in-MessageTrailer c =
     let kind = sym c.requires.kind ∙ c.in-MessageTrailer.is in
-    rw c.requires.here (after-trailer c.args.at.now.segments.now c.args.at.now.code.now c.args.at.now.number kind)
+    rw c.requires.here (after-trailer c.args.at.now.segments.now c.args.at.now.loading.now c.args.at.now.number kind)
 
 pub returns-in-Handling : goal.returns-in-Handling
 returns-in-Handling c =
     let kind = sym c.requires.kind ∙ c.in-Handling.is in
-    rw (c.is_text.ensures, c.text.ensures, c.requires.here) (after-handling c.args.at.now.segments.now c.args.at.now.code.now c.args.at.now.number kind)
+    rw (c.loads.ensures, c.requires.here) (after-handling c.args.at.now.segments.now c.args.at.now.loading.now c.args.at.now.number kind)
 
 pub returns-in-InterchangeHeader : goal.returns-in-InterchangeHeader
 returns-in-InterchangeHeader c =
@@ -37,4 +37,4 @@ returns-in-InterchangeHeader c =
         | inr other ↦ ap is_passed other
       ]
     ] in
-    c.requires.here ∙ after-passed c.args.at.now.segments.now c.args.at.now.code.now c.args.at.now.number c.args.kind c.requires.kind passed
+    c.requires.here ∙ after-passed c.args.at.now.segments.now c.args.at.now.loading.now c.args.at.now.number c.args.kind c.requires.kind passed
