@@ -230,7 +230,7 @@ distinct q (x ∷ xs) d = by (q x) (all-apart q x xs d.0) (distinct q xs d.1)
     by false first rest = rest
 
 -- no more are left than there were
-fewer : (q : List ℕ → Bool) (xs : List (List ℕ)) → length (filter q xs) ≤ length xs
+pub fewer : (q : List ℕ → Bool) (xs : List (List ℕ)) → length (filter q xs) ≤ length xs
 fewer q [] = omega arith
 fewer q (x ∷ xs) = by (q x) (fewer q xs)
   where

@@ -3,10 +3,12 @@
 ghost use Rattle.std.specs.Prelude.{◌≡◌, IfOk, length, not};
 ghost use Rattle.crp_yard.specs.Inventory.{stands};
 ghost use Rattle.crp_order.specs.Groups.{ArePlaced};
-ghost use Rattle.crp_order.specs.OfBays.{is_chosen, other_bays, of_bays};
+ghost use Rattle.crp_order.specs.OfBays.{is_chosen, other_bays, of_bays, IsSequenceOf};
 
 use crate::bays::bays_by_container;
-use crate::sequences::Sequence;
+use crate::sequences::{Mode, Sequence};
+use crate::sequencing::sequence;
+use crp_movins::Orders;
 use crp_plan::{BayName, Container};
 use crp_yard::Yard;
 use std::alloc::{AllocError, Global};
@@ -48,4 +50,21 @@ pub fn of_bays(
         }
     }
     Ok(Sequence::new(list))
+}
+
+/// The sequence of the orders, of the bays of these names; of all bays of the yard where no name is given.
+pub fn sequence_of_bays(
+    alloc: Global,
+    yard: &Yard,
+    names: &[BayName],
+    orders: Orders,
+    mode: Mode,
+) -> Result<Sequence, AllocError>
+    ensures { IfOk result (λ chosen. IsSequenceOf mode names.now yard.now orders.list chosen) }
+{
+    let whole = sequence(alloc, orders, mode)?;
+    if names.is_empty() {
+        return Ok(whole);
+    }
+    of_bays(alloc, yard, names, &whole)
 }

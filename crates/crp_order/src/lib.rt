@@ -25,7 +25,7 @@ mod stating;
 
 pub use absences::{absent, absent_list};
 pub use bay_problem::BayProblem;
-pub use choosing::of_bays;
+pub use choosing::{of_bays, sequence_of_bays};
 pub use digits::slot_digits;
 pub use laws::{
     absent_in_named_bays, beneath_comes_first, one_sequence, one_sequence_of_bays,

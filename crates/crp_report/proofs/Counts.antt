@@ -7,6 +7,8 @@ use Rattle.std.proofs.lemmas.List.Sorted.{length_permutation}
 use Rattle.edi_text.specs.Parts.{SegmentParts}
 use Rattle.edi_text.specs.Spelling.{max_text, SpellsSegments, Spells}
 use Rattle.edi_text.proofs.BodySteps.{marks-long}
+use Rattle.crp_plan.specs.BayNames.{YardBay}
+use Rattle.crp_movins.specs.Loading.{Loading}
 use Rattle.crp_movins.specs.declared.order.Order.{Order}
 use Rattle.crp_movins.specs.LoadOrders.{LoadOrders, order_at, orders_before}
 use Rattle.crp_movins.proofs.StandingSteps.{vacant-bound}
@@ -14,6 +16,8 @@ use Rattle.crp_yard.specs.Inventory.{Inventory, stands}
 use Rattle.crp_order.specs.declared.sequences.Mode.{Mode}
 use Rattle.crp_order.specs.declared.sequences.Mode.TheVariants.{Listed, Stowage}
 use Rattle.crp_order.specs.Sequences.{IsSequence}
+use Rattle.crp_order.specs.OfBays.{other_bays, IsSequenceOf}
+use Rattle.crp_order.proofs.ChosenSteps.{fewer}
 use Rattle.crp_said.specs.Spelled.{AreSmall}
 use Rattle.crp_report.specs.Runs.{AreOrders, numbers_of}
 
@@ -37,10 +41,10 @@ segments_bound text segments spelled =
     let within = spelled.within in
     omega (arith, few, whole, within)
 
-orders_bound : (segments : List SegmentParts) (code : List ℕ) (i : ℕ) → length (orders_before segments code i) ≤ i
-orders_bound segments code zero = omega arith
-orders_bound segments code (suc i) =
-    omega (arith, orders_bound segments code i, length-append (orders_before segments code i) (option_to_list (order_at segments code i)), one (order_at segments code i))
+orders_bound : (segments : List SegmentParts) (loading : Loading) (i : ℕ) → length (orders_before segments loading i) ≤ i
+orders_bound segments loading zero = omega arith
+orders_bound segments loading (suc i) =
+    omega (arith, orders_bound segments loading i, length-append (orders_before segments loading i) (option_to_list (order_at segments loading i)), one (order_at segments loading i))
   where
     one : (o : Option Order) → length (option_to_list o) ≤ 1
     one None = omega arith
@@ -51,14 +55,16 @@ sequence_bound Listed orders sequence is = omega (arith, ap length is, length-ma
 sequence_bound Stowage orders sequence (stowed, is, containers) =
     omega (arith, ap length containers, length-map stowed (λ order. order.container), length_permutation orders stowed is.same_orders)
 
-pub numbers_small : (mode : Mode) (code message : List ℕ) (yard : Inventory) (orders : LoadOrders) (sequence : List (List ℕ)) → AreOrders code message orders
-    → IsSequence mode orders.list sequence → AreSmall (numbers_of yard orders sequence)
-numbers_small mode code message yard orders sequence are is =
+pub numbers_small : (mode : Mode) (names : List YardBay) (loading : Loading) (message : List ℕ) (yard : Inventory) (orders : LoadOrders) (sequence : List (List ℕ)) → AreOrders loading message orders
+    → IsSequenceOf mode names yard orders.list sequence → AreSmall (numbers_of yard orders sequence)
+numbers_small mode names loading message yard orders sequence are is =
     let segments = are.segments in
     let few = segments_bound message segments are.spelled in
     let last = length segments + 1 in
-    let list : length orders.list ≤ last = subst (λ (o : LoadOrders). length o.list ≤ last) (sym are.orders_are) (orders_bound segments code last) in
-    let vacant : orders.vacant ≤ last = subst (λ (o : LoadOrders). o.vacant ≤ last) (sym are.orders_are) (vacant-bound segments code last) in
-    let order = sequence_bound mode orders.list sequence is in
+    let list : length orders.list ≤ last = subst (λ (o : LoadOrders). length o.list ≤ last) (sym are.orders_are) (orders_bound segments loading last) in
+    let vacant : orders.vacant ≤ last = subst (λ (o : LoadOrders). o.vacant ≤ last) (sym are.orders_are) (vacant-bound segments loading last) in
+    let order = sequence_bound mode orders.list is.whole is.ordered in
+    let left = ap length is.chosen in
+    let fewer = fewer (λ container. not (stands (other_bays names yard.bays) container)) is.whole in
     let absent = count_by-le-length (λ container. not (stands yard.bays container)) sequence in
-    record { orders = omega (arith, few, list); vacant = omega (arith, few, vacant); absent = omega (arith, few, list, order, absent) }
+    record { orders = omega (arith, few, list); vacant = omega (arith, few, vacant); absent = omega (arith, few, list, order, left, fewer, absent) }

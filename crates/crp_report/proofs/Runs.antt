@@ -15,7 +15,7 @@ use Rattle.crp_yard.specs.declared.bay_plan.BayPlan.{BayPlan}
 use Rattle.crp_yard.proofs.YardLeft.{yard_left}
 use Rattle.crp_order.specs.declared.bay_problem.BayProblem.{BayProblem}
 use Rattle.crp_order.specs.BayProblems.{IsNamed, problems_of}
-use Rattle.crp_order.specs.Sequences.{IsSequence}
+use Rattle.crp_order.specs.OfBays.{IsSequenceOf}
 use Rattle.crp_said.specs.Said.{bays_line}
 use Rattle.crp_solve.specs.Chosen.{Chosen}
 use Rattle.crp_report.specs.declared.fault.Fault.{Fault}
@@ -48,7 +48,7 @@ list_refused chosen s (fault.Message f) nothing none = absurd none
 list_refused chosen s (fault.Write sink) nothing none = absurd none
 
 -- a message that is refused
-pub message_refused : (chosen : RunChosen) (s : RunSeen) (f : Fault) → WritesNothing s → IsYardAccepted chosen s → IsNoMessage chosen.input.code s.movins.given s.movins.before s.movins.after f → RunFailsWith chosen s f
+pub message_refused : (chosen : RunChosen) (s : RunSeen) (f : Fault) → WritesNothing s → IsYardAccepted chosen s → IsNoMessage chosen.input.loading s.movins.given s.movins.before s.movins.after f → RunFailsWith chosen s f
 message_refused chosen s (fault.Interchange f) nothing yard (text, given, (real, first)) = (nothing, real, yard, (text, given, first))
 message_refused chosen s (fault.Message f) nothing yard (text, given, (real, (segments, spelled, first))) = (nothing, real, yard, (text, segments, given, spelled, first))
 message_refused chosen s (fault.Read input.Movins) nothing yard failed = (nothing, yard, failed)
@@ -213,8 +213,8 @@ pub record AreAccepted (chosen : RunChosen) (s : RunSeen) (list message : List �
   pub given_list : IsTextOf s.yard.given list
   pub given_message : IsTextOf s.movins.given message
   pub listed : IsListed chosen list yard
-  pub ordered : AreOrders chosen.input.code message orders
-  pub in_sequence : IsSequence chosen.input.mode orders.list sequence
+  pub ordered : AreOrders chosen.input.loading message orders
+  pub in_sequence : IsSequenceOf chosen.input.mode chosen.input.bays yard orders.list sequence
 
 abbrev AreOfRun : RunChosen → Inventory → LoadOrders → List (List ℕ) → List Answered → List Piece → Type 0
 AreOfRun chosen yard orders sequence answered pieces = AreRunPieces chosen.search yard (first_line yard orders sequence) (problems_of yard sequence) answered pieces

@@ -154,7 +154,7 @@ run_says chosen seen m is =
     }
 
 pub small_numbers : (chosen : RunChosen) (seen : RunSeen) (m : Made) → IsMade chosen seen m → AreSmall (numbers_of m.yard m.orders m.sequence)
-small_numbers chosen seen m is = numbers_small chosen.input.mode chosen.input.code m.message m.yard m.orders m.sequence is.ordered is.in_sequence
+small_numbers chosen seen m is = numbers_small chosen.input.mode chosen.input.bays chosen.input.loading m.message m.yard m.orders m.sequence is.ordered is.in_sequence
 
 -- two runs whose reports are the same bytes say the same
 pub same_said : (chosen other : RunChosen) (seen again : RunSeen) (m n : Made) → IsMade chosen seen m → IsMade other again n → m.report ≡ n.report → SayTheSame m n

@@ -11,6 +11,7 @@ use Rattle.edi_text.specs.Spelling.{Spells}
 use Rattle.edi_text.specs.FirstFault.{IsFirstFault}
 use Rattle.edi_text.specs.declared.fault.EdiFault.{EdiFault}
 use Rattle.edi_text.specs.declared.fault.EdiFault.TheVariants as edi
+use Rattle.crp_movins.specs.Loading.{Loading}
 use Rattle.crp_movins.specs.Faults.{first_fault}
 use Rattle.crp_movins.specs.declared.fault.MovinsFault.{MovinsFault}
 use Rattle.crp_movins.specs.declared.fault.MovinsFault.TheVariants as movins
@@ -52,20 +53,20 @@ IsNoYard sizes given before after (fault.Read input.Yard) = HasFailed before aft
 IsNoYard sizes given before after fault.Memory = Unit {0}
 IsNoYard sizes given before after f = ⊥
 
--- why this text gives no load orders under this code
-abbrev pub IsNoOrders : List ℕ → List ℕ → Fault → Type 0
-IsNoOrders code text (fault.Interchange f) = (f ≢ edi.Memory) × IsFirstFault text f
-IsNoOrders code text (fault.Message f) = (f ≢ movins.Memory) × ((segments : List SegmentParts) × Spells text segments × (first_fault segments code ≡ Some f))
-IsNoOrders code text fault.Memory = Unit {0}
-IsNoOrders code text f = ⊥
+-- why of this text no load orders are read
+abbrev pub IsNoOrders : Loading → List ℕ → Fault → Type 0
+IsNoOrders loading text (fault.Interchange f) = (f ≢ edi.Memory) × IsFirstFault text f
+IsNoOrders loading text (fault.Message f) = (f ≢ movins.Memory) × ((segments : List SegmentParts) × Spells text segments × (first_fault segments loading ≡ Some f))
+IsNoOrders loading text fault.Memory = Unit {0}
+IsNoOrders loading text f = ⊥
 
 -- why no load orders were read of a source that had these bytes, with its count of failures before and after
-abbrev pub IsNoMessage : List ℕ → Option (List ℕ) → ℕ → ℕ → Fault → Type 0
-IsNoMessage code given before after (fault.Interchange f) = (text : List ℕ) × IsTextOf given text × IsNoOrders code text (fault.Interchange f)
-IsNoMessage code given before after (fault.Message f) = (text : List ℕ) × IsTextOf given text × IsNoOrders code text (fault.Message f)
-IsNoMessage code given before after (fault.Read input.Movins) = HasFailed before after
-IsNoMessage code given before after fault.Memory = Unit {0}
-IsNoMessage code given before after f = ⊥
+abbrev pub IsNoMessage : Loading → Option (List ℕ) → ℕ → ℕ → Fault → Type 0
+IsNoMessage loading given before after (fault.Interchange f) = (text : List ℕ) × IsTextOf given text × IsNoOrders loading text (fault.Interchange f)
+IsNoMessage loading given before after (fault.Message f) = (text : List ℕ) × IsTextOf given text × IsNoOrders loading text (fault.Message f)
+IsNoMessage loading given before after (fault.Read input.Movins) = HasFailed before after
+IsNoMessage loading given before after fault.Memory = Unit {0}
+IsNoMessage loading given before after f = ⊥
 
 -- these are the texts of an answered bay
 pub record AreTextsOfBay (bay : Answered) (t : BayTexts) : Type 0 where

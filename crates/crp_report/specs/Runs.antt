@@ -7,6 +7,7 @@ use Rattle.edi_text.specs.Parts.{SegmentParts}
 use Rattle.edi_text.specs.Spelling.{Spells}
 use Rattle.edi_text.specs.FirstFault.{IsFirstFault}
 use Rattle.edi_text.specs.declared.fault.EdiFault.TheVariants as edi
+use Rattle.crp_movins.specs.Loading.{Loading}
 use Rattle.crp_movins.specs.LoadOrders.{LoadOrders, load_orders_of}
 use Rattle.crp_movins.specs.Faults.{first_fault}
 use Rattle.crp_movins.specs.declared.fault.MovinsFault.TheVariants as movins
@@ -14,7 +15,7 @@ use Rattle.crp_yard.specs.Inventory.{Inventory}
 use Rattle.crp_yard.specs.Faults.{fault_of_text}
 use Rattle.crp_yard.specs.Reading.{IsTextOf, IsYardListOf}
 use Rattle.crp_yard.specs.declared.fault.YardFault.TheVariants as yard_fault
-use Rattle.crp_order.specs.Sequences.{IsSequence}
+use Rattle.crp_order.specs.OfBays.{IsSequenceOf}
 use Rattle.crp_order.specs.BayProblems.{problems_of, absent_of}
 use Rattle.crp_said.specs.declared.numbers.Numbers.{Numbers}
 use Rattle.crp_said.specs.Said.{counts_line}
@@ -62,12 +63,12 @@ pub record RunSeen : Type 0 where
 abbrev pub IsListed : RunChosen → List ℕ → Inventory → Type 0
 IsListed chosen text yard = IsYardListOf chosen.input.sizes text yard
 
--- the text is an interchange, and these are its load orders under the code
-pub record AreOrders (code text : List ℕ) (orders : LoadOrders) : Type 0 where
+-- the text is an interchange, and these are the load orders that are read of it
+pub record AreOrders (loading : Loading) (text : List ℕ) (orders : LoadOrders) : Type 0 where
   pub segments : List SegmentParts
   pub spelled : Spells text segments
-  pub faultless : first_fault segments code ≡ None
-  pub orders_are : orders ≡ load_orders_of segments code
+  pub faultless : first_fault segments loading ≡ None
+  pub orders_are : orders ≡ load_orders_of segments loading
 
 -- the numbers of a yard, the load orders and their sequence
 abbrev pub numbers_of : Inventory → LoadOrders → List (List ℕ) → Numbers
@@ -94,8 +95,8 @@ pub record IsMade (chosen : RunChosen) (s : RunSeen) (m : Made) : Type 0 where
   pub given_list : IsTextOf s.yard.given m.list
   pub given_message : IsTextOf s.movins.given m.message
   pub listed : IsListed chosen m.list m.yard
-  pub ordered : AreOrders chosen.input.code m.message m.orders
-  pub in_sequence : IsSequence chosen.input.mode m.orders.list m.sequence
+  pub ordered : AreOrders chosen.input.loading m.message m.orders
+  pub in_sequence : IsSequenceOf chosen.input.mode chosen.input.bays m.yard m.orders.list m.sequence
   pub true_answers : AreTrueAnswers chosen.search (problems_of m.yard m.sequence) m.answered
   pub report : IsReport (numbers_of m.yard m.orders m.sequence) m.answered m.report
   pub certificates : m.certificates ≡ certificates_text m.answered
@@ -198,7 +199,7 @@ RunFailsWith chosen s (fault.Yard f) = WritesNothing s × (f ≢ yard_fault.Read
 RunFailsWith chosen s (fault.Interchange f) = WritesNothing s × (f ≢ edi.Memory) × IsYardAccepted chosen s
     × ((text : List ℕ) × IsTextOf s.movins.given text × IsFirstFault text f)
 RunFailsWith chosen s (fault.Message f) = WritesNothing s × (f ≢ movins.Memory) × IsYardAccepted chosen s
-    × ((text : List ℕ) × (segments : List SegmentParts) × IsTextOf s.movins.given text × Spells text segments × (first_fault segments chosen.input.code ≡ Some f))
+    × ((text : List ℕ) × (segments : List SegmentParts) × IsTextOf s.movins.given text × Spells text segments × (first_fault segments chosen.input.loading ≡ Some f))
 RunFailsWith chosen s (fault.Read source) = WritesNothing s × IsInputBeforeAccepted chosen s source × HasFailed (source_of s source).before (source_of s source).after
 RunFailsWith chosen s (fault.Write sink) = WritesFronts chosen s sink × HasFailed (sink_of s sink).before (sink_of s sink).after
 RunFailsWith chosen s fault.Memory = WritesNothing s ⊎ WritesSoFar chosen s

@@ -6,7 +6,7 @@ ghost use Rattle.crp_report.specs.Runs.{AreOrders, failures_of_fault};
 ghost use Rattle.crp_report.specs.BayTexts.{AreFailuresCounted, IsNoYard, IsNoOrders, IsNoMessage};
 
 use crate::fault::{Fault, Input};
-use crp_movins::{Orders, load_orders};
+use crp_movins::{Loading, Orders, load_orders};
 use crp_plan::{ReadFault, Source, read_all};
 use crp_sizes::Sizes;
 use crp_yard::{MAX_BYTES, Yard, YardFault, yard_of_sizes};
@@ -38,33 +38,33 @@ pub fn yard_from<Y: Source>(
     Ok(yard)
 }
 
-/// A message: its segments, and the load orders that they state under a handling code.
+/// A message: its segments, and the load orders that are read of it.
 #[derive(Drop)]
 pub struct Message {
     pub segments: Segments,
     pub orders: Orders,
 }
 
-// What an interchange states under this handling code.
-fn message_of(alloc: Global, text: &[u8], code: &[u8]) -> Result<Message, Fault>
-    ensures accepted { IfOk result (λ message. AreOrders code.now text.now message.orders) }
-    ensures refused { IfErr result (IsNoOrders code.now text.now) }
+// What is read of an interchange.
+fn message_of(alloc: Global, text: &[u8], loading: &Loading) -> Result<Message, Fault>
+    ensures accepted { IfOk result (λ message. AreOrders loading.now text.now message.orders) }
+    ensures refused { IfErr result (IsNoOrders loading.now text.now) }
 {
     let segments = read_segments(alloc, text)?;
-    let orders = load_orders(alloc, &segments, code)?;
+    let orders = load_orders(alloc, &segments, loading)?;
     Ok(Message { segments, orders })
 }
 
-/// What the bytes of a source state under this handling code.
+/// What is read of the message that the bytes of a source are.
 pub fn message_from<M: Source>(
     alloc: Global,
     source: &mut M,
-    code: &[u8],
+    loading: &Loading,
     interruptions: &mut u32,
 ) -> Result<Message, Fault>
     requires { interruptions.old ≤ most_interruptions }
-    ensures accepted { IfOk result (λ message. (text : List ℕ) × IsTextOf (M.remaining source.old) text × AreOrders code.now text message.orders) }
-    ensures refused { IfErr result (IsNoMessage code.now (M.remaining source.old) (M.failures source.old) (M.failures source.new)) }
+    ensures accepted { IfOk result (λ message. (text : List ℕ) × IsTextOf (M.remaining source.old) text × AreOrders loading.now text message.orders) }
+    ensures refused { IfErr result (IsNoMessage loading.now (M.remaining source.old) (M.failures source.old) (M.failures source.new)) }
     ensures counted { MatchResult result
         (λ _. AreFailuresCounted 0 (M.failures source.old) (M.failures source.new) interruptions.old interruptions.new)
         (λ fault. AreFailuresCounted (failures_of_fault fault) (M.failures source.old) (M.failures source.new) interruptions.old interruptions.new) }
@@ -79,5 +79,5 @@ pub fn message_from<M: Source>(
         }
         Err(ReadFault::Memory) => return Err(Fault::Memory),
     };
-    message_of(alloc, &text, code)
+    message_of(alloc, &text, loading)
 }

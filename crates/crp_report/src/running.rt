@@ -6,7 +6,7 @@ ghost use Rattle.crp_plan.specs.BayNames.{same_bay};
 ghost use Rattle.crp_plan.specs.Devices.{most_interruptions};
 ghost use Rattle.crp_yard.specs.After.{IsPlanForBay, IsCompletePlan};
 ghost use Rattle.crp_order.specs.BayProblems.{IsNamed, problems_of};
-ghost use Rattle.crp_order.specs.Sequences.{IsSequence};
+ghost use Rattle.crp_order.specs.OfBays.{IsSequenceOf};
 ghost use Rattle.crp_report.specs.Answered.{Answered, status_of_all};
 ghost use Rattle.crp_report.specs.Runs.{RunSeen, source_seen, sink_seen, first_line, RunEnds, RunFails};
 ghost use Rattle.crp_report.specs.Writing.{Sinks, sinks_of, AreSameSinks, IsTextAfter, WritesEnd, StopsEnd, WritesRun, StopsRun};
@@ -22,7 +22,7 @@ use crate::status::Status;
 use crate::watching::{Unwatched, Watch};
 use crate::writing::{RunSinks, write_piece};
 use crp_movins::Orders;
-use crp_order::{BayProblem, Sequence, problems, sequence};
+use crp_order::{BayProblem, Sequence, problems, sequence_of_bays};
 use crp_plan::{Nowhere, Sink, Source};
 use crp_said::{last_text, numbers_text};
 use crp_solve::Settings;
@@ -36,7 +36,7 @@ use std::thread::Threads;
 struct Work {
     // The yard that is listed.
     yard: Yard,
-    // The containers in the order in which they leave.
+    // The containers in the order in which they leave, without those of other bays.
     sequence: Sequence,
     // The first line of the report.
     first: Vec<u8>,
@@ -52,14 +52,15 @@ fn work_of(
     settings: &RunSettings,
 ) -> Result<Work, AllocError>
     ensures yard { IfOk result (λ work. work.yard ≡ yard) }
-    ensures sequence { IfOk result (λ work. IsSequence settings.now.input.mode orders.list work.sequence) }
+    ensures sequence { IfOk result (λ work. IsSequenceOf settings.now.input.mode settings.now.input.bays yard orders.list work.sequence) }
     ensures first { IfOk result (λ work. work.first.items ≡ first_line yard orders work.sequence) }
     ensures problems { IfOk result (λ work. work.problems.items ≡ problems_of yard work.sequence) }
     ensures named { IfOk result (λ work. All (IsNamed yard) work.problems.items) }
     ensures once { IfOk result (λ work. IsDistinct same_bay (map (λ made. made.bay) work.problems.items)) }
 {
     let (listed, vacant) = (orders.list().len(), orders.vacant());
-    let sequence = sequence(alloc, orders, settings.input().mode())?;
+    let input = settings.input();
+    let sequence = sequence_of_bays(alloc, &yard, input.bays(), orders, input.mode())?;
     let numbers = numbers_with(&yard, listed, vacant, &sequence);
     let first = numbers_text(alloc, numbers)?;
     let problems = problems(alloc, &yard, &sequence)?;
@@ -188,7 +189,7 @@ pub fn run_watched<
     let Message { segments, orders } = message_from(
         alloc,
         &mut devices.movins,
-        input.code(),
+        input.loading(),
         &mut interruptions,
     )?;
     let work = work_of(alloc, yard, orders, settings)?;

@@ -1,13 +1,14 @@
 //! What a planner chooses for a run.
-ghost use Rattle.std.specs.Prelude.{◌≡◌, ◌↔◌, IfOk, IfErr, IsTrue, replicate};
+ghost use Rattle.std.specs.Prelude.{◌≡◌, ◌↔◌, IfOk, IfErr, IsTrue, [], replicate};
 ghost use Rattle.crp_plan.specs.Faults.{HasTiers, AreHeights};
 ghost use Rattle.crp_sizes.specs.Heights.{CanBeHeights};
 ghost use Rattle.crp_sizes.specs.Sizes.{CanBeSizes, one_size};
 ghost use Rattle.crp_report.specs.Chosen.{IsRowCount, IsRunFault};
 ghost use Rattle.crp_report.specs.declared.settings.RunFault.TheVariants.{Heights, Memory};
 
+use crp_movins::{Loading, Reference};
 use crp_order::Mode;
-use crp_plan::{MAX_ROWS, MAX_TIERS};
+use crp_plan::{BayName, MAX_ROWS, MAX_TIERS};
 use crp_sizes::Sizes;
 use crp_solve::Settings;
 use std::alloc::{AllocError, Global};
@@ -53,7 +54,8 @@ fn are_heights(heights: &[u8]) -> bool
 pub struct InputSettings {
     sizes: Sizes,
     mode: Mode,
-    code: Vec<u8>,
+    loading: Loading,
+    bays: Vec<BayName>,
 }
 
 impl Model for InputSettings {
@@ -61,12 +63,12 @@ impl Model for InputSettings {
 
     ghost Value = { InputChosen };
 
-    ghost view = { λ s. record { sizes = s.sizes; mode = s.mode; code = s.code.items } };
+    ghost view = { λ s. record { sizes = s.sizes; mode = s.mode; loading = s.loading; bays = s.bays.items } };
 }
 
 impl InputSettings {
     /// Bays of so many rows with so many tiers each, the order in which containers leave, and the handling code of what is to be
-    /// loaded.
+    /// loaded; of all messages, and for all bays.
     pub fn new(
         alloc: Global,
         rows: u8,
@@ -75,7 +77,7 @@ impl InputSettings {
         code: &[u8],
     ) -> Result<InputSettings, RunFault>
         ensures accepted { IfOk result (λ settings. IsRowCount rows × HasTiers tiers) }
-        ensures value { IfOk result (λ settings. settings ≡ record { sizes = one_size (replicate rows tiers); mode = mode; code = code.now }) }
+        ensures value { IfOk result (λ settings. settings ≡ record { sizes = one_size (replicate rows tiers); mode = mode; loading = (record { code = code.now; messages = [] }); bays = [] }) }
         ensures refused { IfErr result (IsRunFault rows tiers) }
     {
         if rows == 0 || rows as usize > MAX_ROWS {
@@ -84,13 +86,34 @@ impl InputSettings {
         if tiers == 0 || tiers as usize > MAX_TIERS {
             return Err(RunFault::Tiers);
         }
-        let code = Vec::from_slice(alloc, code)?;
+        let loading = Loading::new(alloc, code)?;
         let same = [tiers; MAX_ROWS];
         Ok(InputSettings {
             sizes: Sizes::of_heights(alloc, &same[..rows as usize]),
             mode,
-            code,
+            loading,
+            bays: Vec::new(alloc),
         })
+    }
+
+    /// These settings with the orders of the messages with these references alone; of all messages where there is none. Takes no memory.
+    pub fn of_messages(self, messages: Vec<Reference>) -> InputSettings
+        ensures { result ≡ record self { loading = record self.loading { messages = messages.items } } }
+    {
+        InputSettings {
+            sizes: self.sizes,
+            mode: self.mode,
+            loading: self.loading.of_messages(messages),
+            bays: self.bays,
+        }
+    }
+
+    /// These settings for these bays alone; for all where there is none. Takes no memory.
+    pub fn of_bays(mut self, bays: Vec<BayName>) -> InputSettings
+        ensures { result ≡ record self { bays = bays.items } }
+    {
+        self.bays = bays;
+        self
     }
 
     /// These settings with bays that have a height for each row. Refused exactly where there are not 1 to 12 heights, or one of
@@ -103,7 +126,7 @@ impl InputSettings {
         if heights.is_empty() || heights.len() > MAX_ROWS || !are_heights(heights) {
             return Err(RunFault::Heights);
         }
-        self.sizes = Sizes::of_heights(*self.code.allocator(), heights);
+        self.sizes = Sizes::of_heights(*self.bays.allocator(), heights);
         Ok(self)
     }
 
@@ -111,11 +134,16 @@ impl InputSettings {
     pub fn sized(&self, alloc: Global, sizes: Sizes) -> Result<InputSettings, AllocError>
         ensures { IfOk result (λ settings. settings ≡ record self.now { sizes = sizes }) }
     {
-        let code = Vec::from_slice(alloc, &self.code)?;
+        let loading = self.loading.copy(alloc)?;
+        let mut bays = Vec::new(alloc);
+        for bay in &self.bays {
+            bays.push(bay.copy())?;
+        }
         Ok(InputSettings {
             sizes,
             mode: self.mode,
-            code,
+            loading,
+            bays,
         })
     }
 
@@ -136,11 +164,18 @@ impl InputSettings {
         self.mode
     }
 
-    /// The handling code of what is to be loaded.
-    pub fn code(&self) -> &[u8]
-        ensures { result.now ≡ self.now.code }
+    /// What is read of the message.
+    pub fn loading(&self) -> &Loading
+        ensures { result.now ≡ self.now.loading }
     {
-        &self.code
+        &self.loading
+    }
+
+    /// The bays that the run is for; none stands for all.
+    pub fn bays(&self) -> &[BayName]
+        ensures { result.now ≡ self.now.bays }
+    {
+        &self.bays
     }
 }
 

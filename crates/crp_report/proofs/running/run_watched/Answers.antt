@@ -26,7 +26,7 @@ returns-in_err-segments-clause-written g c =
       message_refused c.args.settings.now _ c.in_err-segments.field-0.0
           (Keeps-refl (g.W.Sink.contents c.args.out.now), Keeps-refl (g.C.Sink.contents c.args.devices.now.certificates), Keeps-refl (g.A.Sink.contents c.args.devices.now.yard_after))
           (list, c.in_ok-yard.yard, given, rw c.input-input.ensures.value at (rw c.sizes.ensures.value at listed))
-          (rw c.input-input.ensures.value at (rw c.code.ensures at c.in_err-segments.ensures.refused)),
+          (rw c.input-input.ensures.value at (rw c.loading.ensures at c.in_err-segments.ensures.refused)),
       omega (arith, c.in_ok-yard.ensures.counted, c.in_err-segments.ensures.counted, c.in_err-segments.ensures.passed),
     )
 
@@ -59,7 +59,7 @@ returns-clause-written g c =
       given_list = given_list;
       given_message = given_message;
       listed = rw c.input-input.ensures.value at (rw c.sizes.ensures.value at listed);
-      ordered = rw c.input-input.ensures.value at (rw c.code.ensures at ordered);
+      ordered = rw c.input-input.ensures.value at (rw c.loading.ensures at ordered);
       in_sequence = c.in_ok-work.ensures.sequence;
     }) c.in_ok-work.ensures.first c.in_ok-work.ensures.problems c.in_ok-yard.ensures.counted c.in_ok-segments.ensures.counted
     c.in_ok-segments.ensures.count (rw c.in_ok-work.ensures.yard at (rw c.search.ensures at c.write_run-ended.ensures.written)))
