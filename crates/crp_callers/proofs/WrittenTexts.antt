@@ -56,7 +56,7 @@ input_is : (chosen : InputChosen) (listing messages : SourceSeen) (list message 
     → listing.given ≡ Some list → messages.given ≡ Some message → IsInputOf chosen listing messages yard orders sequence → AreInput chosen list message yard orders sequence
 input_is chosen listing messages list message yard orders sequence e f is = record {
   listed = subst (λ (t : List ℕ). IsYardListOf chosen.sizes t yard) (given_is listing.given list is.list e is.given_list) is.listed;
-  ordered = subst (λ (t : List ℕ). AreOrders chosen.code t orders) (given_is messages.given message is.message f is.given_message) is.ordered;
+  ordered = subst (λ (t : List ℕ). AreOrders chosen.loading t orders) (given_is messages.given message is.message f is.given_message) is.ordered;
   in_sequence = is.in_sequence;
 }
 

@@ -8,7 +8,7 @@ use Rattle.crp_yard.specs.Inventory.{Inventory}
 use Rattle.crp_yard.specs.Reading.{IsTextOf, IsYardListOf}
 use Rattle.crp_files.specs.Known.{KnownFiles}
 use Rattle.crp_movins.specs.LoadOrders.{LoadOrders}
-use Rattle.crp_order.specs.Sequences.{IsSequence}
+use Rattle.crp_order.specs.OfBays.{IsSequenceOf}
 use Rattle.crp_said.specs.declared.numbers.Numbers.{Numbers}
 use Rattle.crp_follow.specs.Behind.{IsListBehind}
 use Rattle.crp_follow.specs.Followed.{BayFollowed, IsFollowed}
@@ -49,8 +49,8 @@ pub record EndsWithBound (p : Problem) (report : List ℕ) : Type 0 where
 -- a yard list and a message are accepted, and this is what they say
 pub record AreInput (chosen : InputChosen) (list message : List ℕ) (yard : Inventory) (orders : LoadOrders) (sequence : List (List ℕ)) : Type 0 where
   pub listed : IsYardListOf chosen.sizes list yard
-  pub ordered : AreOrders chosen.code message orders
-  pub in_sequence : IsSequence chosen.mode orders.list sequence
+  pub ordered : AreOrders chosen.loading message orders
+  pub in_sequence : IsSequenceOf chosen.mode chosen.bays yard orders.list sequence
 
 -- this holds of a report and certificates, as they are handed in with what a yard list and a message say
 abbrev pub HoldsOfTexts : InputChosen → List ℕ → List ℕ → List ℕ → List ℕ → (Handed → Type 0) → Type 0

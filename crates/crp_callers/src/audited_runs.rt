@@ -3,13 +3,14 @@ ghost use Rattle.std.specs.Prelude.{◌≡◌, ◌≤◌, ℕ, List, Some, false
 ghost use Rattle.std.specs.List.{AllByRecursion, AllZip};
 ghost use Rattle.crp_plan.specs.Bay.{cap};
 ghost use Rattle.crp_plan.specs.BayNames.{YardBay, IsYardBay};
+ghost use Rattle.crp_movins.specs.Loading.{Loading};
 ghost use Rattle.crp_sizes.specs.Sizes.{YardSizes};
 ghost use Rattle.crp_yard.specs.Inventory.{Inventory};
 ghost use Rattle.crp_yard.specs.Naming.{IsNamedBay};
 ghost use Rattle.crp_yard.specs.Reading.{IsYardListOf};
 ghost use Rattle.crp_yard.specs.Text.{yard_text};
 ghost use Rattle.crp_order.specs.declared.sequences.Mode.{Mode};
-ghost use Rattle.crp_order.specs.Sequences.{IsSequence};
+ghost use Rattle.crp_order.specs.OfBays.{IsSequenceOf};
 ghost use Rattle.crp_solve.specs.declared.answer.Answer.{Answer};
 ghost use Rattle.crp_solve.specs.Answers.{IsTrueAnswer};
 ghost use Rattle.crp_said.specs.Spelled.{most, AreSmall};
@@ -88,8 +89,8 @@ pub fn follow_of_headline(
     yard: &Yard,
     report: &[u8],
 ) -> Result<Followed, FollowFault>
-    ensures { (sizes : YardSizes) (code list message : List ℕ) (mode : Mode) (h : Handed) (is : IsHeadline h) → IsYardListOf sizes list h.yard
-        → AreOrders code message h.orders → IsSequence mode h.orders.list h.sequence → yard.now ≡ h.yard → report.now ≡ h.report
+    ensures { (sizes : YardSizes) (loading : Loading) (names : List YardBay) (list message : List ℕ) (mode : Mode) (h : Handed) (is : IsHeadline h) → IsYardListOf sizes list h.yard
+        → AreOrders loading message h.orders → IsSequenceOf mode names h.yard h.orders.list h.sequence → yard.now ≡ h.yard → report.now ≡ h.report
         → MatchResult result (λ followed. AllZip (EndsAsPrinted h) is.bays (map bay_followed followed.bays.items)) (λ fault. fault ≡ Fault.Memory) }
 {
     headlines_are_followed();
@@ -107,8 +108,8 @@ pub fn runs_name_their_bays()
 
 /// No line of a headline's report names a bay that its yard lacks.
 pub fn headlines_name_their_bays()
-    ensures { (sizes : YardSizes) (code list message : List ℕ) (mode : Mode) (h : Handed) (line : ℕ) → IsHeadline h → IsYardListOf sizes list h.yard
-        → AreOrders code message h.orders → IsSequence mode h.orders.list h.sequence → IsFirstFault h.yard h.report (Fault.NoBay line) → ⊥ }
+    ensures { (sizes : YardSizes) (loading : Loading) (names : List YardBay) (list message : List ℕ) (mode : Mode) (h : Handed) (line : ℕ) → IsHeadline h → IsYardListOf sizes list h.yard
+        → AreOrders loading message h.orders → IsSequenceOf mode names h.yard h.orders.list h.sequence → IsFirstFault h.yard h.report (Fault.NoBay line) → ⊥ }
 {
     headlines_are_followed();
 }

@@ -5,7 +5,7 @@ use Rattle.crp_plan.specs.Devices.{HasFailed, most_interruptions}
 use Rattle.crp_yard.specs.Inventory.{Inventory}
 use Rattle.crp_yard.specs.Reading.{IsTextOf, IsYardListOf}
 use Rattle.crp_movins.specs.LoadOrders.{LoadOrders}
-use Rattle.crp_order.specs.Sequences.{IsSequence}
+use Rattle.crp_order.specs.OfBays.{IsSequenceOf}
 use Rattle.crp_checker.specs.declared.verdict.Verdict.{Verdict}
 use Rattle.crp_report.specs.declared.fault.Fault.{Fault}
 use Rattle.crp_report.specs.declared.fault.Fault.TheVariants as run
@@ -51,8 +51,8 @@ pub record IsInputOf (chosen : InputChosen) (yard movins : SourceSeen) (stands :
   pub given_list : IsTextOf yard.given list
   pub given_message : IsTextOf movins.given message
   pub listed : IsYardListOf chosen.sizes list stands
-  pub ordered : AreOrders chosen.code message orders
-  pub in_sequence : IsSequence chosen.mode orders.list sequence
+  pub ordered : AreOrders chosen.loading message orders
+  pub in_sequence : IsSequenceOf chosen.mode chosen.bays stands orders.list sequence
 
 -- the most bytes that are read of what is audited
 abbrev pub most_of : Statement → ℕ
@@ -107,7 +107,7 @@ IsListAccepted chosen yard = (list : List ℕ) × (stands : Inventory) × IsText
 -- why there is no input: the fault of the yard list, or where that is accepted of the message, as a run states them
 abbrev pub IsNoInput : InputChosen → SourceSeen → SourceSeen → Fault → Type 0
 IsNoInput chosen yard movins f = IsNoYard chosen.sizes yard.given yard.before yard.after f
-    ⊎ (IsListAccepted chosen yard × IsNoMessage chosen.code movins.given movins.before movins.after f)
+    ⊎ (IsListAccepted chosen yard × IsNoMessage chosen.loading movins.given movins.before movins.after f)
 
 -- the input is accepted
 abbrev pub IsInputAccepted : InputChosen → AuditSeen → Type 0

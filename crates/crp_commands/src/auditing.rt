@@ -4,7 +4,7 @@ ghost use Rattle.std.specs.List.{AllByRecursion};
 ghost use Rattle.crp_plan.specs.Devices.{most_interruptions};
 ghost use Rattle.crp_yard.specs.Naming.{IsNamedBay};
 ghost use Rattle.crp_yard.specs.Reading.{IsTextOf};
-ghost use Rattle.crp_order.specs.Sequences.{IsSequence};
+ghost use Rattle.crp_order.specs.OfBays.{IsSequenceOf};
 ghost use Rattle.crp_report.specs.BayTexts.{AreFailuresCounted};
 ghost use Rattle.crp_report.specs.Runs.{SourceSeen, SinkSeen, Gets, GetsNothing, failures_of_fault, sink_seen, source_seen};
 ghost use Rattle.crp_audit.specs.Headline.{Handed, handed, IsHeadline, shown_in};
@@ -21,7 +21,7 @@ use crp_cert::push_decimal;
 use crp_checker::Verdicts;
 use crp_jobs::{Statement, ToolFault};
 use crp_movins::Orders;
-use crp_order::{Mode, Sequence, sequence};
+use crp_order::{Sequence, sequence_of_bays};
 use crp_plan::{ReadFault, Sink, Source, read_all, write_all};
 use crp_report::{Fault, InputSettings, Status, message_from, yard_from};
 use crp_yard::Yard;
@@ -62,11 +62,22 @@ pub(crate) struct InputRead {
 }
 
 // The load orders and their sequence.
-fn sequenced(alloc: Global, yard: Yard, orders: Orders, mode: Mode) -> Result<InputRead, AllocError>
+fn sequenced(
+    alloc: Global,
+    yard: Yard,
+    orders: Orders,
+    settings: &InputSettings,
+) -> Result<InputRead, AllocError>
     ensures same { IfOk result (λ input. (input.yard ≡ yard) × (input.orders ≡ orders)) }
-    ensures sequence { IfOk result (λ input. IsSequence mode orders.list input.sequence) }
+    ensures sequence { IfOk result (λ input. IsSequenceOf settings.now.mode settings.now.bays yard orders.list input.sequence) }
 {
-    let sequence = sequence(alloc, orders.copy(alloc)?, mode)?;
+    let sequence = sequence_of_bays(
+        alloc,
+        &yard,
+        settings.bays(),
+        orders.copy(alloc)?,
+        settings.mode(),
+    )?;
     Ok(InputRead {
         yard,
         orders,
@@ -96,8 +107,8 @@ pub(crate) fn input_from<Y: Source, M: Source>(
     ensures passed { interruptions.new ≤ most_interruptions }
 {
     let listed = yard_from(alloc, yard, settings.sizes(), interruptions)?;
-    let message = message_from(alloc, movins, settings.code(), interruptions)?;
-    let input = sequenced(alloc, listed, message.orders, settings.mode())?;
+    let message = message_from(alloc, movins, settings.loading(), interruptions)?;
+    let input = sequenced(alloc, listed, message.orders, settings)?;
     Ok(input)
 }
 

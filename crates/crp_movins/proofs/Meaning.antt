@@ -10,8 +10,8 @@ use Rattle.crp_movins.specs.Loading.{Loading, reads}
 use Rattle.crp_movins.specs.declared.kind.Kind.{Kind}
 use Rattle.crp_movins.specs.declared.order.Order.{Order}
 use Rattle.crp_movins.specs.Digits.{slot_of}
-use Rattle.crp_movins.specs.Kinds.{is_message_header, bounds_message, is_handling, settles_code, is_slot_group, ends_group, is_equipment}
-use Rattle.crp_movins.specs.Places.{kind_at, text_at, last_before, where_holds, open_message, is_read, is_loading, opens_loading_group, loading_group, ordered_group}
+use Rattle.crp_movins.specs.Kinds.{is_message_header, is_handling, settles_code, is_slot_group, ends_group, is_equipment}
+use Rattle.crp_movins.specs.Places.{kind_at, text_at, last_before, where_holds, is_read, is_loading, opens_loading_group, loading_group, ordered_group}
 use Rattle.crp_movins.specs.LoadOrders.{order_at}
 use Rattle.crp_movins.specs.ByPlaces.{IsLast, IsRead, IsLoadingGroup, StandsInGroup, IsOrdered}
 use Rattle.crp_movins.proofs.Least.{last-last}
@@ -57,20 +57,13 @@ and-both false b h = absurd (cc)
 
 read-means : (segments : List SegmentParts) (loading : Loading) (i : ℕ) → is_read segments loading i ≡ true → IsRead segments loading i
 read-means segments loading i h =
-    let found = held (λ (j : ℕ). reads loading.messages (text_at segments j 1 1)) (open_message segments i) h in
-    let opened = kept (λ (j : ℕ). is_message_header (kind_at segments j)) (last_before bounds_message segments i) found.0 found.1 in
-    record {
-      header = found.0;
-      last_header = is_last bounds_message segments i found.0 opened.0;
-      opens = opened.1;
-      chosen = found.2;
-    }
+    let found = held (λ (j : ℕ). reads loading.messages (text_at segments j 1 1)) (last_before is_message_header segments i) h in
+    record { header = found.0; last_header = is_last is_message_header segments i found.0 found.1; chosen = found.2 }
 
 read-given : (segments : List SegmentParts) (loading : Loading) (i : ℕ) → IsRead segments loading i → is_read segments loading i ≡ true
 read-given segments loading i h =
-    let last = last_is bounds_message segments i h.header h.last_header in
-    let found : open_message segments i ≡ Some h.header = rw (last, h.opens) refl in
-    rw (found, h.chosen) refl
+    let last = last_is is_message_header segments i h.header h.last_header in
+    rw (last, h.chosen) refl
 
 pub group-means : (segments : List SegmentParts) (loading : Loading) (group : ℕ) → opens_loading_group segments loading group ≡ true → IsLoadingGroup segments loading group
 group-means segments loading group h =

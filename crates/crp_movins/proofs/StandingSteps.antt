@@ -3,7 +3,7 @@ use Prim.Native.Nat.{zero}
 use Rattle.std.proofs.Common.{◌≡◌, ◌≢◌, length, ℕ, suc, ◌+◌, ◌-◌, ◌≤◌, ◌<◌, ◌⊎◌, Bool, true, false, not, cond, eqb, ◌&&◌, List, [], ◌∷◌, Option, Some, None, refl, sym, ap, subst, ◌∙◌, inl, inr, arith, rules, tests, add-one}
 use Rattle.std.proofs.lemmas.Bool.{not-false}
 use Rattle.edi_text.specs.Parts.{SegmentParts}
-use Rattle.crp_movins.specs.Loading.{Loading}
+use Rattle.crp_movins.specs.Loading.{Loading, reads}
 use Rattle.crp_movins.specs.declared.fault.MovinsFault.{MovinsFault}
 use Rattle.crp_movins.specs.declared.fault.MovinsFault.TheVariants.{SlotNumber, OrderedTwice, TooManyOrders}
 use Rattle.crp_movins.specs.declared.kind.Kind.{Kind}
@@ -21,7 +21,7 @@ use Rattle.crp_movins.specs.Faults.{is_in_group, ordering_before, first_of, own_
 use Rattle.crp_movins.specs.Standings.{open_slot, is_group_filled, standing_before}
 use Rattle.crp_movins.proofs.Counting.{count_below-bound, count_below-same, count_below-without}
 
-pub standing-start : (segments : List SegmentParts) (loading : Loading) → record { is_closed = false; message = None; messages = 0; is_loading = false; group = None; is_filled = false; vacant = 0 } ≡ standing_before segments loading 1
+pub standing-start : (segments : List SegmentParts) (loading : Loading) → record { is_closed = false; message = None; messages = 0; is_read = false; is_loading = false; group = None; is_filled = false; vacant = 0 } ≡ standing_before segments loading 1
 unfolding kind_at kind_of vacant_before is_group_filled
 standing-start segments loading = refl
 
@@ -101,7 +101,7 @@ after-closing segments loading i h =
     let filled = filled-passed segments loading i (loading_group segments loading i) none in
     rw (add-one i, vacant, h, filled) refl
 
-pub after-header : (segments : List SegmentParts) (loading : Loading) (i : ℕ) → kind_at segments i ≡ MessageHeader → record (standing_before segments loading i) { message = Some i; messages = count_before is_message_header segments i + 1; is_loading = false; group = None; is_filled = false } ≡ standing_before segments loading (i + 1)
+pub after-header : (segments : List SegmentParts) (loading : Loading) (i : ℕ) → kind_at segments i ≡ MessageHeader → record (standing_before segments loading i) { message = Some i; messages = count_before is_message_header segments i + 1; is_read = reads loading.messages (text_at segments i 1 1); is_loading = false; group = None; is_filled = false } ≡ standing_before segments loading (i + 1)
 unfolding is_group_filled
 after-header segments loading i h =
     let none = no-order segments loading i MessageHeader h refl in

@@ -5,7 +5,7 @@ use Rattle.crp_movins.specs.Loading.{Loading, reads}
 use Rattle.crp_movins.specs.declared.kind.Kind.{Kind}
 use Rattle.crp_movins.specs.declared.order.Order.{Order}
 use Rattle.crp_movins.specs.Digits.{slot_of}
-use Rattle.crp_movins.specs.Kinds.{is_message_header, bounds_message, is_handling, settles_code, is_slot_group, ends_group, is_equipment}
+use Rattle.crp_movins.specs.Kinds.{is_message_header, is_handling, settles_code, is_slot_group, ends_group, is_equipment}
 use Rattle.crp_movins.specs.Places.{kind_at, text_at}
 
 -- the last segment of such a kind before the number i has the number j
@@ -14,11 +14,10 @@ pub record IsLast (test : Kind → Bool) (segments : List SegmentParts) (i j : �
   pub such : test (kind_at segments j) ≡ true
   pub none_between : (k : ℕ) → j < k → k < i → test (kind_at segments k) ≡ false
 
--- the last of UNH and UNT before the segment is a UNH whose message is read
+-- the message of the last UNH before the segment is read
 pub record IsRead (segments : List SegmentParts) (loading : Loading) (i : ℕ) : Type 0 where
   pub header : ℕ
-  pub last_header : IsLast bounds_message segments i header
-  pub opens : is_message_header (kind_at segments header) ≡ true
+  pub last_header : IsLast is_message_header segments i header
   pub chosen : reads loading.messages (text_at segments header 1 1) ≡ true
 
 -- a LOC 147, where the last of UNH and HAN before it is a HAN with the loading code, in a message that is read

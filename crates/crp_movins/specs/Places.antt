@@ -48,9 +48,9 @@ where_holds test (Some i) = if test i then Some i else None
 abbrev pub open_message : List SegmentParts → ℕ → Option ℕ
 open_message segments i = where_holds (λ j. is_message_header (kind_at segments j)) (last_before bounds_message segments i)
 
--- the message that is open at the segment is read
+-- the message of the last UNH before the segment is read
 abbrev pub is_read : List SegmentParts → Loading → ℕ → Bool
-is_read segments loading i = holds_at (λ j. reads loading.messages (text_at segments j 1 1)) (open_message segments i)
+is_read segments loading i = holds_at (λ j. reads loading.messages (text_at segments j 1 1)) (last_before is_message_header segments i)
 
 -- the loading code is in force: the last of UNH and HAN is a HAN with this code, in a message that is read
 abbrev pub is_loading : List SegmentParts → Loading → ℕ → Bool

@@ -7,7 +7,7 @@ use Rattle.crp_movins.specs.declared.slot.Slot.{Slot}
 use Rattle.crp_movins.specs.declared.standing.Standing.{Standing}
 use Rattle.crp_movins.specs.Digits.{slot_of}
 use Rattle.crp_movins.specs.Kinds.{is_message_header, is_interchange_trailer}
-use Rattle.crp_movins.specs.Places.{text_at, last_before, count_before, open_message, is_loading, loading_group}
+use Rattle.crp_movins.specs.Places.{text_at, last_before, count_before, open_message, is_read, is_loading, loading_group}
 use Rattle.crp_movins.specs.LoadOrders.{is_filled, vacant_before}
 
 -- the slot of the open loading group
@@ -24,6 +24,7 @@ standing_before segments loading i = record {
   is_closed = is_some (last_before is_interchange_trailer segments i);
   message = open_message segments i;
   messages = count_before is_message_header segments i;
+  is_read = is_read segments loading i;
   is_loading = is_loading segments loading i;
   group = open_slot segments loading i;
   is_filled = is_group_filled segments loading i (loading_group segments loading i);

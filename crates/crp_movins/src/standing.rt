@@ -48,6 +48,8 @@ pub(crate) struct Standing {
     pub message: Option<usize>,
     /// How many messages have begun.
     pub messages: usize,
+    /// The message of the last UNH is read.
+    pub is_read: bool,
     /// The loading code is in force.
     pub is_loading: bool,
     /// The slot of the open loading group.
@@ -67,6 +69,7 @@ impl Standing {
             is_closed: false,
             message: None,
             messages: 0,
+            is_read: false,
             is_loading: false,
             group: None,
             is_filled: false,
@@ -139,6 +142,7 @@ impl Standing {
             Kind::MessageHeader => Standing {
                 message: Some(at.number),
                 messages: self.messages + 1,
+                is_read: at.loading.reads(at.text(1, 1)),
                 is_loading: false,
                 group: None,
                 is_filled: false,
@@ -160,23 +164,12 @@ impl Standing {
         }
     }
 
-    /// The message that is open at the segment is read.
-    fn is_read(&self, at: &Place) -> bool
-        requires here { self.now.message ≡ open_message at.now.segments.now at.now.number }
-        ensures { result ≡ is_read at.now.segments.now at.now.loading.now at.now.number }
-    {
-        match self.message {
-            Some(header) => at.loading.reads(text_at(at.segments, header, 1, 1)),
-            None => false,
-        }
-    }
-
     /// The segment, a HAN, brings the loading code into force.
     fn loads(&self, at: &Place) -> bool
-        requires here { self.now.message ≡ open_message at.now.segments.now at.now.number }
+        requires here { self.now.is_read ≡ is_read at.now.segments.now at.now.loading.now at.now.number }
         ensures { result ≡ (bytes_eq (text_at at.now.segments.now at.now.number 1 1) at.now.loading.now.code && is_read at.now.segments.now at.now.loading.now at.now.number) }
     {
-        is_text(at.text(1, 1), at.loading.code()) && self.is_read(at)
+        is_text(at.text(1, 1), at.loading.code()) && self.is_read
     }
 
     /// The segment opens a slot group.

@@ -3,6 +3,8 @@ use Rattle.std.proofs.Common.{◌≡◌, ◌∙◌, ◌≤◌, ◌+◌, ℕ, suc
 use Rattle.std.specs.List.{AllByRecursion, AllZip}
 use Rattle.std.proofs.lemmas.List.Elements.{recursion_from_All}
 use Rattle.crp_plan.specs.Bay.{IsProblem}
+use Rattle.crp_plan.specs.BayNames.{YardBay}
+use Rattle.crp_movins.specs.Loading.{Loading}
 use Rattle.crp_sizes.specs.Sizes.{YardSizes, heights_at}
 use Rattle.crp_yard.specs.Inventory.{StackedBay, FitBay}
 use Rattle.crp_yard.specs.Naming.{IsNamedBay}
@@ -10,7 +12,7 @@ use Rattle.crp_yard.specs.Ranks.{named}
 use Rattle.crp_yard.specs.Reading.{IsYardListOf}
 use Rattle.crp_sizes.proofs.Lists.{each_of}
 use Rattle.crp_order.specs.declared.sequences.Mode.{Mode}
-use Rattle.crp_order.specs.Sequences.{IsSequence}
+use Rattle.crp_order.specs.OfBays.{IsSequenceOf}
 use Rattle.crp_order.specs.BayProblems.{ranked}
 use Rattle.crp_said.specs.declared.moves.SaidMove.{SaidMove}
 use Rattle.crp_said.specs.declared.said.Said.{Said}
@@ -102,15 +104,15 @@ bays_end keep h (b ∷ bays) fit names all =
       ends = λ line. (record { named = refl; start = refl; end = one.ends }, more.ends (suc line + length (moves_at (suc line) one.moves)));
     }
 
-pub headline_followed : KeepsHeights → IsStatedAsWritten → AreRead → (sizes : YardSizes) (code list message : List ℕ) (mode : Mode) (h : Handed) (is : IsHeadline h) → IsYardListOf sizes list h.yard
-    → AreOrders code message h.orders → IsSequence mode h.orders.list h.sequence → IsHeadlineFollowed h is
-headline_followed keep states read sizes code list message mode h is list-is orders sequence =
+pub headline_followed : KeepsHeights → IsStatedAsWritten → AreRead → (sizes : YardSizes) (loading : Loading) (names : List YardBay) (list message : List ℕ) (mode : Mode) (h : Handed) (is : IsHeadline h) → IsYardListOf sizes list h.yard
+    → AreOrders loading message h.orders → IsSequenceOf mode names h.yard h.orders.list h.sequence → IsHeadlineFollowed h is
+headline_followed keep states read sizes loading names list message mode h is list-is orders sequence =
     let listed = yard_listed sizes list h.yard list-is in
     let many = listed.few in
-    let small = numbers_small mode code message h.yard h.orders h.sequence orders sequence in
+    let small = numbers_small mode names loading message h.yard h.orders h.sequence orders sequence in
     let spells = read h is listed.bay_names (omega (arith, many)) small in
     let can = spells.0 in
-    let few = few_sequenced mode orders.segments code h.orders h.sequence orders.faultless orders.orders_are sequence in
+    let few = few_sequenced mode names orders.segments loading h.yard h.orders h.sequence orders.faultless orders.orders_are sequence in
     let calls = map (λ (b : Reported). b.bay) is.bays in
     let fit = on_called (λ (bay : StackedBay). FitBay (heights_at h.yard.sizes bay.0) bay.1) h.yard h.sequence calls is.called (each_of (λ (bay : StackedBay). FitBay (heights_at h.yard.sizes bay.0) bay.1) h.yard.bays listed.fit) in
     let names = on_called (λ (bay : StackedBay). AreNamed bay.1) h.yard h.sequence calls is.called listed.names in

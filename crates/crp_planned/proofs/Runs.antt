@@ -213,7 +213,7 @@ run_followed keep states chosen seen m is =
     let small = small_numbers chosen seen m is in
     let listed = yard_listed chosen.input.sizes m.list yard is.listed in
     let ordered = is.ordered in
-    let few = few_sequenced chosen.input.mode ordered.segments chosen.input.code m.orders m.sequence ordered.faultless ordered.orders_are is.in_sequence in
+    let few = few_sequenced chosen.input.mode chosen.input.bays ordered.segments chosen.input.loading m.yard m.orders m.sequence ordered.faultless ordered.orders_are is.in_sequence in
     let (after, left, text) = is.yard_after in
     let known = all_known yard called
     (on_called (λ (bay : StackedBay). FitBay (heights_at yard.sizes bay.0) bay.1) yard m.sequence called refl (each_of (λ (bay : StackedBay). FitBay (heights_at yard.sizes bay.0) bay.1) yard.bays listed.fit))

@@ -2,11 +2,13 @@
 ghost use Rattle.std.specs.Prelude.{ℕ, List};
 ghost use Rattle.crp_plan.specs.declared.moves.Move.{Move};
 ghost use Rattle.crp_plan.specs.Bay.{Position};
+ghost use Rattle.crp_plan.specs.BayNames.{YardBay};
+ghost use Rattle.crp_movins.specs.Loading.{Loading};
 ghost use Rattle.crp_sizes.specs.Sizes.{YardSizes};
 ghost use Rattle.crp_yard.specs.Ranks.{named};
 ghost use Rattle.crp_yard.specs.Reading.{IsYardListOf};
 ghost use Rattle.crp_order.specs.declared.sequences.Mode.{Mode};
-ghost use Rattle.crp_order.specs.Sequences.{IsSequence};
+ghost use Rattle.crp_order.specs.OfBays.{IsSequenceOf};
 ghost use Rattle.crp_said.specs.declared.moves.SaidMove.{SaidMove};
 ghost use Rattle.crp_follow.specs.declared.fault.FollowFault.{FollowFault};
 ghost use Rattle.crp_follow.specs.Crane.{Leads};
@@ -44,10 +46,10 @@ pub fn runs_are_followed()
 /// that are accepted, the report is followed over the yard to its end, bay by bay, each from what stands in it to what its printed plan
 /// leaves; and no first fault is found in it.
 pub fn headlines_are_followed()
-    ensures followed { (sizes : YardSizes) (code list message : List ℕ) (mode : Mode) (h : Handed) (is : IsHeadline h) → IsYardListOf sizes list h.yard
-        → AreOrders code message h.orders → IsSequence mode h.orders.list h.sequence → IsHeadlineFollowed h is }
-    ensures faultless { (sizes : YardSizes) (code list message : List ℕ) (mode : Mode) (h : Handed) (fault : FollowFault) → IsHeadline h
-        → IsYardListOf sizes list h.yard → AreOrders code message h.orders → IsSequence mode h.orders.list h.sequence
+    ensures followed { (sizes : YardSizes) (loading : Loading) (names : List YardBay) (list message : List ℕ) (mode : Mode) (h : Handed) (is : IsHeadline h) → IsYardListOf sizes list h.yard
+        → AreOrders loading message h.orders → IsSequenceOf mode names h.yard h.orders.list h.sequence → IsHeadlineFollowed h is }
+    ensures faultless { (sizes : YardSizes) (loading : Loading) (names : List YardBay) (list message : List ℕ) (mode : Mode) (h : Handed) (fault : FollowFault) → IsHeadline h
+        → IsYardListOf sizes list h.yard → AreOrders loading message h.orders → IsSequenceOf mode names h.yard h.orders.list h.sequence
         → ¬ IsFirstFault h.yard h.report fault }
 {
     headlines_are_read();

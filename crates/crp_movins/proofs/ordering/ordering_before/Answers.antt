@@ -1,4 +1,4 @@
-use Rattle.std.proofs.Common.{true, false, refl, sym, ◌∙◌, arith, add-one}
+use Rattle.std.proofs.Common.{refl, sym, ◌∙◌, arith, add-one}
 use Rattle.crp_movins.proofs.Least.{faultless-before}
 use Rattle.crp_movins.proofs.ordering.ordering_before.Goals as goal
 use Rattle.crp_movins.proofs.ordering.ordering_before.Goals.{then-orders_this, else-orders_this}

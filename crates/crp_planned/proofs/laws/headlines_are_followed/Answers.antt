@@ -7,7 +7,7 @@ returns-clause-followed c = headline_followed c.stays_within_heights.ensures c.w
 
 pub returns-clause-faultless : goal.returns-clause-faultless
 returns-clause-faultless c =
-    λ sizes code list message mode h fault is listed orders sequence.
+    λ sizes loading names list message mode h fault is listed orders sequence.
     let (bays, followed, ends) =
-    headline_followed c.stays_within_heights.ensures c.written_is_stated.ensures c.headlines_are_read.ensures.spelled sizes code list message mode h is listed orders sequence in
+    headline_followed c.stays_within_heights.ensures c.written_is_stated.ensures c.headlines_are_read.ensures.spelled sizes loading names list message mode h is listed orders sequence in
     c.one_outcome.ensures.apart h.yard h.report (numbers_in h) bays fault followed

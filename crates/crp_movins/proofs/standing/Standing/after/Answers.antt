@@ -16,7 +16,7 @@ returns-in-InterchangeTrailer c =
 pub returns-in-MessageHeader : goal.returns-in-MessageHeader
 returns-in-MessageHeader c =
     let kind = sym c.requires.kind ∙ c.in-MessageHeader.is in
-    rw c.requires.here (after-header c.args.at.now.segments.now c.args.at.now.loading.now c.args.at.now.number kind)
+    rw (c.reads.ensures, c.text.ensures, c.requires.here) (after-header c.args.at.now.segments.now c.args.at.now.loading.now c.args.at.now.number kind)
 
 pub returns-in-MessageTrailer : goal.returns-in-MessageTrailer
 returns-in-MessageTrailer c =
