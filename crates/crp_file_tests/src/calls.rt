@@ -3,7 +3,7 @@ ghost use Rattle.std.specs.Prelude.{◌≤◌};
 
 use crp_cert::{CertFault, Head, Script};
 use crp_checker::{Checker, FileRefused, Refused, Verdict, Verdicts};
-use crp_movins::{MovinsFault, Orders};
+use crp_movins::{Loading, MovinsFault, Orders};
 use crp_plan::{BayName, Plan, Problem, Sink, Source, WriteFault};
 use crp_tree::Cert;
 use crp_yard::{Yard, YardFault};
@@ -112,7 +112,7 @@ pub(crate) fn load_orders(
     segments: &Segments,
     code: &[u8],
 ) -> Result<Orders, MovinsFault> {
-    crp_movins::load_orders(alloc, segments, code)
+    crp_movins::load_orders(alloc, segments, &Loading::new(alloc, code)?)
 }
 
 pub(crate) fn yard_of(alloc: Global, text: &[u8], rows: u8, tiers: u8) -> Result<Yard, YardFault>

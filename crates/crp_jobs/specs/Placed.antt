@@ -43,7 +43,7 @@ segment_named (movins.InterchangeReference n) = Some n
 segment_named (movins.AfterTrailer n) = Some n
 segment_named (movins.MessageType n) = Some n
 segment_named (movins.SlotNumber n) = Some n
-segment_named (movins.OrderedTwice n) = Some n
+segment_named (movins.OrderedTwice n first) = Some n
 segment_named (movins.TooManyOrders n) = Some n
 segment_named movins.Memory = None
 

@@ -40,7 +40,7 @@ pub(crate) fn segment_named(fault: &MovinsFault) -> Option<usize>
         | MovinsFault::AfterTrailer { segment }
         | MovinsFault::MessageType { segment }
         | MovinsFault::SlotNumber { segment }
-        | MovinsFault::OrderedTwice { segment }
+        | MovinsFault::OrderedTwice { segment, .. }
         | MovinsFault::TooManyOrders { segment } => Some(*segment),
         MovinsFault::Memory => None,
     }

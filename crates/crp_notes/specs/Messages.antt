@@ -3,7 +3,8 @@ use Rattle.std.specs.Prelude.{◌≡◌, ℕ, Bool, true, false, ◌||◌, List}
 use Rattle.std.specs.Option.{option_map}
 use Rattle.edi_text.specs.Parts.{SegmentParts, component_of}
 use Rattle.crp_movins.specs.Kinds.{kind_of, is_message_header, is_handling, settles_code, is_slot_group, ends_group, is_equipment}
-use Rattle.crp_movins.specs.Places.{text_at, count_before, is_loading, loading_group}
+use Rattle.crp_movins.specs.Loading.{Loading}
+use Rattle.crp_movins.specs.Places.{text_at, count_before, is_read, is_loading, loading_group}
 use Rattle.crp_notes.specs.declared.message.Says.{Says}
 use Rattle.crp_notes.specs.declared.message.Says.TheVariants.{Begins, Function, Code, Slot, Container, Other}
 use Rattle.crp_notes.specs.declared.standing.Standing.{Standing}
@@ -20,7 +21,7 @@ pub record IsKind (segment : SegmentParts) (header handling slot_group equipment
 
 -- the segment says so
 abbrev pub IsSaid : SegmentParts → Says → Type 0
-IsSaid segment Begins = IsKind segment true false false false
+IsSaid segment (Begins reference) = IsKind segment true false false false × (reference.now ≡ component_of segment 1 1)
 IsSaid segment (Function function) = IsKind segment false false false false
 IsSaid segment (Code code) = IsKind segment false true false false × (code.now ≡ component_of segment 1 1)
 IsSaid segment (Slot slot) = IsKind segment false false true false × (slot.now ≡ component_of segment 2 1)
@@ -28,8 +29,9 @@ IsSaid segment Container = IsKind segment false false false true
 IsSaid segment Other = IsKind segment false false false false
 
 -- what the segments before this one leave in force
-pub record IsStanding (segments : List SegmentParts) (code : List ℕ) (i : ℕ) (standing : Standing) : Type 0 where
+pub record IsStanding (segments : List SegmentParts) (loading : Loading) (i : ℕ) (standing : Standing) : Type 0 where
   pub messages : standing.messages ≡ count_before is_message_header segments i
-  pub loading : standing.is_loading ≡ is_loading segments code i
-  pub group : option_map (λ slot. slot.now) standing.group ≡ option_map (λ j. text_at segments j 2 1) (loading_group segments code i)
+  pub read : standing.is_read ≡ is_read segments loading i
+  pub loading : standing.is_loading ≡ is_loading segments loading i
+  pub group : option_map (λ slot. slot.now) standing.group ≡ option_map (λ j. text_at segments j 2 1) (loading_group segments loading i)
   pub container : standing.has_container ≡ has_container segments i

@@ -6,6 +6,7 @@ use Rattle.std.specs.Option.{option_map}
 use Rattle.std.specs.Str.{bytes_eq}
 use Rattle.edi_text.specs.Parts.{SegmentParts}
 use Rattle.crp_movins.specs.Kinds.{is_message_header, ends_group, is_equipment}
+use Rattle.crp_movins.specs.Loading.{Loading}
 use Rattle.crp_movins.specs.Places.{kind_at, text_at, last_before, count_before, holds_at, opens_loading_group, ordered_group}
 use Rattle.crp_movins.specs.Digits.{seven_digits}
 
@@ -15,23 +16,23 @@ has_container segments i = holds_at (λ j. is_equipment (kind_at segments j)) (l
 
 -- the number of the LOC 147 whose slot an order names here. A LOC 147 under the loading code is an order, with a container or without; each
 -- further container of its group is one more
-abbrev pub named_group : List SegmentParts → List ℕ → ℕ → Option ℕ
-named_group segments code i =
-    if opens_loading_group segments code i then Some i
-    else (if has_container segments i then ordered_group segments code i else None)
+abbrev pub named_group : List SegmentParts → Loading → ℕ → Option ℕ
+named_group segments loading i =
+    if opens_loading_group segments loading i then Some i
+    else (if has_container segments i then ordered_group segments loading i else None)
 
 -- the number of the message, from 1, and the slot in seven digits
-abbrev pub naming_at : List SegmentParts → List ℕ → ℕ → Option (ℕ × List ℕ)
-naming_at segments code i = option_map (λ j. (count_before is_message_header segments i, seven_digits (text_at segments j 2 1))) (named_group segments code i)
+abbrev pub naming_at : List SegmentParts → Loading → ℕ → Option (ℕ × List ℕ)
+naming_at segments loading i = option_map (λ j. (count_before is_message_header segments i, seven_digits (text_at segments j 2 1))) (named_group segments loading i)
 
 -- the slots that orders name before this segment, each with its message
-abbrev pub named_before : List SegmentParts → List ℕ → ℕ → List (ℕ × List ℕ)
-named_before segments code zero = []
-named_before segments code (suc i) = named_before segments code i ++ option_to_list (naming_at segments code i)
+abbrev pub named_before : List SegmentParts → Loading → ℕ → List (ℕ × List ℕ)
+named_before segments loading zero = []
+named_before segments loading (suc i) = named_before segments loading i ++ option_to_list (naming_at segments loading i)
 
 -- the slots that the orders of all segments name
-abbrev pub named_slots : List SegmentParts → List ℕ → List (ℕ × List ℕ)
-named_slots segments code = named_before segments code (length segments + 1)
+abbrev pub named_slots : List SegmentParts → Loading → List (ℕ × List ℕ)
+named_slots segments loading = named_before segments loading (length segments + 1)
 
 -- two orders of one message name one slot
 abbrev pub is_same : ℕ × List ℕ → ℕ × List ℕ → Bool

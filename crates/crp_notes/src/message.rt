@@ -5,6 +5,7 @@ ghost use Rattle.crp_movins.specs.Kinds.{names_slot, names_container};
 ghost use Rattle.crp_movins.specs.Places.{segment_numbered};
 ghost use Rattle.crp_notes.specs.Messages.{IsSaid};
 
+use crp_movins::Loading;
 use edi_text::{Segment, Segments};
 use std::alloc::{AllocError, Global};
 
@@ -68,8 +69,8 @@ pub(crate) fn is_original(function: &[u8]) -> bool {
 /// What a segment says of the message that it stands in.
 #[derive(Clone, Copy, Drop)]
 pub(crate) enum Says<'a> {
-    /// The message begins.
-    Begins,
+    /// The message with this reference begins.
+    Begins(&'a [u8]),
     /// The message has this function.
     Function(&'a [u8]),
     /// This handling code is in force from here on.
@@ -133,7 +134,7 @@ fn said<'a>(segment: &Segment<'a>) -> Says<'a>
 {
     let tag = segment.tag();
     if is_text(tag, b"UNH") {
-        return Says::Begins;
+        return Says::Begins(segment.component(1, 1));
     }
     if is_text(tag, b"BGM") {
         return Says::Function(segment.component(3, 1));
@@ -160,25 +161,17 @@ pub(crate) fn said_by(segments: &Segments, number: usize) -> Says<'_>
     }
 }
 
-/// How many messages have begun, with the segment that says this.
-pub(crate) fn counted(messages: usize, says: &Says<'_>) -> usize
-    requires { messages < 2 ^ 63 }
-    ensures { result ≤ messages + 1 }
-{
-    match says {
-        Says::Begins => messages + 1,
-        Says::Function(_) | Says::Code(_) | Says::Slot(_) | Says::Container | Says::Other =>
-            messages,
-    }
-}
-
-/// How many messages there are.
-pub(crate) fn messages(segments: &Segments) -> usize
+/// How many messages are read.
+pub(crate) fn messages(segments: &Segments, loading: &Loading) -> usize
     ensures { result ≤ length segments.now }
 {
     let mut messages = 0;
     for i in 0..segments.count() {
-        messages = counted(messages, &said_by(segments, i + 1));
+        if let Says::Begins(reference) = said_by(segments, i + 1) {
+            if loading.reads(reference) {
+                messages += 1;
+            }
+        }
     }
     messages
 }

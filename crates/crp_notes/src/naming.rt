@@ -7,6 +7,7 @@ ghost use Rattle.crp_notes.specs.Namings.{named};
 
 use crate::message::said_by;
 use crate::standing::Standing;
+use crp_movins::Loading;
 use edi_text::Segments;
 use std::alloc::{AllocError, Global};
 use std::hash::{Hash, Hasher};
@@ -46,13 +47,13 @@ fn push(
     Ok(())
 }
 
-/// The slots that the orders under a loading code name, by place.
+/// The slots that the orders that are read name, by place.
 pub(crate) fn namings(
     alloc: Global,
     segments: &Segments,
-    code: &[u8],
+    loading: &Loading,
 ) -> Result<Vec<Naming>, AllocError>
-    ensures { IfOk result (λ namings. map named namings.items ≡ named_slots segments.now code.now) }
+    ensures { IfOk result (λ namings. map named namings.items ≡ named_slots segments.now loading.now) }
 {
     let mut namings = Vec::new(alloc);
     let mut standing = Standing::start();
@@ -64,7 +65,7 @@ pub(crate) fn namings(
             standing.messages,
             standing.named(&says),
         )?;
-        standing = standing.after(&says, code);
+        standing = standing.after(&says, loading);
     }
     Ok(namings)
 }

@@ -5,20 +5,22 @@ use crate::bays::bay_note;
 use crate::containers::{absent_names, alike};
 use crate::lines::Lines;
 use crate::message::{
-    MAX_LISTED, Says, counted, handling_codes, is_original, messages, said_by, words_of,
+    MAX_LISTED, Says, handling_codes, is_original, messages, said_by, words_of,
 };
 use crate::naming::namings;
 use crate::progress::{Progress, bay_line};
 use crate::rows::{size_beyond, sizes_of};
 use crate::slots::shared_slots;
+use crate::standing::Standing;
 use crate::terminal::Terminal;
 use crate::wording::{
     absent_note, alike_note, codes_note, function_note, messages_note, no_codes_note, size_note,
     slots_note,
 };
+use crp_movins::Loading;
 use crp_order::{BayProblem, Mode, Sequence};
 use crp_plan::Sink;
-use crp_report::{RunSettings, Watch, show};
+use crp_report::{InputSettings, RunSettings, Watch, show};
 use crp_solve::{Answer, Solved};
 use crp_yard::Yard;
 use edi_text::Segments;
@@ -48,28 +50,40 @@ impl<'a, T: Terminal> Notes<'a, T> {
         }
     }
 
-    // What a message says of its function, where that is no original's.
-    fn function<E: Sink>(&mut self, alloc: Global, message: usize, says: Says<'_>, errors: &mut E)
+    // What a message that is read says of its function, where that is no original's.
+    fn function<E: Sink>(
+        &mut self,
+        alloc: Global,
+        standing: &Standing<'_>,
+        says: Says<'_>,
+        errors: &mut E,
+    )
         ensures { ShowsMore (E.contents errors.old) (E.contents errors.new) }
     {
         let Says::Function(function) = says else {
             return;
         };
-        if !is_original(function) {
-            let note = function_note(alloc, message, function, words_of(function));
+        if standing.is_read && !is_original(function) {
+            let note = function_note(alloc, standing.messages, function, words_of(function));
             self.lines.note(errors, note);
         }
     }
 
-    // Messages that say that they are no original.
-    fn functions<E: Sink>(&mut self, alloc: Global, segments: &Segments, errors: &mut E)
+    // Messages that are read and say that they are no original.
+    fn functions<E: Sink>(
+        &mut self,
+        alloc: Global,
+        segments: &Segments,
+        loading: &Loading,
+        errors: &mut E,
+    )
         ensures { ShowsMore (E.contents errors.old) (E.contents errors.new) }
     {
-        let mut message = 0;
+        let mut standing = Standing::start();
         for i in 0..segments.count() {
             let says = said_by(segments, i + 1);
-            message = counted(message, &says);
-            self.function(alloc, message, says, errors);
+            standing = standing.after(&says, loading);
+            self.function(alloc, &standing, says, errors);
         }
     }
 
@@ -99,20 +113,26 @@ impl<'a, T: Terminal> Notes<'a, T> {
     }
 
     // Several messages whose containers are mixed.
-    fn mixed<E: Sink>(&mut self, alloc: Global, segments: &Segments, mode: Mode, errors: &mut E)
+    fn mixed<E: Sink>(
+        &mut self,
+        alloc: Global,
+        segments: &Segments,
+        settings: &InputSettings,
+        errors: &mut E,
+    )
         ensures { ShowsMore (E.contents errors.old) (E.contents errors.new) }
     {
-        let messages = messages(segments);
-        if mode == Mode::Stowage && messages > 1 {
+        let messages = messages(segments, settings.loading());
+        if settings.mode() == Mode::Stowage && messages > 1 {
             self.lines.note(errors, messages_note(alloc, messages));
         }
     }
 
     // Slots that several orders of one message name.
-    fn slots<E: Sink>(&mut self, alloc: Global, segments: &Segments, code: &[u8], errors: &mut E)
+    fn slots<E: Sink>(&mut self, alloc: Global, segments: &Segments, loading: &Loading, errors: &mut E)
         ensures { ShowsMore (E.contents errors.old) (E.contents errors.new) }
     {
-        let Ok(namings) = namings(alloc, segments, code) else {
+        let Ok(namings) = namings(alloc, segments, loading) else {
             return;
         };
         let Ok((orders, slots)) = shared_slots(alloc, &namings) else {
@@ -221,11 +241,12 @@ impl<'a, T: Terminal + Sync> Watch for Notes<'a, T> {
         settings: &RunSettings,
         errors: &mut E,
     ) {
-        let code = settings.input().code();
-        self.functions(alloc, segments, errors);
-        self.codes(alloc, segments, sequence, code, errors);
-        self.mixed(alloc, segments, settings.input().mode(), errors);
-        self.slots(alloc, segments, code, errors);
+        let input = settings.input();
+        let loading = input.loading();
+        self.functions(alloc, segments, loading, errors);
+        self.codes(alloc, segments, sequence, loading.code(), errors);
+        self.mixed(alloc, segments, input, errors);
+        self.slots(alloc, segments, loading, errors);
         self.absent(alloc, yard, sequence, errors);
         self.beyond(alloc, yard, errors);
     }

@@ -45,7 +45,7 @@ fn code_of(fault: MovinsFault) -> (usize, usize) {
         MovinsFault::AfterTrailer { segment } => (9, segment),
         MovinsFault::MessageType { segment } => (10, segment),
         MovinsFault::SlotNumber { segment } => (11, segment),
-        MovinsFault::OrderedTwice { segment } => (12, segment),
+        MovinsFault::OrderedTwice { segment, .. } => (12, segment),
         MovinsFault::TooManyOrders { segment } => (13, segment),
         MovinsFault::Memory => (0, 0),
     }

@@ -8,6 +8,6 @@ use Rattle.crp_notes.proofs.naming.namings.Given as goal
 abbrev pub invariant-loop-i : goal.invariant-loop-i
 invariant-loop-i l = record {
   few : l.standing.messages ≤ l.i;
-  stands : IsStanding l.segments l.code (l.i + 1) l.standing;
-  named : map named l.namings.items ≡ named_before l.segments l.code (l.i + 1);
+  stands : IsStanding l.segments l.loading (l.i + 1) l.standing;
+  named : map named l.namings.items ≡ named_before l.segments l.loading (l.i + 1);
 }

@@ -4,4 +4,4 @@ use Rattle.crp_report.specs.Watching.{ShowsMore}
 use Rattle.crp_notes.proofs.notes.Notes.functions.Given as goal
 
 abbrev pub invariant-loop-i : goal.invariant-loop-i
-invariant-loop-i g l = (l.message ≤ l.i) × ShowsMore (g.E.Sink.contents l.initial.errors) (g.E.Sink.contents l.errors)
+invariant-loop-i g l = (l.standing.messages ≤ l.i) × ShowsMore (g.E.Sink.contents l.initial.errors) (g.E.Sink.contents l.errors)

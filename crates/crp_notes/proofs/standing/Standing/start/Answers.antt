@@ -5,4 +5,4 @@ use Rattle.crp_notes.proofs.standing.Standing.start.Goals as goal
 
 pub returns : goal.returns
 unfolding kind_at kind_of
-returns c segments code = record { messages = refl; loading = refl; group = refl; container = refl }
+returns c segments loading = record { messages = refl; read = refl; loading = refl; group = refl; container = refl }
