@@ -1,4 +1,4 @@
--- What the commands `audit` and `follow` say of lists of bytes.
+-- What the commands `absent`, `audit` and `follow` say of lists of bytes.
 use Rattle.std.proofs.Common.{◌≡◌, ◌≢◌, ◌≤◌, ◌∙◌, ℕ, List, [], length, Some, None, Option, Result, Ok, Err, refl, subst, sym}
 use Rattle.std.specs.Prelude.{MatchResult, OnOk, IsTrue, is_some}
 use Rattle.std.specs.Io.KnownBytes.{Appends}
@@ -20,6 +20,8 @@ use Rattle.crp_audit.specs.Faults.{IsAuditRefusal, IsFirstFault}
 use Rattle.crp_audit.specs.Headline.{Reported, numbers_in, Handed, handed, IsHeadline, shown_in}
 use Rattle.crp_jobs.specs.declared.outcome.ToolFault.{ToolFault}
 use Rattle.crp_jobs.specs.declared.outcome.ToolFault.TheVariants as fault
+use Rattle.crp_order.specs.Absences.{absent_text}
+use Rattle.crp_commands.specs.Absent.{AbsentSeen, Lists}
 use Rattle.crp_commands.specs.Audit.{AuditSeen, Audits, AuditFailsWith, IsInputOf, audit_text}
 use Rattle.crp_commands.specs.Follow.{FollowChosen, FollowSeen, Follows, IsFollowInput, Ship, WritesTexts, WritesWhole, made_for}
 use Rattle.crp_callers.specs.CommandReports.{AreInput, HoldsOfTexts, IsFollowedWhole, IsWhole}
@@ -43,14 +45,7 @@ got s bytes text filled gets =
     let behind = subst (λ (o : Option (List ℕ)). Appends o s.holds text) filled.held gets in
     subst (λ (o : Option (List ℕ)). Appends (Some []) o text) filled.holds behind
 
--- ---- `audit`
-
--- the four texts that an audit had
-pub record AreAudited (s : AuditSeen) (list message report certificates : List ℕ) : Type 0 where
-  pub list_given : s.yard.given ≡ Some list
-  pub message_given : s.movins.given ≡ Some message
-  pub report_given : s.report.given ≡ Some report
-  pub certificates_given : s.certificates.given ≡ Some certificates
+-- ---- what a yard list and a message say
 
 input_is : (chosen : InputChosen) (listing messages : SourceSeen) (list message : List ℕ) (yard : Inventory) (orders : LoadOrders) (sequence : List (List ℕ))
     → listing.given ≡ Some list → messages.given ≡ Some message → IsInputOf chosen listing messages yard orders sequence → AreInput chosen list message yard orders sequence
@@ -59,6 +54,24 @@ input_is chosen listing messages list message yard orders sequence e f is = reco
   ordered = subst (λ (t : List ℕ). AreOrders chosen.loading t orders) (given_is messages.given message is.message f is.given_message) is.ordered;
   in_sequence = is.in_sequence;
 }
+
+-- ---- `absent`
+
+pub absent_listed : (chosen : InputChosen) (s : AbsentSeen) (list message text : List ℕ) → s.yard.given ≡ Some list → s.movins.given ≡ Some message → IsFilled s.out text
+    → Lists chosen s → (yard : Inventory) × (orders : LoadOrders) × IsYardListOf chosen.sizes list yard × AreOrders chosen.code message orders
+    × (text ≡ absent_text yard orders.list)
+absent_listed chosen s list message text e f filled (said, (yard, orders, sequence, input, is), gets) =
+    let are = input_is chosen s.yard s.movins list message yard orders sequence e f input in
+    (yard, orders, are.listed, are.ordered, got s.out text said filled gets ∙ is)
+
+-- ---- `audit`
+
+-- the four texts that an audit had
+pub record AreAudited (s : AuditSeen) (list message report certificates : List ℕ) : Type 0 where
+  pub list_given : s.yard.given ≡ Some list
+  pub message_given : s.movins.given ≡ Some message
+  pub report_given : s.report.given ≡ Some report
+  pub certificates_given : s.certificates.given ≡ Some certificates
 
 -- what holds of what is handed in holds of it with these names for its texts
 handed_at : (P : Handed → Type 0) (h : Handed) (report certificates : List ℕ) → h.report ≡ report → h.certificates ≡ certificates → P h

@@ -10,7 +10,12 @@ ghost use Rattle.crp_audit.specs.declared.fault.AuditFault.{AuditFault};
 ghost use Rattle.crp_audit.specs.Faults.{IsAuditRefusal};
 ghost use Rattle.crp_audit.specs.Headline.{IsHeadline, numbers_in, shown_in};
 ghost use Rattle.crp_said.specs.Spelled.{most, AreSmall};
+ghost use Rattle.crp_yard.specs.Inventory.{Inventory};
 ghost use Rattle.crp_yard.specs.Naming.{IsNamedBay};
+ghost use Rattle.crp_yard.specs.Reading.{IsYardListOf};
+ghost use Rattle.crp_movins.specs.LoadOrders.{LoadOrders};
+ghost use Rattle.crp_order.specs.Absences.{absent_text};
+ghost use Rattle.crp_report.specs.Runs.{AreOrders};
 ghost use Rattle.std.specs.List.{AllByRecursion};
 ghost use Rattle.crp_commands.specs.Audit.{audit_text};
 ghost use Rattle.crp_commands.specs.Check.{verdict_lines};
@@ -18,7 +23,7 @@ ghost use Rattle.crp_callers.specs.CommandReports.{EndsWithBound, HoldsOfTexts, 
 
 use crp_audit::headlines_have_no_fault;
 use crp_commands::{
-    FollowSettings, Listed, TextFiles, audit, bound, check, follow, perform, replay,
+    FollowSettings, Listed, TextFiles, absent, audit, bound, check, follow, perform, replay,
 };
 use crp_jobs::{FileCommand, ToolFault};
 use crp_plan::{Nowhere, Received};
@@ -80,6 +85,24 @@ pub fn checked(
 {
     let mut source = certificates;
     check(alloc, &mut source, lines, notes, false)
+}
+
+/// The list of a yard list and a message has a record for each ordered container that is not in the yard, and no other, whatever the order
+/// of leaving is.
+pub fn listed_absent(
+    alloc: Global,
+    list: &[u8],
+    message: &[u8],
+    settings: &InputSettings,
+) -> Result<Vec<u8>, ToolFault>
+    ensures { IfOk result (λ text. (yard : Inventory) × (orders : LoadOrders) × IsYardListOf settings.now.sizes list.now yard
+        × AreOrders settings.now.code message.now orders × (text.items ≡ absent_text yard orders.list)) }
+{
+    let mut yard_from = list;
+    let mut orders_from = message;
+    let mut out = Received::new(alloc);
+    absent(alloc, &mut yard_from, &mut orders_from, settings, &mut out)?;
+    Ok(out.bytes)
 }
 
 /// An audit over texts ends well where they are a headline, and then its text is written; where it refuses them, they have that first fault,

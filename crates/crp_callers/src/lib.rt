@@ -87,6 +87,7 @@ pub use claims::whole_trees_bound;
 pub use commands::audited;
 pub use commands::checked;
 pub use commands::followed;
+pub use commands::listed_absent;
 pub use commands::performed;
 pub use commands::replayed;
 pub use files::front_of_run;

@@ -110,6 +110,7 @@ no_room files list sized is =
 -- where nothing is written, nothing is noted
 pub unnoted_job : (j : Job) (held : Option (List ℕ)) (failures : ℕ) → IsNoted j (record { held = held; holds = held; before = failures; after = failures })
 unnoted_job (job.OneFile file command) held failures = unnoted_in command held failures
+unnoted_job (job.Absent names settings) held failures = (Keeps-refl held, refl)
 unnoted_job (job.Audit names settings) held failures = (Keeps-refl held, refl)
 unnoted_job (job.Follow names settings) held failures = unnoted (not (is_some names.movins)) held failures
 unnoted_job (job.Solve names settings quiet progress) held failures = unnoted quiet held failures
@@ -117,6 +118,7 @@ unnoted_job (job.Solve names settings quiet progress) held failures = unnoted qu
 -- notes are of the job, whatever its sizes
 pub noted_sized : (j : Job) (sized : YardSizes) (s : SinkSeen) → IsNoted (with_sizes sized j) s → IsNoted j s
 noted_sized (job.OneFile file command) sized s is = is
+noted_sized (job.Absent names settings) sized s is = is
 noted_sized (job.Audit names settings) sized s is = is
 noted_sized (job.Follow names settings) sized s is = is
 noted_sized (job.Solve names settings quiet progress) sized s is = is

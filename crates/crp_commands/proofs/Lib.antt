@@ -2,6 +2,7 @@
 pub mod Replayed
 pub mod Checked
 pub mod Audited
+pub mod ListedAbsent
 pub mod Traced
 pub mod Performed
 pub mod Finished

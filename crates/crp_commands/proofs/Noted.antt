@@ -85,6 +85,7 @@ noted_by_alone false a b c m n o (text, first) (next, more) = (text, shows_kept 
 -- the notes of a job, and nothing more
 pub noted_alone : (j : Job) (a b c : Option (List ℕ)) (m n o : ℕ) → IsNoted j (seen_from a b m n) → IsLeftAlone (seen_from b c n o) → IsNoted j (seen_from a c m o)
 noted_alone (job.OneFile file command) a b c m n o first next = noted_in_alone command a b c m n o first next
+noted_alone (job.Absent names settings) a b c m n o first next = alone_then a b c m n o first next
 noted_alone (job.Audit names settings) a b c m n o first next = alone_then a b c m n o first next
 noted_alone (job.Follow names settings) a b c m n o first next = noted_by_alone (not (is_some names.movins)) a b c m n o first next
 noted_alone (job.Solve names settings quiet progress) a b c m n o first next = noted_by_alone quiet a b c m n o first next

@@ -5,6 +5,7 @@ pub mod Bound
 pub mod Prove
 pub mod Check
 pub mod Audit
+pub mod Absent
 pub mod Follow
 pub mod Checks
 pub mod Solving

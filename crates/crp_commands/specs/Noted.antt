@@ -41,9 +41,10 @@ IsNotedIn command.Replay s = IsLeftAlone s
 IsNotedIn (command.Bound chains) s = IsLeftAlone s
 IsNotedIn (command.Prove search) s = IsLeftAlone s
 
--- an audit leaves it alone, and so does what follows a report without a message
+-- a list of absent containers and an audit leave it alone, and so does what follows a report without a message
 abbrev pub IsNoted : Job → SinkSeen → Type 0
 IsNoted (job.OneFile file command) s = IsNotedIn command s
+IsNoted (job.Absent names settings) s = IsLeftAlone s
 IsNoted (job.Audit names settings) s = IsLeftAlone s
 IsNoted (job.Follow names settings) s = IsNotedBy (not (is_some names.movins)) s
 IsNoted (job.Solve names settings quiet progress) s = IsNotedBy quiet s

@@ -12,6 +12,7 @@ use Rattle.crp_jobs.specs.declared.outcome.ToolFault.TheVariants as fault
 use Rattle.crp_report.specs.Runs.{SourceSeen, SinkSeen, source_seen, sink_seen}
 use Rattle.crp_jobs.specs.Opened.{FilesSeen, FilesFail, IsFileOpened, IsOneRefused, AreFilesKept, AreFilesLeftAlone, IsSourceLeftAlone, IsLeftAlone}
 use Rattle.crp_commands.specs.Solving.{RunReportsOverFiles, SolveFailsOverFiles}
+use Rattle.crp_commands.specs.Absent.{AbsentReportsOverFiles, AbsentFailsOverFiles}
 use Rattle.crp_commands.specs.Audit.{AuditReportsOverFiles, AuditFailsOverFiles}
 use Rattle.crp_commands.specs.Follow.{FollowReportsOverFiles, FollowFailsOverFiles}
 use Rattle.crp_commands.specs.Calls.{CallSeen, call_failures, most_call_failures, IsTextWithin, WritesReport, CallFailsWith}
@@ -111,6 +112,7 @@ FileFailsWith name c seen f =
 -- the job was done
 abbrev pub ReportsOverFiles : Job → JobSeen → Status → Type 0
 ReportsOverFiles (job.OneFile file c) seen ended = ReportsFile file.now c seen ended
+ReportsOverFiles (job.Absent names settings) seen ended = IsSourceLeftAlone seen.input × AbsentReportsOverFiles names settings seen.files seen.out ended
 ReportsOverFiles (job.Audit names settings) seen ended = IsSourceLeftAlone seen.input × AuditReportsOverFiles names settings seen.files seen.out ended
 ReportsOverFiles (job.Follow names settings) seen ended = FollowReportsOverFiles names settings seen.files seen.input seen.out ended
 ReportsOverFiles (job.Solve names settings quiet progress) seen ended = IsSourceLeftAlone seen.input × RunReportsOverFiles names settings seen.files seen.out ended
@@ -118,6 +120,7 @@ ReportsOverFiles (job.Solve names settings quiet progress) seen ended = IsSource
 -- what a fault says of the job
 abbrev pub FailsOverFiles : Job → JobSeen → ToolFault → Type 0
 FailsOverFiles (job.OneFile file c) seen f = FileFailsWith file.now c seen f
+FailsOverFiles (job.Absent names settings) seen f = IsSourceLeftAlone seen.input × AbsentFailsOverFiles names settings seen.files seen.out f
 FailsOverFiles (job.Audit names settings) seen f = IsSourceLeftAlone seen.input × AuditFailsOverFiles names settings seen.files seen.out f
 FailsOverFiles (job.Follow names settings) seen f = FollowFailsOverFiles names settings seen.files seen.input seen.out f
 FailsOverFiles (job.Solve names settings quiet progress) seen f = IsSourceLeftAlone seen.input × SolveFailsOverFiles names settings seen.files seen.out f

@@ -1,11 +1,13 @@
 //! The commands of the program, over any source and sink and over files.
 //!
-//! `replay`, `bound`, `check` and `prove` go from the bytes of a file of certificates to a report, `audit` from those of a yard list, a
-//! message, a report and certificates to what is shown of them, `follow` from those of a yard list and a report, and of a message where
+//! `replay`, `bound`, `check` and `prove` go from the bytes of a file of certificates to a report, `absent` from those of a yard list and a
+//! message to the list of what is ordered and not in the yard, `audit` from those of a yard list, a message, a report and certificates to
+//! what is shown of them, `follow` from those of a yard list and a report, and of a message where
 //! there is one, to the table of its moves, and to their page; `perform` does one of them over a file's bytes, and `run_job` any job
 //! over its files. What each writes is said in the file of `specs/` of its name, what a job does in `specs/Performing.antt`.
 #![tactic(auto)]
 
+mod absences;
 mod auditing;
 mod bounding;
 mod chain_line;
@@ -14,6 +16,7 @@ mod finishing;
 mod following;
 mod heads;
 mod noting;
+mod over_absent_files;
 mod over_audit_files;
 mod over_files;
 mod over_follow_files;
@@ -23,6 +26,7 @@ mod proving;
 mod replaying;
 mod streams;
 
+pub use absences::absent;
 pub use auditing::{MOST_REPORT, audit};
 pub use bounding::bound;
 pub use checking::check;

@@ -10,6 +10,7 @@ ghost use Rattle.crp_commands.specs.Noted.{IsNoted, IsNotedIn};
 ghost use Rattle.crp_commands.specs.Performing.{JobSeen, job_seen, ReportsFile, FileFailsWith, ReportsOverFiles, FailsOverFiles};
 ghost use Rattle.crp_commands.specs.Sized.{IsNoList, IsDone, IsFailed};
 
+use crate::over_absent_files::absent_files;
 use crate::over_audit_files::audit_files;
 use crate::over_follow_files::follow_files;
 use crate::over_yard_files::{RunAsked, Watcher, solve};
@@ -81,6 +82,10 @@ fn do_job<T: Threads + Wait + Sync, F: Files, R: Source, W: Sink, E: Sink, S: Te
         Job::OneFile { file, command } => {
             perform_on(threads, alloc, files, streams, file, command)
         }
+        Job::Absent {
+            files: names,
+            settings,
+        } => absent_files(alloc, files, names, settings, &mut streams.out),
         Job::Audit {
             files: names,
             settings,

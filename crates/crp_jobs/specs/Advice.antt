@@ -9,6 +9,7 @@ use Rattle.crp_report.specs.declared.fault.Fault.TheVariants as run
 use Rattle.crp_jobs.specs.declared.job.Job.{Job}
 use Rattle.crp_jobs.specs.declared.job.Job.TheVariants as job
 use Rattle.crp_jobs.specs.declared.job.RunFiles.{RunFiles}
+use Rattle.crp_jobs.specs.declared.job.AbsentFiles.{AbsentFiles}
 use Rattle.crp_jobs.specs.declared.job.AuditFiles.{AuditFiles}
 use Rattle.crp_jobs.specs.declared.job.FollowFiles.{FollowFiles}
 use Rattle.crp_jobs.specs.declared.outcome.Statement.{Statement}
@@ -99,6 +100,14 @@ failed_in_audit names fault.ReadSizes = option_map (λ name. file_words name.now
 failed_in_audit names fault.Write = Some (codes "look at the standard output")
 failed_in_audit names f = None
 
+-- the same of a list of the absent containers of these files, which goes to the standard output
+abbrev pub failed_in_absent : AbsentFiles → ToolFault → Option (List ℕ)
+failed_in_absent names (fault.Run (run.Read input.Yard)) = Some (file_words names.yard.now)
+failed_in_absent names (fault.Run (run.Read input.Movins)) = Some (file_words names.movins.now)
+failed_in_absent names fault.ReadSizes = option_map (λ name. file_words name.now) names.sizes
+failed_in_absent names fault.Write = Some (codes "look at the standard output")
+failed_in_absent names f = None
+
 -- the same where a report of these files is followed: the page and the yard after, if they are wanted, go to their files, and the table to the standard output
 abbrev pub failed_in_follow : FollowFiles → ToolFault → Option (List ℕ)
 failed_in_follow names (fault.Run (run.Read input.Yard)) = Some (file_words names.yard.now)
@@ -113,6 +122,7 @@ failed_in_follow names f = None
 -- what the job could not read or write, or which of its files are one, in words, where the fault is of that kind
 abbrev pub failed_words : Job → ToolFault → Option (List ℕ)
 failed_words (job.OneFile file command) f = failed_in_file file.now f
+failed_words (job.Absent names settings) f = failed_in_absent names f
 failed_words (job.Audit names settings) f = failed_in_audit names f
 failed_words (job.Follow names settings) (fault.OneFile s) = shared_words (named_in_follow names) s
 failed_words (job.Follow names settings) f = failed_in_follow names f

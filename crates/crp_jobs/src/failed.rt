@@ -1,8 +1,8 @@
 //! Where a read or a write of a job failed, the file by its name or the standard input or output; and which of its files are one.
 ghost use Rattle.std.specs.Prelude.{◌≡◌, Some, option_map};
-ghost use Rattle.crp_jobs.specs.Advice.{failed_in_audit, failed_in_file, failed_in_follow, failed_in_run, failed_words, place_words, shared_words, source_words, stream_words};
+ghost use Rattle.crp_jobs.specs.Advice.{failed_in_absent, failed_in_audit, failed_in_file, failed_in_follow, failed_in_run, failed_words, place_words, shared_words, source_words, stream_words};
 
-use crate::job::{AuditFiles, FollowFiles, Job, RunFiles};
+use crate::job::{AbsentFiles, AuditFiles, FollowFiles, Job, RunFiles};
 use crate::names::after_name;
 use crate::outcome::{Statement, ToolFault};
 use crp_files::{JobNames, Role, Shared};
@@ -131,6 +131,19 @@ fn place_in_audit<'a>(names: &AuditFiles<'a>, fault: &ToolFault) -> Option<Place
     }
 }
 
+// What a list of the absent containers of these files could not read or write.
+fn place_in_absent<'a>(names: &AbsentFiles<'a>, fault: &ToolFault) -> Option<Place<'a>>
+    ensures { option_map place_words result ≡ failed_in_absent names.now fault.now }
+{
+    match fault {
+        ToolFault::Run(Fault::Read(Input::Yard)) => Some(Place::File(names.yard)),
+        ToolFault::Run(Fault::Read(Input::Movins)) => Some(Place::File(names.movins)),
+        ToolFault::ReadSizes => names.sizes.map(Place::File),
+        ToolFault::Write => Some(Place::StandardOutput),
+        _ => None,
+    }
+}
+
 // What could not be read or written where these files are followed.
 fn place_in_follow<'a>(names: &FollowFiles<'a>, fault: &ToolFault) -> Option<Place<'a>>
     ensures { option_map place_words result ≡ failed_in_follow names.now fault.now }
@@ -154,6 +167,7 @@ pub fn place_of<'a>(job: &'a Job<'_>, fault: &ToolFault) -> Option<Place<'a>>
 {
     match job {
         Job::OneFile { file, .. } => place_in_file(file, fault),
+        Job::Absent { files, .. } => place_in_absent(files, fault),
         Job::Audit { files, .. } => place_in_audit(files, fault),
         Job::Follow { files, .. } => match fault {
             ToolFault::OneFile(shared) => place_shared(files, shared),

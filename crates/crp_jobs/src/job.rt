@@ -57,6 +57,17 @@ pub struct AuditFiles<'a> {
     pub certificates: &'a str,
 }
 
+/// The files of a list of absent containers, by their names.
+#[derive(Clone, Copy)]
+pub struct AbsentFiles<'a> {
+    /// The yard list.
+    pub yard: &'a str,
+    /// The list of sizes, if bays have others than the common one.
+    pub sizes: Option<&'a str>,
+    /// The message.
+    pub movins: &'a str,
+}
+
 /// What gets the yard as the moves of a report leave it.
 #[derive(Clone, Copy)]
 pub struct AfterFile<'a> {
@@ -93,6 +104,13 @@ pub enum Job<'a> {
         /// What is done with its bytes.
         command: FileCommand,
     },
+    /// To list the ordered containers of a message that are not in the yard.
+    Absent {
+        /// The files of the list.
+        files: AbsentFiles<'a>,
+        /// What the yard list and the message mean.
+        settings: InputSettings,
+    },
     /// To audit a report and its certificates against a yard list and a message.
     Audit {
         /// The files of the audit.
@@ -127,6 +145,7 @@ impl<'a> Job<'a> {
     {
         match self {
             Job::OneFile { .. } => None,
+            Job::Absent { files, settings } => Some((files.sizes?, settings)),
             Job::Audit { files, settings } => Some((files.sizes?, settings)),
             Job::Follow { files, settings } => Some((files.sizes?, settings)),
             Job::Solve {
@@ -145,6 +164,10 @@ impl<'a> Job<'a> {
             Job::OneFile { file, command } => Job::OneFile {
                 file: *file,
                 command: *command,
+            },
+            Job::Absent { files, settings } => Job::Absent {
+                files: *files,
+                settings: settings.sized(alloc, sizes)?,
             },
             Job::Audit { files, settings } => Job::Audit {
                 files: *files,

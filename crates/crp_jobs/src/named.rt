@@ -52,6 +52,7 @@ pub(crate) fn yard_named<'a>(job: &Job<'a>) -> Option<&'a str>
 {
     match job {
         Job::Solve { files, .. } => Some(files.yard),
+        Job::Absent { files, .. } => Some(files.yard),
         Job::Audit { files, .. } => Some(files.yard),
         Job::Follow { files, .. } => Some(files.yard),
         Job::OneFile { .. } => None,
@@ -64,6 +65,7 @@ pub(crate) fn sizes_named<'a>(job: &Job<'a>) -> Option<&'a str>
 {
     match job {
         Job::Solve { files, .. } => files.sizes,
+        Job::Absent { files, .. } => files.sizes,
         Job::Audit { files, .. } => files.sizes,
         Job::Follow { files, .. } => files.sizes,
         Job::OneFile { .. } => None,
@@ -76,6 +78,7 @@ pub(crate) fn sizes_of<'a>(job: &'a Job<'_>) -> Option<&'a Sizes>
 {
     match job {
         Job::Solve { settings, .. } => Some(settings.input().sizes()),
+        Job::Absent { settings, .. } => Some(settings.sizes()),
         Job::Audit { settings, .. } => Some(settings.sizes()),
         Job::Follow { settings, .. } => Some(settings.sizes()),
         Job::OneFile { .. } => None,
@@ -88,6 +91,7 @@ pub(crate) fn message_named<'a>(job: &Job<'a>) -> Option<&'a str>
 {
     match job {
         Job::Solve { files, .. } => Some(files.movins),
+        Job::Absent { files, .. } => Some(files.movins),
         Job::Audit { files, .. } => Some(files.movins),
         Job::Follow { files, .. } => files.movins,
         Job::OneFile { .. } => None,
@@ -108,6 +112,6 @@ pub(crate) fn report_named<'a>(job: &Job<'a>) -> Option<&'a str>
     match job {
         Job::Audit { files, .. } => Some(files.report),
         Job::Follow { files, .. } => report_name(files.report),
-        Job::OneFile { .. } | Job::Solve { .. } => None,
+        Job::OneFile { .. } | Job::Absent { .. } | Job::Solve { .. } => None,
     }
 }

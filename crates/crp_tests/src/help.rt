@@ -15,6 +15,7 @@ fn shows_help(rt: HostRuntime) {
         ["--version", "replay"],
         ["bound", "--help"],
         ["solve", "--help"],
+        ["absent", "--help"],
         ["audit", "--help"],
         ["follow", "--help"],
         ["help", "prove"],

@@ -10,7 +10,7 @@ fn is_wrong(alloc: Global, words: &[&str]) -> bool {
 
 // Words that ask for nothing: a file or a value is missing, or there is one too many; an option is given twice, or is none of its command; a
 // value is no number; heights stand beside rows or tiers.
-const WRONG: [&[&str]; 29] = [
+const WRONG: [&[&str]; 32] = [
     &["replay"],
     &["a", "replay"],
     &["bound", "a", "b"],
@@ -40,6 +40,9 @@ const WRONG: [&[&str]; 29] = [
     &["solve", "a", "b", "--tiers=5", "--heights=3.1.3"],
     &["solve", "a", "b", "--heights=9", "--rows=0"],
     &["solve", "a", "b", "--heights=3", "--heights=3"],
+    &["absent", "a"],
+    &["absent", "a", "b", "--cert=c"],
+    &["absent", "a", "b", "--rows=3", "--heights=3"],
 ];
 
 #[test]

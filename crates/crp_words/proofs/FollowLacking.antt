@@ -18,6 +18,7 @@ follow_asks rows (job.OneFile file command.Replay) asks = absurd (other_name 102
 follow_asks rows (job.OneFile file (command.Bound chains)) asks = absurd (other_name 102 98 _ _ (omega arith) asks.0.0)
 follow_asks rows (job.OneFile file (command.Check any_size)) asks = absurd (other_name 102 99 _ _ (omega arith) asks.0.0)
 follow_asks rows (job.OneFile file (command.Prove search)) asks = absurd (other_name 102 112 _ _ (omega arith) asks.0.0)
+follow_asks rows (job.Absent names settings) asks = absurd (other_name 102 97 _ _ (omega arith) asks.0)
 follow_asks rows (job.Audit names settings) asks = absurd (other_name 102 97 _ _ (omega arith) asks.0)
 follow_asks rows (job.Follow names settings) asks = (asks.1, (settings, asks.3), (names, asks.2))
 follow_asks rows (job.Solve names settings quiet progress) asks = absurd (other_name 102 115 _ _ (omega arith) asks.0)
@@ -27,13 +28,14 @@ follow_fault : (rows : List Row) (f : SettingFault) → IsFault (codes "follow")
 follow_fault rows f (inl (is, first)) = absurd (other_name 102 112 _ _ (omega arith) is)
 follow_fault rows f (inr (inl (is, first))) = absurd (other_name 102 115 _ _ (omega arith) is)
 follow_fault rows f (inr (inr (inl (is, first)))) = absurd (other_name 102 97 _ _ (omega arith) is)
-follow_fault rows f (inr (inr (inr (is, first)))) = first
+follow_fault rows f (inr (inr (inr (inl (is, first))))) = first
+follow_fault rows f (inr (inr (inr (inr (is, first))))) = absurd (other_name 102 97 _ _ (omega arith) is)
 
 -- without an input follow asks for nothing
 pub no_follow : (rows : List Row) (u : Usage) → AreFollowWordsClear rows → Lacks (HasInput rows) (IsInputFault rows) u
     → Lacks (Asks (codes "follow") rows) (IsFault (codes "follow") rows) u
 no_follow rows u clear = lacks_more (HasInput rows) (Asks (codes "follow") rows) (IsInputFault rows) (IsFault (codes "follow") rows) u
-    (λ j asks. (follow_asks rows j asks).1) (λ f first. inr (inr (inr (refl, (clear, first))))) (λ f first. inl (follow_fault rows f first).1)
+    (λ j asks. (follow_asks rows j asks).1) (λ f first. inr (inr (inr (inl (refl, (clear, first)))))) (λ f first. inl (follow_fault rows f first).1)
 
 -- so with one, and without a part of its files
 pub no_part : {X : Type 0} (Has : X → Type 0) (rows : List Row) (s : InputChosen) (u : Usage)

@@ -312,12 +312,17 @@ no_input rows s u search = lacks_more (HasInput rows) (HasSettings rows) (IsInpu
 pub other_name : (a b : ℕ) (m n : Text) → a ≢ b → a ∷ m ≡ b ∷ n → ⊥
 other_name a b m n other same = other (ap (λ (l : Text). slice_index l 0) same)
 
+-- or with the same one, and then with another
+pub other_second : (first a b : ℕ) (m n : Text) → a ≢ b → first ∷ a ∷ m ≡ first ∷ b ∷ n → ⊥
+other_second first a b m n other same = other (ap (λ (l : Text). slice_index l 1) same)
+
 -- what prove asks for has settings of a search
 prove_asks : (rows : List Row) (j : Job) → Asks (codes "prove") rows j → (s : Chosen) × HasSearch rows s
 prove_asks rows (job.OneFile file command.Replay) asks = absurd (other_name 112 114 _ _ (omega arith) asks.0)
 prove_asks rows (job.OneFile file (command.Bound chains)) asks = absurd (other_name 112 98 _ _ (omega arith) asks.0.0)
 prove_asks rows (job.OneFile file (command.Check any_size)) asks = absurd (other_name 112 99 _ _ (omega arith) asks.0.0)
 prove_asks rows (job.OneFile file (command.Prove search)) asks = (search, asks.0.1)
+prove_asks rows (job.Absent names settings) asks = absurd (other_name 112 97 _ _ (omega arith) asks.0)
 prove_asks rows (job.Audit names settings) asks = absurd (other_name 112 97 _ _ (omega arith) asks.0)
 prove_asks rows (job.Follow names settings) asks = absurd (other_name 112 102 _ _ (omega arith) asks.0)
 prove_asks rows (job.Solve names settings quiet progress) asks = absurd (other_name 112 115 _ _ (omega arith) asks.0)
@@ -327,7 +332,8 @@ prove_fault : (rows : List Row) (f : SettingFault) → IsFault (codes "prove") r
 prove_fault rows f (inl (is, first)) = first
 prove_fault rows f (inr (inl (is, first))) = absurd (other_name 112 115 _ _ (omega arith) is)
 prove_fault rows f (inr (inr (inl (is, first)))) = absurd (other_name 112 97 _ _ (omega arith) is)
-prove_fault rows f (inr (inr (inr (is, first)))) = absurd (other_name 112 102 _ _ (omega arith) is)
+prove_fault rows f (inr (inr (inr (inl (is, first))))) = absurd (other_name 112 102 _ _ (omega arith) is)
+prove_fault rows f (inr (inr (inr (inr (is, first))))) = absurd (other_name 112 97 _ _ (omega arith) is)
 
 -- without settings of a search prove asks for nothing
 pub no_prove : (rows : List Row) (u : Usage) → Lacks (HasSearch rows) (IsSearchFault rows) u
@@ -342,6 +348,7 @@ solve_asks rows (job.OneFile file command.Replay) asks = absurd (other_name 115 
 solve_asks rows (job.OneFile file (command.Bound chains)) asks = absurd (other_name 115 98 _ _ (omega arith) asks.0.0)
 solve_asks rows (job.OneFile file (command.Check any_size)) asks = absurd (other_name 115 99 _ _ (omega arith) asks.0.0)
 solve_asks rows (job.OneFile file (command.Prove search)) asks = absurd (other_name 115 112 _ _ (omega arith) asks.0.0)
+solve_asks rows (job.Absent names settings) asks = absurd (other_name 115 97 _ _ (omega arith) asks.0)
 solve_asks rows (job.Audit names settings) asks = absurd (other_name 115 97 _ _ (omega arith) asks.0)
 solve_asks rows (job.Follow names settings) asks = absurd (other_name 115 102 _ _ (omega arith) asks.0)
 solve_asks rows (job.Solve names settings quiet progress) asks = (asks.1, asks.2, (names, asks.3), (settings, asks.4))
@@ -350,7 +357,8 @@ solve_fault : (rows : List Row) (f : SettingFault) → IsFault (codes "solve") r
 solve_fault rows f (inl (is, first)) = absurd (other_name 115 112 _ _ (omega arith) is)
 solve_fault rows f (inr (inl (is, first))) = first
 solve_fault rows f (inr (inr (inl (is, first)))) = absurd (other_name 115 97 _ _ (omega arith) is)
-solve_fault rows f (inr (inr (inr (is, first)))) = absurd (other_name 115 102 _ _ (omega arith) is)
+solve_fault rows f (inr (inr (inr (inl (is, first))))) = absurd (other_name 115 102 _ _ (omega arith) is)
+solve_fault rows f (inr (inr (inr (inr (is, first))))) = absurd (other_name 115 97 _ _ (omega arith) is)
 
 -- without settings solve asks for nothing
 pub no_solve : (rows : List Row) (u : Usage) → ¬ IsSizedTwice rows → ¬ IsNamedTwice rows → Lacks (HasSettings rows) (IsSolveFault rows) u
@@ -414,6 +422,7 @@ audit_asks rows (job.OneFile file command.Replay) asks = absurd (other_name 97 1
 audit_asks rows (job.OneFile file (command.Bound chains)) asks = absurd (other_name 97 98 _ _ (omega arith) asks.0.0)
 audit_asks rows (job.OneFile file (command.Check any_size)) asks = absurd (other_name 97 99 _ _ (omega arith) asks.0.0)
 audit_asks rows (job.OneFile file (command.Prove search)) asks = absurd (other_name 97 112 _ _ (omega arith) asks.0.0)
+audit_asks rows (job.Absent names settings) asks = absurd (other_second 97 117 98 _ _ (omega arith) asks.0)
 audit_asks rows (job.Audit names settings) asks = (asks.1, (settings, asks.3))
 audit_asks rows (job.Follow names settings) asks = absurd (other_name 97 102 _ _ (omega arith) asks.0)
 audit_asks rows (job.Solve names settings quiet progress) asks = absurd (other_name 97 115 _ _ (omega arith) asks.0)
@@ -422,7 +431,8 @@ audit_fault : (rows : List Row) (f : SettingFault) → IsFault (codes "audit") r
 audit_fault rows f (inl (is, first)) = absurd (other_name 97 112 _ _ (omega arith) is)
 audit_fault rows f (inr (inl (is, first))) = absurd (other_name 97 115 _ _ (omega arith) is)
 audit_fault rows f (inr (inr (inl (is, first)))) = first
-audit_fault rows f (inr (inr (inr (is, first)))) = absurd (other_name 97 102 _ _ (omega arith) is)
+audit_fault rows f (inr (inr (inr (inl (is, first))))) = absurd (other_name 97 102 _ _ (omega arith) is)
+audit_fault rows f (inr (inr (inr (inr (is, first))))) = absurd (other_second 97 117 98 _ _ (omega arith) is)
 
 -- without an input audit asks for nothing
 pub no_audit : (rows : List Row) (u : Usage) → ¬ IsSizedTwice rows → Lacks (HasInput rows) (IsInputFault rows) u

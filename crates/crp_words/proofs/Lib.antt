@@ -2,6 +2,7 @@
 pub mod Asking
 pub mod HeightSteps
 pub mod Lacking
+pub mod AbsentLacking
 pub mod FollowLacking
 pub mod CommandLine
 pub mod Ended

@@ -177,6 +177,14 @@ follow_files = command (codes "follow") (file_rule (codes "yard") ∷ file_rule 
 abbrev pub follow : Shape
 follow = with_after (with_page (with_orders (with_size follow_files)))
 
+-- absent YARD MOVINS, without its options
+abbrev pub absent_files : Shape
+absent_files = command (codes "absent") (file_rule (codes "yard") ∷ file_rule (codes "movins") ∷ [])
+
+-- absent, with its options: the size of the bays, and the order of leaving
+abbrev pub absent : Shape
+absent = with_orders (with_size absent_files)
+
 -- crp itself, with a version, and a command that is required
 abbrev pub top_command : Shape
 top_command = record (new_shape (codes "crp")) {
@@ -194,7 +202,7 @@ leaves = record {
 
 -- the command line of crp
 abbrev pub crp : App
-crp = record leaves { subs = leaves.subs ++ prove ∷ solve ∷ audit ∷ follow ∷ [] }
+crp = record leaves { subs = leaves.subs ++ prove ∷ solve ∷ audit ∷ follow ∷ absent ∷ [] }
 
 -- the argument has this rule, at its own command alone
 abbrev pub IsArg : Rule → Arg → Type 0

@@ -16,6 +16,7 @@ use Rattle.crp_jobs.specs.declared.job.FileCommand.{FileCommand}
 use Rattle.crp_jobs.specs.declared.job.FileCommand.TheVariants as command
 use Rattle.crp_jobs.specs.declared.job.Job.{Job}
 use Rattle.crp_jobs.specs.declared.job.Job.TheVariants as job
+use Rattle.crp_jobs.specs.declared.job.AbsentFiles.{AbsentFiles}
 use Rattle.crp_jobs.specs.declared.job.AfterFile.{AfterFile}
 use Rattle.crp_jobs.specs.declared.job.AuditFiles.{AuditFiles}
 use Rattle.crp_jobs.specs.declared.job.FollowFiles.{FollowFiles}
@@ -224,6 +225,10 @@ HasFiles found names = HasText (codes "yard") found names.yard.now × HasText (c
     × (first_of (codes "cert") found ≡ option_map (λ text. text.now) names.cert)
     × (first_of (codes "after") found ≡ option_map (λ text. text.now) names.after) × MayNameSizes found names.sizes
 
+-- the files of absent that were found, and the list of sizes, if there is one
+abbrev pub HasAbsentFiles : List Row → AbsentFiles → Type 0
+HasAbsentFiles found names = HasText (codes "yard") found names.yard.now × HasText (codes "movins") found names.movins.now × MayNameSizes found names.sizes
+
 -- the files of audit that were found, and the list of sizes, if there is one
 abbrev pub HasAuditFiles : List Row → AuditFiles → Type 0
 HasAuditFiles found names = HasText (codes "yard") found names.yard.now × HasText (codes "movins") found names.movins.now
@@ -306,6 +311,8 @@ AsksCommand name found (command.Prove search) = (name ≡ codes "prove") × HasS
 -- the command and its rows ask for this
 abbrev pub Asks : Text → List Row → Job → Type 0
 Asks name found (job.OneFile file c) = AsksCommand name found c × HasText (codes "file") found file.now
+Asks name found (job.Absent names settings) =
+    (name ≡ codes "absent") × ¬ IsSizedTwice found × HasAbsentFiles found names × HasInput found settings
 Asks name found (job.Audit names settings) =
     (name ≡ codes "audit") × ¬ IsSizedTwice found × HasAuditFiles found names × HasInput found settings
 Asks name found (job.Follow names settings) = (name ≡ codes "follow") × AreFollowWordsClear found × HasFollowFiles found names × HasInput found settings
@@ -339,7 +346,8 @@ IsSolveFault found f = IsSearchFault found f ⊎ (((s : Chosen) × HasSearch fou
 abbrev pub IsFault : Text → List Row → SettingFault → Type 0
 IsFault name found f = ((name ≡ codes "prove") × IsSearchFault found f) ⊎ (((name ≡ codes "solve") × (¬ IsSizedTwice found × ¬ IsNamedTwice found × IsSolveFault found f))
     ⊎ (((name ≡ codes "audit") × (¬ IsSizedTwice found × IsInputFault found f))
-    ⊎ ((name ≡ codes "follow") × (AreFollowWordsClear found × IsInputFault found f))))
+    ⊎ (((name ≡ codes "follow") × (AreFollowWordsClear found × IsInputFault found f))
+    ⊎ ((name ≡ codes "absent") × (¬ IsSizedTwice found × IsInputFault found f)))))
 
 -- the command, if there is one, and its rows ask for this
 abbrev pub AsksFor : Option (Text × List Row) → Job → Type 0

@@ -1,7 +1,7 @@
 //! The command line: each command with its files and options.
 ghost use Rattle.std.specs.Prelude.{◌≡◌, IfOk};
 ghost use Rattle.clap.specs.Words.{App, app_of, with_subcommand};
-ghost use Rattle.crp_words.specs.Commands.{IsArg, IsCommand, alone, audit as audit_shape, audit_files as audit_files_shape, crp, file_rule, flag_rule, follow as follow_shape, follow_files as follow_files_shape, leaf as leaf_shape, leaves, more_rule, prove as prove_shape, solve as solve_shape, solve_files as solve_files_shape, top_command as top_shape, with_option};
+ghost use Rattle.crp_words.specs.Commands.{IsArg, IsCommand, absent as absent_shape, absent_files as absent_files_shape, alone, audit as audit_shape, audit_files as audit_files_shape, crp, file_rule, flag_rule, follow as follow_shape, follow_files as follow_files_shape, leaf as leaf_shape, leaves, more_rule, prove as prove_shape, solve as solve_shape, solve_files as solve_files_shape, top_command as top_shape, with_option};
 
 use crate::options::{
     flag, with_after, with_orders, with_outputs, with_page, with_search, with_size,
@@ -89,6 +89,24 @@ fn solve<'a>(alloc: Global) -> Result<Command<'a>, AllocError>
     let ordered = with_orders(alloc, sized)?;
     let searched = with_search(alloc, ordered)?;
     with_outputs(alloc, searched)
+}
+
+// The command `absent`, with its files, and without the options.
+fn absent_files<'a>(alloc: Global) -> Result<Command<'a>, AllocError>
+    ensures { IfOk result (IsCommand absent_files_shape) }
+{
+    Command::new(alloc, "absent")
+        .about("List the ordered containers of a message that are not in the yard (CSV)")
+        .arg(file(alloc, "yard", "YARD", "Yard list (CSV)"))?
+        .arg(file(alloc, "movins", "MOVINS", "Load orders (MOVINS)"))
+}
+
+// The command `absent`.
+fn absent<'a>(alloc: Global) -> Result<Command<'a>, AllocError>
+    ensures { IfOk result (IsCommand absent_shape) }
+{
+    let sized = with_size(alloc, absent_files(alloc)?)?;
+    with_orders(alloc, sized)
 }
 
 // The command `audit`, with its files, and without the options.
@@ -213,5 +231,6 @@ pub fn command_line<'a>(alloc: Global) -> Result<Command<'a>, AllocError>
         .subcommand(prove(alloc)?)?
         .subcommand(solve(alloc)?)?
         .subcommand(audit(alloc)?)?
-        .subcommand(follow(alloc)?)
+        .subcommand(follow(alloc)?)?
+        .subcommand(absent(alloc)?)
 }

@@ -11,7 +11,7 @@ use crate::search_words::search_of;
 use crate::usage::{Mistake, Usage};
 use clap::error::ErrorKind;
 use clap::{ArgMatches, Error};
-use crp_jobs::{AuditFiles, FileCommand, Job, RunFiles};
+use crp_jobs::{AbsentFiles, AuditFiles, FileCommand, Job, RunFiles};
 use crp_report::RunSettings;
 use std::alloc::{AllocError, Global};
 
@@ -30,6 +30,9 @@ const NUMBERS_AND_LOADED: &str =
     "\nA number is whole and has no sign: --rows 1 to 12, --tiers 1 to 8, --loaded 0 to 18446744073709551615.\n";
 
 // The refusals of heights beside rows or tiers.
+static ABSENT_SIZED_TWICE: &str =
+    "error: the argument '--heights <HEIGHTS>' cannot be used with '--rows <N>' or '--tiers <N>'\n\nUsage: crp absent [OPTIONS] <YARD> <MOVINS>\n\nFor more information, try '--help'.\n";
+
 static AUDIT_SIZED_TWICE: &str =
     "error: the argument '--heights <HEIGHTS>' cannot be used with '--rows <N>' or '--tiers <N>'\n\nUsage: crp audit [OPTIONS] <YARD> <MOVINS> <REPORT> <CERTS>\n\nFor more information, try '--help'.\n";
 
@@ -108,6 +111,23 @@ fn solve_of<'a>(alloc: Global, matches: &ArgMatches<'a>) -> Result<Job<'a>, Usag
     })
 }
 
+// What `absent` and its matches ask for.
+fn absent_of<'a>(alloc: Global, matches: &ArgMatches<'a>) -> Result<Job<'a>, Usage>
+    ensures ok { IfOk result (Asks (codes "absent") (rows_of (found_of matches.now))) }
+    ensures err { IfErr result (Lacks (Asks (codes "absent") (rows_of (found_of matches.now))) (IsFault (codes "absent") (rows_of (found_of matches.now)))) }
+{
+    if is_sized_twice(matches) {
+        return Err(wrong(alloc, ABSENT_SIZED_TWICE));
+    }
+    let settings = input_of(alloc, matches)?;
+    let files = AbsentFiles {
+        yard: text_of(alloc, matches, "yard")?,
+        sizes: matches.get_str("sizes"),
+        movins: text_of(alloc, matches, "movins")?,
+    };
+    Ok(Job::Absent { files, settings })
+}
+
 // What `audit` and its matches ask for.
 fn audit_of<'a>(alloc: Global, matches: &ArgMatches<'a>) -> Result<Job<'a>, Usage>
     ensures ok { IfOk result (Asks (codes "audit") (rows_of (found_of matches.now))) }
@@ -129,7 +149,7 @@ fn audit_of<'a>(alloc: Global, matches: &ArgMatches<'a>) -> Result<Job<'a>, Usag
 
 // What a command without numbers and its matches ask for.
 fn leaf_of<'a>(alloc: Global, name: &str, matches: &ArgMatches<'a>) -> Result<Job<'a>, Usage>
-    requires { (name.now ≢ codes "prove") × (name.now ≢ codes "solve") × (name.now ≢ codes "audit") × (name.now ≢ codes "follow") }
+    requires { (name.now ≢ codes "prove") × (name.now ≢ codes "solve") × (name.now ≢ codes "audit") × (name.now ≢ codes "follow") × (name.now ≢ codes "absent") }
     ensures ok { IfOk result (Asks name.now (rows_of (found_of matches.now))) }
     ensures err { IfErr result (Lacks (Asks name.now (rows_of (found_of matches.now))) (IsFault name.now (rows_of (found_of matches.now)))) }
 {
@@ -163,6 +183,9 @@ fn job_of<'a>(alloc: Global, name: &str, matches: &ArgMatches<'a>) -> Result<Job
     }
     if name == "follow" {
         return follow_of(alloc, matches);
+    }
+    if name == "absent" {
+        return absent_of(alloc, matches);
     }
     leaf_of(alloc, name, matches)
 }

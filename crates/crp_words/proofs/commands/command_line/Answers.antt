@@ -1,5 +1,5 @@
 use Rattle.std.proofs.lemmas.Result.{IfOk-weaker}
-use Rattle.crp_words.specs.Commands.{audit, follow, leaves, prove, solve}
+use Rattle.crp_words.specs.Commands.{absent, audit, follow, leaves, prove, solve}
 use Rattle.crp_words.proofs.CommandLine.{more_command}
 use Rattle.crp_words.proofs.commands.command_line.Goals as goal
 
@@ -8,4 +8,5 @@ returns c =
     let with_prove = more_command _ _ _ leaves prove c.in_ok-subcommand.ensures c.in_ok-prove.ensures c.in_ok-with_leaves.ensures in
     let with_solve = more_command _ _ _ _ solve c.in_ok-subcommand-2.ensures c.in_ok-solve.ensures with_prove in
     let with_audit = more_command _ _ _ _ audit c.in_ok-subcommand-3.ensures c.in_ok-audit.ensures with_solve in
-    IfOk-weaker c.subcommand-4.result _ _ (λ new adds. more_command _ _ new _ follow adds c.in_ok-follow.ensures with_audit) c.subcommand-4.ensures
+    let with_follow = more_command _ _ _ _ follow c.in_ok-subcommand-4.ensures c.in_ok-follow.ensures with_audit in
+    IfOk-weaker c.subcommand-5.result _ _ (λ new adds. more_command _ _ new _ absent adds c.in_ok-absent.ensures with_follow) c.subcommand-5.ensures
