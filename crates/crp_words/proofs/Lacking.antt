@@ -5,9 +5,10 @@ use Rattle.std.specs.declared.num.ParseIntError.{ParseIntError}
 use Rattle.clap.specs.Words.{Row, Text, first_of}
 use Rattle.clap.specs.Matches.{ReadsOne}
 use Rattle.crp_solve.specs.Chosen.{Chosen}
-use Rattle.crp_words.specs.Words.{Asks, HasBudget, HasNumber, HasNumberBeyond, HasNumberWithin, FindsSizes, FindsRows, HasInput, HasSearch, HasSettings, HasSplit, HasBeam, HasThin, HasFlags, HasNumberOrStrong, HasOwnNumberBeyond, FindsTiers, HasWorkers, MayFindHeights, IsBudgetBeyond, IsSplitBeyond, IsBeamBeyond, IsThinBeyond, IsLeftToStrong, AreRowsBeyond, AreTiersBeyond, AreHeightsBeyond, AreWorkersBeyond, IsFault, IsInputFault, IsJust, IsSearchFault, IsNamedTwice, IsSizedTwice, IsSolveFault, IsWordsOrMemory, Lacks, MayHaveNumber, NoFault, HasFiles, HasText, ReadsNumber}
+use Rattle.crp_words.specs.Words.{Asks, HasBudget, HasNumber, HasNumberBeyond, HasNumberWithin, FindsSizes, FindsRows, FindsBays, AreBaysBeyond, HasInput, HasSearch, HasSettings, HasSplit, HasBeam, HasThin, HasFlags, HasNumberOrStrong, HasOwnNumberBeyond, FindsTiers, HasWorkers, MayFindHeights, IsBudgetBeyond, IsSplitBeyond, IsBeamBeyond, IsThinBeyond, IsLeftToStrong, AreRowsBeyond, AreTiersBeyond, AreHeightsBeyond, AreWorkersBeyond, IsFault, IsInputFault, IsJust, IsSearchFault, IsNamedTwice, IsSizedTwice, IsSolveFault, IsWordsOrMemory, Lacks, MayHaveNumber, NoFault, HasFiles, HasText, ReadsNumber}
 use Rattle.crp_jobs.specs.declared.job.Job.{Job}
 use Rattle.crp_jobs.specs.declared.job.RunFiles.{RunFiles}
+use Rattle.crp_plan.specs.BayNames.{YardBay}
 use Rattle.crp_sizes.specs.Heights.{IsHeightsText}
 use Rattle.crp_sizes.specs.Sizes.{YardSizes}
 use Rattle.crp_report.specs.Chosen.{InputChosen, RunChosen}
@@ -128,6 +129,13 @@ no_rows_fault rows n has beyond = not_both (codes "rows") 1 12 rows n has beyond
 no_tiers_fault : (rows : List Row) (n : ℕ) → FindsTiers rows n → AreTiersBeyond rows → ⊥
 no_tiers_fault rows n has beyond = not_both (codes "tiers") 1 8 rows n has beyond
 
+no_heights_fault : (rows : List Row) (own : Option (List ℕ)) → MayFindHeights rows own → AreHeightsBeyond rows → ⊥
+no_heights_fault rows None has (text, found, none) = let e : None ≡ Some text = sym has ∙ found in cc
+no_heights_fault rows (Some heights) (text, has, is) (other, found, none) =
+    let e : Some text ≡ Some other = sym has ∙ found in
+    let same : text ≡ other = cc in
+    none heights (subst (IsHeightsText heights) same is)
+
 -- the settings of a search within their limits have no fault
 no_search_fault : (rows : List Row) (s : Chosen) → HasSearch rows s → (f : SettingFault) → IsSearchFault rows f → ⊥
 no_search_fault rows s has setting.Workers beyond = no_workers_fault rows s.workers has.0 beyond
@@ -138,6 +146,7 @@ no_search_fault rows s has setting.Thin first = no_thin_fault rows s.thin has.4 
 no_search_fault rows s has setting.Rows none = none
 no_search_fault rows s has setting.Tiers none = none
 no_search_fault rows s has setting.Heights none = none
+no_search_fault rows s has setting.Bay none = none
 
 -- settings of a search have these numbers, whatever their flags
 pub have_numbers : (rows : List Row) (s : Chosen) (w b t m n : ℕ) → HasWorkers rows w → HasBudget rows b → HasSplit rows t → HasBeam rows m → HasThin rows n → HasFlags rows s
@@ -168,6 +177,7 @@ no_workers rows u = lacks_more (HasWorkers rows) (HasSearch rows) (IsJust settin
     down setting.Rows none = absurd none
     down setting.Tiers none = absurd none
     down setting.Heights none = absurd none
+    down setting.Bay none = absurd none
 
 -- nor are there without a budget within its limit
 pub no_budget : (rows : List Row) (w : ℕ) (u : Usage) → HasWorkers rows w → Lacks (HasBudget rows) (IsJust setting.Budget (IsBudgetBeyond rows)) u
@@ -184,6 +194,7 @@ no_budget rows w u workers = lacks_more (HasBudget rows) (HasSearch rows) (IsJus
     down setting.Rows none = absurd none
     down setting.Tiers none = absurd none
     down setting.Heights none = absurd none
+    down setting.Bay none = absurd none
 
 -- nor without a split within its limit
 pub no_split : (rows : List Row) (w b : ℕ) (u : Usage) → HasWorkers rows w → HasBudget rows b
@@ -200,6 +211,7 @@ no_split rows w b u workers budget = lacks_more (HasSplit rows) (HasSearch rows)
     down setting.Rows none = absurd none
     down setting.Tiers none = absurd none
     down setting.Heights none = absurd none
+    down setting.Bay none = absurd none
 
 -- nor without a beam within its limit
 pub no_beam : (rows : List Row) (w b t : ℕ) (u : Usage) → HasWorkers rows w → HasBudget rows b → HasSplit rows t
@@ -216,6 +228,7 @@ no_beam rows w b t u workers budget split = lacks_more (HasBeam rows) (HasSearch
     down setting.Rows none = absurd none
     down setting.Tiers none = absurd none
     down setting.Heights none = absurd none
+    down setting.Bay none = absurd none
 
 -- nor without thinned branches within their limit
 pub no_thin : (rows : List Row) (w b t m : ℕ) (u : Usage) → HasWorkers rows w → HasBudget rows b → HasSplit rows t → HasBeam rows m
@@ -232,6 +245,7 @@ no_thin rows w b t m u workers budget split beam = lacks_more (HasThin rows) (Ha
     down setting.Rows none = absurd none
     down setting.Tiers none = absurd none
     down setting.Heights none = absurd none
+    down setting.Bay none = absurd none
 
 -- ---- what the input means
 
@@ -249,6 +263,7 @@ no_rows rows u = lacks_more (FindsRows rows) (FindsSizes rows) (IsJust setting.R
     down setting.Rows first = inl (refl, first)
     down setting.Tiers first = inr first.0
     down setting.Heights first = inr first.0
+    down setting.Bay first = inr (first.0.1.rows, first.0.1.finds_rows)
 
 -- nor are there without tiers within their limits
 pub no_tiers : (rows : List Row) (r : ℕ) (u : Usage) → FindsRows rows r → Lacks (FindsTiers rows) (IsJust setting.Tiers (AreTiersBeyond rows)) u
@@ -265,6 +280,7 @@ no_tiers rows r u has_rows = lacks_more (FindsTiers rows) (FindsSizes rows) (IsJ
     down setting.Rows first = absurd (no_rows_fault rows r has_rows first)
     down setting.Tiers first = inl (refl, first.1)
     down setting.Heights first = inr first.1
+    down setting.Bay first = inr (first.0.1.tiers, first.0.1.finds_tiers)
 
 -- nor without heights that can be chosen, where heights are given
 pub no_heights : (rows : List Row) (r t : ℕ) (u : Usage) → FindsRows rows r → FindsTiers rows t
@@ -281,6 +297,42 @@ no_heights rows r t u has_rows has_tiers = lacks_more (MayFindHeights rows) (Fin
     down setting.Rows first = absurd (no_rows_fault rows r has_rows first)
     down setting.Tiers first = absurd (no_tiers_fault rows t has_tiers first.1)
     down setting.Heights first = inl (refl, first.2)
+    down setting.Bay first = inr (first.0.1.own, first.0.1.finds_own)
+
+-- sizes and bays that were found have no fault
+found_faultless : (rows : List Row) (sizes : YardSizes) (bays : List YardBay) → FindsSizes rows sizes → FindsBays rows bays → (f : SettingFault) → IsInputFault rows f → ⊥
+found_faultless rows sizes bays has named setting.Workers none = none
+found_faultless rows sizes bays has named setting.Budget none = none
+found_faultless rows sizes bays has named setting.Split none = none
+found_faultless rows sizes bays has named setting.Beam none = none
+found_faultless rows sizes bays has named setting.Thin none = none
+found_faultless rows sizes bays has named setting.Rows beyond = no_rows_fault rows has.rows has.finds_rows beyond
+found_faultless rows sizes bays has named setting.Tiers first = no_tiers_fault rows has.tiers has.finds_tiers first.1
+found_faultless rows sizes bays has named setting.Heights first = no_heights_fault rows has.own has.finds_own first.2
+found_faultless rows sizes bays has named setting.Bay first = first.1 bays named
+
+-- without bays that are named right there is no input
+pub no_bays : (rows : List Row) (sizes : YardSizes) (u : Usage) → FindsSizes rows sizes → Lacks (FindsBays rows) (IsJust setting.Bay (AreBaysBeyond rows)) u
+    → Lacks (HasInput rows) (IsInputFault rows) u
+no_bays rows sizes u has = lacks_more (FindsBays rows) (HasInput rows) (IsJust setting.Bay (AreBaysBeyond rows)) (IsInputFault rows) u
+    (λ s all. (s.bays, all.1)) (λ f just. subst (IsInputFault rows) (sym just.0) ((sizes, has), just.1)) down
+  where
+    down : (f : SettingFault) → IsInputFault rows f → IsJust setting.Bay (AreBaysBeyond rows) f ⊎ ((bays : List YardBay) × FindsBays rows bays)
+    down setting.Workers none = absurd none
+    down setting.Budget none = absurd none
+    down setting.Split none = absurd none
+    down setting.Beam none = absurd none
+    down setting.Thin none = absurd none
+    down setting.Rows beyond = absurd (no_rows_fault rows has.rows has.finds_rows beyond)
+    down setting.Tiers first = absurd (no_tiers_fault rows has.tiers has.finds_tiers first.1)
+    down setting.Heights first = absurd (no_heights_fault rows has.own has.finds_own first.2)
+    down setting.Bay first = inl (refl, first.1)
+
+-- nor is there without a part that has no fault of its own
+pub no_input_part : {X : Type 0} (Has : X → Type 0) (rows : List Row) (sizes : YardSizes) (bays : List YardBay) (u : Usage) → FindsSizes rows sizes → FindsBays rows bays
+    → ((s : InputChosen) → HasInput rows s → (x : X) × Has x) → Lacks Has NoFault u → Lacks (HasInput rows) (IsInputFault rows) u
+no_input_part Has rows sizes bays u has named part_in = lacks_more Has (HasInput rows) NoFault (IsInputFault rows) u part_in
+    (λ f none. absurd none) (λ f first. absurd (found_faultless rows sizes bays has named f first))
 
 -- without heights of rows there is no input
 pub no_size : (rows : List Row) (u : Usage) → Lacks (FindsSizes rows) (IsInputFault rows) u → Lacks (HasInput rows) (IsInputFault rows) u
@@ -366,26 +418,8 @@ pub no_solve : (rows : List Row) (u : Usage) → ¬ IsSizedTwice rows → ¬ IsN
 no_solve rows u once apart = lacks_more (HasSettings rows) (Asks (codes "solve") rows) (IsSolveFault rows) (IsFault (codes "solve") rows) u
     (λ j asks. (solve_asks rows j asks).3) (λ f first. inr (inl (refl, (once, apart, first)))) (λ f first. inl (solve_fault rows f first).2)
 
--- settings within their limits have no fault
-no_heights_fault : (rows : List Row) (own : Option (List ℕ)) → MayFindHeights rows own → AreHeightsBeyond rows → ⊥
-no_heights_fault rows None has (text, found, none) = let e : None ≡ Some text = sym has ∙ found in cc
-no_heights_fault rows (Some heights) (text, has, is) (other, found, none) =
-    let e : Some text ≡ Some other = sym has ∙ found in
-    let same : text ≡ other = cc in
-    none heights (subst (IsHeightsText heights) same is)
-
-no_size_fault : (rows : List Row) (sizes : YardSizes) → FindsSizes rows sizes → (f : SettingFault) → IsInputFault rows f → ⊥
-no_size_fault rows heights has setting.Workers none = none
-no_size_fault rows heights has setting.Budget none = none
-no_size_fault rows heights has setting.Split none = none
-no_size_fault rows heights has setting.Beam none = none
-no_size_fault rows heights has setting.Thin none = none
-no_size_fault rows heights has setting.Rows beyond = no_rows_fault rows has.rows has.finds_rows beyond
-no_size_fault rows heights has setting.Tiers first = no_tiers_fault rows has.tiers has.finds_tiers first.1
-no_size_fault rows heights has setting.Heights first = no_heights_fault rows has.own has.finds_own first.2
-
 pub no_input_fault : (rows : List Row) (s : InputChosen) → HasInput rows s → (f : SettingFault) → IsInputFault rows f → ⊥
-no_input_fault rows s has = no_size_fault rows s.sizes has.0
+no_input_fault rows s has = found_faultless rows s.sizes s.bays has.0 has.1
 
 no_settings_fault : (rows : List Row) (s : RunChosen) → HasSettings rows s → (f : SettingFault) → IsSolveFault rows f → ⊥
 no_settings_fault rows s has f (inl first) = no_search_fault rows s.search has.0 f first

@@ -1,6 +1,7 @@
 -- Lemmas on words and their refusals.
 pub mod Asking
 pub mod HeightSteps
+pub mod BayTexts
 pub mod Lacking
 pub mod AbsentLacking
 pub mod FollowLacking

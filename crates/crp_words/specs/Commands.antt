@@ -32,6 +32,10 @@ number_rule name default = record (text_rule name default) { parser = Some (vp.U
 abbrev pub optional_rule : Text → Rule
 optional_rule name = record (new_rule name) { long = Some name; value_names = 1 }
 
+-- an option that takes a text, and may be given several times
+abbrev pub repeated_rule : Text → Rule
+repeated_rule name = record (optional_rule name) { action = Some action.Append }
+
 -- an option that takes a whole number below 2^64, and has none where it is not given
 abbrev pub optional_number_rule : Text → Rule
 optional_number_rule name = record (optional_rule name) { parser = Some (vp.Unsigned 0 18446744073709551615) }
@@ -120,9 +124,14 @@ with_rows shape = with_option (number_rule (codes "tiers") (codes "5")) (with_op
 abbrev pub with_size : Shape → Shape
 with_size shape = with_option (optional_rule (codes "sizes")) (with_option (optional_rule (codes "heights")) (with_rows shape))
 
--- a command with [--order listed|stowage] [--code TEXT]
+-- a command with [--order listed|stowage] [--code TEXT] [--message REFERENCE]..
 abbrev pub with_orders : Shape → Shape
-with_orders shape = with_option (text_rule (codes "code") (codes "LOA")) (with_option (text_rule (codes "order") (codes "listed")) shape)
+with_orders shape = with_option (repeated_rule (codes "message"))
+    (with_option (text_rule (codes "code") (codes "LOA")) (with_option (text_rule (codes "order") (codes "listed")) shape))
+
+-- a command with these, and [--bay BAY]..
+abbrev pub with_bays : Shape → Shape
+with_bays shape = with_option (repeated_rule (codes "bay")) (with_orders shape)
 
 -- a command with [--cert FILE] [--after FILE]
 abbrev pub with_files : Shape → Shape
@@ -158,7 +167,7 @@ solve_files = command (codes "solve") (file_rule (codes "yard") ∷ file_rule (c
 
 -- solve YARD MOVINS, with its options: the size of the bays, the order of leaving, the search, and what is written
 abbrev pub solve : Shape
-solve = with_outputs (with_search (with_orders (with_size solve_files)))
+solve = with_outputs (with_search (with_bays (with_size solve_files)))
 
 -- audit YARD MOVINS REPORT CERTS, without its options
 abbrev pub audit_files : Shape
@@ -167,7 +176,7 @@ audit_files = command (codes "audit")
 
 -- audit, with its options: the size of the bays, and the order of leaving
 abbrev pub audit : Shape
-audit = with_orders (with_size audit_files)
+audit = with_bays (with_size audit_files)
 
 -- follow YARD REPORT [MOVINS], without its options
 abbrev pub follow_files : Shape
@@ -175,7 +184,7 @@ follow_files = command (codes "follow") (file_rule (codes "yard") ∷ file_rule 
 
 -- follow, with its options: the size of the bays, the order of leaving, the page, and the yard after
 abbrev pub follow : Shape
-follow = with_after (with_page (with_orders (with_size follow_files)))
+follow = with_after (with_page (with_bays (with_size follow_files)))
 
 -- absent YARD MOVINS, without its options
 abbrev pub absent_files : Shape

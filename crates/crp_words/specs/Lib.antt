@@ -1,4 +1,5 @@
 -- The command line, what its words ask for, and how the program ends.
 pub mod Commands
 pub mod Words
+pub mod Bays
 pub mod Endings

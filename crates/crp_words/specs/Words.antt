@@ -1,15 +1,18 @@
 -- What the words of the command line ask for.
-use Rattle.std.specs.Prelude.{◌≡◌, ℕ, ◌≢◌, ◌↔◌, Bool, IsTrue, ◌⊎◌, ◌==◌, ◌<◌, ◌≤◌, ◌^◌, List, [], ◌∷◌, length, take, drop, if◌then◌else◌, codes, Option, Some, None, option_map, option_and_then, find, replicate, ⊤}
+use Rattle.std.specs.Prelude.{◌≡◌, ℕ, ◌≢◌, ◌↔◌, Bool, IsTrue, ◌⊎◌, ◌==◌, ◌<◌, ◌≤◌, ◌^◌, List, [], ◌∷◌, ◌++◌, length, map, take, drop, if◌then◌else◌, codes, Option, Some, None, option_map, option_and_then, find, replicate, unwrap_or, decimal, ⊤}
+use Rattle.std.specs.List.{AllByRecursion}
 use Rattle.std.specs.Str.{bytes_eq}
 use Rattle.std.specs.Str.Parse.{IsNumeral, digits_value, without_leading_plus}
 use denote.Ref.{Bor}
-use Rattle.clap.specs.Words.{IsAmong, Kinds, Row, Text, fault_of, first_of, one_of, subcommand_of}
+use Rattle.clap.specs.Words.{IsAmong, Kinds, Row, Text, all_of, fault_of, first_of, one_of, subcommand_of}
 use Rattle.clap.specs.declared.parser.matches.ValueSource.{ValueSource}
 use Rattle.clap.specs.declared.parser.matches.ValueSource.TheVariants.{CommandLine}
 use Rattle.clap.specs.declared.error.kind.ErrorKind.{ErrorKind}
 use Rattle.clap.specs.declared.error.kind.ErrorKind.TheVariants as kind
 use Rattle.crp_solve.specs.Chosen.{Chosen}
 use Rattle.crp_words.specs.Commands.{crp}
+use Rattle.crp_plan.specs.BayNames.{YardBay, IsYardBay}
+use Rattle.crp_movins.specs.Loading.{Loading}
 use Rattle.crp_sizes.specs.Heights.{IsHeightsText}
 use Rattle.crp_sizes.specs.Sizes.{YardSizes, one_size}
 use Rattle.crp_jobs.specs.declared.job.FileCommand.{FileCommand}
@@ -207,9 +210,29 @@ pub record FindsSizes (found : List Row) (sizes : YardSizes) : Type 0 where
   pub finds_own : MayFindHeights found own
   pub are : sizes ≡ one_size (heights_or own rows tiers)
 
+-- the texts of an option that may be given several times
+abbrev pub given_texts : Text → List Row → List Text
+given_texts id found = unwrap_or (all_of id found) []
+
+-- a bay as reports name it: its block, a blank, and its number
+abbrev pub bay_name : YardBay → Text
+bay_name bay = bay.block ++ 32 ∷ decimal bay.bay
+
+-- the bays that were found, each by its name
+abbrev pub FindsBays : List Row → List YardBay → Type 0
+FindsBays found bays = AllByRecursion IsYardBay bays × (map bay_name bays ≡ given_texts (codes "bay") found)
+
+-- the texts that were found are not all names of bays
+abbrev pub AreBaysBeyond : List Row → Type 0
+AreBaysBeyond found = (bays : List YardBay) → FindsBays found bays → ⊥
+
+-- what is read of the message, as it was found
+abbrev pub HasLoading : List Row → Loading → Type 0
+HasLoading found s = HasText (codes "code") found s.code × (s.messages ≡ given_texts (codes "message") found)
+
 -- what the input means, as it was found, within its limits
 abbrev pub HasInput : List Row → InputChosen → Type 0
-HasInput found s = FindsSizes found s.sizes × HasOrder found s.mode × HasText (codes "code") found s.code
+HasInput found s = FindsSizes found s.sizes × FindsBays found s.bays × HasOrder found s.mode × HasLoading found s.loading
 
 -- the settings of solve that were found, within their limits
 abbrev pub HasSettings : List Row → RunChosen → Type 0
@@ -271,9 +294,10 @@ IsFollowNamedTwice found = IsOneFile (codes "page") (codes "yard") found
     ⊎ (IsOneFile (codes "after") (codes "yard") found ⊎ (IsOneFile (codes "after") (codes "report") found
     ⊎ (IsOneFile (codes "after") (codes "movins") found ⊎ IsOneFile (codes "after") (codes "page") found)))))
 
--- the order of leaving or the handling code is given, and no message that they are about
+-- what is read of a message, or made of it, is given, and no message that it is about
 abbrev pub IsOrderedAlone : List Row → Type 0
-IsOrderedAlone found = (first_of (codes "movins") found ≡ None) × (IsGivenByWords (codes "order") found ⊎ IsGivenByWords (codes "code") found)
+IsOrderedAlone found = (first_of (codes "movins") found ≡ None) × (IsGivenByWords (codes "order") found ⊎ (IsGivenByWords (codes "code") found
+    ⊎ (IsGivenByWords (codes "message") found ⊎ IsGivenByWords (codes "bay") found)))
 
 -- the containers that the ship has are counted, and the yard after is not wanted, or no message says which they are
 abbrev pub IsLoadedAlone : List Row → Type 0
@@ -295,7 +319,7 @@ MayWriteChains found chains = IsTrue chains ↔ IsGivenByWords (codes "chains") 
 abbrev pub MayBeAnySize : List Row → Bool → Type 0
 MayBeAnySize found any_size = IsTrue any_size ↔ IsGivenByWords (codes "any-size") found
 
--- the size of follow stands there once, an order or a code beside a message, a count beside a message and the yard after, and each file that is written apart
+-- the size of follow stands there once, what a message is read by beside a message, a count beside a message and the yard after, and each file that is written apart
 abbrev pub AreFollowWordsClear : List Row → Type 0
 AreFollowWordsClear found = ¬ IsSizedTwice found × ¬ IsOrderedAlone found × ¬ IsLoadedAlone found × ¬ IsFollowNamedTwice found
 
@@ -330,12 +354,14 @@ IsSearchFault found setting.Thin = ((n : ℕ) × HasWorkers found n) × ((n : �
 IsSearchFault found setting.Rows = ⊥
 IsSearchFault found setting.Tiers = ⊥
 IsSearchFault found setting.Heights = ⊥
+IsSearchFault found setting.Bay = ⊥
 
--- the first setting of the input beyond its limits: the rows, then the tiers, then the heights
+-- the first setting of the input beyond its limits: the rows, then the tiers, then the heights, then the bays
 abbrev pub IsInputFault : List Row → SettingFault → Type 0
 IsInputFault found setting.Rows = AreRowsBeyond found
 IsInputFault found setting.Tiers = ((n : ℕ) × FindsRows found n) × AreTiersBeyond found
 IsInputFault found setting.Heights = ((n : ℕ) × FindsRows found n) × ((n : ℕ) × FindsTiers found n) × AreHeightsBeyond found
+IsInputFault found setting.Bay = ((sizes : YardSizes) × FindsSizes found sizes) × AreBaysBeyond found
 IsInputFault found f = ⊥
 
 -- the first setting of solve beyond its limits: that of the search, then that of the input

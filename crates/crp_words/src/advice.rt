@@ -18,5 +18,8 @@ pub fn advice_on_setting(fault: &SettingFault) -> &'static str
         SettingFault::Heights => {
             "--heights must be one digit from 1 to 8 for each of 1 to 12 rows, joined by points, as 4.5.5.4"
         }
+        SettingFault::Bay => {
+            "--bay must be the name of a bay as reports have it: its block, a blank, and its number, as 'A 1'"
+        }
     }
 }

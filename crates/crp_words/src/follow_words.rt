@@ -14,19 +14,23 @@ use std::alloc::Global;
 static SIZED_TWICE: &str =
     "error: the argument '--heights <HEIGHTS>' cannot be used with '--rows <N>' or '--tiers <N>'\n\nUsage: crp follow [OPTIONS] <YARD> <REPORT> [MOVINS]\n\nFor more information, try '--help'.\n";
 
-// The refusal of an order or a code without a message.
+// The refusal of what is read of a message without one.
 static ORDERED_ALONE: &str =
-    "error: the arguments '--order <ORDER>' and '--code <TEXT>' are about a message: name it behind the report\n\nUsage: crp follow [OPTIONS] <YARD> <REPORT> [MOVINS]\n\nFor more information, try '--help'.\n";
+    "error: the arguments '--order <ORDER>', '--code <TEXT>', '--message <REFERENCE>' and '--bay <BAY>' are about a message: name it behind the report\n\nUsage: crp follow [OPTIONS] <YARD> <REPORT> [MOVINS]\n\nFor more information, try '--help'.\n";
 
 // The refusal of a count of the ship's containers without the yard after, or without a message.
 static LOADED_ALONE: &str =
     "error: the argument '--loaded <N>' needs '--after <FILE>', and a message behind the report\n\nUsage: crp follow [OPTIONS] <YARD> <REPORT> [MOVINS]\n\nFor more information, try '--help'.\n";
 
-// Whether the order of leaving or the handling code is given, and no message.
+// Whether what is read of a message, or made of it, is given, and no message.
 fn is_ordered_alone(matches: &ArgMatches<'_>) -> bool
     ensures { IsTrue result ↔ IsOrderedAlone (rows_of (found_of matches.now)) }
 {
-    is_missing(matches, "movins") && (is_given(matches, "order") || is_given(matches, "code"))
+    is_missing(matches, "movins")
+        && (is_given(matches, "order")
+            || is_given(matches, "code")
+            || is_given(matches, "message")
+            || is_given(matches, "bay"))
 }
 
 // Whether the containers that the ship has are counted, and the yard after is not wanted, or there is no message.

@@ -1,5 +1,6 @@
-//! What a yard list and a message mean, by the words: the heights of the rows, the order of leaving, and the handling code.
-ghost use Rattle.std.specs.Prelude.{◌≡◌, ◌↔◌, IfOk, IfErr, IfSome, IsTrue, option_map};
+//! What a yard list and a message mean, by the words: the heights of the rows, the order of leaving, what is read of the message, and the
+//! bays that a run is for.
+ghost use Rattle.std.specs.Prelude.{◌≡◌, ◌↔◌, [], IfOk, IfErr, IfSome, IsTrue, option_map};
 ghost use Rattle.clap.specs.Words.{found_of, rows_of};
 ghost use Rattle.crp_plan.specs.Faults.{HasTiers};
 ghost use Rattle.crp_sizes.specs.Heights.{CanBeHeights};
@@ -9,6 +10,7 @@ ghost use Rattle.crp_words.specs.declared.usage.SettingFault.TheVariants as sett
 ghost use Rattle.crp_words.specs.declared.usage.Usage.TheVariants as usage;
 ghost use Rattle.crp_words.specs.Words.{AreHeightsBeyond, FindsSizes, FindsRows, FindsTiers, HasInput, HasOrder, IsInputFault, IsJust, IsSizedTwice, Lacks, MayFindHeights, NoFault, heights_or};
 
+use crate::bays::{bays_of, messages_of};
 use crate::given::{is_given, number_within, text_of, wrong};
 use crate::usage::{Mistake, SettingFault, Usage};
 use arrayvec::ArrayVec;
@@ -96,7 +98,12 @@ fn input_with(alloc: Global, size: &Size, order: Mode, code: &str) -> Result<Inp
     requires rows { IsRowCount size.now.rows }
     requires tiers { HasTiers size.now.tiers }
     requires own { IfSome size.now.heights (λ list. CanBeHeights list.items) }
-    ensures ok { IfOk result (λ settings. settings ≡ record { sizes = one_size (heights_or (option_map (λ list. list.items) size.now.heights) size.now.rows size.now.tiers); mode = order; code = code.now }) }
+    ensures ok { IfOk result (λ settings. settings ≡ record {
+      sizes = one_size (heights_or (option_map (λ list. list.items) size.now.heights) size.now.rows size.now.tiers);
+      mode = order;
+      loading = record { code = code.now; messages = [] };
+      bays = [];
+    }) }
     ensures err { IfErr result (λ fault. fault ≡ usage.Memory) }
 {
     let settings = match InputSettings::new(alloc, size.rows, size.tiers, order, code.as_bytes()) {
@@ -119,7 +126,10 @@ pub(crate) fn input_of(alloc: Global, matches: &ArgMatches<'_>) -> Result<InputS
     ensures err { IfErr result (Lacks (HasInput (rows_of (found_of matches.now))) (IsInputFault (rows_of (found_of matches.now)))) }
 {
     let size = size_of(alloc, matches)?;
+    let bays = bays_of(alloc, matches)?;
     let order = order_of(alloc, matches)?;
     let code = text_of(alloc, matches, "code")?;
-    input_with(alloc, &size, order, code)
+    let messages = messages_of(alloc, matches)?;
+    let settings = input_with(alloc, &size, order, code)?;
+    Ok(settings.of_messages(messages).of_bays(bays))
 }

@@ -6,6 +6,7 @@
 #![tactic(auto)]
 
 mod advice;
+mod bays;
 mod commands;
 mod doing;
 mod ending;

@@ -1,7 +1,7 @@
 //! The options of the command line.
 ghost use Rattle.std.specs.Prelude.{◌≡◌, IfOk};
 ghost use Rattle.clap.specs.Words.{Shape};
-ghost use Rattle.crp_words.specs.Commands.{IsArg, IsCommand, beam_rule, budget_rule, chains_rule, deepen_rule, first_rule, flag_rule, number_rule, optional_number_rule, optional_rule, progress_rule, quiet_rule, split_rule, strong_rule, text_rule, thin_rule, with_after, with_orders, with_outputs, with_page, with_search, with_size, with_ways, workers_rule};
+ghost use Rattle.crp_words.specs.Commands.{IsArg, IsCommand, beam_rule, budget_rule, chains_rule, deepen_rule, first_rule, flag_rule, number_rule, optional_number_rule, optional_rule, progress_rule, quiet_rule, repeated_rule, split_rule, strong_rule, text_rule, thin_rule, with_after, with_bays, with_orders, with_outputs, with_page, with_search, with_size, with_ways, workers_rule};
 
 use clap::{Arg, ArgAction, Command, value_parser};
 use std::alloc::{AllocError, Global};
@@ -43,6 +43,13 @@ fn optional<'a>(alloc: Global, name: &'a str, shown: &'a str, help: &'a str) -> 
         .long(name)
         .value_name(shown)
         .help(help)
+}
+
+// An option that takes a text, and may be given several times.
+fn repeated<'a>(alloc: Global, name: &'a str, shown: &'a str, help: &'a str) -> Arg<'a>
+    ensures { IsArg (repeated_rule name.entry.now) result }
+{
+    optional(alloc, name, shown, help).action(ArgAction::Append)
 }
 
 // An option that takes a whole number, and has none where it is not given.
@@ -229,7 +236,25 @@ pub(crate) fn with_orders<'a>(
         "LOA",
         "Handling code of the containers to be loaded",
     );
-    command.arg(order)?.arg(code)
+    let message = repeated(
+        alloc,
+        "message",
+        "REFERENCE",
+        "Read the message with this reference (UNH) alone; may be given several times",
+    );
+    command.arg(order)?.arg(code)?.arg(message)
+}
+
+// A command with these, and the bays that the run is for.
+pub(crate) fn with_bays<'a>(alloc: Global, command: Command<'a>) -> Result<Command<'a>, AllocError>
+    ensures { IfOk result (λ new. (shape : Shape) → IsCommand shape command.entry → IsCommand (with_bays shape) new) }
+{
+    with_orders(alloc, command)?.arg(repeated(
+        alloc,
+        "bay",
+        "BAY",
+        "Only this bay, as 'A 1'; may be given several times",
+    ))
 }
 
 fn quiet<'a>(alloc: Global) -> Arg<'a>

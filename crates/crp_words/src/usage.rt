@@ -28,6 +28,9 @@ pub enum SettingFault {
     /// The heights are not 1 to 12 digits from 1 to 8, joined by points.
     #[error("S4")]
     Heights,
+    /// A text names no bay.
+    #[error("S10")]
+    Bay,
 }
 
 /// What is wrong with the words.
