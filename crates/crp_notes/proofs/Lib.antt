@@ -4,3 +4,4 @@ mod InForce
 mod Placed
 mod SizeWords
 mod Leaving
+mod Planned

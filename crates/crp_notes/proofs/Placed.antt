@@ -12,10 +12,7 @@ use Rattle.crp_plan.specs.Rows.{tallest}
 use Rattle.crp_sizes.specs.Sizes.{heights_at}
 use Rattle.crp_yard.specs.Inventory.{Inventory, StackedBay, IsYard, FitBay, name_at, heights_in_bay, stack_in_bay}
 use Rattle.crp_yard.proofs.YardSteps.{fit_rows}
-use Rattle.crp_notes.specs.declared.rows.Used.{Used}
-use Rattle.crp_notes.specs.Wording.{beyond_note}
-use Rattle.crp_notes.specs.Beyond.{size_of, with_size, sizes_of, of_size, last_row, top_tier, note_on}
-use Rattle.crp_notes.specs.Used.{first_name, AreUsed}
+use Rattle.crp_notes.specs.Beyond.{size_of, with_size, sizes_of, of_size, last_row, top_tier, last_row_of, top_tier_of}
 
 -- ---- lists
 
@@ -103,18 +100,6 @@ sizes_more yard bay heights e =
     ∙ fold-append with_size [] (map (size_of yard) (take bay yard.bays)) (size_of yard b ∷ [])
     ∙ ap (with_size (sizes_of yard (take bay yard.bays))) (size_is yard bay heights b at e)
 
--- of the bays of one size so many at most
-pub few_so_far : (yard : Inventory) (heights : List ℕ) (bay : ℕ) → length (of_size yard heights (take bay yard.bays)) ≤ bay
-few_so_far yard heights bay = omega (arith, fewer (take bay yard.bays), length-take bay yard.bays)
-  where
-    fewer : (bays : List StackedBay) → length (of_size yard heights bays) ≤ length bays
-    fewer [] = omega arith
-    fewer (b ∷ bays) = by (bytes_eq (size_of yard b) heights) (fewer bays)
-      where
-        by : (t : Bool) → length (of_size yard heights bays) ≤ length bays → length (cond t (b ∷ of_size yard heights bays) (of_size yard heights bays)) ≤ suc (length bays)
-        by true rest = omega (arith, rest)
-        by false rest = omega (arith, rest)
-
 -- with one bay more
 pub bay_more : (yard : Inventory) (heights : List ℕ) (bay : ℕ) (own : List ℕ) → heights_in_bay yard bay ≡ Some own → (t : Bool) → bytes_eq own heights ≡ t
     → (b : StackedBay) × (slice_get yard.bays bay ≡ Some b)
@@ -133,36 +118,9 @@ bay_more yard heights bay own e t test =
     by b before true = refl
     by b before false = append-nil before
 
--- what is known of them
-pub used_more : (bays : List StackedBay) (b : StackedBay) (used more : Used) → AreUsed bays used → option_map (λ name. name.now) more.first ≡ first_name (bays ++ b ∷ [])
-    → more.bays ≡ used.bays + 1 → more.row ≡ max used.row (last_row b.1) → more.tier ≡ max used.tier (top_tier b.1) → AreUsed (bays ++ b ∷ []) more
-used_more bays b used more are first count row tier = record {
-  first = first;
-  count = let long = are.count in omega (arith, count, long, length-append bays (b ∷ []));
-  row = row ∙ ap (λ n. max n (last_row b.1)) are.row ∙ sym (ap tallest (map_push (λ (x : StackedBay). last_row x.1) bays b) ∙ tallest-push (map (λ (x : StackedBay). last_row x.1) bays) (last_row b.1));
-  tier = tier ∙ ap (λ n. max n (top_tier b.1)) are.tier ∙ sym (ap tallest (map_push (λ (x : StackedBay). top_tier x.1) bays b) ∙ tallest-push (map (λ (x : StackedBay). top_tier x.1) bays) (top_tier b.1));
-}
-
--- the first stays the first, and where there is none the new one is
-pub first_stays : (bays : List StackedBay) (b : StackedBay) (name : YardBay) → Some name ≡ first_name bays → Some name ≡ first_name (bays ++ b ∷ [])
-first_stays [] b name e = absurd (none-some name (sym e))
-first_stays (a ∷ bays) b name e = e
-
-pub first_new : (yard : Inventory) (bay : ℕ) (bays : List StackedBay) (b : StackedBay) (name : YardBay) → slice_get yard.bays bay ≡ Some b → name_at yard bay ≡ Some name → None ≡ first_name bays
-    → Some name ≡ first_name (bays ++ b ∷ [])
-first_new yard bay [] b name at is e = sym is ∙ ap (option_map (λ (x : StackedBay). x.0)) at
-first_new yard bay (a ∷ bays) b name at is e = absurd (none-some a.0 e)
-
--- the note on them
-pub note_is : (heights : List ℕ) (bays : List StackedBay) (used : Used) (name : YardBay) → AreUsed bays used → Some name ≡ first_name bays → 0 < used.row → used.row < length heights
-    → Some (beyond_note heights name used.bays used.row used.tier) ≡ note_on heights bays
-note_is heights [] used name are e some beyond = absurd (none-some name (sym e))
-note_is heights (b ∷ bays) used name are e some beyond =
-    let first : nat_lt 0 used.row ≡ true = grind (arith, tests) in
-    let last : nat_lt used.row (length heights) ≡ true = grind (arith, tests) in
-    let same : name ≡ b.0 = same_Some name b.0 e in
-    rw (sym are.row, first, last, sym are.tier, sym are.count, sym same) refl
-
-pub no_note : (heights : List ℕ) (bays : List StackedBay) (used : Used) → AreUsed bays used → (nat_lt 0 used.row && nat_lt used.row (length heights)) ≡ false → None ≡ note_on heights bays
-no_note heights [] used are e = refl
-no_note heights (b ∷ bays) used are e = rw (sym are.row, e) refl
+-- the greatest of them with one bay more
+pub highest_more : (bays : List StackedBay) (b : StackedBay) → (last_row_of (bays ++ b ∷ []) ≡ max (last_row_of bays) (last_row b.1)) × (top_tier_of (bays ++ b ∷ []) ≡ max (top_tier_of bays) (top_tier b.1))
+highest_more bays b = (
+  ap tallest (map_push (λ (x : StackedBay). last_row x.1) bays b) ∙ tallest-push (map (λ (x : StackedBay). last_row x.1) bays) (last_row b.1),
+  ap tallest (map_push (λ (x : StackedBay). top_tier x.1) bays b) ∙ tallest-push (map (λ (x : StackedBay). top_tier x.1) bays) (top_tier b.1),
+)

@@ -1,7 +1,11 @@
--- The sizes of the bays of a yard, and the places of the bays of one size beyond which nothing stands.
-use Rattle.std.specs.Prelude.{ℕ, suc, nat_lt, ◌&&◌, List, [], ◌∷◌, ◌++◌, length, map, filter, fold, Option, Some, None, if◌then◌else◌}
+-- The sizes of the bays of a yard, the places of the bays of one size beyond which nothing stands, and the plans that use such places.
+use Rattle.std.specs.Prelude.{ℕ, suc, ◌+◌, ◌-◌, nat_lt, Bool, false, ◌==◌, ◌&&◌, ◌||◌, List, [], ◌∷◌, ◌++◌, length, map, filter, fold, count_by, slice_get, unwrap_or, Option, Some, None, if◌then◌else◌}
 use Rattle.std.specs.List.{list_any}
 use Rattle.std.specs.Str.{bytes_eq}
+use Rattle.crp_plan.specs.declared.moves.Move.{Move}
+use Rattle.crp_plan.specs.declared.moves.Move.TheVariants.{Shift, Take}
+use Rattle.crp_plan.specs.Bay.{Problem}
+use Rattle.crp_plan.specs.BayNames.{YardBay}
 use Rattle.crp_plan.specs.Rows.{tallest}
 use Rattle.crp_sizes.specs.Sizes.{heights_at}
 use Rattle.crp_yard.specs.Inventory.{Inventory, StackedBay}
@@ -38,9 +42,48 @@ last_row_of bays = tallest (map (λ bay. last_row bay.1) bays)
 abbrev pub top_tier_of : List StackedBay → ℕ
 top_tier_of bays = tallest (map (λ bay. top_tier bay.1) bays)
 
--- the note on bays of one size, if there is one: containers stand in them, and none in their last rows
-abbrev pub note_on : List ℕ → List StackedBay → Option (List ℕ)
-note_on heights [] = None
-note_on heights (bay ∷ bays) =
-    if nat_lt 0 (last_row_of (bay ∷ bays)) && nat_lt (last_row_of (bay ∷ bays)) (length heights)
-    then Some (beyond_note heights bay.0 (length (bay ∷ bays)) (last_row_of (bay ∷ bays)) (top_tier_of (bay ∷ bays))) else None
+-- a bay that is planned: its name, its problem, and the moves of its plan
+pub record Planned : Type 0 where
+  pub bay : YardBay
+  pub problem : Problem
+  pub moves : List Move
+
+-- the move puts a container into this row; it lifts one from this row
+abbrev pub puts_into : ℕ → Move → Bool
+puts_into row (Shift from to) = to == row
+puts_into row (Take from) = false
+
+abbrev pub lifts_from : ℕ → Move → Bool
+lifts_from row (Shift from to) = from == row
+lifts_from row (Take from) = from == row
+
+-- how many containers stand in a row behind these moves: those that stood there in the beginning and those that were put there, without those
+-- that were lifted from there
+abbrev pub standing_in : List (List ℕ) → List Move → ℕ → ℕ
+standing_in stacks moves row = (length (unwrap_or (slice_get stacks (row - 1)) []) + count_by (puts_into row) moves) - count_by (lifts_from row) moves
+
+-- behind these moves this one puts a container into a row beyond this one, or above this tier
+abbrev pub lands_beyond : ℕ → ℕ → List (List ℕ) → List Move → Move → Bool
+lands_beyond row tier stacks before (Shift from to) = nat_lt row to || nat_lt tier (standing_in stacks before to + 1)
+lands_beyond row tier stacks before (Take from) = false
+
+-- so does one of these moves, which are made behind those before
+abbrev pub go_beyond : ℕ → ℕ → List (List ℕ) → List Move → List Move → Bool
+go_beyond row tier stacks before [] = false
+go_beyond row tier stacks before (m ∷ moves) = lands_beyond row tier stacks before m || go_beyond row tier stacks (before ++ m ∷ []) moves
+
+-- those of the planned bays that have this size, and whose plans put a container into a row beyond this one, or above this tier
+abbrev pub planned_beyond : List ℕ → ℕ → ℕ → List Planned → List YardBay
+planned_beyond heights row tier planned =
+    map (λ p. p.bay) (filter (λ p. bytes_eq p.problem.heights heights && go_beyond row tier p.problem.stacks [] p.moves) planned)
+
+-- the note on such bays, if there are some
+abbrev pub note_if_some : List ℕ → ℕ → ℕ → List YardBay → Option (List ℕ)
+note_if_some heights row tier [] = None
+note_if_some heights row tier (bay ∷ bays) = Some (beyond_note heights bay (length (bay ∷ bays)) row tier)
+
+-- the note on the bays of one size of a yard when these bays were planned, if there is one
+abbrev pub note_on : Inventory → List Planned → List ℕ → Option (List ℕ)
+note_on yard planned heights =
+    let bays = of_size yard heights yard.bays in
+    note_if_some heights (last_row_of bays) (top_tier_of bays) (planned_beyond heights (last_row_of bays) (top_tier_of bays) planned)

@@ -1,12 +1,11 @@
 pub use Rattle.crp_plan.specs.Devices
 pub mod Wording
-pub mod Alike
 pub mod Slots
 pub mod Messages
 pub mod Namings
 pub mod Bays
 pub mod Beyond
-pub mod Used
+pub mod Kept
 pub mod Left
 pub mod LeftNames
 pub use Rattle.crp_report.specs.Watching

@@ -67,20 +67,16 @@ tiers_words (height ∷ heights) = decimal height ++ (
     if list_all (λ other. other == height) heights then (if nat_lt 1 height then codes " tiers" else codes " tier")
     else flat_map (λ other. 46 ∷ decimal other) heights ++ codes " tiers")
 
--- so many bays; by its name where there is one
+-- which bays are so: by its name where there is one, else so many, with the first of them
 abbrev pub which_words : YardBay → ℕ → List ℕ
-which_words first bays = if nat_lt 1 bays then decimal bays ++ codes " bays" else bay_words first
+which_words first bays =
+    if nat_lt 1 bays then decimal bays ++ (codes " bays (" ++ (bay_name first ++ codes " is the first) are")) else bay_words first ++ codes " is"
 
--- which of them is the first
-abbrev pub first_words : YardBay → ℕ → List ℕ
-first_words first bays = if nat_lt 1 bays then codes " (" ++ (bay_name first ++ codes " is the first): if they end") else codes ": if it ends"
-
--- nothing stands beyond this row or this tier of so many bays of these heights, of which this one is the first
+-- so many bays of these heights, of which this one is the first, are planned with places beyond this row or this tier
 abbrev pub beyond_note : List ℕ → YardBay → ℕ → ℕ → ℕ → List ℕ
 beyond_note heights first bays row tier = note_of (
-    codes "nothing stands beyond row " ∷ decimal row ∷ codes " or tier " ∷ decimal tier ∷ codes " of the " ∷ which_words first bays
-    ∷ codes " of " ∷ decimal (length heights) ∷ codes " rows of " ∷ tiers_words heights ∷ first_words first bays
-    ∷ codes " there, say so by --rows, --tiers, --heights or --sizes, or plans use places that are not there" ∷ [])
+    which_words first bays ∷ codes " planned with " ∷ decimal (length heights) ∷ codes " rows of " ∷ tiers_words heights
+    ∷ codes ", and nothing stands beyond row " ∷ decimal row ∷ codes " or tier " ∷ decimal tier ∷ codes ": look at --sizes" ∷ [])
 
 -- a bay is left open
 abbrev pub open_note : YardBay → List ℕ → List ℕ

@@ -1,8 +1,8 @@
 //! What a run noticed of its input and its bays, as lines for the planner.
 //!
 //! `Notes` watches a run and writes its notes to standard error, and how far it is to a `Terminal`; nothing of the report rests on them. How each note is worded is said
-//! in `specs/Wording.antt`, which names are alike in `specs/Alike.antt`, which slots several orders of a message name in
-//! `specs/Slots.antt`, what is noted of the bays of one size in `specs/Beyond.antt`, and of a bay in `specs/Bays.antt`.
+//! in `specs/Wording.antt`, which slots several orders of a message name in `specs/Slots.antt`, what is noted of the bays of one size,
+//! by their plans, in `specs/Beyond.antt`, and of a bay in `specs/Bays.antt`. Which names are alike is said by crp_order.
 //! `note_left` notes what a report that is followed leaves of what is ordered: `specs/Left.antt`.
 #![tactic(auto)]
 
@@ -14,7 +14,9 @@ mod message;
 mod naming;
 mod notes;
 mod progress;
+mod reaching;
 mod rows;
+mod sizes;
 mod slots;
 mod standing;
 mod terminal;

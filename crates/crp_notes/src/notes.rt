@@ -2,14 +2,14 @@
 ghost use Rattle.crp_report.specs.Watching.{ShowsMore};
 
 use crate::bays::bay_note;
-use crate::containers::{absent_names, alike};
+use crate::containers::absent_names;
 use crate::lines::Lines;
 use crate::message::{
     MAX_LISTED, Says, handling_codes, is_original, messages, said_by, words_of,
 };
 use crate::naming::namings;
 use crate::progress::{Progress, bay_line};
-use crate::rows::{size_beyond, sizes_of};
+use crate::sizes::{Size, keep_answer, sizes_before};
 use crate::slots::shared_slots;
 use crate::standing::Standing;
 use crate::terminal::Terminal;
@@ -18,13 +18,31 @@ use crate::wording::{
     slots_note,
 };
 use crp_movins::Loading;
-use crp_order::{BayProblem, Mode, Sequence};
-use crp_plan::Sink;
+use crp_order::{BayProblem, Mode, Sequence, alike};
+use crp_plan::{BayName, Sink};
 use crp_report::{InputSettings, RunSettings, Watch, show};
 use crp_solve::{Answer, Solved};
 use crp_yard::Yard;
 use edi_text::Segments;
 use std::alloc::Global;
+
+// Notes bays of one size that are planned with places beyond which nothing stands.
+fn note_size<E: Sink>(alloc: Global, lines: &mut Lines, size: &Size, errors: &mut E)
+    ensures { ShowsMore (E.contents errors.old) (E.contents errors.new) }
+{
+    if let Ok(Some(note)) = size.note(alloc) {
+        lines.note(errors, Ok(note));
+    }
+}
+
+// Notes them size by size.
+fn note_sizes<E: Sink>(alloc: Global, lines: &mut Lines, sizes: &[Size], errors: &mut E)
+    ensures { ShowsMore (E.contents errors.old) (E.contents errors.new) }
+{
+    for size in sizes {
+        note_size(alloc, lines, size, errors);
+    }
+}
 
 /// The notes of a run: what was noticed of its input and of its bays; and how far it is.
 #[derive(Drop)]
@@ -32,6 +50,8 @@ pub struct Notes<'a, T> {
     lines: Lines,
     largest: usize,
     certificates: usize,
+    // What is kept of each size of the yard's bays; nothing, where memory ran out.
+    sizes: Vec<Size>,
     progress: Progress<'a, T>,
     // Whether a line for each bay is wanted where there is no terminal.
     bay_lines: bool,
@@ -45,6 +65,7 @@ impl<'a, T: Terminal> Notes<'a, T> {
             lines: Lines::new(),
             largest,
             certificates: 0,
+            sizes: Vec::new(alloc),
             progress: Progress::new(alloc, terminal),
             bay_lines,
         }
@@ -179,27 +200,13 @@ impl<'a, T: Terminal> Notes<'a, T> {
         let more = names.len() > MAX_LISTED;
         self.lines
             .note(errors, absent_note(alloc, names.len(), first, more));
-        self.alike(alloc, yard, first, errors);
+        self.alike(alloc, yard, &names, errors);
     }
 
-    // Rows of the bays of one size in which no container stands.
-    fn beyond_one<E: Sink>(&mut self, alloc: Global, yard: &Yard, heights: &[u8], errors: &mut E)
-        ensures { ShowsMore (E.contents errors.old) (E.contents errors.new) }
-    {
-        if let Ok(Some(note)) = size_beyond(alloc, yard, heights) {
-            self.lines.note(errors, Ok(note));
-        }
-    }
-
-    // Rows in which no container stands.
-    fn beyond<E: Sink>(&mut self, alloc: Global, yard: &Yard, errors: &mut E)
-        ensures { ShowsMore (E.contents errors.old) (E.contents errors.new) }
-    {
-        let Ok(sizes) = sizes_of(alloc, yard) else {
-            return;
-        };
-        for heights in &sizes {
-            self.beyond_one(alloc, yard, heights, errors);
+    // A bay that is answered, maybe with a plan.
+    fn keep(&mut self, alloc: Global, bay: &BayName, answer: &Answer) {
+        if keep_answer(alloc, &mut self.sizes, bay, answer).is_err() {
+            self.sizes = Vec::new(alloc);
         }
     }
 
@@ -248,7 +255,7 @@ impl<'a, T: Terminal + Sync> Watch for Notes<'a, T> {
         self.mixed(alloc, segments, input, errors);
         self.slots(alloc, segments, loading, errors);
         self.absent(alloc, yard, sequence, errors);
-        self.beyond(alloc, yard, errors);
+        self.sizes = sizes_before(alloc, yard).unwrap_or(Vec::new(alloc));
     }
 
     fn begins<E: Sink>(
@@ -282,10 +289,12 @@ impl<'a, T: Terminal + Sync> Watch for Notes<'a, T> {
     ) {
         self.bay(alloc, bay, &solved.answer, errors);
         self.size(alloc, bay, certificate, errors);
+        self.keep(alloc, &bay.bay, &solved.answer);
     }
 
     fn ends<E: Sink>(&mut self, alloc: Global, errors: &mut E) {
         self.progress.clear();
+        note_sizes(alloc, &mut self.lines, &self.sizes, errors);
         self.lines.end(alloc, errors);
     }
 }

@@ -1,12 +1,8 @@
 //! The sizes of the bays, and the rows and tiers in which containers stand.
-ghost use Rattle.std.specs.Prelude.{◌≡◌, ◌<◌, ◌+◌, ◌^◌, [], ◌++◌, ◌∷◌, List, IfOk, Some, length, map, slice_get};
-ghost use Rattle.std.specs.Option.{option_map};
+ghost use Rattle.std.specs.Prelude.{◌≡◌, ◌<◌, IfOk, Some, length, map, slice_get};
 ghost use Rattle.crp_yard.specs.Inventory.{StackedBay};
-ghost use Rattle.crp_notes.specs.Beyond.{sizes_of, of_size, last_row, top_tier, note_on};
-ghost use Rattle.crp_notes.specs.Used.{AreUsed};
+ghost use Rattle.crp_notes.specs.Beyond.{sizes_of, of_size, last_row, top_tier, last_row_of, top_tier_of};
 
-use crate::wording::beyond_note;
-use crp_plan::BayName;
 use crp_yard::Yard;
 use std::alloc::{AllocError, Global};
 
@@ -41,69 +37,19 @@ fn highest_in_bay(yard: &Yard, bay: usize) -> (u8, usize)
     (row, tier)
 }
 
-/// Bays of one size: the first of them, how many there are, and the last row and the highest tier in which a container stands.
-#[derive(Drop)]
-struct Used<'a> {
-    first: Option<&'a BayName>,
-    bays: usize,
-    row: u8,
-    tier: usize,
-}
-
-impl<'a> Used<'a> {
-    // With this bay more.
-    fn with(self, yard: &'a Yard, bay: usize) -> Used<'a>
-        requires there { bay < length yard.now.bays }
-        requires few { self.bays + 1 < 2 ^ 64 }
-        ensures { (bays : List StackedBay) (b : StackedBay) → AreUsed bays self.entry → slice_get yard.now.bays bay ≡ Some b → AreUsed (bays ++ b ∷ []) result }
-    {
-        let (row, tier) = highest_in_bay(yard, bay);
-        let first = match self.first {
-            Some(first) => first,
-            None => yard.name(bay),
-        };
-        Used {
-            first: Some(first),
-            bays: self.bays + 1,
-            row: self.row.max(row),
-            tier: self.tier.max(tier),
-        }
-    }
-}
-
-// The bays of this size.
-fn bays_of<'a>(yard: &'a Yard, heights: &[u8]) -> Used<'a>
-    ensures { AreUsed (of_size yard.now heights.now yard.now.bays) result }
+/// The last row of the bays of this size in which a container stands, and the highest tier.
+pub(crate) fn highest_of(yard: &Yard, heights: &[u8]) -> (u8, usize)
+    ensures row { result.0 ≡ last_row_of (of_size yard.now heights.now yard.now.bays) }
+    ensures tier { result.1 ≡ top_tier_of (of_size yard.now heights.now yard.now.bays) }
 {
-    let mut used = Used {
-        first: None,
-        bays: 0,
-        row: 0,
-        tier: 0,
-    };
+    let mut row: u8 = 0;
+    let mut tier: usize = 0;
     for bay in 0..yard.count() {
         if yard.heights(bay) == heights {
-            used = used.with(yard, bay);
+            let (last, top) = highest_in_bay(yard, bay);
+            row = row.max(last);
+            tier = tier.max(top);
         }
     }
-    used
-}
-
-/// The note on the bays of this size, if there is one: no container stands in their last rows.
-pub(crate) fn size_beyond(
-    alloc: Global,
-    yard: &Yard,
-    heights: &[u8],
-) -> Result<Option<Vec<u8>>, AllocError>
-    ensures { IfOk result (λ note. option_map (λ text. text.items) note ≡ note_on heights.now (of_size yard.now heights.now yard.now.bays)) }
-{
-    let used = bays_of(yard, heights);
-    let Some(first) = used.first else {
-        return Ok(None);
-    };
-    if used.row == 0 || heights.len() <= used.row as usize {
-        return Ok(None);
-    }
-    let note = beyond_note(alloc, heights, first, used.bays, used.row, used.tier)?;
-    Ok(Some(note))
+    (row, tier)
 }

@@ -1,6 +1,6 @@
 //! Words the notes.
 ghost use Rattle.std.specs.Prelude.{◌≡◌, ◌==◌, [], ◌++◌, IfOk, OnOk, length, take, map, flat_map, nat_lt, codes, if◌then◌else◌};
-ghost use Rattle.crp_notes.specs.Wording.{note_of, quoted, listed, function_note, no_codes_note, codes_note, messages_note, absent_note, alike_note, slots_note, bay_name, bay_words, which_words, first_words, beyond_note, open_note, no_plan_note, size_note, left_note, loaded_note, more_note};
+ghost use Rattle.crp_notes.specs.Wording.{note_of, quoted, listed, function_note, no_codes_note, codes_note, messages_note, absent_note, alike_note, slots_note, bay_name, bay_words, which_words, beyond_note, open_note, no_plan_note, size_note, left_note, loaded_note, more_note};
 
 use crate::message::MAX_LISTED;
 use crate::tiers::tiers_words;
@@ -237,34 +237,25 @@ fn bay_words(alloc: Global, bay: &BayName) -> Result<Vec<u8>, AllocError>
     Ok(text)
 }
 
-// So many bays.
+// Which bays are so.
 fn which_words(alloc: Global, first: &BayName, bays: usize) -> Result<Vec<u8>, AllocError>
     ensures { IfOk result (λ text. text.items ≡ which_words first.now bays) }
 {
     if bays <= 1 {
-        return bay_words(alloc, first);
+        let mut text = bay_words(alloc, first)?;
+        text.extend_from_slice(b" is")?;
+        return Ok(text);
     }
     let mut digits = Buffer::new();
-    let mut text = Vec::from_slice(alloc, digits.format(bays).as_bytes())?;
-    text.extend_from_slice(b" bays")?;
-    Ok(text)
-}
-
-// Which of them is the first.
-fn first_words(alloc: Global, first: &BayName, bays: usize) -> Result<Vec<u8>, AllocError>
-    ensures { IfOk result (λ text. text.items ≡ first_words first.now bays) }
-{
-    if bays <= 1 {
-        return Vec::from_slice(alloc, b": if it ends");
-    }
     let name = bay_name(alloc, first)?;
-    let mut text = Vec::from_slice(alloc, b" (")?;
+    let mut text = Vec::from_slice(alloc, digits.format(bays).as_bytes())?;
+    text.extend_from_slice(b" bays (")?;
     text.extend_from_slice(&name)?;
-    text.extend_from_slice(b" is the first): if they end")?;
+    text.extend_from_slice(b" is the first) are")?;
     Ok(text)
 }
 
-/// Nothing stands beyond this row or this tier of so many bays of these heights, of which this one is the first.
+/// So many bays of these heights, of which this one is the first, are planned with places beyond this row or this tier.
 pub(crate) fn beyond_note(
     alloc: Global,
     heights: &[u8],
@@ -278,20 +269,17 @@ pub(crate) fn beyond_note(
     let (mut last, mut top, mut all) = (Buffer::new(), Buffer::new(), Buffer::new());
     let which = which_words(alloc, first, bays)?;
     let tiers = tiers_words(alloc, heights)?;
-    let first = first_words(alloc, first, bays)?;
-    let parts: [&[u8]; 12] = [
-        b"nothing stands beyond row ",
-        last.format(row).as_bytes(),
-        b" or tier ",
-        top.format(tier).as_bytes(),
-        b" of the ",
+    let parts: [&[u8]; 10] = [
         &which,
-        b" of ",
+        b" planned with ",
         all.format(heights.len()).as_bytes(),
         b" rows of ",
         &tiers,
-        &first,
-        b" there, say so by --rows, --tiers, --heights or --sizes, or plans use places that are not there",
+        b", and nothing stands beyond row ",
+        last.format(row).as_bytes(),
+        b" or tier ",
+        top.format(tier).as_bytes(),
+        b": look at --sizes",
     ];
     note_of(alloc, parts.as_slice())
 }

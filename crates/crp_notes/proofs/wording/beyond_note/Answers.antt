@@ -1,15 +1,14 @@
 use Rattle.std.proofs.Common.{◌≡◌, ◌∙◌, length}
 use Rattle.std.specs.Prelude.{decimal}
-use Rattle.crp_notes.specs.Wording.{which_words, tiers_words, first_words}
+use Rattle.crp_notes.specs.Wording.{which_words, tiers_words}
 use Rattle.crp_notes.proofs.wording.beyond_note.Goals as goal
 
 pub returns : goal.returns
 returns c =
-    let row : c.as_bytes.result.now ≡ decimal c.args.row = c.as_bytes.ensures.value ∙ c.format.ensures.text in
-    let tier : c.as_bytes-2.result.now ≡ decimal c.args.tier = c.as_bytes-2.ensures.value ∙ c.format-2.ensures.text in
-    let rows : c.as_bytes-3.result.now ≡ decimal (length c.args.heights.now) = c.as_bytes-3.ensures.value ∙ c.format-3.ensures.text in
+    let rows : c.as_bytes.result.now ≡ decimal (length c.args.heights.now) = c.as_bytes.ensures.value ∙ c.format.ensures.text in
+    let row : c.as_bytes-2.result.now ≡ decimal c.args.row = c.as_bytes-2.ensures.value ∙ c.format-2.ensures.text in
+    let tier : c.as_bytes-3.result.now ≡ decimal c.args.tier = c.as_bytes-3.ensures.value ∙ c.format-3.ensures.text in
     let which : c.deref.result.now ≡ which_words c.args.first.now c.args.bays = c.deref.ensures.value ∙ c.in_ok-which.ensures in
     let tiers : c.deref-2.result.now ≡ tiers_words c.args.heights.now = c.deref-2.ensures.value ∙ c.in_ok-tiers.ensures in
-    let first : c.deref-3.result.now ≡ first_words c.args.first.now c.args.bays = c.deref-3.ensures.value ∙ c.in_ok-first.ensures in
     let note = rw c.as_slice.ensures at c.note_of.ensures in
-    rw (row, tier, rows, which, tiers, first) at note
+    rw (row, tier, rows, which, tiers) at note

@@ -1,7 +1,0 @@
--- The bytes so far.
-use Rattle.std.proofs.Common.{◌≡◌, take}
-use Rattle.crp_notes.specs.Alike.{plain}
-use Rattle.crp_notes.proofs.containers.plain.Given as goal
-
-abbrev pub invariant-loop-byte : goal.invariant-loop-byte
-invariant-loop-byte l = l.text.items ≡ plain (take l.byte-index l.name)
