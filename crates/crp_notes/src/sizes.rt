@@ -58,11 +58,11 @@ impl Size {
         ensures { (yard : Inventory) (planned : List Planned) → IsKept yard planned self.now
             → IfOk result (λ note. option_map (λ text. text.items) note ≡ note_on yard planned self.now.heights.items) }
     {
+        let (heights, count) = (self.heights.as_slice(), self.beyond.len());
         let Some(first) = self.beyond.first() else {
             return Ok(None);
         };
-        let count = self.beyond.len();
-        let note = beyond_note(alloc, &self.heights, first, count, self.row, self.tier)?;
+        let note = beyond_note(alloc, heights, first, count, self.row, self.tier)?;
         Ok(Some(note))
     }
 }
