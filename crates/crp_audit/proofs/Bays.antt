@@ -33,7 +33,7 @@ stated_in h bay = bay_problem_of h.yard.sizes h.sequence bay
 
 -- ---- the lines
 
-prints : (h : Handed) (b : Reported) (count : ℕ) (rows : List ℕ) → AllByRecursion FitsLine (ranked h.sequence b.bay.1)
+pub prints : (h : Handed) (b : Reported) (count : ℕ) (rows : List ℕ) → AllByRecursion FitsLine (ranked h.sequence b.bay.1)
     → ArePlanLines (ranked h.sequence b.bay.1) (problem_in h b) b.lines count rows → PrintsPlan h b count
 prints h b count rows fits are = record {
   moves = are.moves;

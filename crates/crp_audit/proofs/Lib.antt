@@ -12,3 +12,4 @@ mod Reading
 mod Stopping
 mod Readable
 mod NoFault
+mod Fits

@@ -87,7 +87,7 @@ no_move h b NoPlan front is so some wrong = let t : false ≡ true = some in abs
 no_move h b (Between lower None why) front is so some wrong = let t : false ≡ true = some in absurd (cc)
 no_move h b (Between lower (Some upper) why) front is so some wrong = plan_followed h b upper front is so wrong
 
-not_other : (h : Handed) (b : Reported) (count : ℕ) → IsProblem (problem_in h b) → PrintsPlan h b count → AreOtherLines (ranked h.sequence b.bay.1) (problem_in h b) b.lines (Some count) → ⊥
+pub not_other : (h : Handed) (b : Reported) (count : ℕ) → IsProblem (problem_in h b) → PrintsPlan h b count → AreOtherLines (ranked h.sequence b.bay.1) (problem_in h b) b.lines (Some count) → ⊥
 not_other h b count is prints (moves, place, leads, other) =
     let (end, runs, finished) = prints.complete in
     let one : moves ≡ prints.moves = one_plan_printed h b moves prints.moves is leads.printed prints.printed in

@@ -7,3 +7,4 @@ pub mod Certified
 pub mod Readable
 pub mod Faults
 pub mod Stops
+pub mod Fitting

@@ -84,7 +84,7 @@ fn same_numbers(a: Numbers, b: Numbers) -> bool
 }
 
 /// Whether the names are the same.
-fn is_named(a: &BayName, b: &BayName) -> bool
+pub(crate) fn is_named(a: &BayName, b: &BayName) -> bool
     ensures { IsTrue result ↔ (a.now ≡ b.now) }
 {
     *a == *b

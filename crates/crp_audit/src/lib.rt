@@ -6,6 +6,7 @@
 mod auditing;
 mod certified;
 mod fault;
+mod fitting;
 mod laws;
 mod lines_read;
 mod looking;
@@ -13,6 +14,7 @@ mod replaying;
 
 pub use auditing::audit;
 pub use fault::{AuditFault, AuditStop, AuditStopped};
+pub use fitting::moves_fit;
 pub use laws::{
     headlines_are_read, headlines_have_no_fault, headlines_show, one_list_of_verdicts,
     one_plan_is_printed, printed_plans_are_followed, true_if_it_looks_so,

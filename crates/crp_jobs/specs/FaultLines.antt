@@ -18,5 +18,5 @@ IsPlacedLine known j (fault.Run (run.Interchange f)) line = IfSome (message_name
 IsPlacedLine known j (fault.Run (run.Message f)) line = IfSome (message_named j) (λ name. IsMessageLine (known.given name) f line)
 IsPlacedLine known j (fault.Followed f) line = IfSome (report_named j) (λ name. IsFollowLine known j (known.given name) f line)
 IsPlacedLine known j (fault.Loaded f) line = IfSome (report_named j) (λ name. IsLoadingLine (known.given name) f line)
-IsPlacedLine known j (fault.Audited f) line = IfSome (report_named j) (λ name. IsAuditLine (known.given name) f line)
+IsPlacedLine known j (fault.Audited f) line = IfSome (report_named j) (λ name. IsAuditLine known j (known.given name) f line)
 IsPlacedLine known j f line = Unit {0}

@@ -13,5 +13,6 @@ pub mod ListLines
 pub mod MessageLines
 pub mod ReportLines
 pub mod Moves
+pub mod OtherSettings
 pub mod ReportFaults
 pub mod FaultLines

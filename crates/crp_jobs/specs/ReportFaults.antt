@@ -11,6 +11,7 @@ use Rattle.crp_jobs.specs.declared.job.Job.{Job}
 use Rattle.crp_jobs.specs.declared.move_words.Wrong.{Wrong}
 use Rattle.crp_jobs.specs.declared.move_words.Wrong.TheVariants as wrong
 use Rattle.crp_jobs.specs.Moves.{IsMoveLine}
+use Rattle.crp_jobs.specs.OtherSettings.{IsMisfitLine, IsNumbersLine}
 use Rattle.crp_jobs.specs.ReportLines.{IsAuditedLine, IsFollowedLine, IsNoReportLine}
 
 -- the line on a move that a crane cannot make: on what could be moved there, by what stands in the bay before it; or the bytes of its line
@@ -37,16 +38,21 @@ IsLoadingLine given (loading.OutOfOrder n) line = IsFollowedLine given n line
 IsLoadingLine given (loading.NotOrdered n) line = IsFollowedLine given n line
 IsLoadingLine given loading.Memory line = ⊥
 
--- and on one that is audited; of faults that name no line none is said
-abbrev pub IsAuditLine : Option (List ℕ) → AuditFault → List ℕ → Type 0
-IsAuditLine given (audited.Spelling n) line = ((n ≡ 1) × IsNoReportLine given line) ⊎ IsAuditedLine given n line
-IsAuditLine given (audited.Bay n wanted) line = IsAuditedLine given n line
-IsAuditLine given (audited.Move n) line = IsAuditedLine given n line
-IsAuditLine given audited.Numbers line = ⊥
-IsAuditLine given (audited.Plan bay) line = ⊥
-IsAuditLine given (audited.Certificate bay refused) line = ⊥
-IsAuditLine given (audited.Other bay) line = ⊥
-IsAuditLine given (audited.Lacking bay) line = ⊥
-IsAuditLine given audited.LeftOver line = ⊥
-IsAuditLine given audited.Closing line = ⊥
-IsAuditLine given audited.Memory line = ⊥
+-- the line on one of which this line is none of a report: on its kind where it begins as another kind of file does, and else on that line
+abbrev pub IsSpellingLine : Option (List ℕ) → ℕ → List ℕ → Type 0
+IsSpellingLine given n line = ((n ≡ 1) × IsNoReportLine given line) ⊎ IsAuditedLine given n line
+
+-- and on one that is audited; of faults that name no line none is said. On a move that is not legal and on numbers that are not those of the input only the
+-- bytes of the line are said where the yard list, the message or the report cannot be read again
+abbrev pub IsAuditLine : KnownFiles → Job → Option (List ℕ) → AuditFault → List ℕ → Type 0
+IsAuditLine known j given (audited.Spelling n) line = IsSpellingLine given n line
+IsAuditLine known j given audited.Numbers line = IsNumbersLine known j given line ⊎ IsAuditedLine given 1 line
+IsAuditLine known j given (audited.Bay n wanted) line = IsAuditedLine given n line
+IsAuditLine known j given (audited.Move n) line = IsMisfitLine known j given n line ⊎ IsAuditedLine given n line
+IsAuditLine known j given (audited.Plan bay) line = ⊥
+IsAuditLine known j given (audited.Certificate bay refused) line = ⊥
+IsAuditLine known j given (audited.Other bay) line = ⊥
+IsAuditLine known j given (audited.Lacking bay) line = ⊥
+IsAuditLine known j given audited.LeftOver line = ⊥
+IsAuditLine known j given audited.Closing line = ⊥
+IsAuditLine known j given audited.Memory line = ⊥

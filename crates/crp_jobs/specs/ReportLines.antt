@@ -42,6 +42,10 @@ IsFollowedLine given n line =
 abbrev pub IsAuditedLine : Option (List ℕ) → ℕ → List ℕ → Type 0
 IsAuditedLine given n line = IsOfFront given (λ text. line ≡ shown (numbered_text n text (line_numbered text n)))
 
+-- the same, and these words at its end
+abbrev pub IsEndedLine : Option (List ℕ) → ℕ → List ℕ → List ℕ → Type 0
+IsEndedLine given n words line = IsOfFront given (λ text. line ≡ shown (numbered_text n text (line_numbered text n) ++ words))
+
 -- the line on what stands in the place of a report, by its first bytes
 abbrev pub IsNoReportLine : Option (List ℕ) → List ℕ → Type 0
 IsNoReportLine given line = IsOfFront given (λ front. IsKindLine words_for_report (strip_bom front) line)

@@ -39,7 +39,9 @@ pub fn found_line<F: Files>(
         }
         ToolFault::Followed(fault) => line_on_follow(alloc, files, job, report_named(job)?, fault),
         ToolFault::Loaded(fault) => line_on_loading(alloc, files, report_named(job)?, fault),
-        ToolFault::Audited(fault) => line_on_audit(alloc, files, report_named(job)?, fault),
+        ToolFault::Audited(fault) => {
+            line_on_audit(alloc, files, job, report_named(job)?, fault)
+        },
         _ => None,
     }
 }

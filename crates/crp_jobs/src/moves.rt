@@ -1,5 +1,7 @@
 //! What stands in a bay before a move that a crane cannot make: the yard and the report are read again.
 ghost use Rattle.std.specs.Prelude.{IfSome};
+ghost use Rattle.std.specs.List.{AllByRecursion};
+ghost use Rattle.crp_yard.specs.Naming.{IsNamedBay};
 ghost use Rattle.crp_yard.specs.Reading.{IsYardListOf};
 ghost use Rattle.crp_jobs.specs.Found.{IsPlainText};
 ghost use Rattle.crp_jobs.specs.Moves.{HasYard, IsMoveLine, IsMoveLineIn};
@@ -17,23 +19,30 @@ use crp_sizes::Sizes;
 use crp_yard::{MAX_BYTES, Yard, yard_of_sizes};
 use std::alloc::Global;
 
-// The yard of this list, whose bays have these sizes.
-fn yard_again<F: Files>(alloc: Global, files: &F, name: &str, sizes: &Sizes) -> Option<Yard>
-    ensures { IfSome result (λ yard. IsOfFront ((F.known files.now).given name.now) (λ text. IsYardListOf sizes.now text yard)) }
+/// The yard of this list, whose bays have these sizes.
+pub(crate) fn yard_again<F: Files>(
+    alloc: Global,
+    files: &F,
+    name: &str,
+    sizes: &Sizes,
+) -> Option<Yard>
+    ensures named { IfSome result (λ yard. AllByRecursion IsNamedBay yard.bays) }
+    ensures listed { IfSome result (λ yard. IsOfFront ((F.known files.now).given name.now) (λ text. IsYardListOf sizes.now text yard)) }
 {
     let text = files.begins(alloc, name, MAX_BYTES)?;
     yard_of_sizes(alloc, text.as_slice(), sizes).ok()
 }
 
-// The same of a job with these sizes, unless it names a list of sizes.
-fn yard_of_job<F: Files>(
+/// The same of a job with these sizes, unless it names a list of sizes.
+pub(crate) fn yard_of_job<F: Files>(
     alloc: Global,
     files: &F,
     job: &Job<'_>,
     name: &str,
     chosen: &Sizes,
 ) -> Option<Yard>
-    ensures { IfSome result (λ yard. HasYard (F.known files.now) job.now chosen.now name.now yard) }
+    ensures named { IfSome result (λ yard. AllByRecursion IsNamedBay yard.bays) }
+    ensures listed { IfSome result (λ yard. HasYard (F.known files.now) job.now chosen.now name.now yard) }
 {
     let Some(list) = sizes_named(job) else {
         return yard_again(alloc, files, name, chosen);

@@ -1,11 +1,12 @@
 //! What is said of a fault of a report.
 ghost use Rattle.std.specs.Prelude.{IfSome};
 ghost use Rattle.crp_jobs.specs.Found.{IsPlainText};
-ghost use Rattle.crp_jobs.specs.ReportFaults.{IsAuditLine, IsFollowLine, IsLoadingLine, IsWrongLine};
+ghost use Rattle.crp_jobs.specs.ReportFaults.{IsAuditLine, IsFollowLine, IsLoadingLine, IsSpellingLine, IsWrongLine};
 
 use crate::job::Job;
 use crate::move_words::Wrong;
 use crate::moves::line_on_move;
+use crate::other_settings::{line_on_misfit, line_on_numbers};
 use crate::plain::FoundLine;
 use crate::report_lines::{line_on_audited, line_on_followed, line_on_no_report};
 use crp_audit::AuditFault;
@@ -85,7 +86,7 @@ pub(crate) fn line_on_loading<F: Files>(
 // The line on one of which this line is none of a report.
 fn line_on_spelling<F: Files>(alloc: Global, files: &F, name: &str, line: u64) -> Option<FoundLine>
     ensures plain { IfSome result (λ found. IsPlainText found.items) }
-    ensures said { IfSome result (λ found. IsAuditLine ((F.known files.now).given name.now) (AuditFault.Spelling line) found.items) }
+    ensures said { IfSome result (λ found. IsSpellingLine ((F.known files.now).given name.now) line found.items) }
 {
     if line == 1 {
         match line_on_no_report(alloc, files, name) {
@@ -96,23 +97,56 @@ fn line_on_spelling<F: Files>(alloc: Global, files: &F, name: &str, line: u64) -
     line_on_audited(alloc, files, name, line)
 }
 
+// The line on one whose three numbers are not those of the input.
+fn line_on_other_numbers<F: Files>(
+    alloc: Global,
+    files: &F,
+    job: &Job<'_>,
+    name: &str,
+) -> Option<FoundLine>
+    ensures plain { IfSome result (λ line. IsPlainText line.items) }
+    ensures said { IfSome result (λ line. IsAuditLine (F.known files.now) job.now ((F.known files.now).given name.now) AuditFault.Numbers line.items) }
+{
+    match line_on_numbers(alloc, files, job, name) {
+        Some(line) => Some(line),
+        None => line_on_audited(alloc, files, name, 1),
+    }
+}
+
+// The line on one with a move at this line that is not legal there.
+fn line_on_illegal<F: Files>(
+    alloc: Global,
+    files: &F,
+    job: &Job<'_>,
+    name: &str,
+    line: u64,
+) -> Option<FoundLine>
+    ensures plain { IfSome result (λ found. IsPlainText found.items) }
+    ensures said { IfSome result (λ found. IsAuditLine (F.known files.now) job.now ((F.known files.now).given name.now) (AuditFault.Move line) found.items) }
+{
+    match line_on_misfit(alloc, files, job, name, line) {
+        Some(found) => Some(found),
+        None => line_on_audited(alloc, files, name, line),
+    }
+}
+
 /// The line on one that is audited.
 pub(crate) fn line_on_audit<F: Files>(
     alloc: Global,
     files: &F,
+    job: &Job<'_>,
     name: &str,
     fault: &AuditFault,
 ) -> Option<FoundLine>
     ensures plain { IfSome result (λ line. IsPlainText line.items) }
-    ensures said { IfSome result (λ line. IsAuditLine ((F.known files.now).given name.now) fault.now line.items) }
+    ensures said { IfSome result (λ line. IsAuditLine (F.known files.now) job.now ((F.known files.now).given name.now) fault.now line.items) }
 {
     match fault {
         AuditFault::Spelling { line } => line_on_spelling(alloc, files, name, *line),
-        AuditFault::Bay { line, .. } | AuditFault::Move { line } => {
-            line_on_audited(alloc, files, name, *line)
-        }
-        AuditFault::Numbers
-        | AuditFault::Plan { .. }
+        AuditFault::Numbers => line_on_other_numbers(alloc, files, job, name),
+        AuditFault::Bay { line, .. } => line_on_audited(alloc, files, name, *line),
+        AuditFault::Move { line } => line_on_illegal(alloc, files, job, name, *line),
+        AuditFault::Plan { .. }
         | AuditFault::Certificate { .. }
         | AuditFault::Other { .. }
         | AuditFault::Lacking { .. }

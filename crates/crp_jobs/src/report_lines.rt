@@ -1,9 +1,9 @@
 //! What is said of a line of a report, by its number.
-ghost use Rattle.std.specs.Prelude.{◌≡◌, ◌≢◌, ◌+◌, [], ℕ, Some, None, IfNone, IfOk, IfSome, option_map, slice_get};
+ghost use Rattle.std.specs.Prelude.{◌≡◌, ◌≢◌, ◌+◌, ◌++◌, [], ℕ, Some, None, IfNone, IfOk, IfSome, option_map, slice_get};
 ghost use Rattle.crp_follow.specs.Lines.{pieces_of, without_cr};
 ghost use Rattle.crp_jobs.specs.Found.{IsPlainText};
 ghost use Rattle.crp_jobs.specs.Placed.{shown};
-ghost use Rattle.crp_jobs.specs.ReportLines.{IsAuditedLine, IsFollowedLine, IsNoReportLine, before_bytes, line_numbered, line_text, numbered_text, text_end};
+ghost use Rattle.crp_jobs.specs.ReportLines.{IsAuditedLine, IsEndedLine, IsFollowedLine, IsNoReportLine, before_bytes, line_numbered, line_text, numbered_text, text_end};
 
 use crate::instead::words_on_report;
 use crate::placed::shown;
@@ -184,4 +184,36 @@ pub(crate) fn line_on_audited<F: Files>(
     let bytes = files.begins(alloc, name, MOST_REPORT)?;
     let text = bytes.as_slice();
     line_on_numbered(alloc, number, text, line_numbered(text, number)).ok()
+}
+
+// The line with that, and these words at its end.
+fn line_ended(
+    alloc: Global,
+    number: u64,
+    text: &[u8],
+    line: Option<&[u8]>,
+    words: &[u8],
+) -> Result<FoundLine, AllocError>
+    ensures plain { IfOk result (λ found. IsPlainText found.items) }
+    ensures said { IfOk result (λ found. found.items ≡ shown (numbered_text number text.now (option_map (λ line. line.now) line.entry) ++ words.now)) }
+{
+    let mut said = numbered_text(alloc, number, text, line)?;
+    said.extend_from_slice(words)?;
+    Ok(shown(said.as_slice()))
+}
+
+/// The line on the line with this number of a report that is audited, and these words at its end.
+pub(crate) fn line_on_ended<F: Files>(
+    alloc: Global,
+    files: &F,
+    name: &str,
+    number: u64,
+    words: &[u8],
+) -> Option<FoundLine>
+    ensures plain { IfSome result (λ line. IsPlainText line.items) }
+    ensures said { IfSome result (λ line. IsEndedLine ((F.known files.now).given name.now) number words.now line.items) }
+{
+    let bytes = files.begins(alloc, name, MOST_REPORT)?;
+    let text = bytes.as_slice();
+    line_ended(alloc, number, text, line_numbered(text, number), words).ok()
 }
