@@ -48,14 +48,14 @@ first_like how records n =
 
 -- ---- words
 
--- on the first of two records, which stands in this line
-abbrev pub first_words : ℕ → ℕ → List ℕ
-first_words first line = codes ", the first is record " ++ (decimal first ++ (codes " at line " ++ decimal line))
+-- on the first of two things of a kind, which stands in this line
+abbrev pub first_words : List ℕ → ℕ → ℕ → List ℕ
+first_words what first line = codes ", the first is " ++ (what ++ (decimal first ++ (codes " at line " ++ decimal line)))
 
 -- on the first record that is like the one with this number, if there is one
 abbrev pub words_on_first : Alike → List ℕ → ℕ → Option (List ℕ)
 words_on_first how text n =
-    option_and_then (λ first. option_map (λ offset. first_words first (line_of text offset)) (record_start text first)) (first_like how (records_of text) n)
+    option_and_then (λ first. option_map (λ offset. first_words (codes "record ") first (line_of text offset)) (record_start text first)) (first_like how (records_of text) n)
 
 -- a number of things: one of them, or several
 abbrev pub counted : ℕ → List ℕ → List ℕ → List ℕ
@@ -88,15 +88,15 @@ words_on_bay sizes text n = option_and_then (words_on_fields sizes) (record_with
 
 -- ---- lines
 
--- what is said of a record with this number in this line: these words, and which bytes stand there
-abbrev pub detailed_text : ℕ → ℕ → List ℕ → List ℕ → List ℕ
-detailed_text n line words bytes = codes "record " ++ (decimal n ++ (codes " is at line " ++ (decimal line ++ (words ++ (codes ": " ++ bytes)))))
+-- what is said of a thing with this number in this line: these words, and which bytes stand there
+abbrev pub detailed_text : List ℕ → ℕ → ℕ → List ℕ → List ℕ → List ℕ
+detailed_text what n line words bytes = what ++ (decimal n ++ (codes " is at line " ++ (decimal line ++ (words ++ (codes ": " ++ bytes)))))
 
 -- what is said of a record that begins at this offset, with these words if there are any
 abbrev pub said_with : ℕ → List ℕ → Option ℕ → Option (List ℕ) → List ℕ
 said_with n text None words = end_text text
 said_with n text (Some offset) None = place_text (codes "record ") n (line_of text offset) (line_front (drop offset text))
-said_with n text (Some offset) (Some words) = detailed_text n (line_of text offset) words (line_front (drop offset text))
+said_with n text (Some offset) (Some words) = detailed_text (codes "record ") n (line_of text offset) words (line_front (drop offset text))
 
 -- the line on the record with this number, with these words if there are any
 abbrev pub IsDetailedLine : ℕ → List ℕ → Option (List ℕ) → List ℕ → Type 0

@@ -1,5 +1,5 @@
 -- What is said of a fault of a message.
-use Rattle.std.specs.Prelude.{◌≡◌, ◌⊎◌, ℕ, Bool, not, ◌&&◌, List, [], ◌∷◌, Option, Some, None, IfSome, MatchOption, if◌then◌else◌, codes}
+use Rattle.std.specs.Prelude.{◌≡◌, ◌<◌, ◌⊎◌, ℕ, Bool, not, ◌&&◌, List, [], ◌∷◌, Option, Some, None, IfSome, MatchOption, if◌then◌else◌, codes}
 use Rattle.csv.specs.Reading.{strip_bom}
 use Rattle.edi_text.specs.declared.fault.EdiFault.{EdiFault}
 use Rattle.edi_text.specs.declared.fault.EdiFault.TheVariants as edi
@@ -7,7 +7,10 @@ use Rattle.crp_movins.specs.declared.fault.MovinsFault.{MovinsFault}
 use Rattle.crp_jobs.specs.Found.{begins}
 use Rattle.crp_jobs.specs.Headers.{has}
 use Rattle.crp_jobs.specs.Instead.{words_for_message, IsKindLine}
-use Rattle.crp_jobs.specs.Placed.{shown, offset_named, segment_named, IsOffsetLine, IsSegmentLine, IsOfFront}
+use Rattle.crp_places.specs.Lines.{line_of}
+use Rattle.crp_places.specs.Segments.{IsSegmentAt, IsSegmentText, IsSpelledBy}
+use Rattle.crp_jobs.specs.Firsts.{detailed_text, first_words}
+use Rattle.crp_jobs.specs.Placed.{shown, again_named, end_text, line_front, offset_named, segment_named, IsOffsetLine, IsSegmentLine, IsOfFront}
 
 -- the byte order mark of UTF-8
 abbrev pub byte_order_mark : List ℕ
@@ -45,6 +48,15 @@ IsInterchangeLine given f line =
     IfSome (offset_named f) (λ n.
     IsOfFront given (λ text. IsEdiLine f n text line) ⊎ IsOfFront given (λ front. IsKindLine words_for_message (strip_bom front) line))
 
--- the line on a message that gives no load orders: on the segment of its fault
+-- the line on a segment that orders a container again, by its number and that of the segment that orders it first: where both stand, and what the second
+-- one is; behind the last segment the text ends
+pub record IsOrderedAgainLine (n first : ℕ) (text line : List ℕ) : Type 0 where
+  pub there : (offset before : ℕ) (own : List ℕ) → IsSegmentText text n offset own → IsSegmentAt text first before
+      → line ≡ shown (detailed_text (codes "segment ") n (line_of text offset) (first_words (codes "segment ") first (line_of text before)) (line_front own))
+  pub none : (count : ℕ) → IsSpelledBy text count → count < n → line ≡ shown (end_text text)
+
+-- the line on a message that gives no load orders: on the segment of its fault, and of two that order one container on both
 abbrev pub IsMessageLine : Option (List ℕ) → MovinsFault → List ℕ → Type 0
-IsMessageLine given f line = IfSome (segment_named f) (λ n. IsOfFront given (λ text. IsSegmentLine n text line))
+IsMessageLine given f line =
+    MatchOption (again_named f) (IfSome (segment_named f) (λ n. IsOfFront given (λ text. IsSegmentLine n text line)))
+    (λ both. IsOfFront given (λ text. IsOrderedAgainLine both.0 both.1 text line))

@@ -4,10 +4,11 @@ use Rattle.std.specs.Prelude.{◌≡◌, ◌↔◌, ℕ, Bool, true, false, IsTr
 use Rattle.crp_sizes.specs.Sizes.{YardSizes, one_size}
 use Rattle.crp_yard.specs.Inventory.{Inventory}
 use Rattle.crp_yard.specs.Reading.{IsYardListOf}
+use Rattle.crp_movins.specs.Loading.{Loading}
 use Rattle.crp_movins.specs.LoadOrders.{LoadOrders}
 use Rattle.crp_order.specs.declared.sequences.Mode.{Mode}
 use Rattle.crp_order.specs.declared.sequences.Mode.TheVariants.{Listed, Stowage}
-use Rattle.crp_order.specs.Sequences.{IsSequence}
+use Rattle.crp_order.specs.OfBays.{IsSequenceOf}
 use Rattle.crp_said.specs.declared.numbers.Numbers.{Numbers}
 use Rattle.crp_said.specs.Said.{counts_line}
 use Rattle.crp_report.specs.Chosen.{InputChosen}
@@ -33,29 +34,29 @@ other_mode Stowage = Listed
 abbrev pub largest : YardSizes
 largest = one_size (replicate 12 8)
 
--- the load orders of the message of an audit under this code, of what the file begins with
-abbrev pub HasOrders : KnownFiles → AuditFiles → List ℕ → LoadOrders → Type 0
-HasOrders known names code orders = IsOfFront (known.given names.movins.now) (λ text. AreOrders code text orders)
+-- the load orders that are read of the message of an audit, of what the file begins with
+abbrev pub HasOrders : KnownFiles → AuditFiles → Loading → LoadOrders → Type 0
+HasOrders known names loading orders = IsOfFront (known.given names.movins.now) (λ text. AreOrders loading text orders)
 
 -- whether the moves of the report of an audit fit this yard, where the ordered containers leave in the order of this mode
-pub record AreFitting (known : KnownFiles) (names : AuditFiles) (code : List ℕ) (yard : Inventory) (mode : Mode) (fit : Bool) : Type 0 where
+pub record AreFitting (known : KnownFiles) (names : AuditFiles) (chosen : InputChosen) (yard : Inventory) (mode : Mode) (fit : Bool) : Type 0 where
   pub orders : LoadOrders
   pub sequence : List (List ℕ)
   pub report : List ℕ
-  pub ordered : HasOrders known names code orders
-  pub in_sequence : IsSequence mode orders.list sequence
+  pub ordered : HasOrders known names chosen.loading orders
+  pub in_sequence : IsSequenceOf mode chosen.bays yard orders.list sequence
   pub front : IsFront (known.given names.report.now) report
   pub fit_is : IsTrue fit ↔ MovesFit (handed yard orders sequence report [])
 
 -- whether they fit where the containers leave in the other order
 abbrev pub FitOtherOrder : KnownFiles → Job → AuditFiles → InputChosen → Bool → Type 0
 FitOtherOrder known j names chosen fit =
-    (yard : Inventory) × HasYard known j chosen.sizes names.yard.now yard × AreFitting known names chosen.code yard (other_mode chosen.mode) fit
+    (yard : Inventory) × HasYard known j chosen.sizes names.yard.now yard × AreFitting known names chosen yard (other_mode chosen.mode) fit
 
 -- whether they fit where all bays are of the largest size
 abbrev pub FitLargest : KnownFiles → AuditFiles → InputChosen → Bool → Type 0
 FitLargest known names chosen fit =
-    (yard : Inventory) × IsOfFront (known.given names.yard.now) (λ text. IsYardListOf largest text yard) × AreFitting known names chosen.code yard chosen.mode fit
+    (yard : Inventory) × IsOfFront (known.given names.yard.now) (λ text. IsYardListOf largest text yard) × AreFitting known names chosen yard chosen.mode fit
 
 -- ---- words
 
@@ -82,8 +83,8 @@ pub record AreInputNumbers (known : KnownFiles) (j : Job) (names : AuditFiles) (
   pub orders : LoadOrders
   pub sequence : List (List ℕ)
   pub listed : HasYard known j chosen.sizes names.yard.now yard
-  pub ordered : HasOrders known names chosen.code orders
-  pub in_sequence : IsSequence chosen.mode orders.list sequence
+  pub ordered : HasOrders known names chosen.loading orders
+  pub in_sequence : IsSequenceOf chosen.mode chosen.bays yard orders.list sequence
   pub numbers_are : (report certificates : List ℕ) → n ≡ numbers_in (handed yard orders sequence report certificates)
 
 -- the first line that would be right

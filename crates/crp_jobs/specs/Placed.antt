@@ -47,6 +47,11 @@ segment_named (movins.OrderedTwice n first) = Some n
 segment_named (movins.TooManyOrders n) = Some n
 segment_named movins.Memory = None
 
+-- the segment of one that orders a container again, with the one that orders it first
+abbrev pub again_named : MovinsFault → Option (ℕ × ℕ)
+again_named (movins.OrderedTwice n first) = Some (n, first)
+again_named f = None
+
 -- the yard list of a job, by its name
 abbrev pub yard_named : Job → Option (List ℕ)
 yard_named (job.OneFile file command) = None

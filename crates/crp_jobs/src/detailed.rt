@@ -9,18 +9,19 @@ use crp_cert::push_decimal;
 use crp_places::{line_at, record_at};
 use std::alloc::{AllocError, Global};
 
-// What is said of a record with this number in this line: these words, and which bytes stand there.
-fn detailed_text(
+/// What is said of a thing with this number in this line: these words, and which bytes stand there.
+pub(crate) fn detailed_text(
     alloc: Global,
+    what: &[u8],
     number: usize,
     line: usize,
     words: &[u8],
     bytes: &[u8],
 ) -> Result<Vec<u8>, AllocError>
-    ensures { IfOk result (λ said. said.items ≡ detailed_text number line words.now bytes.now) }
+    ensures { IfOk result (λ said. said.items ≡ detailed_text what.now number line words.now bytes.now) }
 {
     let mut said = Vec::new(alloc);
-    said.extend_from_slice(b"record ")?;
+    said.extend_from_slice(what)?;
     push_decimal(&mut said, number)?;
     said.extend_from_slice(b" is at line ")?;
     push_decimal(&mut said, line)?;
@@ -47,7 +48,7 @@ fn said_with(
     let bytes = line_front(&text[offset..]);
     let line = line_at(text, offset);
     match words {
-        Some(words) => detailed_text(alloc, number, line, words, bytes),
+        Some(words) => detailed_text(alloc, b"record ", number, line, words, bytes),
         None => place_text(alloc, b"record ", number, line, bytes),
     }
 }

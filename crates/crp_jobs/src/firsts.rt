@@ -94,12 +94,18 @@ fn first_like(how: Alike, records: &[ByteRecord], number: usize) -> Option<usize
     }
 }
 
-// The words on the first of two records, which stands in this line.
-fn first_words(alloc: Global, first: usize, line: usize) -> Result<Vec<u8>, AllocError>
-    ensures { IfOk result (λ words. words.items ≡ first_words first line) }
+/// The words on the first of two things of a kind, which stands in this line.
+pub(crate) fn first_words(
+    alloc: Global,
+    what: &[u8],
+    first: usize,
+    line: usize,
+) -> Result<Vec<u8>, AllocError>
+    ensures { IfOk result (λ words. words.items ≡ first_words what.now first line) }
 {
     let mut words = Vec::new(alloc);
-    words.extend_from_slice(b", the first is record ")?;
+    words.extend_from_slice(b", the first is ")?;
+    words.extend_from_slice(what)?;
     push_decimal(&mut words, first)?;
     words.extend_from_slice(b" at line ")?;
     push_decimal(&mut words, line)?;
@@ -120,7 +126,7 @@ pub(crate) fn words_on_first(
         return Ok(None);
     };
     match record_at(text, first) {
-        Some(offset) => Ok(Some(first_words(alloc, first, line_at(text, offset))?)),
+        Some(offset) => Ok(Some(first_words(alloc, b"record ", first, line_at(text, offset))?)),
         None => Ok(None),
     }
 }

@@ -22,6 +22,7 @@ mod move_words;
 mod moves;
 mod named;
 mod names;
+mod ordered_again;
 mod other_settings;
 mod outcome;
 mod placed;

@@ -1,10 +1,12 @@
 //! What is said of a fault of a message.
 ghost use Rattle.std.specs.Prelude.{◌≡◌, IfOk, IfSome, option_map};
 ghost use Rattle.crp_jobs.specs.Found.{IsPlainText};
-ghost use Rattle.crp_jobs.specs.MessageLines.{IsEdiLine, IsInterchangeLine, IsMessageLine, seems_ended_by_tilde, sign_words, words_on_signs};
+ghost use Rattle.crp_jobs.specs.MessageLines.{IsEdiLine, IsInterchangeLine, IsMessageLine, IsOrderedAgainLine, seems_ended_by_tilde, sign_words, words_on_signs};
+ghost use Rattle.crp_jobs.specs.Placed.{IsOfFront, IsSegmentLine};
 
 use crate::instead::words_on_message;
-use crate::named::{offset_named, segment_named};
+use crate::named::{again_named, offset_named, segment_named};
+use crate::ordered_again::line_on_ordered_again;
 use crate::placed::{line_on_offset, line_on_segment, shown};
 use crate::plain::{FRONT, FoundLine, MOST_FOUND};
 use crp_files::Files;
@@ -87,6 +89,35 @@ pub(crate) fn line_on_interchange<F: Files>(
     line_on_text(alloc, fault, offset, text.as_slice()).ok()
 }
 
+// The line on the segment with this number.
+fn line_on_segment_of<F: Files>(
+    alloc: Global,
+    files: &F,
+    name: &str,
+    number: usize,
+) -> Option<FoundLine>
+    ensures plain { IfSome result (λ line. IsPlainText line.items) }
+    ensures said { IfSome result (λ line. IsOfFront ((F.known files.now).given name.now) (λ text. IsSegmentLine number text line.items)) }
+{
+    let text = files.begins(alloc, name, MAX_TEXT)?;
+    line_on_segment(alloc, number, text.as_slice()).ok()
+}
+
+// The line on one that orders a container again.
+fn line_on_again_of<F: Files>(
+    alloc: Global,
+    files: &F,
+    name: &str,
+    number: usize,
+    first: usize,
+) -> Option<FoundLine>
+    ensures plain { IfSome result (λ line. IsPlainText line.items) }
+    ensures said { IfSome result (λ line. IsOfFront ((F.known files.now).given name.now) (λ text. IsOrderedAgainLine number first text line.items)) }
+{
+    let text = files.begins(alloc, name, MAX_TEXT)?;
+    line_on_ordered_again(alloc, number, first, text.as_slice()).ok()
+}
+
 /// The line on a message that gives no load orders.
 pub(crate) fn line_on_message<F: Files>(
     alloc: Global,
@@ -97,7 +128,8 @@ pub(crate) fn line_on_message<F: Files>(
     ensures plain { IfSome result (λ line. IsPlainText line.items) }
     ensures said { IfSome result (λ line. IsMessageLine ((F.known files.now).given name.now) fault.now line.items) }
 {
-    let number = segment_named(fault)?;
-    let text = files.begins(alloc, name, MAX_TEXT)?;
-    line_on_segment(alloc, number, text.as_slice()).ok()
+    match again_named(fault) {
+        Some((number, first)) => line_on_again_of(alloc, files, name, number, first),
+        None => line_on_segment_of(alloc, files, name, segment_named(fault)?),
+    }
 }

@@ -1,7 +1,7 @@
 //! What a fault of a message names of its text, an offset or a segment; and the files of a job, by their names.
 ghost use Rattle.std.specs.Prelude.{◌≡◌, option_map};
 ghost use Rattle.crp_jobs.specs.Names.{report_name};
-ghost use Rattle.crp_jobs.specs.Placed.{message_named, offset_named, report_named, segment_named, sizes_named, sizes_of, yard_named};
+ghost use Rattle.crp_jobs.specs.Placed.{again_named, message_named, offset_named, report_named, segment_named, sizes_named, sizes_of, yard_named};
 
 use crate::job::Job;
 use crp_movins::MovinsFault;
@@ -43,6 +43,28 @@ pub(crate) fn segment_named(fault: &MovinsFault) -> Option<usize>
         | MovinsFault::OrderedTwice { segment, .. }
         | MovinsFault::TooManyOrders { segment } => Some(*segment),
         MovinsFault::Memory => None,
+    }
+}
+
+/// The segment of one that orders a container again, with the one that orders it first.
+pub(crate) fn again_named(fault: &MovinsFault) -> Option<(usize, usize)>
+    ensures { result ≡ again_named fault.now }
+{
+    match fault {
+        MovinsFault::OrderedTwice { segment, first } => Some((*segment, *first)),
+        MovinsFault::NoInterchangeHeader { .. }
+        | MovinsFault::InterchangeHeader { .. }
+        | MovinsFault::FunctionalGroup { .. }
+        | MovinsFault::OutOfPlace { .. }
+        | MovinsFault::MessageCount { .. }
+        | MovinsFault::MessageReference { .. }
+        | MovinsFault::InterchangeCount { .. }
+        | MovinsFault::InterchangeReference { .. }
+        | MovinsFault::AfterTrailer { .. }
+        | MovinsFault::MessageType { .. }
+        | MovinsFault::SlotNumber { .. }
+        | MovinsFault::TooManyOrders { .. }
+        | MovinsFault::Memory => None,
     }
 }
 

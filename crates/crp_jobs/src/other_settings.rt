@@ -12,8 +12,8 @@ use crate::plain::FoundLine;
 use crate::report_lines::{MOST_REPORT, line_on_ended};
 use crp_audit::moves_fit;
 use crp_files::Files;
-use crp_movins::{Orders, load_orders};
-use crp_order::{Mode, sequence};
+use crp_movins::{Loading, Orders, load_orders};
+use crp_order::{Mode, sequence_of_bays};
 use crp_plan::{MAX_ROWS, MAX_TIERS};
 use crp_report::{InputSettings, numbers_of};
 use crp_said::{Numbers, numbers_text};
@@ -40,20 +40,20 @@ fn largest(alloc: Global) -> Sizes
     Sizes::of_heights(alloc, &same)
 }
 
-// The load orders of the message of an audit under this code.
+// The load orders that are read of the message of an audit.
 fn orders_again<F: Files>(
     alloc: Global,
     files: &F,
     names: &AuditFiles<'_>,
-    code: &[u8],
+    loading: &Loading,
 ) -> Option<Orders>
-    ensures { IfSome result (HasOrders (F.known files.now) names.now code.now) }
+    ensures { IfSome result (HasOrders (F.known files.now) names.now loading.now) }
 {
     let text = files.begins(alloc, names.movins, MAX_TEXT)?;
     let Ok(segments) = read_segments(alloc, text.as_slice()) else {
         return None;
     };
-    load_orders(alloc, &segments, code).ok()
+    load_orders(alloc, &segments, loading).ok()
 }
 
 // Whether the moves of the report of an audit fit this yard, where the ordered containers leave in the order of this mode.
@@ -61,16 +61,16 @@ fn fit_yard<F: Files>(
     alloc: Global,
     files: &F,
     names: &AuditFiles<'_>,
-    code: &[u8],
+    settings: &InputSettings,
     yard: &Yard,
     mode: Mode,
 ) -> Option<bool>
     requires named { AllByRecursion IsNamedBay yard.now.bays }
-    ensures { IfSome result (AreFitting (F.known files.now) names.now code.now yard.now mode) }
+    ensures { IfSome result (AreFitting (F.known files.now) names.now settings.now yard.now mode) }
 {
-    let orders = orders_again(alloc, files, names, code)?;
+    let orders = orders_again(alloc, files, names, settings.loading())?;
     let report = files.begins(alloc, names.report, MOST_REPORT)?;
-    let Ok(sequence) = sequence(alloc, orders, mode) else {
+    let Ok(sequence) = sequence_of_bays(alloc, yard, settings.bays(), orders, mode) else {
         return None;
     };
     moves_fit(alloc, yard, &sequence, report.as_slice()).ok()
@@ -88,7 +88,7 @@ fn fit_other_order<F: Files>(
 {
     let yard = yard_of_job(alloc, files, job, names.yard, settings.sizes())?;
     let mode = other_mode(settings.mode());
-    fit_yard(alloc, files, names, settings.code(), &yard, mode)
+    fit_yard(alloc, files, names, settings, &yard, mode)
 }
 
 // Whether they fit where all bays are of the largest size.
@@ -101,7 +101,7 @@ fn fit_largest<F: Files>(
     ensures { IfSome result (FitLargest (F.known files.now) names.now settings.now) }
 {
     let yard = yard_again(alloc, files, names.yard, &largest(alloc))?;
-    fit_yard(alloc, files, names, settings.code(), &yard, settings.mode())
+    fit_yard(alloc, files, names, settings, &yard, settings.mode())
 }
 
 // That the moves fit under this order.
@@ -153,11 +153,11 @@ fn numbers_again<F: Files>(
     ensures { IfSome result (AreInputNumbers (F.known files.now) job.now names.now settings.now) }
 {
     let yard = yard_of_job(alloc, files, job, names.yard, settings.sizes())?;
-    let orders = orders_again(alloc, files, names, settings.code())?;
+    let orders = orders_again(alloc, files, names, settings.loading())?;
     let Ok(same) = orders.copy(alloc) else {
         return None;
     };
-    let Ok(sequence) = sequence(alloc, same, settings.mode()) else {
+    let Ok(sequence) = sequence_of_bays(alloc, &yard, settings.bays(), same, settings.mode()) else {
         return None;
     };
     Some(numbers_of(&yard, &orders, &sequence))
