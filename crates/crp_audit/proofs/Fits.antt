@@ -1,9 +1,10 @@
 -- Which lines are those that are said, and which reports fit.
-use Rattle.std.proofs.Common.{◌≡◌, ◌∙◌, ◌↔◌, ℕ, true, false, IsTrue, List, [], ◌∷◌, ◌++◌, length, map, filter, Option, Some, None, refl, sym, ap, subst}
+use Rattle.std.proofs.Common.{◌≡◌, ◌==◌, ◌∙◌, ◌↔◌, ℕ, Bool, false, IsTrue, List, [], ◌∷◌, length, map, filter, Option, Some, None, refl, sym, ap, subst}
 use Rattle.std.specs.List.{AllByRecursion}
 use Rattle.std.specs.Prelude.{MatchOption}
-use Rattle.crp_plan.specs.Bay.{IsProblem}
-use Rattle.crp_plan.specs.BayNames.{YardBay}
+use Rattle.std.proofs.lemmas.Bool.{eqb-true}
+use Rattle.std.proofs.lemmas.List.{length-map}
+use Rattle.crp_plan.specs.Bay.{IsProblem, Problem}
 use Rattle.crp_yard.specs.Inventory.{StackedBay}
 use Rattle.crp_yard.specs.Naming.{FitsLine}
 use Rattle.crp_order.specs.declared.bay_problem.BayProblem.{BayProblem}
@@ -12,12 +13,13 @@ use Rattle.crp_said.specs.Said.{BaySaid, count_said}
 use Rattle.crp_said.specs.Spelled.{ReportSaid, SpellsReport, IsMisspelled}
 use Rattle.crp_said.proofs.OneReport.{one_report, not_both}
 use Rattle.crp_audit.specs.Headline.{Handed, Reported, problem_in, PrintsPlan}
-use Rattle.crp_audit.specs.Faults.{PrintsSaid, reported_as}
+use Rattle.crp_audit.specs.Faults.{reported_as}
 use Rattle.crp_audit.specs.Printed.{IsLookedAt}
 use Rattle.crp_audit.specs.Fitting.{FitsBay, FitsEach, MovesFit, is_as_said}
 use Rattle.crp_audit.specs.declared.looking.Looked.{Looked}
 use Rattle.crp_audit.specs.declared.looking.Looked.TheVariants.{Nothing, Plan, Stopped, Other}
 use Rattle.crp_audit.proofs.Apart.{plan_followed}
+use Rattle.crp_audit.proofs.Audited.{none_of}
 use Rattle.crp_audit.proofs.Bays.{prints}
 use Rattle.crp_audit.proofs.NoFault.{not_other}
 
@@ -52,6 +54,11 @@ stated_in h bay = bay_problem_of h.yard.sizes h.sequence bay
 -- the bay of this name
 abbrev LookedAt : BayProblem → BaySaid → Looked → Type 0
 LookedAt stated s looked = IsLookedAt stated.names stated.problem (count_said s.said) s.lines looked
+
+pub looked_as : (names other : List (List ℕ)) (p : Problem) (k m : Option ℕ) (lines more : List ℕ) (looked : Looked) → names ≡ other → k ≡ m → lines ≡ more
+    → IsLookedAt names p k lines looked → IsLookedAt other p m more looked
+looked_as names other p k m lines more looked a b c at =
+    subst (λ l. IsLookedAt other p m l looked) c (subst (λ (o : Option ℕ). IsLookedAt other p o lines looked) b (subst (λ (n : List (List ℕ)). IsLookedAt n p k lines looked) a at))
 
 pub bay_fits : (h : Handed) (bay : StackedBay) (stated : BayProblem) (s : BaySaid) (looked : Looked) → stated ≡ stated_in h bay → s.bay ≡ stated.bay
     → IsProblem stated.problem → AllByRecursion FitsLine stated.names → LookedAt stated s looked → IsTrue (is_as_said looked) ↔ FitsBay h bay s
@@ -135,6 +142,13 @@ pub at_end : (h : Handed) (bays : List StackedBay) (said more : List BaySaid) (l
 at_end h bays said more later left none =
     let end = end_of h left.rest more (sym none ∙ left.later_are) in
     (λ e. (left.same).0 (end.1 e), λ all. end.0 ((left.same).1 all))
+
+-- nothing more is said
+pub empty_is : {A B : Type 0} (f : A → B) (xs : List A) (t : Bool) → t ≡ (length xs == 0) → IsTrue t ↔ (map f xs ≡ [])
+empty_is f xs t e = (
+  λ y. ap (map f) (none_of xs (eqb-true (length xs) 0 (sym e ∙ y))),
+  λ none. e ∙ ap (λ n. n == 0) (sym (length-map xs f) ∙ ap length none),
+)
 
 -- ---- the report
 

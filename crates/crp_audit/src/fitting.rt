@@ -56,7 +56,8 @@ fn fits_each(alloc: Global, stated: &[BayProblem], said: &[SaidBay]) -> Result<b
         let Some((bay, after)) = more.split_first() else {
             return Ok(false);
         };
-        if !fits_bay(alloc, next, bay)? {
+        let fits = fits_bay(alloc, next, bay)?;
+        if !fits {
             return Ok(false);
         }
         later = behind;
