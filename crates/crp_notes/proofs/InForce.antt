@@ -17,7 +17,7 @@ module _ (segments : List SegmentParts) (loading : Loading) (i : ℕ) (s : Stand
   after-header k reference text = record {
     messages = rw (add-one i, k.begins) (ap (λ n. n + 1) h.messages);
     read = rw (add-one i, k.begins) (ap (reads loading.messages) text);
-    loading = rw (add-one i, k.settles, k.handles) refl;
+    in_force = rw (add-one i, k.settles, k.handles) refl;
     group = rw (add-one i, k.ends, k.opens) refl;
     container = rw (add-one i, k.ends, k.contains) refl;
   }
@@ -27,7 +27,7 @@ module _ (segments : List SegmentParts) (loading : Loading) (i : ℕ) (s : Stand
   after-handling b found k text same = record {
     messages = rw (add-one i, k.begins) h.messages;
     read = rw (add-one i, k.begins) h.read;
-    loading = rw (add-one i, k.settles, k.handles) (same ∙ rw (text, h.read) refl);
+    in_force = rw (add-one i, k.settles, k.handles) (same ∙ rw (text, h.read) refl);
     group = rw (add-one i, k.ends, k.opens) refl;
     container = rw (add-one i, k.ends, k.contains) refl;
   }
@@ -37,8 +37,8 @@ module _ (segments : List SegmentParts) (loading : Loading) (i : ℕ) (s : Stand
   after-slot slot k text = record {
     messages = rw (add-one i, k.begins) h.messages;
     read = rw (add-one i, k.begins) h.read;
-    loading = rw (add-one i, k.settles) h.loading;
-    group = rw (add-one i, k.ends, k.opens, h.loading) (by (is_loading segments loading i));
+    in_force = rw (add-one i, k.settles) h.in_force;
+    group = rw (add-one i, k.ends, k.opens, h.in_force) (by (is_loading segments loading i));
     container = rw (add-one i, k.ends, k.contains) refl;
   }
     where
@@ -51,7 +51,7 @@ module _ (segments : List SegmentParts) (loading : Loading) (i : ℕ) (s : Stand
   after-container k = record {
     messages = rw (add-one i, k.begins) h.messages;
     read = rw (add-one i, k.begins) h.read;
-    loading = rw (add-one i, k.settles) h.loading;
+    in_force = rw (add-one i, k.settles) h.in_force;
     group = rw (add-one i, k.ends) h.group;
     container = rw (add-one i, k.ends, k.contains, k.contains) refl;
   }
@@ -61,14 +61,14 @@ module _ (segments : List SegmentParts) (loading : Loading) (i : ℕ) (s : Stand
   after-other k = record {
     messages = rw (add-one i, k.begins) h.messages;
     read = rw (add-one i, k.begins) h.read;
-    loading = rw (add-one i, k.settles) h.loading;
+    in_force = rw (add-one i, k.settles) h.in_force;
     group = rw (add-one i, k.ends) h.group;
     container = rw (add-one i, k.ends, k.contains) h.container;
   }
 
   pub slot-named : (slot : Bor (List ℕ)) → IsKind (segment_numbered segments i) false false true false → slot.now ≡ component_of (segment_numbered segments i) 2 1 → option_map (λ (t : Bor (List ℕ)). t.now) (cond s.is_loading (Some slot) None) ≡ option_map (λ j. text_at segments j 2 1) (named_group segments loading i)
   unfolding kind_at text_at
-  slot-named slot k text = rw (k.opens, k.contains, h.loading) (by (is_loading segments loading i) (has_container segments i))
+  slot-named slot k text = rw (k.opens, k.contains, h.in_force) (by (is_loading segments loading i) (has_container segments i))
     where
       by : (b c : Bool) → option_map (λ (t : Bor (List ℕ)). t.now) (cond b (Some slot) None) ≡ option_map (λ j. text_at segments j 2 1) (cond b (Some i) (cond c None None))
       by true c = ap Some text

@@ -1,6 +1,6 @@
 -- The bays of one size, and the places in which containers stand in them, with one row or one bay more.
-use Rattle.std.proofs.Common.{◌≡◌, ◌∙◌, ℕ, ◌+◌, ◌-◌, ◌<◌, ◌≤◌, suc, Bool, true, false, cond, List, [], ◌∷◌, ◌++◌, length, length-append, length-take, append-nil, map, take, fold, Option, Some, None, slice_get, refl, sym, ap, subst, arith, tests}
-use Rattle.std.specs.Prelude.{nat_lt, ◌&&◌, ◌||◌, max, option_map, option_and_then}
+use Rattle.std.proofs.Common.{◌≡◌, ◌∙◌, ℕ, ◌+◌, ◌-◌, ◌≤◌, suc, Bool, true, false, cond, List, [], ◌∷◌, ◌++◌, length, append-nil, map, take, fold, Option, Some, None, slice_get, refl, sym, ap, subst, arith, tests}
+use Rattle.std.specs.Prelude.{nat_lt, ◌||◌, max, option_map, option_and_then}
 use Rattle.std.specs.List.{list_any}
 use Rattle.std.specs.Str.{bytes_eq}
 use Rattle.std.proofs.lemmas.List.{map_push, take_more, take_all, length-take-le}

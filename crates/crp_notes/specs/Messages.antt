@@ -32,6 +32,6 @@ IsSaid segment Other = IsKind segment false false false false
 pub record IsStanding (segments : List SegmentParts) (loading : Loading) (i : ℕ) (standing : Standing) : Type 0 where
   pub messages : standing.messages ≡ count_before is_message_header segments i
   pub read : standing.is_read ≡ is_read segments loading i
-  pub loading : standing.is_loading ≡ is_loading segments loading i
+  pub in_force : standing.is_loading ≡ is_loading segments loading i
   pub group : option_map (λ slot. slot.now) standing.group ≡ option_map (λ j. text_at segments j 2 1) (loading_group segments loading i)
   pub container : standing.has_container ≡ has_container segments i

@@ -22,6 +22,10 @@ function_note message function words = note_of (
     codes "message " ∷ decimal message ∷ codes " is no original, its BGM has function " ∷ quoted function ∷ words
     ∷ codes "; it is read as an order all the same, so check that it is to be loaded" ∷ [])
 
+-- the words name this reference, and no message has it
+abbrev pub unknown_message_note : List ℕ → List ℕ
+unknown_message_note reference = note_of (codes "no message has the reference " ∷ quoted reference ∷ codes ", which --message names" ∷ [])
+
 -- no container is ordered under the loading code, and the message has no handling code
 abbrev pub no_codes_note : List ℕ → List ℕ
 no_codes_note code = note_of (codes "no container is ordered under the handling code " ∷ quoted code ∷ codes "; the message has no handling code" ∷ [])
@@ -59,6 +63,10 @@ bay_name bay = bay.block ++ (codes " " ++ decimal bay.bay)
 
 abbrev pub bay_words : YardBay → List ℕ
 bay_words bay = codes "bay " ++ bay_name bay
+
+-- the words name this bay, and the yard has it not
+abbrev pub unknown_bay_note : YardBay → List ℕ
+unknown_bay_note bay = note_of (codes "the yard list has no " ∷ bay_words bay ∷ codes ", which --bay names" ∷ [])
 
 -- the tiers of rows: `8 tiers` where each has so many, else those of each row, as `8.8.5 tiers`
 abbrev pub tiers_words : List ℕ → List ℕ

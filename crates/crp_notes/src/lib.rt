@@ -21,6 +21,7 @@ mod slots;
 mod standing;
 mod terminal;
 mod tiers;
+mod unknown;
 mod wording;
 
 pub use left::note_left;

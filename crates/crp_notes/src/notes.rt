@@ -4,18 +4,17 @@ ghost use Rattle.crp_report.specs.Watching.{ShowsMore};
 use crate::bays::bay_note;
 use crate::containers::absent_names;
 use crate::lines::Lines;
-use crate::message::{
-    MAX_LISTED, Says, handling_codes, is_original, messages, said_by, words_of,
-};
+use crate::message::{MAX_LISTED, Says, handling_codes, is_original, messages, said_by, words_of};
 use crate::naming::namings;
 use crate::progress::{Progress, bay_line};
 use crate::sizes::{Size, keep_answer, sizes_before};
 use crate::slots::shared_slots;
 use crate::standing::Standing;
 use crate::terminal::Terminal;
+use crate::unknown::{has_bay, has_message};
 use crate::wording::{
     absent_note, alike_note, codes_note, function_note, messages_note, no_codes_note, size_note,
-    slots_note,
+    slots_note, unknown_bay_note, unknown_message_note,
 };
 use crp_movins::Loading;
 use crp_order::{BayProblem, Mode, Sequence, alike};
@@ -108,20 +107,72 @@ impl<'a, T: Terminal> Notes<'a, T> {
         }
     }
 
+    // A reference that the words name, and no message has.
+    fn message_named<E: Sink>(
+        &mut self,
+        alloc: Global,
+        segments: &Segments,
+        reference: &[u8],
+        errors: &mut E,
+    )
+        ensures { ShowsMore (E.contents errors.old) (E.contents errors.new) }
+    {
+        if !has_message(segments, reference) {
+            self.lines
+                .note(errors, unknown_message_note(alloc, reference));
+        }
+    }
+
+    // References that the words name, and no message has.
+    fn messages_named<E: Sink>(
+        &mut self,
+        alloc: Global,
+        segments: &Segments,
+        loading: &Loading,
+        errors: &mut E,
+    )
+        ensures { ShowsMore (E.contents errors.old) (E.contents errors.new) }
+    {
+        for reference in loading.messages() {
+            self.message_named(alloc, segments, reference.bytes(), errors);
+        }
+    }
+
+    // A bay that the words name, and the yard has not.
+    fn bay_named<E: Sink>(&mut self, alloc: Global, yard: &Yard, name: &BayName, errors: &mut E)
+        ensures { ShowsMore (E.contents errors.old) (E.contents errors.new) }
+    {
+        if !has_bay(yard, name) {
+            self.lines.note(errors, unknown_bay_note(alloc, name));
+        }
+    }
+
+    // Bays that the words name, and the yard has not.
+    fn bays_named<E: Sink>(&mut self, alloc: Global, yard: &Yard, names: &[BayName], errors: &mut E)
+        ensures { ShowsMore (E.contents errors.old) (E.contents errors.new) }
+    {
+        for name in names {
+            self.bay_named(alloc, yard, name, errors);
+        }
+    }
+
     // No order under the loading code.
     fn codes<E: Sink>(
         &mut self,
         alloc: Global,
         segments: &Segments,
         sequence: &Sequence,
-        code: &[u8],
+        settings: &InputSettings,
         errors: &mut E,
     )
         ensures { ShowsMore (E.contents errors.old) (E.contents errors.new) }
     {
-        if !sequence.list().is_empty() {
+        let loading = settings.loading();
+        let is_for_all = settings.bays().is_empty() && messages(segments, loading) > 0;
+        if !is_for_all || !sequence.list().is_empty() {
             return;
         }
+        let code = loading.code();
         let Ok((found, more)) = handling_codes(alloc, segments) else {
             return;
         };
@@ -150,7 +201,13 @@ impl<'a, T: Terminal> Notes<'a, T> {
     }
 
     // Slots that several orders of one message name.
-    fn slots<E: Sink>(&mut self, alloc: Global, segments: &Segments, loading: &Loading, errors: &mut E)
+    fn slots<E: Sink>(
+        &mut self,
+        alloc: Global,
+        segments: &Segments,
+        loading: &Loading,
+        errors: &mut E,
+    )
         ensures { ShowsMore (E.contents errors.old) (E.contents errors.new) }
     {
         let Ok(namings) = namings(alloc, segments, loading) else {
@@ -250,8 +307,10 @@ impl<'a, T: Terminal + Sync> Watch for Notes<'a, T> {
     ) {
         let input = settings.input();
         let loading = input.loading();
+        self.messages_named(alloc, segments, loading, errors);
+        self.bays_named(alloc, yard, input.bays(), errors);
         self.functions(alloc, segments, loading, errors);
-        self.codes(alloc, segments, sequence, loading.code(), errors);
+        self.codes(alloc, segments, sequence, input, errors);
         self.mixed(alloc, segments, input, errors);
         self.slots(alloc, segments, loading, errors);
         self.absent(alloc, yard, sequence, errors);

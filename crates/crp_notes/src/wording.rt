@@ -1,6 +1,6 @@
 //! Words the notes.
 ghost use Rattle.std.specs.Prelude.{◌≡◌, ◌==◌, [], ◌++◌, IfOk, OnOk, length, take, map, flat_map, nat_lt, codes, if◌then◌else◌};
-ghost use Rattle.crp_notes.specs.Wording.{note_of, quoted, listed, function_note, no_codes_note, codes_note, messages_note, absent_note, alike_note, slots_note, bay_name, bay_words, which_words, beyond_note, open_note, no_plan_note, size_note, left_note, loaded_note, more_note};
+ghost use Rattle.crp_notes.specs.Wording.{note_of, quoted, listed, function_note, no_codes_note, codes_note, messages_note, absent_note, alike_note, slots_note, unknown_message_note, unknown_bay_note, bay_name, bay_words, which_words, beyond_note, open_note, no_plan_note, size_note, left_note, loaded_note, more_note};
 
 use crate::message::MAX_LISTED;
 use crate::tiers::tiers_words;
@@ -235,6 +235,28 @@ fn bay_words(alloc: Global, bay: &BayName) -> Result<Vec<u8>, AllocError>
     let mut text = Vec::from_slice(alloc, b"bay ")?;
     text.extend_from_slice(&name)?;
     Ok(text)
+}
+
+/// The words name this reference, and no message has it.
+pub(crate) fn unknown_message_note(alloc: Global, reference: &[u8]) -> Result<Vec<u8>, AllocError>
+    ensures { IfOk result (λ text. text.items ≡ unknown_message_note reference.now) }
+{
+    let reference = quoted(alloc, reference)?;
+    let parts: [&[u8]; 3] = [
+        b"no message has the reference ",
+        &reference,
+        b", which --message names",
+    ];
+    note_of(alloc, parts.as_slice())
+}
+
+/// The words name this bay, and the yard has it not.
+pub(crate) fn unknown_bay_note(alloc: Global, bay: &BayName) -> Result<Vec<u8>, AllocError>
+    ensures { IfOk result (λ text. text.items ≡ unknown_bay_note bay.now) }
+{
+    let bay = bay_words(alloc, bay)?;
+    let parts: [&[u8]; 3] = [b"the yard list has no ", &bay, b", which --bay names"];
+    note_of(alloc, parts.as_slice())
 }
 
 // Which bays are so.

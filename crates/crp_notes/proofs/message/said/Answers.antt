@@ -7,7 +7,7 @@ use Rattle.crp_notes.proofs.message.said.Goals as goal
 pub returns-then-is_text : goal.returns-then-is_text
 returns-then-is_text c = (
   header c.args.segment.now (sym c.tag-tag.ensures ∙ (bytes_eq-Decides c.tag-tag.result.now (codes "UNH")).0 (sym c.is_text.ensures ∙ c.if-is_text.true)),
-  c.component-then-is_text.ensures,
+  c.component.ensures,
 )
 
 pub returns-then-is_text-2 : goal.returns-then-is_text-2

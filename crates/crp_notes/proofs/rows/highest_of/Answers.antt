@@ -1,8 +1,8 @@
-use Rattle.std.proofs.Common.{◌∙◌, ◌++◌, ◌∷◌, [], List, true, false, take, sym, ap, arith}
+use Rattle.std.proofs.Common.{◌∙◌, List, true, false, take, sym, ap, arith}
 use Rattle.std.specs.Prelude.{max}
 use Rattle.std.proofs.lemmas.List.{take_all}
 use Rattle.crp_yard.specs.Inventory.{StackedBay}
-use Rattle.crp_notes.specs.Beyond.{of_size, last_row, top_tier, last_row_of, top_tier_of}
+use Rattle.crp_notes.specs.Beyond.{of_size, last_row_of, top_tier_of}
 use Rattle.crp_notes.proofs.Placed.{bay_more, highest_more}
 use Rattle.crp_notes.proofs.rows.highest_of.Goals.{then-eq, else-eq}
 use Rattle.crp_notes.proofs.rows.highest_of.Goals as goal

@@ -5,4 +5,4 @@ use Rattle.crp_words.proofs.commands.audit.Goals as goal
 pub returns : goal.returns
 returns c =
     let sized = c.in_ok-sized.ensures audit_files c.in_ok-audit_files.ensures in
-    IfOk-weaker c.with_orders.result _ _ (λ new more. more (with_size audit_files) sized) c.with_orders.ensures
+    IfOk-weaker c.with_bays.result _ _ (λ new more. more (with_size audit_files) sized) c.with_bays.ensures

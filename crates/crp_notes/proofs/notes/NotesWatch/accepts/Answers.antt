@@ -3,5 +3,7 @@ use Rattle.crp_notes.proofs.notes.NotesWatch.accepts.Goals as goal
 
 pub returns : goal.returns
 returns g c =
-    shows_then _ _ _ c.functions.ensures
-    (shows_then _ _ _ c.codes.ensures (shows_then _ _ _ c.mixed.ensures (shows_then _ _ _ c.slots.ensures c.absent.ensures)))
+    shows_then _ _ _ c.messages_named.ensures
+    (shows_then _ _ _ c.bays_named.ensures
+    (shows_then _ _ _ c.functions.ensures
+    (shows_then _ _ _ c.codes.ensures (shows_then _ _ _ c.mixed.ensures (shows_then _ _ _ c.slots.ensures c.absent.ensures)))))
