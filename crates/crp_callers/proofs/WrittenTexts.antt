@@ -58,7 +58,7 @@ input_is chosen listing messages list message yard orders sequence e f is = reco
 -- ---- `absent`
 
 pub absent_listed : (chosen : InputChosen) (s : AbsentSeen) (list message text : List ℕ) → s.yard.given ≡ Some list → s.movins.given ≡ Some message → IsFilled s.out text
-    → Lists chosen s → (yard : Inventory) × (orders : LoadOrders) × IsYardListOf chosen.sizes list yard × AreOrders chosen.code message orders
+    → Lists chosen s → (yard : Inventory) × (orders : LoadOrders) × IsYardListOf chosen.sizes list yard × AreOrders chosen.loading message orders
     × (text ≡ absent_text yard orders.list)
 absent_listed chosen s list message text e f filled (said, (yard, orders, sequence, input, is), gets) =
     let are = input_is chosen s.yard s.movins list message yard orders sequence e f input in

@@ -96,7 +96,7 @@ pub fn listed_absent(
     settings: &InputSettings,
 ) -> Result<Vec<u8>, ToolFault>
     ensures { IfOk result (λ text. (yard : Inventory) × (orders : LoadOrders) × IsYardListOf settings.now.sizes list.now yard
-        × AreOrders settings.now.code message.now orders × (text.items ≡ absent_text yard orders.list)) }
+        × AreOrders settings.now.loading message.now orders × (text.items ≡ absent_text yard orders.list)) }
 {
     let mut yard_from = list;
     let mut orders_from = message;

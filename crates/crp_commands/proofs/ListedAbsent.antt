@@ -1,11 +1,22 @@
--- How a list of absent containers ends over files, from how it does over its sources.
-use Rattle.std.proofs.Common.{Result, Ok, Err, MatchResult, inr}
+-- Which list of absent containers is written, and how it ends over files, from how it does over its sources.
+use Rattle.std.proofs.Common.{◌≡◌, ◌∙◌, ℕ, List, Result, Ok, Err, MatchResult, ap, inr}
+use Rattle.crp_yard.specs.Inventory.{Inventory}
+use Rattle.crp_movins.specs.LoadOrders.{LoadOrders}
+use Rattle.crp_movins.specs.declared.order.Order.{Order}
+use Rattle.crp_order.specs.Absences.{absent_text}
 use Rattle.crp_report.specs.declared.status.Status.{Status}
 use Rattle.crp_report.specs.Chosen.{InputChosen}
+use Rattle.crp_report.specs.Runs.{SourceSeen}
 use Rattle.crp_jobs.specs.declared.job.AbsentFiles.{AbsentFiles}
 use Rattle.crp_jobs.specs.declared.outcome.ToolFault.{ToolFault}
 use Rattle.crp_jobs.specs.Opened.{FilesSeen}
-use Rattle.crp_commands.specs.Absent.{AbsentSeen, AbsentEnds, AbsentFails, AbsentReportsOverFiles, AbsentFailsOverFiles, IsOverInput}
+use Rattle.crp_commands.specs.Absent.{AbsentSeen, AbsentEnds, AbsentFails, AbsentReportsOverFiles, AbsentFailsOverFiles, IsAbsentText, IsOverInput}
+use Rattle.crp_commands.specs.Audit.{IsInputOf}
+
+pub is_listed : (chosen : InputChosen) (yard movins : SourceSeen) (stands : Inventory) (orders : LoadOrders) (sequence : List (List ℕ)) (list : List Order) (made text : List ℕ)
+    → IsInputOf chosen yard movins stands orders sequence → list ≡ orders.list → made ≡ absent_text stands list → text ≡ made → IsAbsentText chosen yard movins text
+is_listed chosen yard movins stands orders sequence list made text input same lists written =
+    (stands, orders, sequence, input, written ∙ lists ∙ ap (absent_text stands) same)
 
 pub over_input : (names : AbsentFiles) (chosen : InputChosen) (files : FilesSeen) (s : AbsentSeen) (answer : Result Status ToolFault) → IsOverInput files names s.out s
     → MatchResult answer (AbsentEnds chosen s) (AbsentFails chosen s)
