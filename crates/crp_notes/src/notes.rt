@@ -168,7 +168,8 @@ impl<'a, T: Terminal> Notes<'a, T> {
         ensures { ShowsMore (E.contents errors.old) (E.contents errors.new) }
     {
         let loading = settings.loading();
-        let is_for_all = settings.bays().is_empty() && messages(segments, loading) > 0;
+        let is_read = loading.messages().is_empty() || messages(segments, loading) > 0;
+        let is_for_all = settings.bays().is_empty() && is_read;
         if !is_for_all || !sequence.list().is_empty() {
             return;
         }
