@@ -5,13 +5,15 @@ use std::alloc::{AllocError, Global};
 pub(crate) const REPORT: &str = "audited-report.txt";
 
 // The options of `solve` that say what its input means.
-const OF_INPUT: [&str; 6] = [
+const OF_INPUT: [&str; 8] = [
     "--rows",
     "--tiers",
     "--heights",
     "--sizes",
     "--order",
     "--code",
+    "--message",
+    "--bay",
 ];
 
 // Its other options with a value.

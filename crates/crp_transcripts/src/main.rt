@@ -5,8 +5,8 @@
 //! - `# NOTE` says what is shown, and has no text;
 //! - `> NAME` writes its text to the file of this name;
 //! - `~ NAME FILE` makes a symbolic link of this name, which leads to this file, and `+ NAME FILE` a hard link;
-//! - `$ crp WORDS` runs the program with these words, and its text is what the standard output must get. With `< NAME` at the end the
-//!   standard input is what the file of this name holds, else it is empty;
+//! - `$ crp WORDS` runs the program with these words, and its text is what the standard output must get. A word that stands between two
+//!   `'` may have blanks. With `< NAME` at the end the standard input is what the file of this name holds, else it is empty;
 //! - `!` has as its text what the standard error must have got from the run. With no such block that is nothing;
 //! - `? STATUS` is the exit status that the run must have had. With no such block that is 0;
 //! - `= NAME` has as its text what the file of this name must hold;

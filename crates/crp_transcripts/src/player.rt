@@ -5,6 +5,7 @@ use crp_commands::{NoTerminal, Streams};
 use crp_files::SystemFiles;
 use crp_plan::{Counted, Received, write_all};
 use crp_words::run_words;
+use std::alloc::{AllocError, Global};
 use std::os::unix::fs::symlink;
 use std::sync::Wait;
 use std::thread::Threads;
@@ -20,14 +21,30 @@ struct Played {
     audited: u32,
 }
 
+// The words between blanks; what stands between two quotes is one word.
+fn unquoted<'a>(alloc: Global, text: &'a str) -> Result<Vec<&'a str>, AllocError> {
+    let mut words = Vec::new(alloc);
+    let mut is_quoted = false;
+    for part in text.split('\'') {
+        if is_quoted {
+            words.push(part)?;
+        } else {
+            for word in part.split_whitespace() {
+                words.push(word)?;
+            }
+        }
+        is_quoted = !is_quoted;
+    }
+    Ok(words)
+}
+
 // The words of a run, and the file whose bytes are its standard input.
 fn words_of<'a>(rt: &HostRuntime, words: &'a str) -> io::Result<(Vec<&'a str>, Option<&'a str>)> {
     let (words, input) = match words.split_once(" < ") {
         Some((words, input)) => (words, Some(input)),
         None => (words, None),
     };
-    let words: Vec<&str> = words.split_whitespace().collect(rt.alloc())?;
-    Ok((words, input))
+    Ok((unquoted(rt.alloc(), words)?, input))
 }
 
 fn input_of(rt: &HostRuntime, name: Option<&str>) -> io::Result<Vec<u8>> {
