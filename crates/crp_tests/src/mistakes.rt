@@ -10,7 +10,7 @@ fn is_wrong(alloc: Global, words: &[&str]) -> bool {
 
 // Words that ask for nothing: a file or a value is missing, or there is one too many; an option is given twice, or is none of its command; a
 // value is no number; heights stand beside rows or tiers.
-const WRONG: [&[&str]; 32] = [
+const WRONG: [&[&str]; 33] = [
     &["replay"],
     &["a", "replay"],
     &["bound", "a", "b"],
@@ -42,6 +42,7 @@ const WRONG: [&[&str]; 32] = [
     &["solve", "a", "b", "--heights=3", "--heights=3"],
     &["absent", "a"],
     &["absent", "a", "b", "--cert=c"],
+    &["absent", "a", "b", "--bay=A 1"],
     &["absent", "a", "b", "--rows=3", "--heights=3"],
 ];
 
