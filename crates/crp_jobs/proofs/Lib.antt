@@ -2,3 +2,4 @@
 pub mod Shown
 pub mod LineSteps
 pub mod FirstSteps
+pub mod AgainSteps

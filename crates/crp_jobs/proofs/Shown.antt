@@ -66,6 +66,11 @@ pub six_pieces : (a b c d e f t u v w x y z : List ℕ) → t ≡ [] → u ≡ t
     → z ≡ a ++ (b ++ (c ++ (d ++ (e ++ f))))
 six_pieces a b c d e f t u v w x y z g h i j k l m = rw (m, l, k, j, i, h, g) (simp append_assoc)
 
+-- and seven
+pub seven_pieces : (a b c d e f g s t u v w x y z : List ℕ) → s ≡ [] → t ≡ s ++ a → u ≡ t ++ b → v ≡ u ++ c → w ≡ v ++ d → x ≡ w ++ e → y ≡ x ++ f → z ≡ y ++ g
+    → z ≡ a ++ (b ++ (c ++ (d ++ (e ++ (f ++ g)))))
+seven_pieces a b c d e f g s t u v w x y z h i j k l m n o = rw (o, n, m, l, k, j, i, h) (simp append_assoc)
+
 -- two to four pieces behind others
 pub two_more : (old a b y z : List ℕ) → y ≡ old ++ a → z ≡ y ++ b → z ≡ old ++ (a ++ b)
 two_more old a b y z e f = f ∙ ap (λ (t : List ℕ). t ++ b) e ∙ append_assoc old a b

@@ -1,6 +1,6 @@
 -- What is said of a report that is audited, of which a move is not legal or the three numbers are others: under which settings its moves fit, and which
 -- numbers the input gives. The yard list, the message and the report are read again.
-use Rattle.std.specs.Prelude.{◌≡◌, ◌↔◌, ℕ, Bool, true, false, IsTrue, List, [], ◌++◌, Option, replicate, if◌then◌else◌, codes}
+use Rattle.std.specs.Prelude.{◌≡◌, ◌↔◌, ℕ, Bool, IsTrue, List, [], ◌++◌, Option, replicate, if◌then◌else◌, codes}
 use Rattle.crp_sizes.specs.Sizes.{YardSizes, one_size}
 use Rattle.crp_yard.specs.Inventory.{Inventory}
 use Rattle.crp_yard.specs.Reading.{IsYardListOf}

@@ -53,7 +53,10 @@ fn orders_again<F: Files>(
     let Ok(segments) = read_segments(alloc, text.as_slice()) else {
         return None;
     };
-    load_orders(alloc, &segments, loading).ok()
+    let Ok(orders) = load_orders(alloc, &segments, loading) else {
+        return None;
+    };
+    Some(orders)
 }
 
 // Whether the moves of the report of an audit fit this yard, where the ordered containers leave in the order of this mode.
@@ -73,7 +76,10 @@ fn fit_yard<F: Files>(
     let Ok(sequence) = sequence_of_bays(alloc, yard, settings.bays(), orders, mode) else {
         return None;
     };
-    moves_fit(alloc, yard, &sequence, report.as_slice()).ok()
+    let Ok(fit) = moves_fit(alloc, yard, &sequence, report.as_slice()) else {
+        return None;
+    };
+    Some(fit)
 }
 
 // Whether they fit where the containers leave in the other order.

@@ -1,0 +1,26 @@
+use Rattle.std.proofs.Common.{List, ℕ, [], IsTrue, subst}
+use Rattle.std.specs.Prelude.{◌↔◌}
+use Rattle.crp_plan.specs.BayNames.{YardBay}
+use Rattle.crp_movins.specs.Loading.{Loading}
+use Rattle.crp_order.specs.OfBays.{IsSequenceOf}
+use Rattle.crp_audit.specs.Headline.{handed}
+use Rattle.crp_audit.specs.Fitting.{MovesFit}
+use Rattle.crp_jobs.specs.OtherSettings.{HasOrders}
+use Rattle.crp_jobs.proofs.other_settings.fit_yard.Goals as goal
+
+pub returns : goal.returns
+returns g c =
+    let known = g.F.Files.known c.args.files.now in
+    let yard = c.args.yard.now in
+    let orders = c.in_ok-orders.orders in
+    let sequence = c.in-Ok.sequence in
+    let fit = c.in-Ok-moves_fit.fit in
+    record {
+      orders = orders;
+      sequence = sequence;
+      report = c.in_ok-report.report.items;
+      ordered = subst (λ (l : Loading). HasOrders known c.args.names.now l orders) c.loading.ensures c.in_ok-orders.ensures;
+      in_sequence = subst (λ (b : List YardBay). IsSequenceOf c.args.mode b yard orders.list sequence) c.bays.ensures c.in-Ok.ensures;
+      front = c.in_ok-report.ensures.front;
+      fit_is = subst (λ (r : List ℕ). IsTrue fit ↔ MovesFit (handed yard orders sequence r [])) c.as_slice.ensures.value (c.in-Ok-moves_fit.ensures orders []);
+    }
