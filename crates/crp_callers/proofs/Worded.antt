@@ -15,7 +15,7 @@ use Rattle.crp_report.specs.declared.status.Status.{Status}
 use Rattle.crp_report.specs.Runs.{SourceSeen, SinkSeen}
 use Rattle.crp_solve.specs.declared.settings.TheConstants.{MAX_BUDGET, MAX_BEAM, MAX_THIN}
 use Rattle.crp_jobs.specs.declared.job.Job.{Job}
-use Rattle.crp_jobs.specs.declared.job.Job.TheVariants.{OneFile, Audit, Follow, Solve}
+use Rattle.crp_jobs.specs.declared.job.Job.TheVariants.{Absent, OneFile, Audit, Follow, Solve}
 use Rattle.crp_jobs.specs.declared.job.FileCommand.TheVariants as command
 use Rattle.crp_jobs.specs.declared.outcome.ToolFault.{ToolFault}
 use Rattle.crp_jobs.specs.declared.outcome.ToolFault.TheVariants as fault
@@ -38,7 +38,7 @@ use Rattle.crp_words.specs.declared.usage.Usage.{Usage}
 use Rattle.crp_words.specs.declared.usage.Usage.TheVariants as usage
 use Rattle.crp_words.specs.Commands.{crp}
 use Rattle.crp_words.specs.Endings.{JobEnds, ProgramEnds, UsageEnds}
-use Rattle.crp_words.specs.Words.{HasBeam, HasNumber, HasNumberBeyond, HasThin, IsGivenByWords, Refuses, WordsAsk, WordsHaveFault, IsSolveFault, FindsSizes, MayFindHeights, heights_or, value_source_of, words_or_default}
+use Rattle.crp_words.specs.Words.{given_texts, HasBeam, HasNumber, HasNumberBeyond, HasThin, IsGivenByWords, Refuses, WordsAsk, WordsHaveFault, IsSolveFault, FindsSizes, MayFindHeights, heights_or, value_source_of, words_or_default}
 use Rattle.crp_callers.specs.AskedFor.{HasHeights, IsOfSetting, IsStrongSearch}
 use Rattle.crp_callers.proofs.OverFiles.{Done, Failed, as_run}
 use Rattle.crp_callers.proofs.Reporting.{command_reported}
@@ -136,6 +136,7 @@ check_is_done (OneFile file command.Replay) (free, (name, is)) seen ended bytes 
 check_is_done (OneFile file (command.Bound chains)) (free, (name, is)) seen ended bytes lines given held holds done = absurd (other_letter 99 98 _ _ refl name.0)
 check_is_done (OneFile file (command.Prove chosen)) (free, (name, is)) seen ended bytes lines given held holds done =
     absurd (other_letter 99 112 _ _ refl name.0)
+check_is_done (Absent names settings) (free, (name, size, files, has)) seen ended bytes lines given held holds done = absurd (other_letter 99 97 _ _ refl name)
 check_is_done (Audit names settings) (free, (name, size, files, has)) seen ended bytes lines given held holds done = absurd (other_letter 99 97 _ _ refl name)
 check_is_done (Follow names settings) (free, (name, clear, files, has)) seen ended bytes lines given held holds done = absurd (other_letter 99 102 _ _ refl name)
 check_is_done (Solve names settings quiet progress) (free, (name, size, twice, files, has, a, b)) seen ended bytes lines given held holds done =
@@ -225,6 +226,7 @@ job_is_linked seen errors status one (OneFile file command.Replay) (free, (name,
 job_is_linked seen errors status one (OneFile file (command.Bound chains)) (free, (name, is)) ends = absurd (other_letter 115 98 _ _ refl name.0)
 job_is_linked seen errors status one (OneFile file (command.Check any_size)) (free, (name, is)) ends = absurd (other_letter 115 99 _ _ refl name.0)
 job_is_linked seen errors status one (OneFile file (command.Prove chosen)) (free, (name, is)) ends = absurd (other_letter 115 112 _ _ refl name.0)
+job_is_linked seen errors status one (Absent names settings) (free, (name, size, files, has)) ends = absurd (other_letter 115 97 _ _ refl name)
 job_is_linked seen errors status one (Audit names settings) (free, (name, size, files, has)) ends = absurd (other_letter 115 97 _ _ refl name)
 job_is_linked seen errors status one (Follow names settings) (free, (name, clear, files, has)) ends = absurd (other_letter 115 102 _ _ refl name)
 
@@ -260,6 +262,7 @@ record AtLimits (found : List Row) : Type 0 where
   beam : one_of (codes "beam") found ≡ Some (codes "10000")
   thin : one_of (codes "thin") found ≡ Some (codes "1000000")
   budget : one_of (codes "budget") found ≡ Some (codes "1099511627776")
+  bays : given_texts (codes "bay") found ≡ []
 
 sizes_at : (found : List Row) (sizes : YardSizes) → AtLimits found → FindsSizes found sizes → sizes ≡ one_size (replicate 12 8)
 sizes_at found sizes at finds = by_own finds.own finds.finds_own finds.are
@@ -283,6 +286,7 @@ no_fault_at found at setting.Thin (inl is) = not_beyond (codes "thin") 0 MAX_THI
 no_fault_at found at setting.Rows (inl is) = is
 no_fault_at found at setting.Tiers (inl is) = is
 no_fault_at found at setting.Heights (inl is) = is
+no_fault_at found at setting.Bay (inl is) = is
 no_fault_at found at setting.Workers (inr (searched, is)) = is
 no_fault_at found at setting.Budget (inr (searched, is)) = is
 no_fault_at found at setting.Split (inr (searched, is)) = is
@@ -292,18 +296,20 @@ no_fault_at found at setting.Rows (inr (searched, is)) = not_beyond (codes "rows
 no_fault_at found at setting.Tiers (inr (searched, is)) = not_beyond (codes "tiers") 1 8 found (codes "8") at.tiers (lit≤ tt) (lit≤ tt) is.1
 no_fault_at found at setting.Heights (inr (searched, is)) =
     let text = is.2.0 in let has : first_of (codes "heights") found ≡ Some text = is.2.1 in let k : None ≡ Some text = sym at.heights ∙ has in absurd (cc)
+no_fault_at found at setting.Bay (inr (searched, is)) = is.1 [] (tt, sym at.bays)
 
 -- they ask for bays of 12 rows of 8 tiers
 pub limits_ask : (j : Job) → WordsAsk limit_words j → HasHeights (replicate 12 8) j
 unfolding walk_fault defaults_fault flags_fault walked bundle_met
 limits_ask (Solve names settings quiet progress) (free, (name, size, twice, files, has, a, b)) =
-    sizes_at _ settings.input.sizes (record { rows = refl; tiers = refl; heights = refl; workers = refl; split = refl; beam = refl; thin = refl; budget = refl }) has.1.0
+    sizes_at _ settings.input.sizes (record { rows = refl; tiers = refl; heights = refl; workers = refl; split = refl; beam = refl; thin = refl; budget = refl; bays = refl }) has.1.0
 limits_ask (OneFile file command.Replay) (free, (name, is)) = absurd (other_letter 115 114 _ _ refl name)
 limits_ask (OneFile file (command.Bound chains)) (free, (name, is)) = absurd (other_letter 115 98 _ _ refl name.0)
 limits_ask (OneFile file (command.Check any_size)) (free, (name, is)) = absurd (other_letter 115 99 _ _ refl name.0)
 limits_ask (OneFile file (command.Prove chosen)) (free, (name, is)) = absurd (other_letter 115 112 _ _ refl name.0)
 limits_ask (Audit names settings) (free, (name, size, files, has)) = absurd (other_letter 115 97 _ _ refl name)
 limits_ask (Follow names settings) (free, (name, clear, files, has)) = absurd (other_letter 115 102 _ _ refl name)
+limits_ask (Absent names settings) (free, (name, size, files, has)) = absurd (other_letter 115 97 _ _ refl name)
 
 -- the rows of a command, if there is one
 abbrev rows_in : Option (Text × List Row) → List Row
@@ -314,9 +320,10 @@ limits_have_no_fault : (f : SettingFault) → WordsHaveFault limit_words f → �
 unfolding walk_fault defaults_fault flags_fault walked bundle_met
 limits_have_no_fault f (free, inl is) = absurd (other_letter 115 112 _ _ refl is.0)
 limits_have_no_fault f (free, inr (inl is)) =
-    no_fault_at (rows_in (subcommand_of crp (words_or_default limit_words))) (record { rows = refl; tiers = refl; heights = refl; workers = refl; split = refl; beam = refl; thin = refl; budget = refl }) f is.1.2
+    no_fault_at (rows_in (subcommand_of crp (words_or_default limit_words))) (record { rows = refl; tiers = refl; heights = refl; workers = refl; split = refl; beam = refl; thin = refl; budget = refl; bays = refl }) f is.1.2
 limits_have_no_fault f (free, inr (inr (inl is))) = absurd (other_letter 115 97 _ _ refl is.0)
-limits_have_no_fault f (free, inr (inr (inr is))) = absurd (other_letter 115 102 _ _ refl is.0)
+limits_have_no_fault f (free, inr (inr (inr (inl is)))) = absurd (other_letter 115 102 _ _ refl is.0)
+limits_have_no_fault f (free, inr (inr (inr (inr is)))) = absurd (other_letter 115 97 _ _ refl is.0)
 
 -- they are not refused for a setting
 pub limits_refused : (u : Usage) → Refuses limit_words u → ¬ IsOfSetting u
@@ -354,6 +361,7 @@ strong_asks (OneFile file (command.Prove settings)) (free, ((name, (workers, bud
 strong_asks (OneFile file command.Replay) (free, (name, is)) = absurd (other_letter 112 114 _ _ refl name)
 strong_asks (OneFile file (command.Bound chains)) (free, (name, is)) = absurd (other_letter 112 98 _ _ refl name.0)
 strong_asks (OneFile file (command.Check any_size)) (free, (name, is)) = absurd (other_letter 112 99 _ _ refl name.0)
+strong_asks (Absent names settings) (free, (name, size, files, has)) = absurd (other_letter 112 97 _ _ refl name)
 strong_asks (Audit names settings) (free, (name, size, files, has)) = absurd (other_letter 112 97 _ _ refl name)
 strong_asks (Follow names settings) (free, (name, clear, files, has)) = absurd (other_letter 112 102 _ _ refl name)
 strong_asks (Solve names settings quiet progress) (free, (name, size, twice, files, has, a, b)) = absurd (other_letter 112 115 _ _ refl name)

@@ -2,7 +2,7 @@
 use Rattle.std.specs.Prelude.{◌≡◌, ℕ, IsTrue, List}
 use Rattle.crp_sizes.specs.Sizes.{one_size}
 use Rattle.crp_jobs.specs.declared.job.Job.{Job}
-use Rattle.crp_jobs.specs.declared.job.Job.TheVariants.{OneFile, Audit, Follow, Solve}
+use Rattle.crp_jobs.specs.declared.job.Job.TheVariants.{Absent, OneFile, Audit, Follow, Solve}
 use Rattle.crp_jobs.specs.declared.job.FileCommand.TheVariants.{Replay, Bound, Check, Prove}
 use Rattle.crp_words.specs.declared.usage.Mistake.TheVariants as mistake
 use Rattle.crp_words.specs.declared.usage.Usage.{Usage}
@@ -12,6 +12,7 @@ use Rattle.crp_words.specs.declared.usage.Usage.TheVariants.{Help, Wrong, Memory
 abbrev pub HasHeights : List ℕ → Job → Type 0
 HasHeights heights (Solve names settings quiet progress) = settings.input.sizes ≡ one_size heights
 HasHeights heights (OneFile file command) = ⊥
+HasHeights heights (Absent names settings) = ⊥
 HasHeights heights (Audit names settings) = ⊥
 HasHeights heights (Follow names settings) = ⊥
 
@@ -21,6 +22,7 @@ IsStrongSearch width (OneFile file (Prove search)) = (search.beam ≡ width) × 
 IsStrongSearch width (OneFile file Replay) = ⊥
 IsStrongSearch width (OneFile file (Bound chains)) = ⊥
 IsStrongSearch width (OneFile file (Check any_size)) = ⊥
+IsStrongSearch width (Absent names settings) = ⊥
 IsStrongSearch width (Audit names settings) = ⊥
 IsStrongSearch width (Follow names settings) = ⊥
 IsStrongSearch width (Solve names settings quiet progress) = ⊥
