@@ -5,9 +5,11 @@ use Rattle.crp_report.specs.Runs.{SourceSeen}
 use Rattle.crp_jobs.specs.declared.job.FileCommand.{FileCommand}
 use Rattle.crp_jobs.specs.declared.outcome.ToolFault.{ToolFault}
 use Rattle.crp_jobs.specs.declared.job.Job.TheVariants as job
+use Rattle.crp_jobs.specs.declared.job.AbsentFiles.{AbsentFiles}
 use Rattle.crp_jobs.specs.declared.job.RunFiles.{RunFiles}
-use Rattle.crp_report.specs.Chosen.{RunChosen}
+use Rattle.crp_report.specs.Chosen.{InputChosen, RunChosen}
 use Rattle.crp_jobs.specs.Opened.{AreFilesLeftAlone, IsSourceLeftAlone}
+use Rattle.crp_commands.specs.Absent.{AbsentReportsOverFiles, AbsentFailsOverFiles}
 use Rattle.crp_commands.specs.Solving.{RunReportsOverFiles, SolveFailsOverFiles}
 use Rattle.crp_commands.specs.Performing.{ReportsOverFiles, FailsOverFiles, JobSeen, IsFrom, IsFromFile, call_of, PerformsIn, CommandFailsInCall, ReportsFile, FileFailsWith}
 
@@ -31,6 +33,13 @@ from_input name c seen answer named alone is = from_source name c seen seen.inpu
 pub from_file : (name : List ℕ) (c : FileCommand) (seen : JobSeen) (source : SourceSeen) (answer : Result Status ToolFault) → name ≢ codes "-" →
     IsFromFile name seen source → HasEnded c source seen answer → HasEndedOver name c seen answer
 from_file name c seen source answer named from is = from_source name c seen source answer (inr (named, from)) is
+
+-- a list over files is the job that was asked for
+pub absent_job : (names : AbsentFiles) (chosen : InputChosen) (seen : JobSeen) (answer : Result Status ToolFault) → IsSourceLeftAlone seen.input
+    → MatchResult answer (AbsentReportsOverFiles names chosen seen.files seen.out) (AbsentFailsOverFiles names chosen seen.files seen.out)
+    → MatchResult answer (ReportsOverFiles (job.Absent names chosen) seen) (FailsOverFiles (job.Absent names chosen) seen)
+absent_job names chosen seen (Ok ended) alone is = (alone, is)
+absent_job names chosen seen (Err f) alone is = (alone, is)
 
 -- a run over files is the job that was asked for
 pub solved_job : (names : RunFiles) (chosen : RunChosen) (quiet progress : Bool) (seen : JobSeen) (answer : Result Status ToolFault) → IsSourceLeftAlone seen.input

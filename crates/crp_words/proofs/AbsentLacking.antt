@@ -2,22 +2,21 @@
 use Rattle.std.proofs.Common.{List, refl, inl, inr, arith, codes}
 use Rattle.clap.specs.Words.{Row}
 use Rattle.crp_report.specs.Chosen.{InputChosen}
-use Rattle.crp_words.specs.Words.{Asks, HasAbsentFiles, HasInput, HasText, IsFault, IsInputFault, IsSizedTwice, IsWordsOrMemory, Lacks, NoFault}
-use Rattle.crp_jobs.specs.declared.job.AbsentFiles.{AbsentFiles}
+use Rattle.crp_words.specs.Words.{Asks, HasInput, IsFault, IsInputFault, IsSizedTwice, IsWordsOrMemory, Lacks}
 use Rattle.crp_jobs.specs.declared.job.Job.{Job}
 use Rattle.crp_jobs.specs.declared.job.FileCommand.TheVariants as command
 use Rattle.crp_jobs.specs.declared.job.Job.TheVariants as job
 use Rattle.crp_words.specs.declared.usage.SettingFault.{SettingFault}
 use Rattle.crp_words.specs.declared.usage.Usage.{Usage}
-use Rattle.crp_words.proofs.Lacking.{lacks, lacks_more, no_input_fault, other_name, other_second}
+use Rattle.crp_words.proofs.Lacking.{lacks, lacks_more, other_name, other_second}
 
-absent_asks : (rows : List Row) (j : Job) → Asks (codes "absent") rows j
-    → ¬ IsSizedTwice rows × ((s : InputChosen) × HasInput rows s) × ((names : AbsentFiles) × HasAbsentFiles rows names)
+-- what absent asks for has an input, and its size once
+absent_asks : (rows : List Row) (j : Job) → Asks (codes "absent") rows j → ¬ IsSizedTwice rows × ((s : InputChosen) × HasInput rows s)
 absent_asks rows (job.OneFile file command.Replay) asks = absurd (other_name 97 114 _ _ (omega arith) asks.0)
 absent_asks rows (job.OneFile file (command.Bound chains)) asks = absurd (other_name 97 98 _ _ (omega arith) asks.0.0)
 absent_asks rows (job.OneFile file (command.Check any_size)) asks = absurd (other_name 97 99 _ _ (omega arith) asks.0.0)
 absent_asks rows (job.OneFile file (command.Prove search)) asks = absurd (other_name 97 112 _ _ (omega arith) asks.0.0)
-absent_asks rows (job.Absent names settings) asks = (asks.1, (settings, asks.3), (names, asks.2))
+absent_asks rows (job.Absent names settings) asks = (asks.1, (settings, asks.3))
 absent_asks rows (job.Audit names settings) asks = absurd (other_second 97 98 117 _ _ (omega arith) asks.0)
 absent_asks rows (job.Follow names settings) asks = absurd (other_name 97 102 _ _ (omega arith) asks.0)
 absent_asks rows (job.Solve names settings quiet progress) asks = absurd (other_name 97 115 _ _ (omega arith) asks.0)
