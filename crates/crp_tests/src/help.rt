@@ -25,7 +25,7 @@ fn shows_help(rt: HostRuntime) {
 }
 
 // What the help of `solve` says of its words, its options and their defaults.
-const HELP: [&str; 29] = [
+const HELP: [&str; 31] = [
     "Usage: crp solve [OPTIONS] <YARD> <MOVINS>",
     "--rows <N>",
     "1 to 12 [default: 6]",
@@ -37,6 +37,8 @@ const HELP: [&str; 29] = [
     "[default: listed]",
     "--code <TEXT>",
     "[default: LOA]",
+    "--message <REFERENCE>",
+    "--bay <BAY>",
     "--workers <N>",
     "1 to 64 [default: 1]",
     "--split <N>",

@@ -92,7 +92,7 @@ pub(super) const OF_RUNS: [Fault; 5] = [
 ];
 
 // Settings beyond their limits.
-pub(super) const OF_SETTINGS: [SettingFault; 8] = [
+pub(super) const OF_SETTINGS: [SettingFault; 9] = [
     SettingFault::Workers,
     SettingFault::Budget,
     SettingFault::Split,
@@ -101,4 +101,5 @@ pub(super) const OF_SETTINGS: [SettingFault; 8] = [
     SettingFault::Heights,
     SettingFault::Rows,
     SettingFault::Tiers,
+    SettingFault::Bay,
 ];
