@@ -1,11 +1,11 @@
 -- The texts of an option that may be given several times, and those that name bays.
 use Prim.Native.Nat.{zero}
-use Rattle.std.proofs.Common.{suc, get_or, drop, ◌<◌, ◌≡◌, ◌∙◌, ℕ, ◌≤◌, ◌==◌, Bor, List, [], ◌∷◌, ◌++◌, length, map, Option, Some, None, arith, true, refl, sym, ap, codes, option_map}
+use Rattle.std.proofs.Common.{suc, get_or, drop, ◌<◌, ◌≡◌, ◌∙◌, ℕ, ◌≤◌, ◌==◌, Bor, List, [], ◌∷◌, ◌++◌, length, map, Option, Some, arith, true, refl, sym, ap, codes, option_map}
 use Rattle.std.specs.Prelude.{unwrap_or}
 use Rattle.std.specs.List.{AllByRecursion}
 use Rattle.std.specs.Fmt.{decimal}
 use Rattle.std.proofs.lemmas.Bool.{eqb-true}
-use Rattle.std.proofs.lemmas.Option.{same_Some, none-some}
+use Rattle.std.proofs.lemmas.Option.{same_Some}
 use Rattle.std.proofs.lemmas.List.{append-nil}
 use Rattle.std.proofs.lemmas.List.Elements.{recursion_from_All}
 use Rattle.clap.specs.Words.{Text, matched_of, rows_of}

@@ -1,6 +1,5 @@
 use Rattle.std.proofs.Common.{◌∙◌, Some, None, Bor, List, ℕ, map, take_all, ap, sym, refl, codes}
 use Rattle.clap.specs.Words.{found_of}
-use Rattle.crp_words.specs.Words.{bay_name}
 use Rattle.crp_words.proofs.BayTexts.{texts_are, no_bays_of}
 use Rattle.crp_words.proofs.bays.bays_of.Goals as goal
 
