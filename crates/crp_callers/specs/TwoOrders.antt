@@ -1,11 +1,20 @@
 -- A load message of two orders: the container above is listed first, and that beneath it in the ship after it.
 use Rattle.std.specs.Prelude.{ℕ, List, [], ◌∷◌, codes}
 use Rattle.edi_text.specs.Parts.{SegmentParts}
+use Rattle.crp_movins.specs.Loading.{Loading}
 use Rattle.crp_movins.specs.declared.order.Order.{Order}
 
 -- the loading code
-abbrev pub loading : List ℕ
-loading = codes "LOA"
+abbrev pub code : List ℕ
+code = codes "LOA"
+
+-- the orders under it, of the message that is there, by its reference
+abbrev pub loading : Loading
+loading = record { code = code; messages = codes "M1" ∷ [] }
+
+-- the orders under it, of a message with another reference
+abbrev pub of_another : Loading
+of_another = record { code = code; messages = codes "2" ∷ [] }
 
 -- a segment of two elements that have one component each
 abbrev pub segment : List ℕ → List ℕ → List ℕ → SegmentParts
@@ -29,7 +38,7 @@ interchange slot count =
     interchange_header
     ∷ message_header
     ∷ segment (codes "BGM") [] (codes "8")
-    ∷ segment (codes "HAN") loading []
+    ∷ segment (codes "HAN") code []
     ∷ segment (codes "LOC") (codes "147") (codes "0020184")
     ∷ segment (codes "EQD") (codes "CN") (codes "UPPER")
     ∷ segment (codes "LOC") (codes "147") slot

@@ -7,19 +7,20 @@ ghost use Rattle.crp_movins.specs.Kinds.{settles_code};
 ghost use Rattle.crp_movins.specs.Places.{kind_at};
 ghost use Rattle.crp_movins.specs.Faults.{fault_at};
 ghost use Rattle.crp_movins.specs.ByPlaces.{IsLast, IsOrdered, AreOrdered, AreVacant};
-ghost use Rattle.crp_callers.specs.TwoOrders.{loading, two_orders, two_faults, upper, lower};
+ghost use Rattle.crp_callers.specs.TwoOrders.{loading, of_another, two_orders, two_faults, upper, lower};
 
 use crp_movins::{
     first_fault_is_least, last_is_last, orders_by_places, orders_stand_by_place, vacant_by_places,
 };
 
 /// A segment orders its container to the slot of the group in which it stands, and nothing else. One under
-/// another handling code orders nothing.
+/// another handling code orders nothing, and none does where another message is read.
 pub fn orders_of_segments()
     ensures upper { IsOrdered two_orders loading 6 upper }
     ensures lower { IsOrdered two_orders loading 9 lower }
     ensures nothing_else { (order : Order) → IsOrdered two_orders loading 9 order → order ≡ lower }
     ensures nothing { (order : Order) → IsOrdered two_orders loading 12 order → ⊥ }
+    ensures unread { (order : Order) → IsOrdered two_orders of_another 6 order → ⊥ }
 {
     orders_by_places();
 }

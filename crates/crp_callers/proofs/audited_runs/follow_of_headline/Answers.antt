@@ -9,8 +9,8 @@ use Rattle.crp_callers.proofs.FollowedOnce.{same_bays}
 use Rattle.crp_callers.proofs.audited_runs.follow_of_headline.Goals as goal
 
 pub returns : goal.returns
-returns c = λ sizes code list message mode h is listed ordered sequenced yard report.
-    let (bays, followed, ends) = c.headlines_are_followed.ensures.followed sizes code list message mode h is listed ordered sequenced in
+returns c = λ sizes loading names list message mode h is listed ordered sequenced yard report.
+    let (bays, followed, ends) = c.headlines_are_followed.ensures.followed sizes loading names list message mode h is listed ordered sequenced in
     both_by c.follow.result _ _
     (ok_by c.follow.result _ _ c.follow.ensures.followed (λ made at.
     let same = same_bays c.one_outcome.ensures.one c.args.yard.now h.yard c.args.report.now h.report _ _ _ bays yard report at followed in
