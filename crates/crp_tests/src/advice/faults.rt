@@ -32,7 +32,10 @@ pub(super) const OF_MESSAGES: [MovinsFault; 13] = [
     MovinsFault::AfterTrailer { segment: 9 },
     MovinsFault::MessageType { segment: 10 },
     MovinsFault::SlotNumber { segment: 11 },
-    MovinsFault::OrderedTwice { segment: 12, first: 6 },
+    MovinsFault::OrderedTwice {
+        segment: 12,
+        first: 6,
+    },
     MovinsFault::TooManyOrders { segment: 13 },
 ];
 
