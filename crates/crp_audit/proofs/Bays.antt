@@ -67,10 +67,14 @@ looks h bay (Between lower (Some upper) why) lines text rows script fits right i
 true_here : (h : Handed) (bay : StackedBay) (s : BaySaid) (text rows : List ℕ) (script : Script) → AllByRecursion FitsLine (ranked h.sequence bay.1)
     → AreRightLines (stated_in h bay) s rows → IsAcceptedText (Some (stated_in h bay).problem) text script → SaysThis (stated_in h bay) s.said rows script
     → IsTrueOf h (reported_as bay s text)
-true_here h bay s text rows script fits right is says = true_if_looks h (reported_as bay s text) (record {
-  so = looks h bay s.said s.lines text rows script fits right is says.plan;
-  shown = (script, is, says.bay, says.verdict);
-})
+true_here h bay s text rows script fits right is says =
+    let (v, shows, borne_out) = says.verdict in
+    true_if_looks h (reported_as bay s text) (record {
+      so = looks h bay s.said s.lines text rows script fits right is says.plan;
+      certified = v;
+      borne_out = borne_out;
+      shown = (script, is, says.bay, shows);
+    })
 
 pub bay_true : (h : Handed) (bay : StackedBay) (stated : BayProblem) (s : BaySaid) (text rows : List ℕ) (script : Script) → stated ≡ stated_in h bay
     → AllByRecursion FitsLine stated.names → AreRightLines stated s rows → IsAcceptedText (Some stated.problem) text script → SaysThis stated s.said rows script

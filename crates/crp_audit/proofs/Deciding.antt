@@ -12,7 +12,7 @@ use Rattle.crp_checker.specs.Verdicts.{Says}
 use Rattle.crp_checker.proofs.Meaning.{says_from, says_first, plan_of_first}
 use Rattle.crp_said.specs.declared.said.Said.{Said}
 use Rattle.crp_said.specs.declared.said.Said.TheVariants.{Optimal, First, NoPlan, Between}
-use Rattle.crp_audit.specs.Headline.{Handed, Reported, problem_in, IsSo, shown_by, verdict_said, IsShownOf, IsTrueOf}
+use Rattle.crp_audit.specs.Headline.{Handed, Reported, problem_in, IsSo, shown_by, lower_shown, BearsOut, IsShownOf, IsTrueOf}
 use Rattle.crp_audit.specs.LooksTrue.{StatesPlan, LooksSo, LooksTrue}
 use Rattle.crp_plan.specs.BayNames.{YardBay}
 
@@ -37,6 +37,15 @@ low p lower (Some count) said moves plan = outer (count == lower) said
     outer true best = best.least moves plan
     outer false said = inner (lower == cap p) said
 
+-- nor than the lower bound that a verdict has
+low_shown : (p : Problem) (v : Verdict) (lower : ℕ) → Says p v → lower_shown v ≡ Some lower → (moves : List Move) → IsPlan p moves → lower ≤ relocations moves
+low_shown p (verdict.Optimal count) lower best e moves plan = let same : count ≡ lower = cc in subst (λ n. n ≤ relocations moves) same (best.least moves plan)
+low_shown p (verdict.First count) lower (path, first, many) e moves plan =
+    let same : count ≡ lower = cc in
+    let fewest = first.best in subst (λ n. n ≤ relocations moves) (many ∙ same) (fewest.least moves plan)
+low_shown p (verdict.Bounds low upper) lower bounds e moves plan = let same : low ≡ lower = cc in subst (λ n. n ≤ relocations moves) same (bounds.0 moves plan)
+low_shown p verdict.NoPlan lower none e moves plan = absurd (none moves plan)
+
 -- the plan of a certificate that shows a first best plan is that plan
 first_stated : (bay : YardBay) (p : Problem) (text : List ℕ) (count : ℕ) → IsShownOf bay p text (verdict.First count)
     → (path : List ℕ) × IsFirstBest p path × StatesPlan text path
@@ -52,34 +61,37 @@ one_plan text path other (a, is-a, plan-a) (b, is-b, plan-b) =
     let e : a.head.plan ≡ b.head.plan = ap (λ h. h.plan) same in
     let k : Some path ≡ Some other = sym plan-a ∙ e ∙ plan-b in cc
 
-so : (h : Handed) (b : Reported) (said : Said) → IsShownOf b.bay.0 (problem_in h b) b.certificate (verdict_said (cap (problem_in h b)) said) → LooksSo h b said → IsSo h b said
-so h b (Optimal count) shown looks =
-    let best = says b.bay.0 (problem_in h b) b.certificate (verdict.Optimal count) shown in (looks, best.least)
-so h b (First count) shown (prints, plan) =
-    let (path, best, stated) = first_stated b.bay.0 (problem_in h b) b.certificate count shown in
+-- what an accepted certificate says of a bay, where its verdict is this one
+says_as : (h : Handed) (b : Reported) (v other : Verdict) → v ≡ other → IsShownOf b.bay.0 (problem_in h b) b.certificate v → Says (problem_in h b) other
+says_as h b v other e shown = says b.bay.0 (problem_in h b) b.certificate other (subst (IsShownOf b.bay.0 (problem_in h b) b.certificate) e shown)
+
+so : (h : Handed) (b : Reported) (said : Said) (v : Verdict) → BearsOut (cap (problem_in h b)) said v → IsShownOf b.bay.0 (problem_in h b) b.certificate v → LooksSo h b said → IsSo h b said
+so h b (Optimal count) v e shown looks = let best = says_as h b v (verdict.Optimal count) e shown in (looks, best.least)
+so h b (First count) v e shown (prints, plan) =
+    let (path, best, stated) = first_stated b.bay.0 (problem_in h b) b.certificate count (subst (IsShownOf b.bay.0 (problem_in h b) b.certificate) e shown) in
     let same = one_plan b.certificate path (path_of prints.moves) stated plan in
-    let (other, first, many) = says b.bay.0 (problem_in h b) b.certificate (verdict.First count) shown in
+    let (other, first, many) = says_as h b v (verdict.First count) e shown in
     let fewest = first.best in (
       record { plan = prints; first = subst (IsFirstBest (problem_in h b)) same best },
       λ moves is. subst (λ n. n ≤ relocations moves) many (fewest.least moves is),
     )
-so h b NoPlan shown looks = (says b.bay.0 (problem_in h b) b.certificate verdict.NoPlan shown, looks)
-so h b (Between lower upper cause.Budget) shown looks =
-    let bounds = says b.bay.0 (problem_in h b) b.certificate (verdict.Bounds lower upper) shown in (bounds.0, looks)
-so h b (Between lower upper cause.Memory) shown looks =
-    (low (problem_in h b) lower upper (says b.bay.0 (problem_in h b) b.certificate (shown_by lower (cap (problem_in h b)) upper) shown), looks)
+so h b NoPlan v e shown looks = (says_as h b v verdict.NoPlan e shown, looks)
+so h b (Between lower upper cause.Budget) v e shown looks = let bounds = says_as h b v (verdict.Bounds lower upper) e shown in (bounds.0, looks)
+so h b (Between lower upper cause.Memory) v e shown looks =
+    (low (problem_in h b) lower upper (says_as h b v (shown_by lower (cap (problem_in h b)) upper) e shown), looks)
+so h b (Between lower upper cause.Edited) v e shown looks = (low_shown (problem_in h b) v lower (says b.bay.0 (problem_in h b) b.certificate v shown) e, looks)
 
-looks : (h : Handed) (b : Reported) (said : Said) → IsShownOf b.bay.0 (problem_in h b) b.certificate (verdict_said (cap (problem_in h b)) said) → IsSo h b said → LooksSo h b said
-looks h b (Optimal count) shown is = is.0
-looks h b (First count) shown (printed, fewest) =
-    let (path, best, stated) = first_stated b.bay.0 (problem_in h b) b.certificate count shown in
+looks : (h : Handed) (b : Reported) (said : Said) (v : Verdict) → BearsOut (cap (problem_in h b)) said v → IsShownOf b.bay.0 (problem_in h b) b.certificate v → IsSo h b said → LooksSo h b said
+looks h b (Optimal count) v e shown is = is.0
+looks h b (First count) v e shown (printed, fewest) =
+    let (path, best, stated) = first_stated b.bay.0 (problem_in h b) b.certificate count (subst (IsShownOf b.bay.0 (problem_in h b) b.certificate) e shown) in
     let plan = printed.plan in
     (plan, subst (StatesPlan b.certificate) (one_is (problem_in h b) path (path_of plan.moves) best printed.first) stated)
-looks h b NoPlan shown is = is.1
-looks h b (Between lower upper why) shown is = is.1
+looks h b NoPlan v e shown is = is.1
+looks h b (Between lower upper why) v e shown is = is.1
 
 pub true_if_looks : (h : Handed) (b : Reported) → LooksTrue h b → IsTrueOf h b
-true_if_looks h b is = record { so = so h b b.said is.shown is.so; shown = is.shown }
+true_if_looks h b is = record { so = so h b b.said is.certified is.borne_out is.shown is.so; certified = is.certified; borne_out = is.borne_out; shown = is.shown }
 
 pub looks_if_true : (h : Handed) (b : Reported) → IsTrueOf h b → LooksTrue h b
-looks_if_true h b is = record { so = looks h b b.said is.shown is.so; shown = is.shown }
+looks_if_true h b is = record { so = looks h b b.said is.certified is.borne_out is.shown is.so; certified = is.certified; borne_out = is.borne_out; shown = is.shown }

@@ -33,7 +33,7 @@ use Rattle.crp_audit.specs.declared.fault.AuditFault.{AuditFault}
 use Rattle.crp_audit.specs.declared.fault.AuditFault.TheVariants as fault
 use Rattle.crp_audit.specs.declared.fault.AuditStop.{AuditStop}
 use Rattle.crp_audit.specs.declared.fault.AuditStop.TheVariants as stop
-use Rattle.crp_audit.specs.Headline.{Handed, handed, Reported, numbers_in, said_of, problem_in, PrintsPlan, verdict_in, IsTrueOf, IsHeadline}
+use Rattle.crp_audit.specs.Headline.{Handed, handed, Reported, numbers_in, said_of, problem_in, PrintsPlan, IsTrueOf, IsHeadline}
 use Rattle.crp_audit.specs.LooksTrue.{LooksSo}
 use Rattle.crp_audit.specs.Printed.{AreOtherLines}
 use Rattle.crp_audit.specs.Faults.{CountsRight, IsWrongMove, IsItsPlan, SaysTheSame, IsNextText, IsBayFault, reported_as, IsNextFault, IsFaultBehind, IsFirstFault, IsAuditRefusal}
@@ -131,7 +131,7 @@ says_the_same h b script is accepted =
     let problem = (low_bound (problem_in h b) b.certificate shown parsed).0 in
     record {
       bay = its_bay b.certificate script shown b.bay.0 accepted.is_text parsed.is_text bay;
-      verdict = its_verdict b.certificate script shown (verdict_in h b) accepted.is_text parsed.is_text shows;
+      verdict = (is.certified, its_verdict b.certificate script shown is.certified accepted.is_text parsed.is_text shows, is.borne_out);
       plan = λ moves printed. its_plan h b b.said script moves problem accepted looks.so printed;
     }
 

@@ -15,9 +15,10 @@ use Rattle.crp_cert.specs.declared.claim.Claim.{Claim}
 use Rattle.crp_cert.specs.declared.claim.Claim.TheVariants as claim
 use Rattle.crp_cert.specs.declared.script.Script.{Script}
 use Rattle.crp_cert.specs.Text.{bound}
+use Rattle.crp_checker.specs.declared.verdict.Verdict.{Verdict}
 use Rattle.crp_checker.specs.declared.verdict.Verdict.TheVariants as verdict
 use Rattle.crp_checker.specs.AcceptedTexts.{IsAcceptedText}
-use Rattle.crp_checker.specs.Verdicts.{IsVerdictUnder}
+use Rattle.crp_checker.specs.Verdicts.{IsVerdictUnder, IsVerdict}
 use Rattle.crp_said.specs.declared.said.SaidCause.{SaidCause}
 use Rattle.crp_said.specs.declared.said.SaidCause.TheVariants as cause
 use Rattle.crp_said.specs.declared.said.Said.{Said}
@@ -30,7 +31,7 @@ use Rattle.crp_said.proofs.Takes.{plain_names}
 use Rattle.crp_said.proofs.Bytes.{IsPlain}
 use Rattle.crp_audit.specs.declared.fault.AuditFault.TheVariants as fault
 use Rattle.crp_audit.specs.Faults.{IsFirstFault}
-use Rattle.crp_audit.specs.Headline.{Handed, Reported, numbers_in, verdict_said, said_of, problem_in, PrintsPlan, IsSo, shown_by, IsShownOf, IsTrueOf, IsHeadline}
+use Rattle.crp_audit.specs.Headline.{Handed, Reported, numbers_in, lower_shown, BearsOut, said_of, problem_in, PrintsPlan, IsSo, shown_by, IsShownOf, IsTrueOf, IsHeadline}
 use Rattle.crp_audit.specs.Readable.{report_in}
 
 -- ---- numbers
@@ -69,14 +70,28 @@ low_of : (what : Claim) (highest : ℕ) (count : Option ℕ) (lower top : ℕ) (
 low_of what highest count lower top None few low is = at_cap what highest count lower top None (lower == top) refl few low is
 low_of what highest count lower top (Some n) few low is = meets what highest count lower top (Some n) (n == lower) few low is
 
-low_said : (h : Handed) (b : Reported) (lower : ℕ) (upper : Option ℕ) (why : SaidCause) → IsShownOf b.bay.0 (problem_in h b) b.certificate (verdict_said (cap (problem_in h b)) (Between lower upper why)) → lower ≤ 673
-low_said h b lower upper cause.Budget (script, is, name, shows) =
+-- the lower bound that a verdict has is that of the claim
+bound_shown : (what : Claim) (highest : ℕ) (count : Option ℕ) (v : Verdict) (lower : ℕ) → lower_shown v ≡ Some lower → IsVerdictUnder what highest count v → lower ≡ bound what
+bound_shown (claim.AtLeast least) highest count (verdict.Optimal fewest) lower e is = let same : fewest ≡ lower = cc in sym same ∙ is.0
+bound_shown (claim.AtLeast least) highest count (verdict.First fewest) lower e is = absurd is
+bound_shown (claim.AtLeast least) highest count (verdict.Bounds low upper) lower e is = let same : low ≡ lower = cc in sym same ∙ is.2
+bound_shown (claim.AtLeast least) highest count verdict.NoPlan lower e is = absurd (cc)
+bound_shown (claim.First least) highest count v lower e is =
+    let same : Some lower ≡ Some least = sym e ∙ ap lower_shown is in cc
+
+low_said : (h : Handed) (b : Reported) (lower : ℕ) (upper : Option ℕ) (why : SaidCause) (v : Verdict) → BearsOut (cap (problem_in h b)) (Between lower upper why) v
+    → IsShownOf b.bay.0 (problem_in h b) b.certificate v → lower ≤ 673
+low_said h b lower upper cause.Budget v e (script, is, name, shows) =
     let low = low_bound (problem_in h b) b.certificate script is in
     let k = low.1 in
-    let within = bounded script.head.claim _ _ lower upper shows in omega (arith, within, k)
-low_said h b lower upper cause.Memory (script, is, name, shows) =
+    let within = bounded script.head.claim _ _ lower upper (subst (IsVerdict script) e shows) in omega (arith, within, k)
+low_said h b lower upper cause.Memory v e (script, is, name, shows) =
     let low = low_bound (problem_in h b) b.certificate script is in
-    low_of script.head.claim _ _ lower (cap (problem_in h b)) upper (cap_low (problem_in h b) low.0) low.1 shows
+    low_of script.head.claim _ _ lower (cap (problem_in h b)) upper (cap_low (problem_in h b) low.0) low.1 (subst (IsVerdict script) e shows)
+low_said h b lower upper cause.Edited v e (script, is, name, shows) =
+    let low = low_bound (problem_in h b) b.certificate script is in
+    let k = low.1 in
+    let same = bound_shown script.head.claim _ _ v lower e shows in omega (arith, same, k)
 
 printed_low : (h : Handed) (b : Reported) (count : ℕ) → IsProblem (problem_in h b) → PrintsPlan h b count → count ≤ most
 printed_low h b count is prints =
@@ -92,14 +107,14 @@ printed_moves h b count plain prints = are_moves (ranked h.sequence b.bay.1) (st
 nothing_moves : (lines : List ℕ) → lines ≡ [] → AreMoves lines
 nothing_moves lines e = subst AreMoves (sym e) no_moves
 
-small_said : (h : Handed) (b : Reported) (said : Said) → IsProblem (problem_in h b)
-    → IsShownOf b.bay.0 (problem_in h b) b.certificate (verdict_said (cap (problem_in h b)) said) → IsSo h b said → IsSmall said
-small_said h b (Optimal count) is shown so = printed_low h b count is so.0
-small_said h b (First count) is shown so = let first = so.0 in printed_low h b count is first.plan
-small_said h b NoPlan is shown so = tt
-small_said h b (Between lower None why) is shown so = let low = low_said h b lower None why shown in (omega (arith, low), tt)
-small_said h b (Between lower (Some count) why) is shown so =
-    let low = low_said h b lower (Some count) why shown in (omega (arith, low), printed_low h b count is so.1)
+small_said : (h : Handed) (b : Reported) (said : Said) (v : Verdict) → IsProblem (problem_in h b) → BearsOut (cap (problem_in h b)) said v
+    → IsShownOf b.bay.0 (problem_in h b) b.certificate v → IsSo h b said → IsSmall said
+small_said h b (Optimal count) v is e shown so = printed_low h b count is so.0
+small_said h b (First count) v is e shown so = let first = so.0 in printed_low h b count is first.plan
+small_said h b NoPlan v is e shown so = tt
+small_said h b (Between lower None why) v is e shown so = let low = low_said h b lower None why v e shown in (omega (arith, low), tt)
+small_said h b (Between lower (Some count) why) v is e shown so =
+    let low = low_said h b lower (Some count) why v e shown in (omega (arith, low), printed_low h b count is so.1)
 
 moves_said : (h : Handed) (b : Reported) (said : Said) → AllByRecursion IsPlain (ranked h.sequence b.bay.1) → IsSo h b said → AreMoves b.lines
 moves_said h b (Optimal count) plain so = printed_moves h b count plain so.0
@@ -116,7 +131,7 @@ sayable h (b ∷ bays) named all =
     let is = all.0 in
     let shown = is.shown in
     let problem = (low_bound (problem_in h b) b.certificate shown.0 shown.1).0 in (
-      record { named = name.bay; small = small_said h b b.said problem is.shown is.so; lines = moves_said h b b.said (plain_names (ranked h.sequence b.bay.1) name.names) is.so },
+      record { named = name.bay; small = small_said h b b.said is.certified problem is.borne_out is.shown is.so; lines = moves_said h b b.said (plain_names (ranked h.sequence b.bay.1) name.names) is.so },
       sayable h bays named.1 all.1,
     )
 

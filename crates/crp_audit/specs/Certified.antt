@@ -3,6 +3,7 @@ use Rattle.std.specs.Prelude.{◌≡◌, ◌≢◌, ℕ, List, [], ◌++◌, Opt
 use Rattle.crp_plan.specs.Bay.{cap, start}
 use Rattle.crp_order.specs.declared.bay_problem.BayProblem.{BayProblem}
 use Rattle.crp_cert.specs.declared.script.Script.{Script}
+use Rattle.crp_checker.specs.declared.verdict.Verdict.{Verdict}
 use Rattle.crp_checker.specs.declared.refused.Refused.TheVariants as refused
 use Rattle.crp_checker.specs.AcceptedTexts.{IsAcceptedText}
 use Rattle.crp_checker.specs.Verdicts.{IsVerdict}
@@ -13,7 +14,7 @@ use Rattle.crp_said.specs.Said.{BaySaid, count_said}
 use Rattle.crp_said.specs.Spelled.{line_behind}
 use Rattle.crp_audit.specs.declared.fault.AuditFault.{AuditFault}
 use Rattle.crp_audit.specs.declared.fault.AuditFault.TheVariants as fault
-use Rattle.crp_audit.specs.Headline.{verdict_said}
+use Rattle.crp_audit.specs.Headline.{BearsOut}
 use Rattle.crp_audit.specs.Faults.{IsNextText}
 use Rattle.crp_audit.specs.Replayed.{StopsBehind}
 use Rattle.crp_audit.specs.Printed.{AreOtherLines, ArePlanLines}
@@ -35,10 +36,10 @@ abbrev pub IsPlanSaid : Said → Option (List ℕ) → List ℕ → Type 0
 IsPlanSaid (First count) plan rows = plan ≡ Some rows
 IsPlanSaid said plan rows = Unit {0}
 
--- the certificate is the bay's, its verdict is the one that is said, and so is its plan
+-- the certificate is the bay's, its verdict bears out what is said, and its plan is the one that is said
 pub record SaysThis (stated : BayProblem) (said : Said) (rows : List ℕ) (script : Script) : Type 0 where
   pub bay : script.head.bay ≡ stated.bay
-  pub verdict : IsVerdict script (verdict_said (cap stated.problem) said)
+  pub verdict : (v : Verdict) × IsVerdict script v × BearsOut (cap stated.problem) said v
   pub plan : IsPlanSaid said script.head.plan rows
 
 -- what is wrong with the certificate with which these bytes begin

@@ -19,7 +19,7 @@ use Rattle.crp_said.specs.declared.report.ReportFault.{ReportFault}
 use Rattle.crp_said.specs.declared.report.ReportFault.TheVariants as report
 use Rattle.crp_said.specs.Said.{BaySaid, bay_line, is_settled, count_said}
 use Rattle.crp_said.specs.Spelled.{ReportSaid, SpellsReport, front_text, line_behind, IsMisspelled}
-use Rattle.crp_audit.specs.Headline.{Handed, Reported, numbers_in, said_of, problem_in, PrintsPlan, verdict_in, IsTrueOf}
+use Rattle.crp_audit.specs.Headline.{Handed, Reported, numbers_in, said_of, problem_in, PrintsPlan, verdict_in, IsBorneOut, IsTrueOf}
 use Rattle.crp_audit.specs.Replayed.{StopsBehind}
 use Rattle.crp_audit.specs.Printed.{AreOtherLines}
 use Rattle.crp_audit.specs.declared.fault.AuditFault.{AuditFault}
@@ -40,11 +40,11 @@ abbrev pub IsItsPlan : Said → List Move → Script → Type 0
 IsItsPlan (First count) moves script = script.head.plan ≡ Some (path_of moves)
 IsItsPlan said moves script = Unit {0}
 
--- an accepted certificate says the same as the report: it is the bay's, its verdict is the one that is said, and where the first plan is said it is
+-- an accepted certificate says the same as the report: it is the bay's, its verdict bears out what is said, and where the first plan is said it is
 -- the printed one
 pub record SaysTheSame (h : Handed) (b : Reported) (script : Script) : Type 0 where
   pub bay : script.head.bay ≡ b.bay.0
-  pub verdict : IsVerdict script (verdict_in h b)
+  pub verdict : (v : Verdict) × IsVerdict script v × IsBorneOut h b v
   pub plan : (moves : List Move) → AreMoveLines (ranked h.sequence b.bay.1) (start (problem_in h b)) moves b.lines → IsItsPlan b.said moves script
 
 -- this is the next certificate

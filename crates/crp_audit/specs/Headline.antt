@@ -78,8 +78,8 @@ abbrev pub NoneThere : Handed → Reported → Type 0
 NoneThere h b = (moves : List Move) → IsPlan (problem_in h b) moves → ⊥
 
 -- what is said is so. `optimal`: the printed plan has so many relocations, and no plan has fewer. `optimal .. first`: the same, and the printed plan
--- is the first best one. `no plan`: there is none. `between`: no plan has fewer than the lower number, and the printed plan, if there is one, has as
--- many as the upper one
+-- is the first best one. `no plan`: there is none. `between`, for whatever cause: no plan has fewer than the lower number, and the printed plan, if
+-- there is one, has as many as the upper one
 abbrev pub IsSo : Handed → Reported → Said → Type 0
 IsSo h b (Optimal count) = PrintsPlan h b count × NoneHasFewer h b count
 IsSo h b (First count) = PrintsFirst h b count × NoneHasFewer h b count
@@ -93,13 +93,31 @@ shown_by lower most (Some count) =
     if count == lower then verdict.Optimal lower else (if lower == most then verdict.NoPlan else verdict.Bounds lower (Some count))
 
 -- the verdict on a problem with this cap that says the same as the report. On a bay that was left open these are its bounds; where memory ran out,
--- what its bounds show, since they may meet
+-- what its bounds show, since they may meet; where its moves were edited, its bounds, also where they meet, since the certificate may have another plan
 abbrev pub verdict_said : ℕ → Said → Verdict
 verdict_said most (Optimal count) = verdict.Optimal count
 verdict_said most (First count) = verdict.First count
 verdict_said most NoPlan = verdict.NoPlan
 verdict_said most (Between lower upper cause.Budget) = verdict.Bounds lower upper
 verdict_said most (Between lower upper cause.Memory) = shown_by lower most upper
+verdict_said most (Between lower upper cause.Edited) = verdict.Bounds lower upper
+
+-- the lower bound that a verdict has: that there is no plan is none
+abbrev pub lower_shown : Verdict → Option ℕ
+lower_shown (verdict.Optimal count) = Some count
+lower_shown (verdict.First count) = Some count
+lower_shown (verdict.Bounds lower upper) = Some lower
+lower_shown verdict.NoPlan = None
+
+-- a certificate with this verdict bears out what is said on a problem with this cap: its verdict says the same; but where the moves were edited, it may
+-- be the certificate of another plan, and its verdict has the lower bound that is said
+abbrev pub BearsOut : ℕ → Said → Verdict → Type 0
+BearsOut most (Optimal count) v = v ≡ verdict_said most (Optimal count)
+BearsOut most (First count) v = v ≡ verdict_said most (First count)
+BearsOut most NoPlan v = v ≡ verdict_said most NoPlan
+BearsOut most (Between lower upper cause.Budget) v = v ≡ verdict_said most (Between lower upper cause.Budget)
+BearsOut most (Between lower upper cause.Memory) v = v ≡ verdict_said most (Between lower upper cause.Memory)
+BearsOut most (Between lower upper cause.Edited) v = lower_shown v ≡ Some lower
 
 -- the text is an accepted certificate of the bay of this name and of this problem, and this is what it shows
 abbrev pub IsShownOf : YardBay → Problem → List ℕ → Verdict → Type 0
@@ -109,11 +127,17 @@ IsShownOf bay p text v = (script : Script) × IsAcceptedText (Some p) text scrip
 abbrev pub verdict_in : Handed → Reported → Verdict
 verdict_in h b = verdict_said (cap (problem_in h b)) b.said
 
--- what the report says of a bay is so, and the checker accepts its certificate, for the bay of this name and its problem, with the verdict that says
--- the same
+-- a certificate with this verdict bears out what is said of the bay
+abbrev pub IsBorneOut : Handed → Reported → Verdict → Type 0
+IsBorneOut h b v = BearsOut (cap (problem_in h b)) b.said v
+
+-- what the report says of a bay is so, and the checker accepts its certificate, for the bay of this name and its problem, with a verdict that bears
+-- out what is said
 pub record IsTrueOf (h : Handed) (b : Reported) : Type 0 where
   pub so : IsSo h b b.said
-  pub shown : IsShownOf b.bay.0 (problem_in h b) b.certificate (verdict_in h b)
+  pub certified : Verdict
+  pub borne_out : IsBorneOut h b certified
+  pub shown : IsShownOf b.bay.0 (problem_in h b) b.certificate certified
 
 -- the report is a line of three numbers, the lines of the bays from which a container of the sequence leaves, in the yard's order, and a line that
 -- counts them; the certificates are theirs, in that order, and no others; and what is said of each is so

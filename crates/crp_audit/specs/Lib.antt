@@ -1,6 +1,7 @@
 -- Headlines of what is handed in, and why it is refused.
 pub mod Headline
 pub mod LooksTrue
+pub mod BorneOut
 pub mod Replayed
 pub mod Printed
 pub mod Certified

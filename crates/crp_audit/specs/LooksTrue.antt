@@ -3,9 +3,10 @@ use Rattle.std.specs.Prelude.{◌≡◌, ℕ, List, [], Some, MatchOption}
 use Rattle.crp_plan.specs.Bay.{path_of}
 use Rattle.crp_cert.specs.declared.script.Script.{Script}
 use Rattle.crp_cert.specs.Script.{IsScriptOf}
+use Rattle.crp_checker.specs.declared.verdict.Verdict.{Verdict}
 use Rattle.crp_said.specs.declared.said.Said.{Said}
 use Rattle.crp_said.specs.declared.said.Said.TheVariants.{Optimal, First, NoPlan, Between}
-use Rattle.crp_audit.specs.Headline.{Handed, Reported, problem_in, PrintsPlan, IsShownOf, verdict_in}
+use Rattle.crp_audit.specs.Headline.{Handed, Reported, problem_in, PrintsPlan, IsBorneOut, IsShownOf}
 
 -- the certificate's plan goes to these rows
 abbrev pub StatesPlan : List ℕ → List ℕ → Type 0
@@ -19,7 +20,9 @@ LooksSo h b (First count) = (prints : PrintsPlan h b count) × StatesPlan b.cert
 LooksSo h b NoPlan = b.lines ≡ []
 LooksSo h b (Between lower upper why) = MatchOption upper (b.lines ≡ []) (PrintsPlan h b)
 
--- so it looks, and the certificate is accepted
+-- so it looks, and the certificate is accepted, with a verdict that bears out what is said
 pub record LooksTrue (h : Handed) (b : Reported) : Type 0 where
   pub so : LooksSo h b b.said
-  pub shown : IsShownOf b.bay.0 (problem_in h b) b.certificate (verdict_in h b)
+  pub certified : Verdict
+  pub borne_out : IsBorneOut h b certified
+  pub shown : IsShownOf b.bay.0 (problem_in h b) b.certificate certified

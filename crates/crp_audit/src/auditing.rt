@@ -191,9 +191,9 @@ fn audit_into<R: Source>(
 }
 
 /// Audits a report and the certificates that a source gives against a yard, its load orders and their sequence, whoever made them:
-/// what the certificates show, where they are a headline, and else the first fault, behind what those of the bays before it show. The
-/// certificates are read in pieces, and at most `limit` bytes of them. A headline is refused only where memory runs out or a read
-/// fails.
+/// the verdicts of its bays, where they are a headline, and else the first fault, behind those of the bays before it. The certificates
+/// bear them out: they show the same, but of a bay whose moves were edited the lower bound alone. They are read in pieces, and at most
+/// `limit` bytes of them. A headline is refused only where memory runs out or a read fails.
 pub fn audit<R: Source>(
     alloc: Global,
     yard: &Yard,

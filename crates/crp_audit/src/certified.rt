@@ -1,4 +1,4 @@
-//! The certificate of a bay, and whether it says the same as the report.
+//! The certificate of a bay, and whether it bears out what the report says.
 ghost use Rattle.std.specs.Prelude.{◌≡◌, ◌↔◌, ◌⊎◌, ◌≤◌, ℕ, List, Some, IfOk, IfErr, OnOk, IsErrOf, IsTrue, MatchResult};
 ghost use Rattle.std.specs.Option.{option_copied};
 ghost use Rattle.crp_plan.specs.Bay.{cap};
@@ -8,7 +8,7 @@ ghost use Rattle.crp_checker.specs.AcceptedTexts.{IsAcceptedText};
 ghost use Rattle.crp_checker.specs.Reading.{HasMore, IsLeft, IsTaken, IsTooLong};
 ghost use Rattle.crp_checker.specs.Refusals.{IsRefusal};
 ghost use Rattle.crp_checker.specs.Shown.{TextStates};
-ghost use Rattle.crp_audit.specs.Headline.{shown_by, verdict_said};
+ghost use Rattle.crp_audit.specs.Headline.{shown_by, verdict_said, lower_shown, BearsOut};
 ghost use Rattle.crp_audit.specs.Certified.{IsPlanSaid, SaysThis, IsCertificateFault};
 ghost use Rattle.crp_audit.specs.Stops.{StopsAt, failures_of_stop};
 
@@ -51,6 +51,36 @@ fn verdict_said(most: u32, said: Said) -> Verdict
             upper,
             cause: SaidCause::Memory,
         } => shown_by(lower, most, upper),
+        Said::Between {
+            lower,
+            upper,
+            cause: SaidCause::Edited,
+        } => Verdict::Bounds { lower, upper },
+    }
+}
+
+/// The lower bound that a verdict has.
+fn lower_shown(verdict: Verdict) -> Option<u32>
+    ensures { result ≡ lower_shown verdict }
+{
+    match verdict {
+        Verdict::Optimal(count) | Verdict::First(count) => Some(count),
+        Verdict::Bounds { lower, .. } => Some(lower),
+        Verdict::NoPlan => None,
+    }
+}
+
+/// Whether a certificate with this verdict bears out what is said on a problem with this cap.
+fn bears_out(most: u32, said: Said, verdict: Verdict) -> bool
+    ensures { IsTrue result ↔ BearsOut most said verdict }
+{
+    match said {
+        Said::Between {
+            lower,
+            cause: SaidCause::Edited,
+            ..
+        } => lower_shown(verdict) == Some(lower),
+        _ => verdict == verdict_said(most, said),
     }
 }
 
@@ -67,11 +97,13 @@ fn is_plan_said(said: Said, plan: Option<&Rows>, rows: &[u8]) -> bool
     }
 }
 
-/// Whether an accepted certificate is the bay's, has this verdict, and has the plan that is said.
-fn says_this(bay: &BayName, verdict: Verdict, said: Said, rows: &[u8], found: &Accepted) -> bool
-    ensures { IsTrue result ↔ ((found.now.bay ≡ bay.now) × (found.now.verdict ≡ verdict) × IsPlanSaid said found.now.plan rows.now) }
+/// Whether an accepted certificate is the bay's, bears out what is said on a problem with this cap, and has the plan that is said.
+fn says_this(bay: &BayName, most: u32, said: Said, rows: &[u8], found: &Accepted) -> bool
+    ensures { IsTrue result ↔ ((found.now.bay ≡ bay.now) × BearsOut most said found.now.verdict × IsPlanSaid said found.now.plan rows.now) }
 {
-    found.bay == *bay && found.verdict == verdict && is_plan_said(said, found.plan.as_ref(), rows)
+    found.bay == *bay
+        && bears_out(most, said, found.verdict)
+        && is_plan_said(said, found.plan.as_ref(), rows)
 }
 
 /// What the next certificate of a file states and shows, which is of this problem, or why it is refused.
@@ -97,7 +129,8 @@ fn accept_next<R: Source>(
     Ok((checker.accept(), unread))
 }
 
-/// What the next certificate of a file shows, if it is the bay's and says the same as the report, whose plan goes to these rows.
+/// The verdict that says the same as the report, whose plan goes to these rows, if the next certificate of a file is the bay's and bears
+/// that out.
 pub(crate) fn read_certificate<R: Source>(
     alloc: Global,
     stated: &BayProblem,
@@ -133,11 +166,11 @@ pub(crate) fn read_certificate<R: Source>(
             }));
         }
     };
-    let verdict = verdict_said(stated.problem.cap(), said);
-    if !says_this(&stated.bay, verdict, said, rows, &found) {
+    let most = stated.problem.cap();
+    if !says_this(&stated.bay, most, said, rows, &found) {
         return Err(AuditStop::Fault(AuditFault::Other {
             bay: stated.bay.copy(),
         }));
     }
-    Ok((verdict, unread))
+    Ok((verdict_said(most, said), unread))
 }

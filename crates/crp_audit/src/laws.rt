@@ -12,22 +12,27 @@ ghost use Rattle.crp_audit.specs.Faults.{IsWrongMove, IsFirstFault};
 ghost use Rattle.crp_audit.specs.Readable.{report_in};
 ghost use Rattle.crp_audit.specs.Headline.{Handed, Reported, numbers_in, problem_in, PrintsPlan, IsTrueOf, IsHeadline, shown_in};
 ghost use Rattle.crp_audit.specs.LooksTrue.{LooksTrue};
+ghost use Rattle.crp_audit.specs.BorneOut.{AreBorneOut, IsEdited};
 ghost use Rattle.crp_checker.specs.Files.{FileShows};
 
 use crate::fault::AuditFault;
 
-/// The checker accepts the certificates of a headline, with its verdicts.
+/// The checker accepts the certificates of a headline, with verdicts that bear out what is said of its bays. Where of no bay it is said
+/// that its moves were edited, these are the headline's own verdicts.
 pub fn headlines_show()
-    ensures { (h : Handed) (is : IsHeadline h) → FileShows h.certificates (shown_in h is) }
+    ensures borne_out { (h : Handed) (is : IsHeadline h) → AreBorneOut h is.bays }
+    ensures exact { (h : Handed) (is : IsHeadline h) → AllByRecursion (λ b. ¬ IsEdited b.said) is.bays → FileShows h.certificates (shown_in h is) }
 {}
 
-/// What is handed in has one list of verdicts.
+/// What is handed in has one list of verdicts: where the bays of the yard have names, and they and the numbers are few enough to be
+/// written in a report.
 pub fn one_list_of_verdicts()
-    ensures { (h : Handed) (is also : IsHeadline h) → shown_in h is ≡ shown_in h also }
+    ensures { (h : Handed) (is also : IsHeadline h) → AllByRecursion IsNamedBay h.yard.bays → length h.yard.bays ≤ most
+        → AreSmall (numbers_in h) → shown_in h is ≡ shown_in h also }
 {}
 
 /// What is promised of a bay can be decided: it is so exactly where the printed lines are those of a plan with the relocations that
-/// are said and the certificate is accepted with the verdict that says the same.
+/// are said and the certificate is accepted with a verdict that bears out what is said.
 pub fn true_if_it_looks_so()
     ensures { (h : Handed) (b : Reported) → LooksTrue h b ↔ IsTrueOf h b }
 {}

@@ -1,8 +1,9 @@
 -- What an audit says of what it accepts.
-use Rattle.std.proofs.Common.{◌≡◌, ℕ, List, [], ◌∷◌, map, refl, sym, ap, subst}
+use Rattle.std.proofs.Common.{◌≡◌, ℕ, List, [], ◌∷◌, map, Option, Some, None, IfSome, MatchOption, refl, sym, ap, subst}
 use Rattle.std.specs.List.{AllByRecursion, AllZip}
 use Rattle.std.proofs.lemmas.List.Elements.{recursion_from_All}
-use Rattle.crp_plan.specs.Bay.{Problem}
+use Rattle.crp_plan.specs.declared.moves.Move.{Move}
+use Rattle.crp_plan.specs.Bay.{Problem, cap, IsPlan, relocations}
 use Rattle.crp_plan.specs.BayNames.{YardBay}
 use Rattle.crp_sizes.specs.Sizes.{heights_at}
 use Rattle.crp_yard.specs.Inventory.{StackedBay}
@@ -10,6 +11,9 @@ use Rattle.crp_cert.specs.declared.script.Script.{Script}
 use Rattle.crp_checker.specs.declared.verdict.Verdict.{Verdict}
 use Rattle.crp_checker.specs.AcceptedTexts.{IsAcceptedScript}
 use Rattle.crp_checker.specs.Verdicts.{IsVerdict, Says}
+use Rattle.crp_said.specs.declared.said.SaidCause.TheVariants as cause
+use Rattle.crp_said.specs.declared.said.Said.{Said}
+use Rattle.crp_said.specs.declared.said.Said.TheVariants.{Optimal, First, NoPlan, Between}
 use Rattle.crp_said.specs.Said.{BaySaid}
 use Rattle.crp_order.specs.BayProblems.{problem_of}
 use Rattle.crp_audit.specs.declared.fault.AuditFault.{AuditFault}
@@ -17,7 +21,7 @@ use Rattle.crp_audit.specs.declared.fault.AuditStop.{AuditStop}
 use Rattle.crp_audit.specs.declared.fault.AuditStop.TheVariants as stop
 use Rattle.crp_audit.specs.Faults.{IsFirstFault}
 use Rattle.crp_audit.specs.Stops.{IsAuditStop}
-use Rattle.crp_audit.specs.Headline.{Handed, Reported, said_of, verdict_in, IsTrueOf, IsHeadline, shown_in}
+use Rattle.crp_audit.specs.Headline.{Handed, Reported, said_of, problem_in, PrintsPlan, IsSo, verdict_said, verdict_in, BearsOut, IsTrueOf, IsHeadline, shown_in}
 
 -- what an audit says of certificates that are accepted
 abbrev pub IsShownBy : (List ℕ → Handed) → List ℕ → List (YardBay × Verdict) → Type 0
@@ -41,13 +45,29 @@ VerdictsSay = (script : Script) (verdict : Verdict) → IsAcceptedScript script 
 abbrev pub IsSaidOf : Handed → StackedBay → (YardBay × Verdict) → Type 0
 IsSaidOf h bay shown = (shown.0 ≡ bay.0) × Says (problem_of (heights_at h.yard.sizes bay.0) h.sequence bay.1) shown.1
 
+-- the printed plan has as many relocations as the upper bound
+reached : (h : Handed) (b : Reported) (upper : Option ℕ) → MatchOption upper (b.lines ≡ []) (PrintsPlan h b)
+    → IfSome upper (λ count. (moves : List Move) × IsPlan (problem_in h b) moves × (relocations moves ≡ count))
+reached h b None nothing = tt
+reached h b (Some count) prints = (prints.moves, prints.complete, prints.counted)
+
+-- the verdict that says the same as the report is so: where the moves were edited, since what is said is so; else since the certificate shows it
+says_the_same : (h : Handed) (b : Reported) (said : Said) (v : Verdict) → BearsOut (cap (problem_in h b)) said v → Says (problem_in h b) v → IsSo h b said
+    → Says (problem_in h b) (verdict_said (cap (problem_in h b)) said)
+says_the_same h b (Optimal count) v e shown so = subst (Says (problem_in h b)) e shown
+says_the_same h b (First count) v e shown so = subst (Says (problem_in h b)) e shown
+says_the_same h b NoPlan v e shown so = subst (Says (problem_in h b)) e shown
+says_the_same h b (Between lower upper cause.Budget) v e shown so = subst (Says (problem_in h b)) e shown
+says_the_same h b (Between lower upper cause.Memory) v e shown so = subst (Says (problem_in h b)) e shown
+says_the_same h b (Between lower upper cause.Edited) v e shown so = (so.0, reached h b upper so.1)
+
 each_said : VerdictsSay → (h : Handed) (bays : List Reported) → AllByRecursion (IsTrueOf h) bays
     → AllZip (IsSaidOf h) (map (λ (b : Reported). b.bay) bays) (map (λ (b : Reported). (b.bay.0, verdict_in h b)) bays)
 each_said law h [] all = tt
 each_said law h (b ∷ bays) (is, all) =
     let (script, accepted, name, shows) = is.shown in
-    let so = subst (λ (q : Problem). Says q (verdict_in h b)) (sym accepted.as_wanted) (law script (verdict_in h b) accepted.accepted shows) in
-    ((refl, so), each_said law h bays all)
+    let shown = subst (λ (q : Problem). Says q is.certified) (sym accepted.as_wanted) (law script is.certified accepted.accepted shows) in
+    ((refl, says_the_same h b b.said is.certified is.borne_out shown is.so), each_said law h bays all)
 
 pub said_of_each : VerdictsSay → (h : Handed) (shown : List (YardBay × Verdict)) (is : IsHeadline h) → shown ≡ shown_in h is
     → (bays : List StackedBay) → map (λ (b : Reported). b.bay) is.bays ≡ bays → AllZip (IsSaidOf h) bays shown

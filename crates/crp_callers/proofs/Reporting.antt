@@ -9,13 +9,14 @@ use Rattle.crp_cert.specs.declared.head.Head.{Head}
 use Rattle.crp_cert.specs.Text.{bay_line, IsHeadOf}
 use Rattle.crp_report.specs.declared.status.Status.{Status}
 use Rattle.crp_jobs.specs.declared.job.FileCommand.{FileCommand}
-use Rattle.crp_jobs.specs.declared.job.FileCommand.TheVariants.{Replay, Bound, Check, Prove}
+use Rattle.crp_jobs.specs.declared.job.FileCommand.TheVariants.{Replay, Bound, Check, Prove, Rewrite}
 use Rattle.crp_yard.specs.Reading.{IsTextOf}
 use Rattle.crp_commands.specs.Calls.{CallSeen, IsTextWithin, WritesReport}
 use Rattle.crp_commands.specs.Performing.{Performs}
 use Rattle.crp_commands.specs.Replay.{IsReplay, IsReplayText}
 use Rattle.crp_commands.specs.Bound.{IsBound, bound_lines}
 use Rattle.crp_commands.specs.Check.{IsCheck, most_bytes}
+use Rattle.crp_follow.specs.Rewritten.{IsRewritten}
 use Rattle.crp_commands.specs.Prove.{IsProof}
 use Rattle.crp_chains.proofs.Reading.{chains_floor}
 use Rattle.crp_callers.specs.CommandReports.{IsReportOf, EndsWithBound}
@@ -40,6 +41,7 @@ command_reported Replay ended bytes new s over done = report_written IsTextOf Is
 command_reported (Bound chains) ended bytes new s over done = report_written IsTextOf (IsBound chains) bytes new s (λ known text is. is) over done.1
 command_reported (Check any_size) ended bytes new s over done = report_written (IsTextWithin (most_bytes any_size)) IsCheck bytes new s (λ known text is. is.1) over done.1
 command_reported (Prove search) ended bytes new s over done = (ended, report_written IsTextOf (IsProof search ended) bytes new s (λ known text is. is) over done)
+command_reported Rewrite ended bytes new s over done = report_written IsTextOf IsRewritten bytes new s (λ known text is. is) over done.1
 
 -- ---- a replay
 

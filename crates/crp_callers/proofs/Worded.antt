@@ -133,6 +133,7 @@ check_is_done (OneFile file (command.Check any_size)) (free, (name, is)) seen en
 check_is_done (OneFile file (command.Check any_size)) (free, (name, is)) seen ended bytes lines given held holds ((source, inr (other, from), (done, few)), kept) =
     absurd (other (sym (one_text _ _ is)))
 check_is_done (OneFile file command.Replay) (free, (name, is)) seen ended bytes lines given held holds done = absurd (other_letter 99 114 _ _ refl name)
+check_is_done (OneFile file command.Rewrite) (free, (name, is)) seen ended bytes lines given held holds done = absurd (other_letter 99 114 _ _ refl name)
 check_is_done (OneFile file (command.Bound chains)) (free, (name, is)) seen ended bytes lines given held holds done = absurd (other_letter 99 98 _ _ refl name.0)
 check_is_done (OneFile file (command.Prove chosen)) (free, (name, is)) seen ended bytes lines given held holds done =
     absurd (other_letter 99 112 _ _ refl name.0)
@@ -223,6 +224,7 @@ job_is_linked seen errors status one (Solve names settings quiet progress) (free
           shared_fails names _ (behind run.failures seen) status f shared run.holds.0.1 is
     ]
 job_is_linked seen errors status one (OneFile file command.Replay) (free, (name, is)) ends = absurd (other_letter 115 114 _ _ refl name)
+job_is_linked seen errors status one (OneFile file command.Rewrite) (free, (name, is)) ends = absurd (other_letter 115 114 _ _ refl name)
 job_is_linked seen errors status one (OneFile file (command.Bound chains)) (free, (name, is)) ends = absurd (other_letter 115 98 _ _ refl name.0)
 job_is_linked seen errors status one (OneFile file (command.Check any_size)) (free, (name, is)) ends = absurd (other_letter 115 99 _ _ refl name.0)
 job_is_linked seen errors status one (OneFile file (command.Prove chosen)) (free, (name, is)) ends = absurd (other_letter 115 112 _ _ refl name.0)
@@ -304,6 +306,7 @@ unfolding walk_fault defaults_fault flags_fault walked bundle_met
 limits_ask (Solve names settings quiet progress) (free, (name, size, twice, files, has, a, b)) =
     sizes_at _ settings.input.sizes (record { rows = refl; tiers = refl; heights = refl; workers = refl; split = refl; beam = refl; thin = refl; budget = refl; bays = refl }) has.1.0
 limits_ask (OneFile file command.Replay) (free, (name, is)) = absurd (other_letter 115 114 _ _ refl name)
+limits_ask (OneFile file command.Rewrite) (free, (name, is)) = absurd (other_letter 115 114 _ _ refl name)
 limits_ask (OneFile file (command.Bound chains)) (free, (name, is)) = absurd (other_letter 115 98 _ _ refl name.0)
 limits_ask (OneFile file (command.Check any_size)) (free, (name, is)) = absurd (other_letter 115 99 _ _ refl name.0)
 limits_ask (OneFile file (command.Prove chosen)) (free, (name, is)) = absurd (other_letter 115 112 _ _ refl name.0)
@@ -359,6 +362,7 @@ strong_asks (OneFile file (command.Prove settings)) (free, ((name, (workers, bud
     let at : IsStrongWith (rows_in (subcommand_of crp (words_or_default strong_words))) = record { strong = refl; beam_given = refl; beam = refl; thin = refl } in
     (strong_beam _ at settings.beam beam, strong_thin _ at settings.thin thin, deepen.1 (inr at.strong), chains.1 (inr at.strong))
 strong_asks (OneFile file command.Replay) (free, (name, is)) = absurd (other_letter 112 114 _ _ refl name)
+strong_asks (OneFile file command.Rewrite) (free, (name, is)) = absurd (other_letter 112 114 _ _ refl name)
 strong_asks (OneFile file (command.Bound chains)) (free, (name, is)) = absurd (other_letter 112 98 _ _ refl name.0)
 strong_asks (OneFile file (command.Check any_size)) (free, (name, is)) = absurd (other_letter 112 99 _ _ refl name.0)
 strong_asks (Absent names settings) (free, (name, size, files, has)) = absurd (other_letter 112 97 _ _ refl name)

@@ -3,7 +3,7 @@ use Rattle.std.specs.Prelude.{◌≡◌, ℕ, IsTrue, List}
 use Rattle.crp_sizes.specs.Sizes.{one_size}
 use Rattle.crp_jobs.specs.declared.job.Job.{Job}
 use Rattle.crp_jobs.specs.declared.job.Job.TheVariants.{Absent, OneFile, Audit, Follow, Solve}
-use Rattle.crp_jobs.specs.declared.job.FileCommand.TheVariants.{Replay, Bound, Check, Prove}
+use Rattle.crp_jobs.specs.declared.job.FileCommand.TheVariants.{Replay, Bound, Check, Prove, Rewrite}
 use Rattle.crp_words.specs.declared.usage.Mistake.TheVariants as mistake
 use Rattle.crp_words.specs.declared.usage.Usage.{Usage}
 use Rattle.crp_words.specs.declared.usage.Usage.TheVariants.{Help, Wrong, Memory}
@@ -20,6 +20,7 @@ HasHeights heights (Follow names settings) = ⊥
 abbrev pub IsStrongSearch : ℕ → Job → Type 0
 IsStrongSearch width (OneFile file (Prove search)) = (search.beam ≡ width) × (search.thin ≡ 10000) × IsTrue search.deepen × IsTrue search.chains
 IsStrongSearch width (OneFile file Replay) = ⊥
+IsStrongSearch width (OneFile file Rewrite) = ⊥
 IsStrongSearch width (OneFile file (Bound chains)) = ⊥
 IsStrongSearch width (OneFile file (Check any_size)) = ⊥
 IsStrongSearch width (Absent names settings) = ⊥

@@ -18,19 +18,22 @@ use Rattle.crp_report.specs.Chosen.{InputChosen}
 use Rattle.crp_report.specs.Runs.{AreOrders, numbers_of}
 use Rattle.crp_audit.specs.Headline.{Handed, handed}
 use Rattle.crp_jobs.specs.declared.job.FileCommand.{FileCommand}
-use Rattle.crp_jobs.specs.declared.job.FileCommand.TheVariants.{Replay, Bound, Check, Prove}
+use Rattle.crp_jobs.specs.declared.job.FileCommand.TheVariants.{Replay, Bound, Check, Prove, Rewrite}
+use Rattle.crp_follow.specs.Rewritten.{IsRewritten}
 use Rattle.crp_commands.specs.Replay.{IsReplay}
 use Rattle.crp_commands.specs.Bound.{IsBound, chains_text}
 use Rattle.crp_commands.specs.Check.{IsCheck}
 use Rattle.crp_commands.specs.Follow.{made_for}
 use Rattle.crp_commands.specs.Prove.{IsSomeProof}
 
--- the text is the command's report of the bytes: the moves of their plan, the bounds of their problem, what they show, or a certificate of their problem
+-- the text is the command's report of the bytes: the moves of their plan, the bounds of their problem, what they show, a certificate of their problem, or
+-- the report that they are with lines that count its moves
 abbrev pub IsReportOf : FileCommand → List ℕ → List ℕ → Type 0
 IsReportOf Replay bytes text = IsReplay bytes text
 IsReportOf (Bound chains) bytes text = IsBound chains bytes text
 IsReportOf (Check any_size) bytes text = IsCheck bytes text
 IsReportOf (Prove search) bytes text = IsSomeProof search bytes text
+IsReportOf Rewrite bytes text = IsRewritten bytes text
 
 -- the yard is that of the list, where its bays have the chosen sizes, or where a list of sizes is named those that it has, as far as the bytes of its file are known
 abbrev pub IsSizedList : KnownFiles → Option (List ℕ) → YardSizes → List ℕ → Inventory → Type 0

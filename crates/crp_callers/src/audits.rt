@@ -9,6 +9,7 @@ ghost use Rattle.crp_checker.specs.Files.{FileShows};
 ghost use Rattle.crp_said.specs.Said.{BaySaid, report_text};
 ghost use Rattle.crp_said.specs.Spelled.{most, AreSmall};
 ghost use Rattle.crp_audit.specs.Headline.{Handed, handed, Reported, IsHeadline, numbers_in, shown_in};
+ghost use Rattle.crp_audit.specs.BorneOut.{AreBorneOut, IsEdited};
 ghost use Rattle.crp_audit.specs.Faults.{IsFirstFault};
 
 use crp_audit::{
@@ -61,8 +62,9 @@ pub fn first_fault(
 }
 
 /// What an audit shows of a report and certificates that it accepts: of each bay of the yard from which a container leaves, under its name
-/// and in the yard's order, what its certificate says, and that is so. The certificates are no others, and the report has the lines of
-/// these bays. Each headline of the same texts has the same verdicts.
+/// and in the yard's order, what its report says, and that is so. The certificates are no others, and bear that out: they show the same
+/// where of no bay it is said that its moves were edited. The report has the lines of these bays. Each headline of the same texts has the
+/// same verdicts, where the bays and the numbers are few enough for a report.
 pub fn shown_of_each(
     alloc: Global,
     yard: &Yard,
@@ -74,11 +76,14 @@ pub fn shown_of_each(
     requires { AllByRecursion IsNamedBay yard.now.bays }
     ensures says { IfOk result (AllZip (λ bay shown. (shown.0 ≡ bay.0) × Says (problem_of (heights_at yard.now.sizes bay.0) sequence.now bay.1) shown.1)
         (filter (is_called sequence.now) yard.now.bays)) }
-    ensures file { IfOk result (FileShows certificates.now) }
+    ensures file { IfOk result (λ shown. (is : IsHeadline (handed yard.now orders.now sequence.now report.now certificates.now))
+        × AreBorneOut (handed yard.now orders.now sequence.now report.now certificates.now) is.bays
+        × (AllByRecursion (λ b. ¬ IsEdited b.said) is.bays → FileShows certificates.now shown)) }
     ensures lines { IfOk result (λ shown. (said : List BaySaid)
         × (report.now ≡ report_text (numbers_in (handed yard.now orders.now sequence.now report.now certificates.now)) said)
         × (map (λ s. s.bay) said ≡ map (λ v. v.0) shown)) }
     ensures one { IfOk result (λ shown. (is : IsHeadline (handed yard.now orders.now sequence.now report.now certificates.now))
+        → length yard.now.bays ≤ most → AreSmall (numbers_in (handed yard.now orders.now sequence.now report.now certificates.now))
         → shown ≡ shown_in (handed yard.now orders.now sequence.now report.now certificates.now) is) }
 {
     headlines_show();

@@ -1,5 +1,5 @@
 //! Callers of the commands over lists of bytes.
-ghost use Rattle.std.specs.Prelude.{◌≡◌, ◌≢◌, ◌≤◌, ◌++◌, ◌∷◌, [], ℕ, List, Err, codes, decimal, length, IfOk, OnOk, MatchOption};
+ghost use Rattle.std.specs.Prelude.{◌≡◌, ◌≢◌, ◌≤◌, ◌++◌, ◌∷◌, [], ℕ, List, Err, Some, codes, decimal, length, IfOk, OnOk, MatchOption};
 ghost use Rattle.crp_plan.specs.BayNames.{YardBay};
 ghost use Rattle.crp_cert.specs.declared.head.Head.{Head as HeadStated};
 ghost use Rattle.crp_cert.specs.Text.{IsHeadOf};
@@ -17,13 +17,16 @@ ghost use Rattle.crp_movins.specs.LoadOrders.{LoadOrders};
 ghost use Rattle.crp_order.specs.Absences.{absent_text};
 ghost use Rattle.crp_report.specs.Runs.{AreOrders};
 ghost use Rattle.std.specs.List.{AllByRecursion};
+ghost use Rattle.crp_follow.specs.declared.fault.FollowFault.{FollowFault};
 ghost use Rattle.crp_commands.specs.Audit.{audit_text};
 ghost use Rattle.crp_commands.specs.Check.{verdict_lines};
+ghost use Rattle.crp_commands.specs.Rewrite.{IsRefusedReport};
 ghost use Rattle.crp_callers.specs.CommandReports.{EndsWithBound, HoldsOfTexts, IsFollowedWhole, IsReportOf};
 
 use crp_audit::headlines_have_no_fault;
 use crp_commands::{
     FollowSettings, Listed, TextFiles, absent, audit, bound, check, follow, perform, replay,
+    rewrite,
 };
 use crp_jobs::{FileCommand, ToolFault};
 use crp_plan::{Nowhere, Received};
@@ -67,6 +70,15 @@ pub fn bounded_by_chains(alloc: Global, bytes: &[u8]) -> Result<Vec<u8>, ToolFau
     let mut out = Received::new(alloc);
     bound(alloc, &mut source, &mut out, true)?;
     Ok(out.bytes)
+}
+
+/// A report that is to be written anew is refused for what is wrong with its text, and then nothing was written.
+pub fn rewritten(alloc: Global, bytes: &[u8], out: &mut Received) -> Result<Status, ToolFault>
+    requires { out.old.bytes.items ≡ [] }
+    ensures { (fault : FollowFault) → result ≡ Err (ToolFault.Followed fault) → IsRefusedReport (Some bytes.now) fault × (out.new.bytes.items ≡ []) }
+{
+    let mut source = bytes;
+    rewrite(alloc, &mut source, out)
 }
 
 /// A check of a file that is refused writes the lines of the certificates before the refused one; and of a file that holds some it notes

@@ -131,6 +131,7 @@ pub use problems::bay_of_six;
 pub use problems::fault_of;
 pub use problems::fault_with;
 pub use problems::tiers_before_ranks;
+pub use promised::edited_plan_is_bounded;
 pub use promised::printed_and_accepted_is_best;
 pub use promised::printed_plan_is_certified;
 pub use reports::read_relocation;

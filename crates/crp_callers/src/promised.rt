@@ -8,7 +8,10 @@ ghost use Rattle.crp_yard.specs.Inventory.{StackedBay};
 ghost use Rattle.crp_order.specs.BayProblems.{problem_of, ranked};
 ghost use Rattle.crp_cert.specs.declared.script.Script.{Script};
 ghost use Rattle.crp_cert.specs.Script.{IsScriptOf};
-ghost use Rattle.crp_said.specs.declared.said.Said.TheVariants.{Optimal, First};
+ghost use Rattle.crp_checker.specs.declared.verdict.Verdict.TheVariants.{Bounds};
+ghost use Rattle.crp_checker.specs.Verdicts.{Says};
+ghost use Rattle.crp_said.specs.declared.said.SaidCause.TheVariants.{Edited};
+ghost use Rattle.crp_said.specs.declared.said.Said.TheVariants.{Optimal, First, Between};
 ghost use Rattle.crp_said.specs.MoveLines.{AreMoveLines};
 ghost use Rattle.crp_audit.specs.Headline.{Handed, IsTrueOf};
 ghost use Rattle.crp_audit.specs.LooksTrue.{LooksTrue};
@@ -41,4 +44,18 @@ pub fn printed_plan_is_certified()
 {
     true_if_it_looks_so();
     one_plan_is_printed();
+}
+
+/// Of a bay whose moves were edited an auditor looks at the printed plan alone, and at the lower bound of a certificate that may be another
+/// plan's: no complete plan has fewer relocations than that, and the printed one has as many as is said. Where the numbers meet, they are
+/// the fewest.
+pub fn edited_plan_is_bounded()
+    ensures bounds { (h : Handed) (bay : StackedBay) (lines certificate : List ℕ) (lower upper : ℕ)
+        → LooksTrue h (record { bay = bay; said = Between lower (Some upper) Edited; lines = lines; certificate = certificate })
+        → Says (problem_of (heights_at h.yard.sizes bay.0) h.sequence bay.1) (Bounds lower (Some upper)) }
+    ensures best { (h : Handed) (bay : StackedBay) (lines certificate : List ℕ) (count : ℕ)
+        → LooksTrue h (record { bay = bay; said = Between count (Some count) Edited; lines = lines; certificate = certificate })
+        → IsBest (problem_of (heights_at h.yard.sizes bay.0) h.sequence bay.1) count }
+{
+    true_if_it_looks_so();
 }

@@ -1,5 +1,6 @@
 -- Lemmas on what is written.
 pub mod Replayed
+pub mod NotRewritten
 pub mod Checked
 pub mod Audited
 pub mod ListedAbsent

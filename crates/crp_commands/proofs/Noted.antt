@@ -26,6 +26,7 @@ unnoted_in command.Replay held failures = (Keeps-refl held, refl)
 unnoted_in (command.Bound chains) held failures = (Keeps-refl held, refl)
 unnoted_in (command.Check any_size) held failures = inl (Keeps-refl held, refl)
 unnoted_in (command.Prove search) held failures = (Keeps-refl held, refl)
+unnoted_in command.Rewrite held failures = (Keeps-refl held, refl)
 
 -- ---- files that hold no certificate
 
@@ -77,6 +78,7 @@ noted_in_alone (command.Bound chains) a b c m n o first next = alone_then a b c 
 noted_in_alone (command.Check any_size) a b c m n o (inl first) next = inl (alone_then a b c m n o first next)
 noted_in_alone (command.Check any_size) a b c m n o (inr first) next = inr (lines_then a b c m n o empty_note first next)
 noted_in_alone (command.Prove search) a b c m n o first next = alone_then a b c m n o first next
+noted_in_alone command.Rewrite a b c m n o first next = alone_then a b c m n o first next
 
 noted_by_alone : (quiet : Bool) (a b c : Option (List ℕ)) (m n o : ℕ) → IsNotedBy quiet (seen_from a b m n) → IsLeftAlone (seen_from b c n o) → IsNotedBy quiet (seen_from a c m o)
 noted_by_alone true a b c m n o first next = alone_then a b c m n o first next

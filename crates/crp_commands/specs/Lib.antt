@@ -7,6 +7,7 @@ pub mod Check
 pub mod Audit
 pub mod Absent
 pub mod Follow
+pub mod Rewrite
 pub mod Checks
 pub mod Solving
 pub mod Performing

@@ -40,6 +40,7 @@ IsNotedIn (command.Check any_size) s = IsLeftAlone s ⊎ GetsLines s empty_note
 IsNotedIn command.Replay s = IsLeftAlone s
 IsNotedIn (command.Bound chains) s = IsLeftAlone s
 IsNotedIn (command.Prove search) s = IsLeftAlone s
+IsNotedIn command.Rewrite s = IsLeftAlone s
 
 -- a list of absent containers and an audit leave it alone, and so does what follows a report without a message
 abbrev pub IsNoted : Job → SinkSeen → Type 0

@@ -7,6 +7,7 @@ use Rattle.crp_jobs.specs.declared.job.FileCommand.{FileCommand}
 use Rattle.crp_jobs.specs.declared.job.FileCommand.TheVariants as command
 use Rattle.crp_jobs.specs.declared.job.Job.{Job}
 use Rattle.crp_jobs.specs.declared.job.Job.TheVariants as job
+use Rattle.crp_jobs.specs.declared.outcome.Statement.TheVariants as statement
 use Rattle.crp_jobs.specs.declared.outcome.ToolFault.{ToolFault}
 use Rattle.crp_jobs.specs.declared.outcome.ToolFault.TheVariants as fault
 use Rattle.crp_report.specs.Runs.{SourceSeen, SinkSeen, source_seen, sink_seen}
@@ -21,6 +22,8 @@ use Rattle.crp_commands.specs.Replay.{IsReplay, IsNoReplay}
 use Rattle.crp_commands.specs.Bound.{IsBound, IsNoBound}
 use Rattle.crp_commands.specs.Check.{IsCheck, CheckFailsWith, most_bytes}
 use Rattle.crp_commands.specs.Prove.{IsProof, IsSomeProof, IsNoProof}
+use Rattle.crp_follow.specs.Rewritten.{IsRewritten}
+use Rattle.crp_commands.specs.Rewrite.{RewriteFailsWith}
 use Rattle.crp_files.specs.Known.{KnownFiles}
 use Rattle.crp_commands.specs.declared.heads.TheConstants.{MOST_BYTES}
 use Rattle.crp_commands.specs.declared.streams.Streams.{Streams}
@@ -31,6 +34,7 @@ Performs command.Replay ended s = (ended ≡ status.Decided) × WritesReport IsT
 Performs (command.Bound chains) ended s = (ended ≡ status.Decided) × WritesReport IsTextOf (IsBound chains) s
 Performs (command.Check any_size) ended s = (ended ≡ status.Decided) × WritesReport (IsTextWithin (most_bytes any_size)) IsCheck s
 Performs (command.Prove search) ended s = WritesReport IsTextOf (IsProof search ended) s
+Performs command.Rewrite ended s = (ended ≡ status.Decided) × WritesReport IsTextOf IsRewritten s
 
 -- what a fault says of the command
 abbrev pub CommandFailsWith : FileCommand → CallSeen → ToolFault → Type 0
@@ -38,6 +42,7 @@ CommandFailsWith command.Replay s f = CallFailsWith MOST_BYTES IsReplay IsNoRepl
 CommandFailsWith (command.Bound chains) s f = CallFailsWith MOST_BYTES (IsBound chains) IsNoBound s f
 CommandFailsWith (command.Check any_size) s f = CheckFailsWith (most_bytes any_size) s f
 CommandFailsWith (command.Prove search) s f = CallFailsWith MOST_BYTES (IsSomeProof search) IsNoProof s f
+CommandFailsWith command.Rewrite s f = RewriteFailsWith s f
 
 -- what a call saw, of a source and of a sink
 abbrev pub call_of : SourceSeen → SinkSeen → CallSeen
@@ -91,12 +96,20 @@ pub record IsFromFile (name : List ℕ) (seen : JobSeen) (source : SourceSeen) :
 abbrev pub IsFrom : List ℕ → JobSeen → SourceSeen → Type 0
 IsFrom name seen source = ((name ≡ codes "-") × IsFromInput seen source) ⊎ ((name ≢ codes "-") × IsFromFile name seen source)
 
+-- that the file of a command could not be read
+abbrev pub unread_by : FileCommand → ToolFault
+unread_by command.Rewrite = fault.ReadOf statement.Report
+unread_by command.Replay = fault.Read
+unread_by (command.Bound chains) = fault.Read
+unread_by (command.Check any_size) = fault.Read
+unread_by (command.Prove search) = fault.Read
+
 -- the file of this name cannot be opened, as the standard input always can: this is a failed read, and all else was left alone
-pub record IsUnopened (name : List ℕ) (seen : JobSeen) (f : ToolFault) : Type 0 where
+pub record IsUnopened (name : List ℕ) (c : FileCommand) (seen : JobSeen) (f : ToolFault) : Type 0 where
   pub named : name ≢ codes "-"
   pub refused : IsTrue (seen.files.known.may_not_open name)
   pub one : IsOneRefused seen.files
-  pub stated : f ≡ fault.Read
+  pub stated : f ≡ unread_by c
   pub input : IsSourceLeftAlone seen.input
   pub out : IsLeftAlone seen.out
 
@@ -107,7 +120,7 @@ ReportsFile name c seen ended = (source : SourceSeen) × IsFrom name seen source
 -- what a fault says of the command over what the name stands for: the file cannot be opened, or it is so in a call from that source
 abbrev pub FileFailsWith : List ℕ → FileCommand → JobSeen → ToolFault → Type 0
 FileFailsWith name c seen f =
-    IsUnopened name seen f ⊎ ((source : SourceSeen) × IsFrom name seen source × CommandFailsInCall c (call_of source seen.out) f)
+    IsUnopened name c seen f ⊎ ((source : SourceSeen) × IsFrom name seen source × CommandFailsInCall c (call_of source seen.out) f)
 
 -- the job was done
 abbrev pub ReportsOverFiles : Job → JobSeen → Status → Type 0

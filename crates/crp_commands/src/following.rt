@@ -130,7 +130,7 @@ fn follow_input<Y: Source, M: Source>(
 }
 
 // The bytes of a report.
-fn report_from<R: Source>(
+pub(crate) fn report_from<R: Source>(
     alloc: Global,
     source: &mut R,
     interruptions: &mut u32,

@@ -1,6 +1,7 @@
 //! The commands of the program, over any source and sink and over files.
 //!
-//! `replay`, `bound`, `check` and `prove` go from the bytes of a file of certificates to a report, `absent` from those of a yard list and a
+//! `replay`, `bound`, `check` and `prove` go from the bytes of a file of certificates to a report, `rewrite` from those of a report to the
+//! same with lines that count its moves, `absent` from those of a yard list and a
 //! message to the list of what is ordered and not in the yard, `audit` from those of a yard list, a message, a report and certificates to
 //! what is shown of them, `follow` from those of a yard list and a report, and of a message where
 //! there is one, to the table of its moves, and to their page; `perform` does one of them over a file's bytes, and `run_job` any job
@@ -24,6 +25,7 @@ mod over_yard_files;
 mod performing;
 mod proving;
 mod replaying;
+mod rewriting;
 mod streams;
 
 pub use absences::absent;
@@ -37,4 +39,5 @@ pub use over_files::run_job;
 pub use performing::perform;
 pub use proving::prove;
 pub use replaying::replay;
+pub use rewriting::rewrite;
 pub use streams::Streams;

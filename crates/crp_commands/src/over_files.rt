@@ -7,7 +7,7 @@ ghost use Rattle.crp_sizes.specs.Records.{IsSizesListOf};
 ghost use Rattle.crp_report.specs.Runs.{sink_seen};
 ghost use Rattle.crp_jobs.specs.Opened.{FilesSeen};
 ghost use Rattle.crp_commands.specs.Noted.{IsNoted, IsNotedIn};
-ghost use Rattle.crp_commands.specs.Performing.{JobSeen, job_seen, ReportsFile, FileFailsWith, ReportsOverFiles, FailsOverFiles};
+ghost use Rattle.crp_commands.specs.Performing.{JobSeen, job_seen, ReportsFile, FileFailsWith, ReportsOverFiles, FailsOverFiles, unread_by};
 ghost use Rattle.crp_commands.specs.Sized.{IsNoList, IsDone, IsFailed};
 
 use crate::over_absent_files::absent_files;
@@ -17,7 +17,7 @@ use crate::over_yard_files::{RunAsked, Watcher, solve};
 use crate::performing::perform;
 use crate::streams::Streams;
 use crp_files::Files;
-use crp_jobs::{FileCommand, Job, ToolFault};
+use crp_jobs::{FileCommand, Job, Statement, ToolFault};
 use crp_notes::Terminal;
 use crp_plan::{Sink, Source};
 use crp_report::Status;
@@ -25,6 +25,19 @@ use crp_sizes::{Sizes, sizes_from};
 use std::alloc::Global;
 use std::sync::Wait;
 use std::thread::Threads;
+
+// That the file of a command could not be read.
+fn unread_by(command: &FileCommand) -> ToolFault
+    ensures { result ≡ unread_by command.now }
+{
+    match command {
+        FileCommand::Rewrite => ToolFault::ReadOf(Statement::Report),
+        FileCommand::Replay
+        | FileCommand::Bound { .. }
+        | FileCommand::Check { .. }
+        | FileCommand::Prove(_) => ToolFault::Read,
+    }
+}
 
 // Does a command over one file. A file named `-` is the standard input.
 #[tactic(auto, using(crate::proofs::Noted::unnoted_in))]
@@ -51,7 +64,7 @@ fn perform_on<T: Threads + Wait + Sync, F: Files, R: Source, W: Sink, E: Sink>(
         );
     }
     let Ok(mut source) = files.open(name) else {
-        return Err(ToolFault::Read);
+        return Err(unread_by(command));
     };
     let answer = perform(
         threads,

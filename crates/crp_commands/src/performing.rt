@@ -9,6 +9,7 @@ use crate::bounding::bound;
 use crate::checking::check;
 use crate::proving::prove;
 use crate::replaying::replay;
+use crate::rewriting::rewrite;
 use crp_jobs::{FileCommand, ToolFault};
 use crp_plan::{Sink, Source};
 use crp_report::Status;
@@ -43,5 +44,6 @@ pub fn perform<T: Threads + Wait + Sync, R: Source, W: Sink, E: Sink>(
         FileCommand::Bound { chains } => bound(alloc, reader, writer, *chains),
         FileCommand::Check { any_size } => check(alloc, reader, writer, errors, *any_size),
         FileCommand::Prove(search) => prove(rt, alloc, reader, writer, *search),
+        FileCommand::Rewrite => rewrite(alloc, reader, writer),
     }
 }

@@ -20,3 +20,4 @@ pub mod FirstMoves
 mod BehindSteps
 mod YardBehind
 mod StoppingSteps
+mod RewritingSteps

@@ -138,6 +138,13 @@ fewer_behind (a ∷ []) = omega arith
 fewer_behind (a ∷ b ∷ []) = omega arith
 fewer_behind (a ∷ b ∷ c ∷ bytes) = one_of _ (λ (l : List ℕ). length l ≤ suc (suc (suc (length bytes)))) bytes (a ∷ b ∷ c ∷ bytes) (omega arith) (omega arith)
 
+-- nor has it more lines than bytes
+pub few_in_text : (text : List ℕ) → length (lines_in text) ≤ length text
+few_in_text text =
+    let a = few_pieces (after_mark text) in
+    let b = few_lines 1 (pieces_of (after_mark text)) in
+    let c = fewer_behind text in omega (arith, a, b, c)
+
 few_bays : (bays : List BayStated) (x : List Line) → length bays ≤ length (flat_map bay_lines bays ++ x)
 few_bays [] x = omega arith
 few_bays (b ∷ bays) x =
@@ -147,12 +154,10 @@ last_of_states : (text : List ℕ) (n : Numbers) (bays : List BayStated) → (s 
 last_of_states text n bays s =
     let f = s.front in
     let short : length text ≤ 8388608 = s.short in
-    let a = few_pieces (after_mark text) in
-    let b = few_lines 1 (pieces_of (after_mark text)) in
-    let c = fewer_behind text in
+    let a = few_in_text text in
     let d = few_bays bays (s.last ∷ []) in
     let e : length (lines_in text) ≡ suc (length (flat_map bay_lines bays ++ s.last ∷ [])) = ap length f.lines_are in
-    let few : length bays ≤ 4294967295 = omega (arith, short, a, b, c, d, e) in
+    let few : length bays ≤ 4294967295 = omega (arith, short, a, d, e) in
     let less = count_by-le-length (λ (b : BayStated). is_settled b.said) bays in
     (length bays, count_by (λ b. is_settled b.said) bays, few, omega (arith, few, less), s.counts)
 

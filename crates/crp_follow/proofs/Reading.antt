@@ -23,6 +23,10 @@ more_behind lines l k more later e some = subst (λ (x : List Line). IsNoLine x 
 pub no_last_line : (lines : List Line) (l : Line) (later : List Line) → lines ≡ l ∷ later → ¬ IsLastLine l.body → IsNoLine lines l.number
 no_last_line lines l later e none = subst (λ (x : List Line). IsNoLine x l.number) (sym e) (refl, λ alone. none)
 
+-- no line is there, so none counts the bays
+pub lacking_last : (behind : ℕ) (bays : List BayStated) (lines : List Line) → lines ≡ [] → IsWrongCount behind bays lines behind
+lacking_last behind bays lines none = subst (λ (x : List Line). IsWrongCount behind bays x behind) (sym none) refl
+
 -- the numbers of a last line are those of these bays
 pub right_count : (bays : List StatedBay) (line : List ℕ) (count settled : ℕ) → ended line ≡ bays_line count settled → count ≡ length bays → settled ≡ settled_in bays
     → ended line ≡ bays_line (length (map bay_stated bays)) (settled_in bays)

@@ -7,6 +7,7 @@ pub mod TextFaults
 pub mod MoveFaults
 pub mod Faults
 pub mod Followed
+pub mod Rewritten
 pub mod Behind
 pub mod Kept
 pub mod Table

@@ -50,10 +50,14 @@ pub record StopsAt (lines : List Line) (IsFault : List BayStated → List Line �
   pub behind : IsBehind bays later
   pub wrong : IsFault bays later
 
+-- the first fault of a text before its bays: it is too long, or begins with no orders line
+abbrev pub IsFrontFault : List ℕ → FollowFault → Type 0
+IsFrontFault text fault.TooLong = most_bytes < length text
+IsFrontFault text (fault.Orders line) = (length text ≤ most_bytes) × IsNoOrders (lines_in text) line
+IsFrontFault text f = ⊥
+
 -- the first fault of a text
 abbrev pub IsTextFault : List ℕ → FollowFault → Type 0
-IsTextFault text fault.TooLong = most_bytes < length text
-IsTextFault text (fault.Orders line) = (length text ≤ most_bytes) × IsNoOrders (lines_in text) line
 IsTextFault text (fault.NoLine line) = (length text ≤ most_bytes) × StopsAt (lines_in text) (λ bays later. IsNoLine later line)
 IsTextFault text (fault.Count line) = (length text ≤ most_bytes) × StopsAt (lines_in text) (λ bays later. IsWrongCount (line_behind_all text) bays later line)
-IsTextFault text f = ⊥
+IsTextFault text f = IsFrontFault text f

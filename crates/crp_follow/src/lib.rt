@@ -4,7 +4,7 @@
 //! report are, whichever editor wrote it, in `specs/Lines.antt`, what it states line by line in `specs/Stated.antt`, what a report is that
 //! is followed in `specs/Followed.antt`, and why one is not in `specs/TextFaults.antt` and `specs/Faults.antt`. `write_table` writes the
 //! table of the moves, which `specs/Table.antt` defines, and `list_behind` the list of the yard as it stands when moves were made
-//! (`specs/Behind.antt`).
+//! (`specs/Behind.antt`). `rewrite` gives a report whose moves were edited with lines that count them (`specs/Rewritten.antt`).
 #![tactic(auto)]
 
 mod bays;
@@ -17,6 +17,7 @@ mod laws;
 mod lines;
 mod moving;
 mod pushing;
+mod rewriting;
 mod row;
 mod stated;
 mod stating;
@@ -35,6 +36,7 @@ pub use laws::{
     what_columns_say, written_is_stated,
 };
 pub use moving::{make_move, row_index};
+pub use rewriting::rewrite;
 pub use row::Row;
 pub use stated::{StatedBay, StatedMove};
 pub use stating::MAX_BYTES;

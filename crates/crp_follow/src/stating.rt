@@ -1,12 +1,13 @@
 //! What a report states, line by line.
 ghost use Rattle.std.specs.Prelude.{◌≡◌, ◌≢◌, ◌⊎◌, ◌+◌, ◌++◌, ◌∷◌, ◌<◌, ◌≤◌, ◌^◌, ◌↔◌, [], ℕ, suc, length, map, flat_map, count_by, IfOk, IfErr, IfSome, IfNone, OnOk, IsTrue};
 ghost use Rattle.std.specs.List.{AllByRecursion};
-ghost use Rattle.crp_said.specs.Said.{counts_line, is_settled};
-ghost use Rattle.crp_said.specs.Spelled.{AreSmall, CanBeStated, ended, IsBayLine};
+ghost use Rattle.crp_said.specs.Said.{bays_line, counts_line, is_settled};
+ghost use Rattle.crp_said.specs.Spelled.{most, AreSmall, CanBeStated, ended, IsBayLine};
 ghost use Rattle.crp_follow.specs.declared.fault.FollowFault.{FollowFault as Fault};
-ghost use Rattle.crp_follow.specs.Lines.{Line};
-ghost use Rattle.crp_follow.specs.Stated.{BayStated, moves_of, move_line, bay_lines, IsStatable, CountsBays, States};
-ghost use Rattle.crp_follow.specs.TextFaults.{Begins, IsMoveLine, IsBehind, IsNoOrders, IsNoLine, IsWrongCount, IsTextFault};
+ghost use Rattle.crp_follow.specs.Lines.{Line, lines_in};
+ghost use Rattle.crp_follow.specs.Rewritten.{HasFewMoves, IsEdited, IsEditedFault};
+ghost use Rattle.crp_follow.specs.Stated.{most_bytes, BayStated, moves_of, move_line, bay_lines, IsStatable, CountsBays, GoOnWith, States};
+ghost use Rattle.crp_follow.specs.TextFaults.{Begins, IsMoveLine, IsBehind, IsNoOrders, IsNoLine, IsWrongCount, IsFrontFault, IsTextFault};
 ghost use Rattle.crp_follow.specs.Views.{bay_stated, unread_lines};
 
 use crate::fault::FollowFault;
@@ -148,14 +149,14 @@ fn are_counted(bays: &[StatedBay], count: u32, settled: u32) -> bool
     count as usize == bays.len() && settled as usize == settled_of(bays)
 }
 
-/// Checks the last line behind bays. The number of the line behind all is known.
-#[tactic(auto, using(crate::proofs::Reading::more_behind, crate::proofs::Reading::no_last_line, crate::proofs::Reading::right_count, crate::proofs::Reading::wrong_count))]
-fn check_last(bays: &[StatedBay], unread: UnreadLines<'_>, behind: u64) -> Result<(), FollowFault>
+/// The number of the last line, and the two numbers that it says. The number of the line behind all is known.
+#[tactic(auto, using(crate::proofs::Reading::more_behind, crate::proofs::Reading::no_last_line))]
+fn last_from(unread: UnreadLines<'_>, behind: u64) -> Result<(u64, u32, u32), FollowFault>
     requires room { unread.first + length unread.bytes.now < 2 ^ 64 }
-    ensures last { OnOk result ((l : Line) × (unread_lines unread.entry ≡ l ∷ []) × CountsBays (map bay_stated bays.now) l) }
-    ensures wrong { IfErr result (λ fault. (fault ≡ FollowFault.Memory)
-        ⊎ (((line : ℕ) × (fault ≡ FollowFault.NoLine line) × IsNoLine (unread_lines unread.entry) line)
-        ⊎ ((line : ℕ) × (fault ≡ FollowFault.Count line) × IsWrongCount behind (map bay_stated bays.now) (unread_lines unread.entry) line))) }
+    ensures last { IfOk result (λ x. (l : Line) × (unread_lines unread.entry ≡ l ∷ []) × (l.number ≡ x.0) × (x.1 ≤ most) × (x.2 ≤ most)
+        × (ended l.body ≡ bays_line x.1 x.2)) }
+    ensures wrong { IfErr result (λ fault. ((line : ℕ) × (fault ≡ FollowFault.NoLine line) × IsNoLine (unread_lines unread.entry) line)
+        ⊎ ((fault ≡ FollowFault.Count behind) × (unread_lines unread.entry ≡ []))) }
 {
     let Some((line, body, after)) = next_line(unread) else {
         return Err(FollowFault::Count { line: behind });
@@ -166,27 +167,70 @@ fn check_last(bays: &[StatedBay], unread: UnreadLines<'_>, behind: u64) -> Resul
     let Some((count, settled)) = read_last(body) else {
         return Err(FollowFault::NoLine { line });
     };
+    Ok((line, count, settled))
+}
+
+/// Checks the last line behind bays. The number of the line behind all is known.
+#[tactic(auto, using(crate::proofs::Reading::lacking_last, crate::proofs::Reading::right_count, crate::proofs::Reading::wrong_count))]
+fn check_last(bays: &[StatedBay], unread: UnreadLines<'_>, behind: u64) -> Result<(), FollowFault>
+    requires room { unread.first + length unread.bytes.now < 2 ^ 64 }
+    ensures last { OnOk result ((l : Line) × (unread_lines unread.entry ≡ l ∷ []) × CountsBays (map bay_stated bays.now) l) }
+    ensures wrong { IfErr result (λ fault. (fault ≡ FollowFault.Memory)
+        ⊎ (((line : ℕ) × (fault ≡ FollowFault.NoLine line) × IsNoLine (unread_lines unread.entry) line)
+        ⊎ ((line : ℕ) × (fault ≡ FollowFault.Count line) × IsWrongCount behind (map bay_stated bays.now) (unread_lines unread.entry) line))) }
+{
+    let (line, count, settled) = last_from(unread, behind)?;
     if !are_counted(bays, count, settled) {
         return Err(FollowFault::Count { line });
     }
     Ok(())
 }
 
-/// What a report states, line by line: exactly that whose lines these are. Else the first fault of the text.
-pub(crate) fn state(alloc: Global, report: &[u8]) -> Result<(Numbers, Vec<StatedBay>), FollowFault>
-    ensures stated { IfOk result (λ x. States report.now x.0 (map bay_stated x.1.items)) }
-    ensures wrong { IfErr result (λ fault. (fault ≡ FollowFault.Memory) ⊎ IsTextFault report.now fault) }
+/// The three numbers of a report, its bays with their moves, and what is not read behind them. Else the first fault of its front.
+fn front_of(
+    alloc: Global,
+    report: &[u8],
+) -> Result<(Numbers, Vec<StatedBay>, UnreadLines<'_>), FollowFault>
+    ensures short { IfOk result (λ _. length report.now ≤ most_bytes) }
+    ensures front { IfOk result (λ x. GoOnWith (lines_in report.now) x.0 (map bay_stated x.1.items) (unread_lines x.2)) }
+    ensures behind { IfOk result (λ x. IsBehind (map bay_stated x.1.items) (unread_lines x.2)) }
+    ensures room { IfOk result (λ x. x.2.first + length x.2.bytes.now < 2 ^ 64) }
+    ensures wrong { IfErr result (λ fault. (fault ≡ FollowFault.Memory) ⊎ IsFrontFault report.now fault) }
 {
     if report.len() > MAX_BYTES {
         return Err(FollowFault::TooLong);
     }
-    let text = after_mark(report);
     let unread = UnreadLines {
         first: 1,
-        bytes: text,
+        bytes: after_mark(report),
     };
     let (numbers, rest) = orders_from(unread)?;
     let (bays, rest) = bays_from(alloc, rest)?;
-    check_last(&bays, rest, line_behind(text))?;
+    Ok((numbers, bays, rest))
+}
+
+/// What a report states, line by line: exactly that whose lines these are. Else the first fault of the text.
+#[tactic(auto, using(crate::proofs::RewritingSteps::front_is_text))]
+pub(crate) fn state(alloc: Global, report: &[u8]) -> Result<(Numbers, Vec<StatedBay>), FollowFault>
+    ensures stated { IfOk result (λ x. States report.now x.0 (map bay_stated x.1.items)) }
+    ensures wrong { IfErr result (λ fault. (fault ≡ FollowFault.Memory) ⊎ IsTextFault report.now fault) }
+{
+    let (numbers, bays, rest) = front_of(alloc, report)?;
+    check_last(&bays, rest, line_behind(after_mark(report)))?;
+    Ok((numbers, bays))
+}
+
+/// The same, whatever the last line counts.
+#[tactic(auto, using(crate::proofs::RewritingSteps::all_few_moves, crate::proofs::RewritingSteps::front_is_edited))]
+pub(crate) fn state_edited(
+    alloc: Global,
+    report: &[u8],
+) -> Result<(Numbers, Vec<StatedBay>), FollowFault>
+    ensures stated { IfOk result (λ x. IsEdited report.now x.0 (map bay_stated x.1.items)) }
+    ensures few { IfOk result (λ x. AllByRecursion HasFewMoves (map bay_stated x.1.items)) }
+    ensures wrong { IfErr result (λ fault. (fault ≡ FollowFault.Memory) ⊎ IsEditedFault report.now fault) }
+{
+    let (numbers, bays, rest) = front_of(alloc, report)?;
+    last_from(rest, line_behind(after_mark(report)))?;
     Ok((numbers, bays))
 }

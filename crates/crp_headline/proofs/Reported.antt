@@ -12,6 +12,7 @@ use Rattle.crp_order.specs.declared.bay_problem.BayProblem.{BayProblem}
 use Rattle.crp_order.specs.BayProblems.{leaving, staying, ranked, bay_problem_of, is_called, IsNamedProblem}
 use Rattle.crp_solve.specs.declared.answer.Answer.{Answer}
 use Rattle.crp_solve.specs.declared.answer.Answer.TheVariants as answer
+use Rattle.crp_solve.specs.declared.answer.Cause.TheVariants as cause
 use Rattle.crp_tree.specs.First.{IsFirstBest}
 use Rattle.crp_solve.specs.Chosen.{Chosen}
 use Rattle.crp_solve.specs.Answers.{IsTrueAnswer, IsPlanOf}
@@ -27,7 +28,7 @@ use Rattle.crp_report.specs.Report.{ArePlanLines, MayBePlanLines, certificate_of
 use Rattle.crp_report.specs.Runs.{RunSeen, Made, IsMade, numbers_of}
 use Rattle.crp_report.specs.Said.{IsSaidOf}
 use Rattle.crp_report.proofs.Saying.{answered_named, run_says}
-use Rattle.crp_audit.specs.Headline.{Handed, Reported, said_of, problem_in, PrintsPlan, PrintsFirst, IsSo, verdict_said, IsShownOf, IsTrueOf, IsHeadline}
+use Rattle.crp_audit.specs.Headline.{Handed, Reported, said_of, problem_in, PrintsPlan, PrintsFirst, IsSo, verdict_said, BearsOut, IsShownOf, IsTrueOf, IsHeadline}
 use Rattle.crp_headline.specs.Accepted.{handed_of}
 use Rattle.crp_headline.proofs.Accepted.{answer_accepted, run_cut}
 
@@ -77,6 +78,14 @@ answer_so h b budget (answer.NoPlan cert) expanded t stated fit = let o = t.says
 answer_so h b budget (answer.Between lower cert plan why) expanded t stated fit =
     let o = t.says in (o.bounds, plan_if h b plan o.plan_is stated fit)
 
+-- the verdict that says the same as an answer bears it out: of no bay an answer says that its moves were edited
+answer_borne_out : (most : ℕ) (found : Answer) → BearsOut most (said_by found) (verdict_said most (said_by found))
+answer_borne_out most (answer.Optimal plan cert) = refl
+answer_borne_out most (answer.First plan cert) = refl
+answer_borne_out most (answer.NoPlan cert) = refl
+answer_borne_out most (answer.Between lower cert plan cause.Budget) = refl
+answer_borne_out most (answer.Between lower cert plan cause.Memory) = refl
+
 -- a bay of the yard with what is said of it and its certificate
 abbrev pub reported : StackedBay → Answered → BaySaid → Reported
 reported bay a s = record { bay = bay; said = s.said; lines = s.lines; certificate = certificate_of a }
@@ -93,6 +102,8 @@ bay_true h chosen bay a s e t named said =
     let shown = answer_accepted a.stated.bay a.stated.problem chosen.budget a.solved.answer a.solved.expanded named.bay t.answer in
     record {
       so = subst (IsSo h b) (sym said.said_is) (answer_so h b chosen.budget a.solved.answer a.solved.expanded (subst P e t.answer) (subst R e said.lines_are) (subst Q e named.names));
+      certified = verdict_said (cap p) s.said;
+      borne_out = subst (λ (v : Said). BearsOut (cap p) v (verdict_said (cap p) v)) (sym said.said_is) (answer_borne_out (cap p) a.solved.answer);
       shown = subst (λ (v : Said). IsShownOf bay.0 p (certificate_of a) (verdict_said (cap p) v)) (sym said.said_is) (subst S e shown);
     }
 

@@ -73,6 +73,7 @@ shared_words named s = one_file_words (named s.written) (stream_words s.other) (
 -- what a job over this file could not read or write, in words, where the fault is of that kind; a report goes to the standard output
 abbrev pub failed_in_file : List ℕ → ToolFault → Option (List ℕ)
 failed_in_file name fault.Read = Some (source_words name)
+failed_in_file name (fault.ReadOf which) = Some (source_words name)
 failed_in_file name fault.Write = Some (codes "look at the standard output")
 failed_in_file name f = None
 

@@ -12,6 +12,7 @@ use Rattle.crp_places.specs.Records.{record_start}
 use Rattle.crp_places.specs.Segments.{IsSegmentText, IsSpelledBy}
 use Rattle.crp_jobs.specs.declared.job.Job.{Job}
 use Rattle.crp_jobs.specs.declared.job.Job.TheVariants as job
+use Rattle.crp_jobs.specs.declared.job.FileCommand.TheVariants as command
 use Rattle.crp_jobs.specs.declared.plain.TheConstants.{MOST_FOUND}
 use Rattle.crp_files.specs.Known.{IsFront}
 use Rattle.crp_jobs.specs.Found.{plain}
@@ -86,7 +87,11 @@ message_named (job.Solve names settings quiet progress) = Some names.movins.now
 
 -- its report; one that is followed and is read from the standard input has no name
 abbrev pub report_named : Job → Option (List ℕ)
-report_named (job.OneFile file command) = None
+report_named (job.OneFile file command.Rewrite) = report_name file.now
+report_named (job.OneFile file command.Replay) = None
+report_named (job.OneFile file (command.Bound chains)) = None
+report_named (job.OneFile file (command.Check any_size)) = None
+report_named (job.OneFile file (command.Prove search)) = None
 report_named (job.Absent names settings) = None
 report_named (job.Audit names settings) = Some names.report.now
 report_named (job.Follow names settings) = report_name names.report.now

@@ -57,7 +57,7 @@ fn place_in_file<'a>(file: &'a str, fault: &ToolFault) -> Option<Place<'a>>
     ensures { option_map place_words result ≡ failed_in_file file.now fault.now }
 {
     match fault {
-        ToolFault::Read => Some(source_of(file)),
+        ToolFault::Read | ToolFault::ReadOf(_) => Some(source_of(file)),
         ToolFault::Write => Some(Place::StandardOutput),
         ToolFault::Cert(_)
         | ToolFault::Plan(_)
@@ -70,7 +70,6 @@ fn place_in_file<'a>(file: &'a str, fault: &ToolFault) -> Option<Place<'a>>
         | ToolFault::Run(_)
         | ToolFault::WriteTable
         | ToolFault::WritePage
-        | ToolFault::ReadOf(_)
         | ToolFault::TooLargeOf(_)
         | ToolFault::TooLarge
         | ToolFault::OneFile(_)

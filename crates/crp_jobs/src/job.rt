@@ -25,6 +25,8 @@ pub enum FileCommand {
     },
     /// To solve the problem of a certificate's head, by this search.
     Prove(Settings),
+    /// To print a report, whose moves may have been edited, with lines that count its moves.
+    Rewrite,
 }
 
 /// The files of a run over a yard, by their names.

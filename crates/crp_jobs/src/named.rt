@@ -3,7 +3,7 @@ ghost use Rattle.std.specs.Prelude.{◌≡◌, option_map};
 ghost use Rattle.crp_jobs.specs.Names.{report_name};
 ghost use Rattle.crp_jobs.specs.Placed.{again_named, message_named, offset_named, report_named, segment_named, sizes_named, sizes_of, yard_named};
 
-use crate::job::Job;
+use crate::job::{FileCommand, Job};
 use crp_movins::MovinsFault;
 use crp_sizes::Sizes;
 use edi_text::EdiFault;
@@ -134,6 +134,13 @@ pub(crate) fn report_named<'a>(job: &Job<'a>) -> Option<&'a str>
     match job {
         Job::Audit { files, .. } => Some(files.report),
         Job::Follow { files, .. } => report_name(files.report),
-        Job::OneFile { .. } | Job::Absent { .. } | Job::Solve { .. } => None,
+        Job::OneFile { file, command } => match command {
+            FileCommand::Rewrite => report_name(file),
+            FileCommand::Replay
+            | FileCommand::Bound { .. }
+            | FileCommand::Check { .. }
+            | FileCommand::Prove(_) => None,
+        },
+        Job::Absent { .. } | Job::Solve { .. } => None,
     }
 }

@@ -8,7 +8,7 @@ use Rattle.std.proofs.lemmas.Slice.Eq.{bytes_eq-Decides}
 use Rattle.std.proofs.lemmas.Option.{some_pair_parts, same_Some, none-some}
 use Rattle.std.proofs.lemmas.List.{append-nil}
 use Rattle.crp_said.specs.declared.said.SaidCause.{SaidCause}
-use Rattle.crp_said.specs.declared.said.SaidCause.TheVariants.{Budget, Memory}
+use Rattle.crp_said.specs.declared.said.SaidCause.TheVariants.{Budget, Memory, Edited}
 use Rattle.crp_said.specs.declared.said.Said.{Said}
 use Rattle.crp_said.specs.declared.said.Said.TheVariants.{Optimal, First, NoPlan, Between}
 use Rattle.crp_cert.specs.Reading.{◌>>=◌, tag_at, number_at}
@@ -23,13 +23,14 @@ pub either_read : {A : Type 0} (a b : Option A) (x : A) → option_or a b ≡ So
 either_read None b x e = inr e
 either_read (Some y) b x e = inl e
 
--- the bytes are these, or they are those
-one_of_two : {A : Type 0} (bytes these those : List ℕ) (a b x : A) → cond (bytes_eq bytes these) (Some a) (cond (bytes_eq bytes those) (Some b) None) ≡ Some x
-    → ((bytes ≡ these) × (a ≡ x)) ⊎ ((bytes ≡ those) × (b ≡ x))
-one_of_two bytes these those a b x e =
-    ⊎_elim (λ yes. inl ((bytes_eq-Decides bytes these).0 yes.0, same_Some a x yes.1))
-    (λ no. let c = if_some (bytes_eq bytes those) (Some b) x no.1 in inr ((bytes_eq-Decides bytes those).0 c.0, same_Some b x c.1))
-    (chosen (bytes_eq bytes these) (Some a) (cond (bytes_eq bytes those) (Some b) None) (Some x) e)
+-- the bytes are these, and no others can be read
+only : {A : Type 0} (bytes these : List ℕ) (a x : A) → cond (bytes_eq bytes these) (Some a) None ≡ Some x → (bytes ≡ these) × (a ≡ x)
+only bytes these a x e = let c = if_some (bytes_eq bytes these) (Some a) x e in ((bytes_eq-Decides bytes these).0 c.0, same_Some a x c.1)
+
+-- the bytes are these, or it is read from others
+first_or : {A : Type 0} (bytes these : List ℕ) (a x : A) (others : Option A) → cond (bytes_eq bytes these) (Some a) others ≡ Some x → ((bytes ≡ these) × (a ≡ x)) ⊎ (others ≡ Some x)
+first_or bytes these a x others e =
+    ⊎_elim (λ yes. inl ((bytes_eq-Decides bytes these).0 yes.0, same_Some a x yes.1)) (λ no. inr no.1) (chosen (bytes_eq bytes these) (Some a) others (Some x) e)
 
 -- ---- what is read is what stands there
 
@@ -47,7 +48,8 @@ optimal_takes bytes s e =
     ⊎_elim
     (λ plain. subst (IsRead bytes) plain.1 (x.1, text ∙ ap (λ l. codes "optimal " ++ (decimal count ++ l)) plain.0 ∙ ap (λ l. codes "optimal " ++ l) (append-nil (decimal count))))
     (λ first. subst (IsRead bytes) first.1 (x.1, text ∙ ap (λ l. codes "optimal " ++ (decimal count ++ l)) first.0))
-    (one_of_two n.0.1 [] (codes " first") (Optimal count) (First count) s n.2)
+    (⊎_elim inl (λ others. inr (only n.0.1 (codes " first") (First count) s others))
+    (first_or n.0.1 [] (Optimal count) s (cond (bytes_eq n.0.1 (codes " first")) (Some (First count)) None) n.2))
 
 none_takes : (bytes : List ℕ) (s : Said) → said_none_at bytes ≡ Some s → IsRead bytes s
 none_takes bytes s e =
@@ -70,8 +72,14 @@ upper_takes bytes u rest e =
 
 cause_takes : (bytes : List ℕ) (why : SaidCause) → cause_at bytes ≡ Some why → bytes ≡ cause_words why
 cause_takes bytes why e =
-    ⊎_elim (λ budget. budget.0 ∙ ap cause_words budget.1) (λ memory. memory.0 ∙ ap cause_words memory.1)
-    (one_of_two bytes (codes "budget") (codes "memory") Budget Memory why e)
+    let edited = cond (bytes_eq bytes (codes "edited")) (Some Edited) None in
+    let memory = cond (bytes_eq bytes (codes "memory")) (Some Memory) edited in
+    ⊎_elim (λ is. is.0 ∙ ap cause_words is.1)
+    (λ others.
+    ⊎_elim (λ is. is.0 ∙ ap cause_words is.1)
+    (λ last. let is = only bytes (codes "edited") Edited why last in is.0 ∙ ap cause_words is.1)
+    (first_or bytes (codes "memory") Memory why edited others))
+    (first_or bytes (codes "budget") Budget why memory e)
 
 between_takes : (bytes : List ℕ) (s : Said) → said_between_at bytes ≡ Some s → IsRead bytes s
 unfolding said_between_at
@@ -115,6 +123,7 @@ upper_again (Some n) rest low = not_none (tag_at (codes "none") (decimal n ++ 44
 cause_again : (why : SaidCause) → cause_at (cause_words why) ≡ Some why
 cause_again Budget = refl
 cause_again Memory = refl
+cause_again Edited = refl
 
 pub said_again : (s : Said) → IsSmall s → said_at (said_words s) ≡ Some s
 unfolding said_optimal_at said_between_at

@@ -4,7 +4,7 @@ use Rattle.std.specs.Prelude.{ℕ, Bool, true, false, List, [], ◌∷◌, ◌++
 use Rattle.crp_plan.specs.BayNames.{YardBay}
 use Rattle.crp_said.specs.declared.numbers.Numbers.{Numbers}
 use Rattle.crp_said.specs.declared.said.SaidCause.{SaidCause}
-use Rattle.crp_said.specs.declared.said.SaidCause.TheVariants.{Budget, Memory}
+use Rattle.crp_said.specs.declared.said.SaidCause.TheVariants.{Budget, Memory, Edited}
 use Rattle.crp_said.specs.declared.said.Said.{Said}
 use Rattle.crp_said.specs.declared.said.Said.TheVariants.{Optimal, First, NoPlan, Between}
 
@@ -21,10 +21,11 @@ abbrev pub upper_words : Option ℕ → List ℕ
 upper_words None = codes "none"
 upper_words (Some count) = decimal count
 
--- why the search ended
+-- why the bay is left open
 abbrev pub cause_words : SaidCause → List ℕ
 cause_words Budget = codes "budget"
 cause_words Memory = codes "memory"
+cause_words Edited = codes "edited"
 
 -- what is said of the fewest relocations, in words
 abbrev pub said_words : Said → List ℕ

@@ -76,7 +76,7 @@ fn upper_of(bytes: &[u8]) -> Option<(Option<u32>, &[u8])>
     Some((Some(count), rest))
 }
 
-/// Why a search ended.
+/// Why a bay is left open.
 fn cause_of(bytes: &[u8]) -> Option<SaidCause>
     ensures { Reads (λ x. x) result (cause_at bytes.now) }
 {
@@ -85,6 +85,9 @@ fn cause_of(bytes: &[u8]) -> Option<SaidCause>
     }
     if bytes == b"memory".as_slice() {
         return Some(SaidCause::Memory);
+    }
+    if bytes == b"edited".as_slice() {
+        return Some(SaidCause::Edited);
     }
     None
 }

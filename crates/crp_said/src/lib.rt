@@ -23,7 +23,7 @@ pub use cutting::cut_line;
 pub use laws::{one_move, one_report, takes_are_in_order};
 pub use line_reading::{read_bay, read_last, read_numbers};
 pub use lines::{last_text, numbers_text, push_bay_line, push_bay_words, push_said};
-pub use move_lines::{lines_of, names_of, names_of_ranks, push_line};
+pub use move_lines::{lines_of, names_of, names_of_ranks, push_line, push_words};
 pub use move_reading::read_move;
 pub use moves::{Place, SaidMove};
 pub use numbers::Numbers;

@@ -29,13 +29,14 @@ fn push_upper(text: &mut Vec<u8>, upper: Option<u32>) -> Result<(), AllocError>
     }
 }
 
-// Adds why a search ended.
+// Adds why a bay is left open.
 fn push_cause(text: &mut Vec<u8>, cause: SaidCause) -> Result<(), AllocError>
     ensures { OnOk result (text.new.items ≡ text.old.items ++ cause_words cause) }
 {
     match cause {
         SaidCause::Budget => text.extend_from_slice(b"budget"),
         SaidCause::Memory => text.extend_from_slice(b"memory"),
+        SaidCause::Edited => text.extend_from_slice(b"edited"),
     }
 }
 

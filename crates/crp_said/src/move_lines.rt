@@ -4,6 +4,7 @@ ghost use Rattle.crp_plan.specs.Bay.{Position, IsSound, Legal, IsPlan, start};
 ghost use Rattle.crp_yard.specs.Ranks.{name_of_rank};
 ghost use Rattle.crp_said.specs.MoveLines.{rank_names, spaced_place, move_words, move_said, move_line, AreMoveLines};
 
+use crate::moves::{Place, SaidMove};
 use crp_cert::push_decimal;
 use crp_plan::{Container, Move, Plan, Walk};
 use std::alloc::{AllocError, Global};
@@ -32,13 +33,55 @@ pub fn names_of_ranks(alloc: Global, containers: u8) -> Result<Vec<Vec<u8>>, All
     Ok(names)
 }
 
-fn push_place(text: &mut Vec<u8>, row: u8, tier: u8) -> Result<(), AllocError>
+fn push_numbers(text: &mut Vec<u8>, row: u32, tier: u32) -> Result<(), AllocError>
     ensures { OnOk result (text.new.items ≡ text.old.items ++ spaced_place (record { row = row; tier = tier })) }
 {
     text.push(b' ')?;
     push_decimal(text, row)?;
     text.push(b'.')?;
     push_decimal(text, tier)
+}
+
+fn push_place(text: &mut Vec<u8>, row: u8, tier: u8) -> Result<(), AllocError>
+    ensures { OnOk result (text.new.items ≡ text.old.items ++ spaced_place (record { row = row; tier = tier })) }
+{
+    push_numbers(text, row as u32, tier as u32)
+}
+
+fn push_stated(text: &mut Vec<u8>, place: Place) -> Result<(), AllocError>
+    ensures { OnOk result (text.new.items ≡ text.old.items ++ spaced_place place) }
+{
+    push_numbers(text, place.row, place.tier)
+}
+
+fn push_name(text: &mut Vec<u8>, container: &Container) -> Result<(), AllocError>
+    ensures { OnOk result (text.new.items ≡ text.old.items ++ 32 ∷ container.now) }
+{
+    text.push(b' ')?;
+    text.extend_from_slice(container.bytes())
+}
+
+/// Adds a move in words, as it is stated.
+pub fn push_words(text: &mut Vec<u8>, said: &SaidMove) -> Result<(), AllocError>
+    ensures { OnOk result (text.new.items ≡ text.old.items ++ move_words said.now) }
+{
+    match said {
+        SaidMove::Shift {
+            from,
+            to,
+            container,
+        } => {
+            text.extend_from_slice(b"shift")?;
+            push_stated(text, *from)?;
+            push_stated(text, *to)?;
+            push_name(text, container)
+        }
+        SaidMove::Take { from, container } => {
+            text.extend_from_slice(b"take")?;
+            push_stated(text, *from)?;
+            push_name(text, container)
+        }
+    }
 }
 
 // What a rank is called.

@@ -2,13 +2,15 @@
 
 use crp_plan::BayName;
 
-/// Why the search of a bay ended before the bay was decided.
+/// Why a bay is left open.
 #[derive(Clone, Copy, Debug, PartialEq, Eq)]
 pub enum SaidCause {
-    /// Its budget was spent.
+    /// The budget of its search was spent.
     Budget,
-    /// Memory ran out.
+    /// Memory ran out in its search.
     Memory,
+    /// Its moves were edited, so no search ended with this plan.
+    Edited,
 }
 
 /// What is said of the fewest relocations of a bay.
@@ -20,7 +22,7 @@ pub enum Said {
     First(u32),
     /// That there is no plan.
     NoPlan,
-    /// At least so many, and no more than the printed plan has, if there is one; and why the search ended.
+    /// At least so many, and no more than the printed plan has, if there is one; and why the bay is left open.
     Between {
         lower: u32,
         upper: Option<u32>,

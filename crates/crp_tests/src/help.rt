@@ -18,6 +18,7 @@ fn shows_help(rt: HostRuntime) {
         ["absent", "--help"],
         ["audit", "--help"],
         ["follow", "--help"],
+        ["rewrite", "--help"],
         ["help", "prove"],
     ] {
         assert_at(&rt, is_help(rt.alloc(), &words), &words);

@@ -10,7 +10,7 @@ fn is_wrong(alloc: Global, words: &[&str]) -> bool {
 
 // Words that ask for nothing: a file or a value is missing, or there is one too many; an option is given twice, or is none of its command; a
 // value is no number; heights stand beside rows or tiers.
-const WRONG: [&[&str]; 33] = [
+const WRONG: [&[&str]; 35] = [
     &["replay"],
     &["a", "replay"],
     &["bound", "a", "b"],
@@ -44,6 +44,8 @@ const WRONG: [&[&str]; 33] = [
     &["absent", "a", "b", "--cert=c"],
     &["absent", "a", "b", "--bay=A 1"],
     &["absent", "a", "b", "--rows=3", "--heights=3"],
+    &["rewrite"],
+    &["rewrite", "a", "b"],
 ];
 
 #[test]

@@ -13,6 +13,7 @@ use Rattle.crp_words.proofs.Lacking.{lacks, lacks_more, other_name, other_second
 -- what absent asks for has an input, and its size once
 absent_asks : (rows : List Row) (j : Job) → Asks (codes "absent") rows j → ¬ IsSizedTwice rows × ((s : InputChosen) × HasInput rows s)
 absent_asks rows (job.OneFile file command.Replay) asks = absurd (other_name 97 114 _ _ (omega arith) asks.0)
+absent_asks rows (job.OneFile file command.Rewrite) asks = absurd (other_name 97 114 _ _ (omega arith) asks.0)
 absent_asks rows (job.OneFile file (command.Bound chains)) asks = absurd (other_name 97 98 _ _ (omega arith) asks.0.0)
 absent_asks rows (job.OneFile file (command.Check any_size)) asks = absurd (other_name 97 99 _ _ (omega arith) asks.0.0)
 absent_asks rows (job.OneFile file (command.Prove search)) asks = absurd (other_name 97 112 _ _ (omega arith) asks.0.0)

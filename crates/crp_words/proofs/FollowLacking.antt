@@ -15,6 +15,7 @@ use Rattle.crp_words.proofs.Lacking.{lacks, lacks_more, no_input_fault, other_na
 follow_asks : (rows : List Row) (j : Job) → Asks (codes "follow") rows j
     → AreFollowWordsClear rows × ((s : InputChosen) × HasInput rows s) × ((names : FollowFiles) × HasFollowFiles rows names)
 follow_asks rows (job.OneFile file command.Replay) asks = absurd (other_name 102 114 _ _ (omega arith) asks.0)
+follow_asks rows (job.OneFile file command.Rewrite) asks = absurd (other_name 102 114 _ _ (omega arith) asks.0)
 follow_asks rows (job.OneFile file (command.Bound chains)) asks = absurd (other_name 102 98 _ _ (omega arith) asks.0.0)
 follow_asks rows (job.OneFile file (command.Check any_size)) asks = absurd (other_name 102 99 _ _ (omega arith) asks.0.0)
 follow_asks rows (job.OneFile file (command.Prove search)) asks = absurd (other_name 102 112 _ _ (omega arith) asks.0.0)

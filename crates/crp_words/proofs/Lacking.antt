@@ -371,6 +371,7 @@ other_second first a b m n other same = other (ap (λ (l : Text). slice_index l 
 -- what prove asks for has settings of a search
 prove_asks : (rows : List Row) (j : Job) → Asks (codes "prove") rows j → (s : Chosen) × HasSearch rows s
 prove_asks rows (job.OneFile file command.Replay) asks = absurd (other_name 112 114 _ _ (omega arith) asks.0)
+prove_asks rows (job.OneFile file command.Rewrite) asks = absurd (other_name 112 114 _ _ (omega arith) asks.0)
 prove_asks rows (job.OneFile file (command.Bound chains)) asks = absurd (other_name 112 98 _ _ (omega arith) asks.0.0)
 prove_asks rows (job.OneFile file (command.Check any_size)) asks = absurd (other_name 112 99 _ _ (omega arith) asks.0.0)
 prove_asks rows (job.OneFile file (command.Prove search)) asks = (search, asks.0.1)
@@ -397,6 +398,7 @@ no_prove rows u = lacks_more (HasSearch rows) (Asks (codes "prove") rows) (IsSea
 solve_asks : (rows : List Row) (j : Job) → Asks (codes "solve") rows j
     → ¬ IsSizedTwice rows × ¬ IsNamedTwice rows × ((names : RunFiles) × HasFiles rows names) × ((s : RunChosen) × HasSettings rows s)
 solve_asks rows (job.OneFile file command.Replay) asks = absurd (other_name 115 114 _ _ (omega arith) asks.0)
+solve_asks rows (job.OneFile file command.Rewrite) asks = absurd (other_name 115 114 _ _ (omega arith) asks.0)
 solve_asks rows (job.OneFile file (command.Bound chains)) asks = absurd (other_name 115 98 _ _ (omega arith) asks.0.0)
 solve_asks rows (job.OneFile file (command.Check any_size)) asks = absurd (other_name 115 99 _ _ (omega arith) asks.0.0)
 solve_asks rows (job.OneFile file (command.Prove search)) asks = absurd (other_name 115 112 _ _ (omega arith) asks.0.0)
@@ -453,6 +455,7 @@ solve_named_twice rows u twice words = lacks (Asks (codes "solve") rows) (IsFaul
 -- what audit asks for has an input, and its size once
 audit_asks : (rows : List Row) (j : Job) → Asks (codes "audit") rows j → ¬ IsSizedTwice rows × ((s : InputChosen) × HasInput rows s)
 audit_asks rows (job.OneFile file command.Replay) asks = absurd (other_name 97 114 _ _ (omega arith) asks.0)
+audit_asks rows (job.OneFile file command.Rewrite) asks = absurd (other_name 97 114 _ _ (omega arith) asks.0)
 audit_asks rows (job.OneFile file (command.Bound chains)) asks = absurd (other_name 97 98 _ _ (omega arith) asks.0.0)
 audit_asks rows (job.OneFile file (command.Check any_size)) asks = absurd (other_name 97 99 _ _ (omega arith) asks.0.0)
 audit_asks rows (job.OneFile file (command.Prove search)) asks = absurd (other_name 97 112 _ _ (omega arith) asks.0.0)

@@ -194,6 +194,10 @@ absent_files = command (codes "absent") (file_rule (codes "yard") ∷ file_rule 
 abbrev pub absent : Shape
 absent = with_orders (with_size absent_files)
 
+-- rewrite, which takes a FILE, and no option
+abbrev pub rewrite : Shape
+rewrite = leaf (codes "rewrite")
+
 -- crp itself, with a version, and a command that is required
 abbrev pub top_command : Shape
 top_command = record (new_shape (codes "crp")) {
@@ -211,7 +215,7 @@ leaves = record {
 
 -- the command line of crp
 abbrev pub crp : App
-crp = record leaves { subs = leaves.subs ++ prove ∷ solve ∷ audit ∷ follow ∷ absent ∷ [] }
+crp = record leaves { subs = leaves.subs ++ prove ∷ solve ∷ audit ∷ follow ∷ absent ∷ rewrite ∷ [] }
 
 -- the argument has this rule, at its own command alone
 abbrev pub IsArg : Rule → Arg → Type 0

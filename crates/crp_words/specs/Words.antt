@@ -331,6 +331,7 @@ AsksCommand name found command.Replay = name ≡ codes "replay"
 AsksCommand name found (command.Bound chains) = (name ≡ codes "bound") × MayWriteChains found chains
 AsksCommand name found (command.Check any_size) = (name ≡ codes "check") × MayBeAnySize found any_size
 AsksCommand name found (command.Prove search) = (name ≡ codes "prove") × HasSearch found search
+AsksCommand name found command.Rewrite = name ≡ codes "rewrite"
 
 -- the command and its rows ask for this
 abbrev pub Asks : Text → List Row → Job → Type 0

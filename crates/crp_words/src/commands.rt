@@ -1,7 +1,7 @@
 //! The command line: each command with its files and options.
 ghost use Rattle.std.specs.Prelude.{◌≡◌, IfOk};
 ghost use Rattle.clap.specs.Words.{App, app_of, with_subcommand};
-ghost use Rattle.crp_words.specs.Commands.{IsArg, IsCommand, absent as absent_shape, absent_files as absent_files_shape, alone, audit as audit_shape, audit_files as audit_files_shape, crp, file_rule, flag_rule, follow as follow_shape, follow_files as follow_files_shape, leaf as leaf_shape, leaves, more_rule, prove as prove_shape, solve as solve_shape, solve_files as solve_files_shape, top_command as top_shape, with_option};
+ghost use Rattle.crp_words.specs.Commands.{IsArg, IsCommand, absent as absent_shape, absent_files as absent_files_shape, alone, audit as audit_shape, audit_files as audit_files_shape, crp, file_rule, flag_rule, follow as follow_shape, follow_files as follow_files_shape, leaf as leaf_shape, leaves, more_rule, prove as prove_shape, rewrite as rewrite_shape, solve as solve_shape, solve_files as solve_files_shape, top_command as top_shape, with_option};
 
 use crate::options::{
     flag, with_after, with_bays, with_orders, with_outputs, with_page, with_search, with_size,
@@ -223,6 +223,18 @@ fn with_leaves<'a>(alloc: Global) -> Result<Command<'a>, AllocError>
     )?)
 }
 
+// The command `rewrite`.
+fn rewrite<'a>(alloc: Global) -> Result<Command<'a>, AllocError>
+    ensures { IfOk result (IsCommand rewrite_shape) }
+{
+    leaf(
+        alloc,
+        "rewrite",
+        "Print a report whose moves were edited, with lines that count its moves",
+        "Report, as solve prints it, or - for the standard input",
+    )
+}
+
 /// The whole command line.
 pub fn command_line<'a>(alloc: Global) -> Result<Command<'a>, AllocError>
     ensures { IfOk result (λ c. app_of c ≡ crp) }
@@ -232,5 +244,6 @@ pub fn command_line<'a>(alloc: Global) -> Result<Command<'a>, AllocError>
         .subcommand(solve(alloc)?)?
         .subcommand(audit(alloc)?)?
         .subcommand(follow(alloc)?)?
-        .subcommand(absent(alloc)?)
+        .subcommand(absent(alloc)?)?
+        .subcommand(rewrite(alloc)?)
 }

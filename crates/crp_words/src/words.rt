@@ -162,6 +162,7 @@ fn leaf_of<'a>(alloc: Global, name: &str, matches: &ArgMatches<'a>) -> Result<Jo
         "check" => FileCommand::Check {
             any_size: is_given(matches, "any-size"),
         },
+        "rewrite" => FileCommand::Rewrite,
         _ => return Err(wrong(alloc, "error: there is no such command\n")),
     };
     Ok(Job::OneFile { file, command })

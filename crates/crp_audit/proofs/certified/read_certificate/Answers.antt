@@ -3,10 +3,9 @@ use Rattle.std.proofs.lemmas.Result.{err_from_is_err_and}
 use Rattle.crp_plan.specs.Bay.{cap}
 use Rattle.crp_plan.proofs.Interruptions.{transfers_on}
 use Rattle.crp_checker.specs.declared.refused.Refused.TheVariants as refused
-use Rattle.crp_checker.specs.Verdicts.{IsVerdict}
 use Rattle.crp_checker.proofs.Meaning.{one_verdict_under}
 use Rattle.crp_checker.proofs.Taken.{taken_since, too_long_since}
-use Rattle.crp_audit.specs.Headline.{verdict_said}
+use Rattle.crp_audit.specs.Headline.{verdict_said, BearsOut}
 use Rattle.crp_audit.specs.Certified.{IsPlanSaid}
 use Rattle.crp_audit.proofs.Results.{ok_at, err_at}
 use Rattle.crp_audit.proofs.Stopping.{read_stops, lacking_stops, refused_stops, other_stops}
@@ -45,26 +44,28 @@ pub returns-then-not-says_this-clause-wrong : goal.returns-then-not-says_this-cl
 returns-then-not-says_this-clause-wrong g c =
     let (text, taken, read) = c.in_ok-answer.ensures.read in
     let (script, is, bay, plan, shows) = ok_at c.in_ok-answer.answer c.in-Ok.found _ _ c.in-Ok.is read in
-    let said : c.verdict_said-verdict.result ≡ verdict_said (cap c.args.stated.now.problem) c.args.said =
-    c.verdict_said-verdict.ensures ∙ ap (λ most. verdict_said most c.args.said) c.cap.ensures.value in
     other_stops _ _ c.args.unread c.in_ok-answer.unread c.args.stated.now c.args.said c.args.rows.now text script _ c.copy-then-not-says_this.ensures
     (taken_since _ _ _ c.args.unread c.fill.new.self c.in_ok-answer.unread text c.in_ok-fill.ensures.same taken) is
     (λ says.
-    let verdict = one_verdict_under script.head.claim _ _ c.in-Ok.found.verdict (verdict_said (cap c.args.stated.now.problem) c.args.said) shows says.verdict in
-    let t : c.says_this.result ≡ true = c.says_this.ensures.1 (sym bay ∙ says.bay, verdict ∙ sym said, subst (λ p. IsPlanSaid c.args.said p c.args.rows.now) plan says.plan) in
+    let (v, also, bears) = says.verdict in
+    let same : v ≡ c.in-Ok.found.verdict = one_verdict_under script.head.claim _ _ v c.in-Ok.found.verdict also shows in
+    let here : BearsOut (cap c.args.stated.now.problem) c.args.said c.in-Ok.found.verdict = subst (BearsOut (cap c.args.stated.now.problem) c.args.said) same bears in
+    let said : BearsOut c.cap-most.result c.args.said c.in-Ok.found.verdict = subst (λ most. BearsOut most c.args.said c.in-Ok.found.verdict) (sym c.cap-most.ensures.value) here in
+    let t : c.says_this.result ≡ true = c.says_this.ensures.1 (sym bay ∙ says.bay, said, subst (λ p. IsPlanSaid c.args.said p c.args.rows.now) plan says.plan) in
     let f : c.says_this.result ≡ false = c.if-not-says_this.true in cc)
 
 pub returns-clause-right : goal.returns-clause-right
 returns-clause-right g c =
     let (text, taken, read) = c.in_ok-answer.ensures.read in
     let (script, is, bay, plan, shows) = ok_at c.in_ok-answer.answer c.in-Ok.found _ _ c.in-Ok.is read in
-    let said : c.verdict_said-verdict.result ≡ verdict_said (cap c.args.stated.now.problem) c.args.said =
-    c.verdict_said-verdict.ensures ∙ ap (λ most. verdict_said most c.args.said) c.cap.ensures.value in
-    let same = c.says_this.ensures.0 c.if-not-says_this.false in (
+    let said : c.verdict_said.result ≡ verdict_said (cap c.args.stated.now.problem) c.args.said =
+    c.verdict_said.ensures ∙ ap (λ most. verdict_said most c.args.said) c.cap-most.ensures.value in
+    let same = c.says_this.ensures.0 c.if-not-says_this.false in
+    let bears : BearsOut (cap c.args.stated.now.problem) c.args.said c.in-Ok.found.verdict = subst (λ most. BearsOut most c.args.said c.in-Ok.found.verdict) c.cap-most.ensures.value same.1 in (
       text,
       script,
       taken_since _ _ _ c.args.unread c.fill.new.self c.in_ok-answer.unread text c.in_ok-fill.ensures.same taken,
       is,
-      record { bay = bay ∙ same.0; verdict = subst (IsVerdict script) (same.1 ∙ said) shows; plan = subst (λ p. IsPlanSaid c.args.said p c.args.rows.now) (sym plan) same.2 },
+      record { bay = bay ∙ same.0; verdict = (c.in-Ok.found.verdict, shows, bears); plan = subst (λ p. IsPlanSaid c.args.said p c.args.rows.now) (sym plan) same.2 },
       said,
     )

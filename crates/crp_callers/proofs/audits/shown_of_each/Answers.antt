@@ -19,7 +19,11 @@ returns-clause-file c =
     let of : List ℕ → Handed = handed c.args.yard.now c.args.orders.now c.args.sequence.now c.args.report.now in
     ok_by c.audit.result _ _ c.audit.ensures.accepted (λ shown p.
     let (is, e) = at_text of p.0 c.args.certificates.now shown p.2 p.3 in
-    subst (λ (v : List (YardBay × Verdict)). FileShows c.args.certificates.now v) (sym e) (c.headlines_show.ensures (of c.args.certificates.now) is))
+    let h : Handed = of c.args.certificates.now in (
+      is,
+      c.headlines_show.ensures.borne_out h is,
+      λ plain. subst (λ (v : List (YardBay × Verdict)). FileShows c.args.certificates.now v) (sym e) (c.headlines_show.ensures.exact h is plain),
+    ))
 
 pub returns-clause-lines : goal.returns-clause-lines
 returns-clause-lines c =
@@ -31,6 +35,6 @@ returns-clause-lines c =
 pub returns-clause-one : goal.returns-clause-one
 returns-clause-one c =
     let of : List ℕ → Handed = handed c.args.yard.now c.args.orders.now c.args.sequence.now c.args.report.now in
-    ok_by c.audit.result _ _ c.audit.ensures.accepted (λ shown p also.
+    ok_by c.audit.result _ _ c.audit.ensures.accepted (λ shown p also few small.
     let (is, e) = at_text of p.0 c.args.certificates.now shown p.2 p.3 in
-    e ∙ c.one_list_of_verdicts.ensures (of c.args.certificates.now) is also)
+    e ∙ c.one_list_of_verdicts.ensures (of c.args.certificates.now) is also c.requires few small)

@@ -1,4 +1,4 @@
-use Rattle.std.proofs.Common.{◌≡◌, ◌∙◌, ◌<◌, Some, List, length, map, refl, sym, ap, subst, get_or}
+use Rattle.std.proofs.Common.{◌≡◌, ◌∙◌, Some, List, length, map, refl, sym, ap}
 use Rattle.std.specs.Prelude.{option_map, slice_get}
 use Rattle.std.proofs.lemmas.Option.{slice_get-map, slice_get_read}
 use Rattle.crp_follow.specs.declared.stated.StatedBay.{StatedBay}
