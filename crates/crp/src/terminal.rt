@@ -1,45 +1,49 @@
-//! The terminal behind the standard error.
+//! The terminal behind the standard error, and the clock of a run.
 use crp_commands::Terminal;
 use crp_plan::{Counted, write_text};
+use crp_report::Clock;
 use std::io::IsTerminal;
 use std::time::Instant;
 
-/// The terminal behind the standard error, if there is one.
+/// The terminal behind the standard error, if there is one, and a clock.
 #[derive(Drop)]
 pub struct ErrorTerminal<'a> {
     rt: &'a HostRuntime,
-    // When it was looked for, if it was found.
-    found: Option<Instant>,
+    is_there: bool,
+    // When the clock began to run; without one it stands still.
+    begun: Option<Instant>,
 }
 
 impl<'a> ErrorTerminal<'a> {
-    /// Looks whether the standard error is a terminal. One without a clock counts for none.
+    /// Looks whether the standard error is a terminal, and begins to count the time. A terminal without a clock counts for none.
     pub fn new(rt: &'a HostRuntime) -> ErrorTerminal<'a> {
-        let found = if rt.stderr().is_terminal() {
-            Instant::now(rt).ok()
-        } else {
-            None
+        let begun = Instant::now(rt).ok();
+        ErrorTerminal {
+            rt,
+            is_there: begun.is_some() && rt.stderr().is_terminal(),
+            begun,
+        }
+    }
+}
+
+impl Clock for ErrorTerminal<'_> {
+    fn millis(&self) -> u64 {
+        let Some(begun) = &self.begun else {
+            return 0;
         };
-        ErrorTerminal { rt, found }
+        match begun.elapsed(self.rt) {
+            Ok(passed) => passed
+                .as_secs()
+                .saturating_mul(1000)
+                .saturating_add(u64::from(passed.subsec_millis())),
+            Err(_) => 0,
+        }
     }
 }
 
 impl Terminal for ErrorTerminal<'_> {
     fn is_there(&self) -> bool {
-        self.found.is_some()
-    }
-
-    fn tenths(&self) -> u64 {
-        let Some(found) = &self.found else {
-            return 0;
-        };
-        match found.elapsed(self.rt) {
-            Ok(passed) => passed
-                .as_secs()
-                .saturating_mul(10)
-                .saturating_add(u64::from(passed.subsec_millis() / 100)),
-            Err(_) => 0,
-        }
+        self.is_there
     }
 
     fn write(&self, text: &[u8]) {

@@ -79,6 +79,7 @@ so h b NoPlan v e shown looks = (says_as h b v verdict.NoPlan e shown, looks)
 so h b (Between lower upper cause.Budget) v e shown looks = let bounds = says_as h b v (verdict.Bounds lower upper) e shown in (bounds.0, looks)
 so h b (Between lower upper cause.Memory) v e shown looks =
     (low (problem_in h b) lower upper (says_as h b v (shown_by lower (cap (problem_in h b)) upper) e shown), looks)
+so h b (Between lower upper cause.Time) v e shown looks = let bounds = says_as h b v (verdict.Bounds lower upper) e shown in (bounds.0, looks)
 so h b (Between lower upper cause.Edited) v e shown looks = (low_shown (problem_in h b) v lower (says b.bay.0 (problem_in h b) b.certificate v shown) e, looks)
 
 looks : (h : Handed) (b : Reported) (said : Said) (v : Verdict) → BearsOut (cap (problem_in h b)) said v → IsShownOf b.bay.0 (problem_in h b) b.certificate v → IsSo h b said → LooksSo h b said

@@ -88,6 +88,10 @@ low_said h b lower upper cause.Budget v e (script, is, name, shows) =
 low_said h b lower upper cause.Memory v e (script, is, name, shows) =
     let low = low_bound (problem_in h b) b.certificate script is in
     low_of script.head.claim _ _ lower (cap (problem_in h b)) upper (cap_low (problem_in h b) low.0) low.1 (subst (IsVerdict script) e shows)
+low_said h b lower upper cause.Time v e (script, is, name, shows) =
+    let low = low_bound (problem_in h b) b.certificate script is in
+    let k = low.1 in
+    let within = bounded script.head.claim _ _ lower upper (subst (IsVerdict script) e shows) in omega (arith, within, k)
 low_said h b lower upper cause.Edited v e (script, is, name, shows) =
     let low = low_bound (problem_in h b) b.certificate script is in
     let k = low.1 in

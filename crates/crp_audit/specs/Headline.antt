@@ -100,6 +100,7 @@ verdict_said most (First count) = verdict.First count
 verdict_said most NoPlan = verdict.NoPlan
 verdict_said most (Between lower upper cause.Budget) = verdict.Bounds lower upper
 verdict_said most (Between lower upper cause.Memory) = shown_by lower most upper
+verdict_said most (Between lower upper cause.Time) = verdict.Bounds lower upper
 verdict_said most (Between lower upper cause.Edited) = verdict.Bounds lower upper
 
 -- the lower bound that a verdict has: that there is no plan is none
@@ -117,6 +118,7 @@ BearsOut most (First count) v = v ≡ verdict_said most (First count)
 BearsOut most NoPlan v = v ≡ verdict_said most NoPlan
 BearsOut most (Between lower upper cause.Budget) v = v ≡ verdict_said most (Between lower upper cause.Budget)
 BearsOut most (Between lower upper cause.Memory) v = v ≡ verdict_said most (Between lower upper cause.Memory)
+BearsOut most (Between lower upper cause.Time) v = v ≡ verdict_said most (Between lower upper cause.Time)
 BearsOut most (Between lower upper cause.Edited) v = lower_shown v ≡ Some lower
 
 -- the text is an accepted certificate of the bay of this name and of this problem, and this is what it shows

@@ -54,6 +54,11 @@ fn verdict_said(most: u32, said: Said) -> Verdict
         Said::Between {
             lower,
             upper,
+            cause: SaidCause::Time,
+        } => Verdict::Bounds { lower, upper },
+        Said::Between {
+            lower,
+            upper,
             cause: SaidCause::Edited,
         } => Verdict::Bounds { lower, upper },
     }

@@ -58,6 +58,7 @@ says_the_same h b (Optimal count) v e shown so = subst (Says (problem_in h b)) e
 says_the_same h b (First count) v e shown so = subst (Says (problem_in h b)) e shown
 says_the_same h b NoPlan v e shown so = subst (Says (problem_in h b)) e shown
 says_the_same h b (Between lower upper cause.Budget) v e shown so = subst (Says (problem_in h b)) e shown
+says_the_same h b (Between lower upper cause.Time) v e shown so = subst (Says (problem_in h b)) e shown
 says_the_same h b (Between lower upper cause.Memory) v e shown so = subst (Says (problem_in h b)) e shown
 says_the_same h b (Between lower upper cause.Edited) v e shown so = (so.0, reached h b upper so.1)
 

@@ -24,8 +24,8 @@ met_count p (Some plan) known = refl
 pub best_met : (p : Problem) (c : Chosen) (s : Solved) (lower : ℕ) (cert : Certificate) (plan : Option ProblemPath) → c.deepen ≡ false → IsSolved p c s → s.answer ≡ Between lower cert plan Budget →
     All (λ part. All (λ cut. IsFinished cut.place → count_of p (path_in plan) ≤ value cut) (cuts_in part)) cert.parts
 best_met p c s lower cert plan alone solved is =
-    let come : ComesOf p c (Between lower cert plan Budget) s.expanded = subst (λ a. ComesOf p c a s.expanded) is solved.searches in
-    let one : IsOneSearch c.thin p c.budget come.plan (known_by cert plan s.expanded) = subst (λ b. SearchesOf b c.thin p c.budget come.plan (known_by cert plan s.expanded)) alone come.searches in
+    let comes : ComesOf p c (Between lower cert plan Budget) s.expanded s.stopped = subst (λ a. ComesOf p c a s.expanded s.stopped) is solved.searches in let come = comes.1 in
+    let one : IsOneSearch c.thin p c.budget come.plan (known_by cert plan s.expanded s.stopped) = subst (λ b. SearchesOf b c.thin p c.budget come.plan (known_by cert plan s.expanded s.stopped)) alone come.searches in
     let found = one.found in let ended = found.ended in
     let count : count_of p (path_in plan) ≡ count_or (count_of p (path_in come.plan)) (path_in one.met) = ap (λ o. count_of p (path_in o)) one.best ∙ met_count p one.met come.plan in
     λ i d lt. (

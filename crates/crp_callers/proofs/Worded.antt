@@ -38,7 +38,7 @@ use Rattle.crp_words.specs.declared.usage.Usage.{Usage}
 use Rattle.crp_words.specs.declared.usage.Usage.TheVariants as usage
 use Rattle.crp_words.specs.Commands.{crp}
 use Rattle.crp_words.specs.Endings.{JobEnds, ProgramEnds, UsageEnds}
-use Rattle.crp_words.specs.Words.{given_texts, HasBeam, HasNumber, HasNumberBeyond, HasThin, IsGivenByWords, Refuses, WordsAsk, WordsHaveFault, IsSolveFault, FindsSizes, MayFindHeights, heights_or, value_source_of, words_or_default}
+use Rattle.crp_words.specs.Words.{given_texts, HasBeam, HasNumber, HasNumberBeyond, HasThin, IsGivenByWords, Refuses, WordsAsk, WordsHaveFault, IsSolveFault, IsTimeFault, FindsSizes, MayFindHeights, heights_or, value_source_of, words_or_default}
 use Rattle.crp_callers.specs.AskedFor.{HasHeights, IsOfSetting, IsStrongSearch}
 use Rattle.crp_callers.proofs.OverFiles.{Done, Failed, as_run}
 use Rattle.crp_callers.proofs.Reporting.{command_reported}
@@ -265,6 +265,8 @@ record AtLimits (found : List Row) : Type 0 where
   thin : one_of (codes "thin") found ≡ Some (codes "1000000")
   budget : one_of (codes "budget") found ≡ Some (codes "1099511627776")
   bays : given_texts (codes "bay") found ≡ []
+  seconds : first_of (codes "seconds") found ≡ None
+  total : first_of (codes "total-seconds") found ≡ None
 
 sizes_at : (found : List Row) (sizes : YardSizes) → AtLimits found → FindsSizes found sizes → sizes ≡ one_size (replicate 12 8)
 sizes_at found sizes at finds = by_own finds.own finds.finds_own finds.are
@@ -279,6 +281,22 @@ sizes_at found sizes at finds = by_own finds.own finds.finds_own finds.are
     by_own None none are = are ∙ ap (λ (n : ℕ). one_size (replicate n finds.tiers)) twelve ∙ ap (λ (n : ℕ). one_size (replicate 12 n)) eight
     by_own (Some list) (text, has, is) are = let k : None ≡ Some text = sym at.heights ∙ has in cc
 
+-- they have no limit of time
+no_time_at : (found : List Row) → AtLimits found → (f : SettingFault) → IsTimeFault found f → ⊥
+no_time_at found at setting.Workers is = is
+no_time_at found at setting.Budget is = is
+no_time_at found at setting.Split is = is
+no_time_at found at setting.Beam is = is
+no_time_at found at setting.Thin is = is
+no_time_at found at setting.Rows is = is
+no_time_at found at setting.Tiers is = is
+no_time_at found at setting.Heights is = is
+no_time_at found at setting.Bay is = is
+no_time_at found at setting.Seconds is =
+    let text = is.0 in let has : first_of (codes "seconds") found ≡ Some text = is.1 in let k : None ≡ Some text = sym at.seconds ∙ has in absurd (cc)
+no_time_at found at setting.TotalSeconds is =
+    let text = is.1.0 in let has : first_of (codes "total-seconds") found ≡ Some text = is.1.1 in let k : None ≡ Some text = sym at.total ∙ has in absurd (cc)
+
 no_fault_at : (found : List Row) → AtLimits found → (f : SettingFault) → IsSolveFault found f → ⊥
 no_fault_at found at setting.Workers (inl is) = not_beyond (codes "workers") 1 64 found (codes "64") at.workers (lit≤ tt) (lit≤ tt) is
 no_fault_at found at setting.Budget (inl is) = not_beyond (codes "budget") 0 MAX_BUDGET found (codes "1099511627776") at.budget (lit≤ tt) (lit≤ tt) is.1
@@ -289,22 +307,27 @@ no_fault_at found at setting.Rows (inl is) = is
 no_fault_at found at setting.Tiers (inl is) = is
 no_fault_at found at setting.Heights (inl is) = is
 no_fault_at found at setting.Bay (inl is) = is
-no_fault_at found at setting.Workers (inr (searched, is)) = is
-no_fault_at found at setting.Budget (inr (searched, is)) = is
-no_fault_at found at setting.Split (inr (searched, is)) = is
-no_fault_at found at setting.Beam (inr (searched, is)) = is
-no_fault_at found at setting.Thin (inr (searched, is)) = is
-no_fault_at found at setting.Rows (inr (searched, is)) = not_beyond (codes "rows") 1 12 found (codes "12") at.rows (lit≤ tt) (lit≤ tt) is
-no_fault_at found at setting.Tiers (inr (searched, is)) = not_beyond (codes "tiers") 1 8 found (codes "8") at.tiers (lit≤ tt) (lit≤ tt) is.1
-no_fault_at found at setting.Heights (inr (searched, is)) =
+no_fault_at found at setting.Seconds (inl is) = is
+no_fault_at found at setting.TotalSeconds (inl is) = is
+no_fault_at found at setting.Workers (inr (searched, inl is)) = is
+no_fault_at found at setting.Budget (inr (searched, inl is)) = is
+no_fault_at found at setting.Split (inr (searched, inl is)) = is
+no_fault_at found at setting.Beam (inr (searched, inl is)) = is
+no_fault_at found at setting.Thin (inr (searched, inl is)) = is
+no_fault_at found at setting.Rows (inr (searched, inl is)) = not_beyond (codes "rows") 1 12 found (codes "12") at.rows (lit≤ tt) (lit≤ tt) is
+no_fault_at found at setting.Tiers (inr (searched, inl is)) = not_beyond (codes "tiers") 1 8 found (codes "8") at.tiers (lit≤ tt) (lit≤ tt) is.1
+no_fault_at found at setting.Heights (inr (searched, inl is)) =
     let text = is.2.0 in let has : first_of (codes "heights") found ≡ Some text = is.2.1 in let k : None ≡ Some text = sym at.heights ∙ has in absurd (cc)
-no_fault_at found at setting.Bay (inr (searched, is)) = is.1 [] (tt, sym at.bays)
+no_fault_at found at setting.Bay (inr (searched, inl is)) = is.1 [] (tt, sym at.bays)
+no_fault_at found at setting.Seconds (inr (searched, inl is)) = is
+no_fault_at found at setting.TotalSeconds (inr (searched, inl is)) = is
+no_fault_at found at f (inr (searched, inr (input, is))) = no_time_at found at f is
 
 -- they ask for bays of 12 rows of 8 tiers
 pub limits_ask : (j : Job) → WordsAsk limit_words j → HasHeights (replicate 12 8) j
 unfolding walk_fault defaults_fault flags_fault walked bundle_met
 limits_ask (Solve names settings quiet progress) (free, (name, size, twice, files, has, a, b)) =
-    sizes_at _ settings.input.sizes (record { rows = refl; tiers = refl; heights = refl; workers = refl; split = refl; beam = refl; thin = refl; budget = refl; bays = refl }) has.1.0
+    sizes_at _ settings.input.sizes (record { rows = refl; tiers = refl; heights = refl; workers = refl; split = refl; beam = refl; thin = refl; budget = refl; bays = refl; seconds = refl; total = refl }) has.1.0
 limits_ask (OneFile file command.Replay) (free, (name, is)) = absurd (other_letter 115 114 _ _ refl name)
 limits_ask (OneFile file command.Rewrite) (free, (name, is)) = absurd (other_letter 115 114 _ _ refl name)
 limits_ask (OneFile file (command.Bound chains)) (free, (name, is)) = absurd (other_letter 115 98 _ _ refl name.0)
@@ -323,7 +346,7 @@ limits_have_no_fault : (f : SettingFault) → WordsHaveFault limit_words f → �
 unfolding walk_fault defaults_fault flags_fault walked bundle_met
 limits_have_no_fault f (free, inl is) = absurd (other_letter 115 112 _ _ refl is.0)
 limits_have_no_fault f (free, inr (inl is)) =
-    no_fault_at (rows_in (subcommand_of crp (words_or_default limit_words))) (record { rows = refl; tiers = refl; heights = refl; workers = refl; split = refl; beam = refl; thin = refl; budget = refl; bays = refl }) f is.1.2
+    no_fault_at (rows_in (subcommand_of crp (words_or_default limit_words))) (record { rows = refl; tiers = refl; heights = refl; workers = refl; split = refl; beam = refl; thin = refl; budget = refl; bays = refl; seconds = refl; total = refl }) f is.1.2
 limits_have_no_fault f (free, inr (inr (inl is))) = absurd (other_letter 115 97 _ _ refl is.0)
 limits_have_no_fault f (free, inr (inr (inr (inl is)))) = absurd (other_letter 115 102 _ _ refl is.0)
 limits_have_no_fault f (free, inr (inr (inr (inr is)))) = absurd (other_letter 115 97 _ _ refl is.0)
@@ -358,7 +381,7 @@ strong_thin found at n (inr (own, within)) =
 -- the beam is the one that is given, and all else that of --strong
 pub strong_asks : (j : Job) → WordsAsk strong_words j → IsStrongSearch 7 j
 unfolding walk_fault defaults_fault flags_fault walked bundle_met
-strong_asks (OneFile file (command.Prove settings)) (free, ((name, (workers, budget, split, beam, thin, (first, deepen, chains))), is)) =
+strong_asks (OneFile file (command.Prove settings)) (free, ((name, ((workers, budget, split, beam, thin, (first, deepen, chains)), time)), is)) =
     let at : IsStrongWith (rows_in (subcommand_of crp (words_or_default strong_words))) = record { strong = refl; beam_given = refl; beam = refl; thin = refl } in
     (strong_beam _ at settings.beam beam, strong_thin _ at settings.thin thin, deepen.1 (inr at.strong), chains.1 (inr at.strong))
 strong_asks (OneFile file command.Replay) (free, (name, is)) = absurd (other_letter 112 114 _ _ refl name)

@@ -30,7 +30,7 @@ use crp_commands::{
 };
 use crp_jobs::{FileCommand, ToolFault};
 use crp_plan::{Nowhere, Received};
-use crp_report::{InputSettings, Status};
+use crp_report::{InputSettings, NoClock, Status};
 use std::alloc::Global;
 use std::sync::Wait;
 use std::thread::Threads;
@@ -46,7 +46,15 @@ pub fn performed<T: Threads + Wait + Sync>(
 {
     let mut source = bytes;
     let mut out = Received::new(alloc);
-    perform(threads, alloc, command, &mut source, &mut out, &mut Nowhere)?;
+    perform(
+        threads,
+        alloc,
+        &NoClock,
+        command,
+        &mut source,
+        &mut out,
+        &mut Nowhere,
+    )?;
     Ok(out.bytes)
 }
 

@@ -33,6 +33,7 @@ pub use auditing::{MOST_REPORT, audit};
 pub use bounding::bound;
 pub use checking::check;
 pub use crp_notes::{NoTerminal, Terminal};
+pub use crp_report::Clock;
 pub use following::{FollowSettings, Listed, TextFiles, follow};
 pub use heads::{ANY_SIZE, MOST_BYTES};
 pub use over_files::run_job;

@@ -20,7 +20,7 @@ use crp_files::Files;
 use crp_jobs::{FileCommand, Job, Statement, ToolFault};
 use crp_notes::Terminal;
 use crp_plan::{Sink, Source};
-use crp_report::Status;
+use crp_report::{Clock, Status};
 use crp_sizes::{Sizes, sizes_from};
 use std::alloc::Global;
 use std::sync::Wait;
@@ -39,11 +39,12 @@ fn unread_by(command: &FileCommand) -> ToolFault
     }
 }
 
-// Does a command over one file. A file named `-` is the standard input.
+// Does a command over one file. A file named `-` is the standard input. A search sees its limit of time by this clock.
 #[tactic(auto, using(crate::proofs::Noted::unnoted_in))]
-fn perform_on<T: Threads + Wait + Sync, F: Files, R: Source, W: Sink, E: Sink>(
+fn perform_on<T: Threads + Wait + Sync, K: Clock + Sync, F: Files, R: Source, W: Sink, E: Sink>(
     threads: &T,
     alloc: Global,
+    clock: &K,
     files: &mut F,
     streams: &mut Streams<R, W, E>,
     name: &str,
@@ -57,6 +58,7 @@ fn perform_on<T: Threads + Wait + Sync, F: Files, R: Source, W: Sink, E: Sink>(
         return perform(
             threads,
             alloc,
+            clock,
             command,
             &mut streams.input,
             &mut streams.out,
@@ -69,6 +71,7 @@ fn perform_on<T: Threads + Wait + Sync, F: Files, R: Source, W: Sink, E: Sink>(
     let answer = perform(
         threads,
         alloc,
+        clock,
         command,
         &mut source,
         &mut streams.out,
@@ -93,7 +96,7 @@ fn do_job<T: Threads + Wait + Sync, F: Files, R: Source, W: Sink, E: Sink, S: Te
 {
     match job {
         Job::OneFile { file, command } => {
-            perform_on(threads, alloc, files, streams, file, command)
+            perform_on(threads, alloc, terminal, files, streams, file, command)
         }
         Job::Absent {
             files: names,
@@ -156,7 +159,8 @@ fn sizes_of<F: Files>(
 
 /// Does a job over its files, and writes its report to the standard output. A job over the file `-`, and one that follows a report named
 /// `-`, reads the standard input. A run over a yard that is not to be quiet writes its notes to the standard error, as a check does that
-/// finds no certificate, and what follows a report with a message; and it shows on the terminal how far it is. A list of sizes, where the job names one, is read before any other file
+/// finds no certificate, and what follows a report with a message; and it shows on the terminal how far it is. Limits of time are seen by
+/// the clock of the terminal. A list of sizes, where the job names one, is read before any other file
 /// is opened, and the bays of the yard have these sizes.
 ///
 /// Of a run over a yard the headline holds: of the texts that it wrote, and where it ended with a fault of those whose fronts it wrote.

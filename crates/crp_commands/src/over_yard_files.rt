@@ -13,7 +13,7 @@ use crp_jobs::{RunFiles, ToolFault};
 use crp_notes::{Notes, Terminal};
 use crp_plan::{Nowhere, Sink};
 use crp_report::{
-    Devices, Fault, Input, Output, RunSettings, Status, Unwatched, Watch, run_watched,
+    Clock, Devices, Fault, Input, Output, RunSettings, Status, Unwatched, Watch, run_watched,
 };
 use std::alloc::Global;
 use std::marker::Brand;
@@ -36,15 +36,25 @@ pub struct Watcher<'a, S> {
     pub quiet: bool,
     /// Whether a line says that each bay begins, where there is no terminal.
     pub progress: bool,
-    /// Shows how far the run is.
+    /// Shows how far the run is, and has the clock of its limits of time.
     pub terminal: &'a S,
 }
 
 // Opens the files, before anything is read, and runs over them. The files that are written, where they are asked for, are those of these
 // names: they are made where they are not there, and emptied once it is seen that none is another one of the files.
-fn solve_to<T: Threads + Wait + Sync, F: Files, W: Sink, V: Watch, E: Sink, C: Named, A: Named>(
+fn solve_to<
+    T: Threads + Wait + Sync,
+    K: Clock + Sync,
+    F: Files,
+    W: Sink,
+    V: Watch,
+    E: Sink,
+    C: Named,
+    A: Named,
+>(
     threads: &T,
     alloc: Global,
+    clock: &K,
     files: &mut F,
     asked: &RunAsked<'_>,
     out: &mut W,
@@ -86,6 +96,7 @@ fn solve_to<T: Threads + Wait + Sync, F: Files, W: Sink, V: Watch, E: Sink, C: N
     let answer = run_watched(
         threads,
         alloc,
+        clock,
         &mut devices,
         asked.settings,
         out,
@@ -111,7 +122,8 @@ fn largest_file(names: &RunFiles<'_>) -> usize {
 /// Opens the files, before anything is read: the yard list, the message, the file of the certificates and that of the yard after the
 /// plans. Where one that is written is another one of these, or stands behind a standard stream, no file is emptied, and that is the
 /// fault. Else runs over them, and writes the report to `out` and, unless it is to be quiet, notes to `errors`; and shows how far it is on
-/// the terminal or, where there is none and that is asked for, by a line for each bay to `errors`. At the end the files that were written
+/// the terminal or, where there is none and that is asked for, by a line for each bay to `errors`. Limits of time are seen by the clock of
+/// the terminal, also where the run is quiet. At the end the files that were written
 /// are finished; one that cannot be is a failed write to it.
 #[tactic(auto, using(crate::proofs::Noted::unnoted))]
 pub fn solve<T: Threads + Wait + Sync, F: Files, W: Sink, E: Sink, S: Terminal + Sync>(
@@ -130,9 +142,10 @@ pub fn solve<T: Threads + Wait + Sync, F: Files, W: Sink, E: Sink, S: Terminal +
     ensures noted { IsNotedBy watcher.now.quiet (record { held = E.contents errors.old; holds = E.contents errors.new; before = E.failures errors.old; after = E.failures errors.new }) }
 {
     if watcher.quiet {
-        return solve_to::<T, F, W, Unwatched, Nowhere, Brand, Brand>(
+        return solve_to::<T, S, F, W, Unwatched, Nowhere, Brand, Brand>(
             threads,
             alloc,
+            watcher.terminal,
             files,
             asked,
             out,
@@ -146,7 +159,14 @@ pub fn solve<T: Threads + Wait + Sync, F: Files, W: Sink, E: Sink, S: Terminal +
         watcher.terminal,
         watcher.progress,
     );
-    solve_to::<T, F, W, Notes<'_, S>, E, Brand, Brand>(
-        threads, alloc, files, asked, out, &mut notes, errors,
+    solve_to::<T, S, F, W, Notes<'_, S>, E, Brand, Brand>(
+        threads,
+        alloc,
+        watcher.terminal,
+        files,
+        asked,
+        out,
+        &mut notes,
+        errors,
     )
 }

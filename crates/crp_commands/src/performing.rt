@@ -12,17 +12,18 @@ use crate::replaying::replay;
 use crate::rewriting::rewrite;
 use crp_jobs::{FileCommand, ToolFault};
 use crp_plan::{Sink, Source};
-use crp_report::Status;
+use crp_report::{Clock, Status};
 use std::alloc::Global;
 use std::sync::Wait;
 use std::thread::Threads;
 
 /// Does a command over one file, from a source of that file's bytes to the sink of its report. That a file to be checked holds no
-/// certificate is noted on `errors`.
+/// certificate is noted on `errors`. A search sees its limit of time by this clock.
 #[tactic(auto, using(crate::proofs::Noted::unnoted_in))]
-pub fn perform<T: Threads + Wait + Sync, R: Source, W: Sink, E: Sink>(
+pub fn perform<T: Threads + Wait + Sync, K: Clock + Sync, R: Source, W: Sink, E: Sink>(
     rt: &T,
     alloc: Global,
+    clock: &K,
     command: &FileCommand,
     reader: &mut R,
     writer: &mut W,
@@ -43,7 +44,7 @@ pub fn perform<T: Threads + Wait + Sync, R: Source, W: Sink, E: Sink>(
         FileCommand::Replay => replay(alloc, reader, writer),
         FileCommand::Bound { chains } => bound(alloc, reader, writer, *chains),
         FileCommand::Check { any_size } => check(alloc, reader, writer, errors, *any_size),
-        FileCommand::Prove(search) => prove(rt, alloc, reader, writer, *search),
+        FileCommand::Prove(search) => prove(rt, alloc, clock, reader, writer, *search),
         FileCommand::Rewrite => rewrite(alloc, reader, writer),
     }
 }

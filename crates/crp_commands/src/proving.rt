@@ -10,7 +10,7 @@ use crate::heads::head_from;
 use crp_incumbent::Board;
 use crp_jobs::ToolFault;
 use crp_plan::{Sink, Source, write_all};
-use crp_report::{Status, certificate_of, status_of};
+use crp_report::{Clock, Status, Timer, certificate_of, status_of};
 use crp_solve::{NoGate, Settings, solve};
 use std::alloc::Global;
 use std::sync::Wait;
@@ -18,9 +18,11 @@ use std::thread::Threads;
 
 /// Solves the problem of the head that a source's bytes begin with, and writes a certificate of the answer. The claim and the
 /// plan of the head are read and not used. Where the first best plan is asked for and found, the certificate claims it to be that.
-pub fn prove<T: Threads + Wait + Sync, R: Source, W: Sink>(
+/// The search ends at its limit of time, where it has one, by this clock.
+pub fn prove<T: Threads + Wait + Sync, K: Clock + Sync, R: Source, W: Sink>(
     rt: &T,
     alloc: Global,
+    clock: &K,
     reader: &mut R,
     writer: &mut W,
     settings: Settings,
@@ -36,10 +38,12 @@ pub fn prove<T: Threads + Wait + Sync, R: Source, W: Sink>(
     } in MatchResult result (λ status. WritesReport IsTextOf (IsProof settings status) seen × (call_failures seen ≤ most_interruptions))
         (λ fault. CallFailsWith MOST_BYTES (IsSomeProof settings) IsNoProof seen fault × (call_failures seen ≤ most_call_failures fault)) }
 {
+    let timer = Timer::start(clock);
     let mut interruptions = 0;
     let head = head_from(alloc, reader, &mut interruptions)?;
     let board = Board::new(&head.problem);
-    let solved = solve(rt, alloc, &head.problem, settings, &board, &NoGate)?;
+    let gate = timer.gate(&NoGate, settings.time());
+    let solved = solve(rt, alloc, &head.problem, settings, &board, &gate)?;
     let status = status_of(&solved.answer);
     let text = certificate_of(alloc, &head.bay, &head.problem, &solved.answer)?;
     write_all(writer, &text, &mut interruptions)?;

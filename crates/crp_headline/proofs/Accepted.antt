@@ -4,10 +4,10 @@ use Rattle.std.specs.List.{AllByRecursion}
 use Rattle.std.proofs.lemmas.Bool.{eqb-true, eqb-false}
 use Rattle.std.proofs.lemmas.List.Elements.{recursion_from_All}
 use Rattle.crp_plan.specs.BayNames.{YardBay, IsYardBay}
-use Rattle.crp_plan.specs.Bay.{Problem, cap}
+use Rattle.crp_plan.specs.Bay.{Problem, IsProblem, cap}
 use Rattle.crp_plan.specs.Plans.{ProblemPath}
 use Rattle.crp_tree.specs.Claims.{IsAccepted, Claimed, path_in}
-use Rattle.crp_tree.specs.Parts.{claimed}
+use Rattle.crp_tree.specs.Parts.{Certificate, claimed}
 use Rattle.crp_cert.specs.declared.script.Script.{Script}
 use Rattle.crp_cert.specs.Writing.{script_for, first_script_for, CanBeSpelled}
 use Rattle.crp_cert.proofs.Written.{spelled_is_script, first_is_script, claimed_rise}
@@ -16,7 +16,7 @@ use Rattle.crp_solve.specs.declared.answer.Answer.TheVariants as answer
 use Rattle.crp_solve.specs.declared.answer.Cause.TheVariants as cause
 use Rattle.crp_solve.specs.Chosen.{Chosen}
 use Rattle.crp_solve.specs.Solved.{IsSolved}
-use Rattle.crp_solve.specs.Answers.{cert_of, count_of, IsTrueAnswer}
+use Rattle.crp_solve.specs.Answers.{cert_of, count_of, IsBetween, IsTrueAnswer}
 use Rattle.crp_solve.proofs.Limits.{count_low}
 use Rattle.crp_checker.specs.declared.verdict.Verdict.TheVariants as verdict
 use Rattle.crp_checker.specs.AcceptedTexts.{IsAcceptedText}
@@ -69,6 +69,14 @@ script_of bay p (answer.First plan cert) = first_script_for bay (claimed p cert 
 script_of bay p (answer.NoPlan cert) = script_for bay (claimed p cert None)
 script_of bay p (answer.Between lower cert plan why) = script_for bay (claimed p cert (path_in plan))
 
+-- a bound below the plan is the lower one of two
+verdict_below : (p : Problem) (lower : ℕ) (cert : Certificate) (plan : Option ProblemPath) → IsProblem p → IsBetween p lower cert plan → lower < count_of p (path_in plan)
+    → IsVerdictOf cert.lower (cap p) (option_map length (path_in plan)) (verdict.Bounds lower (option_map (λ (route : ProblemPath). length route.path) plan))
+verdict_below p lower cert plan is between low =
+    let apart = below_plan p lower plan low in
+    subst (λ n. IsVerdictOf n (cap p) (option_map length (path_in plan)) (verdict.Bounds lower (option_map (λ (route : ProblemPath). length route.path) plan))) (sym between.shown)
+    (apart, λ e. omega (arith, low, e, count_low p plan is between.plan_is), refl, sym (counts plan))
+
 -- what a true answer's certificate shows says the same as the answer
 verdict_on : (bay : YardBay) (p : Problem) (budget : ℕ) (found : Answer) (expanded : ℕ) → IsTrueAnswer p budget found expanded
     → IsVerdict (script_of bay p found) (verdict_said (cap p) (said_by found))
@@ -76,14 +84,15 @@ verdict_on bay p budget (answer.Optimal plan cert) expanded t = let o = t.says i
 verdict_on bay p budget (answer.First plan cert) expanded t = let o = t.says in ap verdict.First (sym o.shown)
 verdict_on bay p budget (answer.NoPlan cert) expanded t = let o = t.says in (λ e. cc, o.shown)
 verdict_on bay p budget (answer.Between lower cert plan cause.Budget) expanded t =
-    let o = t.says in
     let ended = t.ended in
     let spent = ended.1 in
     let ok = t.accepted in
-    let low = spent.below in
-    let apart = below_plan p lower plan low in
-    subst (λ n. IsVerdictOf n (cap p) (option_map length (path_in plan)) (verdict.Bounds lower (option_map (λ (route : ProblemPath). length route.path) plan))) (sym o.shown)
-    (apart, λ e. omega (arith, low, e, count_low p plan ok.is_problem o.plan_is), refl, sym (counts plan))
+    verdict_below p lower cert plan ok.is_problem t.says spent.below
+verdict_on bay p budget (answer.Between lower cert plan cause.Time) expanded t =
+    let ended = t.ended in
+    let stopped = ended.1 in
+    let ok = t.accepted in
+    verdict_below p lower cert plan ok.is_problem t.says stopped.below
 verdict_on bay p budget (answer.Between lower cert plan cause.Memory) expanded t =
     let o = t.says in
     let upper = option_map (λ (route : ProblemPath). length route.path) plan in

@@ -85,6 +85,7 @@ answer_borne_out most (answer.First plan cert) = refl
 answer_borne_out most (answer.NoPlan cert) = refl
 answer_borne_out most (answer.Between lower cert plan cause.Budget) = refl
 answer_borne_out most (answer.Between lower cert plan cause.Memory) = refl
+answer_borne_out most (answer.Between lower cert plan cause.Time) = refl
 
 -- a bay of the yard with what is said of it and its certificate
 abbrev pub reported : StackedBay → Answered → BaySaid → Reported

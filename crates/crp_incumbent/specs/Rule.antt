@@ -1,5 +1,5 @@
 -- The rule of the shared words: what holds of the limit, of the number of claims and of the views of all seats between any two steps.
-use Rattle.std.specs.Prelude.{◌≡◌, ℕ, ◌+◌, ◌-◌, ◌^◌, ◌<◌, ◌≤◌, ◌⊎◌, List, [], ◌∷◌, length, min, slice_index}
+use Rattle.std.specs.Prelude.{◌≡◌, ℕ, ◌+◌, ◌-◌, ◌^◌, ◌<◌, ◌≤◌, ◌⊎◌, false, List, [], ◌∷◌, length, min, slice_index}
 use Rattle.std.specs.List.{sum_by}
 use mathlib.Core.Option.{some}
 use lib.ListN.{get_elem?}
@@ -33,7 +33,7 @@ limit_at = 16
 
 -- the key: the problem, the limit at the start and the budget that the words were opened with
 abbrev pub key_of : Opening → Key
-key_of o = record { problem = o.problem.value; start = o.start; budget = o.budget; thin = o.thin }
+key_of o = record { problem = o.problem.value; start = o.start; budget = o.budget; thin = o.thin; timed = o.timed }
 
 -- the view of the first seat: it has seen the start, did nothing, and has all shares
 abbrev pub first_view : ℕ → View
@@ -46,7 +46,7 @@ first key = record { key = key; view = first_view key.start }
 -- what a seat that was given up by a join leaves: it counts for nothing in any sum, nor in the least
 abbrev pub gone : KeyedView
 gone = record {
-  key = record { problem = record { heights = []; ordered = 0; stacks = [] }; start = 0; budget = 0; thin = 0 };
+  key = record { problem = record { heights = []; ordered = 0; stacks = [] }; start = 0; budget = 0; thin = 0; timed = false };
   view = record { seen = 0; mine = 2 ^ 64; granted = 0; refused = 0; share = 0 };
 }
 

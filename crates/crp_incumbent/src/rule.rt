@@ -14,6 +14,8 @@ pub struct Key {
     pub budget: u64,
     /// How many thinned branches may be tried at a node, each of which is claimed too.
     pub thin: u32,
+    /// Whether claims may be stopped before all of those were made.
+    pub timed: bool,
 }
 
 /// What the table keeps of each seat: its view, beside a copy of the key. No value of it is made.
@@ -31,6 +33,7 @@ pub(crate) struct Opening {
     pub(crate) start: u64,
     pub(crate) budget: u64,
     pub(crate) thin: u32,
+    pub(crate) timed: bool,
 }
 
 /// The rule that holds between any two steps.

@@ -55,16 +55,18 @@ pub struct Totals {
 }
 
 impl Shared {
-    /// The words as a search begins, and the seat that has all shares. How many thinned branches may be tried at a node is kept for those who count claims.
+    /// The words as a search begins, and the seat that has all shares. How many thinned branches may be
+    /// tried at a node is kept for those who count claims, and whether the search is timed for those who stop them.
     pub fn open(
         alloc: Global,
         problem: &Problem,
         start: u32,
         budget: u64,
         thin: u32,
+        timed: bool,
     ) -> Result<(Shared, Seat), AllocError>
         requires { budget ≤ most_budget }
-        ensures shared { IfOk result (λ r. r.0.key ≡ record { problem = problem.now; start = start; budget = budget; thin = thin }) }
+        ensures shared { IfOk result (λ r. r.0.key ≡ record { problem = problem.now; start = start; budget = budget; thin = thin; timed = timed }) }
         ensures seat { IfOk result (λ r. r.1 ≡ record { of = r.0; view = first_view start }) }
     {
         let start = u64::from(start);
@@ -73,6 +75,7 @@ impl Shared {
             start,
             budget,
             thin,
+            timed,
         };
         let mut words = [0; WORDS];
         words[LIMIT] = start;

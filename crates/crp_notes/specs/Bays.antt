@@ -11,6 +11,7 @@ use Rattle.crp_notes.specs.Wording.{open_note, no_plan_note}
 abbrev pub advice_on : Cause → List ℕ
 advice_on cause.Budget = codes "its budget was spent: a larger --budget decides more, more --workers are faster, and --strong helps in large bays"
 advice_on cause.Memory = codes "memory ran out: close other programs, or use a machine with more memory"
+advice_on cause.Time = codes "its time was over: a larger --seconds or --total-seconds decides more, more --workers are faster, and --strong helps in large bays"
 
 -- the note on a bay with this answer, if there is one
 abbrev pub bay_note : YardBay → Answer → Option (List ℕ)

@@ -16,6 +16,8 @@ fn advice_on(cause: Cause) -> &'static [u8]
         Cause::Budget =>
             b"its budget was spent: a larger --budget decides more, more --workers are faster, and --strong helps in large bays",
         Cause::Memory => b"memory ran out: close other programs, or use a machine with more memory",
+        Cause::Time =>
+            b"its time was over: a larger --seconds or --total-seconds decides more, more --workers are faster, and --strong helps in large bays",
     }
 }
 

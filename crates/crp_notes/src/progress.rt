@@ -14,6 +14,9 @@ use std::sync::atomic::{AtomicBool, AtomicU64, Ordering};
 // What rewrites a line: it goes to the first column and erases what stands there.
 const ERASED: &[u8] = b"\r\x1b[K";
 
+// The milliseconds in which the line is shown at most once.
+const TENTH: u64 = 100;
+
 // That no plan is known.
 const NO_PLAN: u64 = u64::MAX;
 
@@ -153,7 +156,7 @@ impl<'a, T: Terminal> Progress<'a, T> {
         if !self.is_there() {
             return;
         }
-        let now = self.terminal.tenths();
+        let now = self.terminal.millis() / TENTH;
         if self.shown_at.swap(now, Ordering::Relaxed) == now {
             return;
         }

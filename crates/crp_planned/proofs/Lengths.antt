@@ -125,6 +125,7 @@ upper_long (Some count) small = few_digits count small.1
 cause_long : (why : SaidCause) → length (cause_words why) ≤ 6
 cause_long cause.Budget = omega arith
 cause_long cause.Memory = omega arith
+cause_long cause.Time = omega arith
 cause_long cause.Edited = omega arith
 
 said_long : (said : Said) → IsSmall said → length (said_words said) ≤ 41

@@ -70,6 +70,7 @@ settled (answer.First plan cert) = refl
 settled (answer.NoPlan cert) = refl
 settled (answer.Between lower cert plan cause.Budget) = refl
 settled (answer.Between lower cert plan cause.Memory) = refl
+settled (answer.Between lower cert plan cause.Time) = refl
 
 settled_from : (answered : List Answered) (bays : List BaySaid) → AllZip IsSaidOf answered bays → (n : ℕ)
     → fold (λ m (b : BaySaid). m + cond (is_settled b.said) 1 0) n bays ≡ fold (λ m (bay : Answered). m + cond (is_decided (status_of bay.solved.answer)) 1 0) n answered

@@ -29,6 +29,7 @@ plan_in (answer.Between lower cert plan why) = plan
 abbrev pub cause_said : Cause → SaidCause
 cause_said cause.Budget = said_cause.Budget
 cause_said cause.Memory = said_cause.Memory
+cause_said cause.Time = said_cause.Time
 
 abbrev pub said_by : Answer → Said
 said_by (answer.Optimal plan cert) = said.Optimal (length plan.path)
@@ -40,6 +41,7 @@ said_by (answer.Between lower cert plan why) = said.Between lower (option_map (�
 abbrev pub status_by : Cause → Status
 status_by cause.Budget = status.Budget
 status_by cause.Memory = status.Memory
+status_by cause.Time = status.Budget
 
 -- how the search ended
 abbrev pub status_of : Answer → Status
@@ -65,7 +67,7 @@ is_memory status.Memory = true
 is_memory status.Budget = false
 is_memory status.Decided = false
 
--- the search ended with its budget
+-- the search ended with its budget or its time
 abbrev pub is_budget : Status → Bool
 is_budget status.Budget = true
 is_budget status.Memory = false
@@ -77,7 +79,7 @@ is_decided status.Decided = true
 is_decided status.Budget = false
 is_decided status.Memory = false
 
--- how the searches ended together: with lack of memory where one did, else with a budget where one did, else with all bays decided
+-- how the searches ended together: with lack of memory where one did, else with a budget or a limit of time where one did, else with all bays decided
 abbrev pub status_of_all : List Answered → Status
 status_of_all answered =
     if list_any (λ bay. is_memory (status_of bay.solved.answer)) answered then status.Memory

@@ -16,3 +16,4 @@ pub mod BayTexts
 pub mod Writing
 pub mod Words
 pub mod Watching
+pub mod Timing

@@ -17,7 +17,7 @@ pub fn status_of(answer: &Answer) -> Status
     match answer {
         Answer::Optimal { .. } | Answer::First { .. } | Answer::NoPlan { .. } => Status::Decided,
         Answer::Between {
-            cause: Cause::Budget,
+            cause: Cause::Budget | Cause::Time,
             ..
         } => Status::Budget,
         Answer::Between {
@@ -45,6 +45,7 @@ pub fn said_of(answer: &Answer) -> Said
             let cause = match cause {
                 Cause::Budget => SaidCause::Budget,
                 Cause::Memory => SaidCause::Memory,
+                Cause::Time => SaidCause::Time,
             };
             Said::Between {
                 lower: *lower,

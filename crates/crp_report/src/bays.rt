@@ -8,6 +8,7 @@ ghost use Rattle.crp_report.specs.Watching.{ShowsMore};
 use crate::bay_texts::texts_of_bay;
 use crate::fault::{Fault, Output};
 use crate::kept::BaysDone;
+use crate::timing::{Clock, Timer};
 use crate::watching::Watch;
 use crate::writing::{RunSinks, write_piece};
 use crp_incumbent::Board;
@@ -19,9 +20,18 @@ use std::sync::Wait;
 use std::thread::Threads;
 
 // Answers the problem of a bay, and writes what is stated of it.
-fn write_bay<T: Threads + Wait + Sync, W: Sink, C: Sink, A: Sink, V: Watch, E: Sink>(
+fn write_bay<
+    T: Threads + Wait + Sync,
+    K: Clock + Sync,
+    W: Sink,
+    C: Sink,
+    A: Sink,
+    V: Watch,
+    E: Sink,
+>(
     rt: &T,
     alloc: Global,
+    timer: &Timer<'_, K>,
     bay: &BayProblem,
     settings: Settings,
     sinks: &mut RunSinks<'_, '_, W, C, A>,
@@ -37,7 +47,8 @@ fn write_bay<T: Threads + Wait + Sync, W: Sink, C: Sink, A: Sink, V: Watch, E: S
     ensures shown { ShowsMore (E.contents errors.old) (E.contents errors.new) }
 {
     let board = Board::new(&bay.problem);
-    let solved = solve(rt, alloc, &bay.problem, settings, &board, watch.gate())?;
+    let gate = timer.gate(watch.gate(), settings.time());
+    let solved = solve(rt, alloc, &bay.problem, settings, &board, &gate)?;
     watch.searched();
     let texts = texts_of_bay(alloc, bay, &solved)?;
     write_piece(sinks, Output::Report, &texts.report)?;
@@ -47,9 +58,18 @@ fn write_bay<T: Threads + Wait + Sync, W: Sink, C: Sink, A: Sink, V: Watch, E: S
 }
 
 /// Answers the problem of each bay, and writes what is stated of it before the next.
-pub(crate) fn write_bays<T: Threads + Wait + Sync, W: Sink, C: Sink, A: Sink, V: Watch, E: Sink>(
+pub(crate) fn write_bays<
+    T: Threads + Wait + Sync,
+    K: Clock + Sync,
+    W: Sink,
+    C: Sink,
+    A: Sink,
+    V: Watch,
+    E: Sink,
+>(
     rt: &T,
     alloc: Global,
+    timer: &Timer<'_, K>,
     problems: Vec<BayProblem>,
     settings: Settings,
     sinks: &mut RunSinks<'_, '_, W, C, A>,
@@ -68,7 +88,7 @@ pub(crate) fn write_bays<T: Threads + Wait + Sync, W: Sink, C: Sink, A: Sink, V:
     let bays = problems.len();
     for bay in problems {
         watch.begins(alloc, &bay, done.bays, bays, errors);
-        let solved = write_bay(rt, alloc, &bay, settings, sinks, watch, errors)?;
+        let solved = write_bay(rt, alloc, timer, &bay, settings, sinks, watch, errors)?;
         done.push(bay, solved)?;
     }
     Ok(done)

@@ -2,7 +2,7 @@
 //!
 //! `run` reads a yard list and a message, answers the problem of each bay from which a container leaves,
 //! and writes the report and the certificates bay by bay, and the yard as the plans leave it; `run_watched`
-//! lets a `Watch` see how far it is. What the report is is said in `specs/Report.antt`, and what a run
+//! lets a `Watch` see how far it is, and ends searches by a `Clock`. What the report is is said in `specs/Report.antt`, and what a run
 //! promises in `specs/Runs.antt`. `print_moves` writes the moves of one plan.
 #![tactic(auto)]
 
@@ -19,6 +19,7 @@ mod printing;
 mod running;
 mod settings;
 mod status;
+mod timing;
 mod watching;
 mod writing;
 
@@ -31,4 +32,5 @@ pub use printing::print_moves;
 pub use running::{Devices, run, run_watched};
 pub use settings::{InputSettings, RunFault, RunSettings};
 pub use status::Status;
+pub use timing::{Clock, NoClock, Timed, Timer, end_of};
 pub use watching::{Unwatched, Watch, show};

@@ -19,6 +19,7 @@ use crate::kept::BaysDone;
 use crate::numbers::numbers_with;
 use crate::settings::RunSettings;
 use crate::status::Status;
+use crate::timing::{Clock, NoClock, Timer};
 use crate::watching::{Unwatched, Watch};
 use crate::writing::{RunSinks, write_piece};
 use crp_movins::Orders;
@@ -105,9 +106,18 @@ fn write_end<W: Sink, C: Sink, A: Sink>(
 }
 
 // Writes the first line, bay by bay what is stated of it, and the end.
-fn write_run<T: Threads + Wait + Sync, W: Sink, C: Sink, A: Sink, V: Watch, E: Sink>(
+fn write_run<
+    T: Threads + Wait + Sync,
+    K: Clock + Sync,
+    W: Sink,
+    C: Sink,
+    A: Sink,
+    V: Watch,
+    E: Sink,
+>(
     rt: &T,
     alloc: Global,
+    timer: &Timer<'_, K>,
     work: Work,
     settings: Settings,
     sinks: &mut RunSinks<'_, '_, W, C, A>,
@@ -132,7 +142,7 @@ fn write_run<T: Threads + Wait + Sync, W: Sink, C: Sink, A: Sink, V: Watch, E: S
         problems,
     } = work;
     write_piece(sinks, Output::Report, &first)?;
-    let done = write_bays(rt, alloc, problems, settings, sinks, watch, errors)?;
+    let done = write_bays(rt, alloc, timer, problems, settings, sinks, watch, errors)?;
     write_end(alloc, &yard, &done, sinks)?;
     Ok(done.status)
 }
@@ -156,8 +166,12 @@ pub struct Devices<Y, M, C, A> {
 /// All input is read and accepted before a byte is written. Then the first line is written, the lines and the certificate of each
 /// bay as soon as it is answered, the last line, and the yard list; where a write fails, or memory runs out, nothing behind it is
 /// written. An interrupted call is tried again, at most 1,000 times in one run. Who watches may show something on `errors`.
+///
+/// The limits of time that the settings have are seen by this clock: that of all bays counts from the begin of the run, before any input is
+/// read, that of a bay from where its search begins.
 pub fn run_watched<
     T: Threads + Wait + Sync,
+    K: Clock + Sync,
     Y: Source,
     M: Source,
     W: Sink,
@@ -168,6 +182,7 @@ pub fn run_watched<
 >(
     rt: &T,
     alloc: Global,
+    clock: &K,
     devices: &mut Devices<Y, M, C, A>,
     settings: &RunSettings,
     out: &mut W,
@@ -183,6 +198,7 @@ pub fn run_watched<
     } in MatchResult result (RunEnds settings.now seen) (RunFails settings.now seen) }
     ensures shown { ShowsMore (E.contents errors.old) (E.contents errors.new) }
 {
+    let timer = Timer::start(clock);
     let mut interruptions = 0;
     let input = settings.input();
     let yard = yard_from(alloc, &mut devices.yard, input.sizes(), &mut interruptions)?;
@@ -210,6 +226,7 @@ pub fn run_watched<
     let ended = write_run(
         rt,
         alloc,
+        &timer,
         work,
         settings.search(),
         &mut sinks,
@@ -220,7 +237,7 @@ pub fn run_watched<
     ended
 }
 
-/// A run that nobody watches.
+/// A run that nobody watches, and without a clock: no limit of time is ever over.
 pub fn run<T: Threads + Wait + Sync, Y: Source, M: Source, W: Sink, C: Sink, A: Sink>(
     rt: &T,
     alloc: Global,
@@ -239,6 +256,7 @@ pub fn run<T: Threads + Wait + Sync, Y: Source, M: Source, W: Sink, C: Sink, A: 
     run_watched(
         rt,
         alloc,
+        &NoClock,
         devices,
         settings,
         out,

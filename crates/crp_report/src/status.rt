@@ -3,7 +3,7 @@
 pub enum Status {
     /// All are decided.
     Decided,
-    /// A budget ended before a bay was decided.
+    /// A budget or a limit of time ended before a bay was decided.
     Budget,
     /// Memory ended before a bay was decided.
     Memory,

@@ -8,7 +8,7 @@ use Rattle.std.proofs.lemmas.Slice.Eq.{bytes_eq-Decides}
 use Rattle.std.proofs.lemmas.Option.{some_pair_parts, same_Some, none-some}
 use Rattle.std.proofs.lemmas.List.{append-nil}
 use Rattle.crp_said.specs.declared.said.SaidCause.{SaidCause}
-use Rattle.crp_said.specs.declared.said.SaidCause.TheVariants.{Budget, Memory, Edited}
+use Rattle.crp_said.specs.declared.said.SaidCause.TheVariants.{Budget, Memory, Time, Edited}
 use Rattle.crp_said.specs.declared.said.Said.{Said}
 use Rattle.crp_said.specs.declared.said.Said.TheVariants.{Optimal, First, NoPlan, Between}
 use Rattle.crp_cert.specs.Reading.{◌>>=◌, tag_at, number_at}
@@ -73,12 +73,16 @@ upper_takes bytes u rest e =
 cause_takes : (bytes : List ℕ) (why : SaidCause) → cause_at bytes ≡ Some why → bytes ≡ cause_words why
 cause_takes bytes why e =
     let edited = cond (bytes_eq bytes (codes "edited")) (Some Edited) None in
-    let memory = cond (bytes_eq bytes (codes "memory")) (Some Memory) edited in
+    let time = cond (bytes_eq bytes (codes "time")) (Some Time) edited in
+    let memory = cond (bytes_eq bytes (codes "memory")) (Some Memory) time in
+    ⊎_elim (λ is. is.0 ∙ ap cause_words is.1)
+    (λ others.
     ⊎_elim (λ is. is.0 ∙ ap cause_words is.1)
     (λ others.
     ⊎_elim (λ is. is.0 ∙ ap cause_words is.1)
     (λ last. let is = only bytes (codes "edited") Edited why last in is.0 ∙ ap cause_words is.1)
-    (first_or bytes (codes "memory") Memory why edited others))
+    (first_or bytes (codes "time") Time why edited others))
+    (first_or bytes (codes "memory") Memory why time others))
     (first_or bytes (codes "budget") Budget why memory e)
 
 between_takes : (bytes : List ℕ) (s : Said) → said_between_at bytes ≡ Some s → IsRead bytes s
@@ -123,6 +127,7 @@ upper_again (Some n) rest low = not_none (tag_at (codes "none") (decimal n ++ 44
 cause_again : (why : SaidCause) → cause_at (cause_words why) ≡ Some why
 cause_again Budget = refl
 cause_again Memory = refl
+cause_again Time = refl
 cause_again Edited = refl
 
 pub said_again : (s : Said) → IsSmall s → said_at (said_words s) ≡ Some s

@@ -10,7 +10,7 @@ use Rattle.crp_yard.specs.Records.{is_container}
 use Rattle.crp_cert.proofs.Joined.{all_both}
 use Rattle.crp_said.specs.declared.numbers.Numbers.{Numbers}
 use Rattle.crp_said.specs.declared.said.SaidCause.{SaidCause}
-use Rattle.crp_said.specs.declared.said.SaidCause.TheVariants.{Budget, Memory, Edited}
+use Rattle.crp_said.specs.declared.said.SaidCause.TheVariants.{Budget, Memory, Time, Edited}
 use Rattle.crp_said.specs.declared.said.Said.{Said}
 use Rattle.crp_said.specs.declared.said.Said.TheVariants.{Optimal, First, NoPlan, Between}
 use Rattle.crp_said.specs.declared.moves.Place.{Place}
@@ -65,6 +65,7 @@ upper_printed (Some count) = number count
 cause_printed : (why : SaidCause) → IsPrinted (cause_words why)
 cause_printed Budget = passed (codes "budget") refl
 cause_printed Memory = passed (codes "memory") refl
+cause_printed Time = passed (codes "time") refl
 cause_printed Edited = passed (codes "edited") refl
 
 said_printed : (said : Said) → IsPrinted (said_words said)

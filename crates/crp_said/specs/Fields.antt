@@ -6,7 +6,7 @@ use Rattle.std.specs.Option.{option_or}
 use Rattle.crp_cert.specs.Reading.{◌>>=◌, tag_at, number_at, word_at}
 use Rattle.crp_said.specs.declared.numbers.Numbers.{Numbers}
 use Rattle.crp_said.specs.declared.said.SaidCause.{SaidCause}
-use Rattle.crp_said.specs.declared.said.SaidCause.TheVariants.{Budget, Memory, Edited}
+use Rattle.crp_said.specs.declared.said.SaidCause.TheVariants.{Budget, Memory, Time, Edited}
 use Rattle.crp_said.specs.declared.said.Said.{Said}
 use Rattle.crp_said.specs.declared.said.Said.TheVariants.{Optimal, First, NoPlan, Between}
 use Rattle.crp_said.specs.declared.moves.Place.{Place}
@@ -50,7 +50,11 @@ upper_at bytes = option_or (tag_at (codes "none") bytes >>= λ rest. Some (None,
 
 -- why a bay is left open
 abbrev pub cause_at : List ℕ → Option SaidCause
-cause_at bytes = if bytes_eq bytes (codes "budget") then Some Budget else (if bytes_eq bytes (codes "memory") then Some Memory else (if bytes_eq bytes (codes "edited") then Some Edited else None))
+cause_at bytes =
+    if bytes_eq bytes (codes "budget") then Some Budget
+    else (if bytes_eq bytes (codes "memory") then Some Memory
+    else (if bytes_eq bytes (codes "time") then Some Time
+    else (if bytes_eq bytes (codes "edited") then Some Edited else None)))
 
 -- what is said of the fewest relocations, by its first word
 unfoldable pub said_optimal_at : List ℕ → Option Said

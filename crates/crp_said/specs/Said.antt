@@ -4,7 +4,7 @@ use Rattle.std.specs.Prelude.{ℕ, Bool, true, false, List, [], ◌∷◌, ◌++
 use Rattle.crp_plan.specs.BayNames.{YardBay}
 use Rattle.crp_said.specs.declared.numbers.Numbers.{Numbers}
 use Rattle.crp_said.specs.declared.said.SaidCause.{SaidCause}
-use Rattle.crp_said.specs.declared.said.SaidCause.TheVariants.{Budget, Memory, Edited}
+use Rattle.crp_said.specs.declared.said.SaidCause.TheVariants.{Budget, Memory, Time, Edited}
 use Rattle.crp_said.specs.declared.said.Said.{Said}
 use Rattle.crp_said.specs.declared.said.Said.TheVariants.{Optimal, First, NoPlan, Between}
 
@@ -25,6 +25,7 @@ upper_words (Some count) = decimal count
 abbrev pub cause_words : SaidCause → List ℕ
 cause_words Budget = codes "budget"
 cause_words Memory = codes "memory"
+cause_words Time = codes "time"
 cause_words Edited = codes "edited"
 
 -- what is said of the fewest relocations, in words

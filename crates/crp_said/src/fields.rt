@@ -86,6 +86,9 @@ fn cause_of(bytes: &[u8]) -> Option<SaidCause>
     if bytes == b"memory".as_slice() {
         return Some(SaidCause::Memory);
     }
+    if bytes == b"time".as_slice() {
+        return Some(SaidCause::Time);
+    }
     if bytes == b"edited".as_slice() {
         return Some(SaidCause::Edited);
     }

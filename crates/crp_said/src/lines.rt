@@ -36,6 +36,7 @@ fn push_cause(text: &mut Vec<u8>, cause: SaidCause) -> Result<(), AllocError>
     match cause {
         SaidCause::Budget => text.extend_from_slice(b"budget"),
         SaidCause::Memory => text.extend_from_slice(b"memory"),
+        SaidCause::Time => text.extend_from_slice(b"time"),
         SaidCause::Edited => text.extend_from_slice(b"edited"),
     }
 }

@@ -9,6 +9,8 @@ pub enum SaidCause {
     Budget,
     /// Memory ran out in its search.
     Memory,
+    /// The time of its search was over.
+    Time,
     /// Its moves were edited, so no search ended with this plan.
     Edited,
 }

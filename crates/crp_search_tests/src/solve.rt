@@ -4,4 +4,5 @@ mod own_threads;
 mod shown;
 mod solving;
 mod stepping;
+mod stopped;
 mod together;

@@ -1,5 +1,5 @@
 -- Each problem has a true answer: the one of a search that finds no memory.
-use Rattle.std.proofs.Common.{ℕ, min, inl, inr, ⊎_elim, List, [], ◌∷◌, length, Option, None, Some, refl, arith}
+use Rattle.std.proofs.Common.{ℕ, false, min, inl, inr, ⊎_elim, List, [], ◌∷◌, length, Option, None, Some, refl, arith}
 use Rattle.std.proofs.lemmas.List.Elements.{All-cons, All-nil}
 use Rattle.crp_plan.specs.Bay.{Problem, IsProblem, start, cap}
 use Rattle.crp_plan.specs.Plans.{ProblemPath}
@@ -54,12 +54,13 @@ pub has_answer : (p : Problem) (chosen : Chosen) → IsProblem p → (solved : S
 has_answer p chosen is =
     let cert : Certificate = record { parts = cut_at p ∷ []; lower = min (cap p) (look_ahead (settled (start p))) } in
     let best = best_before p is in (
-      record { answer = Between cert.lower cert best.0 Memory; expanded = 0; second = second.NotAsked; second_expanded = 0 },
+      record { answer = Between cert.lower cert best.0 Memory; expanded = 0; stopped = false; second = second.NotAsked; second_expanded = 0 },
       record {
         answer = cut_is_true p chosen.budget cert best.0 0 (root_shows p (cut_at p) cert best.0 chosen.budget 0 is refl (one_certificate (cut_at p) cert refl) refl (cut_is_kept p is) refl refl tt refl best.1 (omega arith))
             (record { part = cut_at p; alone = refl; cut = tt });
-        searches = tt;
+        searches = refl;
         one_search = λ alone none. tt;
         second = (refl, refl);
+        timely = λ yes. absurd (cc);
       },
     )

@@ -1,5 +1,5 @@
 -- The first worker after it searched the part of the root.
-use Rattle.std.proofs.Common.{length, ◌≡◌, ℕ, not, refl, subst, All, map, List, [], ◌∷◌, ◌++◌, Option, None, Some, IfSome, sym, ap, ◌∙◌, arith}
+use Rattle.std.proofs.Common.{length, ◌≡◌, ℕ, Bool, true, not, refl, subst, All, map, List, [], ◌∷◌, ◌++◌, Option, None, Some, IfSome, sym, ap, ◌∙◌, arith}
 use Rattle.std.specs.Option.{is_some}
 use Rattle.std.proofs.lemmas.List.Sums.{sum_by-cons}
 use Rattle.crp_plan.specs.declared.running.View.{View}
@@ -21,10 +21,11 @@ first_root h s e = ap (λ (n : ℕ). weigh h (root_at (record s { number = n }))
 
 begun_group : (keeps : Keeping) (of : Shared) (v w : View) (plan : Option ProblemPath) (q s : PoolSeat) (found : Option ProblemPart) → v.granted ≡ 0 → IsUnused q → q.number ≡ 0 →
     fixed_at (Some s) ≡ fixed_at (Some q) → IfSome found (IsCountedPart of.key.thin v w (Some q) (Some s) []) → keeps of w plan (with_part [] found) →
-    IsGroup keeps (record { of = of; view = w; plan = plan; parts = with_part [] found; places = s ∷ []; short = not (is_some found) })
-begun_group keeps of v w plan q s None none new first fixed f kept = record { kept = kept; counted = λ ok. absurd (cc) }
-begun_group keeps of v w plan q s (Some x) none new first fixed f kept = record {
+    (stopped : Bool) → (stopped ≡ true → of.key.timed ≡ true) → IsGroup keeps (record { of = of; view = w; plan = plan; parts = with_part [] found; places = s ∷ []; short = not (is_some found); stopped = stopped })
+begun_group keeps of v w plan q s None none new first fixed f kept stopped timely = record { kept = kept; counted = λ ok. absurd (cc); timely = timely }
+begun_group keeps of v w plan q s (Some x) none new first fixed f kept stopped timely = record {
   kept = kept;
+  timely = timely;
   counted = λ ok. record {
     grants = grants_first of.key.thin v.granted (length (branches_in x)) w.granted (branches_in_all (x ∷ [])) none (omega (arith, sum_by-cons (λ (y : ProblemPart). length (branches_in y)) x [])) f.grants;
     takes = λ h. (
@@ -39,13 +40,14 @@ begun_group keeps of v w plan q s (Some x) none new first fixed f kept = record 
 
 -- so the first worker is a group
 pub begun_is_group : (keeps : Keeping) (of : Shared) (v : View) (q s : PoolSeat) (found : Option ProblemPart) (new : Crew) → new.of ≡ of → v.granted ≡ 0 → IsUnused q → q.number ≡ 0 → fixed_at (Some s) ≡ fixed_at (Some q) →
-    IfSome found (IsCountedPart of.key.thin v new.view (Some q) (Some s) []) → keeps of new.view new.plan (with_part [] found) → new.parts ≡ with_part [] found → new.places ≡ s ∷ [] → new.short ≡ not (is_some found) → IsGroup keeps new
-begun_is_group keeps of v q s found new at none unused first fixed counted kept parts places short =
-    let g = begun_group keeps of v new.view new.plan q s found none unused first fixed counted kept in
-    subst (λ o. IsGroup keeps (record { of = o; view = new.view; plan = new.plan; parts = new.parts; places = new.places; short = new.short })) (sym at)
-    (subst (λ b. IsGroup keeps (record { of = of; view = new.view; plan = new.plan; parts = new.parts; places = new.places; short = b })) (sym short)
-    (subst (λ l. IsGroup keeps (record { of = of; view = new.view; plan = new.plan; parts = new.parts; places = l; short = not (is_some found) })) (sym places)
-    (subst (λ l. IsGroup keeps (record { of = of; view = new.view; plan = new.plan; parts = l; places = s ∷ []; short = not (is_some found) })) (sym parts) g)))
+    IfSome found (IsCountedPart of.key.thin v new.view (Some q) (Some s) []) → keeps of new.view new.plan (with_part [] found) → new.parts ≡ with_part [] found → new.places ≡ s ∷ [] → new.short ≡ not (is_some found) →
+    (new.stopped ≡ true → of.key.timed ≡ true) → IsGroup keeps new
+begun_is_group keeps of v q s found new at none unused first fixed counted kept parts places short timely =
+    let g = begun_group keeps of v new.view new.plan q s found none unused first fixed counted kept new.stopped timely in
+    subst (λ o. IsGroup keeps (record { of = o; view = new.view; plan = new.plan; parts = new.parts; places = new.places; short = new.short; stopped = new.stopped })) (sym at)
+    (subst (λ b. IsGroup keeps (record { of = of; view = new.view; plan = new.plan; parts = new.parts; places = new.places; short = b; stopped = new.stopped })) (sym short)
+    (subst (λ l. IsGroup keeps (record { of = of; view = new.view; plan = new.plan; parts = new.parts; places = l; short = not (is_some found); stopped = new.stopped })) (sym places)
+    (subst (λ l. IsGroup keeps (record { of = of; view = new.view; plan = new.plan; parts = l; places = s ∷ []; short = not (is_some found); stopped = new.stopped })) (sym parts) g)))
 
 -- the only place of a pool
 pub only_place : (xs ys : List PoolSeat) (x : PoolSeat) → map seat_number ys ≡ 0 ∷ [] → ys ≡ xs ++ x ∷ [] → All IsUnused ys → (xs ≡ []) × (x.number ≡ 0) × IsUnused x

@@ -1,6 +1,6 @@
 -- What is known after a search more of an iterative deepening.
-use Rattle.std.proofs.Common.{◌≡◌, ℕ, ◌+◌, ◌-◌, ◌<◌, ◌≤◌, min, inl, inr, ⊎_elim, [], Option, None, Some, IfSome, sym, ap, ◌∙◌, subst, arith}
-use Rattle.std.proofs.lemmas.Bool.{cases_lt}
+use Rattle.std.proofs.Common.{◌≡◌, ℕ, ◌+◌, ◌-◌, ◌<◌, ◌≤◌, min, inl, inr, ⊎_elim, Bool, true, false, [], Option, None, Some, IfSome, sym, ap, ◌∙◌, subst, arith}
+use Rattle.std.proofs.lemmas.Bool.{cases_lt, cases_Bool}
 use Rattle.crp_plan.specs.Bay.{Problem, IsProblem, cap, Position, IsAt}
 use Rattle.crp_plan.specs.Plans.{ProblemPath}
 use Rattle.crp_bounds.specs.Bounds.{look_ahead}
@@ -10,7 +10,7 @@ use Rattle.crp_solve.specs.Answers.{path_in, count_of, shorter, IsPlanOf}
 use Rattle.crp_solve.specs.Desks.{count_or}
 use Rattle.crp_solve.specs.Searches.{BeginsWithin, IsBestMet, IsShown, IsOpen, IsLost}
 use Rattle.crp_solve.specs.Rests.{IsFoundTogether, IsCutShort}
-use Rattle.crp_solve.specs.Deepening.{higher, count_in, IsNearer, distance}
+use Rattle.crp_solve.specs.Deepening.{higher, count_in, IsNearer, searches_left, distance}
 use Rattle.crp_solve.proofs.Limits.{smaller_is, count_low, no_longer_met, begins_lower, shorter_count}
 use Rattle.crp_solve.proofs.TrueAnswers.{reaches, count_over, search_shows}
 
@@ -28,8 +28,8 @@ better_count : (p : Problem) (best met better : Option ProblemPath) → IsBestMe
 better_count p best met better known is e = ap (λ o. count_of p (path_in o)) e ∙ shorter_count p best met (count_low p best known.is_problem known.plan_is) (count_low p met known.is_problem is)
 
 -- what is shown after it
-pub shown_after : {thin : ℕ} (p : Problem) (budget : ℕ) (cert cert' : Certificate) (best met better : Option ProblemPath) (expanded more : ℕ) → IsShown p budget cert best expanded → IsOpen p budget cert best expanded →
-    IsFoundTogether thin p (budget - expanded) (cert.lower + 1) cert' met more → IfSome better (IsPlanOf p) → better ≡ shorter best met → IsShown p budget (higher cert cert') better (expanded + more)
+pub shown_after : {thin : ℕ} {stopped : Bool} (p : Problem) (budget : ℕ) (cert cert' : Certificate) (best met better : Option ProblemPath) (expanded more : ℕ) → IsShown p budget cert best expanded → IsOpen p budget cert best expanded →
+    IsFoundTogether thin p (budget - expanded) (cert.lower + 1) cert' met more stopped → IfSome better (IsPlanOf p) → better ≡ shorter best met → IsShown p budget (higher cert cert') better (expanded + more)
 shown_after p budget cert cert' best met better expanded more w o f is e =
     let found = f.ended in let about = w.about in
     let known : IsBestMet p better = no_longer_met p best better w.best_met is (omega (arith, better_count p best met better w.best_met f.best_is e)) in
@@ -48,10 +48,10 @@ met_fewer p lower reached None le low = absurd (omega (arith, le, low))
 met_fewer p lower reached (Some plan) le low = omega (arith, le, low)
 
 -- and it is nearer to the answer
-pub nearer_after : {thin : ℕ} (p : Problem) (budget : ℕ) (cert cert' : Certificate) (best met better : Option ProblemPath) (expanded more : ℕ) → IsShown p budget cert best expanded → IsOpen p budget cert best expanded →
-    IsFoundTogether thin p (budget - expanded) (cert.lower + 1) cert' met more → better ≡ shorter best met →
-    IsNearer p budget (record { cert = cert; best = best; expanded = expanded }) (record { cert = higher cert cert'; best = better; expanded = expanded + more })
-nearer_after p budget cert cert' best met better expanded more w o f e =
+pub nearer_after : {thin : ℕ} (p : Problem) (budget : ℕ) (cert cert' : Certificate) (best met better : Option ProblemPath) (expanded more : ℕ) (was stopped : Bool) → IsShown p budget cert best expanded → IsOpen p budget cert best expanded →
+    IsFoundTogether thin p (budget - expanded) (cert.lower + 1) cert' met more stopped → better ≡ shorter best met →
+    IsNearer p budget (record { cert = cert; best = best; expanded = expanded; stopped = was }) (record { cert = higher cert cert'; best = better; expanded = expanded + more; stopped = stopped })
+nearer_after p budget cert cert' best met better expanded more was stopped w o f e =
     let found = f.ended in let known = w.best_met in
     let count : count_of p (path_in better) ≡ min (count_of p (path_in best)) (count_of p (path_in met)) = better_count p best met better known f.best_is e in
     let low : count_of p (path_in best) ≤ cap p = count_low p best known.is_problem known.plan_is in
@@ -67,7 +67,7 @@ nearer_after p budget cert cert' best met better expanded more w o f e =
       count = fewer;
       spends = omega arith;
       more = inr (⊎_elim
-          (λ (refused : 0 < f.view.refused). inr (omega (arith, found.refused_last refused, f.granted, o.left)))
+          (λ (refused : 0 < f.view.refused). inr (⊎_elim (λ (yes : stopped ≡ true). inr yes) (λ (no : stopped ≡ false). inl (omega (arith, found.refused_last no refused, f.granted, o.left))) (cases_Bool stopped)))
           (λ (none : f.view.refused ≤ 0). inl (omega (
             arith,
             count,
@@ -88,11 +88,17 @@ lost_after p budget cert best shown better expanded more w short is e =
     record { best_met = no_longer_met p best better known is (omega (arith, count)); within = omega (arith, w.within, short.within) }
 
 -- so the searches end
-pub nearer_smaller : (p : Problem) (budget : ℕ) (old new : Together) → IsShown p budget old.cert old.best old.expanded → IsOpen p budget old.cert old.best old.expanded → IsNearer p budget old new → distance p budget new < distance p budget old
-nearer_smaller p budget old new w o n =
+left_after : (b : Bool) → searches_left b ≤ 1
+left_after true = omega arith
+left_after false = omega arith
+
+pub nearer_smaller : (p : Problem) (budget : ℕ) (old new : Together) → old.stopped ≡ false → IsShown p budget old.cert old.best old.expanded → IsOpen p budget old.cert old.best old.expanded → IsNearer p budget old new → distance p budget new < distance p budget old
+nearer_smaller p budget old new goes_on w o n =
+    let one = ap searches_left goes_on in let most = left_after new.stopped in
     let known = w.best_met in
     let low : count_in p old ≤ cap p = count_low p old.best known.is_problem known.plan_is in
     let below : old.cert.lower < count_in p old = o.below in
-    ⊎_elim (λ (rises : old.cert.lower < new.cert.lower). omega (arith, n.count, n.spends))
-    (⊎_elim (λ (fewer : count_in p new < count_in p old). omega (arith, n.lower, n.spends)) (λ (spent : new.expanded ≡ budget). omega (arith, n.lower, n.count, o.left)))
+    ⊎_elim (λ (rises : old.cert.lower < new.cert.lower). omega (arith, n.count, n.spends, one, most))
+    (⊎_elim (λ (fewer : count_in p new < count_in p old). omega (arith, n.lower, n.spends, one, most))
+    (⊎_elim (λ (spent : new.expanded ≡ budget). omega (arith, n.lower, n.count, o.left, one, most)) (λ (last : new.stopped ≡ true). omega (arith, n.lower, n.count, n.spends, one, ap searches_left last))))
     n.more

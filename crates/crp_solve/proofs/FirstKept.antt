@@ -41,8 +41,8 @@ all_on : (p : Problem) (k : ℕ) (plan best : Option ProblemPath) (xs : List Pro
 all_on p k plan best xs later all = All-weaker (IsSearchedFirst p k plan) (IsSearchedFirst p k best) (λ x s. first_on p k plan best x later s) xs all
 
 -- where nothing was offered on either side, nothing was
-not_offered : (of : Shared) (v w : View) → KeepsPlan of v None → KeepsPlan of w None → KeepsPlan of (view_joined v w) None
-not_offered of v w a b = record {
+not_offered : (of : Shared) (v w : View) (refused : ℕ) → KeepsPlan of v None → KeepsPlan of w None → KeepsPlan of (record (view_joined v w) { refused = refused }) None
+not_offered of v w refused a b = record {
   is_problem = a.is_problem;
   plan_is = tt;
   mine = (let m = a.mine in let n = b.mine in omega arith);
@@ -51,21 +51,21 @@ not_offered of v w a b = record {
 }
 
 -- two that are merged, with a plan that is no later than either: the parts of the first
-pub first_mine : (of : Shared) (v w : View) (plan other best : Option ProblemPath) (xs ys : List ProblemPart) → IsKeptFirst of v plan xs → IsKeptFirst of w other ys →
-    IsNoLater best plan → IfSome best (IsPlanOfCount of.key.problem of.key.start) → IsKeptFirst of (view_joined v w) best xs
-first_mine of v w plan other best xs ys a b mine is = record {
+pub first_mine : (of : Shared) (v w : View) (refused : ℕ) (plan other best : Option ProblemPath) (xs ys : List ProblemPart) → IsKeptFirst of v plan xs → IsKeptFirst of w other ys →
+    IsNoLater best plan → IfSome best (IsPlanOfCount of.key.problem of.key.start) → IsKeptFirst of (record (view_joined v w) { refused = refused }) best xs
+first_mine of v w refused plan other best xs ys a b mine is = record {
   least = a.least;
-  not_offered = not_offered of v w a.not_offered b.not_offered;
+  not_offered = not_offered of v w refused a.not_offered b.not_offered;
   plan_is = is;
   searched = all_on of.key.problem of.key.start plan best xs mine a.searched;
 }
 
 -- and the parts of both
-pub first_both : (of : Shared) (v w : View) (plan other best : Option ProblemPath) (xs ys : List ProblemPart) → IsKeptFirst of v plan xs → IsKeptFirst of w other ys →
-    IsNoLater best plan → IsNoLater best other → IfSome best (IsPlanOfCount of.key.problem of.key.start) → IsKeptFirst of (view_joined v w) best (xs ++ ys)
-first_both of v w plan other best xs ys a b mine others is = record {
+pub first_both : (of : Shared) (v w : View) (refused : ℕ) (plan other best : Option ProblemPath) (xs ys : List ProblemPart) → IsKeptFirst of v plan xs → IsKeptFirst of w other ys →
+    IsNoLater best plan → IsNoLater best other → IfSome best (IsPlanOfCount of.key.problem of.key.start) → IsKeptFirst of (record (view_joined v w) { refused = refused }) best (xs ++ ys)
+first_both of v w refused plan other best xs ys a b mine others is = record {
   least = a.least;
-  not_offered = not_offered of v w a.not_offered b.not_offered;
+  not_offered = not_offered of v w refused a.not_offered b.not_offered;
   plan_is = is;
   searched = All-append (IsSearchedFirst of.key.problem of.key.start best) xs ys (all_on of.key.problem of.key.start plan best xs mine a.searched) (all_on of.key.problem of.key.start other best ys others b.searched);
 }

@@ -1,5 +1,6 @@
 -- Two groups make one.
-use Rattle.std.proofs.Common.{length, ◌≡◌, ◌≤◌, ℕ, ◌+◌, min, Bool, true, false, ◌||◌, ◌&&◌, not, if◌then◌else◌, List, [], ◌∷◌, ◌++◌, All, Option, IfSome, inl, inr, ⊎_elim, sym, refl, ap, ◌∙◌, subst, arith}
+use Rattle.std.proofs.Common.{length, ◌≡◌, ◌<◌, ◌≤◌, ℕ, ◌+◌, min, Bool, true, false, ◌||◌, ◌&&◌, not, if◌then◌else◌, List, [], ◌∷◌, ◌++◌, All, Option, IfSome, inl, inr, ⊎_elim, sym, refl, ap, ◌∙◌, subst, arith}
+use Rattle.std.proofs.lemmas.Bool.{or_cases}
 use Rattle.std.proofs.lemmas.List.Elements.{All-append, All-weaker}
 use Rattle.std.proofs.lemmas.List.Sums.{sum_by-append}
 use Rattle.crp_plan.specs.declared.running.View.{View}
@@ -18,7 +19,7 @@ use Rattle.crp_solve.specs.Searches.{IsSearched}
 use Rattle.crp_solve.specs.Desks.{count_or, KeepsPlan}
 use Rattle.crp_gather.specs.Settled.{branches_in_all}
 use Rattle.crp_solve.proofs.Granting.{grants_joined}
-use Rattle.crp_solve.specs.Groups.{Crew, Keeping, root_at, roots, given_in, IsCounted, IsKeptSoFar, IsGroup}
+use Rattle.crp_solve.specs.Groups.{Crew, Keeping, root_at, roots, given_in, IsCounted, RefusesAsBoth, IsKeptSoFar, IsGroup}
 
 pub takes-append : (h : List ℕ → ℕ) (xs ys : List PoolSeat) → weigh h (all_takes (xs ++ ys)) ≡ weigh h (all_takes xs) + weigh h (all_takes ys)
 takes-append h [] ys = omega arith
@@ -41,22 +42,23 @@ names-append h [] ys = omega arith
 names-append h (x ∷ xs) ys = omega (arith, names-append h xs ys)
 
 -- a part that was searched stays so while more is seen and more is refused
-pub searched_later : (p : Problem) (first : ℕ) (old new : View) (parts : List ProblemPart) → new.seen ≤ old.seen → old.refused ≤ new.refused → All (IsSearched p first old) parts → All (IsSearched p first new) parts
+pub searched_later : (p : Problem) (first : ℕ) (old new : View) (parts : List ProblemPart) → new.seen ≤ old.seen → (0 < old.refused → 0 < new.refused) → All (IsSearched p first old) parts → All (IsSearched p first new) parts
 searched_later p first old new parts seen refused all =
     All-weaker (IsSearched p first old) (IsSearched p first new)
     (λ part s. record {
       of_problem = s.of_problem;
       kept = s.kept;
       closed = All-weaker (IsClosed old) (IsClosed new)
-          (λ cut c. ⊎_elim (λ (low : old.seen ≤ value cut). inl (omega arith)) (λ in_vain. let some = in_vain.0 in inr (omega arith, in_vain.1, in_vain.2)) c)
+          (λ cut c. ⊎_elim (λ (low : old.seen ≤ value cut). inl (omega arith)) (λ in_vain. inr (refused in_vain.0, in_vain.1, in_vain.2)) c)
           (cuts_in part) s.closed;
       below = s.below;
     })
     parts all
 
 -- what is counted adds up
-pub counted_together : {thin : ℕ} (v w : View) (xs ys : List ProblemPart) (ls ms : List PoolSeat) → IsCounted thin v xs ls → IsCounted thin w ys ms → IsCounted thin (view_joined v w) (xs ++ ys) (ls ++ ms)
-counted_together {thin} v w xs ys ls ms a b = record {
+pub counted_together : {thin : ℕ} (v w : View) (refused : ℕ) (xs ys : List ProblemPart) (ls ms : List PoolSeat) → IsCounted thin v xs ls → IsCounted thin w ys ms →
+    IsCounted thin (record (view_joined v w) { refused = refused }) (xs ++ ys) (ls ++ ms)
+counted_together {thin} v w refused xs ys ls ms a b = record {
   grants = grants_joined thin (branches_in_all xs) (branches_in_all ys) v.granted w.granted (branches_in_all (xs ++ ys)) (sum_by-append (λ (x : ProblemPart). length (branches_in x)) xs ys) a.grants b.grants;
   takes = λ h. (let t = a.takes h in let t' = b.takes h in
       omega (arith, takes-append h ls ms, roots-append h ls ms, names-append h xs ys, weigh-append h (roots (ls ++ ms)) (all_takes (ls ++ ms)), weigh-append h (roots ls) (all_takes ls), weigh-append h (roots ms) (all_takes ms)));
@@ -64,9 +66,9 @@ counted_together {thin} v w xs ys ls ms a b = record {
 }
 
 -- the better plan counts for both
-pub plans_together : (of : Shared) (v w : View) (plan other best : Option ProblemPath) → KeepsPlan of v plan → KeepsPlan of w other →
-    min v.mine w.mine ≡ count_or of.key.start (path_in best) → IfSome best (IsPlanOf of.key.problem) → KeepsPlan of (view_joined v w) best
-plans_together of v w plan other best a b fewest is = record {
+pub plans_together : (of : Shared) (v w : View) (refused : ℕ) (plan other best : Option ProblemPath) → KeepsPlan of v plan → KeepsPlan of w other →
+    min v.mine w.mine ≡ count_or of.key.start (path_in best) → IfSome best (IsPlanOf of.key.problem) → KeepsPlan of (record (view_joined v w) { refused = refused }) best
+plans_together of v w refused plan other best a b fewest is = record {
   is_problem = a.is_problem;
   plan_is = is;
   mine = fewest;
@@ -88,37 +90,40 @@ parts_together Holds xs ys zs true both mine e = subst Holds (sym e) both
 parts_together Holds xs ys zs false both mine e = subst Holds (sym e) mine
 
 -- so two groups make one
-pub merged : (keeps : Keeping) (a b c : Crew) (parts_fit places_fit : Bool) → IsGroup keeps a → IsGroup keeps b → b.of ≡ a.of → c.of ≡ a.of → c.view ≡ view_joined a.view b.view →
-    keeps a.of (view_joined a.view b.view) c.plan (a.parts ++ b.parts) → keeps a.of (view_joined a.view b.view) c.plan a.parts →
+pub merged : (keeps : Keeping) (a b c : Crew) (parts_fit places_fit : Bool) → IsGroup keeps a → IsGroup keeps b → b.of ≡ a.of → c.of ≡ a.of → c.view ≡ record (view_joined a.view b.view) { refused = c.view.refused } →
+    keeps a.of (record (view_joined a.view b.view) { refused = c.view.refused }) c.plan (a.parts ++ b.parts) → keeps a.of (record (view_joined a.view b.view) { refused = c.view.refused }) c.plan a.parts →
     c.parts ≡ (if parts_fit then a.parts ++ b.parts else a.parts) → c.places ≡ (if places_fit then a.places ++ b.places else a.places) →
-    (c.short ≡ false → (a.short ≡ false) × (b.short ≡ false) × (parts_fit ≡ true) × (places_fit ≡ true)) → IsGroup keeps c
-merged keeps a b c parts_fit places_fit ka kb one of view both mine parts places short = record {
+    (c.short ≡ false → (a.short ≡ false) × (b.short ≡ false) × (parts_fit ≡ true) × (places_fit ≡ true)) →
+    c.stopped ≡ (a.stopped || b.stopped) → IsGroup keeps c
+merged keeps a b c parts_fit places_fit ka kb one of view both mine parts places short stopped = record {
   kept = subst (λ o. keeps o c.view c.plan c.parts) (sym of) (subst (λ v. keeps a.of v c.plan c.parts) (sym view)
-      (parts_together (keeps a.of (view_joined a.view b.view) c.plan) a.parts b.parts c.parts parts_fit both mine parts));
+      (parts_together (keeps a.of (record (view_joined a.view b.view) { refused = c.view.refused }) c.plan) a.parts b.parts c.parts parts_fit both mine parts));
   counted = λ ok. (
       let s = short ok in
       let xs : c.parts ≡ a.parts ++ b.parts = parts ∙ ap (λ (fit : Bool). if fit then a.parts ++ b.parts else a.parts) s.2 in
       let ls : c.places ≡ a.places ++ b.places = places ∙ ap (λ (fit : Bool). if fit then a.places ++ b.places else a.places) s.3 in
       let t : ℕ = a.of.key.thin in
       subst (λ (o : Shared). IsCounted o.key.thin c.view c.parts c.places) (sym of)
-      (subst (λ v. IsCounted t v c.parts c.places) (sym view) (subst (λ l. IsCounted t (view_joined a.view b.view) l c.places) (sym xs) (subst (IsCounted t (view_joined a.view b.view) (a.parts ++ b.parts)) (sym ls)
-      (counted_together a.view b.view a.parts b.parts a.places b.places (ka.counted s.0) (subst (λ (o : Shared). IsCounted o.key.thin b.view b.parts b.places) one (kb.counted s.1)))))));
+      (subst (λ v. IsCounted t v c.parts c.places) (sym view) (subst (λ l. IsCounted t (record (view_joined a.view b.view) { refused = c.view.refused }) l c.places) (sym xs)
+      (subst (IsCounted t (record (view_joined a.view b.view) { refused = c.view.refused }) (a.parts ++ b.parts)) (sym ls)
+      (counted_together a.view b.view c.view.refused a.parts b.parts a.places b.places (ka.counted s.0) (subst (λ (o : Shared). IsCounted o.key.thin b.view b.parts b.places) one (kb.counted s.1)))))));
+  timely = λ yes. subst (λ (o : Shared). o.key.timed ≡ true) (sym of) (⊎_elim ka.timely (λ others. subst (λ (o : Shared). o.key.timed ≡ true) one (kb.timely others)) (or_cases a.stopped b.stopped (sym stopped ∙ yes)));
 }
 
 -- what a search for the fewest relocations keeps, with the better plan: the parts of the first
-pub kept_mine : (of : Shared) (v w : View) (plan other best : Option ProblemPath) (xs ys : List ProblemPart) → IsKeptSoFar of v plan xs → IsKeptSoFar of w other ys →
-    min v.mine w.mine ≡ count_or of.key.start (path_in best) → IfSome best (IsPlanOf of.key.problem) → IsKeptSoFar of (view_joined v w) best xs
-kept_mine of v w plan other best xs ys a b fewest is = record {
-  plan_kept = plans_together of v w plan other best a.plan_kept b.plan_kept fewest is;
-  searched = searched_later of.key.problem of.key.start v (view_joined v w) xs (omega arith) (omega arith) a.searched;
+pub kept_mine : (of : Shared) (v w : View) (refused : ℕ) (plan other best : Option ProblemPath) (xs ys : List ProblemPart) → RefusesAsBoth v w refused → IsKeptSoFar of v plan xs → IsKeptSoFar of w other ys →
+    min v.mine w.mine ≡ count_or of.key.start (path_in best) → IfSome best (IsPlanOf of.key.problem) → IsKeptSoFar of (record (view_joined v w) { refused = refused }) best xs
+kept_mine of v w refused plan other best xs ys some a b fewest is = record {
+  plan_kept = plans_together of v w refused plan other best a.plan_kept b.plan_kept fewest is;
+  searched = searched_later of.key.problem of.key.start v (record (view_joined v w) { refused = refused }) xs (omega arith) some.mine a.searched;
 }
 
 -- and the parts of both
-pub kept_both : (of : Shared) (v w : View) (plan other best : Option ProblemPath) (xs ys : List ProblemPart) → IsKeptSoFar of v plan xs → IsKeptSoFar of w other ys →
-    min v.mine w.mine ≡ count_or of.key.start (path_in best) → IfSome best (IsPlanOf of.key.problem) → IsKeptSoFar of (view_joined v w) best (xs ++ ys)
-kept_both of v w plan other best xs ys a b fewest is = record {
-  plan_kept = plans_together of v w plan other best a.plan_kept b.plan_kept fewest is;
-  searched = All-append (IsSearched of.key.problem of.key.start (view_joined v w)) xs ys
-      (searched_later of.key.problem of.key.start v (view_joined v w) xs (omega arith) (omega arith) a.searched)
-      (searched_later of.key.problem of.key.start w (view_joined v w) ys (omega arith) (omega arith) b.searched);
+pub kept_both : (of : Shared) (v w : View) (refused : ℕ) (plan other best : Option ProblemPath) (xs ys : List ProblemPart) → RefusesAsBoth v w refused → IsKeptSoFar of v plan xs → IsKeptSoFar of w other ys →
+    min v.mine w.mine ≡ count_or of.key.start (path_in best) → IfSome best (IsPlanOf of.key.problem) → IsKeptSoFar of (record (view_joined v w) { refused = refused }) best (xs ++ ys)
+kept_both of v w refused plan other best xs ys some a b fewest is = record {
+  plan_kept = plans_together of v w refused plan other best a.plan_kept b.plan_kept fewest is;
+  searched = All-append (IsSearched of.key.problem of.key.start (record (view_joined v w) { refused = refused })) xs ys
+      (searched_later of.key.problem of.key.start v (record (view_joined v w) { refused = refused }) xs (omega arith) some.mine a.searched)
+      (searched_later of.key.problem of.key.start w (record (view_joined v w) { refused = refused }) ys (omega arith) some.others b.searched);
 }

@@ -1,5 +1,6 @@
 -- Groups of workers in two halves, and what they become together.
-use Rattle.std.proofs.Common.{◌≡◌, ◌<◌, false, List, [], ◌∷◌, ◌++◌, length, length-append, append-nil, map, All, sym, ap, ◌∙◌, subst, arith}
+use Rattle.std.proofs.Common.{◌≡◌, ◌<◌, false, true, ◌||◌, ⊎_elim, List, [], ◌∷◌, ◌++◌, length, length-append, append-nil, map, All, sym, ap, ◌∙◌, subst, arith}
+use Rattle.std.proofs.lemmas.Bool.{or_cases}
 use Rattle.std.proofs.Math.Seq.{take-append_seam, drop-append_seam}
 use Rattle.std.proofs.lemmas.List.{map-append}
 use Rattle.std.proofs.lemmas.List.Elements.{All-cons, All-nil, All-take, All-drop}
@@ -8,7 +9,7 @@ use Rattle.crp_incumbent.specs.Rule.{view_joined}
 use Rattle.crp_incumbent.specs.declared.rule.Key.{Key}
 use Rattle.crp_incumbent.specs.Seats.{Shared, Seat}
 use Rattle.crp_pool.specs.Deques.{DequeId}
-use Rattle.crp_solve.specs.Groups.{Crew, keys, all_keys, place_key, shares, SameWorkers, AreTogether, AreReady}
+use Rattle.crp_solve.specs.Groups.{Crew, keys, all_keys, place_key, shares, SameWorkers, StopsBy, AreTogether, AreReady}
 use Rattle.crp_solve.specs.Begins.{IsStart, AreAllWorkers}
 use Rattle.crp_solve.proofs.Joining.{every_place}
 use Rattle.crp_solve.proofs.Opened.{keys-append, shares-append}
@@ -34,7 +35,7 @@ together_one of g r at s = record {
 }
 
 -- two that were merged
-pub together_two : (of : Shared) (gs xs ys : List Crew) (a b c : Crew) → AreReady of gs → xs ++ ys ≡ gs → AreTogether xs a → AreTogether ys b → c.of ≡ of → c.view ≡ view_joined a.view b.view →
+pub together_two : (of : Shared) (gs xs ys : List Crew) (a b c : Crew) → AreReady of gs → xs ++ ys ≡ gs → AreTogether xs a → AreTogether ys b → c.of ≡ of → c.view ≡ record (view_joined a.view b.view) { refused = c.view.refused } →
     (c.short ≡ false → c.places ≡ a.places ++ b.places) → (c.short ≡ false → (a.short ≡ false) × (b.short ≡ false)) → AreTogether gs c
 together_two of gs xs ys a b c r whole ta tb at view places short = record {
   words = words_of of gs c at r.words;
@@ -60,3 +61,12 @@ only_worker key of left pool first groups is s = subst (AreAllWorkers of left po
   ready = record { some = omega arith; few = omega arith; words = at_words of first s.words };
   places = λ all e. (every_place all first.places pool (e ∙ append-nil (keys first)) s.places.0, s.places.1);
 })
+
+-- claims that were stopped in either of two were stopped in both together
+pub stops_two : {M : Type 0} (a b c : Crew) → c.stopped ≡ (a.stopped || b.stopped) → StopsBy M a → StopsBy M b → StopsBy M c
+stops_two a b c is mine others e = ⊎_elim mine others (or_cases a.stopped b.stopped (sym is ∙ e))
+
+pub stops_parts : {M : Type 0} (gs xs ys : List Crew) → xs ++ ys ≡ gs → All (StopsBy M) gs → All (StopsBy M) xs × All (StopsBy M) ys
+stops_parts {M} gs xs ys whole all =
+    let both : All (StopsBy M) (xs ++ ys) = subst (All (StopsBy M)) (sym whole) all in
+    (subst (All (StopsBy M)) (take-append_seam xs ys) (All-take (StopsBy M) (length xs) (xs ++ ys) both), subst (All (StopsBy M)) (drop-append_seam xs ys) (All-drop (StopsBy M) (length xs) (xs ++ ys) both))

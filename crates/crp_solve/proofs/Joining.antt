@@ -46,9 +46,9 @@ pub one_root : (pool : List DequeId) (places : List PoolSeat) → 0 < length poo
 one_root pool places some every h = let e = every.1 (root_weight h) in omega (arith, roots_by_number h places, one_from h (length pool) some)
 
 -- what the pool gives back is counted, with a seat that claimed nothing
-pub done_with_left : (keeps : Keeping) (of : Shared) (left : Seat) (g : Crew) (best : Option ProblemPath) (pool : List DequeId) (puts takes : List (List ℕ)) → IsUnusedSeat of left → IsGroup keeps g → g.of ≡ of → g.short ≡ false → 0 < length pool →
-    IsEverySeat pool g.places → keeps of (view_joined left.view g.view) best g.parts → SameNames puts (all_puts g.places) → SameNames takes (all_takes g.places) → IsDoneUpTo keeps of (view_joined left.view g.view) best g.parts puts takes
-done_with_left keeps of left g best pool puts takes new k at ok some every kept put took =
+pub done_with_left : (keeps : Keeping) (of : Shared) (left : Seat) (g : Crew) (refused : ℕ) (best : Option ProblemPath) (pool : List DequeId) (puts takes : List (List ℕ)) → IsUnusedSeat of left → IsGroup keeps g → g.of ≡ of → g.short ≡ false → 0 < length pool →
+    IsEverySeat pool g.places → keeps of (record (view_joined left.view g.view) { refused = refused }) best g.parts → SameNames puts (all_puts g.places) → SameNames takes (all_takes g.places) → IsDoneUpTo keeps of (record (view_joined left.view g.view) { refused = refused }) best g.parts puts takes
+done_with_left keeps of left g refused best pool puts takes new k at ok some every kept put took =
     let c = k.counted ok in
     record {
       kept = kept;

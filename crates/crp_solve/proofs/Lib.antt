@@ -23,3 +23,4 @@ pub mod FirstKept
 pub mod FirstFound
 pub mod FirstAnswers
 pub mod Granting
+pub mod Stopped

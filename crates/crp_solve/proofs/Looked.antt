@@ -1,5 +1,5 @@
 -- A search of all workers behind one that looked first.
-use Rattle.std.proofs.Common.{◌≡◌, ℕ, ◌≤◌, Option, None, Some, IfSome, refl, sym, subst, arith}
+use Rattle.std.proofs.Common.{◌≡◌, ℕ, ◌≤◌, Bool, Option, None, Some, IfSome, refl, sym, subst, arith}
 use Rattle.std.proofs.lemmas.List.Elements.{All-weaker}
 use Rattle.crp_plan.specs.declared.running.View.{View}
 use Rattle.crp_plan.specs.Bay.{Problem}
@@ -25,15 +25,16 @@ one_is_plan p None known is also = also
 one_is_plan p (Some plan) known is also = is
 
 -- what they found, or where they met no plan, with the plan that was met by the look
-pub after_look : {other thin : ℕ} (p : Problem) (look budget first : ℕ) (looked cert : Certificate) (known met best : Option ProblemPath) (few expanded : ℕ) → BeginsWithin p first → IsFoundTogether other p look first looked known few →
-    IsFoundTogether thin p budget (count_or first (path_in known)) cert met expanded → best ≡ met_or_known met known → IsFoundTogether thin p budget first cert best expanded
-after_look {other} {thin} p look budget first looked cert known met best few expanded begins before f e =
+pub after_look : {other thin : ℕ} {early stopped : Bool} (p : Problem) (look budget first : ℕ) (looked cert : Certificate) (known met best : Option ProblemPath) (few expanded : ℕ) → BeginsWithin p first → IsFoundTogether other p look first looked known few early →
+    IsFoundTogether thin p budget (count_or first (path_in known)) cert met expanded stopped → best ≡ met_or_known met known → IsFoundTogether thin p budget first cert best expanded stopped
+after_look {other} {thin} {early} {stopped} p look budget first looked cert known met best few expanded begins before f e =
     let w = f.ended in let old = before.ended in
     let limit : ℕ = count_or first (path_in known) in
     let low : limit ≤ first = old.low in
-    subst (λ o. IsFoundTogether thin p budget first cert o expanded) (sym e) (record {
+    subst (λ o. IsFoundTogether thin p budget first cert o expanded stopped) (sym e) (record {
       view = f.view;
       granted = f.granted;
+      left = f.left;
       best_is = one_is_plan p met known f.best_is before.best_is;
       ended = record {
         about = w.about;

@@ -12,11 +12,12 @@ use Rattle.crp_solve.proofs.Joining.{one_root}
 moved_group : (keeps : Keeping) (g : Crew) (pool : List DequeId) (q s : PoolSeat) (puts : List (List ℕ)) (fit : Bool) → IsGroup keeps g → g.short ≡ false → IsEverySeat pool g.places → 0 < length pool →
     all_takes g.places ≡ [] → IsUnused q → q.number ≡ 0 → SameSeat q s → s.takes ≡ q.takes → (IsTrue fit → SameNames s.puts puts) → SameNames puts (all_puts g.places) →
     IsGroup keeps (record g { places = s ∷ []; short = not fit })
-moved_group keeps g pool q s puts false k whole every some none new first same takes fits put = record { kept = k.kept; counted = λ ok. absurd (cc) }
+moved_group keeps g pool q s puts false k whole every some none new first same takes fits put = record { kept = k.kept; counted = λ ok. absurd (cc); timely = k.timely }
 moved_group keeps g pool q s puts true k whole every some none new first same takes fits put =
     let c = k.counted whole in
     record {
       kept = k.kept;
+      timely = k.timely;
       counted = λ ok. record {
         grants = c.grants;
         takes = λ h. (

@@ -1,5 +1,5 @@
 -- A group after it searched one part more.
-use Rattle.std.proofs.Common.{length, ◌≡◌, ◌≤◌, ℕ, ◌+◌, List, [], ◌∷◌, ◌++◌, Option, None, Some, IfSome, sym, ap, ◌∙◌, subst, arith}
+use Rattle.std.proofs.Common.{length, ◌≡◌, ◌≤◌, ℕ, ◌+◌, true, List, [], ◌∷◌, ◌++◌, Option, None, Some, IfSome, sym, ap, ◌∙◌, subst, arith}
 use Rattle.std.proofs.lemmas.List.Elements.{All-append, All-weaker, All-cons, All-nil}
 use Rattle.std.proofs.lemmas.List.Sums.{sum_by-append, sum_by-cons}
 use Rattle.crp_plan.specs.declared.running.View.{View}
@@ -81,12 +81,14 @@ took q r s v w name x same puts takes fixed f = record {
 -- so the group keeps what it keeps
 pub task_done : (keeps : Keeping) (old new : Crew) (x : ProblemPart) (ls : List PoolSeat) (q r s : PoolSeat) (name : List ℕ) → IsGroup keeps old → new.of ≡ old.of → old.places ≡ ls ++ q ∷ [] →
     SameSeat q r → r.puts ≡ q.puts → SameNames r.takes (q.takes ++ name ∷ []) → fixed_at (Some s) ≡ fixed_at (Some r) → keeps old.of new.view new.plan (old.parts ++ x ∷ []) →
-    IsCountedPart old.of.key.thin old.view new.view (Some r) (Some s) name x → new.parts ≡ old.parts ++ x ∷ [] → new.places ≡ ls ++ s ∷ [] → new.short ≡ old.short → IsGroup keeps new
-task_done keeps old new x ls q r s name k of places same puts takes fixed kept f parts' places' short = record {
+    IsCountedPart old.of.key.thin old.view new.view (Some r) (Some s) name x → new.parts ≡ old.parts ++ x ∷ [] → new.places ≡ ls ++ s ∷ [] → new.short ≡ old.short →
+    (new.stopped ≡ true → old.of.key.timed ≡ true) → IsGroup keeps new
+task_done keeps old new x ls q r s name k of places same puts takes fixed kept f parts' places' short timely = record {
   kept = subst (λ o. keeps o new.view new.plan new.parts) (sym of) (subst (keeps old.of new.view new.plan) (sym parts') kept);
   counted = λ ok. subst (λ (o : Shared). IsCounted o.key.thin new.view new.parts new.places) (sym of)
       (subst (λ l. IsCounted old.of.key.thin new.view l new.places) (sym parts') (subst (IsCounted old.of.key.thin new.view (old.parts ++ x ∷ [])) (sym places')
       (counted_more old.view new.view old.parts x ls q r s name (subst (IsCounted old.of.key.thin old.view old.parts) places (k.counted (sym short ∙ ok))) (took q r s old.view new.view name x same puts takes fixed f) f.grants)));
+  timely = λ yes. subst (λ (o : Shared). o.key.timed ≡ true) (sym of) (timely yes);
 }
 
 -- a part that was found is searched
@@ -100,7 +102,7 @@ searched_now of v w x seen f = record {
 
 -- what a search for the fewest relocations kept stays so
 pub kept_later : (of : Shared) (v w : View) (plan better : Option ProblemPath) (xs : List ProblemPart) → KeepsPlan of w better → Advances of.key.problem v w → IsKeptSoFar of v plan xs → IsKeptSoFar of w better xs
-kept_later of v w plan better xs keeps on k = record { plan_kept = keeps; searched = searched_later of.key.problem of.key.start v w xs on.seen on.refused k.searched }
+kept_later of v w plan better xs keeps on k = record { plan_kept = keeps; searched = searched_later of.key.problem of.key.start v w xs on.seen (λ some. omega (arith, some, on.refused)) k.searched }
 
 -- and with one part more
 pub kept_more : (of : Shared) (v w : View) (plan better : Option ProblemPath) (xs : List ProblemPart) (x : ProblemPart) → KeepsPlan of w better → Advances of.key.problem v w → IsKeptSoFar of v plan xs →
@@ -109,7 +111,7 @@ kept_more of v w plan better xs x keeps on k f =
     let P : ProblemPart → Type 0 = IsSearched of.key.problem of.key.start w in let low = k.plan_kept in
     record {
       plan_kept = keeps;
-      searched = All-append P xs (x ∷ []) (searched_later of.key.problem of.key.start v w xs on.seen on.refused k.searched) (All-cons P x [] (searched_now of v w x low.seen f) (All-nil P));
+      searched = All-append P xs (x ∷ []) (searched_later of.key.problem of.key.start v w xs on.seen (λ some. omega (arith, some, on.refused)) k.searched) (All-cons P x [] (searched_now of v w x low.seen f) (All-nil P));
     }
 
 -- so with the part that was found, if one was

@@ -1,5 +1,5 @@
 -- The answer that searches show is true.
-use Rattle.std.proofs.Common.{◌≡◌, ℕ, ◌<◌, ◌≤◌, min, ⊎_elim, List, [], ◌∷◌, length, get_or, Contains, All, Option, None, Some, IfSome, sum_by, sym, ap, ◌∙◌, subst, refl, arith, ◌+◌, ◌++◌, append_assoc, append-nil, length-append}
+use Rattle.std.proofs.Common.{◌≡◌, ℕ, ◌<◌, ◌≤◌, min, ⊎_elim, Bool, false, List, [], ◌∷◌, length, get_or, Contains, All, Option, None, Some, IfSome, sum_by, sym, ap, ◌∙◌, subst, refl, arith, ◌+◌, ◌++◌, append_assoc, append-nil, length-append}
 use Rattle.std.proofs.lemmas.List.Elements.{All-contains, All-weaker, All-cons, All-nil, All-same, All-filter}
 use Rattle.std.proofs.lemmas.List.Sums.{sum_by-cons}
 use Rattle.std.proofs.lemmas.Bool.{cases_lt}
@@ -24,7 +24,7 @@ use Rattle.crp_tree.proofs.Kept.{part_nodes, nodes_at_name}
 use Rattle.crp_search.specs.Searched.{IsClosed}
 use Rattle.crp_solve.specs.declared.answer.Answer.{Answer}
 use Rattle.crp_solve.specs.declared.answer.Answer.TheVariants.{Optimal, NoPlan, Between}
-use Rattle.crp_solve.specs.declared.answer.Cause.TheVariants.{Budget, Memory}
+use Rattle.crp_solve.specs.declared.answer.Cause.TheVariants.{Budget, Memory, Time}
 use Rattle.crp_solve.specs.Answers.{path_in, branches_of, count_of, IsPlanOf, IsCut, IsOneCut, IsBetween, HasNeededBranches, SaysTrue, Ended, BranchesAreNeeded, IsTrueAnswer, cert_of, plan_of}
 use Rattle.crp_solve.specs.Searches.{BeginsWithin, IsSearched, IsAbout, IsBestMet, IsEndedSearch, IsShown}
 use Rattle.crp_solve.proofs.Limits.{greedy_met}
@@ -51,7 +51,7 @@ lower_over p cert f a le all =
     omega (arith, x.2, floor_over x.0 f kept (subst (λ q. f ≤ cap q) (sym same) le) cuts)
 
 -- where no claim was refused, the bound reaches the limit in the end
-pub reaches : {thin : ℕ} (p : Problem) (budget first limit : ℕ) (view : View) (cert : Certificate) → IsEndedSearch thin p budget first limit view cert → limit ≤ cap p → view.refused ≡ 0 → limit ≤ cert.lower
+pub reaches : {thin : ℕ} {stopped : Bool} (p : Problem) (budget first limit : ℕ) (view : View) (cert : Certificate) → IsEndedSearch thin p budget first limit view cert stopped → limit ≤ cap p → view.refused ≡ 0 → limit ≤ cert.lower
 reaches p budget first limit view cert w low none =
     lower_over p cert limit w.about low
     (λ k d lt. let s = w.searched k d lt in
@@ -59,10 +59,10 @@ reaches p budget first limit view cert w low none =
     (λ cut worth. ⊎_elim (λ (seen : view.seen ≤ value cut). omega (arith, w.met, seen)) (λ in_vain. absurd (omega (arith, in_vain.0, none))) worth)
     (cuts_in (get_or cert.parts k d)) s.closed)
 
--- so where it does not, the budget is spent
-pub spent_below : {thin : ℕ} (p : Problem) (budget first limit : ℕ) (view : View) (cert : Certificate) → IsEndedSearch thin p budget first limit view cert → limit ≤ cap p → cert.lower < limit → view.granted ≡ budget
-spent_below p budget first limit view cert w low below =
-    ⊎_elim (λ (l : 0 < view.refused). w.refused_last l) (λ (le : view.refused ≤ 0). absurd (omega (arith, below, reaches p budget first limit view cert w low (omega arith)))) (cases_lt 0 view.refused)
+-- so where it does not, and no claim was stopped, the budget is spent
+pub spent_below : {thin : ℕ} {stopped : Bool} (p : Problem) (budget first limit : ℕ) (view : View) (cert : Certificate) → IsEndedSearch thin p budget first limit view cert stopped → stopped ≡ false → limit ≤ cap p → cert.lower < limit → view.granted ≡ budget
+spent_below p budget first limit view cert w goes_on low below =
+    ⊎_elim (λ (l : 0 < view.refused). w.refused_last goes_on l) (λ (le : view.refused ≤ 0). absurd (omega (arith, below, reaches p budget first limit view cert w low (omega arith)))) (cases_lt 0 view.refused)
 
 -- the look-ahead bound of the first position is at most a plan's relocations
 pub count_over : (p : Problem) (plan : Option ProblemPath) (s : Position) → IsProblem p → IfSome plan (IsPlanOf p) → IsAt p [] s → min (cap p) (look_ahead s) ≤ count_of p (path_in plan)
@@ -93,7 +93,7 @@ ahead_of_root : (p : Problem) (path : List ℕ) (first s : Position) → IsProbl
 ahead_of_root p path first s is a b = omega (arith, ahead_grows p [] path first s is a b)
 
 -- the bound is never below the look-ahead bound of the first position, where the limit is not
-pub looks_ahead : {thin : ℕ} (p : Problem) (budget first limit : ℕ) (view : View) (cert : Certificate) (s : Position) → IsEndedSearch thin p budget first limit view cert → min (cap p) (look_ahead s) ≤ limit → IsAt p [] s → min (cap p) (look_ahead s) ≤ cert.lower
+pub looks_ahead : {thin : ℕ} {stopped : Bool} (p : Problem) (budget first limit : ℕ) (view : View) (cert : Certificate) (s : Position) → IsEndedSearch thin p budget first limit view cert stopped → min (cap p) (look_ahead s) ≤ limit → IsAt p [] s → min (cap p) (look_ahead s) ≤ cert.lower
 looks_ahead p budget first limit view cert s w over at =
     let a = w.about in
     let f : ℕ = min (cap p) (look_ahead s) in
@@ -117,7 +117,7 @@ needed_branches p first view cert begun all = record {
 }
 
 -- what a search shows with a plan
-pub search_shows : {thin : ℕ} (p : Problem) (budget first limit total expanded : ℕ) (view : View) (cert : Certificate) (plan : Option ProblemPath) → IsEndedSearch thin p budget first limit view cert → IsBestMet p plan →
+pub search_shows : {thin : ℕ} {stopped : Bool} (p : Problem) (budget first limit total expanded : ℕ) (view : View) (cert : Certificate) (plan : Option ProblemPath) → IsEndedSearch thin p budget first limit view cert stopped → IsBestMet p plan →
     ((s : Position) → IsAt p [] s → min (cap p) (look_ahead s) ≤ limit) → view.granted ≤ expanded → expanded ≤ total → IsShown p total cert plan expanded
 search_shows p budget first limit total expanded view cert plan w met over enough within = record {
   about = w.about;
@@ -176,6 +176,11 @@ bounds_true p budget cert plan expanded w =
 pub between_is_true : (p : Problem) (budget : ℕ) (cert : Certificate) (plan : Option ProblemPath) (expanded : ℕ) → IsShown p budget cert plan expanded → cert.lower < count_of p (path_in plan) → expanded ≡ budget → IsTrueAnswer p budget (Between cert.lower cert plan Budget) expanded
 between_is_true p budget cert plan expanded w lt spent =
     shown_is_true p budget (Between cert.lower cert plan Budget) plan expanded w refl (bounds_true p budget cert plan expanded w) (w.granted, record { all = spent; below = lt }) w.needed
+
+-- the bound is below the best plan, and claims were stopped while some of the budget was left
+pub stopped_is_true : (p : Problem) (budget : ℕ) (cert : Certificate) (plan : Option ProblemPath) (expanded : ℕ) → IsShown p budget cert plan expanded → cert.lower < count_of p (path_in plan) → expanded < budget → IsTrueAnswer p budget (Between cert.lower cert plan Time) expanded
+stopped_is_true p budget cert plan expanded w lt left =
+    shown_is_true p budget (Between cert.lower cert plan Time) plan expanded w refl (bounds_true p budget cert plan expanded w) (w.granted, record { left = left; below = lt }) w.needed
 
 -- memory ran out, and the certificate is one cut
 pub cut_is_true : (p : Problem) (budget : ℕ) (cert : Certificate) (plan : Option ProblemPath) (expanded : ℕ) → IsShown p budget cert plan expanded → IsOneCut cert → IsTrueAnswer p budget (Between cert.lower cert plan Memory) expanded

@@ -1,5 +1,5 @@
 -- What many workers found together is a search of the whole problem.
-use Rattle.std.proofs.Common.{◌≡◌, ◌≤◌, ℕ, ◌+◌, min, List, [], ◌∷◌, length, All, Option, sum_by, sym, refl, ◌∙◌, subst, arith}
+use Rattle.std.proofs.Common.{◌≡◌, ◌<◌, ◌≤◌, ℕ, ◌+◌, min, Bool, true, false, List, [], ◌∷◌, length, All, Option, sum_by, sym, refl, ◌∙◌, subst, arith}
 use Rattle.std.specs.List.Sorted.{IsPermutation}
 use Rattle.std.proofs.lemmas.List.Sorted.{sum_by-IsPermutation, All-permutation}
 use Rattle.std.proofs.lemmas.List.Sums.{sum_by-cons}
@@ -18,7 +18,7 @@ use Rattle.crp_pool.proofs.Hands.{weigh-append}
 use Rattle.crp_search.specs.Searched.{Grants}
 use Rattle.crp_solve.specs.Answers.{path_in}
 use Rattle.crp_solve.specs.Searches.{BeginsWithin, IsSearched, IsEndedSearch}
-use Rattle.crp_solve.specs.Desks.{count_or}
+use Rattle.crp_solve.specs.Desks.{count_or, refused_by, known_with}
 use Rattle.crp_solve.specs.Groups.{given_in}
 use Rattle.crp_solve.specs.Rests.{IsAllDone}
 
@@ -65,14 +65,19 @@ pub record IsClosedAt (start budget spent limit : ℕ) (view : View) : Type 0 wh
   pub seen : limit ≤ view.seen
   pub mine : view.mine ≤ start
 
+-- where a claim counts as refused the budget is spent, unless claims were stopped while some of it was left
+spent_all : (budget spent : ℕ) (before : Bool) (granted refused : ℕ) → spent ≡ granted + refused → granted ≡ min spent budget → (before ≡ true → budget ≤ granted) → 0 < refused_by before refused → granted ≡ budget
+spent_all budget spent true granted refused sum least ends some = let all = ends refl in omega (arith, sum, least, all)
+spent_all budget spent false granted refused sum least ends some = omega (arith, sum, least, some)
+
 -- so the whole problem was searched
-pub whole_together : {thin : ℕ} (p : Problem) (budget first spent limit : ℕ) (view : View) (xs : List ProblemPart) (cert : Certificate) (best : Option ProblemPath) → IsProblem p → BeginsWithin p first → IsClosedAt first budget spent limit view →
-    All (IsSearched p first view) xs → IsAllDone thin view xs → IsPermutation xs cert.parts → IsAbout p cert → view.mine ≡ count_or first (path_in best) →
-    IsEndedSearch thin p budget first (count_or first (path_in best)) view cert
-whole_together {thin} p budget first spent limit view xs cert best is first_is closed all done moved about mine =
+pub whole_together : {thin : ℕ} (p : Problem) (budget first spent limit : ℕ) (before : Bool) (view : View) (xs : List ProblemPart) (cert : Certificate) (best : Option ProblemPath) (stopped : Bool) → IsProblem p → BeginsWithin p first →
+    IsClosedAt first budget spent limit view → (stopped ≡ false → before ≡ true → budget ≤ view.granted) → All (IsSearched p first (known_with before view)) xs → IsAllDone thin (known_with before view) xs → IsPermutation xs cert.parts → IsAbout p cert → view.mine ≡ count_or first (path_in best) →
+    IsEndedSearch thin p budget first (count_or first (path_in best)) (known_with before view) cert stopped
+whole_together {thin} p budget first spent limit before view xs cert best stopped is first_is closed ends all done moved about mine =
     let ys = cert.parts in
-    let all' : All (IsSearched p first view) ys = All-permutation (IsSearched p first view) xs ys moved all in
-    let done' : IsAllDone thin view ys = done_moved view xs ys moved done in
+    let all' : All (IsSearched p first (known_with before view)) ys = All-permutation (IsSearched p first (known_with before view)) xs ys moved all in
+    let done' : IsAllDone thin (known_with before view) ys = done_moved (known_with before view) xs ys moved done in
     let low = closed.limit_is in let seen = closed.seen in let high = closed.mine in let spent_is = closed.spent_is in let granted = closed.granted in
     record {
       about = about;
@@ -82,5 +87,5 @@ whole_together {thin} p budget first spent limit view xs cert best is first_is c
       met = omega arith;
       granted = done'.grants;
       within = omega arith;
-      refused_last = λ some. omega arith;
+      refused_last = λ goes_on some. spent_all budget spent before view.granted view.refused closed.spent_is closed.granted (ends goes_on) some;
     }

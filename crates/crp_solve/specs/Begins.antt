@@ -7,7 +7,7 @@ use Rattle.crp_incumbent.specs.Seats.{Shared, Seat}
 use Rattle.crp_pool.specs.Deques.{DequeId}
 use Rattle.crp_pool.specs.Seats.{PoolSeat, all_takes}
 use Rattle.crp_solve.specs.Answers.{path_in, count_of}
-use Rattle.crp_solve.specs.Chosen.{Chosen}
+use Rattle.crp_solve.specs.Chosen.{Chosen, is_timed}
 use Rattle.crp_solve.specs.Rounds.{IsStartPlan}
 use Rattle.crp_solve.specs.Groups.{Crew, place_key, all_keys, shares, IsUnusedSeat, AreAllPlaces, AreReady}
 
@@ -42,5 +42,6 @@ pub record IsBegun (s : Search) (left : Seat) (pool : List DequeId) (known : Opt
   pub first : s.of.key.start ≡ count_of s.of.key.problem (path_in known)
   pub budget : s.of.key.budget ≡ s.chosen.budget
   pub thin : s.of.key.thin ≡ s.chosen.thin
+  pub timed : s.of.key.timed ≡ is_timed s.chosen.time
   pub not_first : s.chosen.first ≡ false
   pub one_search : s.chosen.deepen ≡ false

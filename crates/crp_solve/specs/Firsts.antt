@@ -1,5 +1,5 @@
 -- What a search for the first best plan keeps and finds, and how it is given up.
-use Rattle.std.specs.Prelude.{◌≡◌, ℕ, ◌≤◌, ◌⊎◌, List, length, All, Option, Some, None, IfSome, ⊤}
+use Rattle.std.specs.Prelude.{◌≡◌, ℕ, ◌<◌, ◌≤◌, ◌⊎◌, Bool, true, List, length, All, Option, Some, None, IfSome, ⊤}
 use Rattle.crp_plan.specs.declared.running.View.{View}
 use Rattle.crp_plan.specs.Bay.{Problem}
 use Rattle.crp_plan.specs.Plans.{ProblemPath}
@@ -9,7 +9,7 @@ use Rattle.crp_tree.specs.First.{MeetNeeds}
 use Rattle.crp_tree.specs.Parts.{ProblemPart, cuts_in, IsKeptPart, Certificate, IsAbout}
 use Rattle.crp_search.specs.Firsts.{IsLowerBound, MeetsOwn}
 use Rattle.crp_solve.specs.declared.answer.Cause.{Cause}
-use Rattle.crp_solve.specs.declared.answer.Cause.TheVariants.{Budget, Memory}
+use Rattle.crp_solve.specs.declared.answer.Cause.TheVariants.{Budget, Memory, Time}
 use Rattle.crp_solve.specs.Answers.{branches_of, IsPlanOf}
 use Rattle.crp_solve.specs.Desks.{KeepsPlan}
 
@@ -52,7 +52,8 @@ pub record IsFoundFirst (p : Problem) (budget k : ℕ) (plan : ProblemPath) (cer
   pub enough : branches_of cert ≤ expanded
   pub within : expanded ≤ budget
 
--- the search was given up: where the budget is the cause, all of it is spent
-abbrev pub IsGivenUp : ℕ → Cause → ℕ → Type 0
-IsGivenUp budget Budget expanded = expanded ≡ budget
-IsGivenUp budget Memory expanded = expanded ≤ budget
+-- the search was given up: where the budget is the cause, all of it is spent, and where the time is, the search is a timed one and some of it is left
+abbrev pub IsGivenUp : ℕ → Bool → Cause → ℕ → Type 0
+IsGivenUp budget timed Budget expanded = expanded ≡ budget
+IsGivenUp budget timed Memory expanded = expanded ≤ budget
+IsGivenUp budget timed Time expanded = (timed ≡ true) × (expanded < budget)

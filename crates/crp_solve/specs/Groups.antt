@@ -1,5 +1,5 @@
 -- The state of one worker of a search or several, and what it keeps, so that one thread hands it to another.
-use Rattle.std.specs.Prelude.{◌≡◌, ℕ, ◌+◌, ◌<◌, ◌≤◌, length, Bool, false, ◌==◌, if◌then◌else◌, List, [], ◌∷◌, ◌++◌, map, flat_map, All, Option, Some, None, Vec, vec_len, vec_capacity}
+use Rattle.std.specs.Prelude.{◌≡◌, ℕ, ◌+◌, ◌<◌, ◌≤◌, length, Bool, true, false, ◌==◌, if◌then◌else◌, List, [], ◌∷◌, ◌++◌, map, flat_map, All, Option, Some, None, Vec, vec_len, vec_capacity}
 use Rattle.std.specs.declared.alloc.Global.{Global}
 use Rattle.crp_plan.specs.declared.running.View.{View}
 use Rattle.crp_plan.specs.Plans.{ProblemPath}
@@ -15,8 +15,8 @@ use Rattle.crp_search.specs.Searched.{Grants}
 use Rattle.crp_solve.specs.Searches.{IsSearched}
 use Rattle.crp_solve.specs.Desks.{KeepsPlan}
 
--- the shared words, what the workers know of them, their best plan, the parts that they searched, their places in the pool, and whether a part was lost: where
--- memory was short, or, in a search for the first best plan, where a claim was refused
+-- the shared words, what the workers know of them, their best plan, the parts that they searched, their places in the pool, whether a part was lost: where
+-- memory was short, or, in a search for the first best plan, where a claim was refused; and whether a gate stopped their claims
 pub record Crew : Type 0 where
   pub of : Shared
   pub view : View
@@ -24,6 +24,7 @@ pub record Crew : Type 0 where
   pub parts : List ProblemPart
   pub places : List PoolSeat
   pub short : Bool
+  pub stopped : Bool
 
 -- the part of the root was searched by the worker at the first place of a pool
 abbrev pub root_at : PoolSeat → List (List ℕ)
@@ -47,10 +48,17 @@ pub record IsCounted (thin : ℕ) (view : View) (parts : List ProblemPart) (plac
 abbrev pub Keeping : Type 1
 Keeping = Shared → View → Option ProblemPath → List ProblemPart → Type 0
 
+-- so many claims of two workers were refused: one at least, where one of either was
+pub record RefusesAsBoth (v w : View) (refused : ℕ) : Type 0 where
+  pub mine : 0 < v.refused → 0 < refused
+  pub others : 0 < w.refused → 0 < refused
+
 -- one plan is the better of two: what two workers kept is kept by both together with it, and so are the parts of the first
 pub record IsBetterOf (keeps : Keeping) (plan other better : Option ProblemPath) : Type 0 where
-  pub both : (of : Shared) (v w : View) (parts others : List ProblemPart) → keeps of v plan parts → keeps of w other others → keeps of (view_joined v w) better (parts ++ others)
-  pub mine : (of : Shared) (v w : View) (parts others : List ProblemPart) → keeps of v plan parts → keeps of w other others → keeps of (view_joined v w) better parts
+  pub both : (of : Shared) (v w : View) (refused : ℕ) (parts others : List ProblemPart) → RefusesAsBoth v w refused → keeps of v plan parts → keeps of w other others
+      → keeps of (record (view_joined v w) { refused = refused }) better (parts ++ others)
+  pub mine : (of : Shared) (v w : View) (refused : ℕ) (parts others : List ProblemPart) → RefusesAsBoth v w refused → keeps of v plan parts → keeps of w other others
+      → keeps of (record (view_joined v w) { refused = refused }) better parts
 
 -- the parts with one that was found, if one was
 abbrev pub with_part : List ProblemPart → Option ProblemPart → List ProblemPart
@@ -63,10 +71,11 @@ pub record IsKeptSoFar (of : Shared) (view : View) (plan : Option ProblemPath) (
   pub plan_kept : KeepsPlan of view plan
   pub searched : All (IsSearched of.key.problem of.key.start view) parts
 
--- what a group keeps: its plan and its parts, as the search has it; and unless it is marked, nothing was lost
+-- what a group keeps: its plan and its parts, as the search has it; unless it is marked, nothing was lost; and its claims are stopped only in a timed search
 pub record IsGroup (keeps : Keeping) (g : Crew) : Type 0 where
   pub kept : keeps g.of g.view g.plan g.parts
   pub counted : g.short ≡ false → IsCounted g.of.key.thin g.view g.parts g.places
+  pub timely : g.stopped ≡ true → g.of.key.timed ≡ true
 
 -- which place of which pool
 abbrev pub place_key : PoolSeat → List DequeId × DequeId × ℕ
@@ -99,6 +108,10 @@ pub record AreTogether (groups : List Crew) (all : Crew) : Type 0 where
   pub words : All (λ g. g.of ≡ all.of) groups
   pub share : all.view.share ≡ shares groups
   pub places : all.short ≡ false → keys all ≡ all_keys groups
+
+-- where claims of these workers were stopped, this is so
+abbrev pub StopsBy : Type 0 → Crew → Type 0
+StopsBy may g = g.stopped ≡ true → may
 
 -- groups of workers that have not begun, one at least, each at the words of the search
 pub record AreReady (of : Shared) (groups : List Crew) : Type 0 where

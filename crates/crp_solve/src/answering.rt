@@ -1,11 +1,12 @@
 //! The answer that searches show.
-ghost use Rattle.std.specs.Prelude.{◌≡◌, ℕ, ◌≤◌, [], IfOk, IfErr, Option, min, length};
+ghost use Rattle.std.specs.Prelude.{◌≡◌, ℕ, ◌≤◌, true, false, [], IfOk, IfErr, Option, min, length};
+ghost use Rattle.std.specs.Result.{IsOkAnd};
 ghost use Rattle.crp_plan.specs.Plans.{ProblemPath};
 ghost use Rattle.crp_plan.specs.Bay.{IsProblem, start, cap};
 ghost use Rattle.crp_bay.specs.Positions.{settled};
 ghost use Rattle.crp_bounds.specs.Bounds.{look_ahead as look_ahead_bound};
 ghost use Rattle.crp_tree.specs.Parts.{given_of, IsKeptPart};
-ghost use Rattle.crp_solve.specs.Answers.{path_in, plan_of, cert_of, branches_of, count_of as count_or_cap, IsCut, IsOneCut, IsTrueAnswer, EachIsBranch, IsOfFirstPart, IsOutOfMemory, HasNoSecond};
+ghost use Rattle.crp_solve.specs.Answers.{path_in, plan_of, cert_of, branches_of, count_of as count_or_cap, IsCut, IsOneCut, IsTrueAnswer, EachIsBranch, cause_by, IsOfFirstPart, IsOutOfMemory, HasNoSecond};
 ghost use Rattle.crp_solve.specs.Chosen.{Chosen};
 ghost use Rattle.crp_solve.specs.Desks.{count_or as count_or_limit};
 ghost use Rattle.crp_solve.specs.Rounds.{AreSearched};
@@ -43,12 +44,19 @@ pub(crate) fn count_or(first: u32, best: &Option<Plan>) -> u32
     }
 }
 
+/// Why searches ended before the bound reached the plan.
+fn cause_by(stopped: bool) -> Cause
+    ensures { result ≡ cause_by stopped }
+{
+    if stopped { Cause::Time } else { Cause::Budget }
+}
+
 /// The answer where searches have ended with this certificate, and this is the best plan that is known.
-fn answer_of_ended(problem: &Problem, cert: Cert, best: Option<Plan>) -> Answer
+fn answer_of_ended(problem: &Problem, cert: Cert, best: Option<Plan>, stopped: bool) -> Answer
     ensures cert { cert_of result ≡ cert }
     ensures first_part { IsOfFirstPart result }
-    ensures true_answer { (budget expanded : ℕ) → AreEnded problem.now budget cert best expanded → IsTrueAnswer problem.now budget result expanded }
-    ensures comes { (c : Chosen) (expanded : ℕ) → AreSearched problem.now c (known_by cert best expanded) → ComesOf problem.now c result expanded }
+    ensures true_answer { (budget expanded : ℕ) → AreEnded problem.now budget cert best expanded stopped → IsTrueAnswer problem.now budget result expanded }
+    ensures comes { (c : Chosen) (expanded : ℕ) → AreSearched problem.now c (known_by cert best expanded stopped) → ComesOf problem.now c result expanded stopped }
     ensures plan { plan_of result ≡ path_in best }
     ensures one_search { (expanded : ℕ) → expanded ≡ branches_of cert → EachIsBranch result expanded }
 {
@@ -58,7 +66,7 @@ fn answer_of_ended(problem: &Problem, cert: Cert, best: Option<Plan>) -> Answer
             lower,
             cert,
             plan: best,
-            cause: Cause::Budget,
+            cause: cause_by(stopped),
         };
     }
     match best {
@@ -106,7 +114,7 @@ fn answer_without_memory(
     ensures first_part { IfOk result IsOfFirstPart }
     ensures out_of_memory { IfOk result (IsOutOfMemory best) }
     ensures plan { IfOk result (λ answer. plan_of answer ≡ path_in best) }
-    ensures comes { IfOk result (λ answer. (c : Chosen) (expanded : ℕ) → ComesOf problem.now c answer expanded) }
+    ensures comes { IfOk result (λ answer. (c : Chosen) (expanded : ℕ) → ComesOf problem.now c answer expanded false) }
     ensures is_branch { IfOk result (λ answer. (expanded : ℕ) → EachIsBranch answer expanded) }
     ensures true_answer { IfOk result (λ answer. (budget expanded : ℕ) → IsLost problem.now budget best expanded → IsTrueAnswer problem.now budget answer expanded) }
 {
@@ -120,15 +128,17 @@ fn answer_without_memory(
 }
 
 /// An answer to a search for the fewest relocations, after so many expansions.
-fn without_second(answer: Answer, expanded: u64) -> Solved
+fn without_second(answer: Answer, expanded: u64, stopped: bool) -> Solved
     requires { IsOfFirstPart answer }
     ensures answer { result.answer ≡ answer }
     ensures expanded { result.expanded ≡ expanded }
+    ensures stopped { result.stopped ≡ stopped }
     ensures no_second { HasNoSecond result }
 {
     Solved {
         answer,
         expanded,
+        stopped,
         second: Second::NotAsked,
         second_expanded: 0,
     }
@@ -142,6 +152,7 @@ pub fn answer_to(
 ) -> Result<Solved, AllocError>
     ensures one_part { IfOk found (λ r. length r.cert.parts ≡ 1) → IfOk result (λ solved. length (cert_of solved.answer).parts ≡ 1) }
     ensures no_second { IfOk result HasNoSecond }
+    ensures stopped { IfOk result (λ solved. solved.stopped ≡ true → IsOkAnd found (λ r. r.stopped ≡ true)) }
     ensures out_of_memory { IfErr found (λ lost. IfOk result (λ solved. IsOutOfMemory lost.best solved.answer)) }
     ensures plan { IfOk found (λ r. IfOk result (λ solved. plan_of solved.answer ≡ path_in r.best)) }
     ensures plan_left { IfErr found (λ lost. IfOk result (λ solved. plan_of solved.answer ≡ path_in lost.best)) }
@@ -150,12 +161,12 @@ pub fn answer_to(
 {
     match found {
         Ok(found) => {
-            let answer = answer_of_ended(problem, found.cert, found.best);
-            Ok(without_second(answer, found.expanded))
+            let answer = answer_of_ended(problem, found.cert, found.best, found.stopped);
+            Ok(without_second(answer, found.expanded, found.stopped))
         }
         Err(lost) => {
             let answer = answer_without_memory(alloc, problem, lost.best)?;
-            Ok(without_second(answer, lost.expanded))
+            Ok(without_second(answer, lost.expanded, false))
         }
     }
 }

@@ -22,7 +22,7 @@ pub use laws::{answers_agree, each_has_an_answer, one_first_limit};
 pub use rounds::with_known;
 pub use search::Search;
 pub use settings::{
-    MAX_BEAM, MAX_BUDGET, MAX_SPLIT, MAX_THIN, MAX_WORKERS, Settings, SettingsFault,
+    MAX_BEAM, MAX_BUDGET, MAX_SPLIT, MAX_THIN, MAX_WORKERS, Settings, SettingsFault, TimeLimits,
 };
 pub use solver::solve;
 pub use workers::common::{Common, Gate, NoGate};

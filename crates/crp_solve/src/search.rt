@@ -1,9 +1,9 @@
 //! A search by several workers for a caller that runs them in threads of its own.
-ghost use Rattle.std.specs.Prelude.{◌≡◌, ◌≤◌, IfOk, length, false};
+ghost use Rattle.std.specs.Prelude.{◌≡◌, ◌≤◌, IfOk, length, true, false, All};
 ghost use Rattle.crp_solve.specs.Answers.{path_in, plan_of};
 ghost use Rattle.crp_solve.specs.Searches.{HasNoMore};
-ghost use Rattle.crp_solve.specs.Solved.{IsSolved};
-ghost use Rattle.crp_solve.specs.Groups.{SameWorkers, AreTogether, AreReady};
+ghost use Rattle.crp_solve.specs.Solved.{IsSolved, WasStopped};
+ghost use Rattle.crp_solve.specs.Groups.{SameWorkers, StopsBy, AreTogether, AreReady};
 ghost use Rattle.crp_solve.specs.Begins.{IsStart, AreAllWorkers};
 
 use crate::answer::Solved;
@@ -65,6 +65,7 @@ fn with_others<R: Wait>(
     requires start { IsStart common.now.of.key common.now.of left pool first }
     ensures all { IfOk result (λ r. AreAllWorkers common.now.of r.0 r.1 r.2.items) }
     ensures count { IfOk result (λ r. length r.2.items ≤ most) }
+    ensures stops { IfOk result (λ r. All (StopsBy (first.stopped ≡ true)) r.2.items) }
 {
     let count = useful(common.open.names(), most);
     if first.short || count < 2 {
@@ -97,6 +98,7 @@ impl Search {
         ensures workers { IfOk result (λ r. r.1.items ≡ r.0.workers) }
         ensures ready { IfOk result (λ r. AreReady r.0.of r.1.items) }
         ensures count { IfOk result (λ r. length r.1.items ≤ settings.workers) }
+        ensures stops { IfOk result (λ r. All (StopsBy (G.may_stop gate.now)) r.1.items) }
     {
         let outside = Outside { rt, gate, board };
         let (known, first) = start_posted(&outside, alloc, problem, settings);
@@ -146,6 +148,7 @@ impl Search {
         requires board { board.now ≡ self.of.key.problem }
         ensures solved { IfOk result (IsSolved self.of.key.problem self.chosen) }
         ensures plan { IfOk result (λ solved. HasNoMore (plan_of solved.answer) (path_in all.plan)) }
+        ensures stops { StopsBy (G.may_stop gate.now) all → IfOk result (λ solved. WasStopped solved → G.may_stop gate.now) }
     {
         let Search {
             common,
@@ -184,7 +187,8 @@ impl Common {
         group: Group,
     ) -> Group
         requires { group.of ≡ self.now.of }
-        ensures { SameWorkers group result }
+        ensures same { SameWorkers group result }
+        ensures stops { StopsBy (G.may_stop gate.now) group → StopsBy (G.may_stop gate.now) result }
     {
         let outside = Outside { rt, gate, board };
         running::work(&outside, self, worker, group)

@@ -1,19 +1,22 @@
 //! The second part of a solver: the search for the first of all best plans, once it is known how many relocations these have.
 ghost use Rattle.std.specs.Prelude.{◌≡◌, length, true, IfOk, IfErr, min, ◌≤◌};
+ghost use Rattle.std.specs.Result.{IsErrAnd};
 ghost use Rattle.crp_plan.specs.Bay.{Problem as Statement, IsBest, IsProblem};
 ghost use Rattle.crp_solve.specs.Answers.{cert_of, HasNoSecond, IsPlanOf};
-ghost use Rattle.crp_solve.specs.Chosen.{Chosen};
+ghost use Rattle.crp_solve.specs.Chosen.{Chosen, is_timed};
 ghost use Rattle.crp_solve.specs.Firsts.{IsFoundFirst, IsGivenUp, IsKeptFirst};
-ghost use Rattle.crp_solve.specs.Seconds.{cert_before, IsKnownBest, IsAsked, second_by};
+ghost use Rattle.crp_solve.specs.Seconds.{cert_before, IsKnownBest, IsAsked, IsAskedOf, second_by};
 ghost use Rattle.crp_solve.specs.Solved.{IsFirstPart, IsSolved};
 ghost use Rattle.crp_solve.specs.Rests.{AreDone};
+ghost use Rattle.crp_solve.specs.declared.answer.Cause.{Cause};
+ghost use Rattle.crp_solve.specs.declared.answer.Second.{Second};
 
 use crate::alone::{Alone, Begun};
 use crate::answer::{Answer, Cause, Second, Solved};
 use crate::end::Done;
 use crate::settings::Settings;
 use crate::workers::aim::FirstBest;
-use crate::workers::common::{Gate, Outside};
+use crate::workers::common::{Gate, Outside, Quiet};
 use crate::workers::{look_of, work_together};
 use crp_gather::{GatherFault, gather, settle};
 use crp_incumbent::Shared;
@@ -24,12 +27,14 @@ use std::alloc::Global;
 use std::sync::Wait;
 use std::thread::Threads;
 
-/// A best plan and the certificate that shows that none has fewer relocations, after so many expansions.
+/// A best plan and the certificate that shows that none has fewer relocations, after so many expansions, and whether the gate stopped the
+/// search meanwhile.
 #[derive(Drop)]
 pub(crate) struct Optimum {
     pub(crate) plan: Plan,
     pub(crate) cert: Cert,
     pub(crate) expanded: u64,
+    pub(crate) stopped: bool,
 }
 
 /// What is asked after the first part: nothing, or the first best plan, where a best one is known.
@@ -43,17 +48,20 @@ pub(crate) enum Asked {
 pub(crate) fn asked_for(settings: Settings, solved: Solved) -> Asked
     requires { HasNoSecond solved }
     ensures cert { cert_before result ≡ cert_of solved.answer }
+    ensures same { IsAskedOf solved result }
     ensures asked { (p : Statement) → IsFirstPart p settings solved → IsAsked p settings result }
 {
     if !settings.first() {
         return Asked::Nothing(solved);
     }
     let expanded = solved.expanded;
+    let stopped = solved.stopped;
     match solved.answer {
         Answer::Optimal { plan, cert } => Asked::First(Optimum {
             plan,
             cert,
             expanded,
+            stopped,
         }),
         answer => Asked::Nothing(Solved { answer, ..solved }),
     }
@@ -66,6 +74,7 @@ fn given_up_for(cause: Cause) -> Second
     match cause {
         Cause::Budget => Second::Budget,
         Cause::Memory => Second::Memory,
+        Cause::Time => Second::Time,
     }
 }
 
@@ -74,7 +83,9 @@ pub(crate) fn answer_with_second(best: Optimum, found: Result<First, GivenUp>) -
     ensures one_part { length best.cert.parts ≡ 1 → IfOk found (λ first. length first.cert.parts ≡ 1) → length (cert_of result.answer).parts ≡ 1 }
     ensures solved { (p : Statement) (c : Chosen) → c.first ≡ true → IsKnownBest p c best
         → IfOk found (λ first. IsFoundFirst p c.budget (length best.plan.path) first.plan first.cert first.expanded)
-        → IfErr found (λ end. IsGivenUp c.budget end.cause end.expanded) → IsSolved p c result }
+        → IfErr found (λ end. IsGivenUp c.budget (is_timed c.time) end.cause end.expanded) → IsSolved p c result }
+    ensures stopped { result.stopped ≡ best.stopped }
+    ensures time { result.second ≡ Second.Time → IsErrAnd found (λ end. end.cause ≡ Cause.Time) }
 {
     match found {
         Ok(first) => Solved {
@@ -83,6 +94,7 @@ pub(crate) fn answer_with_second(best: Optimum, found: Result<First, GivenUp>) -
                 cert: first.cert,
             },
             expanded: best.expanded,
+            stopped: best.stopped,
             second: Second::Done,
             second_expanded: first.expanded,
         },
@@ -92,6 +104,7 @@ pub(crate) fn answer_with_second(best: Optimum, found: Result<First, GivenUp>) -
                 cert: best.cert,
             },
             expanded: best.expanded,
+            stopped: best.stopped,
             second: given_up_for(end.cause),
             second_expanded: end.expanded,
         },
@@ -113,17 +126,22 @@ pub(crate) struct GivenUp {
     pub(crate) expanded: u64,
 }
 
-/// Why a part was lost where so many claims were made: one was refused where there were more than the budget, and else memory
-/// was short.
-fn lost(spent: u64, budget: u64) -> GivenUp
-    ensures given_up { IsGivenUp budget result.cause result.expanded }
+/// Why a part was lost where so many claims were made: one was refused where there were more than the budget, or where the gate stopped
+/// them, and else memory was short.
+fn lost(spent: u64, budget: u64, stopped: bool) -> GivenUp
+    ensures given_up { IsGivenUp budget stopped result.cause result.expanded }
+    ensures time { result.cause ≡ Cause.Time → stopped ≡ true }
     ensures expanded { result.expanded ≡ min spent budget }
 {
     let expanded = spent.min(budget);
     let cause = if spent > budget {
         Cause::Budget
-    } else {
+    } else if !stopped {
         Cause::Memory
+    } else if spent < budget {
+        Cause::Time
+    } else {
+        Cause::Budget
     };
     GivenUp { cause, expanded }
 }
@@ -137,13 +155,14 @@ fn first_ended(
     done: Done,
 ) -> Result<First, GivenUp>
     requires best { IsBest problem.now shared.key.start }
-    requires done { AreDone IsKeptFirst (record { problem = problem.now; start = shared.key.start; budget = budget; thin = shared.key.thin }) shared done }
+    requires done { AreDone IsKeptFirst (record { problem = problem.now; start = shared.key.start; budget = budget; thin = shared.key.thin; timed = shared.key.timed }) shared done }
     ensures found { IfOk result (λ first. IsFoundFirst problem.now budget shared.key.start first.plan first.cert first.expanded) }
-    ensures given_up { IfErr result (λ end. IsGivenUp budget end.cause end.expanded) }
+    ensures given_up { IfErr result (λ end. IsGivenUp budget shared.key.timed end.cause end.expanded) }
+    ensures time { IfErr result (λ end. end.cause ≡ Cause.Time → done.stopped ≡ true) }
 {
     let totals = shared.close(done.seat);
     if done.short {
-        return Err(lost(totals.spent, budget));
+        return Err(lost(totals.spent, budget, done.stopped));
     }
     let expanded = totals.spent.min(budget);
     let memory = GivenUp {
@@ -179,7 +198,8 @@ fn first_with<R: Threads + Wait + Sync, G: Gate + Sync>(
 ) -> Result<First, GivenUp>
     requires best { IsBest problem.now count }
     ensures found { IfOk result (λ first. IsFoundFirst problem.now settings.budget count first.plan first.cert first.expanded) }
-    ensures given_up { IfErr result (λ end. IsGivenUp settings.budget end.cause end.expanded) }
+    ensures given_up { IfErr result (λ end. IsGivenUp settings.budget (is_timed settings.time) end.cause end.expanded) }
+    ensures time { IfErr result (λ end. end.cause ≡ Cause.Time → G.may_stop outside.now.gate.now) }
 {
     let budget = settings.budget();
     let worked = work_together::<R, G, FirstBest>(outside, alloc, problem, settings, count);
@@ -202,12 +222,19 @@ pub(crate) fn first_together<R: Threads + Wait + Sync, G: Gate + Sync>(
 ) -> Result<First, GivenUp>
     requires { IsBest problem.now count }
     ensures found { IfOk result (λ first. IsFoundFirst problem.now settings.budget count first.plan first.cert first.expanded) }
-    ensures given_up { IfErr result (λ end. IsGivenUp settings.budget end.cause end.expanded) }
+    ensures given_up { IfErr result (λ end. IsGivenUp settings.budget (is_timed settings.time) end.cause end.expanded) }
+    ensures time { IfErr result (λ end. end.cause ≡ Cause.Time → G.may_stop outside.now.gate.now) }
 {
     let Some(look) = look_of(outside.gate, settings) else {
         return first_with(outside, alloc, problem, settings, count);
     };
-    match first_with(&outside.unheard(), alloc, problem, look, count) {
+    let quiet = Quiet::of(outside.gate);
+    let unheard = Outside {
+        rt: outside.rt,
+        gate: &quiet,
+        board: outside.board,
+    };
+    match first_with(&unheard, alloc, problem, look, count) {
         Err(
             GivenUp {
                 cause: Cause::Budget,
@@ -230,7 +257,8 @@ pub(crate) fn first_alone<K: Begun>(
     requires plan { IsPlanOf problem.now known.now }
     requires best { IsBest problem.now (length known.now.path) }
     ensures found { IfOk result (λ first. IsFoundFirst problem.now settings.budget (length known.now.path) first.plan first.cert first.expanded) }
-    ensures given_up { IfErr result (λ end. IsGivenUp settings.budget end.cause end.expanded) }
+    ensures given_up { IfErr result (λ end. IsGivenUp settings.budget (is_timed settings.time) end.cause end.expanded) }
+    ensures never_stopped { IfErr result (λ end. end.cause ≡ Cause.Time → ⊥) }
     ensures one_part { IfOk result (λ first. length first.cert.parts ≡ 1) }
 {
     let count = known.count();

@@ -1,11 +1,12 @@
 //! How a search starts: the plan to begin with, and the first worker, who searches the part of the root before any other begins.
 ghost use Rattle.std.specs.Prelude.{◌≡◌, IfSome, IfOk, ◌<◌, ◌∷◌, [], All, map, None, is_some, vec_len, vec_capacity};
+ghost use Rattle.crp_solve.specs.Chosen.{is_timed};
 ghost use Rattle.crp_solve.specs.Answers.{path_in, count_of as count_or_cap, IsFirstLimit, IsPlanOf};
 ghost use Rattle.crp_solve.specs.Searches.{BeginsWithin};
 ghost use Rattle.crp_solve.specs.Rounds.{IsStartPlan};
 ghost use Rattle.crp_incumbent.specs.Seats.{Shared as Words};
 ghost use Rattle.crp_pool.specs.Seats.{seat_number, all_takes};
-ghost use Rattle.crp_solve.specs.Groups.{IsUnused, IsUnusedSeat, KeepsUnused, with_part, place_key, keys};
+ghost use Rattle.crp_solve.specs.Groups.{IsUnused, IsUnusedSeat, KeepsUnused, StopsBy, with_part, place_key, keys};
 ghost use Rattle.crp_solve.specs.Begins.{IsStart};
 
 use crate::answering::count_of;
@@ -98,6 +99,7 @@ fn begun<R: Wait, G: Gate, A: Aim>(
     ensures share { IfOk result (λ worker. worker.view.share ≡ seat.view.share) }
     ensures places { IfOk result (λ worker. keys worker ≡ map place_key places.items) }
     ensures none_taken { IfOk result (λ worker. all_takes worker.places ≡ []) }
+    ensures stops { IfOk result (StopsBy (G.may_stop outside.now.gate.now)) }
 {
     let mut parts = Vec::with_capacity(common.alloc, 1)?;
     let Some(place) = places.pop() else {
@@ -108,7 +110,17 @@ fn begun<R: Wait, G: Gate, A: Aim>(
         seat,
         best,
         place,
-    } = A::search_part(outside, common, 0, Name::root(), seat, None, Some(place));
+        stopped,
+    } = A::search_part(
+        outside,
+        common,
+        0,
+        Name::root(),
+        seat,
+        None,
+        Some(place),
+        false,
+    );
     common.open.close_one();
     places.push_reserved(place.unwrap());
     let found = keep_found(&mut parts, part);
@@ -121,6 +133,7 @@ fn begun<R: Wait, G: Gate, A: Aim>(
         parts,
         places,
         short: !found,
+        stopped,
         aim: PhantomData,
     })
 }
@@ -143,12 +156,19 @@ pub(crate) fn begin<R: Wait, G: Gate, A: Aim>(
     settings: Settings,
     first: u32,
 ) -> Option<Start<A>>
-    requires begins { (of : Words) → of.key ≡ record { problem = problem.now; start = first; budget = settings.budget; thin = settings.thin } → KeepsUnused A.keeps of }
-    ensures { IfSome result (λ s. IsStart (record { problem = problem.now; start = first; budget = settings.budget; thin = settings.thin }) s.common.of s.left s.pool s.worker) }
+    requires begins { (of : Words) → of.key ≡ record { problem = problem.now; start = first; budget = settings.budget; thin = settings.thin; timed = is_timed settings.time } → KeepsUnused A.keeps of }
+    ensures start { IfSome result (λ s. IsStart (record { problem = problem.now; start = first; budget = settings.budget; thin = settings.thin; timed = is_timed settings.time }) s.common.of s.left s.pool s.worker) }
+    ensures stops { IfSome result (λ s. StopsBy (G.may_stop outside.now.gate.now) s.worker) }
 {
     let known = problem.copy();
-    let Ok((shared, seat)) = Shared::open(alloc, problem, first, settings.budget(), settings.thin())
-    else {
+    let Ok((shared, seat)) = Shared::open(
+        alloc,
+        problem,
+        first,
+        settings.budget(),
+        settings.thin(),
+        settings.is_timed(),
+    ) else {
         return None;
     };
     let Ok((left, given)) = shared.split(seat) else {
@@ -165,6 +185,7 @@ pub(crate) fn begin<R: Wait, G: Gate, A: Aim>(
         first,
         split: settings.split(),
         thinning: settings.thinning(),
+        timed: settings.is_timed(),
     };
     let Ok(worker) = begun::<R, G, A>(outside, &common, given, places) else {
         return None;

@@ -1,8 +1,9 @@
 //! Many workers at one search: as many as are of use, each with a seat at the words that all share and a place in the pool.
-ghost use Rattle.std.specs.Prelude.{◌≡◌, ◌≤◌, min, ◌+◌, false, [], IfSome};
+ghost use Rattle.std.specs.Prelude.{◌≡◌, ◌≤◌, min, ◌+◌, true, false, [], IfSome};
+ghost use Rattle.crp_solve.specs.Chosen.{is_timed};
 ghost use Rattle.crp_solve.specs.Rests.{AreDone};
 ghost use Rattle.crp_incumbent.specs.Seats.{Shared as Words};
-ghost use Rattle.crp_solve.specs.Groups.{IsUnusedSeat, KeepsUnused, AreAllPlaces};
+ghost use Rattle.crp_solve.specs.Groups.{IsUnusedSeat, KeepsUnused, AreAllPlaces, StopsBy};
 ghost use Rattle.crp_solve.specs.Begins.{IsStart};
 ghost use Rattle.crp_incumbent.specs.Rule.{all_shares};
 
@@ -67,6 +68,7 @@ fn work_on<R: Threads + Wait + Sync, G: Gate + Sync, A: Aim + Send>(
     ensures words { result.2.of ≡ common.now.of }
     ensures share { result.0.view.share + result.2.view.share ≡ all_shares }
     ensures places { result.2.short ≡ false → AreAllPlaces result.1 result.2.places }
+    ensures stops { StopsBy (G.may_stop outside.now.gate.now) first → StopsBy (G.may_stop outside.now.gate.now) result.2 }
 {
     let count = useful(common.open.names(), most);
     if first.short || count < 2 {
@@ -90,8 +92,9 @@ pub(crate) fn work_together<R: Threads + Wait + Sync, G: Gate + Sync, A: Aim + S
     settings: Settings,
     first: u32,
 ) -> Option<(Shared, Done)>
-    requires begins { (of : Words) → of.key ≡ record { problem = problem.now; start = first; budget = settings.budget; thin = settings.thin } → KeepsUnused A.keeps of }
-    ensures { IfSome result (λ r. AreDone A.keeps (record { problem = problem.now; start = first; budget = settings.budget; thin = settings.thin }) r.0 r.1) }
+    requires begins { (of : Words) → of.key ≡ record { problem = problem.now; start = first; budget = settings.budget; thin = settings.thin; timed = is_timed settings.time } → KeepsUnused A.keeps of }
+    ensures done { IfSome result (λ r. AreDone A.keeps (record { problem = problem.now; start = first; budget = settings.budget; thin = settings.thin; timed = is_timed settings.time }) r.0 r.1) }
+    ensures stops { IfSome result (λ r. r.1.stopped ≡ true → G.may_stop outside.now.gate.now) }
 {
     let Start {
         common,

@@ -283,7 +283,7 @@ fn is_short(advice: &str) -> bool {
 #[test]
 fn each_line_is_short_and_of_one_code(rt: HostRuntime) -> Result<(), Fail> {
     let lines = every_advice(rt.alloc())?;
-    assert_same(&rt, &lines.len(), &108);
+    assert_same(&rt, &lines.len(), &110);
     for (i, advice) in lines.iter().enumerate() {
         assert_at(&rt, is_short(advice), advice);
         let is_new = lines[..i].iter().all(|line| line != advice);

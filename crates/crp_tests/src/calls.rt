@@ -2,7 +2,7 @@
 use crp_commands::{FollowSettings, Listed, TextFiles};
 use crp_jobs::{Job, ToolFault};
 use crp_plan::{Nowhere, Sink, Source};
-use crp_report::{Devices, Fault, RunSettings, Status, Watch};
+use crp_report::{Devices, Fault, NoClock, RunSettings, Status, Watch};
 use crp_solve::Settings;
 use crp_words::Usage;
 use std::alloc::Global;
@@ -48,7 +48,7 @@ pub(crate) fn prove<T: Threads + Wait + Sync, R: Source, W: Sink>(
     writer: &mut W,
     settings: Settings,
 ) -> Result<Status, ToolFault> {
-    crp_commands::prove(rt, alloc, reader, writer, settings)
+    crp_commands::prove(rt, alloc, &NoClock, reader, writer, settings)
 }
 
 pub(crate) fn run<T: Threads + Wait + Sync, Y: Source, M: Source, W: Sink, C: Sink, A: Sink>(
@@ -79,7 +79,7 @@ pub(crate) fn run_watched<
     watch: &mut V,
     errors: &mut E,
 ) -> Result<Status, Fault> {
-    crp_report::run_watched(rt, alloc, devices, settings, out, watch, errors)
+    crp_report::run_watched(rt, alloc, &NoClock, devices, settings, out, watch, errors)
 }
 
 pub(crate) fn exit_of(answer: &Result<Status, ToolFault>) -> u8 {

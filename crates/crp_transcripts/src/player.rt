@@ -1,6 +1,7 @@
 //! A transcript, played block by block.
 use crate::audits::{REPORT, audit_of};
 use crate::blocks::{Block, Mark, blocks_of};
+use crate::ticking::Ticking;
 use crp_commands::{NoTerminal, Streams};
 use crp_files::SystemFiles;
 use crp_plan::{Counted, Received, write_all};
@@ -140,7 +141,7 @@ fn run<T: Threads + Wait + Sync>(
         &mut SystemFiles::new(rt),
         &mut streams,
         &words,
-        &NoTerminal,
+        &Ticking::of(&words),
     );
     played.errors = streams.errors.bytes;
     let written = streams.out.bytes;

@@ -5,13 +5,13 @@ use Rattle.std.specs.declared.num.ParseIntError.{ParseIntError}
 use Rattle.clap.specs.Words.{Row, Text, first_of}
 use Rattle.clap.specs.Matches.{ReadsOne}
 use Rattle.crp_solve.specs.Chosen.{Chosen}
-use Rattle.crp_words.specs.Words.{Asks, HasBudget, HasNumber, HasNumberBeyond, HasNumberWithin, FindsSizes, FindsRows, FindsBays, AreBaysBeyond, HasInput, HasSearch, HasSettings, HasSplit, HasBeam, HasThin, HasFlags, HasNumberOrStrong, HasOwnNumberBeyond, FindsTiers, HasWorkers, MayFindHeights, IsBudgetBeyond, IsSplitBeyond, IsBeamBeyond, IsThinBeyond, IsLeftToStrong, AreRowsBeyond, AreTiersBeyond, AreHeightsBeyond, AreWorkersBeyond, IsFault, IsInputFault, IsJust, IsSearchFault, IsNamedTwice, IsSizedTwice, IsSolveFault, IsWordsOrMemory, Lacks, MayHaveNumber, NoFault, HasFiles, HasText, ReadsNumber}
+use Rattle.crp_solve.specs.declared.settings.TimeLimits.{TimeLimits}
+use Rattle.crp_words.specs.Words.{Asks, HasBudget, HasNumber, HasNumberBeyond, HasNumberWithin, FindsSizes, FindsRows, FindsBays, AreBaysBeyond, HasInput, HasUntimed, HasSplit, HasBeam, HasThin, HasFlags, HasNumberOrStrong, HasOwnNumberBeyond, FindsTiers, HasWorkers, MayFindHeights, IsBudgetBeyond, IsSplitBeyond, IsBeamBeyond, IsThinBeyond, IsLeftToStrong, AreRowsBeyond, AreTiersBeyond, AreHeightsBeyond, AreWorkersBeyond, IsFault, IsInputFault, IsJust, IsSearchFault, IsSizedTwice, IsWordsOrMemory, Lacks, MayHaveNumber, NoFault, ReadsNumber}
 use Rattle.crp_jobs.specs.declared.job.Job.{Job}
-use Rattle.crp_jobs.specs.declared.job.RunFiles.{RunFiles}
 use Rattle.crp_plan.specs.BayNames.{YardBay}
 use Rattle.crp_sizes.specs.Heights.{IsHeightsText}
 use Rattle.crp_sizes.specs.Sizes.{YardSizes}
-use Rattle.crp_report.specs.Chosen.{InputChosen, RunChosen}
+use Rattle.crp_report.specs.Chosen.{InputChosen}
 use Rattle.crp_jobs.specs.declared.job.FileCommand.TheVariants as command
 use Rattle.crp_jobs.specs.declared.job.Job.TheVariants as job
 use Rattle.crp_words.specs.declared.usage.Mistake.TheVariants as mistake
@@ -137,7 +137,7 @@ no_heights_fault rows (Some heights) (text, has, is) (other, found, none) =
     none heights (subst (IsHeightsText heights) same is)
 
 -- the settings of a search within their limits have no fault
-no_search_fault : (rows : List Row) (s : Chosen) → HasSearch rows s → (f : SettingFault) → IsSearchFault rows f → ⊥
+pub no_search_fault : (rows : List Row) (s : Chosen) → HasUntimed rows s → (f : SettingFault) → IsSearchFault rows f → ⊥
 no_search_fault rows s has setting.Workers beyond = no_workers_fault rows s.workers has.0 beyond
 no_search_fault rows s has setting.Budget first = no_budget_fault rows s.budget has.1 first.1
 no_search_fault rows s has setting.Split first = no_split_fault rows s.split has.2 first.2
@@ -147,11 +147,14 @@ no_search_fault rows s has setting.Rows none = none
 no_search_fault rows s has setting.Tiers none = none
 no_search_fault rows s has setting.Heights none = none
 no_search_fault rows s has setting.Bay none = none
+no_search_fault rows s has setting.Seconds none = none
+no_search_fault rows s has setting.TotalSeconds none = none
 
--- settings of a search have these numbers, whatever their flags
-pub have_numbers : (rows : List Row) (s : Chosen) (w b t m n : ℕ) → HasWorkers rows w → HasBudget rows b → HasSplit rows t → HasBeam rows m → HasThin rows n → HasFlags rows s
-    → s ≡ record { workers = w; budget = b; split = t; first = s.first; beam = m; deepen = s.deepen; thin = n; chains = s.chains } → HasSearch rows s
-have_numbers rows s w b t m n workers budget split beam thin flags is = (
+-- settings of a search have these numbers, whatever their flags and their limits of time
+pub have_numbers : (rows : List Row) (s : Chosen) (w b t m n : ℕ) (time : TimeLimits) → HasWorkers rows w → HasBudget rows b → HasSplit rows t → HasBeam rows m → HasThin rows n → HasFlags rows s
+    → s ≡ record { workers = w; budget = b; split = t; first = s.first; beam = m; deepen = s.deepen; thin = n; chains = s.chains; time = time }
+    → HasUntimed rows s
+have_numbers rows s w b t m n time workers budget split beam thin flags is = (
   subst (HasWorkers rows) (sym (ap (λ (c : Chosen). c.workers) is)) workers,
   subst (HasBudget rows) (sym (ap (λ (c : Chosen). c.budget) is)) budget,
   subst (HasSplit rows) (sym (ap (λ (c : Chosen). c.split) is)) split,
@@ -164,8 +167,8 @@ have_numbers rows s w b t m n workers budget split beam thin flags is = (
 
 -- without workers within their limits there are no settings of a search
 pub no_workers : (rows : List Row) (u : Usage) → Lacks (HasWorkers rows) (IsJust setting.Workers (AreWorkersBeyond rows)) u
-    → Lacks (HasSearch rows) (IsSearchFault rows) u
-no_workers rows u = lacks_more (HasWorkers rows) (HasSearch rows) (IsJust setting.Workers (AreWorkersBeyond rows)) (IsSearchFault rows) u
+    → Lacks (HasUntimed rows) (IsSearchFault rows) u
+no_workers rows u = lacks_more (HasWorkers rows) (HasUntimed rows) (IsJust setting.Workers (AreWorkersBeyond rows)) (IsSearchFault rows) u
     (λ s has. (s.workers, has.0)) (λ f just. subst (IsSearchFault rows) (sym just.0) just.1) down
   where
     down : (f : SettingFault) → IsSearchFault rows f → IsJust setting.Workers (AreWorkersBeyond rows) f ⊎ ((n : ℕ) × HasWorkers rows n)
@@ -178,11 +181,13 @@ no_workers rows u = lacks_more (HasWorkers rows) (HasSearch rows) (IsJust settin
     down setting.Tiers none = absurd none
     down setting.Heights none = absurd none
     down setting.Bay none = absurd none
+    down setting.Seconds none = absurd none
+    down setting.TotalSeconds none = absurd none
 
 -- nor are there without a budget within its limit
 pub no_budget : (rows : List Row) (w : ℕ) (u : Usage) → HasWorkers rows w → Lacks (HasBudget rows) (IsJust setting.Budget (IsBudgetBeyond rows)) u
-    → Lacks (HasSearch rows) (IsSearchFault rows) u
-no_budget rows w u workers = lacks_more (HasBudget rows) (HasSearch rows) (IsJust setting.Budget (IsBudgetBeyond rows)) (IsSearchFault rows) u
+    → Lacks (HasUntimed rows) (IsSearchFault rows) u
+no_budget rows w u workers = lacks_more (HasBudget rows) (HasUntimed rows) (IsJust setting.Budget (IsBudgetBeyond rows)) (IsSearchFault rows) u
     (λ s has. (s.budget, has.1)) (λ f just. subst (IsSearchFault rows) (sym just.0) ((w, workers), just.1)) down
   where
     down : (f : SettingFault) → IsSearchFault rows f → IsJust setting.Budget (IsBudgetBeyond rows) f ⊎ ((n : ℕ) × HasBudget rows n)
@@ -195,11 +200,13 @@ no_budget rows w u workers = lacks_more (HasBudget rows) (HasSearch rows) (IsJus
     down setting.Tiers none = absurd none
     down setting.Heights none = absurd none
     down setting.Bay none = absurd none
+    down setting.Seconds none = absurd none
+    down setting.TotalSeconds none = absurd none
 
 -- nor without a split within its limit
 pub no_split : (rows : List Row) (w b : ℕ) (u : Usage) → HasWorkers rows w → HasBudget rows b
-    → Lacks (HasSplit rows) (IsJust setting.Split (IsSplitBeyond rows)) u → Lacks (HasSearch rows) (IsSearchFault rows) u
-no_split rows w b u workers budget = lacks_more (HasSplit rows) (HasSearch rows) (IsJust setting.Split (IsSplitBeyond rows)) (IsSearchFault rows) u
+    → Lacks (HasSplit rows) (IsJust setting.Split (IsSplitBeyond rows)) u → Lacks (HasUntimed rows) (IsSearchFault rows) u
+no_split rows w b u workers budget = lacks_more (HasSplit rows) (HasUntimed rows) (IsJust setting.Split (IsSplitBeyond rows)) (IsSearchFault rows) u
     (λ s has. (s.split, has.2)) (λ f just. subst (IsSearchFault rows) (sym just.0) ((w, workers), (b, budget), just.1)) down
   where
     down : (f : SettingFault) → IsSearchFault rows f → IsJust setting.Split (IsSplitBeyond rows) f ⊎ ((n : ℕ) × HasSplit rows n)
@@ -212,11 +219,13 @@ no_split rows w b u workers budget = lacks_more (HasSplit rows) (HasSearch rows)
     down setting.Tiers none = absurd none
     down setting.Heights none = absurd none
     down setting.Bay none = absurd none
+    down setting.Seconds none = absurd none
+    down setting.TotalSeconds none = absurd none
 
 -- nor without a beam within its limit
 pub no_beam : (rows : List Row) (w b t : ℕ) (u : Usage) → HasWorkers rows w → HasBudget rows b → HasSplit rows t
-    → Lacks (HasBeam rows) (IsJust setting.Beam (IsBeamBeyond rows)) u → Lacks (HasSearch rows) (IsSearchFault rows) u
-no_beam rows w b t u workers budget split = lacks_more (HasBeam rows) (HasSearch rows) (IsJust setting.Beam (IsBeamBeyond rows)) (IsSearchFault rows) u
+    → Lacks (HasBeam rows) (IsJust setting.Beam (IsBeamBeyond rows)) u → Lacks (HasUntimed rows) (IsSearchFault rows) u
+no_beam rows w b t u workers budget split = lacks_more (HasBeam rows) (HasUntimed rows) (IsJust setting.Beam (IsBeamBeyond rows)) (IsSearchFault rows) u
     (λ s has. (s.beam, has.3)) (λ f just. subst (IsSearchFault rows) (sym just.0) ((w, workers), (b, budget), (t, split), just.1)) down
   where
     down : (f : SettingFault) → IsSearchFault rows f → IsJust setting.Beam (IsBeamBeyond rows) f ⊎ ((n : ℕ) × HasBeam rows n)
@@ -229,11 +238,13 @@ no_beam rows w b t u workers budget split = lacks_more (HasBeam rows) (HasSearch
     down setting.Tiers none = absurd none
     down setting.Heights none = absurd none
     down setting.Bay none = absurd none
+    down setting.Seconds none = absurd none
+    down setting.TotalSeconds none = absurd none
 
 -- nor without thinned branches within their limit
 pub no_thin : (rows : List Row) (w b t m : ℕ) (u : Usage) → HasWorkers rows w → HasBudget rows b → HasSplit rows t → HasBeam rows m
-    → Lacks (HasThin rows) (IsJust setting.Thin (IsThinBeyond rows)) u → Lacks (HasSearch rows) (IsSearchFault rows) u
-no_thin rows w b t m u workers budget split beam = lacks_more (HasThin rows) (HasSearch rows) (IsJust setting.Thin (IsThinBeyond rows)) (IsSearchFault rows) u
+    → Lacks (HasThin rows) (IsJust setting.Thin (IsThinBeyond rows)) u → Lacks (HasUntimed rows) (IsSearchFault rows) u
+no_thin rows w b t m u workers budget split beam = lacks_more (HasThin rows) (HasUntimed rows) (IsJust setting.Thin (IsThinBeyond rows)) (IsSearchFault rows) u
     (λ s has. (s.thin, has.4)) (λ f just. subst (IsSearchFault rows) (sym just.0) ((w, workers), (b, budget), (t, split), (m, beam), just.1)) down
   where
     down : (f : SettingFault) → IsSearchFault rows f → IsJust setting.Thin (IsThinBeyond rows) f ⊎ ((n : ℕ) × HasThin rows n)
@@ -246,6 +257,8 @@ no_thin rows w b t m u workers budget split beam = lacks_more (HasThin rows) (Ha
     down setting.Tiers none = absurd none
     down setting.Heights none = absurd none
     down setting.Bay none = absurd none
+    down setting.Seconds none = absurd none
+    down setting.TotalSeconds none = absurd none
 
 -- ---- what the input means
 
@@ -264,6 +277,8 @@ no_rows rows u = lacks_more (FindsRows rows) (FindsSizes rows) (IsJust setting.R
     down setting.Tiers first = inr first.0
     down setting.Heights first = inr first.0
     down setting.Bay first = inr (first.0.1.rows, first.0.1.finds_rows)
+    down setting.Seconds none = absurd none
+    down setting.TotalSeconds none = absurd none
 
 -- nor are there without tiers within their limits
 pub no_tiers : (rows : List Row) (r : ℕ) (u : Usage) → FindsRows rows r → Lacks (FindsTiers rows) (IsJust setting.Tiers (AreTiersBeyond rows)) u
@@ -281,6 +296,8 @@ no_tiers rows r u has_rows = lacks_more (FindsTiers rows) (FindsSizes rows) (IsJ
     down setting.Tiers first = inl (refl, first.1)
     down setting.Heights first = inr first.1
     down setting.Bay first = inr (first.0.1.tiers, first.0.1.finds_tiers)
+    down setting.Seconds none = absurd none
+    down setting.TotalSeconds none = absurd none
 
 -- nor without heights that can be chosen, where heights are given
 pub no_heights : (rows : List Row) (r t : ℕ) (u : Usage) → FindsRows rows r → FindsTiers rows t
@@ -298,6 +315,8 @@ no_heights rows r t u has_rows has_tiers = lacks_more (MayFindHeights rows) (Fin
     down setting.Tiers first = absurd (no_tiers_fault rows t has_tiers first.1)
     down setting.Heights first = inl (refl, first.2)
     down setting.Bay first = inr (first.0.1.own, first.0.1.finds_own)
+    down setting.Seconds none = absurd none
+    down setting.TotalSeconds none = absurd none
 
 -- sizes and bays that were found have no fault
 found_faultless : (rows : List Row) (sizes : YardSizes) (bays : List YardBay) → FindsSizes rows sizes → FindsBays rows bays → (f : SettingFault) → IsInputFault rows f → ⊥
@@ -310,6 +329,8 @@ found_faultless rows sizes bays has named setting.Rows beyond = no_rows_fault ro
 found_faultless rows sizes bays has named setting.Tiers first = no_tiers_fault rows has.tiers has.finds_tiers first.1
 found_faultless rows sizes bays has named setting.Heights first = no_heights_fault rows has.own has.finds_own first.2
 found_faultless rows sizes bays has named setting.Bay first = first.1 bays named
+found_faultless rows sizes bays has named setting.Seconds none = none
+found_faultless rows sizes bays has named setting.TotalSeconds none = none
 
 -- without bays that are named right there is no input
 pub no_bays : (rows : List Row) (sizes : YardSizes) (u : Usage) → FindsSizes rows sizes → Lacks (FindsBays rows) (IsJust setting.Bay (AreBaysBeyond rows)) u
@@ -327,6 +348,8 @@ no_bays rows sizes u has = lacks_more (FindsBays rows) (HasInput rows) (IsJust s
     down setting.Tiers first = absurd (no_tiers_fault rows has.tiers has.finds_tiers first.1)
     down setting.Heights first = absurd (no_heights_fault rows has.own has.finds_own first.2)
     down setting.Bay first = inl (refl, first.1)
+    down setting.Seconds none = absurd none
+    down setting.TotalSeconds none = absurd none
 
 -- nor is there without a part that has no fault of its own
 pub no_input_part : {X : Type 0} (Has : X → Type 0) (rows : List Row) (sizes : YardSizes) (bays : List YardBay) (u : Usage) → FindsSizes rows sizes → FindsBays rows bays
@@ -338,25 +361,8 @@ no_input_part Has rows sizes bays u has named part_in = lacks_more Has (HasInput
 pub no_size : (rows : List Row) (u : Usage) → Lacks (FindsSizes rows) (IsInputFault rows) u → Lacks (HasInput rows) (IsInputFault rows) u
 no_size rows u = lacks_more (FindsSizes rows) (HasInput rows) (IsInputFault rows) (IsInputFault rows) u (λ s has. (s.sizes, has.0)) (λ f first. first) (λ f first. inl first)
 
--- ---- the settings of solve
-
--- without settings of a search there are none of solve
-pub no_search : (rows : List Row) (u : Usage) → Lacks (HasSearch rows) (IsSearchFault rows) u → Lacks (HasSettings rows) (IsSolveFault rows) u
-no_search rows u = lacks_more (HasSearch rows) (HasSettings rows) (IsSearchFault rows) (IsSolveFault rows) u
-    (λ s has. (s.search, has.0)) (λ f first. inl first)
-    (λ f first. elim first [
-      | inl h ↦ inl h
-      | inr h ↦ inr h.0
-    ])
-
--- nor are there without an input
-pub no_input : (rows : List Row) (s : Chosen) (u : Usage) → HasSearch rows s → Lacks (HasInput rows) (IsInputFault rows) u → Lacks (HasSettings rows) (IsSolveFault rows) u
-no_input rows s u search = lacks_more (HasInput rows) (HasSettings rows) (IsInputFault rows) (IsSolveFault rows) u
-    (λ s has. (s.input, has.1)) (λ f first. inr ((s, search), first))
-    (λ f first. elim first [
-      | inl h ↦ absurd (no_search_fault rows s search f h)
-      | inr h ↦ inl h.1
-    ])
+pub no_input_fault : (rows : List Row) (s : InputChosen) → HasInput rows s → (f : SettingFault) → IsInputFault rows f → ⊥
+no_input_fault rows s has = found_faultless rows s.sizes s.bays has.0 has.1
 
 -- ---- commands by their names
 
@@ -367,90 +373,6 @@ other_name a b m n other same = other (ap (λ (l : Text). slice_index l 0) same)
 -- or with the same one, and then with another
 pub other_second : (first a b : ℕ) (m n : Text) → a ≢ b → first ∷ a ∷ m ≡ first ∷ b ∷ n → ⊥
 other_second first a b m n other same = other (ap (λ (l : Text). slice_index l 1) same)
-
--- what prove asks for has settings of a search
-prove_asks : (rows : List Row) (j : Job) → Asks (codes "prove") rows j → (s : Chosen) × HasSearch rows s
-prove_asks rows (job.OneFile file command.Replay) asks = absurd (other_name 112 114 _ _ (omega arith) asks.0)
-prove_asks rows (job.OneFile file command.Rewrite) asks = absurd (other_name 112 114 _ _ (omega arith) asks.0)
-prove_asks rows (job.OneFile file (command.Bound chains)) asks = absurd (other_name 112 98 _ _ (omega arith) asks.0.0)
-prove_asks rows (job.OneFile file (command.Check any_size)) asks = absurd (other_name 112 99 _ _ (omega arith) asks.0.0)
-prove_asks rows (job.OneFile file (command.Prove search)) asks = (search, asks.0.1)
-prove_asks rows (job.Absent names settings) asks = absurd (other_name 112 97 _ _ (omega arith) asks.0)
-prove_asks rows (job.Audit names settings) asks = absurd (other_name 112 97 _ _ (omega arith) asks.0)
-prove_asks rows (job.Follow names settings) asks = absurd (other_name 112 102 _ _ (omega arith) asks.0)
-prove_asks rows (job.Solve names settings quiet progress) asks = absurd (other_name 112 115 _ _ (omega arith) asks.0)
-
--- a fault of prove is its search's
-prove_fault : (rows : List Row) (f : SettingFault) → IsFault (codes "prove") rows f → IsSearchFault rows f
-prove_fault rows f (inl (is, first)) = first
-prove_fault rows f (inr (inl (is, first))) = absurd (other_name 112 115 _ _ (omega arith) is)
-prove_fault rows f (inr (inr (inl (is, first)))) = absurd (other_name 112 97 _ _ (omega arith) is)
-prove_fault rows f (inr (inr (inr (inl (is, first))))) = absurd (other_name 112 102 _ _ (omega arith) is)
-prove_fault rows f (inr (inr (inr (inr (is, first))))) = absurd (other_name 112 97 _ _ (omega arith) is)
-
--- without settings of a search prove asks for nothing
-pub no_prove : (rows : List Row) (u : Usage) → Lacks (HasSearch rows) (IsSearchFault rows) u
-    → Lacks (Asks (codes "prove") rows) (IsFault (codes "prove") rows) u
-no_prove rows u = lacks_more (HasSearch rows) (Asks (codes "prove") rows) (IsSearchFault rows) (IsFault (codes "prove") rows) u
-    (prove_asks rows) (λ f first. inl (refl, first)) (λ f first. inl (prove_fault rows f first))
-
--- what solve asks for has its size once and each file once, files, and settings
-solve_asks : (rows : List Row) (j : Job) → Asks (codes "solve") rows j
-    → ¬ IsSizedTwice rows × ¬ IsNamedTwice rows × ((names : RunFiles) × HasFiles rows names) × ((s : RunChosen) × HasSettings rows s)
-solve_asks rows (job.OneFile file command.Replay) asks = absurd (other_name 115 114 _ _ (omega arith) asks.0)
-solve_asks rows (job.OneFile file command.Rewrite) asks = absurd (other_name 115 114 _ _ (omega arith) asks.0)
-solve_asks rows (job.OneFile file (command.Bound chains)) asks = absurd (other_name 115 98 _ _ (omega arith) asks.0.0)
-solve_asks rows (job.OneFile file (command.Check any_size)) asks = absurd (other_name 115 99 _ _ (omega arith) asks.0.0)
-solve_asks rows (job.OneFile file (command.Prove search)) asks = absurd (other_name 115 112 _ _ (omega arith) asks.0.0)
-solve_asks rows (job.Absent names settings) asks = absurd (other_name 115 97 _ _ (omega arith) asks.0)
-solve_asks rows (job.Audit names settings) asks = absurd (other_name 115 97 _ _ (omega arith) asks.0)
-solve_asks rows (job.Follow names settings) asks = absurd (other_name 115 102 _ _ (omega arith) asks.0)
-solve_asks rows (job.Solve names settings quiet progress) asks = (asks.1, asks.2, (names, asks.3), (settings, asks.4))
-
-solve_fault : (rows : List Row) (f : SettingFault) → IsFault (codes "solve") rows f → ¬ IsSizedTwice rows × ¬ IsNamedTwice rows × IsSolveFault rows f
-solve_fault rows f (inl (is, first)) = absurd (other_name 115 112 _ _ (omega arith) is)
-solve_fault rows f (inr (inl (is, first))) = first
-solve_fault rows f (inr (inr (inl (is, first)))) = absurd (other_name 115 97 _ _ (omega arith) is)
-solve_fault rows f (inr (inr (inr (inl (is, first))))) = absurd (other_name 115 102 _ _ (omega arith) is)
-solve_fault rows f (inr (inr (inr (inr (is, first))))) = absurd (other_name 115 97 _ _ (omega arith) is)
-
--- without settings solve asks for nothing
-pub no_solve : (rows : List Row) (u : Usage) → ¬ IsSizedTwice rows → ¬ IsNamedTwice rows → Lacks (HasSettings rows) (IsSolveFault rows) u
-    → Lacks (Asks (codes "solve") rows) (IsFault (codes "solve") rows) u
-no_solve rows u once apart = lacks_more (HasSettings rows) (Asks (codes "solve") rows) (IsSolveFault rows) (IsFault (codes "solve") rows) u
-    (λ j asks. (solve_asks rows j asks).3) (λ f first. inr (inl (refl, (once, apart, first)))) (λ f first. inl (solve_fault rows f first).2)
-
-pub no_input_fault : (rows : List Row) (s : InputChosen) → HasInput rows s → (f : SettingFault) → IsInputFault rows f → ⊥
-no_input_fault rows s has = found_faultless rows s.sizes s.bays has.0 has.1
-
-no_settings_fault : (rows : List Row) (s : RunChosen) → HasSettings rows s → (f : SettingFault) → IsSolveFault rows f → ⊥
-no_settings_fault rows s has f (inl first) = no_search_fault rows s.search has.0 f first
-no_settings_fault rows s has f (inr first) = no_input_fault rows s.input has.1 f first.1
-
--- so with settings, and without one of its inputs, solve asks for nothing
-pub no_yard : (rows : List Row) (s : RunChosen) (u : Usage) → HasSettings rows s → Lacks (HasText (codes "yard") rows) NoFault u
-    → Lacks (Asks (codes "solve") rows) (IsFault (codes "solve") rows) u
-no_yard rows s u has = lacks_more (HasText (codes "yard") rows) (Asks (codes "solve") rows) NoFault (IsFault (codes "solve") rows) u
-    (λ j asks. let files = (solve_asks rows j asks).2 in (files.0.yard.now, files.1.0)) (λ f none. absurd none)
-    (λ f first. absurd (no_settings_fault rows s has f (solve_fault rows f first).2))
-
-pub no_movins : (rows : List Row) (s : RunChosen) (u : Usage) → HasSettings rows s → Lacks (HasText (codes "movins") rows) NoFault u
-    → Lacks (Asks (codes "solve") rows) (IsFault (codes "solve") rows) u
-no_movins rows s u has = lacks_more (HasText (codes "movins") rows) (Asks (codes "solve") rows) NoFault (IsFault (codes "solve") rows) u
-    (λ j asks. let files = (solve_asks rows j asks).2 in (files.0.movins.now, files.1.1)) (λ f none. absurd none)
-    (λ f first. absurd (no_settings_fault rows s has f (solve_fault rows f first).2))
-
--- nor does it where its size is given twice
-pub solve_sized_twice : (rows : List Row) (u : Usage) → IsSizedTwice rows → IsWordsOrMemory u
-    → Lacks (Asks (codes "solve") rows) (IsFault (codes "solve") rows) u
-solve_sized_twice rows u twice words = lacks (Asks (codes "solve") rows) (IsFault (codes "solve") rows) u words
-    (λ j asks. (solve_asks rows j asks).0 twice) (λ f first. (solve_fault rows f first).0 twice)
-
--- nor where two of its files are one
-pub solve_named_twice : (rows : List Row) (u : Usage) → IsNamedTwice rows → IsWordsOrMemory u
-    → Lacks (Asks (codes "solve") rows) (IsFault (codes "solve") rows) u
-solve_named_twice rows u twice words = lacks (Asks (codes "solve") rows) (IsFault (codes "solve") rows) u words
-    (λ j asks. (solve_asks rows j asks).1 twice) (λ f first. (solve_fault rows f first).1 twice)
 
 -- what audit asks for has an input, and its size once
 audit_asks : (rows : List Row) (j : Job) → Asks (codes "audit") rows j → ¬ IsSizedTwice rows × ((s : InputChosen) × HasInput rows s)

@@ -100,6 +100,14 @@ chains_rule = flag_rule (codes "chains")
 abbrev pub strong_rule : Rule
 strong_rule = flag_rule (codes "strong")
 
+-- how long the search of each bay may take: no limit where it is not given
+abbrev pub seconds_rule : Rule
+seconds_rule = optional_rule (codes "seconds")
+
+-- how long the searches of all bays together may take: no limit where it is not given
+abbrev pub total_seconds_rule : Rule
+total_seconds_rule = optional_rule (codes "total-seconds")
+
 -- a command with one option more
 abbrev pub with_option : Rule → Shape → Shape
 with_option rule shape = record shape { rules = shape.rules ++ rule ∷ [] }
@@ -112,9 +120,13 @@ with_limits shape = with_option split_rule (with_option budget_rule (with_option
 abbrev pub with_ways : Shape → Shape
 with_ways shape = with_option deepen_rule (with_option beam_rule (with_option first_rule (with_limits shape)))
 
--- a command with these, [--thin N], [--chains] and [--strong]
+-- a command with these, [--thin N], [--chains], [--strong] and [--seconds S]
 abbrev pub with_search : Shape → Shape
-with_search shape = with_option strong_rule (with_option chains_rule (with_option thin_rule (with_ways shape)))
+with_search shape = with_option seconds_rule (with_option strong_rule (with_option chains_rule (with_option thin_rule (with_ways shape))))
+
+-- a command with these, and [--total-seconds S]
+abbrev pub with_searches : Shape → Shape
+with_searches shape = with_option total_seconds_rule (with_search shape)
 
 -- a command with [--rows N] [--tiers N]
 abbrev pub with_rows : Shape → Shape
@@ -167,7 +179,7 @@ solve_files = command (codes "solve") (file_rule (codes "yard") ∷ file_rule (c
 
 -- solve YARD MOVINS, with its options: the size of the bays, the order of leaving, the search, and what is written
 abbrev pub solve : Shape
-solve = with_outputs (with_search (with_bays (with_size solve_files)))
+solve = with_outputs (with_searches (with_bays (with_size solve_files)))
 
 -- audit YARD MOVINS REPORT CERTS, without its options
 abbrev pub audit_files : Shape

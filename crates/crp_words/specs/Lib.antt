@@ -2,4 +2,5 @@
 pub mod Commands
 pub mod Words
 pub mod Bays
+pub mod Seconds
 pub mod Endings

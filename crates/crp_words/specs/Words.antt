@@ -10,7 +10,9 @@ use Rattle.clap.specs.declared.parser.matches.ValueSource.TheVariants.{CommandLi
 use Rattle.clap.specs.declared.error.kind.ErrorKind.{ErrorKind}
 use Rattle.clap.specs.declared.error.kind.ErrorKind.TheVariants as kind
 use Rattle.crp_solve.specs.Chosen.{Chosen}
+use Rattle.crp_solve.specs.declared.settings.TimeLimits.{TimeLimits}
 use Rattle.crp_words.specs.Commands.{crp}
+use Rattle.crp_words.specs.Seconds.{IsSecondsText}
 use Rattle.crp_plan.specs.BayNames.{YardBay, IsYardBay}
 use Rattle.crp_movins.specs.Loading.{Loading}
 use Rattle.crp_sizes.specs.Heights.{IsHeightsText}
@@ -147,10 +149,31 @@ MayUseChains found chains = IsTrue chains ↔ IsGivenOrStrong (codes "chains") f
 abbrev pub HasFlags : List Row → Chosen → Type 0
 HasFlags found s = MayAskForFirst found s.first × MayDeepen found s.deepen × MayUseChains found s.chains
 
+-- the settings of a search that were found, within their limits, but for its limits of time
+abbrev pub HasUntimed : List Row → Chosen → Type 0
+HasUntimed found s =
+    HasWorkers found s.workers × HasBudget found s.budget × HasSplit found s.split × HasBeam found s.beam × HasThin found s.thin × HasFlags found s
+
+-- the limit of time that was found for the option, in milliseconds
+abbrev pub HasSeconds : Text → List Row → ℕ → Type 0
+HasSeconds id found millis = (text : Text) × HasText id found text × IsSecondsText text millis
+
+-- the same, or that none is wanted
+abbrev pub MayHaveSeconds : Text → List Row → Option ℕ → Type 0
+MayHaveSeconds id found None = first_of id found ≡ None
+MayHaveSeconds id found (Some millis) = HasSeconds id found millis
+
+-- the text that was found for the option is no number of seconds from 0.001 to 86400
+abbrev pub AreSecondsBeyond : Text → List Row → Type 0
+AreSecondsBeyond id found = (text : Text) × HasText id found text × ((millis : ℕ) → IsSecondsText text millis → ⊥)
+
+-- the limits of time that were found: that of each bay, and that of all bays together
+abbrev pub HasTime : List Row → TimeLimits → Type 0
+HasTime found time = MayHaveSeconds (codes "seconds") found time.bay × MayHaveSeconds (codes "total-seconds") found time.all
+
 -- the settings of a search that were found, within their limits
 abbrev pub HasSearch : List Row → Chosen → Type 0
-HasSearch found s =
-    HasWorkers found s.workers × HasBudget found s.budget × HasSplit found s.split × HasBeam found s.beam × HasThin found s.thin × HasFlags found s
+HasSearch found s = HasUntimed found s × HasTime found s.time
 
 -- the rows of a bay that were found, 1 to 12
 abbrev pub FindsRows : List Row → ℕ → Type 0
@@ -356,6 +379,8 @@ IsSearchFault found setting.Rows = ⊥
 IsSearchFault found setting.Tiers = ⊥
 IsSearchFault found setting.Heights = ⊥
 IsSearchFault found setting.Bay = ⊥
+IsSearchFault found setting.Seconds = ⊥
+IsSearchFault found setting.TotalSeconds = ⊥
 
 -- the first setting of the input beyond its limits: the rows, then the tiers, then the heights, then the bays
 abbrev pub IsInputFault : List Row → SettingFault → Type 0
@@ -365,13 +390,27 @@ IsInputFault found setting.Heights = ((n : ℕ) × FindsRows found n) × ((n : �
 IsInputFault found setting.Bay = ((sizes : YardSizes) × FindsSizes found sizes) × AreBaysBeyond found
 IsInputFault found f = ⊥
 
--- the first setting of solve beyond its limits: that of the search, then that of the input
+-- the first limit of time that is none: that of each bay, then that of all bays together
+abbrev pub IsTimeFault : List Row → SettingFault → Type 0
+IsTimeFault found setting.Seconds = AreSecondsBeyond (codes "seconds") found
+IsTimeFault found setting.TotalSeconds = ((bay : Option ℕ) × MayHaveSeconds (codes "seconds") found bay) × AreSecondsBeyond (codes "total-seconds") found
+IsTimeFault found f = ⊥
+
+-- the first setting of prove beyond its limits: that of the search, then that of its time
+abbrev pub IsProveFault : List Row → SettingFault → Type 0
+IsProveFault found f = IsSearchFault found f ⊎ (((s : Chosen) × HasUntimed found s) × IsTimeFault found f)
+
+-- the first setting of solve behind those of the search beyond its limits: that of the input, then that of its time
+abbrev pub IsInputOrTimeFault : List Row → SettingFault → Type 0
+IsInputOrTimeFault found f = IsInputFault found f ⊎ (((s : InputChosen) × HasInput found s) × IsTimeFault found f)
+
+-- the first setting of solve beyond its limits: that of the search, then the others
 abbrev pub IsSolveFault : List Row → SettingFault → Type 0
-IsSolveFault found f = IsSearchFault found f ⊎ (((s : Chosen) × HasSearch found s) × IsInputFault found f)
+IsSolveFault found f = IsSearchFault found f ⊎ (((s : Chosen) × HasUntimed found s) × IsInputOrTimeFault found f)
 
 -- the first setting of the command beyond its limits
 abbrev pub IsFault : Text → List Row → SettingFault → Type 0
-IsFault name found f = ((name ≡ codes "prove") × IsSearchFault found f) ⊎ (((name ≡ codes "solve") × (¬ IsSizedTwice found × ¬ IsNamedTwice found × IsSolveFault found f))
+IsFault name found f = ((name ≡ codes "prove") × IsProveFault found f) ⊎ (((name ≡ codes "solve") × (¬ IsSizedTwice found × ¬ IsNamedTwice found × IsSolveFault found f))
     ⊎ (((name ≡ codes "audit") × (¬ IsSizedTwice found × IsInputFault found f))
     ⊎ (((name ≡ codes "follow") × (AreFollowWordsClear found × IsInputFault found f))
     ⊎ ((name ≡ codes "absent") × (¬ IsSizedTwice found × IsInputFault found f)))))

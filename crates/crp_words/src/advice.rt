@@ -21,5 +21,10 @@ pub fn advice_on_setting(fault: &SettingFault) -> &'static str
         SettingFault::Bay => {
             "--bay must be the name of a bay as reports have it: its block, a blank, and its number, as 'A 1'"
         }
+        SettingFault::Seconds =>
+            "--seconds must be a number of seconds from 0.001 to 86400, as 10 or 0.5",
+        SettingFault::TotalSeconds => {
+            "--total-seconds must be a number of seconds from 0.001 to 86400, as 10 or 0.5"
+        }
     }
 }

@@ -15,6 +15,7 @@ mod given;
 mod input_words;
 mod options;
 mod search_words;
+mod seconds;
 mod usage;
 mod words;
 

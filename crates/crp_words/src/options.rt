@@ -1,7 +1,7 @@
 //! The options of the command line.
 ghost use Rattle.std.specs.Prelude.{◌≡◌, IfOk};
 ghost use Rattle.clap.specs.Words.{Shape};
-ghost use Rattle.crp_words.specs.Commands.{IsArg, IsCommand, beam_rule, budget_rule, chains_rule, deepen_rule, first_rule, flag_rule, number_rule, optional_number_rule, optional_rule, progress_rule, quiet_rule, repeated_rule, split_rule, strong_rule, text_rule, thin_rule, with_after, with_bays, with_orders, with_outputs, with_page, with_search, with_size, with_ways, workers_rule};
+ghost use Rattle.crp_words.specs.Commands.{IsArg, IsCommand, beam_rule, budget_rule, chains_rule, deepen_rule, first_rule, flag_rule, number_rule, optional_number_rule, optional_rule, progress_rule, quiet_rule, repeated_rule, seconds_rule, split_rule, strong_rule, text_rule, thin_rule, total_seconds_rule, with_after, with_bays, with_orders, with_outputs, with_page, with_search, with_searches, with_size, with_ways, workers_rule};
 
 use clap::{Arg, ArgAction, Command, value_parser};
 use std::alloc::{AllocError, Global};
@@ -168,6 +168,28 @@ fn strong<'a>(alloc: Global) -> Arg<'a>
     )
 }
 
+fn seconds<'a>(alloc: Global) -> Arg<'a>
+    ensures { IsArg seconds_rule result }
+{
+    optional(
+        alloc,
+        "seconds",
+        "S",
+        "No bay is searched longer than S seconds, 0.001 to 86400",
+    )
+}
+
+fn total_seconds<'a>(alloc: Global) -> Arg<'a>
+    ensures { IsArg total_seconds_rule result }
+{
+    optional(
+        alloc,
+        "total-seconds",
+        "S",
+        "All bays together are searched no longer than S seconds, 0.001 to 86400",
+    )
+}
+
 // A command with the limits of a search, and how it is made.
 fn with_ways<'a>(alloc: Global, command: Command<'a>) -> Result<Command<'a>, AllocError>
     ensures { IfOk result (λ new. (shape : Shape) → IsCommand shape command.entry → IsCommand (with_ways shape) new) }
@@ -191,7 +213,18 @@ pub(crate) fn with_search<'a>(
     with_ways(alloc, command)?
         .arg(thin(alloc))?
         .arg(chains(alloc))?
-        .arg(strong(alloc))
+        .arg(strong(alloc))?
+        .arg(seconds(alloc))
+}
+
+// A command with the options of the searches of several bays.
+pub(crate) fn with_searches<'a>(
+    alloc: Global,
+    command: Command<'a>,
+) -> Result<Command<'a>, AllocError>
+    ensures { IfOk result (λ new. (shape : Shape) → IsCommand shape command.entry → IsCommand (with_searches shape) new) }
+{
+    with_search(alloc, command)?.arg(total_seconds(alloc))
 }
 
 // A command with the size of the bays.

@@ -1,13 +1,14 @@
 //! How a bay is searched, by the words.
 ghost use Rattle.std.specs.Prelude.{◌≡◌, ◌↔◌, ◌≤◌, IfOk, IfErr, IsTrue, false};
 ghost use Rattle.clap.specs.Words.{found_of, rows_of};
-ghost use Rattle.crp_solve.specs.Chosen.{IsWorkers, IsBudget, IsSplitDepth, IsBeam, IsThin};
-ghost use Rattle.crp_words.specs.Words.{HasFlags, HasNumberOrStrong, HasOwnNumberBeyond, HasSearch, IsGivenOrStrong, IsJust, IsLeftToStrong, IsSearchFault, Lacks};
+ghost use Rattle.crp_solve.specs.Chosen.{IsWorkers, IsBudget, IsSplitDepth, IsBeam, IsThin, no_limits};
+ghost use Rattle.crp_words.specs.Words.{AreSecondsBeyond, HasFlags, HasNumberOrStrong, HasOwnNumberBeyond, HasTime, HasUntimed, IsGivenOrStrong, IsJust, IsLeftToStrong, IsSearchFault, IsTimeFault, Lacks, MayHaveSeconds};
 
 use crate::given::{is_given, number_within};
-use crate::usage::{SettingFault, Usage};
+use crate::seconds::millis_in;
+use crate::usage::{Mistake, SettingFault, Usage};
 use clap::ArgMatches;
-use crp_solve::{MAX_BEAM, MAX_BUDGET, MAX_SPLIT, MAX_THIN, MAX_WORKERS, Settings};
+use crp_solve::{MAX_BEAM, MAX_BUDGET, MAX_SPLIT, MAX_THIN, MAX_WORKERS, Settings, TimeLimits};
 use std::alloc::Global;
 
 // The most workers of a search.
@@ -56,14 +57,14 @@ fn number_or_strong(
     number_within(alloc, matches, name, (0, numbers.0), fault)
 }
 
-// The settings of a search with these numbers, in which no flag is given.
+// The settings of a search with these numbers, in which no flag is given, and no limit of time.
 fn settings_with(workers: u32, budget: u64, split: u8, beam: u32, thin: u32) -> Settings
     requires workers { IsWorkers workers }
     requires budget { IsBudget budget }
     requires split { IsSplitDepth split }
     requires beam { IsBeam beam }
     requires thin { IsThin thin }
-    ensures { result ≡ record { workers = workers; budget = budget; split = split; first = false; beam = beam; deepen = false; thin = thin; chains = false } }
+    ensures { result ≡ record { workers = workers; budget = budget; split = split; first = false; beam = beam; deepen = false; thin = thin; chains = false; time = no_limits } }
 {
     let Ok(search) = Settings::new(workers, budget, split) else {
         unreachable!()
@@ -93,10 +94,10 @@ fn with_flags(search: Settings, matches: &ArgMatches<'_>) -> Settings
     }
 }
 
-/// The settings of a search.
+/// The settings of a search, but for its limits of time.
 pub(crate) fn search_of(alloc: Global, matches: &ArgMatches<'_>) -> Result<Settings, Usage>
-    ensures ok { IfOk result (HasSearch (rows_of (found_of matches.now))) }
-    ensures err { IfErr result (Lacks (HasSearch (rows_of (found_of matches.now))) (IsSearchFault (rows_of (found_of matches.now)))) }
+    ensures ok { IfOk result (HasUntimed (rows_of (found_of matches.now))) }
+    ensures err { IfErr result (Lacks (HasUntimed (rows_of (found_of matches.now))) (IsSearchFault (rows_of (found_of matches.now)))) }
 {
     let workers = number_within(
         alloc,
@@ -129,4 +130,33 @@ pub(crate) fn search_of(alloc: Global, matches: &ArgMatches<'_>) -> Result<Setti
         thin as u32,
     );
     Ok(with_flags(search, matches))
+}
+
+// The milliseconds of an option that takes a number of seconds, if it is given.
+fn millis_of(
+    matches: &ArgMatches<'_>,
+    name: &str,
+    fault: SettingFault,
+) -> Result<Option<u64>, Usage>
+    ensures ok { IfOk result (MayHaveSeconds name.now (rows_of (found_of matches.now))) }
+    ensures err { IfErr result (Lacks (MayHaveSeconds name.now (rows_of (found_of matches.now)))
+        (IsJust fault (AreSecondsBeyond name.now (rows_of (found_of matches.now))))) }
+{
+    let Some(text) = matches.get_str(name) else {
+        return Ok(None);
+    };
+    match millis_in(text) {
+        Some(millis) => Ok(Some(millis)),
+        None => Err(Usage::Wrong(Mistake::Setting(fault))),
+    }
+}
+
+/// The limits of the time of a search: that of each bay, and that of all bays together.
+pub(crate) fn time_of(matches: &ArgMatches<'_>) -> Result<TimeLimits, Usage>
+    ensures ok { IfOk result (HasTime (rows_of (found_of matches.now))) }
+    ensures err { IfErr result (Lacks (HasTime (rows_of (found_of matches.now))) (IsTimeFault (rows_of (found_of matches.now)))) }
+{
+    let bay = millis_of(matches, "seconds", SettingFault::Seconds)?;
+    let all = millis_of(matches, "total-seconds", SettingFault::TotalSeconds)?;
+    Ok(TimeLimits { bay, all })
 }

@@ -31,6 +31,12 @@ pub enum SettingFault {
     /// A text names no bay.
     #[error("S10")]
     Bay,
+    /// The limit of the time of a bay is no number of seconds from 0.001 to 86400.
+    #[error("S11")]
+    Seconds,
+    /// The limit of the time of all bays together is no such number.
+    #[error("S12")]
+    TotalSeconds,
 }
 
 /// What is wrong with the words.

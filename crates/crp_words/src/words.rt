@@ -7,7 +7,7 @@ use crate::commands::command_line;
 use crate::follow_words::follow_of;
 use crate::given::{is_given, one_file, same_file, text_of, wrong};
 use crate::input_words::{input_of, is_sized_twice};
-use crate::search_words::search_of;
+use crate::search_words::{search_of, time_of};
 use crate::usage::{Mistake, Usage};
 use clap::error::ErrorKind;
 use clap::{ArgMatches, Error};
@@ -28,6 +28,10 @@ const NUMBERS_AND_THIN: &str =
 // Those of `follow`, where the words speak of `--loaded`.
 const NUMBERS_AND_LOADED: &str =
     "\nA number is whole and has no sign: --rows 1 to 12, --tiers 1 to 8, --loaded 0 to 18446744073709551615.\n";
+
+// What seconds may be given, where the words speak of them.
+const SECONDS: &str =
+    "\n--seconds and --total-seconds are seconds without a sign, 0.001 to 86400, as 10 or 0.5.\n";
 
 // The refusals of heights beside rows or tiers.
 static ABSENT_SIZED_TWICE: &str =
@@ -66,7 +70,8 @@ fn settings_of(alloc: Global, matches: &ArgMatches<'_>) -> Result<RunSettings, U
 {
     let search = search_of(alloc, matches)?;
     let input = input_of(alloc, matches)?;
-    Ok(RunSettings::new(search, input))
+    let time = time_of(matches)?;
+    Ok(RunSettings::new(search.with_time(time), input))
 }
 
 // What `prove` and its matches ask for.
@@ -75,10 +80,11 @@ fn prove_of<'a>(alloc: Global, matches: &ArgMatches<'a>) -> Result<Job<'a>, Usag
     ensures err { IfErr result (Lacks (Asks (codes "prove") (rows_of (found_of matches.now))) (IsFault (codes "prove") (rows_of (found_of matches.now)))) }
 {
     let search = search_of(alloc, matches)?;
+    let time = time_of(matches)?;
     let file = text_of(alloc, matches, "file")?;
     Ok(Job::OneFile {
         file,
-        command: FileCommand::Prove(search),
+        command: FileCommand::Prove(search.with_time(time)),
     })
 }
 
@@ -213,11 +219,19 @@ fn numbers_for(words: &[&str]) -> &'static str {
     }
 }
 
+// Whether the words speak of seconds.
+fn speak_of_seconds(words: &[&str]) -> bool {
+    words.iter().any(|word| word.starts_with("--seconds") || word.starts_with("--total-seconds"))
+}
+
 // The text of a refusal of clap's for these words; where a number was to be given and none was, with the numbers that there are.
 fn text_of_refusal(alloc: Global, words: &[&str], error: &Error) -> Result<String, AllocError> {
     let mut text = error.to_string(alloc)?;
     if is_no_number(error.kind(), text.as_str()) {
         text.push_str(numbers_for(words))?;
+        if speak_of_seconds(words) {
+            text.push_str(SECONDS)?;
+        }
     }
     Ok(text)
 }

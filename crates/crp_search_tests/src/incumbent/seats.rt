@@ -71,7 +71,7 @@ fn an_offered_plan_is_seen_by_every_seat(rt: HostRuntime) -> Result<(), Fail> {
     let problem = problem_of(rt.alloc(), &SIX)?;
     let longer = plan_of(&rt, &problem, &[2, 3, 2, 1]);
     let plan = plan_of(&rt, &problem, &[2, 2, 1]);
-    let (shared, seat) = Shared::open(rt.alloc(), &problem, 5, 2, 0)?;
+    let (shared, seat) = Shared::open(rt.alloc(), &problem, 5, 2, 0, false)?;
     let (a, b) = split(&rt, &shared, seat);
     let b = sees(&rt, &shared, b, 5);
     let a = offers(&shared, a, &longer);
@@ -90,7 +90,7 @@ fn an_offered_plan_is_seen_by_every_seat(rt: HostRuntime) -> Result<(), Fail> {
 fn a_seat_with_one_share_is_not_split(rt: HostRuntime) -> Result<(), Fail> {
     let problem = problem_of(rt.alloc(), &SIX)?;
     let plan = plan_of(&rt, &problem, &[2, 2, 1]);
-    let (shared, seat) = Shared::open(rt.alloc(), &problem, 5, 2, 0)?;
+    let (shared, seat) = Shared::open(rt.alloc(), &problem, 5, 2, 0, false)?;
     let (a, b) = split(&rt, &shared, seat);
     let b = sees(&rt, &shared, b, 5);
     let a = offers(&shared, a, &plan);
@@ -115,7 +115,7 @@ fn closes(rt: &impl Abort, shared: Shared, seat: Seat, limit: u64, spent: u64)
 #[test]
 fn a_seat_that_was_refused_makes_no_step(rt: HostRuntime) -> Result<(), Fail> {
     let problem = problem_of(rt.alloc(), &SIX)?;
-    let (shared, seat) = Shared::open(rt.alloc(), &problem, 5, 2, 0)?;
+    let (shared, seat) = Shared::open(rt.alloc(), &problem, 5, 2, 0, false)?;
     let seat = claims(&rt, &shared, seat, true);
     let seat = claims(&rt, &shared, seat, true);
     let seat = claims(&rt, &shared, seat, false);

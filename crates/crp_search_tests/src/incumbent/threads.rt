@@ -88,7 +88,7 @@ fn claims_of_two<R: Threads + Wait + Abort + Sync>(rt: &R, shared: Shared, seat:
 fn what_is_spent_are_the_claims_of_two_threads(rt: HostRuntime) -> Result<(), Fail> {
     let problem = problem_of(rt.alloc(), &SIX)?;
     for (budget, granted) in [(0, 0), (1, 1), (1500, 1500), (5000, 2000)] {
-        let (shared, seat) = Shared::open(rt.alloc(), &problem, 13, budget, 0)?;
+        let (shared, seat) = Shared::open(rt.alloc(), &problem, 13, budget, 0, false)?;
         claims_of_two(&rt, shared, seat, granted);
     }
     Ok(())

@@ -1,10 +1,10 @@
 //! What a search by many workers is for: the fewest relocations, or the first best plan.
-ghost use Rattle.std.specs.Prelude.{◌≡◌, ◌≤◌, List, Option, IfSome, ℕ, min};
+ghost use Rattle.std.specs.Prelude.{◌≡◌, ◌≤◌, true, List, Option, IfSome, ℕ, min};
 ghost use Rattle.crp_plan.specs.declared.running.View.{View};
 ghost use Rattle.crp_plan.specs.Plans.{ProblemPath};
 ghost use Rattle.crp_incumbent.specs.Seats.{Shared};
 ghost use Rattle.crp_tree.specs.Parts.{ProblemPart};
-ghost use Rattle.crp_solve.specs.Desks.{fixed_at, IsCountedPart, count_or};
+ghost use Rattle.crp_solve.specs.Desks.{fixed_at, known_with, IsCountedPart, count_or};
 ghost use Rattle.crp_solve.specs.Groups.{IsBetterOf, with_part};
 ghost use Rattle.crp_plan.specs.Bay.{Problem as Statement};
 ghost use Rattle.crp_solve.specs.Answers.{path_in, shorter, IsPlanOf};
@@ -19,12 +19,14 @@ use crp_tree::{Name, Part};
 use std::marker::Brand;
 use std::sync::Wait;
 
-/// What a worker has after it searched a part. There is no part where the search ended before its time.
+/// What a worker has after it searched a part, and whether the gate stopped its claims. There is no part where the search ended before its
+/// time.
 pub struct Searched {
     pub(crate) part: Option<Part>,
     pub(crate) seat: Seat,
     pub(crate) best: Option<Plan>,
     pub(crate) place: Option<PoolSeat>,
+    pub(crate) stopped: bool,
 }
 
 /// What a search is for: which plan its workers keep, and how they search a part.
@@ -40,7 +42,8 @@ pub trait Aim: Drop {
         ensures better { better plan other result }
         ensures kept { IsBetterOf keeps plan other result };
 
-    /// Searches the part of the name, with this seat, the plan that is kept with it, and a place where names may be put.
+    /// Searches the part of the name, with this seat, the plan that is kept with it, and a place where names may be put; where the claims
+    /// of the worker were stopped before, none is granted.
     fn search_part<R: Wait, G: Gate>(
         outside: &Outside<R, G>,
         common: &Common,
@@ -49,15 +52,20 @@ pub trait Aim: Drop {
         seat: Seat,
         best: Option<Plan>,
         place: Option<PoolSeat>,
+        stopped: bool,
     ) -> Searched
         requires words { seat.of ≡ common.now.of }
-        requires kept { (parts : List ProblemPart) × keeps common.now.of seat.view best parts }
+        requires kept { (parts : List ProblemPart) × keeps common.now.of (known_with stopped seat.view) best parts }
+        requires timely { stopped ≡ true → common.now.of.key.timed ≡ true }
         ensures words { result.seat.of ≡ common.now.of }
         ensures share { result.seat.view.share ≡ seat.view.share }
         ensures mine { result.seat.view.mine ≤ seat.view.mine }
         ensures place { fixed_at result.place ≡ fixed_at place }
-        ensures counted { IfSome result.part (IsCountedPart common.now.of.key.thin seat.view result.seat.view place result.place name) }
-        ensures kept { (parts : List ProblemPart) → keeps common.now.of seat.view best parts → keeps common.now.of result.seat.view result.best (with_part parts result.part) };
+        ensures counted { IfSome result.part (IsCountedPart common.now.of.key.thin (known_with stopped seat.view) (known_with result.stopped result.seat.view) place result.place name) }
+        ensures kept { (parts : List ProblemPart) → keeps common.now.of (known_with stopped seat.view) best parts
+            → keeps common.now.of (known_with result.stopped result.seat.view) result.best (with_part parts result.part) }
+        ensures timely { result.stopped ≡ true → common.now.of.key.timed ≡ true }
+        ensures stops { (stopped ≡ true → G.may_stop outside.now.gate.now) → result.stopped ≡ true → G.may_stop outside.now.gate.now };
 }
 
 /// The search for the fewest relocations.
@@ -105,8 +113,9 @@ impl Aim for Fewest {
         seat: Seat,
         best: Option<Plan>,
         place: Option<PoolSeat>,
+        stopped: bool,
     ) -> Searched {
-        search_at_desk::<R, G, Brand>(outside, common, worker, name, seat, best, place)
+        search_at_desk::<R, G, Brand>(outside, common, worker, name, seat, best, place, stopped)
     }
 }
 
@@ -152,9 +161,10 @@ impl Aim for FirstBest {
         seat: Seat,
         best: Option<Plan>,
         place: Option<PoolSeat>,
+        stopped: bool,
     ) -> Searched {
-        let (found, seat, place) = first_at_desk::<R, G, Brand>(
-            outside, common, worker, name, seat, place,
+        let (found, seat, place, stopped) = first_at_desk::<R, G, Brand>(
+            outside, common, worker, name, seat, place, stopped,
         );
         let Some(found) = found else {
             return Searched {
@@ -162,6 +172,7 @@ impl Aim for FirstBest {
                 seat,
                 best,
                 place,
+                stopped,
             };
         };
         Searched {
@@ -169,6 +180,7 @@ impl Aim for FirstBest {
             seat,
             best: earlier_of(best, found.plan),
             place,
+            stopped,
         }
     }
 }

@@ -7,8 +7,14 @@ use crp_tree::{MAX_NAME, Name};
 use std::alloc::Global;
 use std::marker::Model;
 
-/// Asked before each part is searched, and told how far the search is. Nothing that a search finds rests on it.
+/// Asked before each part is searched, told how far the search is, and asked whether it is to stop. Nothing that a search finds rests on
+/// it, but how much it is.
 pub trait Gate {
+    ghost use Rattle.std.specs.Prelude.{◌≡◌, true};
+
+    /// What is so where it stops a search.
+    ghost may_stop: { Self → Type 0 } = { λ _. ⊥ };
+
     /// The worker begins the part of this name. It is called once for each, before its first node is looked at.
     fn begun(&self, worker: u32, task: &Name);
 
@@ -17,6 +23,14 @@ pub trait Gate {
 
     /// So many positions more may be expanded. A worker says so behind each 4096, and for the rest where its part ends.
     fn claimed(&self, _positions: u32) {}
+
+    /// Whether a timed search is to stop: then claims are refused as if the budget were spent. A worker asks where a part begins and behind
+    /// each 4096 positions, and asks no more once it was so.
+    fn stops(&self) -> bool
+        ensures { result ≡ true → may_stop self.now }
+    {
+        false
+    }
 
     /// Whether one worker looks first, so that others are not started for a problem that it solves at once. What it does then is not
     /// said to the gate.
@@ -37,27 +51,39 @@ impl Gate for NoGate {
     }
 }
 
+/// A gate that hears nothing and asks for nothing, but stops a search where this one does.
+#[derive(Drop)]
+pub struct Quiet<'a, G> {
+    gate: &'a G,
+}
+
+impl<'a, G> Quiet<'a, G> {
+    ghost use Rattle.std.specs.Prelude.{◌≡◌};
+
+    /// The quiet form of this gate.
+    pub(crate) fn of(gate: &'a G) -> Quiet<'a, G>
+        ensures { result.gate.now ≡ gate.now }
+    {
+        Quiet { gate }
+    }
+}
+
+impl<'a, G: Gate> Gate for Quiet<'a, G> {
+    ghost may_stop = { λ quiet. G.may_stop quiet.gate.now };
+
+    fn begun(&self, _worker: u32, _task: &Name) {}
+
+    fn stops(&self) -> bool {
+        self.gate.stops()
+    }
+}
+
 /// What a worker reaches outside the search: the leave to wait, the gate, and the board for its plans.
 #[derive(Drop)]
 pub struct Outside<'a, R, G> {
     pub(crate) rt: &'a R,
     pub(crate) gate: &'a G,
     pub(crate) board: &'a Board,
-}
-
-impl<'a, R, G> Outside<'a, R, G> {
-    ghost use Rattle.std.specs.Prelude.{◌≡◌};
-
-    /// The same with a gate that asks for nothing.
-    pub(crate) fn unheard(&self) -> Outside<'a, R, NoGate>
-        ensures { result.board.now ≡ self.now.board.now }
-    {
-        Outside {
-            rt: self.rt,
-            gate: &NoGate,
-            board: self.board,
-        }
-    }
 }
 
 /// What all workers of a search have in common.
@@ -71,6 +97,7 @@ pub struct Common {
     pub(crate) first: u32,
     pub(crate) split: u8,
     pub(crate) thinning: Thinning,
+    pub(crate) timed: bool,
 }
 
 impl Model for Common {
@@ -80,7 +107,7 @@ impl Model for Common {
 
     ghost view = { λ c. record { of = c.shared; split = c.split } };
 
-    ghost invariant = { λ c. IsCommon c.problem c.first c.thinning.most (record { of = c.shared; split = c.split }) };
+    ghost invariant = { λ c. IsCommon c.problem c.first c.thinning.most c.timed (record { of = c.shared; split = c.split }) };
 }
 
 impl Common {

@@ -1,10 +1,10 @@
 //! One worker that shares the limit, the claims and the names with others.
-ghost use Rattle.std.specs.Prelude.{◌≡◌, min, length, None, IfSome};
+ghost use Rattle.std.specs.Prelude.{◌≡◌, ◌⊎◌, true, min, length, None, IfSome};
 ghost use Rattle.crp_plan.specs.Bay.{Problem};
 ghost use Rattle.crp_solve.specs.Answers.{path_in, IsPlanOf};
 ghost use Rattle.crp_search.specs.Limits.{Advances};
 ghost use Rattle.crp_search.specs.Firsts.{IsLowerBound, OnlyClaims};
-ghost use Rattle.crp_solve.specs.Desks.{count_or, fixed_at, KeepsPlan, IsCountedPart, IsFoundPart};
+ghost use Rattle.crp_solve.specs.Desks.{count_or, fixed_at, known_with, KeepsPlan, IsCountedPart, IsFoundPart};
 ghost use Rattle.crp_solve.specs.Firsts.{IsPlanOfCount, IsSearchedFirst};
 
 use crate::workers::aim::Searched;
@@ -17,7 +17,8 @@ use crp_tree::Name;
 use std::marker::{Brand, Model, PhantomData};
 use std::sync::Wait;
 
-/// The words that a desk was opened with, and its place. Whoever searches at a desk picks them, by the type `Brand`.
+/// The words that a desk was opened with, its place, and what is so where its claims are stopped. Whoever searches at a desk picks them, by
+/// the type `Brand`.
 pub(crate) trait Opened {
     ghost use Rattle.std.specs.Prelude.{Option};
     ghost use Rattle.crp_incumbent.specs.Seats.{Shared};
@@ -26,6 +27,8 @@ pub(crate) trait Opened {
     ghost words: { Shared };
 
     ghost place: { Option PoolSeat };
+
+    ghost may: { Type 0 };
 }
 
 impl Opened for Brand {
@@ -35,31 +38,43 @@ impl Opened for Brand {
     ghost words = { no_words };
 
     ghost place = { None };
+
+    ghost may = { ⊥ };
 }
 
-/// How many granted claims are said to the gate together.
+/// How many granted claims are said to the gate together, and how many are made before it is asked again whether the search is to stop.
 const CLAIMS: u32 = 4096;
 
-/// A worker with its seat, the plan that its least offer counts, its place in the pool, and how many claims were granted to it.
+/// Whether no more is claimed behind so many claims: it was so before, or in a timed search the gate says so now, where it is asked.
+fn is_stopped<G: Gate>(gate: &G, timed: bool, stopped: bool, claims: u32) -> bool
+    ensures stays { stopped ≡ true → result ≡ true }
+    ensures timely { result ≡ true → (stopped ≡ true) ⊎ ((timed ≡ true) × G.may_stop gate.now) }
+{
+    stopped || timed && claims % CLAIMS == 0 && gate.stops()
+}
+
+/// A worker with its seat, the plan that its least offer counts, its place in the pool, how many claims were granted to it, and whether
+/// the gate stopped them.
 #[derive(Drop)]
-struct Desk<'a, R, G, K: Opened> {
+struct Desk<'a, R, G: Gate, K: Opened> {
     outside: &'a Outside<'a, R, G>,
     common: &'a Common,
     seat: Seat,
     best: Option<Plan>,
     place: Option<PoolSeat>,
     claims: u32,
+    stopped: bool,
     opened: PhantomData<K>,
 }
 
-impl<'a, R, G, K: Opened> Model for Desk<'a, R, G, K> {
-    ghost use Rattle.crp_solve.specs.Desks.{Post, IsDesk};
+impl<'a, R, G: Gate, K: Opened> Model for Desk<'a, R, G, K> {
+    ghost use Rattle.crp_solve.specs.Desks.{Post, IsDesk, known_with};
 
     ghost Value = { Post };
 
-    ghost view = { λ d. record { of = d.common.now.of; view = d.seat.view; plan = d.best; place = d.place } };
+    ghost view = { λ d. record { of = d.common.now.of; view = known_with d.stopped d.seat.view; plan = d.best; place = d.place } };
 
-    ghost invariant = { λ d. IsDesk K.words d.common.now.of K.place d.place d.seat d.best };
+    ghost invariant = { λ d. IsDesk K.words d.common.now.of K.place d.place d.seat d.best K.may (G.may_stop d.outside.now.gate.now) d.stopped };
 }
 
 /// Keeps the plan in place of the other, where it has fewer relocations; in place of none, where it has fewer than the first limit.
@@ -86,6 +101,10 @@ impl<'a, R: Wait, G: Gate, K: Opened> Claims for Desk<'a, R, G, K> {
 
     fn claim(&mut self) -> bool {
         let common = self.common;
+        self.stopped = is_stopped(self.outside.gate, common.timed, self.stopped, self.claims);
+        if self.stopped {
+            return false;
+        }
         let granted = self.seat.claim(&common.shared);
         if granted {
             self.claims = self.claims.wrapping_add(1);
@@ -147,8 +166,8 @@ impl<'a, R: Wait, G: Gate, K: Opened> Limit for Desk<'a, R, G, K> {
 }
 
 impl<'a, R, G: Gate, K: Opened> Desk<'a, R, G, K> {
-    ghost use Rattle.std.specs.Prelude.{◌≡◌};
-    ghost use Rattle.crp_solve.specs.Desks.{fixed_at, KeepsPlan};
+    ghost use Rattle.std.specs.Prelude.{◌≡◌, true};
+    ghost use Rattle.crp_solve.specs.Desks.{fixed_at, known_with, KeepsPlan};
 
     /// A desk for one part.
     fn open(
@@ -157,11 +176,15 @@ impl<'a, R, G: Gate, K: Opened> Desk<'a, R, G, K> {
         seat: Seat,
         best: Option<Plan>,
         place: Option<PoolSeat>,
+        stopped: bool,
     ) -> Desk<'a, R, G, K>
         requires opened { (K.words ≡ common.now.of) × (K.place ≡ place) }
         requires words { seat.of ≡ common.now.of }
         requires plan { KeepsPlan common.now.of seat.view best }
-        ensures { result ≡ record { of = common.now.of; view = seat.view; plan = best; place = place } }
+        requires timely { stopped ≡ true → common.now.of.key.timed ≡ true }
+        requires stopped { stopped ≡ true → K.may }
+        requires gate { G.may_stop outside.now.gate.now → K.may }
+        ensures { result ≡ record { of = common.now.of; view = known_with stopped seat.view; plan = best; place = place } }
     {
         Desk {
             outside,
@@ -170,23 +193,28 @@ impl<'a, R, G: Gate, K: Opened> Desk<'a, R, G, K> {
             best,
             place,
             claims: 0,
+            stopped,
             opened: PhantomData,
         }
     }
 
-    /// What it leaves: its seat, its plan and its place. The gate hears of the claims that were not said to it yet.
-    fn close(self) -> (Seat, Option<Plan>, Option<PoolSeat>)
+    /// What it leaves: its seat, its plan, its place, and whether its claims were stopped. The gate hears of the claims that were not said
+    /// to it yet.
+    fn close(self) -> (Seat, Option<Plan>, Option<PoolSeat>, bool)
         ensures words { result.0.of ≡ K.words }
         ensures plan { KeepsPlan K.words result.0.view result.1 }
         ensures fixed { fixed_at result.2 ≡ fixed_at K.place }
-        ensures same { self.entry ≡ record { of = K.words; view = result.0.view; plan = result.1; place = result.2 } }
+        ensures same { self.entry ≡ record { of = K.words; view = known_with result.3 result.0.view; plan = result.1; place = result.2 } }
+        ensures timely { result.3 ≡ true → K.words.key.timed ≡ true }
+        ensures stopped { result.3 ≡ true → K.may }
     {
         self.outside.gate.claimed(self.claims % CLAIMS);
-        (self.seat, self.best, self.place)
+        (self.seat, self.best, self.place, self.stopped)
     }
 }
 
-/// Searches the part of the name, with this seat, the plan that it counts, and a place where names may be put.
+/// Searches the part of the name, with this seat, the plan that it counts, and a place where names may be put; where claims were stopped
+/// before, none is granted.
 ///
 /// A name that is no path of the problem is not searched. None is ever put, but a pool cannot say so.
 pub(crate) fn search_at_desk<R: Wait, G: Gate, K: Opened>(
@@ -197,19 +225,25 @@ pub(crate) fn search_at_desk<R: Wait, G: Gate, K: Opened>(
     seat: Seat,
     best: Option<Plan>,
     place: Option<PoolSeat>,
+    stopped: bool,
 ) -> Searched
     requires opened { (K.words ≡ common.now.of) × (K.place ≡ place) }
     requires words { seat.of ≡ common.now.of }
     requires plan { KeepsPlan common.now.of seat.view best }
+    requires timely { stopped ≡ true → common.now.of.key.timed ≡ true }
+    requires stopped { stopped ≡ true → K.may }
+    requires gate { G.may_stop outside.now.gate.now → K.may }
     ensures words { result.seat.of ≡ common.now.of }
-    ensures plan { KeepsPlan common.now.of result.seat.view result.best }
-    ensures advances { Advances common.now.of.key.problem seat.view result.seat.view }
+    ensures plan { KeepsPlan common.now.of (known_with result.stopped result.seat.view) result.best }
+    ensures advances { Advances common.now.of.key.problem (known_with stopped seat.view) (known_with result.stopped result.seat.view) }
     ensures place { fixed_at result.place ≡ fixed_at place }
-    ensures counted { IfSome result.part (IsCountedPart common.now.of.key.thin seat.view result.seat.view place result.place name) }
-    ensures part { IfSome result.part (IsFoundPart common.now.of seat.view result.seat.view) }
+    ensures counted { IfSome result.part (IsCountedPart common.now.of.key.thin (known_with stopped seat.view) (known_with result.stopped result.seat.view) place result.place name) }
+    ensures part { IfSome result.part (IsFoundPart common.now.of (known_with stopped seat.view) (known_with result.stopped result.seat.view)) }
+    ensures timely { result.stopped ≡ true → common.now.of.key.timed ≡ true }
+    ensures stopped { result.stopped ≡ true → K.may }
 {
     outside.gate.begun(worker, &name);
-    let mut desk: Desk<'_, R, G, K> = Desk::open(outside, common, seat, best, place);
+    let mut desk: Desk<'_, R, G, K> = Desk::open(outside, common, seat, best, place, stopped);
     let part = if name.position(&common.problem).is_some() {
         search(
             common.alloc,
@@ -223,12 +257,13 @@ pub(crate) fn search_at_desk<R: Wait, G: Gate, K: Opened>(
     } else {
         None
     };
-    let (seat, best, place) = desk.close();
+    let (seat, best, place, stopped) = desk.close();
     Searched {
         part,
         seat,
         best,
         place,
+        stopped,
     }
 }
 
@@ -240,20 +275,26 @@ pub(crate) fn first_at_desk<R: Wait, G: Gate, K: Opened>(
     name: Name,
     seat: Seat,
     place: Option<PoolSeat>,
-) -> (Option<FirstPart>, Seat, Option<PoolSeat>)
+    stopped: bool,
+) -> (Option<FirstPart>, Seat, Option<PoolSeat>, bool)
     requires opened { (K.words ≡ common.now.of) × (K.place ≡ place) }
     requires words { seat.of ≡ common.now.of }
     requires plan { KeepsPlan common.now.of seat.view None }
     requires least { IsLowerBound common.now.of.key.problem common.now.of.key.start }
+    requires timely { stopped ≡ true → common.now.of.key.timed ≡ true }
+    requires stopped { stopped ≡ true → K.may }
+    requires gate { G.may_stop outside.now.gate.now → K.may }
     ensures words { result.1.of ≡ common.now.of }
-    ensures claims { OnlyClaims seat.view result.1.view }
+    ensures claims { OnlyClaims (known_with stopped seat.view) (known_with result.3 result.1.view) }
     ensures place { fixed_at result.2 ≡ fixed_at place }
-    ensures counted { IfSome result.0 (λ found. IsCountedPart common.now.of.key.thin seat.view result.1.view place result.2 name found.part) }
+    ensures counted { IfSome result.0 (λ found. IsCountedPart common.now.of.key.thin (known_with stopped seat.view) (known_with result.3 result.1.view) place result.2 name found.part) }
     ensures part { IfSome result.0 (λ found. IsSearchedFirst common.now.of.key.problem common.now.of.key.start found.plan found.part) }
     ensures plan { IfSome result.0 (λ found. IfSome found.plan (IsPlanOfCount common.now.of.key.problem common.now.of.key.start)) }
+    ensures timely { result.3 ≡ true → common.now.of.key.timed ≡ true }
+    ensures stopped { result.3 ≡ true → K.may }
 {
     outside.gate.begun(worker, &name);
-    let mut desk: Desk<'_, R, G, K> = Desk::open(outside, common, seat, None, place);
+    let mut desk: Desk<'_, R, G, K> = Desk::open(outside, common, seat, None, place, stopped);
     let found = if name.position(&common.problem).is_some() {
         search_first(
             common.alloc,
@@ -268,6 +309,6 @@ pub(crate) fn first_at_desk<R: Wait, G: Gate, K: Opened>(
     } else {
         None
     };
-    let (seat, _, place) = desk.close();
-    (found, seat, place)
+    let (seat, _, place, stopped) = desk.close();
+    (found, seat, place, stopped)
 }

@@ -1,5 +1,5 @@
 //! The state of one worker of a search or several.
-ghost use Rattle.std.specs.Prelude.{◌≡◌, ◌≤◌, ◌++◌, ◌∷◌, [], false, if◌then◌else◌, None};
+ghost use Rattle.std.specs.Prelude.{◌≡◌, ◌≤◌, ◌++◌, ◌∷◌, [], false, ◌||◌, if◌then◌else◌, None};
 ghost use Rattle.crp_incumbent.specs.Rule.{view_joined};
 ghost use Rattle.crp_solve.specs.Groups.{place_key, keys, IsRoom, IsUnused};
 
@@ -12,7 +12,7 @@ use std::alloc::Global;
 use std::marker::{Model, PhantomData};
 
 /// The state of one worker of a search or several: a seat at the shared words, the best plan that was met there, the parts that
-/// were searched, and places in the pool. It is marked where a part was lost.
+/// were searched, and places in the pool. It is marked where a part was lost, and where the gate stopped its claims.
 #[derive(Drop)]
 pub struct Crew<A: Aim> {
     pub(crate) seat: Seat,
@@ -20,6 +20,7 @@ pub struct Crew<A: Aim> {
     pub(crate) parts: Vec<Part>,
     pub(crate) places: Vec<PoolSeat>,
     pub(crate) short: bool,
+    pub(crate) stopped: bool,
     pub(crate) aim: PhantomData<A>,
 }
 
@@ -27,6 +28,7 @@ pub struct Crew<A: Aim> {
 pub type Group = Crew<Fewest>;
 
 impl<A: Aim> Model for Crew<A> {
+    ghost use Rattle.crp_solve.specs.Desks.{known_with};
     ghost use Rattle.crp_solve.specs.Groups.{Crew, IsGroup};
     ghost use Rattle.crp_tree.specs.Symbols.{tree_code};
     ghost use Rattle.std.specs.Coded.{codes};
@@ -35,9 +37,9 @@ impl<A: Aim> Model for Crew<A> {
 
     ghost coded = { Prim.hlevel (codes, tree_code) };
 
-    ghost view = { λ g. record { of = g.seat.of; view = g.seat.view; plan = g.best; parts = g.parts.items; places = g.places.items; short = g.short } };
+    ghost view = { λ g. record { of = g.seat.of; view = known_with g.stopped g.seat.view; plan = g.best; parts = g.parts.items; places = g.places.items; short = g.short; stopped = g.stopped } };
 
-    ghost invariant = { λ g. IsGroup A.keeps (record { of = g.seat.of; view = g.seat.view; plan = g.best; parts = g.parts.items; places = g.places.items; short = g.short }) };
+    ghost invariant = { λ g. IsGroup A.keeps (record { of = g.seat.of; view = known_with g.stopped g.seat.view; plan = g.best; parts = g.parts.items; places = g.places.items; short = g.short; stopped = g.stopped }) };
 }
 
 /// Moves what is in `more` to the end. Where there is no memory it answers false, and nothing is moved.
@@ -53,7 +55,9 @@ impl<A: Aim> Crew<A> {
         requires mine { self.of ≡ shared.now }
         requires others { other.of ≡ shared.now }
         ensures of { result.of ≡ shared.now }
-        ensures view { result.view ≡ view_joined self.view other.view }
+        ensures view { result.view ≡ record (view_joined self.view other.view) { refused = result.view.refused } }
+        ensures refused { result.stopped ≡ false → result.view ≡ view_joined self.view other.view }
+        ensures stopped { result.stopped ≡ (self.stopped || other.stopped) }
         ensures plan { A.better self.plan other.plan result.plan }
         ensures parts { result.short ≡ false → result.parts ≡ self.parts ++ other.parts }
         ensures places { result.short ≡ false → result.places ≡ self.places ++ other.places }
@@ -65,6 +69,7 @@ impl<A: Aim> Crew<A> {
             mut parts,
             mut places,
             short,
+            stopped,
             aim: _,
         } = self;
         let parts_fit = append(&mut parts, other.parts);
@@ -75,6 +80,7 @@ impl<A: Aim> Crew<A> {
             parts,
             places,
             short: short | other.short | !(parts_fit & places_fit),
+            stopped: stopped | other.stopped,
             aim: PhantomData,
         }
     }
@@ -93,6 +99,7 @@ impl<A: Aim> Crew<A> {
         requires room { IsRoom room }
         ensures of { result.of ≡ seat.of }
         ensures view { result.view ≡ seat.view }
+        ensures stopped { result.stopped ≡ false }
         ensures places { keys result ≡ place_key place ∷ [] }
     {
         room.push_reserved(place);
@@ -102,6 +109,7 @@ impl<A: Aim> Crew<A> {
             parts: Vec::new(alloc),
             places: room,
             short: false,
+            stopped: false,
             aim: PhantomData,
         }
     }

@@ -1,7 +1,7 @@
 //! Workers as they run: each searches parts, one after the other, as the pool gives their names. Many start by halves, and are put
 //! together two by two.
-ghost use Rattle.std.specs.Prelude.{◌≡◌};
-ghost use Rattle.crp_solve.specs.Groups.{SameWorkers, AreReady, AreTogether};
+ghost use Rattle.std.specs.Prelude.{◌≡◌, All};
+ghost use Rattle.crp_solve.specs.Groups.{SameWorkers, StopsBy, AreReady, AreTogether};
 ghost use Rattle.std.specs.Thread.{IsSync};
 
 use crate::workers::aim::{Aim, Searched};
@@ -30,7 +30,8 @@ fn task<R: Wait, G: Gate, A: Aim>(
     mut group: Crew<A>,
 ) -> (Turn, Crew<A>)
     requires { group.of ≡ common.now.of }
-    ensures { SameWorkers group result.1 }
+    ensures same { SameWorkers group result.1 }
+    ensures stops { StopsBy (G.may_stop outside.now.gate.now) group → StopsBy (G.may_stop outside.now.gate.now) result.1 }
 {
     if group.parts.reserve(1).is_err() {
         return (Turn::Done, group);
@@ -48,6 +49,7 @@ fn task<R: Wait, G: Gate, A: Aim>(
         seat,
         best,
         place,
+        stopped,
     } = A::search_part(
         outside,
         common,
@@ -56,10 +58,12 @@ fn task<R: Wait, G: Gate, A: Aim>(
         group.seat,
         group.best,
         Some(place),
+        group.stopped,
     );
     common.open.close_one();
     group.seat = seat;
     group.best = best;
+    group.stopped = stopped;
     group.places.push_reserved(place.unwrap());
     let Some(part) = part else {
         common.open.lose();
@@ -78,7 +82,8 @@ pub(crate) fn work<R: Wait, G: Gate, A: Aim>(
     mut group: Crew<A>,
 ) -> Crew<A>
     requires { group.of ≡ common.now.of }
-    ensures { SameWorkers group result }
+    ensures same { SameWorkers group result }
+    ensures stops { StopsBy (G.may_stop outside.now.gate.now) group → StopsBy (G.may_stop outside.now.gate.now) result }
 {
     if worker != 0 {
         common.open.arrive();
@@ -114,7 +119,8 @@ pub(crate) fn run_all<R: Threads + Wait + Sync, G: Gate + Sync, A: Aim + Send>(
     mut groups: Vec<Crew<A>>,
 ) -> Crew<A>
     requires { AreReady common.now.of groups.items }
-    ensures { AreTogether groups.items result }
+    ensures together { AreTogether groups.items result }
+    ensures stops { All (StopsBy (G.may_stop gate.now)) groups.items → StopsBy (G.may_stop gate.now) result }
 {
     let outside = Outside { rt, gate, board };
     let count = groups.len();
@@ -139,12 +145,14 @@ pub(crate) fn run_all<R: Threads + Wait + Sync, G: Gate + Sync, A: Aim + Send>(
         move || -> Crew<A>
             requires sync { IsSync R.row × IsSync G.row }
             requires ready { AreReady common.now.of others.items }
-            ensures { AreTogether others.items result }
+            ensures together { AreTogether others.items result }
+            ensures stops { All (StopsBy (G.may_stop gate.entry.now)) others.items → StopsBy (G.may_stop gate.entry.now) result }
         { run_all(rt, gate, board, common, next, others) },
         move || -> Crew<A>
             requires sync { IsSync R.row × IsSync G.row }
             requires ready { AreReady common.now.of groups.items }
-            ensures { AreTogether groups.items result }
+            ensures together { AreTogether groups.items result }
+            ensures stops { All (StopsBy (G.may_stop gate.entry.now)) groups.items → StopsBy (G.may_stop gate.entry.now) result }
         { run_all(rt, gate, board, common, first, groups) },
     );
     left.merge(&common.shared, right)

@@ -1,9 +1,9 @@
 //! A wider pool for more workers: each has a seat that is split off and a place, and the first worker moves there from a pool of its own,
 //! with the names that wait.
-ghost use Rattle.std.specs.Prelude.{◌≡◌, ◌<◌, [], ◌∷◌, false, IsTrue, length, ◌+◌, ◌≤◌, List, All, IfOk, map, None, vec_len, vec_capacity};
+ghost use Rattle.std.specs.Prelude.{◌≡◌, ◌<◌, [], ◌∷◌, Bool, false, true, IsTrue, length, ◌+◌, ◌≤◌, List, All, IfOk, map, None, vec_len, vec_capacity};
 ghost use Rattle.crp_pool.specs.Weigh.{SameNames};
 ghost use Rattle.crp_pool.specs.Seats.{SameSeat, all_takes};
-ghost use Rattle.crp_solve.specs.Groups.{IsRoom, IsUnused, place_key, keys, IsRoomFor, IsUnusedSeat, KeepsUnused, AreAllPlaces, AreSeated};
+ghost use Rattle.crp_solve.specs.Groups.{IsRoom, IsUnused, place_key, keys, StopsBy, IsRoomFor, IsUnusedSeat, KeepsUnused, AreAllPlaces, AreSeated};
 ghost use Rattle.crp_solve.specs.Begins.{IsStart, AreAllWorkers};
 
 use crate::workers::aim::Aim;
@@ -50,6 +50,7 @@ fn moved<R: Wait, A: Aim>(
     requires room { IsRoom room }
     ensures of { result.of ≡ worker.of }
     ensures view { result.view ≡ worker.view }
+    ensures stopped { result.stopped ≡ worker.stopped }
     ensures places { keys result ≡ place_key place ∷ [] }
 {
     let Crew {
@@ -58,6 +59,7 @@ fn moved<R: Wait, A: Aim>(
         parts,
         places,
         short: _,
+        stopped,
         aim: _,
     } = worker;
     let mut rest = pool.finish(places);
@@ -69,6 +71,7 @@ fn moved<R: Wait, A: Aim>(
         parts,
         places: room,
         short: !all,
+        stopped,
         aim: PhantomData,
     }
 }
@@ -130,7 +133,8 @@ fn seated<A: Aim>(
     requires lists { (length lists.items ≡ length places.items) × All IsRoom lists.items }
     requires room { vec_len groups + length places.items ≤ vec_capacity groups }
     requires words { All (λ group. group.of ≡ shared.now) groups.items }
-    ensures { AreSeated shared.now seat places.items groups.items result.0 result.1.items }
+    ensures seated { AreSeated shared.now seat places.items groups.items result.0 result.1.items }
+    ensures stops { (may : Bool) → All (StopsBy (may ≡ true)) groups.items → All (StopsBy (may ≡ true)) result.1.items }
 {
     let mut left = seat;
     for place in places {
@@ -162,6 +166,7 @@ pub(crate) fn joined<R: Wait, A: Aim>(
     requires begins { KeepsUnused A.keeps common.now.of }
     ensures all { AreAllWorkers common.now.of result.0 result.1 result.2.items }
     ensures count { length result.2.items ≡ length room.places.items }
+    ensures stops { All (StopsBy (first.stopped ≡ true)) result.2.items }
 {
     let Room {
         pool: wider,

@@ -95,7 +95,7 @@ pub(super) const OF_RUNS: [Fault; 5] = [
 ];
 
 // Settings beyond their limits.
-pub(super) const OF_SETTINGS: [SettingFault; 9] = [
+pub(super) const OF_SETTINGS: [SettingFault; 11] = [
     SettingFault::Workers,
     SettingFault::Budget,
     SettingFault::Split,
@@ -105,4 +105,6 @@ pub(super) const OF_SETTINGS: [SettingFault; 9] = [
     SettingFault::Rows,
     SettingFault::Tiers,
     SettingFault::Bay,
+    SettingFault::Seconds,
+    SettingFault::TotalSeconds,
 ];

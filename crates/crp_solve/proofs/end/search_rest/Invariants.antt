@@ -1,5 +1,5 @@
-use Rattle.std.proofs.Common.{◌≡◌, ◌≤◌, false}
-use Rattle.crp_solve.specs.Rests.{IsDoneUpTo}
+use Rattle.std.proofs.Common.{◌≡◌, ◌≤◌, true, false}
+use Rattle.crp_solve.specs.Rests.{known_to, IsDoneUpTo}
 use Rattle.crp_solve.proofs.end.search_rest.Given as goal
 
 abbrev pub invariant-loop : goal.invariant-loop
@@ -10,5 +10,7 @@ invariant-loop g l = record {
   share : l.done.seat.view.share ≡ l.fn.done.seat.view.share;
   mine : l.done.seat.view.mine ≤ l.fn.done.seat.view.mine;
   enough : l.done.short ≡ false;
-  done : IsDoneUpTo g.A.Aim.keeps l.common.of l.done.seat.view l.done.best l.done.parts.items l.rest.puts l.rest.takes;
+  timely : l.done.stopped ≡ true → l.common.of.key.timed ≡ true;
+  stops : (l.fn.done.stopped ≡ true → g.G.Gate.may_stop l.outside.gate.now) → l.done.stopped ≡ true → g.G.Gate.may_stop l.outside.gate.now;
+  done : IsDoneUpTo g.A.Aim.keeps l.common.of (known_to l.done) l.done.best l.done.parts.items l.rest.puts l.rest.takes;
 }

@@ -7,7 +7,7 @@ use Rattle.crp_solve.proofs.rounds.with_known.Goals as goal
 pub returns-in-Ok-clause-one_search : goal.returns-in-Ok-clause-one_search
 returns-in-Ok-clause-one_search c thin p budget found = record {
   met = c.in-Ok.found.best;
-  found = subst (λ o. IfOk o (λ r. IsFoundTogether thin p budget (count_of p (path_in c.args.known)) r.cert r.best r.expanded)) c.in-Ok.is found;
+  found = subst (λ o. IfOk o (λ r. IsFoundTogether thin p budget (count_of p (path_in c.args.known)) r.cert r.best r.expanded r.stopped)) c.in-Ok.is found;
   best = c.first_of.ensures;
 }
 

@@ -1,6 +1,8 @@
-use Rattle.std.proofs.Common.{◌≡◌, true, rules}
+use Rattle.std.proofs.Common.{◌≡◌, true, IfOk, sym, ◌∙◌, subst, rules}
 use Rattle.std.proofs.lemmas.Result.{err_from_is_err_and}
+use Rattle.crp_solve.specs.Chosen.{Chosen, is_timed}
 use Rattle.crp_solve.proofs.Deepened.{nearer_smaller}
+use Rattle.crp_solve.proofs.Stopped.{of_found}
 use Rattle.crp_solve.proofs.Rising.{rising_shown, rising_more, rising_ends}
 use Rattle.crp_solve.proofs.solver.found_together.Goals as goal
 
@@ -10,20 +12,27 @@ returns-in_err-known-clause-lost g c =
     rw (p.1, p.2) (c.in_err-known.ensures.lost c.args.settings.budget)
 
 pub next_round-requires : goal.next_round-requires
-next_round-requires g c = rising_shown c.args.problem.now c.args.settings c.loop-left.known c.loop-left.invariant
+next_round-requires g c = rising_shown c.args.problem.now c.args.settings c.loop-left.known c.loop-left.invariant.rising
 
 pub known_behind-requires-clause-known : goal.known_behind-requires-clause-known
-known_behind-requires-clause-known g c = rising_shown c.args.problem.now c.args.settings c.loop-left.known c.loop-left.invariant
+known_behind-requires-clause-known g c = rising_shown c.args.problem.now c.args.settings c.loop-left.known c.loop-left.invariant.rising
 
 pub loop-left-smaller : goal.loop-left-smaller
 loop-left-smaller g c =
     let p = c.args.problem.now in let known = c.loop-left.known in
-    nearer_smaller p c.args.settings.budget known c.in_ok-known-2.known (rising_shown p c.args.settings known c.loop-left.invariant) c.in-Some.ensures.undecided c.in_ok-known-2.ensures.nearer
+    nearer_smaller p c.args.settings.budget known c.in_ok-known-2.known c.in-Some.ensures.goes_on (rising_shown p c.args.settings known c.loop-left.invariant.rising) c.in-Some.ensures.undecided c.in_ok-known-2.ensures.nearer
 
 pub loop-left-preserved : goal.loop-left-preserved
-loop-left-preserved g c = rising_more c.args.problem.now c.args.settings c.loop-left.known c.in_ok-known-2.known c.loop-left.invariant c.in_ok-known-2.ensures.round
+loop-left-preserved g c =
+    let found = c.search_together-found-in-Some.result in let next = c.in_ok-known-2.known in
+    let timely = subst (λ (s : Chosen). IfOk found (λ f. f.stopped ≡ true → is_timed s.time ≡ true)) c.in-Some.ensures.settings c.search_together-found-in-Some.ensures.timely in
+    record {
+      rising = rising_more c.args.problem.now c.args.settings c.loop-left.known next c.loop-left.invariant.rising c.in_ok-known-2.ensures.round
+          (λ yes. of_found found (λ f same timely. timely (sym same ∙ yes)) c.in_ok-known-2.ensures.stopped timely);
+      stops = λ yes. of_found found (λ f same stops. stops (sym same ∙ yes)) c.in_ok-known-2.ensures.stopped c.search_together-found-in-Some.ensures.stops;
+    }
 
 pub returns-clause-searched : goal.returns-clause-searched
 returns-clause-searched g c =
     let asked : c.args.settings.deepen ≡ true = search rules in
-    rising_ends c.args.problem.now c.args.settings c.loop-left.known asked c.loop-left.invariant c.in_default.ensures.decided
+    rising_ends c.args.problem.now c.args.settings c.loop-left.known asked c.loop-left.invariant.rising c.in_default.ensures.decided

@@ -33,6 +33,6 @@ returns-in_err-thin-clause-err c =
 pub returns-clause-ok : goal.returns-clause-ok
 returns-clause-ok c =
     let made = c.with_flags.result in
-    have_numbers (rows_of (found_of c.args.matches.now)) made _ _ _ _ _ c.in_ok-workers.ensures.ok c.in_ok-budget.ensures.ok c.in_ok-split.ensures.ok c.in_ok-beam.ensures.ok c.in_ok-thin.ensures.ok
+    have_numbers (rows_of (found_of c.args.matches.now)) made _ _ _ _ _ _ c.in_ok-workers.ensures.ok c.in_ok-budget.ensures.ok c.in_ok-split.ensures.ok c.in_ok-beam.ensures.ok c.in_ok-thin.ensures.ok
     c.with_flags.ensures.flags
     (c.with_flags.ensures.numbers ∙ ap (λ (s : Chosen). record s { first = made.first; deepen = made.deepen; chains = made.chains }) c.settings_with-search.ensures)

@@ -2,7 +2,7 @@ use Rattle.std.proofs.Common.{subst, sym}
 use Rattle.std.proofs.lemmas.Result.{err_from_is_err_and}
 use Rattle.clap.specs.Words.{found_of, rows_of}
 use Rattle.crp_words.specs.Words.{HasSettings}
-use Rattle.crp_words.proofs.Lacking.{no_search, no_input}
+use Rattle.crp_words.proofs.SolveLacking.{no_search, no_input, no_time, with_limits}
 use Rattle.crp_words.proofs.words.settings_of.Goals as goal
 
 pub returns-in_err-search-clause-err : goal.returns-in_err-search-clause-err
@@ -15,5 +15,13 @@ returns-in_err-input-clause-err c =
     let p = err_from_is_err_and c.from_residual-in_err-input.result c.from_residual-in_err-input.ensures.1 in
     rw (p.1, p.2) (no_input (rows_of (found_of c.args.matches.now)) c.in_ok-search.search c.in_err-input.field-0.0 c.in_ok-search.ensures.ok c.in_err-input.ensures.err)
 
+pub returns-in_err-time-clause-err : goal.returns-in_err-time-clause-err
+returns-in_err-time-clause-err c =
+    let p = err_from_is_err_and c.from_residual-in_err-time.result c.from_residual-in_err-time.ensures.1 in
+    rw (p.1, p.2) (no_time (rows_of (found_of c.args.matches.now)) c.in_ok-search.search c.in_ok-input.input c.in_err-time.field-0.0 c.in_ok-search.ensures.ok c.in_ok-input.ensures.ok c.in_err-time.ensures.err)
+
 pub returns-clause-ok : goal.returns-clause-ok
-returns-clause-ok c = subst (HasSettings (rows_of (found_of c.args.matches.now))) (sym c.new.ensures) (c.in_ok-search.ensures.ok, c.in_ok-input.ensures.ok)
+returns-clause-ok c =
+    let rows = rows_of (found_of c.args.matches.now) in
+    let searched = with_limits rows c.in_ok-search.search c.with_time.result c.in_ok-time.time c.in_ok-search.ensures.ok c.in_ok-time.ensures.ok c.with_time.ensures.value in
+    subst (HasSettings rows) (sym c.new.ensures) (searched, c.in_ok-input.ensures.ok)

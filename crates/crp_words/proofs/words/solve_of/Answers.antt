@@ -4,7 +4,7 @@ use Rattle.std.proofs.lemmas.Result.{err_from_is_err_and}
 use Rattle.clap.specs.Words.{found_of, rows_of}
 use Rattle.clap.proofs.WalkLemmas.{first_value-rows}
 use Rattle.crp_words.specs.Words.{IsSizedTwice}
-use Rattle.crp_words.proofs.Lacking.{no_solve, no_yard, no_movins, solve_sized_twice, solve_named_twice}
+use Rattle.crp_words.proofs.SolveLacking.{no_solve, no_yard, no_movins, solve_sized_twice, solve_named_twice}
 use Rattle.crp_words.proofs.words.solve_of.Goals as goal
 
 pub returns-then-is_sized_twice-clause-err : goal.returns-then-is_sized_twice-clause-err

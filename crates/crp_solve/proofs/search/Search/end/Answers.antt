@@ -1,9 +1,10 @@
-use Rattle.std.proofs.Common.{◌≡◌, ◌≤◌, ℕ, rules, false, IfOk, IfErr, IfSome, subst, sym, ap, ◌∙◌, arith}
+use Rattle.std.proofs.Common.{◌≡◌, ◌≤◌, ℕ, Bool, true, rules, false, IfOk, IfErr, IfSome, subst, sym, ap, ◌∙◌, arith}
+use Rattle.std.specs.Result.{IsOkAnd}
 use Rattle.std.proofs.lemmas.Result.{IfOk-weaker}
 use Rattle.crp_plan.specs.Bay.{Problem, IsProblem}
 use Rattle.crp_solve.specs.declared.end.Together.{Together}
 use Rattle.crp_solve.specs.Answers.{path_in, count_of, IsPlanOf}
-use Rattle.crp_solve.specs.Chosen.{Chosen}
+use Rattle.crp_solve.specs.Chosen.{Chosen, is_timed}
 use Rattle.crp_solve.specs.Desks.{count_or}
 use Rattle.crp_solve.specs.Searches.{IsLost}
 use Rattle.crp_solve.specs.Rounds.{IsStartPlan, IsOneSearch, SearchesOf, AreSearched}
@@ -11,6 +12,8 @@ use Rattle.crp_solve.specs.Solved.{IsSolved, IsFirstPart}
 use Rattle.crp_solve.specs.Groups.{AreTogether}
 use Rattle.crp_solve.specs.Rests.{IsFoundTogether}
 use Rattle.crp_solve.proofs.Halves.{together_at}
+use Rattle.crp_solve.proofs.Rising.{one_searched}
+use Rattle.crp_solve.proofs.Stopped.{of_found}
 use Rattle.crp_solve.proofs.FirstAnswers.{unasked_is_solved}
 use Rattle.crp_solve.proofs.KeptPlan.{met_no_more, left_no_more, known_no_more, answer_no_more, both}
 use Rattle.crp_solve.proofs.search.Search.end.Goals as goal
@@ -20,10 +23,6 @@ put_together-done-requires-clause-words g c =
     let workers = c.self.inside.workers.value.items in
     let same : c.args.self.workers ≡ workers = search rules in
     together_at c.self.inside.common.of workers c.args.all c.self.invariant.workers.ready (subst (λ l. AreTogether l c.args.all) same c.requires.together)
-
--- one search, as it was chosen
-one : (p : Problem) (c : Chosen) (known : Together) (plan : _) → c.deepen ≡ false → IsStartPlan p c plan → IsOneSearch c.thin p c.budget plan known → AreSearched p c known
-one p c known plan alone begins s = record { plan = plan; begins = begins; searches = subst (λ b. SearchesOf b c.thin p c.budget plan known) (sym alone) s }
 
 pub returns-clause-solved : goal.returns-clause-solved
 returns-clause-solved g c =
@@ -35,10 +34,14 @@ returns-clause-solved g c =
     let thin_is : c.shared_of-shared.result.key.thin ≡ of.key.thin = search rules in
     let thin : c.shared_of-shared.result.key.thin ≡ chosen.thin = thin_is ∙ kept.thin in
     let start : IsStartPlan p chosen known = subst (λ (q : Problem). IsStartPlan q chosen known) (sym problem_is) kept.start in
-    let once = c.with_known.ensures.one_search chosen.thin p budget (subst (λ (t : ℕ). IfOk found (λ r. IsFoundTogether t p budget (count_of p (path_in known)) r.cert r.best r.expanded)) thin
-    (subst (λ (n : ℕ). IfOk found (λ r. IsFoundTogether c.shared_of-shared.result.key.thin p budget n r.cert r.best r.expanded)) first c.found_by-found.ensures.found)) in
-    let searched : IfOk c.with_known.result (AreSearched p chosen) = IfOk-weaker c.with_known.result (IsOneSearch chosen.thin p budget known) (AreSearched p chosen)
-    (λ k s. one p chosen k known kept.one_search start (subst (λ b. IsOneSearch chosen.thin p b known k) c.budget.ensures.value s)) once in
+    let once = c.with_known.ensures.one_search chosen.thin p budget (subst (λ (t : ℕ). IfOk found (λ r. IsFoundTogether t p budget (count_of p (path_in known)) r.cert r.best r.expanded r.stopped)) thin
+    (subst (λ (n : ℕ). IfOk found (λ r. IsFoundTogether c.shared_of-shared.result.key.thin p budget n r.cert r.best r.expanded r.stopped)) first c.found_by-found.ensures.found)) in
+    let timed_is : c.shared_of-shared.result.key.timed ≡ of.key.timed = search rules in
+    let timed = subst (λ (b : Bool). IfOk found (λ r. r.stopped ≡ true → b ≡ true)) (timed_is ∙ kept.timed) c.found_by-found.ensures.timely in
+    let timely = IfOk-weaker c.with_known.result (λ r. IsOkAnd found (λ f. r.stopped ≡ f.stopped)) (λ r. r.stopped ≡ true → is_timed chosen.time ≡ true)
+    (λ r same yes. of_found found (λ f same timed. timed (sym same ∙ yes)) same timed) c.with_known.ensures.stopped in
+    let searched : IfOk c.with_known.result (AreSearched p chosen) =
+    one_searched p chosen known c.with_known.result kept.one_search start (subst (λ b. IfOk c.with_known.result (IsOneSearch chosen.thin p b known)) c.budget.ensures.value once) timely in
     let lost = c.with_known.ensures.lost p budget start.best_met c.found_by-found.ensures.lost in
     let answered : IfOk c.answer_to.result (IsFirstPart p chosen) = c.answer_to.ensures.answered chosen searched (subst (λ b. IfErr c.with_known.result (λ l. IsLost p b l.best l.expanded)) c.budget.ensures.value lost) in
     let solved : IfOk c.answer_to.result (IsSolved p chosen) = both c.answer_to.result (λ s part none. unasked_is_solved p chosen s kept.not_first none part) answered c.answer_to.ensures.no_second in

@@ -1,7 +1,7 @@
-use Rattle.std.proofs.Common.{◌≡◌, ◌≤◌, ◌∷◌, [], length, length-append, rules, ◌∙◌, ap, arith}
+use Rattle.std.proofs.Common.{◌≡◌, ◌≤◌, ◌∷◌, [], length, length-append, rules, ◌∙◌, ap, sym, true, arith}
 use Rattle.crp_incumbent.specs.Seats.{Seat}
 use Rattle.std.proofs.lemmas.List.Elements.{All-take, All-push}
-use Rattle.crp_solve.specs.Groups.{Crew, all_keys, IsRoom}
+use Rattle.crp_solve.specs.Groups.{Crew, all_keys, StopsBy, IsRoom}
 use Rattle.crp_solve.proofs.Opened.{kept_new, shares-append, keys_snoc}
 use Rattle.crp_solve.proofs.workers.wider.seated.Goals as goal
 
@@ -25,4 +25,5 @@ loop-place-preserved g c =
       lists_left = omega (arith, before.lists_left, ap length c.in-Some-pop.ensures.items, length-append c.pop.new.self.items (c.in-Some-pop.list ∷ []));
       lists_are = rw c.in-Some-pop.ensures.rest (All-take IsRoom _ c.loop-place.lists.items before.lists_are);
       room = c.push_reserved.ensures.capacity ∙ before.room;
+      stops = λ may all. rw c.push_reserved.ensures.items (All-push (StopsBy (may ≡ true)) gs x (before.stops may all) (λ yes. absurd (let no = c.new.ensures.stopped in let both = sym no ∙ yes in cc)));
     }

@@ -1,5 +1,5 @@
-use Rattle.std.proofs.Common.{◌≡◌, ◌+◌, ◌++◌, All, length, map, vec_capacity}
-use Rattle.crp_solve.specs.Groups.{place_key, all_keys, shares, IsRoom, IsUnusedSeat}
+use Rattle.std.proofs.Common.{◌≡◌, ◌+◌, ◌++◌, Bool, true, All, length, map, vec_capacity}
+use Rattle.crp_solve.specs.Groups.{place_key, all_keys, shares, StopsBy, IsRoom, IsUnusedSeat}
 use Rattle.crp_solve.proofs.workers.wider.seated.Given as goal
 
 abbrev pub invariant-loop-place : goal.invariant-loop-place
@@ -15,4 +15,5 @@ invariant-loop-place g l = record {
   lists_left : length l.lists.items + length l.yielded ≡ length l.fn.lists.items;
   lists_are : All IsRoom l.lists.items;
   room : vec_capacity l.groups ≡ vec_capacity l.fn.groups;
+  stops : (may : Bool) → All (StopsBy (may ≡ true)) l.fn.groups.items → All (StopsBy (may ≡ true)) l.groups.items;
 }

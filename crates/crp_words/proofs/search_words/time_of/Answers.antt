@@ -1,0 +1,14 @@
+use Rattle.std.proofs.lemmas.Result.{err_from_is_err_and}
+use Rattle.clap.specs.Words.{found_of, rows_of}
+use Rattle.crp_words.proofs.TimeLacking.{no_bay_limit, no_total_limit}
+use Rattle.crp_words.proofs.search_words.time_of.Goals as goal
+
+pub returns-in_err-bay-clause-err : goal.returns-in_err-bay-clause-err
+returns-in_err-bay-clause-err c =
+    let p = err_from_is_err_and c.from_residual.result c.from_residual.ensures.1 in
+    rw (p.1, p.2) (no_bay_limit (rows_of (found_of c.args.matches.now)) c.in_err-bay.field-0.0 c.in_err-bay.ensures.err)
+
+pub returns-in_err-all-clause-err : goal.returns-in_err-all-clause-err
+returns-in_err-all-clause-err c =
+    let p = err_from_is_err_and c.from_residual-in_err-all.result c.from_residual-in_err-all.ensures.1 in
+    rw (p.1, p.2) (no_total_limit (rows_of (found_of c.args.matches.now)) c.in_ok-bay.bay c.in_err-all.field-0.0 c.in_ok-bay.ensures.ok c.in_err-all.ensures.err)
