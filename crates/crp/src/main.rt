@@ -1,26 +1,39 @@
 //! The program `crp`: plans for a container yard that gives its containers to a ship in a fixed order.
 #![tactic(auto)]
 
+mod cleared;
 mod given;
 mod piped;
 mod program;
 mod terminal;
 
+use crate::cleared::Cleared;
 use crate::given::words_of;
 use crate::piped::Piped;
 use crate::terminal::ErrorTerminal;
-use crp_commands::Streams;
+use crp_commands::{Metered, Streams};
 use crp_files::SystemFiles;
 use crp_plan::Counted;
 use std::io::IsTerminal;
 use std::process::ExitCode;
 
+// The streams of the program.
+fn streams_of<R, W, E>(input: R, out: W, errors: E) -> Streams<R, W, E> {
+    Streams { input, out, errors }
+}
+
 fn main(rt: HostRuntime) -> ExitCode {
-    let mut streams = Streams {
-        input: Counted::new(rt.stdin()),
-        out: Counted::new(Piped::new(rt.stdout())),
-        errors: Counted::new(rt.stderr()),
+    let terminal = ErrorTerminal::new(&rt);
+    let input = Metered {
+        source: Counted::new(rt.stdin()),
+        terminal: &terminal,
     };
+    let cleared = Cleared {
+        writer: rt.stdout(),
+        terminal: rt.stdout().is_terminal().then_some(&terminal),
+    };
+    let out = Counted::new(Piped::new(cleared));
+    let mut streams = streams_of(input, out, Counted::new(rt.stderr()));
     let status = program::run(
         &rt,
         rt.alloc(),
@@ -28,7 +41,7 @@ fn main(rt: HostRuntime) -> ExitCode {
         &mut streams,
         &words_of(&rt),
         rt.stdin().is_terminal(),
-        &ErrorTerminal::new(&rt),
+        &terminal,
     );
     ExitCode::from(status)
 }

@@ -1,7 +1,8 @@
 //! The terminal behind the standard error, and the clock of a run.
-use crp_commands::Terminal;
+use crp_commands::{Meter, Terminal};
 use crp_plan::{Counted, write_text};
 use crp_report::Clock;
+use std::fs;
 use std::io::IsTerminal;
 use std::time::Instant;
 
@@ -12,6 +13,7 @@ pub struct ErrorTerminal<'a> {
     is_there: bool,
     // When the clock began to run; without one it stands still.
     begun: Option<Instant>,
+    meter: Meter,
 }
 
 impl<'a> ErrorTerminal<'a> {
@@ -22,6 +24,7 @@ impl<'a> ErrorTerminal<'a> {
             rt,
             is_there: begun.is_some() && rt.stderr().is_terminal(),
             begun,
+            meter: Meter::new(rt.alloc()),
         }
     }
 }
@@ -48,5 +51,17 @@ impl Terminal for ErrorTerminal<'_> {
 
     fn write(&self, text: &[u8]) {
         let _shown = write_text(&mut Counted::new(self.rt.stderr()), text);
+    }
+
+    fn has_file(&self, name: &str) -> bool {
+        fs::metadata(self.rt, name).is_ok()
+    }
+
+    fn meter(&self) -> Option<&Meter> {
+        if self.is_there {
+            Some(&self.meter)
+        } else {
+            None
+        }
     }
 }

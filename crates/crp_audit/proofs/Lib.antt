@@ -13,3 +13,4 @@ mod Stopping
 mod Readable
 mod NoFault
 mod Fits
+mod FirstBays

@@ -9,3 +9,4 @@ pub mod Readable
 pub mod Faults
 pub mod Stops
 pub mod Fitting
+pub mod Part

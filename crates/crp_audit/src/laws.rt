@@ -1,21 +1,33 @@
 //! Laws of headlines.
-ghost use Rattle.std.specs.Prelude.{◌≡◌, ◌≢◌, ◌≤◌, ◌↔◌, ℕ, List, length};
+ghost use Rattle.std.specs.Prelude.{◌≡◌, ◌≢◌, ◌<◌, ◌≤◌, ◌↔◌, ℕ, List, length, take};
 ghost use Rattle.std.specs.List.{AllByRecursion};
 ghost use Rattle.crp_plan.specs.declared.moves.Move.{Move};
 ghost use Rattle.crp_plan.specs.Bay.{IsProblem, start};
+ghost use Rattle.crp_yard.specs.Inventory.{Inventory, IsYard};
 ghost use Rattle.crp_yard.specs.Naming.{IsNamedBay};
-ghost use Rattle.crp_order.specs.BayProblems.{ranked};
+ghost use Rattle.crp_movins.specs.LoadOrders.{LoadOrders};
+ghost use Rattle.crp_order.specs.BayProblems.{ranked, problems_of};
 ghost use Rattle.crp_said.specs.MoveLines.{AreMoveLines};
 ghost use Rattle.crp_said.specs.Spelled.{most, AreSmall, SpellsReport};
 ghost use Rattle.crp_audit.specs.declared.fault.AuditFault.{AuditFault as Fault};
 ghost use Rattle.crp_audit.specs.Faults.{IsWrongMove, IsFirstFault};
 ghost use Rattle.crp_audit.specs.Readable.{report_in};
-ghost use Rattle.crp_audit.specs.Headline.{Handed, Reported, numbers_in, problem_in, PrintsPlan, IsTrueOf, IsHeadline, shown_in};
+ghost use Rattle.crp_audit.specs.Part.{first_sequence};
+ghost use Rattle.crp_audit.specs.Headline.{Handed, handed, Reported, numbers_in, problem_in, PrintsPlan, IsTrueOf, IsHeadline, shown_in};
 ghost use Rattle.crp_audit.specs.LooksTrue.{LooksTrue};
 ghost use Rattle.crp_audit.specs.BorneOut.{AreBorneOut, IsEdited};
 ghost use Rattle.crp_checker.specs.Files.{FileShows};
 
 use crate::fault::AuditFault;
+
+/// Over the sequence of the first bays alone these have the problems that they have over the whole one, and no other bay has any; and the
+/// three numbers are the same.
+pub fn first_bays_are_stated()
+    ensures problems { (bays : ℕ) (yard : Inventory) (sequence : List (List ℕ)) → IsYard yard → 0 < bays
+        → problems_of yard (first_sequence bays yard sequence) ≡ take bays (problems_of yard sequence) }
+    ensures numbers { (bays : ℕ) (yard : Inventory) (orders : LoadOrders) (sequence : List (List ℕ)) (report certificates : List ℕ)
+        → numbers_in (handed yard orders (first_sequence bays yard sequence) report certificates) ≡ numbers_in (handed yard orders sequence report certificates) }
+{}
 
 /// The checker accepts the certificates of a headline, with verdicts that bear out what is said of its bays. Where of no bay it is said
 /// that its moves were edited, these are the headline's own verdicts.

@@ -127,15 +127,15 @@ check_is_free = refl
 check_is_done : (j : Job) → WordsAsk check_words j → (seen : JobSeen) (ended : Status) (bytes lines : List ℕ) → seen.input.given ≡ Some bytes
     → seen.out.held ≡ Some [] → seen.out.holds ≡ Some lines → IsDone j seen ended → IsCheck bytes lines
 unfolding walk_fault defaults_fault flags_fault walked bundle_met
-check_is_done (OneFile file (command.Check any_size)) (free, (name, is)) seen ended bytes lines given held holds ((source, inl (dash, from), (done, few)), kept) =
+check_is_done (OneFile file (command.Check any_size) stop) (free, (name, is, named)) seen ended bytes lines given held holds ((source, inl (dash, from), (done, few)), kept) =
     command_reported (command.Check any_size) ended bytes lines (call_of source seen.out)
     (record { given = ap (λ (s : SourceSeen). s.given) from.is ∙ given; held = held; holds = holds }) done
-check_is_done (OneFile file (command.Check any_size)) (free, (name, is)) seen ended bytes lines given held holds ((source, inr (other, from), (done, few)), kept) =
+check_is_done (OneFile file (command.Check any_size) stop) (free, (name, is, named)) seen ended bytes lines given held holds ((source, inr (other, from), (done, few)), kept) =
     absurd (other (sym (one_text _ _ is)))
-check_is_done (OneFile file command.Replay) (free, (name, is)) seen ended bytes lines given held holds done = absurd (other_letter 99 114 _ _ refl name)
-check_is_done (OneFile file command.Rewrite) (free, (name, is)) seen ended bytes lines given held holds done = absurd (other_letter 99 114 _ _ refl name)
-check_is_done (OneFile file (command.Bound chains)) (free, (name, is)) seen ended bytes lines given held holds done = absurd (other_letter 99 98 _ _ refl name.0)
-check_is_done (OneFile file (command.Prove chosen)) (free, (name, is)) seen ended bytes lines given held holds done =
+check_is_done (OneFile file command.Replay stop) (free, (name, is, named)) seen ended bytes lines given held holds done = absurd (other_letter 99 114 _ _ refl name)
+check_is_done (OneFile file command.Rewrite stop) (free, (name, is, named)) seen ended bytes lines given held holds done = absurd (other_letter 99 114 _ _ refl name)
+check_is_done (OneFile file (command.Bound chains) stop) (free, (name, is, named)) seen ended bytes lines given held holds done = absurd (other_letter 99 98 _ _ refl name.0)
+check_is_done (OneFile file (command.Prove chosen) stop) (free, (name, is, named)) seen ended bytes lines given held holds done =
     absurd (other_letter 99 112 _ _ refl name.0)
 check_is_done (Absent names settings) (free, (name, size, files, has)) seen ended bytes lines given held holds done = absurd (other_letter 99 97 _ _ refl name)
 check_is_done (Audit names settings) (free, (name, size, files, has)) seen ended bytes lines given held holds done = absurd (other_letter 99 97 _ _ refl name)
@@ -223,11 +223,11 @@ job_is_linked seen errors status one (Solve names settings quiet progress) (free
           let run = as_run names settings quiet progress seen (Failed f) failed in
           shared_fails names _ (behind run.failures seen) status f shared run.holds.0.1 is
     ]
-job_is_linked seen errors status one (OneFile file command.Replay) (free, (name, is)) ends = absurd (other_letter 115 114 _ _ refl name)
-job_is_linked seen errors status one (OneFile file command.Rewrite) (free, (name, is)) ends = absurd (other_letter 115 114 _ _ refl name)
-job_is_linked seen errors status one (OneFile file (command.Bound chains)) (free, (name, is)) ends = absurd (other_letter 115 98 _ _ refl name.0)
-job_is_linked seen errors status one (OneFile file (command.Check any_size)) (free, (name, is)) ends = absurd (other_letter 115 99 _ _ refl name.0)
-job_is_linked seen errors status one (OneFile file (command.Prove chosen)) (free, (name, is)) ends = absurd (other_letter 115 112 _ _ refl name.0)
+job_is_linked seen errors status one (OneFile file command.Replay stop) (free, (name, is, named)) ends = absurd (other_letter 115 114 _ _ refl name)
+job_is_linked seen errors status one (OneFile file command.Rewrite stop) (free, (name, is, named)) ends = absurd (other_letter 115 114 _ _ refl name)
+job_is_linked seen errors status one (OneFile file (command.Bound chains) stop) (free, (name, is, named)) ends = absurd (other_letter 115 98 _ _ refl name.0)
+job_is_linked seen errors status one (OneFile file (command.Check any_size) stop) (free, (name, is, named)) ends = absurd (other_letter 115 99 _ _ refl name.0)
+job_is_linked seen errors status one (OneFile file (command.Prove chosen) stop) (free, (name, is, named)) ends = absurd (other_letter 115 112 _ _ refl name.0)
 job_is_linked seen errors status one (Absent names settings) (free, (name, size, files, has)) ends = absurd (other_letter 115 97 _ _ refl name)
 job_is_linked seen errors status one (Audit names settings) (free, (name, size, files, has)) ends = absurd (other_letter 115 97 _ _ refl name)
 job_is_linked seen errors status one (Follow names settings) (free, (name, clear, files, has)) ends = absurd (other_letter 115 102 _ _ refl name)
@@ -328,11 +328,11 @@ pub limits_ask : (j : Job) → WordsAsk limit_words j → HasHeights (replicate 
 unfolding walk_fault defaults_fault flags_fault walked bundle_met
 limits_ask (Solve names settings quiet progress) (free, (name, size, twice, files, has, a, b)) =
     sizes_at _ settings.input.sizes (record { rows = refl; tiers = refl; heights = refl; workers = refl; split = refl; beam = refl; thin = refl; budget = refl; bays = refl; seconds = refl; total = refl }) has.1.0
-limits_ask (OneFile file command.Replay) (free, (name, is)) = absurd (other_letter 115 114 _ _ refl name)
-limits_ask (OneFile file command.Rewrite) (free, (name, is)) = absurd (other_letter 115 114 _ _ refl name)
-limits_ask (OneFile file (command.Bound chains)) (free, (name, is)) = absurd (other_letter 115 98 _ _ refl name.0)
-limits_ask (OneFile file (command.Check any_size)) (free, (name, is)) = absurd (other_letter 115 99 _ _ refl name.0)
-limits_ask (OneFile file (command.Prove chosen)) (free, (name, is)) = absurd (other_letter 115 112 _ _ refl name.0)
+limits_ask (OneFile file command.Replay stop) (free, (name, is, named)) = absurd (other_letter 115 114 _ _ refl name)
+limits_ask (OneFile file command.Rewrite stop) (free, (name, is, named)) = absurd (other_letter 115 114 _ _ refl name)
+limits_ask (OneFile file (command.Bound chains) stop) (free, (name, is, named)) = absurd (other_letter 115 98 _ _ refl name.0)
+limits_ask (OneFile file (command.Check any_size) stop) (free, (name, is, named)) = absurd (other_letter 115 99 _ _ refl name.0)
+limits_ask (OneFile file (command.Prove chosen) stop) (free, (name, is, named)) = absurd (other_letter 115 112 _ _ refl name.0)
 limits_ask (Audit names settings) (free, (name, size, files, has)) = absurd (other_letter 115 97 _ _ refl name)
 limits_ask (Follow names settings) (free, (name, clear, files, has)) = absurd (other_letter 115 102 _ _ refl name)
 limits_ask (Absent names settings) (free, (name, size, files, has)) = absurd (other_letter 115 97 _ _ refl name)
@@ -381,13 +381,13 @@ strong_thin found at n (inr (own, within)) =
 -- the beam is the one that is given, and all else that of --strong
 pub strong_asks : (j : Job) → WordsAsk strong_words j → IsStrongSearch 7 j
 unfolding walk_fault defaults_fault flags_fault walked bundle_met
-strong_asks (OneFile file (command.Prove settings)) (free, ((name, ((workers, budget, split, beam, thin, (first, deepen, chains)), time)), is)) =
+strong_asks (OneFile file (command.Prove settings) stop) (free, ((name, ((workers, budget, split, beam, thin, (first, deepen, chains)), time)), is, named)) =
     let at : IsStrongWith (rows_in (subcommand_of crp (words_or_default strong_words))) = record { strong = refl; beam_given = refl; beam = refl; thin = refl } in
     (strong_beam _ at settings.beam beam, strong_thin _ at settings.thin thin, deepen.1 (inr at.strong), chains.1 (inr at.strong))
-strong_asks (OneFile file command.Replay) (free, (name, is)) = absurd (other_letter 112 114 _ _ refl name)
-strong_asks (OneFile file command.Rewrite) (free, (name, is)) = absurd (other_letter 112 114 _ _ refl name)
-strong_asks (OneFile file (command.Bound chains)) (free, (name, is)) = absurd (other_letter 112 98 _ _ refl name.0)
-strong_asks (OneFile file (command.Check any_size)) (free, (name, is)) = absurd (other_letter 112 99 _ _ refl name.0)
+strong_asks (OneFile file command.Replay stop) (free, (name, is, named)) = absurd (other_letter 112 114 _ _ refl name)
+strong_asks (OneFile file command.Rewrite stop) (free, (name, is, named)) = absurd (other_letter 112 114 _ _ refl name)
+strong_asks (OneFile file (command.Bound chains) stop) (free, (name, is, named)) = absurd (other_letter 112 98 _ _ refl name.0)
+strong_asks (OneFile file (command.Check any_size) stop) (free, (name, is, named)) = absurd (other_letter 112 99 _ _ refl name.0)
 strong_asks (Absent names settings) (free, (name, size, files, has)) = absurd (other_letter 112 97 _ _ refl name)
 strong_asks (Audit names settings) (free, (name, size, files, has)) = absurd (other_letter 112 97 _ _ refl name)
 strong_asks (Follow names settings) (free, (name, clear, files, has)) = absurd (other_letter 112 102 _ _ refl name)

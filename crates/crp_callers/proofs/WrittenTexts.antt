@@ -1,5 +1,5 @@
 -- What the commands `absent`, `audit` and `follow` say of lists of bytes.
-use Rattle.std.proofs.Common.{◌≡◌, ◌≢◌, ◌≤◌, ◌∙◌, ℕ, List, [], length, Some, None, Option, Result, Ok, Err, refl, subst, sym}
+use Rattle.std.proofs.Common.{◌≡◌, ◌≢◌, ◌≤◌, ◌∙◌, ℕ, false, List, [], length, Some, None, Option, Result, Ok, Err, refl, ap, subst, sym}
 use Rattle.std.specs.Prelude.{MatchResult, OnOk, IsTrue, is_some}
 use Rattle.std.specs.Io.KnownBytes.{Appends}
 use Rattle.std.specs.List.{AllByRecursion}
@@ -22,7 +22,8 @@ use Rattle.crp_jobs.specs.declared.outcome.ToolFault.{ToolFault}
 use Rattle.crp_jobs.specs.declared.outcome.ToolFault.TheVariants as fault
 use Rattle.crp_order.specs.Absences.{absent_text}
 use Rattle.crp_commands.specs.Absent.{AbsentSeen, Lists}
-use Rattle.crp_commands.specs.Audit.{AuditSeen, Audits, AuditFailsWith, IsInputOf, audit_text}
+use Rattle.crp_commands.specs.Audit.{AuditChosen, AuditSeen, Audits, AuditFailsWith, IsHandedIn, IsInputOf, audit_text}
+use Rattle.crp_commands.specs.Partial.{IsReportIn, part_of}
 use Rattle.crp_commands.specs.Follow.{FollowChosen, FollowSeen, Follows, IsFollowInput, Ship, WritesTexts, WritesWhole, made_for}
 use Rattle.crp_callers.specs.CommandReports.{AreInput, HoldsOfTexts, IsFollowedWhole, IsWhole}
 
@@ -79,11 +80,19 @@ handed_at : (P : Handed → Type 0) (h : Handed) (report certificates : List ℕ
 handed_at P h report certificates e f is =
     subst (λ (c : List ℕ). P (handed h.yard h.orders h.sequence report c)) f (subst (λ (r : List ℕ). P (handed h.yard h.orders h.sequence r h.certificates)) e is)
 
+-- a report that may not end early is audited as it is, by the whole sequence
+abbrev whole : InputChosen → AuditChosen
+whole chosen = record { input = chosen; partial = false }
+
+whole_input : (chosen : InputChosen) (s : AuditSeen) (h : Handed) → IsHandedIn (whole chosen) s h → IsInputOf chosen s.yard s.movins h.yard h.orders h.sequence
+whole_input chosen s h is =
+    let all : h.sequence ≡ is.sequence = is.part ∙ ap (λ bays. part_of bays h.yard is.sequence) is.report.1 in subst (IsInputOf chosen s.yard s.movins h.yard h.orders) (sym all) is.input
+
 pub audited : (chosen : InputChosen) (s : AuditSeen) (list message report certificates text : List ℕ) → AreAudited s list message report certificates → IsFilled s.out text
-    → Audits chosen s → HoldsOfTexts chosen list message report certificates (λ h. (is : IsHeadline h) × (text ≡ audit_text (shown_in h is)))
+    → Audits (whole chosen) s → HoldsOfTexts chosen list message report certificates (λ h. (is : IsHeadline h) × (text ≡ audit_text (shown_in h is)))
 audited chosen s list message report certificates text over filled (h, in_hand, few, headline) =
-    let input = input_is chosen s.yard s.movins list message h.yard h.orders h.sequence over.list_given over.message_given in_hand.input in
-    let says = given_is s.report.given report h.report over.report_given in_hand.report.1 in
+    let input = input_is chosen s.yard s.movins list message h.yard h.orders h.sequence over.list_given over.message_given (whole_input chosen s h in_hand) in
+    let says = in_hand.report.0 ∙ given_is s.report.given report in_hand.text over.report_given in_hand.given.1 in
     let shows = given_is s.certificates.given certificates h.certificates over.certificates_given in_hand.certificates in
     let is : (is : IsHeadline h) × (text ≡ audit_text (shown_in h is)) = (headline.0, got s.out text _ filled headline.1) in
     (h.yard, h.orders, h.sequence, input, handed_at (λ (g : Handed). (is : IsHeadline g) × (text ≡ audit_text (shown_in g is))) h report certificates says shows is)
@@ -99,11 +108,11 @@ IsRefused f h = (before : List (YardBay × Verdict)) × IsAuditRefusal h before 
     × (AllByRecursion IsNamedBay h.yard.bays → length h.yard.bays ≤ most → AreSmall (numbers_in h) → f ≢ wrong.Memory → ¬ IsHeadline h)
 
 pub refused_texts : NoneHasFault → (chosen : InputChosen) (s : AuditSeen) (list message report certificates : List ℕ) (x : ToolFault) (f : AuditFault) → x ≡ fault.Audited f
-    → AreAudited s list message report certificates → AuditFailsWith chosen s x → HoldsOfTexts chosen list message report certificates (IsRefused f)
+    → AreAudited s list message report certificates → AuditFailsWith (whole chosen) s x → HoldsOfTexts chosen list message report certificates (IsRefused f)
 refused_texts law chosen s list message report certificates x f e over fails =
-    let (h, in_hand, (memory, (shown, refusal, gets))) = subst (AuditFailsWith chosen s) e fails in
-    let input = input_is chosen s.yard s.movins list message h.yard h.orders h.sequence over.list_given over.message_given in_hand.input in
-    let says = given_is s.report.given report h.report over.report_given in_hand.report.1 in
+    let (h, in_hand, (memory, (shown, refusal, gets))) = subst (AuditFailsWith (whole chosen) s) e fails in
+    let input = input_is chosen s.yard s.movins list message h.yard h.orders h.sequence over.list_given over.message_given (whole_input chosen s h in_hand) in
+    let says = in_hand.report.0 ∙ given_is s.report.given report in_hand.text over.report_given in_hand.given.1 in
     let shows = given_is s.certificates.given certificates h.certificates over.certificates_given in_hand.certificates in
     let is : IsRefused f h = (shown, refusal, λ named few small other headline. law h headline refusal.before f named few small other refusal.first) in
     (h.yard, h.orders, h.sequence, input, handed_at (IsRefused f) h report certificates says shows is)
@@ -149,8 +158,10 @@ whole_for chosen s list message report page left table yard (Some ship) said ove
     let says = input_is chosen.input s.yard over.messages list message yard ship.0 ship.1 over.list_given over.message_given input in
     (yard, ship.0, ship.1, says, whole_texts chosen s list message report page left table yard ship said over same says writes)
 
-pub followed_whole : (chosen : FollowChosen) (s : FollowSeen) (list message report page left table : List ℕ) → AreFollowed s list message report page left table
+pub followed_whole : (chosen : FollowChosen) (s : FollowSeen) → chosen.partial ≡ false → (list message report page left table : List ℕ) → AreFollowed s list message report page left table
     → Follows chosen s → IsFollowedWhole chosen.input chosen.loaded list message report page left table
-followed_whole chosen s list message report page left table over (yard, ship, said, given, writes) =
-    whole_for chosen s list message report page left table yard ship said over (given_is s.report.given report said over.report_given given.report_given)
+followed_whole chosen s plain list message report page left table over (yard, ship, said, given, writes) =
+    let (text, bays, is, in_it) = given.report_given in
+    let same : said ≡ text = (subst (λ p. IsReportIn p text said bays) plain in_it).0 in
+    whole_for chosen s list message report page left table yard ship said over (same ∙ given_is s.report.given report text over.report_given is)
     (subst (λ (o : Option SourceSeen). IsFollowInput chosen.input s.yard o yard ship) over.asked given.input) writes

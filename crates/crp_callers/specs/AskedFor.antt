@@ -11,18 +11,18 @@ use Rattle.crp_words.specs.declared.usage.Usage.TheVariants.{Help, Wrong, Memory
 -- the job is a run over bays whose rows have these heights
 abbrev pub HasHeights : List ℕ → Job → Type 0
 HasHeights heights (Solve names settings quiet progress) = settings.input.sizes ≡ one_size heights
-HasHeights heights (OneFile file command) = ⊥
+HasHeights heights (OneFile file command stop) = ⊥
 HasHeights heights (Absent names settings) = ⊥
 HasHeights heights (Audit names settings) = ⊥
 HasHeights heights (Follow names settings) = ⊥
 
 -- the job is a search that begins with a beam of this width; chains and up to 10000 thinned branches may close a position, and its limit rises
 abbrev pub IsStrongSearch : ℕ → Job → Type 0
-IsStrongSearch width (OneFile file (Prove search)) = (search.beam ≡ width) × (search.thin ≡ 10000) × IsTrue search.deepen × IsTrue search.chains
-IsStrongSearch width (OneFile file Replay) = ⊥
-IsStrongSearch width (OneFile file Rewrite) = ⊥
-IsStrongSearch width (OneFile file (Bound chains)) = ⊥
-IsStrongSearch width (OneFile file (Check any_size)) = ⊥
+IsStrongSearch width (OneFile file (Prove search) stop) = (search.beam ≡ width) × (search.thin ≡ 10000) × IsTrue search.deepen × IsTrue search.chains
+IsStrongSearch width (OneFile file Replay stop) = ⊥
+IsStrongSearch width (OneFile file Rewrite stop) = ⊥
+IsStrongSearch width (OneFile file (Bound chains) stop) = ⊥
+IsStrongSearch width (OneFile file (Check any_size) stop) = ⊥
 IsStrongSearch width (Absent names settings) = ⊥
 IsStrongSearch width (Audit names settings) = ⊥
 IsStrongSearch width (Follow names settings) = ⊥

@@ -1,20 +1,24 @@
 //! Callers of the audit of a report and its certificates.
-ghost use Rattle.std.specs.Prelude.{◌≡◌, ◌≤◌, List, length, map, filter, IfOk, IfSome, IfNone};
+ghost use Rattle.std.specs.Prelude.{◌≡◌, ◌≤◌, ◌∷◌, [], ℕ, List, length, map, filter, IfOk, IfSome, IfNone};
 ghost use Rattle.std.specs.List.{AllByRecursion, AllZip};
 ghost use Rattle.crp_sizes.specs.Sizes.{heights_at};
 ghost use Rattle.crp_yard.specs.Naming.{IsNamedBay};
-ghost use Rattle.crp_order.specs.BayProblems.{is_called, problem_of};
+ghost use Rattle.crp_yard.specs.Inventory.{Inventory, IsYard};
+ghost use Rattle.crp_movins.specs.LoadOrders.{LoadOrders};
+ghost use Rattle.crp_order.specs.declared.bay_problem.BayProblem.{BayProblem};
+ghost use Rattle.crp_order.specs.BayProblems.{is_called, problem_of, problems_of};
 ghost use Rattle.crp_checker.specs.Verdicts.{Says};
 ghost use Rattle.crp_checker.specs.Files.{FileShows};
 ghost use Rattle.crp_said.specs.Said.{BaySaid, report_text};
 ghost use Rattle.crp_said.specs.Spelled.{most, AreSmall};
 ghost use Rattle.crp_audit.specs.Headline.{Handed, handed, Reported, IsHeadline, numbers_in, shown_in};
+ghost use Rattle.crp_audit.specs.Part.{first_sequence};
 ghost use Rattle.crp_audit.specs.BorneOut.{AreBorneOut, IsEdited};
 ghost use Rattle.crp_audit.specs.Faults.{IsFirstFault};
 
 use crp_audit::{
-    AuditFault, AuditStop, AuditStopped, audit, headlines_are_read, headlines_show,
-    one_list_of_verdicts,
+    AuditFault, AuditStop, AuditStopped, audit, first_bays_are_stated, headlines_are_read,
+    headlines_show, one_list_of_verdicts,
 };
 use crp_checker::{Verdicts, verdicts_say};
 use crp_movins::Orders;
@@ -101,6 +105,16 @@ pub fn shown_of_each(
         certificates.len(),
         &mut interruptions,
     )
+}
+
+/// Of two bays the first alone has its problem, by the sequence that leaves out the containers of the other, and the numbers are the same.
+pub fn first_bay_alone()
+    ensures alone { (yard : Inventory) (sequence : List (List ℕ)) (first second : BayProblem) → IsYard yard → problems_of yard sequence ≡ first ∷ second ∷ []
+        → problems_of yard (first_sequence 1 yard sequence) ≡ first ∷ [] }
+    ensures numbers { (yard : Inventory) (orders : LoadOrders) (sequence : List (List ℕ)) (report certificates : List ℕ)
+        → numbers_in (handed yard orders (first_sequence 1 yard sequence) report certificates) ≡ numbers_in (handed yard orders sequence report certificates) }
+{
+    first_bays_are_stated();
 }
 
 /// A headline of a yard with few bays and small numbers is refused neither for the first line of its report nor for its three numbers.

@@ -25,12 +25,12 @@ ghost use Rattle.crp_callers.specs.CommandReports.{EndsWithBound, HoldsOfTexts, 
 
 use crp_audit::headlines_have_no_fault;
 use crp_commands::{
-    FollowSettings, Listed, TextFiles, absent, audit, bound, check, follow, perform, replay,
-    rewrite,
+    AuditSettings, FollowSettings, Listed, NoTerminal, TextFiles, absent, audit, bound, check,
+    follow, perform, replay, rewrite,
 };
 use crp_jobs::{FileCommand, ToolFault};
 use crp_plan::{Nowhere, Received};
-use crp_report::{InputSettings, NoClock, Status};
+use crp_report::{InputSettings, Status};
 use std::alloc::Global;
 use std::sync::Wait;
 use std::thread::Threads;
@@ -49,7 +49,7 @@ pub fn performed<T: Threads + Wait + Sync>(
     perform(
         threads,
         alloc,
-        &NoClock,
+        &NoTerminal,
         command,
         &mut source,
         &mut out,
@@ -147,14 +147,19 @@ pub fn audited(
     let mut report_from = report;
     let mut certificates_from = certificates;
     let mut out = Received::new(alloc);
+    let asked = AuditSettings {
+        input: settings,
+        partial: false,
+    };
     match audit(
         alloc,
         &mut yard_from,
         &mut orders_from,
         &mut report_from,
         &mut certificates_from,
-        settings,
+        &asked,
         &mut out,
+        &mut Nowhere,
     ) {
         Ok(_) => Ok(out.bytes),
         Err(fault) => Err(fault),
@@ -190,6 +195,7 @@ pub fn followed(
         page: true,
         list: true,
         loaded,
+        partial: false,
     };
     follow(
         alloc,

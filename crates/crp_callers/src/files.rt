@@ -40,6 +40,7 @@ pub fn report_of_file<T: Threads + Wait + Sync, F: Files, S: Terminal + Sync>(
     let job = Job::OneFile {
         file: name,
         command,
+        stop: None,
     };
     run_job(threads, alloc, files, &mut streams, &job, terminal)?;
     Ok(streams.out.bytes)

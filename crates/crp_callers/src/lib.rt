@@ -48,6 +48,7 @@ pub use audited_runs::follow_of_headline;
 pub use audited_runs::follow_of_run;
 pub use audited_runs::headlines_name_their_bays;
 pub use audited_runs::runs_name_their_bays;
+pub use audits::first_bay_alone;
 pub use audits::first_fault;
 pub use audits::headlines_begin_right;
 pub use audits::shown_of_each;

@@ -1,6 +1,6 @@
 -- A job with the sizes of its list.
 use Rattle.std.proofs.Common.{◌≡◌, ℕ, ◌+◌, ◌≤◌, List, Option, Some, None, Result, Ok, Err, MatchResult, refl, subst, inr, arith}
-use Rattle.std.specs.Prelude.{is_some, not}
+use Rattle.std.specs.Prelude.{◌&&◌, is_some, not}
 use Rattle.std.proofs.KnownBytes.{Keeps-refl}
 use Rattle.crp_plan.specs.Devices.{CountsMore, TransfersAlone, most_interruptions}
 use Rattle.crp_sizes.specs.declared.fault.SizesFault.{SizesFault}
@@ -109,15 +109,15 @@ no_room files list sized is =
 
 -- where nothing is written, nothing is noted
 pub unnoted_job : (j : Job) (held : Option (List ℕ)) (failures : ℕ) → IsNoted j (record { held = held; holds = held; before = failures; after = failures })
-unnoted_job (job.OneFile file command) held failures = unnoted_in command held failures
+unnoted_job (job.OneFile file command stop) held failures = unnoted_in command held failures
 unnoted_job (job.Absent names settings) held failures = (Keeps-refl held, refl)
-unnoted_job (job.Audit names settings) held failures = (Keeps-refl held, refl)
-unnoted_job (job.Follow names settings) held failures = unnoted (not (is_some names.movins)) held failures
+unnoted_job (job.Audit names settings) held failures = unnoted (not names.partial) held failures
+unnoted_job (job.Follow names settings) held failures = unnoted (not names.partial && not (is_some names.movins)) held failures
 unnoted_job (job.Solve names settings quiet progress) held failures = unnoted quiet held failures
 
 -- notes are of the job, whatever its sizes
 pub noted_sized : (j : Job) (sized : YardSizes) (s : SinkSeen) → IsNoted (with_sizes sized j) s → IsNoted j s
-noted_sized (job.OneFile file command) sized s is = is
+noted_sized (job.OneFile file command stop) sized s is = is
 noted_sized (job.Absent names settings) sized s is = is
 noted_sized (job.Audit names settings) sized s is = is
 noted_sized (job.Follow names settings) sized s is = is

@@ -1,20 +1,26 @@
 -- How an audit ends, from how its parts do.
-use Rattle.std.proofs.Common.{◌+◌, ℕ, Result, Ok, Err, MatchResult, sym, subst, inl, inr}
+use Rattle.std.proofs.Common.{◌≡◌, ◌∙◌, ◌+◌, ℕ, List, Option, Result, Ok, Err, MatchResult, sym, ap, subst, inl, inr}
 use Rattle.crp_plan.specs.Devices.{CountsMore}
 use Rattle.crp_report.specs.declared.status.Status.{Status}
 use Rattle.crp_report.specs.Chosen.{InputChosen}
 use Rattle.crp_report.specs.Runs.{GetsNothing}
-use Rattle.crp_audit.specs.Headline.{Handed}
+use Rattle.crp_yard.specs.Inventory.{Inventory}
+use Rattle.crp_yard.specs.Reading.{IsTextOf}
+use Rattle.crp_movins.specs.LoadOrders.{LoadOrders}
+use Rattle.crp_audit.specs.Headline.{Handed, handed}
 use Rattle.crp_jobs.specs.declared.job.AuditFiles.{AuditFiles}
 use Rattle.crp_jobs.specs.declared.outcome.Statement.{Statement}
 use Rattle.crp_jobs.specs.declared.outcome.ToolFault.{ToolFault}
 use Rattle.crp_jobs.specs.declared.outcome.ToolFault.TheVariants as fault
-use Rattle.crp_commands.specs.Audit.{AuditSeen, AuditEnds, AuditFails, AuditFailsWith, AuditReportsOverFiles, AuditFailsOverFiles, IsHandedIn, IsInputAccepted, IsNoStatement, IsOverNamed, StopsOn, statement_of}
+use Rattle.crp_commands.specs.declared.auditing.TheConstants.{MOST_REPORT}
+use Rattle.crp_commands.specs.Calls.{IsTextWithin}
+use Rattle.crp_commands.specs.Partial.{IsReportIn, part_of}
+use Rattle.crp_commands.specs.Audit.{AuditChosen, AuditSeen, AuditEnds, AuditFails, AuditFailsWith, AuditReportsOverFiles, AuditFailsOverFiles, IsHandedIn, IsInputOf, audited_by, IsInputAccepted, IsNoStatement, IsOverNamed, StopsOn, statement_of}
 use Rattle.crp_jobs.specs.Opened.{FilesSeen}
 use Rattle.crp_commands.proofs.Finished.{more_and_more}
 
 -- a statement was not read
-pub unread : (chosen : InputChosen) (s : AuditSeen) (which : Statement) (f : ToolFault) → GetsNothing s.out → IsInputAccepted chosen s
+pub unread : (chosen : AuditChosen) (s : AuditSeen) (which : Statement) (f : ToolFault) → GetsNothing s.out → IsInputAccepted chosen.input s
     → IsNoStatement which (statement_of s which) f → AuditFailsWith chosen s f
 unread chosen s which (fault.ReadOf other) nothing input is =
     (nothing, input, subst (λ (w : Statement). IsNoStatement w (statement_of s w) (fault.ReadOf other)) (sym is.0) is)
@@ -37,8 +43,23 @@ unread chosen s which fault.WritePage nothing input is = absurd is
 unread chosen s which (fault.OneFile both) nothing input is = absurd is
 unread chosen s which fault.TooLarge nothing input is = absurd is
 
+-- this was handed in
+pub in_hand : (chosen : AuditChosen) (s : AuditSeen) (old yard : Inventory) (listed orders : LoadOrders) (whole sequence : List (List ℕ)) (text report certificates : List ℕ) (bays : Option ℕ)
+    → IsInputOf chosen.input s.yard s.movins old listed whole → IsTextWithin MOST_REPORT s.report.given text → IsReportIn chosen.partial text report bays → yard ≡ old → orders ≡ listed
+    → sequence ≡ part_of bays old whole → IsTextOf s.certificates.given certificates → IsHandedIn chosen s (handed yard orders sequence report certificates)
+in_hand chosen s old yard listed orders whole sequence text report certificates bays input within is same_yard same_orders part given = record {
+  text = text;
+  bays = bays;
+  sequence = whole;
+  input = subst (λ v. IsInputOf chosen.input s.yard s.movins v orders whole) (sym same_yard) (subst (λ v. IsInputOf chosen.input s.yard s.movins old v whole) (sym same_orders) input);
+  given = within;
+  report = is;
+  part = part ∙ ap (λ v. part_of bays v whole) (sym same_yard);
+  certificates = given;
+}
+
 -- the audit stopped on what was handed in
-pub stopped : (chosen : InputChosen) (s : AuditSeen) (h : Handed) (f : ToolFault) → IsHandedIn chosen s h → StopsOn h s.out f → AuditFailsWith chosen s f
+pub stopped : (chosen : AuditChosen) (s : AuditSeen) (h : Handed) (f : ToolFault) → IsHandedIn chosen s h → StopsOn h s.out f → AuditFailsWith chosen s f
 stopped chosen s h (fault.Run g) is stops = absurd stops
 stopped chosen s h (fault.ReadOf which) is stops = absurd stops
 stopped chosen s h (fault.TooLargeOf which) is stops = absurd stops
@@ -52,7 +73,7 @@ closed_four w x y z a b c d e first second third fourth =
 
 -- over files it ends as over its sources
 pub over_files : (names : AuditFiles) (chosen : InputChosen) (files : FilesSeen) (s : AuditSeen) (answer : Result Status ToolFault) → IsOverNamed files names s.out s →
-    MatchResult answer (AuditEnds chosen s) (AuditFails chosen s) →
+    MatchResult answer (AuditEnds (audited_by names chosen) s) (AuditFails (audited_by names chosen) s) →
     MatchResult answer (AuditReportsOverFiles names chosen files s.out) (AuditFailsOverFiles names chosen files s.out)
 over_files names chosen files s (Ok ended) over is = (s, over, is)
 over_files names chosen files s (Err f) over is = inr (s, over, is)

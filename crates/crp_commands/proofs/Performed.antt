@@ -6,10 +6,12 @@ use Rattle.crp_jobs.specs.declared.job.FileCommand.{FileCommand}
 use Rattle.crp_jobs.specs.declared.outcome.ToolFault.{ToolFault}
 use Rattle.crp_jobs.specs.declared.job.Job.TheVariants as job
 use Rattle.crp_jobs.specs.declared.job.AbsentFiles.{AbsentFiles}
+use Rattle.crp_jobs.specs.declared.job.AuditFiles.{AuditFiles}
 use Rattle.crp_jobs.specs.declared.job.RunFiles.{RunFiles}
 use Rattle.crp_report.specs.Chosen.{InputChosen, RunChosen}
 use Rattle.crp_jobs.specs.Opened.{AreFilesLeftAlone, IsSourceLeftAlone}
 use Rattle.crp_commands.specs.Absent.{AbsentReportsOverFiles, AbsentFailsOverFiles}
+use Rattle.crp_commands.specs.Audit.{AuditReportsOverFiles, AuditFailsOverFiles}
 use Rattle.crp_commands.specs.Solving.{RunReportsOverFiles, SolveFailsOverFiles}
 use Rattle.crp_commands.specs.Performing.{ReportsOverFiles, FailsOverFiles, JobSeen, IsFrom, IsFromFile, call_of, PerformsIn, CommandFailsInCall, ReportsFile, FileFailsWith}
 
@@ -40,6 +42,13 @@ pub absent_job : (names : AbsentFiles) (chosen : InputChosen) (seen : JobSeen) (
     → MatchResult answer (ReportsOverFiles (job.Absent names chosen) seen) (FailsOverFiles (job.Absent names chosen) seen)
 absent_job names chosen seen (Ok ended) alone is = (alone, is)
 absent_job names chosen seen (Err f) alone is = (alone, is)
+
+-- an audit over files is the job that was asked for
+pub audit_job : (names : AuditFiles) (chosen : InputChosen) (seen : JobSeen) (answer : Result Status ToolFault) → IsSourceLeftAlone seen.input
+    → MatchResult answer (AuditReportsOverFiles names chosen seen.files seen.out) (AuditFailsOverFiles names chosen seen.files seen.out)
+    → MatchResult answer (ReportsOverFiles (job.Audit names chosen) seen) (FailsOverFiles (job.Audit names chosen) seen)
+audit_job names chosen seen (Ok ended) alone is = (alone, is)
+audit_job names chosen seen (Err f) alone is = (alone, is)
 
 -- a run over files is the job that was asked for
 pub solved_job : (names : RunFiles) (chosen : RunChosen) (quiet progress : Bool) (seen : JobSeen) (answer : Result Status ToolFault) → IsSourceLeftAlone seen.input

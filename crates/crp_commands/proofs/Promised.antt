@@ -77,7 +77,7 @@ whole_front s text gets = (length text, subst (λ (l : List ℕ). Appends s.held
 
 -- of one that has ended
 pub headline_kept : (j : Job) (seen : JobSeen) (ended : Status) → ReportsOverFiles j seen ended → KeepsHeadline j seen
-headline_kept (job.OneFile file command) seen ended is = tt
+headline_kept (job.OneFile file command stop) seen ended is = tt
 headline_kept (job.Absent names settings) seen ended is = tt
 headline_kept (job.Audit names settings) seen ended is = tt
 headline_kept (job.Follow names heights) seen ended is = tt
@@ -153,7 +153,7 @@ solve_so_far names chosen seen fault.TooLarge is = absurd is
 solve_so_far names chosen seen fault.Memory is = absurd is
 
 pub headline_so_far : (j : Job) (seen : JobSeen) (f : ToolFault) → FailsOverFiles j seen f → KeepsHeadlineSoFar j seen
-headline_so_far (job.OneFile file command) seen f is = tt
+headline_so_far (job.OneFile file command stop) seen f is = tt
 headline_so_far (job.Absent names settings) seen f is = tt
 headline_so_far (job.Audit names settings) seen f is = tt
 headline_so_far (job.Follow names heights) seen f is = tt

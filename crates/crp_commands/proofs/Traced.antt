@@ -2,6 +2,7 @@
 use Rattle.std.proofs.Common.{◌≡◌, ◌⊎◌, ◌-◌, ◌≤◌, ℕ, List, [], Bool, true, false, Option, Some, None, inl, inr, refl, subst, sym, arith}
 use Rattle.std.specs.Prelude.{IfSome, IsTrue, is_some, not}
 use Rattle.crp_yard.specs.Inventory.{Inventory}
+use Rattle.crp_yard.specs.Reading.{IsTextOf}
 use Rattle.crp_said.specs.declared.numbers.Numbers.{Numbers}
 use Rattle.crp_follow.specs.declared.fault.FollowFault.{FollowFault}
 use Rattle.crp_follow.specs.declared.fault.FollowFault.TheVariants as followed
@@ -21,6 +22,7 @@ use Rattle.crp_jobs.specs.declared.outcome.ToolFault.TheVariants as fault
 use Rattle.crp_jobs.specs.Outcomes.{fault_of_follow, fault_of_loading}
 use Rattle.crp_commands.specs.Follow.{AreTextsOf, HasNoTexts, IsFollowInput, Ship, StopsPage, StopsWriting, Texts, WritesPart, WritesWhole, if_asked, loading_faults, made_for, numbers_for, sink_failures, table_for}
 use Rattle.crp_commands.specs.Noted.{IsNotedBy}
+use Rattle.crp_commands.specs.Partial.{IsReportIn}
 use Rattle.crp_jobs.specs.Opened.{IsSourceLeftAlone}
 
 -- ---- a device of which something may be asked
@@ -115,3 +117,8 @@ texts_of_call ship loaded yard report numbers bays x asked sink followed faultle
   list = λ wanted. list (subst (λ (b : Bool). IsTrue b) (asked_some asked sink) wanted);
   table = table;
 }
+
+-- the report of a text that the source had
+pub given_as : (partial : Bool) (given : Option (List ℕ)) (text whole report : List ℕ) (bays : Option ℕ) → report ≡ whole → IsTextOf given text → IsReportIn partial text whole bays
+    → (text : List ℕ) × (bays : Option ℕ) × IsTextOf given text × IsReportIn partial text report bays
+given_as partial given text whole report bays e is in_it = (text, bays, is, subst (λ l. IsReportIn partial text l bays) (sym e) in_it)

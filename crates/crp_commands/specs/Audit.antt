@@ -1,5 +1,5 @@
 -- What `audit` does: a report and a file of certificates, whoever made them, are held against a yard list and a message.
-use Rattle.std.specs.Prelude.{◌≡◌, ◌≢◌, ℕ, ◌+◌, ◌-◌, ◌<◌, ◌≤◌, ◌⊎◌, List, [], ◌∷◌, ◌++◌, length, codes, decimal, IfSome, IsTrue, ⊤}
+use Rattle.std.specs.Prelude.{◌≡◌, ◌≢◌, ℕ, Bool, ◌+◌, ◌-◌, ◌<◌, ◌≤◌, ◌⊎◌, List, [], ◌∷◌, ◌++◌, length, codes, decimal, Option, IfSome, IsTrue, ⊤}
 use Rattle.crp_plan.specs.BayNames.{YardBay}
 use Rattle.crp_plan.specs.Devices.{HasFailed, most_interruptions}
 use Rattle.crp_yard.specs.Inventory.{Inventory}
@@ -28,8 +28,14 @@ use Rattle.crp_jobs.specs.declared.outcome.ToolFault.{ToolFault}
 use Rattle.crp_jobs.specs.declared.outcome.ToolFault.TheVariants as fault
 use Rattle.crp_commands.specs.Calls.{IsTextWithin, failures_of_tool_fault}
 use Rattle.crp_commands.specs.Check.{verdict_lines}
+use Rattle.crp_commands.specs.Partial.{IsReportIn, part_of}
 use Rattle.crp_files.specs.Known.{KnownFiles}
 use Rattle.crp_jobs.specs.Opened.{FilesSeen, FilesFail, AreFilesKept, IsFileOpened, IsOneRefused, IsLeftAlone}
+
+-- what is asked for: what the input means, and whether the report may end early
+pub record AuditChosen : Type 0 where
+  pub input : InputChosen
+  pub partial : Bool
 
 -- what an audit saw of its four sources, and of its sink
 pub record AuditSeen : Type 0 where
@@ -59,10 +65,16 @@ abbrev pub most_of : Statement → ℕ
 most_of statement.Report = MOST_REPORT
 most_of statement.Certificates = ANY_SIZE
 
--- this is what the sources had: the input, a report, and certificates, however many bytes these are
-pub record IsHandedIn (chosen : InputChosen) (s : AuditSeen) (h : Handed) : Type 0 where
-  pub input : IsInputOf chosen s.yard s.movins h.yard h.orders h.sequence
-  pub report : IsTextWithin MOST_REPORT s.report.given h.report
+-- this is what the sources had: the input, a report, and certificates, however many bytes these are. Of a report that ends early it is the report with
+-- its last line, and the sequence of the bays that stand there
+pub record IsHandedIn (chosen : AuditChosen) (s : AuditSeen) (h : Handed) : Type 0 where
+  pub text : List ℕ
+  pub bays : Option ℕ
+  pub sequence : List (List ℕ)
+  pub input : IsInputOf chosen.input s.yard s.movins h.yard h.orders sequence
+  pub given : IsTextWithin MOST_REPORT s.report.given text
+  pub report : IsReportIn chosen.partial text h.report bays
+  pub part : h.sequence ≡ part_of bays h.yard sequence
   pub certificates : IsTextOf s.certificates.given h.certificates
 
 -- ---- what is printed
@@ -83,7 +95,7 @@ IsAuditText h text = ((is : IsHeadline h) × (text ≡ audit_text (shown_in h is
 -- ---- a yes
 
 -- what is handed in is a headline, with no more certificates than are read, its text was written, and nothing else
-abbrev pub Audits : InputChosen → AuditSeen → Type 0
+abbrev pub Audits : AuditChosen → AuditSeen → Type 0
 Audits chosen s = (h : Handed) × IsHandedIn chosen s h × (length h.certificates ≤ ANY_SIZE) × ((is : IsHeadline h) × Gets s.out (audit_text (shown_in h is)))
 
 -- ---- a no
@@ -126,22 +138,22 @@ statement_of s statement.Report = s.report
 statement_of s statement.Certificates = s.certificates
 
 -- what a fault says of an audit
-abbrev pub AuditFailsWith : InputChosen → AuditSeen → ToolFault → Type 0
-AuditFailsWith chosen s (fault.Run f) = GetsNothing s.out × IsNoInput chosen s.yard s.movins f
-AuditFailsWith chosen s (fault.ReadOf which) = GetsNothing s.out × IsInputAccepted chosen s × IsNoStatement which (statement_of s which) (fault.ReadOf which)
+abbrev pub AuditFailsWith : AuditChosen → AuditSeen → ToolFault → Type 0
+AuditFailsWith chosen s (fault.Run f) = GetsNothing s.out × IsNoInput chosen.input s.yard s.movins f
+AuditFailsWith chosen s (fault.ReadOf which) = GetsNothing s.out × IsInputAccepted chosen.input s × IsNoStatement which (statement_of s which) (fault.ReadOf which)
 AuditFailsWith chosen s (fault.TooLargeOf which) =
-    GetsNothing s.out × IsInputAccepted chosen s × IsNoStatement which (statement_of s which) (fault.TooLargeOf which)
+    GetsNothing s.out × IsInputAccepted chosen.input s × IsNoStatement which (statement_of s which) (fault.TooLargeOf which)
 AuditFailsWith chosen s fault.Memory = GetsNothing s.out ⊎ ((h : Handed) × IsHandedIn chosen s h × StopsOn h s.out fault.Memory)
 AuditFailsWith chosen s f = (h : Handed) × IsHandedIn chosen s h × StopsOn h s.out f
 
 -- ---- with its failures
 
 -- it was done, and no more calls failed than may be passed over
-abbrev pub AuditEnds : InputChosen → AuditSeen → Status → Type 0
+abbrev pub AuditEnds : AuditChosen → AuditSeen → Status → Type 0
 AuditEnds chosen s ended = (ended ≡ status.Decided) × Audits chosen s × (audit_failures s ≤ most_interruptions)
 
 -- it failed so, and no more calls failed than may be passed over and the one that is stated
-abbrev pub AuditFails : InputChosen → AuditSeen → ToolFault → Type 0
+abbrev pub AuditFails : AuditChosen → AuditSeen → ToolFault → Type 0
 AuditFails chosen s f = AuditFailsWith chosen s f × (audit_failures s ≤ most_interruptions + failures_of_tool_fault f)
 
 -- ---- over files
@@ -170,9 +182,13 @@ pub record IsUnread (files : FilesSeen) (names : AuditFiles) (out : SinkSeen) (f
   pub one : IsOneRefused files
   pub alone : IsLeftAlone out
 
+-- what is asked for by these names, where the input means this
+abbrev pub audited_by : AuditFiles → InputChosen → AuditChosen
+audited_by names input = record { input = input; partial = names.partial }
+
 -- how an audit over files ends
 abbrev pub AuditReportsOverFiles : AuditFiles → InputChosen → FilesSeen → SinkSeen → Status → Type 0
-AuditReportsOverFiles names chosen files out ended = (s : AuditSeen) × IsOverNamed files names out s × AuditEnds chosen s ended
+AuditReportsOverFiles names input files out ended = (s : AuditSeen) × IsOverNamed files names out s × AuditEnds (audited_by names input) s ended
 
 abbrev pub AuditFailsOverFiles : AuditFiles → InputChosen → FilesSeen → SinkSeen → ToolFault → Type 0
-AuditFailsOverFiles names chosen files out f = IsUnread files names out f ⊎ ((s : AuditSeen) × IsOverNamed files names out s × AuditFails chosen s f)
+AuditFailsOverFiles names input files out f = IsUnread files names out f ⊎ ((s : AuditSeen) × IsOverNamed files names out s × AuditFails (audited_by names input) s f)

@@ -34,15 +34,17 @@ use Rattle.crp_jobs.specs.declared.outcome.ToolFault.{ToolFault}
 use Rattle.crp_jobs.specs.declared.outcome.ToolFault.TheVariants as fault
 use Rattle.crp_commands.specs.Audit.{IsInputOf, IsNoInput}
 use Rattle.crp_commands.specs.Calls.{failures_of_tool_fault}
+use Rattle.crp_commands.specs.Partial.{IsReportIn}
 use Rattle.crp_files.specs.Known.{KnownFiles}
 use Rattle.crp_files.specs.Roles.{IsShared}
 use Rattle.crp_jobs.specs.Names.{after_name, named_in_follow}
 use Rattle.crp_jobs.specs.Opened.{FilesSeen, FilesFail, AreUnemptied, IsFileOpened, IsFileMade, IsLeft, IsSourceLeftAlone, IsLeftAlone}
 
--- what is asked for: what the input means, and how many containers the ship has got, if the yard after is that of then
+-- what is asked for: what the input means, how many containers the ship has got, if the yard after is that of then, and whether the report may end early
 pub record FollowChosen : Type 0 where
   pub input : InputChosen
   pub loaded : Option ℕ
+  pub partial : Bool
 
 -- what a call saw of the sinks of its texts: that of the page and that of the list, where these are asked for, and that of the table
 pub record TextsSeen : Type 0 where
@@ -193,10 +195,10 @@ abbrev pub StopsFollowing : Option Ship → Option ℕ → Inventory → List �
 StopsFollowing ship loaded yard report t f = (HasNoTexts ship yard report f × WritesNothing t)
     ⊎ ((x : Texts) × AreTextsOf ship loaded yard report (is_some t.list) x × StopsWriting x t f)
 
--- the sources had this input and this report
+-- the sources had this input and a text that is this report: of one that ends early it is the report with its last line
 pub record AreGiven (chosen : FollowChosen) (s : FollowSeen) (yard : Inventory) (ship : Option Ship) (report : List ℕ) : Type 0 where
   pub input : IsFollowInput chosen.input s.yard s.movins yard ship
-  pub report_given : IsTextOf s.report.given report
+  pub report_given : (text : List ℕ) × (bays : Option ℕ) × IsTextOf s.report.given text × IsReportIn chosen.partial text report bays
 
 -- the sources had an input and a report that is followed: its texts were written, and nothing else
 abbrev pub Follows : FollowChosen → FollowSeen → Type 0
@@ -332,7 +334,7 @@ FollowStops chosen u s f = FollowFails chosen s f ⊎ (IsUnended u f × ((ended 
 
 -- what is asked for by these names, where the input means this
 abbrev pub chosen_by : FollowFiles → InputChosen → FollowChosen
-chosen_by names input = record { input = input; loaded = option_and_then (λ file. file.loaded) names.after }
+chosen_by names input = record { input = input; loaded = option_and_then (λ file. file.loaded) names.after; partial = names.partial }
 
 -- how the job ends
 abbrev pub FollowReportsOverFiles : FollowFiles → InputChosen → FilesSeen → SourceSeen → SinkSeen → Status → Type 0

@@ -13,7 +13,7 @@ use Rattle.crp_commands.specs.Solving.{Unfinished, IsOverFiles, all_finished, un
 
 -- what is said of a run over these files, where the job is one
 abbrev pub ForRun : Job → (RunFiles → RunChosen → Type 0) → Type 0
-ForRun (job.OneFile file command) P = ⊤
+ForRun (job.OneFile file command stop) P = ⊤
 ForRun (job.Absent names settings) P = ⊤
 ForRun (job.Audit names settings) P = ⊤
 ForRun (job.Follow names settings) P = ⊤

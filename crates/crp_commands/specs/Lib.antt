@@ -14,3 +14,4 @@ pub mod Performing
 pub mod Headlines
 pub mod Sized
 pub mod Noted
+pub mod Partial

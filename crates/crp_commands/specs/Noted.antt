@@ -1,5 +1,5 @@
 -- What a job shows on the sink of its notes.
-use Rattle.std.specs.Prelude.{◌⊎◌, ℕ, Bool, true, false, not, is_some, List, [], ◌∷◌, codes}
+use Rattle.std.specs.Prelude.{◌⊎◌, ◌&&◌, ℕ, Bool, true, false, not, is_some, List, [], ◌∷◌, codes}
 use Rattle.crp_plan.specs.BayNames.{YardBay}
 use Rattle.crp_plan.specs.Devices.{HasFailed}
 use Rattle.crp_checker.specs.declared.verdict.Verdict.{Verdict}
@@ -42,10 +42,10 @@ IsNotedIn (command.Bound chains) s = IsLeftAlone s
 IsNotedIn (command.Prove search) s = IsLeftAlone s
 IsNotedIn command.Rewrite s = IsLeftAlone s
 
--- a list of absent containers and an audit leave it alone, and so does what follows a report without a message
+-- a list of absent containers leaves it alone, and so do an audit of a report that may not end early, and what follows one without a message
 abbrev pub IsNoted : Job → SinkSeen → Type 0
-IsNoted (job.OneFile file command) s = IsNotedIn command s
+IsNoted (job.OneFile file command stop) s = IsNotedIn command s
 IsNoted (job.Absent names settings) s = IsLeftAlone s
-IsNoted (job.Audit names settings) s = IsLeftAlone s
-IsNoted (job.Follow names settings) s = IsNotedBy (not (is_some names.movins)) s
+IsNoted (job.Audit names settings) s = IsNotedBy (not names.partial) s
+IsNoted (job.Follow names settings) s = IsNotedBy (not names.partial && not (is_some names.movins)) s
 IsNoted (job.Solve names settings quiet progress) s = IsNotedBy quiet s

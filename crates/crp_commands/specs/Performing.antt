@@ -124,7 +124,7 @@ FileFailsWith name c seen f =
 
 -- the job was done
 abbrev pub ReportsOverFiles : Job → JobSeen → Status → Type 0
-ReportsOverFiles (job.OneFile file c) seen ended = ReportsFile file.now c seen ended
+ReportsOverFiles (job.OneFile file c stop) seen ended = ReportsFile file.now c seen ended
 ReportsOverFiles (job.Absent names settings) seen ended = IsSourceLeftAlone seen.input × AbsentReportsOverFiles names settings seen.files seen.out ended
 ReportsOverFiles (job.Audit names settings) seen ended = IsSourceLeftAlone seen.input × AuditReportsOverFiles names settings seen.files seen.out ended
 ReportsOverFiles (job.Follow names settings) seen ended = FollowReportsOverFiles names settings seen.files seen.input seen.out ended
@@ -132,7 +132,7 @@ ReportsOverFiles (job.Solve names settings quiet progress) seen ended = IsSource
 
 -- what a fault says of the job
 abbrev pub FailsOverFiles : Job → JobSeen → ToolFault → Type 0
-FailsOverFiles (job.OneFile file c) seen f = FileFailsWith file.now c seen f
+FailsOverFiles (job.OneFile file c stop) seen f = FileFailsWith file.now c seen f
 FailsOverFiles (job.Absent names settings) seen f = IsSourceLeftAlone seen.input × AbsentFailsOverFiles names settings seen.files seen.out f
 FailsOverFiles (job.Audit names settings) seen f = IsSourceLeftAlone seen.input × AuditFailsOverFiles names settings seen.files seen.out f
 FailsOverFiles (job.Follow names settings) seen f = FollowFailsOverFiles names settings seen.files seen.input seen.out f

@@ -1,5 +1,5 @@
 //! The command `audit`: from the bytes of a yard list, a message, a report and certificates to a line for each bay.
-ghost use Rattle.std.specs.Prelude.{◌≡◌, ◌≤◌, ◌+◌, ◌-◌, ◌⊎◌, ℕ, List, Option, IfOk, IfErr, MatchResult};
+ghost use Rattle.std.specs.Prelude.{◌≡◌, ◌≤◌, ◌+◌, ◌-◌, ◌⊎◌, ℕ, List, Option, IfOk, IfErr, MatchResult, not};
 ghost use Rattle.std.specs.List.{AllByRecursion};
 ghost use Rattle.crp_plan.specs.Devices.{most_interruptions};
 ghost use Rattle.crp_yard.specs.Naming.{IsNamedBay};
@@ -13,10 +13,15 @@ ghost use Rattle.crp_commands.specs.declared.heads.TheConstants.{ANY_SIZE};
 ghost use Rattle.crp_commands.specs.Audit.{AuditSeen, AuditEnds, AuditFails, IsInputOf, IsNoInput, IsNoStatement, StopsOn, audit_text};
 ghost use Rattle.crp_commands.specs.Calls.{IsTextWithin, failures_of_tool_fault};
 ghost use Rattle.crp_commands.specs.Check.{verdict_lines};
+ghost use Rattle.crp_commands.specs.Noted.{IsNotedBy};
+ghost use Rattle.crp_commands.specs.Partial.{IsReportIn, part_of};
+ghost use Rattle.crp_report.specs.Watching.{ShowsMore};
+ghost use Rattle.crp_audit.specs.Part.{first_sequence};
 
 use crate::checking::push_verdict;
 use crate::heads::ANY_SIZE;
-use crp_audit::{AuditStop, AuditStopped};
+use crate::partial::{note_behind, report_in};
+use crp_audit::{AuditStop, AuditStopped, Part, first_bays};
 use crp_cert::push_decimal;
 use crp_checker::Verdicts;
 use crp_jobs::{Statement, ToolFault};
@@ -51,6 +56,15 @@ fn report_from<S: Source>(
         Err(ReadFault::TooLarge) => Err(ToolFault::TooLargeOf(Statement::Report)),
         Err(ReadFault::Memory) => Err(ToolFault::Memory),
     }
+}
+
+/// What is asked for where a report is audited.
+#[derive(Clone, Copy)]
+pub struct AuditSettings<'a> {
+    /// What the yard list and the message mean.
+    pub input: &'a InputSettings,
+    /// Whether the report may end early, without its last line.
+    pub partial: bool,
 }
 
 /// What a yard list and a message say.
@@ -110,6 +124,53 @@ pub(crate) fn input_from<Y: Source, M: Source>(
     let message = message_from(alloc, movins, settings.loading(), interruptions)?;
     let input = sequenced(alloc, listed, message.orders, settings)?;
     Ok(input)
+}
+
+// A report with its last line, and what the first bays alone are audited by. Notes how many are behind them.
+#[tactic(auto, using(crate::proofs::Noted::shown_none))]
+fn first_part<E: Sink>(
+    alloc: Global,
+    input: InputRead,
+    report: Vec<u8>,
+    bays: usize,
+    errors: &mut E,
+) -> Result<(InputRead, Vec<u8>), AllocError>
+    ensures same { IfOk result (λ x. (x.0.yard ≡ input.yard) × (x.0.orders ≡ input.orders)) }
+    ensures part { IfOk result (λ x. (x.0.sequence ≡ first_sequence bays input.yard input.sequence) × (x.1.items ≡ report.items)) }
+    ensures noted { ShowsMore (E.contents errors.old) (E.contents errors.new) }
+{
+    let InputRead {
+        yard,
+        orders,
+        sequence,
+    } = input;
+    let Part { sequence, behind } = first_bays(alloc, &yard, &sequence, bays)?;
+    note_behind(alloc, behind, errors);
+    let first = InputRead {
+        yard,
+        orders,
+        sequence,
+    };
+    Ok((first, report))
+}
+
+// The report that a text is, with what it is audited by. Of one that ends early these are the bays that stand there alone, which is noted.
+fn in_part<E: Sink>(
+    alloc: Global,
+    input: InputRead,
+    text: Vec<u8>,
+    partial: bool,
+    errors: &mut E,
+) -> Result<(InputRead, Vec<u8>), AllocError>
+    ensures same { IfOk result (λ x. (x.0.yard ≡ input.yard) × (x.0.orders ≡ input.orders)) }
+    ensures part { IfOk result (λ x. (bays : Option ℕ) × IsReportIn partial text.items x.1.items bays × (x.0.sequence ≡ part_of bays input.yard input.sequence)) }
+    ensures noted { IsNotedBy (not partial) (sink_seen E.contents E.failures errors.old errors.new) }
+{
+    let whole = report_in(alloc, text, partial, errors)?;
+    match whole.bays {
+        None => Ok((input, whole.text)),
+        Some(bays) => first_part(alloc, input, whole.text, bays, errors),
+    }
 }
 
 // A line for each bay.
@@ -209,27 +270,33 @@ fn audit_input<C: Source, W: Sink>(
 }
 
 /// Audits a report and certificates, whoever made them, against a yard list and a message: writes what is shown of each bay, and how
-/// many were audited; or what is shown of those before the first fault. The certificates are read in pieces, one after the other.
-pub fn audit<Y: Source, M: Source, R: Source, C: Source, W: Sink>(
+/// many were audited; or what is shown of those before the first fault. The certificates are read in pieces, one after the other. Of a
+/// report that may end early, and does, the bays that stand there are audited, and `errors` gets notes of what is missing.
+#[tactic(auto, using(crate::proofs::Noted::unnoted))]
+pub fn audit<Y: Source, M: Source, R: Source, C: Source, W: Sink, E: Sink>(
     alloc: Global,
     yard: &mut Y,
     movins: &mut M,
     report: &mut R,
     certificates: &mut C,
-    settings: &InputSettings,
+    settings: &AuditSettings<'_>,
     out: &mut W,
+    errors: &mut E,
 ) -> Result<Status, ToolFault>
-    ensures { let seen : AuditSeen = record {
+    ensures ended { let seen : AuditSeen = record {
       yard = source_seen Y.remaining Y.failures yard.old yard.new;
       movins = source_seen M.remaining M.failures movins.old movins.new;
       report = source_seen R.remaining R.failures report.old report.new;
       certificates = source_seen C.remaining C.failures certificates.old certificates.new;
       out = sink_seen W.contents W.failures out.old out.new;
-    } in MatchResult result (AuditEnds settings.now seen) (AuditFails settings.now seen) }
+    } in MatchResult result (AuditEnds (record { input = settings.now.input.now; partial = settings.now.partial }) seen)
+        (AuditFails (record { input = settings.now.input.now; partial = settings.now.partial }) seen) }
+    ensures noted { IsNotedBy (not settings.now.partial) (sink_seen E.contents E.failures errors.old errors.new) }
 {
     let mut interruptions = 0;
-    let input = input_from(alloc, yard, movins, settings, &mut interruptions)?;
-    let said = report_from(alloc, report, &mut interruptions)?;
-    audit_input(alloc, &input, &said, certificates, out, &mut interruptions)?;
+    let input = input_from(alloc, yard, movins, settings.input, &mut interruptions)?;
+    let text = report_from(alloc, report, &mut interruptions)?;
+    let (part, said) = in_part(alloc, input, text, settings.partial, errors)?;
+    audit_input(alloc, &part, &said, certificates, out, &mut interruptions)?;
     Ok(Status::Decided)
 }

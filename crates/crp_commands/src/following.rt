@@ -1,6 +1,6 @@
 //! The command `follow`: from the bytes of a yard list and a report, and of a message where one is asked for, to the table of the moves, and
 //! to their page and the list of the yard behind them where these are asked for.
-ghost use Rattle.std.specs.Prelude.{◌≡◌, ◌≤◌, ◌+◌, ◌-◌, ◌⊎◌, [], ℕ, List, Option, map, IfOk, OnOk, IfErr, IsTrue, MatchResult, is_some, not};
+ghost use Rattle.std.specs.Prelude.{◌≡◌, ◌≤◌, ◌+◌, ◌-◌, ◌⊎◌, ◌&&◌, [], ℕ, List, Option, map, IfOk, OnOk, IfErr, IsTrue, MatchResult, is_some, not};
 ghost use Rattle.std.specs.Bool.{OnFalse};
 ghost use Rattle.std.specs.List.{AllByRecursion};
 ghost use Rattle.crp_plan.specs.Devices.{most_interruptions};
@@ -21,6 +21,7 @@ ghost use Rattle.crp_commands.specs.Follow.{FollowEnds, FollowFails, FollowSeen,
 ghost use Rattle.crp_commands.specs.Noted.{IsNotedBy};
 
 use crate::auditing::{InputRead, input_from};
+use crate::partial::report_in;
 use crp_follow::{FollowFault, Followed, MAX_BYTES, list_behind, move_counts, table_text};
 use crp_jobs::{Statement, ToolFault};
 use crp_loading::{LoadingFault, counts_up_to, load_table};
@@ -47,6 +48,8 @@ pub struct FollowSettings<'a> {
     pub list: bool,
     /// How many containers the ship has got, if the list is that of the yard then.
     pub loaded: Option<u64>,
+    /// Whether the report may end early, without its last line.
+    pub partial: bool,
 }
 
 /// Where a yard list and a message come from.
@@ -364,7 +367,7 @@ fn write_texts<P: Sink, A: Sink, W: Sink>(
 /// Follows the moves of a report, whoever wrote it, over the yard that a list of bays gives. It writes the page of the moves, where one is
 /// wanted, behind it the list of the yard as they leave it, where that is, and then the table of them, in the order in which the ship gets
 /// the containers where a message is asked for; where something is refused, nothing. With a message it notes on `errors` what the report
-/// leaves of what is ordered.
+/// leaves of what is ordered. A report that may end early is followed as far as it goes, which is noted too.
 #[tactic(auto, using(crate::proofs::Noted::unnoted))]
 pub fn follow<Y: Source, M: Source, R: Source, P: Sink, A: Sink, W: Sink, E: Sink>(
     alloc: Global,
@@ -384,17 +387,18 @@ pub fn follow<Y: Source, M: Source, R: Source, P: Sink, A: Sink, W: Sink, E: Sin
       movins = if_asked settings.now.ship (source_seen M.remaining M.failures listed.old.movins listed.new.movins);
       report = source_seen R.remaining R.failures report.old report.new;
       texts = texts;
-    } in MatchResult result (FollowEnds (record { input = settings.now.input.now; loaded = settings.now.loaded }) seen)
-        (FollowFails (record { input = settings.now.input.now; loaded = settings.now.loaded }) seen) }
+    } in MatchResult result (FollowEnds (record { input = settings.now.input.now; loaded = settings.now.loaded; partial = settings.now.partial }) seen)
+        (FollowFails (record { input = settings.now.input.now; loaded = settings.now.loaded; partial = settings.now.partial }) seen) }
     ensures unread { OnFalse settings.now.ship (listed.new.movins ≡ listed.old.movins) }
     ensures alone { OnFalse settings.now.page (files.new.page ≡ files.old.page) }
     ensures list_alone { OnFalse settings.now.list (files.new.list ≡ files.old.list) }
-    ensures noted { IsNotedBy (not settings.now.ship) (sink_seen E.contents E.failures errors.old errors.new) }
+    ensures noted { IsNotedBy (not settings.now.partial && not settings.now.ship) (sink_seen E.contents E.failures errors.old errors.new) }
 {
     let mut interruptions = 0;
     let input = follow_input(alloc, listed, settings, &mut interruptions)?;
     let text = report_from(alloc, report, &mut interruptions)?;
-    let made = made_of(alloc, &input, &text, settings)?;
+    let whole = report_in(alloc, text, settings.partial, errors)?;
+    let made = made_of(alloc, &input, &whole.text, settings)?;
     note_ship(alloc, &input, &made.followed, settings.loaded, errors);
     write_texts(
         alloc,

@@ -16,11 +16,11 @@ use crate::over_follow_files::follow_files;
 use crate::over_yard_files::{RunAsked, Watcher, solve};
 use crate::performing::perform;
 use crate::streams::Streams;
-use crp_files::Files;
+use crp_files::{Files, STANDARD_INPUT};
 use crp_jobs::{FileCommand, Job, Statement, ToolFault};
-use crp_notes::Terminal;
+use crp_notes::{Metered, Stoppable, Terminal, begin_reading, clear_reading};
 use crp_plan::{Sink, Source};
-use crp_report::{Clock, Status};
+use crp_report::Status;
 use crp_sizes::{Sizes, sizes_from};
 use std::alloc::Global;
 use std::sync::Wait;
@@ -39,12 +39,24 @@ fn unread_by(command: &FileCommand) -> ToolFault
     }
 }
 
-// Does a command over one file. A file named `-` is the standard input. A search sees its limit of time by this clock.
+// Shows from now on how far the file of this name is read, if the command is one that checks it.
+fn begin_checking<F: Files, S: Terminal>(
+    files: &F,
+    name: &str,
+    command: &FileCommand,
+    terminal: &S,
+) {
+    if let FileCommand::Check { .. } = command {
+        begin_reading(terminal, files.size(name));
+    }
+}
+
+// Does a command over one file. A file named `-` is the standard input. How far a search or a check is, is shown on the terminal.
 #[tactic(auto, using(crate::proofs::Noted::unnoted_in))]
-fn perform_on<T: Threads + Wait + Sync, K: Clock + Sync, F: Files, R: Source, W: Sink, E: Sink>(
+fn perform_on<T: Threads + Wait + Sync, F: Files, R: Source, W: Sink, E: Sink, S: Terminal + Sync>(
     threads: &T,
     alloc: Global,
-    clock: &K,
+    terminal: &S,
     files: &mut F,
     streams: &mut Streams<R, W, E>,
     name: &str,
@@ -55,29 +67,35 @@ fn perform_on<T: Threads + Wait + Sync, K: Clock + Sync, F: Files, R: Source, W:
     ensures noted { IsNotedIn command.now (sink_seen E.contents E.failures streams.old.errors streams.new.errors) }
 {
     if name == "-" {
-        return perform(
+        begin_checking(files, STANDARD_INPUT, command, terminal);
+        let answer = perform(
             threads,
             alloc,
-            clock,
+            terminal,
             command,
             &mut streams.input,
             &mut streams.out,
             &mut streams.errors,
         );
+        clear_reading(terminal);
+        return answer;
     }
-    let Ok(mut source) = files.open(name) else {
+    let Ok(source) = files.open(name) else {
         return Err(unread_by(command));
     };
+    begin_checking(files, name, command, terminal);
+    let mut source = Metered { source, terminal };
     let answer = perform(
         threads,
         alloc,
-        clock,
+        terminal,
         command,
         &mut source,
         &mut streams.out,
         &mut streams.errors,
     );
-    files.close(source);
+    clear_reading(terminal);
+    files.close(source.source);
     answer
 }
 
@@ -95,8 +113,16 @@ fn do_job<T: Threads + Wait + Sync, F: Files, R: Source, W: Sink, E: Sink, S: Te
     ensures noted { IsNoted job.now (sink_seen E.contents E.failures streams.old.errors streams.new.errors) }
 {
     match job {
-        Job::OneFile { file, command } => {
-            perform_on(threads, alloc, terminal, files, streams, file, command)
+        Job::OneFile {
+            file,
+            command,
+            stop,
+        } => {
+            let terminal = Stoppable {
+                terminal,
+                file: *stop,
+            };
+            perform_on(threads, alloc, &terminal, files, streams, file, command)
         }
         Job::Absent {
             files: names,
@@ -105,7 +131,15 @@ fn do_job<T: Threads + Wait + Sync, F: Files, R: Source, W: Sink, E: Sink, S: Te
         Job::Audit {
             files: names,
             settings,
-        } => audit_files(alloc, files, names, settings, &mut streams.out),
+        } => audit_files(
+            alloc,
+            files,
+            names,
+            settings,
+            &mut streams.out,
+            &mut streams.errors,
+            terminal,
+        ),
         Job::Follow {
             files: names,
             settings,
@@ -159,9 +193,10 @@ fn sizes_of<F: Files>(
 
 /// Does a job over its files, and writes its report to the standard output. A job over the file `-`, and one that follows a report named
 /// `-`, reads the standard input. A run over a yard that is not to be quiet writes its notes to the standard error, as a check does that
-/// finds no certificate, and what follows a report with a message; and it shows on the terminal how far it is. Limits of time are seen by
-/// the clock of the terminal. A list of sizes, where the job names one, is read before any other file
-/// is opened, and the bays of the yard have these sizes.
+/// finds no certificate, what follows a report with a message, and what follows or audits one that ends early; and it shows on the
+/// terminal how far it is, as `prove` does and, where it shows how far a file is read, a check and an audit. Limits of time are seen by the
+/// clock of the terminal. A list of sizes, where the job names one, is read before any other file is opened, and the bays of the yard have
+/// these sizes.
 ///
 /// Of a run over a yard the headline holds: of the texts that it wrote, and where it ended with a fault of those whose fronts it wrote.
 #[tactic(auto, using(crate::proofs::AsSized::unnoted_job))]

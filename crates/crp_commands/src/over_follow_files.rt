@@ -1,5 +1,5 @@
 //! The command `follow` over its files.
-ghost use Rattle.std.specs.Prelude.{◌≡◌, MatchResult, is_some, not, option_map, option_and_then};
+ghost use Rattle.std.specs.Prelude.{◌≡◌, ◌&&◌, MatchResult, is_some, not, option_map, option_and_then};
 ghost use Rattle.crp_report.specs.Runs.{SourceSeen, SinkSeen, sink_seen, source_seen};
 ghost use Rattle.crp_jobs.specs.Names.{after_name};
 ghost use Rattle.crp_jobs.specs.Opened.{FilesSeen};
@@ -55,7 +55,7 @@ fn follow_to<F: Files, Y: Source, M: Source, R: Source, W: Sink, E: Sink, P: Nam
         in let all : FilesSeen = record { known = F.known files.old; left = F.known files.new; before = F.failures files.old; after = F.failures files.new }
         in AnswersOver (chosen_by asked.now.names.now asked.now.settings.now) (IsOverTexts asked.now.names.now all devices from)
         (RefusesFile asked.now.names.now all devices from) result }
-    ensures noted { IsNotedBy (not (is_some asked.now.names.now.movins)) (sink_seen E.contents E.failures errors.old errors.new) }
+    ensures noted { IsNotedBy (not asked.now.names.now.partial && not (is_some asked.now.names.now.movins)) (sink_seen E.contents E.failures errors.old errors.new) }
 {
     let names = asked.names;
     let (after, loaded) = list_of(names);
@@ -77,6 +77,7 @@ fn follow_to<F: Files, Y: Source, M: Source, R: Source, W: Sink, E: Sink, P: Nam
         page: names.page.is_some(),
         list: names.after.is_some(),
         loaded,
+        partial: names.partial,
     };
     let answer = follow(alloc, listed, report, &settings, &mut texts, out, errors);
     let paged = texts.page.finish(files, names.page);
@@ -106,7 +107,7 @@ fn follow_report<F: Files, Y: Source, M: Source, R: Source, W: Sink, E: Sink>(
         in let all : FilesSeen = record { known = F.known files.old; left = F.known files.new; before = F.failures files.old; after = F.failures files.new }
         in AnswersOver (chosen_by asked.now.names.now asked.now.settings.now) (IsOverReport asked.now.names.now all devices given)
         (RefusesFile asked.now.names.now all devices given) result }
-    ensures noted { IsNotedBy (not (is_some asked.now.names.now.movins)) (sink_seen E.contents E.failures streams.old.errors streams.new.errors) }
+    ensures noted { IsNotedBy (not asked.now.names.now.partial && not (is_some asked.now.names.now.movins)) (sink_seen E.contents E.failures streams.old.errors streams.new.errors) }
 {
     if asked.names.report == "-" {
         return follow_to::<F, Y, M, R, W, E, Brand, Brand>(
@@ -138,7 +139,7 @@ fn follow_report<F: Files, Y: Source, M: Source, R: Source, W: Sink, E: Sink>(
 /// Opens the files, before anything is read: the yard list, the message, if there is one, the report, and the files of the page and of the
 /// yard after, which are made where they are not there. Where one that is written is another one of these, or stands behind a standard
 /// stream, no file is emptied, and that is the fault. Else follows the moves of the report. One named `-` is the standard input. The table
-/// goes to the standard output, and with a message notes go to the standard error.
+/// goes to the standard output, and with a message, or of a report that ends early, notes go to the standard error.
 #[tactic(auto, using(crate::proofs::Noted::unnoted))]
 pub fn follow_files<F: Files, R: Source, W: Sink, E: Sink>(
     alloc: Global,
@@ -151,7 +152,7 @@ pub fn follow_files<F: Files, R: Source, W: Sink, E: Sink>(
         in let given : SourceSeen = source_seen R.remaining R.failures streams.old.input streams.new.input
         in let shown : SinkSeen = sink_seen W.contents W.failures streams.old.out streams.new.out
         in MatchResult result (FollowReportsOverFiles names.now settings.now all given shown) (FollowFailsOverFiles names.now settings.now all given shown) }
-    ensures noted { IsNotedBy (not (is_some names.now.movins)) (sink_seen E.contents E.failures streams.old.errors streams.new.errors) }
+    ensures noted { IsNotedBy (not names.now.partial && not (is_some names.now.movins)) (sink_seen E.contents E.failures streams.old.errors streams.new.errors) }
 {
     let Ok(yard) = files.open(names.yard) else {
         return Err(ToolFault::Run(Fault::Read(Input::Yard)));

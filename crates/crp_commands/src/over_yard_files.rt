@@ -10,7 +10,7 @@ use crate::finishing::{of_job, unless_unfinished};
 use crate::heads::MOST_BYTES;
 use crp_files::{Files, Named, Wanted, first_shared, prepare_wanted};
 use crp_jobs::{RunFiles, ToolFault};
-use crp_notes::{Notes, Terminal};
+use crp_notes::{Notes, Stoppable, Terminal};
 use crp_plan::{Nowhere, Sink};
 use crp_report::{
     Clock, Devices, Fault, Input, Output, RunSettings, Status, Unwatched, Watch, run_watched,
@@ -123,8 +123,8 @@ fn largest_file(names: &RunFiles<'_>) -> usize {
 /// plans. Where one that is written is another one of these, or stands behind a standard stream, no file is emptied, and that is the
 /// fault. Else runs over them, and writes the report to `out` and, unless it is to be quiet, notes to `errors`; and shows how far it is on
 /// the terminal or, where there is none and that is asked for, by a line for each bay to `errors`. Limits of time are seen by the clock of
-/// the terminal, also where the run is quiet. At the end the files that were written
-/// are finished; one that cannot be is a failed write to it.
+/// the terminal, also where the run is quiet; where a file that stops the searches is named, that it is there ends them as an end of their
+/// time does. At the end the files that were written are finished; one that cannot be is a failed write to it.
 #[tactic(auto, using(crate::proofs::Noted::unnoted))]
 pub fn solve<T: Threads + Wait + Sync, F: Files, W: Sink, E: Sink, S: Terminal + Sync>(
     threads: &T,
@@ -141,11 +141,15 @@ pub fn solve<T: Threads + Wait + Sync, F: Files, W: Sink, E: Sink, S: Terminal +
         (SolveFailsOverFiles asked.now.names.now asked.now.settings.now all report) }
     ensures noted { IsNotedBy watcher.now.quiet (record { held = E.contents errors.old; holds = E.contents errors.new; before = E.failures errors.old; after = E.failures errors.new }) }
 {
+    let terminal = Stoppable {
+        terminal: watcher.terminal,
+        file: asked.names.stop,
+    };
     if watcher.quiet {
-        return solve_to::<T, S, F, W, Unwatched, Nowhere, Brand, Brand>(
+        return solve_to::<T, Stoppable<'_, S>, F, W, Unwatched, Nowhere, Brand, Brand>(
             threads,
             alloc,
-            watcher.terminal,
+            &terminal,
             files,
             asked,
             out,
@@ -156,17 +160,10 @@ pub fn solve<T: Threads + Wait + Sync, F: Files, W: Sink, E: Sink, S: Terminal +
     let mut notes = Notes::new(
         alloc,
         largest_file(asked.names),
-        watcher.terminal,
+        &terminal,
         watcher.progress,
     );
-    solve_to::<T, S, F, W, Notes<'_, S>, E, Brand, Brand>(
-        threads,
-        alloc,
-        watcher.terminal,
-        files,
-        asked,
-        out,
-        &mut notes,
-        errors,
+    solve_to::<T, Stoppable<'_, S>, F, W, Notes<'_, Stoppable<'_, S>>, E, Brand, Brand>(
+        threads, alloc, &terminal, files, asked, out, &mut notes, errors,
     )
 }

@@ -11,19 +11,20 @@ use crate::proving::prove;
 use crate::replaying::replay;
 use crate::rewriting::rewrite;
 use crp_jobs::{FileCommand, ToolFault};
+use crp_notes::Terminal;
 use crp_plan::{Sink, Source};
-use crp_report::{Clock, Status};
+use crp_report::Status;
 use std::alloc::Global;
 use std::sync::Wait;
 use std::thread::Threads;
 
 /// Does a command over one file, from a source of that file's bytes to the sink of its report. That a file to be checked holds no
-/// certificate is noted on `errors`. A search sees its limit of time by this clock.
+/// certificate is noted on `errors`. A search shows on the terminal how far it is, and sees its limit of time by its clock.
 #[tactic(auto, using(crate::proofs::Noted::unnoted_in))]
-pub fn perform<T: Threads + Wait + Sync, K: Clock + Sync, R: Source, W: Sink, E: Sink>(
+pub fn perform<T: Threads + Wait + Sync, S: Terminal + Sync, R: Source, W: Sink, E: Sink>(
     rt: &T,
     alloc: Global,
-    clock: &K,
+    terminal: &S,
     command: &FileCommand,
     reader: &mut R,
     writer: &mut W,
@@ -44,7 +45,7 @@ pub fn perform<T: Threads + Wait + Sync, K: Clock + Sync, R: Source, W: Sink, E:
         FileCommand::Replay => replay(alloc, reader, writer),
         FileCommand::Bound { chains } => bound(alloc, reader, writer, *chains),
         FileCommand::Check { any_size } => check(alloc, reader, writer, errors, *any_size),
-        FileCommand::Prove(search) => prove(rt, alloc, clock, reader, writer, *search),
+        FileCommand::Prove(search) => prove(rt, alloc, terminal, reader, writer, *search),
         FileCommand::Rewrite => rewrite(alloc, reader, writer),
     }
 }

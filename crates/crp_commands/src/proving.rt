@@ -9,20 +9,21 @@ ghost use Rattle.crp_commands.specs.Prove.{IsProof, IsSomeProof, IsNoProof};
 use crate::heads::head_from;
 use crp_incumbent::Board;
 use crp_jobs::ToolFault;
+use crp_notes::{Progress, Terminal};
 use crp_plan::{Sink, Source, write_all};
-use crp_report::{Clock, Status, Timer, certificate_of, status_of};
-use crp_solve::{NoGate, Settings, solve};
+use crp_report::{Status, Timer, certificate_of, status_of};
+use crp_solve::{Settings, solve};
 use std::alloc::Global;
 use std::sync::Wait;
 use std::thread::Threads;
 
 /// Solves the problem of the head that a source's bytes begin with, and writes a certificate of the answer. The claim and the
 /// plan of the head are read and not used. Where the first best plan is asked for and found, the certificate claims it to be that.
-/// The search ends at its limit of time, where it has one, by this clock.
-pub fn prove<T: Threads + Wait + Sync, K: Clock + Sync, R: Source, W: Sink>(
+/// How far the search is, is shown on the terminal; it ends at its limit of time, where it has one, by the clock of the terminal.
+pub fn prove<T: Threads + Wait + Sync, S: Terminal + Sync, R: Source, W: Sink>(
     rt: &T,
     alloc: Global,
-    clock: &K,
+    terminal: &S,
     reader: &mut R,
     writer: &mut W,
     settings: Settings,
@@ -38,12 +39,16 @@ pub fn prove<T: Threads + Wait + Sync, K: Clock + Sync, R: Source, W: Sink>(
     } in MatchResult result (λ status. WritesReport IsTextOf (IsProof settings status) seen × (call_failures seen ≤ most_interruptions))
         (λ fault. CallFailsWith MOST_BYTES (IsSomeProof settings) IsNoProof seen fault × (call_failures seen ≤ most_call_failures fault)) }
 {
-    let timer = Timer::start(clock);
+    let timer = Timer::start(terminal);
     let mut interruptions = 0;
     let head = head_from(alloc, reader, &mut interruptions)?;
     let board = Board::new(&head.problem);
-    let gate = timer.gate(&NoGate, settings.time());
-    let solved = solve(rt, alloc, &head.problem, settings, &board, &gate)?;
+    let mut progress = Progress::new(alloc, terminal);
+    progress.begin(&head.bay, &head.problem, 0, 1);
+    let gate = timer.gate(&progress, settings.time());
+    let answer = solve(rt, alloc, &head.problem, settings, &board, &gate);
+    progress.clear();
+    let solved = answer?;
     let status = status_of(&solved.answer);
     let text = certificate_of(alloc, &head.bay, &head.problem, &solved.answer)?;
     write_all(writer, &text, &mut interruptions)?;

@@ -39,6 +39,9 @@ pub trait Files {
         ensures front { IfSome result (λ front. IsFront ((known self.now).given name.now) front.items) }
         ensures few { IfSome result (λ front. vec_len front ≤ most) };
 
+    /// How many bytes a plain file has, as far as that is known: to show how much of it is read. Nothing rests on it.
+    fn size(&self, name: &str) -> Option<u64>;
+
     /// Opens a file that is there, to read it from its beginning.
     fn open(&mut self, name: &str) -> Result<Self::Input, NotOpened>
         ensures new { IfOk result (λ file. Self.Input.failures file ≡ 0) }

@@ -72,6 +72,13 @@ impl Files for SystemFiles<'_> {
         }
     }
 
+    fn size(&self, name: &str) -> Option<u64> {
+        match fs::metadata(self.rt, name) {
+            Ok(found) if found.is_file() => Some(found.len()),
+            _ => None,
+        }
+    }
+
     fn open(&mut self, name: &str) -> Result<Counted<File>, NotOpened> {
         match File::open(self.rt, name) {
             Ok(file) => Ok(Counted::new(file)),

@@ -122,7 +122,7 @@ failed_in_follow names f = None
 
 -- what the job could not read or write, or which of its files are one, in words, where the fault is of that kind
 abbrev pub failed_words : Job → ToolFault → Option (List ℕ)
-failed_words (job.OneFile file command) f = failed_in_file file.now f
+failed_words (job.OneFile file command stop) f = failed_in_file file.now f
 failed_words (job.Absent names settings) f = failed_in_absent names f
 failed_words (job.Audit names settings) f = failed_in_audit names f
 failed_words (job.Follow names settings) (fault.OneFile s) = shared_words (named_in_follow names) s

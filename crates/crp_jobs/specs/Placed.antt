@@ -55,7 +55,7 @@ again_named f = None
 
 -- the yard list of a job, by its name
 abbrev pub yard_named : Job → Option (List ℕ)
-yard_named (job.OneFile file command) = None
+yard_named (job.OneFile file command stop) = None
 yard_named (job.Absent names settings) = Some names.yard.now
 yard_named (job.Audit names settings) = Some names.yard.now
 yard_named (job.Follow names settings) = Some names.yard.now
@@ -63,7 +63,7 @@ yard_named (job.Solve names settings quiet progress) = Some names.yard.now
 
 -- its list of sizes
 abbrev pub sizes_named : Job → Option (List ℕ)
-sizes_named (job.OneFile file command) = None
+sizes_named (job.OneFile file command stop) = None
 sizes_named (job.Absent names settings) = option_map (λ name. name.now) names.sizes
 sizes_named (job.Audit names settings) = option_map (λ name. name.now) names.sizes
 sizes_named (job.Follow names settings) = option_map (λ name. name.now) names.sizes
@@ -71,7 +71,7 @@ sizes_named (job.Solve names settings quiet progress) = option_map (λ name. nam
 
 -- the sizes of bays that it was given: those of all, where it names no list
 abbrev pub sizes_of : Job → Option YardSizes
-sizes_of (job.OneFile file command) = None
+sizes_of (job.OneFile file command stop) = None
 sizes_of (job.Absent names settings) = Some settings.sizes
 sizes_of (job.Audit names settings) = Some settings.sizes
 sizes_of (job.Follow names settings) = Some settings.sizes
@@ -79,7 +79,7 @@ sizes_of (job.Solve names settings quiet progress) = Some settings.input.sizes
 
 -- its message
 abbrev pub message_named : Job → Option (List ℕ)
-message_named (job.OneFile file command) = None
+message_named (job.OneFile file command stop) = None
 message_named (job.Absent names settings) = Some names.movins.now
 message_named (job.Audit names settings) = Some names.movins.now
 message_named (job.Follow names settings) = option_map (λ name. name.now) names.movins
@@ -87,11 +87,11 @@ message_named (job.Solve names settings quiet progress) = Some names.movins.now
 
 -- its report; one that is followed and is read from the standard input has no name
 abbrev pub report_named : Job → Option (List ℕ)
-report_named (job.OneFile file command.Rewrite) = report_name file.now
-report_named (job.OneFile file command.Replay) = None
-report_named (job.OneFile file (command.Bound chains)) = None
-report_named (job.OneFile file (command.Check any_size)) = None
-report_named (job.OneFile file (command.Prove search)) = None
+report_named (job.OneFile file command.Rewrite stop) = report_name file.now
+report_named (job.OneFile file command.Replay stop) = None
+report_named (job.OneFile file (command.Bound chains) stop) = None
+report_named (job.OneFile file (command.Check any_size) stop) = None
+report_named (job.OneFile file (command.Prove search) stop) = None
 report_named (job.Absent names settings) = None
 report_named (job.Audit names settings) = Some names.report.now
 report_named (job.Follow names settings) = report_name names.report.now

@@ -7,7 +7,7 @@ use Rattle.crp_jobs.specs.declared.job.Job.TheVariants as job
 
 -- the name of the list of sizes, if the job has one, and what its input means without that
 abbrev pub list_named : Job → Option (List ℕ × InputChosen)
-list_named (job.OneFile file command) = None
+list_named (job.OneFile file command stop) = None
 list_named (job.Absent names settings) = option_map (λ name. (name.now, settings)) names.sizes
 list_named (job.Audit names settings) = option_map (λ name. (name.now, settings)) names.sizes
 list_named (job.Follow names settings) = option_map (λ name. (name.now, settings)) names.sizes
@@ -15,7 +15,7 @@ list_named (job.Solve names settings quiet progress) = option_map (λ name. (nam
 
 -- the same job, where the bays of the yard have these sizes
 abbrev pub with_sizes : YardSizes → Job → Job
-with_sizes sizes (job.OneFile file command) = job.OneFile file command
+with_sizes sizes (job.OneFile file command stop) = job.OneFile file command stop
 with_sizes sizes (job.Absent names settings) = job.Absent names (record settings { sizes = sizes })
 with_sizes sizes (job.Audit names settings) = job.Audit names (record settings { sizes = sizes })
 with_sizes sizes (job.Follow names settings) = job.Follow names (record settings { sizes = sizes })

@@ -42,6 +42,8 @@ pub struct RunFiles<'a> {
     pub cert: Option<&'a str>,
     /// What gets the yard after the plans, if it is wanted.
     pub after: Option<&'a str>,
+    /// The file that stops the searches as soon as it is there, if one does. It is not opened.
+    pub stop: Option<&'a str>,
 }
 
 /// The files of an audit, by their names.
@@ -55,6 +57,8 @@ pub struct AuditFiles<'a> {
     pub movins: &'a str,
     /// The report.
     pub report: &'a str,
+    /// Whether it may end early, without its last line.
+    pub partial: bool,
     /// The certificates.
     pub certificates: &'a str,
 }
@@ -88,6 +92,8 @@ pub struct FollowFiles<'a> {
     pub sizes: Option<&'a str>,
     /// The report. One named `-` is the standard input.
     pub report: &'a str,
+    /// Whether it may end early, without its last line.
+    pub partial: bool,
     /// The message, in whose order the table is to be, if there is one.
     pub movins: Option<&'a str>,
     /// What gets the page of its moves, if it is wanted.
@@ -105,6 +111,8 @@ pub enum Job<'a> {
         file: &'a str,
         /// What is done with its bytes.
         command: FileCommand,
+        /// The file that stops a search as soon as it is there, if one does. It is not opened.
+        stop: Option<&'a str>,
     },
     /// To list the ordered containers of a message that are not in the yard.
     Absent {
@@ -163,9 +171,14 @@ impl<'a> Job<'a> {
         ensures { IfOk result (λ job. job ≡ with_sizes sizes self.now) }
     {
         Ok(match self {
-            Job::OneFile { file, command } => Job::OneFile {
+            Job::OneFile {
+                file,
+                command,
+                stop,
+            } => Job::OneFile {
                 file: *file,
                 command: *command,
+                stop: *stop,
             },
             Job::Absent { files, settings } => Job::Absent {
                 files: *files,

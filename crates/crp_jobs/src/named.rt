@@ -134,7 +134,7 @@ pub(crate) fn report_named<'a>(job: &Job<'a>) -> Option<&'a str>
     match job {
         Job::Audit { files, .. } => Some(files.report),
         Job::Follow { files, .. } => report_name(files.report),
-        Job::OneFile { file, command } => match command {
+        Job::OneFile { file, command, .. } => match command {
             FileCommand::Rewrite => report_name(file),
             FileCommand::Replay
             | FileCommand::Bound { .. }

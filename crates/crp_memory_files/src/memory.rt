@@ -118,6 +118,11 @@ impl<'a> Files for FilesInMemory<'a> {
         front_of(alloc, bytes, most)
     }
 
+    fn size(&self, name: &str) -> Option<u64> {
+        let bytes = self.readable(name)?;
+        Some(bytes.len() as u64)
+    }
+
     #[tactic(auto, using(crate::proofs::Stored::readable_given))]
     fn open(&mut self, name: &str) -> Result<&'a [u8], NotOpened> {
         match self.readable(name) {

@@ -42,6 +42,10 @@ messages_note messages = note_of (
     codes "the interchange has " ∷ decimal messages
     ∷ codes " messages, and --order stowage mixes their containers: put each into a file of its own if they are for different ships" ∷ [])
 
+-- a file stops the run, and this bay is the first that is left open for it
+abbrev pub stopped_note : List ℕ
+stopped_note = note_of (codes "the file that --stop names is there, so this bay and those behind it are searched no further" ∷ [])
+
 -- so many orders name a slot that another order of their message names too, and the first of these slots
 abbrev pub slots_note : ℕ → List (List ℕ) → Bool → List ℕ
 slots_note count slots more = note_of (decimal count ∷ codes " orders name a slot that another order of their message names too: " ∷ listed slots more ∷ [])

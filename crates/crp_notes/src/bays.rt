@@ -21,6 +21,17 @@ fn advice_on(cause: Cause) -> &'static [u8]
     }
 }
 
+/// Whether the search that answers so was out of time.
+pub(crate) fn is_out_of_time(answer: &Answer) -> bool {
+    matches!(
+        answer,
+        Answer::Between {
+            cause: Cause::Time,
+            ..
+        }
+    )
+}
+
 /// The note on a bay with this answer, if there is one: it is left open, or has no plan.
 pub(crate) fn bay_note(
     alloc: Global,

@@ -3,6 +3,7 @@
 //! `Notes` watches a run and writes its notes to standard error, and how far it is to a `Terminal`; nothing of the report rests on them. How each note is worded is said
 //! in `specs/Wording.antt`, which slots several orders of a message name in `specs/Slots.antt`, what is noted of the bays of one size,
 //! by their plans, in `specs/Beyond.antt`, and of a bay in `specs/Bays.antt`. Which names are alike is said by crp_order.
+//! `Metered` is a source that shows on a `Terminal` how far it is read.
 //! `note_left` notes what a report that is followed leaves of what is ordered: `specs/Left.antt`.
 #![tactic(auto)]
 
@@ -11,8 +12,11 @@ mod containers;
 mod left;
 mod lines;
 mod message;
+mod meter;
+mod metered;
 mod naming;
 mod notes;
+mod one_line;
 mod progress;
 mod reaching;
 mod rows;
@@ -25,6 +29,8 @@ mod unknown;
 mod wording;
 
 pub use left::note_left;
+pub use meter::{Meter, begin_reading, clear_reading};
+pub use metered::Metered;
 pub use notes::Notes;
 pub use progress::Progress;
-pub use terminal::{NoTerminal, Terminal};
+pub use terminal::{NoTerminal, Stoppable, Terminal};

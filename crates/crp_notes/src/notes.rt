@@ -1,7 +1,7 @@
 //! The notes of a run.
 ghost use Rattle.crp_report.specs.Watching.{ShowsMore};
 
-use crate::bays::bay_note;
+use crate::bays::{bay_note, is_out_of_time};
 use crate::containers::absent_names;
 use crate::lines::Lines;
 use crate::message::{MAX_LISTED, Says, handling_codes, is_original, messages, said_by, words_of};
@@ -14,12 +14,12 @@ use crate::terminal::Terminal;
 use crate::unknown::{has_bay, has_message};
 use crate::wording::{
     absent_note, alike_note, codes_note, function_note, messages_note, no_codes_note, size_note,
-    slots_note, unknown_bay_note, unknown_message_note,
+    slots_note, stopped_note, unknown_bay_note, unknown_message_note,
 };
 use crp_movins::Loading;
 use crp_order::{BayProblem, Mode, Sequence, alike};
 use crp_plan::{BayName, Sink};
-use crp_report::{InputSettings, RunSettings, Watch, show};
+use crp_report::{Clock, InputSettings, RunSettings, Watch, show};
 use crp_solve::{Answer, Solved};
 use crp_yard::Yard;
 use edi_text::Segments;
@@ -54,6 +54,9 @@ pub struct Notes<'a, T> {
     progress: Progress<'a, T>,
     // Whether a line for each bay is wanted where there is no terminal.
     bay_lines: bool,
+    terminal: &'a T,
+    // Whether it was noted that a file stops the run.
+    is_stopped: bool,
 }
 
 impl<'a, T: Terminal> Notes<'a, T> {
@@ -67,6 +70,8 @@ impl<'a, T: Terminal> Notes<'a, T> {
             sizes: Vec::new(alloc),
             progress: Progress::new(alloc, terminal),
             bay_lines,
+            terminal,
+            is_stopped: false,
         }
     }
 
@@ -268,6 +273,16 @@ impl<'a, T: Terminal> Notes<'a, T> {
         }
     }
 
+    // The file that stops the run, where this bay is the first that is left open for it.
+    fn stopped<E: Sink>(&mut self, alloc: Global, answer: &Answer, errors: &mut E)
+        ensures { ShowsMore (E.contents errors.old) (E.contents errors.new) }
+    {
+        if !self.is_stopped && is_out_of_time(answer) && self.terminal.is_stopped() {
+            self.is_stopped = true;
+            self.lines.note(errors, stopped_note(alloc));
+        }
+    }
+
     // A bay that is left open, or has no plan.
     fn bay<E: Sink>(&mut self, alloc: Global, bay: &BayProblem, answer: &Answer, errors: &mut E)
         ensures { ShowsMore (E.contents errors.old) (E.contents errors.new) }
@@ -326,11 +341,11 @@ impl<'a, T: Terminal + Sync> Watch for Notes<'a, T> {
         bays: usize,
         errors: &mut E,
     ) {
-        self.progress.begin(bay, behind, bays);
+        self.progress.begin(&bay.bay, &bay.problem, behind, bays);
         if !self.bay_lines || self.progress.is_there() {
             return;
         }
-        if let Ok(line) = bay_line(alloc, bay, behind, bays) {
+        if let Ok(line) = bay_line(alloc, &bay.bay, behind, bays) {
             show(errors, &line);
         }
     }
@@ -347,6 +362,7 @@ impl<'a, T: Terminal + Sync> Watch for Notes<'a, T> {
         certificate: &[u8],
         errors: &mut E,
     ) {
+        self.stopped(alloc, &solved.answer, errors);
         self.bay(alloc, bay, &solved.answer, errors);
         self.size(alloc, bay, certificate, errors);
         self.keep(alloc, &bay.bay, &solved.answer);

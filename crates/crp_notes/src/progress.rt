@@ -1,21 +1,16 @@
 //! How far a run is: a line on a terminal that is rewritten in place, or a line for each bay.
 //!
 //! Nothing is proved of these lines but that they end, and nothing rests on them.
+use crate::one_line::{OneLine, push_grouped};
 use crate::terminal::Terminal;
 use crp_bay::Position;
 use crp_bounds::look_ahead;
-use crp_order::BayProblem;
+use crp_plan::{BayName, Problem};
 use crp_solve::Gate;
 use crp_tree::Name;
 use itoa::Buffer;
 use std::alloc::{AllocError, Global};
-use std::sync::atomic::{AtomicBool, AtomicU64, Ordering};
-
-// What rewrites a line: it goes to the first column and erases what stands there.
-const ERASED: &[u8] = b"\r\x1b[K";
-
-// The milliseconds in which the line is shown at most once.
-const TENTH: u64 = 100;
+use std::sync::atomic::{AtomicU64, Ordering};
 
 // That no plan is known.
 const NO_PLAN: u64 = u64::MAX;
@@ -31,15 +26,13 @@ pub struct Progress<'a, T> {
     positions: AtomicU64,
     // The fewest relocations of a plan that is known.
     planned: AtomicU64,
-    // The tenth of a second in which the line was shown last, and whether it stands there.
-    shown_at: AtomicU64,
-    is_shown: AtomicBool,
+    line: OneLine,
 }
 
 // Which bay is searched, behind so many others of so many in all.
 fn bay_words(
     alloc: Global,
-    bay: &BayProblem,
+    bay: &BayName,
     behind: usize,
     bays: usize,
 ) -> Result<Vec<u8>, AllocError> {
@@ -50,21 +43,21 @@ fn bay_words(
         b" of ",
         all.format(bays).as_bytes(),
         b", ",
-        bay.bay.block(),
+        bay.block(),
         b" ",
     ];
     let mut words = Vec::new(alloc);
     for part in parts {
         words.extend_from_slice(part)?;
     }
-    words.extend_from_slice(name.format(bay.bay.bay()).as_bytes())?;
+    words.extend_from_slice(name.format(bay.bay()).as_bytes())?;
     Ok(words)
 }
 
 /// The line for a bay that is searched, behind so many others of so many in all.
 pub(crate) fn bay_line(
     alloc: Global,
-    bay: &BayProblem,
+    bay: &BayName,
     behind: usize,
     bays: usize,
 ) -> Result<Vec<u8>, AllocError> {
@@ -73,19 +66,6 @@ pub(crate) fn bay_line(
     line.extend_from_slice(&words)?;
     line.push(b'\n')?;
     Ok(line)
-}
-
-// Adds a number with a blank before each three digits that are followed by as many as make threes.
-fn push_grouped(text: &mut Vec<u8>, number: u64) -> Result<(), AllocError> {
-    let mut buffer = Buffer::new();
-    let digits = buffer.format(number).as_bytes();
-    for i in 0..digits.len() {
-        if i > 0 && (digits.len() - i) % 3 == 0 {
-            text.push(b' ')?;
-        }
-        text.push(digits[i])?;
-    }
-    Ok(())
 }
 
 // Adds the bounds on the relocations of a bay.
@@ -111,8 +91,7 @@ impl<'a, T: Terminal> Progress<'a, T> {
             lower: 0,
             positions: AtomicU64::new(0),
             planned: AtomicU64::new(NO_PLAN),
-            shown_at: AtomicU64::new(u64::MAX),
-            is_shown: AtomicBool::new(false),
+            line: OneLine::new(),
         }
     }
 
@@ -122,12 +101,12 @@ impl<'a, T: Terminal> Progress<'a, T> {
     }
 
     /// The search of a bay begins, behind so many others of so many in all.
-    pub fn begin(&mut self, bay: &BayProblem, behind: usize, bays: usize) {
+    pub fn begin(&mut self, bay: &BayName, problem: &Problem, behind: usize, bays: usize) {
         if !self.is_there() {
             return;
         }
         self.bay = bay_words(self.alloc, bay, behind, bays).unwrap_or(Vec::new(self.alloc));
-        self.lower = look_ahead(&Position::start(&bay.problem));
+        self.lower = look_ahead(&Position::start(problem));
         self.positions.store(0, Ordering::Relaxed);
         self.planned.store(NO_PLAN, Ordering::Relaxed);
         self.show();
@@ -135,34 +114,26 @@ impl<'a, T: Terminal> Progress<'a, T> {
 
     /// Takes the line away.
     pub fn clear(&self) {
-        if self.is_shown.swap(false, Ordering::Relaxed) {
-            self.terminal.write(ERASED);
-        }
+        self.line.clear(self.terminal);
     }
 
-    // The line, as it rewrites another.
-    fn line(&self) -> Result<Vec<u8>, AllocError> {
-        let mut line = Vec::from_slice(self.alloc, ERASED)?;
-        line.extend_from_slice(&self.bay)?;
-        line.extend_from_slice(b": ")?;
-        push_grouped(&mut line, self.positions.load(Ordering::Relaxed))?;
-        line.extend_from_slice(b" positions")?;
-        push_bounds(&mut line, self.lower, self.planned.load(Ordering::Relaxed))?;
-        Ok(line)
+    // The text of the line.
+    fn text(&self) -> Result<Vec<u8>, AllocError> {
+        let mut text = Vec::from_slice(self.alloc, &self.bay)?;
+        text.extend_from_slice(b": ")?;
+        push_grouped(&mut text, self.positions.load(Ordering::Relaxed))?;
+        text.extend_from_slice(b" positions")?;
+        push_bounds(&mut text, self.lower, self.planned.load(Ordering::Relaxed))?;
+        Ok(text)
     }
 
-    // Shows the line, where there is a terminal and it was not shown in this tenth of a second.
+    // Shows the line, where it is due.
     fn show(&self) {
-        if !self.is_there() {
+        if !self.line.is_due(self.terminal) {
             return;
         }
-        let now = self.terminal.millis() / TENTH;
-        if self.shown_at.swap(now, Ordering::Relaxed) == now {
-            return;
-        }
-        if let Ok(line) = self.line() {
-            self.is_shown.store(true, Ordering::Relaxed);
-            self.terminal.write(&line);
+        if let Ok(text) = self.text() {
+            self.line.show(self.alloc, self.terminal, &text);
         }
     }
 }

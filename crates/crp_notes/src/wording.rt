@@ -1,6 +1,6 @@
 //! Words the notes.
 ghost use Rattle.std.specs.Prelude.{◌≡◌, ◌==◌, [], ◌++◌, IfOk, OnOk, length, take, map, flat_map, nat_lt, codes, if◌then◌else◌};
-ghost use Rattle.crp_notes.specs.Wording.{note_of, quoted, listed, function_note, no_codes_note, codes_note, messages_note, absent_note, alike_note, slots_note, unknown_message_note, unknown_bay_note, bay_name, bay_words, which_words, beyond_note, open_note, no_plan_note, size_note, left_note, loaded_note, more_note};
+ghost use Rattle.crp_notes.specs.Wording.{note_of, quoted, listed, function_note, no_codes_note, codes_note, messages_note, absent_note, alike_note, slots_note, stopped_note, unknown_message_note, unknown_bay_note, bay_name, bay_words, which_words, beyond_note, open_note, no_plan_note, size_note, left_note, loaded_note, more_note};
 
 use crate::message::MAX_LISTED;
 use crate::tiers::tiers_words;
@@ -148,6 +148,16 @@ pub(crate) fn messages_note(alloc: Global, messages: usize) -> Result<Vec<u8>, A
         b"the interchange has ",
         digits.format(messages).as_bytes(),
         b" messages, and --order stowage mixes their containers: put each into a file of its own if they are for different ships",
+    ];
+    note_of(alloc, parts.as_slice())
+}
+
+/// A file stops the run, and this bay is the first that is left open for it.
+pub(crate) fn stopped_note(alloc: Global) -> Result<Vec<u8>, AllocError>
+    ensures { IfOk result (λ text. text.items ≡ stopped_note) }
+{
+    let parts: [&[u8]; 1] = [
+        b"the file that --stop names is there, so this bay and those behind it are searched no further",
     ];
     note_of(alloc, parts.as_slice())
 }

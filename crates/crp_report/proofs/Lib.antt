@@ -6,6 +6,7 @@ pub mod Taken
 pub mod Stating
 pub mod Keeping
 pub mod Answering
+pub mod Places
 pub mod Shown
 pub mod Runs
 pub mod Counts

@@ -17,3 +17,4 @@ pub mod Writing
 pub mod Words
 pub mod Watching
 pub mod Timing
+pub mod Looks

@@ -6,6 +6,7 @@
 //! promises in `specs/Runs.antt`. `print_moves` writes the moves of one plan.
 #![tactic(auto)]
 
+mod ahead;
 mod answers;
 mod bay_texts;
 mod bays;

@@ -237,7 +237,7 @@ pub fn run_watched<
     ended
 }
 
-/// A run that nobody watches, and without a clock: no limit of time is ever over.
+/// A run that nobody watches, and without a clock: no limit of time above 0 is ever reached.
 pub fn run<T: Threads + Wait + Sync, Y: Source, M: Source, W: Sink, C: Sink, A: Sink>(
     rt: &T,
     alloc: Global,

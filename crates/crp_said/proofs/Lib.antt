@@ -11,3 +11,4 @@ pub mod Bays
 pub mod CutLines
 pub mod StatedMoves
 pub mod OneReport
+pub mod MoreLines

@@ -6,3 +6,5 @@ pub mod TakeLines
 pub mod Spelled
 pub mod Views
 pub mod Fields
+pub mod Completed
+pub mod Tallied

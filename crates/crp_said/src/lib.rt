@@ -2,10 +2,12 @@
 //!
 //! `read_report` gives what the text of a report says, or the first line that is not as said; `read_numbers`, `read_bay`,
 //! `read_last` and `read_move` what one line says.
-//! `push_line`, `push_bay_line` and the others write the lines. What the text is is said in `specs/Said.antt`, the lines of moves in
-//! `specs/MoveLines.antt`, and what is refused in `specs/Spelled.antt`.
+//! `push_line`, `push_bay_line` and the others write the lines, and `complete` adds the last line to a report that ends early. What the
+//! text is is said in `specs/Said.antt`, the lines of moves in `specs/MoveLines.antt`, what is refused in `specs/Spelled.antt`, and what
+//! completes a report in `specs/Completed.antt`.
 #![tactic(auto)]
 
+mod completing;
 mod cutting;
 mod fields;
 mod laws;
@@ -19,6 +21,7 @@ mod reading;
 mod report;
 mod said;
 
+pub use completing::{Completed, complete};
 pub use cutting::cut_line;
 pub use laws::{one_move, one_report, takes_are_in_order};
 pub use line_reading::{read_bay, read_last, read_numbers};

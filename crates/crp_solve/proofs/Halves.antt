@@ -1,5 +1,5 @@
 -- Groups of workers in two halves, and what they become together.
-use Rattle.std.proofs.Common.{◌≡◌, ◌<◌, false, true, ◌||◌, ⊎_elim, List, [], ◌∷◌, ◌++◌, length, length-append, append-nil, map, All, sym, ap, ◌∙◌, subst, arith}
+use Rattle.std.proofs.Common.{◌≡◌, ◌<◌, false, ◌||◌, ⊎_elim, List, [], ◌∷◌, ◌++◌, length, length-append, append-nil, map, All, sym, ap, ◌∙◌, subst, arith}
 use Rattle.std.proofs.lemmas.Bool.{or_cases}
 use Rattle.std.proofs.Math.Seq.{take-append_seam, drop-append_seam}
 use Rattle.std.proofs.lemmas.List.{map-append}

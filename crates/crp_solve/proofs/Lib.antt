@@ -4,6 +4,7 @@ pub mod One
 pub mod SearchesEnded
 pub mod Rising
 pub mod Looked
+pub mod Within
 pub mod KeptPlan
 pub mod Deepened
 pub mod Answerable

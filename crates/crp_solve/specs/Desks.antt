@@ -1,5 +1,5 @@
 -- One worker of a search at its desk: its seat at the shared words, the plan that its least offer counts, and its place in the pool.
-use Rattle.std.specs.Prelude.{◌≡◌, ℕ, zero, suc, ◌+◌, ◌≤◌, Bool, true, false, List, ◌++◌, [], length, Option, Some, None, IfSome, All, option_map}
+use Rattle.std.specs.Prelude.{◌≡◌, ℕ, zero, suc, ◌≤◌, Bool, true, false, List, ◌++◌, [], length, Option, Some, None, IfSome, All, option_map}
 use Rattle.crp_plan.specs.declared.running.View.{View}
 use Rattle.crp_plan.specs.Bay.{Problem, IsProblem}
 use Rattle.crp_plan.specs.Plans.{ProblemPath}

@@ -1,5 +1,5 @@
 -- What a solver answers.
-use Rattle.std.specs.Prelude.{◌≡◌, ◌⊎◌, ℕ, Bool, true, false, Option, Some, None}
+use Rattle.std.specs.Prelude.{◌≡◌, ◌≤◌, ◌⊎◌, ℕ, Bool, true, false, Option, Some, None}
 use Rattle.crp_plan.specs.Bay.{Problem}
 use Rattle.crp_plan.specs.Plans.{ProblemPath}
 use Rattle.crp_tree.specs.Parts.{Certificate}
@@ -46,3 +46,8 @@ pub record IsFirstPart (p : Problem) (c : Chosen) (s : Solved) : Type 0 where
   pub answer : IsTrueAnswer p c.budget s.answer s.expanded
   pub searches : ComesOf p c s.answer s.expanded s.stopped
   pub one_search : c.deepen ≡ false → c.thin ≡ 0 → EachIsBranch s.answer s.expanded
+
+-- what spent so much within the first of two budgets spent it within the second: that is no less, and they are one where it spent all
+pub record SpendsWithin (few budget spent : ℕ) : Type 0 where
+  pub within : few ≤ budget
+  pub all : spent ≡ few → few ≡ budget

@@ -6,6 +6,7 @@ mod answer;
 mod answering;
 mod end;
 mod laws;
+mod looking;
 mod rounds;
 mod search;
 mod second;
@@ -19,6 +20,7 @@ pub use answer::{Answer, Cause, Second, Solved};
 pub use answering::answer_to;
 pub use end::{Lost, Together};
 pub use laws::{answers_agree, each_has_an_answer, one_first_limit};
+pub use looking::look;
 pub use rounds::with_known;
 pub use search::Search;
 pub use settings::{

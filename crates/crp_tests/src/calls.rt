@@ -1,5 +1,5 @@
 //! The calls that the tests make, each in a function with no clause: so a test knows nothing of what is promised, and is soon checked.
-use crp_commands::{FollowSettings, Listed, TextFiles};
+use crp_commands::{FollowSettings, Listed, NoTerminal, TextFiles};
 use crp_jobs::{Job, ToolFault};
 use crp_plan::{Nowhere, Sink, Source};
 use crp_report::{Devices, Fault, NoClock, RunSettings, Status, Watch};
@@ -48,7 +48,7 @@ pub(crate) fn prove<T: Threads + Wait + Sync, R: Source, W: Sink>(
     writer: &mut W,
     settings: Settings,
 ) -> Result<Status, ToolFault> {
-    crp_commands::prove(rt, alloc, &NoClock, reader, writer, settings)
+    crp_commands::prove(rt, alloc, &NoTerminal, reader, writer, settings)
 }
 
 pub(crate) fn run<T: Threads + Wait + Sync, Y: Source, M: Source, W: Sink, C: Sink, A: Sink>(

@@ -72,6 +72,7 @@ fn followed_to<R: Source, P: Sink, W: Sink>(
         page,
         list,
         loaded: None,
+        partial: false,
     };
     let mut listed = Listed {
         yard,

@@ -35,6 +35,8 @@ mod interrupted_runs;
 #[cfg(test)]
 mod many_workers;
 #[cfg(test)]
+mod metered;
+#[cfg(test)]
 mod mistakes;
 #[cfg(test)]
 mod run_settings;

@@ -141,7 +141,7 @@ fn run<T: Threads + Wait + Sync>(
         &mut SystemFiles::new(rt),
         &mut streams,
         &words,
-        &Ticking::of(&words),
+        &Ticking::of(rt, &words),
     );
     played.errors = streams.errors.bytes;
     let written = streams.out.bytes;

@@ -1,27 +1,30 @@
 //! A clock for runs with a limit of time.
 use crp_commands::{Clock, Terminal};
+use std::fs;
 use std::sync::atomic::{AtomicU64, Ordering};
 
 /// No terminal, with a clock that is a second later at each reading where the words of a run name a limit of time, and else stands still.
 #[derive(Drop)]
-pub(crate) struct Ticking {
+pub(crate) struct Ticking<'a> {
+    rt: &'a HostRuntime,
     runs: bool,
     seconds: AtomicU64,
 }
 
-impl Ticking {
+impl<'a> Ticking<'a> {
     /// The clock for a run of these words.
-    pub(crate) fn of(words: &[&str]) -> Ticking {
+    pub(crate) fn of(rt: &'a HostRuntime, words: &[&str]) -> Ticking<'a> {
         let runs = words.iter().any(|word| word.starts_with("--seconds")
             || word.starts_with("--total-seconds"));
         Ticking {
+            rt,
             runs,
             seconds: AtomicU64::new(0),
         }
     }
 }
 
-impl Clock for Ticking {
+impl Clock for Ticking<'_> {
     fn millis(&self) -> u64 {
         if self.runs {
             self.seconds
@@ -33,10 +36,14 @@ impl Clock for Ticking {
     }
 }
 
-impl Terminal for Ticking {
+impl Terminal for Ticking<'_> {
     fn is_there(&self) -> bool {
         false
     }
 
     fn write(&self, _text: &[u8]) {}
+
+    fn has_file(&self, name: &str) -> bool {
+        fs::metadata(self.rt, name).is_ok()
+    }
 }

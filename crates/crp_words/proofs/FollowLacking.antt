@@ -14,11 +14,11 @@ use Rattle.crp_words.proofs.Lacking.{lacks, lacks_more, no_input_fault, other_na
 
 follow_asks : (rows : List Row) (j : Job) → Asks (codes "follow") rows j
     → AreFollowWordsClear rows × ((s : InputChosen) × HasInput rows s) × ((names : FollowFiles) × HasFollowFiles rows names)
-follow_asks rows (job.OneFile file command.Replay) asks = absurd (other_name 102 114 _ _ (omega arith) asks.0)
-follow_asks rows (job.OneFile file command.Rewrite) asks = absurd (other_name 102 114 _ _ (omega arith) asks.0)
-follow_asks rows (job.OneFile file (command.Bound chains)) asks = absurd (other_name 102 98 _ _ (omega arith) asks.0.0)
-follow_asks rows (job.OneFile file (command.Check any_size)) asks = absurd (other_name 102 99 _ _ (omega arith) asks.0.0)
-follow_asks rows (job.OneFile file (command.Prove search)) asks = absurd (other_name 102 112 _ _ (omega arith) asks.0.0)
+follow_asks rows (job.OneFile file command.Replay stop) asks = absurd (other_name 102 114 _ _ (omega arith) asks.0)
+follow_asks rows (job.OneFile file command.Rewrite stop) asks = absurd (other_name 102 114 _ _ (omega arith) asks.0)
+follow_asks rows (job.OneFile file (command.Bound chains) stop) asks = absurd (other_name 102 98 _ _ (omega arith) asks.0.0)
+follow_asks rows (job.OneFile file (command.Check any_size) stop) asks = absurd (other_name 102 99 _ _ (omega arith) asks.0.0)
+follow_asks rows (job.OneFile file (command.Prove search) stop) asks = absurd (other_name 102 112 _ _ (omega arith) asks.0.0)
 follow_asks rows (job.Absent names settings) asks = absurd (other_name 102 97 _ _ (omega arith) asks.0)
 follow_asks rows (job.Audit names settings) asks = absurd (other_name 102 97 _ _ (omega arith) asks.0)
 follow_asks rows (job.Follow names settings) asks = (asks.1, (settings, asks.3), (names, asks.2))

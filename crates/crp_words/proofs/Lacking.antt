@@ -376,11 +376,11 @@ other_second first a b m n other same = other (ap (λ (l : Text). slice_index l 
 
 -- what audit asks for has an input, and its size once
 audit_asks : (rows : List Row) (j : Job) → Asks (codes "audit") rows j → ¬ IsSizedTwice rows × ((s : InputChosen) × HasInput rows s)
-audit_asks rows (job.OneFile file command.Replay) asks = absurd (other_name 97 114 _ _ (omega arith) asks.0)
-audit_asks rows (job.OneFile file command.Rewrite) asks = absurd (other_name 97 114 _ _ (omega arith) asks.0)
-audit_asks rows (job.OneFile file (command.Bound chains)) asks = absurd (other_name 97 98 _ _ (omega arith) asks.0.0)
-audit_asks rows (job.OneFile file (command.Check any_size)) asks = absurd (other_name 97 99 _ _ (omega arith) asks.0.0)
-audit_asks rows (job.OneFile file (command.Prove search)) asks = absurd (other_name 97 112 _ _ (omega arith) asks.0.0)
+audit_asks rows (job.OneFile file command.Replay stop) asks = absurd (other_name 97 114 _ _ (omega arith) asks.0)
+audit_asks rows (job.OneFile file command.Rewrite stop) asks = absurd (other_name 97 114 _ _ (omega arith) asks.0)
+audit_asks rows (job.OneFile file (command.Bound chains) stop) asks = absurd (other_name 97 98 _ _ (omega arith) asks.0.0)
+audit_asks rows (job.OneFile file (command.Check any_size) stop) asks = absurd (other_name 97 99 _ _ (omega arith) asks.0.0)
+audit_asks rows (job.OneFile file (command.Prove search) stop) asks = absurd (other_name 97 112 _ _ (omega arith) asks.0.0)
 audit_asks rows (job.Absent names settings) asks = absurd (other_second 97 117 98 _ _ (omega arith) asks.0)
 audit_asks rows (job.Audit names settings) asks = (asks.1, (settings, asks.3))
 audit_asks rows (job.Follow names settings) asks = absurd (other_name 97 102 _ _ (omega arith) asks.0)

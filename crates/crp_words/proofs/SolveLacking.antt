@@ -54,11 +54,11 @@ no_time rows s i u search input = lacks_more (HasTime rows) (HasSettings rows) (
 
 -- what prove asks for has settings of a search, and a file
 prove_asks : (rows : List Row) (j : Job) → Asks (codes "prove") rows j → ((s : Chosen) × HasSearch rows s) × ((file : Text) × HasText (codes "file") rows file)
-prove_asks rows (job.OneFile file command.Replay) asks = absurd (other_name 112 114 _ _ (omega arith) asks.0)
-prove_asks rows (job.OneFile file command.Rewrite) asks = absurd (other_name 112 114 _ _ (omega arith) asks.0)
-prove_asks rows (job.OneFile file (command.Bound chains)) asks = absurd (other_name 112 98 _ _ (omega arith) asks.0.0)
-prove_asks rows (job.OneFile file (command.Check any_size)) asks = absurd (other_name 112 99 _ _ (omega arith) asks.0.0)
-prove_asks rows (job.OneFile file (command.Prove search)) asks = ((search, asks.0.1), (file.now, asks.1))
+prove_asks rows (job.OneFile file command.Replay stop) asks = absurd (other_name 112 114 _ _ (omega arith) asks.0)
+prove_asks rows (job.OneFile file command.Rewrite stop) asks = absurd (other_name 112 114 _ _ (omega arith) asks.0)
+prove_asks rows (job.OneFile file (command.Bound chains) stop) asks = absurd (other_name 112 98 _ _ (omega arith) asks.0.0)
+prove_asks rows (job.OneFile file (command.Check any_size) stop) asks = absurd (other_name 112 99 _ _ (omega arith) asks.0.0)
+prove_asks rows (job.OneFile file (command.Prove search) stop) asks = ((search, asks.0.1), (file.now, asks.1))
 prove_asks rows (job.Absent names settings) asks = absurd (other_name 112 97 _ _ (omega arith) asks.0)
 prove_asks rows (job.Audit names settings) asks = absurd (other_name 112 97 _ _ (omega arith) asks.0)
 prove_asks rows (job.Follow names settings) asks = absurd (other_name 112 102 _ _ (omega arith) asks.0)
@@ -105,11 +105,11 @@ no_prove_file rows s time u search timely = lacks_more (HasText (codes "file") r
 -- what solve asks for has its size once and each file once, files, and settings
 solve_asks : (rows : List Row) (j : Job) → Asks (codes "solve") rows j
     → ¬ IsSizedTwice rows × ¬ IsNamedTwice rows × ((names : RunFiles) × HasFiles rows names) × ((s : RunChosen) × HasSettings rows s)
-solve_asks rows (job.OneFile file command.Replay) asks = absurd (other_name 115 114 _ _ (omega arith) asks.0)
-solve_asks rows (job.OneFile file command.Rewrite) asks = absurd (other_name 115 114 _ _ (omega arith) asks.0)
-solve_asks rows (job.OneFile file (command.Bound chains)) asks = absurd (other_name 115 98 _ _ (omega arith) asks.0.0)
-solve_asks rows (job.OneFile file (command.Check any_size)) asks = absurd (other_name 115 99 _ _ (omega arith) asks.0.0)
-solve_asks rows (job.OneFile file (command.Prove search)) asks = absurd (other_name 115 112 _ _ (omega arith) asks.0.0)
+solve_asks rows (job.OneFile file command.Replay stop) asks = absurd (other_name 115 114 _ _ (omega arith) asks.0)
+solve_asks rows (job.OneFile file command.Rewrite stop) asks = absurd (other_name 115 114 _ _ (omega arith) asks.0)
+solve_asks rows (job.OneFile file (command.Bound chains) stop) asks = absurd (other_name 115 98 _ _ (omega arith) asks.0.0)
+solve_asks rows (job.OneFile file (command.Check any_size) stop) asks = absurd (other_name 115 99 _ _ (omega arith) asks.0.0)
+solve_asks rows (job.OneFile file (command.Prove search) stop) asks = absurd (other_name 115 112 _ _ (omega arith) asks.0.0)
 solve_asks rows (job.Absent names settings) asks = absurd (other_name 115 97 _ _ (omega arith) asks.0)
 solve_asks rows (job.Audit names settings) asks = absurd (other_name 115 97 _ _ (omega arith) asks.0)
 solve_asks rows (job.Follow names settings) asks = absurd (other_name 115 102 _ _ (omega arith) asks.0)

@@ -1,5 +1,5 @@
 -- The limits of time that are found, and why there are none.
-use Rattle.std.proofs.Common.{◌≡◌, ◌∙◌, ◌⊎◌, ℕ, List, Option, Some, None, refl, sym, subst, inl, inr, codes}
+use Rattle.std.proofs.Common.{◌≡◌, ◌∙◌, ◌⊎◌, ℕ, List, Option, Some, None, is_some, option_map, refl, sym, subst, inl, inr, codes}
 use Rattle.clap.specs.Words.{Row, Text, rows_of, first_value}
 use Rattle.clap.specs.declared.parser.matches.Found.{Found}
 use Rattle.clap.proofs.WalkLemmas.{first_value-rows}
@@ -10,6 +10,11 @@ use Rattle.crp_words.specs.declared.usage.SettingFault.{SettingFault}
 use Rattle.crp_words.specs.declared.usage.SettingFault.TheVariants as setting
 use Rattle.crp_words.specs.declared.usage.Usage.{Usage}
 use Rattle.crp_words.proofs.Lacking.{lacks_more}
+
+-- something is left of something
+pub still_some : {A B : Type 0} (f : A → B) (o : Option A) → is_some (option_map f o) ≡ is_some o
+still_some f None = refl
+still_some f (Some a) = refl
 
 -- the milliseconds of a text are those that were found
 pub found_seconds : (f : Found) (id text : Text) (millis : ℕ) → first_value f id ≡ Some text → IsSecondsText text millis → HasSeconds id (rows_of f) millis

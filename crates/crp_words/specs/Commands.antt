@@ -80,6 +80,10 @@ quiet_rule = flag_rule (codes "quiet")
 abbrev pub progress_rule : Rule
 progress_rule = flag_rule (codes "progress")
 
+-- whether a report may end early: it may not where the flag is not given
+abbrev pub partial_rule : Rule
+partial_rule = flag_rule (codes "partial")
+
 -- the beam: none where it is not given
 abbrev pub beam_rule : Rule
 beam_rule = number_rule (codes "beam") (codes "0")
@@ -104,6 +108,10 @@ strong_rule = flag_rule (codes "strong")
 abbrev pub seconds_rule : Rule
 seconds_rule = optional_rule (codes "seconds")
 
+-- the file that stops a search: none where it is not given
+abbrev pub stop_rule : Rule
+stop_rule = optional_rule (codes "stop")
+
 -- how long the searches of all bays together may take: no limit where it is not given
 abbrev pub total_seconds_rule : Rule
 total_seconds_rule = optional_rule (codes "total-seconds")
@@ -120,9 +128,9 @@ with_limits shape = with_option split_rule (with_option budget_rule (with_option
 abbrev pub with_ways : Shape → Shape
 with_ways shape = with_option deepen_rule (with_option beam_rule (with_option first_rule (with_limits shape)))
 
--- a command with these, [--thin N], [--chains], [--strong] and [--seconds S]
+-- a command with these, [--thin N], [--chains], [--strong], [--seconds S] and [--stop FILE]
 abbrev pub with_search : Shape → Shape
-with_search shape = with_option seconds_rule (with_option strong_rule (with_option chains_rule (with_option thin_rule (with_ways shape))))
+with_search shape = with_option stop_rule (with_option seconds_rule (with_option strong_rule (with_option chains_rule (with_option thin_rule (with_ways shape)))))
 
 -- a command with these, and [--total-seconds S]
 abbrev pub with_searches : Shape → Shape
@@ -161,6 +169,10 @@ with_page shape = with_option (optional_rule (codes "page")) shape
 abbrev pub with_after : Shape → Shape
 with_after shape = with_option (optional_number_rule (codes "loaded")) (with_option (optional_rule (codes "after")) shape)
 
+-- a command with [--partial]
+abbrev pub with_partial : Shape → Shape
+with_partial shape = with_option partial_rule shape
+
 -- bound FILE [--chains]
 abbrev pub bound : Shape
 bound = with_option chains_rule (leaf (codes "bound"))
@@ -186,17 +198,17 @@ abbrev pub audit_files : Shape
 audit_files = command (codes "audit")
     (file_rule (codes "yard") ∷ file_rule (codes "movins") ∷ file_rule (codes "report") ∷ file_rule (codes "certificates") ∷ [])
 
--- audit, with its options: the size of the bays, and the order of leaving
+-- audit, with its options: the size of the bays, the order of leaving, and whether the report may end early
 abbrev pub audit : Shape
-audit = with_bays (with_size audit_files)
+audit = with_partial (with_bays (with_size audit_files))
 
 -- follow YARD REPORT [MOVINS], without its options
 abbrev pub follow_files : Shape
 follow_files = command (codes "follow") (file_rule (codes "yard") ∷ file_rule (codes "report") ∷ more_rule (codes "movins") ∷ [])
 
--- follow, with its options: the size of the bays, the order of leaving, the page, and the yard after
+-- follow, with its options: the size of the bays, the order of leaving, the page, the yard after, and whether the report may end early
 abbrev pub follow : Shape
-follow = with_after (with_page (with_bays (with_size follow_files)))
+follow = with_partial (with_after (with_page (with_bays (with_size follow_files))))
 
 -- absent YARD MOVINS, without its options
 abbrev pub absent_files : Shape

@@ -1,5 +1,5 @@
 -- What the words of the command line ask for.
-use Rattle.std.specs.Prelude.{◌≡◌, ℕ, ◌≢◌, ◌↔◌, Bool, IsTrue, ◌⊎◌, ◌==◌, ◌<◌, ◌≤◌, ◌^◌, List, [], ◌∷◌, ◌++◌, length, map, take, drop, if◌then◌else◌, codes, Option, Some, None, option_map, option_and_then, find, replicate, unwrap_or, decimal, ⊤}
+use Rattle.std.specs.Prelude.{◌≡◌, ℕ, ◌≢◌, ◌↔◌, Bool, IsTrue, ◌⊎◌, ◌==◌, ◌<◌, ◌≤◌, ◌^◌, List, [], ◌∷◌, ◌++◌, length, map, take, drop, if◌then◌else◌, codes, Option, Some, None, option_map, option_and_then, find, is_some, replicate, unwrap_or, decimal, ⊤}
 use Rattle.std.specs.List.{AllByRecursion}
 use Rattle.std.specs.Str.{bytes_eq}
 use Rattle.std.specs.Str.Parse.{IsNumeral, digits_value, without_leading_plus}
@@ -167,9 +167,17 @@ MayHaveSeconds id found (Some millis) = HasSeconds id found millis
 abbrev pub AreSecondsBeyond : Text → List Row → Type 0
 AreSecondsBeyond id found = (text : Text) × HasText id found text × ((millis : ℕ) → IsSecondsText text millis → ⊥)
 
--- the limits of time that were found: that of each bay, and that of all bays together
+-- a search may be stopped exactly where a file is named that does
+abbrev pub MayStop : List Row → Bool → Type 0
+MayStop found stop = stop ≡ is_some (first_of (codes "stop") found)
+
+-- the file that stops a search was found, if one was
+abbrev pub MayNameStop : List Row → Option (Bor Text) → Type 0
+MayNameStop found name = first_of (codes "stop") found ≡ option_map (λ text. text.now) name
+
+-- the limits of time that were found: that of each bay, that of all bays together, and whether a file may stop them
 abbrev pub HasTime : List Row → TimeLimits → Type 0
-HasTime found time = MayHaveSeconds (codes "seconds") found time.bay × MayHaveSeconds (codes "total-seconds") found time.all
+HasTime found time = MayHaveSeconds (codes "seconds") found time.bay × MayHaveSeconds (codes "total-seconds") found time.all × MayStop found time.stop
 
 -- the settings of a search that were found, within their limits
 abbrev pub HasSearch : List Row → Chosen → Type 0
@@ -265,20 +273,25 @@ HasSettings found s = HasSearch found s.search × HasInput found s.input
 abbrev pub MayNameSizes : List Row → Option (Bor Text) → Type 0
 MayNameSizes found name = first_of (codes "sizes") found ≡ option_map (λ text. text.now) name
 
--- the files of solve that were found: the two inputs, the list of sizes, if there is one, and the outputs that are wanted
+-- the files of solve that were found: the two inputs, the list of sizes, if there is one, the outputs that are wanted, and the file that stops it, if there is one
 abbrev pub HasFiles : List Row → RunFiles → Type 0
 HasFiles found names = HasText (codes "yard") found names.yard.now × HasText (codes "movins") found names.movins.now
     × (first_of (codes "cert") found ≡ option_map (λ text. text.now) names.cert)
-    × (first_of (codes "after") found ≡ option_map (λ text. text.now) names.after) × MayNameSizes found names.sizes
+    × (first_of (codes "after") found ≡ option_map (λ text. text.now) names.after) × MayNameSizes found names.sizes × MayNameStop found names.stop
 
 -- the files of absent that were found, and the list of sizes, if there is one
 abbrev pub HasAbsentFiles : List Row → AbsentFiles → Type 0
 HasAbsentFiles found names = HasText (codes "yard") found names.yard.now × HasText (codes "movins") found names.movins.now × MayNameSizes found names.sizes
 
--- the files of audit that were found, and the list of sizes, if there is one
+-- the report may end early exactly where the words give the flag
+abbrev pub MayEndEarly : List Row → Bool → Type 0
+MayEndEarly found partial = IsTrue partial ↔ IsGivenByWords (codes "partial") found
+
+-- the files of audit that were found, and the list of sizes, if there is one; and whether the report may end early
 abbrev pub HasAuditFiles : List Row → AuditFiles → Type 0
 HasAuditFiles found names = HasText (codes "yard") found names.yard.now × HasText (codes "movins") found names.movins.now
     × HasText (codes "report") found names.report.now × HasText (codes "certificates") found names.certificates.now × MayNameSizes found names.sizes
+    × MayEndEarly found names.partial
 
 -- the file of the yard after that was found, if one was, and how many containers the ship has by then, if that was found
 abbrev pub MayNameAfter : List Row → Option AfterFile → Type 0
@@ -286,11 +299,12 @@ MayNameAfter found None = first_of (codes "after") found ≡ None
 MayNameAfter found (Some file) = HasText (codes "after") found file.name.now × MayHaveNumber (codes "loaded") found file.loaded
 
 -- the files of follow that were found: the yard list and the report, the message and the list of sizes, if there are any, and the page and the yard after,
--- if they are wanted
+-- if they are wanted; and whether the report may end early
 abbrev pub HasFollowFiles : List Row → FollowFiles → Type 0
 HasFollowFiles found names = HasText (codes "yard") found names.yard.now × HasText (codes "report") found names.report.now
     × (first_of (codes "movins") found ≡ option_map (λ text. text.now) names.movins)
     × (first_of (codes "page") found ≡ option_map (λ text. text.now) names.page) × MayNameSizes found names.sizes × MayNameAfter found names.after
+    × MayEndEarly found names.partial
 
 -- the name of a file without `./` in front
 abbrev pub plain_name : Text → Text
@@ -358,7 +372,7 @@ AsksCommand name found command.Rewrite = name ≡ codes "rewrite"
 
 -- the command and its rows ask for this
 abbrev pub Asks : Text → List Row → Job → Type 0
-Asks name found (job.OneFile file c) = AsksCommand name found c × HasText (codes "file") found file.now
+Asks name found (job.OneFile file c stop) = AsksCommand name found c × HasText (codes "file") found file.now × MayNameStop found stop
 Asks name found (job.Absent names settings) =
     (name ≡ codes "absent") × ¬ IsSizedTwice found × HasAbsentFiles found names × HasInput found settings
 Asks name found (job.Audit names settings) =

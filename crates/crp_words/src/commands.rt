@@ -4,8 +4,8 @@ ghost use Rattle.clap.specs.Words.{App, app_of, with_subcommand};
 ghost use Rattle.crp_words.specs.Commands.{IsArg, IsCommand, absent as absent_shape, absent_files as absent_files_shape, alone, audit as audit_shape, audit_files as audit_files_shape, crp, file_rule, flag_rule, follow as follow_shape, follow_files as follow_files_shape, leaf as leaf_shape, leaves, more_rule, prove as prove_shape, rewrite as rewrite_shape, solve as solve_shape, solve_files as solve_files_shape, top_command as top_shape, with_option};
 
 use crate::options::{
-    flag, with_after, with_bays, with_orders, with_outputs, with_page, with_search, with_searches,
-    with_size,
+    flag, with_after, with_bays, with_orders, with_outputs, with_page, with_partial, with_search,
+    with_searches, with_size,
 };
 use clap::{Arg, Command};
 use std::alloc::{AllocError, Global};
@@ -134,7 +134,8 @@ fn audit<'a>(alloc: Global) -> Result<Command<'a>, AllocError>
     ensures { IfOk result (IsCommand audit_shape) }
 {
     let sized = with_size(alloc, audit_files(alloc)?)?;
-    with_bays(alloc, sized)
+    let ordered = with_bays(alloc, sized)?;
+    with_partial(alloc, ordered)
 }
 
 // The command `follow`, with its files, and without the options.
@@ -167,7 +168,8 @@ fn follow<'a>(alloc: Global) -> Result<Command<'a>, AllocError>
     let sized = with_size(alloc, follow_files(alloc)?)?;
     let ordered = with_bays(alloc, sized)?;
     let paged = with_page(alloc, ordered)?;
-    with_after(alloc, paged)
+    let left = with_after(alloc, paged)?;
+    with_partial(alloc, left)
 }
 
 // crp itself, without its commands.

@@ -103,6 +103,7 @@ pub(crate) fn follow_of<'a>(alloc: Global, matches: &ArgMatches<'a>) -> Result<J
         yard,
         sizes: matches.get_str("sizes"),
         report,
+        partial: is_given(matches, "partial"),
         movins: matches.get_str("movins"),
         page: matches.get_str("page"),
         after,

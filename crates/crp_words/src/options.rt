@@ -1,7 +1,7 @@
 //! The options of the command line.
 ghost use Rattle.std.specs.Prelude.{◌≡◌, IfOk};
 ghost use Rattle.clap.specs.Words.{Shape};
-ghost use Rattle.crp_words.specs.Commands.{IsArg, IsCommand, beam_rule, budget_rule, chains_rule, deepen_rule, first_rule, flag_rule, number_rule, optional_number_rule, optional_rule, progress_rule, quiet_rule, repeated_rule, seconds_rule, split_rule, strong_rule, text_rule, thin_rule, total_seconds_rule, with_after, with_bays, with_orders, with_outputs, with_page, with_search, with_searches, with_size, with_ways, workers_rule};
+ghost use Rattle.crp_words.specs.Commands.{IsArg, IsCommand, beam_rule, budget_rule, chains_rule, deepen_rule, first_rule, flag_rule, number_rule, optional_number_rule, optional_rule, progress_rule, quiet_rule, repeated_rule, seconds_rule, split_rule, stop_rule, strong_rule, text_rule, thin_rule, total_seconds_rule, with_after, with_bays, with_orders, with_outputs, with_page, with_partial, with_search, with_searches, with_size, with_ways, workers_rule};
 
 use clap::{Arg, ArgAction, Command, value_parser};
 use std::alloc::{AllocError, Global};
@@ -179,6 +179,17 @@ fn seconds<'a>(alloc: Global) -> Arg<'a>
     )
 }
 
+fn stop<'a>(alloc: Global) -> Arg<'a>
+    ensures { IsArg stop_rule result }
+{
+    optional(
+        alloc,
+        "stop",
+        "FILE",
+        "The search ends as soon as this file is there, as if its time were over",
+    )
+}
+
 fn total_seconds<'a>(alloc: Global) -> Arg<'a>
     ensures { IsArg total_seconds_rule result }
 {
@@ -214,7 +225,8 @@ pub(crate) fn with_search<'a>(
         .arg(thin(alloc))?
         .arg(chains(alloc))?
         .arg(strong(alloc))?
-        .arg(seconds(alloc))
+        .arg(seconds(alloc))?
+        .arg(stop(alloc))
 }
 
 // A command with the options of the searches of several bays.
@@ -341,6 +353,20 @@ pub(crate) fn with_page<'a>(alloc: Global, command: Command<'a>) -> Result<Comma
         "page",
         "FILE",
         "File that gets a page of the moves, with pictures; without it that is not written",
+    ))
+}
+
+// A command with a report that may end early.
+pub(crate) fn with_partial<'a>(
+    alloc: Global,
+    command: Command<'a>,
+) -> Result<Command<'a>, AllocError>
+    ensures { IfOk result (λ new. (shape : Shape) → IsCommand shape command.entry → IsCommand (with_partial shape) new) }
+{
+    command.arg(flag(
+        alloc,
+        "partial",
+        "Take a report that ends early, without its last line, as far as it goes",
     ))
 }
 

@@ -2,7 +2,7 @@
 ghost use Rattle.std.specs.Prelude.{◌≡◌, ◌↔◌, ◌≤◌, IfOk, IfErr, IsTrue, false};
 ghost use Rattle.clap.specs.Words.{found_of, rows_of};
 ghost use Rattle.crp_solve.specs.Chosen.{IsWorkers, IsBudget, IsSplitDepth, IsBeam, IsThin, no_limits};
-ghost use Rattle.crp_words.specs.Words.{AreSecondsBeyond, HasFlags, HasNumberOrStrong, HasOwnNumberBeyond, HasTime, HasUntimed, IsGivenOrStrong, IsJust, IsLeftToStrong, IsSearchFault, IsTimeFault, Lacks, MayHaveSeconds};
+ghost use Rattle.crp_words.specs.Words.{AreSecondsBeyond, HasFlags, HasNumberOrStrong, HasOwnNumberBeyond, HasTime, HasUntimed, IsGivenOrStrong, IsJust, IsLeftToStrong, IsSearchFault, IsTimeFault, Lacks, MayHaveSeconds, MayNameStop};
 
 use crate::given::{is_given, number_within};
 use crate::seconds::millis_in;
@@ -151,12 +151,23 @@ fn millis_of(
     }
 }
 
-/// The limits of the time of a search: that of each bay, and that of all bays together.
+/// The file that stops a search, if one does.
+pub(crate) fn stop_of<'a>(matches: &ArgMatches<'a>) -> Option<&'a str>
+    ensures { MayNameStop (rows_of (found_of matches.now)) result }
+{
+    matches.get_str("stop")
+}
+
+/// The limits of the time of a search: that of each bay, that of all bays together, and whether a file may stop it.
 pub(crate) fn time_of(matches: &ArgMatches<'_>) -> Result<TimeLimits, Usage>
     ensures ok { IfOk result (HasTime (rows_of (found_of matches.now))) }
     ensures err { IfErr result (Lacks (HasTime (rows_of (found_of matches.now))) (IsTimeFault (rows_of (found_of matches.now)))) }
 {
     let bay = millis_of(matches, "seconds", SettingFault::Seconds)?;
     let all = millis_of(matches, "total-seconds", SettingFault::TotalSeconds)?;
-    Ok(TimeLimits { bay, all })
+    Ok(TimeLimits {
+        bay,
+        all,
+        stop: stop_of(matches).is_some(),
+    })
 }

@@ -7,7 +7,7 @@ use crate::commands::command_line;
 use crate::follow_words::follow_of;
 use crate::given::{is_given, one_file, same_file, text_of, wrong};
 use crate::input_words::{input_of, is_sized_twice};
-use crate::search_words::{search_of, time_of};
+use crate::search_words::{search_of, stop_of, time_of};
 use crate::usage::{Mistake, Usage};
 use clap::error::ErrorKind;
 use clap::{ArgMatches, Error};
@@ -85,6 +85,7 @@ fn prove_of<'a>(alloc: Global, matches: &ArgMatches<'a>) -> Result<Job<'a>, Usag
     Ok(Job::OneFile {
         file,
         command: FileCommand::Prove(search.with_time(time)),
+        stop: stop_of(matches),
     })
 }
 
@@ -108,6 +109,7 @@ fn solve_of<'a>(alloc: Global, matches: &ArgMatches<'a>) -> Result<Job<'a>, Usag
         sizes: matches.get_str("sizes"),
         cert: matches.get_str("cert"),
         after: matches.get_str("after"),
+        stop: stop_of(matches),
     };
     Ok(Job::Solve {
         files,
@@ -148,6 +150,7 @@ fn audit_of<'a>(alloc: Global, matches: &ArgMatches<'a>) -> Result<Job<'a>, Usag
         sizes: matches.get_str("sizes"),
         movins: text_of(alloc, matches, "movins")?,
         report: text_of(alloc, matches, "report")?,
+        partial: is_given(matches, "partial"),
         certificates: text_of(alloc, matches, "certificates")?,
     };
     Ok(Job::Audit { files, settings })
@@ -171,7 +174,11 @@ fn leaf_of<'a>(alloc: Global, name: &str, matches: &ArgMatches<'a>) -> Result<Jo
         "rewrite" => FileCommand::Rewrite,
         _ => return Err(wrong(alloc, "error: there is no such command\n")),
     };
-    Ok(Job::OneFile { file, command })
+    Ok(Job::OneFile {
+        file,
+        command,
+        stop: stop_of(matches),
+    })
 }
 
 // What a command and its matches ask for.

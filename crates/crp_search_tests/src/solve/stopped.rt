@@ -34,6 +34,7 @@ impl Gate for Stopping {
 const TIMED: TimeLimits = TimeLimits {
     bay: Some(1),
     all: None,
+    stop: false,
 };
 
 // What workers answer whom the gate stops from this question on.

@@ -1,4 +1,4 @@
-use Rattle.std.proofs.Common.{ℕ, List, Some, refl, ap}
+use Rattle.std.proofs.Common.{ℕ, List, false, Some, refl, ap}
 use Rattle.crp_report.specs.Runs.{SourceSeen, SinkSeen}
 use Rattle.crp_commands.specs.Follow.{FollowChosen, FollowSeen, TextsSeen}
 use Rattle.crp_callers.proofs.WrittenTexts.{followed_whole, on_ok}
@@ -35,9 +35,9 @@ returns c =
       report = listed c.args.report.now;
       texts = texts;
     } in
-    let chosen : FollowChosen = record { input = c.args.asked.0.now; loaded = c.args.asked.1 } in
+    let chosen : FollowChosen = record { input = c.args.asked.0.now; loaded = c.args.asked.1; partial = false } in
     on_ok c.follow.result _ _ _ c.follow.ensures.ended (λ ended done.
-    followed_whole chosen seen c.args.list.now c.args.message.now c.args.report.now c.follow.new.files.page.bytes.items c.follow.new.files.list.bytes.items
+    followed_whole chosen seen refl c.args.list.now c.args.message.now c.args.report.now c.follow.new.files.page.bytes.items c.follow.new.files.list.bytes.items
     c.follow.new.out.bytes.items (record {
       messages = listed c.args.message.now;
       pages = page;

@@ -1,10 +1,10 @@
-use Rattle.std.proofs.Common.{arith, inl, inr, map, refl, subst, sym}
+use Rattle.std.proofs.Common.{arith, inl, inr, map, refl}
 use Rattle.std.proofs.lemmas.Result.{err_from_is_err_and}
-use Rattle.crp_yard.specs.Reading.{IsTextOf}
 use Rattle.crp_follow.specs.Views.{bay_followed}
 use Rattle.crp_report.specs.Runs.{SinkSeen, sink_seen}
+use Rattle.crp_commands.proofs.Noted.{noted_both, noted_first}
 use Rattle.crp_commands.proofs.Replayed.{keeps_same}
-use Rattle.crp_commands.proofs.Traced.{asked_failures, asked_nothing, noted_so, ship_given, texts_of_call}
+use Rattle.crp_commands.proofs.Traced.{asked_failures, asked_nothing, given_as, noted_so, ship_given, texts_of_call}
 use Rattle.crp_commands.proofs.following.follow.Goals as goal
 
 pub returns-in_err-input-clause-ended : goal.returns-in_err-input-clause-ended
@@ -42,12 +42,42 @@ returns-in_err-text-clause-ended g c =
       ),
     )
 
+pub returns-in_err-whole-clause-ended : goal.returns-in_err-whole-clause-ended
+returns-in_err-whole-clause-ended g c =
+    let p = err_from_is_err_and c.from_residual-in_err-whole.result c.from_residual-in_err-whole.ensures.1 in
+    let page : SinkSeen = sink_seen g.P.Sink.contents g.P.Sink.failures c.args.files.now.page c.args.files.now.page in
+    let left : SinkSeen = sink_seen g.A.Sink.contents g.A.Sink.failures c.args.files.now.list c.args.files.now.list in
+    let few = asked_failures c.args.settings.now.page page in
+    let few_left = asked_failures c.args.settings.now.list left in
+    rw (p.1, p.2) (
+      inl (
+        inr ((c.in_ok-input.input.yard, c.in_ok-input.input.ship, c.in_ok-input.ensures.read), tt),
+        (asked_nothing _ page (keeps_same _), asked_nothing _ left (keeps_same _), keeps_same _),
+      ),
+      omega (
+        arith,
+        few,
+        few_left,
+        c.in_ok-input.ensures.counted,
+        c.in_ok-text.ensures.counted,
+        c.in_ok-text.ensures.count,
+        c.in_ok-text.ensures.passed,
+      ),
+    )
+
+pub returns-in_err-whole-clause-noted : goal.returns-in_err-whole-clause-noted
+returns-in_err-whole-clause-noted g c = noted_first _ _ _ _ _ _ c.report_in.ensures.noted
+
+pub returns-in_err-made-clause-noted : goal.returns-in_err-made-clause-noted
+returns-in_err-made-clause-noted g c = noted_first _ _ _ _ _ _ c.report_in.ensures.noted
+
 pub returns-in_err-made-clause-ended : goal.returns-in_err-made-clause-ended
 returns-in_err-made-clause-ended g c =
     let p = err_from_is_err_and c.from_residual-in_err-made.result c.from_residual-in_err-made.ensures.1 in
     let page : SinkSeen = sink_seen g.P.Sink.contents g.P.Sink.failures c.args.files.now.page c.args.files.now.page in
     let left : SinkSeen = sink_seen g.A.Sink.contents g.A.Sink.failures c.args.files.now.list c.args.files.now.list in
-    let given = subst (IsTextOf (g.R.Source.remaining c.args.report.now)) (sym c.deref.ensures.value) c.in_ok-text.ensures.read in
+    let given = given_as c.args.settings.now.partial (g.R.Source.remaining c.args.report.now) c.in_ok-text.text.items c.in_ok-whole.whole.text.items c.deref.result.now c.in_ok-whole.whole.bays
+    c.deref.ensures.value c.in_ok-text.ensures.read c.in_ok-whole.ensures.report in
     let few = asked_failures c.args.settings.now.page page in
     let few_left = asked_failures c.args.settings.now.list left in
     rw (p.1, p.2) (
@@ -74,7 +104,8 @@ returns-in_err-write_texts-clause-ended g c =
     let p = err_from_is_err_and c.from_residual-in_err-write_texts.result c.from_residual-in_err-write_texts.ensures.1 in
     let page : SinkSeen = sink_seen g.P.Sink.contents g.P.Sink.failures c.args.files.now.page c.write_texts.new.files.page in
     let left : SinkSeen = sink_seen g.A.Sink.contents g.A.Sink.failures c.args.files.now.list c.write_texts.new.files.list in
-    let given = subst (IsTextOf (g.R.Source.remaining c.args.report.now)) (sym c.deref.ensures.value) c.in_ok-text.ensures.read in
+    let given = given_as c.args.settings.now.partial (g.R.Source.remaining c.args.report.now) c.in_ok-text.text.items c.in_ok-whole.whole.text.items c.deref.result.now c.in_ok-whole.whole.bays
+    c.deref.ensures.value c.in_ok-text.ensures.read c.in_ok-whole.ensures.report in
     let few = asked_failures c.args.settings.now.page page in
     let few_left = asked_failures c.args.settings.now.list left in
     let made = c.in_ok-made.made in
@@ -108,14 +139,16 @@ returns-in_err-write_texts-clause-ended g c =
 
 pub returns-in_err-write_texts-clause-noted : goal.returns-in_err-write_texts-clause-noted
 returns-in_err-write_texts-clause-noted g c =
-    noted_so c.in_ok-input.input.ship c.args.settings.now.ship _ (ship_given _ _ c.args.settings.now.ship _ c.in_ok-input.input.yard c.in_ok-input.input.ship c.in_ok-input.ensures.read)
-    c.note_ship.ensures
+    noted_both _ _ _ _ _ _ _ _ c.report_in.ensures.noted
+    (noted_so c.in_ok-input.input.ship c.args.settings.now.ship _ (ship_given _ _ c.args.settings.now.ship _ c.in_ok-input.input.yard c.in_ok-input.input.ship c.in_ok-input.ensures.read)
+    c.note_ship.ensures)
 
 pub returns-clause-ended : goal.returns-clause-ended
 returns-clause-ended g c =
     let page : SinkSeen = sink_seen g.P.Sink.contents g.P.Sink.failures c.args.files.now.page c.write_texts.new.files.page in
     let left : SinkSeen = sink_seen g.A.Sink.contents g.A.Sink.failures c.args.files.now.list c.write_texts.new.files.list in
-    let given = subst (IsTextOf (g.R.Source.remaining c.args.report.now)) (sym c.deref.ensures.value) c.in_ok-text.ensures.read in
+    let given = given_as c.args.settings.now.partial (g.R.Source.remaining c.args.report.now) c.in_ok-text.text.items c.in_ok-whole.whole.text.items c.deref.result.now c.in_ok-whole.whole.bays
+    c.deref.ensures.value c.in_ok-text.ensures.read c.in_ok-whole.ensures.report in
     let few = asked_failures c.args.settings.now.page page in
     let few_left = asked_failures c.args.settings.now.list left in
     let made = c.in_ok-made.made in (
@@ -149,5 +182,6 @@ returns-clause-ended g c =
 
 pub returns-clause-noted : goal.returns-clause-noted
 returns-clause-noted g c =
-    noted_so c.in_ok-input.input.ship c.args.settings.now.ship _ (ship_given _ _ c.args.settings.now.ship _ c.in_ok-input.input.yard c.in_ok-input.input.ship c.in_ok-input.ensures.read)
-    c.note_ship.ensures
+    noted_both _ _ _ _ _ _ _ _ c.report_in.ensures.noted
+    (noted_so c.in_ok-input.input.ship c.args.settings.now.ship _ (ship_given _ _ c.args.settings.now.ship _ c.in_ok-input.input.yard c.in_ok-input.input.ship c.in_ok-input.ensures.read)
+    c.note_ship.ensures)

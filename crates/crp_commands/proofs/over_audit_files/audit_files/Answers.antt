@@ -6,13 +6,13 @@ use Rattle.crp_commands.proofs.Audited.{closed_four, over_files}
 use Rattle.crp_commands.proofs.Finished.{more_from}
 use Rattle.crp_commands.proofs.over_audit_files.audit_files.Goals as goal
 
-pub returns : goal.returns
-returns g c =
+pub returns-clause-ended : goal.returns-clause-ended
+returns-clause-ended g c =
     let seen : AuditSeen = record {
       yard = source_seen g.F.Input.Source.remaining g.F.Input.Source.failures c.in-Ok.yard c.audit-answer.new.yard;
       movins = source_seen g.F.Input.Source.remaining g.F.Input.Source.failures c.in-Ok-open.movins c.audit-answer.new.movins;
       report = source_seen g.F.Input.Source.remaining g.F.Input.Source.failures c.in-Ok-open-2.report c.audit-answer.new.report;
-      certificates = source_seen g.F.Input.Source.remaining g.F.Input.Source.failures c.in-Ok-open-3.certificates c.audit-answer.new.certificates;
+      certificates = source_seen g.F.Input.Source.remaining g.F.Input.Source.failures c.in-Ok-open-3.certificates c.audit-answer.new.certificates.source;
       out = sink_seen g.W.Sink.contents g.W.Sink.failures c.args.out.now c.audit-answer.new.out;
     } in
     let names = c.args.names.now in
@@ -32,4 +32,4 @@ returns g c =
           (more_from _ _ _ _ (c.in-Ok-open-3.ensures.count ∙ c.in-Ok-open-2.ensures.count ∙ c.in-Ok-open.ensures.count ∙ c.in-Ok.ensures.count) c.close.ensures.count)
           c.close-2.ensures.count c.close-3.ensures.count c.close-4.ensures.count;
       kept = c.close-4.ensures.kept ∙ c.close-3.ensures.kept ∙ c.close-2.ensures.kept ∙ c.close.ensures.kept ∙ c.open-4.ensures.kept ∙ fourth;
-    }) c.audit-answer.ensures
+    }) c.audit-answer.ensures.ended

@@ -1,6 +1,5 @@
 use Rattle.std.proofs.Common.{◌≡◌, ◌<◌, ◌≤◌, length, None, Some, sym, ap, subst, arith}
 use Rattle.crp_solve.specs.declared.answer.Answer.TheVariants.{Between}
-use Rattle.crp_solve.specs.declared.answer.Cause.{Cause}
 use Rattle.crp_solve.specs.Answers.{path_in, count_of, EachIsBranch, IsTrueAnswer}
 use Rattle.crp_solve.specs.Searches.{IsShown}
 use Rattle.crp_solve.specs.Solved.{ComesOf}

@@ -1,8 +1,9 @@
 use Rattle.std.proofs.lemmas.Result.{IfOk-weaker}
-use Rattle.crp_words.specs.Commands.{audit_files, with_size}
+use Rattle.crp_words.specs.Commands.{audit_files, with_bays, with_size}
 use Rattle.crp_words.proofs.commands.audit.Goals as goal
 
 pub returns : goal.returns
 returns c =
     let sized = c.in_ok-sized.ensures audit_files c.in_ok-audit_files.ensures in
-    IfOk-weaker c.with_bays.result _ _ (λ new more. more (with_size audit_files) sized) c.with_bays.ensures
+    let ordered = c.in_ok-ordered.ensures (with_size audit_files) sized in
+    IfOk-weaker c.with_partial.result _ _ (λ new more. more (with_bays (with_size audit_files)) ordered) c.with_partial.ensures

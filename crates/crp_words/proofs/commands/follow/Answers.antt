@@ -1,9 +1,10 @@
 use Rattle.std.proofs.lemmas.Result.{IfOk-weaker}
-use Rattle.crp_words.specs.Commands.{follow_files, with_bays, with_page, with_size}
+use Rattle.crp_words.specs.Commands.{follow_files, with_after, with_bays, with_page, with_size}
 use Rattle.crp_words.proofs.commands.follow.Goals as goal
 
 pub returns : goal.returns
 returns c =
     let ordered = c.in_ok-ordered.ensures (with_size follow_files) (c.in_ok-sized.ensures follow_files c.in_ok-follow_files.ensures) in
     let paged = c.in_ok-paged.ensures (with_bays (with_size follow_files)) ordered in
-    IfOk-weaker c.with_after.result _ _ (λ new more. more (with_page (with_bays (with_size follow_files))) paged) c.with_after.ensures
+    let left = c.in_ok-left.ensures (with_page (with_bays (with_size follow_files))) paged in
+    IfOk-weaker c.with_partial.result _ _ (λ new more. more (with_after (with_page (with_bays (with_size follow_files)))) left) c.with_partial.ensures

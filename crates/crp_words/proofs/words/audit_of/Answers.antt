@@ -27,6 +27,7 @@ returns-clause-ok c = (
     c.in_ok-text_of-3.ensures.ok,
     c.in_ok-text_of-4.ensures.ok,
     sym (first_value-rows (found_of c.args.matches.now) (codes "sizes")) ∙ sym c.get_str.ensures,
+    c.is_given.ensures,
   ),
   c.in_ok-settings.ensures.ok,
 )

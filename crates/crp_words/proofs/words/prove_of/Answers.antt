@@ -23,4 +23,4 @@ pub returns-clause-ok : goal.returns-clause-ok
 returns-clause-ok c =
     let rows = rows_of (found_of c.args.matches.now) in
     let searched = with_limits rows c.in_ok-search.search c.with_time.result c.in_ok-time.time c.in_ok-search.ensures.ok c.in_ok-time.ensures.ok c.with_time.ensures.value in
-    ((refl, searched), c.in_ok-file.ensures.ok)
+    ((refl, searched), c.in_ok-file.ensures.ok, c.stop_of.ensures)

@@ -41,6 +41,7 @@ returns-clause-ok c = (
     sym (first_value-rows (found_of c.args.matches.now) (codes "cert")) ∙ sym c.get_str-2.ensures,
     sym (first_value-rows (found_of c.args.matches.now) (codes "after")) ∙ sym c.get_str-3.ensures,
     sym (first_value-rows (found_of c.args.matches.now) (codes "sizes")) ∙ sym c.get_str.ensures,
+    c.stop_of.ensures,
   ),
   c.in_ok-settings.ensures.ok,
   c.is_given.ensures,

@@ -1,13 +1,12 @@
-use Rattle.std.proofs.Common.{◌≡◌, ◌≤◌, ℕ, Bool, true, rules, false, IfOk, IfErr, IfSome, subst, sym, ap, ◌∙◌, arith}
+use Rattle.std.proofs.Common.{◌≡◌, ◌≤◌, ℕ, Bool, true, rules, IfOk, IfErr, IfSome, subst, sym, ap, ◌∙◌, arith}
 use Rattle.std.specs.Result.{IsOkAnd}
 use Rattle.std.proofs.lemmas.Result.{IfOk-weaker}
 use Rattle.crp_plan.specs.Bay.{Problem, IsProblem}
-use Rattle.crp_solve.specs.declared.end.Together.{Together}
 use Rattle.crp_solve.specs.Answers.{path_in, count_of, IsPlanOf}
 use Rattle.crp_solve.specs.Chosen.{Chosen, is_timed}
 use Rattle.crp_solve.specs.Desks.{count_or}
 use Rattle.crp_solve.specs.Searches.{IsLost}
-use Rattle.crp_solve.specs.Rounds.{IsStartPlan, IsOneSearch, SearchesOf, AreSearched}
+use Rattle.crp_solve.specs.Rounds.{IsStartPlan, IsOneSearch, AreSearched}
 use Rattle.crp_solve.specs.Solved.{IsSolved, IsFirstPart}
 use Rattle.crp_solve.specs.Groups.{AreTogether}
 use Rattle.crp_solve.specs.Rests.{IsFoundTogether}

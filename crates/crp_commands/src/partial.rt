@@ -1,0 +1,102 @@
+//! A report that may end early, and the notes on one that does.
+ghost use Rattle.std.specs.Prelude.{◌≡◌, IfOk, not};
+ghost use Rattle.crp_report.specs.Runs.{sink_seen};
+ghost use Rattle.crp_report.specs.Watching.{ShowsMore};
+ghost use Rattle.crp_commands.specs.Noted.{IsNotedBy};
+ghost use Rattle.crp_commands.specs.Partial.{IsReportIn, standing_words, last_note, behind_words, behind_note};
+
+use crp_cert::push_decimal;
+use crp_plan::Sink;
+use crp_report::show;
+use crp_said::{Completed, complete};
+use std::alloc::{AllocError, Global};
+
+// Behind the number of bays that stand there.
+fn standing_words(bays: usize) -> &'static [u8]
+    ensures { result.now ≡ standing_words bays }
+{
+    if bays == 1 {
+        b" bay stands there\n"
+    } else {
+        b" bays stand there\n"
+    }
+}
+
+// Behind the number of bays that do not, of which there are some.
+fn behind_words(bays: usize) -> &'static [u8]
+    ensures { result.now ≡ behind_words bays }
+{
+    if bays == 1 {
+        b" bay from which containers leave does not stand there\n"
+    } else {
+        b" bays from which containers leave do not stand there\n"
+    }
+}
+
+// The note that the last line is lacking.
+fn last_note(alloc: Global, bays: usize) -> Result<Vec<u8>, AllocError>
+    ensures { IfOk result (λ text. text.items ≡ last_note bays) }
+{
+    let mut text = Vec::new(alloc);
+    text.extend_from_slice(b"crp: note: the report has no last line: ")?;
+    push_decimal(&mut text, bays)?;
+    text.extend_from_slice(standing_words(bays))?;
+    Ok(text)
+}
+
+// The note on the bays behind those that stand there.
+fn behind_note(alloc: Global, bays: usize) -> Result<Vec<u8>, AllocError>
+    ensures { IfOk result (λ text. text.items ≡ behind_note bays) }
+{
+    if bays == 0 {
+        return Vec::from_slice(
+            alloc,
+            b"crp: note: each bay from which containers leave stands there\n",
+        );
+    }
+    let mut text = Vec::from_slice(alloc, b"crp: note: ")?;
+    push_decimal(&mut text, bays)?;
+    text.extend_from_slice(behind_words(bays))?;
+    Ok(text)
+}
+
+// Notes that the last line is lacking.
+#[tactic(auto, using(crate::proofs::Noted::shown_none))]
+fn note_last<E: Sink>(alloc: Global, bays: usize, errors: &mut E)
+    ensures { ShowsMore (E.contents errors.old) (E.contents errors.new) }
+{
+    if let Ok(text) = last_note(alloc, bays) {
+        show(errors, &text);
+    }
+}
+
+/// Notes how many bays are behind those that stand there.
+#[tactic(auto, using(crate::proofs::Noted::shown_none))]
+pub(crate) fn note_behind<E: Sink>(alloc: Global, bays: usize, errors: &mut E)
+    ensures { ShowsMore (E.contents errors.old) (E.contents errors.new) }
+{
+    if let Ok(text) = behind_note(alloc, bays) {
+        show(errors, &text);
+    }
+}
+
+/// The report that a text is. One that may end early gets its last line where that is lacking, which is noted.
+#[tactic(auto, using(crate::proofs::Noted::unnoted))]
+pub(crate) fn report_in<E: Sink>(
+    alloc: Global,
+    text: Vec<u8>,
+    partial: bool,
+    errors: &mut E,
+) -> Result<Completed, AllocError>
+    ensures report { IfOk result (λ whole. IsReportIn partial text.items whole.text.items whole.bays) }
+    ensures noted { IsNotedBy (not partial) (sink_seen E.contents E.failures errors.old errors.new) }
+{
+    if !partial {
+        return Ok(Completed { text, bays: None });
+    }
+    let whole = complete(alloc, text)?;
+    if let Some(bays) = whole.bays {
+        note_last(alloc, bays, errors);
+    }
+    Ok(whole)
+}
